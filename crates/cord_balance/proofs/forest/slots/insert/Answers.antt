@@ -1,0 +1,26 @@
+use Rattle.std.proofs.Common.{◌≤◌}
+use Rattle.cord_node.specs.Tree.{len_of, depth_of}
+use Rattle.cord_node.specs.Kept.{parts}
+use Rattle.cord_node.proofs.TreeLemmas.{len_positive}
+use Rattle.cord_balance.specs.Fib.{IsSlotOf}
+use Rattle.cord_balance.specs.Forest.{forest_parts, piece_parts}
+use Rattle.cord_balance.proofs.ForestLemmas.{AllFrom-lower}
+use Rattle.cord_balance.proofs.Inserting.{gathered_fits, joined_depth_in_slot, kept_insert}
+use Rattle.cord_balance.proofs.forest.slots.insert.Goals as goal
+
+pub slot_of-slot-requires-clause-not_empty : goal.slot_of-slot-requires-clause-not_empty
+slot_of-slot-requires-clause-not_empty c = rw (c.len.ensures.stored, c.deref.ensures) (len_positive c.args.node.value c.requires.sound)
+
+pub put_right-requires-clause-left_fits : goal.put_right-requires-clause-left_fits
+put_right-requires-clause-left_fits c =
+    let i : IsSlotOf (len_of c.args.node.value) c.slot_of-slot.result = rw (← c.deref.ensures, ← c.len.ensures.stored) c.slot_of-slot.ensures in
+    gathered_fits c.slot_of-slot.result (len_of c.args.node.value) c.in_ok-small.small i c.in_ok-small.ensures.gathered
+
+pub merge-requires-clause-behind : goal.merge-requires-clause-behind
+merge-requires-clause-behind c =
+    let i : IsSlotOf (len_of c.args.node.value) c.slot_of-slot.result = rw (← c.deref.ensures, ← c.len.ensures.stored) c.slot_of-slot.ensures in
+    let d : depth_of c.in_ok-joined.joined.value ≤ c.slot_of-slot.result = joined_depth_in_slot c.slot_of-slot.result (len_of c.args.node.value) (depth_of c.args.node.value) (depth_of c.in_ok-joined.joined.value) c.in_ok-small.small i c.in_ok-small.ensures.gathered c.requires.balanced c.in_ok-joined.ensures.alone c.in_ok-joined.ensures.depth in
+    AllFrom-lower (depth_of c.in_ok-joined.joined.value) c.slot_of-slot.result c.gather.new.forest.items d c.in_ok-small.ensures.from
+
+pub returns-clause-kept : goal.returns-clause-kept
+returns-clause-kept c = kept_insert (forest_parts c.args.forest.now.items) (forest_parts c.gather.new.forest.items) (piece_parts c.in_ok-small.small) (parts c.args.node.value) (parts c.in_ok-joined.joined.value) (forest_parts c.merge.new.forest.items) c.in_ok-small.ensures.kept c.in_ok-joined.ensures.kept c.in_ok-merge.ensures.kept

@@ -1,0 +1,57 @@
+// Trees are put into a forest, each greatest balanced part as one piece.
+ghost use Rattle.std.specs.Prelude.{◌≡◌, ◌+◌, ◌<◌, ◌≤◌, ◌↔◌, ◌++◌, OnOk, IsTrue};
+ghost use Rattle.cord_node.specs.Tree.{cells, len_of, depth_of, IsSound};
+ghost use Rattle.cord_node.specs.Kept.{parts, Kept};
+ghost use Rattle.cord_balance.specs.Fib.{fib_of};
+ghost use Rattle.cord_balance.specs.Pieces.{all_cells, all_parts, total_len, AllSound};
+ghost use Rattle.cord_balance.specs.Forest.{IsForest, forest_cells, forest_parts, forest_len};
+
+use super::Piece;
+use super::slots::insert;
+use crate::{MAX_INDEX, fib};
+use cord_io::MAX_LEN;
+use cord_node::Node;
+use std::alloc::{AllocError, Global};
+use std::rc::Rc;
+
+// It is long enough for its depth d: at least the Fibonacci number of index d + 2.
+#[tactic(auto, using(crate::proofs::FibLemmas::fibs))]
+fn is_balanced(node: &Node) -> bool
+    requires { IsSound node.now }
+    ensures { IsTrue result ↔ (fib_of (depth_of node.now + 2) ≤ len_of node.now) }
+{
+    let index = node.depth() + 2;
+    index <= MAX_INDEX && fib(index) <= node.len()
+}
+
+/// Puts a tree behind the pieces, each greatest balanced part of it as one piece.
+#[tactic(auto, using(crate::proofs::FibLemmas::fibs))]
+pub fn insert_tree(
+    alloc: Global,
+    forest: &mut Vec<Piece>,
+    node: &Rc<Node>,
+) -> Result<(), AllocError>
+    requires forest { IsForest forest.old.items }
+    requires sound { IsSound node.now.value }
+    requires fits { forest_len forest.old.items + len_of node.now.value ≤ MAX_LEN }
+    ensures rest { OnOk result (IsForest forest.new.items) }
+    ensures text { OnOk result (forest_cells forest.new.items ≡ forest_cells forest.old.items ++ cells node.now.value) }
+    ensures len { OnOk result (forest_len forest.new.items ≡ forest_len forest.old.items + len_of node.now.value) }
+    ensures kept { OnOk result (Kept (forest_parts forest.old.items ++ parts node.now.value) (forest_parts forest.new.items)) }
+{
+    if is_balanced(node) {
+        let whole = node.clone()?;
+        insert(alloc, forest, whole)?;
+        return Ok(());
+    }
+    match node.as_ref() {
+        Node::Cat { left, right, .. } => {
+            insert_tree(alloc, forest, left)?;
+            insert_tree(alloc, forest, right)?;
+            Ok(())
+        }
+        Node::Leaf { .. } => unreachable!(),
+        Node::Run { .. } => unreachable!(),
+        Node::Func { .. } => unreachable!(),
+    }
+}

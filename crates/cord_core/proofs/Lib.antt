@@ -1,0 +1,3 @@
+pub mod CordLemmas
+pub mod OverLemmas
+pub mod Catting

@@ -1,0 +1,28 @@
+-- How deep a cord is that is made of others.
+use Rattle.std.specs.Prelude.{◌≡◌, ℕ, ◌<◌, ◌≤◌, List, ◌++◌, Option, Some, None}
+use Rattle.cord_io.specs.declared.TheConstants.{MAX_DEPTH}
+use Rattle.cord_node.specs.declared.Node.{Node}
+use Rattle.cord_node.specs.Tree.{depth_of, joined_depth}
+use Rattle.cord_node.specs.Kept.{Kept}
+use Rattle.cord_balance.specs.Fib.{IsSlotOf}
+use Rattle.cord_core.specs.Cord.{text_len, depth, parts_of}
+use Rattle.cord_core.specs.Forms.{IsLeafOf}
+
+-- no deeper than its slot: nothing for the empty cord, which has depth 0
+abbrev pub IsInSlot : Option Node → Type 0
+IsInSlot None = Unit {0}
+IsInSlot (Some m) = (n : ℕ) → IsSlotOf (text_len (Some m)) n → depth_of m ≤ n
+
+-- the depth of the concatenation c of x and y: where one is empty that of the other, where both
+-- have a node that of the join of the nodes, and where that would be too deep at most its slot
+abbrev pub HasCatDepth : Option Node → Option Node → Option Node → Type 0
+HasCatDepth None y c = depth c ≡ depth y
+HasCatDepth (Some n) None c = depth c ≡ depth_of n
+HasCatDepth (Some n) (Some m) c = (joined_depth n m ≤ MAX_DEPTH → depth c ≡ joined_depth n m) × (MAX_DEPTH < joined_depth n m → IsInSlot c)
+
+-- c is the concatenation of x and of what `from_bytes` makes of the bytes, as its depth and its parts show
+pub record IsCatWithBytes (x : Option Node) (b : List ℕ) (c : Option Node) : Type 0 where
+  pub tail : Option Node
+  pub form : IsLeafOf b tail
+  pub depth_is : HasCatDepth x tail c
+  pub kept : Kept (parts_of x ++ parts_of tail) (parts_of c)

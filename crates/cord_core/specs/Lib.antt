@@ -1,0 +1,5 @@
+pub mod Cord
+pub mod Forms
+pub mod Depths
+pub mod Equations
+pub mod Refusals

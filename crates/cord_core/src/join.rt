@@ -1,0 +1,106 @@
+// Cords one after another.
+ghost use Rattle.std.specs.Prelude.{◌≡◌, ℕ, ◌+◌, ◌<◌, ◌≤◌, [], ◌∷◌, ◌++◌, IfOk, OnOk, IfErr, Err, length, map};
+ghost use Rattle.cord_node.specs.Tree.{known};
+ghost use Rattle.cord_node.specs.Kept.{Kept};
+ghost use Rattle.cord_core.specs.Cord.{text, text_len, parts_of, IsCord, all_text, all_len, all_parts};
+ghost use Rattle.cord_core.specs.Depths.{HasCatDepth, IsCatWithBytes};
+ghost use Rattle.cord_core.specs.Equations.{IsCatOf, IsAppended, IsAllOf};
+ghost use Rattle.cord_core.specs.Refusals.{IsRefusal};
+
+use crate::Cord;
+use cord_balance::balance_parts;
+use cord_io::{CordError, MAX_DEPTH, MAX_LEN};
+use cord_node::join;
+use std::alloc::Global;
+
+impl Cord {
+    /// The text of `left` and then that of `right`, which share their trees with the result. It is the join
+    /// of the two trees, and balanced where that would be deeper than `MAX_DEPTH`.
+    /// `TooLong` where the result would be longer than `MAX_LEN`.
+    pub fn cat(alloc: Global, left: &Cord, right: &Cord) -> Result<Cord, CordError>
+        ensures text { IfOk result (λ c. text c ≡ text left.now ++ text right.now) }
+        ensures over { IfOk result (IsCatOf left.now right.now) }
+        ensures len { IfOk result (λ c. text_len c ≡ text_len left.now + text_len right.now) }
+        ensures sound { IfOk result IsCord }
+        ensures depth { IfOk result (HasCatDepth left.now right.now) }
+        ensures kept { IfOk result (λ c. Kept (parts_of left.now ++ parts_of right.now) (parts_of c)) }
+
+        ensures too_long { result ≡ Err CordError.TooLong → MAX_LEN < text_len left.now + text_len right.now }
+        ensures fits { OnOk result (text_len left.now + text_len right.now ≤ MAX_LEN) }
+        ensures refused { IfErr result IsRefusal }
+    {
+        let (Some(a), Some(b)) = (&left.root, &right.root) else {
+            let cord = if left.root.is_some() {
+                left.share(alloc)?
+            } else {
+                right.share(alloc)?
+            };
+            return Ok(cord);
+        };
+        if a.len() + b.len() > MAX_LEN {
+            return Err(CordError::TooLong);
+        }
+        let node = if a.depth().max(b.depth()) < MAX_DEPTH {
+            join(alloc, a, b)?
+        } else {
+            let ropes = [a.clone()?, b.clone()?];
+            balance_parts(alloc, &ropes)?
+        };
+        Ok(Cord { root: Some(node) })
+    }
+
+    /// The texts of all cords in order: of no cords the empty cord.
+    /// `TooLong` where the result would be longer than `MAX_LEN`.
+    pub fn catn(alloc: Global, cords: &[Cord]) -> Result<Cord, CordError>
+        ensures text { IfOk result (λ c. text c ≡ all_text cords.now) }
+        ensures over { IfOk result (IsAllOf cords.now) }
+        ensures len { IfOk result (λ c. text_len c ≡ all_len cords.now) }
+        ensures sound { IfOk result IsCord }
+        ensures kept { IfOk result (λ c. Kept (all_parts cords.now) (parts_of c)) }
+
+        ensures too_long { result ≡ Err CordError.TooLong → MAX_LEN < all_len cords.now }
+        ensures fits { OnOk result (all_len cords.now ≤ MAX_LEN) }
+        ensures refused { IfErr result IsRefusal }
+    {
+        let mut all = Cord::empty();
+        for cord in cords {
+            all = Cord::cat(alloc, &all, cord)?;
+        }
+        Ok(all)
+    }
+
+    /// The text of `cord` and then these bytes: the `cat` with what `from_bytes` makes of them.
+    /// `TooLong` where the result would be longer than `MAX_LEN`.
+    pub fn cat_bytes(alloc: Global, cord: &Cord, bytes: &[u8]) -> Result<Cord, CordError>
+        ensures text { IfOk result (λ c. text c ≡ text cord.now ++ map known bytes.now) }
+        ensures over { IfOk result (IsAppended cord.now bytes.now) }
+        ensures len { IfOk result (λ c. text_len c ≡ text_len cord.now + length bytes.now) }
+        ensures sound { IfOk result IsCord }
+        ensures cat { IfOk result (IsCatWithBytes cord.now bytes.now) }
+
+        ensures too_long { result ≡ Err CordError.TooLong → MAX_LEN < text_len cord.now + length bytes.now }
+        ensures fits { OnOk result (text_len cord.now + length bytes.now ≤ MAX_LEN) }
+        ensures refused { IfErr result IsRefusal }
+    {
+        let tail = Cord::from_bytes(alloc, bytes)?;
+        let cord = Cord::cat(alloc, cord, &tail)?;
+        Ok(cord)
+    }
+
+    /// The text of `cord` and then the byte `c`: the `cat` with what `from_bytes` makes of it.
+    /// `TooLong` where the result would be longer than `MAX_LEN`.
+    pub fn cat_char(alloc: Global, cord: &Cord, c: u8) -> Result<Cord, CordError>
+        ensures text { IfOk result (λ longer. text longer ≡ text cord.now ++ known c ∷ []) }
+        ensures over { IfOk result (IsAppended cord.now (c ∷ [])) }
+        ensures len { IfOk result (λ longer. text_len longer ≡ text_len cord.now + 1) }
+        ensures sound { IfOk result IsCord }
+        ensures cat { IfOk result (IsCatWithBytes cord.now (c ∷ [])) }
+
+        ensures too_long { result ≡ Err CordError.TooLong → MAX_LEN < text_len cord.now + 1 }
+        ensures fits { OnOk result (text_len cord.now + 1 ≤ MAX_LEN) }
+        ensures refused { IfErr result IsRefusal }
+    {
+        let cord = Cord::cat_bytes(alloc, cord, &[c])?;
+        Ok(cord)
+    }
+}

@@ -1,0 +1,180 @@
+// Rows of worked examples, and what sharing shows.
+ghost use Rattle.std.specs.Prelude.{◌≡◌, ℕ, ◌+◌, ◌<◌, ◌≤◌, length, IfOk};
+ghost use Rattle.cord_node.specs.Tree.{IsSound};
+
+use super::*;
+use cord_io::SourceId;
+use std::alloc::AllocError;
+use std::rc::RcSlice;
+use std::test::Fail;
+
+// The bytes of a cord of leaves and runs; `None` where it has a function part.
+fn bytes_of(alloc: Global, cord: &Cord) -> Result<Option<Vec<u8>>, AllocError> {
+    let mut bytes = Vec::new(alloc);
+    let known = match cord.root() {
+        None => true,
+        Some(node) => append(&mut bytes, node)?,
+    };
+    Ok(if known { Some(bytes) } else { None })
+}
+
+// Appends the bytes of a node, and tells whether all of them are known.
+fn append(bytes: &mut Vec<u8>, node: &Rc<Node>) -> Result<bool, AllocError>
+    requires { IsSound node.now.value }
+{
+    match node.as_ref() {
+        Node::Leaf {
+            bytes: shared,
+            start,
+            len,
+        } => {
+            bytes.extend_from_slice(&shared.as_slice()[*start as usize..(*start + *len) as usize])?;
+            Ok(true)
+        }
+        Node::Run { byte, len } => {
+            for _ in 0..*len {
+                bytes.push(*byte)?;
+            }
+            Ok(true)
+        }
+        Node::Func { .. } => Ok(false),
+        Node::Cat { left, right, .. } => {
+            let known = append(bytes, left)?;
+            Ok(append(bytes, right)? && known)
+        }
+    }
+}
+
+// The bytes, the start and the length of a cord that is one leaf.
+fn leaf_fields(cord: &Cord) -> Option<(&[u8], u64, u64)> {
+    match cord.root()?.as_ref() {
+        Node::Leaf { bytes, start, len } => Some((bytes.as_slice(), *start, *len)),
+        _ => None,
+    }
+}
+
+// The byte and the length of a cord that is one run.
+fn run_fields(cord: &Cord) -> Option<(u8, u64)> {
+    match cord.root()?.as_ref() {
+        Node::Run { byte, len } => Some((*byte, *len)),
+        _ => None,
+    }
+}
+
+// The source, the start and the length of a cord that is one function part.
+fn func_fields(cord: &Cord) -> Option<(SourceId, u64, u64)> {
+    match cord.root()?.as_ref() {
+        Node::Func { id, start, len } => Some((*id, *start, *len)),
+        _ => None,
+    }
+}
+
+#[test]
+fn cord_calls(rt: HostRuntime) -> Result<(), Fail> {
+    let alloc = rt.alloc();
+    let ab = Cord::from_bytes(alloc, b"ab")?;
+    let cord = Cord::cat(alloc, &ab, &Cord::chars(alloc, 99, 2)?)?;
+    assert!(rt; bytes_of(alloc, &cord)?.as_deref() == Some(b"abcc".as_slice()));
+    let cord = Cord::cat_char(alloc, &cord, 100)?;
+    let cord = Cord::cat_bytes(alloc, &cord, b"ef")?;
+    assert!(rt; bytes_of(alloc, &cord)?.as_deref() == Some(b"abccdef".as_slice()));
+    assert_eq!(rt; cord.len(), 7);
+
+    let part = cord.substr(alloc, 1, 3)?;
+    assert!(rt; bytes_of(alloc, &part)?.as_deref() == Some(b"bcc".as_slice()));
+    let shared = cord.share(alloc)?;
+    assert!(rt; bytes_of(alloc, &shared)?.as_deref() == Some(b"abccdef".as_slice()));
+    let balanced = cord.balance(alloc)?;
+    assert!(rt; bytes_of(alloc, &balanced)?.as_deref() == Some(b"abccdef".as_slice()));
+    let twice = Cord::catn(alloc, &[shared, balanced])?;
+    assert_eq!(rt; twice.len(), 14);
+    assert!(rt; bytes_of(alloc, &twice)?.as_deref() == Some(b"abccdefabccdef".as_slice()));
+
+    let digits = Cord::from_fn(alloc, SourceId(0), 8, 3)?;
+    assert!(rt; func_fields(&digits) == Some((SourceId(0), 8, 3)));
+    Ok(())
+}
+
+#[test]
+fn substrings_share_their_part(rt: HostRuntime) -> Result<(), Fail> {
+    let alloc = rt.alloc();
+    let leaf = Cord::from_bytes(alloc, &[7; 100])?;
+    let part = leaf.substr(alloc, 10, 80)?;
+    assert!(rt; leaf_fields(&part) == Some((&[7; 100], 10, 80)));
+
+    let run = Cord::chars(alloc, 0, MAX_LEN)?;
+    let part = run.substr(alloc, 5, 1000)?;
+    assert!(rt; run_fields(&part) == Some((0, 1000)));
+    Ok(())
+}
+
+#[test]
+fn too_long_unchanged(rt: HostRuntime) -> Result<(), Fail> {
+    let alloc = rt.alloc();
+    let longest = Cord::chars(alloc, 0, MAX_LEN)?;
+    let a = Cord::from_bytes(alloc, b"a")?;
+    for refused in [
+        Cord::cat(alloc, &longest, &a).err(),
+        Cord::catn(alloc, &[longest.share(alloc)?, a.share(alloc)?]).err(),
+        Cord::cat_char(alloc, &longest, 97).err(),
+        Cord::cat_bytes(alloc, &longest, b"a").err(),
+        Cord::chars(alloc, 0, MAX_LEN + 1).err(),
+    ] {
+        assert_eq!(rt; refused, Some(CordError::TooLong));
+    }
+    assert!(rt; run_fields(&longest) == Some((0, MAX_LEN)));
+    assert!(rt; leaf_fields(&a) == Some((b"a", 0, 1)));
+    Ok(())
+}
+
+#[test]
+fn depth_after_many_appends(rt: HostRuntime) -> Result<(), Fail> {
+    let alloc = rt.alloc();
+    let mut cord = Cord::empty();
+    for k in 0..10_000u32 {
+        cord = Cord::cat_bytes(alloc, &cord, &[(k % 256) as u8; 65])?;
+        assert!(rt; cord.depth() <= 60);
+    }
+    assert_eq!(rt; cord.len(), 650_000);
+    let bytes = bytes_of(alloc, &cord)?.unwrap_or(Vec::new(alloc));
+    assert_eq!(rt; bytes.len(), 650_000);
+    for (place, byte) in bytes.iter().enumerate() {
+        assert_eq!(rt; *byte as usize, place / 65 % 256);
+    }
+    Ok(())
+}
+
+#[test]
+fn depth_fifty(rt: HostRuntime) -> Result<(), Fail> {
+    let alloc = rt.alloc();
+    let mut cord = Cord::from_bytes(alloc, &[1; 65])?;
+    for _ in 0..50 {
+        cord = Cord::cat_bytes(alloc, &cord, &[2; 65])?;
+    }
+    assert_eq!(rt; cord.depth(), 50);
+    Ok(())
+}
+
+#[test]
+fn nothing_has_no_root(rt: HostRuntime) -> Result<(), Fail> {
+    let alloc = rt.alloc();
+    let leaf = Cord::from_bytes(alloc, b"abc")?;
+    for cord in [
+        Cord::empty(),
+        Cord::from_bytes(alloc, b"")?,
+        Cord::from_shared(alloc, RcSlice::from_slice(alloc, b"")?)?,
+        Cord::chars(alloc, 1, 0)?,
+        Cord::from_fn(alloc, SourceId(9), 5, 0)?,
+        Cord::catn(alloc, &[])?,
+        leaf.substr(alloc, 3, 1)?,
+        leaf.substr(alloc, 0, 0)?,
+        Cord::empty().balance(alloc)?,
+    ] {
+        assert!(rt; cord.root().is_none());
+        assert_eq!(rt; cord.len(), 0);
+        assert_eq!(rt; cord.depth(), 0);
+    }
+    let shared = Cord::from_shared(alloc, RcSlice::from_slice(alloc, b"abc")?)?;
+    assert!(rt; leaf_fields(&shared) == Some((b"abc", 0, 3)));
+    Ok(())
+}

@@ -1,0 +1,230 @@
+// The extensible cord.
+ghost use Rattle.std.specs.Prelude.{◌≡◌, ◌+◌, ◌<◌, ◌≤◌, List, [], ◌∷◌, ◌++◌, IfOk, OnOk, IfErr, IsErr, IsOkUnless, Err, length, map};
+ghost use Rattle.cord_io.specs.Table.{Table};
+ghost use Rattle.cord_node.specs.Tree.{known};
+ghost use Rattle.cord_core.specs.Cord.{text, text_len, IsCord};
+ghost use Rattle.cord_core.specs.Refusals.{IsRefusal};
+ghost use Rattle.cord_ec.specs.Grown.{bytes_over, IsGrownBy, IsGrownByCord, IsCordOf};
+
+use cord_core::Cord;
+use cord_io::{CordError, MAX_LEN};
+use cord_raw::RawBuf;
+use std::alloc::Global;
+use std::marker::Model;
+
+/// A text of at most `MAX_LEN` bytes that grows at its end.
+///
+/// It is a cord and a buffer of the bytes behind it. The buffer goes into the cord as one leaf, of up to
+/// `RawBuf::CAP` bytes, when a byte no longer fits into it and when a cord is appended or made.
+#[derive(Drop)]
+pub struct ExtCord {
+    cord: Cord,
+    buffer: RawBuf,
+}
+
+impl Model for ExtCord {
+    ghost use Rattle.std.specs.Prelude.{◌≤◌, ◌+◌, ◌++◌, List, length, map};
+    ghost use Rattle.std.specs.Coded.{coded_list};
+    ghost use Rattle.cord_io.specs.declared.TheConstants.{MAX_LEN};
+    ghost use Rattle.cord_node.specs.Tree.{Cell, known};
+    ghost use Rattle.cord_core.specs.Cord.{text, text_len};
+    ghost use Rattle.cord_ec.specs.Cells.{coded_cell};
+
+    ghost Value = { List Cell };
+
+    ghost coded = { coded_list coded_cell };
+
+    ghost view = { λ e. text e.cord ++ map known e.buffer };
+
+    ghost invariant = { λ e. text_len e.cord + length e.buffer ≤ MAX_LEN };
+}
+
+impl ExtCord {
+    /// The extensible cord of no bytes. Refused for want of memory alone.
+    pub fn new(alloc: Global) -> Result<ExtCord, CordError>
+        ensures text { IfOk result (λ made. made ≡ []) }
+        ensures refused { IsOkUnless result CordError.NoMemory }
+    {
+        let buffer = RawBuf::new(alloc)?;
+        Ok(ExtCord {
+            cord: Cord::empty(),
+            buffer,
+        })
+    }
+
+    /// The length of the text, in bytes.
+    pub fn len(&self) -> u64
+        ensures value { result ≡ length self.now }
+        ensures over { (t : Table) → result ≡ length (bytes_over t self.now) }
+        ensures limit { result ≤ MAX_LEN }
+    {
+        len_of(&self.cord, &self.buffer)
+    }
+
+    /// Adds a byte at the end.
+    /// `TooLong` where the text would be longer than `MAX_LEN`. After a refusal the text is as before.
+    pub fn append(&mut self, alloc: Global, byte: u8) -> Result<(), CordError>
+        ensures text { IfOk result (λ _. self.new ≡ self.old ++ known byte ∷ []) }
+        ensures over { IfOk result (λ _. IsGrownBy self.old self.new (byte ∷ [])) }
+        ensures unchanged { IsErr result → self.new ≡ self.old }
+        ensures too_long { result ≡ Err CordError.TooLong → MAX_LEN < length self.old + 1 }
+        ensures fits { OnOk result (length self.old + 1 ≤ MAX_LEN) }
+        ensures refused { IfErr result IsRefusal }
+    {
+        if len_of(&self.cord, &self.buffer) == MAX_LEN {
+            return Err(CordError::TooLong);
+        }
+        if self.buffer.len() == RawBuf::CAP {
+            flush(alloc, &mut self.cord, &mut self.buffer)?;
+        }
+        self.buffer.push(alloc, byte)?;
+        Ok(())
+    }
+
+    /// Adds bytes at the end, as leaves of at most `RawBuf::CAP` bytes.
+    /// `TooLong` where the text would be longer than `MAX_LEN`. After a refusal the text is as before.
+    pub fn append_bytes(&mut self, alloc: Global, bytes: &[u8]) -> Result<(), CordError>
+        ensures text { IfOk result (λ _. self.new ≡ self.old ++ map known bytes.now) }
+        ensures over { IfOk result (λ _. IsGrownBy self.old self.new bytes.now) }
+        ensures unchanged { IsErr result → self.new ≡ self.old }
+        ensures too_long { result ≡ Err CordError.TooLong → MAX_LEN < length self.old + length bytes.now }
+        ensures fits { OnOk result (length self.old + length bytes.now ≤ MAX_LEN) }
+        ensures refused { IfErr result IsRefusal }
+    {
+        if bytes.len() as u64 > MAX_LEN - len_of(&self.cord, &self.buffer) {
+            return Err(CordError::TooLong);
+        }
+        if bytes.len() as u64 <= RawBuf::CAP - self.buffer.len() {
+            self.buffer.extend(alloc, bytes)?;
+            return Ok(());
+        }
+        let so_far = whole(alloc, &self.cord, &self.buffer)?;
+        let longer = cat_leaves(alloc, so_far, bytes)?;
+        self.cord = longer;
+        self.buffer.clear();
+        Ok(())
+    }
+
+    /// Adds the text of a cord at the end, which shares its tree.
+    /// `TooLong` where the text would be longer than `MAX_LEN`. After a refusal the text is as before.
+    pub fn append_cord(&mut self, alloc: Global, cord: &Cord) -> Result<(), CordError>
+        ensures text { IfOk result (λ _. self.new ≡ self.old ++ text cord.now) }
+        ensures over { IfOk result (λ _. IsGrownByCord self.old self.new cord.now) }
+        ensures unchanged { IsErr result → self.new ≡ self.old }
+        ensures too_long { result ≡ Err CordError.TooLong → MAX_LEN < length self.old + text_len cord.now }
+        ensures fits { OnOk result (length self.old + text_len cord.now ≤ MAX_LEN) }
+        ensures refused { IfErr result IsRefusal }
+    {
+        if cord.len() > MAX_LEN - len_of(&self.cord, &self.buffer) {
+            return Err(CordError::TooLong);
+        }
+        let so_far = whole(alloc, &self.cord, &self.buffer)?;
+        let longer = cat_within(alloc, &so_far, cord)?;
+        self.cord = longer;
+        self.buffer.clear();
+        Ok(())
+    }
+
+    /// The text as a cord, which shares its tree with this one. The text stays, and can grow further.
+    /// Refused for want of memory alone.
+    #[tactic(auto, using(crate::proofs::Growing::cord_of))]
+    pub fn to_cord(&mut self, alloc: Global) -> Result<Cord, CordError>
+        ensures text { IfOk result (λ c. text c ≡ self.old) }
+        ensures over { IfOk result (IsCordOf self.old) }
+        ensures sound { IfOk result IsCord }
+        ensures same { self.new ≡ self.old }
+        ensures refused { IsOkUnless result CordError.NoMemory }
+    {
+        flush(alloc, &mut self.cord, &mut self.buffer)?;
+        let cord = self.cord.share(alloc)?;
+        Ok(cord)
+    }
+}
+
+// The length of the text of a cord and of the buffer behind it.
+fn len_of(cord: &Cord, buffer: &RawBuf) -> u64
+    requires fits { text_len cord.now + length buffer.now ≤ MAX_LEN }
+    ensures stored { result ≡ text_len cord.now + length buffer.now }
+    ensures text { result ≡ length (text cord.now ++ map known buffer.now) }
+{
+    cord.len() + buffer.len()
+}
+
+// The text of a cord and of the buffer behind it, as one cord: the buffer's bytes, where it has any, are a leaf.
+fn whole(alloc: Global, cord: &Cord, buffer: &RawBuf) -> Result<Cord, CordError>
+    requires fits { text_len cord.now + length buffer.now ≤ MAX_LEN }
+    ensures text { IfOk result (λ c. text c ≡ text cord.now ++ map known buffer.now) }
+    ensures len { IfOk result (λ c. text_len c ≡ text_len cord.now + length buffer.now) }
+    ensures sound { IfOk result IsCord }
+    ensures refused { IsOkUnless result CordError.NoMemory }
+{
+    if buffer.len() == 0 {
+        let same = cord.share(alloc)?;
+        return Ok(same);
+    }
+    let leaf = leaf_of(alloc, buffer)?;
+    let longer = cat_within(alloc, cord, &leaf)?;
+    Ok(longer)
+}
+
+// Puts the bytes of the buffer, where it has any, into the cord, and empties it.
+fn flush(alloc: Global, cord: &mut Cord, buffer: &mut RawBuf) -> Result<(), CordError>
+    requires fits { text_len cord.old + length buffer.old ≤ MAX_LEN }
+    ensures text { IfOk result (λ _. text cord.new ≡ text cord.old ++ map known buffer.old) }
+    ensures len { IfOk result (λ _. text_len cord.new ≡ text_len cord.old + length buffer.old) }
+    ensures emptied { IfOk result (λ _. buffer.new ≡ []) }
+    ensures cord_unchanged { IsErr result → cord.new ≡ cord.old }
+    ensures buffer_unchanged { IsErr result → buffer.new ≡ buffer.old }
+    ensures refused { IsOkUnless result CordError.NoMemory }
+{
+    let longer = whole(alloc, cord, buffer)?;
+    *cord = longer;
+    buffer.clear();
+    Ok(())
+}
+
+// The text of one cord and then of another, which are short enough together.
+fn cat_within(alloc: Global, left: &Cord, right: &Cord) -> Result<Cord, CordError>
+    requires fits { text_len left.now + text_len right.now ≤ MAX_LEN }
+    ensures text { IfOk result (λ c. text c ≡ text left.now ++ text right.now) }
+    ensures len { IfOk result (λ c. text_len c ≡ text_len left.now + text_len right.now) }
+    ensures sound { IfOk result IsCord }
+    ensures refused { IsOkUnless result CordError.NoMemory }
+{
+    let both = Cord::cat(alloc, left, right)?;
+    Ok(both)
+}
+
+// The bytes of a buffer as one leaf.
+fn leaf_of(alloc: Global, buffer: &RawBuf) -> Result<Cord, CordError>
+    requires filled { 0 < length buffer.now }
+    ensures text { IfOk result (λ c. text c ≡ map known buffer.now) }
+    ensures len { IfOk result (λ c. text_len c ≡ length buffer.now) }
+    ensures sound { IfOk result IsCord }
+    ensures refused { IsOkUnless result CordError.NoMemory }
+{
+    let shared = buffer.to_shared(alloc)?;
+    let leaf = Cord::from_shared(alloc, shared)?;
+    Ok(leaf)
+}
+
+// The text of a cord and then these bytes, as leaves that are gathered in a buffer of their own.
+fn cat_leaves(alloc: Global, cord: Cord, bytes: &[u8]) -> Result<Cord, CordError>
+    requires fits { text_len cord + length bytes.now ≤ MAX_LEN }
+    ensures text { IfOk result (λ c. text c ≡ text cord ++ map known bytes.now) }
+    ensures len { IfOk result (λ c. text_len c ≡ text_len cord + length bytes.now) }
+    ensures refused { IsOkUnless result CordError.NoMemory }
+{
+    let mut longer = cord;
+    let mut leaf_bytes = RawBuf::new(alloc)?;
+    let mut rest = bytes;
+    while !rest.is_empty() {
+        let (run, behind) = rest.split_at(rest.len().min(RawBuf::CAP as usize));
+        leaf_bytes.clear();
+        leaf_bytes.extend(alloc, run)?;
+        let leaf = leaf_of(alloc, &leaf_bytes)?;
+        longer = cat_within(alloc, &longer, &leaf)?;
+        rest = behind;
+    }
+    Ok(longer)
+}

@@ -1,0 +1,82 @@
+-- What is read of an entry.
+use Rattle.std.proofs.Common.{◌≡◌, ℕ, zero, suc, ◌+◌, ◌-◌, ◌<◌, ◌≤◌, List, [], ◌∷◌, length, take, drop, Option, Some, None, Result, Ok, Err, refl, sym, ap, subst, ◌∙◌, arith}
+use Rattle.std.specs.Prelude.{slice_get, slice_index, IfSome, IsSomeAnd, OnOk, unwrap_or}
+use Rattle.std.specs.Option.{option_map}
+use Rattle.std.specs.String.{string_bytes}
+use Rattle.std.proofs.lemmas.Option.{slice_get-map, slice_get_within}
+use Rattle.cord_io.specs.declared.TheConstants.{MAX_LEN}
+use Rattle.cord_io.specs.Device.{Folder, file_at, bytes_at}
+use Rattle.cord_io.specs.Entries.{function_byte, function_read}
+use Rattle.cord_file.specs.Entries.{Opened, lengths_in, table_in}
+use Rattle.cord_file.specs.Files.{AreShortEnough, told_of, opened_of}
+use Rattle.cord_file.specs.declared.files.OpenFile.{OpenFile}
+
+-- the length of an entry that is a file
+pub length_past : (opened : Opened) (id : ℕ) → 2 ≤ id → lengths_in opened id ≡ option_map (λ file. file.1) (slice_get opened (id - 2))
+length_past opened zero h = absurd (omega arith)
+length_past opened (suc zero) h = absurd (omega arith)
+length_past opened (suc (suc n)) h =
+    let e : n ≡ suc (suc n) - 2 = omega arith in
+    ap (λ k. option_map (λ file. file.1) (slice_get opened k)) e
+
+-- the same of an opened file
+pub length_of_file : (files : List OpenFile) (id : ℕ) (o : Option OpenFile) → 2 ≤ id → slice_get files (id - 2) ≡ o → lengths_in (opened_of files) id ≡ option_map (λ file. file.len) o
+length_of_file files id o h e = length_past (opened_of files) id h ∙ ap (option_map (λ file. file.1)) (slice_get-map told_of files (id - 2) ∙ ap (option_map told_of) e) ∙ both o where
+  both : (o : Option OpenFile) → option_map (λ file. file.1) (option_map told_of o) ≡ option_map (λ file. file.len) o
+  both None = refl
+  both (Some file) = refl
+
+-- what holds of the length told of an entry holds of its file
+pub of_file : (P : ℕ → Type 0) (files : List OpenFile) (id : ℕ) (file : OpenFile) → 2 ≤ id → slice_get files (id - 2) ≡ Some file → IsSomeAnd (lengths_in (opened_of files) id) P → P file.len
+of_file P files id file h e p = subst (λ o. IsSomeAnd o P) (length_of_file files id (Some file) h e) p
+
+-- what holds of the length of a file holds of what the device told
+pub of_told : (P : ℕ → Type 0) (told : Option (List ℕ × ℕ)) (file : OpenFile) → told ≡ Some (told_of file) → P file.len → IsSomeAnd told (λ t. P t.1)
+of_told P told file e p = subst (λ o. IsSomeAnd o (λ t. P t.1)) (sym e) p
+
+-- no entry is longer than a cord can be
+pub entry_limit : (files : List OpenFile) → AreShortEnough files → (id len : ℕ) → lengths_in (opened_of files) id ≡ Some len → len ≤ MAX_LEN
+entry_limit files short zero len e = let same : MAX_LEN ≡ len = cc in omega (arith, same)
+entry_limit files short (suc zero) len e = let same : MAX_LEN ≡ len = cc in omega (arith, same)
+entry_limit files short (suc (suc n)) len e = at files n short e where
+  at : (files : List OpenFile) (n : ℕ) → AreShortEnough files → option_map (λ file. file.1) (slice_get (opened_of files) n) ≡ Some len → len ≤ MAX_LEN
+  at [] n short e = cc
+  at (file ∷ files) zero short e = let same : file.len ≡ len = cc in subst (λ k. k ≤ MAX_LEN) same (short zero file refl)
+  at (file ∷ files) (suc n) short e = at files n (λ k. short (suc k)) e
+
+-- the bytes of a function
+pub function_bytes : (contents : Option Folder) (opened : Opened) (id start : ℕ) (out : List ℕ) → id < 2 → start + length out ≤ MAX_LEN → ((k : ℕ) → k < length out → slice_index out k ≡ function_byte id (start + k)) → IfSome (option_map (table_in opened) contents) (λ t. out ≡ take (length out) (drop start (t id)))
+function_bytes None opened id start out below inside each = tt
+function_bytes (Some folder) opened zero start out below inside each = function_read zero start out inside each
+function_bytes (Some folder) opened (suc zero) start out below inside each = function_read (suc zero) start out inside each
+function_bytes (Some folder) opened (suc (suc n)) start out below inside each = absurd (omega arith)
+
+-- the text of an entry that is a file
+pub text_of_file : (folder : Folder) (files : List OpenFile) (id : ℕ) (file : OpenFile) → 2 ≤ id → slice_get files (id - 2) ≡ Some file → table_in (opened_of files) folder id ≡ bytes_at folder (string_bytes file.path)
+text_of_file folder files zero file h e = absurd (omega arith)
+text_of_file folder files (suc zero) file h e = absurd (omega arith)
+text_of_file folder files (suc (suc n)) file h e =
+    let k : n ≡ suc (suc n) - 2 = omega arith in
+    let here : slice_get files n ≡ Some file = ap (slice_get files) k ∙ e in
+    ap (λ o. unwrap_or (option_map (λ f. bytes_at folder f.0) o) []) (slice_get-map told_of files n ∙ ap (option_map told_of) here)
+
+-- the bytes of a file
+pub file_bytes : {A E : Type 0} (r : Result A E) (contents : Option Folder) (told : Option (List ℕ × ℕ)) (files : List OpenFile) (id start : ℕ) (out : List ℕ) (file : OpenFile) → 2 ≤ id → slice_get files (id - 2) ≡ Some file → told ≡ Some (told_of file) → OnOk r (IfSome contents (λ folder. IsSomeAnd told (λ t. out ≡ take (length out) (drop start (bytes_at folder t.0))))) → OnOk r (IfSome (option_map (table_in (opened_of files)) contents) (λ t. out ≡ take (length out) (drop start (t id))))
+file_bytes (Err e) contents told files id start out file h at same read = tt
+file_bytes (Ok x) None told files id start out file h at same read = tt
+file_bytes (Ok x) (Some folder) told files id start out file h at same read =
+    subst (λ o. IsSomeAnd o (λ t. out ≡ take (length out) (drop start (bytes_at folder t.0)))) same read
+    ∙ ap (λ b. take (length out) (drop start b)) (sym (text_of_file folder files id file h at))
+
+-- an entry that is a file is one of those opened
+pub inside_files : (P : ℕ → Type 0) (files : List OpenFile) (id : ℕ) → 2 ≤ id → IsSomeAnd (lengths_in (opened_of files) id) P → id - 2 < length files
+inside_files P files id h p = cases (slice_get files (id - 2)) refl where
+  cases : (o : Option OpenFile) → slice_get files (id - 2) ≡ o → id - 2 < length files
+  cases None e = absurd (subst (λ o. IsSomeAnd o P) (length_of_file files id None h e) p)
+  cases (Some file) e = slice_get_within files (id - 2) file e
+
+-- the range of a function lies below the greatest length
+pub function_limit : (opened : Opened) (id n : ℕ) → id < 2 → IsSomeAnd (lengths_in opened id) (λ len. n ≤ len) → n ≤ MAX_LEN
+function_limit opened zero n below h = h
+function_limit opened (suc zero) n below h = h
+function_limit opened (suc (suc k)) n below h = absurd (omega arith)

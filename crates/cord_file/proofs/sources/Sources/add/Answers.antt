@@ -1,0 +1,65 @@
+use Rattle.std.proofs.Common.{◌≡◌, ℕ, suc, ◌+◌, ◌<◌, ◌≤◌, Bool, List, [], ◌∷◌, ◌++◌, Some, refl, sym, ◌∙◌, ap, subst, length, arith, rules}
+use Rattle.std.specs.Prelude.{is_ok, is_some, slice_get}
+use Rattle.std.specs.String.{string_bytes}
+use Rattle.std.proofs.lemmas.List.{length-map}
+use Rattle.cord_io.specs.declared.TheConstants.{MAX_LEN}
+use Rattle.cord_io.specs.Device.{Folder, file_at, bytes_at, HandsOut}
+use Rattle.cord_file.specs.declared.TheConstants.{MAX_FILES}
+use Rattle.cord_file.specs.declared.files.OpenFile.{OpenFile}
+use Rattle.cord_file.specs.Entries.{Opened}
+use Rattle.cord_file.specs.Files.{told_of, opened_of}
+use Rattle.cord_file.specs.Opening.{Opens, HoldsFile}
+use Rattle.cord_file.proofs.Growing.{opens_behind, last_place}
+use Rattle.cord_file.proofs.Holding.{each_pushed, opened_more, IsFound, found_there, holds_file}
+use Rattle.cord_file.proofs.sources.Sources.add.Goals as goal
+
+pub invariant_of-self-2 : goal.invariant_of-self-2
+invariant_of-self-2 g c =
+    let old = c.args.self.now in
+    let files = old.entries.items in
+    let file : OpenFile = record { path = c.in_ok-kept.kept; no = c.in_ok-no.no; len = c.in_ok-no.len } in
+    let path : string_bytes file.path ≡ c.args.path.now = c.in_ok-kept.ensures.ok in
+    let hands : HandsOut (g.F.Files.opened old.files) (g.F.Files.opened c.open.new.self) file.no.0 c.args.path.now file.len = c.in_ok-no.ensures.opened in
+    let found : IsFound (g.F.Files.contents old.files) c.args.path.now file.len = found_there _ _ _ c.in_ok-no.ensures.found in
+    let same : g.F.Files.contents c.open.new.self ≡ g.F.Files.contents old.files = c.open.ensures.contents in
+    record {
+      few = search rules;
+      handed_out = each_pushed (λ f. g.F.Files.opened c.open.new.self f.no.0 ≡ Some (told_of f)) files _ file (is_ok c.push.result) c.push.ensures.items
+          (λ k f h. let was = old.handed_out k f h in hands.kept f.no.0 (ap is_some was) ∙ was)
+          (hands.told ∙ ap (λ p. Some (p, file.len)) (sym path));
+      short_enough = each_pushed (λ f. f.len ≤ MAX_LEN) files _ file (is_ok c.push.result) c.push.ensures.items old.short_enough (search rules);
+      there = each_pushed (λ f. (folder : Folder) → g.F.Files.contents c.open.new.self ≡ Some folder → file_at folder (string_bytes f.path) ≡ Some (bytes_at folder (string_bytes f.path))) files _ file (is_ok c.push.result) c.push.ensures.items
+          (λ k f h folder e. old.there k f h folder (sym same ∙ e))
+          (λ folder e. subst (λ p. file_at folder p ≡ Some (bytes_at folder p)) (sym path) (found folder (sym same ∙ e)).0);
+      as_long = each_pushed (λ f. (folder : Folder) → g.F.Files.contents c.open.new.self ≡ Some folder → length (bytes_at folder (string_bytes f.path)) ≡ f.len) files _ file (is_ok c.push.result) c.push.ensures.items
+          (λ k f h folder e. old.as_long k f h folder (sym same ∙ e))
+          (λ folder e. subst (λ p. length (bytes_at folder p) ≡ file.len) (sym path) (found folder (sym same ∙ e)).1);
+    }
+
+pub returns-clause-opens : goal.returns-clause-opens
+returns-clause-opens g c =
+    let old = c.args.self.now in
+    let files = old.entries.items in
+    let file : OpenFile = record { path = c.in_ok-kept.kept; no = c.in_ok-no.no; len = c.in_ok-no.len } in
+    let path : string_bytes file.path ≡ c.args.path.now = c.in_ok-kept.ensures.ok in
+    let more : opened_of c.push.new.self.items ≡ opened_of files ++ (c.args.path.now, file.len) ∷ [] = ap opened_of c.in_ok-push.ensures.items ∙ opened_more files file c.args.path.now path in
+    let count : length (opened_of files) ≡ length files = length-map files told_of in
+    let room : length (opened_of files) < MAX_FILES = search rules in
+    let limit : file.len ≤ MAX_LEN = search rules in
+    let id : length (opened_of files) + 2 ≡ c.len-2.result + 2 = search rules in
+    subst (λ n. Opens (opened_of files) (opened_of c.push.new.self.items) c.args.path.now n file.len) id
+    (subst (λ new. Opens (opened_of files) new c.args.path.now (length (opened_of files) + 2) file.len) (sym more)
+    (opens_behind (opened_of files) c.args.path.now file.len c.requires room limit))
+
+pub returns-clause-file : goal.returns-clause-file
+returns-clause-file g c =
+    let old = c.args.self.now in
+    let files = old.entries.items in
+    let file : OpenFile = record { path = c.in_ok-kept.kept; no = c.in_ok-no.no; len = c.in_ok-no.len } in
+    let path : string_bytes file.path ≡ c.args.path.now = c.in_ok-kept.ensures.ok in
+    let more : opened_of c.push.new.self.items ≡ opened_of files ++ (c.args.path.now, file.len) ∷ [] = ap opened_of c.in_ok-push.ensures.items ∙ opened_more files file c.args.path.now path in
+    let count : length (opened_of files) ≡ length files = length-map files told_of in
+    let id : c.len-2.result + 2 ≡ suc (suc (length (opened_of files))) = search rules in
+    let slot : slice_get (opened_of c.push.new.self.items) (length (opened_of files)) ≡ Some (c.args.path.now, file.len) =
+    ap (λ xs. slice_get xs (length (opened_of files))) more ∙ last_place (opened_of files) (c.args.path.now, file.len) in
+    holds_file (g.F.Files.contents old.files) (opened_of c.push.new.self.items) c.args.path.now (c.len-2.result + 2) file.len (length (opened_of files)) id slot (found_there _ _ _ c.in_ok-no.ensures.found)

@@ -1,0 +1,6 @@
+pub mod Entries
+pub mod Faults
+pub mod Files
+pub mod Making
+pub mod Opening
+pub mod Sources

@@ -1,0 +1,92 @@
+// Cords over files.
+ghost use Rattle.std.specs.Prelude.{◌≡◌, ◌+◌, ◌<◌, ◌≤◌, IfOk, IfErr, IsOkUnless, Some};
+ghost use Rattle.cord_io.specs.Device.{count_after};
+ghost use Rattle.cord_file.specs.Faults.{has_failed};
+ghost use Rattle.cord_file.specs.Entries.{lengths_in};
+ghost use Rattle.cord_file.specs.Opening.{Grows};
+ghost use Rattle.cord_file.specs.Making.{IsLeafOver, IsFuncOver, IsWhole, IsLazy, IsWholeOrLazy, IsReadRefusal, IsWholeRefusal, IsLazyRefusal};
+
+use crate::reading::read_range;
+use crate::{FileError, SHORT_FILE, Sources};
+use cord_core::Cord;
+use cord_io::{Files, SourceId};
+use std::alloc::Global;
+use std::rc::RcSlice;
+
+impl<F: Files> Sources<F> {
+    ghost use Rattle.cord_file.specs.Sources.{device_in, opened_in};
+
+    /// The file at a path as a cord whose bytes are all read now, into one leaf. The path is opened as by `open`. Refused as
+    /// `open` is, or after it with `ReadFailed` where the device failed, or `NoMemory`: then the path stays open.
+    pub fn eager(&mut self, alloc: Global, path: &str) -> Result<Cord, FileError>
+        ensures contents { F.contents (device_in self.new) ≡ F.contents (device_in self.old) }
+        ensures count { F.failures (device_in self.new)
+            ≡ count_after (has_failed result) (F.failures (device_in self.old)) }
+        ensures grows { Grows (opened_in self.old) (opened_in self.new) }
+        ensures cord { IfOk result (IsWhole (F.contents (device_in self.old)) (opened_in self.old) (opened_in self.new) path.now) }
+        ensures refused { IfErr result (IsWholeRefusal (F.contents (device_in self.old)) (opened_in self.old) (opened_in self.new) path.now) }
+    {
+        let (id, len) = self.open(alloc, path)?;
+        self.read_whole(alloc, id, len)
+    }
+
+    /// The file at a path as a cord of which no byte is read now, one function part over its entry. The path is opened as by
+    /// `open`. Refused as `open` is, or after it with `NoMemory`: then the path stays open.
+    pub fn lazy(&mut self, alloc: Global, path: &str) -> Result<Cord, FileError>
+        ensures contents { F.contents (device_in self.new) ≡ F.contents (device_in self.old) }
+        ensures count { F.failures (device_in self.new)
+            ≡ count_after (has_failed result) (F.failures (device_in self.old)) }
+        ensures grows { Grows (opened_in self.old) (opened_in self.new) }
+        ensures cord { IfOk result (IsLazy (F.contents (device_in self.old)) (opened_in self.old) (opened_in self.new) path.now) }
+        ensures refused { IfErr result (IsLazyRefusal (F.contents (device_in self.old)) (opened_in self.old) (opened_in self.new) path.now) }
+    {
+        let (id, len) = self.open(alloc, path)?;
+        self.function_over(alloc, id, len)
+    }
+
+    /// The file at a path as a cord: `eager` where it is short, of at most `SHORT_FILE` bytes, else `lazy`.
+    pub fn from_file(&mut self, alloc: Global, path: &str) -> Result<Cord, FileError>
+        ensures contents { F.contents (device_in self.new) ≡ F.contents (device_in self.old) }
+        ensures count { F.failures (device_in self.new)
+            ≡ count_after (has_failed result) (F.failures (device_in self.old)) }
+        ensures grows { Grows (opened_in self.old) (opened_in self.new) }
+        ensures cord { IfOk result (IsWholeOrLazy (F.contents (device_in self.old)) (opened_in self.old) (opened_in self.new) path.now) }
+        ensures refused { IfErr result (IsWholeRefusal (F.contents (device_in self.old)) (opened_in self.old) (opened_in self.new) path.now) }
+    {
+        let (id, len) = self.open(alloc, path)?;
+        if len <= SHORT_FILE {
+            self.read_whole(alloc, id, len)
+        } else {
+            self.function_over(alloc, id, len)
+        }
+    }
+
+    // An opened file as one leaf, for which its bytes are read without a copy of the whole.
+    fn read_whole(&mut self, alloc: Global, id: SourceId, len: u64) -> Result<Cord, FileError>
+        requires file { 2 ≤ id.0 }
+        requires len { lengths_in (opened_in self.old) id.0 ≡ Some len }
+        ensures contents { F.contents (device_in self.new) ≡ F.contents (device_in self.old) }
+        ensures count { F.failures (device_in self.new)
+            ≡ count_after (has_failed result) (F.failures (device_in self.old)) }
+        ensures opened { opened_in self.new ≡ opened_in self.old }
+        ensures cord { IfOk result (IsLeafOver (F.contents (device_in self.old)) (opened_in self.old) id.0 len) }
+        ensures refused { IfErr result IsReadRefusal }
+    {
+        let no = self.entries[id.0 as usize - 2].no;
+        let mut bytes = vec![in alloc; 0; len as usize]?;
+        read_range(&mut self.files, no, 0, &mut bytes)?;
+        let shared = RcSlice::from_vec(bytes)?;
+        let cord = Cord::from_shared(alloc, shared)?;
+        Ok(cord)
+    }
+
+    // An opened file as one function part.
+    fn function_over(&self, alloc: Global, id: SourceId, len: u64) -> Result<Cord, FileError>
+        requires len { lengths_in (opened_in self.now) id.0 ≡ Some len }
+        ensures cord { IfOk result (IsFuncOver (F.contents (device_in self.now)) (opened_in self.now) id.0 len) }
+        ensures refused { IsOkUnless result FileError.NoMemory }
+    {
+        let cord = Cord::from_fn(alloc, id, 0, len)?;
+        Ok(cord)
+    }
+}

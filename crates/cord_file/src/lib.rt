@@ -1,0 +1,21 @@
+//! Named files and functions as sources: a table of entries that only grows, which cords can be made over.
+#![tactic(auto)]
+
+mod cords;
+mod faults;
+mod files;
+mod functions;
+mod opening;
+mod reading;
+mod sources;
+#[cfg(test)]
+mod tests;
+
+pub use faults::FileError;
+pub use sources::Sources;
+
+/// The greatest number of paths that are open at a time.
+pub const MAX_FILES: usize = 64;
+
+/// The greatest length of a short file, in bytes: `Sources::from_file` reads it whole.
+pub const SHORT_FILE: u64 = 131_072;

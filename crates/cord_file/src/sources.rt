@@ -1,0 +1,90 @@
+// A table of entries: two functions, and the files that were opened.
+ghost use Rattle.std.specs.Prelude.{◌≡◌, ◌+◌, ◌<◌, ◌≤◌, ℕ, length, [], MatchResult, vec_len};
+ghost use Rattle.cord_file.specs.declared.TheConstants.{MAX_FILES};
+ghost use Rattle.cord_file.specs.Files.{AreHandedOut, AreShortEnough, AreThere, AreAsLong};
+
+use crate::files::OpenFile;
+use crate::functions::fill;
+use crate::reading::read_range;
+use cord_io::{CordError, Files, MAX_LEN, ReadFault, Source, SourceId};
+use std::alloc::Global;
+
+/// Entries of bytes by id: 0 is the function `digits` (byte `48 + i mod 10` at place i) and 1 the function `bytes`
+/// (`i mod 256`), both `MAX_LEN` long, and from 2 on stand the files that were opened, at most `MAX_FILES` of them.
+#[derive(Drop)]
+pub struct Sources<F: Files> {
+    pub(crate) files: F,
+    pub(crate) entries: Vec<OpenFile>,
+    ghost few: { vec_len entries ≤ MAX_FILES },
+    ghost handed_out: { AreHandedOut (F.opened files) entries.items },
+    ghost short_enough: { AreShortEnough entries.items },
+    ghost there: { AreThere (F.contents files) entries.items },
+    ghost as_long: { AreAsLong (F.contents files) entries.items },
+}
+
+impl<F: Files> Sources<F> {
+    ghost use Rattle.cord_file.specs.Sources.{device_in, opened_in};
+
+    /// The functions alone, over files of which none is open here. Refused with `NoMemory` alone, and then the files are given
+    /// back.
+    pub fn new(alloc: Global, files: F) -> Result<Sources<F>, (CordError, F)>
+        ensures made { MatchResult result
+            (λ sources. (device_in sources ≡ files) × (opened_in sources ≡ []))
+            (λ refusal. (refusal.0 ≡ CordError.NoMemory) × (refusal.1 ≡ files)) }
+    {
+        Ok(Sources {
+            files,
+            entries: Vec::new(alloc),
+        })
+    }
+
+    /// The files, given back.
+    pub fn close(self) -> F
+        ensures { result ≡ device_in self }
+    {
+        let Sources { files, entries: _ } = self;
+        files
+    }
+}
+
+impl<F: Files> Source for Sources<F> {
+    ghost use Rattle.std.specs.Option.{option_map};
+    ghost use Rattle.cord_file.specs.Entries.{lengths_in, table_in};
+    ghost use Rattle.cord_file.specs.Sources.{device_in, opened_in};
+    ghost use Rattle.cord_file.specs.Files.{as_long_as_told};
+
+    ghost lengths = { λ s. lengths_in (opened_in s) };
+
+    ghost table = { λ s. option_map (table_in (opened_in s)) (F.contents (device_in s)) };
+
+    ghost failures = { λ s. F.failures (device_in s) };
+
+    ghost lengths_of_table = { λ s. as_long_as_told (F.contents (device_in s)) s.entries.items s.as_long };
+
+    fn failures(&self) -> u64 {
+        self.files.failures()
+    }
+
+    fn entry_len(&self, id: SourceId) -> Option<u64> {
+        match id.0 {
+            0 | 1 => Some(MAX_LEN),
+            n => match self.entries.get(n as usize - 2) {
+                Some(file) => Some(file.len),
+                None => None,
+            },
+        }
+    }
+
+    fn read(&mut self, id: SourceId, start: u64, out: &mut [u8]) -> Result<(), ReadFault> {
+        match id.0 {
+            0 | 1 => {
+                fill(id, start, out);
+                Ok(())
+            }
+            n => {
+                let no = self.entries[n as usize - 2].no;
+                read_range(&mut self.files, no, start, out)
+            }
+        }
+    }
+}

@@ -1,0 +1,90 @@
+// Rows of worked examples over files in memory.
+use super::*;
+use cord_core::{Cord, Node};
+use cord_io::{CutFiles, Files, MemFiles, Source, SourceId};
+use std::alloc::Global;
+use std::process::Abort;
+
+// Files in memory with one file.
+fn one_file(rt: &impl Abort, alloc: Global, path: &str, bytes: &[u8]) -> MemFiles {
+    let mut files = MemFiles::new(alloc);
+    assert_eq!(rt; files.add(alloc, path, bytes), Ok(()));
+    files
+}
+
+// Whether a cord is one leaf of these bytes.
+fn is_leaf_of(cord: &Cord, expected: &[u8]) -> bool {
+    let Some(node) = cord.root() else {
+        return false;
+    };
+    match node.as_ref() {
+        Node::Leaf { bytes, .. } => bytes.as_slice() == expected,
+        _ => false,
+    }
+}
+
+// The entry, the start and the length of a cord that is one function part.
+fn func_fields(cord: &Cord) -> Option<(SourceId, u64, u64)> {
+    match cord.root()?.as_ref() {
+        Node::Func { id, start, len } => Some((*id, *start, *len)),
+        _ => None,
+    }
+}
+
+#[test]
+fn sources_open(rt: HostRuntime) {
+    let alloc = rt.alloc();
+    let Ok(mut sources) = Sources::new(alloc, one_file(&rt, alloc, "p", b"hello")) else {
+        panic!(rt; "no memory");
+    };
+    assert_eq!(rt; sources.entry_len(SourceId(2)), None);
+    assert_eq!(rt; sources.open(alloc, "p"), Ok((SourceId(2), 5)));
+    assert_eq!(rt; sources.open(alloc, "p"), Ok((SourceId(2), 5)));
+    assert_eq!(rt; sources.entry_len(SourceId(2)), Some(5));
+    assert_eq!(rt; sources.entry_len(SourceId(3)), None);
+    assert_eq!(rt; sources.open(alloc, "q"), Err(FileError::NoFile));
+    let Ok(eager) = sources.eager(alloc, "p") else {
+        panic!(rt; "not read");
+    };
+    assert!(rt; is_leaf_of(&eager, b"hello"));
+    let Ok(lazy) = sources.lazy(alloc, "p") else {
+        panic!(rt; "not opened");
+    };
+    assert_eq!(rt; func_fields(&lazy), Some((SourceId(2), 0, 5)));
+    let Ok(short) = sources.from_file(alloc, "p") else {
+        panic!(rt; "not read");
+    };
+    assert!(rt; is_leaf_of(&short, b"hello"));
+    assert_eq!(rt; sources.failures(), 0);
+    let files = sources.close();
+    assert_eq!(rt; files.failures(), 0);
+}
+
+#[test]
+fn functions_are_read(rt: HostRuntime) {
+    let alloc = rt.alloc();
+    let Ok(mut sources) = Sources::new(alloc, MemFiles::new(alloc)) else {
+        panic!(rt; "no memory");
+    };
+    assert_eq!(rt; sources.entry_len(SourceId(0)), Some(1_099_511_627_775));
+    assert_eq!(rt; sources.entry_len(SourceId(1)), Some(1_099_511_627_775));
+    let mut out = [0u8; 3];
+    assert_eq!(rt; sources.read(SourceId(0), 8, &mut out), Ok(()));
+    assert_eq!(rt; out.as_slice(), b"890".as_slice());
+}
+
+#[test]
+fn cut_eager(rt: HostRuntime) {
+    let alloc = rt.alloc();
+    let files = CutFiles::new(one_file(&rt, alloc, "p", &[112; 1000]), 600);
+    let Ok(mut sources) = Sources::new(alloc, files) else {
+        panic!(rt; "no memory");
+    };
+    let refused = match sources.eager(alloc, "p") {
+        Ok(_) => None,
+        Err(error) => Some(error),
+    };
+    assert_eq!(rt; refused, Some(FileError::ReadFailed));
+    assert_eq!(rt; sources.failures(), 1);
+    assert_eq!(rt; sources.open(alloc, "p"), Ok((SourceId(2), 1000)));
+}

@@ -1,0 +1,126 @@
+// Files that pass so many calls to the files inside, and then fail each.
+ghost use Rattle.std.specs.Prelude.{◌≡◌, ◌+◌, ◌-◌, ◌<◌, ◌≤◌, ℕ, length, take, drop, is_err, IfOk, OnErr, IfSome, IsErr, IsErrOf, IsSomeAnd};
+ghost use Rattle.cord_io.specs.Device.{file_at, bytes_at, count_after, open_failed, HandsOut};
+
+use crate::faults::raise;
+use crate::{FileNo, Files, OpenFault, ReadFault};
+
+/// Files that pass `k` calls of `open` and `read_at` to the files inside, and then fail each. Until then they are the files
+/// inside, whose failures are failures of their own.
+#[derive(Drop)]
+pub struct FuseFiles<F> {
+    inner: F,
+    passes: u64,
+    failures: u64,
+}
+
+impl<F: Files> FuseFiles<F> {
+    ghost use Rattle.cord_io.specs.FusedFiles.{files_inside, passes_left};
+
+    /// Files that pass `k` calls to `inner`.
+    pub fn new(inner: F, k: u64) -> Self
+        ensures inner { files_inside result ≡ inner }
+        ensures contents { ⟦<FuseFiles<F> as Files>⟧.contents result ≡ F.contents inner }
+        ensures opened { ⟦<FuseFiles<F> as Files>⟧.opened result ≡ F.opened inner }
+        ensures passes { passes_left result ≡ k }
+        ensures count { ⟦<FuseFiles<F> as Files>⟧.failures result ≡ 0 }
+    {
+        FuseFiles {
+            inner,
+            passes: k,
+            failures: 0,
+        }
+    }
+
+    /// The files inside.
+    pub fn inner(&self) -> &F
+        ensures { result.now ≡ files_inside self.now }
+    {
+        &self.inner
+    }
+}
+
+impl<F: Files> Files for FuseFiles<F> {
+    ghost use Rattle.cord_io.specs.FusedFiles.{files_inside, passes_left};
+
+    ghost contents = { λ s. F.contents s.inner };
+
+    ghost opened = { λ s. F.opened s.inner };
+
+    ghost failures = { λ s. s.failures };
+
+    fn failures(&self) -> u64 {
+        self.failures
+    }
+
+    fn open(&mut self, path: &str) -> Result<(FileNo, u64), OpenFault>
+        ensures contents { F.contents (files_inside self.new) ≡ F.contents (files_inside self.old) }
+        ensures count { ⟦<FuseFiles<F> as Files>⟧.failures self.new
+            ≡ count_after (open_failed result) (⟦<FuseFiles<F> as Files>⟧.failures self.old) }
+        ensures opened { IfOk result (λ r. HandsOut (F.opened (files_inside self.old))
+            (F.opened (files_inside self.new)) r.0.0 path.now r.1) }
+        ensures none_opened { OnErr result ((n : ℕ) →
+            F.opened (files_inside self.new) n ≡ F.opened (files_inside self.old) n) }
+        ensures found { IfOk result (λ r. IfSome (F.contents (files_inside self.old)) (λ files.
+            IsSomeAnd (file_at files path.now) (λ bytes. r.1 ≡ length bytes))) }
+        ensures not_found { IsErrOf result OpenFault.NotFound →
+            IfSome (F.contents (files_inside self.old)) (λ files. file_at files path.now ≡ None) }
+
+        // A call that passes is a call of the files inside, one that doesn't is none.
+        ensures left { passes_left self.new ≡ passes_left self.old - 1 }
+        ensures passed { 0 < passes_left self.old → F.failures (files_inside self.new)
+            ≡ count_after (open_failed result) (F.failures (files_inside self.old)) }
+        ensures spent { passes_left self.old ≡ 0 → result ≡ Err OpenFault.Failed }
+        ensures kept { passes_left self.old ≡ 0 → files_inside self.new ≡ files_inside self.old }
+    {
+        if self.passes == 0 {
+            raise(&mut self.failures);
+            return Err(OpenFault::Failed);
+        }
+        self.passes -= 1;
+        match self.inner.open(path) {
+            Ok(opened) => Ok(opened),
+            Err(OpenFault::NotFound) => Err(OpenFault::NotFound),
+            Err(OpenFault::Failed) => {
+                raise(&mut self.failures);
+                Err(OpenFault::Failed)
+            }
+        }
+    }
+
+    fn read_at(&mut self, no: FileNo, start: u64, out: &mut [u8]) -> Result<usize, ReadFault>
+        requires inside { IsSomeAnd (F.opened (files_inside self.old) no.0) (λ told. start < told.1) }
+        requires room { 0 < length out.old }
+        ensures contents { F.contents (files_inside self.new) ≡ F.contents (files_inside self.old) }
+        ensures count { ⟦<FuseFiles<F> as Files>⟧.failures self.new
+            ≡ count_after (is_err result) (⟦<FuseFiles<F> as Files>⟧.failures self.old) }
+        ensures opened { (n : ℕ) → F.opened (files_inside self.new) n ≡ F.opened (files_inside self.old) n }
+        ensures some { IfOk result (λ k. (0 < k) × (k ≤ length out.new)) }
+        ensures bytes { IfOk result (λ k. IfSome (F.contents (files_inside self.old)) (λ files.
+            IsSomeAnd (F.opened (files_inside self.old) no.0) (λ told.
+            take k out.new ≡ take k (drop start (bytes_at files told.0))))) }
+
+        // A call that passes is a call of the files inside, one that doesn't is none.
+        ensures left { passes_left self.new ≡ passes_left self.old - 1 }
+        ensures passed { 0 < passes_left self.old → F.failures (files_inside self.new)
+            ≡ count_after (is_err result) (F.failures (files_inside self.old)) }
+        ensures spent { passes_left self.old ≡ 0 → IsErr result }
+        ensures kept { passes_left self.old ≡ 0 → files_inside self.new ≡ files_inside self.old }
+    {
+        if self.passes == 0 {
+            raise(&mut self.failures);
+            return Err(ReadFault);
+        }
+        self.passes -= 1;
+        match self.inner.read_at(no, start, out) {
+            Ok(count) => Ok(count),
+            Err(ReadFault) => {
+                raise(&mut self.failures);
+                Err(ReadFault)
+            }
+        }
+    }
+}
+
+#[cfg(test)]
+mod tests;

@@ -1,0 +1,120 @@
+// A sink that passes so many calls to the sink inside, and then fails each.
+ghost use Rattle.std.specs.Prelude.{◌≡◌, ◌-◌, ◌<◌, ◌≤◌, length, is_err, IfOk, IsErr};
+ghost use Rattle.std.specs.Io.KnownBytes.{WriteAppends, Keeps};
+ghost use Rattle.cord_io.specs.Device.{count_after};
+
+use crate::faults::raise;
+use crate::{Sink, WriteFault};
+
+/// A sink that passes `k` calls of `put` and `finish` to the sink inside, offers it at most `most` bytes in each `put`, and then
+/// fails each call. Until then it is the sink inside, whose failures are failures of its own.
+#[derive(Drop)]
+pub struct FuseSink<S> {
+    inner: S,
+    passes: u64,
+    most: u64,
+    failures: u64,
+    ghost some: { 1 ≤ most },
+}
+
+impl<S: Sink> FuseSink<S> {
+    ghost use Rattle.cord_io.specs.FusedSink.{sink_inside, passes_left, most_offered};
+
+    /// A sink that passes `k` calls to `inner`, with at most `most` bytes each.
+    pub fn new(inner: S, k: u64, most: u64) -> Self
+        requires { 1 ≤ most }
+        ensures inner { sink_inside result ≡ inner }
+        ensures passes { passes_left result ≡ k }
+        ensures most { most_offered result ≡ most }
+        ensures taken { ⟦<FuseSink<S> as Sink>⟧.taken result ≡ S.taken inner }
+        ensures count { ⟦<FuseSink<S> as Sink>⟧.failures result ≡ 0 }
+    {
+        FuseSink {
+            inner,
+            passes: k,
+            most,
+            failures: 0,
+        }
+    }
+
+    /// The sink inside.
+    pub fn inner(&self) -> &S
+        ensures { result.now ≡ sink_inside self.now }
+    {
+        &self.inner
+    }
+}
+
+impl<S: Sink> Sink for FuseSink<S> {
+    ghost use Rattle.cord_io.specs.FusedSink.{sink_inside, passes_left, most_offered};
+
+    ghost taken = { λ s. S.taken s.inner };
+
+    ghost failures = { λ s. s.failures };
+
+    fn failures(&self) -> u64 {
+        self.failures
+    }
+
+    fn put(&mut self, bytes: &[u8]) -> Result<usize, WriteFault>
+        requires { 0 < length bytes.now }
+        ensures some { IfOk result (λ k. (0 < k) × (k ≤ length bytes.now)) }
+        ensures taken { WriteAppends (S.taken (sink_inside self.old)) (S.taken (sink_inside self.new))
+            result bytes.now }
+        ensures count { ⟦<FuseSink<S> as Sink>⟧.failures self.new
+            ≡ count_after (is_err result) (⟦<FuseSink<S> as Sink>⟧.failures self.old) }
+
+        // A call that passes is a call of the sink inside, one that doesn't is none.
+        ensures most { IfOk result (λ k. k ≤ most_offered self.old) }
+        ensures most_kept { most_offered self.new ≡ most_offered self.old }
+        ensures left { passes_left self.new ≡ passes_left self.old - 1 }
+        ensures passed { 0 < passes_left self.old → S.failures (sink_inside self.new)
+            ≡ count_after (is_err result) (S.failures (sink_inside self.old)) }
+        ensures spent { passes_left self.old ≡ 0 → IsErr result }
+        ensures kept { passes_left self.old ≡ 0 → sink_inside self.new ≡ sink_inside self.old }
+    {
+        if self.passes == 0 {
+            raise(&mut self.failures);
+            return Err(WriteFault);
+        }
+        self.passes -= 1;
+        let offered = self.most.min(bytes.len() as u64) as usize;
+        match self.inner.put(&bytes[..offered]) {
+            Ok(count) => Ok(count),
+            Err(WriteFault) => {
+                raise(&mut self.failures);
+                Err(WriteFault)
+            }
+        }
+    }
+
+    fn finish(&mut self) -> Result<(), WriteFault>
+        ensures taken { Keeps (S.taken (sink_inside self.old)) (S.taken (sink_inside self.new)) }
+        ensures count { ⟦<FuseSink<S> as Sink>⟧.failures self.new
+            ≡ count_after (is_err result) (⟦<FuseSink<S> as Sink>⟧.failures self.old) }
+
+        // A call that passes is a call of the sink inside, one that doesn't is none.
+        ensures most_kept { most_offered self.new ≡ most_offered self.old }
+        ensures left { passes_left self.new ≡ passes_left self.old - 1 }
+        ensures passed { 0 < passes_left self.old → S.failures (sink_inside self.new)
+            ≡ count_after (is_err result) (S.failures (sink_inside self.old)) }
+        ensures spent { passes_left self.old ≡ 0 → IsErr result }
+        ensures kept { passes_left self.old ≡ 0 → sink_inside self.new ≡ sink_inside self.old }
+    {
+        if self.passes == 0 {
+            raise(&mut self.failures);
+            return Err(WriteFault);
+        }
+        self.passes -= 1;
+        match self.inner.finish() {
+            Ok(()) => Ok(()),
+            Err(WriteFault) => {
+                raise(&mut self.failures);
+                Err(WriteFault)
+            }
+        }
+    }
+}
+
+#[cfg(test)]
+mod tests;

@@ -1,0 +1,160 @@
+// Files in memory.
+ghost use Rattle.std.specs.Prelude.{◌≡◌, ◌<◌, ◌≤◌, ℕ, List, [], None, Some, length, take, drop, IfSome, IfNone, IfErr, OnOk, OnErr, IsTrue, ◌+◌, ◌-◌, min, is_err, IsOk, IfOk, IsSomeAnd};
+ghost use Rattle.std.specs.Vec.{vec_len};
+ghost use Rattle.cord_io.specs.Device.{file_at, bytes_at, file_count, count_after, AddsFile};
+ghost use Rattle.cord_io.specs.Memory.{IsAt, Marks, Rewrites, folder_of, paths_differ};
+
+use crate::{CordError, FileNo, Files, OpenFault, ReadFault};
+use std::alloc::Global;
+
+#[derive(Drop)]
+struct Entry {
+    path: String,
+    bytes: Vec<u8>,
+    is_open: bool,
+}
+
+/// Files in memory: an honest device, which is the map that was added. No call of it but `add` takes memory, and none fails.
+#[derive(Drop)]
+pub struct MemFiles {
+    entries: Vec<Entry>,
+    ghost few: { vec_len entries ≤ 65536 },
+    ghost distinct: { IsTrue (paths_differ (folder_of entries.items)) },
+}
+
+// The entry at a path.
+fn place_of(entries: &[Entry], path: &str) -> Option<usize>
+    ensures found { IfSome result (λ n. (e : _) × IsAt entries.now path.now n e) }
+    ensures none { IfNone result (file_at (folder_of entries.now) path.now ≡ None) }
+{
+    for (i, entry) in entries.iter().enumerate() {
+        if entry.path.as_str() == path {
+            return Some(i);
+        }
+    }
+    None
+}
+
+// Marks an entry as open, and tells its length.
+fn mark(entries: &mut [Entry], place: usize) -> usize
+    requires { place < length entries.old }
+    ensures { Marks entries.old entries.new place result }
+{
+    let entry = &mut entries[place];
+    entry.is_open = true;
+    entry.bytes.len()
+}
+
+// Gives an entry new bytes.
+fn rewrite(entries: &mut [Entry], place: usize, bytes: Vec<u8>)
+    requires { place < length entries.old }
+    ensures { Rewrites entries.old entries.new place bytes.items }
+{
+    let entry = &mut entries[place];
+    entry.bytes = bytes;
+}
+
+// Copies what fits of the bytes from `start` on.
+fn copy_from(bytes: &[u8], start: usize, out: &mut [u8]) -> usize
+    requires inside { start < length bytes.now }
+    requires room { 0 < length out.old }
+    ensures fills { result ≡ min (length out.new) (length bytes.now - start) }
+    ensures bytes { take result out.new ≡ take result (drop start bytes.now) }
+{
+    let rest = &bytes[start..];
+    let count = rest.len().min(out.len());
+    out[..count].copy_from_slice(&rest[..count]);
+    count
+}
+
+impl MemFiles {
+    /// Files with no path yet.
+    pub fn new(alloc: Global) -> Self
+        ensures contents { ⟦<MemFiles as Files>⟧.contents result ≡ Some [] }
+        ensures opened { (n : ℕ) → ⟦<MemFiles as Files>⟧.opened result n ≡ None }
+        ensures count { ⟦<MemFiles as Files>⟧.failures result ≡ 0 }
+    {
+        MemFiles {
+            entries: Vec::new(alloc),
+        }
+    }
+
+    /// Adds a file, before any is opened and while fewer than 65,536 paths are there. A path that is there gets the new bytes.
+    /// Refused with `NoMemory` alone, and then no file is changed.
+    pub fn add(&mut self, alloc: Global, path: &str, bytes: &[u8]) -> Result<(), CordError>
+        requires unopened { (n : ℕ) → ⟦<MemFiles as Files>⟧.opened self.old n ≡ None }
+        requires few { file_count (⟦<MemFiles as Files>⟧.contents self.old) < 65536 }
+        ensures added { OnOk result (AddsFile (⟦<MemFiles as Files>⟧.contents self.old)
+            (⟦<MemFiles as Files>⟧.contents self.new) path.now bytes.now) }
+        ensures refused { OnErr result (⟦<MemFiles as Files>⟧.contents self.new
+            ≡ ⟦<MemFiles as Files>⟧.contents self.old) }
+        ensures cause { IfErr result (λ e. e ≡ CordError.NoMemory) }
+        ensures unopened { (n : ℕ) → ⟦<MemFiles as Files>⟧.opened self.new n ≡ None }
+        ensures few { file_count (⟦<MemFiles as Files>⟧.contents self.new)
+            ≤ file_count (⟦<MemFiles as Files>⟧.contents self.old) + 1 }
+    {
+        let kept = Vec::from_slice(alloc, bytes)?;
+        match place_of(&self.entries, path) {
+            Some(place) => rewrite(&mut self.entries, place, kept),
+            None => {
+                let path = String::from_str(alloc, path)?;
+                let entry = Entry {
+                    path,
+                    bytes: kept,
+                    is_open: false,
+                };
+                self.entries.push(entry)?;
+            }
+        }
+        Ok(())
+    }
+}
+
+impl Files for MemFiles {
+    ghost use Rattle.std.specs.Prelude.{Some};
+    ghost use Rattle.cord_io.specs.Memory.{folder_of, opened_of};
+
+    ghost contents = { λ s. Some (folder_of s.entries.items) };
+
+    ghost opened = { λ s. opened_of s.entries.items };
+
+    ghost failures = { λ _. 0 };
+
+    fn failures(&self) -> u64 {
+        0
+    }
+
+    fn open(&mut self, path: &str) -> Result<(FileNo, u64), OpenFault> {
+        match place_of(&self.entries, path) {
+            None => Err(OpenFault::NotFound),
+            Some(place) => {
+                let len = mark(&mut self.entries, place);
+                Ok((FileNo(place as u32), len as u64))
+            }
+        }
+    }
+
+    fn read_at(&mut self, no: FileNo, start: u64, out: &mut [u8]) -> Result<usize, ReadFault>
+        requires inside { IsSomeAnd (⟦<MemFiles as Files>⟧.opened self.old no.0) (λ told. start < told.1) }
+        requires room { 0 < length out.old }
+        ensures contents { ⟦<MemFiles as Files>⟧.contents self.new ≡ ⟦<MemFiles as Files>⟧.contents self.old }
+        ensures ok { IsOk result }
+        ensures count { ⟦<MemFiles as Files>⟧.failures self.new
+            ≡ count_after (is_err result) (⟦<MemFiles as Files>⟧.failures self.old) }
+        ensures opened { (n : ℕ) → ⟦<MemFiles as Files>⟧.opened self.new n ≡ ⟦<MemFiles as Files>⟧.opened self.old n }
+        ensures some { IfOk result (λ k. (0 < k) × (k ≤ length out.new)) }
+        ensures bytes { IfOk result (λ k. IfSome (⟦<MemFiles as Files>⟧.contents self.old) (λ files.
+            IsSomeAnd (⟦<MemFiles as Files>⟧.opened self.old no.0) (λ told.
+            take k out.new ≡ take k (drop start (bytes_at files told.0))))) }
+
+        // It fills as much of `out` as lies inside the file.
+        ensures fills { IfOk result (λ k. IsSomeAnd (⟦<MemFiles as Files>⟧.opened self.old no.0) (λ told.
+            k ≡ min (length out.new) (told.1 - start))) }
+    {
+        let bytes = self.entries[no.0 as usize].bytes.as_slice();
+        Ok(copy_from(bytes, start as usize, out))
+    }
+}
+
+#[cfg(test)]
+mod tests;

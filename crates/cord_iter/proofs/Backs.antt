@@ -1,0 +1,109 @@
+-- Walks from a place down, by positions.
+use Rattle.std.proofs.Common.{◌≡◌, ℕ, ◌+◌, ◌-◌, ◌<◌, ◌≤◌, Bool, true, false, List, [], ◌∷◌, ◌++◌, length, take, drop, get_or, None, Some, refl, sym, ◌∙◌, ap, subst, arith, zero, suc}
+use Rattle.std.specs.Prelude.{Option, IfSome, reverse, slice_get, unwrap_or}
+use Rattle.std.proofs.lemmas.List.{take_more, get_or-reverse, get_or-take, length-reverse, length-take-le, take-append-drop, take_all}
+use Rattle.std.proofs.lemmas.Option.{unwrap_or-slice_get}
+use Rattle.cord_io.specs.Table.{Table, Lengths, HasLengths}
+use Rattle.cord_node.specs.declared.Node.{Node}
+use Rattle.cord_node.proofs.TableLemmas.{Fits-told}
+use Rattle.cord_core.specs.Cord.{text_len, bytes_of, IsCord, CordFitsIn}
+use Rattle.cord_pos.specs.Position.{prev_index, IsByteAt}
+use Rattle.cord_iter.specs.Walk.{walk, WalkedFront, left_of}
+use Rattle.cord_iter.proofs.Lengths.{length-bytes_over}
+use Rattle.cord_iter.proofs.Walks.{walk_on, walk_stop}
+
+-- a cord that fits has as long a text as it stores
+pub cord_len : (ls : Lengths) (o : Option Table) (c : Option Node) → IfSome o (HasLengths ls) → IsCord c → CordFitsIn ls c → IfSome o (λ t. length (bytes_of t c) ≡ text_len c)
+cord_len ls None c told s f = tt
+cord_len ls (Some t) None told s f = refl
+cord_len ls (Some t) (Some n) told s f = length-bytes_over t n s (Fits-told ls t n told f)
+
+-- the bytes from the place `i` down
+abbrev pub downward : List ℕ → ℕ → List ℕ
+downward xs i = reverse (take (i + 1) xs)
+
+-- the byte at a place is the next one after those above it
+next_down : (xs : List ℕ) (i j b : ℕ) → i < length xs → j ≤ i → slice_get xs j ≡ Some b → take ((i - j) + 1) (downward xs i) ≡ take (i - j) (downward xs i) ++ b ∷ []
+next_down xs i j b inside below e =
+    let m : i + 1 ≤ length xs = omega arith in
+    let l : length (take (i + 1) xs) ≡ i + 1 = length-take-le (i + 1) xs m in
+    let r : length (downward xs i) ≡ i + 1 = length-reverse (take (i + 1) xs) ∙ l in
+    let k : length (take (i + 1) xs) - 1 - (i - j) ≡ j = omega arith in
+    let a : i - j < length (downward xs i) = omega arith in
+    let d : i - j < length (take (i + 1) xs) = omega arith in
+    let u : j < i + 1 = omega arith in
+    let byte : get_or (downward xs i) (i - j) 0 ≡ b =
+    get_or-reverse (take (i + 1) xs) (i - j) 0 d ∙ ap (λ (n : ℕ). get_or (take (i + 1) xs) n 0) k ∙ get_or-take (i + 1) xs j 0 u ∙ sym (unwrap_or-slice_get xs j 0) ∙ ap (λ (x : Option ℕ). unwrap_or x 0) e in
+    take_more (downward xs i) (i - j) 0 a ∙ ap (λ (x : ℕ). take (i - j) (downward xs i) ++ x ∷ []) byte
+
+-- the same at a position
+next_at : (t : Table) (c : Option Node) (i : ℕ) (index : Option ℕ) (b : ℕ) → i < length (bytes_of t c) → left_of index ≤ i + 1 → IsByteAt t c index b → take (i + 1 - left_of (prev_index index)) (downward (bytes_of t c) i) ≡ take (i + 1 - left_of index) (downward (bytes_of t c) i) ++ b ∷ []
+next_at t c i None b inside below e = absurd e
+next_at t c i (Some zero) b inside below e =
+    let m : i + 1 - 0 ≡ (i - 0) + 1 = omega arith in
+    let n : i + 1 - (0 + 1) ≡ i - 0 = omega arith in
+    rw (m, n) (next_down (bytes_of t c) i 0 b inside (omega arith) e)
+next_at t c i (Some (suc j)) b inside below e =
+    let h : suc j ≤ i = omega arith in
+    let m : i + 1 - (j + 1) ≡ (i - suc j) + 1 = omega arith in
+    let n : i + 1 - (suc j + 1) ≡ i - suc j = omega arith in
+    rw (m, n) (next_down (bytes_of t c) i (suc j) b inside h e)
+
+one_on : {S : Type 0} (step : S → ℕ → S × Bool) (a d : S) (b : ℕ) → (d, false) ≡ step a b → walk step a (b ∷ []) ≡ (d, false)
+one_on step a d b e = rw (← e) refl
+
+one_stop : {S : Type 0} (step : S → ℕ → S × Bool) (a d : S) (b : ℕ) → (d, true) ≡ step a b → walk step a (b ∷ []) ≡ (d, true)
+one_stop step a d b e = rw (← e) refl
+
+-- one byte further down
+pub back_on : {S : Type 0} (step : S → ℕ → S × Bool) (s a d : S) (o : Option Table) (c : Option Node) (i : ℕ) (index : Option ℕ) (b : ℕ) → IfSome o (λ t. length (bytes_of t c) ≡ text_len c) → i < text_len c → left_of index ≤ i + 1 → IfSome o (λ t. IsByteAt t c index b) → (d, false) ≡ step a b → IfSome o (λ t. walk step s (take (i + 1 - left_of index) (downward (bytes_of t c) i)) ≡ (a, false)) → IfSome o (λ t. walk step s (take (i + 1 - left_of (prev_index index)) (downward (bytes_of t c) i)) ≡ (d, false))
+back_on step s a d None c i index b len inside below byte e h = tt
+back_on step s a d (Some t) c i index b len inside below byte e h =
+    let k : i < length (bytes_of t c) = rw len inside in
+    ap (λ (l : List ℕ). walk step s l) (next_at t c i index b k below byte) ∙ walk_on step s a (d, false) (take (i + 1 - left_of index) (downward (bytes_of t c) i)) (b ∷ []) h (one_on step a d b e)
+
+-- a stop at one
+pub back_stop : {S : Type 0} (step : S → ℕ → S × Bool) (s a d : S) (o : Option Table) (c : Option Node) (i : ℕ) (index : Option ℕ) (b : ℕ) → IfSome o (λ t. length (bytes_of t c) ≡ text_len c) → i < text_len c → left_of index ≤ i + 1 → IfSome o (λ t. IsByteAt t c index b) → (d, true) ≡ step a b → IfSome o (λ t. walk step s (take (i + 1 - left_of index) (downward (bytes_of t c) i)) ≡ (a, false)) → IfSome o (λ t. walk step s (downward (bytes_of t c) i) ≡ (d, true))
+back_stop step s a d None c i index b len inside below byte e h = tt
+back_stop step s a d (Some t) c i index b len inside below byte e h =
+    let k : i < length (bytes_of t c) = rw len inside in
+    let whole = downward (bytes_of t c) i in
+    let n = i + 1 - left_of (prev_index index) in
+    ap (λ (l : List ℕ). walk step s l) (sym (take-append-drop n whole)) ∙ walk_stop step s d (take n whole) (drop n whole) (ap (λ (l : List ℕ). walk step s l) (next_at t c i index b k below byte) ∙ walk_on step s a (d, true) (take (i + 1 - left_of index) whole) (b ∷ []) h (one_stop step a d b e))
+
+-- the next one could not be read
+pub back_front : {S : Type 0} (step : S → ℕ → S × Bool) (s a : S) (o : Option Table) (c : Option Node) (i n : ℕ) → IfSome o (λ t. walk step s (take n (downward (bytes_of t c) i)) ≡ (a, false)) → IfSome o (λ t. WalkedFront step s a (downward (bytes_of t c) i))
+back_front step s a None c i n h = tt
+back_front step s a (Some t) c i n h = record {
+  front = take n (downward (bytes_of t c) i);
+  rest = drop n (downward (bytes_of t c) i);
+  split = sym (take-append-drop n (downward (bytes_of t c) i));
+  walked = h;
+}
+
+-- the place before is no further from the beginning
+pub left_prev : (index : Option ℕ) (n : ℕ) → left_of index ≤ n → left_of (prev_index index) ≤ n
+left_prev None n h = h
+left_prev (Some zero) n h = omega arith
+left_prev (Some (suc j)) n h = omega arith
+
+none_left : (xs : List ℕ) → length xs ≡ 0 → xs ≡ []
+none_left [] h = refl
+none_left (x ∷ xs) h = absurd (omega arith)
+
+-- a walk over the empty cord
+pub empty_walk : {S : Type 0} (step : S → ℕ → S × Bool) (s : S) (o : Option Table) (c : Option Node) → IfSome o (λ t. length (bytes_of t c) ≡ text_len c) → text_len c ≡ 0 → IfSome o (λ t. walk step s (reverse (bytes_of t c)) ≡ (s, false))
+empty_walk step s None c len e = tt
+empty_walk step s (Some t) c len e = ap (λ (l : List ℕ). walk step s (reverse l)) (none_left (bytes_of t c) (len ∙ e))
+
+-- from the last place down
+whole_down : (xs : List ℕ) (n : ℕ) → length xs ≡ n → 0 < n → reverse (take (n - 1 + 1) xs) ≡ reverse xs
+whole_down xs n h k = ap (λ (l : List ℕ). reverse l) (take_all (n - 1 + 1) xs (omega arith))
+
+pub all_walk : {S : Type 0} (step : S → ℕ → S × Bool) (s : S) (p : S × Bool) (o : Option Table) (c : Option Node) (n : ℕ) → IfSome o (λ t. length (bytes_of t c) ≡ text_len c) → n ≡ text_len c → 0 < n → IfSome o (λ t. walk step s (reverse (take (n - 1 + 1) (bytes_of t c))) ≡ p) → IfSome o (λ t. walk step s (reverse (bytes_of t c)) ≡ p)
+all_walk step s p None c n len e k h = tt
+all_walk step s p (Some t) c n len e k h = rw (← whole_down (bytes_of t c) n (len ∙ sym e) k) h
+
+pub all_front : {S : Type 0} (step : S → ℕ → S × Bool) (s a : S) (o : Option Table) (c : Option Node) (n : ℕ) → IfSome o (λ t. length (bytes_of t c) ≡ text_len c) → n ≡ text_len c → 0 < n → IfSome o (λ t. WalkedFront step s a (reverse (take (n - 1 + 1) (bytes_of t c)))) → IfSome o (λ t. WalkedFront step s a (reverse (bytes_of t c)))
+all_front step s a None c n len e k h = tt
+all_front step s a (Some t) c n len e k h = subst (WalkedFront step s a) (whole_down (bytes_of t c) n (len ∙ sym e) k) h

@@ -1,0 +1,5 @@
+pub mod Takings
+pub mod Lengths
+pub mod Walks
+pub mod Cuts
+pub mod Backs

@@ -1,0 +1,20 @@
+use Rattle.std.proofs.Common.{◌≡◌, ◌+◌, ◌-◌, ◌≤◌, take, false}
+use Rattle.std.specs.Prelude.{reverse, IfSome}
+use Rattle.cord_core.specs.Cord.{bytes_of}
+use Rattle.cord_iter.specs.Walk.{walk}
+use Rattle.cord_iter.specs.Walk.{left_of}
+use Rattle.cord_iter.proofs.backward.riter4.Given as goal
+
+-- the bytes from the place down to the one that is next were walked over without a stop, and no read has failed
+abbrev pub invariant-loop-position : goal.invariant-loop-position
+invariant-loop-position g l = record {
+  cord : l.position.cord ≡ l.cord;
+  below : left_of l.position.index ≤ l.i + 1;
+  walked : IfSome (g.S.Source.table l.initial.src) (λ t. walk g.V.Visitor.step (g.V.Visitor.state l.initial.visitor) (take (l.i + 1 - left_of l.position.index) (reverse (take (l.i + 1) (bytes_of t l.cord)))) ≡ (g.V.Visitor.state l.visitor, false));
+  reads : g.S.Source.failures l.src ≡ g.S.Source.failures l.initial.src;
+  lengths : g.S.Source.lengths l.src ≡ g.S.Source.lengths l.initial.src;
+  table : g.S.Source.table l.src ≡ g.S.Source.table l.initial.src;
+}
+
+abbrev pub decreases-loop-position : goal.decreases-loop-position
+decreases-loop-position g l = left_of l.position.index

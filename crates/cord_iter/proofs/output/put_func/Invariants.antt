@@ -1,0 +1,18 @@
+use Rattle.std.proofs.Common.{◌-◌, ◌≡◌, ◌≤◌}
+use Rattle.cord_node.specs.declared.Node.TheVariants.{Func}
+use Rattle.cord_iter.specs.Taking.{IsTextOver, Takes}
+use Rattle.cord_iter.proofs.output.put_func.Given as goal
+
+-- the first `done` bytes of the range were taken, and no device has failed
+abbrev pub invariant-loop-done : goal.invariant-loop-done
+invariant-loop-done g l = record {
+  in_range : l.done ≤ l.len;
+  taken : Takes (IsTextOver (g.S.Source.table l.initial.src) (Func l.id l.start l.done)) (g.W.Sink.taken l.initial.sink) (g.W.Sink.taken l.sink);
+  reads : g.S.Source.failures l.src ≡ g.S.Source.failures l.initial.src;
+  puts : g.W.Sink.failures l.sink ≡ g.W.Sink.failures l.initial.sink;
+  lengths : g.S.Source.lengths l.src ≡ g.S.Source.lengths l.initial.src;
+  table : g.S.Source.table l.src ≡ g.S.Source.table l.initial.src;
+}
+
+abbrev pub decreases-loop-done : goal.decreases-loop-done
+decreases-loop-done g l = l.len - l.done

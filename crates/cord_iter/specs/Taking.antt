@@ -1,0 +1,52 @@
+-- What a sink takes of a cord, and how often the devices have failed then.
+use Rattle.std.specs.Prelude.{◌≡◌, ℕ, ◌≤◌, List, ◌++◌, length, Option, Some, None, Ok, Err}
+use Rattle.std.specs.declared.result.Result.{Result}
+use Rattle.std.specs.Io.KnownBytes.{Appends}
+use Rattle.cord_io.specs.Table.{Table}
+use Rattle.cord_io.specs.Device.{raised}
+use Rattle.cord_io.specs.declared.faults.CordError.{CordError}
+use Rattle.cord_io.specs.declared.faults.CordError.TheVariants.{NoMemory, TooLong, ReadFailed, WriteFailed}
+use Rattle.cord_node.specs.declared.Node.{Node}
+use Rattle.cord_node.specs.Tree.{len_of}
+use Rattle.cord_node.specs.Tables.{bytes_over}
+
+-- the second list stands at the front of the first one
+abbrev pub IsFrontOf : List ℕ → List ℕ → Type 0
+IsFrontOf whole out = (rest : List ℕ) × (whole ≡ out ++ rest)
+
+-- the bytes of a node over a source: its text where the source is honest, else as many bytes
+abbrev pub IsTextOver : Option Table → Node → List ℕ → Type 0
+IsTextOver None n out = length out ≡ len_of n
+IsTextOver (Some t) n out = out ≡ bytes_over t n
+
+-- a front part of them
+abbrev pub IsPrefixOver : Option Table → Node → List ℕ → Type 0
+IsPrefixOver None n out = length out ≤ len_of n
+IsPrefixOver (Some t) n out = IsFrontOf (bytes_over t n) out
+
+-- a sink took bytes of which this holds
+pub record Takes (P : List ℕ → Type 0) (old new : Option (List ℕ)) : Type 0 where
+  pub out : List ℕ
+  pub such : P out
+  pub taken : Appends old new out
+
+-- how often a source and a sink have failed
+pub record Counts : Type 0 where
+  pub source : ℕ
+  pub sink : ℕ
+
+-- where the call is Ok no device failed; a fault names the one that failed, once, and there is no other fault
+abbrev pub CountsFaults : {T : Type 0} → Counts → Counts → Result T CordError → Type 0
+CountsFaults old new (Ok x) = (new.source ≡ old.source) × (new.sink ≡ old.sink)
+CountsFaults old new (Err ReadFailed) = (new.source ≡ raised old.source) × (new.sink ≡ old.sink)
+CountsFaults old new (Err WriteFailed) = (new.source ≡ old.source) × (new.sink ≡ raised old.sink)
+CountsFaults old new (Err NoMemory) = ⊥
+CountsFaults old new (Err TooLong) = ⊥
+
+-- a fault of the source was counted once, and other calls weren't refused but for want of memory
+abbrev pub CountsReads : {T : Type 0} → ℕ → ℕ → Result T CordError → Type 0
+CountsReads old new (Ok x) = new ≡ old
+CountsReads old new (Err ReadFailed) = new ≡ raised old
+CountsReads old new (Err NoMemory) = new ≡ old
+CountsReads old new (Err WriteFailed) = ⊥
+CountsReads old new (Err TooLong) = ⊥

@@ -1,0 +1,19 @@
+-- How a visitor walks over bytes.
+use Rattle.std.specs.Prelude.{◌≡◌, ℕ, ◌+◌, Option, Some, None, Bool, true, false, if◌then◌else◌, List, [], ◌∷◌, ◌++◌}
+
+-- a visitor's state after `byte` on each byte in order up to the first stop, and whether it stopped
+abbrev pub walk : {S : Type 0} → (S → ℕ → S × Bool) → S → List ℕ → S × Bool
+walk step s [] = (s, false)
+walk step s (b ∷ bs) = if (step s b).1 then ((step s b).0, true) else walk step (step s b).0 bs
+
+-- from one state to another a front part of the bytes was walked over without a stop
+pub record WalkedFront {S : Type 0} (step : S → ℕ → S × Bool) (old new : S) (bs : List ℕ) : Type 0 where
+  pub front : List ℕ
+  pub rest : List ℕ
+  pub split : bs ≡ front ++ rest
+  pub walked : walk step old front ≡ (new, false)
+
+-- how many places there are from the beginning up to an index, with it
+abbrev pub left_of : Option ℕ → ℕ
+left_of None = 0
+left_of (Some i) = i + 1

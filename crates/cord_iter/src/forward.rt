@@ -1,0 +1,164 @@
+// Walks from a place to the end.
+ghost use Rattle.std.specs.Prelude.{◌≡◌, ◌+◌, ◌<◌, ◌≤◌, length, take, drop, replicate, is_err, IsOk, IfOk, IfErr, OnErr, IfSome};
+ghost use Rattle.cord_io.specs.Device.{count_after};
+ghost use Rattle.cord_io.specs.Table.{length_at};
+ghost use Rattle.cord_node.specs.Tree.{len_of, IsSound};
+ghost use Rattle.cord_node.specs.Tables.{bytes_over, FitsIn};
+ghost use Rattle.cord_core.specs.Cord.{text_len, bytes_of, CordFitsIn};
+ghost use Rattle.cord_iter.specs.Walk.{walk, WalkedFront};
+
+use crate::pieces::piece_len;
+use crate::{PIECE_LEN, Visitor};
+use cord_core::{Cord, Node};
+use cord_io::{CordError, MAX_LEN, ReadFault, Source, SourceId};
+
+/// Hands a visitor the bytes of a cord from place `i` on until it stops, after `CORD_iter5` of `cord.h`: whole slices of leaves,
+/// and runs and function parts in pieces of at most 512 bytes. The place is below the length, and each function part lies inside
+/// an entry of `src`. True exactly where the visitor stopped. Refused with `ReadFailed` where a read failed: then the visitor has
+/// walked over a front part of those bytes without a stop.
+pub fn iter5<S: Source, V: Visitor>(
+    cord: &Cord,
+    i: u64,
+    src: &mut S,
+    visitor: &mut V,
+) -> Result<bool, CordError>
+    requires inside { i < text_len cord.now }
+    requires fits { CordFitsIn (S.lengths src.old) cord.now }
+    ensures walked { IfOk result (λ stopped. IfSome (S.table src.old) (λ t. walk V.step (V.state visitor.old) (drop i (bytes_of t cord.now)) ≡ (V.state visitor.new, stopped))) }
+    ensures prefix { OnErr result (IfSome (S.table src.old) (λ t. WalkedFront V.step (V.state visitor.old) (V.state visitor.new) (drop i (bytes_of t cord.now)))) }
+    ensures refused { IfErr result (λ e. e ≡ CordError.ReadFailed) }
+    ensures count { S.failures src.new ≡ count_after (is_err result) (S.failures src.old) }
+    ensures steady { S.failures src.old < u64.MAX → S.failures src.new ≡ S.failures src.old → IsOk result }
+    ensures lengths { S.lengths src.new ≡ S.lengths src.old }
+    ensures table { S.table src.new ≡ S.table src.old }
+{
+    let Some(root) = cord.root() else {
+        unreachable!()
+    };
+    let stopped = walk_node(root.as_ref(), i, src, visitor)?;
+    Ok(stopped)
+}
+
+/// Hands a visitor the bytes of a cord until it stops, as `iter5` from place 0 on: the empty cord answers false without a call.
+pub fn iter<S: Source, V: Visitor>(
+    cord: &Cord,
+    src: &mut S,
+    visitor: &mut V,
+) -> Result<bool, CordError>
+    requires fits { CordFitsIn (S.lengths src.old) cord.now }
+    ensures walked { IfOk result (λ stopped. IfSome (S.table src.old) (λ t. walk V.step (V.state visitor.old) (bytes_of t cord.now) ≡ (V.state visitor.new, stopped))) }
+    ensures prefix { OnErr result (IfSome (S.table src.old) (λ t. WalkedFront V.step (V.state visitor.old) (V.state visitor.new) (bytes_of t cord.now))) }
+    ensures refused { IfErr result (λ e. e ≡ CordError.ReadFailed) }
+    ensures count { S.failures src.new ≡ count_after (is_err result) (S.failures src.old) }
+    ensures steady { S.failures src.old < u64.MAX → S.failures src.new ≡ S.failures src.old → IsOk result }
+    ensures lengths { S.lengths src.new ≡ S.lengths src.old }
+    ensures table { S.table src.new ≡ S.table src.old }
+{
+    let Some(root) = cord.root() else {
+        return Ok(false);
+    };
+    let stopped = walk_node(root.as_ref(), 0, src, visitor)?;
+    Ok(stopped)
+}
+
+// Walks over the text of a node from a place on.
+fn walk_node<S: Source, V: Visitor>(
+    node: &Node,
+    from: u64,
+    src: &mut S,
+    visitor: &mut V,
+) -> Result<bool, ReadFault>
+    requires sound { IsSound node.now }
+    requires inside { from ≤ len_of node.now }
+    requires fits { FitsIn (S.lengths src.old) node.now }
+    ensures walked { IfOk result (λ stopped. IfSome (S.table src.old) (λ t. walk V.step (V.state visitor.old) (drop from (bytes_over t node.now)) ≡ (V.state visitor.new, stopped))) }
+    ensures prefix { OnErr result (IfSome (S.table src.old) (λ t. WalkedFront V.step (V.state visitor.old) (V.state visitor.new) (drop from (bytes_over t node.now)))) }
+    ensures count { S.failures src.new ≡ count_after (is_err result) (S.failures src.old) }
+    ensures lengths { S.lengths src.new ≡ S.lengths src.old }
+    ensures table { S.table src.new ≡ S.table src.old }
+{
+    let stopped = match node {
+        Node::Leaf { bytes, start, len } => {
+            visitor.bytes(&bytes.as_slice()[(*start + from) as usize..(*start + *len) as usize])
+        }
+        Node::Run { byte, len } => walk_run(*byte, *len - from, visitor),
+        Node::Func { id, start, len } => walk_func(*id, *start + from, *len - from, src, visitor)?,
+        Node::Cat { left, right, .. } => {
+            let seam = left.len();
+            if seam <= from {
+                walk_node(right.as_ref(), from - seam, src, visitor)?
+            } else if walk_node(left.as_ref(), from, src, visitor)? {
+                true
+            } else {
+                walk_node(right.as_ref(), 0, src, visitor)?
+            }
+        }
+    };
+    Ok(stopped)
+}
+
+// Walks over `len` times the byte, in pieces.
+fn walk_run<V: Visitor>(byte: u8, len: u64, visitor: &mut V) -> bool
+    ensures { walk V.step (V.state visitor.old) (replicate len byte) ≡ (V.state visitor.new, result) }
+{
+    let buffer = [byte; PIECE_LEN];
+    let mut done = 0;
+    while done < len {
+        let count = piece_len(len - done);
+        if visitor.bytes(&buffer[..count]) {
+            return true;
+        }
+        done += count as u64;
+    }
+    false
+}
+
+// Walks over a range of an entry, in pieces.
+fn walk_func<S: Source, V: Visitor>(
+    id: SourceId,
+    start: u64,
+    len: u64,
+    src: &mut S,
+    visitor: &mut V,
+) -> Result<bool, ReadFault>
+    requires fits { start + len ≤ length_at (S.lengths src.old) id.0 }
+    requires limit { start + len ≤ MAX_LEN }
+    ensures walked { IfOk result (λ stopped. IfSome (S.table src.old) (λ t. walk V.step (V.state visitor.old) (take len (drop start (t id.0))) ≡ (V.state visitor.new, stopped))) }
+    ensures prefix { OnErr result (IfSome (S.table src.old) (λ t. WalkedFront V.step (V.state visitor.old) (V.state visitor.new) (take len (drop start (t id.0))))) }
+    ensures count { S.failures src.new ≡ count_after (is_err result) (S.failures src.old) }
+    ensures lengths { S.lengths src.new ≡ S.lengths src.old }
+    ensures table { S.table src.new ≡ S.table src.old }
+{
+    let mut done = 0;
+    while done < len {
+        let count = piece_len(len - done);
+        if walk_piece(id, start + done, count, src, visitor)? {
+            return Ok(true);
+        }
+        done += count as u64;
+    }
+    Ok(false)
+}
+
+// Walks over a range of an entry that is one piece: where it can't be read the visitor stays.
+fn walk_piece<S: Source, V: Visitor>(
+    id: SourceId,
+    start: u64,
+    count: usize,
+    src: &mut S,
+    visitor: &mut V,
+) -> Result<bool, ReadFault>
+    requires some { 0 < count }
+    requires piece { count ≤ PIECE_LEN }
+    requires fits { start + count ≤ length_at (S.lengths src.old) id.0 }
+    ensures walked { IfOk result (λ stopped. IfSome (S.table src.old) (λ t. walk V.step (V.state visitor.old) (take count (drop start (t id.0))) ≡ (V.state visitor.new, stopped))) }
+    ensures stays { OnErr result (V.state visitor.new ≡ V.state visitor.old) }
+    ensures count { S.failures src.new ≡ count_after (is_err result) (S.failures src.old) }
+    ensures lengths { S.lengths src.new ≡ S.lengths src.old }
+    ensures table { S.table src.new ≡ S.table src.old }
+{
+    let mut buffer = [0; PIECE_LEN];
+    let piece = &mut buffer[..count];
+    src.read(id, start, piece)?;
+    Ok(visitor.bytes(piece))
+}

@@ -1,0 +1,22 @@
+//! Walks over the bytes of cords, forwards and backwards, and output of cords to sinks, after `CORD_iter5`, `CORD_riter4`
+//! and `CORD_put` of `cord.h` of the Boehm collector's distribution.
+#![tactic(auto)]
+
+mod backward;
+mod collect;
+mod forward;
+mod output;
+mod pieces;
+mod visitor;
+
+pub use backward::{riter, riter4};
+pub use collect::to_vec;
+pub use forward::{iter, iter5};
+pub use output::put;
+pub use visitor::Visitor;
+
+/// The most bytes of a run or of a function part that are handed over at once.
+pub(crate) const PIECE_LEN: usize = 512;
+
+#[cfg(test)]
+mod tests;

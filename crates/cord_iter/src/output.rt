@@ -1,0 +1,110 @@
+// Output of cords.
+ghost use Rattle.std.specs.Prelude.{◌≡◌, ◌+◌, ◌<◌, ◌≤◌, OnOk, OnErr, IsOk, IfSome, length};
+ghost use Rattle.std.specs.Io.KnownBytes.{Appends};
+ghost use Rattle.cord_io.specs.Table.{length_at};
+ghost use Rattle.cord_node.specs.Tree.{len_of, IsSound};
+ghost use Rattle.cord_node.specs.Tables.{FitsIn};
+ghost use Rattle.cord_core.specs.Cord.{text_len, bytes_of, CordFitsIn};
+ghost use Rattle.cord_iter.specs.Taking.{IsFrontOf, IsTextOver, IsPrefixOver, Takes, CountsFaults};
+
+use crate::PIECE_LEN;
+use crate::pieces::{piece_len, put_all, put_run};
+use cord_core::{Cord, Node};
+use cord_io::{CordError, MAX_LEN, Sink, Source, SourceId};
+
+/// Hands a sink the text of a cord over a source, after `CORD_put` of `cord.h`: each leaf's slice is offered whole, after a short
+/// `put` the rest, a run or a function part in pieces of at most 512 bytes. Each function part lies inside an entry of `src`.
+/// Refused with `ReadFailed` where a read failed and with `WriteFailed` where a `put` failed: then the sink has taken a front part
+/// of the text. Of a source that isn't honest only the number of bytes is known.
+pub fn put<S: Source, W: Sink>(cord: &Cord, src: &mut S, sink: &mut W) -> Result<(), CordError>
+    requires fits { CordFitsIn (S.lengths src.old) cord.now }
+    ensures text { OnOk result (IfSome (S.table src.old) (λ t. Appends (W.taken sink.old) (W.taken sink.new) (bytes_of t cord.now))) }
+    ensures prefix { OnErr result (IfSome (S.table src.old) (λ t. Takes (IsFrontOf (bytes_of t cord.now)) (W.taken sink.old) (W.taken sink.new))) }
+    ensures len { OnOk result (Takes (λ out. length out ≡ text_len cord.now) (W.taken sink.old) (W.taken sink.new)) }
+    ensures most { OnErr result (Takes (λ out. length out ≤ text_len cord.now) (W.taken sink.old) (W.taken sink.new)) }
+    ensures faults { CountsFaults (record { source = S.failures src.old; sink = W.failures sink.old }) (record { source = S.failures src.new; sink = W.failures sink.new }) result }
+    ensures steady { S.failures src.old < u64.MAX → W.failures sink.old < u64.MAX → S.failures src.new ≡ S.failures src.old → W.failures sink.new ≡ W.failures sink.old → IsOk result }
+    ensures lengths { S.lengths src.new ≡ S.lengths src.old }
+    ensures table { S.table src.new ≡ S.table src.old }
+{
+    if let Some(root) = cord.root() {
+        put_node(root.as_ref(), src, sink)?;
+    }
+    Ok(())
+}
+
+// Hands a sink the text of a node.
+fn put_node<S: Source, W: Sink>(node: &Node, src: &mut S, sink: &mut W) -> Result<(), CordError>
+    requires sound { IsSound node.now }
+    requires fits { FitsIn (S.lengths src.old) node.now }
+    ensures text { OnOk result (Takes (IsTextOver (S.table src.old) node.now) (W.taken sink.old) (W.taken sink.new)) }
+    ensures prefix { OnErr result (Takes (IsPrefixOver (S.table src.old) node.now) (W.taken sink.old) (W.taken sink.new)) }
+    ensures faults { CountsFaults (record { source = S.failures src.old; sink = W.failures sink.old }) (record { source = S.failures src.new; sink = W.failures sink.new }) result }
+    ensures lengths { S.lengths src.new ≡ S.lengths src.old }
+    ensures table { S.table src.new ≡ S.table src.old }
+{
+    match node {
+        Node::Leaf { bytes, start, len } => {
+            put_all(
+                &bytes.as_slice()[*start as usize..(*start + *len) as usize],
+                sink,
+            )?;
+        }
+        Node::Run { byte, len } => put_run(*byte, *len, sink)?,
+        Node::Func { id, start, len } => put_func(*id, *start, *len, src, sink)?,
+        Node::Cat { left, right, .. } => {
+            put_node(left.as_ref(), src, sink)?;
+            put_node(right.as_ref(), src, sink)?;
+        }
+    }
+    Ok(())
+}
+
+// Hands a sink a range of an entry, in pieces.
+fn put_func<S: Source, W: Sink>(
+    id: SourceId,
+    start: u64,
+    len: u64,
+    src: &mut S,
+    sink: &mut W,
+) -> Result<(), CordError>
+    requires fits { start + len ≤ length_at (S.lengths src.old) id.0 }
+    requires limit { start + len ≤ MAX_LEN }
+    ensures text { OnOk result (Takes (IsTextOver (S.table src.old) (Node.Func id start len)) (W.taken sink.old) (W.taken sink.new)) }
+    ensures prefix { OnErr result (Takes (IsPrefixOver (S.table src.old) (Node.Func id start len)) (W.taken sink.old) (W.taken sink.new)) }
+    ensures faults { CountsFaults (record { source = S.failures src.old; sink = W.failures sink.old }) (record { source = S.failures src.new; sink = W.failures sink.new }) result }
+    ensures lengths { S.lengths src.new ≡ S.lengths src.old }
+    ensures table { S.table src.new ≡ S.table src.old }
+{
+    let mut done = 0;
+    while done < len {
+        let count = piece_len(len - done);
+        put_piece(id, start + done, count, src, sink)?;
+        done += count as u64;
+    }
+    Ok(())
+}
+
+// Hands a sink a range of an entry that is one piece.
+fn put_piece<S: Source, W: Sink>(
+    id: SourceId,
+    start: u64,
+    count: usize,
+    src: &mut S,
+    sink: &mut W,
+) -> Result<(), CordError>
+    requires some { 0 < count }
+    requires piece { count ≤ PIECE_LEN }
+    requires fits { start + count ≤ length_at (S.lengths src.old) id.0 }
+    ensures text { OnOk result (Takes (IsTextOver (S.table src.old) (Node.Func id start count)) (W.taken sink.old) (W.taken sink.new)) }
+    ensures prefix { OnErr result (Takes (IsPrefixOver (S.table src.old) (Node.Func id start count)) (W.taken sink.old) (W.taken sink.new)) }
+    ensures faults { CountsFaults (record { source = S.failures src.old; sink = W.failures sink.old }) (record { source = S.failures src.new; sink = W.failures sink.new }) result }
+    ensures lengths { S.lengths src.new ≡ S.lengths src.old }
+    ensures table { S.table src.new ≡ S.table src.old }
+{
+    let mut buffer = [0; PIECE_LEN];
+    let piece = &mut buffer[..count];
+    src.read(id, start, piece)?;
+    put_all(piece, sink)?;
+    Ok(())
+}

@@ -1,0 +1,44 @@
+// Output of plain bytes and of runs.
+ghost use Rattle.std.specs.Prelude.{◌≡◌, ◌<◌, ◌≤◌, OnOk, OnErr, replicate};
+ghost use Rattle.std.specs.Io.KnownBytes.{Appends};
+ghost use Rattle.cord_io.specs.Device.{raised};
+ghost use Rattle.cord_iter.specs.Taking.{IsFrontOf, Takes};
+
+use crate::PIECE_LEN;
+use cord_io::{Sink, WriteFault};
+
+// Offers the bytes until the sink has taken them all: after a short `put` the rest.
+pub(crate) fn put_all<W: Sink>(bytes: &[u8], sink: &mut W) -> Result<(), WriteFault>
+    ensures ok { OnOk result (Appends (W.taken sink.old) (W.taken sink.new) bytes.now × (W.failures sink.new ≡ W.failures sink.old)) }
+    ensures err { OnErr result (Takes (IsFrontOf bytes.now) (W.taken sink.old) (W.taken sink.new) × (W.failures sink.new ≡ raised (W.failures sink.old))) }
+{
+    let mut done = 0;
+    while done < bytes.len() {
+        done += sink.put(&bytes[done..])?;
+    }
+    Ok(())
+}
+
+// Puts `len` times the byte, in pieces.
+pub(crate) fn put_run<W: Sink>(byte: u8, len: u64, sink: &mut W) -> Result<(), WriteFault>
+    ensures ok { OnOk result (Appends (W.taken sink.old) (W.taken sink.new) (replicate len byte) × (W.failures sink.new ≡ W.failures sink.old)) }
+    ensures err { OnErr result (Takes (IsFrontOf (replicate len byte)) (W.taken sink.old) (W.taken sink.new) × (W.failures sink.new ≡ raised (W.failures sink.old))) }
+{
+    let buffer = [byte; PIECE_LEN];
+    let mut done = 0;
+    while done < len {
+        let count = piece_len(len - done);
+        put_all(&buffer[..count], sink)?;
+        done += count as u64;
+    }
+    Ok(())
+}
+
+// How many bytes of those that are left make the next piece.
+pub(crate) fn piece_len(left: u64) -> usize
+    ensures most { result ≤ PIECE_LEN }
+    ensures inside { result ≤ left }
+    ensures some { 0 < left → 0 < result }
+{
+    left.min(PIECE_LEN as u64) as usize
+}

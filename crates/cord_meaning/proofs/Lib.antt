@@ -1,0 +1,17 @@
+pub mod Taken
+pub mod Terminates
+pub mod Grows
+pub mod Runs
+pub mod Meant
+pub mod Honest
+pub mod Checks
+pub mod Computed
+pub mod Limit
+pub mod Places
+pub mod Unrolls
+pub mod Nesting
+pub mod Follows
+pub mod Fronts
+pub mod Searches
+pub mod ReadScripts
+pub mod Simulating

@@ -1,0 +1,14 @@
+pub mod Faults
+pub mod Blocks
+pub mod Paths
+pub mod Machine
+pub mod Ends
+pub mod Running
+pub mod Texts
+pub mod State
+pub mod Formats
+pub mod Statements
+pub mod Meaning
+pub mod Unrolled
+pub mod Simulation
+pub mod Rows

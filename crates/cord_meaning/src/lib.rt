@@ -1,0 +1,37 @@
+//! What a script means: the run of its statements over plain lists of bytes, defined apart from any code that runs it.
+#![tactic(auto)]
+
+mod ends;
+mod laws;
+mod rows;
+
+pub use ends::{End, FaultKind};
+pub use laws::{
+    every_run_ends, functions_are_entries, limits_only_refuse, read_scripts_are_closed,
+    runs_are_unrolled, runs_follow_paths, searches_answer_places, what_was_run_stays,
+};
+pub use rows::{rows_are_computed, rows_of_searches_are_computed, rows_with_blocks_are_computed};
+
+/// The greatest number of turns that all loops of a run begin together.
+pub const MAX_TURNS: u64 = 1_000_000;
+
+#[cfg(test)]
+mod tests {
+    use super::*;
+
+    #[test]
+    fn texts_of_faults(rt: HostRuntime) {
+        let texts = [
+            (FaultKind::Negative, "negative number"),
+            (FaultKind::BadByte, "byte out of range"),
+            (FaultKind::OutOfRange, "index out of range"),
+            (FaultKind::NoFile, "no such file"),
+            (FaultKind::TooLong, "too long"),
+            (FaultKind::Overflow, "overflow"),
+            (FaultKind::TooManyTurns, "too many turns"),
+        ];
+        for (kind, text) in texts {
+            assert_eq!(rt; kind.text(), text);
+        }
+    }
+}

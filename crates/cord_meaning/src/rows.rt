@@ -1,0 +1,57 @@
+// Scripts whose runs are computed: each clause is a worked row, whose bytes and end the check computes.
+ghost use Rattle.std.specs.Prelude.{ℕ, [], ◌∷◌, codes};
+ghost use Rattle.cord_io.specs.declared.TheConstants.{MAX_LEN};
+ghost use Rattle.cord_meaning.specs.Meaning.{Means, MeansWithin};
+ghost use Rattle.cord_meaning.specs.Rows;
+ghost use Rattle.cord_meaning.specs.declared.ends.End.TheVariants.{Done, Fault};
+ghost use Rattle.cord_meaning.specs.declared.ends.FaultKind.TheVariants.{Negative, BadByte, OutOfRange, NoFile, TooLong, Overflow, TooManyTurns};
+
+use crate::MAX_TURNS;
+
+/// Texts, numbers, files and faults: what worked scripts put and how they end.
+pub fn rows_are_computed()
+    ensures hello { Means Rows.hello [] (codes "hello") Done }
+    ensures substr_past_end { Means Rows.substr_past_end [] (codes "ef") Done }
+    ensures substr_negative_index { Means Rows.substr_negative_index [] [] (Fault 2 Negative) }
+    ensures chars_byte_too_great { Means Rows.chars_byte_too_great [] [] (Fault 1 BadByte) }
+    ensures catn_catc_balance { Means Rows.catn_catc_balance [] (codes "aba!") Done }
+    ensures ec_statements { Means Rows.ec_statements [] (codes "abCabCD") Done }
+    ensures fetch_past_end { Means Rows.fetch_past_end [] (codes "ab") (Fault 3 OutOfRange) }
+    ensures operand_assigned_between { Means Rows.operand_assigned_between [] (codes "ab") Done }
+    ensures add_overflows { Means Rows.add_overflows [] [] (Fault 2 Overflow) }
+    ensures dead_file_missing { Means Rows.dead_file_missing [] (codes "a") (Fault 3 NoFile) }
+    ensures file_twice { Means Rows.file_twice Rows.one_file (codes "line\nline\n") Done }
+    ensures at_the_limit { MeansWithin 4 MAX_TURNS Rows.four_bytes [] [] Done }
+    ensures past_the_limit { MeansWithin 3 MAX_TURNS Rows.four_bytes [] [] (Fault 2 TooLong) }
+{}
+
+/// Searches, comparisons and prints: what worked scripts put and how they end.
+pub fn rows_of_searches_are_computed()
+    ensures str_at_later_place { Means (Rows.found_in_joined (codes "abc") 0) [] (codes "2") Done }
+    ensures str_from_past_it { Means (Rows.found_in_joined (codes "abc") 3) [] (codes "-1") Done }
+    ensures str_empty_at_end { Means (Rows.found_in_joined [] 5) [] (codes "5") Done }
+    ensures str_empty_past_end { Means (Rows.found_in_joined [] 6) [] (codes "-1") Done }
+    ensures str_over_seam { Means Rows.str_over_seam [] (codes "1") Done }
+    ensures rchr_from_end { Means Rows.rchr_from_end [] (codes "3") Done }
+    ensures chr_from_start { Means (Rows.chr_in_hello 0 108) [] (codes "2") Done }
+    ensures chr_absent { Means (Rows.chr_in_hello 0 122) [] (codes "-1") Done }
+    ensures chr_past_end { Means (Rows.chr_in_hello 5 111) [] [] (Fault 2 OutOfRange) }
+    ensures cmp_unsigned { Means (Rows.compared (128 ∷ []) (codes "a")) [] (codes "1") Done }
+    ensures cmp_prefix_is_less { Means (Rows.compared (codes "ab") (codes "abc")) [] (codes "-1") Done }
+    ensures ncmp_equal_part { Means (Rows.parts_compared 3) [] (codes "0") Done }
+    ensures ncmp_one_byte_more { Means (Rows.parts_compared 4) [] (codes "-1") Done }
+    ensures sprintf_pads { Means Rows.sprintf_pads [] (codes "   he|7   |-0007||%") Done }
+    ensures sprintf_numbers { Means Rows.sprintf_numbers [] (codes "000000ff|+5|10|FF|A") Done }
+    ensures sprintf_negative_hex { Means Rows.sprintf_negative_hex [] [] (Fault 1 Negative) }
+{}
+
+/// Loops and branches: what worked scripts put and how they end.
+pub fn rows_with_blocks_are_computed()
+    ensures loop_reads_next_turn { Means Rows.loop_reads_next_turn [] (codes "AAA") Done }
+    ensures repeat_zero { Means Rows.repeat_zero [] [] Done }
+    ensures repeat_count_read_once { Means Rows.repeat_count_read_once [] (codes "aa") Done }
+    ensures if_else_both_assign { Means Rows.if_else_both_assign [] (codes "b") Done }
+    ensures if_without_else_keeps { Means Rows.if_without_else_keeps [] (codes "a") Done }
+    ensures turns_at_the_limit { MeansWithin MAX_LEN 3 (Rows.empty_turns 3) [] [] Done }
+    ensures turns_one_too_many { MeansWithin MAX_LEN 3 (Rows.empty_turns 4) [] [] (Fault 1 TooManyTurns) }
+{}

@@ -1,0 +1,67 @@
+-- The text of a node and of its ranges.
+use Rattle.std.proofs.Common.{◌≡◌, ℕ, ◌+◌, ◌-◌, ◌<◌, ◌≤◌, List, length, map, take, drop, refl, arith, ◌∙◌, sym, length-append, length-drop}
+use Rattle.std.specs.Prelude.{replicate}
+use Rattle.std.specs.List.{range_with_len}
+use Rattle.std.specs.Rc.{rc_slice_items}
+use Rattle.std.proofs.lemmas.List.{take-map, drop-map, length-map, length-replicate, take-replicate, drop-replicate, length-take-le}
+use Rattle.std.proofs.lemmas.List.FromFn.{length-range_with_len}
+use Rattle.cord_node.specs.declared.Node.{Node}
+use Rattle.cord_node.specs.declared.Node.TheVariants.{Leaf, Run, Func, Cat'}
+use Rattle.cord_io.specs.declared.TheConstants.{MAX_LEN}
+use Rattle.cord_node.specs.Tree.{Cell, known, held_by, cells, len_of, depth_of, true_len, true_depth, IsSound}
+use Rattle.cord_node.proofs.KeptLemmas.{Kept_same}
+use Rattle.cord_node.proofs.Ranges.{range_whole, range_of_range, drop-range_with_len, take-range_with_len, range_left, range_right, range_both}
+
+-- a node stores the length of its text
+pub length-cells : (n : Node) → IsSound n → length (cells n) ≡ len_of n
+length-cells (Leaf bytes start len) s =
+    let d : len ≤ length (drop start (rc_slice_items bytes)) = rw length-drop (omega arith) in
+    length-map (take len (drop start (rc_slice_items bytes))) known ∙ length-take-le len (drop start (rc_slice_items bytes)) d
+length-cells (Run byte len) s = length-replicate len (known byte)
+length-cells (Func id start len) s = length-map (range_with_len start len) (held_by id.0) ∙ length-range_with_len start len
+length-cells (Cat' p left q right len depth) s = length-append (cells left) (cells right) ∙ (let a : length (cells left) ≡ len_of left = length-cells left s.0 in let b : length (cells right) ≡ len_of right = length-cells right s.1 in omega arith)
+
+-- a range of a leaf's text
+pub range_of_leaf : (xs : List ℕ) (start len from count : ℕ) → from + count ≤ len → map known (take count (drop (start + from) xs)) ≡ take count (drop from (map known (take len (drop start xs))))
+range_of_leaf xs start len from count h = sym (rw (drop-map, take-map, range_of_range xs from count start len h) refl)
+
+-- a range of a run's text
+pub range_of_run : (x : Cell) (len from count : ℕ) → from + count ≤ len → replicate count x ≡ take count (drop from (replicate len x))
+range_of_run x len from count h = let k : count ≤ len - from = omega arith in sym (rw (drop-replicate from len x, take-replicate count (len - from) x k) refl)
+
+-- a range of a function part's text
+pub range_of_func : (f : ℕ → Cell) (start len from count : ℕ) → from + count ≤ len → map f (range_with_len (start + from) count) ≡ take count (drop from (map f (range_with_len start len)))
+range_of_func f start len from count h =
+    let k : count ≤ len - from = omega arith in
+    sym (rw (drop-map, take-map, drop-range_with_len start len from, take-range_with_len (start + from) (len - from) count k) refl)
+
+-- for a cut: where the text of a range of a node comes from
+pub ruleset ranges = (range_whole, range_of_leaf, range_of_run, range_of_func, range_left, range_right, range_both, length-cells, Kept_same)
+
+-- what a node stores is within the limits
+pub len_limit : (n : Node) → IsSound n → len_of n ≤ MAX_LEN
+len_limit (Leaf bytes start len) s = s.2
+len_limit (Run byte len) s = s.1
+len_limit (Func id start len) s = omega arith
+len_limit (Cat' p left q right len depth) s = s.4
+
+-- no node is empty
+pub len_positive : (n : Node) → IsSound n → 0 < len_of n
+len_positive (Leaf bytes start len) s = s.0
+len_positive (Run byte len) s = s.0
+len_positive (Func id start len) s = s.0
+len_positive (Cat' p left q right len depth) s = let a : 0 < len_of left = len_positive left s.0 in let e : len ≡ len_of left + len_of right = s.2 in omega arith
+
+-- the stored length is the true one
+pub true_len-len_of : (n : Node) → IsSound n → len_of n ≡ true_len n
+true_len-len_of (Leaf bytes start len) s = refl
+true_len-len_of (Run byte len) s = refl
+true_len-len_of (Func id start len) s = refl
+true_len-len_of (Cat' p left q right len depth) s = let a : len_of left ≡ true_len left = true_len-len_of left s.0 in let b : len_of right ≡ true_len right = true_len-len_of right s.1 in omega arith
+
+-- the stored depth is the true one
+pub true_depth-depth_of : (n : Node) → IsSound n → depth_of n ≡ true_depth n
+true_depth-depth_of (Leaf bytes start len) s = refl
+true_depth-depth_of (Run byte len) s = refl
+true_depth-depth_of (Func id start len) s = refl
+true_depth-depth_of (Cat' p left q right len depth) s = let a : depth_of left ≡ true_depth left = true_depth-depth_of left s.0 in let b : depth_of right ≡ true_depth right = true_depth-depth_of right s.1 in omega arith

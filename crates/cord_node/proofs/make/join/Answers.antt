@@ -1,0 +1,17 @@
+use Rattle.std.proofs.Common.{◌≡◌, ◌++◌, arith}
+use Rattle.std.proofs.lemmas.Grind.{common_steps}
+use Rattle.cord_node.specs.Tree.{cells}
+use Rattle.cord_node.proofs.KeptLemmas.{Kept_same}
+use Rattle.cord_node.proofs.TableLemmas.{join_over}
+use Rattle.cord_node.proofs.make.join.Goals as goal
+
+pub returns-in_ok-node-in-Some-Some-clause-over : goal.returns-in_ok-node-in-Some-Some-clause-over
+returns-in_ok-node-in-Some-Some-clause-over c =
+    let e : cells c.in_ok-node-in-Some-Some.node.value ≡ cells c.args.left.now.value ++ cells c.args.right.now.value = grind (arith, common_steps) in
+    join_over c.args.left.now.value c.args.right.now.value c.in_ok-node-in-Some-Some.node.value c.in_ok-node-in-Some-Some.ensures.sound e
+
+pub returns-in_ok-node-in_default-clause-over : goal.returns-in_ok-node-in_default-clause-over
+returns-in_ok-node-in_default-clause-over c = join_over c.args.left.now.value c.args.right.now.value c.in_ok-node-in_default.node.value c.in_ok-node-in_default.ensures.sound c.in_ok-node-in_default.ensures.text
+
+pub returns-in_ok-node-in_default-clause-kept : goal.returns-in_ok-node-in_default-clause-kept
+returns-in_ok-node-in_default-clause-kept c = Kept_same _ _ c.in_ok-node-in_default.ensures.parts

@@ -1,0 +1,4 @@
+pub mod Tree
+pub mod Tables
+pub mod Kept
+pub mod Occurrences

@@ -1,0 +1,94 @@
+//! Nodes of a rope: parts of a text, and concatenations that share their two sides.
+#![tactic(auto)]
+
+ghost use Rattle.std.specs.Prelude.{◌≡◌, length};
+
+use cord_io::SourceId;
+use std::rc::{Rc, RcSlice};
+
+/// Two leaves of at most this many bytes together are joined to one leaf.
+pub const SMALL_LEN: usize = 64;
+
+/// A text of at least one byte: a part, or two texts joined.
+#[derive(Drop)]
+pub enum Node {
+    /// The `len` bytes from `start` on of shared bytes.
+    Leaf {
+        bytes: RcSlice<u8>,
+        start: u64,
+        len: u64,
+    },
+    /// One byte, `len` times.
+    Run {
+        byte: u8,
+        len: u64,
+    },
+    /// The `len` bytes from `start` on of a source.
+    Func {
+        id: SourceId,
+        start: u64,
+        len: u64,
+    },
+    /// The text of `left` and then that of `right`, with its length and its depth.
+    Cat {
+        left: Rc<Node>,
+        right: Rc<Node>,
+        len: u64,
+        depth: u32,
+    },
+}
+
+impl Node {
+    ghost use Rattle.std.specs.Prelude.{MatchOption, IfSome, false, true, map};
+    ghost use Rattle.cord_node.specs.Tree.{cells, known, len_of, depth_of, true_len, true_depth, is_leaf, IsSound};
+
+    /// The length of the text, in bytes.
+    pub fn len(&self) -> u64
+        ensures stored { result ≡ len_of self.now }
+        ensures truth { IsSound self.now → result ≡ true_len self.now }
+        ensures text { IsSound self.now → result ≡ length (cells self.now) }
+    {
+        let len = match self {
+            Node::Leaf { len, .. } => len,
+            Node::Run { len, .. } => len,
+            Node::Func { len, .. } => len,
+            Node::Cat { len, .. } => len,
+        };
+        *len
+    }
+
+    /// The steps from this node to its deepest part: 0 for a part.
+    pub fn depth(&self) -> u32
+        ensures stored { result ≡ depth_of self.now }
+        ensures truth { IsSound self.now → result ≡ true_depth self.now }
+    {
+        let depth = match self {
+            Node::Cat { depth, .. } => *depth,
+            _ => 0,
+        };
+        depth
+    }
+
+    // The bytes of a `Leaf`.
+    fn leaf_bytes(&self) -> Option<&[u8]>
+        requires { IsSound self.now }
+        ensures form { MatchOption result (is_leaf self.now ≡ false) (λ _. is_leaf self.now ≡ true) }
+        ensures text { IfSome result (λ bytes. cells self.now ≡ map known bytes.now) }
+        ensures len { IfSome result (λ bytes. length bytes.now ≡ len_of self.now) }
+    {
+        match self {
+            Node::Leaf { bytes, start, len } => {
+                Some(&bytes.as_slice()[*start as usize..(*start + *len) as usize])
+            }
+            _ => None,
+        }
+    }
+}
+
+mod make;
+mod range;
+#[cfg(test)]
+mod tests;
+
+pub use make::{func, join, leaf, run};
+pub use range::sub_node;

@@ -1,0 +1,133 @@
+// Nodes made of parts and of other nodes.
+ghost use Rattle.std.specs.Prelude.{◌≡◌, ◌+◌, ◌<◌, ◌≤◌, [], ◌∷◌, ◌++◌, true, false, max, length, map, IfOk};
+ghost use Rattle.std.specs.Rc.{rc_slice_items};
+ghost use Rattle.cord_node.specs.Tree.{cells, known, len_of, depth_of, is_leaf, are_merged, joined_depth, IsSound};
+ghost use Rattle.cord_node.specs.Tables.{IsJoinOver};
+ghost use Rattle.cord_node.specs.Kept.{parts, leaf_part, Kept};
+
+use crate::{Node, SMALL_LEN};
+use cord_io::{MAX_DEPTH, MAX_LEN, SourceId};
+use std::alloc::{AllocError, Global};
+use std::rc::{Rc, RcSlice};
+
+/// A part that is the whole of these bytes: 1 to `MAX_LEN` of them.
+pub fn leaf(alloc: Global, bytes: RcSlice<u8>) -> Result<Rc<Node>, AllocError>
+    requires not_empty { 0 < length (rc_slice_items bytes) }
+    requires fits { length (rc_slice_items bytes) ≤ MAX_LEN }
+    ensures form { IfOk result (λ node. node.value ≡ Node.Leaf bytes 0 (length (rc_slice_items bytes))) }
+    ensures sound { IfOk result (λ node. IsSound node.value) }
+    ensures depth { IfOk result (λ node. depth_of node.value ≡ 0) }
+{
+    let len = bytes.len() as u64;
+    let node = Rc::new(
+        alloc,
+        Node::Leaf {
+            bytes,
+            start: 0,
+            len,
+        },
+    )?;
+    Ok(node)
+}
+
+/// A part that is one byte `len` times, where `len` is 1 to `MAX_LEN`.
+pub fn run(alloc: Global, byte: u8, len: u64) -> Result<Rc<Node>, AllocError>
+    requires not_empty { 0 < len }
+    requires fits { len ≤ MAX_LEN }
+    ensures form { IfOk result (λ node. node.value ≡ Node.Run byte len) }
+    ensures sound { IfOk result (λ node. IsSound node.value) }
+    ensures depth { IfOk result (λ node. depth_of node.value ≡ 0) }
+{
+    let node = Rc::new(alloc, Node::Run { byte, len })?;
+    Ok(node)
+}
+
+/// A part that is `len` bytes of the source `id`, from its byte `start` on: at least one byte, none
+/// of them behind the first `MAX_LEN`.
+pub fn func(alloc: Global, id: SourceId, start: u64, len: u64) -> Result<Rc<Node>, AllocError>
+    requires not_empty { 0 < len }
+    requires fits { start + len ≤ MAX_LEN }
+    ensures form { IfOk result (λ node. node.value ≡ Node.Func id start len) }
+    ensures sound { IfOk result (λ node. IsSound node.value) }
+    ensures depth { IfOk result (λ node. depth_of node.value ≡ 0) }
+{
+    let node = Rc::new(alloc, Node::Func { id, start, len })?;
+    Ok(node)
+}
+
+// A concatenation that shares its two sides.
+fn cat(alloc: Global, left: &Rc<Node>, right: &Rc<Node>) -> Result<Rc<Node>, AllocError>
+    requires left_sound { IsSound left.now.value }
+    requires right_sound { IsSound right.now.value }
+    requires fits { len_of left.now.value + len_of right.now.value ≤ MAX_LEN }
+    requires shallow { max (depth_of left.now.value) (depth_of right.now.value) + 1 ≤ MAX_DEPTH }
+    ensures sound { IfOk result (λ node. IsSound node.value) }
+    ensures form { IfOk result (λ node. is_leaf node.value ≡ false) }
+    ensures text { IfOk result (λ node. cells node.value ≡ cells left.now.value ++ cells right.now.value) }
+    ensures parts { IfOk result (λ node. parts node.value ≡ parts left.now.value ++ parts right.now.value) }
+    ensures len { IfOk result (λ node. len_of node.value ≡ len_of left.now.value + len_of right.now.value) }
+    ensures depth { IfOk result (λ node. depth_of node.value ≡ max (depth_of left.now.value) (depth_of right.now.value) + 1) }
+{
+    let len = left.len() + right.len();
+    let depth = left.depth().max(right.depth()) + 1;
+    let left = left.clone()?;
+    let right = right.clone()?;
+    let node = Rc::new(
+        alloc,
+        Node::Cat {
+            left,
+            right,
+            len,
+            depth,
+        },
+    )?;
+    Ok(node)
+}
+
+// One leaf of the bytes of two.
+fn merged(alloc: Global, left: &[u8], right: &[u8]) -> Result<Rc<Node>, AllocError>
+    requires not_empty { 0 < length left.now + length right.now }
+    requires small { length left.now + length right.now ≤ SMALL_LEN }
+    ensures sound { IfOk result (λ node. IsSound node.value) }
+    ensures form { IfOk result (λ node. is_leaf node.value ≡ true) }
+    ensures text { IfOk result (λ node. cells node.value ≡ map known (left.now ++ right.now)) }
+    ensures part { IfOk result (λ node. parts node.value ≡ leaf_part (left.now ++ right.now) 0 (length left.now + length right.now) ∷ []) }
+    ensures len { IfOk result (λ node. len_of node.value ≡ length left.now + length right.now) }
+    ensures depth { IfOk result (λ node. depth_of node.value ≡ 0) }
+{
+    let mut bytes = Vec::with_capacity(alloc, left.len() + right.len())?;
+    bytes.extend_from_slice(left)?;
+    bytes.extend_from_slice(right)?;
+    let node = leaf(alloc, RcSlice::from_vec(bytes)?)?;
+    Ok(node)
+}
+
+/// The text of `left` and then that of `right`, which are shared. Two nodes of the form `Leaf`, of at
+/// most `SMALL_LEN` bytes together, become one `Leaf`; all else becomes a `Cat`. The lengths sum to
+/// at most `MAX_LEN`, and one plus the greater depth is at most `MAX_DEPTH`.
+pub fn join(alloc: Global, left: &Rc<Node>, right: &Rc<Node>) -> Result<Rc<Node>, AllocError>
+    requires left_sound { IsSound left.now.value }
+    requires right_sound { IsSound right.now.value }
+    requires fits { len_of left.now.value + len_of right.now.value ≤ MAX_LEN }
+    requires shallow { max (depth_of left.now.value) (depth_of right.now.value) + 1 ≤ MAX_DEPTH }
+    ensures sound { IfOk result (λ node. IsSound node.value) }
+    ensures text { IfOk result (λ node. cells node.value ≡ cells left.now.value ++ cells right.now.value) }
+    ensures over { IfOk result (λ node. IsJoinOver left.now.value right.now.value node.value) }
+    ensures len { IfOk result (λ node. len_of node.value ≡ len_of left.now.value + len_of right.now.value) }
+
+    ensures form { IfOk result (λ node. is_leaf node.value ≡ are_merged left.now.value right.now.value) }
+    ensures depth { IfOk result (λ node. depth_of node.value ≡ joined_depth left.now.value right.now.value) }
+    ensures depth_bound { IfOk result (λ node. depth_of node.value ≤ max (depth_of left.now.value) (depth_of right.now.value) + 1) }
+    ensures kept { IfOk result (λ node. Kept (parts left.now.value ++ parts right.now.value) (parts node.value)) }
+{
+    match (left.leaf_bytes(), right.leaf_bytes()) {
+        (Some(a), Some(b)) if a.len() + b.len() <= SMALL_LEN => {
+            let node = merged(alloc, a, b)?;
+            Ok(node)
+        }
+        _ => {
+            let node = cat(alloc, left, right)?;
+            Ok(node)
+        }
+    }
+}

@@ -1,0 +1,70 @@
+// A range of a node.
+ghost use Rattle.std.specs.Prelude.{◌≡◌, ◌+◌, ◌<◌, ◌≤◌, IfOk, take, drop};
+ghost use Rattle.cord_node.specs.Tree.{cells, len_of, depth_of, IsSound};
+ghost use Rattle.cord_node.specs.Kept.{parts, Kept};
+
+use crate::{Node, func, join, run};
+use std::alloc::{AllocError, Global};
+use std::rc::Rc;
+
+/// The `count` bytes from `from` on, at least one: whole sides and the bytes of leaves are shared, and
+/// a new concatenation is made only where the range goes over the seam of one.
+#[tactic(auto, using(crate::proofs::TreeLemmas::ranges))]
+pub fn sub_node(
+    alloc: Global,
+    node: &Rc<Node>,
+    from: u64,
+    count: u64,
+) -> Result<Rc<Node>, AllocError>
+    requires sound { IsSound node.now.value }
+    requires not_empty { 0 < count }
+    requires inside { from + count ≤ len_of node.now.value }
+    ensures sound { IfOk result (λ part. IsSound part.value) }
+    ensures text { IfOk result (λ part. cells part.value ≡ take count (drop from (cells node.now.value))) }
+    ensures len { IfOk result (λ part. len_of part.value ≡ count) }
+    ensures depth { IfOk result (λ part. depth_of part.value ≤ depth_of node.now.value) }
+    ensures kept { IfOk result (λ part. Kept (parts node.now.value) (parts part.value)) }
+{
+    if count == node.len() {
+        let part = node.clone()?;
+        return Ok(part);
+    }
+    match node.as_ref() {
+        Node::Leaf { bytes, start, .. } => {
+            let bytes = bytes.clone()?;
+            let start = *start + from;
+            let part = Rc::new(
+                alloc,
+                Node::Leaf {
+                    bytes,
+                    start,
+                    len: count,
+                },
+            )?;
+            Ok(part)
+        }
+        Node::Run { byte, .. } => {
+            let part = run(alloc, *byte, count)?;
+            Ok(part)
+        }
+        Node::Func { id, start, .. } => {
+            let part = func(alloc, *id, *start + from, count)?;
+            Ok(part)
+        }
+        Node::Cat { left, right, .. } => {
+            let middle = left.len();
+            if from + count <= middle {
+                let part = sub_node(alloc, left, from, count)?;
+                Ok(part)
+            } else if middle <= from {
+                let part = sub_node(alloc, right, from - middle, count)?;
+                Ok(part)
+            } else {
+                let left = sub_node(alloc, left, from, middle - from)?;
+                let right = sub_node(alloc, right, 0, from + count - middle)?;
+                let part = join(alloc, &left, &right)?;
+                Ok(part)
+            }
+        }
+    }
+}

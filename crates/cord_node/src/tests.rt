@@ -1,0 +1,75 @@
+// Rows of worked examples.
+ghost use Rattle.std.specs.Prelude.{◌≡◌, ◌<◌, ◌≤◌, length, IfOk};
+ghost use Rattle.cord_node.specs.Tree.{len_of, depth_of, IsSound};
+
+use super::*;
+use cord_io::MAX_LEN;
+use std::alloc::{AllocError, Global};
+use std::test::Fail;
+
+fn leaf_of(alloc: Global, bytes: &[u8]) -> Result<Rc<Node>, AllocError>
+    requires not_empty { 0 < length bytes.now }
+    requires fits { length bytes.now ≤ 1000 }
+    ensures sound { IfOk result (λ node. IsSound node.value) }
+    ensures len { IfOk result (λ node. len_of node.value ≡ length bytes.now) }
+    ensures depth { IfOk result (λ node. depth_of node.value ≡ 0) }
+{
+    let node = leaf(alloc, RcSlice::from_slice(alloc, bytes)?)?;
+    Ok(node)
+}
+
+// The bytes, the start and the length of a `Leaf`.
+fn fields(node: &Node) -> Option<(&[u8], u64, u64)> {
+    match node {
+        Node::Leaf { bytes, start, len } => Some((bytes.as_slice(), *start, *len)),
+        _ => None,
+    }
+}
+
+#[test]
+fn node_joins(rt: HostRuntime) -> Result<(), Fail> {
+    let alloc = rt.alloc();
+    let ab = leaf_of(alloc, b"ab")?;
+    let abcd = join(alloc, &ab, &leaf_of(alloc, b"cd")?)?;
+    assert_eq!(rt; abcd.len(), 4);
+    assert_eq!(rt; abcd.depth(), 0);
+    assert!(rt; fields(abcd.as_ref()) == Some((b"abcd", 0, 4)));
+
+    let mixed = join(alloc, &run(alloc, 0, 1)?, &ab)?;
+    assert_eq!(rt; mixed.len(), 3);
+    assert_eq!(rt; mixed.depth(), 1);
+
+    let part = func(alloc, SourceId(0), 8, 3)?;
+    assert_eq!(rt; part.len(), 3);
+    assert_eq!(rt; part.depth(), 0);
+    Ok(())
+}
+
+#[test]
+fn leaves_become_one_up_to_64_bytes(rt: HostRuntime) -> Result<(), Fail> {
+    let alloc = rt.alloc();
+    for (left, right, depth) in [(32, 32, 0), (63, 1, 0), (64, 1, 1), (1, 64, 1)] {
+        let bytes = [7; 64];
+        let left = leaf_of(alloc, &bytes[..left])?;
+        let right = leaf_of(alloc, &bytes[..right])?;
+        assert_eq!(rt; join(alloc, &left, &right)?.depth(), depth);
+    }
+    Ok(())
+}
+
+#[test]
+fn ranges_share(rt: HostRuntime) -> Result<(), Fail> {
+    let alloc = rt.alloc();
+    let letters = leaf_of(alloc, b"abcdefgh")?;
+    let part = sub_node(alloc, &letters, 2, 3)?;
+    assert!(rt; fields(part.as_ref()) == Some((b"abcdefgh", 2, 3)));
+
+    let both = join(alloc, &letters, &run(alloc, 46, MAX_LEN - 8)?)?;
+    assert_eq!(rt; both.len(), MAX_LEN);
+    let seam = sub_node(alloc, &both, 6, 5)?;
+    assert_eq!(rt; seam.len(), 5);
+    assert_eq!(rt; seam.depth(), 1);
+    let whole = sub_node(alloc, &both, 0, 8)?;
+    assert!(rt; fields(whole.as_ref()) == Some((b"abcdefgh", 0, 8)));
+    Ok(())
+}

@@ -1,0 +1,64 @@
+-- Scripts whose plans are computed, beside those whose runs are.
+use Rattle.std.specs.Prelude.{ℕ, List, [], ◌∷◌, ◌++◌, codes}
+use Rattle.cord_script.specs.declared.statements.Statement.{Statement}
+use Rattle.cord_script.specs.declared.statements.Statement.TheVariants.{Let, File, Chars, Cat, Substr, Put}
+use Rattle.cord_meaning.specs.Rows.{numeral}
+use Rattle.cord_plan.specs.Unread.{later_within}
+use Rattle.cord_plan.specs.Exprs.{name, run, cat, sub, nothing, member}
+use Rattle.cord_plan.specs.Planned.{Operation, Build, Measure, Write, Joined, Literal, planned}
+use Rattle.cord_plan.specs.Shown.{shown}
+
+-- `let a "abc" ; let b "def" ; cat t a b ; substr z t 2 3 ; put z`
+abbrev pub substr_over_seam : List Statement
+substr_over_seam =
+    Let 1 (codes "a") (codes "abc")
+    ∷ Let 2 (codes "b") (codes "def")
+    ∷ Cat 3 (codes "t") (codes "a") (codes "b")
+    ∷ Substr 4 (codes "z") (codes "t") (numeral 2) (numeral 3)
+    ∷ Put 5 (codes "z")
+    ∷ []
+
+-- `chars a 0 1099511627775 ; let b "b" ; cat t a b ; substr z t 0 1 ; put b`
+abbrev pub substr_of_unread_cat_too_long : List Statement
+substr_of_unread_cat_too_long =
+    Chars 1 (codes "a") (numeral 0) (numeral 1099511627775)
+    ∷ Let 2 (codes "b") (codes "b")
+    ∷ Cat 3 (codes "t") (codes "a") (codes "b")
+    ∷ Substr 4 (codes "z") (codes "t") (numeral 0) (numeral 1)
+    ∷ Put 5 (codes "b")
+    ∷ []
+
+-- the operations of that script's plan
+abbrev pub operations_of_unread_cat : List Operation
+operations_of_unread_cat =
+    Measure 1 (codes "a") (Joined (run (numeral 0) (numeral 1099511627775)))
+    ∷ Build 2 (codes "b") (Literal (codes "b"))
+    ∷ Measure 3 (codes "t") (Joined (cat (member (run (numeral 0) (numeral 1099511627775)) (member (name (codes "b")) nothing))))
+    ∷ Measure 4 (codes "z") (Joined (sub (cat (member (run (numeral 0) (numeral 1099511627775)) (member (name (codes "b")) nothing))) (numeral 0) (numeral 1)))
+    ∷ Write 5 (name (codes "b"))
+    ∷ []
+
+-- `let a "a" ; let b "b" ; cat t a b ; cat u t b ; put u`
+abbrev pub cat_in_cat : List Statement
+cat_in_cat =
+    Let 1 (codes "a") (codes "a")
+    ∷ Let 2 (codes "b") (codes "b")
+    ∷ Cat 3 (codes "t") (codes "a") (codes "b")
+    ∷ Cat 4 (codes "u") (codes "t") (codes "b")
+    ∷ Put 5 (codes "u")
+    ∷ []
+
+-- `file x` with a path of the bytes `a`, `"` and 200
+abbrev pub path_with_quote : List Statement
+path_with_quote = File 1 (codes "x") (97 ∷ 34 ∷ 200 ∷ []) ∷ []
+
+-- what its plan shows: the last two as backslash, `x` and two digits
+abbrev pub text_of_path_with_quote : List ℕ
+text_of_path_with_quote = codes "1 measure x file(" ++ 34 ∷ 97 ∷ 92 ∷ codes "x22" ++ 92 ∷ codes "xc8" ++ 34 ∷ codes ")\n"
+
+-- the plan of a script, where paths of at most k steps tell what is read later, and its text
+abbrev pub plan_of : ℕ → List Statement → List Operation
+plan_of k s = planned s (λ x p. later_within s k x p)
+
+abbrev pub plan_text : ℕ → List Statement → List ℕ
+plan_text k s = shown (plan_of k s)

@@ -1,0 +1,9 @@
+pub mod WayLemmas
+pub mod Sides
+pub mod Moves
+pub mod Counts
+pub mod SamePart
+pub mod Taking
+pub mod Standings
+pub mod Bytes
+pub mod SpotBytes

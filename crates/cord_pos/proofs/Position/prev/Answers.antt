@@ -1,0 +1,24 @@
+use Rattle.std.proofs.Common.{◌-◌, arith}
+use Rattle.cord_pos.proofs.Standings.{position_cord, prev_still, prev_still_visits, move_bound, move_one_part}
+use Rattle.cord_pos.proofs.Position.prev.Goals as goal
+
+pub invariant_of-self : goal.invariant_of-self
+invariant_of-self c =
+    let on = rw c.in-Some.is at c.self.invariant in
+    (prev_still _ _ _ on c.if-spot.true).position
+
+pub returns-then-spot-clause-visits : goal.returns-then-spot-clause-visits
+returns-then-spot-clause-visits c =
+    let on = rw c.in-Some.is at c.self.invariant in
+    rw (← c.self.view_is, c.in-Some.is) (prev_still_visits _ _ _ on c.if-spot.true)
+
+pub returns-then-spot-gt0-clause-bound : goal.returns-then-spot-gt0-clause-bound
+returns-then-spot-gt0-clause-bound c =
+    let on = rw c.in-Some.is at c.self.invariant in
+    let v = rw (← c.self.view_is, c.in-Some.is) at c.go_to.ensures.visits in
+    rw (← c.self.view_is) (omega (arith, v, move_bound c.self.inside.cord.now c.in-Some.spot.index (c.in-Some.spot.index - 1) (position_cord _ _ _ on)))
+
+pub returns-then-spot-gt0-clause-one_part : goal.returns-then-spot-gt0-clause-one_part
+returns-then-spot-gt0-clause-one_part c =
+    let v = rw (← c.self.view_is, c.in-Some.is) at c.go_to.ensures.visits in
+    rw (← c.self.view_is, c.in-Some.is, c.go_to.ensures.index) (λ h. omega (arith, v, move_one_part _ _ _ h, c.self.invariant.counted))

@@ -1,0 +1,42 @@
+-- A climb and a descent take the way to another index.
+use Rattle.std.proofs.Common.{◌≡◌, ℕ, ◌+◌, ◌-◌, ◌^◌, ◌≤◌, min, List, [], ◌∷◌, ◌++◌, length, refl, sym, ◌∙◌, ap, arith, Some, append_assoc, length-append}
+use Rattle.cord_io.specs.declared.TheConstants.{MAX_LEN, MAX_DEPTH}
+use Rattle.cord_node.specs.declared.Node.{Node}
+use Rattle.cord_node.specs.Tree.{len_of, depth_of, IsSound}
+use Rattle.cord_node.specs.Occurrences.{level, shared_level}
+use Rattle.cord_node.proofs.TreeLemmas.{len_limit}
+use Rattle.cord_pos.specs.Path.{Place, below, part_at, IsClimb, EndsIn, IsOnWay, IsTakenTo}
+use Rattle.cord_pos.proofs.Counts.{depth_limit}
+use Rattle.cord_pos.proofs.Moves.{IsUnder, under_root, IsMove, moved}
+
+-- the old way, with the node at which the climb stopped
+found_split : (old new : List Place) (n : Node) (t at : ℕ) (c : IsClimb old new at) (e : EndsIn new n t at) → old ≡ e.front ++ (Some n, t) ∷ c.left_out
+found_split old new n t at c e = c.split ∙ (rw (e.split, append_assoc) refl)
+
+-- the node at which a climb stopped is sound, lies inside the limits and leaves room for the way down
+pub record IsFound (new : List Place) (n : Node) (t : ℕ) : Type 0 where
+  pub sound : IsSound n
+  pub fits : t + len_of n ≤ MAX_LEN
+  pub room : length new + depth_of n ≤ MAX_DEPTH + 1
+
+-- so is the node at which a climb from a way stopped
+pub found : (old new : List Place) (n : Node) (t at : ℕ) → IsOnWay old at → IsClimb old new at → EndsIn new n t at → IsFound new n t
+found old new n t at w c e =
+    let u : IsUnder w.root 0 (length e.front) n t = under_root w.root 0 w.from e.front c.left_out n t w.sound (sym w.way ∙ found_split old new n t at c e) in
+    let k : length new ≡ length e.front + 1 = ap length e.split ∙ length-append e.front ((Some n, t) ∷ []) in
+    record {
+      sound = u.sound;
+      fits = omega (arith, u.to, len_limit w.root w.sound);
+      room = omega (arith, u.depth, depth_limit w.root w.sound);
+    }
+
+-- a climb and the descent from where it stopped take the way to the index
+pub taken : (old new new' : List Place) (n part : Node) (t start at visits visits' : ℕ) → IsClimb old new at → EndsIn new n t at → new' ≡ new ++ below n t (at - t) → visits' ≡ min (visits + level n (at - t)) (2 ^ 64 - 1) → (part, start) ≡ part_at n t (at - t) → IsTakenTo old at new' part start visits visits'
+taken old new new' n part t start at visits visits' c e down counted p = λ root from sound inside old-way.
+    let m : IsMove root 0 from at e.front n t at = moved root 0 from at at e.front c.left_out n t (omega arith) inside sound (sym old-way ∙ found_split old new n t at c e) e.holds c.none_holds in
+    let k : level root at - shared_level root from at ≡ level n (at - t) = omega (arith, m.level, m.shared) in
+    record {
+      way = down ∙ (rw (e.split, append_assoc) m.way);
+      part = p ∙ m.part;
+      visits_more = rw k counted;
+    }

@@ -1,0 +1,14 @@
+use Rattle.std.proofs.Common.{◌≡◌}
+use Rattle.arrayvec.specs.ArrayVec.{array_vec_len}
+use Rattle.cord_pos.specs.Path.{places, IsClimb}
+use Rattle.cord_pos.proofs.path.Path.climb.Given as goal
+
+-- no place that was left out holds the index
+abbrev pub invariant-loop-last : goal.invariant-loop-last
+invariant-loop-last l = record {
+  climb : IsClimb (places l.fn.self.stops.items) (places l.self.stops.items) l.at;
+  visits : l.self.visits ≡ l.fn.self.visits;
+}
+
+abbrev pub decreases-loop-last : goal.decreases-loop-last
+decreases-loop-last l = array_vec_len l.self.stops

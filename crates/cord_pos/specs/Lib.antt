@@ -1,0 +1,4 @@
+pub mod Path
+pub mod Position
+pub mod Invariant
+pub mod Parts

@@ -1,0 +1,12 @@
+pub mod Numbers
+pub mod Spans
+pub mod Spelled
+pub mod Lettered
+pub mod Begins
+pub mod Whole
+pub mod Unique
+pub mod Figures
+pub mod Layouts
+pub mod Prints
+pub mod Natural
+pub mod Tables

@@ -1,0 +1,74 @@
+// Formats.
+ghost use Rattle.std.specs.Prelude.{◌≡◌, ◌≢◌, ◌<◌, List, ℕ, [], ◌++◌, length, IfOk, IfErr};
+ghost use Rattle.cord_printf.specs.Pieces.{IsPiece};
+ghost use Rattle.cord_printf.specs.Format.{IsFormat, IsRefusal, IsBadHere};
+
+use crate::conversions::conversion;
+use crate::reading::{Class, span, uncons};
+use crate::{FormatError, Literal, Piece};
+use std::alloc::Global;
+use std::marker::Model;
+
+/// A format: its pieces, from left to right.
+#[derive(Drop)]
+pub struct Format {
+    pieces: Vec<Piece>,
+}
+
+impl Model for Format {
+    ghost use Rattle.std.specs.Prelude.{List};
+    ghost use Rattle.cord_printf.specs.declared.pieces.Piece.{Piece};
+
+    ghost Value = { List Piece };
+
+    ghost view = { λ f. f.pieces.items };
+}
+
+impl Format {
+    /// Reads a format, after C's printf: texts without `%`, each as long as possible, and conversions.
+    ///
+    /// A conversion is `%`, flags, a width, a precision, `l` or `ll`, and a letter. `BadFormat` has the offset of the
+    /// first `%` that stands after whole pieces and begins no conversion.
+    pub fn parse(alloc: Global, bytes: &[u8]) -> Result<Format, FormatError>
+        ensures pieces { IfOk result (IsFormat bytes.now) }
+        ensures refused { IfErr result (IsRefusal bytes.now) }
+    {
+        let mut pieces = Vec::new(alloc);
+        let mut rest = bytes;
+        'pieces: while !rest.is_empty() {
+            let (piece, after) = next_piece(alloc, bytes.len() - rest.len(), rest)?;
+            if pieces.push(piece).is_err() {
+                return Err(FormatError::NoMemory);
+            }
+            rest = after;
+        }
+        Ok(Format { pieces })
+    }
+
+    /// The pieces, from left to right.
+    pub fn pieces(&self) -> &[Piece]
+        ensures { result.now ≡ self.now }
+    {
+        &self.pieces
+    }
+}
+
+// The piece at the front of the bytes at an offset, and what follows it.
+fn next_piece(alloc: Global, offset: usize, bytes: &[u8]) -> Result<(Piece, &[u8]), FormatError>
+    requires { bytes.now ≢ [] }
+    ensures piece { IfOk result (λ r. (w : List ℕ) × (bytes.now ≡ w ++ r.1.now) × IsPiece w r.0 r.1.now) }
+    ensures shorter { IfOk result (λ r. length r.1.now < length bytes.now) }
+    ensures refused { IfErr result (IsBadHere bytes.now offset) }
+{
+    if let Some((b'%', inner)) = uncons(bytes) {
+        let Some((piece, after)) = conversion(inner) else {
+            return Err(FormatError::BadFormat(offset));
+        };
+        return Ok((piece, after));
+    }
+    let (text, after) = span(Class::Plain, bytes);
+    match Vec::from_slice(alloc, text) {
+        Err(_) => Err(FormatError::NoMemory),
+        Ok(text) => Ok((Piece::Text(Literal::of(text)), after)),
+    }
+}

@@ -1,0 +1,23 @@
+// Laws of formats: each function's contract is the law, and its body does nothing.
+ghost use Rattle.cord_printf.specs.FormatLaws.{
+  OneFormat,
+  BadIsNoFormat,
+  OneBadOffset,
+  DigitsWriteNumbers,
+};
+
+/// Bytes are one list of pieces at most.
+pub fn formats_have_one_reading()
+    ensures { OneFormat }
+{}
+
+/// Bytes with a bad conversion are no format, and have one first bad conversion.
+pub fn refused_formats_are_none()
+    ensures none { BadIsNoFormat }
+    ensures one { OneBadOffset }
+{}
+
+/// The digits that conversions show write their number: the most significant first, none of them 0 in front.
+pub fn digits_write_their_number()
+    ensures { DigitsWriteNumbers }
+{}

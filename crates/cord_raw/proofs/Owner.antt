@@ -1,0 +1,99 @@
+-- The owner of a raw allocation, as its callers' proofs meet it: two words, and what stands behind the pointer.
+use Rattle.std.proofs.Common.{◌≡◌, ℕ, ◌+◌, List, [], ◌∷◌, ◌++◌, refl, ap, ◌∙◌}
+use mathlib.Core.Bool.{true, ◌&&◌}
+use lib.Dec.{T as Yes}
+use seplogic.Ra.Ura.{Ura}
+use mir.Syntax.{impl, tnil, dnil}
+use mir.Raw.{raw as bare}
+use mir.Val.{Val, vptr, vstruct, vcons, vnil, of_list, has_ty, WT}
+use base.Logic.{ent, sep, never, fst∗}
+use base.Fml.{Lft, Fml, fhide}
+use types.Logic.{Logic, sem}
+use types.Kit.{Item, Goal, Seq, Step, step, ‵, ◌⊛◌, ◌$◌, ◌∵◌, !, qed, move, keep, drop, split, fsplit, fjoin, fpick, fpack, feq_i, feq_l, use1, done}
+use denote.RattleType.{RattleType, RowLaws, Valss}
+use denote.Memory.{lone, hidden_shr}
+use denote.Opens.{shr_dup, unhide, hide}
+use denote.Param.{param, layout}
+use denote.Param.Laws.{Laws, param_laws}
+use denote.RawPtr.{Ptr, RawPtr, block_ptr, null_ptr, ptr_val, in_a_block, ptr_row_laws}
+use denote.Steps.{nothing}
+use denote.Struct.Lending.{lent_at, lent_at_shr_laws, lent_out}
+use denote.Struct.Owning.{shape}
+use denote.Struct.Struct.{Struct, Struct-row_laws, within}
+use denote.SharingLaws.{beside_shr_laws}
+use Rattle.core.specs.declared.alloc.Allocator.{Ghosts}
+use Rattle.core.proofs.alloc.Calls.{Al, handle_tells}
+use Rattle.core.proofs.cell.Inside.{Good}
+use Rattle.std_alloc.proofs.ResultValues.{and_tt}
+use Rattle.std.specs.Box.Ownership.{box_owns}
+use Rattle.cord_raw.specs.contracts.raw.Raw as owner
+
+-- the machine value of an owner: its pointer, and the allocator h
+abbrev pub words : ℕ → ℕ → Val → Val
+words b o h = vstruct (vcons (vptr b o) (vcons h vnil))
+
+-- machine values that are spelled by a pointer's and an allocator's are its two words
+pub spells : (vs ps hs : List Val) (p : Ptr) (b o : ℕ) (h : Val) → vs ≡ vstruct (of_list (ps ++ (hs ++ []))) ∷ [] → ps ≡ ptr_val p ∷ [] → p ≡ block_ptr b o → hs ≡ h ∷ [] → vs ≡ words b o h ∷ []
+spells vs ps hs p b o h both first place second =
+    both ∙ ap (λ (us : List Val). vstruct (of_list (us ++ (hs ++ []))) ∷ []) first ∙ ap (λ (q : Ptr). vstruct (of_list (ptr_val q ∷ (hs ++ []))) ∷ []) place
+    ∙ ap (λ (us : List Val). vstruct (of_list (vptr b o ∷ (us ++ []))) ∷ []) second
+
+module _ (T A : RattleType) (L : Laws T) (K : Laws A) (g : Ghosts A.Denot) where
+  abbrev pub R : RattleType
+  R = param 0 T
+
+  abbrev pub Z : RattleType
+  Z = param 1 A
+
+  abbrev pub O : RattleType
+  O = owner.the_row R Z g
+
+  -- its two fields alone
+  abbrev pub Words : RattleType
+  Words = Struct (shape (owner.the_type R Z g))
+
+  words_laws : RowLaws Words
+  words_laws = Struct-row_laws (shape (owner.the_type R Z g)) (ptr_row_laws, (K.shr_laws, tt))
+
+  owner_laws : RowLaws O
+  owner_laws d b o = beside_shr_laws (Words.shr_at (d.at, (d.alloc, tt)) b o) (lent_at R d.at d.value) (words_laws (d.at, (d.alloc, tt)) b o) (lent_at_shr_laws R L.shr_laws d.at d.value)
+
+  module _ {M : Type 1} {𝓤 : Ura M} (𝓛 : Logic 𝓤) (κ : Lft) (b o : ℕ) (d : O.Denot) where
+    -- a `&` to the two fields
+    abbrev pub fields_lent : Fml
+    fields_lent = hidden_shr Words κ (d.at, (d.alloc, tt)) b o
+
+    -- it shows the pointer
+    pub shows_pointer : ent 𝓤 (sem 𝓛 fields_lent) (sep 𝓤 (sem 𝓛 (hidden_shr RawPtr κ d.at b (o + 0))) (sem 𝓛 fields_lent))
+    shows_pointer = qed 𝓛 (‵ fields_lent ∷ []) ∵ shr_dup ! Words words_laws (d.at, (d.alloc, tt)) b o κ $ unhide ! $ fsplit ! $ fsplit ! $ hide ! $ keep ! (0 ∷ 3 ∷ []) $ done !
+
+    -- what a `&` to the owner lends: itself again, its two fields, and the value behind the pointer
+    pub lends_value : ent 𝓤 (sem 𝓛 (hidden_shr O κ d b o)) (sep 𝓤 (sem 𝓛 (hidden_shr O κ d b o)) (sep 𝓤 (sem 𝓛 fields_lent) (sem 𝓛 (fhide (owner.the_lent R Z g d d.at κ)))))
+    lends_value = qed 𝓛 (‵ (hidden_shr O κ d b o) ∷ []) ∵ shr_dup ! O owner_laws d b o κ $
+        use1 𝓛 (‵ fields_lent ⊛ ‵ (fhide (owner.the_lent R Z g d d.at κ))) (lent_out 𝓛 (owner.struct R Z g) (owner.the_codes R.Denot Z.Denot R.coded Z.coded) (owner.the_heap R Z g) (owner.the_lent R Z g) κ d b o) $ split ! $
+        move ! (2 ∷ 0 ∷ 1 ∷ []) $ done !
+
+  abbrev handle_of : Al
+  handle_of = record { row = Z; laws = param_laws 1 A K; g = g; d = impl [] tnil dnil; drops = impl [] tnil dnil }
+
+  -- two words are typed where the allocator's is
+  pub words_typed : (b o : ℕ) (h : Val) → Good (layout Z) h → Yes (has_ty (layout Z) h && true) × WT (words b o h)
+  words_typed b o h fits = (and_tt (has_ty (layout Z) h) fits.0, (tt, (fits.1, tt)))
+
+  module _ {M : Type 1} {𝓤 : Ura M} {𝓛 : Logic 𝓤} {X : Type 0} {Γ : List (Item 𝓤)} {G : Goal 𝓤 𝓛.H} where
+    -- what an owner has: the value at a place in memory, the right to free it, and its allocator
+    pub unpacks : X → (r : O.Denot) (vs : List Val)
+        → ((b o : ℕ) (h : Val) → r.at ≡ block_ptr b o → vs ≡ words b o h ∷ [] → Good (layout Z) h
+        → Seq X 𝓛 (‵ (box_owns (g.dealloc_token r.alloc) R (block_ptr b o) r.value) ∷ ‵ (Z.own_val r.alloc (h ∷ [])) ∷ Γ) G)
+        → Seq X 𝓛 (‵ (O.own_val r vs) ∷ Γ) G
+    unpacks t r vs rest =
+        fsplit t $ fpick t (λ vss. fsplit t $ feq_l t (λ whole. fsplit t $ feq_l t (λ first. fsplit t $ handle_tells handle_of t r.alloc vss.1.0 (λ h second fits. move t (1 ∷ []) $ drop t $ move t (1 ∷ []) $
+        in_a_block t r.at (λ p. box_owns (g.dealloc_token r.alloc) R p r.value) (fst∗ 𝓤 (never 𝓤) (sem 𝓛 (g.dealloc_token r.alloc (bare (lone R.mir)) null_ptr))) (λ b o e.
+        rest b o h e (spells vs vss.0 vss.1.0 r.at b o h whole first e second) fits)))))
+
+    -- and back
+    pub packs : X → (b o : ℕ) (h : Val) (a : Z.Denot) (x : R.Denot)
+        → Step X 𝓛 (‵ (O.own_val (record { at = block_ptr b o; alloc = a; value = x }) (words b o h ∷ [])) ∷ Γ) G (‵ (box_owns (g.dealloc_token a) R (block_ptr b o) x) ∷ ‵ (Z.own_val a (h ∷ [])) ∷ Γ) G
+    packs t b o h a x = step (λ s.
+        nothing t $ move t (2 ∷ 0 ∷ []) $ fjoin t $ feq_i t (List Val) (vptr b o ∷ []) (vptr b o ∷ []) refl $ fjoin t $ feq_i t (List Val) (words b o h ∷ []) (words b o h ∷ []) refl $ fjoin t $
+        fpack t (Valss (RawPtr ∷ Z ∷ [])) (within (shape (owner.the_type R Z g)) (block_ptr b o, (a, tt)) (words b o h ∷ [])) (vptr b o ∷ [], (h ∷ [], tt)) $ fjoin t $ s)

@@ -1,0 +1,13 @@
+//! Runs scripts on cords.
+#![tactic(auto)]
+
+mod names;
+mod output;
+mod runner;
+mod slot;
+#[cfg(test)]
+mod tests;
+
+pub use cord_meaning::{End, FaultKind};
+pub use output::put_all;
+pub use runner::{run_text, run_unplanned};

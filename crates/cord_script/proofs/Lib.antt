@@ -1,0 +1,11 @@
+pub mod Checked
+pub mod Lines
+pub mod Readings
+pub mod Samples
+pub mod Single
+pub mod Spelled
+pub mod Stated
+pub mod Terms
+pub mod Unique
+pub mod Worded
+pub mod Worked

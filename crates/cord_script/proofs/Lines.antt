@@ -1,0 +1,71 @@
+-- Lines of a script.
+use Rattle.std.proofs.Common.{inl, inr, ◌≡◌, ℕ, zero, suc, List, [], ◌∷◌, ◌++◌, refl, sym, ◌∙◌, ap, subst, append-nil, take, drop, length, arith, Bool, true, false, eqb-true}
+use Rattle.std.proofs.lemmas.Bool.{eqb-false}
+use Rattle.std.specs.Prelude.{All, MatchBool, ◌==◌}
+use Rattle.std.proofs.lemmas.List.{take-append-drop}
+use Rattle.cord_script.specs.Words.{IsSplit, IsBlank, IsIdle, StartsNoBlank}
+
+-- a list in two parts
+pub parts : (n : ℕ) (xs : List ℕ) → xs ≡ take n xs ++ drop n xs
+parts n xs = sym (take-append-drop n xs)
+
+-- nothing is left behind all bytes
+pub drop_whole : (xs : List ℕ) → drop (length xs) xs ≡ []
+drop_whole [] = refl
+drop_whole (x ∷ xs) = drop_whole xs
+
+-- no bytes are no lines
+pub split_nil : (lines : List (List ℕ)) → IsSplit [] lines → lines ≡ []
+split_nil [] h = refl
+split_nil ([] ∷ lines) (n, inl h) = absurd (h.1 refl)
+split_nil ([] ∷ lines) (n, inr h) = cc
+split_nil ((c ∷ cs) ∷ lines) (n, inl h) = cc
+split_nil ((c ∷ cs) ∷ lines) (n, inr h) = cc
+
+-- a note is no statement
+pub idle_note : (line inner : List ℕ) (b : ℕ) → drop b line ≡ 35 ∷ inner → All IsBlank (take b line) → IsIdle line
+idle_note line inner b e h = inr (take b line, inner, h, parts b line ∙ ap (λ x. take b line ++ x) e)
+
+-- a line of blanks
+pub all_blank : (line : List ℕ) (b : ℕ) → drop b line ≡ [] → All IsBlank (take b line) → All IsBlank line
+all_blank line b e h = subst (All IsBlank) (sym (parts b line ∙ ap (λ x. take b line ++ x) e ∙ append-nil (take b line))) h
+
+-- the first and the others of a list of which this holds
+pub head_of : (P : ℕ → Type 0) (x : ℕ) (xs : List ℕ) → All P (x ∷ xs) → P x
+head_of P x xs h = h zero x (omega arith)
+
+pub tail_of : (P : ℕ → Type 0) (x : ℕ) (xs : List ℕ) → All P (x ∷ xs) → All P xs
+tail_of P x xs h = λ k d lt. h (suc k) d (omega arith)
+
+-- a byte that is no blank
+pub not_all_blank : (front rest : List ℕ) (c : ℕ) → All IsBlank (front ++ c ∷ rest) → ¬ IsBlank c → ⊥
+not_all_blank [] rest c h n = n (head_of IsBlank c rest h)
+not_all_blank (x ∷ xs) rest c h n = not_all_blank xs rest c (tail_of IsBlank x (xs ++ c ∷ rest) h) n
+
+-- the blanks at the front end at one place
+pub one_front : (f g : List ℕ) (c d : ℕ) (r s : List ℕ) → All IsBlank f → ¬ IsBlank c → All IsBlank g → ¬ IsBlank d → f ++ c ∷ r ≡ g ++ d ∷ s → (f ≡ g) × (c ≡ d) × (r ≡ s)
+one_front [] [] c d r s hf nc hg nd e = (refl, cc, cc)
+one_front [] (y ∷ g) c d r s hf nc hg nd e = let same : y ≡ c = cc in absurd (nc (subst IsBlank same (head_of IsBlank y g hg)))
+one_front (x ∷ f) [] c d r s hf nc hg nd e = let same : x ≡ d = cc in absurd (nd (subst IsBlank same (head_of IsBlank x f hf)))
+one_front (x ∷ f) (y ∷ g) c d r s hf nc hg nd e =
+    let rest : f ++ c ∷ r ≡ g ++ d ∷ s = cc in
+    let t = one_front f g c d r s (tail_of IsBlank x f hf) nc (tail_of IsBlank y g hg) nd rest in
+    let same : x ≡ y = cc in
+    (let fs = t.0 in cc, t.1, t.2)
+
+-- `#` is no blank
+pub note_shows : ¬ IsBlank 35
+note_shows = λ h. elim h [ inl e ↦ omega arith | inr k ↦ elim k [ inl e ↦ omega arith | inr e ↦ omega arith ] ]
+
+note_by : (line inner : List ℕ) (b c : ℕ) (x : Bool) → (c == 35) ≡ x → drop b line ≡ c ∷ inner → All IsBlank (take b line) → ¬ IsBlank c → MatchBool x (IsIdle line) (¬ IsIdle line)
+note_by line inner b c true t e h s = idle_note line inner b (e ∙ ap (λ k. k ∷ inner) (eqb-true c 35 t)) h
+note_by line inner b c false t e h s =
+    let whole : line ≡ take b line ++ c ∷ inner = parts b line ∙ ap (λ k. take b line ++ k) e in
+    λ idle. elim idle [
+      | inl all ↦ not_all_blank (take b line) inner c (subst (All IsBlank) whole all) s
+      | inr note ↦ eqb-false c 35 t ((one_front (take b line) note.0 c 35 inner note.1 h s note.2 note_shows (sym whole ∙ note.3)).1)
+    ]
+
+-- a line whose first other byte isn't `#` says something
+pub is_note : (line inner : List ℕ) (b c : ℕ) → drop b line ≡ c ∷ inner → All IsBlank (take b line) → StartsNoBlank (drop b line) → MatchBool (c == 35) (IsIdle line) (¬ IsIdle line)
+is_note line inner b c e h s = note_by line inner b c (c == 35) refl e h (subst StartsNoBlank e s)

@@ -1,0 +1,162 @@
+-- The lines of a script and what they say, one after the other.
+use Rattle.std.proofs.Common.{inl, inr, Some, None, ◌≡◌, ◌≢◌, ◌≤◌, ◌<◌, ◌+◌, ℕ, zero, suc, List, [], ◌∷◌, ◌++◌, refl, sym, ◌∙◌, ap, subst, append_assoc, append-nil, length, length-append, arith, get_or, Bool, true, false, eqb-true}
+use Rattle.std.specs.Prelude.{All, ◌==◌}
+use Rattle.std.proofs.lemmas.Bool.{eqb-false}
+use Rattle.cord_script.specs.declared.TheConstants.{MAX_SCRIPT, MAX_LINES}
+use Rattle.cord_script.specs.declared.table.Known.{Known}
+use Rattle.cord_script.specs.declared.words.Word.{Word}
+use Rattle.cord_script.specs.declared.statements.Statement.{Statement}
+use Rattle.cord_script.specs.declared.refusals.RefusalKind.{RefusalKind}
+use Rattle.cord_script.specs.declared.refusals.RefusalKind.TheVariants.{TooBig}
+use Rattle.cord_script.specs.Words.{IsSplit, IsIdle, HasWords}
+use Rattle.cord_script.specs.Forms.{Grammar, line_of}
+use Rattle.cord_script.specs.Script.{Before, ReadsBy, Says, LinesSay, spoken, start, after, after_all}
+use Rattle.cord_script.specs.Flaws.{FlawBy, HasBadLine}
+use Rattle.cord_script.specs.Passes.{before_with}
+use Rattle.cord_script.specs.Steps.{Takes, HasWrong, HasRead}
+
+all_more_at : {X : Type 0} (P : X → Type 0) (x : X) (xs : List X) → P x → All P xs → (k : ℕ) (d : X) → k < length (x ∷ xs) → P (get_or (x ∷ xs) k d)
+all_more_at P x xs p h zero d lt = p
+all_more_at P x xs p h (suc k) d lt = h k d (omega arith)
+
+-- one more in front
+all_more : {X : Type 0} (P : X → Type 0) (x : X) (xs : List X) → P x → All P xs → All P (x ∷ xs)
+all_more P x xs p h = λ k d lt. all_more_at P x xs p h k d lt
+
+-- a byte in front of lines
+with_byte : (c : ℕ) (cs : List ℕ) (lines : List (List ℕ)) → c ≢ 10 → IsSplit cs lines → (more : List (List ℕ)) × IsSplit (c ∷ cs) more
+with_byte c cs [] n h = ((c ∷ []) ∷ [], (all_more (λ x. x ≢ 10) c [] n (λ k d lt. absurd (omega arith)), inl (refl, (λ e. cc), ap (λ x. c ∷ x) h)))
+with_byte c cs (l ∷ ls) n (all, inl h) = ((c ∷ l) ∷ ls, (all_more (λ x. x ≢ 10) c l n all, inl (h.0, (λ e. cc), ap (λ x. c ∷ x) h.2)))
+with_byte c cs (l ∷ ls) n (all, inr h) = ((c ∷ l) ∷ ls, (all_more (λ x. x ≢ 10) c l n all, inr (h.0, ap (λ x. c ∷ x) h.1, h.2)))
+
+line_by : (c : ℕ) (cs : List ℕ) (x : Bool) (lines : List (List ℕ)) → (c == 10) ≡ x → IsSplit cs lines → (more : List (List ℕ)) × IsSplit (c ∷ cs) more
+line_by c cs true lines e h = ([] ∷ lines, ((λ k d lt. absurd (omega arith)), inr (cs, ap (λ k. k ∷ cs) (eqb-true c 10 e), h)))
+line_by c cs false lines e h = with_byte c cs lines (eqb-false c 10 e) h
+
+-- each text has lines
+pub some_lines : (b : List ℕ) → (lines : List (List ℕ)) × IsSplit b lines
+some_lines [] = ([], refl)
+some_lines (c ∷ cs) = let r = some_lines cs in line_by c cs (c == 10) r.0 refl r.1
+
+-- what statements in a row leave
+pub after_push : (ss more : List Statement) (before : Before) → after_all (ss ++ more) before ≡ after_all more (after_all ss before)
+after_push [] more before = refl
+after_push (s ∷ ss) more before = after_push ss more (after s before)
+
+-- one more line that says nothing
+pub says_idle : (g : Grammar) (n : ℕ) (before : Before) (front : List (List ℕ)) (line : List ℕ) (ss : List Statement) → LinesSay g n before front ss → IsIdle line → LinesSay g n before (front ++ line ∷ []) ss
+says_idle g n before [] line ss h idle = inl (idle, h)
+says_idle g n before (x ∷ front) line ss (inl h) idle = inl (h.0, says_idle g (n + 1) before front line ss h.1 idle)
+says_idle g n before (x ∷ front) line ss (inr h) idle =
+    inr (h.0, h.1, h.2, h.3, h.4, h.5, h.6, says_idle g (n + 1) (after h.1 before) front line h.3 h.7 idle)
+
+-- one more line that says a statement
+pub says_more : (g : Grammar) (n m : ℕ) (before : Before) (front : List (List ℕ)) (line : List ℕ) (ss : List Statement) (s : Statement) (words : List Word) → LinesSay g n before front ss → m ≡ n + length front → ¬ IsIdle line → HasWords line words → Says g m (after_all ss before) words s → LinesSay g n before (front ++ line ∷ []) (ss ++ s ∷ [])
+says_more g n m before [] line ss s words h e shows hw says =
+    let same : m ≡ n = omega arith in
+    inr (shows, s, words, [], ap (λ x. x ++ s ∷ []) h, hw, subst (λ k. Says g k before words s) same (subst (λ x. Says g m (after_all x before) words s) h says), refl)
+says_more g n m before (x ∷ front) line ss s words (inl h) e shows hw says =
+    inl (h.0, says_more g (n + 1) m before front line ss s words h.1 (omega arith) shows hw says)
+says_more g n m before (x ∷ front) line ss s words (inr h) e shows hw says =
+    inr (
+      h.0,
+      h.1,
+      h.2,
+      h.3 ++ s ∷ [],
+      ap (λ x. x ++ s ∷ []) h.4,
+      h.5,
+      h.6,
+      says_more g (n + 1) m (after h.1 before) front line h.3 s words h.7 (omega arith) shows hw (subst (λ x. Says g m (after_all x before) words s) h.4 says),
+    )
+
+-- a line that was read is one of the lines in front
+pub reads_line : (b rest behind line : List ℕ) (n : ℕ) (old new : List Known) (ss grown : List Statement) → HasRead b rest n old ss → ((lines : List (List ℕ)) → IsSplit behind lines → IsSplit rest (line ∷ lines)) → Takes n line old new ss grown → HasRead b behind (n + 1) new grown
+reads_line b rest behind line n old new ss grown r first (None, t, e) =
+    let same : grown ≡ ss = e ∙ append-nil ss in
+    record {
+      front = r.front ++ line ∷ [];
+      split = λ later h. subst (IsSplit b) (sym (append_assoc r.front (line ∷ []) later)) (r.split (line ∷ later) (first later h));
+      say = subst (LinesSay spoken 1 start (r.front ++ line ∷ [])) (sym same) (says_idle spoken 1 start r.front line ss r.say t.0);
+      number = omega (arith, r.number, length-append r.front (line ∷ []));
+      leaves = ap (λ x. after_all x start) same ∙ r.leaves ∙ ap before_with (sym t.1);
+    }
+reads_line b rest behind line n old new ss grown r first (Some s, t, e) =
+    let before : after_all ss start ≡ before_with old = r.leaves in
+    record {
+      front = r.front ++ line ∷ [];
+      split = λ later h. subst (IsSplit b) (sym (append_assoc r.front (line ∷ []) later)) (r.split (line ∷ later) (first later h));
+      say = subst (LinesSay spoken 1 start (r.front ++ line ∷ [])) (sym e) (says_more spoken 1 n start r.front line ss s t.1 r.say (omega (arith, r.number)) t.0 t.2 (subst (λ x. Says spoken n x t.1 s) (sym before) t.3.says));
+      number = omega (arith, r.number, length-append r.front (line ∷ []));
+      leaves = ap (λ x. after_all x start) e ∙ after_push ss (s ∷ []) start ∙ ap (after s) before ∙ t.3.leaves;
+    }
+
+-- a line that is too much, or wrong
+pub stops : (b rest behind line : List ℕ) (n : ℕ) (names : List Known) (ss : List Statement) (kind : RefusalKind) → length b ≤ MAX_SCRIPT → HasRead b rest n names ss → ((lines : List (List ℕ)) → IsSplit behind lines → IsSplit rest (line ∷ lines)) → HasBadLine spoken n (before_with names) line kind → FlawBy spoken b n kind
+stops b rest behind line n names ss kind small r first wrong =
+    let later = some_lines behind in
+    inr (inl (record {
+      size = small;
+      front = r.front;
+      line = line;
+      later = later.0;
+      split = r.split (line ∷ later.0) (first later.0 later.1);
+      number = r.number;
+      statements = ss;
+      say = r.say;
+      wrong = subst (λ x. HasBadLine spoken n x line kind) (sym r.leaves) wrong;
+    }))
+
+too_many_by : (b rest : List ℕ) (n : ℕ) (names : List Known) (ss : List Statement) (lines : List (List ℕ)) → length b ≤ MAX_SCRIPT → HasRead b rest n names ss → rest ≢ [] → n ≡ MAX_LINES + 1 → IsSplit rest lines → FlawBy spoken b n TooBig
+too_many_by b rest n names ss [] small r some e h = absurd (some h)
+too_many_by b rest n names ss (line ∷ later) small r some e h =
+    inr (inl (record {
+      size = small;
+      front = r.front;
+      line = line;
+      later = later;
+      split = r.split (line ∷ later) h;
+      number = r.number;
+      statements = ss;
+      say = r.say;
+      wrong = inl (e, refl);
+    }))
+
+-- more lines than there may be
+pub too_many : (b rest : List ℕ) (n : ℕ) (names : List Known) (ss : List Statement) → length b ≤ MAX_SCRIPT → HasRead b rest n names ss → rest ≢ [] → n ≡ MAX_LINES + 1 → FlawBy spoken b n TooBig
+too_many b rest n names ss small r some e = let later = some_lines rest in too_many_by b rest n names ss later.0 small r some e later.1
+
+-- a line that is wrong
+pub is_wrong : (n : ℕ) (line : List ℕ) (names : List Known) (kind : RefusalKind) → n ≤ MAX_LINES → HasWrong line names kind → HasBadLine spoken n (before_with names) line kind
+is_wrong n line names kind few h = inr (few, h.0, h.1)
+
+-- the bytes are these statements, where no line is left
+pub read_whole : (b rest : List ℕ) (n : ℕ) (names : List Known) (ss : List Statement) → length b ≤ MAX_SCRIPT → n ≤ MAX_LINES + 1 → rest ≡ [] → HasRead b rest n names ss → ReadsBy spoken b ss
+read_whole b rest n names ss small few e r = record {
+  size = small;
+  lines = r.front;
+  split = subst (IsSplit b) (append-nil r.front) (r.split [] e);
+  count = omega (arith, r.number);
+  say = r.say;
+  closed = ap (λ x. x.blocks) r.leaves;
+}
+
+-- nothing is left
+pub no_bytes : (xs : List ℕ) → length xs ≡ 0 → xs ≡ []
+no_bytes [] e = refl
+no_bytes (x ∷ xs) e = absurd (omega arith)
+
+-- something is left
+pub some_bytes : (xs : List ℕ) → (length xs == 0) ≡ false → xs ≢ []
+some_bytes xs h e = eqb-false (length xs) 0 h (ap length e)
+
+-- one more statement with a number
+pub numbered_push : (ss : List Statement) (s : Statement) → All (λ x. 1 ≤ line_of x) ss → 1 ≤ line_of s → All (λ x. 1 ≤ line_of x) (ss ++ s ∷ [])
+numbered_push [] s h l = all_more (λ x. 1 ≤ line_of x) s [] l h
+numbered_push (x ∷ xs) s h l = all_more (λ y. 1 ≤ line_of y) x (xs ++ s ∷ []) (h zero x (omega arith)) (numbered_push xs s (λ k d lt. h (suc k) d (omega arith)) l)
+
+-- what a line adds has its number
+pub numbered_line : (n : ℕ) (line : List ℕ) (old new : List Known) (ss grown : List Statement) → 1 ≤ n → All (λ x. 1 ≤ line_of x) ss → Takes n line old new ss grown → All (λ x. 1 ≤ line_of x) grown
+numbered_line n line old new ss grown one h (None, t, e) = subst (All (λ x. 1 ≤ line_of x)) (sym (e ∙ append-nil ss)) h
+numbered_line n line old new ss grown one h (Some s, t, e) =
+    let own : 1 ≤ line_of s = omega (arith, t.3.says.line) in
+    subst (All (λ x. 1 ≤ line_of x)) (sym e) (numbered_push ss s h own)

@@ -1,0 +1,151 @@
+-- Small texts with their words.
+use Rattle.std.proofs.Common.{inl, inr, ◌≡◌, ◌≢◌, ◌<◌, ℕ, zero, suc, List, [], ◌∷◌, ◌++◌, Bool, true, false, refl, sym, ◌∙◌, ap, length, get_or, arith, eqb-true}
+use Rattle.std.specs.Prelude.{All, ◌==◌, ◌&&◌, ◌||◌, not, nat_le}
+use Rattle.std.proofs.lemmas.Bool.{eqb-false, ne_eqb, leb-true}
+use Rattle.cord_script.specs.declared.TheConstants.{MAX_TEXT}
+use Rattle.cord_script.specs.declared.words.Word.{Word}
+use Rattle.cord_script.specs.declared.words.Word.TheVariants.{Plain, Quoted}
+use Rattle.cord_script.specs.Words.{IsSplit, IsBlank, IsIdle, IsPlain, EndsPlain, Stands, Spells, HasWords, StartsWith}
+use Rattle.cord_script.specs.Tests.{each}
+use Rattle.cord_script.proofs.Spelled.{both}
+use Rattle.cord_script.proofs.Lines.{one_front, head_of, note_shows}
+use Rattle.cord_script.proofs.Unique.{not_true}
+use Rattle.cord_script.proofs.Terms.{either}
+
+-- a word with the blanks in front of it: a plain one, a quoted one without escapes
+pub data Chunk : Type 0 where
+  Bare : List ℕ → List ℕ → Chunk
+  Marked : List ℕ → List ℕ → Chunk
+
+abbrev pub spelled : List Chunk → List ℕ
+spelled [] = []
+spelled (Bare front p ∷ cs) = front ++ p ++ spelled cs
+spelled (Marked front t ∷ cs) = front ++ 34 ∷ t ++ 34 ∷ spelled cs
+
+abbrev pub chunk_words : List Chunk → List Word
+chunk_words [] = []
+chunk_words (Bare front p ∷ cs) = Plain p ∷ chunk_words cs
+chunk_words (Marked front t ∷ cs) = Quoted t ∷ chunk_words cs
+
+abbrev pub blank : ℕ → Bool
+blank c = (c == 32) || (c == 9) || (c == 13)
+
+abbrev pub bare : ℕ → Bool
+bare c = not (blank c) && not (c == 34)
+
+abbrev pub own : ℕ → Bool
+own c = not (c == 34) && not (c == 92)
+
+abbrev pub some : List ℕ → Bool
+some [] = false
+some (c ∷ cs) = true
+
+abbrev pub ends : List ℕ → Bool
+ends [] = true
+ends (c ∷ cs) = not (bare c)
+
+abbrev pub well : List Chunk → Bool
+well [] = true
+well (Bare front p ∷ cs) = each blank front && (some p && (each bare p && (ends (spelled cs) && well cs)))
+well (Marked front t ∷ cs) = each blank front && (each own t && (nat_le (length t) MAX_TEXT && well cs))
+
+all_at : (P : ℕ → Type 0) (x : ℕ) (xs : List ℕ) → P x → All P xs → (k d : ℕ) → k < length (x ∷ xs) → P (get_or (x ∷ xs) k d)
+all_at P x xs p h zero d lt = p
+all_at P x xs p h (suc k) d lt = h k d (omega arith)
+
+-- what a test tells of each byte
+all_by : (test : ℕ → Bool) (P : ℕ → Type 0) → ((c : ℕ) → test c ≡ true → P c) → (xs : List ℕ) → each test xs ≡ true → All P xs
+all_by test P f [] h = λ k d lt. absurd (omega arith)
+all_by test P f (x ∷ xs) h =
+    let p = both (test x) (each test xs) h in
+    λ k d lt. all_at P x xs (f x p.0) (all_by test P f xs p.1) k d lt
+
+true_not : (x : Bool) → not x ≡ true → x ≡ false
+true_not true h = cc
+true_not false h = refl
+
+blank_is : (c : ℕ) → blank c ≡ true → IsBlank c
+blank_is c h = elim (either ((c == 32) || (c == 9)) (c == 13) h) [
+  | inl p ↦ elim (either (c == 32) (c == 9) p) [ inl q ↦ inl (eqb-true c 32 q) | inr q ↦ inr (inl (eqb-true c 9 q)) ]
+  | inr p ↦ inr (inr (eqb-true c 13 p))
+]
+
+is_blank : (c : ℕ) → IsBlank c → blank c ≡ true
+is_blank c h = elim h [
+  | inl e ↦ ap blank e
+  | inr k ↦ elim k [ inl e ↦ ap blank e | inr e ↦ ap blank e ]
+]
+
+bare_is : (c : ℕ) → bare c ≡ true → IsPlain c
+bare_is c h =
+    let p = both (not (blank c)) (not (c == 34)) h in
+    let n = true_not (blank c) p.0 in
+    ((λ b. let clash : true ≡ false = sym (is_blank c b) ∙ n in cc), eqb-false c 34 (true_not (c == 34) p.1))
+
+both_not : (x y : Bool) → x ≡ false → y ≡ false → (not x && not y) ≡ true
+both_not false false p q = refl
+both_not _ _ p q = cc
+
+is_bare : (c : ℕ) → IsPlain c → bare c ≡ true
+is_bare c h = both_not (blank c) (c == 34) (not_true (blank c) (λ t. h.0 (blank_is c t))) (ne_eqb c 34 h.1)
+
+own_stands : (c : ℕ) → own c ≡ true → Stands (c ∷ []) c
+own_stands c h =
+    let p = both (not (c == 34)) (not (c == 92)) h in
+    inl (refl, eqb-false c 34 (true_not (c == 34) p.0), eqb-false c 92 (true_not (c == 92) p.1))
+
+own_spells : (t : List ℕ) → each own t ≡ true → Spells t t
+own_spells [] h = refl
+own_spells (c ∷ t) h =
+    let p = both (own c) (each own t) h in
+    (c ∷ [], t, refl, own_stands c p.0, own_spells t p.1)
+
+some_is : (p : List ℕ) → some p ≡ true → p ≢ []
+some_is [] h e = cc
+some_is (c ∷ cs) h e = cc
+
+ends_is : (rest : List ℕ) → ends rest ≡ true → EndsPlain rest
+ends_is [] h = tt
+ends_is (c ∷ cs) h = λ plain. let clash : true ≡ false = sym (is_bare c plain) ∙ true_not (bare c) h in cc
+
+starts_well : (cs : List Chunk) → well cs ≡ true → StartsWith (spelled cs) (chunk_words cs) []
+starts_well [] h = refl
+starts_well (Bare front p ∷ cs) h =
+    let a = both (each blank front) (some p && (each bare p && (ends (spelled cs) && well cs))) h in
+    let b = both (some p) (each bare p && (ends (spelled cs) && well cs)) a.1 in
+    let c = both (each bare p) (ends (spelled cs) && well cs) b.1 in
+    let d = both (ends (spelled cs)) (well cs) c.1 in
+    (spelled cs, (front, all_by blank IsBlank blank_is front a.0, refl, some_is p b.0, all_by bare IsPlain bare_is p c.0, ends_is (spelled cs) d.0), starts_well cs d.1)
+starts_well (Marked front t ∷ cs) h =
+    let a = both (each blank front) (each own t && (nat_le (length t) MAX_TEXT && well cs)) h in
+    let b = both (each own t) (nat_le (length t) MAX_TEXT && well cs) a.1 in
+    let c = both (nat_le (length t) MAX_TEXT) (well cs) b.1 in
+    (spelled cs, (front, t, all_by blank IsBlank blank_is front a.0, refl, own_spells t b.0, leb-true (length t) MAX_TEXT c.0), starts_well cs c.1)
+
+-- chunks have their words
+pub words_well : (cs : List Chunk) → well cs ≡ true → HasWords (spelled cs) (chunk_words cs)
+words_well cs h = ([], starts_well cs h, λ k d lt. absurd (omega arith))
+
+-- a line that begins with no blank and no `#` says something
+pub not_idle : (c : ℕ) (rest : List ℕ) → blank c ≡ false → (c == 35) ≡ false → ¬ IsIdle (c ∷ rest)
+not_idle c rest b n idle =
+    let shows : ¬ IsBlank c = λ k. (let clash : true ≡ false = sym (is_blank c k) ∙ b in cc) in
+    elim idle [
+      | inl all ↦ shows (head_of IsBlank c rest all)
+      | inr note ↦ eqb-false c 35 n ((one_front [] note.0 c 35 rest note.1 (λ k d lt. absurd (omega arith)) shows note.2 note_shows note.3).1)
+    ]
+
+-- no byte 10
+abbrev pub no_end : ℕ → Bool
+no_end c = not (c == 10)
+
+pub in_line : (l : List ℕ) → each no_end l ≡ true → All (λ c. c ≢ 10) l
+in_line l h = all_by no_end (λ c. c ≢ 10) (λ c t. eqb-false c 10 (true_not (c == 10) t)) l h
+
+-- the last line
+pub last_line : (l : List ℕ) → each no_end l ≡ true → some l ≡ true → IsSplit l (l ∷ [])
+last_line l h s = (in_line l h, inl (refl, some_is l s, refl))
+
+-- a line in front of others
+pub more_lines : (l rest : List ℕ) (ls : List (List ℕ)) → each no_end l ≡ true → IsSplit rest ls → IsSplit (l ++ 10 ∷ rest) (l ∷ ls)
+more_lines l rest ls h s = (in_line l h, inr (rest, refl, s))

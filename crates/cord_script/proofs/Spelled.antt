@@ -1,0 +1,114 @@
+-- Quoted words and what they stand for.
+use Rattle.std.proofs.Common.{inl, inr, Some, None, ◌≡◌, ◌+◌, ◌-◌, ◌*◌, ◌⊎◌, ℕ, List, [], ◌∷◌, ◌++◌, Bool, true, false, refl, sym, ◌∙◌, ap, append_assoc, append-nil, arith, eqb-true}
+use Rattle.std.specs.Prelude.{Option, ◌==◌, ◌&&◌, nat_le, if◌then◌else◌}
+use Rattle.std.proofs.lemmas.Option.{same_Some}
+use Rattle.std.proofs.lemmas.Bool.{leb-true, eqb-false}
+use Rattle.cord_script.specs.Words.{Stands, Spells, HexDigit}
+use Rattle.cord_script.specs.Reading.{digit_of, byte_of, hex_of, escape_of, unit_of}
+
+-- which of two values was chosen
+pub chosen : {A : Type 0} (x : Bool) (p q z : A) → (if x then p else q) ≡ z → ((x ≡ true) × (p ≡ z)) ⊎ ((x ≡ false) × (q ≡ z))
+chosen true p q z h = inl (refl, h)
+chosen false p q z h = inr (refl, h)
+
+-- both tests hold
+pub both : (x y : Bool) → (x && y) ≡ true → (x ≡ true) × (y ≡ true)
+both true true h = (refl, refl)
+both true false h = cc
+both false y h = cc
+
+-- one more byte
+pub spells_push : (w u t : List ℕ) (b : ℕ) → Spells w t → Stands u b → Spells (w ++ u) (t ++ b ∷ [])
+spells_push w u [] b h s = (u, [], ap (λ x. x ++ u) h ∙ sym (append-nil u), s, refl)
+spells_push w u (c ∷ t) b h s = (h.0, h.1 ++ u, ap (λ x. x ++ u) h.2 ∙ append_assoc h.0 h.1 u, h.3, spells_push h.1 u t b h.4 s)
+
+-- the same pair
+pub same_pair : (p q : ℕ × List ℕ) → Some p ≡ Some q → (p.0 ≡ q.0) × (p.1 ≡ q.1)
+same_pair p q h =
+    let e = same_Some p q h in
+    (ap (λ r. r.0) e, ap (λ r. r.1) e)
+
+-- a digit has its value
+pub digit_stands : (c v : ℕ) → digit_of c ≡ Some v → HexDigit c v
+digit_stands c v h = elim (chosen (nat_le 48 c && nat_le c 57) (Some (c - 48)) (if nat_le 97 c && nat_le c 102 then Some (c - 87) else (if nat_le 65 c && nat_le c 70 then Some (c - 55) else None)) (Some v) h) [
+  | inl x ↦ let t = both (nat_le 48 c) (nat_le c 57) x.0 in
+      let low = leb-true 48 c t.0 in
+      let high = leb-true c 57 t.1 in
+      let same = same_Some (c - 48) v x.1 in
+      inl (low, high, omega arith)
+  | inr x ↦ elim (chosen (nat_le 97 c && nat_le c 102) (Some (c - 87)) (if nat_le 65 c && nat_le c 70 then Some (c - 55) else None) (Some v) x.1) [
+    | inl y ↦ let t = both (nat_le 97 c) (nat_le c 102) y.0 in
+        let low = leb-true 97 c t.0 in
+        let high = leb-true c 102 t.1 in
+        let same = same_Some (c - 87) v y.1 in
+        inr (inl (low, high, omega arith))
+    | inr y ↦ elim (chosen (nat_le 65 c && nat_le c 70) (Some (c - 55)) None (Some v) y.1) [
+      | inl z ↦ let t = both (nat_le 65 c) (nat_le c 70) z.0 in
+          let low = leb-true 65 c t.0 in
+          let high = leb-true c 70 t.1 in
+          let same = same_Some (c - 55) v z.1 in
+          inr (inr (low, high, omega arith))
+      | inr z ↦ absurd (let e = z.1 in cc)
+    ]
+  ]
+]
+
+byte_stands : (high low : Option ℕ) (h l : ℕ) (rest v : List ℕ) (b : ℕ) → digit_of h ≡ high → digit_of l ≡ low → byte_of high low rest ≡ Some (b, v) → (x y : ℕ) × (rest ≡ v) × HexDigit h x × HexDigit l y × (b ≡ 16 * x + y)
+byte_stands None low h l rest v b eh el e = cc
+byte_stands (Some x) None h l rest v b eh el e = cc
+byte_stands (Some x) (Some y) h l rest v b eh el e =
+    let p = same_pair (16 * x + y, rest) (b, v) e in
+    (x, y, p.1, digit_stands h x eh, digit_stands l y el, sym p.0)
+
+-- two hexadecimal digits are read as what they stand for
+pub hex_stands : (rest v : List ℕ) (b : ℕ) → hex_of rest ≡ Some (b, v) → (h l x y : ℕ) × (rest ≡ h ∷ l ∷ v) × HexDigit h x × HexDigit l y × (b ≡ 16 * x + y)
+hex_stands [] v b h = cc
+hex_stands (c ∷ []) v b h = cc
+hex_stands (c ∷ d ∷ rest) v b h =
+    let r = byte_stands (digit_of c) (digit_of d) c d rest v b refl refl h in
+    (c, d, r.0, r.1, ap (λ z. c ∷ d ∷ z) r.2, r.3, r.4, r.5)
+
+-- the escape of a byte for itself
+one_escape : (c d : ℕ) (rest v : List ℕ) → c ≡ d → rest ≡ v → 92 ∷ c ∷ rest ≡ (92 ∷ d ∷ []) ++ v
+one_escape c d rest v e r = ap (λ z. 92 ∷ z ∷ rest) e ∙ ap (λ z. 92 ∷ d ∷ z) r
+
+-- an escape is read as what it stands for
+pub escape_stands : (rest v : List ℕ) (b : ℕ) → escape_of rest ≡ Some (b, v) → (u : List ℕ) × (92 ∷ rest ≡ u ++ v) × Stands u b
+escape_stands [] v b h = cc
+escape_stands (c ∷ rest) v b h = elim (chosen (c == 92) (Some (92, rest)) _ (Some (b, v)) h) [
+  | inl x ↦ let p = same_pair (92, rest) (b, v) x.1 in
+      (92 ∷ 92 ∷ [], one_escape c 92 rest v (eqb-true c 92 x.0) p.1, inr (inl (refl, sym p.0)))
+  | inr x ↦ elim (chosen (c == 34) (Some (34, rest)) _ (Some (b, v)) x.1) [
+    | inl y ↦ let p = same_pair (34, rest) (b, v) y.1 in
+        (92 ∷ 34 ∷ [], one_escape c 34 rest v (eqb-true c 34 y.0) p.1, inr (inr (inl (refl, sym p.0))))
+    | inr y ↦ elim (chosen (c == 110) (Some (10, rest)) _ (Some (b, v)) y.1) [
+      | inl z ↦ let p = same_pair (10, rest) (b, v) z.1 in
+          (92 ∷ 110 ∷ [], one_escape c 110 rest v (eqb-true c 110 z.0) p.1, inr (inr (inr (inl (refl, sym p.0)))))
+      | inr z ↦ elim (chosen (c == 116) (Some (9, rest)) _ (Some (b, v)) z.1) [
+        | inl q ↦ let p = same_pair (9, rest) (b, v) q.1 in
+            (92 ∷ 116 ∷ [], one_escape c 116 rest v (eqb-true c 116 q.0) p.1, inr (inr (inr (inr (inl (refl, sym p.0))))))
+        | inr q ↦ elim (chosen (c == 120) (hex_of rest) None (Some (b, v)) q.1) [
+          | inl r ↦ let s = hex_stands rest v b r.1 in (
+            92 ∷ 120 ∷ s.0 ∷ s.1 ∷ [],
+            ap (λ k. 92 ∷ k ∷ rest) (eqb-true c 120 r.0) ∙ ap (λ k. 92 ∷ 120 ∷ k) s.4,
+            inr (inr (inr (inr (inr (s.0, s.1, s.2, s.3, refl, s.5, s.6, s.7))))),
+          )
+          | inr r ↦ absurd (let e = r.1 in cc)
+        ]
+      ]
+    ]
+  ]
+]
+
+-- what is read at the front stands for its byte
+pub unit_stands : (bytes v : List ℕ) (b : ℕ) → unit_of bytes ≡ Some (b, v) → (u : List ℕ) × (bytes ≡ u ++ v) × Stands u b
+unit_stands [] v b h = cc
+unit_stands (c ∷ rest) v b h = elim (chosen (c == 92) (escape_of rest) _ (Some (b, v)) h) [
+  | inl x ↦ let s = escape_stands rest v b x.1 in
+      (s.0, ap (λ k. k ∷ rest) (eqb-true c 92 x.0) ∙ s.1, s.2)
+  | inr x ↦ elim (chosen (c == 34) None (Some (c, rest)) (Some (b, v)) x.1) [
+    | inl y ↦ absurd (let e = y.1 in cc)
+    | inr y ↦ let p = same_pair (c, rest) (b, v) y.1 in
+        (b ∷ [], ap (λ k. k ∷ rest) p.0 ∙ ap (λ k. b ∷ k) p.1, inl (refl, (λ e. eqb-false c 34 y.0 (p.0 ∙ e)), (λ e. eqb-false c 92 x.0 (p.0 ∙ e))))
+  ]
+]

@@ -1,0 +1,260 @@
+-- What a word says, and what it has to be: one term for each want, and no misfit.
+use Rattle.std.proofs.Common.{inl, inr, Some, None, ◌≡◌, ◌≢◌, ◌<◌, ℕ, suc, List, [], ◌∷◌, Bool, true, false, refl, sym, ◌∙◌, ap, length, arith, eqb-true}
+use Rattle.std.specs.Prelude.{Option, ◌⊎◌, ◌==◌, ◌&&◌, ◌||◌, nat_le, nat_lt, is_some, map, if◌then◌else◌, ℤ, pos, ◌^◌}
+use Rattle.std.proofs.lemmas.Bool.{leb-true, le-leb, ne_eqb}
+use Rattle.cord_script.specs.declared.TheConstants.{MAX_NAMES, MAX_PATHS}
+use Rattle.cord_script.specs.declared.kinds.Kind.{Kind}
+use Rattle.cord_script.specs.declared.kinds.Kind.TheVariants as kinds
+use Rattle.cord_script.specs.declared.kinds.Want.{Want}
+use Rattle.cord_script.specs.declared.kinds.Want.TheVariants as wants
+use Rattle.cord_script.specs.declared.operands.Number.{Number}
+use Rattle.cord_script.specs.declared.operands.Number.TheVariants.{Numeral, Named}
+use Rattle.cord_script.specs.declared.operands.Function.{Function}
+use Rattle.cord_script.specs.declared.operands.Function.TheVariants.{Digits, Bytes}
+use Rattle.cord_script.specs.declared.operands.Relation.{Relation}
+use Rattle.cord_script.specs.declared.operands.Relation.TheVariants.{Less, Equal, Greater}
+use Rattle.cord_script.specs.declared.table.Known.{Known}
+use Rattle.cord_script.specs.declared.words.Word.{Word}
+use Rattle.cord_script.specs.declared.words.Word.TheVariants.{Plain}
+use Rattle.cord_script.specs.declared.refusals.RefusalKind.{RefusalKind}
+use Rattle.cord_script.specs.declared.refusals.RefusalKind.TheVariants.{BadName, BadNumber, WrongKind, TooMany}
+use Rattle.cord_script.specs.Tests.{is_digit, is_letter, is_name, each, are_digits, number_after, begins_numeral, numeral_of, function_word, relation_word}
+use Rattle.cord_script.specs.Forms.{Term}
+use Rattle.cord_script.specs.Forms.Term.{Target, Operand, Value, Literal, FilePath, Applies, Compares, Formats}
+use Rattle.cord_script.specs.Script.{Before, kind_of, is_among, IsTerm, AreTerms, IsAllowed, AreAllowed}
+use Rattle.cord_script.specs.Flaws.{first_of, unless, misfit, first_pair, kind_flaw, same_kind, operand_flaw, number_flaw, plain_number_misfit, function_misfit, relation_misfit, name_misfit, number_misfit, text_misfit, path_misfit, assigned_flaw, word_target_flaw, word_path_flaw}
+use Rattle.cord_script.proofs.Spelled.{both, chosen}
+use Rattle.cord_script.proofs.Unique.{above, head_or}
+
+-- what a term has to be
+abbrev pub want_of : Term → Want
+want_of (Target kind name) = wants.Target kind
+want_of (Operand kind name) = wants.Operand kind
+want_of (Value number) = wants.Number
+want_of (Literal text) = wants.Text
+want_of (FilePath path) = wants.Path
+want_of (Applies function) = wants.Function
+want_of (Compares relation) = wants.Relation
+want_of (Formats text) = wants.Format
+
+-- one of two tests holds
+pub either : (x y : Bool) → (x || y) ≡ true → (x ≡ true) ⊎ (y ≡ true)
+either true y h = inl refl
+either false y h = inr h
+
+-- one of two tests is enough
+pub either_left : (x y : Bool) → x ≡ true → (x || y) ≡ true
+either_left true y h = refl
+either_left false y h = cc
+
+pub either_right : (x y : Bool) → y ≡ true → (x || y) ≡ true
+either_right true y h = refl
+either_right false y h = h
+
+pub neither_test : (x y : Bool) → x ≡ false → y ≡ false → (x || y) ≡ false
+neither_test false false p q = refl
+neither_test false true p q = cc
+neither_test true y p q = cc
+
+-- each letter stands behind the digits
+letter_above : (c : ℕ) → is_letter c ≡ true → 57 < c
+letter_above c h = elim (either ((nat_le 97 c && nat_le c 122) || (nat_le 65 c && nat_le c 90)) (c == 95) h) [
+  | inl p ↦ elim (either (nat_le 97 c && nat_le c 122) (nat_le 65 c && nat_le c 90) p) [
+    | inl q ↦ let low = leb-true 97 c (both (nat_le 97 c) (nat_le c 122) q).0 in omega arith
+    | inr q ↦ let low = leb-true 65 c (both (nat_le 65 c) (nat_le c 90) q).0 in omega arith
+  ]
+  | inr p ↦ let same = eqb-true c 95 p in omega arith
+]
+
+-- a name doesn't begin as a numeral
+pub name_begins : (p : List ℕ) → is_name p ≡ true → begins_numeral p ≡ false
+name_begins [] h = cc
+name_begins (c ∷ cs) h =
+    let l = letter_above c (both (is_letter c) _ (both (is_letter c && each _ cs) _ h).0).0 in
+    let other : c ≢ 45 = omega arith in
+    neither_test (is_digit c) (c == 45) (above 48 57 c l) (ne_eqb c 45 other)
+
+digits_begin : (c : ℕ) (cs : List ℕ) → are_digits (c ∷ cs) ≡ true → is_digit c ≡ true
+digits_begin c cs h = (both (is_digit c) (each is_digit cs) h).0
+
+-- a numeral begins as one
+pub numeral_begins : (p : List ℕ) (v : ℤ) → numeral_of p ≡ Some v → begins_numeral p ≡ true
+numeral_begins [] v h = cc
+numeral_begins (c ∷ cs) v h = elim (chosen (c == 45) _ _ (Some v) h) [
+  | inl x ↦ either_right (is_digit c) (c == 45) x.0
+  | inr x ↦ elim (chosen (are_digits (c ∷ cs) && nat_lt (number_after 0 (c ∷ cs)) (2 ^ 63)) (Some (pos (number_after 0 (c ∷ cs)))) None (Some v) x.1) [
+    | inl y ↦ either_left (is_digit c) (c == 45) (digits_begin c cs (both (are_digits (c ∷ cs)) _ y.0).0)
+    | inr y ↦ absurd (let e = y.1 in cc)
+  ]
+]
+
+pub same_kinds : (kind : Kind) → same_kind kind kind ≡ true
+same_kinds kinds.Cord = refl
+same_kinds kinds.Number = refl
+same_kinds kinds.Extensible = refl
+
+-- a name of the kind
+pub right_kind : (has : Option Kind) (kind : Kind) → has ≡ Some kind → kind_flaw has kind ≡ None
+right_kind has kind h = ap (λ k. kind_flaw k kind) h ∙ ap (λ b. unless b WrongKind) (same_kinds kind)
+
+numeral_fits : (p : List ℕ) (v : ℤ) → numeral_of p ≡ Some v → plain_number_misfit p ≡ None
+numeral_fits p v h =
+    ap (λ b. if b then unless (is_some (numeral_of p)) BadNumber else unless (is_name p) BadName) (numeral_begins p v h) ∙ ap (λ o. unless (is_some o) BadNumber) h
+
+named_fits : (p : List ℕ) → is_name p ≡ true → plain_number_misfit p ≡ None
+named_fits p h =
+    ap (λ b. if b then unless (is_some (numeral_of p)) BadNumber else unless (is_name p) BadName) (name_begins p h) ∙ ap (λ b. unless b BadName) h
+
+function_fits : (f : Function) → function_misfit (Plain (function_word f)) ≡ None
+function_fits Digits = refl
+function_fits Bytes = refl
+
+relation_fits : (r : Relation) → relation_misfit (Plain (relation_word r)) ≡ None
+relation_fits Less = refl
+relation_fits Equal = refl
+relation_fits Greater = refl
+
+-- a word that says a term is no misfit
+pub term_fits : (w : Word) (t : Term) (before : Before) → IsTerm w t → IsAllowed before t → misfit (want_of t) w ≡ None
+term_fits w (Target kind name) before h a = ap name_misfit h.0 ∙ ap (λ b. unless b BadName) h.1
+term_fits w (Operand kind name) before h a = ap name_misfit h.0 ∙ ap (λ b. unless b BadName) h.1
+term_fits w (Value (Numeral v)) before h a = ap number_misfit h.1 ∙ numeral_fits h.0 v h.2
+term_fits w (Value (Named name)) before h a = ap number_misfit h.0 ∙ named_fits name h.1
+term_fits w (Literal text) before h a = ap text_misfit h
+term_fits w (FilePath path) before h a = ap path_misfit h.0 ∙ ap (λ b. unless b BadName) h.1
+term_fits w (Applies function) before h a = ap function_misfit h ∙ function_fits function
+term_fits w (Compares relation) before h a = ap relation_misfit h ∙ relation_fits relation
+term_fits w (Formats text) before h a = ap text_misfit h
+
+numeral_known : (names : List Known) (p : List ℕ) (v : ℤ) → numeral_of p ≡ Some v → number_flaw names p ≡ None
+numeral_known names p v h = ap (λ b. if b then None else kind_flaw (kind_of names p) kinds.Number) (numeral_begins p v h)
+
+named_known : (names : List Known) (p : List ℕ) → is_name p ≡ true → kind_of names p ≡ Some kinds.Number → number_flaw names p ≡ None
+named_known names p h k = ap (λ b. if b then None else kind_flaw (kind_of names p) kinds.Number) (name_begins p h) ∙ right_kind (kind_of names p) kinds.Number k
+
+-- an operand that is allowed has no flaw
+pub term_known : (w : Word) (t : Term) (before : Before) → IsTerm w t → IsAllowed before t → operand_flaw before.names (want_of t) w ≡ None
+term_known w (Target kind name) before h a = refl
+term_known w (Operand kind name) before h a = ap (operand_flaw before.names (wants.Operand kind)) h.0 ∙ right_kind (kind_of before.names name) kind a
+term_known w (Value (Numeral v)) before h a = ap (operand_flaw before.names wants.Number) h.1 ∙ numeral_known before.names h.0 v h.2
+term_known w (Value (Named name)) before h a = ap (operand_flaw before.names wants.Number) h.0 ∙ named_known before.names name h.1 a
+term_known w (Literal text) before h a = refl
+term_known w (FilePath path) before h a = refl
+term_known w (Applies function) before h a = refl
+term_known w (Compares relation) before h a = refl
+term_known w (Formats text) before h a = refl
+
+target_fine : (names : List Known) (name : List ℕ) (kind : Kind) → (kind_of names name ≡ Some kind) ⊎ ((kind_of names name ≡ None) × (length names < MAX_NAMES)) → assigned_flaw (kind_of names name) kind (length names) ≡ None
+target_fine names name kind (inl h) = ap (λ k. assigned_flaw k kind (length names)) h ∙ ap (λ b. unless b WrongKind) (same_kinds kind)
+target_fine names name kind (inr h) = ap (λ k. assigned_flaw k kind (length names)) h.0 ∙ ap (λ b. unless b TooMany) (le-leb (suc (length names)) MAX_NAMES h.1)
+
+-- a target that is allowed has no flaw
+pub term_assigned : (w : Word) (t : Term) (before : Before) → IsTerm w t → IsAllowed before t → word_target_flaw before.names (want_of t) w ≡ None
+term_assigned w (Target kind name) before h a = ap (word_target_flaw before.names (wants.Target kind)) h.0 ∙ target_fine before.names name kind a
+term_assigned w (Operand kind name) before h a = refl
+term_assigned w (Value number) before h a = refl
+term_assigned w (Literal text) before h a = refl
+term_assigned w (FilePath path) before h a = refl
+term_assigned w (Applies function) before h a = refl
+term_assigned w (Compares relation) before h a = refl
+term_assigned w (Formats text) before h a = refl
+
+path_fine : (paths : List (List ℕ)) (path : List ℕ) → (is_among paths path ≡ true) ⊎ (length paths < MAX_PATHS) → unless (is_among paths path || nat_lt (length paths) MAX_PATHS) TooMany ≡ None
+path_fine paths path (inl h) = ap (λ b. unless b TooMany) (either_left (is_among paths path) (nat_lt (length paths) MAX_PATHS) h)
+path_fine paths path (inr h) = ap (λ b. unless b TooMany) (either_right (is_among paths path) (nat_lt (length paths) MAX_PATHS) (le-leb (suc (length paths)) MAX_PATHS h))
+
+-- a path that is allowed has no flaw
+pub term_opened : (w : Word) (t : Term) (before : Before) → IsTerm w t → IsAllowed before t → word_path_flaw before.paths (want_of t) w ≡ None
+term_opened w (Target kind name) before h a = refl
+term_opened w (Operand kind name) before h a = refl
+term_opened w (Value number) before h a = refl
+term_opened w (Literal text) before h a = refl
+term_opened w (FilePath path) before h a = ap (word_path_flaw before.paths wants.Path) h.0 ∙ path_fine before.paths path a
+term_opened w (Applies function) before h a = refl
+term_opened w (Compares relation) before h a = refl
+term_opened w (Formats text) before h a = refl
+
+-- terms of which none has a flaw
+pub pairs_none : (test : Want → Word → Option RefusalKind) (before : Before) (ws : List Word) (ts : List Term) → ((w : Word) (t : Term) → IsTerm w t → IsAllowed before t → test (want_of t) w ≡ None) → AreTerms ws ts → AreAllowed before ts → first_pair test (map want_of ts) ws ≡ None
+pairs_none test before [] [] f h a = refl
+pairs_none test before [] (t ∷ ts) f h a = absurd h
+pairs_none test before (w ∷ ws) [] f h a = absurd h
+pairs_none test before (w ∷ ws) (t ∷ ts) f h a = ap (λ k. first_of k (first_pair test (map want_of ts) ws)) (f w t h.0 a.0) ∙ pairs_none test before ws ts f h.1 a.1
+
+-- as many words as terms
+pub terms_count : (ws : List Word) (ts : List Term) → AreTerms ws ts → length ws ≡ length ts
+terms_count [] [] h = refl
+terms_count [] (t ∷ ts) h = absurd h
+terms_count (w ∷ ws) [] h = absurd h
+terms_count (w ∷ ws) (t ∷ ts) h = let r = terms_count ws ts h.1 in omega arith
+
+one_function : (f g : Function) → function_word f ≡ function_word g → f ≡ g
+one_function Digits Digits h = refl
+one_function Bytes Bytes h = refl
+one_function Digits Bytes h = cc
+one_function Bytes Digits h = cc
+
+one_relation : (r s : Relation) → relation_word r ≡ relation_word s → r ≡ s
+one_relation Less Less h = refl
+one_relation Equal Equal h = refl
+one_relation Greater Greater h = refl
+one_relation Less Equal h = absurd (let clash : 108 ≡ 101 = ap head_or h in omega arith)
+one_relation Less Greater h = absurd (let clash : 108 ≡ 103 = ap head_or h in omega arith)
+one_relation Equal Less h = absurd (let clash : 101 ≡ 108 = ap head_or h in omega arith)
+one_relation Equal Greater h = absurd (let clash : 101 ≡ 103 = ap head_or h in omega arith)
+one_relation Greater Less h = absurd (let clash : 103 ≡ 108 = ap head_or h in omega arith)
+one_relation Greater Equal h = absurd (let clash : 103 ≡ 101 = ap head_or h in omega arith)
+
+numeral_or_name : (p name : List ℕ) (v : ℤ) → p ≡ name → numeral_of p ≡ Some v → is_name name ≡ true → ⊥
+numeral_or_name p name v e h n =
+    let x = numeral_begins p v h in
+    let y = name_begins name n in
+    let z = ap begins_numeral e in
+    let clash : true ≡ false = sym x ∙ z ∙ y in cc
+
+one_number : (w : Word) (a b : Number) → IsTerm w (Value a) → IsTerm w (Value b) → a ≡ b
+one_number w (Numeral v) (Numeral u) h k =
+    let same : h.0 ≡ k.0 = let e = sym h.1 ∙ k.1 in cc in
+    let values : Some v ≡ Some u = sym h.2 ∙ ap numeral_of same ∙ k.2 in
+    let value : v ≡ u = cc in
+    ap Numeral value
+one_number w (Numeral v) (Named name) h k = absurd (numeral_or_name h.0 name v (let e = sym h.1 ∙ k.0 in cc) h.2 k.1)
+one_number w (Named name) (Numeral v) h k = absurd (numeral_or_name k.0 name v (let e = sym k.1 ∙ h.0 in cc) k.2 h.1)
+one_number w (Named a) (Named b) h k = let same : a ≡ b = let e = sym h.0 ∙ k.0 in cc in ap Named same
+
+same_target : (w : Word) (k l : Kind) (a b : List ℕ) → IsTerm w (Target k a) → IsTerm w (Target l b) → wants.Target k ≡ wants.Target l → Target k a ≡ Target l b
+same_target w k l a b h g e =
+    let names : a ≡ b = let q = sym h.0 ∙ g.0 in cc in
+    let kind : k ≡ l = cc in
+    ap (λ x. Target x a) kind ∙ ap (Target l) names
+
+same_operand : (w : Word) (k l : Kind) (a b : List ℕ) → IsTerm w (Operand k a) → IsTerm w (Operand l b) → wants.Operand k ≡ wants.Operand l → Operand k a ≡ Operand l b
+same_operand w k l a b h g e =
+    let names : a ≡ b = let q = sym h.0 ∙ g.0 in cc in
+    let kind : k ≡ l = cc in
+    ap (λ x. Operand x a) kind ∙ ap (Operand l) names
+
+-- a word says one term of a want
+one_term : (w : Word) (t u : Term) → IsTerm w t → IsTerm w u → want_of t ≡ want_of u → t ≡ u
+one_term w (Target k a) (Target l b) h g e = same_target w k l a b h g e
+one_term w (Operand k a) (Operand l b) h g e = same_operand w k l a b h g e
+one_term w (Value a) (Value b) h g e = ap Value (one_number w a b h g)
+one_term w (Literal a) (Literal b) h g e = let same : a ≡ b = let q = sym h ∙ g in cc in ap Literal same
+one_term w (FilePath a) (FilePath b) h g e = let same : a ≡ b = let q = sym h.0 ∙ g.0 in cc in ap FilePath same
+one_term w (Applies a) (Applies b) h g e = ap Applies (one_function a b (let q = sym h ∙ g in cc))
+one_term w (Compares a) (Compares b) h g e = ap Compares (one_relation a b (let q = sym h ∙ g in cc))
+one_term w (Formats a) (Formats b) h g e = let same : a ≡ b = let q = sym h ∙ g in cc in ap Formats same
+one_term w _ _ h g e = cc
+
+-- words say one list of terms of these wants
+pub one_list : (ws : List Word) (ts us : List Term) → AreTerms ws ts → AreTerms ws us → map want_of ts ≡ map want_of us → ts ≡ us
+one_list [] [] [] h g e = refl
+one_list [] (t ∷ ts) us h g e = absurd h
+one_list [] [] (u ∷ us) h g e = absurd g
+one_list (w ∷ ws) [] us h g e = absurd h
+one_list (w ∷ ws) (t ∷ ts) [] h g e = absurd g
+one_list (w ∷ ws) (t ∷ ts) (u ∷ us) h g e =
+    let first : want_of t ≡ want_of u = cc in
+    let others : map want_of ts ≡ map want_of us = cc in
+    let r = one_list ws ts us h.1 g.1 others in
+    ap (λ k. k ∷ ts) (one_term w t u h.0 g.0 first) ∙ ap (λ k. u ∷ k) r

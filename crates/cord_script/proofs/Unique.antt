@@ -1,0 +1,340 @@
+-- A script has one list of lines, and a line one list of words or one first flaw of its bytes.
+use Rattle.std.proofs.Common.{inl, inr, Some, None, ◌≡◌, ◌≢◌, ◌≤◌, ◌<◌, ◌+◌, ◌-◌, ◌*◌, ℕ, List, [], ◌∷◌, ◌++◌, Bool, true, false, refl, sym, ◌∙◌, ap, subst, append_assoc, length, arith}
+use Rattle.std.specs.Prelude.{Option, All, ◌==◌, ◌&&◌, nat_le, if◌then◌else◌}
+use Rattle.std.proofs.lemmas.Bool.{leb-true, le-leb, ne_eqb}
+use Rattle.cord_script.specs.declared.TheConstants.{MAX_TEXT}
+use Rattle.cord_script.specs.declared.refusals.RefusalKind.{RefusalKind}
+use Rattle.cord_script.specs.declared.words.Word.{Word}
+use Rattle.cord_script.specs.declared.words.Word.TheVariants.{Plain, Quoted}
+use Rattle.cord_script.specs.Words.{IsSplit, IsBlank, IsPlain, EndsPlain, Stands, Spells, HexDigit, HasWord, HasWords, StartsWith, IsBadEnd, IsBadText, BeginsBadText, HasBadBytes}
+use Rattle.cord_script.specs.Reading.{digit_of, byte_of, escape_of, unit_of}
+use Rattle.cord_script.proofs.Lines.{split_nil, head_of, tail_of, not_all_blank, one_front}
+use Rattle.cord_script.proofs.Spelled.{both, same_pair, unit_stands}
+
+-- a test that can't hold
+pub not_true : (x : Bool) → (x ≡ true → ⊥) → x ≡ false
+not_true true h = absurd (h refl)
+not_true false h = refl
+
+first_pick : {A : Type 0} (x : Bool) (p q : A) → x ≡ true → (if x then p else q) ≡ p
+first_pick true p q h = refl
+first_pick false p q h = cc
+
+second_pick : {A : Type 0} (x : Bool) (p q : A) → x ≡ false → (if x then p else q) ≡ q
+second_pick true p q h = cc
+second_pick false p q h = refl
+
+within_by : (x y : Bool) → x ≡ true → y ≡ true → (x && y) ≡ true
+within_by true true p q = refl
+within_by true false p q = cc
+within_by false y p q = cc
+
+pub within : (low high c : ℕ) → low ≤ c → c ≤ high → (nat_le low c && nat_le c high) ≡ true
+within low high c l h = within_by (nat_le low c) (nat_le c high) (le-leb low c l) (le-leb c high h)
+
+pub above : (low high c : ℕ) → high < c → (nat_le low c && nat_le c high) ≡ false
+above low high c h = not_true (nat_le low c && nat_le c high) (λ t.
+    let p = both (nat_le low c) (nat_le c high) t in
+    let q = leb-true c high p.1 in
+    omega arith)
+
+below : (low high c : ℕ) → c < low → (nat_le low c && nat_le c high) ≡ false
+below low high c h = not_true (nat_le low c && nat_le c high) (λ t.
+    let p = both (nat_le low c) (nat_le c high) t in
+    let q = leb-true low c p.0 in
+    omega arith)
+
+-- the value of a digit is computed
+digit_read : (c v : ℕ) → HexDigit c v → digit_of c ≡ Some v
+digit_read c v (inl h) =
+    let e : c - 48 ≡ v = omega (arith, h.0, h.2) in
+    first_pick (nat_le 48 c && nat_le c 57) (Some (c - 48)) _ (within 48 57 c h.0 h.1) ∙ ap Some e
+digit_read c v (inr (inl h)) =
+    let e : c - 87 ≡ v = omega (arith, h.0, h.2) in
+    let high : 57 < c = omega (arith, h.0) in
+    second_pick (nat_le 48 c && nat_le c 57) (Some (c - 48)) _ (above 48 57 c high) ∙ first_pick (nat_le 97 c && nat_le c 102) (Some (c - 87)) _ (within 97 102 c h.0 h.1) ∙ ap Some e
+digit_read c v (inr (inr h)) =
+    let e : c - 55 ≡ v = omega (arith, h.0, h.2) in
+    let high : 57 < c = omega (arith, h.0) in
+    let low : c < 97 = omega (arith, h.1) in
+    second_pick (nat_le 48 c && nat_le c 57) (Some (c - 48)) _ (above 48 57 c high) ∙ second_pick (nat_le 97 c && nat_le c 102) (Some (c - 87)) _ (below 97 102 c low) ∙ first_pick (nat_le 65 c && nat_le c 70) (Some (c - 55)) _ (within 65 70 c h.0 h.1) ∙ ap Some e
+
+self_by : (b : ℕ) (v : List ℕ) (x y : Bool) → x ≡ false → y ≡ false → (if x then escape_of v else (if y then None else Some (b, v))) ≡ Some (b, v)
+self_by b v false false p q = refl
+self_by b v false true p q = cc
+self_by b v true y p q = cc
+
+byte_read : (high low : Option ℕ) (x y : ℕ) (v : List ℕ) → high ≡ Some x → low ≡ Some y → byte_of high low v ≡ Some (16 * x + y, v)
+byte_read high low x y v p q = ap (λ k. byte_of k low v) p ∙ ap (λ k. byte_of (Some x) k v) q
+
+-- what stands for a byte is read at the front
+pub stands_unit : (u v : List ℕ) (b : ℕ) → Stands u b → unit_of (u ++ v) ≡ Some (b, v)
+stands_unit u v b (inl h) = ap (λ x. unit_of (x ++ v)) h.0 ∙ self_by b v (b == 92) (b == 34) (ne_eqb b 92 h.2) (ne_eqb b 34 h.1)
+stands_unit u v b (inr (inl h)) = ap (λ x. unit_of (x ++ v)) h.0 ∙ ap (λ k. Some (k, v)) (sym h.1)
+stands_unit u v b (inr (inr (inl h))) = ap (λ x. unit_of (x ++ v)) h.0 ∙ ap (λ k. Some (k, v)) (sym h.1)
+stands_unit u v b (inr (inr (inr (inl h)))) = ap (λ x. unit_of (x ++ v)) h.0 ∙ ap (λ k. Some (k, v)) (sym h.1)
+stands_unit u v b (inr (inr (inr (inr (inl h))))) = ap (λ x. unit_of (x ++ v)) h.0 ∙ ap (λ k. Some (k, v)) (sym h.1)
+stands_unit u v b (inr (inr (inr (inr (inr h))))) =
+    ap (λ x. unit_of (x ++ v)) h.4 ∙ byte_read (digit_of h.0) (digit_of h.1) h.2 h.3 v (digit_read h.0 h.2 h.5) (digit_read h.1 h.3 h.6) ∙ ap (λ k. Some (k, v)) (sym h.7)
+
+-- the first byte of a spelled text is read at its front
+whole_unit : (w u v rest : List ℕ) (b : ℕ) → w ≡ u ++ v → Stands u b → unit_of (w ++ rest) ≡ Some (b, v ++ rest)
+whole_unit w u v rest b e s = ap (λ x. unit_of (x ++ rest)) e ∙ ap unit_of (append_assoc u v rest) ∙ stands_unit u (v ++ rest) b s
+
+-- a text ends at one place
+pub one_text : (w w' rest rest' t t' : List ℕ) → Spells w t → Spells w' t' → w ++ rest ≡ w' ++ rest' → unit_of rest ≡ None → unit_of rest' ≡ None → (t ≡ t') × (rest ≡ rest')
+one_text w w' rest rest' [] [] s s' e n n' = (refl, sym (ap (λ x. x ++ rest) s) ∙ e ∙ ap (λ x. x ++ rest') s')
+one_text w w' rest rest' [] (b ∷ t') s s' e n n' =
+    let read = whole_unit w' s'.0 s'.1 rest' b s'.2 s'.3 in
+    let same = ap unit_of (sym (ap (λ x. x ++ rest) s) ∙ e) in
+    absurd (let clash : None ≡ Some (b, s'.1 ++ rest') = sym n ∙ same ∙ read in cc)
+one_text w w' rest rest' (b ∷ t) [] s s' e n n' =
+    let read = whole_unit w s.0 s.1 rest b s.2 s.3 in
+    let same = ap unit_of (e ∙ ap (λ x. x ++ rest') s') in
+    absurd (let clash : None ≡ Some (b, s.1 ++ rest) = sym n' ∙ sym same ∙ read in cc)
+one_text w w' rest rest' (b ∷ t) (b' ∷ t') s s' e n n' =
+    let read = whole_unit w s.0 s.1 rest b s.2 s.3 in
+    let read' = whole_unit w' s'.0 s'.1 rest' b' s'.2 s'.3 in
+    let p = same_pair (b, s.1 ++ rest) (b', s'.1 ++ rest') (sym read ∙ ap unit_of e ∙ read') in
+    let r = one_text s.1 s'.1 rest rest' t t' s.4 s'.4 p.1 n n' in
+    (ap (λ k. k ∷ t) p.0 ∙ ap (λ k. b' ∷ k) r.0, r.1)
+
+-- a text that goes on is shorter than the one that ends
+longer : (w w' rest rest' t t' : List ℕ) (p : ℕ × List ℕ) → Spells w t → Spells w' t' → w ++ rest ≡ w' ++ rest' → unit_of rest ≡ Some p → unit_of rest' ≡ None → length t < length t'
+longer w w' rest rest' [] [] p s s' e n n' =
+    let same = ap unit_of (sym (ap (λ x. x ++ rest) s) ∙ e ∙ ap (λ x. x ++ rest') s') in
+    absurd (let clash : None ≡ Some p = sym n' ∙ sym same ∙ n in cc)
+longer w w' rest rest' [] (b ∷ t') p s s' e n n' = omega arith
+longer w w' rest rest' (b ∷ t) [] p s s' e n n' =
+    let read = whole_unit w s.0 s.1 rest b s.2 s.3 in
+    let same = ap unit_of (e ∙ ap (λ x. x ++ rest') s') in
+    absurd (let clash : None ≡ Some (b, s.1 ++ rest) = sym n' ∙ sym same ∙ read in cc)
+longer w w' rest rest' (b ∷ t) (b' ∷ t') p s s' e n n' =
+    let read = whole_unit w s.0 s.1 rest b s.2 s.3 in
+    let read' = whole_unit w' s'.0 s'.1 rest' b' s'.2 s'.3 in
+    let q = same_pair (b, s.1 ++ rest) (b', s'.1 ++ rest') (sym read ∙ ap unit_of e ∙ read') in
+    let r = longer s.1 s'.1 rest rest' t t' p s.4 s'.4 q.1 n n' in
+    omega arith
+
+none_of : (o : Option (ℕ × List ℕ)) → ((p : ℕ × List ℕ) → o ≡ Some p → ⊥) → o ≡ None
+none_of None h = refl
+none_of (Some p) h = absurd (h p refl)
+
+-- nothing is read where nothing stands
+stuck : (rest : List ℕ) → ((u v : List ℕ) (b : ℕ) → rest ≡ u ++ v → ¬ Stands u b) → unit_of rest ≡ None
+stuck rest h = none_of (unit_of rest) (λ p e. let s = unit_stands rest p.1 p.0 e in h s.0 p.1 p.0 s.1 s.2)
+
+-- a text that can't go on doesn't end too late
+not_long : (inner w w' rest rest' t t' : List ℕ) → inner ≡ w ++ rest → Spells w t → length t ≡ MAX_TEXT → ((u v : List ℕ) × (b : ℕ) × (rest ≡ u ++ v) × Stands u b) → inner ≡ w' ++ rest' → Spells w' t' → length t' ≤ MAX_TEXT → unit_of rest' ≡ None → ⊥
+not_long inner w w' rest rest' t t' e s full more e' s' few n =
+    let read = ap unit_of more.3 ∙ stands_unit more.0 more.1 more.2 more.4 in
+    let q = longer w w' rest rest' t t' (more.2, more.1) s s' (sym e ∙ e') read n in
+    omega arith
+
+-- the first byte, or 0
+abbrev pub head_or : List ℕ → ℕ
+head_or [] = 0
+head_or (c ∷ cs) = c
+
+no_quote_after : (r rest behind : List ℕ) → 34 ∷ r ≡ rest → rest ≡ 92 ∷ behind → ⊥
+no_quote_after r rest behind e h =
+    absurd (let clash : 34 ≡ 92 = ap head_or (e ∙ h) in omega (arith, clash))
+
+quote_stuck : (r : List ℕ) → unit_of (34 ∷ r) ≡ None
+quote_stuck r = refl
+
+closed_by : (inner w r t w' rest t' : List ℕ) (kind : RefusalKind) → inner ≡ w ++ 34 ∷ r → Spells w t → length t ≤ MAX_TEXT → inner ≡ w' ++ rest → Spells w' t' → IsBadEnd t' rest kind → ⊥
+closed_by inner w r t w' rest t' kind e s few e' s' (inl h) =
+    let q = one_text w w' (34 ∷ r) rest t t' s s' (sym e ∙ e') (quote_stuck r) (stuck rest h.2) in
+    no_quote_after r rest h.1.0 q.1 h.1.1
+closed_by inner w r t w' rest t' kind e s few e' s' (inr (inl h)) = not_long inner w' w rest (34 ∷ r) t' t e' s' h.1 h.2 e s few (quote_stuck r)
+closed_by inner w r t w' rest t' kind e s few e' s' (inr (inr h)) =
+    let q = one_text w w' (34 ∷ r) rest t t' s s' (sym e ∙ e') (quote_stuck r) (ap unit_of h.1) in
+    let same : 34 ∷ r ≡ [] = q.1 ∙ h.1 in
+    cc
+
+-- a closed text has no flaw
+closed_good : (inner w r t : List ℕ) (kind : RefusalKind) → inner ≡ w ++ 34 ∷ r → Spells w t → length t ≤ MAX_TEXT → IsBadText inner kind → ⊥
+closed_good inner w r t kind e s few h = closed_by inner w r t h.0 h.1 h.2 kind e s few h.3 h.4 h.6
+
+-- a text has one flaw
+pub one_bad_text : (inner : List ℕ) (kind kind' : RefusalKind) → IsBadText inner kind → IsBadText inner kind' → kind ≡ kind'
+one_bad_text inner kind kind' (w, rest, t, e, s, few, inl h) (w', rest', t', e', s', few', inl h') = h.0 ∙ sym h'.0
+one_bad_text inner kind kind' (w, rest, t, e, s, few, inl h) (w', rest', t', e', s', few', inr (inl h')) =
+    absurd (not_long inner w' w rest' rest t' t e' s' h'.1 h'.2 e s few (stuck rest h.2))
+one_bad_text inner kind kind' (w, rest, t, e, s, few, inl h) (w', rest', t', e', s', few', inr (inr h')) =
+    let q = one_text w w' rest rest' t t' s s' (sym e ∙ e') (stuck rest h.2) (ap unit_of h'.1) in
+    absurd (let same : 92 ∷ h.1.0 ≡ [] = sym h.1.1 ∙ q.1 ∙ h'.1 in cc)
+one_bad_text inner kind kind' (w, rest, t, e, s, few, inr (inl h)) (w', rest', t', e', s', few', inl h') =
+    absurd (not_long inner w w' rest rest' t t' e s h.1 h.2 e' s' few' (stuck rest' h'.2))
+one_bad_text inner kind kind' (w, rest, t, e, s, few, inr (inl h)) (w', rest', t', e', s', few', inr (inl h')) = h.0 ∙ sym h'.0
+one_bad_text inner kind kind' (w, rest, t, e, s, few, inr (inl h)) (w', rest', t', e', s', few', inr (inr h')) =
+    absurd (not_long inner w w' rest rest' t t' e s h.1 h.2 e' s' few' (ap unit_of h'.1))
+one_bad_text inner kind kind' (w, rest, t, e, s, few, inr (inr h)) (w', rest', t', e', s', few', inl h') =
+    let q = one_text w w' rest rest' t t' s s' (sym e ∙ e') (ap unit_of h.1) (stuck rest' h'.2) in
+    absurd (let same : 92 ∷ h'.1.0 ≡ [] = sym h'.1.1 ∙ sym q.1 ∙ h.1 in cc)
+one_bad_text inner kind kind' (w, rest, t, e, s, few, inr (inr h)) (w', rest', t', e', s', few', inr (inl h')) =
+    absurd (not_long inner w' w rest' rest t' t e' s' h'.1 h'.2 e s few (ap unit_of h.1))
+one_bad_text inner kind kind' (w, rest, t, e, s, few, inr (inr h)) (w', rest', t', e', s', few', inr (inr h')) = h.0 ∙ sym h'.0
+
+-- the first byte that is no blank, and what follows it
+pub record Begins (line : List ℕ) (c : ℕ) (rest : List ℕ) : Type 0 where
+  pub front : List ℕ
+  pub blank : All IsBlank front
+  pub shows : ¬ IsBlank c
+  pub whole : line ≡ front ++ c ∷ rest
+
+quote_shows : ¬ IsBlank 34
+quote_shows = λ h. elim h [ inl e ↦ omega arith | inr k ↦ elim k [ inl e ↦ omega arith | inr e ↦ omega arith ] ]
+
+one_beginning : (line rest rest' : List ℕ) (c c' : ℕ) → Begins line c rest → Begins line c' rest' → (c ≡ c') × (rest ≡ rest')
+one_beginning line rest rest' c c' b b' =
+    let r = one_front b.front b'.front c c' rest rest' b.blank b.shows b'.blank b'.shows (sym b.whole ∙ b'.whole) in
+    (r.1, r.2)
+
+no_beginning : (line rest : List ℕ) (c : ℕ) → Begins line c rest → All IsBlank line → ⊥
+no_beginning line rest c b all = not_all_blank b.front rest c (subst (All IsBlank) b.whole all) b.shows
+
+-- how a plain word begins
+pub record BeginsPlain (line p rest : List ℕ) : Type 0 where
+  pub first : ℕ
+  pub others : List ℕ
+  pub is : p ≡ first ∷ others
+  pub no_quote : first ≢ 34
+  pub begins : Begins line first (others ++ rest)
+
+plain_begins : (line p rest : List ℕ) → HasWord line (Plain p) rest → BeginsPlain line p rest
+plain_begins line [] rest h = absurd (h.3 refl)
+plain_begins line (c ∷ cs) rest h =
+    let plain = head_of IsPlain c cs h.4 in
+    record {
+      first = c;
+      others = cs;
+      is = refl;
+      no_quote = plain.1;
+      begins = record { front = h.0; blank = h.1; shows = plain.0; whole = h.2 ∙ append_assoc h.0 (c ∷ cs) rest };
+    }
+
+quoted_begins : (line text rest : List ℕ) (h : HasWord line (Quoted text) rest) → Begins line 34 (h.1 ++ 34 ∷ rest)
+quoted_begins line text rest h = record { front = h.0; blank = h.2; shows = quote_shows; whole = h.3 ∙ append_assoc h.0 (34 ∷ h.1) (34 ∷ rest) }
+
+bad_begins : (line : List ℕ) (kind : RefusalKind) (h : BeginsBadText line kind) → Begins line 34 h.1
+bad_begins line kind h = record { front = h.0; blank = h.2; shows = quote_shows; whole = h.3 }
+
+-- a plain word ends at one place
+one_run : (p p' rest rest' : List ℕ) → All IsPlain p → EndsPlain rest → All IsPlain p' → EndsPlain rest' → p ++ rest ≡ p' ++ rest' → (p ≡ p') × (rest ≡ rest')
+one_run [] [] rest rest' a n a' n' e = (refl, e)
+one_run [] (y ∷ ys) rest rest' a n a' n' e = absurd (subst EndsPlain e n (head_of IsPlain y ys a'))
+one_run (x ∷ xs) [] rest rest' a n a' n' e = absurd (subst EndsPlain (sym e) n' (head_of IsPlain x xs a))
+one_run (x ∷ xs) (y ∷ ys) rest rest' a n a' n' e =
+    let behind : xs ++ rest ≡ ys ++ rest' = cc in
+    let r = one_run xs ys rest rest' (tail_of IsPlain x xs a) n (tail_of IsPlain y ys a') n' behind in
+    let same : x ≡ y = cc in
+    (ap (λ k. k ∷ xs) same ∙ ap (λ k. y ∷ k) r.0, r.1)
+
+-- a line has one first word
+one_word : (line rest rest' : List ℕ) (w w' : Word) → HasWord line w rest → HasWord line w' rest' → (w ≡ w') × (rest ≡ rest')
+one_word line rest rest' (Plain p) (Plain p') h h' =
+    let b = plain_begins line p rest h in
+    let b' = plain_begins line p' rest' h' in
+    let r = one_beginning line (b.others ++ rest) (b'.others ++ rest') b.first b'.first b.begins b'.begins in
+    let whole : p ++ rest ≡ p' ++ rest' = ap (λ x. x ++ rest) b.is ∙ ap (λ x. x ∷ b.others ++ rest) r.0 ∙ ap (λ x. b'.first ∷ x) r.1 ∙ sym (ap (λ x. x ++ rest') b'.is) in
+    let q = one_run p p' rest rest' h.4 h.5 h'.4 h'.5 whole in
+    (ap Plain q.0, q.1)
+one_word line rest rest' (Plain p) (Quoted t') h h' =
+    let b = plain_begins line p rest h in
+    let r = one_beginning line (b.others ++ rest) (h'.1 ++ 34 ∷ rest') b.first 34 b.begins (quoted_begins line t' rest' h') in
+    absurd (b.no_quote r.0)
+one_word line rest rest' (Quoted t) (Plain p') h h' =
+    let b = plain_begins line p' rest' h' in
+    let r = one_beginning line (b.others ++ rest') (h.1 ++ 34 ∷ rest) b.first 34 b.begins (quoted_begins line t rest h) in
+    absurd (b.no_quote r.0)
+one_word line rest rest' (Quoted t) (Quoted t') h h' =
+    let r = one_beginning line (h.1 ++ 34 ∷ rest) (h'.1 ++ 34 ∷ rest') 34 34 (quoted_begins line t rest h) (quoted_begins line t' rest' h') in
+    let q = one_text h.1 h'.1 (34 ∷ rest) (34 ∷ rest') t t' h.4 h'.4 r.1 refl refl in
+    let behind : rest ≡ rest' = let e = q.1 in cc in
+    (ap Quoted q.0, behind)
+
+no_word : (line rest : List ℕ) (w : Word) → HasWord line w rest → All IsBlank line → ⊥
+no_word line rest (Plain p) h all = let b = plain_begins line p rest h in no_beginning line (b.others ++ rest) b.first b.begins all
+no_word line rest (Quoted t) h all = no_beginning line (h.1 ++ 34 ∷ rest) 34 (quoted_begins line t rest h) all
+
+good_word : (line rest : List ℕ) (w : Word) (kind : RefusalKind) → HasWord line w rest → BeginsBadText line kind → ⊥
+good_word line rest (Plain p) kind h bad =
+    let b = plain_begins line p rest h in
+    b.no_quote ((one_beginning line (b.others ++ rest) bad.1 b.first 34 b.begins (bad_begins line kind bad)).0)
+good_word line rest (Quoted t) kind h bad =
+    let r = one_beginning line (h.1 ++ 34 ∷ rest) bad.1 34 34 (quoted_begins line t rest h) (bad_begins line kind bad) in
+    closed_good bad.1 h.1 rest t kind (sym r.1) h.4 h.5 bad.4
+
+-- a line has one list of words
+starts_one : (line rest rest' : List ℕ) (ws ws' : List Word) → StartsWith line ws rest → All IsBlank rest → StartsWith line ws' rest' → All IsBlank rest' → ws ≡ ws'
+starts_one line rest rest' [] [] s b s' b' = refl
+starts_one line rest rest' [] (w' ∷ ws') s b s' b' = absurd (no_word line s'.0 w' s'.1 (subst (All IsBlank) (sym s) b))
+starts_one line rest rest' (w ∷ ws) [] s b s' b' = absurd (no_word line s.0 w s.1 (subst (All IsBlank) (sym s') b'))
+starts_one line rest rest' (w ∷ ws) (w' ∷ ws') s b s' b' =
+    let r = one_word line s.0 s'.0 w w' s.1 s'.1 in
+    let q = starts_one s.0 rest rest' ws ws' s.2 b (subst (λ x. StartsWith x ws' rest') (sym r.1) s'.2) b' in
+    ap (λ k. k ∷ ws) r.0 ∙ ap (λ k. w' ∷ k) q
+
+pub one_words : (line : List ℕ) (ws ws' : List Word) → HasWords line ws → HasWords line ws' → ws ≡ ws'
+one_words line ws ws' h h' = starts_one line h.0 h'.0 ws ws' h.1 h.2 h'.1 h'.2
+
+starts_good : (line rest rest' : List ℕ) (ws ws' : List Word) (kind : RefusalKind) → StartsWith line ws rest → All IsBlank rest → StartsWith line ws' rest' → BeginsBadText rest' kind → ⊥
+starts_good line rest rest' [] [] kind s b s' bad =
+    let e : rest' ≡ rest = sym s' ∙ s in
+    no_beginning rest' bad.1 34 (bad_begins rest' kind bad) (subst (All IsBlank) (sym e) b)
+starts_good line rest rest' [] (w' ∷ ws') kind s b s' bad = no_word line s'.0 w' s'.1 (subst (All IsBlank) (sym s) b)
+starts_good line rest rest' (w ∷ ws) [] kind s b s' bad = good_word line s.0 w kind s.1 (subst (λ x. BeginsBadText x kind) (sym s') bad)
+starts_good line rest rest' (w ∷ ws) (w' ∷ ws') kind s b s' bad =
+    let r = one_word line s.0 s'.0 w w' s.1 s'.1 in
+    starts_good s.0 rest rest' ws ws' kind s.2 b (subst (λ x. StartsWith x ws' rest') (sym r.1) s'.2) bad
+
+-- a line that has words has no flaw of its bytes
+pub good_bytes : (line : List ℕ) (ws : List Word) (kind : RefusalKind) → HasWords line ws → HasBadBytes line kind → ⊥
+good_bytes line ws kind h bad = starts_good line h.0 bad.1 ws bad.0 kind h.1 h.2 bad.2 bad.3
+
+starts_bad : (line rest rest' : List ℕ) (ws ws' : List Word) (kind kind' : RefusalKind) → StartsWith line ws rest → BeginsBadText rest kind → StartsWith line ws' rest' → BeginsBadText rest' kind' → kind ≡ kind'
+starts_bad line rest rest' [] [] kind kind' s bad s' bad' =
+    let at = subst (λ x. BeginsBadText x kind) (sym s) bad in
+    let at' = subst (λ x. BeginsBadText x kind') (sym s') bad' in
+    let r = one_beginning line at.1 at'.1 34 34 (bad_begins line kind at) (bad_begins line kind' at') in
+    one_bad_text at.1 kind kind' at.4 (subst (λ x. IsBadText x kind') (sym r.1) at'.4)
+starts_bad line rest rest' [] (w' ∷ ws') kind kind' s bad s' bad' = absurd (good_word line s'.0 w' kind s'.1 (subst (λ x. BeginsBadText x kind) (sym s) bad))
+starts_bad line rest rest' (w ∷ ws) [] kind kind' s bad s' bad' = absurd (good_word line s.0 w kind' s.1 (subst (λ x. BeginsBadText x kind') (sym s') bad'))
+starts_bad line rest rest' (w ∷ ws) (w' ∷ ws') kind kind' s bad s' bad' =
+    let r = one_word line s.0 s'.0 w w' s.1 s'.1 in
+    starts_bad s.0 rest rest' ws ws' kind kind' s.2 bad (subst (λ x. StartsWith x ws' rest') (sym r.1) s'.2) bad'
+
+-- the bytes of a line have one first flaw
+pub one_bad_bytes : (line : List ℕ) (kind kind' : RefusalKind) → HasBadBytes line kind → HasBadBytes line kind' → kind ≡ kind'
+one_bad_bytes line kind kind' h h' = starts_bad line h.1 h'.1 h.0 h'.0 kind kind' h.2 h.3 h'.2 h'.3
+
+-- a line ends at its first byte 10
+one_end : (l l' r r' : List ℕ) → All (λ c. c ≢ 10) l → All (λ c. c ≢ 10) l' → l ++ 10 ∷ r ≡ l' ++ 10 ∷ r' → (l ≡ l') × (r ≡ r')
+one_end [] [] r r' a a' e = (refl, cc)
+one_end [] (y ∷ ys) r r' a a' e = let same : y ≡ 10 = cc in absurd (head_of (λ c. c ≢ 10) y ys a' same)
+one_end (x ∷ xs) [] r r' a a' e = let same : x ≡ 10 = cc in absurd (head_of (λ c. c ≢ 10) x xs a same)
+one_end (x ∷ xs) (y ∷ ys) r r' a a' e =
+    let behind : xs ++ 10 ∷ r ≡ ys ++ 10 ∷ r' = cc in
+    let q = one_end xs ys r r' (tail_of (λ c. c ≢ 10) x xs a) (tail_of (λ c. c ≢ 10) y ys a') behind in
+    let same : x ≡ y = cc in
+    (ap (λ k. k ∷ xs) same ∙ ap (λ k. y ∷ k) q.0, q.1)
+
+no_end : (l front r : List ℕ) → All (λ c. c ≢ 10) l → l ≡ front ++ 10 ∷ r → ⊥
+no_end [] [] r a e = cc
+no_end [] (y ∷ ys) r a e = cc
+no_end (x ∷ xs) [] r a e = let same : x ≡ 10 = cc in head_of (λ c. c ≢ 10) x xs a same
+no_end (x ∷ xs) (y ∷ ys) r a e = let behind : xs ≡ ys ++ 10 ∷ r = cc in no_end xs ys r (tail_of (λ c. c ≢ 10) x xs a) behind
+
+-- a script has one list of lines
+pub one_split : (b : List ℕ) (ls ls' : List (List ℕ)) → IsSplit b ls → IsSplit b ls' → ls ≡ ls'
+one_split b [] ls' h h' = sym (split_nil ls' (subst (λ x. IsSplit x ls') h h'))
+one_split b (l ∷ ls) [] h h' = split_nil (l ∷ ls) (subst (λ x. IsSplit x (l ∷ ls)) h' h)
+one_split b (l ∷ ls) (l' ∷ ls') (a, inl h) (a', inl h') = ap (λ k. k ∷ ls) (sym h.2 ∙ h'.2) ∙ ap (λ k. l' ∷ k) (h.0 ∙ sym h'.0)
+one_split b (l ∷ ls) (l' ∷ ls') (a, inl h) (a', inr h') = absurd (no_end l l' h'.0 a (sym h.2 ∙ h'.1))
+one_split b (l ∷ ls) (l' ∷ ls') (a, inr h) (a', inl h') = absurd (no_end l' l h.0 a' (sym h'.2 ∙ h.1))
+one_split b (l ∷ ls) (l' ∷ ls') (a, inr h) (a', inr h') =
+    let q = one_end l l' h.0 h'.0 a a' (sym h.1 ∙ h'.1) in
+    let r = one_split h.0 ls ls' h.2 (subst (λ x. IsSplit x ls') (sym q.1) h'.2) in
+    ap (λ k. k ∷ ls) q.0 ∙ ap (λ k. l' ∷ k) r

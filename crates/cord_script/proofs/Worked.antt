@@ -1,0 +1,337 @@
+-- The worked rows.
+use Rattle.std.proofs.Common.{inl, inr, None, ◌≡◌, ◌≢◌, ◌≤◌, ◌<◌, ◌+◌, ℕ, List, [], ◌∷◌, ◌++◌, true, false, refl, length, lit≤, lit<}
+use Rattle.std.specs.Prelude.{◌==◌, codes, pos}
+use Rattle.cord_script.specs.declared.TheConstants.{MAX_SCRIPT, MAX_LINES, MAX_BLOCKS}
+use Rattle.cord_script.specs.declared.operands.Number.TheVariants.{Numeral}
+use Rattle.cord_script.specs.declared.operands.Relation.TheVariants.{Equal}
+use Rattle.cord_script.specs.declared.words.Word.TheVariants.{Plain, Quoted}
+use Rattle.cord_script.specs.declared.statements.Statement.{Statement}
+use Rattle.cord_script.specs.declared.statements.Statement.TheVariants.{Let, Put, Repeat, If, Else, End}
+use Rattle.cord_script.specs.declared.refusals.RefusalKind.{RefusalKind}
+use Rattle.cord_script.specs.declared.refusals.RefusalKind.TheVariants.{WrongCount, BadName, BadNumber, UnknownName, WrongKind, EndAlone, MissingEnd, ElseAlone, MissingIfEnd}
+use Rattle.cord_script.specs.Words.{IsSplit, IsIdle}
+use Rattle.cord_script.specs.Tests.{each}
+use Rattle.cord_script.specs.Forms.{form_of}
+use Rattle.cord_script.specs.Script.{Before, Block, Says, LinesSay, ReadsBy, start, after, after_all, whole}
+use Rattle.cord_script.specs.Script.Block.{InRepeat, InIf}
+use Rattle.cord_script.specs.Flaws.{HasBadWords, HasBadLine, FlawBy}
+use Rattle.cord_script.specs.Rows.{Rows, quote}
+use Rattle.cord_script.proofs.Samples.{Chunk, spelled, chunk_words, blank, some, well, no_end, words_well, not_idle, last_line, more_lines}
+use Rattle.cord_script.proofs.Samples.Chunk.{Bare, Marked}
+
+-- plain words behind one blank each
+abbrev behind : List (List ℕ) → List Chunk
+behind [] = []
+behind (w ∷ ws) = Bare (32 ∷ []) w ∷ behind ws
+
+-- a line of plain words
+abbrev plain : ℕ → List ℕ → List (List ℕ) → List Chunk
+plain c cs ws = Bare [] (c ∷ cs) ∷ behind ws
+
+-- a line that begins with a plain word says something
+record IsLine (c : ℕ) (cs : List ℕ) (others : List Chunk) : Type 0 where
+  shows : blank c ≡ false
+  no_note : (c == 35) ≡ false
+  words : well (Bare [] (c ∷ cs) ∷ others) ≡ true
+
+says_something : (c : ℕ) (cs : List ℕ) (others : List Chunk) → IsLine c cs others → ¬ IsIdle (spelled (Bare [] (c ∷ cs) ∷ others))
+says_something c cs others h = not_idle c (cs ++ spelled others) h.shows h.no_note
+
+-- a line of which the words are wrong
+bad_line : (n : ℕ) (before : Before) (c : ℕ) (cs : List ℕ) (others : List Chunk) (kind : RefusalKind) → n ≤ MAX_LINES → IsLine c cs others → HasBadWords whole before (chunk_words (Bare [] (c ∷ cs) ∷ others)) kind → HasBadLine whole n before (spelled (Bare [] (c ∷ cs) ∷ others)) kind
+bad_line n before c cs others kind few h bad = inr (few, says_something c cs others h, inr (chunk_words (Bare [] (c ∷ cs) ∷ others), words_well (Bare [] (c ∷ cs) ∷ others) h.words, bad))
+
+-- the first line is wrong
+first_bad : (b line : List ℕ) (later : List (List ℕ)) (kind : RefusalKind) → length b ≤ MAX_SCRIPT → IsSplit b (line ∷ later) → HasBadLine whole 1 start line kind → FlawBy whole b 1 kind
+first_bad b line later kind small split wrong = inr (inl (record {
+  size = small;
+  front = [];
+  line = line;
+  later = later;
+  split = split;
+  number = refl;
+  statements = [];
+  say = refl;
+  wrong = wrong;
+}))
+
+-- the second line is wrong
+second_bad : (b first line : List ℕ) (later : List (List ℕ)) (ss : List Statement) (kind : RefusalKind) → length b ≤ MAX_SCRIPT → IsSplit b (first ∷ line ∷ later) → LinesSay whole 1 start (first ∷ []) ss → HasBadLine whole 2 (after_all ss start) line kind → FlawBy whole b 2 kind
+second_bad b first line later ss kind small split say wrong = inr (inl (record {
+  size = small;
+  front = first ∷ [];
+  line = line;
+  later = later;
+  split = split;
+  number = refl;
+  statements = ss;
+  say = say;
+  wrong = wrong;
+}))
+
+-- one line of plain words that is wrong
+one_bad : (c : ℕ) (cs : List ℕ) (ws : List (List ℕ)) (kind : RefusalKind) → length (spelled (plain c cs ws)) ≤ MAX_SCRIPT → each no_end (spelled (plain c cs ws)) ≡ true → IsLine c cs (behind ws) → HasBadWords whole start (chunk_words (plain c cs ws)) kind → FlawBy whole (spelled (plain c cs ws)) 1 kind
+one_bad c cs ws kind small l h bad = first_bad (spelled (plain c cs ws)) (spelled (plain c cs ws)) [] kind small (last_line (spelled (plain c cs ws)) l refl) (bad_line 1 start c cs (behind ws) kind (lit≤ tt) h bad)
+
+unknown_name : FlawBy whole (codes "put x") 1 UnknownName
+unfolding form_of
+unknown_name = one_bad 112 (codes "ut") (codes "x" ∷ []) UnknownName (lit≤ tt) refl (record { shows = refl; no_note = refl; words = refl }) (None, refl, refl)
+
+cat_one_operand : FlawBy whole (codes "cat z x") 1 WrongCount
+unfolding form_of
+cat_one_operand = one_bad 99 (codes "at") (codes "z" ∷ codes "x" ∷ []) WrongCount (lit≤ tt) refl (record { shows = refl; no_note = refl; words = refl }) (None, refl, refl)
+
+put_two_words : FlawBy whole (codes "put x y") 1 WrongCount
+unfolding form_of
+put_two_words = one_bad 112 (codes "ut") (codes "x" ∷ codes "y" ∷ []) WrongCount (lit≤ tt) refl (record { shows = refl; no_note = refl; words = refl }) (None, refl, refl)
+
+let_plain_word : FlawBy whole (codes "let x a") 1 WrongKind
+unfolding form_of
+let_plain_word = one_bad 108 (codes "et") (codes "x" ∷ codes "a" ∷ []) WrongKind (lit≤ tt) refl (record { shows = refl; no_note = refl; words = refl }) (None, refl, refl)
+
+cat_of_itself_unknown : FlawBy whole (codes "cat x x x") 1 UnknownName
+unfolding form_of
+cat_of_itself_unknown = one_bad 99 (codes "at") (codes "x" ∷ codes "x" ∷ codes "x" ∷ []) UnknownName (lit≤ tt) refl (record { shows = refl; no_note = refl; words = refl }) (None, refl, refl)
+
+chars_numeral_too_great : FlawBy whole (codes "chars a 0 99999999999999999999") 1 BadNumber
+unfolding form_of
+chars_numeral_too_great = one_bad 99 (codes "hars") (codes "a" ∷ codes "0" ∷ codes "99999999999999999999" ∷ []) BadNumber (lit≤ tt) refl (record { shows = refl; no_note = refl; words = refl }) (None, refl, refl)
+
+end_alone : FlawBy whole (codes "end") 1 EndAlone
+unfolding form_of
+end_alone = one_bad 101 (codes "nd") [] EndAlone (lit≤ tt) refl (record { shows = refl; no_note = refl; words = refl }) (None, refl, refl)
+
+else_alone : FlawBy whole (codes "else") 1 ElseAlone
+unfolding form_of
+else_alone = one_bad 101 (codes "lse") [] ElseAlone (lit≤ tt) refl (record { shows = refl; no_note = refl; words = refl }) (None, refl, refl)
+
+if_bad_relation : FlawBy whole (codes "if 1 ne 1" ++ 10 ∷ codes "end") 1 BadName
+unfolding form_of
+if_bad_relation = first_bad (codes "if 1 ne 1" ++ 10 ∷ codes "end") (codes "if 1 ne 1") (codes "end" ∷ []) BadName (lit≤ tt)
+    (more_lines (codes "if 1 ne 1") (codes "end") (codes "end" ∷ []) refl (last_line (codes "end") refl refl))
+    (bad_line 1 start 105 (codes "f") (behind (codes "1" ∷ codes "ne" ∷ codes "1" ∷ [])) BadName (lit≤ tt) (record { shows = refl; no_note = refl; words = refl }) (None, refl, refl))
+
+-- the words of `let x "t"`
+abbrev let_chunks : List ℕ → List Chunk
+let_chunks t = Bare (32 ∷ []) (codes "x") ∷ Marked (32 ∷ []) t ∷ []
+
+abbrev let_line : List ℕ → List ℕ
+let_line t = spelled (Bare [] (codes "let") ∷ let_chunks t)
+
+let_says : (t : List ℕ) → Says whole 1 start (chunk_words (Bare [] (codes "let") ∷ let_chunks t)) (Let 1 (codes "x") t)
+let_says t = record {
+  has = refl;
+  line = refl;
+  others = Plain (codes "x") ∷ Quoted t ∷ [];
+  word = refl;
+  terms = ((refl, refl), (refl, tt));
+  suits = tt;
+  allowed = (inr (refl, lit< tt), (tt, tt));
+  blocks = tt;
+}
+
+let_first : (t : List ℕ) → IsLine 108 (codes "et") (let_chunks t) → LinesSay whole 1 start (let_line t ∷ []) (Let 1 (codes "x") t ∷ [])
+let_first t h = inr (says_something 108 (codes "et") (let_chunks t) h, Let 1 (codes "x") t, chunk_words (Bare [] (codes "let") ∷ let_chunks t), [], refl, words_well (Bare [] (codes "let") ∷ let_chunks t) h.words, let_says t, refl)
+
+fetch_into_cord : FlawBy whole (codes "let x " ++ quote (codes "a") ++ 10 ∷ codes "fetch x x 0") 2 WrongKind
+unfolding form_of
+fetch_into_cord = second_bad (let_line (codes "a") ++ 10 ∷ codes "fetch x x 0") (let_line (codes "a")) (codes "fetch x x 0") [] (Let 1 (codes "x") (codes "a") ∷ []) WrongKind (lit≤ tt)
+    (more_lines (let_line (codes "a")) (codes "fetch x x 0") (codes "fetch x x 0" ∷ []) refl (last_line (codes "fetch x x 0") refl refl))
+    (let_first (codes "a") (record { shows = refl; no_note = refl; words = refl }))
+    (bad_line 2 (after_all (Let 1 (codes "x") (codes "a") ∷ []) start) 102 (codes "etch") (behind (codes "x" ∷ codes "x" ∷ codes "0" ∷ [])) WrongKind (lit≤ tt) (record { shows = refl; no_note = refl; words = refl }) (None, refl, refl))
+
+len_into_cord : FlawBy whole (codes "let x " ++ quote (codes "a") ++ 10 ∷ codes "len x x") 2 WrongKind
+unfolding form_of
+len_into_cord = second_bad (let_line (codes "a") ++ 10 ∷ codes "len x x") (let_line (codes "a")) (codes "len x x") [] (Let 1 (codes "x") (codes "a") ∷ []) WrongKind (lit≤ tt)
+    (more_lines (let_line (codes "a")) (codes "len x x") (codes "len x x" ∷ []) refl (last_line (codes "len x x") refl refl))
+    (let_first (codes "a") (record { shows = refl; no_note = refl; words = refl }))
+    (bad_line 2 (after_all (Let 1 (codes "x") (codes "a") ∷ []) start) 108 (codes "en") (behind (codes "x" ∷ codes "x" ∷ [])) WrongKind (lit≤ tt) (record { shows = refl; no_note = refl; words = refl }) (None, refl, refl))
+
+hello : ReadsBy whole (codes "let x " ++ quote (codes "hello") ++ 10 ∷ codes "put x") (Let 1 (codes "x") (codes "hello") ∷ Put 2 (codes "x") ∷ [])
+hello = record {
+  size = lit≤ tt;
+  lines = let_line (codes "hello") ∷ codes "put x" ∷ [];
+  split = more_lines (let_line (codes "hello")) (codes "put x") (codes "put x" ∷ []) refl (last_line (codes "put x") refl refl);
+  count = lit≤ tt;
+  say = inr (
+    says_something 108 (codes "et") (let_chunks (codes "hello")) (record { shows = refl; no_note = refl; words = refl }),
+    Let 1 (codes "x") (codes "hello"),
+    chunk_words (Bare [] (codes "let") ∷ let_chunks (codes "hello")),
+    Put 2 (codes "x") ∷ [],
+    refl,
+    words_well (Bare [] (codes "let") ∷ let_chunks (codes "hello")) refl,
+    let_says (codes "hello"),
+    inr (
+      says_something 112 (codes "ut") (behind (codes "x" ∷ [])) (record { shows = refl; no_note = refl; words = refl }),
+      Put 2 (codes "x"),
+      Plain (codes "put") ∷ Plain (codes "x") ∷ [],
+      [],
+      refl,
+      words_well (plain 112 (codes "ut") (codes "x" ∷ [])) refl,
+      record {
+        has = refl;
+        line = refl;
+        others = Plain (codes "x") ∷ [];
+        word = refl;
+        terms = ((refl, refl), tt);
+        suits = tt;
+        allowed = (refl, tt);
+        blocks = tt;
+      },
+      refl,
+    ),
+  );
+  closed = refl;
+}
+
+-- the words of `repeat`, `if`, `else` and `end`
+abbrev repeat_chunks : List ℕ → List Chunk
+repeat_chunks digits = plain 114 (codes "epeat") (digits ∷ [])
+
+abbrev if_chunks : List Chunk
+if_chunks = plain 105 (codes "f") (codes "1" ∷ codes "eq" ∷ codes "1" ∷ [])
+
+abbrev else_chunks : List Chunk
+else_chunks = plain 101 (codes "lse") []
+
+abbrev end_chunks : List Chunk
+end_chunks = plain 101 (codes "nd") []
+
+repeat_once : (n : ℕ) (before : Before) → length before.blocks < MAX_BLOCKS → Says whole n before (chunk_words (repeat_chunks (codes "1"))) (Repeat n (Numeral (pos 1)))
+repeat_once n before few = record {
+  has = refl;
+  line = refl;
+  others = Plain (codes "1") ∷ [];
+  word = refl;
+  terms = ((codes "1", refl, refl), tt);
+  suits = tt;
+  allowed = (tt, tt);
+  blocks = few;
+}
+
+repeat_twice : (n : ℕ) (before : Before) → length before.blocks < MAX_BLOCKS → Says whole n before (chunk_words (repeat_chunks (codes "2"))) (Repeat n (Numeral (pos 2)))
+repeat_twice n before few = record {
+  has = refl;
+  line = refl;
+  others = Plain (codes "2") ∷ [];
+  word = refl;
+  terms = ((codes "2", refl, refl), tt);
+  suits = tt;
+  allowed = (tt, tt);
+  blocks = few;
+}
+
+if_says : (n : ℕ) (before : Before) → length before.blocks < MAX_BLOCKS → Says whole n before (chunk_words if_chunks) (If n (Numeral (pos 1)) Equal (Numeral (pos 1)))
+if_says n before few = record {
+  has = refl;
+  line = refl;
+  others = Plain (codes "1") ∷ Plain (codes "eq") ∷ Plain (codes "1") ∷ [];
+  word = refl;
+  terms = ((codes "1", refl, refl), (refl, ((codes "1", refl, refl), tt)));
+  suits = tt;
+  allowed = (tt, (tt, (tt, tt)));
+  blocks = few;
+}
+
+else_says : (n m : ℕ) (before : Before) (blocks : List Block) → before.blocks ≡ InIf m ∷ blocks → Says whole n before (chunk_words else_chunks) (Else n)
+else_says n m before blocks e = record {
+  has = refl;
+  line = refl;
+  others = [];
+  word = refl;
+  terms = tt;
+  suits = tt;
+  allowed = tt;
+  blocks = (m, blocks, e);
+}
+
+end_says : (n : ℕ) (before : Before) → before.blocks ≢ [] → Says whole n before (chunk_words end_chunks) (End n)
+end_says n before some = record {
+  has = refl;
+  line = refl;
+  others = [];
+  word = refl;
+  terms = tt;
+  suits = tt;
+  allowed = tt;
+  blocks = some;
+}
+
+-- one more line that says a statement
+then_says : (n : ℕ) (before : Before) (c : ℕ) (cs : List ℕ) (ws : List (List ℕ)) (lines : List (List ℕ)) (s : Statement) (ss : List Statement) → IsLine c cs (behind ws) → Says whole n before (chunk_words (plain c cs ws)) s → LinesSay whole (n + 1) (after s before) lines ss → LinesSay whole n before (spelled (plain c cs ws) ∷ lines) (s ∷ ss)
+then_says n before c cs ws lines s ss h says rest = inr (says_something c cs (behind ws) h, s, chunk_words (plain c cs ws), ss, refl, words_well (plain c cs ws) h.words, says, rest)
+
+outer_repeat_open : FlawBy whole (codes "repeat 1" ++ 10 ∷ codes "repeat 1" ++ 10 ∷ codes "end") 1 MissingEnd
+outer_repeat_open = inr (inr (record {
+  size = lit≤ tt;
+  lines = codes "repeat 1" ∷ codes "repeat 1" ∷ codes "end" ∷ [];
+  split = more_lines (codes "repeat 1") (codes "repeat 1" ++ 10 ∷ codes "end") (codes "repeat 1" ∷ codes "end" ∷ []) refl (more_lines (codes "repeat 1") (codes "end") (codes "end" ∷ []) refl (last_line (codes "end") refl refl));
+  count = lit≤ tt;
+  statements = Repeat 1 (Numeral (pos 1)) ∷ Repeat 2 (Numeral (pos 1)) ∷ End 3 ∷ [];
+  say = then_says 1 start 114 (codes "epeat") (codes "1" ∷ []) (codes "repeat 1" ∷ codes "end" ∷ []) (Repeat 1 (Numeral (pos 1))) (Repeat 2 (Numeral (pos 1)) ∷ End 3 ∷ []) (record { shows = refl; no_note = refl; words = refl }) (repeat_once 1 start (lit< tt))
+      (then_says 2 (after (Repeat 1 (Numeral (pos 1))) start) 114 (codes "epeat") (codes "1" ∷ []) (codes "end" ∷ []) (Repeat 2 (Numeral (pos 1))) (End 3 ∷ []) (record { shows = refl; no_note = refl; words = refl }) (repeat_once 2 (after (Repeat 1 (Numeral (pos 1))) start) (lit< tt))
+      (then_says 3 (after (Repeat 2 (Numeral (pos 1))) (after (Repeat 1 (Numeral (pos 1))) start)) 101 (codes "nd") [] [] (End 3) [] (record { shows = refl; no_note = refl; words = refl }) (end_says 3 (after (Repeat 2 (Numeral (pos 1))) (after (Repeat 1 (Numeral (pos 1))) start)) (λ e. cc)) refl));
+  block = InRepeat 1;
+  others = [];
+  blocks = refl;
+  left = (refl, refl);
+}))
+
+if_open_round_repeat : FlawBy whole (codes "if 1 eq 1" ++ 10 ∷ codes "repeat 2" ++ 10 ∷ codes "end") 1 MissingIfEnd
+if_open_round_repeat = inr (inr (record {
+  size = lit≤ tt;
+  lines = codes "if 1 eq 1" ∷ codes "repeat 2" ∷ codes "end" ∷ [];
+  split = more_lines (codes "if 1 eq 1") (codes "repeat 2" ++ 10 ∷ codes "end") (codes "repeat 2" ∷ codes "end" ∷ []) refl (more_lines (codes "repeat 2") (codes "end") (codes "end" ∷ []) refl (last_line (codes "end") refl refl));
+  count = lit≤ tt;
+  statements = If 1 (Numeral (pos 1)) Equal (Numeral (pos 1)) ∷ Repeat 2 (Numeral (pos 2)) ∷ End 3 ∷ [];
+  say = then_says 1 start 105 (codes "f") (codes "1" ∷ codes "eq" ∷ codes "1" ∷ []) (codes "repeat 2" ∷ codes "end" ∷ []) (If 1 (Numeral (pos 1)) Equal (Numeral (pos 1))) (Repeat 2 (Numeral (pos 2)) ∷ End 3 ∷ []) (record { shows = refl; no_note = refl; words = refl }) (if_says 1 start (lit< tt))
+      (then_says 2 (after (If 1 (Numeral (pos 1)) Equal (Numeral (pos 1))) start) 114 (codes "epeat") (codes "2" ∷ []) (codes "end" ∷ []) (Repeat 2 (Numeral (pos 2))) (End 3 ∷ []) (record { shows = refl; no_note = refl; words = refl }) (repeat_twice 2 (after (If 1 (Numeral (pos 1)) Equal (Numeral (pos 1))) start) (lit< tt))
+      (then_says 3 (after (Repeat 2 (Numeral (pos 2))) (after (If 1 (Numeral (pos 1)) Equal (Numeral (pos 1))) start)) 101 (codes "nd") [] [] (End 3) [] (record { shows = refl; no_note = refl; words = refl }) (end_says 3 (after (Repeat 2 (Numeral (pos 2))) (after (If 1 (Numeral (pos 1)) Equal (Numeral (pos 1))) start)) (λ e. cc)) refl));
+  block = InIf 1;
+  others = [];
+  blocks = refl;
+  left = (refl, refl);
+}))
+
+else_in_repeat : FlawBy whole (codes "repeat 1" ++ 10 ∷ codes "else" ++ 10 ∷ codes "end") 2 ElseAlone
+unfolding form_of
+else_in_repeat = second_bad (codes "repeat 1" ++ 10 ∷ codes "else" ++ 10 ∷ codes "end") (codes "repeat 1") (codes "else") (codes "end" ∷ []) (Repeat 1 (Numeral (pos 1)) ∷ []) ElseAlone (lit≤ tt)
+    (more_lines (codes "repeat 1") (codes "else" ++ 10 ∷ codes "end") (codes "else" ∷ codes "end" ∷ []) refl (more_lines (codes "else") (codes "end") (codes "end" ∷ []) refl (last_line (codes "end") refl refl)))
+    (then_says 1 start 114 (codes "epeat") (codes "1" ∷ []) [] (Repeat 1 (Numeral (pos 1))) [] (record { shows = refl; no_note = refl; words = refl }) (repeat_once 1 start (lit< tt)) refl)
+    (bad_line 2 (after (Repeat 1 (Numeral (pos 1))) start) 101 (codes "lse") [] ElseAlone (lit≤ tt) (record { shows = refl; no_note = refl; words = refl }) (None, refl, refl))
+
+else_twice : FlawBy whole (codes "if 1 eq 1" ++ 10 ∷ codes "else" ++ 10 ∷ codes "else" ++ 10 ∷ codes "end") 3 ElseAlone
+unfolding form_of
+else_twice = inr (inl (record {
+  size = lit≤ tt;
+  front = codes "if 1 eq 1" ∷ codes "else" ∷ [];
+  line = codes "else";
+  later = codes "end" ∷ [];
+  split = more_lines (codes "if 1 eq 1") (codes "else" ++ 10 ∷ codes "else" ++ 10 ∷ codes "end") (codes "else" ∷ codes "else" ∷ codes "end" ∷ []) refl (more_lines (codes "else") (codes "else" ++ 10 ∷ codes "end") (codes "else" ∷ codes "end" ∷ []) refl (more_lines (codes "else") (codes "end") (codes "end" ∷ []) refl (last_line (codes "end") refl refl)));
+  number = refl;
+  statements = If 1 (Numeral (pos 1)) Equal (Numeral (pos 1)) ∷ Else 2 ∷ [];
+  say = then_says 1 start 105 (codes "f") (codes "1" ∷ codes "eq" ∷ codes "1" ∷ []) (codes "else" ∷ []) (If 1 (Numeral (pos 1)) Equal (Numeral (pos 1))) (Else 2 ∷ []) (record { shows = refl; no_note = refl; words = refl }) (if_says 1 start (lit< tt))
+      (then_says 2 (after (If 1 (Numeral (pos 1)) Equal (Numeral (pos 1))) start) 101 (codes "lse") [] [] (Else 2) [] (record { shows = refl; no_note = refl; words = refl }) (else_says 2 1 (after (If 1 (Numeral (pos 1)) Equal (Numeral (pos 1))) start) [] refl) refl);
+  wrong = bad_line 3 (after (Else 2) (after (If 1 (Numeral (pos 1)) Equal (Numeral (pos 1))) start)) 101 (codes "lse") [] ElseAlone (lit≤ tt) (record { shows = refl; no_note = refl; words = refl }) (None, refl, refl);
+}))
+
+-- all rows
+pub rows : Rows
+rows = record {
+  hello = hello;
+  unknown_name = unknown_name;
+  cat_one_operand = cat_one_operand;
+  put_two_words = put_two_words;
+  let_plain_word = let_plain_word;
+  cat_of_itself_unknown = cat_of_itself_unknown;
+  chars_numeral_too_great = chars_numeral_too_great;
+  end_alone = end_alone;
+  else_alone = else_alone;
+  if_bad_relation = if_bad_relation;
+  fetch_into_cord = fetch_into_cord;
+  len_into_cord = len_into_cord;
+  outer_repeat_open = outer_repeat_open;
+  else_in_repeat = else_in_repeat;
+  else_twice = else_twice;
+  if_open_round_repeat = if_open_round_repeat;
+}

@@ -1,0 +1,12 @@
+pub mod Flaws
+pub mod Formats
+pub mod Forms
+pub mod Laws
+pub mod Passes
+pub mod Reading
+pub mod Refusals
+pub mod Rows
+pub mod Script
+pub mod Steps
+pub mod Tests
+pub mod Words

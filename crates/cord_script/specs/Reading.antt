@@ -1,0 +1,32 @@
+-- The byte that the front of a quoted word stands for, computed.
+use Rattle.std.specs.Prelude.{ℕ, ◌+◌, ◌*◌, ◌-◌, List, [], ◌∷◌, ◌&&◌, ◌==◌, nat_le, Option, Some, None, if◌then◌else◌}
+
+-- the value of a hexadecimal digit
+abbrev pub digit_of : ℕ → Option ℕ
+digit_of c = if nat_le 48 c && nat_le c 57 then Some (c - 48) else (if nat_le 97 c && nat_le c 102 then Some (c - 87) else (if nat_le 65 c && nat_le c 70 then Some (c - 55) else None))
+
+-- the byte of two hexadecimal digits, and what follows them
+abbrev pub byte_of : Option ℕ → Option ℕ → List ℕ → Option (ℕ × List ℕ)
+byte_of None low rest = None
+byte_of (Some high) None rest = None
+byte_of (Some high) (Some low) rest = Some (16 * high + low, rest)
+
+abbrev pub hex_of : List ℕ → Option (ℕ × List ℕ)
+hex_of [] = None
+hex_of (h ∷ []) = None
+hex_of (h ∷ l ∷ rest) = byte_of (digit_of h) (digit_of l) rest
+
+-- the byte of an escape whose `\` is read, and what follows the escape
+abbrev pub escape_of : List ℕ → Option (ℕ × List ℕ)
+escape_of [] = None
+escape_of (c ∷ rest) =
+    if c == 92 then Some (92, rest)
+    else (if c == 34 then Some (34, rest)
+    else (if c == 110 then Some (10, rest)
+    else (if c == 116 then Some (9, rest)
+    else (if c == 120 then hex_of rest else None))))
+
+-- the byte that the front stands for, and what follows that front
+abbrev pub unit_of : List ℕ → Option (ℕ × List ℕ)
+unit_of [] = None
+unit_of (c ∷ rest) = if c == 92 then escape_of rest else (if c == 34 then None else Some (c, rest))

@@ -1,0 +1,29 @@
+-- Worked rows of the grammar with all statements: what is read, and what is wrong first.
+use Rattle.std.specs.Prelude.{ℕ, List, [], ◌∷◌, ◌++◌, codes}
+use Rattle.cord_script.specs.declared.statements.Statement.TheVariants.{Let, Put}
+use Rattle.cord_script.specs.declared.refusals.RefusalKind.TheVariants.{WrongCount, BadName, BadNumber, UnknownName, WrongKind, EndAlone, MissingEnd, ElseAlone, MissingIfEnd}
+use Rattle.cord_script.specs.Script.{ReadsBy, whole}
+use Rattle.cord_script.specs.Flaws.{FlawBy}
+
+-- a quoted word without escapes
+abbrev pub quote : List ℕ → List ℕ
+quote t = 34 ∷ t ++ 34 ∷ []
+
+-- The rows under their names.
+pub record Rows : Type 0 where
+  pub hello : ReadsBy whole (codes "let x " ++ quote (codes "hello") ++ 10 ∷ codes "put x") (Let 1 (codes "x") (codes "hello") ∷ Put 2 (codes "x") ∷ [])
+  pub unknown_name : FlawBy whole (codes "put x") 1 UnknownName
+  pub cat_one_operand : FlawBy whole (codes "cat z x") 1 WrongCount
+  pub put_two_words : FlawBy whole (codes "put x y") 1 WrongCount
+  pub let_plain_word : FlawBy whole (codes "let x a") 1 WrongKind
+  pub cat_of_itself_unknown : FlawBy whole (codes "cat x x x") 1 UnknownName
+  pub chars_numeral_too_great : FlawBy whole (codes "chars a 0 99999999999999999999") 1 BadNumber
+  pub end_alone : FlawBy whole (codes "end") 1 EndAlone
+  pub else_alone : FlawBy whole (codes "else") 1 ElseAlone
+  pub if_bad_relation : FlawBy whole (codes "if 1 ne 1" ++ 10 ∷ codes "end") 1 BadName
+  pub fetch_into_cord : FlawBy whole (codes "let x " ++ quote (codes "a") ++ 10 ∷ codes "fetch x x 0") 2 WrongKind
+  pub len_into_cord : FlawBy whole (codes "let x " ++ quote (codes "a") ++ 10 ∷ codes "len x x") 2 WrongKind
+  pub outer_repeat_open : FlawBy whole (codes "repeat 1" ++ 10 ∷ codes "repeat 1" ++ 10 ∷ codes "end") 1 MissingEnd
+  pub else_in_repeat : FlawBy whole (codes "repeat 1" ++ 10 ∷ codes "else" ++ 10 ∷ codes "end") 2 ElseAlone
+  pub else_twice : FlawBy whole (codes "if 1 eq 1" ++ 10 ∷ codes "else" ++ 10 ∷ codes "else" ++ 10 ∷ codes "end") 3 ElseAlone
+  pub if_open_round_repeat : FlawBy whole (codes "if 1 eq 1" ++ 10 ∷ codes "repeat 2" ++ 10 ∷ codes "end") 1 MissingIfEnd

@@ -1,0 +1,191 @@
+// The words of a line.
+ghost use Rattle.std.specs.Prelude.{◌≡◌, ◌≢◌, ◌<◌, ◌≤◌, ℕ, List, [], ◌∷◌, ◌++◌, length, take, drop, All, IfOk, IfErr, IfSome, MatchOption, option_map, IsTrue, false};
+ghost use Rattle.cord_script.specs.Words.{IsBlank, IsPlain, EndsPlain, StartsNoBlank, Spells, IsBadText, HasNext, BeginsBadText, HasWords, HasBadBytes};
+ghost use Rattle.cord_script.specs.Reading.{digit_of, hex_of, escape_of, unit_of};
+
+use crate::{MAX_TEXT, Name, RefusalKind, Text};
+use std::alloc::Global;
+
+/// A word: a plain one as its bytes, a quoted one as the text that it spells.
+#[derive(Drop)]
+pub enum Word {
+    Plain(Name),
+    Quoted(Text),
+}
+
+fn is_blank(c: u8) -> bool
+    ensures yes { IsTrue result → IsBlank c }
+    ensures no { result ≡ false → ¬ IsBlank c }
+{
+    c == 32 || c == 9 || c == 13
+}
+
+/// How many blanks stand at the front.
+pub fn blanks(line: &[u8]) -> usize
+    ensures within { result ≤ length line.now }
+    ensures blank { All IsBlank (take result line.now) }
+    ensures stops { StartsNoBlank (drop result line.now) }
+{
+    for (i, c) in line.iter().enumerate() {
+        if !is_blank(*c) {
+            return i;
+        }
+    }
+    line.len()
+}
+
+// How many bytes of a plain word stand at the front.
+fn plain_len(line: &[u8]) -> usize
+    ensures within { result ≤ length line.now }
+    ensures plain { All IsPlain (take result line.now) }
+    ensures ends { EndsPlain (drop result line.now) }
+{
+    for (i, c) in line.iter().enumerate() {
+        if *c == 34 || is_blank(*c) {
+            return i;
+        }
+    }
+    line.len()
+}
+
+/// What follows the first bytes.
+pub fn tail(bytes: &[u8], n: usize) -> &[u8]
+    requires { n ≤ length bytes.now }
+    ensures { result.now ≡ drop n bytes.now }
+{
+    &bytes[n..]
+}
+
+/// The first bytes.
+pub fn head(bytes: &[u8], n: usize) -> &[u8]
+    requires { n ≤ length bytes.now }
+    ensures { result.now ≡ take n bytes.now }
+{
+    &bytes[..n]
+}
+
+/// The first byte and the others.
+pub fn uncons(bytes: &[u8]) -> Option<(u8, &[u8])>
+    ensures { MatchOption result (bytes.now ≡ []) (λ r. bytes.now ≡ r.0 ∷ r.1.now) }
+{
+    match bytes {
+        [] => None,
+        [first, rest @ ..] => Some((*first, rest)),
+    }
+}
+
+// The value of a hexadecimal digit.
+fn digit(c: u8) -> Option<u8>
+    ensures value { result ≡ digit_of c }
+    ensures small { IfSome result (λ v. v < 16) }
+{
+    match c {
+        b'0'..=b'9' => Some(c - 48),
+        b'a'..=b'f' => Some(c - 87),
+        b'A'..=b'F' => Some(c - 55),
+        _ => None,
+    }
+}
+
+// The byte of two hexadecimal digits, and what follows them.
+fn hex_byte(bytes: &[u8]) -> Option<(u8, &[u8])>
+    ensures { option_map (λ r. (r.0, r.1.now)) result ≡ hex_of bytes.now }
+{
+    let (h, after) = uncons(bytes)?;
+    let (l, rest) = uncons(after)?;
+    let high = digit(h)?;
+    let low = digit(l)?;
+    Some((16 * high + low, rest))
+}
+
+// The byte of an escape whose `\` is read, and what follows the escape.
+fn escape(bytes: &[u8]) -> Option<(u8, &[u8])>
+    ensures { option_map (λ r. (r.0, r.1.now)) result ≡ escape_of bytes.now }
+{
+    let (c, rest) = uncons(bytes)?;
+    match c {
+        92 => Some((92, rest)),
+        34 => Some((34, rest)),
+        110 => Some((10, rest)),
+        116 => Some((9, rest)),
+        120 => hex_byte(rest),
+        _ => None,
+    }
+}
+
+// The byte that the front of a quoted word stands for, and what follows that front.
+fn unit(bytes: &[u8]) -> Option<(u8, &[u8])>
+    ensures { option_map (λ r. (r.0, r.1.now)) result ≡ unit_of bytes.now }
+{
+    let (c, rest) = uncons(bytes)?;
+    match c {
+        92 => escape(rest),
+        34 => None,
+        _ => Some((c, rest)),
+    }
+}
+
+// The text of a quoted word whose first quote is read, and what follows the word.
+fn quoted(alloc: Global, inner: &[u8]) -> Result<(Text, &[u8]), RefusalKind>
+    ensures text { IfOk result (λ r. (w : List ℕ) × (inner.now ≡ w ++ 34 ∷ r.1.now) × Spells w r.0 × (length r.0 ≤ MAX_TEXT)) }
+    ensures flaw { IfErr result (λ kind. kind ≢ RefusalKind.NoMemory → IsBadText inner.now kind) }
+{
+    let mut text = Vec::new(alloc);
+    let mut rest = inner;
+    'units: while let Some((first, after)) = uncons(rest) {
+        if first == 34 {
+            return Ok((Text::of(text), after));
+        }
+        let Some((byte, behind)) = unit(rest) else {
+            return Err(RefusalKind::BadEscape);
+        };
+        if text.len() == MAX_TEXT {
+            return Err(RefusalKind::LiteralTooLong);
+        }
+        if text.push(byte).is_err() {
+            return Err(RefusalKind::NoMemory);
+        }
+        rest = behind;
+    }
+    Err(RefusalKind::Unterminated)
+}
+
+// The first word of a line and what follows it, if there is one.
+fn next_word(alloc: Global, line: &[u8]) -> Result<Option<(Word, &[u8])>, RefusalKind>
+    ensures word { IfOk result (λ o. HasNext line.now (option_map (λ r. (r.0, r.1.now)) o)) }
+    ensures flaw { IfErr result (λ kind. kind ≢ RefusalKind.NoMemory → BeginsBadText line.now kind) }
+{
+    let rest = tail(line, blanks(line));
+    let Some((first, inner)) = uncons(rest) else {
+        return Ok(None);
+    };
+    if first == 34 {
+        let (text, after) = quoted(alloc, inner)?;
+        return Ok(Some((Word::Quoted(text), after)));
+    }
+    let len = plain_len(rest);
+    match Vec::from_slice(alloc, head(rest, len)) {
+        Err(_) => Err(RefusalKind::NoMemory),
+        Ok(bytes) => Ok(Some((Word::Plain(Name::of(bytes)), tail(rest, len)))),
+    }
+}
+
+/// The words of a line, in order.
+pub fn words_of(alloc: Global, line: &[u8]) -> Result<Vec<Word>, RefusalKind>
+    ensures words { IfOk result (λ ws. HasWords line.now ws.items) }
+    ensures flaw { IfErr result (λ kind. kind ≢ RefusalKind.NoMemory → HasBadBytes line.now kind) }
+{
+    let mut words = Vec::new(alloc);
+    let mut rest = line;
+    'words: loop {
+        match next_word(alloc, rest)? {
+            None => return Ok(words),
+            Some((word, behind)) => {
+                if words.push(word).is_err() {
+                    return Err(RefusalKind::NoMemory);
+                }
+                rest = behind;
+            }
+        }
+    }
+}

@@ -1,0 +1,4 @@
+pub mod Files
+pub mod Outcomes
+pub mod Tells
+pub mod Drives

@@ -1,0 +1,62 @@
+//! Runs scripts of cord statements: `cordsh SCRIPT`.
+#![tactic(auto)]
+
+mod outcome;
+mod program;
+mod reader;
+#[cfg(test)]
+mod tests;
+
+use cord_io::{DiskFiles, StdSink};
+use outcome::{Outcome, report};
+use std::env;
+use std::io::{BufWriter, ErrorKind};
+use std::process::ExitCode;
+
+// The bytes of output that are kept before they are written.
+const OUTPUT_BUFFER: usize = 65_536;
+
+// The words after the program's name.
+fn words_of(rt: &HostRuntime) -> Result<Vec<String>, Outcome> {
+    let mut words = match env::args(rt) {
+        Ok(words) => words,
+        Err(error) => {
+            return Err(match error.kind() {
+                ErrorKind::OutOfMemory => Outcome::NoMemory,
+                _ => Outcome::BadCommandLine,
+            });
+        }
+    };
+    let _ = words.next();
+    match words.collect(rt.alloc()) {
+        Ok(words) => Ok(words),
+        Err(_) => Err(Outcome::NoMemory),
+    }
+}
+
+// Runs the program over the machine's files and streams.
+fn run(rt: &HostRuntime) -> Result<u8, Outcome> {
+    let alloc = rt.alloc();
+    let words = words_of(rt)?;
+    let Ok(runtime) = rt.clone() else {
+        return Err(Outcome::NoMemory);
+    };
+    let Ok(buffered) = BufWriter::with_capacity(alloc, OUTPUT_BUFFER, rt.stdout()) else {
+        return Err(Outcome::NoMemory);
+    };
+    let mut out = StdSink::new(buffered);
+    let mut err = StdSink::new(rt.stderr());
+    let files = DiskFiles::new(runtime, alloc);
+    let (status, _) = program::drive(alloc, &words, files, &mut out, &mut err);
+    Ok(status)
+}
+
+fn main(rt: HostRuntime) -> ExitCode {
+    match run(&rt) {
+        Ok(status) => ExitCode::from(status),
+        Err(outcome) => {
+            report(&outcome, &mut StdSink::new(rt.stderr()));
+            ExitCode::from(outcome.status())
+        }
+    }
+}
