@@ -79,7 +79,10 @@ fn to_vec_and_put(rt: HostRuntime) -> Result<(), Fail> {
         reads: 0,
         failures: 0,
     };
-    assert_eq!(rt; to_vec(alloc, &cord, &mut source)?.as_slice(), b"abccd".as_slice());
+    assert_eq!(rt;
+        to_vec(alloc, &cord, &mut source)?.as_slice(),
+        b"abccd".as_slice()
+    );
     let mut sink = MemSink::new(alloc);
     assert_eq!(rt; put(&cord, &mut source, &mut sink), Ok(()));
     assert_eq!(rt; sink.bytes(), b"abccd".as_slice());
@@ -102,7 +105,10 @@ fn put_offers_the_rest(rt: HostRuntime) -> Result<(), Fail> {
     assert_eq!(rt; put(&cord, &mut source, &mut sink), Ok(()));
     assert_eq!(rt; sink.inner().bytes(), b"abccd".as_slice());
     let mut sink = FuseSink::new(MemSink::new(alloc), 1, 3);
-    assert_eq!(rt; put(&cord, &mut source, &mut sink), Err(CordError::WriteFailed));
+    assert_eq!(rt;
+        put(&cord, &mut source, &mut sink),
+        Err(CordError::WriteFailed)
+    );
     assert_eq!(rt; sink.inner().bytes(), b"abc".as_slice());
     Ok(())
 }
@@ -117,7 +123,10 @@ fn a_read_fails_in_the_middle(rt: HostRuntime) -> Result<(), Fail> {
         failures: 0,
     };
     let mut sink = MemSink::new(alloc);
-    assert_eq!(rt; put(&cord, &mut source, &mut sink), Err(CordError::ReadFailed));
+    assert_eq!(rt;
+        put(&cord, &mut source, &mut sink),
+        Err(CordError::ReadFailed)
+    );
     assert_eq!(rt; source.failures(), 1);
     assert_eq!(rt; sink.bytes(), [120; 512].as_slice());
     Ok(())
