@@ -5,7 +5,7 @@ ghost use Rattle.std.specs.IoError.{error_kind};
 
 use crate::faults::raise;
 use crate::{FileNo, Files, OpenFault, ReadFault};
-use std::alloc::Global;
+use std::alloc::{AllocError, Global};
 use std::fs::OpenFile;
 use std::io::{self, ErrorKind, Read, Seek, SeekFrom};
 use std::{fs, rt};
@@ -20,7 +20,8 @@ struct OpenedFile<F> {
 }
 
 /// The machine's files. Nothing is known of what they hold, and every fault of the machine but a missing path is a failure: a
-/// read of 0 bytes inside the length told, a call that was interrupted, a directory, and want of memory in `open` too.
+/// read of 0 bytes inside the length told, a call that was interrupted, a directory, and want of memory in `open` too, where
+/// it was refused twice.
 #[derive(Drop)]
 pub struct DiskFiles<R: rt::Files> {
     runtime: R,
@@ -82,11 +83,27 @@ impl<R: rt::Files> DiskFiles<R> {
         }
     }
 
-    // Opens a file.
-    fn opened_file(&self, path: &str) -> Result<OpenedFile<R::File>, OpenFault>
-        ensures { IfOk result (λ f. string_bytes f.path ≡ path.now) }
+    // Room for one more file, and its path to keep.
+    fn room_for(&mut self, path: &str) -> Result<String, AllocError>
+        ensures path { IfOk result (λ p. string_bytes p ≡ path.now) }
+        ensures opened { self.new.opened.items ≡ self.old.opened.items }
+        ensures count { self.new.failures ≡ self.old.failures }
     {
-        let path_kept = String::from_str(self.alloc, path).map_err(|_| OpenFault::Failed)?;
+        self.opened.reserve(1)?;
+        String::from_str(self.alloc, path)
+    }
+
+    // Opens a file. Where memory was refused it is asked for once more, so that a want that passes is no fault.
+    fn opened_file(&mut self, path: &str) -> Result<OpenedFile<R::File>, OpenFault>
+        ensures path { IfOk result (λ f. string_bytes f.path ≡ path.now) }
+        ensures opened { self.new.opened.items ≡ self.old.opened.items }
+        ensures count { self.new.failures ≡ self.old.failures }
+    {
+        let room = match self.room_for(path) {
+            Err(_) => self.room_for(path),
+            room => room,
+        };
+        let path_kept = room.map_err(|_| OpenFault::Failed)?;
         let mut file = fs::open(&self.runtime, path).map_err(|error| fault_of(&error))?;
         let len = len_of(&mut file).map_err(|_| OpenFault::Failed)?;
         Ok(OpenedFile {
