@@ -10,7 +10,7 @@ use Rattle.cord_core.specs.Cord.{text_len, bytes_of, IsCord, CordFitsIn}
 use Rattle.cord_pos.specs.Position.{prev_index, IsByteAt}
 use Rattle.cord_iter.specs.Walk.{walk, WalkedFront, left_of}
 use Rattle.cord_iter.proofs.Lengths.{length-bytes_over}
-use Rattle.cord_iter.proofs.Walks.{walk_on, walk_stop}
+use Rattle.cord_iter.proofs.Walks.{walk_on, walk_one, walk_stop_in}
 
 -- a cord that fits has as long a text as it stores
 pub cord_len : (ls : Lengths) (o : Option Table) (c : Option Node) → IfSome o (HasLengths ls) → IsCord c → CordFitsIn ls c → IfSome o (λ t. length (bytes_of t c) ≡ text_len c)
@@ -49,18 +49,12 @@ next_at t c i (Some (suc j)) b inside below e =
     let n : i + 1 - (suc j + 1) ≡ i - suc j = omega arith in
     rw (m, n) (next_down (bytes_of t c) i (suc j) b inside h e)
 
-one_on : {S : Type 0} (step : S → ℕ → S × Bool) (a d : S) (b : ℕ) → (d, false) ≡ step a b → walk step a (b ∷ []) ≡ (d, false)
-one_on step a d b e = rw (← e) refl
-
-one_stop : {S : Type 0} (step : S → ℕ → S × Bool) (a d : S) (b : ℕ) → (d, true) ≡ step a b → walk step a (b ∷ []) ≡ (d, true)
-one_stop step a d b e = rw (← e) refl
-
 -- one byte further down
 pub back_on : {S : Type 0} (step : S → ℕ → S × Bool) (s a d : S) (o : Option Table) (c : Option Node) (i : ℕ) (index : Option ℕ) (b : ℕ) → IfSome o (λ t. length (bytes_of t c) ≡ text_len c) → i < text_len c → left_of index ≤ i + 1 → IfSome o (λ t. IsByteAt t c index b) → (d, false) ≡ step a b → IfSome o (λ t. walk step s (take (i + 1 - left_of index) (downward (bytes_of t c) i)) ≡ (a, false)) → IfSome o (λ t. walk step s (take (i + 1 - left_of (prev_index index)) (downward (bytes_of t c) i)) ≡ (d, false))
 back_on step s a d None c i index b len inside below byte e h = tt
 back_on step s a d (Some t) c i index b len inside below byte e h =
     let k : i < length (bytes_of t c) = rw len inside in
-    ap (λ (l : List ℕ). walk step s l) (next_at t c i index b k below byte) ∙ walk_on step s a (d, false) (take (i + 1 - left_of index) (downward (bytes_of t c) i)) (b ∷ []) h (one_on step a d b e)
+    ap (λ (l : List ℕ). walk step s l) (next_at t c i index b k below byte) ∙ walk_on step s a (d, false) (take (i + 1 - left_of index) (downward (bytes_of t c) i)) (b ∷ []) h (walk_one step a d false b e)
 
 -- a stop at one
 pub back_stop : {S : Type 0} (step : S → ℕ → S × Bool) (s a d : S) (o : Option Table) (c : Option Node) (i : ℕ) (index : Option ℕ) (b : ℕ) → IfSome o (λ t. length (bytes_of t c) ≡ text_len c) → i < text_len c → left_of index ≤ i + 1 → IfSome o (λ t. IsByteAt t c index b) → (d, true) ≡ step a b → IfSome o (λ t. walk step s (take (i + 1 - left_of index) (downward (bytes_of t c) i)) ≡ (a, false)) → IfSome o (λ t. walk step s (downward (bytes_of t c) i) ≡ (d, true))
@@ -69,7 +63,7 @@ back_stop step s a d (Some t) c i index b len inside below byte e h =
     let k : i < length (bytes_of t c) = rw len inside in
     let whole = downward (bytes_of t c) i in
     let n = i + 1 - left_of (prev_index index) in
-    ap (λ (l : List ℕ). walk step s l) (sym (take-append-drop n whole)) ∙ walk_stop step s d (take n whole) (drop n whole) (ap (λ (l : List ℕ). walk step s l) (next_at t c i index b k below byte) ∙ walk_on step s a (d, true) (take (i + 1 - left_of index) whole) (b ∷ []) h (one_stop step a d b e))
+    walk_stop_in step s d whole n (ap (λ (l : List ℕ). walk step s l) (next_at t c i index b k below byte) ∙ walk_on step s a (d, true) (take (i + 1 - left_of index) whole) (b ∷ []) h (walk_one step a d true b e))
 
 -- the next one could not be read
 pub back_front : {S : Type 0} (step : S → ℕ → S × Bool) (s a : S) (o : Option Table) (c : Option Node) (i n : ℕ) → IfSome o (λ t. walk step s (take n (downward (bytes_of t c) i)) ≡ (a, false)) → IfSome o (λ t. WalkedFront step s a (downward (bytes_of t c) i))

@@ -1,7 +1,7 @@
 -- Walks over one list after another.
-use Rattle.std.proofs.Common.{◌≡◌, ℕ, ◌+◌, ◌-◌, ◌≤◌, Bool, true, false, List, [], ◌∷◌, ◌++◌, take, drop, None, Some, refl, sym, ◌∙◌, ap, subst, arith, append_assoc}
+use Rattle.std.proofs.Common.{◌≡◌, ℕ, ◌+◌, ◌-◌, ◌<◌, ◌≤◌, Bool, true, false, List, [], ◌∷◌, ◌++◌, length, take, drop, get_or, None, Some, refl, sym, ◌∙◌, ap, subst, arith, append_assoc}
 use Rattle.std.specs.Prelude.{Option, IfSome, replicate, if◌then◌else◌}
-use Rattle.std.proofs.lemmas.List.{drop-take, drop-drop, take-replicate, replicate-append-replicate}
+use Rattle.std.proofs.lemmas.List.{drop-take, drop-drop, take_more, take-append-drop, take-replicate, replicate-append-replicate}
 use Rattle.std.proofs.Math.Seq.{take-add}
 use Rattle.cord_io.specs.Table.{Table}
 use Rattle.cord_iter.specs.Walk.{walk, WalkedFront}
@@ -29,6 +29,19 @@ walk_on {S} step a b p x y h k = walk-append step a x y ∙ ap (λ (q : S × Boo
 pub walk_stop : {S : Type 0} (step : S → ℕ → S × Bool) (a b : S) (x y : List ℕ) → walk step a x ≡ (b, true) → walk step a (x ++ y) ≡ (b, true)
 unfolding go_on
 walk_stop {S} step a b x y h = walk-append step a x y ∙ ap (λ (q : S × Bool). go_on step q y) h
+
+-- over one byte
+pub walk_one : {S : Type 0} (step : S → ℕ → S × Bool) (a d : S) (stop : Bool) (b : ℕ) → (d, stop) ≡ step a b → walk step a (b ∷ []) ≡ (d, stop)
+walk_one step a d true b e = rw (← e) refl
+walk_one step a d false b e = rw (← e) refl
+
+-- over the bytes before a place, and the one there
+pub walk_next : {S : Type 0} (step : S → ℕ → S × Bool) (a b d : S) (stop : Bool) (xs : List ℕ) (i : ℕ) → i < length xs → walk step a (take i xs) ≡ (b, false) → (d, stop) ≡ step b (get_or xs i 0) → walk step a (take (i + 1) xs) ≡ (d, stop)
+walk_next {S} step a b d stop xs i inside h k = ap (λ (l : List ℕ). walk step a l) (take_more xs i 0 inside) ∙ walk_on step a b (d, stop) (take i xs) (get_or xs i 0 ∷ []) h (walk_one step b d stop (get_or xs i 0) k)
+
+-- a stop among the first bytes
+pub walk_stop_in : {S : Type 0} (step : S → ℕ → S × Bool) (a d : S) (xs : List ℕ) (i : ℕ) → walk step a (take i xs) ≡ (d, true) → walk step a xs ≡ (d, true)
+walk_stop_in {S} step a d xs i h = ap (λ (l : List ℕ). walk step a l) (sym (take-append-drop i xs)) ∙ walk_stop step a d (take i xs) (drop i xs) h
 
 -- a stop in the second of three
 pub walk_stop_between : {S : Type 0} (step : S → ℕ → S × Bool) (a b c : S) (whole x y z : List ℕ) → whole ≡ (x ++ y) ++ z → walk step a x ≡ (b, false) → walk step b y ≡ (c, true) → walk step a whole ≡ (c, true)

@@ -13,6 +13,7 @@ pub use backward::{riter, riter4};
 pub use collect::to_vec;
 pub use forward::{iter, iter5};
 pub use output::put;
+pub use pieces::put_all;
 pub use visitor::Visitor;
 
 /// The most bytes of a run or of a function part that are handed over at once.

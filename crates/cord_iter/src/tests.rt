@@ -1,7 +1,7 @@
 // Rows of worked examples, over a source of one entry.
 ghost use Rattle.std.specs.Prelude.{◌≡◌, ◌≤◌, IfOk, length};
 ghost use Rattle.cord_io.specs.Table.{Lengths, length_at};
-ghost use Rattle.cord_core.specs.Cord.{CordFitsIn};
+ghost use Rattle.cord_core.specs.Cord.{text_len, CordFitsIn};
 
 use super::*;
 use cord_core::Cord;
@@ -54,11 +54,32 @@ impl<'a> Source for Entry<'a> {
     }
 }
 
-// The cord of the bytes "abccd".
-fn letters(alloc: Global) -> Result<Cord, CordError>
-    ensures { IfOk result (λ c. (lengths : Lengths) → CordFitsIn lengths c) }
+// A source that no cord of leaves reads.
+fn unread() -> Entry<'static> {
+    Entry {
+        bytes: b"",
+        reads: 0,
+        failures: 0,
+    }
+}
+
+// A cord of one leaf.
+fn leaf_cord(alloc: Global, bytes: &[u8]) -> Result<Cord, CordError>
+    ensures fits { IfOk result (λ c. (lengths : Lengths) → CordFitsIn lengths c) }
+    ensures len { IfOk result (λ c. text_len c ≡ length bytes.now) }
 {
-    let cord = Cord::from_bytes(alloc, b"abccd")?;
+    let cord = Cord::from_bytes(alloc, bytes)?;
+    Ok(cord)
+}
+
+// A run of 1,000 times the byte `a`, and a leaf of `b`.
+fn run_and_leaf(alloc: Global) -> Result<Cord, CordError>
+    ensures fits { IfOk result (λ c. (lengths : Lengths) → CordFitsIn lengths c) }
+    ensures len { IfOk result (λ c. text_len c ≡ 1001) }
+{
+    let run = Cord::chars(alloc, b'a', 1000)?;
+    let leaf = leaf_cord(alloc, b"b")?;
+    let cord = Cord::cat(alloc, &run, &leaf)?;
     Ok(cord)
 }
 
@@ -70,15 +91,41 @@ fn entry_cord(alloc: Global) -> Result<Cord, CordError>
     Ok(cord)
 }
 
+// A visitor that keeps the last four bytes that it saw, the newest one last, and stops at a byte.
+#[derive(Drop)]
+struct Latest {
+    bytes: (u8, u8, u8, u8),
+    stop: u8,
+}
+
+// A visitor that has seen nothing, and stops at a byte: where a text has none it goes to the end.
+fn until(stop: u8) -> Latest {
+    Latest {
+        bytes: (0, 0, 0, 0),
+        stop,
+    }
+}
+
+impl Visitor for Latest {
+    ghost use Rattle.std.specs.Prelude.{ℕ, nat_eq};
+
+    ghost State = { (ℕ × ℕ × ℕ × ℕ) × ℕ };
+
+    ghost state = { λ s. ((s.bytes.0, s.bytes.1, s.bytes.2, s.bytes.3), s.stop) };
+
+    ghost step = { λ s b. (((s.0.1, s.0.2, s.0.3, b), s.1), nat_eq b s.1) };
+
+    fn byte(&mut self, byte: u8) -> bool {
+        self.bytes = (self.bytes.1, self.bytes.2, self.bytes.3, byte);
+        byte == self.stop
+    }
+}
+
 #[test]
 fn to_vec_and_put(rt: HostRuntime) -> Result<(), Fail> {
     let alloc = rt.alloc();
-    let cord = letters(alloc)?;
-    let mut source = Entry {
-        bytes: b"",
-        reads: 0,
-        failures: 0,
-    };
+    let cord = leaf_cord(alloc, b"abccd")?;
+    let mut source = unread();
     assert_eq!(rt;
         to_vec(alloc, &cord, &mut source)?.as_slice(),
         b"abccd".as_slice()
@@ -92,12 +139,8 @@ fn to_vec_and_put(rt: HostRuntime) -> Result<(), Fail> {
 #[test]
 fn put_offers_the_rest(rt: HostRuntime) -> Result<(), Fail> {
     let alloc = rt.alloc();
-    let cord = letters(alloc)?;
-    let mut source = Entry {
-        bytes: b"",
-        reads: 0,
-        failures: 0,
-    };
+    let cord = leaf_cord(alloc, b"abccd")?;
+    let mut source = unread();
     let mut sink = FuseSink::new(MemSink::new(alloc), 5, 1);
     assert_eq!(rt; put(&cord, &mut source, &mut sink), Ok(()));
     assert_eq!(rt; sink.inner().bytes(), b"abccd".as_slice());
@@ -132,57 +175,35 @@ fn a_read_fails_in_the_middle(rt: HostRuntime) -> Result<(), Fail> {
     Ok(())
 }
 
-// A visitor that stops at the first byte, and keeps it.
-#[derive(Drop)]
-struct FirstByte {
-    first: u8,
-}
-
-impl Visitor for FirstByte {
-    ghost use Rattle.std.specs.Prelude.{ℕ, true};
-
-    ghost State = { ℕ };
-
-    ghost state = { λ s. s.first };
-
-    ghost step = { λ _ b. (b, true) };
-
-    fn byte(&mut self, byte: u8) -> bool {
-        self.first = byte;
-        true
-    }
-
-    fn bytes(&mut self, bytes: &[u8]) -> bool {
-        match bytes {
-            [] => false,
-            [first, ..] => self.byte(*first),
-        }
-    }
+#[test]
+fn iter_calls(rt: HostRuntime) -> Result<(), Fail> {
+    let cord = leaf_cord(rt.alloc(), b"abcd")?;
+    let mut source = unread();
+    let mut seen = until(b'c');
+    assert_eq!(rt; iter5(&cord, 1, &mut source, &mut seen), Ok(true));
+    assert_eq!(rt; seen.bytes, (0, 0, b'b', b'c'));
+    let mut seen = until(0);
+    assert_eq!(rt; riter4(&cord, 2, &mut source, &mut seen), Ok(false));
+    assert_eq!(rt; seen.bytes, (0, b'c', b'b', b'a'));
+    let mut seen = until(b'c');
+    assert_eq!(rt; iter(&cord, &mut source, &mut seen), Ok(true));
+    assert_eq!(rt; seen.bytes, (0, b'a', b'b', b'c'));
+    let mut seen = until(b'c');
+    assert_eq!(rt; riter(&cord, &mut source, &mut seen), Ok(true));
+    assert_eq!(rt; seen.bytes, (0, 0, b'd', b'c'));
+    Ok(())
 }
 
 #[test]
-fn walks_stop_at_the_first_byte(rt: HostRuntime) -> Result<(), Fail> {
-    let cord = letters(rt.alloc())?;
-    let mut source = Entry {
-        bytes: b"",
-        reads: 0,
-        failures: 0,
-    };
-    let mut visitor = FirstByte { first: 0 };
-    assert_eq!(rt; iter(&cord, &mut source, &mut visitor), Ok(true));
-    assert_eq!(rt; visitor.first, 97);
-    if cord.len() == 5 {
-        assert_eq!(rt; iter5(&cord, 1, &mut source, &mut visitor), Ok(true));
-        assert_eq!(rt; visitor.first, 98);
-        assert_eq!(rt; riter4(&cord, 2, &mut source, &mut visitor), Ok(true));
-        assert_eq!(rt; visitor.first, 99);
-    }
-    assert_eq!(rt; riter(&cord, &mut source, &mut visitor), Ok(true));
-    assert_eq!(rt; visitor.first, 100);
+fn iter_empty_and_tail(rt: HostRuntime) -> Result<(), Fail> {
     let empty = Cord::empty();
-    let mut visitor = FirstByte { first: 0 };
-    assert_eq!(rt; iter(&empty, &mut source, &mut visitor), Ok(false));
-    assert_eq!(rt; riter(&empty, &mut source, &mut visitor), Ok(false));
-    assert_eq!(rt; visitor.first, 0);
+    let mut source = unread();
+    let mut seen = until(0);
+    assert_eq!(rt; iter(&empty, &mut source, &mut seen), Ok(false));
+    assert_eq!(rt; riter(&empty, &mut source, &mut seen), Ok(false));
+    assert_eq!(rt; seen.bytes, (0, 0, 0, 0));
+    let cord = run_and_leaf(rt.alloc())?;
+    assert_eq!(rt; iter5(&cord, 999, &mut source, &mut seen), Ok(false));
+    assert_eq!(rt; seen.bytes, (0, 0, b'a', b'b'));
     Ok(())
 }

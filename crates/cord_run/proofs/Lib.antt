@@ -1,3 +1,4 @@
 pub mod Slots
 pub mod Runs
 pub mod Numbered
+pub mod Puts

@@ -1,3 +1,3 @@
-pub mod Plain
+pub mod Texts
 pub mod Slots
 pub mod Runs

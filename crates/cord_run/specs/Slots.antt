@@ -2,7 +2,7 @@
 use Rattle.std.specs.Prelude.{◌≡◌, ℕ, zero, suc, pos, false, true, List, [], ◌∷◌, if◌then◌else◌}
 use Rattle.std.specs.Str.{bytes_eq}
 use Rattle.cord_meaning.specs.State.{State}
-use Rattle.cord_run.specs.Plain.{text}
+use Rattle.cord_run.specs.Texts.{text}
 use Rattle.cord_run.specs.declared.slot.Slot.{Slot}
 
 -- the text of a name: empty where it was not assigned

@@ -1,7 +1,7 @@
 //! What the names of a run hold.
-ghost use Rattle.std.specs.Prelude.{◌≡◌, ◌<◌, ℕ, List, [], IfSome, IfNone, OnOk, IsTrue, length};
+ghost use Rattle.std.specs.Prelude.{◌≡◌, ◌<◌, ℕ, List, [], IfSome, IfNone, OnOk, length};
 ghost use Rattle.cord_meaning.specs.State.{with_value};
-ghost use Rattle.cord_run.specs.Plain.{is_plain, text};
+ghost use Rattle.cord_run.specs.Texts.{text, NeedsNoEntry};
 ghost use Rattle.cord_run.specs.Slots.{IsAbsent, IsPlace, text_in};
 
 use crate::slot::Slot;
@@ -25,7 +25,7 @@ fn place_of(slots: &[Slot], name: &[u8]) -> Option<usize>
 /// The cord of a name, if one was assigned.
 pub fn cord_of<'a>(slots: &'a [Slot], name: &[u8]) -> Option<&'a Cord>
     ensures some { IfSome result (λ cord. text cord.now ≡ text_in slots.now name.now) }
-    ensures plain { IfSome result (λ cord. IsTrue (is_plain cord.now)) }
+    ensures fits { IfSome result (λ cord. NeedsNoEntry cord.now) }
     ensures none { IfNone result (text_in slots.now name.now ≡ []) }
 {
     match place_of(slots, name) {
@@ -38,7 +38,7 @@ pub fn cord_of<'a>(slots: &'a [Slot], name: &[u8]) -> Option<&'a Cord>
 fn replace(slots: &mut [Slot], name: &[u8], place: usize, cord: Cord)
     requires within { place < length slots.old }
     requires place { IsPlace slots.old name.now place }
-    requires plain { IsTrue (is_plain cord) }
+    requires fits { NeedsNoEntry cord }
     ensures { (x : List ℕ) → text_in slots.new x ≡ with_value (text_in slots.old) name.now (text cord) x }
 {
     let _ = name;
@@ -62,7 +62,7 @@ pub fn assign(
     name: &[u8],
     cord: Cord,
 ) -> Result<(), AllocError>
-    requires { IsTrue (is_plain cord) }
+    requires { NeedsNoEntry cord }
     ensures { OnOk result ((x : List ℕ) → text_in slots.new.items x ≡ with_value (text_in slots.old.items) name.now (text cord) x) }
 {
     match place_of(slots, name) {

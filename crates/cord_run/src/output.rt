@@ -1,38 +1,57 @@
 //! Writes bytes and cords to a sink.
-ghost use Rattle.std.specs.Prelude.{◌≡◌, ◌≤◌, ℕ, OnOk, OnErr, IsTrue, length, take};
+ghost use Rattle.std.specs.Prelude.{◌≡◌, ℕ, OnOk, OnErr, take};
 ghost use Rattle.std.specs.Io.KnownBytes.{Appends};
 ghost use Rattle.cord_io.specs.Device.{raised};
-ghost use Rattle.cord_run.specs.Plain.{is_plain, text};
+ghost use Rattle.cord_run.specs.Texts.{text, NeedsNoEntry};
 
-use cord_core::{Cord, Node};
-use cord_io::{Sink, WriteFault};
+use cord_core::Cord;
+use cord_io::{ReadFault, Sink, Source, SourceId, WriteFault};
 
 /// Offers the bytes until the sink has taken them all.
 pub fn put_all<S: Sink>(bytes: &[u8], sink: &mut S) -> Result<(), WriteFault>
     ensures ok { OnOk result (Appends (S.taken sink.old) (S.taken sink.new) bytes.now × (S.failures sink.new ≡ S.failures sink.old)) }
     ensures err { OnErr result ((n : ℕ) × Appends (S.taken sink.old) (S.taken sink.new) (take n bytes.now) × (S.failures sink.new ≡ raised (S.failures sink.old))) }
 {
-    let mut done = 0;
-    while done < bytes.len() {
-        done += sink.put(&bytes[done..])?;
-    }
-    Ok(())
+    cord_iter::put_all(bytes, sink)
 }
 
-/// The bytes of a cord that is empty or one leaf.
-pub fn plain_bytes(cord: &Cord) -> &[u8]
-    requires { IsTrue (is_plain cord.now) }
-    ensures { result.now ≡ text cord.now }
+/// Puts the text of a cord.
+pub fn put_cord<S: Sink>(cord: &Cord, sink: &mut S) -> Result<(), WriteFault>
+    requires { NeedsNoEntry cord.now }
+    ensures ok { OnOk result (Appends (S.taken sink.old) (S.taken sink.new) (text cord.now) × (S.failures sink.new ≡ S.failures sink.old)) }
+    ensures err { OnErr result ((n : ℕ) × Appends (S.taken sink.old) (S.taken sink.new) (take n (text cord.now)) × (S.failures sink.new ≡ raised (S.failures sink.old))) }
 {
-    let Some(root) = cord.root() else {
-        return &[];
-    };
-    match &**root {
-        Node::Leaf { bytes, start, len } => {
-            let start = *start as usize;
-            let len = *len as usize;
-            &bytes.as_slice()[start..start + len]
-        }
-        _ => unreachable!(),
+    match cord_iter::put(cord, &mut NoEntries, sink) {
+        Ok(()) => Ok(()),
+        Err(_) => Err(WriteFault),
+    }
+}
+
+// A source without entries.
+#[derive(Drop)]
+struct NoEntries;
+
+impl Source for NoEntries {
+    ghost use Rattle.std.specs.Prelude.{None, Some, refl};
+    ghost use Rattle.cord_run.specs.Texts.{no_entries};
+
+    ghost lengths = { λ _ _. None };
+
+    ghost table = { λ _. Some no_entries };
+
+    ghost failures = { λ _. 0 };
+
+    ghost lengths_of_table = { λ _ _. refl };
+
+    fn failures(&self) -> u64 {
+        0
+    }
+
+    fn entry_len(&self, _id: SourceId) -> Option<u64> {
+        None
+    }
+
+    fn read(&mut self, _id: SourceId, _start: u64, _out: &mut [u8]) -> Result<(), ReadFault> {
+        unreachable!()
     }
 }

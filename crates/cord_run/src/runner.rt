@@ -10,7 +10,7 @@ ghost use Rattle.cord_run.specs.Runs.{Counted, Does, Honest, IsRunnable, IsSpoke
 ghost use Rattle.cord_run.specs.Slots.{state_of, text_in};
 
 use crate::names::{assign, cord_of};
-use crate::output::{plain_bytes, put_all};
+use crate::output::put_cord;
 use crate::slot::Slot;
 use cord_core::Cord;
 use cord_io::{CordError, Files, MAX_LEN, Sink, WriteFault};
@@ -63,7 +63,7 @@ fn put_text<S: Sink>(operand: &[u8], slots: &[Slot], sink: &mut S) -> Result<(),
 {
     match cord_of(slots, operand) {
         None => Ok(()),
-        Some(cord) => put_all(plain_bytes(cord), sink),
+        Some(cord) => put_cord(cord, sink),
     }
 }
 
