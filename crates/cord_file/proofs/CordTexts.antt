@@ -14,7 +14,8 @@ use Rattle.cord_file.specs.Entries.{Opened, lengths_in, table_in}
 use Rattle.cord_file.specs.Files.{AreAsLong, told_of, opened_of, as_long_as_told}
 use Rattle.cord_file.specs.Opening.{Opens, HoldsFile}
 use Rattle.cord_file.specs.Making.{IsLeafOver, IsFuncOver, IsWhole, IsLazy}
-use Rattle.cord_file.proofs.EntryBytes.{text_of_file}
+use Rattle.cord_file.specs.Blocks.{AreRead}
+use Rattle.cord_file.proofs.EntryBytes.{entry_read}
 use Rattle.cord_file.specs.declared.files.OpenFile.{OpenFile}
 
 text_over : (contents : Option Folder) (files : List OpenFile) (id len : ℕ) (cord : Option Node) → AreAsLong contents files → lengths_in (opened_of files) id ≡ Some len → IsEntryRange id 0 len cord → IfSome contents (λ folder. bytes_of (table_in (opened_of files) folder) cord ≡ table_in (opened_of files) folder id)
@@ -68,20 +69,19 @@ written len new old stored count =
     let all : len ≡ length new = stored ∙ sym count in
     ap (λ n. take n (new ++ drop (length new) old)) all ∙ take-append_seam new (drop (length new) old)
 
-entry_bytes : (contents : Option Folder) (told : Option (List ℕ × ℕ)) (files : List OpenFile) (id len : ℕ) (bytes : List ℕ) (file : OpenFile) → 2 ≤ id → slice_get files (id - 2) ≡ Some file → told ≡ Some (told_of file) → AreAsLong contents files → file.len ≡ len → length bytes ≡ len → IfSome contents (λ folder. IsSomeAnd told (λ t. bytes ≡ take (length bytes) (drop 0 (bytes_at folder t.0)))) → IfSome contents (λ folder. bytes ≡ table_in (opened_of files) folder id)
-entry_bytes None told files id len bytes file past here same long is count read = tt
-entry_bytes (Some folder) told files id len bytes file past here same long is count read =
-    let all : length (bytes_at folder (string_bytes file.path)) ≡ length bytes = long (id - 2) file here folder refl ∙ is ∙ sym count in
-    subst (λ o. IsSomeAnd o (λ t. bytes ≡ take (length bytes) (drop 0 (bytes_at folder t.0)))) same read
-    ∙ take_all (length bytes) (bytes_at folder (string_bytes file.path)) (omega (arith, all))
-    ∙ sym (text_of_file folder files id file past here)
+entry_bytes : (contents : Option Folder) (files : List OpenFile) (id len : ℕ) (bytes : List ℕ) → 2 ≤ id → AreAsLong contents files → lengths_in (opened_of files) id ≡ Some len → length bytes ≡ len → AreRead contents (slice_get files (id - 2)) 0 bytes → IfSome contents (λ folder. bytes ≡ table_in (opened_of files) folder id)
+entry_bytes None files id len bytes past long told count read = tt
+entry_bytes (Some folder) files id len bytes past long told count read =
+    let t : ℕ → List ℕ = table_in (opened_of files) folder in
+    let all : length (t id) ≡ len = as_long_as_told (Some folder) files long id ∙ ap (λ o. unwrap_or o 0) told in
+    entry_read (Some folder) files id 0 bytes past read ∙ take_all (length bytes) (t id) (omega (arith, all, count))
 
 -- one leaf with the bytes that were read of a whole entry
-pub leaf_over : (contents : Option Folder) (told : Option (List ℕ × ℕ)) (files : List OpenFile) (id len : ℕ) (bytes : List ℕ) (file : OpenFile) (cord : Option Node) → 2 ≤ id → slice_get files (id - 2) ≡ Some file → told ≡ Some (told_of file) → AreAsLong contents files → file.len ≡ len → length bytes ≡ len → IfSome contents (λ folder. IsSomeAnd told (λ t. bytes ≡ take (length bytes) (drop 0 (bytes_at folder t.0)))) → IsLeafOf bytes cord → HasText bytes cord → IsLeafOver contents (opened_of files) id len cord
-leaf_over contents told files id len bytes file cord past here same long is count read form text = record {
+pub leaf_over : (contents : Option Folder) (files : List OpenFile) (id len : ℕ) (bytes : List ℕ) (cord : Option Node) → 2 ≤ id → AreAsLong contents files → lengths_in (opened_of files) id ≡ Some len → length bytes ≡ len → AreRead contents (slice_get files (id - 2)) 0 bytes → IsLeafOf bytes cord → HasText bytes cord → IsLeafOver contents (opened_of files) id len cord
+leaf_over contents files id len bytes cord past long told count read form text = record {
   bytes = bytes;
   form = form;
   text = text;
   count = count;
-  entry = entry_bytes contents told files id len bytes file past here same long is count read;
+  entry = entry_bytes contents files id len bytes past long told count read;
 }

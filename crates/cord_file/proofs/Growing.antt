@@ -16,6 +16,12 @@ kept_place f [] ys n h = cc
 kept_place f (x ∷ xs) ys zero h = refl
 kept_place f (x ∷ xs) ys (suc n) h = kept_place f xs ys n h
 
+-- the same of a place inside
+pub place_inside : {X : Type 0} (xs ys : List X) (n : ℕ) → n < length xs → slice_get (xs ++ ys) n ≡ slice_get xs n
+place_inside [] ys n h = absurd (omega arith)
+place_inside (x ∷ xs) ys zero h = refl
+place_inside (x ∷ xs) ys (suc n) h = place_inside xs ys n (omega arith)
+
 -- the last member
 pub last_place : {X : Type 0} (xs : List X) (x : X) → slice_get (xs ++ x ∷ []) (length xs) ≡ Some x
 last_place [] x = refl

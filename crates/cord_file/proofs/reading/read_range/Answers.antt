@@ -22,5 +22,5 @@ loop-done-preserved g c =
       contents = search rules;
       opened = λ n. c.read_at.ensures.opened n ∙ c.loop-done.invariant.opened n;
       count = search rules;
-      bytes = more_read (g.F.Files.contents old) (g.F.Files.opened old no) loop.done k c.args.start loop.out part fits room loop.invariant.bytes same;
+      bytes = more_read (λ file. file.0) (g.F.Files.contents old) (g.F.Files.opened old no) loop.done k _ c.args.start loop.out part fits room loop.invariant.bytes same;
     }
