@@ -1,5 +1,5 @@
 -- Parts of blocks, and what is kept.
-use Rattle.std.proofs.Common.{◌≡◌, ℕ, ◌+◌, ◌-◌, ◌*◌, ◌/◌, ◌%◌, ◌<◌, ◌≤◌, ◌⊎◌, inl, inr, List, [], ◌∷◌, ◌++◌, Bool, true, false, length, length-append, take, drop, min, Contains, Option, Some, None, refl, sym, ap, subst, ◌∙◌, arith}
+use Rattle.std.proofs.Common.{◌≡◌, ℕ, ◌+◌, ◌*◌, ◌/◌, ◌%◌, ◌<◌, ◌≤◌, ◌⊎◌, inl, inr, List, [], ◌∷◌, ◌++◌, Bool, true, false, length, length-append, take, drop, Contains, Option, Some, None, refl, sym, ap, subst, ◌∙◌, arith}
 use Rattle.std.specs.Prelude.{slice_get, is_some, IsSome, IfSome, IsSomeAnd, if◌then◌else◌}
 use Rattle.std.specs.String.{string_bytes}
 use Rattle.std.proofs.lemmas.Option.{slice_get_within}
@@ -33,6 +33,7 @@ kept_of_read contents told files key file block here same read = record {
 } where
   one_file : (f g : OpenFile) → Some f ≡ Some g → f ≡ g
   one_file f g e = cc
+
   at : (o : Option Folder) → IfSome o (λ folder. IsSomeAnd told (λ t. IsBlock file.len (bytes_at folder t.0) key.number block)) → (folder : Folder) → o ≡ Some folder → IsBlock file.len (bytes_at folder (string_bytes file.path)) key.number block
   at None h folder e = cc
   at (Some f) h folder e =

@@ -1,19 +1,17 @@
 -- Cords over the entries of a table of files.
-use Rattle.std.proofs.Common.{◌≡◌, ℕ, zero, suc, ◌+◌, ◌-◌, ◌<◌, ◌≤◌, List, [], ◌∷◌, ◌++◌, length, take, drop, Some, None, refl, sym, ap, subst, ◌∙◌, inl, inr, arith}
-use Rattle.std.specs.Prelude.{IfSome, IsSomeAnd, unwrap_or, Option, slice_get}
+use Rattle.std.proofs.Common.{◌≡◌, ℕ, ◌-◌, ◌≤◌, List, ◌++◌, length, take, drop, Some, None, sym, ap, ◌∙◌, inl, arith}
+use Rattle.std.specs.Prelude.{IfSome, unwrap_or, Option, slice_get}
 use Rattle.std.proofs.lemmas.List.{take_all}
 use Rattle.std.proofs.Math.Seq.{take-append_seam}
-use Rattle.std.specs.String.{string_bytes}
-use Rattle.cord_io.specs.Device.{Folder, file_at, bytes_at}
-use Rattle.cord_io.specs.Table.{HasLengths, length_at}
+use Rattle.cord_io.specs.Device.{Folder}
+use Rattle.cord_io.specs.Table.{length_at}
 use Rattle.cord_node.specs.declared.Node.{Node}
 use Rattle.cord_core.specs.Cord.{bytes_of}
 use Rattle.cord_core.specs.Forms.{IsLeafOf, IsFuncOf}
 use Rattle.cord_core.specs.Equations.{HasText, IsEntryRange}
-use Rattle.cord_file.specs.Entries.{Opened, lengths_in, table_in}
-use Rattle.cord_file.specs.Files.{AreAsLong, told_of, opened_of, as_long_as_told}
-use Rattle.cord_file.specs.Opening.{Opens, HoldsFile}
-use Rattle.cord_file.specs.Making.{IsLeafOver, IsFuncOver, IsWhole, IsLazy}
+use Rattle.cord_file.specs.Entries.{lengths_in, table_in}
+use Rattle.cord_file.specs.Files.{AreAsLong, opened_of, as_long_as_told}
+use Rattle.cord_file.specs.Making.{IsLeafOver, IsFuncOver}
 use Rattle.cord_file.specs.Blocks.{AreRead}
 use Rattle.cord_file.proofs.EntryBytes.{entry_read}
 use Rattle.cord_file.specs.declared.files.OpenFile.{OpenFile}
@@ -34,34 +32,6 @@ func_over contents files id len cord long told form range =
       fits = range.fits (lengths_in (opened_of files)) (inl (omega (arith, all)));
       text = text_over contents files id len cord long told range;
     }
-
-file_text : (contents : Option Folder) (opened : Opened) (path : List ℕ) (id len : ℕ) (cord : Option Node) → HoldsFile contents opened path id len → IfSome contents (λ folder. bytes_of (table_in opened folder) cord ≡ table_in opened folder id) → IfSome contents (λ folder. file_at folder path ≡ Some (bytes_of (table_in opened folder) cord))
-file_text None opened path id len cord holds text = tt
-file_text (Some folder) opened path id len cord holds text = holds.0 ∙ ap (λ b. Some b) (sym text)
-
-leaf_text : (contents : Option Folder) (opened : Opened) (id : ℕ) (bytes : List ℕ) (cord : Option Node) → HasText bytes cord → IfSome contents (λ folder. bytes ≡ table_in opened folder id) → IfSome contents (λ folder. bytes_of (table_in opened folder) cord ≡ table_in opened folder id)
-leaf_text None opened id bytes cord has same = tt
-leaf_text (Some folder) opened id bytes cord has same = has.bytes (table_in opened folder) ∙ same
-
--- the file at a path that was opened, read whole
-pub whole_of : (contents : Option Folder) (old new : Opened) (path : List ℕ) (id len : ℕ) (cord : Option Node) → Opens old new path id len → HoldsFile contents new path id len → IsLeafOver contents new id len cord → IsWhole contents old new path cord
-whole_of contents old new path id len cord opens holds leaf = record {
-  id = id;
-  len = len;
-  opens = opens;
-  leaf = leaf;
-  file = file_text contents new path id len cord holds (leaf_text contents new id leaf.bytes cord leaf.text leaf.entry);
-}
-
--- the file at a path that was opened, not read
-pub lazy_of : (contents : Option Folder) (old new : Opened) (path : List ℕ) (id len : ℕ) (cord : Option Node) → Opens old new path id len → HoldsFile contents new path id len → IsFuncOver contents new id len cord → IsLazy contents old new path cord
-lazy_of contents old new path id len cord opens holds func = record {
-  id = id;
-  len = len;
-  opens = opens;
-  func = func;
-  file = file_text contents new path id len cord holds func.text;
-}
 
 -- what a list has whose first elements were written over
 pub written : (len : ℕ) (new old : List ℕ) → len ≡ length old → length new ≡ length old → take len (new ++ drop (length new) old) ≡ new

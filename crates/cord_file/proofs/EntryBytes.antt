@@ -3,9 +3,9 @@ use Rattle.std.proofs.Common.{◌≡◌, ℕ, zero, suc, ◌+◌, ◌-◌, ◌<�
 use Rattle.std.specs.Prelude.{slice_get, slice_index, IfSome, IsSomeAnd, OnOk, unwrap_or}
 use Rattle.std.specs.Option.{option_map}
 use Rattle.std.specs.String.{string_bytes}
-use Rattle.std.proofs.lemmas.Option.{slice_get-map, slice_get_within}
+use Rattle.std.proofs.lemmas.Option.{slice_get-map}
 use Rattle.cord_io.specs.declared.TheConstants.{MAX_LEN}
-use Rattle.cord_io.specs.Device.{Folder, file_at, bytes_at}
+use Rattle.cord_io.specs.Device.{Folder, bytes_at}
 use Rattle.cord_io.specs.Entries.{function_byte, function_read}
 use Rattle.cord_file.specs.Blocks.{AreRead}
 use Rattle.cord_file.specs.Entries.{Opened, lengths_in, table_in}

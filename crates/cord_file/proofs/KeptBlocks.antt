@@ -1,9 +1,15 @@
 -- Blocks that are kept in a cache.
-use Rattle.std.proofs.Common.{◌≡◌, ℕ, Bool, true, List, ◌⊎◌, inl, inr, Contains, Some, Result, Ok, Err, sym, ap, subst, ◌∙◌}
+use Rattle.std.proofs.Common.{◌≡◌, Bool, true, List, ◌⊎◌, inl, inr, Contains, Some, Result, Ok, Err, subst, rules}
 use Rattle.std.specs.Prelude.{OnOk, OnErr}
 use Rattle.std.specs.Map.{lookup}
+use Rattle.cord_file.specs.declared.blocks.BlockKey.{BlockKey}
+use Rattle.cord_file.specs.contracts.blocks.BlockKeyPartialEq.TheImpl.{eq-value}
 use Rattle.lru.specs.LruCache.{LruCache, lru_cache, promoted, put_entries}
 use Rattle.lru.proofs.CallerLemmas.{IsPut, Contains-promoted, Contains-lookup, Contains-put_entries}
+
+-- keys that a look-up takes for one are one
+pub same_key : (a b : BlockKey) → (eq-value).it a b ≡ true → b ≡ a
+same_key a b h = search rules
 
 module _ {K V : Type 0} (eq : K → K → Bool) (sound : (a b : K) → eq a b ≡ true → b ≡ a) where
   -- the pair that was put, or one that was there

@@ -86,7 +86,10 @@ fn sixty_five_paths(rt: HostRuntime) {
     };
     for i in 0..64u8 {
         let path = format!(in alloc; "{i}").expect(&rt, "memory");
-        assert_eq!(rt; sources.open(alloc, &path), Ok((SourceId(u32::from(i) + 2), 1)));
+        assert_eq!(rt;
+            sources.open(alloc, &path),
+            Ok((SourceId(u32::from(i) + 2), 1))
+        );
     }
     assert_eq!(rt; sources.open(alloc, "64"), Err(FileError::TooManyFiles));
     assert_eq!(rt; sources.open(alloc, "none"), Err(FileError::TooManyFiles));

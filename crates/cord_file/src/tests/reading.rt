@@ -46,7 +46,10 @@ fn lazy_twice(rt: HostRuntime) {
     };
     let mut sink = MemSink::new(alloc);
     for _ in 0..2 {
-        assert_eq!(rt; put_part(alloc, &mut sources, "f", (0, 10_000), &mut sink), Ok(()));
+        assert_eq!(rt;
+            put_part(alloc, &mut sources, "f", (0, 10_000), &mut sink),
+            Ok(())
+        );
     }
     let taken = sink.bytes();
     assert_eq!(rt; taken.len(), 20_000);
@@ -81,8 +84,14 @@ fn blocks_by_entry(rt: HostRuntime) {
         panic!(rt; "no memory");
     };
     let mut sink = MemSink::new(alloc);
-    assert_eq!(rt; put_part(alloc, &mut sources, "a", (550, 10), &mut sink), Ok(()));
-    assert_eq!(rt; put_part(alloc, &mut sources, "b", (550, 10), &mut sink), Ok(()));
+    assert_eq!(rt;
+        put_part(alloc, &mut sources, "a", (550, 10), &mut sink),
+        Ok(())
+    );
+    assert_eq!(rt;
+        put_part(alloc, &mut sources, "b", (550, 10), &mut sink),
+        Ok(())
+    );
     assert_eq!(rt; sink.bytes(), b"aaaaaaaaaabbbbbbbbbb".as_slice());
 }
 
@@ -99,7 +108,10 @@ fn cut_lazy(rt: HostRuntime) {
     assert!(rt; sink.bytes().len() <= 512);
     assert!(rt; [112; 512].starts_with(sink.bytes()));
     let mut sink = MemSink::new(alloc);
-    assert_eq!(rt; put_part(alloc, &mut sources, "p", (0, 512), &mut sink), Ok(()));
+    assert_eq!(rt;
+        put_part(alloc, &mut sources, "p", (0, 512), &mut sink),
+        Ok(())
+    );
     assert_eq!(rt; sink.bytes(), [112; 512].as_slice());
 }
 

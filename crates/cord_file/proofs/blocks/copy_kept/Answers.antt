@@ -1,11 +1,7 @@
-use Rattle.std.proofs.Common.{◌≡◌, ◌-◌, ◌+◌, true, rules, ap, arith, ◌∙◌, take, drop, length}
-use Rattle.cord_file.specs.declared.blocks.BlockKey.{BlockKey}
+use Rattle.std.proofs.Common.{◌≡◌, ◌-◌, ◌+◌, rules, ap, arith, ◌∙◌, take, drop, length}
 use Rattle.cord_file.specs.contracts.blocks.BlockKeyPartialEq.TheImpl.{eq-value}
-use Rattle.cord_file.proofs.KeptBlocks.{there_before, there_found}
+use Rattle.cord_file.proofs.KeptBlocks.{same_key, there_before, there_found}
 use Rattle.cord_file.proofs.blocks.copy_kept.Goals as goal
-
-same_key : (a b : BlockKey) → (eq-value).it a b ≡ true → b ≡ a
-same_key a b h = search rules
 
 pub returns-in-Some-clause-kept : goal.returns-in-Some-clause-kept
 returns-in-Some-clause-kept c = there_before (eq-value).it same_key c.args.cache.now c.get.follows.lender-at-none c.args.key c.get.follows.holds-at-none

@@ -1,4 +1,4 @@
-use Rattle.std.proofs.Common.{◌≡◌, ℕ, suc, ◌+◌, ◌<◌, ◌≤◌, Bool, List, [], ◌∷◌, ◌++◌, Some, refl, sym, ◌∙◌, ap, subst, length, arith, rules}
+use Rattle.std.proofs.Common.{◌≡◌, suc, ◌+◌, ◌<◌, ◌≤◌, [], ◌∷◌, ◌++◌, Some, sym, ◌∙◌, ap, subst, length, rules}
 use Rattle.std.specs.Prelude.{is_ok, is_some, slice_get}
 use Rattle.std.specs.String.{string_bytes}
 use Rattle.std.proofs.lemmas.List.{length-map}
@@ -6,9 +6,8 @@ use Rattle.cord_io.specs.declared.TheConstants.{MAX_LEN}
 use Rattle.cord_io.specs.Device.{Folder, file_at, bytes_at, HandsOut}
 use Rattle.cord_file.specs.declared.TheConstants.{MAX_FILES}
 use Rattle.cord_file.specs.declared.files.OpenFile.{OpenFile}
-use Rattle.cord_file.specs.Entries.{Opened}
 use Rattle.cord_file.specs.Files.{told_of, opened_of}
-use Rattle.cord_file.specs.Opening.{Opens, HoldsFile}
+use Rattle.cord_file.specs.Opening.{Opens}
 use Rattle.cord_file.proofs.Growing.{opens_behind, last_place}
 use Rattle.cord_file.specs.Blocks.{AreKept}
 use Rattle.cord_file.proofs.BlockParts.{kept_behind, sound_moved}
@@ -43,17 +42,17 @@ invariant_of-self-2 g c =
     record {
       few = search rules;
       sound = record {
-      handed_out = each_pushed (λ f. g.F.Files.opened c.open.new.self f.no.0 ≡ Some (told_of f)) files _ file (is_ok c.push.result) c.push.ensures.items
-          (λ k f h. let was = old.sound.handed_out k f h in hands.kept f.no.0 (ap is_some was) ∙ was)
-          (hands.told ∙ ap (λ p. Some (p, file.len)) (sym path));
-      short_enough = each_pushed (λ f. f.len ≤ MAX_LEN) files _ file (is_ok c.push.result) c.push.ensures.items old.sound.short_enough (search rules);
-      there = each_pushed (λ f. (folder : Folder) → g.F.Files.contents c.open.new.self ≡ Some folder → file_at folder (string_bytes f.path) ≡ Some (bytes_at folder (string_bytes f.path))) files _ file (is_ok c.push.result) c.push.ensures.items
-          (λ k f h folder e. old.sound.there k f h folder (sym same ∙ e))
-          (λ folder e. subst (λ p. file_at folder p ≡ Some (bytes_at folder p)) (sym path) (found folder (sym same ∙ e)).0);
-      as_long = each_pushed (λ f. (folder : Folder) → g.F.Files.contents c.open.new.self ≡ Some folder → length (bytes_at folder (string_bytes f.path)) ≡ f.len) files _ file (is_ok c.push.result) c.push.ensures.items
-          (λ k f h folder e. old.sound.as_long k f h folder (sym same ∙ e))
-          (λ folder e. subst (λ p. length (bytes_at folder p) ≡ file.len) (sym path) (found folder (sym same ∙ e)).1);
-      kept = kept_behind (g.F.Files.contents c.open.new.self) files _ file (is_ok c.push.result) _ c.push.ensures.items (subst (λ o. AreKept o files old.cache.entries) (sym same) old.sound.kept);
+        handed_out = each_pushed (λ f. g.F.Files.opened c.open.new.self f.no.0 ≡ Some (told_of f)) files _ file (is_ok c.push.result) c.push.ensures.items
+            (λ k f h. let was = old.sound.handed_out k f h in hands.kept f.no.0 (ap is_some was) ∙ was)
+            (hands.told ∙ ap (λ p. Some (p, file.len)) (sym path));
+        short_enough = each_pushed (λ f. f.len ≤ MAX_LEN) files _ file (is_ok c.push.result) c.push.ensures.items old.sound.short_enough (search rules);
+        there = each_pushed (λ f. (folder : Folder) → g.F.Files.contents c.open.new.self ≡ Some folder → file_at folder (string_bytes f.path) ≡ Some (bytes_at folder (string_bytes f.path))) files _ file (is_ok c.push.result) c.push.ensures.items
+            (λ k f h folder e. old.sound.there k f h folder (sym same ∙ e))
+            (λ folder e. subst (λ p. file_at folder p ≡ Some (bytes_at folder p)) (sym path) (found folder (sym same ∙ e)).0);
+        as_long = each_pushed (λ f. (folder : Folder) → g.F.Files.contents c.open.new.self ≡ Some folder → length (bytes_at folder (string_bytes f.path)) ≡ f.len) files _ file (is_ok c.push.result) c.push.ensures.items
+            (λ k f h folder e. old.sound.as_long k f h folder (sym same ∙ e))
+            (λ folder e. subst (λ p. length (bytes_at folder p) ≡ file.len) (sym path) (found folder (sym same ∙ e)).1);
+        kept = kept_behind (g.F.Files.contents c.open.new.self) files _ file (is_ok c.push.result) _ c.push.ensures.items (subst (λ o. AreKept o files old.cache.entries) (sym same) old.sound.kept);
       };
     }
 

@@ -1,6 +1,5 @@
-use Rattle.std.proofs.Common.{◌≡◌, arith, rules, sym, subst, [], Some, None}
+use Rattle.std.proofs.Common.{rules, sym, subst, []}
 use Rattle.cord_file.proofs.sources.Sources.new.Goals as goal
-use Rattle.std.specs.Prelude.{slice_get}
 use Rattle.cord_file.specs.Blocks.{AreKept}
 use Rattle.cord_file.specs.Files.{Each}
 use Rattle.cord_file.proofs.BlockParts.{kept_none}

@@ -1,14 +1,14 @@
-use Rattle.std.proofs.Common.{◌≡◌, ℕ, suc, ◌+◌, ◌<◌, ◌≤◌, List, [], ◌∷◌, ◌++◌, Some, Ok, Err, Result, refl, sym, ◌∙◌, ap, subst, length, arith, rules}
+use Rattle.std.proofs.Common.{◌≡◌, ℕ, suc, ◌+◌, ◌<◌, List, Some, Ok, Err, Result, refl, sym, ◌∙◌, ap, subst, length, arith}
 use Rattle.std.specs.Prelude.{IfOk, OnErr}
 use Rattle.std.specs.Prelude.{slice_get}
 use Rattle.std.specs.Option.{option_map}
 use Rattle.std.specs.String.{string_bytes}
 use Rattle.std.proofs.lemmas.Option.{slice_get-map, slice_get_read}
-use Rattle.cord_io.specs.Device.{Folder, file_at, bytes_at}
+use Rattle.cord_io.specs.Device.{file_at, bytes_at}
 use Rattle.cord_file.specs.declared.files.OpenFile.{OpenFile}
 use Rattle.cord_file.specs.Entries.{Opened, id_in, lengths_in}
 use Rattle.cord_file.specs.Files.{told_of, opened_of}
-use Rattle.cord_file.specs.Opening.{Grows, Opens, HoldsFile}
+use Rattle.cord_file.specs.Opening.{Grows, Opens}
 use Rattle.cord_file.proofs.Growing.{grows_same, grows_opened, opens_again}
 use Rattle.cord_file.proofs.Holding.{file_at_place, holds_file, IsFound}
 use Rattle.cord_file.proofs.sources.Sources.open.Goals as goal

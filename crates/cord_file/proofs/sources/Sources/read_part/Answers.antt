@@ -1,12 +1,10 @@
-use Rattle.std.proofs.Common.{◌≡◌, ℕ, ◌+◌, ◌-◌, ◌*◌, ◌/◌, ◌%◌, ◌<◌, ◌≤◌, List, length, take, drop, Some, refl, sym, ap, subst, ◌∙◌, arith, rules}
+use Rattle.std.proofs.Common.{◌≡◌, ℕ, ◌+◌, ◌-◌, ◌/◌, ◌%◌, ◌<◌, ◌≤◌, List, length, take, drop, Some, refl, sym, ap, subst, ◌∙◌, arith, rules}
 use Rattle.std.specs.Prelude.{slice_get, IsSomeAnd}
 use Rattle.std.proofs.lemmas.Option.{slice_get_read}
-use Rattle.cord_io.specs.declared.TheConstants.{MAX_LEN}
 use Rattle.cord_file.specs.declared.blocks.TheConstants.{BLOCK}
 use Rattle.cord_file.specs.declared.blocks.BlockKey.{BlockKey}
 use Rattle.cord_file.specs.declared.files.OpenFile.{OpenFile}
-use Rattle.cord_file.specs.Blocks.{IsKept, AreKept, AreRead}
-use Rattle.cord_file.specs.Files.{told_of}
+use Rattle.cord_file.specs.Blocks.{IsKept, AreKept}
 use Rattle.cord_file.specs.Soundness.{IsSound}
 use Rattle.cord_file.proofs.EntryBytes.{of_told}
 use Rattle.cord_file.proofs.BlockParts.{inside_opened, of_slot, kept_of_read, read_of_kept, kept_with, sound_moved, sound_keeping}

@@ -1,7 +1,6 @@
-use Rattle.std.proofs.Common.{◌≡◌, ℕ, ◌+◌, ◌-◌, ◌<◌, ◌≤◌, List, Result, Ok, Err, Some, refl, sym, ap, ◌∙◌, subst, length, arith, rules}
-use Rattle.std.specs.Prelude.{slice_get, IsSomeAnd, IfErr, IsErrAnd}
+use Rattle.std.proofs.Common.{◌≡◌, ℕ, ◌+◌, ◌<◌, ◌≤◌, List, Result, Ok, Err, refl, sym, ap, ◌∙◌, subst, length, arith}
+use Rattle.std.specs.Prelude.{IsSomeAnd, IfErr, IsErrAnd}
 use Rattle.std.specs.Rc.{rc_slice_items}
-use Rattle.std.proofs.lemmas.Option.{slice_get_read}
 use Rattle.cord_io.specs.declared.TheConstants.{MAX_LEN}
 use Rattle.cord_core.specs.Forms.{IsLeafOf}
 use Rattle.cord_core.specs.Equations.{HasText}

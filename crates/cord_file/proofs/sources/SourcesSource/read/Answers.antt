@@ -1,9 +1,5 @@
-use Rattle.std.proofs.Common.{◌≡◌, ℕ, ◌+◌, ◌-◌, ◌<◌, ◌≤◌, Some, refl, sym, subst, length, arith, rules}
-use Rattle.std.specs.Prelude.{slice_get, IsSomeAnd}
-use Rattle.std.proofs.lemmas.Option.{slice_get_read}
+use Rattle.std.proofs.Common.{◌≡◌, ◌+◌, ◌<◌, ◌≤◌, sym, subst, length, rules}
 use Rattle.cord_io.specs.declared.TheConstants.{MAX_LEN}
-use Rattle.cord_file.specs.declared.files.OpenFile.{OpenFile}
-use Rattle.cord_file.specs.Entries.{lengths_in}
 use Rattle.cord_file.specs.Files.{opened_of}
 use Rattle.cord_file.proofs.EntryBytes.{in_slot, function_bytes, entry_read_ok, function_limit}
 use Rattle.cord_file.proofs.sources.SourcesSource.read.Goals as goal

@@ -1,4 +1,4 @@
-use Rattle.std.proofs.Common.{◌≡◌, ℕ, ◌≤◌, ap, sym, ◌∙◌, arith}
+use Rattle.std.proofs.Common.{◌≡◌, ap, arith}
 use Rattle.std.specs.Prelude.{unwrap_or}
 use Rattle.cord_io.specs.Table.{length_at}
 use Rattle.cord_file.specs.Entries.{lengths_in}
