@@ -3,10 +3,11 @@ use Rattle.std.proofs.Common.{◌≡◌, ℕ, zero, suc, ◌+◌, ◌-◌, ◌<�
 use Rattle.std.specs.Prelude.{slice_get, slice_index, IfSome, IsSomeAnd, OnOk, unwrap_or}
 use Rattle.std.specs.Option.{option_map}
 use Rattle.std.specs.String.{string_bytes}
-use Rattle.std.proofs.lemmas.Option.{slice_get-map, slice_get_within}
+use Rattle.std.proofs.lemmas.Option.{slice_get-map}
 use Rattle.cord_io.specs.declared.TheConstants.{MAX_LEN}
-use Rattle.cord_io.specs.Device.{Folder, file_at, bytes_at}
+use Rattle.cord_io.specs.Device.{Folder, bytes_at}
 use Rattle.cord_io.specs.Entries.{function_byte, function_read}
+use Rattle.cord_file.specs.Blocks.{AreRead}
 use Rattle.cord_file.specs.Entries.{Opened, lengths_in, table_in}
 use Rattle.cord_file.specs.Files.{AreShortEnough, told_of, opened_of}
 use Rattle.cord_file.specs.declared.files.OpenFile.{OpenFile}
@@ -26,9 +27,12 @@ length_of_file files id o h e = length_past (opened_of files) id h ∙ ap (optio
   both None = refl
   both (Some file) = refl
 
--- what holds of the length told of an entry holds of its file
-pub of_file : (P : ℕ → Type 0) (files : List OpenFile) (id : ℕ) (file : OpenFile) → 2 ≤ id → slice_get files (id - 2) ≡ Some file → IsSomeAnd (lengths_in (opened_of files) id) P → P file.len
-of_file P files id file h e p = subst (λ o. IsSomeAnd o P) (length_of_file files id (Some file) h e) p
+-- what holds of the length told of an entry that is a file holds of the file there
+pub in_slot : (P : ℕ → Type 0) (files : List OpenFile) (id : ℕ) → 2 ≤ id → IsSomeAnd (lengths_in (opened_of files) id) P → IsSomeAnd (slice_get files (id - 2)) (λ file. P file.len)
+in_slot P files id h p = at (slice_get files (id - 2)) refl where
+  at : (o : Option OpenFile) → slice_get files (id - 2) ≡ o → IsSomeAnd o (λ file. P file.len)
+  at None e = subst (λ o. IsSomeAnd o P) (length_of_file files id None h e) p
+  at (Some file) e = subst (λ o. IsSomeAnd o P) (length_of_file files id (Some file) h e) p
 
 -- what holds of the length of a file holds of what the device told
 pub of_told : (P : ℕ → Type 0) (told : Option (List ℕ × ℕ)) (file : OpenFile) → told ≡ Some (told_of file) → P file.len → IsSomeAnd told (λ t. P t.1)
@@ -60,20 +64,18 @@ text_of_file folder files (suc (suc n)) file h e =
     let here : slice_get files n ≡ Some file = ap (slice_get files) k ∙ e in
     ap (λ o. unwrap_or (option_map (λ f. bytes_at folder f.0) o) []) (slice_get-map told_of files n ∙ ap (option_map told_of) here)
 
--- the bytes of a file
-pub file_bytes : {A E : Type 0} (r : Result A E) (contents : Option Folder) (told : Option (List ℕ × ℕ)) (files : List OpenFile) (id start : ℕ) (out : List ℕ) (file : OpenFile) → 2 ≤ id → slice_get files (id - 2) ≡ Some file → told ≡ Some (told_of file) → OnOk r (IfSome contents (λ folder. IsSomeAnd told (λ t. out ≡ take (length out) (drop start (bytes_at folder t.0))))) → OnOk r (IfSome (option_map (table_in (opened_of files)) contents) (λ t. out ≡ take (length out) (drop start (t id))))
-file_bytes (Err e) contents told files id start out file h at same read = tt
-file_bytes (Ok x) None told files id start out file h at same read = tt
-file_bytes (Ok x) (Some folder) told files id start out file h at same read =
-    subst (λ o. IsSomeAnd o (λ t. out ≡ take (length out) (drop start (bytes_at folder t.0)))) same read
-    ∙ ap (λ b. take (length out) (drop start b)) (sym (text_of_file folder files id file h at))
+-- the bytes of a file are those of its entry
+pub entry_read : (contents : Option Folder) (files : List OpenFile) (id start : ℕ) (out : List ℕ) → 2 ≤ id → AreRead contents (slice_get files (id - 2)) start out → IfSome (option_map (table_in (opened_of files)) contents) (λ t. out ≡ take (length out) (drop start (t id)))
+entry_read None files id start out h read = tt
+entry_read (Some folder) files id start out h read = at (slice_get files (id - 2)) refl read where
+  at : (o : Option OpenFile) → slice_get files (id - 2) ≡ o → AreRead (Some folder) o start out → out ≡ take (length out) (drop start (table_in (opened_of files) folder id))
+  at None e read = absurd read
+  at (Some file) e read = read ∙ ap (λ b. take (length out) (drop start b)) (sym (text_of_file folder files id file h e))
 
--- an entry that is a file is one of those opened
-pub inside_files : (P : ℕ → Type 0) (files : List OpenFile) (id : ℕ) → 2 ≤ id → IsSomeAnd (lengths_in (opened_of files) id) P → id - 2 < length files
-inside_files P files id h p = cases (slice_get files (id - 2)) refl where
-  cases : (o : Option OpenFile) → slice_get files (id - 2) ≡ o → id - 2 < length files
-  cases None e = absurd (subst (λ o. IsSomeAnd o P) (length_of_file files id None h e) p)
-  cases (Some file) e = slice_get_within files (id - 2) file e
+-- the same where a read may have failed
+pub entry_read_ok : {A E : Type 0} (r : Result A E) (contents : Option Folder) (files : List OpenFile) (id start : ℕ) (out : List ℕ) → 2 ≤ id → OnOk r (AreRead contents (slice_get files (id - 2)) start out) → OnOk r (IfSome (option_map (table_in (opened_of files)) contents) (λ t. out ≡ take (length out) (drop start (t id))))
+entry_read_ok (Err e) contents files id start out h read = tt
+entry_read_ok (Ok x) contents files id start out h read = entry_read contents files id start out h read
 
 -- the range of a function lies below the greatest length
 pub function_limit : (opened : Opened) (id n : ℕ) → id < 2 → IsSomeAnd (lengths_in opened id) (λ len. n ≤ len) → n ≤ MAX_LEN

@@ -1,5 +1,5 @@
 -- Lists of opened paths, and how they grow.
-use Rattle.std.proofs.Common.{◌≡◌, ℕ, zero, suc, ◌+◌, ◌<◌, ◌≤◌, Bool, true, false, ◌⊎◌, inl, inr, List, [], ◌∷◌, ◌++◌, length, Option, Some, None, refl, sym, ap, subst, ◌∙◌, arith}
+use Rattle.std.proofs.Common.{◌≡◌, ℕ, zero, suc, ◌+◌, ◌<◌, ◌≤◌, true, false, ◌⊎◌, inl, inr, List, [], ◌∷◌, ◌++◌, length, Option, Some, None, refl, sym, ap, subst, ◌∙◌, arith}
 use Rattle.std.specs.Prelude.{slice_get, IsSome, is_some, if◌then◌else◌, unwrap_or}
 use Rattle.std.specs.Option.{option_map}
 use Rattle.std.specs.Str.{bytes_eq}
@@ -15,6 +15,12 @@ pub kept_place : {X Y : Type 0} (f : X → Y) (xs ys : List X) (n : ℕ) → IsS
 kept_place f [] ys n h = cc
 kept_place f (x ∷ xs) ys zero h = refl
 kept_place f (x ∷ xs) ys (suc n) h = kept_place f xs ys n h
+
+-- the same of a place inside
+pub place_inside : {X : Type 0} (xs ys : List X) (n : ℕ) → n < length xs → slice_get (xs ++ ys) n ≡ slice_get xs n
+place_inside [] ys n h = absurd (omega arith)
+place_inside (x ∷ xs) ys zero h = refl
+place_inside (x ∷ xs) ys (suc n) h = place_inside xs ys n (omega arith)
 
 -- the last member
 pub last_place : {X : Type 0} (xs : List X) (x : X) → slice_get (xs ++ x ∷ []) (length xs) ≡ Some x

@@ -1,5 +1,7 @@
+pub mod BlockParts
 pub mod CordTexts
 pub mod Growing
+pub mod KeptBlocks
 pub mod Holding
 pub mod EntryBytes
 pub mod Ranges

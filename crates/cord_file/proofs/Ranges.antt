@@ -1,19 +1,22 @@
 -- Ranges that are read piece by piece.
-use Rattle.std.proofs.Common.{◌≡◌, ℕ, ◌+◌, ◌-◌, ◌≤◌, List, ◌++◌, length, take, drop, refl, sym, ap, ◌∙◌, arith}
+use Rattle.std.proofs.Common.{◌≡◌, ℕ, ◌+◌, ◌≤◌, List, ◌++◌, length, take, drop, sym, ap, ◌∙◌}
 use Rattle.std.specs.Prelude.{IfSome, IsSomeAnd, Some, None}
 use Rattle.std.specs.declared.option.Option.{Option}
 use Rattle.std.proofs.lemmas.List.{drop-drop, length-take-le, take-append-le}
-use Rattle.std.proofs.Math.Seq.{take-add, take-append-add}
+use Rattle.std.proofs.Math.Seq.{take-add, take-append-add, take-length}
 use borrow.Rule.Slice.PartMut.{put_mid}
+use Rattle.std.specs.String.{string_bytes}
 use Rattle.cord_io.specs.Device.{Folder, bytes_at}
+use Rattle.cord_file.specs.Blocks.{AreRead}
+use Rattle.cord_file.specs.declared.files.OpenFile.{OpenFile}
 
 -- so many bytes more, read behind those that are there
-pub more_bytes : (done k start : ℕ) (out part text : List ℕ) → done ≤ length out → k ≤ length part → take done out ≡ take done (drop start text) → take k part ≡ take k (drop (start + done) text) → take (done + k) (put_mid done (length out - done) out part) ≡ take (done + k) (drop start text)
-more_bytes done k start out part text fits room before more =
-    let rest : List ℕ = drop (length out - done) (drop done out) in
+more_bytes : (done k room start : ℕ) (out part text : List ℕ) → done ≤ length out → k ≤ length part → take done out ≡ take done (drop start text) → take k part ≡ take k (drop (start + done) text) → take (done + k) (put_mid done room out part) ≡ take (done + k) (drop start text)
+more_bytes done k room start out part text fits inside before more =
+    let rest : List ℕ = drop room (drop done out) in
     let len : length (take done out) ≡ done = length-take-le done out fits in
     let split : take (length (take done out) + k) (take done out ++ (part ++ rest)) ≡ take done out ++ take k (part ++ rest) = take-append-add (take done out) (part ++ rest) k in
-    let front : take k (part ++ rest) ≡ take k part = take-append-le k part rest room in
+    let front : take k (part ++ rest) ≡ take k part = take-append-le k part rest inside in
     let place : drop done (drop start text) ≡ drop (start + done) text = drop-drop done start text in
     ap (λ n. take (n + k) (take done out ++ (part ++ rest))) (sym len)
     ∙ split
@@ -22,7 +25,13 @@ more_bytes done k start out part text fits room before more =
     ∙ sym (take-add done k (drop start text))
 
 -- the same of an opened file, where the device keeps its bytes
-pub more_read : (contents : Option Folder) (told : Option (List ℕ × ℕ)) (done k start : ℕ) (out part : List ℕ) → done ≤ length out → k ≤ length part → IfSome contents (λ folder. IsSomeAnd told (λ file. take done out ≡ take done (drop start (bytes_at folder file.0)))) → IfSome contents (λ folder. IsSomeAnd told (λ file. take k part ≡ take k (drop (start + done) (bytes_at folder file.0)))) → IfSome contents (λ folder. IsSomeAnd told (λ file. take (done + k) (put_mid done (length out - done) out part) ≡ take (done + k) (drop start (bytes_at folder file.0))))
-more_read None told done k start out part fits room before more = tt
-more_read (Some folder) None done k start out part fits room before more = absurd before
-more_read (Some folder) (Some file) done k start out part fits room before more = more_bytes done k start out part (bytes_at folder file.0) fits room before more
+pub more_read : {X : Type 0} (path : X → List ℕ) (contents : Option Folder) (opened : Option X) (done k room start : ℕ) (out part : List ℕ) → done ≤ length out → k ≤ length part → IfSome contents (λ folder. IsSomeAnd opened (λ file. take done out ≡ take done (drop start (bytes_at folder (path file))))) → IfSome contents (λ folder. IsSomeAnd opened (λ file. take k part ≡ take k (drop (start + done) (bytes_at folder (path file))))) → IfSome contents (λ folder. IsSomeAnd opened (λ file. take (done + k) (put_mid done room out part) ≡ take (done + k) (drop start (bytes_at folder (path file)))))
+more_read path None opened done k room start out part fits inside before more = tt
+more_read path (Some folder) None done k room start out part fits inside before more = absurd before
+more_read path (Some folder) (Some file) done k room start out part fits inside before more = more_bytes done k room start out part (bytes_at folder (path file)) fits inside before more
+
+-- bytes that were read are as many as they are
+pub all_read : (contents : Option Folder) (slot : Option OpenFile) (start k : ℕ) (part : List ℕ) → k ≡ length part → AreRead contents slot start part → IfSome contents (λ folder. IsSomeAnd slot (λ file. take k part ≡ take k (drop start (bytes_at folder (string_bytes file.path)))))
+all_read None slot start k part same read = tt
+all_read (Some folder) None start k part same read = read
+all_read (Some folder) (Some file) start k part same read = ap (λ n. take n part) same ∙ take-length part ∙ read ∙ ap (λ n. take n (drop start (bytes_at folder (string_bytes file.path)))) (sym same)

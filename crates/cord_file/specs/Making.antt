@@ -1,8 +1,8 @@
 -- Cords over files: what each call makes, and when it is refused.
-use Rattle.std.specs.Prelude.{◌≡◌, ℕ, ◌<◌, ◌≤◌, ◌⊎◌, ⊤, List, length, Option, Some, None, IfSome}
+use Rattle.std.specs.Prelude.{◌≡◌, ℕ, ◌<◌, ◌≤◌, ◌⊎◌, ⊤, List, length, Option, Some, IfSome}
 use Rattle.cord_io.specs.Device.{Folder, file_at}
 use Rattle.cord_node.specs.declared.Node.{Node}
-use Rattle.cord_core.specs.Cord.{text_len, IsCord, bytes_of, CordFitsIn}
+use Rattle.cord_core.specs.Cord.{text_len, bytes_of, CordFitsIn}
 use Rattle.cord_core.specs.Forms.{IsLeafOf, IsFuncOf}
 use Rattle.cord_core.specs.Equations.{HasText}
 use Rattle.cord_file.specs.declared.TheConstants.{SHORT_FILE}

@@ -6,7 +6,6 @@ ghost use Rattle.cord_file.specs.Entries.{lengths_in};
 ghost use Rattle.cord_file.specs.Opening.{Grows};
 ghost use Rattle.cord_file.specs.Making.{IsLeafOver, IsFuncOver, IsWhole, IsLazy, IsWholeOrLazy, IsReadRefusal, IsWholeRefusal, IsLazyRefusal};
 
-use crate::reading::read_range;
 use crate::{FileError, SHORT_FILE, Sources};
 use cord_core::Cord;
 use cord_io::{Files, SourceId};
@@ -72,9 +71,8 @@ impl<F: Files> Sources<F> {
         ensures cord { IfOk result (IsLeafOver (F.contents (device_in self.old)) (opened_in self.old) id.0 len) }
         ensures refused { IfErr result IsReadRefusal }
     {
-        let no = self.entries[id.0 as usize - 2].no;
         let mut bytes = vec![in alloc; 0; len as usize]?;
-        read_range(&mut self.files, no, 0, &mut bytes)?;
+        self.read_file(id.0 as usize - 2, 0, &mut bytes)?;
         let shared = RcSlice::from_vec(bytes)?;
         let cord = Cord::from_shared(alloc, shared)?;
         Ok(cord)

@@ -1,6 +1,7 @@
 //! Named files and functions as sources: a table of entries that only grows, which cords can be made over.
 #![tactic(auto)]
 
+mod blocks;
 mod cords;
 mod faults;
 mod files;

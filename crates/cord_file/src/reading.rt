@@ -1,7 +1,11 @@
 // Reading ranges of files.
-ghost use Rattle.std.specs.Prelude.{◌≡◌, ◌+◌, ◌≤◌, ℕ, length, take, drop, is_err, IfSome, OnOk, IsSomeAnd};
+ghost use Rattle.std.specs.Prelude.{◌≡◌, ◌+◌, ◌%◌, ◌<◌, ◌≤◌, ℕ, length, take, drop, is_err, slice_get, IfSome, OnOk, IsSomeAnd};
 ghost use Rattle.cord_io.specs.Device.{bytes_at, count_after};
+ghost use Rattle.cord_file.specs.Blocks.{AreRead};
+ghost use Rattle.cord_file.specs.declared.blocks.TheConstants.{BLOCK};
 
+use crate::Sources;
+use crate::blocks::{BLOCK, BlockKey, copy_kept, keep, read_block};
 use cord_io::{FileNo, Files, MAX_LEN, ReadFault};
 
 // Fills `out` with the bytes of an opened file from a place on. The range lies inside the file.
@@ -25,4 +29,55 @@ pub(crate) fn read_range<F: Files>(
         done += files.read_at(no, start + done as u64, &mut out[done..])?;
     }
     Ok(())
+}
+
+impl<F: Files> Sources<F> {
+    ghost use Rattle.cord_file.specs.Sources.{device_in};
+
+    // Fills `out` with an opened file's bytes from a place on, block by block.
+    pub(crate) fn read_file(
+        &mut self,
+        place: usize,
+        start: u64,
+        out: &mut [u8],
+    ) -> Result<(), ReadFault>
+        requires inside { IsSomeAnd (slice_get self.old.entries.items place) (λ file. start + length out.old ≤ file.len) }
+        ensures contents { F.contents (device_in self.new) ≡ F.contents (device_in self.old) }
+        ensures entries { self.new.entries.items ≡ self.old.entries.items }
+        ensures count { F.failures (device_in self.new) ≡ count_after (is_err result) (F.failures (device_in self.old)) }
+        ensures bytes { OnOk result (AreRead (F.contents (device_in self.old)) (slice_get self.old.entries.items place) start out.new) }
+    {
+        let mut done = 0;
+        while done < out.len() {
+            let from = start + done as u64;
+            let left = BLOCK - (from % BLOCK as u64) as usize;
+            let size = left.min(out.len() - done);
+            self.read_part(place, from, &mut out[done..done + size])?;
+            done += size;
+        }
+        Ok(())
+    }
+
+    // Fills `out` with bytes of one block of an opened file: of the block that is kept, or else of one that is read and then kept.
+    fn read_part(&mut self, place: usize, start: u64, out: &mut [u8]) -> Result<(), ReadFault>
+        requires inside { IsSomeAnd (slice_get self.old.entries.items place) (λ file. start + length out.old ≤ file.len) }
+        requires some { 0 < length out.old }
+        requires part { start % BLOCK + length out.old ≤ BLOCK }
+        ensures contents { F.contents (device_in self.new) ≡ F.contents (device_in self.old) }
+        ensures entries { self.new.entries.items ≡ self.old.entries.items }
+        ensures count { F.failures (device_in self.new) ≡ count_after (is_err result) (F.failures (device_in self.old)) }
+        ensures bytes { OnOk result (AreRead (F.contents (device_in self.old)) (slice_get self.old.entries.items place) start out.new) }
+    {
+        let number = start / BLOCK as u64;
+        let from = (start % BLOCK as u64) as usize;
+        let key = BlockKey { place, number };
+        if copy_kept(&mut self.cache, key, from, out) {
+            return Ok(());
+        }
+        let file = &self.entries[place];
+        let block = read_block(&mut self.files, file.no, file.len, number)?;
+        out.copy_from_slice(&block[from..from + out.len()]);
+        keep(&mut self.cache, key, block);
+        Ok(())
+    }
 }

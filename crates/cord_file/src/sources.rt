@@ -1,13 +1,15 @@
 // A table of entries: two functions, and the files that were opened.
 ghost use Rattle.std.specs.Prelude.{◌≡◌, ◌+◌, ◌<◌, ◌≤◌, ℕ, length, [], MatchResult, vec_len};
 ghost use Rattle.cord_file.specs.declared.TheConstants.{MAX_FILES};
-ghost use Rattle.cord_file.specs.Files.{AreHandedOut, AreShortEnough, AreThere, AreAsLong};
+ghost use Rattle.cord_file.specs.Soundness.{IsSound};
 
+use crate::blocks::{Blocks, MAX_BLOCKS};
 use crate::files::OpenFile;
 use crate::functions::fill;
-use crate::reading::read_range;
 use cord_io::{CordError, Files, MAX_LEN, ReadFault, Source, SourceId};
+use lru::LruCache;
 use std::alloc::Global;
+use std::num::NonZeroUsize;
 
 /// Entries of bytes by id: 0 is the function `digits` (byte `48 + i mod 10` at place i) and 1 the function `bytes`
 /// (`i mod 256`), both `MAX_LEN` long, and from 2 on stand the files that were opened, at most `MAX_FILES` of them.
@@ -15,11 +17,9 @@ use std::alloc::Global;
 pub struct Sources<F: Files> {
     pub(crate) files: F,
     pub(crate) entries: Vec<OpenFile>,
+    pub(crate) cache: Blocks,
     ghost few: { vec_len entries ≤ MAX_FILES },
-    ghost handed_out: { AreHandedOut (F.opened files) entries.items },
-    ghost short_enough: { AreShortEnough entries.items },
-    ghost there: { AreThere (F.contents files) entries.items },
-    ghost as_long: { AreAsLong (F.contents files) entries.items },
+    ghost sound: { IsSound (F.contents files) (F.opened files) entries.items cache.entries },
 }
 
 impl<F: Files> Sources<F> {
@@ -32,9 +32,15 @@ impl<F: Files> Sources<F> {
             (λ sources. (device_in sources ≡ files) × (opened_in sources ≡ []))
             (λ refusal. (refusal.0 ≡ CordError.NoMemory) × (refusal.1 ≡ files)) }
     {
+        let most = NonZeroUsize::new(MAX_BLOCKS).unwrap();
+        let Ok(cache) = LruCache::new(alloc, most) else {
+            return Err((CordError::NoMemory, files));
+        };
+        let entries = Vec::new(alloc);
         Ok(Sources {
             files,
-            entries: Vec::new(alloc),
+            entries,
+            cache,
         })
     }
 
@@ -42,7 +48,11 @@ impl<F: Files> Sources<F> {
     pub fn close(self) -> F
         ensures { result ≡ device_in self }
     {
-        let Sources { files, entries: _ } = self;
+        let Sources {
+            files,
+            entries: _,
+            cache: _,
+        } = self;
         files
     }
 }
@@ -59,7 +69,7 @@ impl<F: Files> Source for Sources<F> {
 
     ghost failures = { λ s. F.failures (device_in s) };
 
-    ghost lengths_of_table = { λ s. as_long_as_told (F.contents (device_in s)) s.entries.items s.as_long };
+    ghost lengths_of_table = { λ s. as_long_as_told (F.contents (device_in s)) s.entries.items s.sound.as_long };
 
     fn failures(&self) -> u64 {
         self.files.failures()
@@ -81,10 +91,7 @@ impl<F: Files> Source for Sources<F> {
                 fill(id, start, out);
                 Ok(())
             }
-            n => {
-                let no = self.entries[n as usize - 2].no;
-                read_range(&mut self.files, no, start, out)
-            }
+            n => self.read_file(n as usize - 2, start, out),
         }
     }
 }

@@ -1,4 +1,9 @@
 // Rows of worked examples over files in memory.
+mod reading;
+
+ghost use Rattle.std.specs.Prelude.{◌≡◌, ◌≤◌, ℕ, None};
+ghost use Rattle.cord_io.specs.Device.{file_count};
+
 use super::*;
 use cord_core::{Cord, Node};
 use cord_io::{CutFiles, Files, MemFiles, Source, SourceId};
@@ -6,9 +11,22 @@ use std::alloc::Global;
 use std::process::Abort;
 
 // Files in memory with one file.
-fn one_file(rt: &impl Abort, alloc: Global, path: &str, bytes: &[u8]) -> MemFiles {
+fn one_file(rt: &impl Abort, alloc: Global, path: &str, bytes: &[u8]) -> MemFiles
+    ensures unopened { (n : ℕ) → ⟦<MemFiles as Files>⟧.opened result n ≡ None }
+    ensures few { file_count (⟦<MemFiles as Files>⟧.contents result) ≤ 1 }
+{
     let mut files = MemFiles::new(alloc);
     assert_eq!(rt; files.add(alloc, path, bytes), Ok(()));
+    files
+}
+
+// 65 files in memory of one byte each, at the paths "0" to "64".
+fn numbered_files(rt: &impl Abort, alloc: Global) -> MemFiles {
+    let mut files = MemFiles::new(alloc);
+    for i in 0..65u8 {
+        let path = format!(in alloc; "{i}").expect(rt, "memory");
+        assert_eq!(rt; files.add(alloc, &path, b"x"), Ok(()));
+    }
     files
 }
 
@@ -58,6 +76,25 @@ fn sources_open(rt: HostRuntime) {
     assert_eq!(rt; sources.failures(), 0);
     let files = sources.close();
     assert_eq!(rt; files.failures(), 0);
+}
+
+#[test]
+fn sixty_five_paths(rt: HostRuntime) {
+    let alloc = rt.alloc();
+    let Ok(mut sources) = Sources::new(alloc, numbered_files(&rt, alloc)) else {
+        panic!(rt; "no memory");
+    };
+    for i in 0..64u8 {
+        let path = format!(in alloc; "{i}").expect(&rt, "memory");
+        assert_eq!(rt;
+            sources.open(alloc, &path),
+            Ok((SourceId(u32::from(i) + 2), 1))
+        );
+    }
+    assert_eq!(rt; sources.open(alloc, "64"), Err(FileError::TooManyFiles));
+    assert_eq!(rt; sources.open(alloc, "none"), Err(FileError::TooManyFiles));
+    assert_eq!(rt; sources.open(alloc, "63"), Ok((SourceId(65), 1)));
+    assert_eq!(rt; sources.failures(), 0);
 }
 
 #[test]

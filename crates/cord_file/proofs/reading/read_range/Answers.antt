@@ -1,4 +1,4 @@
-use Rattle.std.proofs.Common.{◌≡◌, ℕ, ◌+◌, ◌≤◌, List, ◌∙◌, length, take, drop, subst, arith, rules}
+use Rattle.std.proofs.Common.{◌≡◌, ℕ, ◌+◌, ◌≤◌, List, ◌∙◌, length, take, drop, subst, rules}
 use Rattle.std.specs.Prelude.{IfSome, IsSomeAnd, Option}
 use Rattle.cord_io.specs.Device.{Folder, bytes_at}
 use Rattle.cord_file.proofs.Ranges.{more_read}
@@ -22,5 +22,5 @@ loop-done-preserved g c =
       contents = search rules;
       opened = λ n. c.read_at.ensures.opened n ∙ c.loop-done.invariant.opened n;
       count = search rules;
-      bytes = more_read (g.F.Files.contents old) (g.F.Files.opened old no) loop.done k c.args.start loop.out part fits room loop.invariant.bytes same;
+      bytes = more_read (λ file. file.0) (g.F.Files.contents old) (g.F.Files.opened old no) loop.done k _ c.args.start loop.out part fits room loop.invariant.bytes same;
     }

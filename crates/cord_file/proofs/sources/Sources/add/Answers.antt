@@ -1,4 +1,4 @@
-use Rattle.std.proofs.Common.{◌≡◌, ℕ, suc, ◌+◌, ◌<◌, ◌≤◌, Bool, List, [], ◌∷◌, ◌++◌, Some, refl, sym, ◌∙◌, ap, subst, length, arith, rules}
+use Rattle.std.proofs.Common.{◌≡◌, suc, ◌+◌, ◌<◌, ◌≤◌, [], ◌∷◌, ◌++◌, Some, sym, ◌∙◌, ap, subst, length, rules}
 use Rattle.std.specs.Prelude.{is_ok, is_some, slice_get}
 use Rattle.std.specs.String.{string_bytes}
 use Rattle.std.proofs.lemmas.List.{length-map}
@@ -6,12 +6,29 @@ use Rattle.cord_io.specs.declared.TheConstants.{MAX_LEN}
 use Rattle.cord_io.specs.Device.{Folder, file_at, bytes_at, HandsOut}
 use Rattle.cord_file.specs.declared.TheConstants.{MAX_FILES}
 use Rattle.cord_file.specs.declared.files.OpenFile.{OpenFile}
-use Rattle.cord_file.specs.Entries.{Opened}
 use Rattle.cord_file.specs.Files.{told_of, opened_of}
-use Rattle.cord_file.specs.Opening.{Opens, HoldsFile}
+use Rattle.cord_file.specs.Opening.{Opens}
 use Rattle.cord_file.proofs.Growing.{opens_behind, last_place}
+use Rattle.cord_file.specs.Blocks.{AreKept}
+use Rattle.cord_file.proofs.BlockParts.{kept_behind, sound_moved}
 use Rattle.cord_file.proofs.Holding.{each_pushed, opened_more, IsFound, found_there, holds_file}
 use Rattle.cord_file.proofs.sources.Sources.add.Goals as goal
+
+pub invariant_of-self : goal.invariant_of-self
+invariant_of-self g c =
+    let old = c.args.self.now in
+    record {
+      few = old.few;
+      sound = sound_moved (g.F.Files.contents old.files) (g.F.Files.contents c.open.new.self) (g.F.Files.opened old.files) (g.F.Files.opened c.open.new.self) old.entries.items old.cache.entries c.open.ensures.contents (λ n h. c.in_err-no.ensures.none_opened n) old.sound;
+    }
+
+pub invariant_of-self-then-len-gt-MAX_LEN : goal.invariant_of-self-then-len-gt-MAX_LEN
+invariant_of-self-then-len-gt-MAX_LEN g c =
+    let old = c.args.self.now in
+    record {
+      few = old.few;
+      sound = sound_moved (g.F.Files.contents old.files) (g.F.Files.contents c.open.new.self) (g.F.Files.opened old.files) (g.F.Files.opened c.open.new.self) old.entries.items old.cache.entries c.open.ensures.contents c.in_ok-no.ensures.opened.kept old.sound;
+    }
 
 pub invariant_of-self-2 : goal.invariant_of-self-2
 invariant_of-self-2 g c =
@@ -24,16 +41,19 @@ invariant_of-self-2 g c =
     let same : g.F.Files.contents c.open.new.self ≡ g.F.Files.contents old.files = c.open.ensures.contents in
     record {
       few = search rules;
-      handed_out = each_pushed (λ f. g.F.Files.opened c.open.new.self f.no.0 ≡ Some (told_of f)) files _ file (is_ok c.push.result) c.push.ensures.items
-          (λ k f h. let was = old.handed_out k f h in hands.kept f.no.0 (ap is_some was) ∙ was)
-          (hands.told ∙ ap (λ p. Some (p, file.len)) (sym path));
-      short_enough = each_pushed (λ f. f.len ≤ MAX_LEN) files _ file (is_ok c.push.result) c.push.ensures.items old.short_enough (search rules);
-      there = each_pushed (λ f. (folder : Folder) → g.F.Files.contents c.open.new.self ≡ Some folder → file_at folder (string_bytes f.path) ≡ Some (bytes_at folder (string_bytes f.path))) files _ file (is_ok c.push.result) c.push.ensures.items
-          (λ k f h folder e. old.there k f h folder (sym same ∙ e))
-          (λ folder e. subst (λ p. file_at folder p ≡ Some (bytes_at folder p)) (sym path) (found folder (sym same ∙ e)).0);
-      as_long = each_pushed (λ f. (folder : Folder) → g.F.Files.contents c.open.new.self ≡ Some folder → length (bytes_at folder (string_bytes f.path)) ≡ f.len) files _ file (is_ok c.push.result) c.push.ensures.items
-          (λ k f h folder e. old.as_long k f h folder (sym same ∙ e))
-          (λ folder e. subst (λ p. length (bytes_at folder p) ≡ file.len) (sym path) (found folder (sym same ∙ e)).1);
+      sound = record {
+        handed_out = each_pushed (λ f. g.F.Files.opened c.open.new.self f.no.0 ≡ Some (told_of f)) files _ file (is_ok c.push.result) c.push.ensures.items
+            (λ k f h. let was = old.sound.handed_out k f h in hands.kept f.no.0 (ap is_some was) ∙ was)
+            (hands.told ∙ ap (λ p. Some (p, file.len)) (sym path));
+        short_enough = each_pushed (λ f. f.len ≤ MAX_LEN) files _ file (is_ok c.push.result) c.push.ensures.items old.sound.short_enough (search rules);
+        there = each_pushed (λ f. (folder : Folder) → g.F.Files.contents c.open.new.self ≡ Some folder → file_at folder (string_bytes f.path) ≡ Some (bytes_at folder (string_bytes f.path))) files _ file (is_ok c.push.result) c.push.ensures.items
+            (λ k f h folder e. old.sound.there k f h folder (sym same ∙ e))
+            (λ folder e. subst (λ p. file_at folder p ≡ Some (bytes_at folder p)) (sym path) (found folder (sym same ∙ e)).0);
+        as_long = each_pushed (λ f. (folder : Folder) → g.F.Files.contents c.open.new.self ≡ Some folder → length (bytes_at folder (string_bytes f.path)) ≡ f.len) files _ file (is_ok c.push.result) c.push.ensures.items
+            (λ k f h folder e. old.sound.as_long k f h folder (sym same ∙ e))
+            (λ folder e. subst (λ p. length (bytes_at folder p) ≡ file.len) (sym path) (found folder (sym same ∙ e)).1);
+        kept = kept_behind (g.F.Files.contents c.open.new.self) files _ file (is_ok c.push.result) _ c.push.ensures.items (subst (λ o. AreKept o files old.cache.entries) (sym same) old.sound.kept);
+      };
     }
 
 pub returns-clause-opens : goal.returns-clause-opens

@@ -1,4 +1,3 @@
-use Rattle.std.proofs.Common.{◌≡◌, ℕ, ◌≤◌}
 use Rattle.cord_file.specs.Files.{opened_of}
 use Rattle.cord_file.proofs.Growing.{is_file}
 use Rattle.cord_file.proofs.sources.Sources.eager.Goals as goal

@@ -1,4 +1,4 @@
-use Rattle.std.proofs.Common.{◌≡◌, ℕ, ◌+◌, ◌≤◌, arith}
+use Rattle.std.proofs.Common.{◌≤◌, arith}
 use Rattle.cord_io.specs.declared.TheConstants.{MAX_LEN}
 use Rattle.cord_file.proofs.EntryBytes.{entry_limit}
 use Rattle.cord_file.proofs.CordTexts.{func_over}
@@ -7,8 +7,8 @@ use Rattle.cord_file.proofs.sources.Sources.function_over.Goals as goal
 pub from_fn-requires : goal.from_fn-requires
 from_fn-requires g c =
     let self = c.args.self.now in
-    let limit : c.args.len ≤ MAX_LEN = entry_limit self.entries.items self.short_enough c.args.id.0 c.args.len c.requires.len in
+    let limit : c.args.len ≤ MAX_LEN = entry_limit self.entries.items self.sound.short_enough c.args.id.0 c.args.len c.requires.len in
     omega (arith, limit)
 
 pub returns-clause-cord : goal.returns-clause-cord
-returns-clause-cord g c = func_over _ c.args.self.now.entries.items c.args.id.0 c.args.len _ c.args.self.now.as_long c.requires.len c.in_ok-cord.ensures.form c.in_ok-cord.ensures.over
+returns-clause-cord g c = func_over _ c.args.self.now.entries.items c.args.id.0 c.args.len _ c.args.self.now.sound.as_long c.requires.len c.in_ok-cord.ensures.form c.in_ok-cord.ensures.over

@@ -1,7 +1,8 @@
-use Rattle.std.proofs.Common.{◌≡◌, arith, rules, sym, subst, [], Some, None}
+use Rattle.std.proofs.Common.{rules, sym, subst, []}
 use Rattle.cord_file.proofs.sources.Sources.new.Goals as goal
-use Rattle.std.specs.Prelude.{slice_get}
+use Rattle.cord_file.specs.Blocks.{AreKept}
 use Rattle.cord_file.specs.Files.{Each}
+use Rattle.cord_file.proofs.BlockParts.{kept_none}
 use Rattle.cord_file.specs.declared.files.OpenFile.{OpenFile}
 
 -- nothing is claimed of no files
@@ -11,8 +12,11 @@ each_none P k file h = cc
 pub invariant_of-result : goal.invariant_of-result
 invariant_of-result g c = record {
   few = search rules;
-  handed_out = subst (Each _) (sym c.new.ensures.items) (each_none _);
-  short_enough = subst (Each _) (sym c.new.ensures.items) (each_none _);
-  there = subst (Each _) (sym c.new.ensures.items) (each_none _);
-  as_long = subst (Each _) (sym c.new.ensures.items) (each_none _);
+  sound = record {
+    handed_out = subst (Each _) (sym c.new-entries.ensures.items) (each_none _);
+    short_enough = subst (Each _) (sym c.new-entries.ensures.items) (each_none _);
+    there = subst (Each _) (sym c.new-entries.ensures.items) (each_none _);
+    as_long = subst (Each _) (sym c.new-entries.ensures.items) (each_none _);
+    kept = subst (λ b. AreKept (g.F.Files.contents c.args.files) c.new-entries.result.items b.entries) (sym c.in-Ok.ensures) (kept_none (g.F.Files.contents c.args.files) c.new-entries.result.items);
+  };
 }

@@ -1,14 +1,14 @@
-use Rattle.std.proofs.Common.{◌≡◌, ℕ, suc, ◌+◌, ◌<◌, ◌≤◌, List, [], ◌∷◌, ◌++◌, Some, Ok, Err, Result, refl, sym, ◌∙◌, ap, subst, length, arith, rules}
+use Rattle.std.proofs.Common.{◌≡◌, ℕ, suc, ◌+◌, ◌<◌, List, Some, Ok, Err, Result, refl, sym, ◌∙◌, ap, subst, length, arith}
 use Rattle.std.specs.Prelude.{IfOk, OnErr}
 use Rattle.std.specs.Prelude.{slice_get}
 use Rattle.std.specs.Option.{option_map}
 use Rattle.std.specs.String.{string_bytes}
 use Rattle.std.proofs.lemmas.Option.{slice_get-map, slice_get_read}
-use Rattle.cord_io.specs.Device.{Folder, file_at, bytes_at}
+use Rattle.cord_io.specs.Device.{file_at, bytes_at}
 use Rattle.cord_file.specs.declared.files.OpenFile.{OpenFile}
 use Rattle.cord_file.specs.Entries.{Opened, id_in, lengths_in}
 use Rattle.cord_file.specs.Files.{told_of, opened_of}
-use Rattle.cord_file.specs.Opening.{Grows, Opens, HoldsFile}
+use Rattle.cord_file.specs.Opening.{Grows, Opens}
 use Rattle.cord_file.proofs.Growing.{grows_same, grows_opened, opens_again}
 use Rattle.cord_file.proofs.Holding.{file_at_place, holds_file, IsFound}
 use Rattle.cord_file.proofs.sources.Sources.open.Goals as goal
@@ -36,7 +36,7 @@ returns-in-Some-clause-opens g c =
     let here : slice_get files n ≡ Some e = slice_get_read files _ n e refl inside c.index.ensures in
     let id : n + 2 ≡ suc (suc n) = omega arith in
     let told : lengths_in (opened_of files) (n + 2) ≡ Some e.len = ap (lengths_in (opened_of files)) id ∙ ap (option_map (λ file. file.1)) (slice_get-map told_of files n ∙ ap (option_map told_of) here) in
-    opens_again (opened_of files) path (n + 2) e.len found told (self.short_enough n e here)
+    opens_again (opened_of files) path (n + 2) e.len found told (self.sound.short_enough n e here)
 
 pub returns-in-Some-clause-file : goal.returns-in-Some-clause-file
 returns-in-Some-clause-file g c =
@@ -54,5 +54,5 @@ returns-in-Some-clause-file g c =
     let id : n + 2 ≡ suc (suc n) = omega arith in
     let slot : slice_get (opened_of files) n ≡ Some (path, e.len) = slice_get-map told_of files n ∙ ap (option_map told_of) here ∙ ap (λ p. Some (p, e.len)) at in
     let there : IsFound (g.F.Files.contents self.files) path e.len =
-    λ folder k. subst (λ p. (file_at folder p ≡ Some (bytes_at folder p)) × (length (bytes_at folder p) ≡ e.len)) at (self.there n e here folder k, self.as_long n e here folder k) in
+    λ folder k. subst (λ p. (file_at folder p ≡ Some (bytes_at folder p)) × (length (bytes_at folder p) ≡ e.len)) at (self.sound.there n e here folder k, self.sound.as_long n e here folder k) in
     holds_file (g.F.Files.contents self.files) (opened_of files) path (n + 2) e.len n id slot there

@@ -1,7 +1,6 @@
-use Rattle.std.proofs.Common.{◌≡◌, ℕ, ◌+◌, ◌-◌, ◌<◌, ◌≤◌, List, Result, Ok, Err, Some, refl, sym, ap, ◌∙◌, subst, length, arith, rules}
-use Rattle.std.specs.Prelude.{slice_get, IsSomeAnd, IfErr, IsErrAnd}
+use Rattle.std.proofs.Common.{◌≡◌, ℕ, ◌+◌, ◌<◌, ◌≤◌, List, Result, Ok, Err, refl, sym, ap, ◌∙◌, subst, length, arith}
+use Rattle.std.specs.Prelude.{IsSomeAnd, IfErr, IsErrAnd}
 use Rattle.std.specs.Rc.{rc_slice_items}
-use Rattle.std.proofs.lemmas.Option.{slice_get_read}
 use Rattle.cord_io.specs.declared.TheConstants.{MAX_LEN}
 use Rattle.cord_core.specs.Forms.{IsLeafOf}
 use Rattle.cord_core.specs.Equations.{HasText}
@@ -13,48 +12,27 @@ use Rattle.cord_file.specs.Making.{IsReadRefusal}
 use Rattle.cord_file.specs.declared.faults.FileError.{FileError}
 use Rattle.cord_file.specs.Entries.{lengths_in}
 use Rattle.cord_file.specs.Files.{opened_of}
-use Rattle.cord_file.proofs.EntryBytes.{of_file, of_told, inside_files, entry_limit}
+use Rattle.cord_file.proofs.EntryBytes.{in_slot, entry_limit}
 use Rattle.cord_file.proofs.CordTexts.{written, leaf_over}
 use Rattle.cord_file.proofs.sources.Sources.read_whole.Goals as goal
 
-pub read_range-requires-clause-inside : goal.read_range-requires-clause-inside
-read_range-requires-clause-inside g c =
-    let self = c.args.self.now in
-    let files = self.entries.items in
-    let id = c.args.id.0 in
-    let file = c.index.result.now in
-    let P : ℕ → Type 0 = λ n. n ≡ c.args.len in
-    let told : IsSomeAnd (lengths_in (opened_of files) id) P = subst (λ o. IsSomeAnd o P) (sym c.requires.len) refl in
-    let inside : id - 2 < length files = inside_files P files id c.requires.file told in
-    let here : slice_get files (id - 2) ≡ Some file = slice_get_read files (length files) (id - 2) file refl inside c.index.ensures in
-    let is : file.len ≡ c.args.len = of_file P files id file c.requires.file here told in
+pub read_file-requires : goal.read_file-requires
+read_file-requires g c =
+    let files = c.args.self.now.entries.items in
     let count : length c.deref_mut.result.now ≡ c.args.len = c.deref_mut.ensures.len ∙ c.in_ok-bytes.ensures.len in
-    of_told (λ n. 0 + length c.deref_mut.result.now ≤ n) (g.F.Files.opened self.files file.no.0) file (self.handed_out (id - 2) file here) (omega (arith, is, count))
-
-pub read_range-requires-clause-limit : goal.read_range-requires-clause-limit
-read_range-requires-clause-limit g c =
-    let self = c.args.self.now in
-    let limit : c.args.len ≤ MAX_LEN = entry_limit self.entries.items self.short_enough c.args.id.0 c.args.len c.requires.len in
-    let count : length c.deref_mut.result.now ≡ c.args.len = c.deref_mut.ensures.len ∙ c.in_ok-bytes.ensures.len in
-    omega (arith, limit, count)
+    let within : IsSomeAnd (lengths_in (opened_of files) c.args.id.0) (λ n. 0 + length c.deref_mut.result.now ≤ n) = subst (λ o. IsSomeAnd o (λ n. 0 + length c.deref_mut.result.now ≤ n)) (sym c.requires.len) (omega (arith, count)) in
+    record { inside = in_slot (λ n. 0 + length c.deref_mut.result.now ≤ n) files c.args.id.0 c.requires.file within }
 
 pub returns-clause-cord : goal.returns-clause-cord
 returns-clause-cord g c =
     let self = c.args.self.now in
     let files = self.entries.items in
-    let id = c.args.id.0 in
-    let file = c.index.result.now in
-    let P : ℕ → Type 0 = λ n. n ≡ c.args.len in
-    let told : IsSomeAnd (lengths_in (opened_of files) id) P = subst (λ o. IsSomeAnd o P) (sym c.requires.len) refl in
-    let inside : id - 2 < length files = inside_files P files id c.requires.file told in
-    let here : slice_get files (id - 2) ≡ Some file = slice_get_read files (length files) (id - 2) file refl inside c.index.ensures in
-    let is : file.len ≡ c.args.len = of_file P files id file c.requires.file here told in
-    let out : List ℕ = c.read_range.new.out in
+    let out : List ℕ = c.read_file.new.out in
     let value : c.deref_mut.result.now ≡ c.in_ok-bytes.bytes.items = c.deref_mut.ensures.value in
-    let long : length out ≡ length c.in_ok-bytes.bytes.items = c.read_range.auto.out ∙ ap length value in
-    let count : length out ≡ c.args.len = c.read_range.auto.out ∙ c.deref_mut.ensures.len ∙ c.in_ok-bytes.ensures.len in
+    let long : length out ≡ length c.in_ok-bytes.bytes.items = c.read_file.auto.out ∙ ap length value in
+    let count : length out ≡ c.args.len = c.read_file.auto.out ∙ c.deref_mut.ensures.len ∙ c.in_ok-bytes.ensures.len in
     let items : rc_slice_items c.in_ok-shared.shared ≡ out = c.in_ok-shared.ensures ∙ written c.in_ok-bytes.bytes.len out c.in_ok-bytes.bytes.items c.in_ok-bytes.bytes.ok.0 long in
-    leaf_over (g.F.Files.contents self.files) (g.F.Files.opened self.files file.no.0) files id c.args.len out file c.in_ok-cord.cord c.requires.file here (self.handed_out (id - 2) file here) self.as_long is count c.in_ok-read_range.ensures.bytes
+    leaf_over (g.F.Files.contents self.files) files c.args.id.0 c.args.len out c.in_ok-cord.cord c.requires.file self.sound.as_long c.requires.len count c.in_ok-read_file.ensures.bytes
     (subst (λ xs. IsLeafOf xs c.in_ok-cord.cord) items c.in_ok-cord.ensures.form) (subst (λ xs. HasText xs c.in_ok-cord.cord) items c.in_ok-cord.ensures.over)
 
 -- bytes that aren't too long for a cord are refused for want of memory alone
@@ -70,12 +48,12 @@ refusal (Err f) e gives known short = subst IsReadRefusal (sym gives) (cases e k
 pub returns-in_err-cord-clause-refused : goal.returns-in_err-cord-clause-refused
 returns-in_err-cord-clause-refused g c =
     let self = c.args.self.now in
-    let out : List ℕ = c.read_range.new.out in
+    let out : List ℕ = c.read_file.new.out in
     let value : c.deref_mut.result.now ≡ c.in_ok-bytes.bytes.items = c.deref_mut.ensures.value in
-    let long : length out ≡ length c.in_ok-bytes.bytes.items = c.read_range.auto.out ∙ ap length value in
-    let count : length out ≡ c.args.len = c.read_range.auto.out ∙ c.deref_mut.ensures.len ∙ c.in_ok-bytes.ensures.len in
+    let long : length out ≡ length c.in_ok-bytes.bytes.items = c.read_file.auto.out ∙ ap length value in
+    let count : length out ≡ c.args.len = c.read_file.auto.out ∙ c.deref_mut.ensures.len ∙ c.in_ok-bytes.ensures.len in
     let items : rc_slice_items c.in_ok-shared.shared ≡ out = c.in_ok-shared.ensures ∙ written c.in_ok-bytes.bytes.len out c.in_ok-bytes.bytes.items c.in_ok-bytes.bytes.ok.0 long in
-    let limit : c.args.len ≤ MAX_LEN = entry_limit self.entries.items self.short_enough c.args.id.0 c.args.len c.requires.len in
+    let limit : c.args.len ≤ MAX_LEN = entry_limit self.entries.items self.sound.short_enough c.args.id.0 c.args.len c.requires.len in
     let same : length (rc_slice_items c.in_ok-shared.shared) ≡ c.args.len = ap length items ∙ count in
     refusal c.from_residual-in_err-cord.result c.in_err-cord.field-0.0 c.from_residual-in_err-cord.ensures.1 c.in_err-cord.ensures.refused
     (λ e. let over : MAX_LEN < length (rc_slice_items c.in_ok-shared.shared) = c.in_err-cord.ensures.too_long (ap (λ x. Err x) e) in absurd (omega (arith, over, same, limit)))

@@ -1,0 +1,105 @@
+-- Parts of blocks, and what is kept.
+use Rattle.std.proofs.Common.{◌≡◌, ℕ, ◌+◌, ◌*◌, ◌/◌, ◌%◌, ◌<◌, ◌≤◌, ◌⊎◌, inl, inr, List, [], ◌∷◌, ◌++◌, Bool, true, false, length, length-append, take, drop, Contains, Option, Some, None, refl, sym, ap, subst, ◌∙◌, arith}
+use Rattle.std.specs.Prelude.{slice_get, is_some, IsSome, IfSome, IsSomeAnd, if◌then◌else◌}
+use Rattle.std.specs.String.{string_bytes}
+use Rattle.std.proofs.lemmas.Option.{slice_get_within}
+use Rattle.std.proofs.lemmas.List.{drop-take, take-take, drop-drop}
+use Rattle.cord_io.specs.Device.{Folder, bytes_at}
+use Rattle.cord_file.specs.declared.blocks.TheConstants.{BLOCK}
+use Rattle.cord_file.specs.declared.blocks.BlockKey.{BlockKey}
+use Rattle.cord_file.specs.declared.files.OpenFile.{OpenFile}
+use Rattle.cord_file.specs.Blocks.{block_size, IsBlock, IsKept, AreKept, AreRead}
+use Rattle.cord_file.specs.Files.{told_of, AreThere, AreAsLong}
+use Rattle.cord_file.specs.Soundness.{IsSound}
+use Rattle.cord_file.proofs.Growing.{place_inside}
+
+-- lists that begin with the same elements have the same parts there
+same_part : (size from count : ℕ) (xs ys : List ℕ) → from + count ≤ size → take size xs ≡ take size ys → take count (drop from xs) ≡ take count (drop from ys)
+same_part size from count xs ys fits same =
+    let front : take (from + count) xs ≡ take (from + count) ys = sym (take-take (from + count) size xs fits) ∙ ap (take (from + count)) same ∙ take-take (from + count) size ys fits in
+    sym (drop-take from count xs) ∙ ap (drop from) front ∙ drop-take from count ys
+
+-- a part of a block is a range of the text
+part_of_block : (len number from count : ℕ) (text block : List ℕ) → from + count ≤ BLOCK → number * BLOCK + from + count ≤ len → IsBlock len text number block → take count (drop from block) ≡ take count (drop (number * BLOCK + from) text)
+part_of_block len number from count text block inside within is =
+    let fits : from + count ≤ block_size len number = omega arith in
+    same_part (block_size len number) from count block (drop (number * BLOCK) text) fits is ∙ ap (take count) (drop-drop from (number * BLOCK) text)
+
+-- a block that was read of an opened file can be kept
+pub kept_of_read : (contents : Option Folder) (told : Option (List ℕ × ℕ)) (files : List OpenFile) (key : BlockKey) (file : OpenFile) (block : List ℕ) → slice_get files key.place ≡ Some file → told ≡ Some (told_of file) → IfSome contents (λ folder. IsSomeAnd told (λ t. IsBlock file.len (bytes_at folder t.0) key.number block)) → IsKept contents files (key, block)
+kept_of_read contents told files key file block here same read = record {
+  opened = slice_get_within files key.place file here;
+  block = λ f e folder is. subst (λ x. IsBlock x.len (bytes_at folder (string_bytes x.path)) key.number block) (one_file file f (sym here ∙ e)) (at contents read folder is);
+} where
+  one_file : (f g : OpenFile) → Some f ≡ Some g → f ≡ g
+  one_file f g e = cc
+
+  at : (o : Option Folder) → IfSome o (λ folder. IsSomeAnd told (λ t. IsBlock file.len (bytes_at folder t.0) key.number block)) → (folder : Folder) → o ≡ Some folder → IsBlock file.len (bytes_at folder (string_bytes file.path)) key.number block
+  at None h folder e = cc
+  at (Some f) h folder e =
+      let one : f ≡ folder = cc in
+      subst (λ x. IsBlock file.len (bytes_at x (string_bytes file.path)) key.number block) one (subst (λ o. IsSomeAnd o (λ t. IsBlock file.len (bytes_at f t.0) key.number block)) same h)
+
+-- what is copied of a kept block is the file's
+pub read_of_kept : (contents : Option Folder) (files : List OpenFile) (key : BlockKey) (block out : List ℕ) (start : ℕ) → IsKept contents files (key, block) → key.number ≡ start / BLOCK → IsSomeAnd (slice_get files key.place) (λ file. start + length out ≤ file.len) → start % BLOCK + length out ≤ BLOCK → out ≡ take (length out) (drop (start % BLOCK) block) → AreRead contents (slice_get files key.place) start out
+read_of_kept None files key block out start kept number inside part copied = tt
+read_of_kept (Some folder) files key block out start kept number inside part copied = at (slice_get files key.place) refl inside where
+  at : (o : Option OpenFile) → slice_get files key.place ≡ o → IsSomeAnd o (λ file. start + length out ≤ file.len) → IsSomeAnd o (λ file. out ≡ take (length out) (drop start (bytes_at folder (string_bytes file.path))))
+  at None e h = absurd h
+  at (Some file) e within =
+      let place : key.number * BLOCK + start % BLOCK ≡ start = omega (arith, number) in
+      let range : key.number * BLOCK + start % BLOCK + length out ≤ file.len = omega (arith, place, within) in
+      let text : List ℕ = bytes_at folder (string_bytes file.path) in
+      copied ∙ part_of_block file.len key.number (start % BLOCK) (length out) text block part range (kept.block file e folder refl) ∙ ap (λ n. take (length out) (drop n text)) place
+
+-- one more block is kept
+pub kept_with : (contents : Option Folder) (files : List OpenFile) (old new : List (BlockKey × List ℕ)) (entry : BlockKey × List ℕ) → AreKept contents files old → IsKept contents files entry → ((e : BlockKey × List ℕ) → Contains new e → Contains old e ⊎ (e ≡ entry)) → AreKept contents files new
+kept_with contents files old new entry all one among e h = elim (among e h) [
+  | inl was ↦ all e was
+  | inr same ↦ subst (IsKept contents files) (sym same) one
+]
+
+-- a place that has a file lies among those opened
+pub inside_opened : (files : List OpenFile) (place : ℕ) (P : OpenFile → Type 0) → IsSomeAnd (slice_get files place) P → place < length files
+inside_opened files place P h = at (slice_get files place) refl h where
+  at : (o : Option OpenFile) → slice_get files place ≡ o → IsSomeAnd o P → place < length files
+  at None e h = absurd h
+  at (Some file) e h = slice_get_within files place file e
+
+-- what holds at a place holds of its file
+pub of_slot : (P : OpenFile → Type 0) {o : Option OpenFile} {file : OpenFile} → o ≡ Some file → IsSomeAnd o P → P file
+of_slot P e h = subst (λ o. IsSomeAnd o P) e h
+
+-- kept blocks stay so where one more file is opened, and memory was found for it
+pub kept_behind : (contents : Option Folder) (files new : List OpenFile) (file : OpenFile) (b : Bool) (entries : List (BlockKey × List ℕ)) → new ≡ (if b then files ++ file ∷ [] else files) → AreKept contents files entries → AreKept contents new entries
+kept_behind contents files new file false entries same all = subst (λ xs. AreKept contents xs entries) (sym same) all
+kept_behind contents files new file true entries same all = subst (λ xs. AreKept contents xs entries) (sym same) (λ e h. more e (all e h)) where
+  more : (e : BlockKey × List ℕ) → IsKept contents files e → IsKept contents (files ++ file ∷ []) e
+  more e kept = record {
+    opened = omega (arith, kept.opened, length-append files (file ∷ []));
+    block = λ f here. kept.block f (sym (place_inside files (file ∷ []) e.0.place kept.opened) ∙ here);
+  }
+
+-- no block is kept
+pub kept_none : (contents : Option Folder) (files : List OpenFile) → AreKept contents files []
+kept_none contents files e h = absurd (omega (arith, h.1))
+
+-- the table stays sound where the device keeps its files and the numbers that it handed out
+pub sound_moved : (old new : Option Folder) (before after : ℕ → Option (List ℕ × ℕ)) (files : List OpenFile) (blocks : List (BlockKey × List ℕ)) → new ≡ old → ((n : ℕ) → IsSome (before n) → after n ≡ before n) → IsSound old before files blocks → IsSound new after files blocks
+sound_moved old new before after files blocks same stays sound = record {
+  handed_out = λ k f h. let was = sound.handed_out k f h in stays f.no.0 (ap is_some was) ∙ was;
+  short_enough = sound.short_enough;
+  there = subst (λ o. AreThere o files) (sym same) sound.there;
+  as_long = subst (λ o. AreAsLong o files) (sym same) sound.as_long;
+  kept = subst (λ o. AreKept o files blocks) (sym same) sound.kept;
+}
+
+-- and where other blocks are kept
+pub sound_keeping : (contents : Option Folder) (told : ℕ → Option (List ℕ × ℕ)) (files : List OpenFile) (old new : List (BlockKey × List ℕ)) → AreKept contents files new → IsSound contents told files old → IsSound contents told files new
+sound_keeping contents told files old new kept sound = record {
+  handed_out = sound.handed_out;
+  short_enough = sound.short_enough;
+  there = sound.there;
+  as_long = sound.as_long;
+  kept = kept;
+}

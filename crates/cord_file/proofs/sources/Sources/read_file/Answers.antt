@@ -1,0 +1,26 @@
+use Rattle.std.proofs.Common.{◌≡◌, ℕ, ◌+◌, List, length, Option, ap, subst, ◌∙◌, arith, rules}
+use Rattle.std.specs.Prelude.{slice_get}
+use Rattle.std.specs.String.{string_bytes}
+use Rattle.cord_file.specs.Blocks.{AreRead}
+use Rattle.cord_file.specs.declared.files.OpenFile.{OpenFile}
+use Rattle.cord_file.proofs.Ranges.{more_read, all_read}
+use Rattle.cord_file.proofs.sources.Sources.read_file.Goals as goal
+
+pub loop-done-preserved : goal.loop-done-preserved
+loop-done-preserved g c =
+    let loop = c.loop-done in
+    let old = c.args.self.now in
+    let part : List ℕ = c.read_part.new.out in
+    let size : ℕ = c.min-size.result in
+    let count : size ≡ length part = search rules in
+    let at : Option OpenFile = slice_get old.entries.items c.args.place in
+    let here : slice_get loop.self.entries.items c.args.place ≡ at = ap (λ xs. slice_get xs c.args.place) loop.invariant.entries in
+    let read : AreRead (g.F.Files.contents old.files) at (c.args.start + loop.done) part =
+    subst (λ o. AreRead o at (c.args.start + loop.done) part) loop.invariant.contents (subst (λ o. AreRead (g.F.Files.contents loop.self.files) o (c.args.start + loop.done) part) here c.in_ok-read_part.ensures.bytes) in
+    record {
+      done = search rules;
+      contents = search rules;
+      entries = c.read_part.ensures.entries ∙ loop.invariant.entries;
+      count = search rules;
+      bytes = more_read (λ f. string_bytes f.path) (g.F.Files.contents old.files) at loop.done size _ c.args.start loop.out part loop.invariant.done (omega (arith, count)) loop.invariant.bytes (all_read (g.F.Files.contents old.files) at (c.args.start + loop.done) size part count read);
+    }

@@ -1,0 +1,11 @@
+use Rattle.std.proofs.Common.{◌≡◌, ℕ, ◌≤◌, None}
+use Rattle.cord_io.specs.Device.{file_count}
+use Rattle.cord_io.specs.contracts.memory.MemFilesFiles.TheImpl.{ghosts}
+use Rattle.cord_file.proofs.tests.numbered_files.Given as goal
+
+-- nothing is opened, and there are as many files as were added
+abbrev pub invariant-loop-i : goal.invariant-loop-i
+invariant-loop-i g l = record {
+  unopened : (n : ℕ) → ghosts.opened l.files n ≡ None;
+  few : file_count (ghosts.contents l.files) ≤ l.i-counter;
+}

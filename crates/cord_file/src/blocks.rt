@@ -1,0 +1,70 @@
+// Blocks of files, and those that are kept.
+ghost use Rattle.std.specs.Prelude.{◌≡◌, ◌+◌, ◌*◌, ◌<◌, ◌≤◌, ℕ, List, length, take, drop, true, is_err, Contains, IfOk, IfSome, IsSomeAnd, ◌⊎◌};
+ghost use Rattle.cord_io.specs.Device.{bytes_at, count_after};
+ghost use Rattle.cord_file.specs.Blocks.{IsBlock};
+
+use crate::reading::read_range;
+use cord_io::{FileNo, Files, MAX_LEN, ReadFault};
+use lru::LruCache;
+
+// The length of a block in bytes, but for the last one of a file, which may be shorter.
+pub(crate) const BLOCK: usize = 512;
+
+// The greatest number of blocks that are kept.
+pub(crate) const MAX_BLOCKS: usize = 32;
+
+// Which block of which file: the place of the file among those opened, and the number of the block in it.
+#[derive(Clone, Copy, PartialEq, Eq, Hash)]
+pub(crate) struct BlockKey {
+    pub(crate) place: usize,
+    pub(crate) number: u64,
+}
+
+// Kept blocks, of which the one used least recently goes first.
+pub(crate) type Blocks = LruCache<BlockKey, [u8; BLOCK]>;
+
+// Reads one block of an opened file. The bytes behind its last one are 0.
+pub(crate) fn read_block<F: Files>(
+    files: &mut F,
+    no: FileNo,
+    len: u64,
+    number: u64,
+) -> Result<[u8; BLOCK], ReadFault>
+    requires told { IsSomeAnd (F.opened files.old no.0) (λ told. len ≡ told.1) }
+    requires inside { number * BLOCK < len }
+    requires limit { len ≤ MAX_LEN }
+    ensures contents { F.contents files.new ≡ F.contents files.old }
+    ensures opened { (n : ℕ) → F.opened files.new n ≡ F.opened files.old n }
+    ensures count { F.failures files.new ≡ count_after (is_err result) (F.failures files.old) }
+    ensures block { IfOk result (λ block. IfSome (F.contents files.old) (λ folder.
+        IsSomeAnd (F.opened files.old no.0) (λ told. IsBlock len (bytes_at folder told.0) number block))) }
+{
+    let start = number * BLOCK as u64;
+    let size = (len - start).min(BLOCK as u64) as usize;
+    let mut block = [0; BLOCK];
+    read_range(files, no, start, &mut block[..size])?;
+    Ok(block)
+}
+
+// Copies a part of a block into `out`, where the block is kept, and answers whether it is.
+pub(crate) fn copy_kept(cache: &mut Blocks, key: BlockKey, from: usize, out: &mut [u8]) -> bool
+    requires { from + length out.old ≤ BLOCK }
+    ensures kept { (e : BlockKey × List ℕ) → Contains cache.new.entries e → Contains cache.old.entries e }
+    ensures copied { result ≡ true → (block : List ℕ) × Contains cache.old.entries (key, block)
+        × (out.new ≡ take (length out.new) (drop from block)) }
+{
+    match cache.get(&key) {
+        Some(block) => {
+            out.copy_from_slice(&block[from..from + out.len()]);
+            true
+        }
+        None => false,
+    }
+}
+
+// Keeps a block, where memory is found for it.
+pub(crate) fn keep(cache: &mut Blocks, key: BlockKey, block: [u8; BLOCK])
+    ensures { (e : BlockKey × List ℕ) → Contains cache.new.entries e → Contains cache.old.entries e ⊎ (e ≡ (key, block)) }
+{
+    let _ = cache.put(key, block);
+}
