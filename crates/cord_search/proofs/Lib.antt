@@ -1,2 +1,3 @@
 pub mod Ranges
 pub mod Finding
+pub mod Comparing

@@ -3,9 +3,11 @@
 #![tactic(auto)]
 
 mod bytes;
+mod order;
 mod pieces;
 
 pub use bytes::{chr, fetch, rchr};
+pub use order::{cmp, ncmp};
 
 /// The most bytes of a run or of a function part that are looked at together.
 pub(crate) const PIECE_LEN: usize = 512;

@@ -3,11 +3,35 @@ ghost use Rattle.std.specs.Prelude.{◌≡◌, ◌+◌, ◌-◌, ◌<◌, ◌≤
 ghost use Rattle.cord_io.specs.Device.{count_after};
 ghost use Rattle.cord_node.specs.Tree.{len_of, IsSound};
 ghost use Rattle.cord_node.specs.Tables.{FitsIn};
-ghost use Rattle.cord_search.specs.Pieces.{IsPieceAt};
+ghost use Rattle.cord_core.specs.Cord.{text_len, CordFitsIn};
+ghost use Rattle.cord_search.specs.Pieces.{IsPieceAt, IsPieceOf};
 
 use crate::PIECE_LEN;
-use cord_core::Node;
+use cord_core::{Cord, Node};
 use cord_io::{ReadFault, Source};
+
+// A piece of a cord's text that begins at a place: the rest of a leaf, or at most `PIECE_LEN` bytes of another part.
+pub(crate) fn cord_piece_at<'a, S: Source>(
+    cord: &'a Cord,
+    place: u64,
+    buffer: &'a mut [u8; PIECE_LEN],
+    src: &mut S,
+) -> Result<&'a [u8], ReadFault>
+    requires inside { place < text_len cord.now }
+    requires fits { CordFitsIn (S.lengths src.old) cord.now }
+    ensures some { IfOk result (λ piece. 0 < length piece.now) }
+    ensures inside { IfOk result (λ piece. place + length piece.now ≤ text_len cord.now) }
+    ensures text { IfOk result (λ piece. IsPieceOf (S.table src.old) cord.now place piece.now) }
+    ensures count { S.failures src.new ≡ count_after (is_err result) (S.failures src.old) }
+    ensures lengths { S.lengths src.new ≡ S.lengths src.old }
+    ensures table { S.table src.new ≡ S.table src.old }
+{
+    let Some(root) = cord.root() else {
+        unreachable!()
+    };
+    let piece = piece_at(root.as_ref(), place, buffer, src)?;
+    Ok(piece)
+}
 
 // A piece of a node's text that begins at a place: the rest of a leaf, or at most `PIECE_LEN` bytes of another part.
 pub(crate) fn piece_at<'a, S: Source>(
