@@ -48,8 +48,13 @@ cmp_decided (b ∷ u) (c ∷ v) u' v' r e h not = pick (nat_cmp b c) h (λ (k : 
     pick Equal h ih = ih h
     pick Greater h ih = h
 
+-- a text against itself
+pub cmp_same : (u : List ℕ) → slice_cmp nat_cmp u u ≡ Equal
+cmp_same [] = refl
+cmp_same (b ∷ u) = ap (λ (r : Ordering). ordering_then r (slice_cmp nat_cmp u u)) (same_byte b) ∙ cmp_same u
+
 -- no difference
-cmp_equal : (u v : List ℕ) → slice_cmp nat_cmp u v ≡ Equal → u ≡ v
+pub cmp_equal : (u v : List ℕ) → slice_cmp nat_cmp u v ≡ Equal → u ≡ v
 cmp_equal [] [] h = refl
 cmp_equal [] (c ∷ v) h = cc
 cmp_equal (b ∷ u) [] h = cc
@@ -72,7 +77,7 @@ cmp_lengths (b ∷ xs) (c ∷ ys) (suc m) h e =
     sym (nat_cmp_suc (length xs) (length ys)) ∙ cmp_lengths xs ys m (omega arith) two ∙ sym (ap (λ (r : Ordering). ordering_then r (slice_cmp nat_cmp xs ys)) (ap (λ (k : ℕ). nat_cmp k c) one ∙ same_byte c))
 
 -- the front of a piece, as a range of what is compared
-piece_front : (x piece : List ℕ) (i done n : ℕ) → piece ≡ take (length piece) (drop (i + done) x) → n ≤ length piece → take n piece ≡ take n (drop done (drop i x))
+pub piece_front : (x piece : List ℕ) (i done n : ℕ) → piece ≡ take (length piece) (drop (i + done) x) → n ≤ length piece → take n piece ≡ take n (drop done (drop i x))
 piece_front x piece i done n e h = ap (λ (ys : List ℕ). take n ys) e ∙ take-take n (length piece) (drop (i + done) x) h ∙ ap (λ (ys : List ℕ). take n ys) (sym (drop-drop done i x))
 
 -- the next bytes are the same too

@@ -1,5 +1,5 @@
 -- Ranges of texts, over a table that a source tells or that it doesn't tell.
-use Rattle.std.specs.Prelude.{◌≡◌, ◌≢◌, ℕ, ◌<◌, ◌≤◌, List, length, take, drop, Option, Some, IfSome, slice_get, ℤ, pos, negsuc}
+use Rattle.std.specs.Prelude.{Bool, true, false, ◌≡◌, ◌≢◌, ℕ, ◌<◌, ◌≤◌, List, length, take, drop, Option, Some, IfSome, slice_get, ℤ, pos, negsuc}
 use Rattle.std.specs.Ordering.{nat_cmp}
 use Rattle.std.specs.Cmp.Lexicographic.{slice_cmp}
 use Rattle.std.specs.declared.cmp.Ordering.{Ordering}
@@ -17,6 +17,19 @@ IsPieceAt o n place xs = IfSome o (λ t. xs ≡ take (length xs) (drop place (by
 -- the bytes stand in the cord's text from the place on
 abbrev pub IsPieceOf : Option Table → Option Node → ℕ → List ℕ → Type 0
 IsPieceOf o c place xs = IfSome o (λ t. xs ≡ take (length xs) (drop place (bytes_of t c)))
+
+-- the first n bytes of a list are those of the cord's text from the place on
+abbrev pub IsFilled : Option Table → Option Node → ℕ → ℕ → List ℕ → Type 0
+IsFilled o c place n xs = IfSome o (λ t. take n xs ≡ take n (drop place (bytes_of t c)))
+
+-- the answer says whether s stands in the text of x over the table at the place
+abbrev pub IsStanding : Option Table → Option Node → ℕ → Option Node → Bool → Type 0
+IsStanding o x place s true = IfSome o (λ t. StandsAt (bytes_of t x) (bytes_of t s) place)
+IsStanding o x place s false = IfSome o (λ t. StandsAt (bytes_of t x) (bytes_of t s) place → ⊥)
+
+-- the text of s stands in that of x at no place from i on and below j
+abbrev pub StandsNot : Option Table → Option Node → Option Node → ℕ → ℕ → Type 0
+StandsNot o x s i j = IfSome o (λ t. (q : ℕ) → i ≤ q → q < j → StandsAt (bytes_of t x) (bytes_of t s) q → ⊥)
 
 -- the first n bytes from two places are the same
 abbrev pub AreSame : Option Table → Option Node → ℕ → Option Node → ℕ → ℕ → Type 0

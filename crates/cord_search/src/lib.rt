@@ -5,9 +5,11 @@
 mod bytes;
 mod order;
 mod pieces;
+mod substring;
 
 pub use bytes::{chr, fetch, rchr};
 pub use order::{cmp, ncmp};
+pub use substring::str;
 
 /// The most bytes of a run or of a function part that are looked at together.
 pub(crate) const PIECE_LEN: usize = 512;

@@ -1,9 +1,9 @@
 // Texts of nodes in pieces: slices of leaves as they are, runs and function parts through a buffer.
-ghost use Rattle.std.specs.Prelude.{◌≡◌, ◌+◌, ◌-◌, ◌<◌, ◌≤◌, length, is_err, IfOk};
+ghost use Rattle.std.specs.Prelude.{◌≡◌, ◌+◌, ◌-◌, ◌<◌, ◌≤◌, length, is_err, IfOk, OnOk};
 ghost use Rattle.cord_io.specs.Device.{count_after};
 ghost use Rattle.cord_node.specs.Tree.{len_of, IsSound};
 ghost use Rattle.cord_node.specs.Tables.{FitsIn};
-ghost use Rattle.cord_core.specs.Cord.{text_len, CordFitsIn};
+ghost use Rattle.cord_core.specs.Cord.{text_len, IsCord, CordFitsIn};
 ghost use Rattle.cord_search.specs.Pieces.{IsPieceAt, IsPieceOf};
 
 use crate::PIECE_LEN;
@@ -31,6 +31,63 @@ pub(crate) fn cord_piece_at<'a, S: Source>(
     };
     let piece = piece_at(root.as_ref(), place, buffer, src)?;
     Ok(piece)
+}
+
+// At least `count` bytes of a cord's text from a place on, which it has: the rest of a leaf where that is enough, else what is left
+// of the part and the next bytes, copied.
+pub(crate) fn window_at<'a, S: Source>(
+    cord: &'a Cord,
+    place: u64,
+    count: usize,
+    buffer: &'a mut [u8; PIECE_LEN],
+    seam: &'a mut [u8; 2 * PIECE_LEN],
+    src: &mut S,
+) -> Result<&'a [u8], ReadFault>
+    requires some { 0 < count }
+    requires most { count ≤ PIECE_LEN }
+    requires inside { place + count ≤ text_len cord.now }
+    requires fits { CordFitsIn (S.lengths src.old) cord.now }
+    ensures enough { IfOk result (λ window. count ≤ length window.now) }
+    ensures inside { IfOk result (λ window. place + length window.now ≤ text_len cord.now) }
+    ensures text { IfOk result (λ window. IsPieceOf (S.table src.old) cord.now place window.now) }
+    ensures count { S.failures src.new ≡ count_after (is_err result) (S.failures src.old) }
+    ensures lengths { S.lengths src.new ≡ S.lengths src.old }
+    ensures table { S.table src.new ≡ S.table src.old }
+{
+    let piece = cord_piece_at(cord, place, buffer, src)?;
+    if count <= piece.len() {
+        return Ok(piece);
+    }
+    let left = cord.len() - place;
+    let window = &mut seam[..((piece.len() + count - 1) as u64).min(left) as usize];
+    gather(cord, place, window, src)?;
+    Ok(window)
+}
+
+// Copies the bytes of a cord's text from a place on.
+pub(crate) fn gather<S: Source>(
+    cord: &Cord,
+    place: u64,
+    out: &mut [u8],
+    src: &mut S,
+) -> Result<(), ReadFault>
+    requires sound { IsCord cord.now }
+    requires inside { place + length out.old ≤ text_len cord.now }
+    requires fits { CordFitsIn (S.lengths src.old) cord.now }
+    ensures text { OnOk result (IsPieceOf (S.table src.old) cord.now place out.new) }
+    ensures count { S.failures src.new ≡ count_after (is_err result) (S.failures src.old) }
+    ensures lengths { S.lengths src.new ≡ S.lengths src.old }
+    ensures table { S.table src.new ≡ S.table src.old }
+{
+    let mut buffer = [0; PIECE_LEN];
+    let mut done = 0;
+    while done < out.len() {
+        let piece = cord_piece_at(cord, place + done as u64, &mut buffer, src)?;
+        let count = piece.len().min(out.len() - done);
+        out[done..done + count].copy_from_slice(&piece[..count]);
+        done += count;
+    }
+    Ok(())
 }
 
 // A piece of a node's text that begins at a place: the rest of a leaf, or at most `PIECE_LEN` bytes of another part.
@@ -122,7 +179,7 @@ pub(crate) fn piece_before<'a, S: Source>(
 }
 
 // How many bytes of those that are left make the next piece.
-fn piece_len(left: u64) -> usize
+pub(crate) fn piece_len(left: u64) -> usize
     ensures most { result ≤ PIECE_LEN }
     ensures inside { result ≤ left }
     ensures some { 0 < left → 0 < result }
