@@ -1,20 +1,21 @@
 -- Places of a text in another, by windows.
-use Rattle.std.proofs.Common.{◌≡◌, ℕ, ◌+◌, ◌-◌, ◌<◌, ◌≤◌, Bool, true, false, List, [], ◌∷◌, ◌++◌, length, take, drop, get_or, None, Some, refl, sym, ◌∙◌, ap, subst, arith, ⊎_elim, length-drop, length-append}
-use Rattle.std.specs.Prelude.{Option, IfSome}
+use Rattle.std.proofs.Common.{◌≡◌, ◌≢◌, ℕ, ◌+◌, ◌-◌, ◌<◌, ◌≤◌, Bool, true, false, List, [], ◌∷◌, ◌++◌, length, take, drop, get_or, None, Some, refl, sym, ◌∙◌, ap, subst, arith, ⊎_elim, eq-eqb, length-drop, length-append}
+use Rattle.std.specs.Prelude.{Option, IfSome, nat_eq, ◌&&◌}
 use Rattle.std.specs.Ordering.{nat_cmp}
-use Rattle.std.specs.Cmp.Lexicographic.{slice_cmp}
+use Rattle.std.specs.Cmp.Lexicographic.{slice_cmp, pointwise}
 use Rattle.std.specs.declared.cmp.Ordering.{Ordering}
 use Rattle.std.specs.declared.cmp.Ordering.TheVariants.{Equal}
 use Rattle.std.proofs.Math.Seq.{take-add}
 use borrow.Rule.Slice.PartMut.{put_mid, post_of}
 use Rattle.std.proofs.lemmas.Bool.{cases_lt}
 use Rattle.std.proofs.lemmas.Slice.{take-put_mid}
-use Rattle.std.proofs.lemmas.List.{get_or-drop, get_or_append_left, length-take, length-take-le, take_all, take_at, take-append-drop}
+use Rattle.std.proofs.lemmas.List.{get_or-drop, get_or_append_left, take_rest, take-take, take-append-le, drop-drop, length-take, length-take-le, take_all, take_at, take-append-drop}
 use Rattle.memchr.specs.Find.{Nowhere, NoneBefore, OccursAt, FindsNeedle}
 use Rattle.cord_io.specs.Table.{Table}
 use Rattle.cord_node.specs.declared.Node.{Node}
 use Rattle.cord_core.specs.Cord.{text_len, bytes_of}
 use Rattle.cord_core.specs.Texts.{StandsAt, first}
+use Rattle.cord_iter.proofs.Walks.{range_rest}
 use Rattle.cord_search.specs.Pieces.{IsPieceOf, IsFilled, IsOrderOf, IsStanding, StandsNot}
 use Rattle.cord_search.proofs.Finding.{range_at, first_only}
 use Rattle.cord_search.proofs.Comparing.{cmp_same, cmp_equal, piece_front}
@@ -66,11 +67,45 @@ window_on None x s start place next m window head h p q e f none = tt
 window_on (Some t) x s start place next m window head h p q e f none =
     λ k low to at. ⊎_elim (λ (lt : k < place). none k low lt at) (λ (le : place ≤ k). h (k - place) (omega arith) (omega arith) (occurs (bytes_of t x) (bytes_of t s) window head place k e f le (omega arith) at)) (cases_lt k place)
 
--- the front doesn't occur in a window
-pub window_none : (o : Option Table) (x s : Option Node) (start place : ℕ) (window head : List ℕ) (r : Option ℕ) → r ≡ None → FindsNeedle window head 0 r → length head ≤ length window → IsPieceOf o x place window → IsPieceOf o s 0 head → StandsNot o x s start place → StandsNot o x s start (place + (length window - length head + 1))
-window_none o x s start place window head r is h long e f none =
+-- behind what was searched, a place where the bytes of a window are no front part of `head`
+no_overlap : (x s window head : List ℕ) (place searched q : ℕ) → window ≡ take (length window) (drop place x) → head ≡ take (length head) (drop 0 s) → searched + length head ≡ length window + 1 → place + searched ≤ q → q < place + length window → StandsAt x s q → drop (q - (place + searched)) (take (length window - searched) (drop searched window)) ≡ take (length (take (length window - searched) (drop searched window)) - (q - (place + searched))) head
+no_overlap x s window head place searched q e f long from to at =
+    let k = q - (place + searched) in
+    let m = length window - (searched + k) in
+    let whole : take (length window - searched) (drop searched window) ≡ drop searched window = take_rest window searched in
+    let left : length (take (length window - searched) (drop searched window)) - k ≡ m = omega (arith, ap (λ (ys : List ℕ). length ys) whole, length-drop searched window) in
+    let here : place + (searched + k) ≡ q = omega arith in
+    let short : length head ≤ length s = omega (arith, ap (λ (ys : List ℕ). length ys) f, length-take (length head) s) in
+    let bytes : drop (searched + k) window ≡ take m (drop (place + (searched + k)) x) = ap (λ (ys : List ℕ). drop (searched + k) ys) e ∙ sym (range_rest x place (length window) (searched + k) (omega arith)) in
+    let text : take m (drop q x) ≡ take m s = ap (λ (ys : List ℕ). take m ys) at.here ∙ take-append-le m s at.rest (omega (arith, short)) in
+    let front : take m head ≡ take m s = ap (λ (ys : List ℕ). take m ys) f ∙ take-take m (length head) s (omega arith) in
+    ap (λ (ys : List ℕ). drop k ys) whole ∙ drop-drop k searched window ∙ bytes ∙ ap (λ (n : ℕ). take m (drop n x)) here ∙ text ∙ sym front ∙ ap (λ (n : ℕ). take n head) (sym left)
+
+-- one more place from which the bytes are no front part of `head`
+same_bytes : (xs : List ℕ) → pointwise nat_eq xs xs ≡ true
+same_bytes [] = refl
+same_bytes (b ∷ xs) = ap (λ (v : Bool). v && pointwise nat_eq xs xs) (eq-eqb b b refl) ∙ same_bytes xs
+
+pub overlap_on : (tail head : List ℕ) (p : ℕ) (r : Bool) → r ≡ pointwise nat_eq (take (length tail - p) (drop p tail)) (take (length tail - p) head) → r ≡ false → ((k : ℕ) → k < p → drop k tail ≢ take (length tail - k) head) → (k : ℕ) → k < p + 1 → drop k tail ≢ take (length tail - k) head
+overlap_on tail head p r is not h k lt same = ⊎_elim (λ (below : k < p). h k below same) (λ (at : p ≤ k). here (omega arith)) (cases_lt k p)
+  where
+    differ : false ≡ true → ⊥
+    differ e = cc
+
+    here : k ≡ p → ⊥
+    here e =
+        let there : drop p tail ≡ take (length tail - p) head = subst (λ (n : ℕ). drop n tail ≡ take (length tail - n) head) e same in
+        let whole : take (length tail - p) (drop p tail) ≡ take (length tail - p) head = take_rest tail p ∙ there in
+        differ (sym not ∙ is ∙ ap (λ (ys : List ℕ). pointwise nat_eq ys (take (length tail - p) head)) whole ∙ same_bytes (take (length tail - p) head))
+
+-- the front doesn't occur in a window, and no front part of it from some place on to the end
+pub window_none : (o : Option Table) (x s : Option Node) (start place searched k : ℕ) (window head : List ℕ) (r : Option ℕ) → r ≡ None → FindsNeedle window head 0 r → searched + length head ≡ length window + 1 → k ≤ length (take (length window - searched) (drop searched window)) → ((j : ℕ) → j < k → drop j (take (length window - searched) (drop searched window)) ≢ take (length (take (length window - searched) (drop searched window)) - j) head) → IsPieceOf o x place window → IsPieceOf o s 0 head → StandsNot o x s start place → StandsNot o x s start (place + (searched + k))
+window_none None x s start place searched k window head r is h long inside over e f none = tt
+window_none (Some t) x s start place searched k window head r is h long inside over e f none =
     let nowhere : Nowhere (OccursAt window head) 0 (length window + 1) = rw is at h in
-    window_on o x s start place (place + (length window - length head + 1)) (length window + 1) window head nowhere (omega arith) (omega arith) e f none
+    let rest : length (take (length window - searched) (drop searched window)) ≡ length window - searched = ap (λ (ys : List ℕ). length ys) (take_rest window searched) ∙ length-drop searched window in
+    let before : StandsNot (Some t) x s start (place + searched) = window_on (Some t) x s start place (place + searched) (length window + 1) window head nowhere (omega arith) (omega arith) e f none in
+    λ q low to at. ⊎_elim (λ (lt : q < place + searched). before q low lt at) (λ (le : place + searched ≤ q). over (q - (place + searched)) (omega arith) (no_overlap (bytes_of t x) (bytes_of t s) window head place searched q e f long le (omega (arith, rest, inside)) at)) (cases_lt q (place + searched))
 
 -- or occurs first at a place of it
 pub window_some : (o : Option Table) (x s : Option Node) (start place k : ℕ) (window head : List ℕ) (r : Option ℕ) → r ≡ Some k → FindsNeedle window head 0 r → IsPieceOf o x place window → IsPieceOf o s 0 head → StandsNot o x s start place → StandsNot o x s start (place + k)

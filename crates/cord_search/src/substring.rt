@@ -1,5 +1,5 @@
 // The places of a text in another.
-ghost use Rattle.std.specs.Prelude.{◌≡◌, ◌+◌, ◌<◌, ◌≤◌, is_err, IsOk, IfOk, IfErr, IfSome};
+ghost use Rattle.std.specs.Prelude.{◌≡◌, ◌≢◌, ℕ, ◌+◌, ◌-◌, ◌<◌, ◌≤◌, length, take, drop, true, false, is_err, IsOk, IfOk, IfErr, IfSome};
 ghost use Rattle.cord_io.specs.Device.{count_after};
 ghost use Rattle.cord_core.specs.Cord.{text_len, bytes_of, IsCord, CordFitsIn};
 ghost use Rattle.cord_core.specs.Texts.{first};
@@ -30,11 +30,8 @@ pub fn str<S: Source>(
     ensures lengths { S.lengths src.new ≡ S.lengths src.old }
     ensures table { S.table src.new ≡ S.table src.old }
 {
-    let (len, count) = (x.len(), s.len());
-    if len < start {
-        return Ok(None);
-    }
-    if len - start < count {
+    let count = s.len();
+    if !lies_inside(start, count, x.len()) {
         return Ok(None);
     }
     if count == 0 {
@@ -42,6 +39,14 @@ pub fn str<S: Source>(
     }
     let place = first_place(x, start, s, src)?;
     Ok(place)
+}
+
+// Whether a text has so many bytes from a place on.
+fn lies_inside(start: u64, count: u64, len: u64) -> bool
+    ensures inside { result ≡ true → start + count ≤ len }
+    ensures outside { result ≡ false → len < start + count }
+{
+    start <= len && count <= len - start
 }
 
 // The first place of a text that isn't empty in another, from a place on.
@@ -74,7 +79,8 @@ fn first_place<S: Source>(
         match finder.find(window) {
             Some(found) => place += found as u64,
             None => {
-                place += (window.len() - head.len() + 1) as u64;
+                let searched = window.len() - head.len() + 1;
+                place += (searched + overlap(&window[searched..], head)) as u64;
                 continue;
             }
         }
@@ -87,6 +93,20 @@ fn first_place<S: Source>(
         place += 1;
     }
     Ok(None)
+}
+
+// The first place of `tail` from which its bytes are the first ones of `head`, which is longer: the length of `tail` where there is none.
+fn overlap(tail: &[u8], head: &[u8]) -> usize
+    requires { length tail.now < length head.now }
+    ensures inside { result ≤ length tail.now }
+    ensures none { (k : ℕ) → k < result → drop k tail.now ≢ take (length tail.now - k) head.now }
+{
+    for place in 0..tail.len() {
+        if tail[place..] == head[..tail.len() - place] {
+            return place;
+        }
+    }
+    tail.len()
 }
 
 // Whether a text stands in another at a place.

@@ -13,9 +13,11 @@ loop-place-preserved-in-None g c =
     let front : IsPieceOf o c.args.s.now 0 head = rw (← c.gather.ensures.table) at c.in_ok-gather.ensures.text in
     let text : IsPieceOf o c.args.x.now c.loop-place.place window = rw c.loop-place.invariant.table at c.in_ok-window.ensures.text in
     let finds : FindsNeedle window head 0 c.find.result = rw c.new-finder.ensures at c.find.ensures in
+    let searched = length window - length head + 1 in
+    let enough : length head ≤ length window = c.in_ok-window.ensures.enough in
     record {
       low = omega (arith, c.loop-place.invariant.low);
-      none = window_none o c.args.x.now c.args.s.now c.args.start c.loop-place.place window head c.find.result c.in-None.is finds c.in_ok-window.ensures.enough text front c.loop-place.invariant.none;
+      none = window_none o c.args.x.now c.args.s.now c.args.start c.loop-place.place searched c.overlap.result window head c.find.result c.in-None.is finds (omega (arith, enough)) c.overlap.ensures.inside c.overlap.ensures.none text front c.loop-place.invariant.none;
       reads = c.in_ok-window.ensures.count ∙ c.loop-place.invariant.reads;
       lengths = c.window_at.ensures.lengths ∙ c.loop-place.invariant.lengths;
       table = c.window_at.ensures.table ∙ c.loop-place.invariant.table;
