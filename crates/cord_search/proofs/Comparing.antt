@@ -1,5 +1,5 @@
 -- Comparisons by pieces: the first difference decides, and else the lengths.
-use Rattle.std.proofs.Common.{◌==◌, Bool, true, false, append_assoc, eq-eqb, to_z, of_z, w8, ◌≡◌, ℕ, ◌+◌, ◌-◌, ◌<◌, ◌≤◌, zero, suc, List, [], ◌∷◌, ◌++◌, length, take, drop, None, Some, refl, sym, ◌∙◌, ap, arith, length-drop}
+use Rattle.std.proofs.Common.{◌==◌, Bool, true, false, append_assoc, to_z, of_z, w8, ◌≡◌, ℕ, ◌+◌, ◌-◌, ◌<◌, ◌≤◌, zero, suc, List, [], ◌∷◌, ◌++◌, length, take, drop, None, Some, refl, sym, ◌∙◌, ap, arith, length-drop}
 use Rattle.std.specs.Prelude.{Option, IfSome, min, ℤ, pos, negsuc, nat_lt, if◌then◌else◌, cond}
 use Rattle.std.specs.Ordering.{nat_cmp, ordering_then, MatchOrdering}
 use Rattle.std.specs.Cmp.{ranked, nat_cmp_is}
@@ -9,7 +9,7 @@ use Rattle.std.specs.declared.cmp.Ordering.TheVariants.{Less, Equal, Greater}
 use Rattle.std.proofs.Math.Seq.{take-add}
 use Rattle.std.proofs.lemmas.Bool.{ltb-false, eqb-true, eqb-false}
 use borrow.Author.Tests.{ltb-true}
-use Rattle.std.proofs.lemmas.List.{take_all, take-take, drop-drop, length-take, length-take-le}
+use Rattle.std.proofs.lemmas.List.{take_all, take-take, drop-drop, length-take-le}
 use Rattle.cord_io.specs.Table.{Table}
 use Rattle.cord_node.specs.declared.Node.{Node}
 use Rattle.cord_io.specs.declared.TheConstants.{MAX_LEN}

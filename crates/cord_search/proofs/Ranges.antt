@@ -1,16 +1,13 @@
 -- Where pieces stand in the text of a node.
-use Rattle.std.proofs.Common.{◌≡◌, ℕ, ◌+◌, ◌-◌, ◌<◌, ◌≤◌, List, ◌++◌, length, take, drop, None, Some, refl, sym, ◌∙◌, ap, arith}
+use Rattle.std.proofs.Common.{◌≡◌, ℕ, ◌+◌, ◌-◌, ◌≤◌, List, length, take, drop, None, Some, sym, ◌∙◌, ap, arith}
 use Rattle.std.specs.Prelude.{Option, IfSome, replicate}
-use Rattle.std.specs.declared.rc.Rc.{Rc}
-use Rattle.std.specs.Global.{Global}
 use Rattle.std.proofs.lemmas.List.{take_min, drop-replicate, take-replicate, length-take}
-use Rattle.cord_io.specs.Table.{Table, Lengths, HasLengths}
+use Rattle.cord_io.specs.Table.{Table}
 use Rattle.cord_node.specs.declared.Node.{Node}
-use Rattle.cord_node.specs.declared.Node.TheVariants.{Leaf, Run, Func, Cat'}
-use Rattle.cord_node.specs.Tree.{len_of, IsSound}
-use Rattle.cord_node.specs.Tables.{bytes_over, FitsIn}
+use Rattle.cord_node.specs.Tree.{len_of}
+use Rattle.cord_node.specs.Tables.{bytes_over}
 use Rattle.cord_node.proofs.Ranges.{range_of_range, range_left, range_right}
-use Rattle.cord_iter.proofs.Cuts.{IsCut, cut_of}
+use Rattle.cord_iter.proofs.Cuts.{IsCut}
 use Rattle.cord_search.specs.Pieces.{IsPieceAt}
 
 -- a range is its own first bytes

@@ -57,9 +57,9 @@ occurs x s window head place q e f from to at =
     record {
       fits = omega arith;
       reads = λ j lt.
-    let here : place + (q - place + j) ≡ q + j = omega arith in
-    let there : 0 + j ≡ j = omega arith in
-    range_at x window place (q - place + j) e (omega arith) ∙ ap (λ (k : ℕ). get_or x k 0) here ∙ stands_get x s q j at (omega arith) ∙ sym (range_at s head 0 j f lt ∙ ap (λ (k : ℕ). get_or s k 0) there);
+          let here : place + (q - place + j) ≡ q + j = omega arith in
+          let there : 0 + j ≡ j = omega arith in
+          range_at x window place (q - place + j) e (omega arith) ∙ ap (λ (k : ℕ). get_or x k 0) here ∙ stands_get x s q j at (omega arith) ∙ sym (range_at s head 0 j f lt ∙ ap (λ (k : ℕ). get_or s k 0) there);
     }
 
 window_on : (o : Option Table) (x s : Option Node) (start place next m : ℕ) (window head : List ℕ) → Nowhere (OccursAt window head) 0 m → next ≤ place + m → next + length head ≤ place + length window + 1 → IsPieceOf o x place window → IsPieceOf o s 0 head → StandsNot o x s start place → StandsNot o x s start next

@@ -41,9 +41,7 @@ pub fn chr<S: Source>(x: &Cord, i: u64, c: u8, src: &mut S) -> Result<Option<u64
     ensures lengths { S.lengths src.new ≡ S.lengths src.old }
     ensures table { S.table src.new ≡ S.table src.old }
 {
-    let Some(root) = x.root() else {
-        unreachable!()
-    };
+    let Some(root) = x.root() else { unreachable!() };
     let place = first_byte(root.as_ref(), i, c, src)?;
     Ok(place)
 }
@@ -60,9 +58,7 @@ pub fn rchr<S: Source>(x: &Cord, i: u64, c: u8, src: &mut S) -> Result<Option<u6
     ensures lengths { S.lengths src.new ≡ S.lengths src.old }
     ensures table { S.table src.new ≡ S.table src.old }
 {
-    let Some(root) = x.root() else {
-        unreachable!()
-    };
+    let Some(root) = x.root() else { unreachable!() };
     let place = last_byte(root.as_ref(), i, c, src)?;
     Ok(place)
 }

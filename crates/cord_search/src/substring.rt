@@ -15,12 +15,7 @@ use std::cmp::Ordering;
 
 /// The first place of `x` at `start` or later where `s` stands, after `CORD_str` of `cord.h`. An empty `s` stands at each place up
 /// to the length of `x`. Each function part lies inside an entry of `src`. Refused with `ReadFailed` where a read failed.
-pub fn str<S: Source>(
-    x: &Cord,
-    start: u64,
-    s: &Cord,
-    src: &mut S,
-) -> Result<Option<u64>, CordError>
+pub fn str<S: Source>(x: &Cord, start: u64, s: &Cord, src: &mut S) -> Result<Option<u64>, CordError>
     requires fits { CordFitsIn (S.lengths src.old) x.now }
     requires pattern_fits { CordFitsIn (S.lengths src.old) s.now }
     ensures first { IfOk result (λ place. IfSome (S.table src.old) (λ t. place ≡ first (bytes_of t x.now) start (bytes_of t s.now))) }

@@ -161,7 +161,10 @@ fn a_read_fails_in_the_middle(rt: HostRuntime) -> Result<(), Fail> {
     let cord = entry_cord(alloc)?;
     let pattern = leaf(alloc, b"xy")?;
     let mut source = six_hundred(1);
-    assert_eq!(rt; str(&cord, 0, &pattern, &mut source), Err(CordError::ReadFailed));
+    assert_eq!(rt;
+        str(&cord, 0, &pattern, &mut source),
+        Err(CordError::ReadFailed)
+    );
     assert_eq!(rt; source.failures(), 1);
     let mut source = six_hundred(2);
     assert_eq!(rt; cmp(&cord, &cord, &mut source), Err(CordError::ReadFailed));
@@ -169,7 +172,10 @@ fn a_read_fails_in_the_middle(rt: HostRuntime) -> Result<(), Fail> {
         let mut source = six_hundred(2);
         assert_eq!(rt; chr(&cord, 0, 121, &mut source), Ok(None));
         let mut source = six_hundred(1);
-        assert_eq!(rt; rchr(&cord, 599, 121, &mut source), Err(CordError::ReadFailed));
+        assert_eq!(rt;
+            rchr(&cord, 599, 121, &mut source),
+            Err(CordError::ReadFailed)
+        );
         let mut source = six_hundred(0);
         assert_eq!(rt; fetch(&cord, 599, &mut source), Err(CordError::ReadFailed));
         assert_eq!(rt; source.failures(), 1);

@@ -1,4 +1,4 @@
-use Rattle.std.proofs.Common.{◌≡◌, ◌+◌, ◌≤◌, ◌∙◌, [], ◌∷◌, length, arith}
+use Rattle.std.proofs.Common.{◌∙◌, arith}
 use Rattle.cord_search.specs.Pieces.{IsPieceAt}
 use Rattle.cord_search.proofs.Finding.{node_len, first_on, first_found, first_none}
 use Rattle.cord_search.proofs.bytes.first_byte.Goals as goal

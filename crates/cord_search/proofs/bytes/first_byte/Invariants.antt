@@ -1,6 +1,5 @@
-use Rattle.std.proofs.Common.{◌≡◌, ◌-◌, ◌≤◌, [], ◌∷◌, length}
+use Rattle.std.proofs.Common.{◌≡◌, ◌-◌, ◌≤◌, [], ◌∷◌}
 use Rattle.cord_search.specs.Pieces.{NotFound}
-use Rattle.cord_search.specs.declared.TheConstants.{PIECE_LEN}
 use Rattle.cord_search.proofs.bytes.first_byte.Given as goal
 
 -- the byte stands at no place before, and no read has failed

@@ -1,4 +1,4 @@
-use Rattle.std.proofs.Common.{◌≡◌, ◌+◌, ◌-◌, ◌≤◌, ◌∙◌, length, arith}
+use Rattle.std.proofs.Common.{◌-◌, ◌∙◌, length, arith}
 use Rattle.cord_search.specs.Pieces.{IsPieceAt}
 use Rattle.cord_search.proofs.Finding.{last_on, last_found, last_none}
 use Rattle.cord_search.proofs.bytes.last_byte.Goals as goal

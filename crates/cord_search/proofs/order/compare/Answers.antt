@@ -1,6 +1,6 @@
-use Rattle.std.proofs.Common.{◌≡◌, ◌+◌, ◌-◌, ◌≤◌, ◌<◌, ◌∙◌, length, take, drop, sym, arith}
-use Rattle.std.specs.Prelude.{IfSome, min}
-use Rattle.std.specs.declared.cmp.Ordering.TheVariants.{Less, Equal, Greater}
+use Rattle.std.proofs.Common.{◌+◌, ◌≤◌, ◌<◌, ◌∙◌, sym, arith}
+use Rattle.std.specs.Prelude.{min}
+use Rattle.std.specs.declared.cmp.Ordering.TheVariants.{Less, Greater}
 use Rattle.cord_core.specs.Cord.{text_len}
 use Rattle.cord_iter.proofs.Backs.{cord_len}
 use Rattle.cord_search.specs.Pieces.{IsPieceOf}

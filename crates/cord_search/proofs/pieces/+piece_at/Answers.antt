@@ -1,11 +1,10 @@
-use Rattle.std.proofs.Common.{◌≡◌, ℕ, List, ◌+◌, ◌-◌, ◌<◌, ◌≤◌, ◌∙◌, length, take, drop, sym, ap, subst, refl, arith}
-use Rattle.std.specs.Prelude.{IfSome, replicate}
-use Rattle.std.proofs.lemmas.List.{length-replicate, length-take-le}
+use Rattle.std.proofs.Common.{◌≡◌, ℕ, List, ◌+◌, ◌-◌, ◌<◌, ◌∙◌, take, drop, sym, ap, refl, arith}
+use Rattle.std.specs.Prelude.{IfSome}
 use Rattle.cord_node.specs.declared.Node.{Node}
 use Rattle.cord_node.specs.Tree.{len_of}
 use Rattle.cord_node.specs.Tables.{bytes_over}
 use Rattle.cord_iter.proofs.Cuts.{IsCut, cut_of}
-use Rattle.cord_search.proofs.Ranges.{leaf_piece, run_piece, func_piece, left_piece, right_piece}
+use Rattle.cord_search.proofs.Ranges.{leaf_piece, run_piece, func_piece, right_piece}
 use Rattle.cord_search.proofs.pieces.+piece_at.Goals as goal
 
 pub returns-in-Leaf-clause-text : goal.returns-in-Leaf-clause-text

@@ -1,4 +1,4 @@
-use Rattle.std.proofs.Common.{◌≡◌, ℕ, List, ◌+◌, ◌-◌, ◌<◌, ◌≤◌, ◌∙◌, length, take, drop, sym, ap, subst, refl, arith}
+use Rattle.std.proofs.Common.{◌≡◌, ℕ, List, ◌+◌, ◌-◌, ◌<◌, ◌≤◌, ◌∙◌, length, take, drop, sym, ap, refl, arith}
 use Rattle.std.specs.Prelude.{IfSome, min}
 use Rattle.std.specs.Rc.{rc_slice_items}
 use Rattle.std.proofs.lemmas.List.{length-drop, length-take, length-take-le}
@@ -7,7 +7,7 @@ use Rattle.cord_node.specs.declared.Node.{Node}
 use Rattle.cord_node.specs.Tree.{len_of}
 use Rattle.cord_node.specs.Tables.{bytes_over}
 use Rattle.cord_iter.proofs.Cuts.{IsCut, cut_of}
-use Rattle.cord_search.proofs.Ranges.{leaf_piece, run_piece, func_piece, left_piece, right_piece}
+use Rattle.cord_search.proofs.Ranges.{leaf_piece, run_piece, func_piece, right_piece}
 use Rattle.cord_search.proofs.pieces.+piece_before.Goals as goal
 
 pub returns-then-seam-end-clause-text : goal.returns-then-seam-end-clause-text

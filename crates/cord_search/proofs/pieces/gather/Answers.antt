@@ -1,4 +1,4 @@
-use Rattle.std.proofs.Common.{◌≡◌, ◌+◌, ◌-◌, ◌≤◌, ◌<◌, ◌∙◌, length, take, arith}
+use Rattle.std.proofs.Common.{◌+◌, ◌∙◌, arith}
 use Rattle.cord_search.specs.Pieces.{IsPieceOf}
 use Rattle.cord_search.proofs.Comparing.{cord_limit}
 use Rattle.cord_search.proofs.Standing.{filled_on, filled_inside}

@@ -1,8 +1,8 @@
-use Rattle.std.proofs.Common.{◌≡◌, ◌+◌, ◌-◌, ◌≤◌, ◌<◌, ◌∙◌, true, false, List, ℕ, length, arith}
+use Rattle.std.proofs.Common.{◌+◌, ◌-◌, ◌≤◌, ◌∙◌, true, false, length, arith}
 use Rattle.memchr.specs.Find.{FindsNeedle}
 use Rattle.cord_iter.proofs.Backs.{cord_len}
 use Rattle.cord_search.specs.Pieces.{IsPieceOf, IsStanding, StandsNot}
-use Rattle.cord_search.proofs.Standing.{window_none, window_some, stands_on, stands_first, stands_none, stands_start}
+use Rattle.cord_search.proofs.Standing.{window_none, window_some, stands_on, stands_first, stands_none}
 use Rattle.cord_search.proofs.substring.first_place.Goals as goal
 
 pub loop-place-preserved-in-None : goal.loop-place-preserved-in-None

@@ -1,4 +1,4 @@
-use Rattle.std.proofs.Common.{◌≡◌, ◌+◌, ◌-◌, ◌≤◌, ◌<◌, ◌∙◌, true, sym, arith}
+use Rattle.std.proofs.Common.{◌+◌, ◌≤◌, ◌∙◌, true, sym, arith}
 use Rattle.cord_iter.proofs.Backs.{cord_len}
 use Rattle.cord_search.specs.Pieces.{IsStanding}
 use Rattle.cord_search.proofs.Standing.{stands_first, stands_none, stands_start, nothing_stands}
