@@ -1,3 +1,5 @@
 pub mod CordLemmas
 pub mod OverLemmas
 pub mod Catting
+pub mod Places
+pub mod Searches

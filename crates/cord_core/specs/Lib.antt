@@ -3,3 +3,4 @@ pub mod Forms
 pub mod Depths
 pub mod Equations
 pub mod Refusals
+pub mod Texts

@@ -9,11 +9,13 @@ ghost use Rattle.cord_core.specs.Cord.{text, text_len, depth, parts_of, IsCord, 
 
 use cord_io::{CordError, MAX_DEPTH, MAX_LEN};
 pub use cord_node::Node;
+pub use laws::searches_answer_places;
 use std::alloc::Global;
 use std::marker::Model;
 use std::rc::Rc;
 
 mod join;
+mod laws;
 mod make;
 mod part;
 #[cfg(test)]

@@ -9,7 +9,7 @@ use Rattle.cord_meaning.specs.Paths.{opened, open_at, NextOf, NextOfClose, Next}
 use Rattle.cord_meaning.specs.Machine.{Rules, Block, Turns, Chosen, Config, acted, begins, turned, faults, notes, repeats, chooses, closes, if_running, jump_from, runs_shape, runs, after}
 use Rattle.std.proofs.lemmas.Option.{slice_get_within, slice_get-map}
 use Rattle.std.specs.Option.{option_map}
-use Rattle.cord_meaning.proofs.Places.{at_here, next_here, some_here}
+use Rattle.cord_core.proofs.Places.{at_here, next_here, some_here}
 
 -- what a block of a run is to paths
 abbrev block_place : Block → Option ℕ

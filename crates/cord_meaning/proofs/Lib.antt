@@ -7,11 +7,9 @@ pub mod Honest
 pub mod Checks
 pub mod Computed
 pub mod Limit
-pub mod Places
 pub mod Unrolls
 pub mod Nesting
 pub mod Follows
 pub mod Fronts
-pub mod Searches
 pub mod ReadScripts
 pub mod Simulating

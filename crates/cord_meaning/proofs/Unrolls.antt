@@ -9,7 +9,7 @@ use Rattle.cord_meaning.specs.declared.ends.FaultKind.{FaultKind}
 use Rattle.cord_meaning.specs.declared.ends.FaultKind.TheVariants.{TooManyTurns}
 use Rattle.cord_meaning.specs.Blocks.{Shape, Simple, Loop, Branch, Otherwise, Close, to_end, to_else, jump_at, jump_of}
 use Rattle.cord_meaning.specs.Machine.{Rules, Moment, Block, Turns, Chosen, Config, acted, begins, turned, faults, repeats, chooses, jump_from, runs_shape, runs, step, after_from, after, run_moments, run_end}
-use Rattle.cord_meaning.proofs.Places.{at_here, next_here, behind, none_behind}
+use Rattle.cord_core.proofs.Places.{at_here, next_here, behind, none_behind}
 use Rattle.cord_meaning.proofs.Runs.{moments_when_ended, end_when_ended}
 use Rattle.cord_meaning.specs.Unrolled.{Parts, Nothing, Then, Repeats, Chooses, ChoosesElse, flat, Unrolled, joined, then_on, member, acted_once, all_turns, repeated, chosen, unrolled, IsWell}
 

@@ -4,7 +4,6 @@ pub mod Paths
 pub mod Machine
 pub mod Ends
 pub mod Running
-pub mod Texts
 pub mod State
 pub mod Formats
 pub mod Statements

@@ -10,7 +10,6 @@ ghost use Rattle.cord_meaning.specs.Paths.{Next};
 ghost use Rattle.cord_meaning.specs.Machine.{Begins, enough};
 ghost use Rattle.cord_meaning.specs.State.{start_state};
 ghost use Rattle.cord_meaning.specs.Statements.{rules, shape_of, line_of, function_text};
-ghost use Rattle.cord_meaning.specs.Texts.{first, IsFirst, last, IsLast, order, IsOrder};
 ghost use Rattle.cord_meaning.specs.Unrolled.{Parts, IsWell, flat, unrolled};
 ghost use Rattle.cord_meaning.specs.Ends.{IsMeant};
 ghost use Rattle.cord_meaning.specs.Meaning.{moments, end_of, output, moments_within, end_within, run_within};
@@ -52,13 +51,6 @@ pub fn runs_are_unrolled()
 /// A run follows paths: of a script whose blocks are closed, each step that doesn't end the run leads to a place that may come next.
 pub fn runs_follow_paths()
     ensures { (limit most : ℕ) (statements : List Statement) (files : Folder) (k : ℕ) → IsNested [] (map shape_of statements) → (run_within limit most statements files (suc k)).ended ≡ None → Next (map shape_of statements) (run_within limit most statements files k).place (run_within limit most statements files (suc k)).place }
-{}
-
-/// Searches answer places, and comparisons the first place of difference.
-pub fn searches_answer_places()
-    ensures first { (x : List ℕ) (i : ℕ) (s : List ℕ) → IsFirst x i s (first x i s) }
-    ensures last { (x : List ℕ) (i c : ℕ) → IsLast x i c (last x i c) }
-    ensures order { (x y : List ℕ) → IsOrder x y (order x y) }
 {}
 
 /// The blocks of a script that is read are closed, and its lines are numbered from 1.

@@ -8,7 +8,7 @@ mod rows;
 pub use ends::{End, FaultKind};
 pub use laws::{
     every_run_ends, functions_are_entries, limits_only_refuse, read_scripts_are_closed,
-    runs_are_unrolled, runs_follow_paths, searches_answer_places, what_was_run_stays,
+    runs_are_unrolled, runs_follow_paths, what_was_run_stays,
 };
 pub use rows::{rows_are_computed, rows_of_searches_are_computed, rows_with_blocks_are_computed};
 

@@ -5,8 +5,8 @@ use Rattle.std.proofs.lemmas.Bool.{leb-true, leb-false, eqb-true, eqb-false}
 use Rattle.std.proofs.lemmas.List.{length-drop}
 use borrow.Author.Tests.{ltb-true}
 use Rattle.std.proofs.lemmas.Bool.{ltb-false}
-use Rattle.cord_meaning.specs.Texts.{begins_with, first_from, first, StandsAt, IsFirst, here_or, last, IsLast, order, IsLess, IsOrder}
-use Rattle.cord_meaning.proofs.Places.{next_here}
+use Rattle.cord_core.specs.Texts.{begins_with, first_from, first, StandsAt, IsFirst, here_or, last, IsLast, order, IsLess, IsOrder}
+use Rattle.cord_core.proofs.Places.{next_here}
 
 differ : false ≡ true → ⊥
 differ e = cc

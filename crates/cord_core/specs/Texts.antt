@@ -62,8 +62,3 @@ IsOrder x y (pos (suc zero)) = IsLess y x
 IsOrder x y (pos (suc (suc n))) = ⊥
 IsOrder x y (negsuc zero) = IsLess x y
 IsOrder x y (negsuc (suc n)) = ⊥
-
--- a place as the number that a statement sets: -1 where there is none
-abbrev pub place_number : Option ℕ → ℤ
-place_number (Some p) = pos p
-place_number None = negsuc 0

@@ -1,5 +1,5 @@
-use Rattle.cord_meaning.proofs.Searches.{first_is_least, last_is_greatest, order_is}
-use Rattle.cord_meaning.proofs.laws.searches_answer_places.Goals as goal
+use Rattle.cord_core.proofs.Searches.{first_is_least, last_is_greatest, order_is}
+use Rattle.cord_core.proofs.laws.searches_answer_places.Goals as goal
 
 pub returns-clause-first : goal.returns-clause-first
 returns-clause-first c = λ x i s. first_is_least x s i

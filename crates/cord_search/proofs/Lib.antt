@@ -1,0 +1,4 @@
+pub mod Ranges
+pub mod Finding
+pub mod Comparing
+pub mod Standing

@@ -1,0 +1,17 @@
+use Rattle.std.proofs.Common.{◌≡◌, ◌-◌, ◌≤◌, [], ◌∷◌}
+use Rattle.cord_search.specs.Pieces.{NotFound}
+use Rattle.cord_search.proofs.bytes.first_byte.Given as goal
+
+-- the byte stands at no place before, and no read has failed
+abbrev pub invariant-loop-place : goal.invariant-loop-place
+invariant-loop-place g l = record {
+  low : l.from ≤ l.place;
+  high : l.place ≤ l.len;
+  none : NotFound (g.S.Source.table l.initial.src) l.node (l.byte ∷ []) l.from l.place;
+  reads : g.S.Source.failures l.src ≡ g.S.Source.failures l.initial.src;
+  lengths : g.S.Source.lengths l.src ≡ g.S.Source.lengths l.initial.src;
+  table : g.S.Source.table l.src ≡ g.S.Source.table l.initial.src;
+}
+
+abbrev pub decreases-loop-place : goal.decreases-loop-place
+decreases-loop-place g l = l.len - l.place

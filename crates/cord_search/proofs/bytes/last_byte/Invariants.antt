@@ -1,0 +1,16 @@
+use Rattle.std.proofs.Common.{◌≡◌, ◌+◌, ◌≤◌}
+use Rattle.cord_search.specs.Pieces.{HasNot}
+use Rattle.cord_search.proofs.bytes.last_byte.Given as goal
+
+-- the byte stands at no place from the end on, and no read has failed
+abbrev pub invariant-loop-end : goal.invariant-loop-end
+invariant-loop-end g l = record {
+  high : l.end ≤ l.at + 1;
+  none : HasNot (g.S.Source.table l.initial.src) l.node l.byte l.end (l.at + 1);
+  reads : g.S.Source.failures l.src ≡ g.S.Source.failures l.initial.src;
+  lengths : g.S.Source.lengths l.src ≡ g.S.Source.lengths l.initial.src;
+  table : g.S.Source.table l.src ≡ g.S.Source.table l.initial.src;
+}
+
+abbrev pub decreases-loop-end : goal.decreases-loop-end
+decreases-loop-end g l = l.end

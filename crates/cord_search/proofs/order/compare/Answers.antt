@@ -1,0 +1,68 @@
+use Rattle.std.proofs.Common.{◌+◌, ◌≤◌, ◌<◌, ◌∙◌, sym, arith}
+use Rattle.std.specs.Prelude.{min}
+use Rattle.std.specs.declared.cmp.Ordering.TheVariants.{Less, Greater}
+use Rattle.cord_core.specs.Cord.{text_len}
+use Rattle.cord_iter.proofs.Backs.{cord_len}
+use Rattle.cord_search.specs.Pieces.{IsPieceOf}
+use Rattle.cord_search.proofs.Comparing.{same_on, different, no_different, range_len, cord_limit}
+use Rattle.cord_search.proofs.order.compare.Goals as goal
+
+pub overflow_add-i : goal.overflow_add-i
+overflow_add-i g c =
+    let below : c.loop-done.done < min c.args.left c.args.right = omega (arith, c.loop-done-test.true, c.min-both.ensures) in
+    let inside : c.args.i + c.args.left ≤ text_len c.args.x.now = c.requires.left_inside (omega (arith, below)) in
+    omega (arith, inside, below, cord_limit c.args.x.now c.requires.left_sound)
+
+pub overflow_add-j : goal.overflow_add-j
+overflow_add-j g c =
+    let below : c.loop-done.done < min c.args.left c.args.right = omega (arith, c.loop-done-test.true, c.min-both.ensures) in
+    let inside : c.args.j + c.args.right ≤ text_len c.args.y.now = c.requires.right_inside (omega (arith, below)) in
+    omega (arith, inside, below, cord_limit c.args.y.now c.requires.right_sound)
+
+pub loop-done-preserved : goal.loop-done-preserved
+loop-done-preserved g c =
+    let o = g.S.Source.table c.args.src.now in
+    let done = c.loop-done.done in
+    let n = c.min-count.result in
+    let piece = c.in_ok-piece.piece.now in
+    let other = c.in_ok-other.other.now in
+    let text : IsPieceOf o c.args.x.now (c.args.i + done) piece = rw c.loop-done.invariant.table at c.in_ok-piece.ensures.text in
+    let other_text : IsPieceOf o c.args.y.now (c.args.j + done) other = rw (c.cord_piece_at.ensures.table, c.loop-done.invariant.table) at c.in_ok-other.ensures.text in
+    record {
+      in_range = omega (arith, c.min-count.ensures, c.loop-done.invariant.in_range);
+      same = same_on o c.args.x.now c.args.i c.args.y.now c.args.j done n piece other (omega (arith, c.min-count.ensures, c.min.ensures)) (omega (arith, c.min-count.ensures, c.min.ensures)) text other_text (sym c.in-Equal.is ∙ c.cmp.ensures) c.loop-done.invariant.same;
+      reads = c.in_ok-other.ensures.count ∙ (c.in_ok-piece.ensures.count ∙ c.loop-done.invariant.reads);
+      lengths = c.cord_piece_at-in-loop-done.ensures.lengths ∙ (c.cord_piece_at.ensures.lengths ∙ c.loop-done.invariant.lengths);
+      table = c.cord_piece_at-in-loop-done.ensures.table ∙ (c.cord_piece_at.ensures.table ∙ c.loop-done.invariant.table);
+    }
+
+pub returns-in-Less-clause-order : goal.returns-in-Less-clause-order
+returns-in-Less-clause-order g c =
+    let o = g.S.Source.table c.args.src.now in
+    let done = c.loop-done.done in
+    let n = c.min-count.result in
+    let piece = c.in_ok-piece.piece.now in
+    let other = c.in_ok-other.other.now in
+    let text : IsPieceOf o c.args.x.now (c.args.i + done) piece = rw c.loop-done.invariant.table at c.in_ok-piece.ensures.text in
+    let other_text : IsPieceOf o c.args.y.now (c.args.j + done) other = rw (c.cord_piece_at.ensures.table, c.loop-done.invariant.table) at c.in_ok-other.ensures.text in
+    different o c.args.x.now c.args.i c.args.left c.args.y.now c.args.j c.args.right done n piece other Less (omega (arith, c.min-count.ensures, c.min-both.ensures, c.loop-done-test.true)) (omega (arith, c.min-count.ensures, c.min-both.ensures, c.loop-done-test.true)) (omega (arith, c.min-count.ensures, c.min.ensures)) (omega (arith, c.min-count.ensures, c.min.ensures)) text other_text (sym c.in-Less.is ∙ c.cmp.ensures) (λ e. cc) c.loop-done.invariant.same
+
+pub returns-in-Greater-clause-order : goal.returns-in-Greater-clause-order
+returns-in-Greater-clause-order g c =
+    let o = g.S.Source.table c.args.src.now in
+    let done = c.loop-done.done in
+    let n = c.min-count.result in
+    let piece = c.in_ok-piece.piece.now in
+    let other = c.in_ok-other.other.now in
+    let text : IsPieceOf o c.args.x.now (c.args.i + done) piece = rw c.loop-done.invariant.table at c.in_ok-piece.ensures.text in
+    let other_text : IsPieceOf o c.args.y.now (c.args.j + done) other = rw (c.cord_piece_at.ensures.table, c.loop-done.invariant.table) at c.in_ok-other.ensures.text in
+    different o c.args.x.now c.args.i c.args.left c.args.y.now c.args.j c.args.right done n piece other Greater (omega (arith, c.min-count.ensures, c.min-both.ensures, c.loop-done-test.true)) (omega (arith, c.min-count.ensures, c.min-both.ensures, c.loop-done-test.true)) (omega (arith, c.min-count.ensures, c.min.ensures)) (omega (arith, c.min-count.ensures, c.min.ensures)) text other_text (sym c.in-Greater.is ∙ c.cmp.ensures) (λ e. cc) c.loop-done.invariant.same
+
+pub returns-clause-order : goal.returns-clause-order
+returns-clause-order g c =
+    let o = g.S.Source.table c.args.src.now in
+    let lengths = g.S.Source.lengths c.args.src.now in
+    let told = g.met.S.Source.lengths_of_table c.args.src.now in
+    let left = range_len o c.args.x.now c.args.i c.args.left (cord_len lengths o c.args.x.now told c.requires.left_sound c.requires.left_fits) c.requires.left_inside in
+    let right = range_len o c.args.y.now c.args.j c.args.right (cord_len lengths o c.args.y.now told c.requires.right_sound c.requires.right_fits) c.requires.right_inside in
+    rw c.cmp-2.ensures (no_different o c.args.x.now c.args.i c.args.left c.args.y.now c.args.j c.args.right c.loop-done.done (omega (arith, c.min-both.ensures, c.loop-done.invariant.in_range)) (omega (arith, c.min-both.ensures, c.loop-done-test.false)) left right c.loop-done.invariant.same)

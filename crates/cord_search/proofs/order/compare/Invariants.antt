@@ -1,0 +1,16 @@
+use Rattle.std.proofs.Common.{◌≡◌, ◌-◌, ◌≤◌}
+use Rattle.cord_search.specs.Pieces.{AreSame}
+use Rattle.cord_search.proofs.order.compare.Given as goal
+
+-- the first `done` bytes are the same, and no read has failed
+abbrev pub invariant-loop-done : goal.invariant-loop-done
+invariant-loop-done g l = record {
+  in_range : l.done ≤ l.both;
+  same : AreSame (g.S.Source.table l.initial.src) l.x l.i l.y l.j l.done;
+  reads : g.S.Source.failures l.src ≡ g.S.Source.failures l.initial.src;
+  lengths : g.S.Source.lengths l.src ≡ g.S.Source.lengths l.initial.src;
+  table : g.S.Source.table l.src ≡ g.S.Source.table l.initial.src;
+}
+
+abbrev pub decreases-loop-done : goal.decreases-loop-done
+decreases-loop-done g l = l.both - l.done

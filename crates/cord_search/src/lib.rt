@@ -1,0 +1,18 @@
+//! Fetching bytes, comparing cords and finding bytes and cords in them, after `CORD_fetch`, `CORD_chr`, `CORD_rchr`, `CORD_cmp`,
+//! `CORD_ncmp` and `CORD_str` of `cord.h` of the Boehm collector's distribution.
+#![tactic(auto)]
+
+mod bytes;
+mod order;
+mod pieces;
+mod substring;
+
+pub use bytes::{chr, fetch, rchr};
+pub use order::{cmp, ncmp};
+pub use substring::str;
+
+/// The most bytes of a run or of a function part that are looked at together.
+pub(crate) const PIECE_LEN: usize = 512;
+
+#[cfg(test)]
+mod tests;

@@ -1,0 +1,102 @@
+// The order of texts.
+ghost use Rattle.std.specs.Prelude.{◌≡◌, ◌+◌, ◌<◌, ◌≤◌, take, drop, is_err, IsOk, IfOk, IfErr, IfSome};
+ghost use Rattle.cord_io.specs.Device.{count_after};
+ghost use Rattle.cord_core.specs.Cord.{text_len, bytes_of, IsCord, CordFitsIn};
+ghost use Rattle.cord_core.specs.Texts.{order};
+ghost use Rattle.cord_search.specs.Pieces.{IsOrderOf, sign_of};
+
+use crate::PIECE_LEN;
+use crate::pieces::cord_piece_at;
+use cord_core::Cord;
+use cord_io::{CordError, ReadFault, Source};
+use std::cmp::Ordering;
+
+/// The order of two texts, after `CORD_cmp` of `cord.h`: -1, 0 or 1 by the bytes, as unsigned numbers, at the first place of
+/// difference; a proper prefix is less. Each function part lies inside an entry of `src`. Refused with `ReadFailed` where a read
+/// failed.
+pub fn cmp<S: Source>(x: &Cord, y: &Cord, src: &mut S) -> Result<i8, CordError>
+    requires left_fits { CordFitsIn (S.lengths src.old) x.now }
+    requires right_fits { CordFitsIn (S.lengths src.old) y.now }
+    ensures order { IfOk result (λ sign. IfSome (S.table src.old) (λ t. sign ≡ order (bytes_of t x.now) (bytes_of t y.now))) }
+    ensures refused { IfErr result (λ e. e ≡ CordError.ReadFailed) }
+    ensures count { S.failures src.new ≡ count_after (is_err result) (S.failures src.old) }
+    ensures steady { S.failures src.old < u64.MAX → S.failures src.new ≡ S.failures src.old → IsOk result }
+    ensures lengths { S.lengths src.new ≡ S.lengths src.old }
+    ensures table { S.table src.new ≡ S.table src.old }
+{
+    let ordering = compare(x, 0, x.len(), y, 0, y.len(), src)?;
+    Ok(sign(ordering))
+}
+
+/// The order of at most `k` bytes of `x` from `i` on and at most `k` bytes of `y` from `j` on, after `CORD_ncmp` of `cord.h`:
+/// as `cmp` of the two substrings. Refused with `ReadFailed` where a read failed.
+pub fn ncmp<S: Source>(
+    x: &Cord,
+    i: u64,
+    y: &Cord,
+    j: u64,
+    k: u64,
+    src: &mut S,
+) -> Result<i8, CordError>
+    requires left_fits { CordFitsIn (S.lengths src.old) x.now }
+    requires right_fits { CordFitsIn (S.lengths src.old) y.now }
+    ensures order { IfOk result (λ sign. IfSome (S.table src.old) (λ t. sign ≡ order (take k (drop i (bytes_of t x.now))) (take k (drop j (bytes_of t y.now))))) }
+    ensures refused { IfErr result (λ e. e ≡ CordError.ReadFailed) }
+    ensures count { S.failures src.new ≡ count_after (is_err result) (S.failures src.old) }
+    ensures steady { S.failures src.old < u64.MAX → S.failures src.new ≡ S.failures src.old → IsOk result }
+    ensures lengths { S.lengths src.new ≡ S.lengths src.old }
+    ensures table { S.table src.new ≡ S.table src.old }
+{
+    let left = k.min(x.len().saturating_sub(i));
+    let right = k.min(y.len().saturating_sub(j));
+    let ordering = compare(x, i, left, y, j, right, src)?;
+    Ok(sign(ordering))
+}
+
+// The order of `left` bytes of `x` from `i` on and `right` bytes of `y` from `j` on, slice against slice.
+pub(crate) fn compare<S: Source>(
+    x: &Cord,
+    i: u64,
+    left: u64,
+    y: &Cord,
+    j: u64,
+    right: u64,
+    src: &mut S,
+) -> Result<Ordering, ReadFault>
+    requires left_sound { IsCord x.now }
+    requires right_sound { IsCord y.now }
+    requires left_inside { 0 < left → i + left ≤ text_len x.now }
+    requires right_inside { 0 < right → j + right ≤ text_len y.now }
+    requires left_fits { CordFitsIn (S.lengths src.old) x.now }
+    requires right_fits { CordFitsIn (S.lengths src.old) y.now }
+    ensures order { IfOk result (IsOrderOf (S.table src.old) x.now i left y.now j right) }
+    ensures count { S.failures src.new ≡ count_after (is_err result) (S.failures src.old) }
+    ensures lengths { S.lengths src.new ≡ S.lengths src.old }
+    ensures table { S.table src.new ≡ S.table src.old }
+{
+    let (mut buffer, mut other_buffer) = ([0; PIECE_LEN], [0; PIECE_LEN]);
+    let both = left.min(right);
+    let mut done = 0;
+    while done < both {
+        let piece = cord_piece_at(x, i + done, &mut buffer, src)?;
+        let other = cord_piece_at(y, j + done, &mut other_buffer, src)?;
+        let count = ((piece.len().min(other.len())) as u64).min(both - done) as usize;
+        match piece[..count].cmp(&other[..count]) {
+            Ordering::Equal => done += count as u64,
+            Ordering::Less => return Ok(Ordering::Less),
+            Ordering::Greater => return Ok(Ordering::Greater),
+        }
+    }
+    Ok(left.cmp(&right))
+}
+
+// -1, 0 or 1.
+fn sign(ordering: Ordering) -> i8
+    ensures { result ≡ sign_of ordering }
+{
+    match ordering {
+        Ordering::Less => -1,
+        Ordering::Equal => 0,
+        Ordering::Greater => 1,
+    }
+}

@@ -1,0 +1,188 @@
+// Texts of nodes in pieces: slices of leaves as they are, runs and function parts through a buffer.
+ghost use Rattle.std.specs.Prelude.{◌≡◌, ◌+◌, ◌-◌, ◌<◌, ◌≤◌, length, is_err, IfOk, OnOk};
+ghost use Rattle.cord_io.specs.Device.{count_after};
+ghost use Rattle.cord_node.specs.Tree.{len_of, IsSound};
+ghost use Rattle.cord_node.specs.Tables.{FitsIn};
+ghost use Rattle.cord_core.specs.Cord.{text_len, IsCord, CordFitsIn};
+ghost use Rattle.cord_search.specs.Pieces.{IsPieceAt, IsPieceOf};
+
+use crate::PIECE_LEN;
+use cord_core::{Cord, Node};
+use cord_io::{ReadFault, Source};
+
+// A piece of a cord's text that begins at a place: the rest of a leaf, or at most `PIECE_LEN` bytes of another part.
+pub(crate) fn cord_piece_at<'a, S: Source>(
+    cord: &'a Cord,
+    place: u64,
+    buffer: &'a mut [u8; PIECE_LEN],
+    src: &mut S,
+) -> Result<&'a [u8], ReadFault>
+    requires inside { place < text_len cord.now }
+    requires fits { CordFitsIn (S.lengths src.old) cord.now }
+    ensures some { IfOk result (λ piece. 0 < length piece.now) }
+    ensures inside { IfOk result (λ piece. place + length piece.now ≤ text_len cord.now) }
+    ensures text { IfOk result (λ piece. IsPieceOf (S.table src.old) cord.now place piece.now) }
+    ensures count { S.failures src.new ≡ count_after (is_err result) (S.failures src.old) }
+    ensures lengths { S.lengths src.new ≡ S.lengths src.old }
+    ensures table { S.table src.new ≡ S.table src.old }
+{
+    let Some(root) = cord.root() else {
+        unreachable!()
+    };
+    let piece = piece_at(root.as_ref(), place, buffer, src)?;
+    Ok(piece)
+}
+
+// At least `count` bytes of a cord's text from a place on, which it has: the rest of a leaf where that is enough, else what is left
+// of the part and the next bytes, copied.
+pub(crate) fn window_at<'a, S: Source>(
+    cord: &'a Cord,
+    place: u64,
+    count: usize,
+    buffer: &'a mut [u8; PIECE_LEN],
+    seam: &'a mut [u8; 2 * PIECE_LEN],
+    src: &mut S,
+) -> Result<&'a [u8], ReadFault>
+    requires some { 0 < count }
+    requires most { count ≤ PIECE_LEN }
+    requires inside { place + count ≤ text_len cord.now }
+    requires fits { CordFitsIn (S.lengths src.old) cord.now }
+    ensures enough { IfOk result (λ window. count ≤ length window.now) }
+    ensures inside { IfOk result (λ window. place + length window.now ≤ text_len cord.now) }
+    ensures text { IfOk result (λ window. IsPieceOf (S.table src.old) cord.now place window.now) }
+    ensures count { S.failures src.new ≡ count_after (is_err result) (S.failures src.old) }
+    ensures lengths { S.lengths src.new ≡ S.lengths src.old }
+    ensures table { S.table src.new ≡ S.table src.old }
+{
+    let piece = cord_piece_at(cord, place, buffer, src)?;
+    if count <= piece.len() {
+        return Ok(piece);
+    }
+    let left = cord.len() - place;
+    let window = &mut seam[..((piece.len() + count - 1) as u64).min(left) as usize];
+    gather(cord, place, window, src)?;
+    Ok(window)
+}
+
+// Copies the bytes of a cord's text from a place on.
+pub(crate) fn gather<S: Source>(
+    cord: &Cord,
+    place: u64,
+    out: &mut [u8],
+    src: &mut S,
+) -> Result<(), ReadFault>
+    requires sound { IsCord cord.now }
+    requires inside { place + length out.old ≤ text_len cord.now }
+    requires fits { CordFitsIn (S.lengths src.old) cord.now }
+    ensures text { OnOk result (IsPieceOf (S.table src.old) cord.now place out.new) }
+    ensures count { S.failures src.new ≡ count_after (is_err result) (S.failures src.old) }
+    ensures lengths { S.lengths src.new ≡ S.lengths src.old }
+    ensures table { S.table src.new ≡ S.table src.old }
+{
+    let mut buffer = [0; PIECE_LEN];
+    let mut done = 0;
+    while done < out.len() {
+        let piece = cord_piece_at(cord, place + done as u64, &mut buffer, src)?;
+        let count = piece.len().min(out.len() - done);
+        out[done..done + count].copy_from_slice(&piece[..count]);
+        done += count;
+    }
+    Ok(())
+}
+
+// A piece of a node's text that begins at a place: the rest of a leaf, or at most `PIECE_LEN` bytes of another part.
+pub(crate) fn piece_at<'a, S: Source>(
+    node: &'a Node,
+    place: u64,
+    buffer: &'a mut [u8; PIECE_LEN],
+    src: &mut S,
+) -> Result<&'a [u8], ReadFault>
+    requires sound { IsSound node.now }
+    requires inside { place < len_of node.now }
+    requires fits { FitsIn (S.lengths src.old) node.now }
+    ensures some { IfOk result (λ piece. 0 < length piece.now) }
+    ensures inside { IfOk result (λ piece. place + length piece.now ≤ len_of node.now) }
+    ensures text { IfOk result (λ piece. IsPieceAt (S.table src.old) node.now place piece.now) }
+    ensures count { S.failures src.new ≡ count_after (is_err result) (S.failures src.old) }
+    ensures lengths { S.lengths src.new ≡ S.lengths src.old }
+    ensures table { S.table src.new ≡ S.table src.old }
+{
+    match node {
+        Node::Leaf { bytes, start, len } => {
+            Ok(&bytes.as_slice()[(*start + place) as usize..(*start + *len) as usize])
+        }
+        Node::Run { byte, len } => {
+            let piece = &mut buffer[..piece_len(*len - place)];
+            piece.fill(*byte);
+            Ok(piece)
+        }
+        Node::Func { id, start, len } => {
+            let piece = &mut buffer[..piece_len(*len - place)];
+            src.read(*id, *start + place, piece)?;
+            Ok(piece)
+        }
+        Node::Cat { left, right, .. } => {
+            let seam = left.len();
+            if place < seam {
+                let piece = piece_at(left.as_ref(), place, buffer, src)?;
+                return Ok(piece);
+            }
+            let piece = piece_at(right.as_ref(), place - seam, buffer, src)?;
+            Ok(piece)
+        }
+    }
+}
+
+// A piece of a node's text that ends at a place: the front of a leaf, or at most `PIECE_LEN` bytes of another part.
+pub(crate) fn piece_before<'a, S: Source>(
+    node: &'a Node,
+    end: u64,
+    buffer: &'a mut [u8; PIECE_LEN],
+    src: &mut S,
+) -> Result<&'a [u8], ReadFault>
+    requires sound { IsSound node.now }
+    requires some { 0 < end }
+    requires inside { end ≤ len_of node.now }
+    requires fits { FitsIn (S.lengths src.old) node.now }
+    ensures some { IfOk result (λ piece. 0 < length piece.now) }
+    ensures inside { IfOk result (λ piece. length piece.now ≤ end) }
+    ensures text { IfOk result (λ piece. IsPieceAt (S.table src.old) node.now (end - length piece.now) piece.now) }
+    ensures count { S.failures src.new ≡ count_after (is_err result) (S.failures src.old) }
+    ensures lengths { S.lengths src.new ≡ S.lengths src.old }
+    ensures table { S.table src.new ≡ S.table src.old }
+{
+    match node {
+        Node::Leaf { bytes, start, .. } => {
+            Ok(&bytes.as_slice()[*start as usize..(*start + end) as usize])
+        }
+        Node::Run { byte, .. } => {
+            let piece = &mut buffer[..piece_len(end)];
+            piece.fill(*byte);
+            Ok(piece)
+        }
+        Node::Func { id, start, .. } => {
+            let count = piece_len(end);
+            let piece = &mut buffer[..count];
+            src.read(*id, *start + (end - count as u64), piece)?;
+            Ok(piece)
+        }
+        Node::Cat { left, right, .. } => {
+            let seam = left.len();
+            if seam < end {
+                let piece = piece_before(right.as_ref(), end - seam, buffer, src)?;
+                return Ok(piece);
+            }
+            let piece = piece_before(left.as_ref(), end, buffer, src)?;
+            Ok(piece)
+        }
+    }
+}
+
+// How many bytes of those that are left make the next piece.
+pub(crate) fn piece_len(left: u64) -> usize
+    ensures most { result ≤ PIECE_LEN }
+    ensures inside { result ≤ left }
+    ensures some { 0 < left → 0 < result }
+{
+    left.min(PIECE_LEN as u64) as usize
+}

@@ -1,0 +1,184 @@
+// Rows of worked examples, and a read that fails.
+ghost use Rattle.std.specs.Prelude.{◌≤◌, IfOk, length};
+ghost use Rattle.cord_io.specs.Table.{Lengths, length_at};
+ghost use Rattle.cord_core.specs.Cord.{CordFitsIn};
+
+use super::*;
+use cord_core::Cord;
+use cord_io::{CordError, ReadFault, Source, SourceId};
+use std::alloc::Global;
+use std::test::Fail;
+
+// A source whose entry 2 is these bytes: it reads so often, and then every read fails.
+#[derive(Drop)]
+struct Entry<'a> {
+    bytes: &'a [u8],
+    reads: u64,
+    failures: u64,
+}
+
+impl<'a> Source for Entry<'a> {
+    ghost use Rattle.std.specs.Prelude.{Some, None, [], length, if◌then◌else◌, nat_eq};
+    ghost use Rattle.std.proofs.Common.{arith};
+    ghost use Rattle.std.proofs.lemmas.Bool.Decides.{nat_tests};
+
+    ghost lengths = { λ s id. if nat_eq id 2 then Some (length s.bytes.now) else None };
+
+    ghost table = { λ s. Some (λ id. if nat_eq id 2 then s.bytes.now else []) };
+
+    ghost failures = { λ s. s.failures };
+
+    ghost lengths_of_table = { λ s id. Prim.grind (arith, nat_tests) };
+
+    fn failures(&self) -> u64 {
+        self.failures
+    }
+
+    fn entry_len(&self, id: SourceId) -> Option<u64> {
+        if id.0 == 2 {
+            Some(self.bytes.len() as u64)
+        } else {
+            None
+        }
+    }
+
+    fn read(&mut self, id: SourceId, start: u64, out: &mut [u8]) -> Result<(), ReadFault> {
+        if self.reads == 0 || id.0 != 2 {
+            self.failures = self.failures.saturating_add(1);
+            return Err(ReadFault);
+        }
+        self.reads -= 1;
+        let start = start as usize;
+        out.copy_from_slice(&self.bytes[start..start + out.len()]);
+        Ok(())
+    }
+}
+
+// No entry, and no read that works.
+fn nothing() -> Entry<'static> {
+    Entry {
+        bytes: b"",
+        reads: 0,
+        failures: 0,
+    }
+}
+
+// Six hundred bytes, which can be read so often.
+fn six_hundred(reads: u64) -> Entry<'static>
+    ensures { 600 ≤ length result.bytes.now }
+{
+    Entry {
+        bytes: &[120; 600],
+        reads,
+        failures: 0,
+    }
+}
+
+// A cord of these bytes, which needs no source.
+fn leaf(alloc: Global, bytes: &[u8]) -> Result<Cord, CordError>
+    ensures { IfOk result (λ c. (lengths : Lengths) → CordFitsIn lengths c) }
+{
+    let cord = Cord::from_bytes(alloc, bytes)?;
+    Ok(cord)
+}
+
+// The text "ababc" of three parts.
+fn joined(alloc: Global) -> Result<Cord, CordError>
+    ensures { IfOk result (λ c. (lengths : Lengths) → CordFitsIn lengths c) }
+{
+    let front = leaf(alloc, b"ab")?;
+    let twice = Cord::cat(alloc, &front, &front)?;
+    let back = leaf(alloc, b"c")?;
+    let cord = Cord::cat(alloc, &twice, &back)?;
+    Ok(cord)
+}
+
+// The text "aaab": a run of two bytes, and a leaf.
+fn run_and_leaf(alloc: Global) -> Result<Cord, CordError>
+    ensures { IfOk result (λ c. (lengths : Lengths) → CordFitsIn lengths c) }
+{
+    let run = Cord::chars(alloc, b'a', 2)?;
+    let back = leaf(alloc, b"ab")?;
+    let cord = Cord::cat(alloc, &run, &back)?;
+    Ok(cord)
+}
+
+// The first 600 bytes of entry 2.
+fn entry_cord(alloc: Global) -> Result<Cord, CordError>
+    ensures { IfOk result (λ c. (lengths : Lengths) → 600 ≤ length_at lengths 2 → CordFitsIn lengths c) }
+{
+    let cord = Cord::from_fn(alloc, SourceId(2), 0, 600)?;
+    Ok(cord)
+}
+
+#[test]
+fn rows_of_str(rt: HostRuntime) -> Result<(), Fail> {
+    let alloc = rt.alloc();
+    let cord = joined(alloc)?;
+    let pattern = leaf(alloc, b"abc")?;
+    assert_eq!(rt; str(&cord, 0, &pattern, &mut nothing()), Ok(Some(2)));
+    assert_eq!(rt; str(&cord, 3, &pattern, &mut nothing()), Ok(None));
+    let empty = Cord::empty();
+    assert_eq!(rt; str(&cord, 5, &empty, &mut nothing()), Ok(Some(5)));
+    assert_eq!(rt; str(&cord, 6, &empty, &mut nothing()), Ok(None));
+    let seam = run_and_leaf(alloc)?;
+    let pattern = leaf(alloc, b"aab")?;
+    assert_eq!(rt; str(&seam, 0, &pattern, &mut nothing()), Ok(Some(1)));
+    Ok(())
+}
+
+#[test]
+fn rows_of_cmp(rt: HostRuntime) -> Result<(), Fail> {
+    let alloc = rt.alloc();
+    let high = leaf(alloc, b"\x80")?;
+    let low = leaf(alloc, b"a")?;
+    assert_eq!(rt; cmp(&high, &low, &mut nothing()), Ok(1));
+    let short = leaf(alloc, b"ab")?;
+    let long = leaf(alloc, b"abc")?;
+    assert_eq!(rt; cmp(&short, &long, &mut nothing()), Ok(-1));
+    let left = leaf(alloc, b"abcx")?;
+    let right = leaf(alloc, b"zabcy")?;
+    assert_eq!(rt; ncmp(&left, 0, &right, 1, 3, &mut nothing()), Ok(0));
+    assert_eq!(rt; ncmp(&left, 0, &right, 1, 4, &mut nothing()), Ok(-1));
+    Ok(())
+}
+
+#[test]
+fn rows_of_chr(rt: HostRuntime) -> Result<(), Fail> {
+    let cord = leaf(rt.alloc(), b"hello")?;
+    if cord.len() == 5 {
+        assert_eq!(rt; rchr(&cord, 4, 108, &mut nothing()), Ok(Some(3)));
+        assert_eq!(rt; chr(&cord, 0, 108, &mut nothing()), Ok(Some(2)));
+        assert_eq!(rt; chr(&cord, 0, 122, &mut nothing()), Ok(None));
+        assert_eq!(rt; fetch(&cord, 4, &mut nothing()), Ok(111));
+    }
+    Ok(())
+}
+
+#[test]
+fn a_read_fails_in_the_middle(rt: HostRuntime) -> Result<(), Fail> {
+    let alloc = rt.alloc();
+    let cord = entry_cord(alloc)?;
+    let pattern = leaf(alloc, b"xy")?;
+    let mut source = six_hundred(1);
+    assert_eq!(rt;
+        str(&cord, 0, &pattern, &mut source),
+        Err(CordError::ReadFailed)
+    );
+    assert_eq!(rt; source.failures(), 1);
+    let mut source = six_hundred(2);
+    assert_eq!(rt; cmp(&cord, &cord, &mut source), Err(CordError::ReadFailed));
+    if cord.len() == 600 {
+        let mut source = six_hundred(2);
+        assert_eq!(rt; chr(&cord, 0, 121, &mut source), Ok(None));
+        let mut source = six_hundred(1);
+        assert_eq!(rt;
+            rchr(&cord, 599, 121, &mut source),
+            Err(CordError::ReadFailed)
+        );
+        let mut source = six_hundred(0);
+        assert_eq!(rt; fetch(&cord, 599, &mut source), Err(CordError::ReadFailed));
+        assert_eq!(rt; source.failures(), 1);
+    }
+    Ok(())
+}
