@@ -62,9 +62,9 @@ figures_before r n b v start bytes all base shown some within room h =
       room = rw base (omega arith);
     }
 
--- a number above 0 has a digit
-pub digits_some : (r : Radix) (n : ℕ) → 0 < n → 0 < length (digits_of (base_of r) n)
-digits_some r n some = let least = base_least r in omega (arith, length-digits_of_step (base_of r) n (omega arith) some)
+-- a number above 0 has one digit more than what is left without its last
+pub digits_shorter : (r : Radix) (n : ℕ) → 0 < n → length (digits_of (base_of r) n) ≡ length (digits_of (base_of r) (n / base_of r)) + 1
+digits_shorter r n some = let least = base_least r in length-digits_of_step (base_of r) n (omega arith) some
 
 -- the digits of a number write it
 pub numeral : DigitsWriteNumbers

@@ -1,11 +1,11 @@
 -- What a piece shows: blanks, a sign, zeros, its body, blanks.
-use Rattle.std.specs.Prelude.{unwrap_or, ◌≡◌, ℕ, ◌-◌, Option, List, ◌++◌, length, map, replicate, take, option_to_list}
+use Rattle.std.specs.Prelude.{unwrap_or, ◌≡◌, ℕ, ◌-◌, Option, List, [], ◌∷◌, ◌++◌, length, map, replicate, take, option_to_list}
 use Rattle.cord_node.specs.Tree.{Cell, known}
 use Rattle.cord_core.specs.Cord.{text}
 use Rattle.cord_printf.specs.declared.pieces.Flags.{Flags}
 use Rattle.cord_printf.specs.declared.shown.Layout.{Layout}
 use Rattle.cord_printf.specs.declared.shown.Body.{Body}
-use Rattle.cord_printf.specs.declared.shown.Body.TheVariants.{Bytes, Short, Start}
+use Rattle.cord_printf.specs.declared.shown.Body.TheVariants.{Bytes, Byte, Digits, Start}
 use Rattle.cord_printf.specs.declared.shown.Shown.{Shown}
 use Rattle.cord_printf.specs.PieceText.{number_text}
 
@@ -24,7 +24,8 @@ IsNumberLayout flags width precision sign count layout =
 
 abbrev pub body_text : Body → List Cell
 body_text (Bytes b) = map known b.now
-body_text (Short s) = map known s
+body_text (Byte b) = known b ∷ []
+body_text (Digits d) = map known d
 body_text (Start c len) = take len (text c.now)
 
 -- the cells that are shown

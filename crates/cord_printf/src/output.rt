@@ -1,126 +1,222 @@
 // What pieces show, added to a text that grows. Each addition fits, so it is refused for want of memory alone.
-ghost use Rattle.std.specs.Prelude.{◌≡◌, ◌+◌, ◌≤◌, ◌++◌, IfOk, IsOkUnless, length, option_to_list, map, replicate, take};
+ghost use Rattle.std.specs.Prelude.{◌≡◌, ◌+◌, ◌≤◌, [], ◌++◌, IfOk, IsOkUnless, length, option_to_list, map, replicate, take};
 ghost use Rattle.cord_node.specs.Tree.{known};
-ghost use Rattle.cord_core.specs.Cord.{text as text_of, text_len};
+ghost use Rattle.cord_core.specs.Cord.{text as text_of, IsCord};
+ghost use Rattle.cord_ec.specs.Grown.{IsCordOf};
 ghost use Rattle.cord_printf.specs.Shown.{body_text, front_of, shown_text};
 
 use crate::PrintError;
 use crate::shown::{Body, Layout, Shown};
+use arrayvec::ArrayVec;
 use cord_core::Cord;
 use cord_ec::ExtCord;
 use cord_io::MAX_LEN;
 use std::alloc::Global;
+use std::marker::Model;
+
+// So many bytes are gathered, at most, before they go into the extensible cord together.
+const MOST_GATHERED: usize = 256;
 
 // A longer run than this is one node.
 const SHORT_RUN: usize = 64;
 
-fn add_bytes(alloc: Global, text: &mut ExtCord, bytes: &[u8]) -> Result<(), PrintError>
-    requires fits { length text.old + length bytes.now ≤ MAX_LEN }
-    ensures text { IfOk result (λ _. text.new ≡ text.old ++ map known bytes.now) }
-    ensures refused { IsOkUnless result PrintError.NoMemory }
-{
-    match text.append_bytes(alloc, bytes) {
-        Ok(()) => Ok(()),
-        Err(_) => Err(PrintError::NoMemory),
-    }
+/// A text that grows at its end: an extensible cord, and the bytes behind it that are gathered without memory.
+#[derive(Drop)]
+pub struct Output {
+    grown: ExtCord,
+    gathered: ArrayVec<u8, MOST_GATHERED>,
 }
 
-fn add_cord(alloc: Global, text: &mut ExtCord, cord: &Cord) -> Result<(), PrintError>
-    requires fits { length text.old + length (text_of cord.now) ≤ MAX_LEN }
-    ensures text { IfOk result (λ _. text.new ≡ text.old ++ text_of cord.now) }
-    ensures refused { IsOkUnless result PrintError.NoMemory }
-{
-    match text.append_cord(alloc, cord) {
-        Ok(()) => Ok(()),
-        Err(_) => Err(PrintError::NoMemory),
-    }
+impl Model for Output {
+    ghost use Rattle.std.specs.Prelude.{List, ◌++◌, map};
+    ghost use Rattle.std.specs.Coded.{coded_list};
+    ghost use Rattle.cord_node.specs.Tree.{Cell, known};
+    ghost use Rattle.cord_ec.specs.Cells.{coded_cell};
+
+    ghost Value = { List Cell };
+
+    ghost coded = { coded_list coded_cell };
+
+    ghost view = { λ o. o.grown ++ map known o.gathered.items };
 }
 
-// So many copies of a byte: a long run is shared, not written out.
-fn add_run(alloc: Global, text: &mut ExtCord, byte: u8, count: u32) -> Result<(), PrintError>
-    requires fits { length text.old + count ≤ MAX_LEN }
-    ensures text { IfOk result (λ _. text.new ≡ text.old ++ replicate count (known byte)) }
-    ensures refused { IsOkUnless result PrintError.NoMemory }
-{
-    let run = [byte; SHORT_RUN];
-    if count as usize <= SHORT_RUN {
-        let (bytes, _) = run.split_at(count as usize);
-        add_bytes(alloc, text, bytes)?;
-        return Ok(());
+impl Output {
+    /// The text of no bytes.
+    pub fn new(alloc: Global) -> Result<Output, PrintError>
+        ensures text { IfOk result (λ made. made ≡ []) }
+        ensures refused { IsOkUnless result PrintError.NoMemory }
+    {
+        match ExtCord::new(alloc) {
+            Err(_) => Err(PrintError::NoMemory),
+            Ok(grown) => Ok(Output {
+                grown,
+                gathered: ArrayVec::new(),
+            }),
+        }
     }
-    match Cord::chars(alloc, byte, u64::from(count)) {
-        Err(_) => Err(PrintError::NoMemory),
-        Ok(run) => {
-            add_cord(alloc, text, &run)?;
-            Ok(())
+
+    /// Adds what a piece shows.
+    pub fn add_shown(&mut self, alloc: Global, shown: &Shown<'_>) -> Result<(), PrintError>
+        requires fits { length self.old + length (shown_text shown.now) ≤ MAX_LEN }
+        ensures text { IfOk result (λ _. self.new ≡ self.old ++ shown_text shown.now) }
+        ensures refused { IsOkUnless result PrintError.NoMemory }
+    {
+        self.add_front(alloc, shown.layout)?;
+        self.add_body(alloc, &shown.body)?;
+        self.add_run(alloc, b' ', shown.layout.after)?;
+        Ok(())
+    }
+
+    /// The text as a cord.
+    pub fn to_cord(&mut self, alloc: Global) -> Result<Cord, PrintError>
+        requires fits { length self.old ≤ MAX_LEN }
+        ensures text { IfOk result (λ c. text_of c ≡ self.old) }
+        ensures over { IfOk result (IsCordOf self.old) }
+        ensures sound { IfOk result IsCord }
+        ensures refused { IsOkUnless result PrintError.NoMemory }
+    {
+        put_in(alloc, &mut self.grown, &mut self.gathered)?;
+        match self.grown.to_cord(alloc) {
+            Ok(cord) => Ok(cord),
+            Err(_) => Err(PrintError::NoMemory),
+        }
+    }
+
+    // The blanks, the sign and the zeros in front of a body.
+    fn add_front(&mut self, alloc: Global, layout: Layout) -> Result<(), PrintError>
+        requires fits { length self.old + length (front_of layout) ≤ MAX_LEN }
+        ensures text { IfOk result (λ _. self.new ≡ self.old ++ map known (front_of layout)) }
+        ensures refused { IsOkUnless result PrintError.NoMemory }
+    {
+        self.add_run(alloc, b' ', layout.before)?;
+        self.add_sign(alloc, layout.sign)?;
+        self.add_run(alloc, b'0', layout.zeros)?;
+        Ok(())
+    }
+
+    fn add_sign(&mut self, alloc: Global, sign: Option<u8>) -> Result<(), PrintError>
+        requires fits { length self.old + length (option_to_list sign) ≤ MAX_LEN }
+        ensures text { IfOk result (λ _. self.new ≡ self.old ++ map known (option_to_list sign)) }
+        ensures refused { IsOkUnless result PrintError.NoMemory }
+    {
+        let Some(sign) = sign else {
+            return Ok(());
+        };
+        self.add_bytes(alloc, &[sign])?;
+        Ok(())
+    }
+
+    fn add_body(&mut self, alloc: Global, body: &Body<'_>) -> Result<(), PrintError>
+        requires fits { length self.old + length (body_text body.now) ≤ MAX_LEN }
+        ensures text { IfOk result (λ _. self.new ≡ self.old ++ body_text body.now) }
+        ensures refused { IsOkUnless result PrintError.NoMemory }
+    {
+        match body {
+            Body::Bytes(bytes) => self.add_bytes(alloc, bytes)?,
+            Body::Byte(byte) => self.add_bytes(alloc, &[*byte])?,
+            Body::Digits(digits) => self.add_bytes(alloc, digits.text().as_slice())?,
+            Body::Start(cord, len) => self.add_start(alloc, cord, *len)?,
+        }
+        Ok(())
+    }
+
+    // So many copies of a byte, mostly none.
+    #[inline(always)]
+    fn add_run(&mut self, alloc: Global, byte: u8, count: u32) -> Result<(), PrintError>
+        requires fits { length self.old + count ≤ MAX_LEN }
+        ensures text { IfOk result (λ _. self.new ≡ self.old ++ replicate count (known byte)) }
+        ensures refused { IsOkUnless result PrintError.NoMemory }
+    {
+        if count > 0 {
+            self.add_copies(alloc, byte, count)?;
+        }
+        Ok(())
+    }
+
+    // A long run is shared, not written out.
+    fn add_copies(&mut self, alloc: Global, byte: u8, count: u32) -> Result<(), PrintError>
+        requires fits { length self.old + count ≤ MAX_LEN }
+        ensures text { IfOk result (λ _. self.new ≡ self.old ++ replicate count (known byte)) }
+        ensures refused { IsOkUnless result PrintError.NoMemory }
+    {
+        if count as usize <= SHORT_RUN {
+            let run = [byte; SHORT_RUN];
+            let (bytes, _) = run.split_at(count as usize);
+            self.add_bytes(alloc, bytes)?;
+            return Ok(());
+        }
+        match Cord::chars(alloc, byte, u64::from(count)) {
+            Err(_) => Err(PrintError::NoMemory),
+            Ok(run) => {
+                self.add_cord(alloc, &run)?;
+                Ok(())
+            }
+        }
+    }
+
+    // The first bytes of a cord, which shares its tree.
+    fn add_start(&mut self, alloc: Global, cord: &Cord, len: u64) -> Result<(), PrintError>
+        requires fits { length self.old + length (take len (text_of cord.now)) ≤ MAX_LEN }
+        ensures text { IfOk result (λ _. self.new ≡ self.old ++ take len (text_of cord.now)) }
+        ensures refused { IsOkUnless result PrintError.NoMemory }
+    {
+        if cord.len() <= len {
+            self.add_cord(alloc, cord)?;
+            return Ok(());
+        }
+        match cord.substr(alloc, 0, len) {
+            Err(_) => Err(PrintError::NoMemory),
+            Ok(start) => {
+                self.add_cord(alloc, &start)?;
+                Ok(())
+            }
+        }
+    }
+
+    fn add_bytes(&mut self, alloc: Global, bytes: &[u8]) -> Result<(), PrintError>
+        requires fits { length self.old + length bytes.now ≤ MAX_LEN }
+        ensures text { IfOk result (λ _. self.new ≡ self.old ++ map known bytes.now) }
+        ensures refused { IsOkUnless result PrintError.NoMemory }
+    {
+        if self.gathered.try_extend_from_slice(bytes).is_ok() {
+            return Ok(());
+        }
+        put_in(alloc, &mut self.grown, &mut self.gathered)?;
+        match self.grown.append_bytes(alloc, bytes) {
+            Ok(()) => Ok(()),
+            Err(_) => Err(PrintError::NoMemory),
+        }
+    }
+
+    fn add_cord(&mut self, alloc: Global, cord: &Cord) -> Result<(), PrintError>
+        requires fits { length self.old + length (text_of cord.now) ≤ MAX_LEN }
+        ensures text { IfOk result (λ _. self.new ≡ self.old ++ text_of cord.now) }
+        ensures refused { IsOkUnless result PrintError.NoMemory }
+    {
+        put_in(alloc, &mut self.grown, &mut self.gathered)?;
+        match self.grown.append_cord(alloc, cord) {
+            Ok(()) => Ok(()),
+            Err(_) => Err(PrintError::NoMemory),
         }
     }
 }
 
-// The first bytes of a cord, which shares its tree.
-fn add_start(alloc: Global, text: &mut ExtCord, cord: &Cord, len: u64) -> Result<(), PrintError>
-    requires fits { length text.old + length (take len (text_of cord.now)) ≤ MAX_LEN }
-    ensures text { IfOk result (λ _. text.new ≡ text.old ++ take len (text_of cord.now)) }
+// Puts the gathered bytes into the extensible cord.
+fn put_in(
+    alloc: Global,
+    grown: &mut ExtCord,
+    gathered: &mut ArrayVec<u8, MOST_GATHERED>,
+) -> Result<(), PrintError>
+    requires fits { length grown.old + length gathered.old.items ≤ MAX_LEN }
+    ensures text { IfOk result (λ _. grown.new ≡ grown.old ++ map known gathered.old.items) }
+    ensures emptied { IfOk result (λ _. gathered.new.items ≡ []) }
     ensures refused { IsOkUnless result PrintError.NoMemory }
 {
-    if cord.len() <= len {
-        add_cord(alloc, text, cord)?;
-        return Ok(());
-    }
-    match cord.substr(alloc, 0, len) {
+    match grown.append_bytes(alloc, gathered.as_slice()) {
         Err(_) => Err(PrintError::NoMemory),
-        Ok(start) => {
-            add_cord(alloc, text, &start)?;
+        Ok(()) => {
+            gathered.clear();
             Ok(())
         }
     }
-}
-
-fn add_body(alloc: Global, text: &mut ExtCord, body: &Body<'_>) -> Result<(), PrintError>
-    requires fits { length text.old + length (body_text body.now) ≤ MAX_LEN }
-    ensures text { IfOk result (λ _. text.new ≡ text.old ++ body_text body.now) }
-    ensures refused { IsOkUnless result PrintError.NoMemory }
-{
-    match body {
-        Body::Bytes(bytes) => add_bytes(alloc, text, bytes)?,
-        Body::Short(short) => add_bytes(alloc, text, short.as_slice())?,
-        Body::Start(cord, len) => add_start(alloc, text, cord, *len)?,
-    }
-    Ok(())
-}
-
-fn add_sign(alloc: Global, text: &mut ExtCord, sign: Option<u8>) -> Result<(), PrintError>
-    requires fits { length text.old + length (option_to_list sign) ≤ MAX_LEN }
-    ensures text { IfOk result (λ _. text.new ≡ text.old ++ map known (option_to_list sign)) }
-    ensures refused { IsOkUnless result PrintError.NoMemory }
-{
-    let Some(sign) = sign else {
-        return Ok(());
-    };
-    add_bytes(alloc, text, &[sign])?;
-    Ok(())
-}
-
-// The blanks, the sign and the zeros in front of a body.
-fn add_front(alloc: Global, text: &mut ExtCord, layout: Layout) -> Result<(), PrintError>
-    requires fits { length text.old + length (front_of layout) ≤ MAX_LEN }
-    ensures text { IfOk result (λ _. text.new ≡ text.old ++ map known (front_of layout)) }
-    ensures refused { IsOkUnless result PrintError.NoMemory }
-{
-    add_run(alloc, text, b' ', layout.before)?;
-    add_sign(alloc, text, layout.sign)?;
-    add_run(alloc, text, b'0', layout.zeros)?;
-    Ok(())
-}
-
-/// Adds what a piece shows.
-pub fn add_shown(alloc: Global, text: &mut ExtCord, shown: &Shown<'_>) -> Result<(), PrintError>
-    requires fits { length text.old + length (shown_text shown.now) ≤ MAX_LEN }
-    ensures text { IfOk result (λ _. text.new ≡ text.old ++ shown_text shown.now) }
-    ensures refused { IsOkUnless result PrintError.NoMemory }
-{
-    add_front(alloc, text, shown.layout)?;
-    add_body(alloc, text, &shown.body)?;
-    add_run(alloc, text, b' ', shown.layout.after)?;
-    Ok(())
 }

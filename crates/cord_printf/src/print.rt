@@ -1,18 +1,16 @@
 // Prints.
-ghost use Rattle.std.specs.Prelude.{◌≡◌, ◌≢◌, ◌≤◌, [], length, IfOk, IfErr, IsOkUnless};
+ghost use Rattle.std.specs.Prelude.{◌≡◌, ◌≢◌, ◌≤◌, length, IfOk, IfErr};
 ghost use Rattle.cord_node.specs.Tree.{known};
 ghost use Rattle.cord_core.specs.Cord.{text, IsCord};
 ghost use Rattle.cord_printf.specs.PieceText.{printed, first_refusal};
-ghost use Rattle.cord_ec.specs.Grown.{IsCordOf};
 ghost use Rattle.cord_printf.specs.Over.{IsPrintOf};
 ghost use Rattle.cord_printf.specs.Printing.{arguments_of, IsPrintable, IsRefusedFor};
 
 use crate::arguments::{are_wanted, next_argument};
-use crate::output::add_shown;
+use crate::output::Output;
 use crate::shown::show;
 use crate::{Arg, Format, PrintError};
 use cord_core::Cord;
-use cord_ec::ExtCord;
 use cord_io::MAX_LEN;
 use std::alloc::Global;
 
@@ -56,37 +54,15 @@ pub fn sprintf(alloc: Global, format: &Format, args: &[Arg]) -> Result<Cord, Pri
     ensures refused { IfErr result (λ e. e ≢ PrintError.NoMemory → IsRefusedFor MAX_LEN format.now (arguments_of args.now) e) }
 {
     sprintf_len(format, args)?;
-    let mut grown = new_text(alloc)?;
+    let mut output = Output::new(alloc)?;
     let mut rest = args;
     for piece in format.pieces() {
         let place = (args.len() - rest.len()) as u64;
         let (argument, others) = next_argument(piece, rest);
         let shown = show(place, piece, argument)?;
-        add_shown(alloc, &mut grown, &shown)?;
+        output.add_shown(alloc, &shown)?;
         rest = others;
     }
-    let cord = finish(alloc, grown)?;
+    let cord = output.to_cord(alloc)?;
     Ok(cord)
-}
-
-fn new_text(alloc: Global) -> Result<ExtCord, PrintError>
-    ensures text { IfOk result (λ grown. grown ≡ []) }
-    ensures refused { IsOkUnless result PrintError.NoMemory }
-{
-    match ExtCord::new(alloc) {
-        Ok(grown) => Ok(grown),
-        Err(_) => Err(PrintError::NoMemory),
-    }
-}
-
-fn finish(alloc: Global, mut grown: ExtCord) -> Result<Cord, PrintError>
-    ensures text { IfOk result (λ c. text c ≡ grown) }
-    ensures over { IfOk result (IsCordOf grown) }
-    ensures sound { IfOk result IsCord }
-    ensures refused { IsOkUnless result PrintError.NoMemory }
-{
-    match grown.to_cord(alloc) {
-        Ok(cord) => Ok(cord),
-        Err(_) => Err(PrintError::NoMemory),
-    }
 }

@@ -1,12 +1,12 @@
 // What a piece shows.
 ghost use Rattle.std.specs.Prelude.{◌≡◌, ◌≤◌, ◌-◌, ◌^◌, min, ◌&&◌, not, is_none, if◌then◌else◌, [], ◌∷◌, map, take, None, length, option_map, option_to_list, IfOk, IfErr, Some};
-ghost use Rattle.cord_printf.specs.PieceText.{piece_text, refusal, sign_of, number_text, digits_in, padded, cut};
+ghost use Rattle.cord_printf.specs.PieceText.{PieceArgument, piece_text, refusal, sign_of, number_text, digits_in, padded, cut};
 ghost use Rattle.cord_printf.specs.Printing.{argument_of};
 ghost use Rattle.cord_printf.specs.Shown.{IsNumberLayout, body_text, shown_text};
-ghost use Rattle.cord_node.specs.Tree.{known};
+ghost use Rattle.cord_node.specs.Tree.{Cell, known};
 ghost use Rattle.cord_core.specs.Cord.{text};
 
-use crate::digits::ShortText;
+use crate::digits::Digits;
 use crate::{Arg, Flags, Piece, PrintError, Radix};
 use cord_core::Cord;
 
@@ -23,7 +23,8 @@ pub struct Layout {
 #[derive(Drop)]
 pub enum Body<'a> {
     Bytes(&'a [u8]),
-    Short(ShortText),
+    Byte(u8),
+    Digits(Digits),
     /// The first bytes of a cord, as many as the number says.
     Start(&'a Cord, u64),
 }
@@ -37,6 +38,7 @@ pub struct Shown<'a> {
 
 impl Layout {
     // Blanks up to the width for a body of this length.
+    #[inline(always)]
     fn padding(left: bool, width: u16, len: u64) -> Layout
         ensures before { result.before ≡ (if left then 0 else width - len) }
         ensures after { result.after ≡ (if left then width - len else 0) }
@@ -53,6 +55,7 @@ impl Layout {
     }
 
     // The layout of a number with so many digits of its own.
+    #[inline(always)]
     fn number(
         flags: Flags,
         width: u16,
@@ -113,7 +116,8 @@ fn sign(plus: bool, number: i64) -> Option<u8>
 }
 
 // A number with its sign.
-fn show_number<'a>(
+#[inline(always)]
+fn show_digits<'a>(
     radix: Radix,
     flags: Flags,
     width: u16,
@@ -123,10 +127,10 @@ fn show_number<'a>(
 ) -> Shown<'a>
     ensures { shown_text result ≡ map known (number_text flags width precision (option_to_list sign) (digits_in radix precision magnitude)) }
 {
-    let digits = ShortText::digits(radix, magnitude);
+    let digits = Digits::of(radix, magnitude);
     Shown {
         layout: Layout::number(flags, width, precision, sign, digits.len()),
-        body: Body::Short(digits),
+        body: Body::Digits(digits),
     }
 }
 
@@ -136,18 +140,7 @@ fn show_byte<'a>(left: bool, width: u16, byte: u8) -> Shown<'a>
 {
     Shown {
         layout: Layout::padding(left, width, 1),
-        body: Body::Short(ShortText::of(byte)),
-    }
-}
-
-// A cord or its first bytes, with blanks up to the width.
-fn show_cord(left: bool, width: u16, precision: Option<u16>, cord: &Cord) -> Shown<'_>
-    ensures { shown_text result ≡ padded (known 32) left width (cut precision (text cord.now)) }
-{
-    let len = cut_len(precision, cord);
-    Shown {
-        layout: Layout::padding(left, width, len),
-        body: Body::Start(cord, len),
+        body: Body::Byte(byte),
     }
 }
 
@@ -162,6 +155,17 @@ fn cut_len(precision: Option<u16>, cord: &Cord) -> u64
     }
 }
 
+// A cord or its first bytes, with blanks up to the width.
+fn show_start(left: bool, width: u16, precision: Option<u16>, cord: &Cord) -> Shown<'_>
+    ensures { shown_text result ≡ padded (known 32) left width (cut precision (text cord.now)) }
+{
+    let len = cut_len(precision, cord);
+    Shown {
+        layout: Layout::padding(left, width, len),
+        body: Body::Start(cord, len),
+    }
+}
+
 // Bytes as they are.
 fn show_bytes(bytes: &[u8]) -> Shown<'_>
     ensures { shown_text result ≡ map known bytes.now }
@@ -172,7 +176,72 @@ fn show_bytes(bytes: &[u8]) -> Shown<'_>
     }
 }
 
+// What a piece shows that takes no argument.
+#[inline(always)]
+fn show_text(piece: &Piece) -> Shown<'_>
+    ensures { shown_text result ≡ piece_text known piece.now None }
+{
+    match piece {
+        Piece::Text(text) => show_bytes(text.as_slice()),
+        Piece::Percent => show_bytes(b"%"),
+        _ => show_bytes(b""),
+    }
+}
+
+// What a piece shows with a number, the argument number `place` of the print.
+#[inline(always)]
+fn show_number(place: u64, piece: &Piece, number: i64) -> Result<Shown<'_>, PrintError>
+    ensures text { IfOk result (λ s. shown_text s ≡ piece_text known piece.now (Some (PieceArgument.number number))) }
+    ensures taken { IfOk result (λ s. refusal {A = Cell} place piece.now (Some (PieceArgument.number number)) ≡ None) }
+    ensures refused { IfErr result (λ e. refusal {A = Cell} place piece.now (Some (PieceArgument.number number)) ≡ Some e) }
+{
+    match piece {
+        Piece::Signed {
+            flags,
+            width,
+            precision,
+        } => {
+            let sign = sign(flags.plus, number);
+            let magnitude = number.unsigned_abs();
+            Ok(show_digits(Radix::Decimal, *flags, *width, *precision, sign, magnitude))
+        }
+        Piece::Unsigned {
+            radix,
+            flags,
+            width,
+            precision,
+        } => {
+            if number < 0 {
+                return Err(PrintError::Negative(place));
+            }
+            let magnitude = number.unsigned_abs();
+            Ok(show_digits(*radix, *flags, *width, *precision, None, magnitude))
+        }
+        Piece::Byte { flags, width } => match u8::try_from(number) {
+            Ok(byte) => Ok(show_byte(flags.left, *width, byte)),
+            Err(_) => Err(PrintError::BadByte(place)),
+        },
+        _ => Ok(show_text(piece)),
+    }
+}
+
+// What a piece shows with a cord.
+#[inline(always)]
+fn show_cord<'a>(piece: &'a Piece, cord: &'a Cord) -> Shown<'a>
+    ensures { shown_text result ≡ piece_text known piece.now (Some (PieceArgument.text (text cord.now))) }
+{
+    match piece {
+        Piece::Cord {
+            flags,
+            width,
+            precision,
+        } => show_start(flags.left, *width, *precision, cord),
+        _ => show_text(piece),
+    }
+}
+
 /// What a piece shows with its argument, which is the argument number `place` of the print.
+#[inline(always)]
 pub fn show<'a>(
     place: u64,
     piece: &'a Piece,
@@ -182,63 +251,16 @@ pub fn show<'a>(
     ensures taken { IfOk result (λ s. refusal place piece.now (option_map (λ a. argument_of a.now) argument.entry) ≡ None) }
     ensures refused { IfErr result (λ e. refusal place piece.now (option_map (λ a. argument_of a.now) argument.entry) ≡ Some e) }
 {
-    match (piece, argument) {
-        (Piece::Text(text), _) => Ok(show_bytes(text.as_slice())),
-        (Piece::Percent, _) => Ok(show_bytes(b"%")),
-        (
-            Piece::Signed {
-                flags,
-                width,
-                precision,
-            },
-            Some(Arg::Num(number)),
-        ) => Ok(show_number(
-            Radix::Decimal,
-            *flags,
-            *width,
-            *precision,
-            sign(flags.plus, *number),
-            number.unsigned_abs(),
-        )),
-        (
-            Piece::Unsigned {
-                radix,
-                flags,
-                width,
-                precision,
-            },
-            Some(Arg::Num(number)),
-        ) => {
-            if *number < 0 {
-                return Err(PrintError::Negative(place));
-            }
-            Ok(show_number(
-                *radix,
-                *flags,
-                *width,
-                *precision,
-                None,
-                number.unsigned_abs(),
-            ))
-        }
-        (Piece::Byte { flags, width }, Some(Arg::Num(number))) => match u8::try_from(*number) {
-            Ok(byte) => Ok(show_byte(flags.left, *width, byte)),
-            Err(_) => Err(PrintError::BadByte(place)),
-        },
-        (
-            Piece::Cord {
-                flags,
-                width,
-                precision,
-            },
-            Some(Arg::Cord(cord)),
-        ) => Ok(show_cord(flags.left, *width, *precision, cord)),
-        _ => Ok(show_bytes(b"")),
+    match argument {
+        None => Ok(show_text(piece)),
+        Some(Arg::Num(number)) => show_number(place, piece, *number),
+        Some(Arg::Cord(cord)) => Ok(show_cord(piece, cord)),
     }
 }
 
 impl Shown<'_> {
     /// How many bytes are shown, or `u64::MAX` where they are more.
+    #[inline(always)]
     pub fn len(&self) -> u64
         ensures { result ≡ min (length (shown_text self.now)) (2 ^ 64 - 1) }
     {
@@ -254,12 +276,14 @@ impl Shown<'_> {
 }
 
 impl Body<'_> {
+    #[inline(always)]
     fn len(&self) -> u64
         ensures { result ≡ length (body_text self.now) }
     {
         match self {
             Body::Bytes(bytes) => bytes.len() as u64,
-            Body::Short(text) => u64::from(text.len()),
+            Body::Byte(_) => 1,
+            Body::Digits(digits) => u64::from(digits.len()),
             Body::Start(cord, len) => cord.len().min(*len),
         }
     }

@@ -377,31 +377,58 @@ fn prints_share_their_cords(rt: HostRuntime) -> Result<(), Fail> {
     Ok(())
 }
 
+// Bytes are gathered up to 256: the places around that number, and a text that is longer by itself.
 #[test]
-fn pieces_of_a_format(rt: HostRuntime) -> Result<(), Fail> {
+fn long_lines_print_as_in_c(rt: HostRuntime) -> Result<(), Fail> {
     let alloc = rt.alloc();
-    let format = Format::parse(alloc, b"ab%%c%-07.3lld%X%5c%.s")?;
-    let [
-        Piece::Text(first),
-        Piece::Percent,
-        Piece::Text(second),
-        signed,
-        hex,
-        byte,
-        cord,
-    ] = format.pieces()
-    else {
-        panic!(rt; "no text");
+    let mut format = Vec::new(alloc);
+    let mut args = Vec::new(alloc);
+    let mut want = Vec::new(alloc);
+    for _ in 0..30 {
+        format.extend_from_slice(b"%20d|")?;
+        args.push(Arg::Num(-7))?;
+        want.extend_from_slice(b"                  -7|")?;
+    }
+    assert!(rt; printed(alloc, &format, &args)?.as_deref() == Some(want.as_slice()));
+    let text = Vec::from_elem(alloc, 97, 300)?;
+    let mut format = Vec::from_slice(alloc, b"%05d")?;
+    format.extend_from_slice(&text)?;
+    format.extend_from_slice(b"%x")?;
+    let mut want = Vec::from_slice(alloc, b"00042")?;
+    want.extend_from_slice(&text)?;
+    want.extend_from_slice(b"2a")?;
+    let shown = printed(alloc, &format, &[Arg::Num(42), Arg::Num(42)])?;
+    assert!(rt; shown.as_deref() == Some(want.as_slice()));
+    Ok(())
+}
+
+#[test]
+fn texts_of_a_format(rt: HostRuntime) -> Result<(), Fail> {
+    let alloc = rt.alloc();
+    let format = Format::parse(alloc, b"ab%%c")?;
+    let [Piece::Text(first), Piece::Percent, Piece::Text(second)] = format.pieces() else {
+        panic!(rt; "other pieces");
     };
     assert!(rt; first.as_slice() == b"ab".as_slice());
     assert!(rt; second.as_slice() == b"c".as_slice());
-    let all = Flags {
+    let literal = Literal::of(Vec::from_slice(alloc, b"kept")?);
+    assert!(rt; literal.into_vec().as_slice() == b"kept".as_slice());
+    Ok(())
+}
+
+#[test]
+fn conversions_of_a_format(rt: HostRuntime) -> Result<(), Fail> {
+    let format = Format::parse(rt.alloc(), b"%-07.3lld%X%5c%.s")?;
+    let [signed, hex, byte, cord] = format.pieces() else {
+        panic!(rt; "other pieces");
+    };
+    let marked = Flags {
         left: true,
         zero: true,
         plus: false,
     };
     assert!(rt;
-        matches!(signed, Piece::Signed { flags, width: 7, precision: Some(3) } if *flags == all)
+        matches!(signed, Piece::Signed { flags, width: 7, precision: Some(3) } if *flags == marked)
     );
     assert!(rt;
         matches!(
@@ -409,7 +436,6 @@ fn pieces_of_a_format(rt: HostRuntime) -> Result<(), Fail> {
             Piece::Unsigned {
                 radix: Radix::UpperHex,
                 width: 0,
-                precision: None,
                 ..
             }
         )
@@ -419,14 +445,11 @@ fn pieces_of_a_format(rt: HostRuntime) -> Result<(), Fail> {
         matches!(
             cord,
             Piece::Cord {
-                width: 0,
                 precision: Some(0),
                 ..
             }
         )
     );
     assert!(rt; signed.wants() == Some(ArgKind::Number) && cord.wants() == Some(ArgKind::Cord));
-    let literal = Literal::of(Vec::from_slice(alloc, b"kept")?);
-    assert!(rt; literal.into_vec().as_slice() == b"kept".as_slice());
     Ok(())
 }

@@ -2,7 +2,7 @@ use Rattle.std.proofs.Common.{ℕ, refl, sym, append-nil, map, arith}
 use Rattle.std.proofs.lemmas.List.{length-set}
 use Rattle.std.specs.Int.Digits.{digits_of}
 use Rattle.cord_printf.specs.PieceText.{base_of, figure}
-use Rattle.cord_printf.proofs.Figures.{digits_room, digits_some, figures_before}
+use Rattle.cord_printf.proofs.Figures.{digits_room, digits_shorter, figures_before}
 use Rattle.cord_printf.proofs.digits.in_base.Goals as goal
 
 pub digits-init : goal.digits-init
@@ -20,4 +20,4 @@ digits-preserved c =
     record { written = step.written; room = step.room; within = omega (arith, length-set {A = ℕ}); size = omega (arith, length-set {A = ℕ}, c.digits.invariant.size) }
 
 pub overflow_sub-start : goal.overflow_sub-start
-overflow_sub-start c = omega (arith, digits_some c.args.radix c.digits.rest c.digits-test.true)
+overflow_sub-start c = omega (arith, digits_shorter c.args.radix c.digits.rest c.digits-test.true)

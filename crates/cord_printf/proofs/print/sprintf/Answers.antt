@@ -18,9 +18,9 @@ loop-piece-preserved c =
     record {
       wanted_are = step.wanted_are;
       fewer = step.fewer;
-      written = ap (λ x. x ++ after) c.in_ok-add_shown.ensures.text ∙ append_assoc c.loop-piece.grown shown after ∙ ap (λ x. c.loop-piece.grown ++ x) (sym step.text) ∙ c.loop-piece.invariant.written;
+      written = ap (λ x. x ++ after) c.in_ok-add_shown.ensures.text ∙ append_assoc c.loop-piece.output shown after ∙ ap (λ x. c.loop-piece.output ++ x) (sym step.text) ∙ c.loop-piece.invariant.written;
       refused = sym step.refused ∙ c.loop-piece.invariant.refused;
     }
 
 pub returns-clause-over : goal.returns-clause-over
-returns-clause-over c = print_of c.args.format.now c.args.args.now c.loop-piece.grown c.in_ok-cord.cord c.in_ok-cord.ensures.over (all_written c.pieces-piece-items.result.now c.loop-piece.piece-index (arguments_of c.loop-piece.rest.now) c.loop-piece.grown (printed known c.args.format.now (arguments_of c.args.args.now)) c.loop-piece-test.false c.loop-piece.invariant.written)
+returns-clause-over c = print_of c.args.format.now c.args.args.now c.loop-piece.output c.in_ok-cord.cord c.in_ok-cord.ensures.over (all_written c.pieces-piece-items.result.now c.loop-piece.piece-index (arguments_of c.loop-piece.rest.now) c.loop-piece.output (printed known c.args.format.now (arguments_of c.args.args.now)) c.loop-piece-test.false c.loop-piece.invariant.written)

@@ -9,6 +9,6 @@ abbrev pub invariant-loop-piece : goal.invariant-loop-piece
 invariant-loop-piece l = record {
   wanted_are : AreWanted (drop l.piece-index l.piece-items) (arguments_of l.rest);
   fewer : length l.rest ≤ length l.args;
-  written : l.grown ++ printed known (drop l.piece-index l.piece-items) (arguments_of l.rest) ≡ printed known l.format (arguments_of l.args);
+  written : l.output ++ printed known (drop l.piece-index l.piece-items) (arguments_of l.rest) ≡ printed known l.format (arguments_of l.args);
   refused : first_refusal (length l.args - length l.rest) (drop l.piece-index l.piece-items) (arguments_of l.rest) ≡ first_refusal 0 l.format (arguments_of l.args);
 }

@@ -1,7 +1,0 @@
-use Rattle.std.proofs.Common.{◌∙◌, ◌++◌, ap, map, arith}
-use Rattle.cord_node.specs.Tree.{known}
-use Rattle.cord_printf.proofs.Layouts.{take-run}
-use Rattle.cord_printf.proofs.output.add_run.Goals as goal
-
-pub returns-then-count-le-SHORT_RUN-clause-text : goal.returns-then-count-le-SHORT_RUN-clause-text
-returns-then-count-le-SHORT_RUN-clause-text c = c.in_ok-add_bytes.ensures.text ∙ ap (λ x. c.args.text.now ++ x) (ap (map known) c.split_at.ensures.front ∙ take-run c.args.count 64 c.args.byte (omega arith))

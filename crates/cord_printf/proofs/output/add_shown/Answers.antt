@@ -1,6 +1,0 @@
-use Rattle.cord_printf.specs.Shown.{body_text}
-use Rattle.cord_printf.proofs.Layouts.{shown_added}
-use Rattle.cord_printf.proofs.output.add_shown.Goals as goal
-
-pub returns-clause-text : goal.returns-clause-text
-returns-clause-text c = shown_added c.args.shown.now.layout (body_text c.args.shown.now.body) c.args.text.now c.add_front.new.text c.add_body.new.text c.add_run.new.text c.in_ok-add_front.ensures.text c.in_ok-add_body.ensures.text c.in_ok-add_run.ensures.text
