@@ -1,3 +1,9 @@
 pub mod Flows
 pub mod Built
 pub mod Flat
+pub mod Keeps
+pub mod Values
+pub mod Does
+pub mod Operations
+pub mod Trivial
+pub mod Stays

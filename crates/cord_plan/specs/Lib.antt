@@ -5,4 +5,5 @@ pub mod Forced
 pub mod Planned
 pub mod Flat
 pub mod Shown
+pub mod Meaning
 pub mod Rows

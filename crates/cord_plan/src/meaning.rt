@@ -1,0 +1,18 @@
+// Plans keep the meaning of their scripts: each is a function that does nothing, whose contract is the law.
+ghost use Rattle.std.specs.Prelude.{◌≡◌, ℕ, List, [], map};
+ghost use Rattle.cord_io.specs.Device.{Folder};
+ghost use Rattle.cord_script.specs.declared.statements.Statement.{Statement};
+ghost use Rattle.cord_meaning.specs.Blocks.{IsNested};
+ghost use Rattle.cord_meaning.specs.Statements.{shape_of};
+ghost use Rattle.cord_meaning.specs.Simulation.{told};
+ghost use Rattle.cord_meaning.specs.Meaning.{moments_within, end_within};
+ghost use Rattle.cord_plan.specs.Planned.{trivial};
+ghost use Rattle.cord_plan.specs.Meaning.{plan_moments, plan_end, IsNeverStuck};
+
+/// The trivial plan of a script whose blocks are closed is never stuck, and has, over all files and with all limits, member by member
+/// the lines and the puts of the script, and its end.
+pub fn trivial_plans_keep_the_meaning()
+    ensures never_stuck { (limit most : ℕ) (s : List Statement) (files : Folder) → IsNested [] (map shape_of s) → IsNeverStuck limit most (trivial s) files }
+    ensures members { (limit most : ℕ) (s : List Statement) (files : Folder) → IsNested [] (map shape_of s) → map told (plan_moments limit most (trivial s) files) ≡ map told (moments_within limit most s files) }
+    ensures end { (limit most : ℕ) (s : List Statement) (files : Folder) → IsNested [] (map shape_of s) → plan_end limit most (trivial s) files ≡ end_within limit most s files }
+{}
