@@ -14,7 +14,7 @@ use Rattle.cord_plan.specs.Planned.{Made, Build, Measure, Write, Keep}
 use Rattle.cord_plan.specs.Exprs.{Expr}
 use Rattle.cord_plan.specs.Meaning.{Text, Long, Holding, length_of, plain, gets, all_texts, cords, texts_to_build, texts_to_measure, value, made_text, made_extent, builds, measures, keeps, does, if_all}
 use Rattle.cord_plan.proofs.Keeps.{IsKept, Agrees, with_texts, kept_same}
-use Rattle.cord_plan.proofs.Values.{long}
+use Rattle.cord_plan.proofs.Evaluation.{long}
 
 module _ (limit : ℕ) (files : Folder) (Related : State → Option Holding → Type 0) (s : State) (h : Holding) where
   module _ (z : List ℕ) (line : ℕ) (made : Made) (r : Result (List ℕ) FaultKind) where
@@ -63,17 +63,10 @@ module _ (limit : ℕ) (files : Folder) (Related : State → Option Holding → 
   abbrev pub with_others : State → Holding
   with_others u = record h { numbers = u.numbers; extensibles = u.extensibles }
 
-  module _ (numbers : h.numbers ≡ s.numbers) (extensibles : h.extensibles ≡ s.extensibles) (related : (u : State) → u.texts ≡ s.texts → Related u (Some (with_others u))) where
-    -- what `len` tells is the length
-    pub len_agrees : (line : ℕ) (target x : List ℕ) → length_of (h.held x) ≡ length (s.texts x) → Agree Related (act limit files (Len line target x) s) (does limit files (Keep (Len line target x)) h)
-    len_agrees line target x e =
-        let u : State = record s { numbers = with_value s.numbers target (pos (length (s.texts x))) } in
-        let same : with_others u ≡ record h { numbers = with_value h.numbers target (pos (length_of (h.held x))) } = λ i. record h { numbers = with_value (sym numbers i) target (pos (sym e i)); extensibles = sym extensibles i } in
-        (refl, subst (λ (k : Holding). Related u (Some k)) same (related u refl))
-
+  module _ (l : Statement) (numbers : h.numbers ≡ s.numbers) (extensibles : h.extensibles ≡ s.extensibles) (related : (u : State) (puts : List ℕ) → act limit files l s ≡ Ok (u, puts) → u.texts ≡ s.texts → Related u (Some (with_others u))) where
     -- the outcome of a statement that makes no cord, by the outcome over plain texts
-    outcome_agrees : (r : Outcome) → r ≡ with_texts s.texts r → Agree Related r (and_then (with_texts (plain h).texts r) (λ r. Ok (Some (with_others r.0), r.1)))
-    outcome_agrees (Ok r) e = (refl, related r.0 (texts_of r.0 e))
+    outcome_agrees : (r : Outcome) → act limit files l s ≡ r → r ≡ with_texts s.texts r → Agree Related r (and_then (with_texts (plain h).texts r) (λ r. Ok (Some (with_others r.0), r.1)))
+    outcome_agrees (Ok r) is e = (refl, related r.0 r.1 is (texts_of r.0 e))
       where
         texts_in : Outcome → List ℕ → List ℕ
         texts_in (Ok w) = w.0.texts
@@ -81,18 +74,18 @@ module _ (limit : ℕ) (files : Folder) (Related : State → Option Holding → 
 
         texts_of : (u : State) → Ok (r.0, r.1) ≡ with_texts s.texts (Ok (r.0, r.1)) → r.0.texts ≡ s.texts
         texts_of u q = ap texts_in q
-    outcome_agrees (Err kind) e = refl
+    outcome_agrees (Err kind) is e = refl
 
     all_same : (t : List ℕ → List ℕ) (xs : List (List ℕ)) → Agrees t t xs
     all_same t [] = tt
     all_same t (x ∷ xs) = (refl, all_same t xs)
 
     -- a statement that makes no cord, where the texts that it reads are there
-    pub kept_agrees : (l : Statement) → IsKept l → all_texts h (read_by l) ≡ true → Agrees (plain h).texts s.texts (read_by l) → Agree Related (act limit files l s) (keeps limit files l h)
-    kept_agrees l k there same =
+    pub kept_agrees : IsKept l → all_texts h (read_by l) ≡ true → Agrees (plain h).texts s.texts (read_by l) → Agree Related (act limit files l s) (keeps limit files l h)
+    kept_agrees k there same =
         let is_plain : plain h ≡ record s { texts = (plain h).texts } = λ i. record { texts = (plain h).texts; numbers = numbers i; extensibles = extensibles i } in
         let does_same : act limit files l (plain h) ≡ with_texts (plain h).texts (act limit files l s) = ap (λ (u : State). act limit files l u) is_plain ∙ kept_same (plain h).texts s limit files l k same in
-        let one : Agree Related (act limit files l s) (and_then (with_texts (plain h).texts (act limit files l s)) (λ r. Ok (Some (with_others r.0), r.1))) = outcome_agrees (act limit files l s) (kept_same s.texts s limit files l k (all_same s.texts (read_by l))) in
+        let one : Agree Related (act limit files l s) (and_then (with_texts (plain h).texts (act limit files l s)) (λ r. Ok (Some (with_others r.0), r.1))) = outcome_agrees (act limit files l s) refl (kept_same s.texts s limit files l k (all_same s.texts (read_by l))) in
         let two : Agree Related (act limit files l s) (and_then (act limit files l (plain h)) (λ r. Ok (Some (with_others r.0), r.1))) = subst (λ (w : Outcome). Agree Related (act limit files l s) (and_then w (λ r. Ok (Some (with_others r.0), r.1)))) (sym does_same) one in
         by_kept l k (subst (λ (v : Bool). Agree Related (act limit files l s) (if_all v (and_then (act limit files l (plain h)) (λ r. Ok (Some (with_others r.0), r.1))))) (sym there) two)
       where
@@ -114,3 +107,12 @@ module _ (limit : ℕ) (files : Folder) (Related : State → Option Holding → 
         by_kept (Sprintf line target text format arguments) k g = g
         by_kept (Put line operand) k g = g
         by_kept l k g = g
+
+  -- what `len` tells is the length
+  pub len_agrees : (line : ℕ) (target x : List ℕ) → h.numbers ≡ s.numbers → h.extensibles ≡ s.extensibles
+      → ((u : State) (puts : List ℕ) → act limit files (Len line target x) s ≡ Ok (u, puts) → u.texts ≡ s.texts → Related u (Some (with_others u)))
+      → length_of (h.held x) ≡ length (s.texts x) → Agree Related (act limit files (Len line target x) s) (does limit files (Keep (Len line target x)) h)
+  len_agrees line target x numbers extensibles related e =
+      let u : State = record s { numbers = with_value s.numbers target (pos (length (s.texts x))) } in
+      let same : with_others u ≡ record h { numbers = with_value h.numbers target (pos (length_of (h.held x))) } = λ i. record h { numbers = with_value (sym numbers i) target (pos (sym e i)); extensibles = sym extensibles i } in
+      (refl, subst (λ (k : Holding). Related u (Some k)) same (related u [] refl refl))

@@ -2,8 +2,12 @@ pub mod Flows
 pub mod Built
 pub mod Flat
 pub mod Keeps
-pub mod Values
+pub mod Evaluation
 pub mod Does
 pub mod Operations
 pub mod Trivial
 pub mod Stays
+pub mod Barriers
+pub mod Keeping
+pub mod Decided
+pub mod Beside

@@ -8,7 +8,7 @@ use Rattle.cord_meaning.specs.Statements.{shape_of, line_of, count_of, holds_of,
 use Rattle.cord_plan.specs.Exprs.{Expr}
 use Rattle.cord_plan.specs.Planned.{Made, gives, operation}
 use Rattle.cord_plan.specs.Meaning.{Holding, operation_shape, operation_line, operation_count, operation_holds}
-use Rattle.cord_plan.proofs.Values.{plain_number}
+use Rattle.cord_plan.proofs.Evaluation.{plain_number}
 
 module _ (line : ℕ) (z : List ℕ) (made : Made) where
   gives_shape : (v : Bool) → operation_shape (gives v line z made) ≡ Simple

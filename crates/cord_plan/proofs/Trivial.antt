@@ -16,7 +16,7 @@ use Rattle.cord_plan.specs.Operands.{read_by}
 use Rattle.cord_plan.specs.Planned.{Made, Joined, Literal, OfFile, OfEager, OfLazy, OfFunction, Balanced, OfExtensible, Printed, Operation, Build, Keep, operation, or_nothing, trivial}
 use Rattle.cord_plan.specs.Meaning.{Text, Holding, plain, gets, all_texts, texts_to_build, made_text, does, operation_shape, operation_line, plan_rules}
 use Rattle.cord_plan.proofs.Keeps.{IsKept, Agrees}
-use Rattle.cord_plan.proofs.Values.{own_stand, chars_acts, nul_acts, substr_acts, catn_acts, cat_acts, catc_acts, after_two}
+use Rattle.cord_plan.proofs.Evaluation.{own_stand, chars_acts, nul_acts, substr_acts, catn_acts, cat_acts, catc_acts, after_two}
 use Rattle.cord_plan.proofs.Does.{built_agrees, put_agrees, len_agrees, kept_agrees}
 use Rattle.cord_plan.proofs.Operations.{same_shape, same_line, same_count, same_holds}
 
@@ -56,7 +56,7 @@ module _ (limit : ℕ) (files : Folder) (p : ℕ) (s : State) where
       (built_agrees limit files (Same p) s (full s) z line made (made_text limit files made s) (full_texts s (texts_to_build made)) refl (λ t _. full_gets s z t))
 
   keeps_on : (l : Statement) → IsKept l → Agree (Same p) (act limit files l s) (does limit files (Keep l) (full s))
-  keeps_on l k = kept_agrees limit files (Same p) s (full s) refl refl (full_others s) l k (full_texts s (read_by l)) (full_same s (read_by l))
+  keeps_on l k = kept_agrees limit files (Same p) s (full s) l refl refl (λ u puts is e. full_others s u e) k (full_texts s (read_by l)) (full_same s (read_by l))
 
   trivial_agrees : (l : Statement) → Agree (Same p) (act limit files l s) (does limit files (operation l (or_nothing (own l)) false false) (full s))
   trivial_agrees (Let line target text) = makes (Let line target text) line target (Literal text) refl
@@ -73,7 +73,7 @@ module _ (limit : ℕ) (files : Folder) (p : ℕ) (s : State) where
   trivial_agrees (Balance line target operand) = makes (Balance line target operand) line target (Balanced operand) refl
   trivial_agrees (EcToCord line target extensible) = makes (EcToCord line target extensible) line target (OfExtensible extensible) refl
   trivial_agrees (Sprintf line target text format arguments) = makes (Sprintf line target text format arguments) line target (Printed text format arguments) refl
-  trivial_agrees (Len line target operand) = len_agrees limit files (Same p) s (full s) refl refl (full_others s) line target operand refl
+  trivial_agrees (Len line target operand) = len_agrees limit files (Same p) s (full s) line target operand refl refl (λ u puts is e. full_others s u e) refl
   trivial_agrees (Put line operand) = put_agrees limit files (Same p) s (full s) line operand (name operand) refl refl refl
   trivial_agrees (Fetch line target operand index) = keeps_on (Fetch line target operand index) tt
   trivial_agrees (Cmp line target left right) = keeps_on (Cmp line target left right) tt

@@ -6,4 +6,5 @@ pub mod Planned
 pub mod Flat
 pub mod Shown
 pub mod Meaning
+pub mod Conditions
 pub mod Rows

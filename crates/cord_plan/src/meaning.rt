@@ -8,6 +8,7 @@ ghost use Rattle.cord_meaning.specs.Simulation.{told};
 ghost use Rattle.cord_meaning.specs.Meaning.{moments_within, end_within};
 ghost use Rattle.cord_plan.specs.Planned.{trivial};
 ghost use Rattle.cord_plan.specs.Meaning.{plan_moments, plan_end, IsNeverStuck};
+ghost use Rattle.cord_plan.specs.Conditions.{Decisions, MeetsConditions, decided};
 
 /// The trivial plan of a script whose blocks are closed is never stuck, and has, over all files and with all limits, member by member
 /// the lines and the puts of the script, and its end.
@@ -15,4 +16,12 @@ pub fn trivial_plans_keep_the_meaning()
     ensures never_stuck { (limit most : ℕ) (s : List Statement) (files : Folder) → IsNested [] (map shape_of s) → IsNeverStuck limit most (trivial s) files }
     ensures members { (limit most : ℕ) (s : List Statement) (files : Folder) → IsNested [] (map shape_of s) → map told (plan_moments limit most (trivial s) files) ≡ map told (moments_within limit most s files) }
     ensures end { (limit most : ℕ) (s : List Statement) (files : Folder) → IsNested [] (map shape_of s) → plan_end limit most (trivial s) files ≡ end_within limit most s files }
+{}
+
+/// Each plan that meets the conditions on dead targets, on what is measured and on forced pairs is never stuck, and has, over all files
+/// and with all limits, member by member the lines and the puts of its script, and its end.
+pub fn plans_keep_the_meaning()
+    ensures never_stuck { (limit most : ℕ) (s : List Statement) (files : Folder) (d : Decisions) → IsNested [] (map shape_of s) → MeetsConditions s d → IsNeverStuck limit most (decided d s) files }
+    ensures members { (limit most : ℕ) (s : List Statement) (files : Folder) (d : Decisions) → IsNested [] (map shape_of s) → MeetsConditions s d → map told (plan_moments limit most (decided d s) files) ≡ map told (moments_within limit most s files) }
+    ensures end { (limit most : ℕ) (s : List Statement) (files : Folder) (d : Decisions) → IsNested [] (map shape_of s) → MeetsConditions s d → plan_end limit most (decided d s) files ≡ end_within limit most s files }
 {}

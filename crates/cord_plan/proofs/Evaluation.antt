@@ -1,5 +1,5 @@
 -- Values of expressions: of a `cat` that took another's members, of a line whose operands stand as expressions, and by lengths.
-use Rattle.std.proofs.Common.{◌≡◌, ℕ, ◌+◌, ◌-◌, ◌≤◌, ◌⊎◌, min, Bool, true, false, List, [], ◌∷◌, ◌++◌, length, take, drop, map, Result, Ok, Err, refl, sym, ap, ◌∙◌, inl, inr, arith, append-nil, append_assoc, length-append, length-take, length-drop, pos, replicate}
+use Rattle.std.proofs.Common.{◌≡◌, ℕ, ◌+◌, ◌-◌, ◌≤◌, ◌⊎◌, min, Bool, true, false, List, [], ◌∷◌, ◌++◌, length, take, drop, map, Result, Ok, Err, refl, sym, ap, ◌∙◌, inl, inr, ⊎_elim, arith, append-nil, append_assoc, length-append, length-take, length-drop, pos, replicate}
 use Rattle.std.specs.Prelude.{if◌then◌else◌, nat_le, flat_map}
 use Rattle.std.proofs.lemmas.Bool.{le-leb, leb-true}
 use Rattle.std.proofs.lemmas.List.{length-replicate}
@@ -136,6 +136,23 @@ in_left x (z ∷ xs) ys (inr i) = inr (in_left x xs ys i)
 pub in_right : (x : List ℕ) (xs ys : List (List ℕ)) → In x ys → In x (xs ++ ys)
 in_right x [] ys i = i
 in_right x (z ∷ xs) ys i = inr (in_right x xs ys i)
+
+pub in_either : (x : List ℕ) (xs ys : List (List ℕ)) → In x (xs ++ ys) → In x xs ⊎ In x ys
+in_either x [] ys i = inr i
+in_either x (z ∷ xs) ys (inl e) = inl (inl e)
+in_either x (z ∷ xs) ys (inr i) = ⊎_elim (λ (m : In x xs). inl (inr m)) (λ (m : In x ys). inr m) (in_either x xs ys i)
+
+-- the names of cords of an expression are among its names
+mutual
+  pub cords_named : (e : Expr) (y : List ℕ) → In y (cords e) → In y (names e)
+  cords_named (name x) y i = i
+  cords_named (run c n) y i = absurd i
+  cords_named (cat es) y i = cords_of_named es y i
+  cords_named (sub e j n) y i = in_left y (names e) (number_names j ++ number_names n) (cords_named e y i)
+
+  cords_of_named : (es : Exprs) (y : List ℕ) → In y (cords_of es) → In y (names_of es)
+  cords_of_named nothing y i = i
+  cords_of_named (member e es) y i = ⊎_elim (λ (m : In y (cords e)). in_left y (names e) (names_of es) (cords_named e y m)) (λ (m : In y (cords_of es)). in_right y (names e) (names_of es) (cords_of_named es y m)) (in_either y (cords e) (cords_of es) i)
 
 module _ (limit : ℕ) (s t : State) where
   number_same : (n : Number) → ((y : List ℕ) → In y (number_names n) → s.numbers y ≡ t.numbers y) → number_value s n ≡ number_value t n
