@@ -1,3 +1,11 @@
 pub mod Flows
 pub mod Built
 pub mod Flat
+pub mod Values
+pub mod Owns
+pub mod Flattening
+pub mod Resolved
+pub mod Chosen
+pub mod Named
+pub mod ReadNames
+pub mod Pairs
