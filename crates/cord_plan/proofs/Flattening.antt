@@ -8,9 +8,9 @@ use Rattle.cord_meaning.specs.State.{State, number_value, and_then}
 use Rattle.cord_plan.specs.Exprs.{Expr, name, run, cat, sub, Exprs, nothing, member, append, in_front, members}
 use Rattle.cord_plan.specs.Operands.{read_by}
 use Rattle.cord_plan.specs.Forced.{expr_with, own}
-use Rattle.cord_plan.specs.Values.{within, part_of, values, text_in}
+use Rattle.cord_plan.specs.Values.{within, part_of, text_in}
 use Rattle.cord_plan.specs.Flattening.{nested, HaveTexts}
-use Rattle.cord_plan.proofs.Values.{passes, fits_within}
+use Rattle.cord_plan.proofs.Values.{passes, joined_in, cat_joined}
 
 -- one text behind another
 abbrev behind : Result (List ℕ) FaultKind → Result (List ℕ) FaultKind → Result (List ℕ) FaultKind
@@ -27,32 +27,23 @@ none_in_front (Ok t) = refl
 none_in_front (Err kind) = refl
 
 module _ (limit : ℕ) (s : State) where
-  abbrev joined : Exprs → Result (List ℕ) FaultKind
-  joined es = values limit s.texts (λ n. number_value s n) es
-
-  append_joined : (es others : Exprs) → joined (append es others) ≡ behind (joined es) (joined others)
-  append_joined nothing others = none_in_front (joined others)
+  append_joined : (es others : Exprs) → joined_in limit s (append es others) ≡ behind (joined_in limit s es) (joined_in limit s others)
+  append_joined nothing others = none_in_front (joined_in limit s others)
   append_joined (member e es) others =
       ap (λ (r : Result (List ℕ) FaultKind). behind (text_in limit s e) r) (append_joined es others)
-      ∙ behind_assoc (text_in limit s e) (joined es) (joined others)
+      ∙ behind_assoc (text_in limit s e) (joined_in limit s es) (joined_in limit s others)
 
-  -- the members of a `cat` without a fault have its text
-  cat_joined : (es : Exprs) (text : List ℕ) → text_in limit s (cat es) ≡ Ok text → joined es ≡ Ok text
-  cat_joined es text h =
-      let p = passes (joined es) (λ t. within limit t) text h in
-      p.first ∙ ap (λ (t : List ℕ). Ok t) (fits_within limit p.middle text p.next).same
+  front_joined : (e : Expr) (others : Exprs) (text : List ℕ) → text_in limit s e ≡ Ok text → joined_in limit s (in_front e others) ≡ behind (Ok text) (joined_in limit s others)
+  front_joined (name x) others text h = ap (λ (r : Result (List ℕ) FaultKind). behind r (joined_in limit s others)) h
+  front_joined (run c n) others text h = ap (λ (r : Result (List ℕ) FaultKind). behind r (joined_in limit s others)) h
+  front_joined (cat es) others text h = append_joined es others ∙ ap (λ (r : Result (List ℕ) FaultKind). behind r (joined_in limit s others)) (cat_joined limit s es text h).joined
+  front_joined (sub e i n) others text h = ap (λ (r : Result (List ℕ) FaultKind). behind r (joined_in limit s others)) h
 
-  front_joined : (e : Expr) (others : Exprs) (text : List ℕ) → text_in limit s e ≡ Ok text → joined (in_front e others) ≡ behind (Ok text) (joined others)
-  front_joined (name x) others text h = ap (λ (r : Result (List ℕ) FaultKind). behind r (joined others)) h
-  front_joined (run c n) others text h = ap (λ (r : Result (List ℕ) FaultKind). behind r (joined others)) h
-  front_joined (cat es) others text h = append_joined es others ∙ ap (λ (r : Result (List ℕ) FaultKind). behind r (joined others)) (cat_joined es text h)
-  front_joined (sub e i n) others text h = ap (λ (r : Result (List ℕ) FaultKind). behind r (joined others)) h
-
-  nested_joined : (es : List Expr) (text : List ℕ) → joined (nested es) ≡ Ok text → joined (members es) ≡ Ok text
+  nested_joined : (es : List Expr) (text : List ℕ) → joined_in limit s (nested es) ≡ Ok text → joined_in limit s (members es) ≡ Ok text
   nested_joined [] text h = h
   nested_joined (e ∷ es) text h =
-      let p = passes (text_in limit s e) (λ t. and_then (joined (nested es)) (λ rest. Ok (t ++ rest))) text h in
-      let q = passes (joined (nested es)) (λ rest. Ok (p.middle ++ rest)) text p.next in
+      let p = passes (text_in limit s e) (λ t. and_then (joined_in limit s (nested es)) (λ rest. Ok (t ++ rest))) text h in
+      let q = passes (joined_in limit s (nested es)) (λ rest. Ok (p.middle ++ rest)) text p.next in
       front_joined e (members es) p.middle p.first
       ∙ ap (λ (r : Result (List ℕ) FaultKind). behind (Ok p.middle) r) (nested_joined es q.middle q.first)
       ∙ q.next
@@ -60,11 +51,11 @@ module _ (limit : ℕ) (s : State) where
   -- a `cat` of members is their `cat` as they stand, where that has no fault
   pub flattened : (es : List Expr) (text : List ℕ) → text_in limit s (cat (nested es)) ≡ Ok text → text_in limit s (cat (members es)) ≡ Ok text
   flattened es text h =
-      let p = passes (joined (nested es)) (λ t. within limit t) text h in
+      let p = passes (joined_in limit s (nested es)) (λ t. within limit t) text h in
       ap (λ (r : Result (List ℕ) FaultKind). and_then r (λ t. within limit t)) (nested_joined es p.middle p.first) ∙ p.next
 
   -- expressions of the same texts are the same as members
-  same_joined : (es fs : List Expr) (ts : List (List ℕ)) (more : List Expr) → HaveTexts limit s es ts → HaveTexts limit s fs ts → joined (members (es ++ more)) ≡ joined (members (fs ++ more))
+  same_joined : (es fs : List Expr) (ts : List (List ℕ)) (more : List Expr) → HaveTexts limit s es ts → HaveTexts limit s fs ts → joined_in limit s (members (es ++ more)) ≡ joined_in limit s (members (fs ++ more))
   same_joined [] [] [] more h k = refl
   same_joined [] (f ∷ fs) [] more h k = absurd k
   same_joined [] fs (t ∷ ts) more h k = absurd h

@@ -1,5 +1,5 @@
 -- What expressions name, and names in lists.
-use Rattle.std.proofs.Common.{◌≡◌, ◌⊎◌, ℕ, zero, suc, ◌+◌, ◌<◌, ◌≤◌, pos, Bool, true, false, ◌||◌, List, [], ◌∷◌, ◌++◌, length, Option, Some, None, refl, sym, ap, ◌∙◌, subst, inl, inr, arith, append_assoc, append-nil}
+use Rattle.std.proofs.Common.{◌≡◌, ◌⊎◌, ℕ, zero, suc, ◌+◌, ◌<◌, ◌≤◌, pos, Bool, true, false, List, [], ◌∷◌, ◌++◌, length, Option, Some, None, refl, sym, ap, ◌∙◌, subst, inl, inr, arith, append_assoc, append-nil}
 use Rattle.std.specs.Prelude.{slice_get, not, nat_le, if◌then◌else◌}
 use Rattle.std.specs.Str.{bytes_eq}
 use Rattle.std.proofs.lemmas.Bool.{or_left, or_right, leb-true, leb-false}
@@ -12,10 +12,7 @@ use Rattle.cord_plan.specs.Operands.{count, has, assigns_at}
 use Rattle.cord_plan.specs.Forced.{expr_with, each_from, keeps}
 use Rattle.cord_plan.specs.Pairs.{numbers_named}
 use Rattle.cord_plan.proofs.Chosen.{both_true, last_or}
-
-pub or_true : (a b : Bool) → (a || b) ≡ true → (a ≡ true) ⊎ (b ≡ true)
-or_true true b e = inl refl
-or_true false b e = inr e
+use Rattle.cord_plan.proofs.Flows.{or_true}
 
 pub not_true : (a : Bool) → not a ≡ true → a ≡ false
 not_true true e = let bad : ⊥ = cc in absurd bad

@@ -10,7 +10,8 @@ use Rattle.cord_plan.specs.Operands.{count, has, read_by, reads_at, assigns, ass
 use Rattle.cord_plan.specs.Forced.{Table, Choice, kept, replaced, expr_of, expr_with, is_small, is_block_at, each_from, keeps, first_of, own, choices, operands_chosen}
 use Rattle.cord_plan.specs.Pairs.{IsPair, numbers_named, numbers_named_at, IsNoNumber}
 use Rattle.cord_plan.proofs.Chosen.{both_true, Taken, Chosen, AreChosen, are_chosen, stay_small, EachEntry, each_entry}
-use Rattle.cord_plan.proofs.Named.{or_true, not_true, no_true, same_bytes, has_at, one_place, each_at, keeps_at, SomeNames, Names, with_names}
+use Rattle.cord_plan.proofs.Flows.{or_true}
+use Rattle.cord_plan.proofs.Named.{not_true, no_true, same_bytes, has_at, one_place, each_at, keeps_at, SomeNames, Names, with_names}
 use Rattle.cord_plan.proofs.ReadNames.{no_number}
 use Rattle.cord_script.specs.Forms.{Grammar}
 use Rattle.cord_script.specs.Script.{ReadsBy}

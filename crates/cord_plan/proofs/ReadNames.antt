@@ -16,7 +16,8 @@ use Rattle.cord_plan.specs.Exprs.{Expr, number_names}
 use Rattle.cord_plan.specs.Operands.{has, read_by}
 use Rattle.cord_plan.specs.Forced.{own}
 use Rattle.cord_plan.specs.Pairs.{numbers_named, numbers_named_at, IsNoNumber}
-use Rattle.cord_plan.proofs.Named.{has_append, or_true, no_true, same_bytes}
+use Rattle.cord_plan.proofs.Flows.{or_true}
+use Rattle.cord_plan.proofs.Named.{has_append, no_true, same_bytes}
 
 -- what is known of names stays known
 record Stays (old new : List Known) : Type 0 where

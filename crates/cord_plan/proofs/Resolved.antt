@@ -1,5 +1,5 @@
 -- A `sub` over a `cat`, resolved by the lengths of the members.
-use Rattle.std.proofs.Common.{◌≡◌, ℕ, ◌+◌, ◌-◌, ◌<◌, ◌≤◌, pos, Bool, true, false, List, [], ◌∷◌, ◌++◌, length, take, drop, Result, Ok, refl, sym, ap, ◌∙◌, subst, arith, append-nil, length-append}
+use Rattle.std.proofs.Common.{◌≡◌, ℕ, ◌+◌, ◌-◌, ◌<◌, ◌≤◌, pos, Bool, true, false, List, [], ◌∷◌, ◌++◌, length, take, drop, Result, Ok, refl, sym, ap, ◌∙◌, arith, append-nil, length-append}
 use Rattle.std.specs.Prelude.{min, nat_le, nat_lt, ◌&&◌, if◌then◌else◌}
 use Rattle.std.proofs.Math.Seq.{take-append-add, drop-append-add, take-nil, drop-nil}
 use Rattle.std.proofs.lemmas.Bool.{leb-true, leb-false, ltb-false}
@@ -8,9 +8,9 @@ use Rattle.cord_script.specs.declared.operands.Number.TheVariants.{Numeral}
 use Rattle.cord_meaning.specs.declared.ends.FaultKind.{FaultKind}
 use Rattle.cord_meaning.specs.State.{State, number_value, and_then}
 use Rattle.cord_plan.specs.Exprs.{Expr, cat, sub, Exprs, nothing, member}
-use Rattle.cord_plan.specs.Values.{within, values, text_in, length_in, length_of}
+use Rattle.cord_plan.specs.Values.{within, text_in, length_in, length_of}
 use Rattle.cord_plan.specs.Resolved.{picked, resolved, HaveLengths}
-use Rattle.cord_plan.proofs.Values.{passes, same_text, fits_within, is_within, measure_is}
+use Rattle.cord_plan.proofs.Values.{passes, same_text, is_within, measure_is, joined_in, cat_joined}
 
 -- the first bytes of two texts
 take_both : (n : ℕ) (t u : List ℕ) → take n (t ++ u) ≡ take n t ++ take (n - length t) u
@@ -60,19 +60,16 @@ none_of_it i n t = pick (nat_lt i (length t)) (nat_lt 0 n) refl refl
     pick false w e f h = ap (λ (x : List ℕ). take n x) (drop_all i t (ltb-false i (length t) e)) ∙ take-nil n
 
 module _ (limit : ℕ) (s : State) where
-  abbrev joined : Exprs → Result (List ℕ) FaultKind
-  joined es = values limit s.texts (λ n. number_value s n) es
-
-  picked_joined : (e : Expr) (t : List ℕ) (i n : ℕ) (others : Exprs) (rest : List ℕ) → text_in limit s e ≡ Ok t → length t ≤ limit → joined others ≡ Ok rest → joined (picked e (length t) i n others) ≡ Ok (take n (drop i t) ++ rest)
+  picked_joined : (e : Expr) (t : List ℕ) (i n : ℕ) (others : Exprs) (rest : List ℕ) → text_in limit s e ≡ Ok t → length t ≤ limit → joined_in limit s others ≡ Ok rest → joined_in limit s (picked e (length t) i n others) ≡ Ok (take n (drop i t) ++ rest)
   picked_joined e t i n others rest h short k = pick (nat_lt i (length t) && nat_lt 0 n) refl
     where
-      pick : (v : Bool) → (nat_lt i (length t) && nat_lt 0 n) ≡ v → joined (if v then member (sub e (Numeral (pos i)) (Numeral (pos (min n (length t - i))))) others else others) ≡ Ok (take n (drop i t) ++ rest)
+      pick : (v : Bool) → (nat_lt i (length t) && nat_lt 0 n) ≡ v → joined_in limit s (if v then member (sub e (Numeral (pos i)) (Numeral (pos (min n (length t - i))))) others else others) ≡ Ok (take n (drop i t) ++ rest)
       pick true e_is =
           let m = min n (length t - i) in
           let fits : length (take m (drop i t)) ≤ limit = omega (arith, length-take m (drop i t), length-drop i t) in
           let part : take m (drop i t) ≡ take n (drop i t) = ap (λ (k : ℕ). take (min n k) (drop i t)) (sym (length-drop i t)) ∙ take_min n (drop i t) in
-          ap (λ (r : Result (List ℕ) FaultKind). and_then (and_then r (λ text. within limit (take m (drop i text)))) (λ text. and_then (joined others) (λ more. Ok (text ++ more)))) h
-          ∙ ap (λ (r : Result (List ℕ) FaultKind). and_then r (λ text. and_then (joined others) (λ more. Ok (text ++ more)))) (is_within limit (take m (drop i t)) fits)
+          ap (λ (r : Result (List ℕ) FaultKind). and_then (and_then r (λ text. within limit (take m (drop i text)))) (λ text. and_then (joined_in limit s others) (λ more. Ok (text ++ more)))) h
+          ∙ ap (λ (r : Result (List ℕ) FaultKind). and_then r (λ text. and_then (joined_in limit s others) (λ more. Ok (text ++ more)))) (is_within limit (take m (drop i t)) fits)
           ∙ ap (λ (r : Result (List ℕ) FaultKind). and_then r (λ more. Ok (take m (drop i t) ++ more))) k
           ∙ ap (λ (x : List ℕ). Ok (x ++ rest)) part
       pick false e_is = k ∙ ap (λ (x : List ℕ). Ok (x ++ rest)) (sym (none_of_it i n t e_is))
@@ -82,33 +79,30 @@ module _ (limit : ℕ) (s : State) where
       let told : Ok (length t) ≡ length_in limit s e = ap (λ (r : Result (List ℕ) FaultKind). length_of r) (sym k) ∙ sym (measure_is limit s.texts (λ n. number_value s n) e) in
       cc
 
-  resolved_joined : (es : Exprs) (lens text : List ℕ) (i n : ℕ) → HaveLengths limit s es lens → joined es ≡ Ok text → length text ≤ limit → joined (resolved es lens i n) ≡ Ok (take n (drop i text))
+  resolved_joined : (es : Exprs) (lens text : List ℕ) (i n : ℕ) → HaveLengths limit s es lens → joined_in limit s es ≡ Ok text → length text ≤ limit → joined_in limit s (resolved es lens i n) ≡ Ok (take n (drop i text))
   resolved_joined nothing [] text i n lengths h short =
       let empty : [] ≡ text = cc in
       ap (λ (x : List ℕ). Ok x) (sym (take-nil n) ∙ ap (λ (x : List ℕ). take n x) (sym (drop-nil i) ∙ ap (λ (x : List ℕ). drop i x) empty))
   resolved_joined nothing (len ∷ lens) text i n lengths h short = absurd lengths
   resolved_joined (member e es) [] text i n lengths h short = absurd lengths
   resolved_joined (member e es) (len ∷ lens) text i n lengths h short =
-      let p = passes (text_in limit s e) (λ t. and_then (joined es) (λ rest. Ok (t ++ rest))) text h in
-      let q = passes (joined es) (λ rest. Ok (p.middle ++ rest)) text p.next in
+      let p = passes (text_in limit s e) (λ t. and_then (joined_in limit s es) (λ rest. Ok (t ++ rest))) text h in
+      let q = passes (joined_in limit s es) (λ rest. Ok (p.middle ++ rest)) text p.next in
       let t : List ℕ = p.middle in
       let u : List ℕ = q.middle in
       let whole : t ++ u ≡ text = same_text (Ok (t ++ u)) (t ++ u) text refl q.next in
       let sum : length t + length u ≡ length text = sym (length-append t u) ∙ ap (λ (x : List ℕ). length x) whole in
       let is : length t ≡ len = told_length e t len lengths.0 p.first in
       let rest : List ℕ = take (n - (length t - i)) (drop (i - length t) u) in
-      let others : joined (resolved es lens (i - length t) (n - (length t - i))) ≡ Ok rest = resolved_joined es lens u (i - length t) (n - (length t - i)) lengths.1 q.first (omega arith) in
-      let mine : joined (picked e (length t) i n (resolved es lens (i - length t) (n - (length t - i)))) ≡ Ok (take n (drop i t) ++ rest) = picked_joined e t i n (resolved es lens (i - length t) (n - (length t - i))) rest p.first (omega arith) others in
-      ap (λ (k : ℕ). joined (picked e k i n (resolved es lens (i - k) (n - (k - i))))) (sym is)
+      let others : joined_in limit s (resolved es lens (i - length t) (n - (length t - i))) ≡ Ok rest = resolved_joined es lens u (i - length t) (n - (length t - i)) lengths.1 q.first (omega arith) in
+      let mine : joined_in limit s (picked e (length t) i n (resolved es lens (i - length t) (n - (length t - i)))) ≡ Ok (take n (drop i t) ++ rest) = picked_joined e t i n (resolved es lens (i - length t) (n - (length t - i))) rest p.first (omega arith) others in
+      ap (λ (k : ℕ). joined_in limit s (picked e k i n (resolved es lens (i - k) (n - (k - i))))) (sym is)
       ∙ mine
       ∙ ap (λ (x : List ℕ). Ok x) (sym (part_both i n t u) ∙ ap (λ (x : List ℕ). take n (drop i x)) whole)
 
   -- the members, resolved, mean what the part of the joined text does
   pub resolves : (es : Exprs) (lens text : List ℕ) (i n : ℕ) → HaveLengths limit s es lens → text_in limit s (cat es) ≡ Ok text → text_in limit s (cat (resolved es lens i n)) ≡ text_in limit s (sub (cat es) (Numeral (pos i)) (Numeral (pos n)))
   resolves es lens text i n lengths h =
-      let p = passes (joined es) (λ t. within limit t) text h in
-      let f = fits_within limit p.middle text p.next in
-      let same : joined es ≡ Ok text = p.first ∙ ap (λ (x : List ℕ). Ok x) f.same in
-      let short : length text ≤ limit = subst (λ (x : List ℕ). length x ≤ limit) f.same f.short in
-      ap (λ (r : Result (List ℕ) FaultKind). and_then r (λ t. within limit t)) (resolved_joined es lens text i n lengths same short)
+      let j = cat_joined limit s es text h in
+      ap (λ (r : Result (List ℕ) FaultKind). and_then r (λ t. within limit t)) (resolved_joined es lens text i n lengths j.joined j.short)
       ∙ sym (ap (λ (r : Result (List ℕ) FaultKind). and_then r (λ t. within limit (take n (drop i t)))) h)

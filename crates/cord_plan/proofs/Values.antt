@@ -1,14 +1,14 @@
 -- Texts and lengths of expressions.
-use Rattle.std.proofs.Common.{◌≡◌, ℕ, ℤ, ◌+◌, ◌-◌, ◌≤◌, Bool, true, false, List, ◌++◌, length, take, drop, Result, Ok, Err, refl, sym, ap, ◌∙◌, length-append}
+use Rattle.std.proofs.Common.{◌≡◌, ℕ, ℤ, ◌+◌, ◌-◌, ◌≤◌, Bool, true, false, List, ◌++◌, length, take, drop, Result, Ok, Err, refl, sym, ap, ◌∙◌, length-append, subst}
 use Rattle.std.specs.Prelude.{min, nat_le, replicate, if◌then◌else◌}
 use Rattle.std.proofs.lemmas.Bool.{leb-true, le-leb}
 use Rattle.std.proofs.lemmas.List.{length-take, length-drop, length-replicate}
 use Rattle.cord_script.specs.declared.operands.Number.{Number}
 use Rattle.cord_meaning.specs.declared.ends.FaultKind.{FaultKind}
 use Rattle.cord_meaning.specs.declared.ends.FaultKind.TheVariants.{TooLong}
-use Rattle.cord_meaning.specs.State.{and_then, as_index, as_byte, as_length}
+use Rattle.cord_meaning.specs.State.{State, number_value, and_then, as_index, as_byte, as_length}
 use Rattle.cord_plan.specs.Exprs.{Expr, name, run, cat, sub, Exprs, nothing, member}
-use Rattle.cord_plan.specs.Values.{within, part_of, copies, value, values, measured_copies, measured_part, measured, measured_members, length_of}
+use Rattle.cord_plan.specs.Values.{within, part_of, copies, value, values, measured_copies, measured_part, measured, measured_members, length_of, text_in}
 
 -- what comes after a result that is none of a fault
 pub record Passes {A B : Type 0} (r : Result A FaultKind) (f : A → Result B FaultKind) (b : B) : Type 0 where
@@ -97,3 +97,18 @@ module _ (limit : ℕ) (texts : List ℕ → List ℕ) (numbers : Number → ℤ
         ap (λ (r : Result ℕ FaultKind). and_then r (λ len. and_then (measured_members limit (λ x. length (texts x)) numbers es) (λ others. Ok (len + others)))) (measure_is e)
         ∙ ap (λ (r : Result ℕ FaultKind). and_then (length_of (value limit texts numbers e)) (λ len. and_then r (λ others. Ok (len + others)))) (measures_are es)
         ∙ member_length (value limit texts numbers e) (values limit texts numbers es)
+
+-- the texts of members in a state, joined
+abbrev pub joined_in : ℕ → State → Exprs → Result (List ℕ) FaultKind
+joined_in limit s es = values limit s.texts (λ n. number_value s n) es
+
+-- the members of a `cat` without a fault have its text, which is short
+pub record HasJoined (limit : ℕ) (s : State) (es : Exprs) (text : List ℕ) : Type 0 where
+  pub joined : joined_in limit s es ≡ Ok text
+  pub short : length text ≤ limit
+
+pub cat_joined : (limit : ℕ) (s : State) (es : Exprs) (text : List ℕ) → text_in limit s (cat es) ≡ Ok text → HasJoined limit s es text
+cat_joined limit s es text h =
+    let p = passes (joined_in limit s es) (λ t. within limit t) text h in
+    let f = fits_within limit p.middle text p.next in
+    record { joined = p.first ∙ ap (λ (t : List ℕ). Ok t) f.same; short = subst (λ (t : List ℕ). length t ≤ limit) f.same f.short }
