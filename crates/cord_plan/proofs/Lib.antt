@@ -11,3 +11,11 @@ pub mod Barriers
 pub mod Keeping
 pub mod Decided
 pub mod Beside
+pub mod Values
+pub mod Owns
+pub mod Flattening
+pub mod Resolved
+pub mod Chosen
+pub mod Named
+pub mod ReadNames
+pub mod Pairs
