@@ -19,3 +19,6 @@ pub mod Chosen
 pub mod Named
 pub mod ReadNames
 pub mod Pairs
+pub mod Planning
+pub mod ReadKinds
+pub mod Kept

@@ -20,8 +20,8 @@ use Rattle.cord_plan.proofs.Flows.{or_true}
 use Rattle.cord_plan.proofs.Named.{has_append, no_true, same_bytes}
 
 -- what is known of names stays known
-record Stays (old new : List Known) : Type 0 where
-  kept : (y : List ℕ) (k : Kind) → kind_of old y ≡ Some k → kind_of new y ≡ Some k
+pub record Stays (old new : List Known) : Type 0 where
+  pub kept : (y : List ℕ) (k : Kind) → kind_of old y ≡ Some k → kind_of new y ≡ Some k
 
 kind_behind : (names more : List Known) (y : List ℕ) (k : Kind) → kind_of names y ≡ Some k → kind_of (names ++ more) y ≡ Some k
 kind_behind [] more y k e = let bad : ⊥ = cc in absurd bad
@@ -54,13 +54,14 @@ lines_stay [] before = record { kept = λ y k e. e }
 lines_stay (s ∷ ss) before = record { kept = λ y k e. (lines_stay ss (after s before)).kept y k ((terms_stay (terms_of s) before.names).kept y k e) }
 
 -- what is known in front of a line, where the script is read on to these names
-record IsSaid (l : Statement) (last : List Known) : Type 0 where
-  before : Before
-  allowed : AreAllowed before (terms_of l)
-  stays : Stays before.names last
+pub record IsSaid (l : Statement) (last : List Known) : Type 0 where
+  pub before : Before
+  pub allowed : AreAllowed before (terms_of l)
+  pub stays : Stays before.names last
+  pub behind_stays : Stays (names_after (terms_of l) before.names) last
 
 module _ (g : Grammar) where
-  line_said : (lines : List (List ℕ)) (n : ℕ) (before : Before) (ss : List Statement) (p : ℕ) (l : Statement) → LinesSay g n before lines ss → slice_get ss p ≡ Some l → IsSaid l (after_all ss before).names
+  pub line_said : (lines : List (List ℕ)) (n : ℕ) (before : Before) (ss : List Statement) (p : ℕ) (l : Statement) → LinesSay g n before lines ss → slice_get ss p ≡ Some l → IsSaid l (after_all ss before).names
   line_said [] n before ss p l none e =
       let bad : ⊥ = (let gone : slice_get {X = Statement} [] p ≡ Some l = subst (λ (xs : List Statement). slice_get xs p ≡ Some l) none e in cc) in
       absurd bad
@@ -71,7 +72,7 @@ module _ (g : Grammar) where
       at : (k : ℕ) → slice_get (s ∷ rest) k ≡ Some l → ((m : ℕ) → slice_get rest m ≡ Some l → IsSaid l (after_all rest (after s before)).names) → IsSaid l (after_all (s ∷ rest) before).names
       at zero h later =
           let same : s ≡ l = cc in
-          subst (λ (x : Statement). IsSaid x (after_all (s ∷ rest) before).names) same (record { before = before; allowed = says.allowed; stays = lines_stay (s ∷ rest) before })
+          subst (λ (x : Statement). IsSaid x (after_all (s ∷ rest) before).names) same (record { before = before; allowed = says.allowed; stays = lines_stay (s ∷ rest) before; behind_stays = lines_stay rest (after s before) })
       at (suc k) h later = later k h
 
 -- the names of number operands are names of numbers

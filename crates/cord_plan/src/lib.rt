@@ -15,7 +15,10 @@ pub use laws::{
     dead_targets_are_not_built, fixed_points_tell_what_is_read, no_cat_stands_in_a_cat,
     what_is_read_later_is_one,
 };
-pub use meaning::{plans_keep_the_meaning, trivial_plans_keep_the_meaning};
+pub use meaning::{
+    planned_scripts_keep_the_meaning, planned_scripts_meet_the_conditions, plans_keep_the_meaning,
+    trivial_plans_keep_the_meaning,
+};
 pub use pair_laws::{pairs_leave_their_name_out, replacements_keep_expressions_small};
 pub use rows::plans_are_computed;
 
