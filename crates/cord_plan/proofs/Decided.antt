@@ -13,19 +13,23 @@ use Rattle.cord_script.specs.declared.statements.Statement.TheVariants.{Let, Fil
 use Rattle.cord_meaning.specs.declared.ends.FaultKind.{FaultKind}
 use Rattle.cord_meaning.specs.declared.ends.FaultKind.TheVariants.{Overflow}
 use Rattle.cord_meaning.specs.Blocks.{Simple}
-use Rattle.cord_meaning.specs.State.{State, Outcome, number_value, and_then, as_index, as_byte, as_length, fits_i64, has_number, sets_number, sets_extensible, sets_text}
+use Rattle.cord_meaning.specs.State.{State, Outcome, number_value, and_then, as_index, as_byte, as_length, fits_i64, has_number, sets_number, sets_extensible}
 use Rattle.cord_meaning.specs.Statements.{act, shape_of, byte_at, file_text, function_text}
 use Rattle.cord_meaning.specs.Formats.{given, format_text, unless_refused}
 use Rattle.cord_meaning.specs.Simulation.{Agree}
 use Rattle.cord_plan.specs.Exprs.{Expr, name, run, cat, sub, Exprs, nothing, member, append, in_front, members}
 use Rattle.cord_plan.specs.Operands.{has, read_by, target_of, is_name, cord_arguments, assigns, assigns_at, reads_at}
 use Rattle.cord_plan.specs.Unread.{Unread}
-use Rattle.cord_plan.specs.Forced.{expr_with}
+use Rattle.cord_plan.specs.Forced.{expr_with, own}
 use Rattle.cord_plan.specs.Planned.{Made, Joined, Literal, OfFile, OfEager, OfLazy, OfFunction, Balanced, OfExtensible, Printed, gives, operation}
-use Rattle.cord_plan.specs.Meaning.{Held, Text, Long, Holding, plain, text_in, is_text, all_texts, cords, cords_of, texts_to_build, texts_to_measure, value, made_text, made_extent, keeps, does}
+use Rattle.cord_plan.specs.Values.{within, length_of, text_in, gives_text}
+use Rattle.cord_plan.specs.Flattening.{HaveTexts}
+use Rattle.cord_plan.specs.Meaning.{Held, Text, Long, Holding, plain, held_text, is_text, all_texts, cords, cords_of, texts_to_build, texts_to_measure, opened, made_text, made_length, keeps, does}
 use Rattle.cord_plan.specs.Conditions.{Decisions, is_simple, is_simple_at, makes_cord, stands, MeetsConditions}
 use Rattle.cord_plan.proofs.Keeps.{IsKept, Agrees}
-use Rattle.cord_plan.proofs.Evaluation.{In, in_left, in_right, in_either, Stand, long, plain_number, value_same, extent_is, after_two, chars_acts, nul_acts, substr_acts, catn_acts, cat_acts, catc_acts}
+use Rattle.cord_plan.proofs.Values.{within_length}
+use Rattle.cord_plan.proofs.Owns.{sets_within}
+use Rattle.cord_plan.proofs.Evaluation.{In, in_left, in_right, in_either, plain_number, value_same, extent_is, line_gives, gives_after, function_gives}
 use Rattle.cord_plan.proofs.Does.{built_agrees, measured_agrees, put_agrees, len_agrees, kept_agrees, with_others}
 use Rattle.cord_plan.proofs.Keeping.{not_both, same_self, unset_same, Ready, Inv, lengths, inv_set, inv_on, operand, operand_text}
 
@@ -88,7 +92,7 @@ module _ (H : List ℕ → Type 0) where
   each_of g [] a = tt
   each_of g (x ∷ xs) a = (a x (inl refl), each_of g xs (λ y i. a y (inr i)))
 
-stand_all : (limit : ℕ) (f : State) (g : List ℕ → Expr) (xs : List (List ℕ)) → ((x : List ℕ) → In x xs → value limit (g x) f ≡ Ok (f.texts x)) → Stand limit f (map g xs) xs
+stand_all : (limit : ℕ) (f : State) (g : List ℕ → Expr) (xs : List (List ℕ)) → ((x : List ℕ) → In x xs → text_in limit f (g x) ≡ Ok (f.texts x)) → HaveTexts limit f (map g xs) (map f.texts xs)
 stand_all limit f g [] a = tt
 stand_all limit f g (x ∷ xs) a = (a x (inl refl), stand_all limit f g xs (λ y i. a y (inr i)))
 
@@ -100,7 +104,7 @@ module _ (f : State) (h : Holding) where
 
   agree_held : (xs : List (List ℕ)) → ((x : List ℕ) → In x xs → h.held x ≡ Text (f.texts x)) → Agrees (plain h).texts f.texts xs
   agree_held [] a = tt
-  agree_held (x ∷ xs) a = (ap text_in (a x (inl refl)), agree_held xs (λ y i. a y (inr i)))
+  agree_held (x ∷ xs) a = (ap held_text (a x (inl refl)), agree_held xs (λ y i. a y (inr i)))
 
   module _ (numbers : h.numbers ≡ f.numbers) where
     given_same : (args : List Argument) → Agrees (plain h).texts f.texts (cord_arguments args) → map (λ a. given (plain h) a) args ≡ map (λ a. given f a) args
@@ -187,10 +191,10 @@ module _ (s : List Statement) (d : Decisions) (ok : MeetsConditions s d) (limit 
         excused_either true w e g both = excused_dead e
         excused_either false w e g both = inr (ok.paired p z (g ∙ both) assigned_here)
 
-        module _ (made : Made) (r : Result (List ℕ) FaultKind) (acts : act limit files l f ≡ and_then r (λ t. sets_text limit f z t))
+        module _ (made : Made) (r : Result (List ℕ) FaultKind) (acts : act limit files l f ≡ gives_text f z r)
             (to_build : all_texts h (texts_to_build made) ≡ true) (built : made_text limit files made (plain h) ≡ r)
-            (to_measure : all_texts h (texts_to_measure made) ≡ true) (measured : made_extent limit files made h ≡ long r)
-            (knows : (t : List ℕ) → r ≡ Ok t → is_simple_at (slice_get s p) ≡ true → Ready s d ok limit (d.exprs p) f h × (value limit (d.exprs p) f ≡ Ok t)) where
+            (to_measure : all_texts h (texts_to_measure made) ≡ true) (measured : made_length limit files made h ≡ length_of r)
+            (knows : (t : List ℕ) → r ≡ Ok t → is_simple_at (slice_get s p) ≡ true → Ready s d ok limit (d.exprs p) f h × (text_in limit f (d.exprs p) ≡ Ok t)) where
           makes_agree : (v : Bool) → (v ≡ true → Excused) → Agree (Related (p + 1)) (act limit files l f) (does limit files (gives v line z made) h)
           makes_agree true excuse =
               subst (λ (w : Outcome). Agree (Related (p + 1)) w (does limit files (gives true line z made) h)) (sym acts)
@@ -200,15 +204,15 @@ module _ (s : List Statement) (d : Decisions) (ok : MeetsConditions s d) (limit 
               (built_agrees limit files (Related (p + 1)) f h z line made r to_build built (λ t e. inv_set s d ok limit p l here simple_shape f h inv z target t (Text t) (knows t e) refl))
 
         -- a line that isn't simple is measured where its target is dead
-        other_agrees : is_simple l ≡ false → (made : Made) (r : Result (List ℕ) FaultKind) → act limit files l f ≡ and_then r (λ t. sets_text limit f z t)
-            → all_texts h (texts_to_build made) ≡ true → made_text limit files made (plain h) ≡ r → all_texts h (texts_to_measure made) ≡ true → made_extent limit files made h ≡ long r
+        other_agrees : is_simple l ≡ false → (made : Made) (r : Result (List ℕ) FaultKind) → act limit files l f ≡ gives_text f z r
+            → all_texts h (texts_to_build made) ≡ true → made_text limit files made (plain h) ≡ r → all_texts h (texts_to_measure made) ≡ true → made_length limit files made h ≡ length_of r
             → Agree (Related (p + 1)) (act limit files l f) (does limit files (gives (d.dead p) line z made) h)
         other_agrees bare made r acts to_build built to_measure measured =
             makes_agree made r acts to_build built to_measure measured (λ t e simple. absurd (not_both (is_simple_at (slice_get s p)) simple (ap is_simple_at here ∙ bare))) (d.dead p) excused_dead
 
       -- ---- a simple line
       module _ (simple : is_simple l ≡ true) where
-        stand_here : Stand limit f (map (λ x. stands d p x) (read_by l)) (read_by l)
+        stand_here : HaveTexts limit f (map (λ x. stands d p x) (read_by l)) (map f.texts (read_by l))
         stand_here = stand_all limit f (λ x. stands d p x) (read_by l) (λ x i. (operand s d ok limit p f h inv x (read_here x i)).1)
 
         own_here : expr_with l (map (λ x. stands d p x) (read_by l)) ≡ Some (d.exprs p)
@@ -221,13 +225,14 @@ module _ (s : List Statement) (d : Decisions) (ok : MeetsConditions s d) (limit 
         there_here : all_texts h (cords (d.exprs p)) ≡ true
         there_here = all_held f h (cords (d.exprs p)) ready_here
 
-        value_here : value limit (d.exprs p) (plain h) ≡ value limit (d.exprs p) f
-        value_here = value_same limit (plain h) f (d.exprs p) (λ y i. ap text_in (ready_here y i)) (λ y i. λ r. inv.numbers r y)
+        value_here : text_in limit (plain h) (d.exprs p) ≡ text_in limit f (d.exprs p)
+        value_here = value_same limit (plain h) f (d.exprs p) (λ y i. ap held_text (ready_here y i)) (λ y i. λ r. inv.numbers r y)
 
-        simple_agrees : (line : ℕ) (z : List ℕ) → target_of l ≡ Some z → act limit files l f ≡ and_then (value limit (d.exprs p) f) (λ t. sets_text limit f z t)
-            → Agree (Related (p + 1)) (act limit files l f) (does limit files (gives (d.dead p || d.paired p) line z (Joined (d.exprs p))) h)
-        simple_agrees line z target acts =
-            makes_agree line z target (Joined (d.exprs p)) (value limit (d.exprs p) f) acts there_here value_here refl
+        simple_agrees : (line : ℕ) (z : List ℕ) (o : Expr) → own l ≡ Some o → target_of l ≡ Some z → Agree (Related (p + 1)) (act limit files l f) (does limit files (gives (d.dead p || d.paired p) line z (Joined (d.exprs p))) h)
+        simple_agrees line z o own_is target =
+            makes_agree line z target (Joined (d.exprs p)) (text_in limit f (d.exprs p))
+            (line_gives limit files f l (map (λ x. stands d p x) (read_by l)) (d.exprs p) o stand_here own_here own_is z target)
+            there_here value_here refl
             (extent_is limit h f inv.numbers (lengths s d ok limit p f h inv) (d.exprs p)) (λ t e _. (ready_here, e))
             (d.dead p || d.paired p) (λ both. excused_either line z target (d.dead p) (d.paired p) refl refl both)
 
@@ -246,48 +251,42 @@ module _ (s : List Statement) (d : Decisions) (ok : MeetsConditions s d) (limit 
     abbrev Goal : Statement → Type 0
     Goal l = Agree (Related (p + 1)) (act limit files l f) (does limit files (operation l (d.exprs p) (d.dead p) (d.paired p)) h)
 
-    by_expr : (l : Statement) (z : List ℕ) (e : Expr) → Some e ≡ Some (d.exprs p) → act limit files l f ≡ and_then (value limit e f) (λ t. sets_text limit f z t) → act limit files l f ≡ and_then (value limit (d.exprs p) f) (λ t. sets_text limit f z t)
-    by_expr l z e same acts = let is : e ≡ d.exprs p = cc in subst (λ (w : Expr). act limit files l f ≡ and_then (value limit w f) (λ t. sets_text limit f z t)) is acts
-
     pub agrees : (l : Statement) → slice_get s p ≡ Some l → shape_of l ≡ Simple → Goal l
-    agrees (Chars line z byte count) e q = simple_agrees (Chars line z byte count) e q refl line z refl (by_expr (Chars line z byte count) z (run byte count) (own_here (Chars line z byte count) e q refl) (chars_acts limit f files line z byte count))
-    agrees (Nul line z count) e q = simple_agrees (Nul line z count) e q refl line z refl (by_expr (Nul line z count) z (run (Numeral (pos 0)) count) (own_here (Nul line z count) e q refl) (nul_acts limit f files line z count))
-    agrees (Cat line z x y) e q =
-        simple_agrees (Cat line z x y) e q refl line z refl (by_expr (Cat line z x y) z (cat (members (stands d p x ∷ stands d p y ∷ []))) (own_here (Cat line z x y) e q refl) (cat_acts limit f files line z x y (stands d p x ∷ stands d p y ∷ []) (stand_here (Cat line z x y) e q refl)))
-    agrees (Catn line z xs) e q =
-        simple_agrees (Catn line z xs) e q refl line z refl (by_expr (Catn line z xs) z (cat (members (map (λ x. stands d p x) xs))) (own_here (Catn line z xs) e q refl) (catn_acts limit f files line z xs (map (λ x. stands d p x) xs) (stand_here (Catn line z xs) e q refl)))
-    agrees (Catc line z x byte) e q =
-        simple_agrees (Catc line z x byte) e q refl line z refl (by_expr (Catc line z x byte) z (cat (members (stands d p x ∷ run byte (Numeral (pos 1)) ∷ []))) (own_here (Catc line z x byte) e q refl) (catc_acts limit f files line z x byte (stands d p x) (stand_here (Catc line z x byte) e q refl).0))
-    agrees (Substr line z x i n) e q =
-        simple_agrees (Substr line z x i n) e q refl line z refl (by_expr (Substr line z x i n) z (sub (stands d p x) i n) (own_here (Substr line z x i n) e q refl) (substr_acts limit f files line z x i n (stands d p x) (stand_here (Substr line z x i n) e q refl).0))
+    agrees (Chars line z byte n) e q = simple_agrees (Chars line z byte n) e q refl line z _ refl refl
+    agrees (Nul line z n) e q = simple_agrees (Nul line z n) e q refl line z _ refl refl
+    agrees (Cat line z x y) e q = simple_agrees (Cat line z x y) e q refl line z _ refl refl
+    agrees (Catn line z xs) e q = simple_agrees (Catn line z xs) e q refl line z _ refl refl
+    agrees (Catc line z x byte) e q = simple_agrees (Catc line z x byte) e q refl line z _ refl refl
+    agrees (Substr line z x i n) e q = simple_agrees (Substr line z x i n) e q refl line z _ refl refl
     agrees (Put line x) e q =
         let l : Statement = Put line x in
-        let own : Some (stands d p x) ≡ Some (d.exprs p) = own_here l e q refl in
+        let own_is : Some (stands d p x) ≡ Some (d.exprs p) = own_here l e q refl in
         let is : stands d p x ≡ d.exprs p = cc in
         put_agrees limit files (Related (p + 1)) f h line x (d.exprs p) (there_here l e q refl)
-        (value_here l e q refl ∙ ap (λ (w : Expr). value limit w f) (sym is) ∙ (stand_here l e q refl).0)
+        (value_here l e q refl ∙ ap (λ (w : Expr). text_in limit f w) (sym is) ∙ (stand_here l e q refl).0)
         (inv_on s d ok limit p l e q f h inv f h refl refl inv.numbers inv.extensibles (λ y unset. refl) refl (λ y simple assigned. let bad : ⊥ = cc in bad))
-    agrees (Let line z bytes) e q = other_agrees (Let line z bytes) e q line z refl refl (Literal bytes) (Ok bytes) refl refl refl refl refl
-    agrees (File line z path) e q = other_agrees (File line z path) e q line z refl refl (OfFile path) (file_text files path) refl refl refl refl refl
-    agrees (Eager line z path) e q = other_agrees (Eager line z path) e q line z refl refl (OfEager path) (file_text files path) refl refl refl refl refl
-    agrees (Lazy line z path) e q = other_agrees (Lazy line z path) e q line z refl refl (OfLazy path) (file_text files path) refl refl refl refl refl
+    agrees (Let line z bytes) e q = other_agrees (Let line z bytes) e q line z refl refl (Literal bytes) (within limit bytes) (sets_within limit f z bytes) refl refl refl (within_length limit bytes)
+    agrees (File line z path) e q = other_agrees (File line z path) e q line z refl refl (OfFile path) (opened limit files path) (gives_after limit f z (file_text files path)) refl refl refl refl
+    agrees (Eager line z path) e q = other_agrees (Eager line z path) e q line z refl refl (OfEager path) (opened limit files path) (gives_after limit f z (file_text files path)) refl refl refl refl
+    agrees (Lazy line z path) e q = other_agrees (Lazy line z path) e q line z refl refl (OfLazy path) (opened limit files path) (gives_after limit f z (file_text files path)) refl refl refl refl
     agrees (FromFn line z function count) e q =
         let made : Made = OfFunction function count in
-        let built : made_text limit files made (plain h) ≡ made_text limit files made f = ap (λ (w : ℤ). and_then (as_index w) (λ k. and_then (as_length limit k) (λ _. Ok (function_text function k)))) (plain_number h f inv.numbers count) in
-        other_agrees (FromFn line z function count) e q line z refl refl made (made_text limit files made f)
-        (after_two (as_index (number_value f count)) (λ k. as_length limit k) (λ k _. function_text function k) (λ t. sets_text limit f z t)) refl built refl (ap long built)
+        let built : made_text limit files made (plain h) ≡ made_text limit files made f = ap (λ (w : ℤ). and_then (as_index w) (λ k. and_then (as_length limit k) (λ _. within limit (function_text function k)))) (plain_number h f inv.numbers count) in
+        other_agrees (FromFn line z function count) e q line z refl refl made (made_text limit files made f) (function_gives limit f z files line function count) refl built refl (ap length_of built)
     agrees (Balance line z x) e q =
         let there : h.held x ≡ Text (f.texts x) = texts_read (Balance line z x) e q refl x (inl refl) in
-        other_agrees (Balance line z x) e q line z refl refl (Balanced x) (Ok (f.texts x)) refl (all_held f h (x ∷ []) (texts_read (Balance line z x) e q refl))
-        (ap (λ (k : Held). Ok (text_in k)) there) refl (ap (λ (n : ℕ). Ok n) (lengths s d ok limit p f h inv x))
+        other_agrees (Balance line z x) e q line z refl refl (Balanced x) (within limit (f.texts x)) (sets_within limit f z (f.texts x)) (all_held f h (x ∷ []) (texts_read (Balance line z x) e q refl))
+        (ap (λ (k : Held). within limit (held_text k)) there) refl (ap (λ (n : ℕ). as_length limit n) (lengths s d ok limit p f h inv x) ∙ within_length limit (f.texts x))
     agrees (EcToCord line z extensible) e q =
-        let built : Ok (h.extensibles extensible) ≡ Ok (f.extensibles extensible) = ap (λ (g : List ℕ → List ℕ). Ok (g extensible)) inv.extensibles in
-        other_agrees (EcToCord line z extensible) e q line z refl refl (OfExtensible extensible) (Ok (f.extensibles extensible)) refl refl built refl (ap long built)
+        let built : within limit (h.extensibles extensible) ≡ within limit (f.extensibles extensible) = ap (λ (g : List ℕ → List ℕ). within limit (g extensible)) inv.extensibles in
+        other_agrees (EcToCord line z extensible) e q line z refl refl (OfExtensible extensible) (within limit (f.extensibles extensible)) (sets_within limit f z (f.extensibles extensible)) refl built refl
+        (within_length limit (h.extensibles extensible) ∙ ap length_of built)
     agrees (Sprintf line z bytes format args) e q =
         let l : Statement = Sprintf line z bytes format args in
+        let made : Made = Printed bytes format args in
         let there : all_texts h (cord_arguments args) ≡ true = all_held f h (cord_arguments args) (texts_read l e q refl) in
-        let built : format_text (plain h) format args ≡ format_text f format args = format_same f h inv.numbers format args (agree_held f h (cord_arguments args) (texts_read l e q refl)) in
-        other_agrees l e q line z refl refl (Printed bytes format args) (format_text f format args) refl there built there (ap long built)
+        let built : made_text limit files made (plain h) ≡ made_text limit files made f = ap (λ (r : Result (List ℕ) FaultKind). and_then r (λ t. within limit t)) (format_same f h inv.numbers format args (agree_held f h (cord_arguments args) (texts_read l e q refl))) in
+        other_agrees l e q line z refl refl made (made_text limit files made f) (gives_after limit f z (format_text f format args)) there built there (ap length_of built)
     agrees (Len line z x) e q =
         len_agrees limit files (Related (p + 1)) f h line z x inv.numbers inv.extensibles
         (on (Len line z x) e q refl refl (λ y unset. has_kept f y z (pos (length (f.texts x))) unset)) (lengths s d ok limit p f h inv x)

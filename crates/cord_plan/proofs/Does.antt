@@ -1,20 +1,18 @@
 -- What an operation does beside what its statement does, where texts, numbers and lengths are those of the script.
-use Rattle.std.proofs.Common.{◌≡◌, ℕ, pos, Bool, true, false, List, [], ◌∷◌, length, Option, Some, Result, Ok, Err, refl, sym, ap, ◌∙◌, subst}
-use Rattle.std.specs.Prelude.{if◌then◌else◌, nat_le}
+use Rattle.std.proofs.Common.{◌≡◌, ℕ, pos, Bool, true, List, [], ◌∷◌, length, Option, Some, Result, Ok, Err, refl, sym, ap, ◌∙◌, subst}
 use Rattle.cord_io.specs.Device.{Folder}
 use Rattle.cord_script.specs.declared.statements.Statement.{Statement}
 use Rattle.cord_script.specs.declared.statements.Statement.TheVariants.{Let, File, Eager, Lazy, Chars, Nul, FromFn, Cat, Catn, Catc, Substr, Balance, EcToCord, Sprintf, Len, Put}
 use Rattle.cord_meaning.specs.declared.ends.FaultKind.{FaultKind}
-use Rattle.cord_meaning.specs.declared.ends.FaultKind.TheVariants.{TooLong}
-use Rattle.cord_meaning.specs.State.{State, Outcome, and_then, sets_text, with_value}
+use Rattle.cord_meaning.specs.State.{State, Outcome, and_then, with_value}
 use Rattle.cord_meaning.specs.Statements.{act}
 use Rattle.cord_meaning.specs.Simulation.{Agree}
 use Rattle.cord_plan.specs.Operands.{read_by}
 use Rattle.cord_plan.specs.Planned.{Made, Build, Measure, Write, Keep}
 use Rattle.cord_plan.specs.Exprs.{Expr}
-use Rattle.cord_plan.specs.Meaning.{Text, Long, Holding, length_of, plain, gets, all_texts, cords, texts_to_build, texts_to_measure, value, made_text, made_extent, builds, measures, keeps, does, if_all}
+use Rattle.cord_plan.specs.Values.{length_of, text_in, gives_text}
+use Rattle.cord_plan.specs.Meaning.{Text, Long, Holding, held_length, plain, gets, all_texts, cords, texts_to_build, texts_to_measure, made_text, made_length, builds, measures, keeps, does, if_all}
 use Rattle.cord_plan.proofs.Keeps.{IsKept, Agrees, with_texts, kept_same}
-use Rattle.cord_plan.proofs.Evaluation.{long}
 
 module _ (limit : ℕ) (files : Folder) (Related : State → Option Holding → Type 0) (s : State) (h : Holding) where
   module _ (z : List ℕ) (line : ℕ) (made : Made) (r : Result (List ℕ) FaultKind) where
@@ -24,39 +22,31 @@ module _ (limit : ℕ) (files : Folder) (Related : State → Option Holding → 
 
     -- what is built is the text of the statement
     pub built_agrees : all_texts h (texts_to_build made) ≡ true → made_text limit files made (plain h) ≡ r → ((t : List ℕ) → r ≡ Ok t → Related (after t) (Some (gets h z (Text t))))
-        → Agree Related (and_then r (λ t. sets_text limit s z t)) (does limit files (Build line z made) h)
+        → Agree Related (gives_text s z r) (does limit files (Build line z made) h)
     built_agrees there same related =
-        subst (λ (v : Bool). Agree Related (and_then r (λ t. sets_text limit s z t)) (if_all v (builds limit files h z (made_text limit files made (plain h))))) (sym there)
-        (subst (λ (w : Result (List ℕ) FaultKind). Agree Related (and_then r (λ t. sets_text limit s z t)) (builds limit files h z w)) (sym same) (pick r refl))
+        subst (λ (v : Bool). Agree Related (gives_text s z r) (if_all v (builds h z (made_text limit files made (plain h))))) (sym there)
+        (subst (λ (w : Result (List ℕ) FaultKind). Agree Related (gives_text s z r) (builds h z w)) (sym same) (pick r refl))
       where
-        fits : (t : List ℕ) → r ≡ Ok t → (v : Bool) → Agree Related (and_then (if v then Ok (length t) else Err TooLong) (λ _. Ok (after t, []))) (and_then (if v then Ok (length t) else Err TooLong) (λ _. Ok (Some (gets h z (Text t)), [])))
-        fits t e true = (refl, related t e)
-        fits t e false = refl
-
-        pick : (w : Result (List ℕ) FaultKind) → r ≡ w → Agree Related (and_then w (λ t. sets_text limit s z t)) (builds limit files h z w)
-        pick (Ok t) e = fits t e (nat_le (length t) limit)
+        pick : (w : Result (List ℕ) FaultKind) → r ≡ w → Agree Related (gives_text s z w) (builds h z w)
+        pick (Ok t) e = (refl, related t e)
         pick (Err kind) e = refl
 
     -- what is measured is its length
-    pub measured_agrees : all_texts h (texts_to_measure made) ≡ true → made_extent limit files made h ≡ long r → ((t : List ℕ) → r ≡ Ok t → Related (after t) (Some (gets h z (Long (length t)))))
-        → Agree Related (and_then r (λ t. sets_text limit s z t)) (does limit files (Measure line z made) h)
+    pub measured_agrees : all_texts h (texts_to_measure made) ≡ true → made_length limit files made h ≡ length_of r → ((t : List ℕ) → r ≡ Ok t → Related (after t) (Some (gets h z (Long (length t)))))
+        → Agree Related (gives_text s z r) (does limit files (Measure line z made) h)
     measured_agrees there same related =
-        subst (λ (v : Bool). Agree Related (and_then r (λ t. sets_text limit s z t)) (if_all v (measures limit files h z (made_extent limit files made h)))) (sym there)
-        (subst (λ (w : Result ℕ FaultKind). Agree Related (and_then r (λ t. sets_text limit s z t)) (measures limit files h z w)) (sym same) (pick r refl))
+        subst (λ (v : Bool). Agree Related (gives_text s z r) (if_all v (measures h z (made_length limit files made h)))) (sym there)
+        (subst (λ (w : Result ℕ FaultKind). Agree Related (gives_text s z r) (measures h z w)) (sym same) (pick r refl))
       where
-        fits : (t : List ℕ) → r ≡ Ok t → (v : Bool) → Agree Related (and_then (if v then Ok (length t) else Err TooLong) (λ _. Ok (after t, []))) (and_then (if v then Ok (length t) else Err TooLong) (λ _. Ok (Some (gets h z (Long (length t))), [])))
-        fits t e true = (refl, related t e)
-        fits t e false = refl
-
-        pick : (w : Result (List ℕ) FaultKind) → r ≡ w → Agree Related (and_then w (λ t. sets_text limit s z t)) (measures limit files h z (long w))
-        pick (Ok t) e = fits t e (nat_le (length t) limit)
+        pick : (w : Result (List ℕ) FaultKind) → r ≡ w → Agree Related (gives_text s z w) (measures h z (length_of w))
+        pick (Ok t) e = (refl, related t e)
         pick (Err kind) e = refl
 
   -- what is put is the text of the operand
-  pub put_agrees : (line : ℕ) (x : List ℕ) (e : Expr) → all_texts h (cords e) ≡ true → value limit e (plain h) ≡ Ok (s.texts x) → Related s (Some h)
+  pub put_agrees : (line : ℕ) (x : List ℕ) (e : Expr) → all_texts h (cords e) ≡ true → text_in limit (plain h) e ≡ Ok (s.texts x) → Related s (Some h)
       → Agree Related (act limit files (Put line x) s) (does limit files (Write line e) h)
   put_agrees line x e there same related =
-      subst (λ (v : Bool). Agree Related (Ok (s, s.texts x)) (if_all v (and_then (value limit e (plain h)) (λ t. Ok (Some h, t))))) (sym there)
+      subst (λ (v : Bool). Agree Related (Ok (s, s.texts x)) (if_all v (and_then (text_in limit (plain h) e) (λ t. Ok (Some h, t))))) (sym there)
       (subst (λ (w : Result (List ℕ) FaultKind). Agree Related (Ok (s, s.texts x)) (and_then w (λ t. Ok (Some h, t)))) (sym same) (refl, related))
 
   -- the numbers and extensible cords of a state, with what the cords hold here
@@ -111,8 +101,8 @@ module _ (limit : ℕ) (files : Folder) (Related : State → Option Holding → 
   -- what `len` tells is the length
   pub len_agrees : (line : ℕ) (target x : List ℕ) → h.numbers ≡ s.numbers → h.extensibles ≡ s.extensibles
       → ((u : State) (puts : List ℕ) → act limit files (Len line target x) s ≡ Ok (u, puts) → u.texts ≡ s.texts → Related u (Some (with_others u)))
-      → length_of (h.held x) ≡ length (s.texts x) → Agree Related (act limit files (Len line target x) s) (does limit files (Keep (Len line target x)) h)
+      → held_length (h.held x) ≡ length (s.texts x) → Agree Related (act limit files (Len line target x) s) (does limit files (Keep (Len line target x)) h)
   len_agrees line target x numbers extensibles related e =
       let u : State = record s { numbers = with_value s.numbers target (pos (length (s.texts x))) } in
-      let same : with_others u ≡ record h { numbers = with_value h.numbers target (pos (length_of (h.held x))) } = λ i. record h { numbers = with_value (sym numbers i) target (pos (sym e i)); extensibles = sym extensibles i } in
+      let same : with_others u ≡ record h { numbers = with_value h.numbers target (pos (held_length (h.held x))) } = λ i. record h { numbers = with_value (sym numbers i) target (pos (sym e i)); extensibles = sym extensibles i } in
       (refl, subst (λ (k : Holding). Related u (Some k)) same (related u [] refl refl))

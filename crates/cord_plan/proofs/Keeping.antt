@@ -18,7 +18,8 @@ use Rattle.cord_plan.specs.Exprs.{Expr, name, names}
 use Rattle.cord_plan.specs.Operands.{target_of, is_name, assigns, assigns_at, reads_at}
 use Rattle.cord_plan.specs.Unread.{ReadBy, Unread}
 use Rattle.cord_plan.specs.Forced.{is_block, is_block_at, keeps}
-use Rattle.cord_plan.specs.Meaning.{Held, Text, Long, Holding, length_of, gets, cords, value}
+use Rattle.cord_plan.specs.Values.{text_in}
+use Rattle.cord_plan.specs.Meaning.{Held, Text, Long, Holding, held_length, gets, cords}
 use Rattle.cord_plan.specs.Conditions.{Decisions, is_simple, is_simple_at, makes_cord, assigns_other_at, stands, stands_by, IsForced, MeetsConditions}
 use Rattle.cord_plan.proofs.Evaluation.{In, value_same, cords_named}
 use Rattle.cord_plan.proofs.Barriers.{bars, Barred, next_barred}
@@ -28,9 +29,9 @@ abbrev pub HeldAs : Type 0 → Held → List ℕ → Type 0
 HeldAs U (Text t) v = t ≡ v
 HeldAs U (Long n) v = (n ≡ length v) × U
 
-held_length : (U : Type 0) (k : Held) (v : List ℕ) → HeldAs U k v → length_of k ≡ length v
-held_length U (Text t) v e = ap length e
-held_length U (Long n) v e = e.0
+length_as : (U : Type 0) (k : Held) (v : List ℕ) → HeldAs U k v → held_length k ≡ length v
+length_as U (Text t) v e = ap length e
+length_as U (Long n) v e = e.0
 
 held_on : (U V : Type 0) (k : Held) (v : List ℕ) → (U → V) → HeldAs U k v → HeldAs V k v
 held_on U V (Text t) v f e = e
@@ -105,11 +106,11 @@ module _ (s : List Statement) (d : Decisions) (ok : MeetsConditions s d) (limit 
     pub held : (x : List ℕ) → HeldAs (Spare x p) (h.held x) (f.texts x)
     pub numbers : h.numbers ≡ f.numbers
     pub extensibles : h.extensibles ≡ f.extensibles
-    pub flight : (a b : ℕ) (x : List ℕ) → InFlight p a b x → Ready (d.exprs a) f h × (value limit (d.exprs a) f ≡ Ok (f.texts x))
+    pub flight : (a b : ℕ) (x : List ℕ) → InFlight p a b x → Ready (d.exprs a) f h × (text_in limit f (d.exprs a) ≡ Ok (f.texts x))
 
   -- lengths are those of the script
-  pub lengths : (p : ℕ) (f : State) (h : Holding) → Inv p f h → (x : List ℕ) → length_of (h.held x) ≡ length (f.texts x)
-  lengths p f h inv x = held_length (Spare x p) (h.held x) (f.texts x) (inv.held x)
+  pub lengths : (p : ℕ) (f : State) (h : Holding) → Inv p f h → (x : List ℕ) → held_length (h.held x) ≡ length (f.texts x)
+  lengths p f h inv x = length_as (Spare x p) (h.held x) (f.texts x) (inv.held x)
 
   -- ---- places
   shape_at : (p : ℕ) (o : Option Statement) → slice_get s p ≡ o → slice_get shapes p ≡ option_map shape_of o
@@ -232,11 +233,11 @@ module _ (s : List Statement) (d : Decisions) (ok : MeetsConditions s d) (limit 
           let unset : bytes_eq y z ≡ false = unset_other y (kept_name (slice_get s p) (names e) fixed y (cords_named e y i)) in
           unset_same h.held z k y unset ∙ r y i ∙ ap Text (sym (unset_same f.texts z v y unset))
 
-      value_kept : (e : Expr) → keeps (slice_get s p) (names e) ≡ true → value limit e f_set ≡ value limit e f
+      value_kept : (e : Expr) → keeps (slice_get s p) (names e) ≡ true → text_in limit f_set e ≡ text_in limit f e
       value_kept e fixed = value_same limit f_set f e (λ y i. unset_same f.texts z v y (unset_other y (kept_name (slice_get s p) (names e) fixed y (cords_named e y i)))) (λ y i. refl)
 
-      module _ (knows : is_simple_at (slice_get s p) ≡ true → Ready (d.exprs p) f h × (value limit (d.exprs p) f ≡ Ok v)) where
-        begun : (b : ℕ) (x : List ℕ) → d.source b x ≡ Some p → Ready (d.exprs p) f_set h_set × (value limit (d.exprs p) f_set ≡ Ok (f_set.texts x))
+      module _ (knows : is_simple_at (slice_get s p) ≡ true → Ready (d.exprs p) f h × (text_in limit f (d.exprs p) ≡ Ok v)) where
+        begun : (b : ℕ) (x : List ℕ) → d.source b x ≡ Some p → Ready (d.exprs p) f_set h_set × (text_in limit f_set (d.exprs p) ≡ Ok (f_set.texts x))
         begun b x from =
             let fd : IsForced s d p b x = ok.forced p b x from in
             let got = knows fd.first in
@@ -244,8 +245,8 @@ module _ (s : List Statement) (d : Decisions) (ok : MeetsConditions s d) (limit 
             let fixed : keeps (slice_get s p) (names (d.exprs p)) ≡ true = fd.fixed p low fd.before in
             (ready_kept (d.exprs p) fixed got.0, value_kept (d.exprs p) fixed ∙ got.1 ∙ ap (λ (t : List ℕ). Ok t) (sym (set_there f.texts z v x (sym (sets_at x) ∙ fd.sets))))
 
-        pair_on : (a b : ℕ) (x : List ℕ) → InFlight (p + 1) a b x → (a ≡ p) ⊎ (a < p) → Ready (d.exprs a) f_set h_set × (value limit (d.exprs a) f_set ≡ Ok (f_set.texts x))
-        pair_on a b x fl (inl e) = subst (λ (m : ℕ). Ready (d.exprs m) f_set h_set × (value limit (d.exprs m) f_set ≡ Ok (f_set.texts x))) (sym e) (begun b x (subst (λ (m : ℕ). d.source b x ≡ Some m) e fl.from))
+        pair_on : (a b : ℕ) (x : List ℕ) → InFlight (p + 1) a b x → (a ≡ p) ⊎ (a < p) → Ready (d.exprs a) f_set h_set × (text_in limit f_set (d.exprs a) ≡ Ok (f_set.texts x))
+        pair_on a b x fl (inl e) = subst (λ (m : ℕ). Ready (d.exprs m) f_set h_set × (text_in limit f_set (d.exprs m) ≡ Ok (f_set.texts x))) (sym e) (begun b x (subst (λ (m : ℕ). d.source b x ≡ Some m) e fl.from))
         pair_on a b x fl (inr lt) =
             let fd : IsForced s d a b x = ok.forced a b x fl.from in
             let on : p < b = omega (arith, fl.until) in
@@ -293,7 +294,7 @@ module _ (s : List Statement) (d : Decisions) (ok : MeetsConditions s d) (limit 
       spare_after x true e sp = inl (unread_all x (no_reader x e) (p + 1))
       spare_after x false e sp = spare_on x p (p + 1) (unset_line x e) next_here sp
 
-      on_pair : (a b : ℕ) (x : List ℕ) → InFlight (p + 1) a b x → (a ≡ p) ⊎ (a < p) → Ready (d.exprs a) u h_on × (value limit (d.exprs a) u ≡ Ok (u.texts x))
+      on_pair : (a b : ℕ) (x : List ℕ) → InFlight (p + 1) a b x → (a ≡ p) ⊎ (a < p) → Ready (d.exprs a) u h_on × (text_in limit u (d.exprs a) ≡ Ok (u.texts x))
       on_pair a b x fl (inl e) =
           let fd : IsForced s d p b x = ok.forced p b x (subst (λ (m : ℕ). d.source b x ≡ Some m) e fl.from) in
           absurd (bare x (ap is_simple_at (sym here) ∙ fd.first) (ap (λ (o : Option Statement). assigns_at o x) (sym here) ∙ fd.sets))
@@ -334,10 +335,10 @@ module _ (s : List Statement) (d : Decisions) (ok : MeetsConditions s d) (limit 
         (λ (lt : p < w.1). not_both (reads_at (slice_get s p) x) r (fd.unread p fl.before lt)) (eq-or-lt_of_le fl.until))
 
     -- what stands for an operand can be built, and its value is the operand's text
-    pub operand : (x : List ℕ) → reads_at (slice_get s p) x ≡ true → Ready (stands d p x) f h × (value limit (stands d p x) f ≡ Ok (f.texts x))
+    pub operand : (x : List ℕ) → reads_at (slice_get s p) x ≡ true → Ready (stands d p x) f h × (text_in limit f (stands d p x) ≡ Ok (f.texts x))
     operand x r = pick (d.source p x) refl
       where
-        pick : (o : Option ℕ) → d.source p x ≡ o → Ready (stands_by d.exprs o x) f h × (value limit (stands_by d.exprs o x) f ≡ Ok (f.texts x))
+        pick : (o : Option ℕ) → d.source p x ≡ o → Ready (stands_by d.exprs o x) f h × (text_in limit f (stands_by d.exprs o x) ≡ Ok (f.texts x))
         pick None e = ((λ y i. named y i), refl)
           where
             named : (y : List ℕ) → In y (cords (name x)) → h.held y ≡ Text (f.texts y)

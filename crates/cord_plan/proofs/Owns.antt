@@ -17,7 +17,7 @@ use Rattle.cord_plan.specs.Values.{within, values, text_in, gives_text, puts_tex
 
 module _ (limit : ℕ) (s : State) where
   -- a name gets a text that is within the limit
-  sets_within : (target text : List ℕ) → sets_text limit s target text ≡ gives_text s target (within limit text)
+  pub sets_within : (target text : List ℕ) → sets_text limit s target text ≡ gives_text s target (within limit text)
   sets_within target text = pick (nat_le (length text) limit)
     where
       pick : (v : Bool) → and_then {A = ℕ} (if v then Ok (length text) else Err TooLong) (λ _. Ok (record s { texts = with_value s.texts target text }, [])) ≡ gives_text s target (and_then {A = ℕ} (if v then Ok (length text) else Err TooLong) (λ _. Ok text))

@@ -7,16 +7,19 @@ use Rattle.cord_script.specs.declared.operands.Number.TheVariants.{Numeral}
 use Rattle.cord_script.specs.declared.statements.Statement.{Statement}
 use Rattle.cord_script.specs.declared.statements.Statement.TheVariants.{Let, File, Eager, Lazy, Chars, Nul, FromFn, Cat, Catn, Catc, Substr, Balance, EcToCord, Sprintf, Len, Fetch, Cmp, Ncmp, Str, Chr, Rchr, Assign, Add, Sub, EcInit, EcPut, EcCat, EcStr, Put, Repeat, If, Else, End}
 use Rattle.cord_meaning.specs.declared.ends.FaultKind.{FaultKind}
-use Rattle.cord_meaning.specs.State.{State, and_then, as_index, as_length, number_value, sets_text, with_value}
-use Rattle.cord_meaning.specs.Statements.{act, rules, shape_of, line_of, function_text}
+use Rattle.cord_meaning.specs.State.{State, with_value}
+use Rattle.cord_meaning.specs.Statements.{act, rules, shape_of, line_of, file_text}
 use Rattle.cord_meaning.specs.Simulation.{Agree, Simulates}
 use Rattle.cord_plan.specs.Exprs.{name, run, cat, sub, members}
 use Rattle.cord_plan.specs.Forced.{own}
 use Rattle.cord_plan.specs.Operands.{read_by}
 use Rattle.cord_plan.specs.Planned.{Made, Joined, Literal, OfFile, OfEager, OfLazy, OfFunction, Balanced, OfExtensible, Printed, Operation, Build, Keep, operation, or_nothing, trivial}
+use Rattle.cord_plan.specs.Values.{gives_text}
+use Rattle.cord_meaning.specs.Formats.{format_text}
 use Rattle.cord_plan.specs.Meaning.{Text, Holding, plain, gets, all_texts, texts_to_build, made_text, does, operation_shape, operation_line, plan_rules}
 use Rattle.cord_plan.proofs.Keeps.{IsKept, Agrees}
-use Rattle.cord_plan.proofs.Evaluation.{own_stand, chars_acts, nul_acts, substr_acts, catn_acts, cat_acts, catc_acts, after_two}
+use Rattle.cord_plan.proofs.Evaluation.{gives_after, function_gives}
+use Rattle.cord_plan.proofs.Owns.{own_means, sets_within}
 use Rattle.cord_plan.proofs.Does.{built_agrees, put_agrees, len_agrees, kept_agrees}
 use Rattle.cord_plan.proofs.Operations.{same_shape, same_line, same_count, same_holds}
 
@@ -50,7 +53,7 @@ full_others s u e = λ i. record { held = λ x. Text (sym e i x); numbers = u.nu
 
 module _ (limit : ℕ) (files : Folder) (p : ℕ) (s : State) where
   -- an operation that builds what its statement makes
-  makes : (l : Statement) (line : ℕ) (z : List ℕ) (made : Made) → act limit files l s ≡ and_then (made_text limit files made s) (λ t. sets_text limit s z t) → Agree (Same p) (act limit files l s) (does limit files (Build line z made) (full s))
+  makes : (l : Statement) (line : ℕ) (z : List ℕ) (made : Made) → act limit files l s ≡ gives_text s z (made_text limit files made s) → Agree (Same p) (act limit files l s) (does limit files (Build line z made) (full s))
   makes l line z made e =
       subst (λ (r : Result (State × List ℕ) FaultKind). Agree (Same p) r (does limit files (Build line z made) (full s))) (sym e)
       (built_agrees limit files (Same p) s (full s) z line made (made_text limit files made s) (full_texts s (texts_to_build made)) refl (λ t _. full_gets s z t))
@@ -59,20 +62,20 @@ module _ (limit : ℕ) (files : Folder) (p : ℕ) (s : State) where
   keeps_on l k = kept_agrees limit files (Same p) s (full s) l refl refl (λ u puts is e. full_others s u e) k (full_texts s (read_by l)) (full_same s (read_by l))
 
   trivial_agrees : (l : Statement) → Agree (Same p) (act limit files l s) (does limit files (operation l (or_nothing (own l)) false false) (full s))
-  trivial_agrees (Let line target text) = makes (Let line target text) line target (Literal text) refl
-  trivial_agrees (File line target path) = makes (File line target path) line target (OfFile path) refl
-  trivial_agrees (Eager line target path) = makes (Eager line target path) line target (OfEager path) refl
-  trivial_agrees (Lazy line target path) = makes (Lazy line target path) line target (OfLazy path) refl
-  trivial_agrees (Chars line target byte count) = makes (Chars line target byte count) line target (Joined (run byte count)) (chars_acts limit s files line target byte count)
-  trivial_agrees (Nul line target count) = makes (Nul line target count) line target (Joined (run (Numeral (pos 0)) count)) (nul_acts limit s files line target count)
-  trivial_agrees (FromFn line target function count) = makes (FromFn line target function count) line target (OfFunction function count) (after_two (as_index (number_value s count)) (λ k. as_length limit k) (λ k _. function_text function k) (λ t. sets_text limit s target t))
-  trivial_agrees (Cat line target left right) = makes (Cat line target left right) line target (Joined (cat (members (name left ∷ name right ∷ [])))) (cat_acts limit s files line target left right (name left ∷ name right ∷ []) (own_stand limit s (left ∷ right ∷ [])))
-  trivial_agrees (Catn line target parts) = makes (Catn line target parts) line target (Joined (cat (members (map (λ x. name x) parts)))) (catn_acts limit s files line target parts (map (λ x. name x) parts) (own_stand limit s parts))
-  trivial_agrees (Catc line target operand byte) = makes (Catc line target operand byte) line target (Joined (cat (members (name operand ∷ run byte (Numeral (pos 1)) ∷ [])))) (catc_acts limit s files line target operand byte (name operand) refl)
-  trivial_agrees (Substr line target operand start count) = makes (Substr line target operand start count) line target (Joined (sub (name operand) start count)) (substr_acts limit s files line target operand start count (name operand) refl)
-  trivial_agrees (Balance line target operand) = makes (Balance line target operand) line target (Balanced operand) refl
-  trivial_agrees (EcToCord line target extensible) = makes (EcToCord line target extensible) line target (OfExtensible extensible) refl
-  trivial_agrees (Sprintf line target text format arguments) = makes (Sprintf line target text format arguments) line target (Printed text format arguments) refl
+  trivial_agrees (Let line target text) = makes (Let line target text) line target (Literal text) (sets_within limit s target text)
+  trivial_agrees (File line target path) = makes (File line target path) line target (OfFile path) (gives_after limit s target (file_text files path))
+  trivial_agrees (Eager line target path) = makes (Eager line target path) line target (OfEager path) (gives_after limit s target (file_text files path))
+  trivial_agrees (Lazy line target path) = makes (Lazy line target path) line target (OfLazy path) (gives_after limit s target (file_text files path))
+  trivial_agrees (Chars line target byte count) = makes (Chars line target byte count) line target (Joined (run byte count)) (own_means limit s files (Chars line target byte count))
+  trivial_agrees (Nul line target count) = makes (Nul line target count) line target (Joined (run (Numeral (pos 0)) count)) (own_means limit s files (Nul line target count))
+  trivial_agrees (FromFn line target function count) = makes (FromFn line target function count) line target (OfFunction function count) (function_gives limit s target files line function count)
+  trivial_agrees (Cat line target left right) = makes (Cat line target left right) line target (Joined (cat (members (name left ∷ name right ∷ [])))) (own_means limit s files (Cat line target left right))
+  trivial_agrees (Catn line target parts) = makes (Catn line target parts) line target (Joined (cat (members (map (λ x. name x) parts)))) (own_means limit s files (Catn line target parts))
+  trivial_agrees (Catc line target operand byte) = makes (Catc line target operand byte) line target (Joined (cat (members (name operand ∷ run byte (Numeral (pos 1)) ∷ [])))) (own_means limit s files (Catc line target operand byte))
+  trivial_agrees (Substr line target operand start count) = makes (Substr line target operand start count) line target (Joined (sub (name operand) start count)) (own_means limit s files (Substr line target operand start count))
+  trivial_agrees (Balance line target operand) = makes (Balance line target operand) line target (Balanced operand) (sets_within limit s target (s.texts operand))
+  trivial_agrees (EcToCord line target extensible) = makes (EcToCord line target extensible) line target (OfExtensible extensible) (sets_within limit s target (s.extensibles extensible))
+  trivial_agrees (Sprintf line target text format arguments) = makes (Sprintf line target text format arguments) line target (Printed text format arguments) (gives_after limit s target (format_text s format arguments))
   trivial_agrees (Len line target operand) = len_agrees limit files (Same p) s (full s) line target operand refl refl (λ u puts is e. full_others s u e) refl
   trivial_agrees (Put line operand) = put_agrees limit files (Same p) s (full s) line operand (name operand) refl refl refl
   trivial_agrees (Fetch line target operand index) = keeps_on (Fetch line target operand index) tt

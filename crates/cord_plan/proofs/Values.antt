@@ -41,7 +41,7 @@ pub is_within : (limit : ℕ) (text : List ℕ) → length text ≤ limit → wi
 is_within limit text short = ap (λ (v : Bool). and_then {A = ℕ} (if v then Ok (length text) else Err TooLong) (λ _. Ok text)) (le-leb (length text) limit short)
 
 -- the length of a text within the limit
-within_length : (limit : ℕ) (text : List ℕ) → as_length limit (length text) ≡ length_of (within limit text)
+pub within_length : (limit : ℕ) (text : List ℕ) → as_length limit (length text) ≡ length_of (within limit text)
 within_length limit text = pick (nat_le (length text) limit)
   where
     pick : (v : Bool) → (if v then Ok (length text) else Err TooLong) ≡ length_of (and_then {A = ℕ} (if v then Ok (length text) else Err TooLong) (λ _. Ok text))
