@@ -9,3 +9,4 @@ pub mod Chosen
 pub mod Named
 pub mod ReadNames
 pub mod Pairs
+pub mod PlannedPairs

@@ -14,7 +14,9 @@ pub use laws::{
     dead_targets_are_not_built, fixed_points_tell_what_is_read, no_cat_stands_in_a_cat,
     what_is_read_later_is_one,
 };
-pub use pair_laws::{pairs_leave_their_name_out, replacements_keep_expressions_small};
+pub use pair_laws::{
+    pairs_are_planned, pairs_leave_their_name_out, replacements_keep_expressions_small,
+};
 pub use rows::plans_are_computed;
 
 /// The greatest number of parts of an expression that an operand was replaced in.
