@@ -3,6 +3,8 @@ use Rattle.std.proofs.Common.{◌≡◌, ◌⊎◌, ℕ, zero, suc, ◌+◌, ◌
 use Rattle.std.specs.Prelude.{slice_get, not, ◌==◌, nat_le}
 use Rattle.std.specs.Str.{bytes_eq}
 use Rattle.std.proofs.lemmas.Bool.{leb-true, leb-false, eqb-true}
+use Rattle.cord_script.specs.Forms.{Grammar}
+use Rattle.cord_script.specs.Script.{ReadsBy}
 use Rattle.cord_script.specs.declared.statements.Statement.{Statement}
 use Rattle.cord_plan.specs.declared.TheConstants.{MAX_EXPR_PARTS}
 use Rattle.cord_plan.specs.Exprs.{Expr, parts, names}
@@ -13,8 +15,6 @@ use Rattle.cord_plan.proofs.Chosen.{both_true, Taken, Chosen, AreChosen, are_cho
 use Rattle.cord_plan.proofs.Flows.{or_true}
 use Rattle.cord_plan.proofs.Named.{not_true, no_true, same_bytes, has_at, one_place, each_at, keeps_at, SomeNames, Names, with_names}
 use Rattle.cord_plan.proofs.ReadNames.{no_number}
-use Rattle.cord_script.specs.Forms.{Grammar}
-use Rattle.cord_script.specs.Script.{ReadsBy}
 
 module _ (s : List Statement) (later : List ℕ → ℕ → Bool) where
   -- what is known where the expression r of the line at a stands for x in the line l at b

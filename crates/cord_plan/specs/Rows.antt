@@ -4,7 +4,7 @@ use Rattle.cord_script.specs.declared.statements.Statement.{Statement}
 use Rattle.cord_script.specs.declared.statements.Statement.TheVariants.{Let, File, Chars, Cat, Substr, Put}
 use Rattle.cord_meaning.specs.Rows.{numeral}
 use Rattle.cord_plan.specs.Unread.{later_within}
-use Rattle.cord_plan.specs.Exprs.{name, run, cat, sub, nothing, member}
+use Rattle.cord_plan.specs.Exprs.{Expr, name, run, cat, sub, nothing, member}
 use Rattle.cord_plan.specs.Planned.{Operation, Build, Measure, Write, Joined, Literal, planned}
 use Rattle.cord_plan.specs.Shown.{shown}
 
@@ -17,6 +17,13 @@ substr_over_seam =
     ∷ Substr 4 (codes "z") (codes "t") (numeral 2) (numeral 3)
     ∷ Put 5 (codes "z")
     ∷ []
+
+-- the expressions of its lines 3 and 4
+abbrev pub joined_over_seam : Expr
+joined_over_seam = cat (member (name (codes "a")) (member (name (codes "b")) nothing))
+
+abbrev pub part_over_seam : Expr
+part_over_seam = sub joined_over_seam (numeral 2) (numeral 3)
 
 -- `chars a 0 1099511627775 ; let b "b" ; cat t a b ; substr z t 0 1 ; put b`
 abbrev pub substr_of_unread_cat_too_long : List Statement

@@ -1,5 +1,5 @@
 // Laws of forced pairs: each is a function that does nothing, whose contract is the law.
-ghost use Rattle.std.specs.Prelude.{◌≡◌, ◌≤◌, ℕ, List, Bool, false, Some, slice_get};
+ghost use Rattle.std.specs.Prelude.{◌≡◌, ◌≤◌, ℕ, List, Bool, false, Some, codes, slice_get};
 ghost use Rattle.cord_script.specs.declared.statements.Statement.{Statement};
 ghost use Rattle.cord_script.specs.Forms.{Grammar};
 ghost use Rattle.cord_script.specs.Script.{ReadsBy};
@@ -7,6 +7,8 @@ ghost use Rattle.cord_plan.specs.declared.TheConstants.{MAX_EXPR_PARTS};
 ghost use Rattle.cord_plan.specs.Exprs.{Expr, parts, names};
 ghost use Rattle.cord_plan.specs.Operands.{has};
 ghost use Rattle.cord_plan.specs.Planned.{Operation, Measure, Joined, planned};
+ghost use Rattle.cord_plan.specs.Rows;
+ghost use Rattle.cord_plan.specs.Unread.{later_within};
 ghost use Rattle.cord_plan.specs.Pairs.{IsPair, IsNoNumber, expression_of};
 
 /// No expression that an operand was replaced in has more than `MAX_EXPR_PARTS` parts.
@@ -25,4 +27,5 @@ pub fn pairs_leave_their_name_out()
 pub fn pairs_are_planned()
     ensures earlier { (s : List Statement) (later : List ℕ → ℕ → Bool) (a b : ℕ) (t : List ℕ) (e : Expr) → (pair : IsPair s later a b t e) → (line : ℕ) × (slice_get (planned s later) a ≡ Some (Measure line t (Joined pair.earlier))) }
     ensures later { (s : List Statement) (later : List ℕ → ℕ → Bool) (a b : ℕ) (t : List ℕ) (e : Expr) → IsPair s later a b t e → (o : Operation) × (slice_get (planned s later) b ≡ Some o) × (expression_of o ≡ Some e) }
+    ensures seam { IsPair Rows.substr_over_seam (λ x p. later_within Rows.substr_over_seam 5 x p) 2 3 (codes "t") Rows.part_over_seam }
 {}
