@@ -22,3 +22,4 @@ pub mod Pairs
 pub mod Planning
 pub mod ReadKinds
 pub mod Kept
+pub mod PlannedPairs

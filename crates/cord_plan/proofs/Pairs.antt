@@ -3,18 +3,18 @@ use Rattle.std.proofs.Common.{◌≡◌, ◌⊎◌, ℕ, zero, suc, ◌+◌, ◌
 use Rattle.std.specs.Prelude.{slice_get, not, ◌==◌, nat_le}
 use Rattle.std.specs.Str.{bytes_eq}
 use Rattle.std.proofs.lemmas.Bool.{leb-true, leb-false, eqb-true}
+use Rattle.cord_script.specs.Forms.{Grammar}
+use Rattle.cord_script.specs.Script.{ReadsBy}
 use Rattle.cord_script.specs.declared.statements.Statement.{Statement}
 use Rattle.cord_plan.specs.declared.TheConstants.{MAX_EXPR_PARTS}
 use Rattle.cord_plan.specs.Exprs.{Expr, parts, names}
 use Rattle.cord_plan.specs.Operands.{count, has, read_by, reads_at, assigns, assigns_at}
 use Rattle.cord_plan.specs.Forced.{Table, Choice, kept, replaced, expr_of, expr_with, is_small, is_block_at, each_from, keeps, first_of, own, choices, operands_chosen}
 use Rattle.cord_plan.specs.Pairs.{IsPair, numbers_named, numbers_named_at, IsNoNumber}
-use Rattle.cord_plan.proofs.Chosen.{both_true, Taken, Chosen, AreChosen, are_chosen, stay_small, EachEntry, each_entry}
+use Rattle.cord_plan.proofs.Chosen.{both_true, Taken, Chosen, AreChosen, are_chosen, stay_small, EachEntry, IsFront, each_entry}
 use Rattle.cord_plan.proofs.Flows.{or_true}
 use Rattle.cord_plan.proofs.Named.{not_true, no_true, same_bytes, has_at, one_place, each_at, keeps_at, SomeNames, Names, with_names}
 use Rattle.cord_plan.proofs.ReadNames.{no_number}
-use Rattle.cord_script.specs.Forms.{Grammar}
-use Rattle.cord_script.specs.Script.{ReadsBy}
 
 module _ (s : List Statement) (later : List ℕ → ℕ → Bool) where
   -- what is known where the expression r of the line at a stands for x in the line l at b
@@ -69,13 +69,23 @@ module _ (s : List Statement) (later : List ℕ → ℕ → Bool) where
       let r : ChosenAt table b l xs cs k f = chosen_at table b l xs cs k f h.1 e in
       record { operand = r.operand; choice = r.choice; is_operand = r.is_operand; is_choice = r.is_choice; is = r.is; chosen = r.chosen }
 
-  -- the entry of an expression
-  record EntryOf (table : Table) (a : ℕ) (r : Expr) : Type 0 where
-    en : Option Expr × List Choice
-    at : slice_get table a ≡ Some en
-    is : en.0 ≡ Some r
+  -- the replacement at an operand's place
+  pub taken_at : (table : Table) (b : ℕ) (l : Statement) (xs : List (List ℕ)) (cs : List Choice) (i : ℕ) (t : List ℕ) (a : ℕ) (r : Expr) → AreChosen s later table b l xs cs → slice_get xs i ≡ Some t → slice_get cs i ≡ Some (replaced a r) → Taken s later table b l t a r
+  taken_at table b l [] cs i t a r h e f = let bad : ⊥ = cc in absurd bad
+  taken_at table b l (x ∷ xs) [] i t a r h e f = absurd h
+  taken_at table b l (x ∷ xs) (c ∷ cs) zero t a r h e f =
+      let same : x ≡ t = cc in
+      let is : c ≡ replaced a r = cc in
+      subst (λ (w : List ℕ). Taken s later table b l w a r) same (subst (λ (d : Choice). Chosen s later table b l x d) is h.0)
+  taken_at table b l (x ∷ xs) (c ∷ cs) (suc i) t a r h e f = taken_at table b l xs cs i t a r h.1 e f
 
-  entry_of : (table : Table) (a : ℕ) (r : Expr) → first_of (slice_get table a) ≡ Some r → EntryOf table a r
+  -- the entry of an expression
+  pub record EntryOf (table : Table) (a : ℕ) (r : Expr) : Type 0 where
+    pub en : Option Expr × List Choice
+    pub at : slice_get table a ≡ Some en
+    pub is : en.0 ≡ Some r
+
+  pub entry_of : (table : Table) (a : ℕ) (r : Expr) → first_of (slice_get table a) ≡ Some r → EntryOf table a r
   entry_of table a r e = pick (slice_get table a) refl e
     where
       pick : (o : Option (Option Expr × List Choice)) → slice_get table a ≡ o → first_of o ≡ Some r → EntryOf table a r
@@ -126,19 +136,9 @@ module _ (s : List Statement) (later : List ℕ → ℕ → Bool) where
         pick (inl h) = chosen_named h.place h.expression y (chosen_at table b l (read_by l) made h.place h.expression are_made h.is) h.names_it
         pick (inr h) = named_here y (inr h)
 
-    -- the replacement at an operand's place
-    taken_at : (xs : List (List ℕ)) (cs : List Choice) (i : ℕ) (t : List ℕ) (a : ℕ) (r : Expr) → AreChosen s later table b l xs cs → slice_get xs i ≡ Some t → slice_get cs i ≡ Some (replaced a r) → Taken s later table b l t a r
-    taken_at [] cs i t a r h e f = let bad : ⊥ = cc in absurd bad
-    taken_at (x ∷ xs) [] i t a r h e f = absurd h
-    taken_at (x ∷ xs) (c ∷ cs) zero t a r h e f =
-        let same : x ≡ t = cc in
-        let is : c ≡ replaced a r = cc in
-        subst (λ (w : List ℕ). Taken s later table b l w a r) same (subst (λ (d : Choice). Chosen s later table b l x d) is h.0)
-    taken_at (x ∷ xs) (c ∷ cs) (suc i) t a r h e f = taken_at xs cs i t a r h.1 e f
-
     module _ (t : List ℕ) (a i : ℕ) (r : Expr) (operand : slice_get (read_by l) i ≡ Some t) (is_replaced : slice_get made i ≡ Some (replaced a r)) (no_number : IsNoNumber s t) where
       taken : Taken s later table b l t a r
-      taken = taken_at (read_by l) made i t a r are_made operand is_replaced
+      taken = taken_at table b l (read_by l) made i t a r are_made operand is_replaced
 
       known : Facts r a b l t
       known = taken_facts table b l t a r taken
@@ -205,8 +205,8 @@ module _ (s : List Statement) (later : List ℕ → ℕ → Bool) where
   abbrev EntryFine : ℕ → Option Expr × List Choice → Type 0
   EntryFine k en = EntryNamed k en × EntryOut k en
 
-  entry_fine : (table : Table) (b : ℕ) (l : Statement) → slice_get s b ≡ Some l → EachEntry s later EntryFine table → EntryFine b (operands_chosen s later table b l (own l))
-  entry_fine table b l at each = (
+  entry_fine : (table : Table) (b : ℕ) (l : Statement) → slice_get s b ≡ Some l → IsFront s later table → EachEntry s later EntryFine table → EntryFine b (operands_chosen s later table b l (own l))
+  entry_fine table b l at front each = (
     entry_named table b l at named (own l),
     λ line t a i r e line_at is operand is_replaced no_number. (
         let same : l ≡ line = (let both : Some l ≡ Some line = sym at ∙ line_at in cc) in
@@ -230,17 +230,17 @@ module _ (s : List Statement) (later : List ℕ → ℕ → Bool) where
       leb-true (parts e) MAX_EXPR_PARTS (ap (λ (o : Option Expr). is_small o) (sym is) ∙ ap (λ (es : List Expr). is_small (expr_with l es)) (sym (append-nil (map (λ c. expr_of c) cs))) ∙ small)
 
   pub stays_small : (a b : ℕ) (t : List ℕ) (e : Expr) → IsPair s later a b t e → parts e ≤ MAX_EXPR_PARTS
-  stays_small a b t e h = each_entry s later EntrySmall (λ table b l at each. small_of table b l (own l)) b (Some e, h.choices) h.is_expression e h.operand a h.earlier refl h.is_replaced
+  stays_small a b t e h = each_entry s later EntrySmall (λ table b l at front each. small_of table b l (own l)) b (Some e, h.choices) h.is_expression e h.operand a h.earlier refl h.is_replaced
 
-  abbrev EntryOwn : ℕ → Option Expr × List Choice → Type 0
+  abbrev pub EntryOwn : ℕ → Option Expr × List Choice → Type 0
   EntryOwn k en = (l : Statement) (e : Expr) → slice_get s k ≡ Some l → en.0 ≡ Some e → (o : Expr) × (own l ≡ Some o)
 
   own_of : (table : Table) (b : ℕ) (l : Statement) (o : Option Expr) → own l ≡ o → (e : Expr) → (operands_chosen s later table b l o).0 ≡ Some e → (o : Expr) × (own l ≡ Some o)
   own_of table b l None own_is e is = let bad : ⊥ = cc in absurd bad
   own_of table b l (Some first) own_is e is = (first, own_is)
 
-  entry_own : (table : Table) (b : ℕ) (l : Statement) → slice_get s b ≡ Some l → EachEntry s later EntryOwn table → EntryOwn b (operands_chosen s later table b l (own l))
-  entry_own table b l at each line e line_at is =
+  pub entry_own : (table : Table) (b : ℕ) (l : Statement) → slice_get s b ≡ Some l → IsFront s later table → EachEntry s later EntryOwn table → EntryOwn b (operands_chosen s later table b l (own l))
+  entry_own table b l at front each line e line_at is =
       let same : l ≡ line = (let both : Some l ≡ Some line = sym at ∙ line_at in cc) in
       subst (λ (x : Statement). (o : Expr) × (own x ≡ Some o)) same (own_of table b l (own l) refl e is)
 

@@ -106,7 +106,7 @@ operands_known before (x ∷ xs) zero y h e =
     subst (λ (z : List ℕ). kind_of before.names z ≡ Some kinds.Cord) same h.0
 operands_known before (x ∷ xs) (suc k) y h e = operands_known before xs k y h.1 e
 
-abbrev HasOwn : Option Expr → Type 0
+abbrev pub HasOwn : Option Expr → Type 0
 HasOwn None = ⊥
 HasOwn (Some e) = Unit {0}
 

@@ -5,6 +5,7 @@ use Rattle.cord_script.specs.declared.statements.Statement.TheVariants.{Chars, N
 use Rattle.cord_plan.specs.Exprs.{Expr, number_names}
 use Rattle.cord_plan.specs.Operands.{has, read_by}
 use Rattle.cord_plan.specs.Forced.{Choice, replaced, exprs}
+use Rattle.cord_plan.specs.Planned.{Operation, Joined, Build, Measure, Write}
 
 -- the lines at a and b are a forced pair for t, and e is the expression of the later line
 pub record IsPair (s : List Statement) (later : List ℕ → ℕ → Bool) (a b : ℕ) (t : List ℕ) (e : Expr) : Type 0 where
@@ -32,3 +33,10 @@ numbers_named_at (Some l) = numbers_named l
 -- in no line's own expression is a name that of a number
 abbrev pub IsNoNumber : List Statement → List ℕ → Type 0
 IsNoNumber s t = (p : ℕ) → has (numbers_named_at (slice_get s p)) t ≡ false
+
+-- the expression of an operation, where it has one
+abbrev pub expression_of : Operation → Option Expr
+expression_of (Build line x (Joined e)) = Some e
+expression_of (Measure line x (Joined e)) = Some e
+expression_of (Write line e) = Some e
+expression_of _ = None

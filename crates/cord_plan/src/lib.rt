@@ -19,8 +19,10 @@ pub use meaning::{
     planned_scripts_keep_the_meaning, planned_scripts_meet_the_conditions, plans_keep_the_meaning,
     trivial_plans_keep_the_meaning,
 };
-pub use pair_laws::{pairs_leave_their_name_out, replacements_keep_expressions_small};
-pub use rows::plans_are_computed;
+pub use pair_laws::{
+    pairs_are_planned, pairs_leave_their_name_out, replacements_keep_expressions_small,
+};
+pub use rows::{plans_are_computed, runs_of_plans_are_computed};
 
 /// The greatest number of parts of an expression that an operand was replaced in.
 pub const MAX_EXPR_PARTS: u32 = 64;
