@@ -20,6 +20,7 @@ pub mod Named
 pub mod ReadNames
 pub mod Pairs
 pub mod Planning
+pub mod TrivialDecided
 pub mod ReadKinds
 pub mod Kept
 pub mod PlannedPairs

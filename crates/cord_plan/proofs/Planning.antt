@@ -50,7 +50,7 @@ expr_there g (Substr line target operand start count) h = (_, refl)
 expr_there g (Put line operand) h = (_, refl)
 expr_there g l h = let bad : ⊥ = cc in absurd bad
 
-own_simple : (l : Statement) → is_simple l ≡ true → (e : Expr) × (own l ≡ Some e)
+pub own_simple : (l : Statement) → is_simple l ≡ true → (e : Expr) × (own l ≡ Some e)
 own_simple l h = expr_there (λ x. name x) l h
 
 -- a line that assigns both assigns one name

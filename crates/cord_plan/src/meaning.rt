@@ -1,5 +1,5 @@
 // Plans keep the meaning of their scripts: each is a function that does nothing, whose contract is the law.
-ghost use Rattle.std.specs.Prelude.{◌≡◌, ℕ, Bool, List, [], map};
+ghost use Rattle.std.specs.Prelude.{◌≡◌, ℕ, Bool, false, None, List, [], map};
 ghost use Rattle.cord_io.specs.Device.{Folder};
 ghost use Rattle.cord_script.specs.declared.statements.Statement.{Statement};
 ghost use Rattle.cord_script.specs.Forms.{Grammar};
@@ -30,9 +30,10 @@ pub fn plans_keep_the_meaning()
 {}
 
 /// The plan of a script, given what is read later, is one that meets the conditions, wherever no name that is assigned as a number or
-/// an extensible cord is read as a cord; so it is in every script that is read.
+/// an extensible cord is read as a cord; so it is in every script that is read. The trivial plan is the one without pairs and measures.
 pub fn planned_scripts_meet_the_conditions()
     ensures meets { (s : List Statement) (later : List ℕ → ℕ → Bool) → IsLater s later → HasKinds s → (d : Decisions) × MeetsConditions s d × (planned s later ≡ decided d s) }
+    ensures trivial { (s : List Statement) → HasKinds s → (d : Decisions) × MeetsConditions s d × (trivial s ≡ decided d s) × ((p : ℕ) (x : List ℕ) → (d.dead p ≡ false) × (d.paired p ≡ false) × (d.source p x ≡ None)) }
     ensures kinds { (g : Grammar) (text : List ℕ) (s : List Statement) → ReadsBy g text s → HasKinds s }
 {}
 
