@@ -9,7 +9,7 @@ use Rattle.cord_meaning.specs.Statements.{shape_of}
 use Rattle.cord_plan.specs.Operands.{reads_at, assigns_at}
 use Rattle.cord_plan.specs.Unread.{ReadBy, ReadLater, IsLater, IsFixed, behind, behind_close, behind_shape, some_of, live, later_within}
 
-or_true : (a b : Bool) → (a || b) ≡ true → (a ≡ true) ⊎ (b ≡ true)
+pub or_true : (a b : Bool) → (a || b) ≡ true → (a ≡ true) ⊎ (b ≡ true)
 or_true true b e = inl refl
 or_true false b e = inr e
 

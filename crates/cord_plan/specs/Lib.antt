@@ -1,8 +1,14 @@
 pub mod Exprs
+pub mod Values
 pub mod Operands
 pub mod Unread
 pub mod Forced
 pub mod Planned
 pub mod Flat
+pub mod Flattening
+pub mod Resolved
+pub mod Pairs
 pub mod Shown
+pub mod Meaning
+pub mod Conditions
 pub mod Rows

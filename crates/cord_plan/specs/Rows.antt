@@ -1,11 +1,16 @@
 -- Scripts whose plans are computed, beside those whose runs are.
-use Rattle.std.specs.Prelude.{ℕ, List, [], ◌∷◌, ◌++◌, codes}
+use Rattle.std.specs.Prelude.{ℕ, List, [], ◌∷◌, ◌++◌, Option, Some, codes}
 use Rattle.cord_script.specs.declared.statements.Statement.{Statement}
-use Rattle.cord_script.specs.declared.statements.Statement.TheVariants.{Let, File, Chars, Cat, Substr, Put}
+use Rattle.cord_script.specs.declared.statements.Statement.TheVariants.{Let, File, Chars, Cat, Substr, Len, Put}
+use Rattle.cord_io.specs.Device.{Folder}
+use Rattle.cord_io.specs.declared.TheConstants.{MAX_LEN}
+use Rattle.cord_meaning.specs.declared.TheConstants.{MAX_TURNS}
+use Rattle.cord_meaning.specs.Machine.{Config, after}
 use Rattle.cord_meaning.specs.Rows.{numeral}
 use Rattle.cord_plan.specs.Unread.{later_within}
-use Rattle.cord_plan.specs.Exprs.{name, run, cat, sub, nothing, member}
-use Rattle.cord_plan.specs.Planned.{Operation, Build, Measure, Write, Joined, Literal, planned}
+use Rattle.cord_plan.specs.Exprs.{Expr, name, run, cat, sub, nothing, member}
+use Rattle.cord_plan.specs.Planned.{Operation, Build, Measure, Write, Keep, Joined, Literal, OfEager, planned}
+use Rattle.cord_plan.specs.Meaning.{Holding, start_holding, plan_rules}
 use Rattle.cord_plan.specs.Shown.{shown}
 
 -- `let a "abc" ; let b "def" ; cat t a b ; substr z t 2 3 ; put z`
@@ -17,6 +22,13 @@ substr_over_seam =
     ∷ Substr 4 (codes "z") (codes "t") (numeral 2) (numeral 3)
     ∷ Put 5 (codes "z")
     ∷ []
+
+-- the expressions of its lines 3 and 4
+abbrev pub joined_over_seam : Expr
+joined_over_seam = cat (member (name (codes "a")) (member (name (codes "b")) nothing))
+
+abbrev pub part_over_seam : Expr
+part_over_seam = sub joined_over_seam (numeral 2) (numeral 3)
 
 -- `chars a 0 1099511627775 ; let b "b" ; cat t a b ; substr z t 0 1 ; put b`
 abbrev pub substr_of_unread_cat_too_long : List Statement
@@ -62,3 +74,26 @@ plan_of k s = planned s (λ x p. later_within s k x p)
 
 abbrev pub plan_text : ℕ → List Statement → List ℕ
 plan_text k s = shown (plan_of k s)
+
+-- a run of a plan after k steps
+abbrev pub plan_after : List Operation → Folder → ℕ → Config (Option Holding)
+plan_after plan files k = after (plan_rules MAX_LEN files) MAX_TURNS plan k (Some start_holding)
+
+-- a plan that no script has: it puts a name that it only measured
+abbrev pub measured_and_put : List Operation
+measured_and_put =
+    Measure 1 (codes "a") (Literal (codes "abc"))
+    ∷ Keep (Len 2 (codes "n") (codes "a"))
+    ∷ Write 3 (name (codes "a"))
+    ∷ []
+
+-- a plan that measures a file that isn't there
+abbrev pub missing_file_measured : List Operation
+missing_file_measured = Measure 1 (codes "x") (OfEager (codes "p")) ∷ []
+
+-- a plan that measures a `cat` whose text would be too long
+abbrev pub too_long_measured : List Operation
+too_long_measured =
+    Measure 1 (codes "a") (Joined (run (numeral 0) (numeral 1099511627775)))
+    ∷ Measure 2 (codes "t") (Joined (cat (member (name (codes "a")) (member (run (numeral 0) (numeral 1)) nothing))))
+    ∷ []

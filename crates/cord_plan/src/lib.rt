@@ -1,14 +1,28 @@
 //! Plans: what a run of a script makes, what it only measures, and in which order.
 #![tactic(auto)]
 
+mod expression_laws;
 mod laws;
+mod meaning;
+mod pair_laws;
 mod rows;
 
+pub use expression_laws::{
+    flattened_cats_mean_the_nested, measures_are_lengths, own_expressions_mean_their_lines,
+    subs_over_cats_are_resolved_by_lengths,
+};
 pub use laws::{
     dead_targets_are_not_built, fixed_points_tell_what_is_read, no_cat_stands_in_a_cat,
     what_is_read_later_is_one,
 };
-pub use rows::plans_are_computed;
+pub use meaning::{
+    planned_scripts_keep_the_meaning, planned_scripts_meet_the_conditions, plans_keep_the_meaning,
+    trivial_plans_keep_the_meaning,
+};
+pub use pair_laws::{
+    pairs_are_planned, pairs_leave_their_name_out, replacements_keep_expressions_small,
+};
+pub use rows::{plans_are_computed, runs_of_plans_are_computed};
 
 /// The greatest number of parts of an expression that an operand was replaced in.
 pub const MAX_EXPR_PARTS: u32 = 64;

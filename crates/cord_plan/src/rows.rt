@@ -1,8 +1,11 @@
 // Scripts whose plans are computed: each clause is a worked row.
-ghost use Rattle.std.specs.Prelude.{◌≡◌, codes};
+ghost use Rattle.std.specs.Prelude.{◌≡◌, [], Some, None, IsSome, codes};
+ghost use Rattle.cord_meaning.specs.Machine.{output};
+ghost use Rattle.cord_meaning.specs.declared.ends.End.TheVariants.{Done, Fault};
+ghost use Rattle.cord_meaning.specs.declared.ends.FaultKind.TheVariants.{NoFile, TooLong};
 ghost use Rattle.cord_meaning.specs.Rows as scripts;
 ghost use Rattle.cord_plan.specs.Rows;
-ghost use Rattle.cord_plan.specs.Rows.{plan_of, plan_text};
+ghost use Rattle.cord_plan.specs.Rows.{plan_of, plan_text, plan_after};
 ghost use Rattle.cord_plan.specs.Planned.{trivial};
 ghost use Rattle.cord_plan.specs.Shown.{shown};
 
@@ -19,4 +22,16 @@ pub fn plans_are_computed()
     ensures loop_reads_next_turn { plan_text 5 scripts.loop_reads_next_turn ≡ codes "1 build x literal(0)\n2 repeat 3\n3 write x\n4 build x cat(x run(65 1))\n5 end\n" }
     ensures if_else_both_assign { plan_text 8 scripts.if_else_both_assign ≡ codes "1 measure x literal(1)\n2 number n len(x)\n3 if n eq 1\n4 build x literal(1)\n5 else\n6 build x literal(1)\n7 end\n8 write x\n" }
     ensures if_without_else_keeps { plan_text 6 scripts.if_without_else_keeps ≡ codes "1 build x literal(1)\n2 number n len(x)\n3 if n gt 1\n4 build x literal(1)\n5 end\n6 write x\n" }
+{}
+
+/// What plans do: the plan of a worked script, a plan that is stuck where it puts a name that it only measured, and measures that meet
+/// the faults of their lines.
+pub fn runs_of_plans_are_computed()
+    ensures seam_puts { output (plan_after (plan_of 5 Rows.substr_over_seam) [] 6).seen ≡ codes "cde" }
+    ensures seam_ends { (plan_after (plan_of 5 Rows.substr_over_seam) [] 6).ended ≡ Some Done }
+    ensures seam_stands { IsSome (plan_after (plan_of 5 Rows.substr_over_seam) [] 6).state }
+    ensures len_serves { IsSome (plan_after Rows.measured_and_put [] 2).state }
+    ensures stuck { (plan_after Rows.measured_and_put [] 3).state ≡ None }
+    ensures missing { (plan_after Rows.missing_file_measured [] 1).ended ≡ Some (Fault 1 NoFile) }
+    ensures too_long { (plan_after Rows.too_long_measured [] 2).ended ≡ Some (Fault 2 TooLong) }
 {}

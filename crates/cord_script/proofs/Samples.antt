@@ -3,9 +3,10 @@ use Rattle.std.proofs.Common.{inl, inr, ◌≡◌, ◌≢◌, ◌<◌, ℕ, zero
 use Rattle.std.specs.Prelude.{All, ◌==◌, ◌&&◌, ◌||◌, not, nat_le}
 use Rattle.std.proofs.lemmas.Bool.{eqb-false, ne_eqb, leb-true}
 use Rattle.cord_script.specs.declared.TheConstants.{MAX_TEXT}
+use Rattle.cord_script.specs.declared.refusals.RefusalKind.{RefusalKind}
 use Rattle.cord_script.specs.declared.words.Word.{Word}
 use Rattle.cord_script.specs.declared.words.Word.TheVariants.{Plain, Quoted}
-use Rattle.cord_script.specs.Words.{IsSplit, IsBlank, IsIdle, IsPlain, EndsPlain, Stands, Spells, HasWords, StartsWith}
+use Rattle.cord_script.specs.Words.{IsSplit, IsBlank, IsIdle, IsPlain, EndsPlain, Stands, Spells, HasWords, StartsWith, IsBadText, BeginsBadText}
 use Rattle.cord_script.specs.Tests.{each}
 use Rattle.cord_script.proofs.Spelled.{both}
 use Rattle.cord_script.proofs.Lines.{one_front, head_of, note_shows}
@@ -17,10 +18,14 @@ pub data Chunk : Type 0 where
   Bare : List ℕ → List ℕ → Chunk
   Marked : List ℕ → List ℕ → Chunk
 
+-- the chunks in front of other bytes
+abbrev pub spelled_before : List Chunk → List ℕ → List ℕ
+spelled_before [] rest = rest
+spelled_before (Bare front p ∷ cs) rest = front ++ p ++ spelled_before cs rest
+spelled_before (Marked front t ∷ cs) rest = front ++ 34 ∷ t ++ 34 ∷ spelled_before cs rest
+
 abbrev pub spelled : List Chunk → List ℕ
-spelled [] = []
-spelled (Bare front p ∷ cs) = front ++ p ++ spelled cs
-spelled (Marked front t ∷ cs) = front ++ 34 ∷ t ++ 34 ∷ spelled cs
+spelled cs = spelled_before cs []
 
 abbrev pub chunk_words : List Chunk → List Word
 chunk_words [] = []
@@ -44,10 +49,13 @@ abbrev pub ends : List ℕ → Bool
 ends [] = true
 ends (c ∷ cs) = not (bare c)
 
+abbrev pub well_before : List Chunk → List ℕ → Bool
+well_before [] rest = true
+well_before (Bare front p ∷ cs) rest = each blank front && (some p && (each bare p && (ends (spelled_before cs rest) && well_before cs rest)))
+well_before (Marked front t ∷ cs) rest = each blank front && (each own t && (nat_le (length t) MAX_TEXT && well_before cs rest))
+
 abbrev pub well : List Chunk → Bool
-well [] = true
-well (Bare front p ∷ cs) = each blank front && (some p && (each bare p && (ends (spelled cs) && well cs)))
-well (Marked front t ∷ cs) = each blank front && (each own t && (nat_le (length t) MAX_TEXT && well cs))
+well cs = well_before cs []
 
 all_at : (P : ℕ → Type 0) (x : ℕ) (xs : List ℕ) → P x → All P xs → (k d : ℕ) → k < length (x ∷ xs) → P (get_or (x ∷ xs) k d)
 all_at P x xs p h zero d lt = p
@@ -94,7 +102,7 @@ own_stands c h =
     let p = both (not (c == 34)) (not (c == 92)) h in
     inl (refl, eqb-false c 34 (true_not (c == 34) p.0), eqb-false c 92 (true_not (c == 92) p.1))
 
-own_spells : (t : List ℕ) → each own t ≡ true → Spells t t
+pub own_spells : (t : List ℕ) → each own t ≡ true → Spells t t
 own_spells [] h = refl
 own_spells (c ∷ t) h =
     let p = both (own c) (each own t) h in
@@ -108,23 +116,28 @@ ends_is : (rest : List ℕ) → ends rest ≡ true → EndsPlain rest
 ends_is [] h = tt
 ends_is (c ∷ cs) h = λ plain. let clash : true ≡ false = sym (is_bare c plain) ∙ true_not (bare c) h in cc
 
-starts_well : (cs : List Chunk) → well cs ≡ true → StartsWith (spelled cs) (chunk_words cs) []
-starts_well [] h = refl
-starts_well (Bare front p ∷ cs) h =
-    let a = both (each blank front) (some p && (each bare p && (ends (spelled cs) && well cs))) h in
-    let b = both (some p) (each bare p && (ends (spelled cs) && well cs)) a.1 in
-    let c = both (each bare p) (ends (spelled cs) && well cs) b.1 in
-    let d = both (ends (spelled cs)) (well cs) c.1 in
-    (spelled cs, (front, all_by blank IsBlank blank_is front a.0, refl, some_is p b.0, all_by bare IsPlain bare_is p c.0, ends_is (spelled cs) d.0), starts_well cs d.1)
-starts_well (Marked front t ∷ cs) h =
-    let a = both (each blank front) (each own t && (nat_le (length t) MAX_TEXT && well cs)) h in
-    let b = both (each own t) (nat_le (length t) MAX_TEXT && well cs) a.1 in
-    let c = both (nat_le (length t) MAX_TEXT) (well cs) b.1 in
-    (spelled cs, (front, t, all_by blank IsBlank blank_is front a.0, refl, own_spells t b.0, leb-true (length t) MAX_TEXT c.0), starts_well cs c.1)
+-- chunks in front of other bytes have their words
+pub starts_well : (cs : List Chunk) (rest : List ℕ) → well_before cs rest ≡ true → StartsWith (spelled_before cs rest) (chunk_words cs) rest
+starts_well [] rest h = refl
+starts_well (Bare front p ∷ cs) rest h =
+    let a = both (each blank front) (some p && (each bare p && (ends (spelled_before cs rest) && well_before cs rest))) h in
+    let b = both (some p) (each bare p && (ends (spelled_before cs rest) && well_before cs rest)) a.1 in
+    let c = both (each bare p) (ends (spelled_before cs rest) && well_before cs rest) b.1 in
+    let d = both (ends (spelled_before cs rest)) (well_before cs rest) c.1 in
+    (spelled_before cs rest, (front, all_by blank IsBlank blank_is front a.0, refl, some_is p b.0, all_by bare IsPlain bare_is p c.0, ends_is (spelled_before cs rest) d.0), starts_well cs rest d.1)
+starts_well (Marked front t ∷ cs) rest h =
+    let a = both (each blank front) (each own t && (nat_le (length t) MAX_TEXT && well_before cs rest)) h in
+    let b = both (each own t) (nat_le (length t) MAX_TEXT && well_before cs rest) a.1 in
+    let c = both (nat_le (length t) MAX_TEXT) (well_before cs rest) b.1 in
+    (spelled_before cs rest, (front, t, all_by blank IsBlank blank_is front a.0, refl, own_spells t b.0, leb-true (length t) MAX_TEXT c.0), starts_well cs rest c.1)
 
 -- chunks have their words
 pub words_well : (cs : List Chunk) → well cs ≡ true → HasWords (spelled cs) (chunk_words cs)
-words_well cs h = ([], starts_well cs h, λ k d lt. absurd (omega arith))
+words_well cs h = ([], starts_well cs [] h, λ k d lt. absurd (omega arith))
+
+-- behind a blank a quoted word begins that is none
+pub begins_bad_text : (inner : List ℕ) (kind : RefusalKind) → IsBadText inner kind → BeginsBadText (32 ∷ 34 ∷ inner) kind
+begins_bad_text inner kind bad = (32 ∷ [], inner, all_by blank IsBlank blank_is (32 ∷ []) refl, refl, bad)
 
 -- a line that begins with no blank and no `#` says something
 pub not_idle : (c : ℕ) (rest : List ℕ) → blank c ≡ false → (c == 35) ≡ false → ¬ IsIdle (c ∷ rest)

@@ -1,23 +1,29 @@
 -- The worked rows.
-use Rattle.std.proofs.Common.{inl, inr, None, ◌≡◌, ◌≢◌, ◌≤◌, ◌<◌, ◌+◌, ℕ, List, [], ◌∷◌, ◌++◌, true, false, refl, length, lit≤, lit<}
+use Rattle.std.proofs.Common.{inl, inr, Some, None, ◌≡◌, ◌≢◌, ◌≤◌, ◌<◌, ◌+◌, ℕ, List, [], ◌∷◌, ◌++◌, true, false, refl, ◌∙◌, ap, arith, length, lit≤, lit<}
 use Rattle.std.specs.Prelude.{◌==◌, codes, pos}
 use Rattle.cord_script.specs.declared.TheConstants.{MAX_SCRIPT, MAX_LINES, MAX_BLOCKS}
+use Rattle.cord_printf.specs.Pieces.{Conversion, HasWidth, flags_of}
+use Rattle.cord_printf.specs.declared.pieces.Piece.TheVariants.{Signed}
+use Rattle.cord_script.specs.declared.kinds.Want.TheVariants as wants
 use Rattle.cord_script.specs.declared.operands.Number.TheVariants.{Numeral}
 use Rattle.cord_script.specs.declared.operands.Relation.TheVariants.{Equal}
 use Rattle.cord_script.specs.declared.words.Word.TheVariants.{Plain, Quoted}
 use Rattle.cord_script.specs.declared.statements.Statement.{Statement}
 use Rattle.cord_script.specs.declared.statements.Statement.TheVariants.{Let, Put, Repeat, If, Else, End}
 use Rattle.cord_script.specs.declared.refusals.RefusalKind.{RefusalKind}
-use Rattle.cord_script.specs.declared.refusals.RefusalKind.TheVariants.{WrongCount, BadName, BadNumber, UnknownName, WrongKind, EndAlone, MissingEnd, ElseAlone, MissingIfEnd}
-use Rattle.cord_script.specs.Words.{IsSplit, IsIdle}
+use Rattle.cord_script.specs.declared.refusals.RefusalKind.TheVariants.{Unterminated, BadEscape, WrongCount, BadName, BadNumber, UnknownName, WrongKind, EndAlone, MissingEnd, ElseAlone, MissingIfEnd}
+use Rattle.cord_script.specs.Words.{IsSplit, IsIdle, Stands, IsBadText}
 use Rattle.cord_script.specs.Tests.{each}
+use Rattle.cord_script.specs.Formats.{Converts}
 use Rattle.cord_script.specs.Forms.{form_of}
+use Rattle.cord_script.specs.Reading.{unit_of}
 use Rattle.cord_script.specs.Script.{Before, Block, Says, LinesSay, ReadsBy, start, after, after_all, whole}
 use Rattle.cord_script.specs.Script.Block.{InRepeat, InIf}
 use Rattle.cord_script.specs.Flaws.{HasBadWords, HasBadLine, FlawBy}
 use Rattle.cord_script.specs.Rows.{Rows, quote}
-use Rattle.cord_script.proofs.Samples.{Chunk, spelled, chunk_words, blank, some, well, no_end, words_well, not_idle, last_line, more_lines}
+use Rattle.cord_script.proofs.Samples.{Chunk, spelled_before, spelled, chunk_words, blank, some, well, no_end, own_spells, starts_well, words_well, begins_bad_text, not_idle, last_line, more_lines}
 use Rattle.cord_script.proofs.Samples.Chunk.{Bare, Marked}
+use Rattle.cord_script.proofs.Unique.{stands_unit}
 
 -- plain words behind one blank each
 abbrev behind : List (List ℕ) → List Chunk
@@ -132,6 +138,53 @@ let_says t = record {
 
 let_first : (t : List ℕ) → IsLine 108 (codes "et") (let_chunks t) → LinesSay whole 1 start (let_line t ∷ []) (Let 1 (codes "x") t ∷ [])
 let_first t h = inr (says_something 108 (codes "et") (let_chunks t) h, Let 1 (codes "x") t, chunk_words (Bare [] (codes "let") ∷ let_chunks t), [], refl, words_well (Bare [] (codes "let") ∷ let_chunks t) h.words, let_says t, refl)
+
+-- `let x` and a quoted word that is none
+abbrev let_open : List ℕ → List ℕ
+let_open inner = spelled_before (plain 108 (codes "et") (codes "x" ∷ [])) (32 ∷ 34 ∷ inner)
+
+let_bad : (inner : List ℕ) (kind : RefusalKind) → length (let_open inner) ≤ MAX_SCRIPT → each no_end (let_open inner) ≡ true → IsBadText inner kind → FlawBy whole (let_open inner) 1 kind
+let_bad inner kind small l bad =
+    let words = plain 108 (codes "et") (codes "x" ∷ []) in
+    let rest = 32 ∷ 34 ∷ inner in
+    first_bad (let_open inner) (let_open inner) [] kind small (last_line (let_open inner) l refl)
+    (inr (lit≤ tt, not_idle 108 (codes "et x " ++ 34 ∷ inner) refl refl, inl (chunk_words words, rest, starts_well words rest refl, begins_bad_text inner kind bad)))
+
+let_quote_open : FlawBy whole (codes "let x " ++ 34 ∷ codes "a") 1 Unterminated
+let_quote_open = let_bad (codes "a") Unterminated (lit≤ tt) refl (codes "a", [], codes "a", refl, own_spells (codes "a") refl, lit≤ tt, inr (inr (refl, refl)))
+
+-- no escape begins so
+no_escape : (u v : List ℕ) (b : ℕ) → 92 ∷ codes "q" ++ 34 ∷ [] ≡ u ++ v → ¬ Stands u b
+no_escape u v b e stands =
+    let clash : unit_of (92 ∷ codes "q" ++ 34 ∷ []) ≡ Some (b, v) = ap unit_of e ∙ stands_unit u v b stands in
+    cc
+
+let_bad_escape : FlawBy whole (codes "let x " ++ quote (92 ∷ codes "q")) 1 BadEscape
+let_bad_escape = let_bad (92 ∷ codes "q" ++ 34 ∷ []) BadEscape (lit≤ tt) refl ([], 92 ∷ codes "q" ++ 34 ∷ [], [], refl, refl, lit≤ tt, inl (refl, (codes "q" ++ 34 ∷ [], refl), no_escape))
+
+-- `%d` is one conversion, which wants a number
+abbrev decimal : Conversion
+decimal = record { marks = []; digits = []; point = []; modifier = []; letter = 100 }
+
+decimal_converts : Converts (codes "%d") (Some (wants.Number ∷ []))
+decimal_converts =
+    let width : HasWidth decimal (flags_of []) 0 = record {
+      marks = λ k d lt. absurd (omega arith);
+      flags_are = refl;
+      digits = λ k d lt. absurd (omega arith);
+      no_zero = tt;
+      width_is = refl;
+      small = lit≤ tt;
+    } in
+    (Signed (flags_of []) 0 None ∷ [], (codes "%d", [], refl, (decimal, refl, (width, refl, inl refl, inl refl)), refl), refl)
+
+sprintf_argument_missing : FlawBy whole (codes "sprintf z " ++ quote (codes "%d")) 1 WrongCount
+unfolding form_of
+sprintf_argument_missing =
+    let others = Bare (32 ∷ []) (codes "z") ∷ Marked (32 ∷ []) (codes "%d") ∷ [] in
+    let line = spelled (Bare [] (codes "sprintf") ∷ others) in
+    first_bad line line [] WrongCount (lit≤ tt) (last_line line refl refl)
+    (bad_line 1 start 115 (codes "printf") others WrongCount (lit≤ tt) (record { shows = refl; no_note = refl; words = refl }) (Some (wants.Number ∷ []), decimal_converts, refl))
 
 fetch_into_cord : FlawBy whole (codes "let x " ++ quote (codes "a") ++ 10 ∷ codes "fetch x x 0") 2 WrongKind
 unfolding form_of
@@ -334,4 +387,7 @@ rows = record {
   else_in_repeat = else_in_repeat;
   else_twice = else_twice;
   if_open_round_repeat = if_open_round_repeat;
+  let_quote_open = let_quote_open;
+  let_bad_escape = let_bad_escape;
+  sprintf_argument_missing = sprintf_argument_missing;
 }

@@ -1,7 +1,7 @@
 -- Worked rows of the grammar with all statements: what is read, and what is wrong first.
 use Rattle.std.specs.Prelude.{ℕ, List, [], ◌∷◌, ◌++◌, codes}
 use Rattle.cord_script.specs.declared.statements.Statement.TheVariants.{Let, Put}
-use Rattle.cord_script.specs.declared.refusals.RefusalKind.TheVariants.{WrongCount, BadName, BadNumber, UnknownName, WrongKind, EndAlone, MissingEnd, ElseAlone, MissingIfEnd}
+use Rattle.cord_script.specs.declared.refusals.RefusalKind.TheVariants.{Unterminated, BadEscape, WrongCount, BadName, BadNumber, UnknownName, WrongKind, EndAlone, MissingEnd, ElseAlone, MissingIfEnd}
 use Rattle.cord_script.specs.Script.{ReadsBy, whole}
 use Rattle.cord_script.specs.Flaws.{FlawBy}
 
@@ -27,3 +27,6 @@ pub record Rows : Type 0 where
   pub else_in_repeat : FlawBy whole (codes "repeat 1" ++ 10 ∷ codes "else" ++ 10 ∷ codes "end") 2 ElseAlone
   pub else_twice : FlawBy whole (codes "if 1 eq 1" ++ 10 ∷ codes "else" ++ 10 ∷ codes "else" ++ 10 ∷ codes "end") 3 ElseAlone
   pub if_open_round_repeat : FlawBy whole (codes "if 1 eq 1" ++ 10 ∷ codes "repeat 2" ++ 10 ∷ codes "end") 1 MissingIfEnd
+  pub let_quote_open : FlawBy whole (codes "let x " ++ 34 ∷ codes "a") 1 Unterminated
+  pub let_bad_escape : FlawBy whole (codes "let x " ++ quote (92 ∷ codes "q")) 1 BadEscape
+  pub sprintf_argument_missing : FlawBy whole (codes "sprintf z " ++ quote (codes "%d")) 1 WrongCount

@@ -1,0 +1,87 @@
+-- A plan that meets the conditions simulates its script.
+use Rattle.std.proofs.Common.{◌≡◌, ◌<◌, ℕ, zero, suc, ◌+◌, List, [], ◌∷◌, map, Option, Some, None, refl, sym, subst, arith}
+use Rattle.std.specs.Prelude.{slice_get, IsSome}
+use Rattle.cord_io.specs.Device.{Folder}
+use Rattle.cord_script.specs.declared.statements.Statement.{Statement}
+use Rattle.cord_meaning.specs.Blocks.{Shape, Simple}
+use Rattle.cord_meaning.specs.Paths.{Next}
+use Rattle.cord_meaning.specs.State.{State, start_state}
+use Rattle.cord_meaning.specs.Statements.{act, rules, shape_of, line_of}
+use Rattle.cord_meaning.specs.Simulation.{Agree, IsControl, Simulates}
+use Rattle.cord_plan.specs.Planned.{Operation, operation}
+use Rattle.cord_plan.specs.Meaning.{Holding, does, operation_shape, operation_line, plan_rules, start_holding}
+use Rattle.cord_plan.specs.Conditions.{Decisions, MeetsConditions, decided, decided_from}
+use Rattle.cord_plan.proofs.Operations.{same_shape, same_line, same_count, same_holds}
+use Rattle.cord_plan.proofs.Keeping.{moves}
+use Rattle.cord_plan.proofs.Decided.{Related, agrees}
+
+module _ (d : Decisions) where
+  -- the operation of a line
+  abbrev decided_at : ℕ → Statement → Operation
+  decided_at p l = operation l (d.exprs p) (d.dead p) (d.paired p)
+
+  at_offset : (p : ℕ) (s : List Statement) (q : ℕ) (l : Statement) (o : Operation) → slice_get s q ≡ Some l → slice_get (decided_from d p s) q ≡ Some o → decided_at (p + q) l ≡ o
+  at_offset p [] q l o e f = let bad : ⊥ = cc in absurd bad
+  at_offset p (k ∷ s) zero l o e f =
+      let same : k ≡ l = cc in
+      let here : decided_at p k ≡ o = cc in
+      let place : p ≡ p + 0 = omega arith in
+      subst (λ (n : ℕ). decided_at n l ≡ o) place (subst (λ (w : Statement). decided_at p w ≡ o) same here)
+  at_offset p (k ∷ s) (suc q) l o e f =
+      let place : p + 1 + q ≡ p + suc q = omega arith in
+      subst (λ (n : ℕ). decided_at n l ≡ o) place (at_offset (p + 1) s q l o e f)
+
+  at_place : (s : List Statement) (p : ℕ) (l : Statement) (o : Operation) → slice_get s p ≡ Some l → slice_get (decided d s) p ≡ Some o → decided_at p l ≡ o
+  at_place s p l o e f =
+      let place : 0 + p ≡ p = omega arith in
+      subst (λ (n : ℕ). decided_at n l ≡ o) place (at_offset 0 s p l o e f)
+
+  decided_shapes : (p : ℕ) (s : List Statement) → map shape_of s ≡ map operation_shape (decided_from d p s)
+  decided_shapes p [] = refl
+  decided_shapes p (l ∷ s) = λ i. sym (same_shape l (d.exprs p) (d.dead p) (d.paired p)) i ∷ decided_shapes (p + 1) s i
+
+  decided_lines : (p : ℕ) (s : List Statement) → map line_of s ≡ map operation_line (decided_from d p s)
+  decided_lines p [] = refl
+  decided_lines p (l ∷ s) = λ i. sym (same_line l (d.exprs p) (d.dead p) (d.paired p)) i ∷ decided_lines (p + 1) s i
+
+module _ (s : List Statement) (d : Decisions) (ok : MeetsConditions s d) (limit : ℕ) (files : Folder) where
+  abbrev Beside : ℕ → State → Option Holding → Type 0
+  Beside p f t = Related s d ok limit files p f t
+
+  counts : (p : ℕ) (l : Statement) (o : Operation) → slice_get s p ≡ Some l → slice_get (decided d s) p ≡ Some o → (f : State) (t : Option Holding) → Beside p f t → (rules limit files).count l f ≡ (plan_rules limit files).count o t
+  counts p l o e g f None inv = absurd inv
+  counts p l o e g f (Some h) inv = subst (λ (w : Operation). (rules limit files).count l f ≡ (plan_rules limit files).count w (Some h)) (at_place d s p l o e g) (same_count h f inv.numbers l (d.exprs p) (d.dead p) (d.paired p))
+
+  compare : (p : ℕ) (l : Statement) (o : Operation) → slice_get s p ≡ Some l → slice_get (decided d s) p ≡ Some o → (f : State) (t : Option Holding) → Beside p f t → (rules limit files).holds l f ≡ (plan_rules limit files).holds o t
+  compare p l o e g f None inv = absurd inv
+  compare p l o e g f (Some h) inv = subst (λ (w : Operation). (rules limit files).holds l f ≡ (plan_rules limit files).holds w (Some h)) (at_place d s p l o e g) (same_holds h f inv.numbers l (d.exprs p) (d.dead p) (d.paired p))
+
+  passes : (p q : ℕ) (x : Shape) → slice_get (map shape_of s) p ≡ Some x → IsControl x → Next (map shape_of s) p q → (f : State) (t : Option Holding) → Beside p f t → Beside q f t
+  passes p q x at control next f None inv = inv
+  passes p q x at control next f (Some h) inv = moves s d ok limit p q x at control next f h inv
+
+  acts : (p : ℕ) (l : Statement) (o : Operation) → slice_get s p ≡ Some l → slice_get (decided d s) p ≡ Some o → shape_of l ≡ Simple → (f : State) (t : Option Holding) → Beside p f t → Agree (Beside (p + 1)) ((rules limit files).act p l f) ((plan_rules limit files).act p o t)
+  acts p l o e g simple f None inv = absurd inv
+  acts p l o e g simple f (Some h) inv = subst (λ (w : Operation). Agree (Beside (p + 1)) (act limit files l f) (does limit files w h)) (at_place d s p l o e g) (agrees s d ok limit files p f h inv l e simple)
+
+  pub plan_simulates : Simulates (rules limit files) (plan_rules limit files) s (decided d s) (Related s d ok limit files)
+  plan_simulates = record {
+    shapes = decided_shapes d 0 s;
+    lines = decided_lines d 0 s;
+    counts = λ p l o e g loop f t inv. counts p l o e g f t inv;
+    compares = λ p l o e g branch f t inv. compare p l o e g f t inv;
+    moves = passes;
+    acts = acts;
+  }
+
+  pub related_some : (p : ℕ) (f : State) (t : Option Holding) → Beside p f t → IsSome t
+  related_some p f None inv = absurd inv
+  related_some p f (Some h) inv = refl
+
+  pub related_first : Related s d ok limit files 0 start_state (Some start_holding)
+  related_first = record {
+    held = λ x. refl;
+    numbers = refl;
+    extensibles = refl;
+    flight = λ a b x fl. let below : a < 0 = fl.before in absurd (omega arith);
+  }

@@ -1,0 +1,164 @@
+-- What expressions name, and names in lists.
+use Rattle.std.proofs.Common.{◌≡◌, ◌⊎◌, ℕ, zero, suc, ◌+◌, ◌<◌, ◌≤◌, pos, Bool, true, false, List, [], ◌∷◌, ◌++◌, length, Option, Some, None, refl, sym, ap, ◌∙◌, subst, inl, inr, arith, append_assoc, append-nil}
+use Rattle.std.specs.Prelude.{slice_get, not, nat_le, if◌then◌else◌}
+use Rattle.std.specs.Str.{bytes_eq}
+use Rattle.std.proofs.lemmas.Bool.{or_left, or_right, leb-true, leb-false}
+use Rattle.std.proofs.lemmas.Slice.Eq.{bytes_eq-Decides}
+use Rattle.cord_script.specs.declared.operands.Number.TheVariants.{Numeral}
+use Rattle.cord_script.specs.declared.statements.Statement.{Statement}
+use Rattle.cord_script.specs.declared.statements.Statement.TheVariants.{Chars, Nul, Cat, Catn, Catc, Substr, Put}
+use Rattle.cord_plan.specs.Exprs.{Expr, name, run, cat, sub, Exprs, nothing, member, append, in_front, members, names, names_of, number_names}
+use Rattle.cord_plan.specs.Operands.{count, has, assigns_at}
+use Rattle.cord_plan.specs.Forced.{expr_with, each_from, keeps}
+use Rattle.cord_plan.specs.Pairs.{numbers_named}
+use Rattle.cord_plan.proofs.Chosen.{both_true, last_or}
+use Rattle.cord_plan.proofs.Flows.{or_true}
+
+pub not_true : (a : Bool) → not a ≡ true → a ≡ false
+not_true true e = let bad : ⊥ = cc in absurd bad
+not_true false e = refl
+
+pub no_true : (a : Bool) → (a ≡ true → ⊥) → a ≡ false
+no_true true h = absurd (h refl)
+no_true false h = refl
+
+pub same_bytes : (x y : List ℕ) → bytes_eq x y ≡ true → x ≡ y
+same_bytes x y e = (bytes_eq-Decides x y).0 e
+
+own_bytes : (x : List ℕ) → bytes_eq x x ≡ true
+own_bytes x = (bytes_eq-Decides x x).1 refl
+
+-- a name stands among the names of lists that are joined
+pub has_append : (xs ys : List (List ℕ)) (y : List ℕ) → has (xs ++ ys) y ≡ true → (has xs y ≡ true) ⊎ (has ys y ≡ true)
+has_append [] ys y e = inr e
+has_append (x ∷ xs) ys y e = first (or_true (bytes_eq y x) (has (xs ++ ys) y) e) (λ h. has_append xs ys y h)
+  where
+    rest : (has xs y ≡ true) ⊎ (has ys y ≡ true) → (has (x ∷ xs) y ≡ true) ⊎ (has ys y ≡ true)
+    rest (inl h) = inl (or_right (bytes_eq y x) (has xs y) h)
+    rest (inr h) = inr h
+
+    first : (bytes_eq y x ≡ true) ⊎ (has (xs ++ ys) y ≡ true) → (has (xs ++ ys) y ≡ true → (has xs y ≡ true) ⊎ (has ys y ≡ true)) → (has (x ∷ xs) y ≡ true) ⊎ (has ys y ≡ true)
+    first (inl h) others = inl (or_left (bytes_eq y x) (has xs y) h)
+    first (inr h) others = rest (others h)
+
+pub has_at : (xs : List (List ℕ)) (k : ℕ) (x : List ℕ) → slice_get xs k ≡ Some x → has xs x ≡ true
+has_at [] k x e = let bad : ⊥ = cc in absurd bad
+has_at (y ∷ xs) zero x e =
+    let same : y ≡ x = cc in
+    or_left (bytes_eq x y) (has xs x) (ap (λ (z : List ℕ). bytes_eq x z) same ∙ own_bytes x)
+has_at (y ∷ xs) (suc k) x e = or_right (bytes_eq x y) (has xs x) (has_at xs k x e)
+
+-- a name that stands once stands at one place
+none_at : (x : List ℕ) (xs : List (List ℕ)) (k : ℕ) → count x xs ≡ 0 → slice_get xs k ≡ Some x → ⊥
+none_at x [] k none e = let bad : ⊥ = cc in bad
+none_at x (y ∷ xs) k none e = pick (bytes_eq x y) refl k none e (λ m h g. none_at x xs m h g)
+  where
+    pick : (v : Bool) → bytes_eq x y ≡ v → (k : ℕ) → (if v then suc (count x xs) else count x xs) ≡ 0 → slice_get (y ∷ xs) k ≡ Some x → ((m : ℕ) → count x xs ≡ 0 → slice_get xs m ≡ Some x → ⊥) → ⊥
+    pick true f k h g others = absurd (omega (arith, h))
+    pick false f zero h g others =
+        let same : y ≡ x = cc in
+        let is : bytes_eq x y ≡ true = ap (λ (z : List ℕ). bytes_eq x z) same ∙ own_bytes x in
+        let bad : true ≡ false = sym is ∙ f in
+        cc
+    pick false f (suc k) h g others = others k h g
+
+pub one_place : (x : List ℕ) (xs : List (List ℕ)) (i j : ℕ) → count x xs ≡ 1 → slice_get xs i ≡ Some x → slice_get xs j ≡ Some x → i ≡ j
+one_place x [] i j one e f = let bad : ⊥ = cc in absurd bad
+one_place x (y ∷ xs) i j one e f = pick (bytes_eq x y) refl i j one e f (λ k m h a b. one_place x xs k m h a b)
+  where
+    here : bytes_eq x y ≡ false → y ≡ x → ⊥
+    here g same =
+        let is : bytes_eq x y ≡ true = ap (λ (z : List ℕ). bytes_eq x z) same ∙ own_bytes x in
+        let bad : true ≡ false = sym is ∙ g in
+        cc
+
+    pick : (v : Bool) → bytes_eq x y ≡ v → (i j : ℕ) → (if v then suc (count x xs) else count x xs) ≡ 1 → slice_get (y ∷ xs) i ≡ Some x → slice_get (y ∷ xs) j ≡ Some x → ((k m : ℕ) → count x xs ≡ 1 → slice_get xs k ≡ Some x → slice_get xs m ≡ Some x → k ≡ m) → i ≡ j
+    pick true g zero zero h a b others = refl
+    pick true g (suc i) j h a b others = absurd (none_at x xs i (omega (arith, h)) a)
+    pick true g zero (suc j) h a b others = absurd (none_at x xs j (omega (arith, h)) b)
+    pick false g zero j h a b others = let same : y ≡ x = cc in absurd (here g same)
+    pick false g (suc i) zero h a b others = let same : y ≡ x = cc in absurd (here g same)
+    pick false g (suc i) (suc j) h a b others = ap suc (others i j h a b)
+
+-- it holds of each of n places from a on
+pub each_at : (holds : ℕ → Bool) (n a m : ℕ) → each_from holds n a ≡ true → a ≤ m → m < a + n → holds m ≡ true
+each_at holds zero a m e low high = absurd (omega arith)
+each_at holds (suc n) a m e low high = pick (nat_le m a) refl (λ above below. each_at holds n (a + 1) m (both_true (holds a) (each_from holds n (a + 1)) e).1 above below)
+  where
+    pick : (v : Bool) → nat_le m a ≡ v → (a + 1 ≤ m → m < a + 1 + n → holds m ≡ true) → holds m ≡ true
+    pick true f others =
+        let below : m ≤ a = leb-true m a f in
+        let same : a ≡ m = omega arith in
+        ap holds (sym same) ∙ (both_true (holds a) (each_from holds n (a + 1)) e).0
+    pick false f others =
+        let above : a < m = leb-false m a f in
+        others (omega arith) (omega arith)
+
+pub keeps_at : (l : Option Statement) (xs : List (List ℕ)) (y : List ℕ) → keeps l xs ≡ true → has xs y ≡ true → assigns_at l y ≡ false
+keeps_at l [] y e h = let bad : ⊥ = cc in absurd bad
+keeps_at l (x ∷ xs) y e h = pick (or_true (bytes_eq y x) (has xs y) h) (λ f. keeps_at l xs y (both_true (not (assigns_at l x)) (keeps l xs) e).1 f)
+  where
+    pick : (bytes_eq y x ≡ true) ⊎ (has xs y ≡ true) → (has xs y ≡ true → assigns_at l y ≡ false) → assigns_at l y ≡ false
+    pick (inl f) others = ap (λ (z : List ℕ). assigns_at l z) (same_bytes y x f) ∙ not_true (assigns_at l x) (both_true (not (assigns_at l x)) (keeps l xs) e).0
+    pick (inr f) others = others f
+
+-- the names of members are those of the expressions
+append_names : (es others : Exprs) → names_of (append es others) ≡ names_of es ++ names_of others
+append_names nothing others = refl
+append_names (member e es) others = ap (λ (x : List (List ℕ)). names e ++ x) (append_names es others) ∙ sym (append_assoc (names e) (names_of es) (names_of others))
+
+front_names : (e : Expr) (others : Exprs) → names_of (in_front e others) ≡ names e ++ names_of others
+front_names (name x) others = refl
+front_names (run c n) others = refl
+front_names (cat es) others = append_names es others
+front_names (sub e i n) others = refl
+
+-- one of these expressions names it
+pub record SomeNames (es : List Expr) (y : List ℕ) : Type 0 where
+  pub place : ℕ
+  pub expression : Expr
+  pub is : slice_get es place ≡ Some expression
+  pub names_it : has (names expression) y ≡ true
+
+behind_names : (e : Expr) (es : List Expr) (y : List ℕ) → SomeNames es y → SomeNames (e ∷ es) y
+behind_names e es y h = record { place = suc h.place; expression = h.expression; is = h.is; names_it = h.names_it }
+
+members_name : (es : List Expr) (y : List ℕ) → has (names_of (members es)) y ≡ true → SomeNames es y
+members_name [] y e = let bad : ⊥ = cc in absurd bad
+members_name (f ∷ es) y e = pick (has_append (names f) (names_of (members es)) y (ap (λ (x : List (List ℕ)). has x y) (sym (front_names f (members es))) ∙ e)) (λ h. members_name es y h)
+  where
+    pick : (has (names f) y ≡ true) ⊎ (has (names_of (members es)) y ≡ true) → (has (names_of (members es)) y ≡ true → SomeNames es y) → SomeNames (f ∷ es) y
+    pick (inl h) others = record { place = 0; expression = f; is = refl; names_it = h }
+    pick (inr h) others = behind_names f es y (others h)
+
+last_names : (es : List Expr) (f : Expr) (y : List ℕ) → SomeNames (es ++ f ∷ []) y → SomeNames es y ⊎ (has (names f) y ≡ true)
+last_names es f y h = pick (last_or es f h.place h.expression h.is)
+  where
+    pick : (slice_get es h.place ≡ Some h.expression) ⊎ ((h.place ≡ length es) × (h.expression ≡ f)) → SomeNames es y ⊎ (has (names f) y ≡ true)
+    pick (inl e) = inl (record { place = h.place; expression = h.expression; is = e; names_it = h.names_it })
+    pick (inr e) = inr (subst (λ (g : Expr). has (names g) y ≡ true) e.1 h.names_it)
+
+-- what a line's expression names, an expression of an operand names, or it is the name of a number of the line
+abbrev pub Names : Statement → List Expr → List ℕ → Option Expr → Type 0
+Names l es y None = Unit {0}
+Names l es y (Some e) = has (names e) y ≡ true → SomeNames es y ⊎ (has (numbers_named l) y ≡ true)
+
+pub with_names : (l : Statement) (es : List Expr) (y : List ℕ) → Names l es y (expr_with l es)
+with_names (Cat line target left right) es y = λ h. inl (members_name es y h)
+with_names (Catn line target many) es y = λ h. inl (members_name es y h)
+with_names (Catc line target operand byte) es y = λ h. pick (last_names es (run byte (Numeral (pos 1))) y (members_name (es ++ run byte (Numeral (pos 1)) ∷ []) y h))
+  where
+    pick : SomeNames es y ⊎ (has (number_names byte ++ []) y ≡ true) → SomeNames es y ⊎ (has (number_names byte) y ≡ true)
+    pick (inl e) = inl e
+    pick (inr e) = inr (subst (λ (x : List (List ℕ)). has x y ≡ true) (append-nil (number_names byte)) e)
+with_names (Chars line target byte n) es y = λ h. inr h
+with_names (Nul line target n) es y = λ h. inr h
+with_names (Substr line target operand start n) [] y = tt
+with_names (Substr line target operand start n) (e ∷ es) y = λ h. pick (has_append (names e) (number_names start ++ number_names n) y h)
+  where
+    pick : (has (names e) y ≡ true) ⊎ (has (number_names start ++ number_names n) y ≡ true) → SomeNames (e ∷ es) y ⊎ (has (number_names start ++ number_names n) y ≡ true)
+    pick (inl f) = inl (record { place = 0; expression = e; is = refl; names_it = f })
+    pick (inr f) = inr f
+with_names (Put line operand) [] y = tt
+with_names (Put line operand) (e ∷ es) y = λ h. inl (record { place = 0; expression = e; is = refl; names_it = h })
+with_names l es y = tt

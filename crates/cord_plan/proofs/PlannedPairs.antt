@@ -1,0 +1,143 @@
+-- The operations of forced pairs.
+use Rattle.std.proofs.Common.{◌≡◌, ℕ, zero, suc, ◌+◌, Bool, true, false, ◌||◌, List, [], ◌∷◌, Option, Some, None, refl, sym, ap, ◌∙◌, subst, arith}
+use Rattle.std.specs.Prelude.{slice_get}
+use Rattle.std.specs.Str.{bytes_eq}
+use Rattle.std.proofs.lemmas.Bool.{or_left, or_right, eq-eqb}
+use Rattle.cord_script.specs.Forms.{line_of}
+use Rattle.cord_script.specs.declared.statements.Statement.{Statement}
+use Rattle.cord_script.specs.declared.statements.Statement.TheVariants.{Chars, Nul, Cat, Catn, Catc, Substr, Put}
+use Rattle.cord_plan.specs.Exprs.{Expr}
+use Rattle.cord_plan.specs.Operands.{read_by, target_of, assigns, assigns_at}
+use Rattle.cord_plan.specs.Forced.{Table, Choice, replaced, own, choices, operands_chosen, exprs}
+use Rattle.cord_plan.specs.Planned.{Operation, Measure, Joined, gives, or_nothing, operation, is_from, some_from, is_first, is_dead, operations, planned}
+use Rattle.cord_plan.specs.Pairs.{IsPair, expression_of}
+use Rattle.cord_plan.proofs.Chosen.{Taken, are_chosen, EachEntry, IsFront, each_entry}
+use Rattle.cord_plan.proofs.Named.{same_bytes}
+use Rattle.cord_plan.proofs.ReadNames.{HasOwn}
+use Rattle.cord_plan.proofs.Pairs.{taken_at, EntryOf, entry_of, EntryOwn, entry_own}
+
+-- the operation at a line's place
+operation_at : (later : List ℕ → ℕ → Bool) (table : Table) (p : ℕ) (s : List Statement) (entries : Table) (k : ℕ) (l : Statement) (en : Option Expr × List Choice) → slice_get s k ≡ Some l → slice_get entries k ≡ Some en → slice_get (operations later table p s entries) k ≡ Some (operation l (or_nothing en.0) (is_dead later (p + k) (target_of l)) (is_first (p + k) table))
+operation_at later table p [] entries k l en e f = let bad : ⊥ = cc in absurd bad
+operation_at later table p (m ∷ rest) [] k l en e f = let bad : ⊥ = cc in absurd bad
+operation_at later table p (m ∷ rest) (first ∷ entries) zero l en e f =
+    let line : m ≡ l = cc in
+    let same : first ≡ en = cc in
+    let place : p ≡ p + 0 = omega arith in
+    ap (λ (x : Statement). Some (operation x (or_nothing first.0) (is_dead later p (target_of x)) (is_first p table))) line
+    ∙ ap (λ (x : Option Expr × List Choice). Some (operation l (or_nothing x.0) (is_dead later p (target_of l)) (is_first p table))) same
+    ∙ ap (λ (n : ℕ). Some (operation l (or_nothing en.0) (is_dead later n (target_of l)) (is_first n table))) place
+operation_at later table p (m ∷ rest) (first ∷ entries) (suc k) l en e f =
+    let place : p + 1 + k ≡ p + suc k = omega arith in
+    operation_at later table (p + 1) rest entries k l en e f
+    ∙ ap (λ (n : ℕ). Some (operation l (or_nothing en.0) (is_dead later n (target_of l)) (is_first n table))) place
+
+-- a line whose expression was taken is the first of a pair
+some_found : (a i : ℕ) (r : Expr) (cs : List Choice) → slice_get cs i ≡ Some (replaced a r) → some_from a cs ≡ true
+some_found a i r [] e = let bad : ⊥ = cc in absurd bad
+some_found a zero r (c ∷ cs) e =
+    let same : c ≡ replaced a r = cc in
+    or_left (is_from a c) (some_from a cs) (ap (λ (d : Choice). is_from a d) same ∙ eq-eqb a a refl)
+some_found a (suc i) r (c ∷ cs) e = or_right (is_from a c) (some_from a cs) (some_found a i r cs e)
+
+first_found : (a b : ℕ) (table : Table) (en : Option Expr × List Choice) → slice_get table b ≡ Some en → some_from a en.1 ≡ true → is_first a table ≡ true
+first_found a b [] en e f = let bad : ⊥ = cc in absurd bad
+first_found a zero (first ∷ table) en e f =
+    let same : first ≡ en = cc in
+    or_left (some_from a first.1) (is_first a table) (ap (λ (x : Option Expr × List Choice). some_from a x.1) same ∙ f)
+first_found a (suc b) (first ∷ table) en e f = or_right (some_from a first.1) (is_first a table) (first_found a b table en e f)
+
+gives_expression : (v : Bool) (line : ℕ) (x : List ℕ) (e : Expr) → expression_of (gives v line x (Joined e)) ≡ Some e
+gives_expression true line x e = refl
+gives_expression false line x e = refl
+
+-- the operation of a line with an expression has it
+has_expression : (l : Statement) (e : Expr) (dead paired : Bool) → HasOwn (own l) → expression_of (operation l e dead paired) ≡ Some e
+has_expression (Cat line target left right) e dead paired o = gives_expression (dead || paired) line target e
+has_expression (Catn line target many) e dead paired o = gives_expression (dead || paired) line target e
+has_expression (Catc line target operand byte) e dead paired o = gives_expression (dead || paired) line target e
+has_expression (Chars line target byte n) e dead paired o = gives_expression (dead || paired) line target e
+has_expression (Nul line target n) e dead paired o = gives_expression (dead || paired) line target e
+has_expression (Substr line target operand start n) e dead paired o = gives_expression (dead || paired) line target e
+has_expression (Put line operand) e dead paired o = refl
+has_expression l e dead paired o = absurd o
+
+measured_by : (dead paired : Bool) (line : ℕ) (x t : List ℕ) (e : Expr) → paired ≡ true → bytes_eq t x ≡ true → gives (dead || paired) line x (Joined e) ≡ Measure line t (Joined e)
+measured_by dead paired line x t e first named =
+    ap (λ (v : Bool). gives v line x (Joined e)) (or_right dead paired first)
+    ∙ ap (λ (y : List ℕ). Measure line y (Joined e)) (sym (same_bytes t x named))
+
+-- the first line of a pair only measures the name that it assigns
+only_measures : (l : Statement) (e : Expr) (dead paired : Bool) (t : List ℕ) → HasOwn (own l) → assigns l t ≡ true → paired ≡ true → operation l e dead paired ≡ Measure (line_of l) t (Joined e)
+only_measures (Cat line target left right) e dead paired t o named first = measured_by dead paired line target t e first named
+only_measures (Catn line target many) e dead paired t o named first = measured_by dead paired line target t e first named
+only_measures (Catc line target operand byte) e dead paired t o named first = measured_by dead paired line target t e first named
+only_measures (Chars line target byte n) e dead paired t o named first = measured_by dead paired line target t e first named
+only_measures (Nul line target n) e dead paired t o named first = measured_by dead paired line target t e first named
+only_measures (Substr line target operand start n) e dead paired t o named first = measured_by dead paired line target t e first named
+only_measures (Put line operand) e dead paired t o named first = let bad : ⊥ = cc in absurd bad
+only_measures l e dead paired t o named first = absurd o
+
+-- the line at a place that assigns a name
+record LineAt (s : List Statement) (a : ℕ) (t : List ℕ) : Type 0 where
+  line : Statement
+  at : slice_get s a ≡ Some line
+  assigns_it : assigns line t ≡ true
+
+line_at : (s : List Statement) (a : ℕ) (t : List ℕ) → assigns_at (slice_get s a) t ≡ true → LineAt s a t
+line_at s a t e = pick (slice_get s a) refl e
+  where
+    pick : (o : Option Statement) → slice_get s a ≡ o → assigns_at o t ≡ true → LineAt s a t
+    pick None at h = let bad : ⊥ = cc in absurd bad
+    pick (Some l) at h = record { line = l; at = at; assigns_it = h }
+
+module _ (s : List Statement) (later : List ℕ → ℕ → Bool) where
+  -- the earlier line of a pair assigns the name, and its expression is the one that was taken
+  record Earlier (a : ℕ) (t : List ℕ) (r : Expr) : Type 0 where
+    assigned : assigns_at (slice_get s a) t ≡ true
+    entry : EntryOf s later (exprs s later) a r
+
+  abbrev EntryEarlier : ℕ → Option Expr × List Choice → Type 0
+  EntryEarlier k en = (l : Statement) (t : List ℕ) (a i : ℕ) (r e : Expr) → slice_get s k ≡ Some l → en.0 ≡ Some e → slice_get (read_by l) i ≡ Some t → slice_get en.1 i ≡ Some (replaced a r) → Earlier a t r
+
+  earlier_of : (table : Table) (b : ℕ) (l : Statement) → IsFront s later table → (o : Option Expr) (t : List ℕ) (a i : ℕ) (r e : Expr) → (operands_chosen s later table b l o).0 ≡ Some e → slice_get (read_by l) i ≡ Some t → slice_get (operands_chosen s later table b l o).1 i ≡ Some (replaced a r) → Earlier a t r
+  earlier_of table b l front None t a i r e is operand is_replaced = let bad : ⊥ = cc in absurd bad
+  earlier_of table b l front (Some first) t a i r e is operand is_replaced =
+      let taken : Taken s later table b l t a r = taken_at s later table b l (read_by l) (choices s later table b l [] (read_by l)) i t a r (are_chosen s later table b l [] [] (read_by l) tt) operand is_replaced in
+      let en : EntryOf s later table a r = entry_of s later table a r taken.from in
+      record { assigned = taken.set.assigns; entry = record { en = en.en; at = front a en.en en.at; is = en.is } }
+
+  entry_earlier : (table : Table) (b : ℕ) (l : Statement) → slice_get s b ≡ Some l → IsFront s later table → EachEntry s later EntryEarlier table → EntryEarlier b (operands_chosen s later table b l (own l))
+  entry_earlier table b l at front each line t a i r e line_at is operand is_replaced =
+      let same : line ≡ l = (let both : Some line ≡ Some l = sym line_at ∙ at in cc) in
+      earlier_of table b l front (own l) t a i r e is (subst (λ (x : Statement). slice_get (read_by x) i ≡ Some t) same operand) is_replaced
+
+  has_own : (k : ℕ) (en : Option Expr × List Choice) (l : Statement) (e : Expr) → slice_get (exprs s later) k ≡ Some en → slice_get s k ≡ Some l → en.0 ≡ Some e → HasOwn (own l)
+  has_own k en l e entry at is =
+      let first = each_entry s later (EntryOwn s later) (entry_own s later) k en entry l e at is in
+      subst (λ (o : Option Expr). HasOwn o) (sym first.1) tt
+
+  module _ (a b : ℕ) (t : List ℕ) (e : Expr) (pair : IsPair s later a b t e) where
+    -- the later operation has the pair's expression
+    pub later_operation : (o : Operation) × (slice_get (planned s later) b ≡ Some o) × (expression_of o ≡ Some e)
+    later_operation = (
+      operation pair.line e (is_dead later (0 + b) (target_of pair.line)) (is_first (0 + b) (exprs s later)),
+      operation_at later (exprs s later) 0 s (exprs s later) b pair.line (Some e, pair.choices) pair.is_line pair.is_expression,
+      has_expression pair.line e (is_dead later (0 + b) (target_of pair.line)) (is_first (0 + b) (exprs s later)) (has_own b (Some e, pair.choices) pair.line e pair.is_expression pair.is_line refl),
+    )
+
+    -- the earlier one only measures the name
+    pub earlier_operation : (line : ℕ) × (slice_get (planned s later) a ≡ Some (Measure line t (Joined pair.earlier)))
+    earlier_operation =
+        let earlier : Earlier a t pair.earlier = each_entry s later EntryEarlier entry_earlier b (Some e, pair.choices) pair.is_expression pair.line t a pair.operand pair.earlier e pair.is_line refl pair.is_operand pair.is_replaced in
+        let line : LineAt s a t = line_at s a t earlier.assigned in
+        let en : Option Expr × List Choice = earlier.entry.en in
+        let own_is : HasOwn (own line.line) = has_own a en line.line pair.earlier earlier.entry.at line.at earlier.entry.is in
+        let first : is_first a (exprs s later) ≡ true = first_found a b (exprs s later) (Some e, pair.choices) pair.is_expression (some_found a pair.operand pair.earlier pair.choices pair.is_replaced) in
+        let place : 0 + a ≡ a = omega arith in (
+          line_of line.line,
+          operation_at later (exprs s later) 0 s (exprs s later) a line.line en line.at earlier.entry.at
+              ∙ ap (λ (n : ℕ). Some (operation line.line (or_nothing en.0) (is_dead later n (target_of line.line)) (is_first n (exprs s later)))) place
+              ∙ ap (λ (o : Option Expr). Some (operation line.line (or_nothing o) (is_dead later a (target_of line.line)) (is_first a (exprs s later)))) earlier.entry.is
+              ∙ ap (λ (o : Operation). Some o) (only_measures line.line pair.earlier (is_dead later a (target_of line.line)) (is_first a (exprs s later)) t own_is line.assigns_it first),
+        )
