@@ -1,2 +1,5 @@
-pub mod Chains
+pub mod Fields
+pub mod Links
 pub mod Owner
+pub mod Texts
+pub mod Words
