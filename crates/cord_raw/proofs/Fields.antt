@@ -23,7 +23,7 @@ use Rattle.cord_raw.specs.Blocks.{pointing}
 use Rattle.cord_raw.specs.contracts.block.Block as block
 use Rattle.cord_raw.proofs.block.Block.TheLaws as block_laws
 
-abbrev members : List Member
+abbrev pub members : List Member
 members = record { row = RawPtr; ty = ty_ptr } ∷ record { row = usize; ty = ty_int w64 } ∷ record { row = Array u8 128; ty = ty_array (ty_int w8) 128 } ∷ []
 
 module _ {M : Type 1} {𝓤 : Ura M} (𝓛 : Logic 𝓤) where

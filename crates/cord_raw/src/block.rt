@@ -1,5 +1,5 @@
 //! One block: the pointer to the next one, its length, and room for its bytes.
-ghost use Rattle.std.specs.Prelude.{◌≡◌, ◌+◌, ◌≤◌, ◌<◌, [], ◌∷◌, ◌++◌, length, slice_range};
+ghost use Rattle.std.specs.Prelude.{◌≡◌, ◌+◌, ◌≤◌, ◌<◌, ◌++◌, length, slice_range};
 ghost use Rattle.cord_raw.specs.Texts.{text_of};
 
 use std::ptr;
@@ -35,16 +35,6 @@ impl Block {
         ensures { self.new.len ≡ 0 }
     {
         self.len = 0;
-    }
-
-    /// Writes a byte behind the text.
-    pub(crate) fn write(&mut self, byte: u8)
-        requires { self.old.len < ROOM }
-        ensures len { self.new.len ≡ self.old.len + 1 }
-        ensures text { text_of self.new ≡ text_of self.old ++ byte ∷ [] }
-    {
-        self.bytes[self.len] = byte;
-        self.len += 1;
     }
 
     /// Copies a run of bytes behind the text.

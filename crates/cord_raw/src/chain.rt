@@ -1,7 +1,7 @@
-//! The chain of blocks in raw memory. Only the functions of this file follow the pointers from block to block.
+//! The chain of blocks in raw memory. Only the functions of this file follow its pointers.
 ghost use Rattle.std.specs.Prelude.{◌≡◌, ◌+◌, ◌<◌, ◌≤◌, List, [], ◌∷◌, ◌++◌, length, slice_index_or};
 ghost use Rattle.cord_raw.specs.declared.block.Block.{Block};
-ghost use Rattle.cord_raw.specs.declared.block.TheConstants.{MOST_BLOCKS};
+ghost use Rattle.cord_raw.specs.declared.block.TheConstants.{MOST_BLOCKS, ROOM};
 ghost use Rattle.cord_raw.specs.Blocks.{place_after, pointing};
 ghost use Rattle.cord_raw.specs.Ownership.{chain_owns, chain_lent};
 
@@ -10,7 +10,8 @@ use crate::raw::Raw;
 use std::alloc::Global;
 use std::marker::Model;
 
-/// A chain of one block or more, oldest first: each but the newest holds the pointer to the next one.
+/// A chain of one block or more, oldest first: each but the newest holds the pointer to the next one. It can't be
+/// dropped: `free` ends it.
 pub(crate) struct Chain {
     first: *mut Block,
     last: *mut Block,
@@ -31,6 +32,7 @@ impl Model for Chain {
 impl Chain {
     ghost use types.Logic.{sem};
     ghost use Rattle.cord_raw.specs.Loans.{newest_follows};
+    ghost use Rattle.cord_raw.specs.Texts.{text_of};
 
     /// Takes over one block.
     pub(crate) fn of(block: Raw<Block, Global>) -> Chain
@@ -62,6 +64,18 @@ impl Chain {
         ensures { result ≡ length self.now.older + 1 }
     {
         self.count
+    }
+
+    /// Writes a byte behind the text of the newest block.
+    pub(crate) fn put(&mut self, byte: u8)
+        requires { self.old.newest.len < ROOM }
+        ensures { (self.new.older ≡ self.old.older) × (self.new.newest.len ≡ self.old.newest.len + 1) × (text_of self.new.newest ≡ text_of self.old.newest ++ byte ∷ []) }
+    {
+        unsafe {
+            let place = (*self.last).len;
+            (*self.last).bytes[place] = byte;
+            (*self.last).len = place + 1;
+        }
     }
 
     /// Links the blocks of another chain behind the newest.

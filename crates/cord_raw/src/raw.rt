@@ -1,12 +1,12 @@
-//! One raw allocation and the pointer to it. Only the functions of this file follow a raw pointer, make one or free one.
+//! One raw allocation and the pointer to it: it is made of a box, and freed by one.
 ghost use Rattle.std.specs.Prelude.{◌≡◌};
 ghost use Rattle.std.specs.Box.Ownership.{box_owns};
 
 use std::alloc::Allocator;
 use std::marker::Model;
 
-/// Owns one allocation that holds a `T`. The pointer is never null, and the allocation is freed once: when this is
-/// dropped, or by the box that takes it over.
+/// Owns one allocation that holds a `T`. The pointer is never null. It can't be dropped: it goes into a chain, or into
+/// the box that frees it.
 pub(crate) struct Raw<T, A: Allocator> {
     pub(crate) at: *mut T,
     pub(crate) alloc: A,

@@ -20,7 +20,7 @@ impl Chain {
         }
     }
 
-    /// Writes a byte behind the text, into the newest block.
+    /// Writes a byte behind the text; the newest block has room for it.
     pub(crate) fn write(&mut self, byte: u8)
         requires filled { IsFilled self.old }
         requires room { self.old.newest.len < ROOM }
@@ -28,10 +28,10 @@ impl Chain {
         ensures filled { IsFilled self.new }
         ensures len { chain_len self.new ≡ chain_len self.old + 1 }
     {
-        self.newest().write(byte);
+        self.put(byte);
     }
 
-    /// Copies a run of bytes behind the text, into the newest block.
+    /// Copies a run of bytes behind the text; the newest block has room for it.
     pub(crate) fn copy_in(&mut self, run: &[u8])
         requires filled { IsFilled self.old }
         requires room { self.old.newest.len + length run.now ≤ ROOM }
