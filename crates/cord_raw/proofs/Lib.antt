@@ -1,2 +1,6 @@
-pub mod Chains
+pub mod Bytes
+pub mod Fields
+pub mod Links
 pub mod Owner
+pub mod Texts
+pub mod Words

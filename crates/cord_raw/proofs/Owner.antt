@@ -1,26 +1,22 @@
 -- The owner of a raw allocation, as its callers' proofs meet it: two words, and what stands behind the pointer.
-use Rattle.std.proofs.Common.{◌≡◌, ℕ, ◌+◌, List, [], ◌∷◌, ◌++◌, refl, ap, ◌∙◌}
+use Rattle.std.proofs.Common.{◌≡◌, ℕ, List, [], ◌∷◌, ◌++◌, refl, ap, ◌∙◌}
 use mathlib.Core.Bool.{true, ◌&&◌}
 use lib.Dec.{T as Yes}
 use seplogic.Ra.Ura.{Ura}
 use mir.Syntax.{impl, tnil, dnil}
 use mir.Raw.{raw as bare}
 use mir.Val.{Val, vptr, vstruct, vcons, vnil, of_list, has_ty, WT}
-use base.Logic.{ent, sep, never, fst∗}
-use base.Fml.{Lft, Fml, fhide}
+use base.Logic.{never, fst∗}
 use types.Logic.{Logic, sem}
-use types.Kit.{Item, Goal, Seq, Step, step, ‵, ◌⊛◌, ◌$◌, ◌∵◌, !, qed, move, keep, drop, split, fsplit, fjoin, fpick, fpack, feq_i, feq_l, use1, done}
-use denote.RattleType.{RattleType, RowLaws, Valss}
-use denote.Memory.{lone, hidden_shr}
-use denote.Opens.{shr_dup, unhide, hide}
+use types.Kit.{Item, Goal, Seq, Step, step, ‵, ◌$◌, move, drop, fsplit, fjoin, fpick, fpack, feq_i, feq_l}
+use denote.RattleType.{RattleType, Valss}
+use denote.Memory.{lone}
 use denote.Param.{param, layout}
 use denote.Param.Laws.{Laws, param_laws}
-use denote.RawPtr.{Ptr, RawPtr, block_ptr, null_ptr, ptr_val, in_a_block, ptr_row_laws}
+use denote.RawPtr.{Ptr, RawPtr, block_ptr, null_ptr, ptr_val, in_a_block}
 use denote.Steps.{nothing}
-use denote.Struct.Lending.{lent_at, lent_at_shr_laws, lent_out}
 use denote.Struct.Owning.{shape}
-use denote.Struct.Struct.{Struct, Struct-row_laws, within}
-use denote.SharingLaws.{beside_shr_laws}
+use denote.Struct.Struct.{within}
 use Rattle.core.specs.declared.alloc.Allocator.{Ghosts}
 use Rattle.core.proofs.alloc.Calls.{Al, handle_tells}
 use Rattle.core.proofs.cell.Inside.{Good}
@@ -47,31 +43,6 @@ module _ (T A : RattleType) (L : Laws T) (K : Laws A) (g : Ghosts A.Denot) where
 
   abbrev pub O : RattleType
   O = owner.the_row R Z g
-
-  -- its two fields alone
-  abbrev pub Words : RattleType
-  Words = Struct (shape (owner.the_type R Z g))
-
-  words_laws : RowLaws Words
-  words_laws = Struct-row_laws (shape (owner.the_type R Z g)) (ptr_row_laws, (K.shr_laws, tt))
-
-  owner_laws : RowLaws O
-  owner_laws d b o = beside_shr_laws (Words.shr_at (d.at, (d.alloc, tt)) b o) (lent_at R d.at d.value) (words_laws (d.at, (d.alloc, tt)) b o) (lent_at_shr_laws R L.shr_laws d.at d.value)
-
-  module _ {M : Type 1} {𝓤 : Ura M} (𝓛 : Logic 𝓤) (κ : Lft) (b o : ℕ) (d : O.Denot) where
-    -- a `&` to the two fields
-    abbrev pub fields_lent : Fml
-    fields_lent = hidden_shr Words κ (d.at, (d.alloc, tt)) b o
-
-    -- it shows the pointer
-    pub shows_pointer : ent 𝓤 (sem 𝓛 fields_lent) (sep 𝓤 (sem 𝓛 (hidden_shr RawPtr κ d.at b (o + 0))) (sem 𝓛 fields_lent))
-    shows_pointer = qed 𝓛 (‵ fields_lent ∷ []) ∵ shr_dup ! Words words_laws (d.at, (d.alloc, tt)) b o κ $ unhide ! $ fsplit ! $ fsplit ! $ hide ! $ keep ! (0 ∷ 3 ∷ []) $ done !
-
-    -- what a `&` to the owner lends: itself again, its two fields, and the value behind the pointer
-    pub lends_value : ent 𝓤 (sem 𝓛 (hidden_shr O κ d b o)) (sep 𝓤 (sem 𝓛 (hidden_shr O κ d b o)) (sep 𝓤 (sem 𝓛 fields_lent) (sem 𝓛 (fhide (owner.the_lent R Z g d d.at κ)))))
-    lends_value = qed 𝓛 (‵ (hidden_shr O κ d b o) ∷ []) ∵ shr_dup ! O owner_laws d b o κ $
-        use1 𝓛 (‵ fields_lent ⊛ ‵ (fhide (owner.the_lent R Z g d d.at κ))) (lent_out 𝓛 (owner.struct R Z g) (owner.the_codes R.Denot Z.Denot R.coded Z.coded) (owner.the_heap R Z g) (owner.the_lent R Z g) κ d b o) $ split ! $
-        move ! (2 ∷ 0 ∷ 1 ∷ []) $ done !
 
   abbrev handle_of : Al
   handle_of = record { row = Z; laws = param_laws 1 A K; g = g; d = impl [] tnil dnil; drops = impl [] tnil dnil }

@@ -1,2 +1,4 @@
-pub mod Chains
+pub mod Blocks
 pub mod Loans
+pub mod Ownership
+pub mod Texts

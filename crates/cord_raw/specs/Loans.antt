@@ -1,16 +1,16 @@
--- What a raw allocation holds once a loan of its value is over.
+-- What a chain is once a loan of its newest block is over.
 use base.Fml.{Fml}
-use denote.RattleType.{RattleType}
 use denote.Ref.{MutBor}
 use denote.Follow.{follows}
-use Rattle.core.specs.declared.alloc.Allocator.{Ghosts}
-use Rattle.cord_raw.specs.declared.raw.Raw.{Raw}
-use Rattle.cord_raw.specs.contracts.raw.Raw.{the_row}
+use Rattle.cord_raw.specs.declared.block.Block.{Block}
+use Rattle.cord_raw.specs.declared.chain.Chain.{Chain}
+use Rattle.cord_raw.specs.contracts.block.Block as block
+use Rattle.cord_raw.specs.contracts.chain.Chain as chain
 
--- the owner r, with w at its pointer
-abbrev pub holding : {T A : Type 0} → Raw T A → T → Raw T A
-holding r w = record { at = r.at; alloc = r.alloc; value = w }
+-- the chain c with b as its newest block
+abbrev pub with_newest : Chain → Block → Chain
+with_newest c b = record c { newest = b }
 
--- after the loan, the allocation of owner has the value that was last written through the loan
-abbrev pub loan_returns : (T A : RattleType) (g : Ghosts A.Denot) → MutBor (Raw T.Denot A.Denot) → MutBor T.Denot → Fml
-loan_returns T A g owner loan = follows (the_row T A g) T owner.ghost_name loan.ghost_name (holding owner.now)
+-- the newest block is the one that was last written through the loan
+abbrev pub newest_follows : MutBor Chain → MutBor Block → Fml
+newest_follows c loan = follows chain.the_row block.the_row c.ghost_name loan.ghost_name (with_newest c.now)

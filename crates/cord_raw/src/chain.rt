@@ -1,122 +1,129 @@
-// The buffer over the chain of blocks.
-ghost use Rattle.std.specs.Prelude.{◌≡◌, ◌+◌, ◌≤◌, ◌<◌, List, [], ◌∷◌, ◌++◌, length, slice_range, IfOk, IsErr};
-ghost use Rattle.std.specs.Rc.{rc_slice_items};
+//! The chain of blocks in raw memory. Only the functions of this file follow its pointers.
+ghost use Rattle.std.specs.Prelude.{◌≡◌, ◌+◌, ◌<◌, ◌≤◌, List, [], ◌∷◌, ◌++◌, length, slice_index_or};
+ghost use Rattle.cord_raw.specs.declared.block.Block.{Block};
+ghost use Rattle.cord_raw.specs.declared.block.TheConstants.{MOST_BLOCKS, ROOM};
+ghost use Rattle.cord_raw.specs.Blocks.{place_after, pointing};
+ghost use Rattle.cord_raw.specs.Ownership.{chain_owns, chain_lent};
 
-use crate::block::{Block, chain_of, put_before};
+use crate::block::{Block, MOST_BLOCKS};
 use crate::raw::Raw;
-use std::alloc::{AllocError, Global};
+use std::alloc::Global;
 use std::marker::Model;
-use std::rc::RcSlice;
 
-/// A list of at most `RawBuf::CAP` bytes that grows at its end.
-///
-/// Its memory is a chain of at most 32 blocks of 128 bytes, of which all but the newest are full. It is freed once, when
-/// the buffer is dropped.
-#[derive(Drop)]
-pub struct RawBuf {
-    newest: Raw<Block, Global>,
-    len: usize,
+/// A chain of one block or more, oldest first: each but the newest holds the pointer to the next one. It can't be
+/// dropped: `free` ends it.
+pub(crate) struct Chain {
+    first: *mut Block,
+    last: *mut Block,
+    count: usize,
+    pub(crate) ghost older: { List Block },
+    pub(crate) ghost newest: { Block },
+    ghost leads: { last ≡ place_after first older },
+    ghost counted: { count ≡ length older + 1 },
+    ghost few: { count ≤ MOST_BLOCKS },
 }
 
-impl Model for RawBuf {
-    ghost use Rattle.std.specs.Prelude.{◌≡◌, ◌≤◌, ◌*◌, List, ℕ, length};
-    ghost use Rattle.cord_raw.specs.declared.block.TheConstants.{ROOM, MOST_BLOCKS};
+impl Model for Chain {
+    ghost also_owns = { λ c. chain_owns c.first c.older c.last c.newest };
 
-    ghost Value = { List ℕ };
-
-    ghost view = { λ b. b.newest.value.0 };
-
-    ghost invariant = { λ b. (b.len ≡ length b.newest.value.0) × (b.newest.value.1 ≤ MOST_BLOCKS) × (b.len ≤ ROOM * MOST_BLOCKS) };
+    ghost also_shares = { λ c _ κ. chain_lent c.first c.older c.last c.newest κ };
 }
 
-impl RawBuf {
-    /// The most bytes that a buffer holds: 32 blocks of 128.
-    pub const CAP: u64 = 4_096;
+impl Chain {
+    ghost use types.Logic.{sem};
+    ghost use Rattle.cord_raw.specs.Loans.{newest_follows};
+    ghost use Rattle.cord_raw.specs.Texts.{text_of};
 
-    /// An empty buffer. It makes its first block.
-    ///
-    /// `AllocError`: there is no memory for it.
-    pub fn new(alloc: Global) -> Result<RawBuf, AllocError>
-        ensures { IfOk result (λ made. made ≡ []) }
+    /// Takes over one block.
+    pub(crate) fn of(block: Raw<Block, Global>) -> Chain
+        ensures { (result.older ≡ []) × (result.newest ≡ block.value) }
     {
-        let newest = Block::make(alloc)?;
-        Ok(RawBuf { newest, len: 0 })
-    }
-
-    /// How many bytes it holds, at most `RawBuf::CAP`.
-    pub fn len(&self) -> u64
-        ensures value { result ≡ length self.now }
-        ensures within { result ≤ Self.CAP }
-    {
-        self.len as u64
-    }
-
-    /// Adds a byte at the end, for which there has to be room. It takes constant time.
-    ///
-    /// `AllocError`: there is no memory for the block that it wants; the list is as before.
-    pub fn push(&mut self, alloc: Global, byte: u8) -> Result<(), AllocError>
-        requires fits { length self.old < Self.CAP }
-        ensures added { IfOk result (λ _. self.new ≡ self.old ++ byte ∷ []) }
-        ensures unchanged { IsErr result → self.new ≡ self.old }
-    {
-        if self.newest.as_ref().room() == 0 {
-            let fresh = Block::make(alloc)?;
-            put_before(&mut self.newest, fresh);
+        let Raw { at, alloc: _ } = block;
+        Chain {
+            first: at,
+            last: at,
+            count: 1,
         }
-        self.newest.as_mut().write(byte);
-        self.len += 1;
-        Ok(())
     }
 
-    /// Adds bytes at the end, for which there has to be room. It makes all the blocks that it wants before it links
-    /// one, and copies whole runs.
-    ///
-    /// `AllocError`: there is no memory for a block; the list is as before.
-    pub fn extend(&mut self, alloc: Global, bytes: &[u8]) -> Result<(), AllocError>
-        requires fits { length self.old + length bytes.now ≤ Self.CAP }
-        ensures added { IfOk result (λ _. self.new ≡ self.old ++ bytes.now) }
-        ensures unchanged { IsErr result → self.new ≡ self.old }
+    /// Gives one block back.
+    pub(crate) fn into_block(self, alloc: Global) -> Raw<Block, Global>
+        requires { self.older ≡ [] }
+        ensures { result.value ≡ self.newest }
     {
-        let room = self.newest.as_ref().room();
-        if bytes.len() <= room {
-            self.newest.as_mut().copy_in(bytes);
-        } else {
-            let (first, rest) = bytes.split_at(room);
-            let fresh = chain_of(alloc, rest)?;
-            self.newest.as_mut().copy_in(first);
-            put_before(&mut self.newest, fresh);
+        let Chain {
+            first,
+            last: _,
+            count: _,
+        } = self;
+        Raw { at: first, alloc }
+    }
+
+    /// How many blocks it has.
+    pub(crate) fn count(&self) -> usize
+        ensures { result ≡ length self.now.older + 1 }
+    {
+        self.count
+    }
+
+    /// Writes a byte behind the text of the newest block.
+    pub(crate) fn put(&mut self, byte: u8)
+        requires { self.old.newest.len < ROOM }
+        ensures { (self.new.older ≡ self.old.older) × (self.new.newest.len ≡ self.old.newest.len + 1) × (text_of self.new.newest ≡ text_of self.old.newest ++ byte ∷ []) }
+    {
+        unsafe {
+            let place = (*self.last).len;
+            (*self.last).bytes[place] = byte;
+            (*self.last).len = place + 1;
         }
-        self.len += bytes.len();
-        Ok(())
     }
 
-    /// Copies the bytes from the place `start` on into `out`, all of which has to lie inside.
-    pub fn copy_to(&self, start: u64, out: &mut [u8])
-        requires within { start + length out.old ≤ length self.now }
-        ensures { out.new ≡ slice_range self.now start (start + length out.old) }
+    /// Links the blocks of another chain behind the newest.
+    pub(crate) fn link(&mut self, other: Chain)
+        requires few { length self.old.older + length other.older + 2 ≤ MOST_BLOCKS }
+        ensures { (self.new.older ≡ self.old.older ++ pointing self.old.newest other.first ∷ other.older) × (self.new.newest ≡ other.newest) }
     {
-        self.newest.as_ref().copy_out(self.len, start as usize, out);
+        let Chain { first, last, count } = other;
+        unsafe { (*self.last).next = first };
+        self.last = last;
+        self.count += count;
     }
 
-    /// Empties the list. It frees all blocks but one.
-    pub fn clear(&mut self)
-        ensures { self.new ≡ [] }
+    /// Unlinks all blocks but the first.
+    pub(crate) fn unlink(&mut self) -> Chain
+        requires { 0 < length self.old.older }
+        ensures { (self.old.older ≡ self.new.newest ∷ result.older) × (self.new.older ≡ []) × (result.newest ≡ self.old.newest) }
     {
-        let older = self.newest.as_mut().unlink();
-        self.len = 0;
-        drop(older);
+        let rest = Chain {
+            first: unsafe { (*self.first).next },
+            last: self.last,
+            count: self.count - 1,
+        };
+        self.last = self.first;
+        self.count = 1;
+        rest
     }
 
-    /// The list as one shared slice. The buffer keeps it; it has to hold a byte.
-    ///
-    /// `AllocError`: there is no memory for the slice.
-    pub fn to_shared(&self, alloc: Global) -> Result<RcSlice<u8>, AllocError>
-        requires filled { 0 < length self.now }
-        ensures text { IfOk result (λ shared. rc_slice_items shared ≡ self.now) }
-        ensures within { length self.now ≤ Self.CAP }
+    /// The first block.
+    pub(crate) fn first(&self) -> &Block
+        ensures { result.now ≡ slice_index_or (self.now.older ++ self.now.newest ∷ []) 0 result.now }
     {
-        let mut bytes = Vec::from_elem(alloc, 0, self.len)?;
-        self.copy_to(0, &mut bytes);
-        RcSlice::from_vec(bytes)
+        unsafe { &*self.first }
+    }
+
+    /// The block that the pointer of this one leads to, which is the one at `index`.
+    pub(crate) fn next<'a>(&'a self, block: &Block, index: usize) -> &'a Block
+        requires { (index < length self.now.older) × (block.now ≡ slice_index_or self.now.older index block.now) }
+        ensures { result.now ≡ slice_index_or (self.now.older ++ self.now.newest ∷ []) (index + 1) result.now }
+    {
+        unsafe { &*block.next }
+    }
+
+    /// The newest block, to be read and written.
+    pub(crate) fn newest(&mut self) -> &mut Block
+        ensures* given_back { sem 𝓛 (newest_follows self.entry result) }
+        ensures value { result.now ≡ self.old.newest }
+    {
+        unsafe { &mut *self.last }
     }
 }

@@ -1,12 +1,14 @@
-//! A buffer of bytes in raw memory: blocks of 128 bytes, each an allocation of its own, chained by raw pointers from
-//! the newest to the oldest. Callers see a list of bytes. No byte moves while a buffer grows.
+//! A buffer of bytes in raw memory: blocks of 128 bytes, each an allocation of its own, chained by raw pointers.
+//! Callers see a list of bytes. No byte moves while a buffer grows.
 #![tactic(auto)]
 
 mod block;
+mod buffer;
 mod chain;
 mod raw;
+mod text;
 
-pub use chain::RawBuf;
+pub use buffer::RawBuf;
 
 #[cfg(test)]
 mod tests;

@@ -1,29 +1,20 @@
-//! One raw allocation and the pointer to it. Only the functions of this file follow a raw pointer, make one or free one.
+//! One raw allocation and the pointer to it: it is made of a box, and freed by one.
 ghost use Rattle.std.specs.Prelude.{◌≡◌};
 ghost use Rattle.std.specs.Box.Ownership.{box_owns};
-ghost use denote.Struct.Lending.{lent_at};
 
 use std::alloc::Allocator;
 use std::marker::Model;
 
-/// Owns one allocation that holds a `T`. The pointer is never null, and the allocation is freed once: when this is
-/// dropped, or by the box that takes it over.
+/// Owns one allocation that holds a `T`. The pointer is never null. It can't be dropped: it goes into a chain, or into
+/// the box that frees it.
 pub(crate) struct Raw<T, A: Allocator> {
-    at: *mut T,
-    alloc: A,
+    pub(crate) at: *mut T,
+    pub(crate) alloc: A,
     pub(crate) ghost value: { T },
 }
 
 impl<T, A: Allocator> Model for Raw<T, A> {
     ghost also_owns = { λ r. box_owns (A.dealloc_token r.alloc) T.row r.at r.value };
-
-    ghost also_shares = { λ r _ κ. lent_at T.row r.at r.value κ };
-}
-
-impl<T: Drop, A: Allocator> Drop for Raw<T, A> {
-    fn drop(self) {
-        drop(self.into_box());
-    }
 }
 
 impl<T: Drop, A: Allocator> Raw<T, A> {
@@ -41,25 +32,5 @@ impl<T: Drop, A: Allocator> Raw<T, A> {
     {
         let Raw { at, alloc } = self;
         unsafe { Box::from_raw(alloc, at) }
-    }
-}
-
-impl<T, A: Allocator> Raw<T, A> {
-    ghost use types.Logic.{sem};
-    ghost use Rattle.cord_raw.specs.Loans.{loan_returns};
-
-    /// The value, to be read.
-    pub(crate) fn as_ref(&self) -> &T
-        ensures { result.now ≡ self.now.value }
-    {
-        unsafe { &*self.at }
-    }
-
-    /// The value, to be read and written.
-    pub(crate) fn as_mut(&mut self) -> &mut T
-        ensures* given_back { sem 𝓛 (loan_returns T.row A.row A.Allocator self.entry result) }
-        ensures value { result.now ≡ self.old.value }
-    {
-        unsafe { &mut *self.at }
     }
 }

@@ -1,0 +1,124 @@
+//! A chain as a text: it is made, filled, read and freed by safe code over its pointer functions.
+ghost use Rattle.std.specs.Prelude.{◌≡◌, ◌+◌, ◌*◌, ◌≤◌, ◌<◌, [], ◌∷◌, ◌++◌, length, drop, slice_range, slice_index_or, IfOk};
+ghost use Rattle.cord_raw.specs.Texts.{text, AreFull, IsFilled, blocks_of, chain_text, chain_len};
+
+use crate::block::{Block, MOST_BLOCKS, ROOM};
+use crate::chain::Chain;
+use crate::raw::Raw;
+use std::alloc::{AllocError, Global};
+
+impl Chain {
+    /// Makes a chain of one empty block: one allocation.
+    ///
+    /// `AllocError`: there is no memory for it.
+    pub(crate) fn make(alloc: Global) -> Result<Chain, AllocError>
+        ensures { IfOk result (λ made. (made.older ≡ []) × (made.newest.len ≡ 0)) }
+    {
+        match Box::new(alloc, Block::empty()) {
+            Ok(made) => Ok(Chain::of(Raw::of(made))),
+            Err(refused) => Err(AllocError::from(refused)),
+        }
+    }
+
+    /// Writes a byte behind the text; the newest block has room for it.
+    pub(crate) fn write(&mut self, byte: u8)
+        requires filled { IsFilled self.old }
+        requires room { self.old.newest.len < ROOM }
+        ensures text { chain_text self.new ≡ chain_text self.old ++ byte ∷ [] }
+        ensures filled { IsFilled self.new }
+        ensures len { chain_len self.new ≡ chain_len self.old + 1 }
+    {
+        self.put(byte);
+    }
+
+    /// Copies a run of bytes behind the text; the newest block has room for it.
+    pub(crate) fn copy_in(&mut self, run: &[u8])
+        requires filled { IsFilled self.old }
+        requires room { self.old.newest.len + length run.now ≤ ROOM }
+        ensures text { chain_text self.new ≡ chain_text self.old ++ run.now }
+        ensures filled { IsFilled self.new }
+        ensures len { chain_len self.new ≡ chain_len self.old + length run.now }
+        ensures newest { self.new.newest.len ≡ self.old.newest.len + length run.now }
+    {
+        self.newest().copy_in(run);
+    }
+
+    /// Adds the blocks of another chain behind the newest block, which is full.
+    pub(crate) fn append(&mut self, other: Chain)
+        requires filled { IsFilled self.old }
+        requires full { self.old.newest.len ≡ ROOM }
+        requires other { IsFilled other }
+        requires few { length self.old.older + length other.older + 2 ≤ MOST_BLOCKS }
+        ensures text { chain_text self.new ≡ chain_text self.old ++ chain_text other }
+        ensures filled { IsFilled self.new }
+        ensures len { chain_len self.new ≡ chain_len self.old + chain_len other }
+        ensures newest { self.new.newest.len ≡ other.newest.len }
+    {
+        self.link(other);
+    }
+
+    /// Makes a chain with these bytes, in as few blocks as hold them.
+    ///
+    /// `AllocError`: there is no memory for a block; those that were made are freed.
+    pub(crate) fn holding(alloc: Global, bytes: &[u8]) -> Result<Chain, AllocError>
+        requires filled { 0 < length bytes.now }
+        requires fits { length bytes.now ≤ ROOM * MOST_BLOCKS }
+        ensures text { IfOk result (λ made. chain_text made ≡ bytes.now) }
+        ensures filled { IfOk result IsFilled }
+        ensures len { IfOk result (λ made. chain_len made ≡ length bytes.now) }
+        ensures some { IfOk result (λ made. 0 < made.newest.len) }
+    {
+        let mut chain = Chain::make(alloc)?;
+        let mut rest = bytes;
+        while rest.len() > ROOM {
+            let (run, behind) = rest.split_at(ROOM);
+            chain.copy_in(run);
+            match Chain::make(alloc) {
+                Ok(fresh) => chain.append(fresh),
+                Err(refused) => {
+                    chain.free(alloc);
+                    return Err(refused);
+                }
+            }
+            rest = behind;
+        }
+        chain.copy_in(rest);
+        Ok(chain)
+    }
+
+    /// Copies bytes out of the blocks from `block` on, which is the one at `index`: those from `start` on.
+    pub(crate) fn copy_out(&self, block: &Block, index: usize, start: usize, out: &mut [u8])
+        requires this { (index ≤ length self.now.older) × (block.now ≡ slice_index_or (blocks_of self.now) index block.now) }
+        requires filled { IsFilled self.now }
+        requires within { start + length out.old ≤ length (text (drop index (blocks_of self.now))) }
+        ensures { out.new ≡ slice_range (text (drop index (blocks_of self.now))) start (start + length out.old) }
+    {
+        let wanted = out.len();
+        if wanted == 0 {
+            return;
+        }
+        if start >= ROOM {
+            let next = self.next(block, index);
+            self.copy_out(next, index + 1, start - ROOM, out);
+            return;
+        }
+        let run = wanted.min(ROOM - start);
+        let (front, back) = out.split_at_mut(run);
+        block.copy_out(start, front);
+        if run < wanted {
+            let next = self.next(block, index);
+            self.copy_out(next, index + 1, 0, back);
+        }
+    }
+
+    /// Frees every block.
+    pub(crate) fn free(self, alloc: Global) {
+        let mut chain = self;
+        while chain.count() > 1 {
+            let rest = chain.unlink();
+            drop(chain.into_block(alloc).into_box());
+            chain = rest;
+        }
+        drop(chain.into_block(alloc).into_box());
+    }
+}
