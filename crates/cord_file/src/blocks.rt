@@ -20,7 +20,7 @@ pub(crate) struct BlockKey {
     pub(crate) number: u64,
 }
 
-// Kept blocks, of which the one used least recently goes first.
+// Kept blocks. A new one takes the place of the one used least recently.
 pub(crate) type Blocks = LruCache<BlockKey, [u8; BLOCK]>;
 
 // Reads one block of an opened file. The bytes behind its last one are 0.
