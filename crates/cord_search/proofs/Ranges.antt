@@ -6,7 +6,7 @@ use Rattle.cord_io.specs.Table.{Table}
 use Rattle.cord_node.specs.declared.Node.{Node}
 use Rattle.cord_node.specs.Tree.{len_of}
 use Rattle.cord_node.specs.Tables.{bytes_over}
-use Rattle.cord_node.proofs.Ranges.{range_of_range, range_left, range_right}
+use Rattle.cord_node.proofs.Ranges.{range_of_range, range_right}
 use Rattle.cord_iter.proofs.Cuts.{IsCut}
 use Rattle.cord_search.specs.Pieces.{IsPieceAt}
 
@@ -32,12 +32,6 @@ pub func_piece : (o : Option Table) (n : Node) (xs : List ℕ) (id start len fro
 func_piece None n xs id start len from place e f h s = tt
 func_piece (Some t) n xs id start len from place e f h s =
     s ∙ ap (λ (m : ℕ). take (length xs) (drop m (t id))) f ∙ sym (range_of_range (t id) place (length xs) start len h) ∙ ap (λ (ys : List ℕ). take (length xs) (drop place ys)) (sym (e t))
-
--- a piece of the left side
-pub left_piece : (o : Option Table) (l r n : Node) (place : ℕ) (xs : List ℕ) → IfSome o (λ t. IsCut t l r n) → place + length xs ≤ len_of l → IsPieceAt o l place xs → IsPieceAt o n place xs
-left_piece None l r n place xs c h s = tt
-left_piece (Some t) l r n place xs c h s =
-    s ∙ sym (range_left (bytes_over t l) (bytes_over t r) place (length xs) (rw c.len h)) ∙ ap (λ (ys : List ℕ). take (length xs) (drop place ys)) (sym c.bytes)
 
 -- a piece of the right side
 pub right_piece : (o : Option Table) (l r n : Node) (at place : ℕ) (xs : List ℕ) → IfSome o (λ t. IsCut t l r n) → place ≡ len_of l + at → IsPieceAt o r at xs → IsPieceAt o n place xs

@@ -35,13 +35,6 @@ filled_inside done k n out piece part p q is =
     let front : length (take done out) ≡ done = length-take-le done out q in
     omega (arith, long, front, length-append (take done out) (part ++ post_of done k out), length-append part (post_of done k out))
 
--- all was filled
-pub filled_all : (o : Option Table) (c : Option Node) (place done : ℕ) (out : List ℕ) → done ≤ length out → length out ≤ done → IsFilled o c place done out → IsPieceOf o c place out
-filled_all None c place done out low high h = tt
-filled_all (Some t) c place done out low high h =
-    let same : done ≡ length out = omega arith in
-    sym (take_all done out high) ∙ h ∙ ap (λ (m : ℕ). take m (drop place (bytes_of t c))) same
-
 -- a text that stands in another ends inside
 stands_inside : (x s : List ℕ) (q : ℕ) → StandsAt x s q → q + length s ≤ length x
 stands_inside x s q at = omega (arith, ap (λ (ys : List ℕ). length ys) at.here, length-drop q x, length-append s at.rest, at.within)
