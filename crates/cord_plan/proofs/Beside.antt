@@ -11,7 +11,7 @@ use Rattle.cord_meaning.specs.Simulation.{Agree, IsControl, Simulates}
 use Rattle.cord_plan.specs.Planned.{Operation, operation}
 use Rattle.cord_plan.specs.Meaning.{Holding, does, operation_shape, operation_line, plan_rules, start_holding}
 use Rattle.cord_plan.specs.Conditions.{Decisions, MeetsConditions, decided, decided_from}
-use Rattle.cord_plan.proofs.Operations.{same_shape, same_line, same_count, same_holds}
+use Rattle.cord_plan.proofs.Controls.{same_shape, same_line, same_count, same_holds}
 use Rattle.cord_plan.proofs.Keeping.{moves}
 use Rattle.cord_plan.proofs.Decided.{Related, agrees}
 

@@ -4,7 +4,7 @@ pub mod Flat
 pub mod Keeps
 pub mod Evaluation
 pub mod Does
-pub mod Operations
+pub mod Controls
 pub mod Trivial
 pub mod Stays
 pub mod Barriers

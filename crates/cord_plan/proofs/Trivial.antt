@@ -21,7 +21,7 @@ use Rattle.cord_plan.proofs.Keeps.{IsKept, Agrees}
 use Rattle.cord_plan.proofs.Evaluation.{gives_after, function_gives}
 use Rattle.cord_plan.proofs.Owns.{own_means, sets_within}
 use Rattle.cord_plan.proofs.Does.{built_agrees, put_agrees, len_agrees, kept_agrees}
-use Rattle.cord_plan.proofs.Operations.{same_shape, same_line, same_count, same_holds}
+use Rattle.cord_plan.proofs.Controls.{same_shape, same_line, same_count, same_holds}
 
 -- what a plan holds where each name of a cord holds the script's text
 abbrev full : State → Holding

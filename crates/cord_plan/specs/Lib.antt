@@ -4,6 +4,7 @@ pub mod Operands
 pub mod Unread
 pub mod Forced
 pub mod Planned
+pub mod Views
 pub mod Flat
 pub mod Flattening
 pub mod Resolved

@@ -2,8 +2,10 @@
 #![tactic(auto)]
 
 mod expression_laws;
+mod expressions;
 mod laws;
 mod meaning;
+mod operations;
 mod pair_laws;
 mod rows;
 
@@ -11,6 +13,7 @@ pub use expression_laws::{
     flattened_cats_mean_the_nested, measures_are_lengths, own_expressions_mean_their_lines,
     subs_over_cats_are_resolved_by_lengths,
 };
+pub use expressions::{Expr, Members};
 pub use laws::{
     dead_targets_are_not_built, fixed_points_tell_what_is_read, no_cat_stands_in_a_cat,
     what_is_read_later_is_one,
@@ -19,6 +22,7 @@ pub use meaning::{
     planned_scripts_keep_the_meaning, planned_scripts_meet_the_conditions, plans_keep_the_meaning,
     trivial_plans_keep_the_meaning,
 };
+pub use operations::{Made, Operation};
 pub use pair_laws::{
     pairs_are_planned, pairs_leave_their_name_out, replacements_keep_expressions_small,
 };

@@ -1,0 +1,49 @@
+// Expressions of plans.
+ghost use Rattle.std.specs.Prelude.{◌≡◌, map};
+ghost use Rattle.cord_plan.specs.Views.{expr_view, members_of, members_view};
+
+use cord_script::{Name, Number};
+
+/// An expression of a plan: what a line makes of names of cords and of runs of a byte.
+#[derive(Drop)]
+#[cycle(expressions)]
+pub enum Expr {
+    /// The name of a cord.
+    Name(Name),
+    /// `run(c n)`: n copies of the byte c.
+    Run {
+        byte: Number,
+        count: Number,
+    },
+    /// `cat(E1 E2 ..)`: the members in order.
+    Cat(Members),
+    /// `sub(E i n)`: at most n bytes of E from i on.
+    Sub {
+        expression: Box<Expr>,
+        start: Number,
+        count: Number,
+    },
+}
+
+/// The members of a `cat`, in order.
+#[derive(Drop)]
+#[cycle(expressions)]
+pub struct Members {
+    members: Vec<Expr>,
+}
+
+impl Members {
+    /// These members, without taking memory.
+    pub fn of(members: Vec<Expr>) -> Self
+        ensures { members_view result ≡ members_of (map expr_view members.items) }
+    {
+        Members { members }
+    }
+
+    /// The members in order.
+    pub fn as_slice(&self) -> &[Expr]
+        ensures { members_view self.now ≡ members_of (map expr_view result.now) }
+    {
+        &self.members
+    }
+}
