@@ -9,8 +9,8 @@ use Rattle.cord_script.specs.declared.statements.Statement.TheVariants.{Let, Fil
 use Rattle.cord_meaning.specs.declared.ends.FaultKind.{FaultKind}
 use Rattle.cord_meaning.specs.declared.ends.FaultKind.TheVariants.{Overflow}
 use Rattle.cord_meaning.specs.State.{State, Outcome, number_value, and_then, as_index, as_byte, as_length, fits_i64, sets_extensible, has_number, sets_number}
-use Rattle.cord_meaning.specs.Statements.{act, byte_at}
-use Rattle.cord_meaning.specs.Texts.{first, last, order, place_number}
+use Rattle.cord_meaning.specs.Statements.{act, byte_at, place_number}
+use Rattle.cord_core.specs.Texts.{first, last, order}
 use Rattle.cord_plan.specs.Operands.{read_by}
 
 -- the statements that a plan keeps as they are, but for `len`, which serves a length alone

@@ -24,3 +24,4 @@ pub mod TrivialDecided
 pub mod ReadKinds
 pub mod Kept
 pub mod PlannedPairs
+pub mod Numerals

@@ -9,7 +9,7 @@ use Rattle.cord_meaning.specs.Machine.{Config, after}
 use Rattle.cord_meaning.specs.Rows.{numeral}
 use Rattle.cord_plan.specs.Unread.{later_within}
 use Rattle.cord_plan.specs.Exprs.{Expr, name, run, cat, sub, nothing, member}
-use Rattle.cord_plan.specs.Planned.{Operation, Build, Measure, Write, Keep, Joined, Literal, OfEager, planned}
+use Rattle.cord_plan.specs.Planned.{Operation, Measure, Write, Keep, Joined, Literal, OfEager, planned}
 use Rattle.cord_plan.specs.Meaning.{Holding, start_holding, plan_rules}
 use Rattle.cord_plan.specs.Shown.{shown}
 
@@ -38,16 +38,6 @@ substr_of_unread_cat_too_long =
     ∷ Cat 3 (codes "t") (codes "a") (codes "b")
     ∷ Substr 4 (codes "z") (codes "t") (numeral 0) (numeral 1)
     ∷ Put 5 (codes "b")
-    ∷ []
-
--- the operations of that script's plan
-abbrev pub operations_of_unread_cat : List Operation
-operations_of_unread_cat =
-    Measure 1 (codes "a") (Joined (run (numeral 0) (numeral 1099511627775)))
-    ∷ Build 2 (codes "b") (Literal (codes "b"))
-    ∷ Measure 3 (codes "t") (Joined (cat (member (run (numeral 0) (numeral 1099511627775)) (member (name (codes "b")) nothing))))
-    ∷ Measure 4 (codes "z") (Joined (sub (cat (member (run (numeral 0) (numeral 1099511627775)) (member (name (codes "b")) nothing))) (numeral 0) (numeral 1)))
-    ∷ Write 5 (name (codes "b"))
     ∷ []
 
 -- `let a "a" ; let b "b" ; cat t a b ; cat u t b ; put u`

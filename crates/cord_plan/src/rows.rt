@@ -15,7 +15,7 @@ pub fn plans_are_computed()
     ensures hello_trivial { shown (trivial scripts.hello) ≡ codes "1 build x literal(5)\n2 write x\n" }
     ensures substr_over_seam { plan_text 5 Rows.substr_over_seam ≡ codes "1 build a literal(3)\n2 build b literal(3)\n3 measure t cat(a b)\n4 measure z sub(cat(a b) 2 3)\n5 write sub(cat(a b) 2 3)\n" }
     ensures show_trivial_plan { shown (trivial Rows.substr_over_seam) ≡ codes "1 build a literal(3)\n2 build b literal(3)\n3 build t cat(a b)\n4 build z sub(t 2 3)\n5 write z\n" }
-    ensures substr_of_unread_cat_too_long { plan_of 5 Rows.substr_of_unread_cat_too_long ≡ Rows.operations_of_unread_cat }
+    ensures substr_of_unread_cat_too_long { plan_text 5 Rows.substr_of_unread_cat_too_long ≡ codes "1 measure a run(0 1099511627775)\n2 build b literal(1)\n3 measure t cat(run(0 1099511627775) b)\n4 measure z sub(cat(run(0 1099511627775) b) 0 1)\n5 write b\n" }
     ensures cat_in_cat { plan_text 5 Rows.cat_in_cat ≡ codes "1 build a literal(1)\n2 build b literal(1)\n3 measure t cat(a b)\n4 measure u cat(a b b)\n5 write cat(a b b)\n" }
     ensures path_is_escaped { plan_text 1 Rows.path_with_quote ≡ Rows.text_of_path_with_quote }
     ensures operand_assigned_between { plan_text 6 scripts.operand_assigned_between ≡ codes "1 build a literal(1)\n2 build b literal(1)\n3 build t cat(a b)\n4 measure a literal(1)\n5 measure z sub(t 0 2)\n6 write sub(t 0 2)\n" }
