@@ -7,13 +7,13 @@ use Rattle.cord_node.specs.declared.Node.TheVariants.{Leaf, Run, Func, Cat'}
 use Rattle.cord_node.specs.Tables.{FitsIn}
 use Rattle.cord_core.specs.Cord.{bytes_of, CordFitsIn}
 
--- the table without entries: today's statements name no file and no function
-abbrev pub no_entries : Table
-no_entries id = []
+-- the table of empty entries: today's statements name no file and no function
+abbrev pub no_bytes : Table
+no_bytes id = []
 
 -- the text of a cord
 abbrev pub text : Option Node → List ℕ
-text c = bytes_of no_entries c
+text c = bytes_of no_bytes c
 
 -- no part of the cord is read from an entry: it fits whatever lengths were told
 abbrev pub NeedsNoEntry : Option Node → Type 0

@@ -21,23 +21,23 @@ pub fn put_cord<S: Sink>(cord: &Cord, sink: &mut S) -> Result<(), WriteFault>
     ensures ok { OnOk result (Appends (S.taken sink.old) (S.taken sink.new) (text cord.now) × (S.failures sink.new ≡ S.failures sink.old)) }
     ensures err { OnErr result ((n : ℕ) × Appends (S.taken sink.old) (S.taken sink.new) (take n (text cord.now)) × (S.failures sink.new ≡ raised (S.failures sink.old))) }
 {
-    match cord_iter::put(cord, &mut NoEntries, sink) {
+    match cord_iter::put(cord, &mut EmptyEntries, sink) {
         Ok(()) => Ok(()),
         Err(_) => Err(WriteFault),
     }
 }
 
-// A source without entries.
+// A source whose entries are all empty.
 #[derive(Drop)]
-struct NoEntries;
+struct EmptyEntries;
 
-impl Source for NoEntries {
-    ghost use Rattle.std.specs.Prelude.{None, Some, refl};
-    ghost use Rattle.cord_run.specs.Texts.{no_entries};
+impl Source for EmptyEntries {
+    ghost use Rattle.std.specs.Prelude.{Some, refl};
+    ghost use Rattle.cord_run.specs.Texts.{no_bytes};
 
-    ghost lengths = { λ _ _. None };
+    ghost lengths = { λ _ _. Some 0 };
 
-    ghost table = { λ _. Some no_entries };
+    ghost table = { λ _. Some no_bytes };
 
     ghost failures = { λ _. 0 };
 
@@ -48,10 +48,10 @@ impl Source for NoEntries {
     }
 
     fn entry_len(&self, _id: SourceId) -> Option<u64> {
-        None
+        Some(0)
     }
 
     fn read(&mut self, _id: SourceId, _start: u64, _out: &mut [u8]) -> Result<(), ReadFault> {
-        unreachable!()
+        Ok(())
     }
 }

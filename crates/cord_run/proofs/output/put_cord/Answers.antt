@@ -1,10 +1,10 @@
-use Rattle.std.proofs.Common.{None}
+use Rattle.std.proofs.Common.{Some}
 use Rattle.cord_run.specs.Texts.{text}
 use Rattle.cord_run.proofs.Puts.{first_bytes, only_sink}
 use Rattle.cord_run.proofs.output.put_cord.Goals as goal
 
 pub put-requires : goal.put-requires
-put-requires g c = record { fits = c.requires (λ id. None) }
+put-requires g c = record { fits = c.requires (λ id. Some 0) }
 
 pub returns-in-Err-clause-err : goal.returns-in-Err-clause-err
 returns-in-Err-clause-err g c =
