@@ -8,6 +8,7 @@ use Rattle.std.specs.Global.{Global}
 use Rattle.std.specs.Result.{OnErr}
 use Rattle.std.specs.declared.result.Result.{Result}
 use Rattle.std.proofs.Math.Seq.{take-add}
+use Rattle.cord_io.proofs.Taken.{appends_both}
 use Rattle.cord_io.specs.Table.{Table}
 use Rattle.cord_io.specs.declared.SourceId.{SourceId}
 use Rattle.cord_node.specs.declared.Node.{Node}
@@ -15,16 +16,6 @@ use Rattle.cord_node.specs.declared.Node.TheVariants.{Func, Cat'}
 use Rattle.cord_node.specs.Tree.{len_of, IsSound}
 use Rattle.cord_node.specs.Tables.{bytes_over}
 use Rattle.cord_iter.specs.Taking.{IsFrontOf, IsTextOver, IsPrefixOver, Takes}
-
-pub appends_both : (a b c : Option (List ℕ)) (x y : List ℕ) → Appends a b x → Appends b c y → Appends a c (x ++ y)
-appends_both None b c x y h k = tt
-appends_both (Some xs) None c x y h k = absurd h
-appends_both (Some xs) (Some ys) None x y h k = absurd k
-appends_both (Some xs) (Some ys) (Some zs) x y h k = k ∙ ap (λ l. l ++ y) h ∙ append_assoc xs x y
-
-pub appends_none : (a : Option (List ℕ)) → Appends a a []
-appends_none None = tt
-appends_none (Some xs) = sym (append-nil xs)
 
 -- two calls, one after the other
 pub takes_both : {P Q R : List ℕ → Type 0} {a b c : Option (List ℕ)} → Takes P a b → Takes Q b c → ((x y : List ℕ) → P x → Q y → R (x ++ y)) → Takes R a c
@@ -42,13 +33,6 @@ takes_such s h = record { out = s.out; such = h s.out s.such; taken = s.taken }
 pub func_none : (o : Option Table) (id : SourceId) (s : ℕ) → IsTextOver o (Func id s 0) []
 func_none None id s = refl
 func_none (Some t) id s = refl
-
--- what is kept
-pub appends_kept : (a b c : Option (List ℕ)) (x : List ℕ) → Appends a b x → Keeps b c → Appends a c x
-appends_kept None b c x h k = tt
-appends_kept (Some xs) None c x h k = absurd h
-appends_kept (Some xs) (Some ys) None x h k = absurd k
-appends_kept (Some xs) (Some ys) (Some zs) x h k = k ∙ h
 
 -- a first part, and a front part of what is behind it
 pub front_join : (whole x more y : List ℕ) → whole ≡ x ++ more → IsFrontOf more y → IsFrontOf whole (x ++ y)

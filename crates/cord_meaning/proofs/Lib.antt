@@ -1,4 +1,3 @@
-pub mod Taken
 pub mod Terminates
 pub mod Grows
 pub mod Runs

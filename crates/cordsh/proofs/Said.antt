@@ -7,7 +7,7 @@ use Rattle.std.specs.Io.KnownBytes.{Appends, Keeps}
 use Rattle.std.proofs.Math.Seq.{take-length}
 use Rattle.cord_io.specs.Device.{count_after, raised}
 use Rattle.cord_io.specs.declared.faults.WriteFault.{WriteFault}
-use Rattle.cord_meaning.proofs.Taken.{appends_kept}
+use Rattle.cord_io.proofs.Taken.{appends_kept}
 use Rattle.cordsh.specs.Outcomes.{line_text}
 use Rattle.cordsh.specs.Tells.{Says, Tells}
 

@@ -3,7 +3,8 @@ use Rattle.std.specs.Io.KnownBytes.{Appends}
 use Rattle.cord_io.specs.Device.{raised}
 use Rattle.std.proofs.lemmas.List.{take_rest}
 use Rattle.std.proofs.Math.Seq.{take-add}
-use Rattle.cord_iter.proofs.Takings.{appends_both, appends_kept, front_take, on_err}
+use Rattle.cord_io.proofs.Taken.{appends_both, appends_kept}
+use Rattle.cord_iter.proofs.Takings.{front_take, on_err}
 use Rattle.cord_iter.proofs.pieces.put_all.Goals as goal
 
 pub returns-in_err-done-clause-err : goal.returns-in_err-done-clause-err
