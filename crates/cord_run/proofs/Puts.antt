@@ -1,7 +1,6 @@
 -- What a sink took of a text whose put failed.
-use Rattle.std.proofs.Common.{◌≡◌, ℕ, List, length, take, Ok, Err, sym, ap, subst, ◌∙◌, arith}
-use Rattle.std.specs.Prelude.{Option, OnErr}
-use Rattle.std.specs.declared.result.Result.{Result}
+use Rattle.std.proofs.Common.{◌≡◌, ℕ, List, length, take, Err, sym, ap, subst, ◌∙◌, arith}
+use Rattle.std.specs.Prelude.{Option}
 use Rattle.std.specs.Io.KnownBytes.{Appends}
 use Rattle.std.proofs.lemmas.List.{take-append-le}
 use Rattle.std.proofs.Math.Seq.{take-length}
@@ -15,11 +14,6 @@ pub first_bytes : (a b : Option (List ℕ)) (whole : List ℕ) → Takes (IsFron
 first_bytes a b whole t =
     let first : take (length t.out) whole ≡ t.out = ap (λ (l : List ℕ). take (length t.out) l) t.such.1 ∙ take-append-le (length t.out) t.out t.such.0 (omega arith) ∙ take-length t.out in
     (length t.out, subst (Appends a b) (sym first) t.taken)
-
--- the same of a call that counts its fault
-pub fails_first : {T E : Type 0} (r : Result T E) (a b : Option (List ℕ)) (whole : List ℕ) (old new : ℕ) → OnErr r (Takes (IsFrontOf whole) a b × (new ≡ raised old)) → OnErr r ((n : ℕ) × Appends a b (take n whole) × (new ≡ raised old))
-fails_first (Ok x) a b whole old new h = tt
-fails_first (Err e) a b whole old new h = let front = first_bytes a b whole h.0 in (front.0, front.1, h.1)
 
 -- over a source that never fails a fault is the sink's
 pub only_sink : (old new : ℕ) (e : CordError) → CountsFaults {T = Unit {0}} (record { source = 0; sink = old }) (record { source = 0; sink = new }) (Err e) → new ≡ raised old

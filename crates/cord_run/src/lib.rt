@@ -9,5 +9,4 @@ mod slot;
 mod tests;
 
 pub use cord_meaning::{End, FaultKind};
-pub use output::put_all;
 pub use runner::{run_text, run_unplanned};

@@ -1,4 +1,4 @@
-//! Writes bytes and cords to a sink.
+//! Writes cords to a sink.
 ghost use Rattle.std.specs.Prelude.{◌≡◌, ℕ, OnOk, OnErr, take};
 ghost use Rattle.std.specs.Io.KnownBytes.{Appends};
 ghost use Rattle.cord_io.specs.Device.{raised};
@@ -6,14 +6,6 @@ ghost use Rattle.cord_run.specs.Texts.{text, NeedsNoEntry};
 
 use cord_core::Cord;
 use cord_io::{ReadFault, Sink, Source, SourceId, WriteFault};
-
-/// Offers the bytes until the sink has taken them all.
-pub fn put_all<S: Sink>(bytes: &[u8], sink: &mut S) -> Result<(), WriteFault>
-    ensures ok { OnOk result (Appends (S.taken sink.old) (S.taken sink.new) bytes.now × (S.failures sink.new ≡ S.failures sink.old)) }
-    ensures err { OnErr result ((n : ℕ) × Appends (S.taken sink.old) (S.taken sink.new) (take n bytes.now) × (S.failures sink.new ≡ raised (S.failures sink.old))) }
-{
-    cord_iter::put_all(bytes, sink)
-}
 
 /// Puts the text of a cord.
 pub fn put_cord<S: Sink>(cord: &Cord, sink: &mut S) -> Result<(), WriteFault>

@@ -5,8 +5,8 @@ ghost use Rattle.cordsh.specs.Tells.{Says, Tells};
 
 use arrayvec::ArrayString;
 use cord_io::Sink;
+use cord_iter::put_all;
 use cord_meaning::{End, FaultKind};
-use cord_run::put_all;
 use cord_script::{Refusal, RefusalKind};
 use itoa::Buffer;
 
