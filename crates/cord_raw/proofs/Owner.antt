@@ -4,21 +4,18 @@ use mathlib.Core.Bool.{true, ◌&&◌}
 use lib.Dec.{T as Yes}
 use seplogic.Ra.Ura.{Ura}
 use mir.Syntax.{impl, tnil, dnil}
-use mir.Raw.{raw as bare}
 use mir.Val.{Val, vptr, vstruct, vcons, vnil, of_list, has_ty, WT}
-use base.Logic.{never, fst∗}
-use types.Logic.{Logic, sem}
-use types.Kit.{Item, Goal, Seq, Step, step, ‵, ◌$◌, move, drop, fsplit, fjoin, fpick, fpack, feq_i, feq_l}
+use types.Logic.{Logic}
+use types.Kit.{Item, Goal, Step, step, ‵, ◌$◌, move, fjoin, fpack, feq_i}
 use denote.RattleType.{RattleType, Valss}
-use denote.Memory.{lone}
 use denote.Param.{param, layout}
 use denote.Param.Laws.{Laws, param_laws}
-use denote.RawPtr.{Ptr, RawPtr, block_ptr, null_ptr, ptr_val, in_a_block}
+use denote.RawPtr.{Ptr, RawPtr, block_ptr, ptr_val}
 use denote.Steps.{nothing}
 use denote.Struct.Owning.{shape}
 use denote.Struct.Struct.{within}
 use Rattle.core.specs.declared.alloc.Allocator.{Ghosts}
-use Rattle.core.proofs.alloc.Calls.{Al, handle_tells}
+use Rattle.core.proofs.alloc.Calls.{Al}
 use Rattle.core.proofs.cell.Inside.{Good}
 use Rattle.std_alloc.proofs.ResultValues.{and_tt}
 use Rattle.std.specs.Box.Ownership.{box_owns}
@@ -52,17 +49,7 @@ module _ (T A : RattleType) (L : Laws T) (K : Laws A) (g : Ghosts A.Denot) where
   words_typed b o h fits = (and_tt (has_ty (layout Z) h) fits.0, (tt, (fits.1, tt)))
 
   module _ {M : Type 1} {𝓤 : Ura M} {𝓛 : Logic 𝓤} {X : Type 0} {Γ : List (Item 𝓤)} {G : Goal 𝓤 𝓛.H} where
-    -- what an owner has: the value at a place in memory, the right to free it, and its allocator
-    pub unpacks : X → (r : O.Denot) (vs : List Val)
-        → ((b o : ℕ) (h : Val) → r.at ≡ block_ptr b o → vs ≡ words b o h ∷ [] → Good (layout Z) h
-        → Seq X 𝓛 (‵ (box_owns (g.dealloc_token r.alloc) R (block_ptr b o) r.value) ∷ ‵ (Z.own_val r.alloc (h ∷ [])) ∷ Γ) G)
-        → Seq X 𝓛 (‵ (O.own_val r vs) ∷ Γ) G
-    unpacks t r vs rest =
-        fsplit t $ fpick t (λ vss. fsplit t $ feq_l t (λ whole. fsplit t $ feq_l t (λ first. fsplit t $ handle_tells handle_of t r.alloc vss.1.0 (λ h second fits. move t (1 ∷ []) $ drop t $ move t (1 ∷ []) $
-        in_a_block t r.at (λ p. box_owns (g.dealloc_token r.alloc) R p r.value) (fst∗ 𝓤 (never 𝓤) (sem 𝓛 (g.dealloc_token r.alloc (bare (lone R.mir)) null_ptr))) (λ b o e.
-        rest b o h e (spells vs vss.0 vss.1.0 r.at b o h whole first e second) fits)))))
-
-    -- and back
+    -- an owner is made of the value at a place in memory, the right to free it, and its allocator
     pub packs : X → (b o : ℕ) (h : Val) (a : Z.Denot) (x : R.Denot)
         → Step X 𝓛 (‵ (O.own_val (record { at = block_ptr b o; alloc = a; value = x }) (words b o h ∷ [])) ∷ Γ) G (‵ (box_owns (g.dealloc_token a) R (block_ptr b o) x) ∷ ‵ (Z.own_val a (h ∷ [])) ∷ Γ) G
     packs t b o h a x = step (λ s.

@@ -36,12 +36,16 @@ use Rattle.cord_raw.proofs.raw.Raw.TheLaws as raw_laws
 use Rattle.cord_raw.proofs.chain.Chain.TheLaws as chain_laws
 use Rattle.cord_raw.specs.Ownership.{frees, block_owns, chain_owns, chain_lent}
 
--- the allocator's handle is one value, and owns nothing
+-- the allocator's handle is one value
 abbrev pub handle_val : Val
 handle_val = vstruct (vcons (vstruct (vcons vunit vnil)) vnil)
 
-handle_is : (a : Global) → Is heap.the_row a (handle_val ∷ [])
+pub handle_is : (a : Global) → Is heap.the_row a (handle_val ∷ [])
 handle_is a = ((vstruct (vcons vunit vnil) ∷ [], tt), (refl, (((vunit ∷ [], tt), (refl, (refl, tt))), tt)))
+
+-- and owns nothing
+pub handle_plain : (a : Global) → Pure (heap.the_row.own_val a (handle_val ∷ []))
+handle_plain a = heap_laws.the_field_plain (heap.the_type.to a) (handle_val ∷ [])
 
 pub handle_typed : Yes (has_ty (lone heap.the_row.mir) handle_val) × WT handle_val
 handle_typed = (tt, ((tt, tt), tt))
@@ -111,11 +115,6 @@ module _ {M : Type 1} {𝓤 : Ura M} {𝓛 : Logic 𝓤} {X : Type 0} {Γ : List
   pub lies : X → (p : Ptr) (b : Block) → ((bl o : ℕ) → p ≡ block_ptr bl o → Seq X 𝓛 (‵ (part_at block.the_row full_share b bl o) ∷ ‵ (frees (bare (lone block.the_row.mir)) (block_ptr bl o)) ∷ Γ) G)
       → Seq X 𝓛 (‵ (block_owns p b) ∷ Γ) G
   lies t p b rest = in_a_block t p (λ q. block_owns q b) (fst∗ 𝓤 (never 𝓤) (sem 𝓛 (frees (bare (lone block.the_row.mir)) null_ptr))) (λ bl o e. fsplit t $ rest bl o e)
-
-  -- one block's owner is made of the block
-  pub owner_packs : X → (r : Raw Block Global) → Step X 𝓛 (‵ (Owner.own_val r (owner_val r ∷ [])) ∷ Γ) G (‵ (block_owns r.at r.value) ∷ Γ) G
-  owner_packs t r = step (λ s.
-      pure_i t ((Struct (shape owner_type)).own_val (to owner_type r) (owner_val r ∷ [])) (Struct-Pure (shape owner_type) (RawPtr-plain, ((λ a vs. heap_laws.the_field_plain (heap.the_type.to a) vs), tt)) (to owner_type r) (owner_val r ∷ [])) (owner_are r) $ fjoin t $ s)
 
 module _ {M : Type 1} {𝓤 : Ura M} (𝓛 : Logic 𝓤) (κ : Lft) (b o : ℕ) (d : Chain) where
   -- a `&` to the three fields

@@ -46,17 +46,22 @@ impl Chain {
         }
     }
 
-    /// Gives one block back.
-    pub(crate) fn into_block(self, alloc: Global) -> Raw<Block, Global>
-        requires { self.older ≡ [] }
-        ensures { result.value ≡ self.newest }
-    {
+    /// Frees every block, oldest first. The pointer of a block is read before the block is freed; that of the newest
+    /// is not followed.
+    pub(crate) fn free(self, alloc: Global) {
         let Chain {
             first,
             last: _,
-            count: _,
+            count,
         } = self;
-        Raw { at: first, alloc }
+        let mut at = first;
+        let mut unfreed = count;
+        while unfreed > 0 {
+            let next = unsafe { (*at).next };
+            drop(unsafe { Box::from_raw(alloc, at) });
+            at = next;
+            unfreed -= 1;
+        }
     }
 
     /// How many blocks it has.

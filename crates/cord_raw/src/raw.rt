@@ -1,12 +1,11 @@
-//! One raw allocation and the pointer to it: it is made of a box, and freed by one.
+//! One raw allocation and the pointer to it, made of a box.
 ghost use Rattle.std.specs.Prelude.{◌≡◌};
 ghost use Rattle.std.specs.Box.Ownership.{box_owns};
 
 use std::alloc::Allocator;
 use std::marker::Model;
 
-/// Owns one allocation that holds a `T`. The pointer is never null. It can't be dropped: it goes into a chain, or into
-/// the box that frees it.
+/// Owns one allocation that holds a `T`. The pointer is never null. It can't be dropped: it goes into a chain.
 pub(crate) struct Raw<T, A: Allocator> {
     pub(crate) at: *mut T,
     pub(crate) alloc: A,
@@ -24,13 +23,5 @@ impl<T: Drop, A: Allocator> Raw<T, A> {
     {
         let (at, alloc) = Box::into_raw_with_allocator(value);
         Raw { at, alloc }
-    }
-
-    /// Hands the allocation over to a box; no byte moves.
-    pub(crate) fn into_box(self) -> Box<T, A>
-        ensures { result.value ≡ self.value }
-    {
-        let Raw { at, alloc } = self;
-        unsafe { Box::from_raw(alloc, at) }
     }
 }

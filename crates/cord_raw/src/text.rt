@@ -1,4 +1,4 @@
-//! A chain as a text: it is made, filled, read and freed by safe code over its pointer functions.
+//! A chain as a text: it is made, filled and read by safe code over its pointer functions.
 ghost use Rattle.std.specs.Prelude.{◌≡◌, ◌+◌, ◌*◌, ◌≤◌, ◌<◌, [], ◌∷◌, ◌++◌, length, drop, slice_range, slice_index_or, IfOk};
 ghost use Rattle.cord_raw.specs.Texts.{text, AreFull, IsFilled, blocks_of, chain_text, chain_len};
 
@@ -109,16 +109,5 @@ impl Chain {
             let next = self.next(block, index);
             self.copy_out(next, index + 1, 0, back);
         }
-    }
-
-    /// Frees every block.
-    pub(crate) fn free(self, alloc: Global) {
-        let mut chain = self;
-        while chain.count() > 1 {
-            let rest = chain.unlink();
-            drop(chain.into_block(alloc).into_box());
-            chain = rest;
-        }
-        drop(chain.into_block(alloc).into_box());
     }
 }
