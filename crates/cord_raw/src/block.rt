@@ -37,17 +37,6 @@ impl Block {
         self.len = 0;
     }
 
-    /// Copies a run of bytes behind the text.
-    pub(crate) fn copy_in(&mut self, run: &[u8])
-        requires { self.old.len + length run.now ≤ ROOM }
-        ensures len { self.new.len ≡ self.old.len + length run.now }
-        ensures text { text_of self.new ≡ text_of self.old ++ run.now }
-    {
-        let end = self.len + run.len();
-        self.bytes[self.len..end].copy_from_slice(run);
-        self.len = end;
-    }
-
     /// Copies the bytes from `start` on out of the text.
     pub(crate) fn copy_out(&self, start: usize, out: &mut [u8])
         requires { start + length out.old ≤ length (text_of self.now) }

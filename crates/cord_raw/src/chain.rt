@@ -78,6 +78,19 @@ impl Chain {
         }
     }
 
+    /// Copies a run of bytes behind the text of the newest block.
+    pub(crate) fn put_run(&mut self, run: &[u8])
+        requires { self.old.newest.len + length run.now ≤ ROOM }
+        ensures { (self.new.older ≡ self.old.older) × (self.new.newest.len ≡ self.old.newest.len + length run.now) × (text_of self.new.newest ≡ text_of self.old.newest ++ run.now) }
+    {
+        unsafe {
+            let place = (*self.last).len;
+            let end = place + run.len();
+            (*self.last).bytes[place..end].copy_from_slice(run);
+            (*self.last).len = end;
+        }
+    }
+
     /// Links the blocks of another chain behind the newest.
     pub(crate) fn link(&mut self, other: Chain)
         requires few { length self.old.older + length other.older + 2 ≤ MOST_BLOCKS }

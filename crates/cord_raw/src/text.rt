@@ -40,7 +40,7 @@ impl Chain {
         ensures len { chain_len self.new ≡ chain_len self.old + length run.now }
         ensures newest { self.new.newest.len ≡ self.old.newest.len + length run.now }
     {
-        self.newest().copy_in(run);
+        self.put_run(run);
     }
 
     /// Adds the blocks of another chain behind the newest block, which is full.
