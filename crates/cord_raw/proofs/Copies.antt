@@ -7,12 +7,13 @@ use prog.Memory.{Memory}
 use prog.Routine.{Routine}
 use base.Fraction.{full_share}
 use base.Logic.{SProp, ent, emp}
-use base.Fml.{Lft, Share, ftrue, flft}
+use base.Fml.{Lft, Share, ftrue, fbor, flft}
 use types.Logic.{Logic}
 use types.Kit.{‵, raw, ◌⊛◌, ⋆, some, later, given, mean, ◌$◌, ◌∵◌, !, qed, done, move, keep, use0, updating, await, now, check, split, split3, join, pick, fsplit, fjoin, feq_l, rewrite}
 use contract.BorrowLft.{◌⊑◌, ⊑_static, ⊑_refl}
 use contract.Monad.{Fun, fact, fact_i}
 use denote.Builtin.{u8, unit}
+use denote.Lend.{Held}
 use denote.Param.Laws.{Laws, IsCopy, of_field, of_copyable}
 use denote.Param.Shared.{copy_shared}
 use denote.Slice.{MutSlice, ShrSlice, finally, mut_slice_vals, shr_slice_vals}
@@ -49,10 +50,10 @@ module _ {M : Type 1} {𝓤 : Ura M} (𝓛 : Logic 𝓤) (at_mem : Memory → SP
         use0 𝓛 (raw (fact 𝓤 (length to.now ≡ length run.now))) (fact_i 𝓤 (length to.now ≡ length run.now) (emp 𝓤) long) $
         use0 𝓛 (raw (fact 𝓤 ([] ⊑ u8.lives))) (fact_i 𝓤 ([] ⊑ u8.lives) (emp 𝓤) (⊑_refl [])) $ join ! $ move ! (1 ∷ 0 ∷ []) $ done !
 
-    pub gives : (v : Val) → ent 𝓤 (Copies.post copying v) (mean 𝓛 (later (given (v ≡ vunit) (‵ (finally u8 to.ghost_name run.now) ⊛ ‵ (flft κ q) ⊛ ‵ (flft κ' q')))))
+    pub gives : (v : Val) → ent 𝓤 (Copies.post copying v) (mean 𝓛 (later (given (v ≡ vunit) (‵ (finally u8 to.ghost_name run.now) ⊛ ‵ (fbor κ (Held u8 (length to.now) to.ref_ptr.0 to.ref_ptr.1 to.ghost_name)) ⊛ ‵ (flft κ q) ⊛ ‵ (flft κ' q')))))
     gives v =
         qed 𝓛 (later (some (λ (u : Unit {0}). ((‵ (flft κ q) ⊛ ‵ (flft κ' q') ⊛ ‵ (flft [] full_share) ⊛ ‵ ftrue) ⊛ ‵ (unit.own_val u (v ∷ []))) ⊛
         some (λ (ls : List ℕ × (Unit {0} × Unit {0})). ‵ (lasts (copy.ended u8 u8_clone.ghosts u8_clone.dict) (κ, (κ', ([], tt))) (to, (run, tt)) ls) ⊛ (raw (fact 𝓤 (length ls.0 ≡ length to.now)) ⊛ raw (fact 𝓤 (ls.0 ≡ run.now)))))) ∷ []) ∵
         updating ! $ await ! tt $ pick ! (λ u. split ! $ split ! $ split3 ! $ move ! (3 ∷ []) $ feq_l ! (λ is_unit. move ! (3 ∷ []) $ pick ! (λ ls. split ! $ move ! (1 ∷ []) $ split ! $
         heard ! (length ls.0 ≡ length to.now) (λ _. heard ! (ls.0 ≡ run.now) (λ same. fsplit ! $ fsplit ! $ fsplit ! $ rewrite ! 0 (λ (xs : List ℕ). ‵ (finally u8 to.ghost_name xs)) same refl $
-        now ! $ check ! (ap only is_unit) $ keep ! (0 ∷ 4 ∷ 5 ∷ []) $ done !)))))
+        now ! $ check ! (ap only is_unit) $ keep ! (0 ∷ 2 ∷ 4 ∷ 5 ∷ []) $ done !)))))

@@ -4,5 +4,6 @@ pub mod Fields
 pub mod Links
 pub mod Owner
 pub mod Runs
+pub mod Seen
 pub mod Texts
 pub mod Words

@@ -1,6 +1,6 @@
 -- A run of a row of bytes in memory, apart from the bytes around it, and put back.
 use Rattle.std.proofs.Common.{◌≡◌, ℕ, ◌+◌, ◌≤◌, List, [], ◌∷◌, ◌++◌, length, take, drop, sym, ap, ◌∙◌, refl, arith, length-append}
-use Rattle.std.proofs.lemmas.List.{take-append-drop, length-take-le, length-drop}
+use Rattle.std.proofs.lemmas.List.{take-append-drop, length-take-le, length-drop, take-append-le, drop-append-le}
 use Rattle.std.proofs.Math.Seq.{take-append-add, take-append_seam}
 use seplogic.Ra.Ura.{Ura}
 use base.Logic.{ent}
@@ -21,6 +21,12 @@ with_run xs i n ys = take i xs ++ (ys ++ drop n (drop i xs))
 
 pub run_length : (xs : List ℕ) (i n : ℕ) → i + n ≤ length xs → length (run_of xs i n) ≡ n
 run_length xs i n inside = length-take-le n (drop i xs) (let behind = length-drop i xs in omega arith)
+
+-- a run of the first k bytes is one of them all
+pub run_of_first : (xs : List ℕ) (k i n : ℕ) → i + n ≤ length (take k xs) → run_of (take k xs) i n ≡ run_of xs i n
+run_of_first xs k i n inside =
+    let front = take k xs in let back = drop k xs in let rest : n ≤ length (drop i front) = let behind = length-drop i front in omega (arith, inside) in
+    sym (ap (λ ys. run_of ys i n) (sym (take-append-drop k xs)) ∙ ap (take n) (drop-append-le i front back (omega (arith, inside))) ∙ take-append-le n (drop i front) back rest)
 
 pub with_run_length : (xs : List ℕ) (i n : ℕ) (ys : List ℕ) → i + n ≤ length xs → length ys ≡ n → length (with_run xs i n ys) ≡ length xs
 with_run_length xs i n ys inside long =

@@ -36,12 +36,4 @@ impl Block {
     {
         self.len = 0;
     }
-
-    /// Copies the bytes from `start` on out of the text.
-    pub(crate) fn copy_out(&self, start: usize, out: &mut [u8])
-        requires { start + length out.old ≤ length (text_of self.now) }
-        ensures { out.new ≡ slice_range (text_of self.now) start (start + length out.old) }
-    {
-        out.copy_from_slice(&self.bytes[start..start + out.len()]);
-    }
 }

@@ -3,7 +3,7 @@ use Rattle.std.proofs.Common.{◌≡◌, ℕ, ◌+◌, ◌-◌, ◌≤◌, ◌<�
 use mir.Syntax.{named}
 use mir.Val.{Val, vunit, vint}
 use base.Fraction.{full_share}
-use base.Fml.{GName, ftrue, feq, flft, flent}
+use base.Fml.{GName, ftrue, feq, fbor, flft, flent}
 use types.Kit.{at_ret, ‵, raw, ◌⊛◌, some, later, ◌$◌, ◌∵◌, !, qed, done, move, keep, drop, use1, use2, use3, split, split3, join, pick, learn, given, await, fsplit, fsplit3, fjoin, feq_i, feq_l, rewrite, suffices, frame, group}
 use types.Part.{whole, sub, look_in, agg}
 use types.Run.{enter, of_opd, unit_lit, bin, addr, load, look, store, stop, fld, hop, and_then, no_more, assigns_last, first, blocks, exec, returns}
@@ -96,8 +96,8 @@ put_run_spec {M} 𝓤 𝓛 𝓜 𝓡 wired =
     move ! (0 ∷ 2 ∷ 14 ∷ 15 ∷ []) $ group ! 4 $ use1 𝓛 (raw ((Copies 𝓛 𝓜.mem 𝓡.returns).pre z)) (asks 𝓛 𝓜.mem 𝓡.returns κ₀ κ' full_share q' loan src long) $
     let copies = met 𝓤 𝓛 𝓜 𝓡 (code.calls-core::slice::edits::slice+T::copy_from_slice 𝓡.env wired) u8 byte_laws byte_copies u8_clone.ghosts u8_clone.dict (u8_clones.passed 𝓡.env (code.calls-core::clone::U8Clone::clone 𝓡.env wired) M 𝓤 𝓛 𝓜 𝓡) in
     calls_at ! (framed 𝓤 𝓛.H 𝓜 𝓣) (Copies 𝓛 𝓜.mem 𝓡.returns) copies z (and_then ! (get ! refl) (and_then ! (get ! refl) (no_more !))) (λ v.
-    use1 𝓛 (later (given (v ≡ vunit) (‵ (finally u8 γ run) ⊛ ‵ (flft κ₀ full_share) ⊛ ‵ (flft κ' q')))) (gives 𝓛 𝓜.mem 𝓡.returns κ₀ κ' full_share q' loan src v) $ await ! tt $ learn ! (λ is_unit. split3 ! $
-    lands_as ! is_unit refl (tt, tt) $ move ! (1 ∷ []) $ lft_end ! tt $ move ! (0 ∷ 3 ∷ 1 ∷ []) $
+    use1 𝓛 (later (given (v ≡ vunit) (‵ (finally u8 γ run) ⊛ ‵ (fbor κ₀ (Held u8 (length old) b at γ)) ⊛ ‵ (flft κ₀ full_share) ⊛ ‵ (flft κ' q')))) (gives 𝓛 𝓜.mem 𝓡.returns κ₀ κ' full_share q' loan src v) $ await ! tt $ learn ! (λ is_unit. split3 ! $ move ! (1 ∷ []) $ drop ! $ move ! (1 ∷ []) $ split ! $
+    lands_as ! is_unit refl (tt, tt) $ lft_end ! tt $ move ! (0 ∷ 3 ∷ 2 ∷ []) $
     -- [the lifetime is over; what the lender keeps; the bytes that were copied; the run's token; the bytes around; the length; the pointer; the way back; the right to free; the older ones; the chain's cell; ..]
     use3 𝓛 (later (‵ ((Arr (mem u8) (length old)).own_at run b at))) (slice_back 𝓛 u8 κ₀ γ run (length old) b at) $ await ! tt $ fsplit ! $ drop ! $
     use1 𝓛 (‵ (row u8 full_share run b at)) (whole_out 𝓛 u8 run b at) $ move ! (0 ∷ 2 ∷ []) $
