@@ -1,4 +1,4 @@
--- The rows and machine values of blocks, of one block's owner and of a chain, as the walks meet them.
+-- The rows and machine values of blocks, of one block's owner, of a chain and of a place in it, as the walks meet them.
 use Rattle.std.proofs.Common.{◌≡◌, ℕ, ◌+◌, ◌<◌, ◌^◌, List, [], ◌∷◌, refl, Global, w64, arith}
 use lib.Dec.{T as Yes}
 use seplogic.Ra.Ura.{Ura}

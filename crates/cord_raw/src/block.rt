@@ -1,6 +1,5 @@
 //! One block: the pointer to the next one, its length, and room for its bytes.
-ghost use Rattle.std.specs.Prelude.{◌≡◌, ◌+◌, ◌≤◌, ◌<◌, ◌++◌, length, slice_range};
-ghost use Rattle.cord_raw.specs.Texts.{text_of};
+ghost use Rattle.std.specs.Prelude.{◌≡◌};
 
 use std::ptr;
 

@@ -87,7 +87,7 @@ impl Chain {
         Ok(chain)
     }
 
-    /// Copies bytes out of the blocks from the one at `place` on: those from `start` on.
+    /// Copies bytes out of the blocks from the one at `place` on: those from `start` on, run by run.
     pub(crate) fn copy_out(&self, place: Place, start: usize, out: &mut [u8])
         requires place { IsPlaceOf self.now place }
         requires filled { IsFilled self.now }

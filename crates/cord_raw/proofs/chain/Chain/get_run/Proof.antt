@@ -30,9 +30,6 @@ use denote.Triple.Table.{framed}
 use denote.Triple.Walked.{says, Stays, stay_dropped, gave_slice, walk_of, ends_at, Goes-dropped, Goes-gave_slice}
 use Rattle.std_alloc.proofs.VecSteps.Shapes.{after}
 use Rattle.std.proofs.raw_atomic.Walks.{proved}
-use Rattle.core.specs.contracts.clone.U8Clone.TheImpl as u8_clone
-use Rattle.core.proofs.clone.U8Clone.TheImpl.Met as u8_clones
-use Rattle.core.proofs.slice.edits.slice+T.copy_from_slice.Met.{met}
 use Rattle.cord_raw.specs.declared.block.Block.{Block}
 use Rattle.cord_raw.specs.Blocks.{place_after}
 use Rattle.cord_raw.specs.Ownership.{chain_lent}
@@ -42,7 +39,7 @@ use Rattle.cord_raw.specs.contracts.block.Block.{the_row as B}
 use Rattle.cord_raw.specs.contracts.chain.Chain.{the_row as C}
 use Rattle.cord_raw.specs.contracts.chain.Place.{the_row as P}
 use Rattle.cord_raw.proofs.chain.Place.TheLaws as place_laws
-use Rattle.cord_raw.proofs.Copies.{byte_laws, byte_copies, Copies, copying, asks, gives}
+use Rattle.cord_raw.proofs.Copies.{Copies, copied, copying, asks, gives}
 use Rattle.cord_raw.proofs.Links.{lent_nth}
 use Rattle.cord_raw.proofs.Runs.{run_of, run_length, run_of_first}
 use Rattle.cord_raw.proofs.Seen.{run_seen}
@@ -56,7 +53,7 @@ abbrev stayed : Stays f.ended.signature.params f.ended.kept
 stayed = (stay_dropped (RefOf (0 ∷ []) tt (plain (λ _. C)) (λ _. tt)) yes, (stay_dropped (plain (λ _. P)) yes, (stay_dropped (plain (λ _. usize)) yes, (gave_slice (1 ∷ []) tt (plain (λ _. u8)), tt))))
 
 pub get_run_spec : {M : Type 1} → statement M
-get_run_spec {M} 𝓤 𝓛 𝓜 𝓡 wired =
+get_run_spec 𝓤 𝓛 𝓜 𝓡 wired =
     let c = f.clauses 𝓛 𝓜.mem 𝓡.returns in let W = walk_of 𝓛 f.ended stayed c in let 𝓣 = tables 𝓤 𝓛.H 𝓜 𝓡 𝓡.env in let fn = code.function in
     proved 𝓛 f.ended stayed c 𝓜 𝓡
     (Goes-dropped 𝓛 2 (RefOf (0 ∷ []) tt (plain (λ _. C)) (λ _. tt)) yes (λ κs x w. refl), (Goes-dropped 𝓛 2 (plain (λ _. P)) yes (λ κs x w. refl), (Goes-dropped 𝓛 2 (plain (λ _. usize)) yes (λ κs x w. refl), (Goes-gave_slice 𝓛 2 1 tt (plain (λ _. u8)), tt))))
@@ -94,7 +91,7 @@ get_run_spec {M} 𝓤 𝓛 𝓜 𝓡 wired =
     sets ! (agg ! (and_then ! (get ! refl) (and_then ! (get ! refl) (no_more !)))) refl (tt, (tt, (record { fits = run_fits }, tt))) $
     let z = copying 𝓛 𝓜.mem 𝓡.returns κ' κ q' q out run in
     move ! (1 ∷ 3 ∷ 0 ∷ 2 ∷ []) $ group ! 4 $ use1 𝓛 (raw ((Copies 𝓛 𝓜.mem 𝓡.returns).pre z)) (asks 𝓛 𝓜.mem 𝓡.returns κ' κ q' q out run (sym long)) $
-    let copies = met 𝓤 𝓛 𝓜 𝓡 (code.calls-core::slice::edits::slice+T::copy_from_slice 𝓡.env wired) u8 byte_laws byte_copies u8_clone.ghosts u8_clone.dict (u8_clones.passed 𝓡.env (code.calls-core::clone::U8Clone::clone 𝓡.env wired) M 𝓤 𝓛 𝓜 𝓡) in
+    let copies = copied 𝓛 𝓜 𝓡 (code.calls-core::slice::edits::slice+T::copy_from_slice 𝓡.env wired) (code.calls-core::clone::U8Clone::clone 𝓡.env wired) in
     calls_at_last ! (framed 𝓤 𝓛.H 𝓜 𝓣) (Copies 𝓛 𝓜.mem 𝓡.returns) copies z (and_then ! (get ! refl) (and_then ! (get ! refl) (no_more !))) (λ v.
     use1 𝓛 (later (given (v ≡ vunit) (‵ (finally u8 out.ghost_name run.now) ⊛ ‵ (fbor κ' (Held u8 n out.ref_ptr.0 out.ref_ptr.1 out.ghost_name)) ⊛ ‵ (flft κ' q') ⊛ ‵ (flft κ q)))) (gives 𝓛 𝓜.mem 𝓡.returns κ' κ q' q out run v) $ await ! tt $ learn ! (λ is_unit. split3 ! $ move ! (2 ∷ []) $ split ! $
     lands_last ! refl (subst (λ (u : Val). Yes (has_ty ty_unit u) × WT u) (sym is_unit) (tt, tt)) $ exec ! 𝓣.C 𝓣.Λ (env fn.locals l) (after 3 fn.body) (at_ret _ (W.post y)) $

@@ -28,9 +28,6 @@ use denote.Triple.Table.{framed}
 use denote.Triple.Walked.{says, Stays, stay_ref, stay_dropped, walk_of, ends_at, Goes-ref, Goes-dropped}
 use Rattle.std_alloc.proofs.VecSteps.Shapes.{after}
 use Rattle.std.proofs.raw_atomic.Walks.{proved}
-use Rattle.core.specs.contracts.clone.U8Clone.TheImpl as u8_clone
-use Rattle.core.proofs.clone.U8Clone.TheImpl.Met as u8_clones
-use Rattle.core.proofs.slice.edits.slice+T.copy_from_slice.Met.{met}
 use Rattle.cord_raw.specs.declared.block.TheConstants.{ROOM}
 use Rattle.cord_raw.specs.declared.block.Block.{Block}
 use Rattle.cord_raw.specs.Loans.{with_newest}
@@ -38,7 +35,7 @@ use Rattle.cord_raw.specs.Ownership.{block_owns}
 use Rattle.cord_raw.specs.contracts.block.Block.{the_row as B}
 use Rattle.cord_raw.specs.contracts.chain.Chain.{the_row as C}
 use Rattle.cord_raw.proofs.Bytes.{Back, len_at, bytes_apart, bytes_back}
-use Rattle.cord_raw.proofs.Copies.{byte_laws, byte_copies, Copies, copying, asks, gives}
+use Rattle.cord_raw.proofs.Copies.{Copies, copied, copying, asks, gives}
 use Rattle.cord_raw.proofs.Runs.{run_of, with_run, run_length, with_run_length, take_with_run, around, run_out, run_back}
 use Rattle.cord_raw.proofs.Words.{words, chain_val, packs, unpacks, lies, few_fit}
 use Rattle.cord_raw.specs.contracts.chain.Chain.put_run as f
@@ -53,7 +50,7 @@ abbrev with_bytes : Block → List ℕ → Block
 with_bytes x run = record { next = x.next; len = x.len + length run; bytes = with_run x.bytes x.len (length run) run }
 
 pub put_run_spec : {M : Type 1} → statement M
-put_run_spec {M} 𝓤 𝓛 𝓜 𝓡 wired =
+put_run_spec 𝓤 𝓛 𝓜 𝓡 wired =
     let c = f.clauses 𝓛 𝓜.mem 𝓡.returns in let W = walk_of 𝓛 f.ended stayed c in let 𝓣 = tables 𝓤 𝓛.H 𝓜 𝓡 𝓡.env in let fn = code.function in
     proved 𝓛 f.ended stayed c 𝓜 𝓡 (Goes-ref 𝓛 2 0 tt (plain (λ _. C)), (Goes-dropped 𝓛 2 (SliceRefOf (1 ∷ []) tt (plain (λ _. u8)) (λ _. tt)) yes (λ κs x w. refl), tt))
     f.Key.name fn (code.unfolded 𝓤 𝓛.H 𝓜 𝓡 wired)
@@ -94,7 +91,7 @@ put_run_spec {M} 𝓤 𝓛 𝓜 𝓡 wired =
     let loan : MutBor (List ℕ) = record { ref_ptr = (b, at); ghost_name = γ; now = old } in
     let z = copying 𝓛 𝓜.mem 𝓡.returns κ₀ κ' full_share q' loan src in
     move ! (0 ∷ 2 ∷ 14 ∷ 15 ∷ []) $ group ! 4 $ use1 𝓛 (raw ((Copies 𝓛 𝓜.mem 𝓡.returns).pre z)) (asks 𝓛 𝓜.mem 𝓡.returns κ₀ κ' full_share q' loan src long) $
-    let copies = met 𝓤 𝓛 𝓜 𝓡 (code.calls-core::slice::edits::slice+T::copy_from_slice 𝓡.env wired) u8 byte_laws byte_copies u8_clone.ghosts u8_clone.dict (u8_clones.passed 𝓡.env (code.calls-core::clone::U8Clone::clone 𝓡.env wired) M 𝓤 𝓛 𝓜 𝓡) in
+    let copies = copied 𝓛 𝓜 𝓡 (code.calls-core::slice::edits::slice+T::copy_from_slice 𝓡.env wired) (code.calls-core::clone::U8Clone::clone 𝓡.env wired) in
     calls_at ! (framed 𝓤 𝓛.H 𝓜 𝓣) (Copies 𝓛 𝓜.mem 𝓡.returns) copies z (and_then ! (get ! refl) (and_then ! (get ! refl) (no_more !))) (λ v.
     use1 𝓛 (later (given (v ≡ vunit) (‵ (finally u8 γ run) ⊛ ‵ (fbor κ₀ (Held u8 (length old) b at γ)) ⊛ ‵ (flft κ₀ full_share) ⊛ ‵ (flft κ' q')))) (gives 𝓛 𝓜.mem 𝓡.returns κ₀ κ' full_share q' loan src v) $ await ! tt $ learn ! (λ is_unit. split3 ! $ move ! (1 ∷ []) $ drop ! $ move ! (1 ∷ []) $ split ! $
     lands_as ! is_unit refl (tt, tt) $ lft_end ! tt $ move ! (0 ∷ 3 ∷ 2 ∷ []) $
