@@ -1,7 +1,10 @@
 pub mod Bytes
+pub mod Copies
 pub mod Fields
 pub mod Freeing
 pub mod Links
 pub mod Owner
+pub mod Runs
+pub mod Seen
 pub mod Texts
 pub mod Words

@@ -1,5 +1,5 @@
 -- What the blocks of a chain own and lend, taken apart and put together.
-use Rattle.std.proofs.Common.{◌≡◌, ℕ, zero, suc, ◌≤◌, ◌<◌, List, [], ◌∷◌, ◌++◌, length, take, get_or, refl, arith, length-append}
+use Rattle.std.proofs.Common.{◌≡◌, ℕ, zero, suc, ◌≤◌, ◌<◌, List, [], ◌∷◌, ◌++◌, length, take, get_or, refl, arith}
 use mir.Raw.{raw as bare}
 use seplogic.Ra.Ura.{Ura}
 use base.Fml.{Lft, Incl}
@@ -51,15 +51,6 @@ module _ {M : Type 1} {𝓤 : Ura M} (𝓛 : Logic 𝓤) where
   links_append p [] ys = qed 𝓛 (‵ (links p []) ∷ ‵ (links p ys) ∷ []) ∵ drop ! $ done !
   links_append p (x ∷ xs) ys = qed 𝓛 (‵ (links p (x ∷ xs)) ∷ ‵ (links (place_after p (x ∷ xs)) ys) ∷ []) ∵ fsplit ! $ move ! (1 ∷ 2 ∷ []) $
       use2 𝓛 (‵ (links x.next (xs ++ ys))) (links_append x.next xs ys) $ move ! (1 ∷ 0 ∷ []) $ fjoin ! $ done !
-
--- the block at a place of a list, which is not past its end, whatever stands for one past it
-pub at_any : (bs : List Block) (i : ℕ) (x y : Block) → i < length bs → get_or bs i x ≡ get_or bs i y
-at_any [] i x y inside = absurd (omega arith)
-at_any (b ∷ bs) zero x y inside = refl
-at_any (b ∷ bs) (suc i) x y inside = at_any bs i x y (omega arith)
-
-pub first_any : (bs : List Block) (last : Block) → get_or (bs ++ last ∷ []) 0 last ≡ get_or (bs ++ last ∷ []) 0 (get_or (bs ++ last ∷ []) 0 last)
-first_any bs last = at_any (bs ++ last ∷ []) 0 last (get_or (bs ++ last ∷ []) 0 last) (let more = length-append bs (last ∷ []) in omega arith)
 
 -- the place of the block after the one at i
 pub next_place : (p : Ptr) (bs : List Block) (i : ℕ) (x : Block) → i < length bs → (get_or bs i x).next ≡ place_after p (take (suc i) bs)

@@ -1,4 +1,4 @@
--- The rows and machine values of blocks, of one block's owner and of a chain, as the walks meet them.
+-- The rows and machine values of blocks, of one block's owner, of a chain and of a place in it, as the walks meet them.
 use Rattle.std.proofs.Common.{◌≡◌, ℕ, ◌+◌, ◌<◌, ◌^◌, List, [], ◌∷◌, refl, Global, w64, arith}
 use lib.Dec.{T as Yes}
 use seplogic.Ra.Ura.{Ura}
@@ -13,11 +13,11 @@ use base.Logic.{ent, sep, never, fst∗}
 use base.Fraction.{full_share}
 use mir.Raw.{raw as bare}
 use denote.Shadow.{pure_i, Pure}
-use denote.Steps.{peeks}
+use denote.Steps.{peeks, owned}
 use denote.Struct.Owning.{Owning, shape, to}
 use denote.Struct.OwningLaws.{Laws as OwningLaws}
 use denote.Struct.Struct.{Struct, Struct-row_laws, Struct-Pure, Struct-Lawful, layout}
-use denote.Struct.Laws.{RawPtr-plain, usize-plain, RawPtr-copy, usize-copy, copy_row_laws, lawfuls}
+use denote.Struct.Laws.{RawPtr-plain, usize-plain, RawPtr-copy, usize-copy, copy_row_laws, lawful, lawfuls, owes, makes}
 use denote.Struct.Lending.{lent_out}
 use denote.Opens.{shr_dup, unhide, hide}
 use denote.Builtin.{usize}
@@ -28,10 +28,13 @@ use Rattle.std.proofs.alloc.Global.TheLaws as heap_laws
 use Rattle.cord_raw.specs.declared.block.Block.{Block}
 use Rattle.cord_raw.specs.declared.raw.Raw.{Raw}
 use Rattle.cord_raw.specs.declared.chain.Chain.{Chain}
+use Rattle.cord_raw.specs.declared.chain.Place.{Place}
 use Rattle.cord_raw.specs.contracts.block.Block as block
 use Rattle.cord_raw.specs.contracts.raw.Raw as raw
 use Rattle.cord_raw.specs.contracts.chain.Chain as chain
+use Rattle.cord_raw.specs.contracts.chain.Place as place
 use Rattle.cord_raw.proofs.block.Block.TheLaws as block_laws
+use Rattle.cord_raw.proofs.chain.Place.TheLaws as place_laws
 use Rattle.cord_raw.proofs.raw.Raw.TheLaws as raw_laws
 use Rattle.cord_raw.proofs.chain.Chain.TheLaws as chain_laws
 use Rattle.cord_raw.specs.Ownership.{frees, block_owns, chain_owns, chain_lent}
@@ -88,6 +91,13 @@ fields_are d small = ((ptr_val d.first ∷ [], (ptr_val d.last ∷ [], (vint w64
 fields_pure : (d : Chain) (vs : List Val) → Pure (Fields.own_val (fields_of d) vs)
 fields_pure d vs = Struct-Pure (shape chain.the_type) (RawPtr-plain, (RawPtr-plain, (usize-plain, tt))) (fields_of d) vs
 
+-- a place in a chain
+abbrev pub place_val : Place → Val
+place_val p = place_laws.lowers.lowered p
+
+pub place_is : (p : Place) → p.index < 2 ^ 64 → Is place.the_row p (place_val p ∷ [])
+place_is p small = owes place.the_type place_laws.the_laws p (refl, ((refl, small), tt))
+
 -- the number of blocks is a machine word
 pub few_fit : (d : Chain) → d.count < 2 ^ 64
 few_fit d = let few = d.few in omega arith
@@ -97,6 +107,9 @@ module _ {M : Type 1} {𝓤 : Ura M} (𝓛 : Logic 𝓤) where
   pub owner_typed : (r : Raw Block Global) → Yes (has_ty (lone Owner.mir) (owner_val r)) × WT (owner_val r)
   owner_typed r = ((Struct-Lawful 𝓛 (shape owner_type) (lawfuls 𝓛 owner_type.parts owner_laws)).typed (to owner_type r) (owner_val r ∷ []) (owner_are r)).0
 
+  pub place_typed : (p : Place) → Is place.the_row p (place_val p ∷ []) → Yes (has_ty place_laws.mir (place_val p)) × WT (place_val p)
+  place_typed p is = ((lawful place.the_type place_laws.the_laws 𝓛).typed p (place_val p ∷ []) is).0
+
   pub chain_typed : (d : Chain) → d.count < 2 ^ 64 → Yes (has_ty (layout (shape chain.the_type)) (chain_val d)) × WT (chain_val d)
   chain_typed d small = ((Struct-Lawful 𝓛 (shape chain.the_type) (lawfuls 𝓛 chain.struct.parts chain_laws.the_laws)).typed (fields_of d) (chain_val d ∷ []) (fields_are d small)).0
 
@@ -105,6 +118,10 @@ module _ {M : Type 1} {𝓤 : Ura M} {𝓛 : Logic 𝓤} {X : Type 0} {Γ : List
   pub packs : X → (d : Chain) → d.count < 2 ^ 64
       → Step X 𝓛 (‵ (chain.the_row.own_val d (chain_val d ∷ [])) ∷ Γ) G (‵ (chain_owns d.first d.older d.last d.newest) ∷ Γ) G
   packs t d small = step (λ s. pure_i t (Fields.own_val (fields_of d) (chain_val d ∷ [])) (fields_pure d (chain_val d ∷ [])) (fields_are d small) $ fjoin t $ s)
+
+  -- a place is two words alone
+  pub owns_place : X → (p : Place) → p.index < 2 ^ 64 → Step X 𝓛 (‵ (place.the_row.own_val p (place_val p ∷ [])) ∷ Γ) G Γ G
+  owns_place t p small = owned t place.the_row (Is place.the_row) (makes place.the_type (RawPtr-plain, (usize-plain, tt)) 𝓛) p (place_val p ∷ []) (place_is p small)
 
   -- and taken apart to them
   pub unpacks : X → (d : Chain) (vs : List Val) → (vs ≡ chain_val d ∷ [] → Seq X 𝓛 (‵ (chain_owns d.first d.older d.last d.newest) ∷ Γ) G)

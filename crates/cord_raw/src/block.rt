@@ -1,6 +1,5 @@
 //! One block: the pointer to the next one, its length, and room for its bytes.
-ghost use Rattle.std.specs.Prelude.{◌≡◌, ◌+◌, ◌≤◌, ◌<◌, ◌++◌, length, slice_range};
-ghost use Rattle.cord_raw.specs.Texts.{text_of};
+ghost use Rattle.std.specs.Prelude.{◌≡◌};
 
 use std::ptr;
 
@@ -35,24 +34,5 @@ impl Block {
         ensures { self.new.len ≡ 0 }
     {
         self.len = 0;
-    }
-
-    /// Copies a run of bytes behind the text.
-    pub(crate) fn copy_in(&mut self, run: &[u8])
-        requires { self.old.len + length run.now ≤ ROOM }
-        ensures len { self.new.len ≡ self.old.len + length run.now }
-        ensures text { text_of self.new ≡ text_of self.old ++ run.now }
-    {
-        let end = self.len + run.len();
-        self.bytes[self.len..end].copy_from_slice(run);
-        self.len = end;
-    }
-
-    /// Copies the bytes from `start` on out of the text.
-    pub(crate) fn copy_out(&self, start: usize, out: &mut [u8])
-        requires { start + length out.old ≤ length (text_of self.now) }
-        ensures { out.new ≡ slice_range (text_of self.now) start (start + length out.old) }
-    {
-        out.copy_from_slice(&self.bytes[start..start + out.len()]);
     }
 }

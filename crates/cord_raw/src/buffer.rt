@@ -111,8 +111,7 @@ impl RawBuf {
         requires within { start + length out.old ≤ length self.now }
         ensures { out.new ≡ slice_range self.now start (start + length out.old) }
     {
-        self.chain
-            .copy_out(self.chain.first(), 0, start as usize, out);
+        self.chain.copy_out(self.chain.first(), start as usize, out);
     }
 
     /// Empties the list. It frees all blocks but the first.

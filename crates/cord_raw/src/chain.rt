@@ -1,5 +1,5 @@
 //! The chain of blocks in raw memory. Only the functions of this file follow its pointers.
-ghost use Rattle.std.specs.Prelude.{◌≡◌, ◌+◌, ◌<◌, ◌≤◌, List, [], ◌∷◌, ◌++◌, length, slice_index_or};
+ghost use Rattle.std.specs.Prelude.{◌≡◌, ◌+◌, ◌<◌, ◌≤◌, List, [], ◌∷◌, ◌++◌, length, slice_range};
 ghost use Rattle.cord_raw.specs.declared.block.Block.{Block};
 ghost use Rattle.cord_raw.specs.declared.block.TheConstants.{MOST_BLOCKS, ROOM};
 ghost use Rattle.cord_raw.specs.Blocks.{place_after, pointing};
@@ -29,9 +29,17 @@ impl Model for Chain {
     ghost also_shares = { λ c _ κ. chain_lent c.first c.older c.last c.newest κ };
 }
 
+/// The pointer to a block of a chain, and how many blocks stand before that one.
+#[derive(Clone, Copy)]
+pub(crate) struct Place {
+    at: *mut Block,
+    index: usize,
+}
+
 impl Chain {
     ghost use types.Logic.{sem};
     ghost use Rattle.cord_raw.specs.Loans.{newest_follows};
+    ghost use Rattle.cord_raw.specs.Places.{IsPlaceOf, block_at};
     ghost use Rattle.cord_raw.specs.Texts.{text_of};
 
     /// Takes over one block.
@@ -83,6 +91,19 @@ impl Chain {
         }
     }
 
+    /// Copies a run of bytes behind the text of the newest block.
+    pub(crate) fn put_run(&mut self, run: &[u8])
+        requires { self.old.newest.len + length run.now ≤ ROOM }
+        ensures { (self.new.older ≡ self.old.older) × (self.new.newest.len ≡ self.old.newest.len + length run.now) × (text_of self.new.newest ≡ text_of self.old.newest ++ run.now) }
+    {
+        unsafe {
+            let start = (*self.last).len;
+            let end = start + run.len();
+            (*self.last).bytes[start..end].copy_from_slice(run);
+            (*self.last).len = end;
+        }
+    }
+
     /// Links the blocks of another chain behind the newest.
     pub(crate) fn link(&mut self, other: Chain)
         requires few { length self.old.older + length other.older + 2 ≤ MOST_BLOCKS }
@@ -109,19 +130,34 @@ impl Chain {
         rest
     }
 
-    /// The first block.
-    pub(crate) fn first(&self) -> &Block
-        ensures { result.now ≡ slice_index_or (self.now.older ++ self.now.newest ∷ []) 0 result.now }
+    /// The place of the first block.
+    pub(crate) fn first(&self) -> Place
+        ensures { IsPlaceOf self.now result × (result.index ≡ 0) }
     {
-        unsafe { &*self.first }
+        Place {
+            at: self.first,
+            index: 0,
+        }
     }
 
-    /// The block that the pointer of this one leads to, which is the one at `index`.
-    pub(crate) fn next<'a>(&'a self, block: &Block, index: usize) -> &'a Block
-        requires { (index < length self.now.older) × (block.now ≡ slice_index_or self.now.older index block.now) }
-        ensures { result.now ≡ slice_index_or (self.now.older ++ self.now.newest ∷ []) (index + 1) result.now }
+    /// The place of the block that the one at `place` leads to.
+    pub(crate) fn next(&self, place: Place) -> Place
+        requires { IsPlaceOf self.now place × (place.index < length self.now.older) }
+        ensures { IsPlaceOf self.now result × (result.index ≡ place.index + 1) }
     {
-        unsafe { &*block.next }
+        Place {
+            at: unsafe { (*place.at).next },
+            index: place.index + 1,
+        }
+    }
+
+    /// Copies a run of bytes from `start` on out of the text of the block at `place`.
+    pub(crate) fn get_run(&self, place: Place, start: usize, out: &mut [u8])
+        requires { IsPlaceOf self.now place × (start + length out.old ≤ length (text_of (block_at self.now place.index))) }
+        ensures { out.new ≡ slice_range (text_of (block_at self.now place.index)) start (start + length out.old) }
+    {
+        let end = start + out.len();
+        unsafe { out.copy_from_slice(&(*place.at).bytes[start..end]) }
     }
 
     /// The newest block, to be read and written.

@@ -1,9 +1,10 @@
 //! A chain as a text: it is made, filled and read by safe code over its pointer functions.
-ghost use Rattle.std.specs.Prelude.{◌≡◌, ◌+◌, ◌*◌, ◌≤◌, ◌<◌, [], ◌∷◌, ◌++◌, length, drop, slice_range, slice_index_or, IfOk};
+ghost use Rattle.std.specs.Prelude.{◌≡◌, ◌+◌, ◌*◌, ◌≤◌, ◌<◌, [], ◌∷◌, ◌++◌, length, drop, slice_range, IfOk};
+ghost use Rattle.cord_raw.specs.Places.{IsPlaceOf};
 ghost use Rattle.cord_raw.specs.Texts.{text, AreFull, IsFilled, blocks_of, chain_text, chain_len};
 
 use crate::block::{Block, MOST_BLOCKS, ROOM};
-use crate::chain::Chain;
+use crate::chain::{Chain, Place};
 use crate::raw::Raw;
 use std::alloc::{AllocError, Global};
 
@@ -40,7 +41,7 @@ impl Chain {
         ensures len { chain_len self.new ≡ chain_len self.old + length run.now }
         ensures newest { self.new.newest.len ≡ self.old.newest.len + length run.now }
     {
-        self.newest().copy_in(run);
+        self.put_run(run);
     }
 
     /// Adds the blocks of another chain behind the newest block, which is full.
@@ -86,28 +87,26 @@ impl Chain {
         Ok(chain)
     }
 
-    /// Copies bytes out of the blocks from `block` on, which is the one at `index`: those from `start` on.
-    pub(crate) fn copy_out(&self, block: &Block, index: usize, start: usize, out: &mut [u8])
-        requires this { (index ≤ length self.now.older) × (block.now ≡ slice_index_or (blocks_of self.now) index block.now) }
+    /// Copies bytes out of the blocks from the one at `place` on: those from `start` on, run by run.
+    pub(crate) fn copy_out(&self, place: Place, start: usize, out: &mut [u8])
+        requires place { IsPlaceOf self.now place }
         requires filled { IsFilled self.now }
-        requires within { start + length out.old ≤ length (text (drop index (blocks_of self.now))) }
-        ensures { out.new ≡ slice_range (text (drop index (blocks_of self.now))) start (start + length out.old) }
+        requires within { start + length out.old ≤ length (text (drop place.index (blocks_of self.now))) }
+        ensures { out.new ≡ slice_range (text (drop place.index (blocks_of self.now))) start (start + length out.old) }
     {
         let wanted = out.len();
         if wanted == 0 {
             return;
         }
         if start >= ROOM {
-            let next = self.next(block, index);
-            self.copy_out(next, index + 1, start - ROOM, out);
+            self.copy_out(self.next(place), start - ROOM, out);
             return;
         }
         let run = wanted.min(ROOM - start);
         let (front, back) = out.split_at_mut(run);
-        block.copy_out(start, front);
+        self.get_run(place, start, front);
         if run < wanted {
-            let next = self.next(block, index);
-            self.copy_out(next, index + 1, 0, back);
+            self.copy_out(self.next(place), 0, back);
         }
     }
 }
