@@ -1,0 +1,42 @@
+-- Stretches: texts that lie in one part of a node.
+use Rattle.std.specs.Prelude.{◌≡◌, ◌≢◌, ℕ, ◌+◌, ◌<◌, ◌≤◌, List, length, take, drop, replicate, slice_get, Option, Some, IfSome, ⊤}
+use Rattle.cord_io.specs.Table.{Table, Lengths, length_at}
+use Rattle.cord_io.specs.declared.TheConstants.{MAX_LEN}
+use Rattle.cord_node.specs.declared.Node.{Node}
+use Rattle.cord_node.specs.Tree.{len_of}
+use Rattle.cord_node.specs.Tables.{bytes_over, FitsIn, Fits}
+use Rattle.cord_search.specs.declared.stretches.Stretch.{Stretch}
+use Rattle.cord_search.specs.declared.stretches.Stretch.TheVariants.{Bytes, Run, Func}
+
+-- its length
+abbrev pub stretch_len : Stretch → ℕ
+stretch_len (Bytes bytes) = length bytes.now
+stretch_len (Run byte len) = len
+stretch_len (Func id start len) = len
+
+-- its text over a table
+abbrev pub stretch_bytes : Table → Stretch → List ℕ
+stretch_bytes t (Bytes bytes) = bytes.now
+stretch_bytes t (Run byte len) = replicate len byte
+stretch_bytes t (Func id start len) = take len (drop start (t id.0))
+
+-- a range of an entry lies inside an entry of this length
+abbrev pub StretchFitsIn : Lengths → Stretch → Type 0
+StretchFitsIn lengths (Bytes bytes) = ⊤
+StretchFitsIn lengths (Run byte len) = ⊤
+StretchFitsIn lengths (Func id start len) = (start + len ≤ length_at lengths id.0) × (start + len ≤ MAX_LEN)
+
+-- it isn't empty, and is what the node's text has from the place on
+pub record IsStretchAt (n : Node) (place : ℕ) (s : Stretch) : Type 0 where
+  pub some : 0 < stretch_len s
+  pub inside : place + stretch_len s ≤ len_of n
+  pub fits : (lengths : Lengths) → FitsIn lengths n → StretchFitsIn lengths s
+  pub text : (t : Table) → Fits t n → stretch_bytes t s ≡ take (stretch_len s) (drop place (bytes_over t n))
+
+-- the bytes stand in the stretch's text from the place on
+abbrev pub IsPartOf : Option Table → Stretch → ℕ → List ℕ → Type 0
+IsPartOf o s place xs = IfSome o (λ t. xs ≡ take (length xs) (drop place (stretch_bytes t s)))
+
+-- its text has this byte nowhere
+abbrev pub IsWithout : Stretch → ℕ → Type 0
+IsWithout s c = (t : Table) → (q : ℕ) → slice_get (stretch_bytes t s) q ≢ Some c
