@@ -1,9 +1,10 @@
 -- Where stretches and pieces stand in the text of a node.
-use Rattle.std.proofs.Common.{◌≡◌, ℕ, ◌+◌, ◌-◌, ◌<◌, ◌≤◌, List, length, take, drop, None, Some, sym, ◌∙◌, ap, arith, length-drop}
-use Rattle.std.specs.Prelude.{Option, IfSome, replicate}
+use Rattle.std.proofs.Common.{◌≡◌, ℕ, ◌+◌, ◌-◌, ◌<◌, ◌≤◌, List, ◌++◌, length, take, drop, None, Some, sym, ◌∙◌, ap, arith, length-drop}
+use Rattle.std.specs.Prelude.{Option, IfSome, min, replicate}
 use Rattle.std.specs.declared.rc.Rc.{Rc}
 use Rattle.std.specs.Global.{Global}
-use Rattle.std.proofs.lemmas.List.{take_min, drop-replicate, take-replicate, length-take, length-take-le, take_all}
+use Rattle.std.proofs.Math.Seq.{take-add}
+use Rattle.std.proofs.lemmas.List.{take_min, drop-replicate, take-replicate, length-take, length-take-le, take_all, take-take, drop-drop}
 use Rattle.cord_io.specs.declared.SourceId.{SourceId}
 use Rattle.cord_io.specs.Table.{Table, Lengths, HasLengths, length_at}
 use Rattle.cord_io.specs.declared.TheConstants.{MAX_LEN}
@@ -14,8 +15,9 @@ use Rattle.cord_node.specs.Tables.{bytes_over, lengths_of, FitsIn, Fits}
 use Rattle.cord_node.proofs.Ranges.{range_of_range, range_left, range_right}
 use Rattle.cord_node.proofs.TableLemmas.{Fits-told}
 use Rattle.cord_iter.proofs.Lengths.{length-bytes_over}
-use Rattle.cord_search.specs.Pieces.{IsPieceAt}
-use Rattle.cord_search.specs.Stretches.{stretch_len, stretch_bytes, StretchFitsIn, IsStretchAt, IsPartOf}
+use Rattle.cord_core.specs.Cord.{bytes_of, CordFitsIn, CordFits}
+use Rattle.cord_search.specs.Pieces.{IsPieceOf, AreSame}
+use Rattle.cord_search.specs.Stretches.{stretch_len, stretch_bytes, StretchFitsIn, IsStretchOf, IsStretchAt, IsPartOf, BeginAlike}
 use Rattle.cord_search.specs.declared.stretches.Stretch.{Stretch}
 
 -- a range is its own first bytes
@@ -148,8 +150,28 @@ pub whole_part : (o : Option Table) (s : Stretch) (xs : List ℕ) (i : ℕ) → 
 whole_part None s xs i e z = tt
 whole_part (Some t) s xs i e z = sym (take_all (length xs) xs (omega arith)) ∙ ap (λ (j : ℕ). take (length xs) (drop j xs)) (sym z) ∙ ap (λ (ys : List ℕ). take (length xs) (drop i ys)) (sym (e t))
 
--- a part of a stretch is a piece of the node's text
-pub piece_within : (ls : Lengths) (o : Option Table) (n : Node) (place : ℕ) (s : Stretch) (i j : ℕ) (xs : List ℕ) → IfSome o (HasLengths ls) → FitsIn ls n → IsStretchAt n place s → i + length xs ≤ stretch_len s → j ≡ place + i → IsPartOf o s i xs → IsPieceAt o n j xs
-piece_within ls None n place s i j xs told f h inside e p = tt
-piece_within ls (Some t) n place s i j xs told f h inside e p =
-    p ∙ ap (λ (ys : List ℕ). take (length xs) (drop i ys)) (h.text t (Fits-told ls t n told f)) ∙ range_of_range (bytes_over t n) i (length xs) place (stretch_len s) inside ∙ ap (λ (m : ℕ). take (length xs) (drop m (bytes_over t n))) (sym e)
+-- a cord that fits the lengths of a table fits the table
+cord_told : (ls : Lengths) (t : Table) (c : Option Node) → HasLengths ls t → CordFitsIn ls c → CordFits t c
+cord_told ls t None told f = tt
+cord_told ls t (Some n) told f = Fits-told ls t n told f
+
+-- a part of a stretch is a piece of the text
+pub piece_within : (ls : Lengths) (o : Option Table) (c : Option Node) (place : ℕ) (s : Stretch) (i j : ℕ) (xs : List ℕ) → IfSome o (HasLengths ls) → CordFitsIn ls c → IsStretchOf c place s → i + length xs ≤ stretch_len s → j ≡ place + i → IsPartOf o s i xs → IsPieceOf o c j xs
+piece_within ls None c place s i j xs told f h inside e p = tt
+piece_within ls (Some t) c place s i j xs told f h inside e p =
+    p ∙ ap (λ (ys : List ℕ). take (length xs) (drop i ys)) (h.text t (cord_told ls t c told f)) ∙ range_of_range (bytes_of t c) i (length xs) place (stretch_len s) inside ∙ ap (λ (m : ℕ). take (length xs) (drop m (bytes_of t c))) (sym e)
+
+-- the first bytes of a stretch
+front : (ls : Lengths) (t : Table) (c : Option Node) (place : ℕ) (s : Stretch) (n m : ℕ) → HasLengths ls t → CordFitsIn ls c → IsStretchOf c place s → n ≤ m → m ≤ stretch_len s → take n (drop place (bytes_of t c)) ≡ take n (take m (stretch_bytes t s))
+front ls t c place s n m told f h lt le = sym (take-take n (stretch_len s) (drop place (bytes_of t c)) (omega arith)) ∙ ap (λ (ys : List ℕ). take n ys) (sym (h.text t (cord_told ls t c told f))) ∙ sym (take-take n m (stretch_bytes t s) lt)
+
+-- the next bytes of two texts are those of two stretches that begin alike
+pub same_stretch : (ls : Lengths) (o : Option Table) (x : Option Node) (i : ℕ) (y : Option Node) (j done n m : ℕ) (s other : Stretch) → IfSome o (HasLengths ls) → CordFitsIn ls x → CordFitsIn ls y → IsStretchOf x (i + done) s → IsStretchOf y (j + done) other → n ≤ m → m ≡ min (stretch_len s) (stretch_len other) → BeginAlike s other m → AreSame o x i y j done → AreSame o x i y j (done + n)
+same_stretch ls None x i y j done n m s other told f g h k lt le alike same = tt
+same_stretch ls (Some t) x i y j done n m s other told f g h k lt le alike same =
+    let u = drop i (bytes_of t x) in
+    let v = drop j (bytes_of t y) in
+    let left : take n (drop done u) ≡ take n (take m (stretch_bytes t s)) = ap (λ (ys : List ℕ). take n ys) (drop-drop done i (bytes_of t x)) ∙ front ls t x (i + done) s n m told f h lt (omega (arith, le)) in
+    let right : take n (drop done v) ≡ take n (take m (stretch_bytes t other)) = ap (λ (ys : List ℕ). take n ys) (drop-drop done j (bytes_of t y)) ∙ front ls t y (j + done) other n m told g k lt (omega (arith, le)) in
+    let next : take n (drop done u) ≡ take n (drop done v) = left ∙ ap (λ (ys : List ℕ). take n ys) (alike t) ∙ sym right in
+    take-add done n u ∙ ap (λ (zs : List ℕ). zs ++ take n (drop done u)) same ∙ ap (λ (zs : List ℕ). take done v ++ zs) next ∙ sym (take-add done n v)

@@ -3,8 +3,7 @@ use Rattle.std.specs.Prelude.{◌≡◌, ◌≢◌, ℕ, ◌+◌, ◌<◌, ◌�
 use Rattle.cord_io.specs.Table.{Table, Lengths, length_at}
 use Rattle.cord_io.specs.declared.TheConstants.{MAX_LEN}
 use Rattle.cord_node.specs.declared.Node.{Node}
-use Rattle.cord_node.specs.Tree.{len_of}
-use Rattle.cord_node.specs.Tables.{bytes_over, FitsIn, Fits}
+use Rattle.cord_core.specs.Cord.{text_len, bytes_of, CordFitsIn, CordFits}
 use Rattle.cord_search.specs.declared.stretches.Stretch.{Stretch}
 use Rattle.cord_search.specs.declared.stretches.Stretch.TheVariants.{Bytes, Run, Func}
 
@@ -26,12 +25,16 @@ StretchFitsIn lengths (Bytes bytes) = ⊤
 StretchFitsIn lengths (Run byte len) = ⊤
 StretchFitsIn lengths (Func id start len) = (start + len ≤ length_at lengths id.0) × (start + len ≤ MAX_LEN)
 
--- it isn't empty, and is what the node's text has from the place on
-pub record IsStretchAt (n : Node) (place : ℕ) (s : Stretch) : Type 0 where
+-- it isn't empty, and is what the cord's text has from the place on
+pub record IsStretchOf (c : Option Node) (place : ℕ) (s : Stretch) : Type 0 where
   pub some : 0 < stretch_len s
-  pub inside : place + stretch_len s ≤ len_of n
-  pub fits : (lengths : Lengths) → FitsIn lengths n → StretchFitsIn lengths s
-  pub text : (t : Table) → Fits t n → stretch_bytes t s ≡ take (stretch_len s) (drop place (bytes_over t n))
+  pub inside : place + stretch_len s ≤ text_len c
+  pub fits : (lengths : Lengths) → CordFitsIn lengths c → StretchFitsIn lengths s
+  pub text : (t : Table) → CordFits t c → stretch_bytes t s ≡ take (stretch_len s) (drop place (bytes_of t c))
+
+-- the same of a node
+abbrev pub IsStretchAt : Node → ℕ → Stretch → Type 0
+IsStretchAt n place s = IsStretchOf (Some n) place s
 
 -- the bytes stand in the stretch's text from the place on
 abbrev pub IsPartOf : Option Table → Stretch → ℕ → List ℕ → Type 0
@@ -40,3 +43,7 @@ IsPartOf o s place xs = IfSome o (λ t. xs ≡ take (length xs) (drop place (str
 -- its text has this byte nowhere
 abbrev pub IsWithout : Stretch → ℕ → Type 0
 IsWithout s c = (t : Table) → (q : ℕ) → slice_get (stretch_bytes t s) q ≢ Some c
+
+-- the two begin with the same n bytes
+abbrev pub BeginAlike : Stretch → Stretch → ℕ → Type 0
+BeginAlike s other n = (t : Table) → take n (stretch_bytes t s) ≡ take n (stretch_bytes t other)

@@ -6,7 +6,7 @@ ghost use Rattle.cord_search.specs.Pieces.{IsPieceOf};
 ghost use Rattle.cord_search.specs.Stretches.{stretch_len, StretchFitsIn, IsPartOf};
 
 use crate::PIECE_LEN;
-use crate::stretches::{Stretch, stretch_at};
+use crate::stretches::{Stretch, cord_stretch_at};
 use cord_core::Cord;
 use cord_io::{ReadFault, Source};
 
@@ -26,10 +26,7 @@ pub(crate) fn cord_piece_at<'a, S: Source>(
     ensures lengths { S.lengths src.new ≡ S.lengths src.old }
     ensures table { S.table src.new ≡ S.table src.old }
 {
-    let Some(root) = cord.root() else {
-        unreachable!()
-    };
-    let piece = first_piece(stretch_at(root.as_ref(), place), buffer, src)?;
+    let piece = first_piece(cord_stretch_at(cord, place), buffer, src)?;
     Ok(piece)
 }
 

@@ -1,9 +1,10 @@
 // Stretches of a node's text: what lies in one part, from a place on or up to a place.
-ghost use Rattle.std.specs.Prelude.{◌≡◌, ◌-◌, ◌<◌, ◌≤◌, IfSome};
+ghost use Rattle.std.specs.Prelude.{◌≡◌, ◌-◌, ◌<◌, ◌≤◌, min, IfSome};
+ghost use Rattle.cord_core.specs.Cord.{text_len};
 ghost use Rattle.cord_node.specs.Tree.{len_of, IsSound};
-ghost use Rattle.cord_search.specs.Stretches.{stretch_len, IsStretchAt, IsWithout};
+ghost use Rattle.cord_search.specs.Stretches.{stretch_len, IsStretchOf, IsStretchAt, IsWithout, BeginAlike};
 
-use cord_core::Node;
+use cord_core::{Cord, Node};
 use cord_io::SourceId;
 
 /// A text that lies in one part: bytes of a leaf, a run, or a range of an entry of a source.
@@ -25,6 +26,34 @@ impl<'a> Stretch<'a> {
             _ => None,
         }
     }
+
+    /// How many bytes of two runs of one byte are the same: all of the shorter one.
+    pub(crate) fn same_run(self, other: Stretch) -> Option<u64>
+        ensures len { IfSome result (λ count. count ≡ min (stretch_len self.entry) (stretch_len other.entry)) }
+        ensures same { IfSome result (λ count. BeginAlike self.entry other.entry count) }
+    {
+        match (self, other) {
+            (
+                Stretch::Run { byte, len },
+                Stretch::Run {
+                    byte: other_byte,
+                    len: other_len,
+                },
+            ) if byte == other_byte => Some(len.min(other_len)),
+            _ => None,
+        }
+    }
+}
+
+/// What is left of a part of a cord's text from a place on.
+pub(crate) fn cord_stretch_at(cord: &Cord, place: u64) -> Stretch
+    requires { place < text_len cord.now }
+    ensures { IsStretchOf cord.now place result }
+{
+    let Some(root) = cord.root() else {
+        unreachable!()
+    };
+    stretch_at(root.as_ref(), place)
 }
 
 /// What is left of a part of a node's text from a place on.

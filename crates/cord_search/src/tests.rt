@@ -165,7 +165,12 @@ fn rows_of_chr(rt: HostRuntime) -> Result<(), Fail> {
 
 #[test]
 fn a_run_of_the_longest_length_answers_at_once(rt: HostRuntime) -> Result<(), Fail> {
-    let run = run_of(rt.alloc(), MAX_LEN)?;
+    let alloc = rt.alloc();
+    let run = run_of(alloc, MAX_LEN)?;
+    let shorter = run_of(alloc, MAX_LEN - 1)?;
+    assert_eq!(rt; cmp(&run, &run, &mut nothing()), Ok(0));
+    assert_eq!(rt; cmp(&shorter, &run, &mut nothing()), Ok(-1));
+    assert_eq!(rt; cmp(&run, &shorter, &mut nothing()), Ok(1));
     if run.len() == MAX_LEN {
         assert_eq!(rt; chr(&run, 0, b'b', &mut nothing()), Ok(None));
         assert_eq!(rt; rchr(&run, MAX_LEN - 1, b'b', &mut nothing()), Ok(None));

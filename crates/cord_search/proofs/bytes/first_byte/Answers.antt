@@ -1,4 +1,4 @@
-use Rattle.std.proofs.Common.{◌≡◌, ◌∙◌, arith}
+use Rattle.std.proofs.Common.{◌≡◌, ◌∙◌, arith, Some}
 use Rattle.cord_search.specs.Pieces.{IsPieceAt}
 use Rattle.cord_search.specs.Stretches.{stretch_len}
 use Rattle.cord_search.proofs.Ranges.{piece_within}
@@ -33,7 +33,7 @@ returns-in-Some-memchr-clause-first g c =
     let node = c.args.node.now in
     let place = c.loop-place.place in
     let piece = c.in_ok-piece.piece.now in
-    let text : IsPieceAt o node place piece = piece_within lengths o node place c.stretch_at-stretch.result 0 place piece (g.met.S.Source.lengths_of_table c.args.src.now) c.requires.fits c.stretch_at-stretch.ensures (omega (arith, c.in_ok-piece.ensures.inside)) (omega arith) (rw c.loop-place.invariant.table at c.in_ok-piece.ensures.text) in
+    let text : IsPieceAt o node place piece = piece_within lengths o (Some node) place c.stretch_at-stretch.result 0 place piece (g.met.S.Source.lengths_of_table c.args.src.now) c.requires.fits c.stretch_at-stretch.ensures (omega (arith, c.in_ok-piece.ensures.inside)) (omega arith) (rw c.loop-place.invariant.table at c.in_ok-piece.ensures.text) in
     first_found o node piece c.args.byte c.args.from place c.in-Some-memchr.found _ c.in-Some-memchr.is c.memchr.ensures c.loop-place.invariant.low text c.loop-place.invariant.none
 
 pub loop-place-preserved : goal.loop-place-preserved
@@ -43,7 +43,7 @@ loop-place-preserved g c =
     let node = c.args.node.now in
     let place = c.loop-place.place in
     let piece = c.in_ok-piece.piece.now in
-    let text : IsPieceAt o node place piece = piece_within lengths o node place c.stretch_at-stretch.result 0 place piece (g.met.S.Source.lengths_of_table c.args.src.now) c.requires.fits c.stretch_at-stretch.ensures (omega (arith, c.in_ok-piece.ensures.inside)) (omega arith) (rw c.loop-place.invariant.table at c.in_ok-piece.ensures.text) in
+    let text : IsPieceAt o node place piece = piece_within lengths o (Some node) place c.stretch_at-stretch.result 0 place piece (g.met.S.Source.lengths_of_table c.args.src.now) c.requires.fits c.stretch_at-stretch.ensures (omega (arith, c.in_ok-piece.ensures.inside)) (omega arith) (rw c.loop-place.invariant.table at c.in_ok-piece.ensures.text) in
     record {
       low = omega (arith, c.loop-place.invariant.low);
       high = omega (arith, c.in_ok-piece.ensures.inside, c.stretch_at-stretch.ensures.inside, c.len-len.ensures.stored);

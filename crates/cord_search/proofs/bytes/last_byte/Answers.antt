@@ -1,4 +1,4 @@
-use Rattle.std.proofs.Common.{◌≡◌, ◌+◌, ◌-◌, ◌≤◌, ◌∙◌, length, arith}
+use Rattle.std.proofs.Common.{◌≡◌, ◌+◌, ◌-◌, ◌≤◌, ◌∙◌, length, arith, Some}
 use Rattle.cord_search.specs.Pieces.{IsPieceAt, HasNot}
 use Rattle.cord_search.specs.Stretches.{stretch_len}
 use Rattle.cord_search.proofs.Ranges.{piece_within}
@@ -37,7 +37,7 @@ returns-in-Some-memrchr-clause-last g c =
     let long = stretch_len stretch in
     let inside : long ≤ end = c.stretch_before-stretch.ensures.inside in
     let short : length piece ≤ long = c.in_ok-piece.ensures.inside in
-    let text : IsPieceAt o node (end - length piece) piece = piece_within lengths o node (end - long) stretch (long - length piece) (end - length piece) piece (g.met.S.Source.lengths_of_table c.args.src.now) c.requires.fits c.stretch_before-stretch.ensures.stretch (omega (arith, short)) (omega (arith, short, inside)) (rw c.loop-end.invariant.table at c.in_ok-piece.ensures.text) in
+    let text : IsPieceAt o node (end - length piece) piece = piece_within lengths o (Some node) (end - long) stretch (long - length piece) (end - length piece) piece (g.met.S.Source.lengths_of_table c.args.src.now) c.requires.fits c.stretch_before-stretch.ensures.stretch (omega (arith, short)) (omega (arith, short, inside)) (rw c.loop-end.invariant.table at c.in_ok-piece.ensures.text) in
     last_found o node piece c.args.byte c.args.at (end - length piece) c.in-Some-memrchr.found end _ c.in-Some-memrchr.is c.memrchr.ensures (omega (arith, short, inside)) c.loop-end.invariant.high text c.loop-end.invariant.none
 
 pub loop-end-preserved : goal.loop-end-preserved
@@ -51,7 +51,7 @@ loop-end-preserved g c =
     let long = stretch_len stretch in
     let inside : long ≤ end = c.stretch_before-stretch.ensures.inside in
     let short : length piece ≤ long = c.in_ok-piece.ensures.inside in
-    let text : IsPieceAt o node (end - length piece) piece = piece_within lengths o node (end - long) stretch (long - length piece) (end - length piece) piece (g.met.S.Source.lengths_of_table c.args.src.now) c.requires.fits c.stretch_before-stretch.ensures.stretch (omega (arith, short)) (omega (arith, short, inside)) (rw c.loop-end.invariant.table at c.in_ok-piece.ensures.text) in
+    let text : IsPieceAt o node (end - length piece) piece = piece_within lengths o (Some node) (end - long) stretch (long - length piece) (end - length piece) piece (g.met.S.Source.lengths_of_table c.args.src.now) c.requires.fits c.stretch_before-stretch.ensures.stretch (omega (arith, short)) (omega (arith, short, inside)) (rw c.loop-end.invariant.table at c.in_ok-piece.ensures.text) in
     record {
       high = omega (arith, c.loop-end.invariant.high);
       none = last_on o node piece c.args.byte c.args.at (end - length piece) end _ c.in-None.is c.memrchr.ensures (omega (arith, short, inside)) text c.loop-end.invariant.none;
