@@ -1,5 +1,5 @@
 -- Stretches: texts that lie in one part of a node.
-use Rattle.std.specs.Prelude.{◌≡◌, ◌≢◌, ℕ, ◌+◌, ◌<◌, ◌≤◌, List, length, take, drop, replicate, slice_get, Option, Some, IfSome, ⊤}
+use Rattle.std.specs.Prelude.{◌≡◌, ◌≢◌, ℕ, ◌+◌, ◌<◌, ◌≤◌, List, length, take, drop, replicate, slice_get, Bool, false, not, ◌==◌, Option, Some, IfSome, ⊤}
 use Rattle.cord_io.specs.Table.{Table, Lengths, length_at}
 use Rattle.cord_io.specs.declared.TheConstants.{MAX_LEN}
 use Rattle.cord_node.specs.declared.Node.{Node}
@@ -43,6 +43,16 @@ IsPartOf o s place xs = IfSome o (λ t. xs ≡ take (length xs) (drop place (str
 -- its text has this byte nowhere
 abbrev pub IsWithout : Stretch → ℕ → Type 0
 IsWithout s c = (t : Table) → (q : ℕ) → slice_get (stretch_bytes t s) q ≢ Some c
+
+-- it is a run of another byte
+abbrev pub is_other_run : Stretch → ℕ → Bool
+is_other_run (Run byte len) c = not (byte == c)
+is_other_run _ c = false
+
+-- the two are runs of one byte
+abbrev pub are_one_run : Stretch → Stretch → Bool
+are_one_run (Run byte len) (Run other_byte other_len) = byte == other_byte
+are_one_run _ _ = false
 
 -- the two begin with the same n bytes
 abbrev pub BeginAlike : Stretch → Stretch → ℕ → Type 0

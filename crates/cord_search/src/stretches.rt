@@ -1,8 +1,8 @@
 // Stretches of a node's text: what lies in one part, from a place on or up to a place.
-ghost use Rattle.std.specs.Prelude.{◌≡◌, ◌-◌, ◌<◌, ◌≤◌, min, IfSome};
+ghost use Rattle.std.specs.Prelude.{◌≡◌, ◌-◌, ◌<◌, ◌≤◌, min, is_some, IfSome};
 ghost use Rattle.cord_core.specs.Cord.{text_len};
 ghost use Rattle.cord_node.specs.Tree.{len_of, IsSound};
-ghost use Rattle.cord_search.specs.Stretches.{stretch_len, IsStretchOf, IsStretchAt, IsWithout, BeginAlike};
+ghost use Rattle.cord_search.specs.Stretches.{stretch_len, is_other_run, are_one_run, IsStretchOf, IsStretchAt, IsWithout, BeginAlike};
 
 use cord_core::{Cord, Node};
 use cord_io::SourceId;
@@ -18,6 +18,7 @@ pub(crate) enum Stretch<'a> {
 impl<'a> Stretch<'a> {
     /// The length of a run of another byte.
     pub(crate) fn run_without(self, wanted: u8) -> Option<u64>
+        ensures found { is_some result ≡ is_other_run self.entry wanted }
         ensures len { IfSome result (λ count. count ≡ stretch_len self.entry) }
         ensures without { IfSome result (λ count. IsWithout self.entry wanted) }
     {
@@ -29,6 +30,7 @@ impl<'a> Stretch<'a> {
 
     /// How many bytes of two runs of one byte are the same: all of the shorter one.
     pub(crate) fn same_run(self, other: Stretch) -> Option<u64>
+        ensures found { is_some result ≡ are_one_run self.entry other.entry }
         ensures len { IfSome result (λ count. count ≡ min (stretch_len self.entry) (stretch_len other.entry)) }
         ensures same { IfSome result (λ count. BeginAlike self.entry other.entry count) }
     {
