@@ -2,19 +2,21 @@
 use Rattle.std.proofs.Common.{◌≡◌, ◌≢◌, ℕ, ◌+◌, ◌-◌, ◌<◌, ◌≤◌, List, [], ◌∷◌, length, take, drop, get_or, None, Some, refl, sym, ◌∙◌, ap, arith, ⊎_elim, eq-eqb, length-drop}
 use Rattle.std.specs.Prelude.{Option, IfSome, slice_get}
 use Rattle.std.proofs.lemmas.Bool.{cases_lt, eqb-true}
-use Rattle.std.proofs.lemmas.List.{get_or-take, get_or-drop, length-take}
+use Rattle.std.proofs.lemmas.List.{get_or-take, get_or-drop, length-take, length-take-le}
 use Rattle.std.proofs.lemmas.Option.{slice_get_within, get_or_from_slice_get, slice_get-get_or}
 use Rattle.memchr.specs.Find.{Nowhere, NoneBefore, NoneAfter, Passes, IsFirstByte, IsLastByte, is_byte}
 use Rattle.cord_io.specs.Table.{Table, Lengths, HasLengths}
 use Rattle.cord_node.specs.declared.Node.{Node}
 use Rattle.cord_node.specs.Tree.{len_of, IsSound}
-use Rattle.cord_node.specs.Tables.{bytes_over, FitsIn}
+use Rattle.cord_node.specs.Tables.{bytes_over, FitsIn, Fits}
 use Rattle.cord_node.proofs.TableLemmas.{Fits-told}
 use Rattle.cord_core.specs.Texts.{StandsAt, first, IsFirst, last, IsLast}
 use Rattle.cord_core.proofs.Places.{at_here, some_here}
 use Rattle.cord_core.proofs.Searches.{first_is_least, last_is_greatest}
 use Rattle.cord_iter.proofs.Lengths.{length-bytes_over}
 use Rattle.cord_search.specs.Pieces.{IsPieceAt, NotFound, HasNot}
+use Rattle.cord_search.specs.Stretches.{stretch_len, stretch_bytes, IsStretchAt, IsWithout}
+use Rattle.cord_search.specs.declared.stretches.Stretch.{Stretch}
 
 -- a node that fits a table has as long a text there as it stores
 pub node_len : (ls : Lengths) (o : Option Table) (n : Node) → IfSome o (HasLengths ls) → IsSound n → FitsIn ls n → IfSome o (λ t. length (bytes_over t n) ≡ len_of n)
@@ -119,3 +121,25 @@ last_found (Some t) n xs c at p k end r is h seam high e none =
 pub last_none : (o : Option Table) (n : Node) (c at end : ℕ) → end ≤ 0 → HasNot o n c end (at + 1) → IfSome o (λ t. None ≡ last (bytes_over t n) at c)
 last_none None n c at end low none = tt
 last_none (Some t) n c at end low none = last_only (bytes_over t n) at c None (λ q to there. none q (omega arith) (omega arith) there)
+
+-- a byte of the text is one of the stretch that holds its place
+in_stretch : (t : Table) (n : Node) (p : ℕ) (s : Stretch) (c q : ℕ) → Fits t n → IsSound n → IsStretchAt n p s → p ≤ q → q < p + stretch_len s → slice_get (bytes_over t n) q ≡ Some c → slice_get (stretch_bytes t s) (q - p) ≡ Some c
+in_stretch t n p s c q fits sound h from to there =
+    let x = bytes_over t n in
+    let xs = stretch_bytes t s in
+    let len : length x ≡ len_of n = length-bytes_over t n sound fits in
+    let long : length xs ≡ stretch_len s = ap (λ (ys : List ℕ). length ys) (h.text t fits) ∙ length-take-le (stretch_len s) (drop p x) (omega (arith, len, h.inside, length-drop p x)) in
+    let range : xs ≡ take (length xs) (drop p x) = h.text t fits ∙ ap (λ (k : ℕ). take k (drop p x)) (sym long) in
+    let m : p + (q - p) ≡ q = omega arith in
+    slice_get-get_or xs (q - p) 0 (omega (arith, long, from, to)) ∙ ap (λ (b : ℕ). Some b) (range_at x xs p (q - p) range (omega (arith, long, from, to)) ∙ ap (λ (k : ℕ). get_or x k 0) m ∙ get_or_from_slice_get x q c 0 there)
+
+-- a search goes on behind a stretch that hasn't the byte
+pub first_past : (ls : Lengths) (o : Option Table) (n : Node) (s : Stretch) (c from p : ℕ) → IfSome o (HasLengths ls) → FitsIn ls n → IsSound n → IsStretchAt n p s → IsWithout s c → NotFound o n (c ∷ []) from p → NotFound o n (c ∷ []) from (p + stretch_len s)
+first_past ls None n s c from p told f sound h not none = tt
+first_past ls (Some t) n s c from p told f sound h not none =
+    λ q low to at. ⊎_elim (λ (lt : q < p). none q low lt at) (λ (le : p ≤ q). not t (q - p) (in_stretch t n p s c q (Fits-told ls t n told f) sound h le to (byte_there (bytes_over t n) c q at))) (cases_lt q p)
+
+pub last_past : (ls : Lengths) (o : Option Table) (n : Node) (s : Stretch) (c at p end : ℕ) → IfSome o (HasLengths ls) → FitsIn ls n → IsSound n → p + stretch_len s ≡ end → IsStretchAt n p s → IsWithout s c → HasNot o n c end (at + 1) → HasNot o n c p (at + 1)
+last_past ls None n s c at p end told f sound seam h not none = tt
+last_past ls (Some t) n s c at p end told f sound seam h not none =
+    λ q low to here. ⊎_elim (λ (lt : q < end). not t (q - p) (in_stretch t n p s c q (Fits-told ls t n told f) sound h low (omega arith) here)) (λ (le : end ≤ q). none q le to here) (cases_lt q end)

@@ -1,42 +1,177 @@
--- Where pieces stand in the text of a node.
-use Rattle.std.proofs.Common.{◌≡◌, ℕ, ◌+◌, ◌-◌, ◌≤◌, List, length, take, drop, None, Some, sym, ◌∙◌, ap, arith}
-use Rattle.std.specs.Prelude.{Option, IfSome, replicate}
-use Rattle.std.proofs.lemmas.List.{take_min, drop-replicate, take-replicate, length-take}
-use Rattle.cord_io.specs.Table.{Table}
+-- Where stretches and pieces stand in the text of a node.
+use Rattle.std.proofs.Common.{◌≡◌, ℕ, ◌+◌, ◌-◌, ◌<◌, ◌≤◌, List, ◌++◌, length, take, drop, None, Some, sym, ◌∙◌, ap, arith, length-drop}
+use Rattle.std.specs.Prelude.{Option, IfSome, min, replicate}
+use Rattle.std.specs.declared.rc.Rc.{Rc}
+use Rattle.std.specs.Global.{Global}
+use Rattle.std.proofs.Math.Seq.{take-add}
+use Rattle.std.proofs.lemmas.List.{take_min, drop-replicate, take-replicate, length-take, length-take-le, take_all, take-take, drop-drop}
+use Rattle.cord_io.specs.declared.SourceId.{SourceId}
+use Rattle.cord_io.specs.Table.{Table, Lengths, HasLengths, length_at}
+use Rattle.cord_io.specs.declared.TheConstants.{MAX_LEN}
 use Rattle.cord_node.specs.declared.Node.{Node}
-use Rattle.cord_node.specs.Tree.{len_of}
-use Rattle.cord_node.specs.Tables.{bytes_over}
-use Rattle.cord_node.proofs.Ranges.{range_of_range, range_right}
-use Rattle.cord_iter.proofs.Cuts.{IsCut}
-use Rattle.cord_search.specs.Pieces.{IsPieceAt}
+use Rattle.cord_node.specs.declared.Node.TheVariants.{Run, Func, Cat'}
+use Rattle.cord_node.specs.Tree.{len_of, IsSound}
+use Rattle.cord_node.specs.Tables.{bytes_over, lengths_of, FitsIn, Fits}
+use Rattle.cord_node.proofs.Ranges.{range_of_range, range_left, range_right}
+use Rattle.cord_node.proofs.TableLemmas.{Fits-told}
+use Rattle.cord_iter.proofs.Lengths.{length-bytes_over}
+use Rattle.cord_core.specs.Cord.{bytes_of, CordFitsIn, CordFits}
+use Rattle.cord_search.specs.Pieces.{IsPieceOf, AreSame}
+use Rattle.cord_search.specs.Stretches.{stretch_len, stretch_bytes, StretchFitsIn, IsStretchOf, IsStretchAt, IsPartOf, BeginAlike}
+use Rattle.cord_search.specs.declared.stretches.Stretch.{Stretch}
 
 -- a range is its own first bytes
 own_range : (xs ys : List ℕ) (k : ℕ) → xs ≡ take k ys → xs ≡ take (length xs) ys
 own_range xs ys k e = e ∙ sym (take_min k ys) ∙ ap (λ (m : ℕ). take m ys) (sym (ap (λ (zs : List ℕ). length zs) e ∙ length-take k ys))
 
--- a range of a leaf
-pub leaf_piece : (o : Option Table) (n : Node) (items xs : List ℕ) (start len from place k : ℕ) → ((t : Table) → bytes_over t n ≡ take len (drop start items)) → from ≡ start + place → place + k ≤ len → xs ≡ take k (drop from items) → IsPieceAt o n place xs
-leaf_piece None n items xs start len from place k e f h s = tt
-leaf_piece (Some t) n items xs start len from place k e f h s =
-    own_range xs (drop place (bytes_over t n)) k (s ∙ ap (λ (m : ℕ). take k (drop m items)) f ∙ sym (range_of_range items place k start len h) ∙ ap (λ (ys : List ℕ). take k (drop place ys)) (sym (e t)))
+-- a place of a node is the place `at` of another one, whose text stands in the node's
+pub record IsWithin (n : Node) (place : ℕ) (m : Node) (at : ℕ) : Type 0 where
+  pub offset : ℕ
+  pub here : place ≡ offset + at
+  pub inside : offset + len_of m ≤ len_of n
+  pub sound : IsSound m
+  pub fits : (lengths : Lengths) → FitsIn lengths n → FitsIn lengths m
+  pub text : (t : Table) → Fits t n → (i k : ℕ) → i + k ≤ len_of m → take k (drop (offset + i) (bytes_over t n)) ≡ take k (drop i (bytes_over t m))
 
--- so many times the byte of a run
-pub run_piece : (o : Option Table) (n : Node) (xs : List ℕ) (byte len place k : ℕ) → ((t : Table) → bytes_over t n ≡ replicate len byte) → place + k ≤ len → xs ≡ replicate k byte → IsPieceAt o n place xs
-run_piece None n xs byte len place k e h s = tt
-run_piece (Some t) n xs byte len place k e h s =
-    let inside : k ≤ len - place = omega arith in
-    own_range xs (drop place (bytes_over t n)) k (s ∙ sym (take-replicate k (len - place) byte inside) ∙ ap (λ (ys : List ℕ). take k ys) (sym (drop-replicate place len byte)) ∙ ap (λ (ys : List ℕ). take k (drop place ys)) (sym (e t)))
+-- a node is within itself
+pub within_start : (n : Node) (place : ℕ) → IsSound n → IsWithin n place n place
+within_start n place s = record {
+  offset = 0;
+  here = omega arith;
+  inside = omega arith;
+  sound = s;
+  fits = λ lengths f. f;
+  text = λ t f i k h. let none : 0 + i ≡ i = omega arith in ap (λ (j : ℕ). take k (drop j (bytes_over t n))) none;
+}
+
+-- a concatenation is as long as its two sides
+pub cat_len : (m : Node) (p : Rc (Unit {0}) Global) (l : Node) (q : Rc (Unit {0}) Global) (r : Node) (len depth : ℕ) → m ≡ Cat' p l q r len depth → IsSound m → len_of m ≡ len_of l + len_of r
+cat_len m p l q r len depth e s = let v : IsSound (Cat' p l q r len depth) = rw e at s in ap len_of e ∙ v.2
+
+-- and so is the left side of what is within
+pub within_left : (n : Node) (place : ℕ) (m : Node) (at : ℕ) (p : Rc (Unit {0}) Global) (l : Node) (q : Rc (Unit {0}) Global) (r : Node) (len depth : ℕ) → m ≡ Cat' p l q r len depth → IsWithin n place m at → IsWithin n place l at
+within_left n place m at p l q r len depth e w =
+    let v : IsWithin n place (Cat' p l q r len depth) at = rw e at w in
+    let long : len ≡ len_of l + len_of r = v.sound.2 in
+    record {
+      offset = v.offset;
+      here = v.here;
+      inside = omega (arith, v.inside, long);
+      sound = v.sound.0;
+      fits = λ lengths f. (v.fits lengths f).0;
+      text = λ t f i k h.
+          let len : length (bytes_over t l) ≡ len_of l = length-bytes_over t l v.sound.0 (v.fits (lengths_of t) f).0 in
+          v.text t f i k (omega (arith, h, long)) ∙ range_left (bytes_over t l) (bytes_over t r) i k (omega (arith, h, len));
+    }
+
+-- and the right side
+pub within_right : (n : Node) (place : ℕ) (m : Node) (at next : ℕ) (p : Rc (Unit {0}) Global) (l : Node) (q : Rc (Unit {0}) Global) (r : Node) (len depth : ℕ) → m ≡ Cat' p l q r len depth → at ≡ len_of l + next → IsWithin n place m at → IsWithin n place r next
+within_right n place m at next p l q r len depth e seam w =
+    let v : IsWithin n place (Cat' p l q r len depth) at = rw e at w in
+    let long : len ≡ len_of l + len_of r = v.sound.2 in
+    record {
+      offset = v.offset + len_of l;
+      here = omega (arith, v.here, seam);
+      inside = omega (arith, v.inside, long);
+      sound = v.sound.1;
+      fits = λ lengths f. (v.fits lengths f).1;
+      text = λ t f i k h.
+          let len : length (bytes_over t l) ≡ len_of l = length-bytes_over t l v.sound.0 (v.fits (lengths_of t) f).0 in
+          let from : v.offset + len_of l + i ≡ v.offset + (len_of l + i) = omega arith in
+          let to : len_of l + i - length (bytes_over t l) ≡ i = omega (arith, len) in
+          ap (λ (j : ℕ). take k (drop j (bytes_over t n))) from ∙ v.text t f (len_of l + i) k (omega (arith, h, long)) ∙ range_right (bytes_over t l) (bytes_over t r) (len_of l + i) k (omega (arith, len)) ∙ ap (λ (j : ℕ). take k (drop j (bytes_over t r))) to;
+    }
+
+-- a stretch of what is within is one of the node
+within_stretch : (n : Node) (place : ℕ) (m : Node) (at i j : ℕ) (s : Stretch) (w : IsWithin n place m at) → j ≡ w.offset + i → IsStretchAt m i s → IsStretchAt n j s
+within_stretch n place m at i j s w e h = record {
+  some = h.some;
+  inside = omega (arith, e, h.inside, w.inside);
+  fits = λ lengths f. h.fits lengths (w.fits lengths f);
+  text = λ t f. h.text t (w.fits (lengths_of t) f) ∙ sym (w.text t f i (stretch_len s) h.inside) ∙ ap (λ (k : ℕ). take (stretch_len s) (drop k (bytes_over t n))) (sym e);
+}
+
+pub stretch_on : (n : Node) (place : ℕ) (m : Node) (at : ℕ) (s : Stretch) → IsWithin n place m at → IsStretchAt m at s → IsStretchAt n place s
+stretch_on n place m at s w h = within_stretch n place m at at place s w w.here h
+
+pub stretch_back : (n : Node) (place : ℕ) (m : Node) (at i : ℕ) (s : Stretch) → at ≡ i + stretch_len s → IsWithin n place m at → IsStretchAt m i s → IsStretchAt n (place - stretch_len s) s
+stretch_back n place m at i s e w h = within_stretch n place m at i (place - stretch_len s) s w (omega (arith, e, w.here)) h
+
+-- a range of a leaf
+pub leaf_stretch : (m : Node) (s : Stretch) (items xs : List ℕ) (start len from at k : ℕ) → ((t : Table) → bytes_over t m ≡ take len (drop start items)) → len_of m ≡ len → start + len ≤ length items → from ≡ start + at → at + k ≤ len → 0 < k → xs ≡ take k (drop from items) → stretch_len s ≡ length xs → ((t : Table) → stretch_bytes t s ≡ xs) → ((lengths : Lengths) → StretchFitsIn lengths s) → IsStretchAt m at s
+leaf_stretch m s items xs start len from at k e long behind f h some is count bytes fits =
+    let whole : stretch_len s ≡ k = count ∙ ap (λ (ys : List ℕ). length ys) is ∙ length-take-le k (drop from items) (omega (arith, f, h, behind, length-drop from items)) in
+    record {
+      some = omega (arith, whole, some);
+      inside = omega (arith, whole, long, h);
+      fits = λ lengths _. fits lengths;
+      text = λ t _. bytes t ∙ is ∙ ap (λ (j : ℕ). take k (drop j items)) f ∙ sym (range_of_range items at k start len h) ∙ ap (λ (ys : List ℕ). take k (drop at ys)) (sym (e t)) ∙ ap (λ (j : ℕ). take j (drop at (bytes_over t m))) (sym whole);
+    }
+
+-- a part of a run
+pub run_stretch : (m : Node) (s : Stretch) (byte len at k : ℕ) → m ≡ Run byte len → at + k ≤ len → 0 < k → stretch_len s ≡ k → ((t : Table) → stretch_bytes t s ≡ replicate k byte) → ((lengths : Lengths) → StretchFitsIn lengths s) → IsStretchAt m at s
+run_stretch m s byte len at k e h some count bytes fits =
+    let inside : k ≤ len - at = omega arith in
+    let long : len_of m ≡ len = ap len_of e in
+    record {
+      some = omega (arith, count, some);
+      inside = omega (arith, count, long, h);
+      fits = λ lengths _. fits lengths;
+      text = λ t _. bytes t ∙ sym (take-replicate k (len - at) byte inside) ∙ ap (λ (ys : List ℕ). take k ys) (sym (drop-replicate at len byte)) ∙ ap (λ (n : Node). take k (drop at (bytes_over t n))) (sym e) ∙ ap (λ (j : ℕ). take j (drop at (bytes_over t m))) (sym count);
+    }
 
 -- a range of an entry
-pub func_piece : (o : Option Table) (n : Node) (xs : List ℕ) (id start len from place : ℕ) → ((t : Table) → bytes_over t n ≡ take len (drop start (t id))) → from ≡ start + place → place + length xs ≤ len → IfSome o (λ t. xs ≡ take (length xs) (drop from (t id))) → IsPieceAt o n place xs
-func_piece None n xs id start len from place e f h s = tt
-func_piece (Some t) n xs id start len from place e f h s =
-    s ∙ ap (λ (m : ℕ). take (length xs) (drop m (t id))) f ∙ sym (range_of_range (t id) place (length xs) start len h) ∙ ap (λ (ys : List ℕ). take (length xs) (drop place ys)) (sym (e t))
+pub func_stretch : (m : Node) (s : Stretch) (id : SourceId) (start len from at k : ℕ) → m ≡ Func id start len → IsSound m → from ≡ start + at → at + k ≤ len → 0 < k → stretch_len s ≡ k → ((t : Table) → stretch_bytes t s ≡ take k (drop from (t id.0))) → ((lengths : Lengths) → (from + k ≤ length_at lengths id.0) × (from + k ≤ MAX_LEN) → StretchFitsIn lengths s) → IsStretchAt m at s
+func_stretch m s id start len from at k e sound f h some count bytes fits =
+    let limit : (0 < len) × (start + len ≤ MAX_LEN) = rw e at sound in
+    let long : len_of m ≡ len = ap len_of e in
+    record {
+      some = omega (arith, count, some);
+      inside = omega (arith, count, long, h);
+      fits = λ lengths held. let held' : start + len ≤ length_at lengths id.0 = rw e at held in fits lengths (omega (arith, held', f, h), omega (arith, limit.1, f, h));
+      text = λ t _. bytes t ∙ ap (λ (j : ℕ). take k (drop j (t id.0))) f ∙ sym (range_of_range (t id.0) at k start len h) ∙ ap (λ (n : Node). take k (drop at (bytes_over t n))) (sym e) ∙ ap (λ (j : ℕ). take j (drop at (bytes_over t m))) (sym count);
+    }
 
--- a piece of the right side
-pub right_piece : (o : Option Table) (l r n : Node) (at place : ℕ) (xs : List ℕ) → IfSome o (λ t. IsCut t l r n) → place ≡ len_of l + at → IsPieceAt o r at xs → IsPieceAt o n place xs
-right_piece None l r n at place xs c e s = tt
-right_piece (Some t) l r n at place xs c e s =
-    let same : place - len_of l ≡ at = omega arith in
-    let past : len_of l ≤ place = omega arith in
-    s ∙ ap (λ (m : ℕ). take (length xs) (drop m (bytes_over t r))) (sym same) ∙ ap (λ (m : ℕ). take (length xs) (drop (place - m) (bytes_over t r))) (sym c.len) ∙ sym (range_right (bytes_over t l) (bytes_over t r) place (length xs) (rw c.len past)) ∙ ap (λ (ys : List ℕ). take (length xs) (drop place ys)) (sym c.bytes)
+-- so many times the byte of a run
+pub run_part : (o : Option Table) (s : Stretch) (xs : List ℕ) (byte len i k : ℕ) → ((t : Table) → stretch_bytes t s ≡ replicate len byte) → i + k ≤ len → xs ≡ replicate k byte → IsPartOf o s i xs
+run_part None s xs byte len i k e h is = tt
+run_part (Some t) s xs byte len i k e h is =
+    let inside : k ≤ len - i = omega arith in
+    own_range xs (drop i (stretch_bytes t s)) k (is ∙ sym (take-replicate k (len - i) byte inside) ∙ ap (λ (ys : List ℕ). take k ys) (sym (drop-replicate i len byte)) ∙ ap (λ (ys : List ℕ). take k (drop i ys)) (sym (e t)))
+
+-- bytes that were read of an entry
+pub func_part : (o : Option Table) (s : Stretch) (xs : List ℕ) (id start len from i : ℕ) → ((t : Table) → stretch_bytes t s ≡ take len (drop start (t id))) → from ≡ start + i → i + length xs ≤ len → IfSome o (λ t. xs ≡ take (length xs) (drop from (t id))) → IsPartOf o s i xs
+func_part None s xs id start len from i e f h is = tt
+func_part (Some t) s xs id start len from i e f h is =
+    is ∙ ap (λ (m : ℕ). take (length xs) (drop m (t id))) f ∙ sym (range_of_range (t id) i (length xs) start len h) ∙ ap (λ (ys : List ℕ). take (length xs) (drop i ys)) (sym (e t))
+
+-- the whole of a stretch
+pub whole_part : (o : Option Table) (s : Stretch) (xs : List ℕ) (i : ℕ) → ((t : Table) → stretch_bytes t s ≡ xs) → i ≡ 0 → IsPartOf o s i xs
+whole_part None s xs i e z = tt
+whole_part (Some t) s xs i e z = sym (take_all (length xs) xs (omega arith)) ∙ ap (λ (j : ℕ). take (length xs) (drop j xs)) (sym z) ∙ ap (λ (ys : List ℕ). take (length xs) (drop i ys)) (sym (e t))
+
+-- a cord that fits the lengths of a table fits the table
+cord_told : (ls : Lengths) (t : Table) (c : Option Node) → HasLengths ls t → CordFitsIn ls c → CordFits t c
+cord_told ls t None told f = tt
+cord_told ls t (Some n) told f = Fits-told ls t n told f
+
+-- a part of a stretch is a piece of the text
+pub piece_within : (ls : Lengths) (o : Option Table) (c : Option Node) (place : ℕ) (s : Stretch) (i j : ℕ) (xs : List ℕ) → IfSome o (HasLengths ls) → CordFitsIn ls c → IsStretchOf c place s → i + length xs ≤ stretch_len s → j ≡ place + i → IsPartOf o s i xs → IsPieceOf o c j xs
+piece_within ls None c place s i j xs told f h inside e p = tt
+piece_within ls (Some t) c place s i j xs told f h inside e p =
+    p ∙ ap (λ (ys : List ℕ). take (length xs) (drop i ys)) (h.text t (cord_told ls t c told f)) ∙ range_of_range (bytes_of t c) i (length xs) place (stretch_len s) inside ∙ ap (λ (m : ℕ). take (length xs) (drop m (bytes_of t c))) (sym e)
+
+-- the first bytes of a stretch
+front : (ls : Lengths) (t : Table) (c : Option Node) (place : ℕ) (s : Stretch) (n m : ℕ) → HasLengths ls t → CordFitsIn ls c → IsStretchOf c place s → n ≤ m → m ≤ stretch_len s → take n (drop place (bytes_of t c)) ≡ take n (take m (stretch_bytes t s))
+front ls t c place s n m told f h lt le = sym (take-take n (stretch_len s) (drop place (bytes_of t c)) (omega arith)) ∙ ap (λ (ys : List ℕ). take n ys) (sym (h.text t (cord_told ls t c told f))) ∙ sym (take-take n m (stretch_bytes t s) lt)
+
+-- the next bytes of two texts are those of two stretches that begin alike
+pub same_stretch : (ls : Lengths) (o : Option Table) (x : Option Node) (i : ℕ) (y : Option Node) (j done n m : ℕ) (s other : Stretch) → IfSome o (HasLengths ls) → CordFitsIn ls x → CordFitsIn ls y → IsStretchOf x (i + done) s → IsStretchOf y (j + done) other → n ≤ m → m ≡ min (stretch_len s) (stretch_len other) → BeginAlike s other m → AreSame o x i y j done → AreSame o x i y j (done + n)
+same_stretch ls None x i y j done n m s other told f g h k lt le alike same = tt
+same_stretch ls (Some t) x i y j done n m s other told f g h k lt le alike same =
+    let u = drop i (bytes_of t x) in
+    let v = drop j (bytes_of t y) in
+    let left : take n (drop done u) ≡ take n (take m (stretch_bytes t s)) = ap (λ (ys : List ℕ). take n ys) (drop-drop done i (bytes_of t x)) ∙ front ls t x (i + done) s n m told f h lt (omega (arith, le)) in
+    let right : take n (drop done v) ≡ take n (take m (stretch_bytes t other)) = ap (λ (ys : List ℕ). take n ys) (drop-drop done j (bytes_of t y)) ∙ front ls t y (j + done) other n m told g k lt (omega (arith, le)) in
+    let next : take n (drop done u) ≡ take n (drop done v) = left ∙ ap (λ (ys : List ℕ). take n ys) (alike t) ∙ sym right in
+    take-add done n u ∙ ap (λ (zs : List ℕ). zs ++ take n (drop done u)) same ∙ ap (λ (zs : List ℕ). take done v ++ zs) next ∙ sym (take-add done n v)

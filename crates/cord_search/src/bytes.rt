@@ -7,7 +7,8 @@ ghost use Rattle.cord_core.specs.Cord.{text_len, bytes_of, CordFitsIn};
 ghost use Rattle.cord_core.specs.Texts.{first, last};
 
 use crate::PIECE_LEN;
-use crate::pieces::{piece_at, piece_before};
+use crate::pieces::{first_piece, last_piece};
+use crate::stretches::{stretch_at, stretch_before};
 use cord_core::{Cord, Node};
 use cord_io::{CordError, ReadFault, Source};
 use cord_pos::Position;
@@ -82,7 +83,12 @@ fn first_byte<S: Source>(
     let len = node.len();
     let mut place = from;
     while place < len {
-        let piece = piece_at(node, place, &mut buffer, src)?;
+        let stretch = stretch_at(node, place);
+        if let Some(count) = stretch.run_without(byte) {
+            place += count;
+            continue;
+        }
+        let piece = first_piece(stretch, &mut buffer, src)?;
         match memchr(byte, piece) {
             Some(found) => return Ok(Some(place + found as u64)),
             None => place += piece.len() as u64,
@@ -109,7 +115,12 @@ fn last_byte<S: Source>(
     let mut buffer = [0; PIECE_LEN];
     let mut end = at + 1;
     while 0 < end {
-        let piece = piece_before(node, end, &mut buffer, src)?;
+        let stretch = stretch_before(node, end);
+        if let Some(count) = stretch.run_without(byte) {
+            end -= count;
+            continue;
+        }
+        let piece = last_piece(stretch, &mut buffer, src)?;
         let start = end - piece.len() as u64;
         match memrchr(byte, piece) {
             Some(found) => return Ok(Some(start + found as u64)),

@@ -5,6 +5,7 @@
 mod bytes;
 mod order;
 mod pieces;
+mod stretches;
 mod substring;
 
 pub use bytes::{chr, fetch, rchr};

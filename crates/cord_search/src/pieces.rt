@@ -1,13 +1,13 @@
-// Texts of nodes in pieces: slices of leaves as they are, runs and function parts through a buffer.
+// Texts in pieces: slices of leaves as they are, runs and function parts through a buffer.
 ghost use Rattle.std.specs.Prelude.{◌≡◌, ◌+◌, ◌-◌, ◌<◌, ◌≤◌, length, is_err, IfOk, OnOk};
 ghost use Rattle.cord_io.specs.Device.{count_after};
-ghost use Rattle.cord_node.specs.Tree.{len_of, IsSound};
-ghost use Rattle.cord_node.specs.Tables.{FitsIn};
 ghost use Rattle.cord_core.specs.Cord.{text_len, IsCord, CordFitsIn};
-ghost use Rattle.cord_search.specs.Pieces.{IsPieceAt, IsPieceOf};
+ghost use Rattle.cord_search.specs.Pieces.{IsPieceOf};
+ghost use Rattle.cord_search.specs.Stretches.{stretch_len, StretchFitsIn, IsPartOf};
 
 use crate::PIECE_LEN;
-use cord_core::{Cord, Node};
+use crate::stretches::{Stretch, cord_stretch_at};
+use cord_core::Cord;
 use cord_io::{ReadFault, Source};
 
 // A piece of a cord's text that begins at a place: the rest of a leaf, or at most `PIECE_LEN` bytes of another part.
@@ -26,10 +26,7 @@ pub(crate) fn cord_piece_at<'a, S: Source>(
     ensures lengths { S.lengths src.new ≡ S.lengths src.old }
     ensures table { S.table src.new ≡ S.table src.old }
 {
-    let Some(root) = cord.root() else {
-        unreachable!()
-    };
-    let piece = piece_at(root.as_ref(), place, buffer, src)?;
+    let piece = first_piece(cord_stretch_at(cord, place), buffer, src)?;
     Ok(piece)
 }
 
@@ -90,89 +87,62 @@ pub(crate) fn gather<S: Source>(
     Ok(())
 }
 
-// A piece of a node's text that begins at a place: the rest of a leaf, or at most `PIECE_LEN` bytes of another part.
-pub(crate) fn piece_at<'a, S: Source>(
-    node: &'a Node,
-    place: u64,
+// The first bytes of a stretch: all of a leaf's, or at most `PIECE_LEN` of another part's.
+pub(crate) fn first_piece<'a, S: Source>(
+    stretch: Stretch<'a>,
     buffer: &'a mut [u8; PIECE_LEN],
     src: &mut S,
 ) -> Result<&'a [u8], ReadFault>
-    requires sound { IsSound node.now }
-    requires inside { place < len_of node.now }
-    requires fits { FitsIn (S.lengths src.old) node.now }
+    requires some { 0 < stretch_len stretch }
+    requires fits { StretchFitsIn (S.lengths src.old) stretch }
     ensures some { IfOk result (λ piece. 0 < length piece.now) }
-    ensures inside { IfOk result (λ piece. place + length piece.now ≤ len_of node.now) }
-    ensures text { IfOk result (λ piece. IsPieceAt (S.table src.old) node.now place piece.now) }
+    ensures inside { IfOk result (λ piece. length piece.now ≤ stretch_len stretch.entry) }
+    ensures text { IfOk result (λ piece. IsPartOf (S.table src.old) stretch.entry 0 piece.now) }
     ensures count { S.failures src.new ≡ count_after (is_err result) (S.failures src.old) }
     ensures lengths { S.lengths src.new ≡ S.lengths src.old }
     ensures table { S.table src.new ≡ S.table src.old }
 {
-    match node {
-        Node::Leaf { bytes, start, len } => {
-            Ok(&bytes.as_slice()[(*start + place) as usize..(*start + *len) as usize])
-        }
-        Node::Run { byte, len } => {
-            let piece = &mut buffer[..piece_len(*len - place)];
-            piece.fill(*byte);
+    match stretch {
+        Stretch::Bytes(bytes) => Ok(bytes),
+        Stretch::Run { byte, len } => {
+            let piece = &mut buffer[..piece_len(len)];
+            piece.fill(byte);
             Ok(piece)
         }
-        Node::Func { id, start, len } => {
-            let piece = &mut buffer[..piece_len(*len - place)];
-            src.read(*id, *start + place, piece)?;
-            Ok(piece)
-        }
-        Node::Cat { left, right, .. } => {
-            let seam = left.len();
-            if place < seam {
-                let piece = piece_at(left.as_ref(), place, buffer, src)?;
-                return Ok(piece);
-            }
-            let piece = piece_at(right.as_ref(), place - seam, buffer, src)?;
+        Stretch::Func { id, start, len } => {
+            let piece = &mut buffer[..piece_len(len)];
+            src.read(id, start, piece)?;
             Ok(piece)
         }
     }
 }
 
-// A piece of a node's text that ends at a place: the front of a leaf, or at most `PIECE_LEN` bytes of another part.
-pub(crate) fn piece_before<'a, S: Source>(
-    node: &'a Node,
-    end: u64,
+// The last bytes of a stretch: all of a leaf's, or at most `PIECE_LEN` of another part's.
+pub(crate) fn last_piece<'a, S: Source>(
+    stretch: Stretch<'a>,
     buffer: &'a mut [u8; PIECE_LEN],
     src: &mut S,
 ) -> Result<&'a [u8], ReadFault>
-    requires sound { IsSound node.now }
-    requires some { 0 < end }
-    requires inside { end ≤ len_of node.now }
-    requires fits { FitsIn (S.lengths src.old) node.now }
+    requires some { 0 < stretch_len stretch }
+    requires fits { StretchFitsIn (S.lengths src.old) stretch }
     ensures some { IfOk result (λ piece. 0 < length piece.now) }
-    ensures inside { IfOk result (λ piece. length piece.now ≤ end) }
-    ensures text { IfOk result (λ piece. IsPieceAt (S.table src.old) node.now (end - length piece.now) piece.now) }
+    ensures inside { IfOk result (λ piece. length piece.now ≤ stretch_len stretch.entry) }
+    ensures text { IfOk result (λ piece. IsPartOf (S.table src.old) stretch.entry (stretch_len stretch.entry - length piece.now) piece.now) }
     ensures count { S.failures src.new ≡ count_after (is_err result) (S.failures src.old) }
     ensures lengths { S.lengths src.new ≡ S.lengths src.old }
     ensures table { S.table src.new ≡ S.table src.old }
 {
-    match node {
-        Node::Leaf { bytes, start, .. } => {
-            Ok(&bytes.as_slice()[*start as usize..(*start + end) as usize])
-        }
-        Node::Run { byte, .. } => {
-            let piece = &mut buffer[..piece_len(end)];
-            piece.fill(*byte);
+    match stretch {
+        Stretch::Bytes(bytes) => Ok(bytes),
+        Stretch::Run { byte, len } => {
+            let piece = &mut buffer[..piece_len(len)];
+            piece.fill(byte);
             Ok(piece)
         }
-        Node::Func { id, start, .. } => {
-            let count = piece_len(end);
+        Stretch::Func { id, start, len } => {
+            let count = piece_len(len);
             let piece = &mut buffer[..count];
-            src.read(*id, *start + (end - count as u64), piece)?;
-            Ok(piece)
-        }
-        Node::Cat { left, right, .. } => {
-            let seam = left.len();
-            if seam < end {
-                let piece = piece_before(right.as_ref(), end - seam, buffer, src)?;
-                return Ok(piece);
-            }
-            let piece = piece_before(left.as_ref(), end, buffer, src)?;
+            src.read(id, start + (len - count as u64), piece)?;
             Ok(piece)
         }
     }

@@ -5,7 +5,7 @@ ghost use Rattle.cord_core.specs.Cord.{CordFitsIn};
 
 use super::*;
 use cord_core::Cord;
-use cord_io::{CordError, ReadFault, Source, SourceId};
+use cord_io::{CordError, MAX_LEN, ReadFault, Source, SourceId};
 use std::alloc::Global;
 use std::test::Fail;
 
@@ -97,9 +97,17 @@ fn joined(alloc: Global) -> Result<Cord, CordError>
 fn run_and_leaf(alloc: Global) -> Result<Cord, CordError>
     ensures { IfOk result (λ c. (lengths : Lengths) → CordFitsIn lengths c) }
 {
-    let run = Cord::chars(alloc, b'a', 2)?;
+    let run = run_of(alloc, 2)?;
     let back = leaf(alloc, b"ab")?;
     let cord = Cord::cat(alloc, &run, &back)?;
+    Ok(cord)
+}
+
+// So many times the byte "a".
+fn run_of(alloc: Global, len: u64) -> Result<Cord, CordError>
+    ensures { IfOk result (λ c. (lengths : Lengths) → CordFitsIn lengths c) }
+{
+    let cord = Cord::chars(alloc, b'a', len)?;
     Ok(cord)
 }
 
@@ -151,6 +159,23 @@ fn rows_of_chr(rt: HostRuntime) -> Result<(), Fail> {
         assert_eq!(rt; chr(&cord, 0, 108, &mut nothing()), Ok(Some(2)));
         assert_eq!(rt; chr(&cord, 0, 122, &mut nothing()), Ok(None));
         assert_eq!(rt; fetch(&cord, 4, &mut nothing()), Ok(111));
+    }
+    Ok(())
+}
+
+#[test]
+fn a_run_of_the_longest_length_answers_at_once(rt: HostRuntime) -> Result<(), Fail> {
+    let alloc = rt.alloc();
+    let run = run_of(alloc, MAX_LEN)?;
+    let shorter = run_of(alloc, MAX_LEN - 1)?;
+    assert_eq!(rt; cmp(&run, &run, &mut nothing()), Ok(0));
+    assert_eq!(rt; cmp(&shorter, &run, &mut nothing()), Ok(-1));
+    assert_eq!(rt; cmp(&run, &shorter, &mut nothing()), Ok(1));
+    if run.len() == MAX_LEN {
+        assert_eq!(rt; chr(&run, 0, b'b', &mut nothing()), Ok(None));
+        assert_eq!(rt; rchr(&run, MAX_LEN - 1, b'b', &mut nothing()), Ok(None));
+        assert_eq!(rt; chr(&run, 7, b'a', &mut nothing()), Ok(Some(7)));
+        assert_eq!(rt; rchr(&run, 7, b'a', &mut nothing()), Ok(Some(7)));
     }
     Ok(())
 }

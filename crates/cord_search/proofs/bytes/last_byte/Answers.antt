@@ -1,28 +1,63 @@
-use Rattle.std.proofs.Common.{◌-◌, ◌∙◌, length, arith}
-use Rattle.cord_search.specs.Pieces.{IsPieceAt}
-use Rattle.cord_search.proofs.Finding.{last_on, last_found, last_none}
+use Rattle.std.proofs.Common.{◌≡◌, ◌+◌, ◌-◌, ◌≤◌, ◌∙◌, length, arith, Some}
+use Rattle.cord_search.specs.Pieces.{IsPieceAt, HasNot}
+use Rattle.cord_search.specs.Stretches.{stretch_len}
+use Rattle.cord_search.proofs.Ranges.{piece_within}
+use Rattle.cord_search.proofs.Finding.{last_on, last_past, last_found, last_none}
 use Rattle.cord_search.proofs.bytes.last_byte.Goals as goal
 
-pub returns-in-Some-clause-last : goal.returns-in-Some-clause-last
-returns-in-Some-clause-last g c =
+pub last_piece-requires-clause-fits : goal.last_piece-requires-clause-fits
+last_piece-requires-clause-fits g c = rw c.loop-end.invariant.lengths (c.stretch_before-stretch.ensures.stretch.fits (g.S.Source.lengths c.args.src.now) c.requires.fits)
+
+pub loop-end-preserved-in-Some : goal.loop-end-preserved-in-Some
+loop-end-preserved-in-Some g c =
     let o = g.S.Source.table c.args.src.now in
+    let lengths = g.S.Source.lengths c.args.src.now in
+    let node = c.args.node.now in
+    let end = c.loop-end.end in
+    let stretch = c.stretch_before-stretch.result in
+    let whole : c.in-Some.count ≡ stretch_len stretch = c.in-Some.ensures.len in
+    let inside : stretch_len stretch ≤ end = c.stretch_before-stretch.ensures.inside in
+    let none : HasNot o node c.args.byte (end - stretch_len stretch) (c.args.at + 1) = last_past lengths o node stretch c.args.byte c.args.at (end - stretch_len stretch) end (g.met.S.Source.lengths_of_table c.args.src.now) c.requires.fits c.requires.sound (omega (arith, inside)) c.stretch_before-stretch.ensures.stretch c.in-Some.ensures.without c.loop-end.invariant.none in
+    record {
+      high = omega (arith, c.loop-end.invariant.high);
+      none = rw whole none;
+      reads = c.loop-end.invariant.reads;
+      lengths = c.loop-end.invariant.lengths;
+      table = c.loop-end.invariant.table;
+    }
+
+pub returns-in-Some-memrchr-clause-last : goal.returns-in-Some-memrchr-clause-last
+returns-in-Some-memrchr-clause-last g c =
+    let o = g.S.Source.table c.args.src.now in
+    let lengths = g.S.Source.lengths c.args.src.now in
+    let node = c.args.node.now in
     let piece = c.in_ok-piece.piece.now in
     let end = c.loop-end.end in
-    let text : IsPieceAt o c.args.node.now (end - length piece) piece = rw c.loop-end.invariant.table at c.in_ok-piece.ensures.text in
-    last_found o c.args.node.now piece c.args.byte c.args.at (end - length piece) c.in-Some.found end _ c.in-Some.is c.memrchr.ensures (omega (arith, c.in_ok-piece.ensures.inside)) c.loop-end.invariant.high text c.loop-end.invariant.none
+    let stretch = c.stretch_before-stretch.result in
+    let long = stretch_len stretch in
+    let inside : long ≤ end = c.stretch_before-stretch.ensures.inside in
+    let short : length piece ≤ long = c.in_ok-piece.ensures.inside in
+    let text : IsPieceAt o node (end - length piece) piece = piece_within lengths o (Some node) (end - long) stretch (long - length piece) (end - length piece) piece (g.met.S.Source.lengths_of_table c.args.src.now) c.requires.fits c.stretch_before-stretch.ensures.stretch (omega (arith, short)) (omega (arith, short, inside)) (rw c.loop-end.invariant.table at c.in_ok-piece.ensures.text) in
+    last_found o node piece c.args.byte c.args.at (end - length piece) c.in-Some-memrchr.found end _ c.in-Some-memrchr.is c.memrchr.ensures (omega (arith, short, inside)) c.loop-end.invariant.high text c.loop-end.invariant.none
 
 pub loop-end-preserved : goal.loop-end-preserved
 loop-end-preserved g c =
     let o = g.S.Source.table c.args.src.now in
+    let lengths = g.S.Source.lengths c.args.src.now in
+    let node = c.args.node.now in
     let piece = c.in_ok-piece.piece.now in
     let end = c.loop-end.end in
-    let text : IsPieceAt o c.args.node.now (end - length piece) piece = rw c.loop-end.invariant.table at c.in_ok-piece.ensures.text in
+    let stretch = c.stretch_before-stretch.result in
+    let long = stretch_len stretch in
+    let inside : long ≤ end = c.stretch_before-stretch.ensures.inside in
+    let short : length piece ≤ long = c.in_ok-piece.ensures.inside in
+    let text : IsPieceAt o node (end - length piece) piece = piece_within lengths o (Some node) (end - long) stretch (long - length piece) (end - length piece) piece (g.met.S.Source.lengths_of_table c.args.src.now) c.requires.fits c.stretch_before-stretch.ensures.stretch (omega (arith, short)) (omega (arith, short, inside)) (rw c.loop-end.invariant.table at c.in_ok-piece.ensures.text) in
     record {
       high = omega (arith, c.loop-end.invariant.high);
-      none = last_on o c.args.node.now piece c.args.byte c.args.at (end - length piece) end _ c.in-None.is c.memrchr.ensures (omega (arith, c.in_ok-piece.ensures.inside)) text c.loop-end.invariant.none;
+      none = last_on o node piece c.args.byte c.args.at (end - length piece) end _ c.in-None.is c.memrchr.ensures (omega (arith, short, inside)) text c.loop-end.invariant.none;
       reads = c.in_ok-piece.ensures.count ∙ c.loop-end.invariant.reads;
-      lengths = c.piece_before.ensures.lengths ∙ c.loop-end.invariant.lengths;
-      table = c.piece_before.ensures.table ∙ c.loop-end.invariant.table;
+      lengths = c.last_piece.ensures.lengths ∙ c.loop-end.invariant.lengths;
+      table = c.last_piece.ensures.table ∙ c.loop-end.invariant.table;
     }
 
 pub returns-clause-last : goal.returns-clause-last

@@ -4,6 +4,7 @@ use Rattle.std.specs.declared.cmp.Ordering.TheVariants.{Less, Greater}
 use Rattle.cord_core.specs.Cord.{text_len}
 use Rattle.cord_iter.proofs.Backs.{cord_len}
 use Rattle.cord_search.specs.Pieces.{IsPieceOf}
+use Rattle.cord_search.proofs.Ranges.{piece_within, same_stretch}
 use Rattle.cord_search.proofs.Comparing.{same_on, different, no_different, range_len, cord_limit}
 use Rattle.cord_search.proofs.order.compare.Goals as goal
 
@@ -19,6 +20,25 @@ overflow_add-j g c =
     let inside : c.args.j + c.args.right ≤ text_len c.args.y.now = c.requires.right_inside (omega (arith, below)) in
     omega (arith, inside, below, cord_limit c.args.y.now c.requires.right_sound)
 
+pub first_piece-requires-clause-fits : goal.first_piece-requires-clause-fits
+first_piece-requires-clause-fits g c = rw c.loop-done.invariant.lengths (c.cord_stretch_at-stretch.ensures.fits (g.S.Source.lengths c.args.src.now) c.requires.left_fits)
+
+pub first_piece-requires-in-loop-done-clause-fits : goal.first_piece-requires-in-loop-done-clause-fits
+first_piece-requires-in-loop-done-clause-fits g c = rw (c.first_piece.ensures.lengths, c.loop-done.invariant.lengths) (c.cord_stretch_at-other.ensures.fits (g.S.Source.lengths c.args.src.now) c.requires.right_fits)
+
+pub loop-done-preserved-in-Some : goal.loop-done-preserved-in-Some
+loop-done-preserved-in-Some g c =
+    let o = g.S.Source.table c.args.src.now in
+    let lengths = g.S.Source.lengths c.args.src.now in
+    let told = g.met.S.Source.lengths_of_table c.args.src.now in
+    record {
+      in_range = omega (arith, c.min-done.ensures, c.loop-done.invariant.in_range);
+      same = same_stretch lengths o c.args.x.now c.args.i c.args.y.now c.args.j c.loop-done.done c.min-done.result c.in-Some.same c.cord_stretch_at-stretch.result c.cord_stretch_at-other.result told c.requires.left_fits c.requires.right_fits c.cord_stretch_at-stretch.ensures c.cord_stretch_at-other.ensures (omega (arith, c.min-done.ensures)) c.in-Some.ensures.len c.in-Some.ensures.same c.loop-done.invariant.same;
+      reads = c.loop-done.invariant.reads;
+      lengths = c.loop-done.invariant.lengths;
+      table = c.loop-done.invariant.table;
+    }
+
 pub loop-done-preserved : goal.loop-done-preserved
 loop-done-preserved g c =
     let o = g.S.Source.table c.args.src.now in
@@ -26,14 +46,18 @@ loop-done-preserved g c =
     let n = c.min-count.result in
     let piece = c.in_ok-piece.piece.now in
     let other = c.in_ok-other.other.now in
-    let text : IsPieceOf o c.args.x.now (c.args.i + done) piece = rw c.loop-done.invariant.table at c.in_ok-piece.ensures.text in
-    let other_text : IsPieceOf o c.args.y.now (c.args.j + done) other = rw (c.cord_piece_at.ensures.table, c.loop-done.invariant.table) at c.in_ok-other.ensures.text in
+    let lengths = g.S.Source.lengths c.args.src.now in
+    let told = g.met.S.Source.lengths_of_table c.args.src.now in
+    let from = c.args.i + done in
+    let other_from = c.args.j + done in
+    let text : IsPieceOf o c.args.x.now from piece = piece_within lengths o c.args.x.now from c.cord_stretch_at-stretch.result 0 from piece told c.requires.left_fits c.cord_stretch_at-stretch.ensures (omega (arith, c.in_ok-piece.ensures.inside)) (omega arith) (rw c.loop-done.invariant.table at c.in_ok-piece.ensures.text) in
+    let other_text : IsPieceOf o c.args.y.now other_from other = piece_within lengths o c.args.y.now other_from c.cord_stretch_at-other.result 0 other_from other told c.requires.right_fits c.cord_stretch_at-other.ensures (omega (arith, c.in_ok-other.ensures.inside)) (omega arith) (rw (c.first_piece.ensures.table, c.loop-done.invariant.table) at c.in_ok-other.ensures.text) in
     record {
       in_range = omega (arith, c.min-count.ensures, c.loop-done.invariant.in_range);
       same = same_on o c.args.x.now c.args.i c.args.y.now c.args.j done n piece other (omega (arith, c.min-count.ensures, c.min.ensures)) (omega (arith, c.min-count.ensures, c.min.ensures)) text other_text (sym c.in-Equal.is ∙ c.cmp.ensures) c.loop-done.invariant.same;
       reads = c.in_ok-other.ensures.count ∙ (c.in_ok-piece.ensures.count ∙ c.loop-done.invariant.reads);
-      lengths = c.cord_piece_at-in-loop-done.ensures.lengths ∙ (c.cord_piece_at.ensures.lengths ∙ c.loop-done.invariant.lengths);
-      table = c.cord_piece_at-in-loop-done.ensures.table ∙ (c.cord_piece_at.ensures.table ∙ c.loop-done.invariant.table);
+      lengths = c.first_piece-in-loop-done.ensures.lengths ∙ (c.first_piece.ensures.lengths ∙ c.loop-done.invariant.lengths);
+      table = c.first_piece-in-loop-done.ensures.table ∙ (c.first_piece.ensures.table ∙ c.loop-done.invariant.table);
     }
 
 pub returns-in-Less-clause-order : goal.returns-in-Less-clause-order
@@ -43,8 +67,12 @@ returns-in-Less-clause-order g c =
     let n = c.min-count.result in
     let piece = c.in_ok-piece.piece.now in
     let other = c.in_ok-other.other.now in
-    let text : IsPieceOf o c.args.x.now (c.args.i + done) piece = rw c.loop-done.invariant.table at c.in_ok-piece.ensures.text in
-    let other_text : IsPieceOf o c.args.y.now (c.args.j + done) other = rw (c.cord_piece_at.ensures.table, c.loop-done.invariant.table) at c.in_ok-other.ensures.text in
+    let lengths = g.S.Source.lengths c.args.src.now in
+    let told = g.met.S.Source.lengths_of_table c.args.src.now in
+    let from = c.args.i + done in
+    let other_from = c.args.j + done in
+    let text : IsPieceOf o c.args.x.now from piece = piece_within lengths o c.args.x.now from c.cord_stretch_at-stretch.result 0 from piece told c.requires.left_fits c.cord_stretch_at-stretch.ensures (omega (arith, c.in_ok-piece.ensures.inside)) (omega arith) (rw c.loop-done.invariant.table at c.in_ok-piece.ensures.text) in
+    let other_text : IsPieceOf o c.args.y.now other_from other = piece_within lengths o c.args.y.now other_from c.cord_stretch_at-other.result 0 other_from other told c.requires.right_fits c.cord_stretch_at-other.ensures (omega (arith, c.in_ok-other.ensures.inside)) (omega arith) (rw (c.first_piece.ensures.table, c.loop-done.invariant.table) at c.in_ok-other.ensures.text) in
     different o c.args.x.now c.args.i c.args.left c.args.y.now c.args.j c.args.right done n piece other Less (omega (arith, c.min-count.ensures, c.min-both.ensures, c.loop-done-test.true)) (omega (arith, c.min-count.ensures, c.min-both.ensures, c.loop-done-test.true)) (omega (arith, c.min-count.ensures, c.min.ensures)) (omega (arith, c.min-count.ensures, c.min.ensures)) text other_text (sym c.in-Less.is ∙ c.cmp.ensures) (λ e. cc) c.loop-done.invariant.same
 
 pub returns-in-Greater-clause-order : goal.returns-in-Greater-clause-order
@@ -54,8 +82,12 @@ returns-in-Greater-clause-order g c =
     let n = c.min-count.result in
     let piece = c.in_ok-piece.piece.now in
     let other = c.in_ok-other.other.now in
-    let text : IsPieceOf o c.args.x.now (c.args.i + done) piece = rw c.loop-done.invariant.table at c.in_ok-piece.ensures.text in
-    let other_text : IsPieceOf o c.args.y.now (c.args.j + done) other = rw (c.cord_piece_at.ensures.table, c.loop-done.invariant.table) at c.in_ok-other.ensures.text in
+    let lengths = g.S.Source.lengths c.args.src.now in
+    let told = g.met.S.Source.lengths_of_table c.args.src.now in
+    let from = c.args.i + done in
+    let other_from = c.args.j + done in
+    let text : IsPieceOf o c.args.x.now from piece = piece_within lengths o c.args.x.now from c.cord_stretch_at-stretch.result 0 from piece told c.requires.left_fits c.cord_stretch_at-stretch.ensures (omega (arith, c.in_ok-piece.ensures.inside)) (omega arith) (rw c.loop-done.invariant.table at c.in_ok-piece.ensures.text) in
+    let other_text : IsPieceOf o c.args.y.now other_from other = piece_within lengths o c.args.y.now other_from c.cord_stretch_at-other.result 0 other_from other told c.requires.right_fits c.cord_stretch_at-other.ensures (omega (arith, c.in_ok-other.ensures.inside)) (omega arith) (rw (c.first_piece.ensures.table, c.loop-done.invariant.table) at c.in_ok-other.ensures.text) in
     different o c.args.x.now c.args.i c.args.left c.args.y.now c.args.j c.args.right done n piece other Greater (omega (arith, c.min-count.ensures, c.min-both.ensures, c.loop-done-test.true)) (omega (arith, c.min-count.ensures, c.min-both.ensures, c.loop-done-test.true)) (omega (arith, c.min-count.ensures, c.min.ensures)) (omega (arith, c.min-count.ensures, c.min.ensures)) text other_text (sym c.in-Greater.is ∙ c.cmp.ensures) (λ e. cc) c.loop-done.invariant.same
 
 pub returns-clause-order : goal.returns-clause-order

@@ -1,0 +1,127 @@
+// Stretches of a node's text: what lies in one part, from a place on or up to a place.
+ghost use Rattle.std.specs.Prelude.{◌≡◌, ◌-◌, ◌<◌, ◌≤◌, min, is_some, IfSome};
+ghost use Rattle.cord_core.specs.Cord.{text_len};
+ghost use Rattle.cord_node.specs.Tree.{len_of, IsSound};
+ghost use Rattle.cord_search.specs.Stretches.{stretch_len, is_other_run, are_one_run, IsStretchOf, IsStretchAt, IsWithout, BeginAlike};
+
+use cord_core::{Cord, Node};
+use cord_io::SourceId;
+
+/// A text that lies in one part: bytes of a leaf, a run, or a range of an entry of a source.
+#[derive(Clone, Copy)]
+pub(crate) enum Stretch<'a> {
+    Bytes(&'a [u8]),
+    Run { byte: u8, len: u64 },
+    Func { id: SourceId, start: u64, len: u64 },
+}
+
+impl<'a> Stretch<'a> {
+    /// The length of a run of another byte.
+    pub(crate) fn run_without(self, wanted: u8) -> Option<u64>
+        ensures found { is_some result ≡ is_other_run self.entry wanted }
+        ensures len { IfSome result (λ count. count ≡ stretch_len self.entry) }
+        ensures without { IfSome result (λ count. IsWithout self.entry wanted) }
+    {
+        match self {
+            Stretch::Run { byte, len } if byte != wanted => Some(len),
+            _ => None,
+        }
+    }
+
+    /// How many bytes of two runs of one byte are the same: all of the shorter one.
+    pub(crate) fn same_run(self, other: Stretch) -> Option<u64>
+        ensures found { is_some result ≡ are_one_run self.entry other.entry }
+        ensures len { IfSome result (λ count. count ≡ min (stretch_len self.entry) (stretch_len other.entry)) }
+        ensures same { IfSome result (λ count. BeginAlike self.entry other.entry count) }
+    {
+        match (self, other) {
+            (
+                Stretch::Run { byte, len },
+                Stretch::Run {
+                    byte: other_byte,
+                    len: other_len,
+                },
+            ) if byte == other_byte => Some(len.min(other_len)),
+            _ => None,
+        }
+    }
+}
+
+/// What is left of a part of a cord's text from a place on.
+pub(crate) fn cord_stretch_at(cord: &Cord, place: u64) -> Stretch
+    requires { place < text_len cord.now }
+    ensures { IsStretchOf cord.now place result }
+{
+    let Some(root) = cord.root() else {
+        unreachable!()
+    };
+    stretch_at(root.as_ref(), place)
+}
+
+/// What is left of a part of a node's text from a place on.
+pub(crate) fn stretch_at(top: &Node, mut place: u64) -> Stretch
+    requires sound { IsSound top.now }
+    requires inside { place < len_of top.now }
+    ensures { IsStretchAt top.now place result }
+{
+    let mut node = top;
+    while let Node::Cat { left, right, .. } = node {
+        let seam = left.len();
+        if place < seam {
+            node = left.as_ref();
+        } else {
+            place -= seam;
+            node = right.as_ref();
+        }
+    }
+    match node {
+        Node::Leaf { bytes, start, len } => {
+            Stretch::Bytes(&bytes.as_slice()[(*start + place) as usize..(*start + *len) as usize])
+        }
+        Node::Run { byte, len } => Stretch::Run {
+            byte: *byte,
+            len: *len - place,
+        },
+        Node::Func { id, start, len } => Stretch::Func {
+            id: *id,
+            start: *start + place,
+            len: *len - place,
+        },
+        Node::Cat { .. } => unreachable!(),
+    }
+}
+
+/// What a part of a node's text has up to a place.
+pub(crate) fn stretch_before(top: &Node, mut end: u64) -> Stretch
+    requires sound { IsSound top.now }
+    requires some { 0 < end }
+    requires inside { end ≤ len_of top.now }
+    ensures inside { stretch_len result ≤ end }
+    ensures stretch { IsStretchAt top.now (end - stretch_len result) result }
+{
+    let mut node = top;
+    while let Node::Cat { left, right, .. } = node {
+        let seam = left.len();
+        if end <= seam {
+            node = left.as_ref();
+        } else {
+            end -= seam;
+            node = right.as_ref();
+        }
+    }
+    match node {
+        Node::Leaf { bytes, start, .. } => {
+            Stretch::Bytes(&bytes.as_slice()[*start as usize..(*start + end) as usize])
+        }
+        Node::Run { byte, .. } => Stretch::Run {
+            byte: *byte,
+            len: end,
+        },
+        Node::Func { id, start, .. } => Stretch::Func {
+            id: *id,
+            start: *start,
+            len: end,
+        },
+        Node::Cat { .. } => unreachable!(),
+    }
+}
