@@ -25,3 +25,4 @@ pub mod ReadKinds
 pub mod Kept
 pub mod PlannedPairs
 pub mod Numerals
+pub mod Followers
