@@ -9,7 +9,7 @@ use Rattle.cord_meaning.specs.Paths.{opened, open_at}
 use Rattle.cord_plan.specs.declared.successors.Shape.{Shape}
 use Rattle.cord_plan.specs.declared.successors.Behind.{Behind}
 use Rattle.cord_plan.specs.Unread.{behind, behind_shape, behind_close}
-use Rattle.cord_plan.specs.Liveness.{shape_view, innermost, places, places_of, places_at}
+use Rattle.cord_plan.specs.Liveness.{shape_view, innermost, places, places_of, places_at, AreBehind}
 
 -- the shape at a place
 pub shape_there : (xs : List Shape) (p : ℕ) (x d : Shape) → p < length xs → get_or xs p d ≡ x → slice_get (map shape_view xs) p ≡ Some (shape_view x)
@@ -95,7 +95,7 @@ pushed (x ∷ found) b f below here zero lt = below 0 (omega arith)
 pushed (x ∷ found) b f below here (suc k) lt = pushed found b (λ n. f (suc n)) (λ n h. below (suc n) (omega arith)) here k (omega arith)
 
 -- and where that is told of every place of the script
-pub all_places : (found : List Behind) (shapes : List control.Shape) → length found ≡ length shapes → ((k : ℕ) → k < length shapes → places_at found k ≡ behind shapes k) → (p : ℕ) → places_at found p ≡ behind shapes p
+all_places : (found : List Behind) (shapes : List control.Shape) → length found ≡ length shapes → ((k : ℕ) → k < length shapes → places_at found k ≡ behind shapes k) → (p : ℕ) → places_at found p ≡ behind shapes p
 all_places found shapes size below p =
     ⊎_elim
     (λ within. below p within.1)
@@ -105,6 +105,9 @@ all_places found shapes size below p =
     let nowhere : slice_get shapes p ≡ None = past.1 in
     rw (none, nowhere) refl)
     (slice_get_cases shapes p).1
+
+pub all_behind : (found : List Behind) (shapes : List control.Shape) → length found ≡ length shapes → ((k : ℕ) → k < length shapes → places_at found k ≡ behind shapes k) → AreBehind shapes found
+all_behind found shapes size below = record { size = size; told = λ p. all_places found shapes size below p }
 
 -- the open blocks behind one more place
 pub open_more : (xs : List Shape) (p : ℕ) (d : Shape) (old new : List (Option ℕ)) → p < length xs → old ≡ open_at (map shape_view xs) p → new ≡ opened p old (Some (shape_view (get_or xs p d))) → new ≡ open_at (map shape_view xs) (p + 1)

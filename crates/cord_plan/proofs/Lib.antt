@@ -26,3 +26,5 @@ pub mod Kept
 pub mod PlannedPairs
 pub mod Numerals
 pub mod Followers
+pub mod Sweeps
+pub mod Told

@@ -4,6 +4,7 @@
 mod expression_laws;
 mod expressions;
 mod laws;
+mod liveness;
 mod meaning;
 mod operations;
 mod pair_laws;

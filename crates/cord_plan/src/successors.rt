@@ -1,10 +1,10 @@
 // The places that may come next after each place.
-ghost use Rattle.std.specs.Prelude.{◌≡◌, ◌+◌, ◌-◌, ◌^◌, ◌<◌, ◌≤◌, ℕ, [], ◌∷◌, Some, IfOk, OnOk, IfSome, MatchResult, map, drop, reverse, slice_get, length};
-ghost use Rattle.cord_meaning.specs.Blocks.{to_end, to_else, jump};
+ghost use Rattle.std.specs.Prelude.{◌≡◌, ◌+◌, ◌-◌, ◌^◌, ◌<◌, ◌≤◌, [], ◌∷◌, Some, IfOk, OnOk, map, reverse, length};
+ghost use Rattle.cord_meaning.specs.Blocks.{to_end, to_else};
 ghost use Rattle.cord_meaning.specs.Paths.{opened, open_at};
 ghost use Rattle.cord_meaning.specs.Statements.{shape_of};
-ghost use Rattle.cord_plan.specs.Unread.{behind, behind_shape};
-ghost use Rattle.cord_plan.specs.Liveness.{shape_view, turn_of, innermost, places, places_at};
+ghost use Rattle.cord_plan.specs.Unread.{behind};
+ghost use Rattle.cord_plan.specs.Liveness.{shape_view, turn_of, innermost, places, AreBehind};
 
 use cord_script::Statement;
 use std::alloc::{AllocError, Global};
@@ -160,7 +160,7 @@ fn places_behind(shapes: &[Shape], p: usize, block: Option<usize>) -> Behind
 
 // The places that may come next after each place.
 fn behinds(alloc: Global, shapes: &[Shape]) -> Result<Vec<Behind>, AllocError>
-    ensures { IfOk result (λ v. (p : ℕ) → places_at v.items p ≡ behind (map shape_view shapes.now) p) }
+    ensures { IfOk result (λ v. AreBehind (map shape_view shapes.now) v.items) }
 {
     let mut blocks = Vec::new(alloc);
     let mut found = Vec::new(alloc);
@@ -182,9 +182,9 @@ fn shapes_of(alloc: Global, statements: &[Statement]) -> Result<Vec<Shape>, Allo
     Ok(shapes)
 }
 
-/// The places that may come next after each place of a script.
+/// The places that may come next after each place of a script: each block is walked over once for each line that leads to its end.
 pub(crate) fn successors(alloc: Global, statements: &[Statement]) -> Result<Vec<Behind>, AllocError>
-    ensures { IfOk result (λ v. (p : ℕ) → places_at v.items p ≡ behind (map shape_of statements.now) p) }
+    ensures { IfOk result (λ v. AreBehind (map shape_of statements.now) v.items) }
 {
     let shapes = shapes_of(alloc, statements)?;
     behinds(alloc, &shapes)

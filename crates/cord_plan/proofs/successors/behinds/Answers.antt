@@ -3,7 +3,7 @@ use Rattle.std.proofs.lemmas.List.{length-map}
 use Rattle.cord_plan.specs.declared.successors.Shape.TheVariants.{Simple}
 use Rattle.cord_plan.specs.Liveness.{shape_view}
 use Rattle.cord_plan.specs.Unread.{behind}
-use Rattle.cord_plan.proofs.Followers.{open_more, told_more, all_places}
+use Rattle.cord_plan.proofs.Followers.{open_more, told_more, all_behind}
 use Rattle.cord_plan.proofs.successors.behinds.Goals as goal
 
 pub loop-p-preserved : goal.loop-p-preserved
@@ -16,6 +16,6 @@ loop-p-preserved c = record {
 pub returns : goal.returns
 returns c =
     let end : c.loop-p.p ≡ length c.args.shapes.now = omega arith in
-    all_places c.loop-p.found.items (map shape_view c.args.shapes.now)
+    all_behind c.loop-p.found.items (map shape_view c.args.shapes.now)
     (c.loop-p.invariant.size ∙ end ∙ sym (length-map c.args.shapes.now shape_view))
     (λ k lt. c.loop-p.invariant.told k (let lt2 : k < length c.args.shapes.now = simp length-map at lt in omega arith))

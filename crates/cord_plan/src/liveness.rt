@@ -1,0 +1,233 @@
+// Which names are read later than which lines.
+ghost use Rattle.std.specs.Prelude.{◌≡◌, ◌<◌, ℕ, [], ◌∷◌, true, false, length, map, IfOk, OnOk};
+ghost use Rattle.cord_meaning.specs.Statements.{shape_of};
+ghost use Rattle.cord_plan.specs.Operands.{has, cord_arguments, read_by, reads, assigns};
+ghost use Rattle.cord_plan.specs.Unread.{IsLater, some_of};
+ghost use Rattle.cord_plan.specs.Liveness.{places, AreBehind, at, unset, IsPartly, finds, IsLive, live_of, knows, tells, IsBegun, Adds};
+
+use crate::successors::{Behind, successors};
+use cord_script::{Argument, Name, Statement};
+use std::alloc::{AllocError, Global};
+
+/// A name, and for each place whether a path from there reads the name before a line assigns it.
+#[derive(Drop)]
+struct Row {
+    name: Name,
+    live: Vec<bool>,
+}
+
+/// For each name and each line of a script whether some path behind the line reads the bytes of the name before a line assigns it.
+#[derive(Drop)]
+pub(crate) struct Later {
+    behinds: Vec<Behind>,
+    rows: Vec<Row>,
+}
+
+fn is(operand: &Name, name: &[u8]) -> bool
+    ensures { result ≡ has (operand.now ∷ []) name.now }
+{
+    name == operand.as_slice()
+}
+
+fn is_either(left: &Name, right: &Name, name: &[u8]) -> bool
+    ensures { result ≡ has (left.now ∷ right.now ∷ []) name.now }
+{
+    is(left, name) || is(right, name)
+}
+
+fn is_among(names: &[Name], name: &[u8]) -> bool
+    ensures { result ≡ has names.now name.now }
+{
+    for operand in names {
+        if name == operand.as_slice() {
+            return true;
+        }
+    }
+    false
+}
+
+fn is_argument(arguments: &[Argument], name: &[u8]) -> bool
+    ensures { result ≡ has (cord_arguments arguments.now) name.now }
+{
+    for argument in arguments {
+        match argument {
+            Argument::Number(_) => {}
+            Argument::Cord(operand) => {
+                if name == operand.as_slice() {
+                    return true;
+                }
+            }
+        }
+    }
+    false
+}
+
+// Whether a line reads the bytes of a name.
+fn reads(statement: &Statement, name: &[u8]) -> bool
+    ensures { result ≡ reads statement.now name.now }
+{
+    match statement {
+        Statement::Cat { left, right, .. } => is_either(left, right, name),
+        Statement::Catn { parts, .. } => is_among(parts.as_slice(), name),
+        Statement::Catc { operand, .. } => is(operand, name),
+        Statement::Substr { operand, .. } => is(operand, name),
+        Statement::Balance { operand, .. } => is(operand, name),
+        Statement::Sprintf { arguments, .. } => is_argument(arguments.as_slice(), name),
+        Statement::Fetch { operand, .. } => is(operand, name),
+        Statement::Cmp { left, right, .. } => is_either(left, right, name),
+        Statement::Ncmp { left, right, .. } => is_either(left, right, name),
+        Statement::Str {
+            operand, pattern, ..
+        } => is_either(operand, pattern, name),
+        Statement::Chr { operand, .. } => is(operand, name),
+        Statement::Rchr { operand, .. } => is(operand, name),
+        Statement::EcCat { operand, .. } => is(operand, name),
+        Statement::Put { operand, .. } => is(operand, name),
+        _ => false,
+    }
+}
+
+// Whether a line assigns a name.
+fn assigns(statement: &Statement, name: &[u8]) -> bool
+    ensures { result ≡ assigns statement.now name.now }
+{
+    match statement {
+        Statement::Let { target, .. } => name == target.as_slice(),
+        Statement::File { target, .. } => name == target.as_slice(),
+        Statement::Eager { target, .. } => name == target.as_slice(),
+        Statement::Lazy { target, .. } => name == target.as_slice(),
+        Statement::Chars { target, .. } => name == target.as_slice(),
+        Statement::Nul { target, .. } => name == target.as_slice(),
+        Statement::FromFn { target, .. } => name == target.as_slice(),
+        Statement::Cat { target, .. } => name == target.as_slice(),
+        Statement::Catn { target, .. } => name == target.as_slice(),
+        Statement::Catc { target, .. } => name == target.as_slice(),
+        Statement::Substr { target, .. } => name == target.as_slice(),
+        Statement::Balance { target, .. } => name == target.as_slice(),
+        Statement::EcToCord { target, .. } => name == target.as_slice(),
+        Statement::Sprintf { target, .. } => name == target.as_slice(),
+        Statement::Len { target, .. } => name == target.as_slice(),
+        Statement::Fetch { target, .. } => name == target.as_slice(),
+        Statement::Cmp { target, .. } => name == target.as_slice(),
+        Statement::Ncmp { target, .. } => name == target.as_slice(),
+        Statement::Str { target, .. } => name == target.as_slice(),
+        Statement::Chr { target, .. } => name == target.as_slice(),
+        Statement::Rchr { target, .. } => name == target.as_slice(),
+        Statement::Assign { target, .. } => name == target.as_slice(),
+        Statement::Add { target, .. } => name == target.as_slice(),
+        Statement::Sub { target, .. } => name == target.as_slice(),
+        Statement::EcInit { target, .. } => name == target.as_slice(),
+        _ => false,
+    }
+}
+
+fn is_at(table: &[bool], place: usize) -> bool
+    ensures { result ≡ at table.now place }
+{
+    match table.get(place) {
+        Some(live) => *live,
+        None => false,
+    }
+}
+
+// Whether a table has one of the places that may come next.
+fn is_live_behind(table: &[bool], behind: Behind) -> bool
+    ensures { result ≡ some_of (λ q. at table.now q) (places behind) }
+{
+    if is_at(table, behind.first) {
+        return true;
+    }
+    match behind.second {
+        Some(second) => is_at(table, second),
+        None => false,
+    }
+}
+
+// For each place whether its line reads the name.
+fn readers(alloc: Global, statements: &[Statement], name: &[u8]) -> Result<Vec<bool>, AllocError>
+    ensures { IfOk result (λ v. IsPartly statements.now name.now v.items) }
+{
+    let mut table = Vec::new(alloc);
+    for statement in statements {
+        table.push(reads(statement, name))?;
+    }
+    Ok(table)
+}
+
+// Whether the flow back over the line at a place finds one that the table doesn't have.
+fn finds(
+    statements: &[Statement],
+    behinds: &[Behind],
+    name: &[u8],
+    table: &[bool],
+    place: usize,
+) -> bool
+    requires behinds { AreBehind (map shape_of statements.now) behinds.now }
+    requires size { length table.now ≡ length statements.now }
+    requires within { place < length statements.now }
+    ensures { result ≡ finds statements.now name.now table.now place }
+{
+    !table[place]
+        && is_live_behind(table, behinds[place])
+        && !assigns(&statements[place], name)
+}
+
+// One pass of the backwards flow over the lines, and whether it has found another place.
+fn sweep(
+    statements: &[Statement],
+    behinds: &[Behind],
+    name: &[u8],
+    table: &mut [bool],
+) -> bool
+    requires behinds { AreBehind (map shape_of statements.now) behinds.now }
+    requires partly { IsPartly statements.now name.now table.old }
+    ensures partly { IsPartly statements.now name.now table.new }
+    ensures resting { result ≡ false → (p : ℕ) → finds statements.now name.now table.new p ≡ false }
+    ensures fewer { result ≡ true → unset table.new < unset table.old }
+{
+    let mut changed = false;
+    for p in (0..table.len()).rev() {
+        if finds(statements, behinds, name, table, p) {
+            table[p] = true;
+            changed = true;
+        }
+    }
+    changed
+}
+
+// For each place whether a path from there reads the name before a line assigns it.
+fn live_places(
+    alloc: Global,
+    statements: &[Statement],
+    behinds: &[Behind],
+    name: &[u8],
+) -> Result<Vec<bool>, AllocError>
+    requires { AreBehind (map shape_of statements.now) behinds.now }
+    ensures { IfOk result (λ v. IsLive statements.now name.now v.items) }
+{
+    let mut table = readers(alloc, statements, name)?;
+    'sweeps: while sweep(statements, behinds, name, &mut table) {}
+    Ok(table)
+}
+
+fn live_of<'a>(rows: &'a [Row], name: &[u8]) -> &'a [bool]
+    ensures { result.now ≡ live_of rows.now name.now }
+{
+    for row in rows {
+        if name == row.name.as_slice() {
+            return &row.live;
+        }
+    }
+    &[]
+}
+
+fn knows(rows: &[Row], name: &[u8]) -> bool
+    ensures { result ≡ knows rows.now name.now }
+{
+    for row in rows {
+        if name == row.name.as_slice() {
+            return true;
+        }
+    }
+    false
+}
