@@ -231,3 +231,102 @@ fn knows(rows: &[Row], name: &[u8]) -> bool
     }
     false
 }
+
+impl Later {
+    /// What is read later in a script of these statements.
+    pub(crate) fn of(alloc: Global, statements: &[Statement]) -> Result<Self, AllocError>
+        ensures { IfOk result (λ t. IsLater statements.now (tells t)) }
+    {
+        let behinds = successors(alloc, statements)?;
+        let mut later = Later {
+            behinds,
+            rows: Vec::new(alloc),
+        };
+        for statement in statements {
+            later.add_read(alloc, statements, statement)?;
+        }
+        Ok(later)
+    }
+
+    /// Whether a name is read later than the line at a place.
+    pub(crate) fn is_later(&self, name: &[u8], place: usize) -> bool
+        ensures { result ≡ tells self.now name.now place }
+    {
+        match self.behinds.get(place) {
+            Some(behind) => is_live_behind(live_of(&self.rows, name), *behind),
+            None => false,
+        }
+    }
+
+    fn add(&mut self, alloc: Global, statements: &[Statement], name: &Name) -> Result<(), AllocError>
+        requires { IsBegun statements.now self.old }
+        ensures { OnOk result (Adds statements.now (name.now ∷ []) self.old self.new) }
+    {
+        if knows(&self.rows, name.as_slice()) {
+            return Ok(());
+        }
+        let live = live_places(alloc, statements, &self.behinds, name.as_slice())?;
+        let name = Name::of(name.as_slice().to_vec(alloc)?);
+        self.rows.push(Row { name, live })?;
+        Ok(())
+    }
+
+    fn add_two(&mut self, alloc: Global, statements: &[Statement], left: &Name, right: &Name) -> Result<(), AllocError>
+        requires { IsBegun statements.now self.old }
+        ensures { OnOk result (Adds statements.now (left.now ∷ right.now ∷ []) self.old self.new) }
+    {
+        self.add(alloc, statements, left)?;
+        self.add(alloc, statements, right)
+    }
+
+    fn add_all(&mut self, alloc: Global, statements: &[Statement], names: &[Name]) -> Result<(), AllocError>
+        requires { IsBegun statements.now self.old }
+        ensures { OnOk result (Adds statements.now names.now self.old self.new) }
+    {
+        for name in names {
+            self.add(alloc, statements, name)?;
+        }
+        Ok(())
+    }
+
+    fn add_arguments(&mut self, alloc: Global, statements: &[Statement], arguments: &[Argument]) -> Result<(), AllocError>
+        requires { IsBegun statements.now self.old }
+        ensures { OnOk result (Adds statements.now (cord_arguments arguments.now) self.old self.new) }
+    {
+        for argument in arguments {
+            match argument {
+                Argument::Number(_) => {}
+                Argument::Cord(name) => self.add(alloc, statements, name)?,
+            }
+        }
+        Ok(())
+    }
+
+    // Takes in the names whose bytes a line reads.
+    fn add_read(&mut self, alloc: Global, statements: &[Statement], statement: &Statement) -> Result<(), AllocError>
+        requires { IsBegun statements.now self.old }
+        ensures { OnOk result (Adds statements.now (read_by statement.now) self.old self.new) }
+    {
+        match statement {
+            Statement::Cat { left, right, .. } => self.add_two(alloc, statements, left, right),
+            Statement::Catn { parts, .. } => self.add_all(alloc, statements, parts.as_slice()),
+            Statement::Catc { operand, .. } => self.add(alloc, statements, operand),
+            Statement::Substr { operand, .. } => self.add(alloc, statements, operand),
+            Statement::Balance { operand, .. } => self.add(alloc, statements, operand),
+            Statement::Sprintf { arguments, .. } => {
+                self.add_arguments(alloc, statements, arguments.as_slice())
+            }
+            Statement::Fetch { operand, .. } => self.add(alloc, statements, operand),
+            Statement::Cmp { left, right, .. } => self.add_two(alloc, statements, left, right),
+            Statement::Ncmp { left, right, .. } => self.add_two(alloc, statements, left, right),
+            Statement::Str {
+                operand, pattern, ..
+            } => self.add_two(alloc, statements, operand, pattern),
+            Statement::Chr { operand, .. } => self.add(alloc, statements, operand),
+            Statement::Rchr { operand, .. } => self.add(alloc, statements, operand),
+            Statement::EcCat { operand, .. } => self.add(alloc, statements, operand),
+            Statement::Put { operand, .. } => self.add(alloc, statements, operand),
+            _ => Ok(()),
+        }
+    }
+}
