@@ -1,5 +1,6 @@
 -- Tables of places from which a name is read, as the backwards flow fills them.
-use Rattle.std.proofs.Common.{◌≡◌, ◌⊎◌, ℕ, zero, suc, ◌+◌, ◌-◌, ◌<◌, ◌≤◌, Bool, true, false, ◌||◌, ◌&&◌, List, [], ◌∷◌, ◌++◌, map, drop, take, length, set, get_or, Option, Some, None, refl, sym, ap, ◌∙◌, subst, inl, inr, ⊎_elim, arith, length-set, add-one, cond}
+use Rattle.std.proofs.Common.{◌≡◌, ◌⊎◌, ℕ, zero, suc, ◌+◌, ◌-◌, ◌<◌, ◌≤◌, Bool, true, false, ◌&&◌, List, [], ◌∷◌, map, drop, length, set, get_or, None, refl, sym, ap, ◌∙◌, subst, inl, inr, ⊎_elim, arith, length-set, add-one, cond}
+use Rattle.std.proofs.Math.Bool.{and-false}
 use Rattle.std.proofs.Math.Nat.{eq-or-lt_of_le}
 use Rattle.std.proofs.lemmas.List.{length-map}
 use Rattle.std.specs.Prelude.{slice_get, not}
@@ -35,10 +36,6 @@ module _ (arguments : List Argument) (i : ℕ) (a : Argument) (x : List ℕ) (lt
 
   pub number_on : (n : numbers.Number) → a ≡ Number n → has (cord_arguments (drop i arguments)) x ≡ has (cord_arguments (drop (i + 1) arguments)) x
   number_on n c = rw (add-one, drop-cons arguments i a, ← is, c) refl
-
-and_off : (b : Bool) → (b && false) ≡ false
-and_off true = refl
-and_off false = refl
 
 -- the parts of a find
 found_parts : (a b c : Bool) → (not a && (b && not c)) ≡ true → (a ≡ false) × (b ≡ true) × (c ≡ false)
@@ -120,7 +117,7 @@ module _ (s : List Statement) (x : List ℕ) where
     pub rests_past : length s ≤ p → finds s x table p ≡ false
     rests_past le =
         let none : slice_get (map shape_of s) p ≡ None = slice_get_past (map shape_of s) p (simp length-map (omega arith)) in
-        rw none (and_off (not (at table p)))
+        rw none (and-false (not (at table p)))
 
   -- a table at rest has each place from which a path reads
   pub path_in_table : (table : List Bool) → IsLive s x table → (p : ℕ) (path : List ℕ) → ReadBy s x p path → at table p ≡ true

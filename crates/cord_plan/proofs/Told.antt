@@ -1,37 +1,29 @@
 -- Tables of what is read later, name by name.
-use Rattle.std.proofs.Common.{◌≡◌, ◌⊎◌, ℕ, zero, suc, ◌+◌, ◌<◌, ◌≤◌, Bool, true, false, ◌||◌, List, [], ◌∷◌, ◌++◌, map, drop, take, length, get_or, Option, Some, None, refl, sym, ap, ◌∙◌, subst, inl, inr, ⊎_elim, arith, add-one, if◌then◌else◌}
+use Rattle.std.proofs.Common.{◌≡◌, ◌⊎◌, ℕ, ◌+◌, ◌<◌, Bool, true, false, ◌||◌, List, [], ◌∷◌, ◌++◌, map, drop, take, length, get_or, Option, Some, None, refl, sym, ap, ◌∙◌, subst, ⊎_elim, arith, add-one, if◌then◌else◌}
 use Rattle.std.specs.Prelude.{slice_get}
 use Rattle.std.specs.Str.{bytes_eq}
 use Rattle.std.proofs.Math.Seq.{drop-cons}
 use Rattle.std.proofs.Math.Bool.{or-false}
 use Rattle.std.proofs.Math.Nat.{eq-or-lt_of_le}
 use Rattle.std.proofs.lemmas.Bool.{or_left, or_right}
-use Rattle.std.proofs.lemmas.List.{take_more, take_all}
+use Rattle.std.proofs.lemmas.List.{take_more}
 use Rattle.std.proofs.lemmas.Option.{slice_get-get_or, slice_get_within}
 use Rattle.cord_script.specs.declared.statements.Statement.{Statement}
-use Rattle.cord_script.specs.declared.operands.Number as numbers
 use Rattle.cord_script.specs.declared.operands.Argument.{Argument}
 use Rattle.cord_script.specs.declared.operands.Argument.TheVariants.{Number, Cord}
 use Rattle.cord_meaning.specs.Paths.{Next}
 use Rattle.cord_meaning.specs.Statements.{shape_of}
 use Rattle.cord_plan.specs.declared.liveness.Row.{Row}
 use Rattle.cord_plan.specs.declared.liveness.Later.{Later}
-use Rattle.cord_plan.specs.declared.successors.Behind.{Behind}
 use Rattle.cord_plan.specs.Operands.{has, cord_arguments, read_by, reads_at}
 use Rattle.cord_plan.specs.Unread.{ReadBy, ReadLater, IsLater, behind, some_of}
-use Rattle.cord_plan.specs.Liveness.{AreBehind, IsLive, IsBegun, Adds, at, live_of, knows, tells, places_at}
+use Rattle.cord_plan.specs.Liveness.{IsLive, IsBegun, Adds, at, live_of, knows, tells, places_at}
 use Rattle.cord_plan.proofs.Flows.{Found, shape_found, shape_held}
 use Rattle.cord_plan.proofs.Named.{same_bytes, has_append}
-use Rattle.cord_plan.proofs.Keeping.{same_self}
 use Rattle.cord_plan.proofs.Sweeps.{path_in_table}
 
 module _ (rows : List Row) (i : ℕ) (row : Row) (x : List ℕ) (lt : i < length rows) (is : row ≡ get_or rows i row) where
-  pub live_here : bytes_eq x row.name ≡ true → live_of (drop i rows) x ≡ row.live.items
-  live_here e = rw (drop-cons rows i row, ← is, e) refl
-
-  pub live_on : bytes_eq x row.name ≡ false → live_of (drop i rows) x ≡ live_of (drop (i + 1) rows) x
-  live_on e = rw (add-one, drop-cons rows i row, ← is, e) refl
-
+  -- whether a name is known, by the first row
   pub known_here : bytes_eq x row.name ≡ true → knows (drop i rows) x ≡ true
   known_here e = rw (drop-cons rows i row, ← is, e) refl
 
@@ -91,13 +83,6 @@ module _ (s : List Statement) where
 
   same_name : (y x : List ℕ) → has (y ∷ []) x ≡ true → bytes_eq x y ≡ true
   same_name y x h = sym (or-false (bytes_eq x y)) ∙ h
-
-  pub known_added : (t : Later) (y : List ℕ) → IsBegun s t → knows t.rows.items y ≡ true → Adds s (y ∷ []) t t
-  known_added t y begun known = record {
-    begun = begun;
-    kept = λ x k. k;
-    added = λ x h. let same : x ≡ y = same_bytes x y (same_name y x h) in rw same known;
-  }
 
   module _ (old new : Later) (row : Row) (begun : IsBegun s old) (behinds : new.behinds.items ≡ old.behinds.items) (rows : new.rows.items ≡ old.rows.items ++ row ∷ []) (live : IsLive s row.name row.live.items) where
     live_there : (x : List ℕ) (v : Bool) → knows old.rows.items x ≡ v → knows (old.rows.items ++ row ∷ []) x ≡ true → IsLive s x (live_of (old.rows.items ++ row ∷ []) x)

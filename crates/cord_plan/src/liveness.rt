@@ -77,7 +77,9 @@ fn reads(statement: &Statement, name: &[u8]) -> bool
         Statement::Cmp { left, right, .. } => is_either(left, right, name),
         Statement::Ncmp { left, right, .. } => is_either(left, right, name),
         Statement::Str {
-            operand, pattern, ..
+            operand,
+            pattern,
+            ..
         } => is_either(operand, pattern, name),
         Statement::Chr { operand, .. } => is(operand, name),
         Statement::Rchr { operand, .. } => is(operand, name),
@@ -167,18 +169,11 @@ fn finds(
     requires within { place < length statements.now }
     ensures { result ≡ finds statements.now name.now table.now place }
 {
-    !table[place]
-        && is_live_behind(table, behinds[place])
-        && !assigns(&statements[place], name)
+    !table[place] && is_live_behind(table, behinds[place]) && !assigns(&statements[place], name)
 }
 
 // One pass of the backwards flow over the lines, and whether it has found another place.
-fn sweep(
-    statements: &[Statement],
-    behinds: &[Behind],
-    name: &[u8],
-    table: &mut [bool],
-) -> bool
+fn sweep(statements: &[Statement], behinds: &[Behind], name: &[u8], table: &mut [bool]) -> bool
     requires behinds { AreBehind (map shape_of statements.now) behinds.now }
     requires partly { IsPartly statements.now name.now table.old }
     ensures partly { IsPartly statements.now name.now table.new }
@@ -258,7 +253,12 @@ impl Later {
         }
     }
 
-    fn add(&mut self, alloc: Global, statements: &[Statement], name: &Name) -> Result<(), AllocError>
+    fn add(
+        &mut self,
+        alloc: Global,
+        statements: &[Statement],
+        name: &Name,
+    ) -> Result<(), AllocError>
         requires { IsBegun statements.now self.old }
         ensures { OnOk result (Adds statements.now (name.now ∷ []) self.old self.new) }
     {
@@ -271,7 +271,13 @@ impl Later {
         Ok(())
     }
 
-    fn add_two(&mut self, alloc: Global, statements: &[Statement], left: &Name, right: &Name) -> Result<(), AllocError>
+    fn add_two(
+        &mut self,
+        alloc: Global,
+        statements: &[Statement],
+        left: &Name,
+        right: &Name,
+    ) -> Result<(), AllocError>
         requires { IsBegun statements.now self.old }
         ensures { OnOk result (Adds statements.now (left.now ∷ right.now ∷ []) self.old self.new) }
     {
@@ -279,7 +285,12 @@ impl Later {
         self.add(alloc, statements, right)
     }
 
-    fn add_all(&mut self, alloc: Global, statements: &[Statement], names: &[Name]) -> Result<(), AllocError>
+    fn add_all(
+        &mut self,
+        alloc: Global,
+        statements: &[Statement],
+        names: &[Name],
+    ) -> Result<(), AllocError>
         requires { IsBegun statements.now self.old }
         ensures { OnOk result (Adds statements.now names.now self.old self.new) }
     {
@@ -289,7 +300,12 @@ impl Later {
         Ok(())
     }
 
-    fn add_arguments(&mut self, alloc: Global, statements: &[Statement], arguments: &[Argument]) -> Result<(), AllocError>
+    fn add_arguments(
+        &mut self,
+        alloc: Global,
+        statements: &[Statement],
+        arguments: &[Argument],
+    ) -> Result<(), AllocError>
         requires { IsBegun statements.now self.old }
         ensures { OnOk result (Adds statements.now (cord_arguments arguments.now) self.old self.new) }
     {
@@ -303,7 +319,12 @@ impl Later {
     }
 
     // Takes in the names whose bytes a line reads.
-    fn add_read(&mut self, alloc: Global, statements: &[Statement], statement: &Statement) -> Result<(), AllocError>
+    fn add_read(
+        &mut self,
+        alloc: Global,
+        statements: &[Statement],
+        statement: &Statement,
+    ) -> Result<(), AllocError>
         requires { IsBegun statements.now self.old }
         ensures { OnOk result (Adds statements.now (read_by statement.now) self.old self.new) }
     {
@@ -320,7 +341,9 @@ impl Later {
             Statement::Cmp { left, right, .. } => self.add_two(alloc, statements, left, right),
             Statement::Ncmp { left, right, .. } => self.add_two(alloc, statements, left, right),
             Statement::Str {
-                operand, pattern, ..
+                operand,
+                pattern,
+                ..
             } => self.add_two(alloc, statements, operand, pattern),
             Statement::Chr { operand, .. } => self.add(alloc, statements, operand),
             Statement::Rchr { operand, .. } => self.add(alloc, statements, operand),
@@ -328,5 +351,194 @@ impl Later {
             Statement::Put { operand, .. } => self.add(alloc, statements, operand),
             _ => Ok(()),
         }
+    }
+}
+
+// The scripts of worked plans: which of their names are read later than which lines, told by hand.
+#[cfg(test)]
+mod tests {
+    use super::*;
+    use cord_script::{Number, Relation, Text};
+
+    fn named(alloc: Global, name: &str) -> Result<Name, AllocError> {
+        Ok(Name::of(name.as_bytes().to_vec(alloc)?))
+    }
+
+    fn let_line(alloc: Global, target: &str) -> Result<Statement, AllocError> {
+        Ok(Statement::Let {
+            line: 1,
+            target: named(alloc, target)?,
+            text: Text::of(Vec::new(alloc)),
+        })
+    }
+
+    fn put_line(alloc: Global, operand: &str) -> Result<Statement, AllocError> {
+        Ok(Statement::Put {
+            line: 1,
+            operand: named(alloc, operand)?,
+        })
+    }
+
+    fn cat_line(
+        alloc: Global,
+        target: &str,
+        left: &str,
+        right: &str,
+    ) -> Result<Statement, AllocError> {
+        Ok(Statement::Cat {
+            line: 1,
+            target: named(alloc, target)?,
+            left: named(alloc, left)?,
+            right: named(alloc, right)?,
+        })
+    }
+
+    fn catc_line(alloc: Global, target: &str, operand: &str) -> Result<Statement, AllocError> {
+        Ok(Statement::Catc {
+            line: 1,
+            target: named(alloc, target)?,
+            operand: named(alloc, operand)?,
+            byte: Number::Numeral(65),
+        })
+    }
+
+    fn substr_line(alloc: Global, target: &str, operand: &str) -> Result<Statement, AllocError> {
+        Ok(Statement::Substr {
+            line: 1,
+            target: named(alloc, target)?,
+            operand: named(alloc, operand)?,
+            start: Number::Numeral(0),
+            count: Number::Numeral(2),
+        })
+    }
+
+    fn len_line(alloc: Global, target: &str, operand: &str) -> Result<Statement, AllocError> {
+        Ok(Statement::Len {
+            line: 1,
+            target: named(alloc, target)?,
+            operand: named(alloc, operand)?,
+        })
+    }
+
+    fn if_line(alloc: Global, left: &str) -> Result<Statement, AllocError> {
+        Ok(Statement::If {
+            line: 1,
+            left: Number::Named(named(alloc, left)?),
+            relation: Relation::Equal,
+            right: Number::Numeral(1),
+        })
+    }
+
+    fn repeat_line() -> Statement {
+        Statement::Repeat {
+            line: 1,
+            count: Number::Numeral(3),
+        }
+    }
+
+    // The letters of the names that are read later than the line at each place, in order.
+    fn told(alloc: Global, statements: &[Statement], names: &str) -> Result<String, AllocError> {
+        let later = Later::of(alloc, statements)?;
+        let mut told = String::new(alloc);
+        for place in 0..statements.len() {
+            for name in names.chars() {
+                let text = format!(in alloc; "{name}")?;
+                if later.is_later(text.as_bytes(), place) {
+                    told.push(name)?;
+                }
+            }
+            told.push(';')?;
+        }
+        Ok(told)
+    }
+
+    fn seam(alloc: Global) -> Result<String, AllocError> {
+        let lines = vec![in alloc;
+            let_line(alloc, "a")?,
+            let_line(alloc, "b")?,
+            cat_line(alloc, "t", "a", "b")?,
+            substr_line(alloc, "z", "t")?,
+            put_line(alloc, "z")?,
+        ]?;
+        told(alloc, &lines, "abtz")
+    }
+
+    fn next_turn(alloc: Global) -> Result<String, AllocError> {
+        let lines = vec![in alloc;
+            let_line(alloc, "x")?,
+            repeat_line(),
+            put_line(alloc, "x")?,
+            catc_line(alloc, "x", "x")?,
+            Statement::End { line: 1 },
+        ]?;
+        told(alloc, &lines, "xy")
+    }
+
+    fn both_assign(alloc: Global) -> Result<String, AllocError> {
+        let lines = vec![in alloc;
+            let_line(alloc, "x")?,
+            len_line(alloc, "n", "x")?,
+            if_line(alloc, "n")?,
+            let_line(alloc, "x")?,
+            Statement::Else { line: 1 },
+            let_line(alloc, "x")?,
+            Statement::End { line: 1 },
+            put_line(alloc, "x")?,
+        ]?;
+        told(alloc, &lines, "nx")
+    }
+
+    fn one_keeps(alloc: Global) -> Result<String, AllocError> {
+        let lines = vec![in alloc;
+            let_line(alloc, "x")?,
+            len_line(alloc, "n", "x")?,
+            if_line(alloc, "n")?,
+            let_line(alloc, "x")?,
+            Statement::End { line: 1 },
+            put_line(alloc, "x")?,
+        ]?;
+        told(alloc, &lines, "nx")
+    }
+
+    fn assigned_between(alloc: Global) -> Result<String, AllocError> {
+        let lines = vec![in alloc;
+            let_line(alloc, "a")?,
+            let_line(alloc, "b")?,
+            cat_line(alloc, "t", "a", "b")?,
+            let_line(alloc, "a")?,
+            substr_line(alloc, "z", "t")?,
+            put_line(alloc, "z")?,
+        ]?;
+        told(alloc, &lines, "abtz")
+    }
+
+    #[test]
+    fn substr_over_seam(rt: HostRuntime) {
+        let told = seam(rt.alloc()).expect(&rt, "memory");
+        assert_eq!(rt; told.as_str(), "a;ab;t;z;;");
+    }
+
+    #[test]
+    fn loop_reads_next_turn(rt: HostRuntime) {
+        let told = next_turn(rt.alloc()).expect(&rt, "memory");
+        assert_eq!(rt; told.as_str(), "x;x;x;x;x;");
+    }
+
+    #[test]
+    fn if_else_both_assign(rt: HostRuntime) {
+        let told = both_assign(rt.alloc()).expect(&rt, "memory");
+        assert_eq!(rt; told.as_str(), ";;;x;x;x;x;;");
+    }
+
+    #[test]
+    fn if_without_else_keeps(rt: HostRuntime) {
+        let told = one_keeps(rt.alloc()).expect(&rt, "memory");
+        assert_eq!(rt; told.as_str(), "x;x;x;x;x;;");
+    }
+
+    #[test]
+    fn operand_assigned_between(rt: HostRuntime) {
+        let told = assigned_between(rt.alloc()).expect(&rt, "memory");
+        assert_eq!(rt; told.as_str(), "a;ab;t;t;z;;");
     }
 }

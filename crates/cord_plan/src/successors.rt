@@ -35,13 +35,19 @@ impl Behind {
     fn one(place: usize) -> Self
         ensures { places result ≡ place ∷ [] }
     {
-        Behind { first: place, second: None }
+        Behind {
+            first: place,
+            second: None,
+        }
     }
 
     fn two(first: usize, second: usize) -> Self
         ensures { places result ≡ first ∷ second ∷ [] }
     {
-        Behind { first, second: Some(second) }
+        Behind {
+            first,
+            second: Some(second),
+        }
     }
 }
 

@@ -11,7 +11,7 @@ returns-then-eq c =
 
 pub loop-argument-preserved : goal.loop-argument-preserved
 loop-argument-preserved c = elim c.match-argument.branch [
-  in-Number w ↦ let h = w.in-Number.is in
+  | in-Number w ↦ let h = w.in-Number.is in
       c.loop-argument.invariant ∙ number_on c.args.arguments.now c.loop-argument.argument-index c.argument-item.result c.args.name.now c.loop-argument-test.true c.argument-item.is _ h
   | in-Cord+else-eq w ↦
       let other : bytes_eq c.args.name.now w.in-Cord.operand ≡ false = cc in

@@ -1,4 +1,4 @@
-use Rattle.std.proofs.Common.{◌≡◌, ◌≤◌, ◌∙◌, List, map, take, length, ap, arith}
+use Rattle.std.proofs.Common.{◌≤◌, ◌∙◌, List, map, length, ap, arith}
 use Rattle.std.proofs.lemmas.List.{take_all}
 use Rattle.cord_script.specs.declared.statements.Statement.{Statement}
 use Rattle.cord_plan.specs.Operands.{reads}

@@ -1,4 +1,4 @@
-use Rattle.std.proofs.Common.{map, ap, ◌∙◌, sym, ◌+◌, ◌<◌, ◌≡◌, ℕ, reverse, length, arith, length-append}
+use Rattle.std.proofs.Common.{map, ap, ◌∙◌, sym, ◌<◌, ◌≡◌, reverse, length, arith, length-append}
 use Rattle.std.proofs.lemmas.List.{length-map}
 use Rattle.cord_plan.specs.declared.successors.Shape.TheVariants.{Simple}
 use Rattle.cord_plan.specs.Liveness.{shape_view}

@@ -1,4 +1,4 @@
-use Rattle.std.proofs.Common.{ℕ, ◌<◌, ◌≤◌, length, arith}
+use Rattle.std.proofs.Common.{◌≤◌, length, arith}
 use Rattle.cord_plan.specs.Operands.{read_by}
 use Rattle.cord_plan.specs.Liveness.{Adds}
 use Rattle.cord_plan.proofs.Told.{more_covered, tells_exactly}
