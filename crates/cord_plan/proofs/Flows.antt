@@ -56,7 +56,7 @@ module _ (holds : ℕ → Bool) where
     close_found (None ∷ blocks) e = record { place = p + 1; next = refl; true_there = of_one (p + 1) e }
     close_found (Some r ∷ blocks) e = two_found (r + 1) (p + 1) (of_two (r + 1) (p + 1) e)
 
-    shape_found : (o : Option Shape) → some_of holds (behind_shape shapes p o) ≡ true → Found (NextOf shapes p o)
+    pub shape_found : (o : Option Shape) → some_of holds (behind_shape shapes p o) ≡ true → Found (NextOf shapes p o)
     shape_found None e = let bad : ⊥ = cc in absurd bad
     shape_found (Some Simple) e = record { place = p + 1; next = refl; true_there = of_one (p + 1) e }
     shape_found (Some Loop) e = two_found (p + 1) (jump shapes p) (of_two (p + 1) (jump shapes p) e)
@@ -74,7 +74,7 @@ module _ (holds : ℕ → Bool) where
     close_held (Some r ∷ blocks) q n h = two_held (r + 1) (p + 1) q n h
 
     -- what holds of a place that may come next holds of one of those behind
-    shape_held : (o : Option Shape) (q : ℕ) → NextOf shapes p o q → holds q ≡ true → some_of holds (behind_shape shapes p o) ≡ true
+    pub shape_held : (o : Option Shape) (q : ℕ) → NextOf shapes p o q → holds q ≡ true → some_of holds (behind_shape shapes p o) ≡ true
     shape_held None q n h = absurd n
     shape_held (Some Simple) q n h = to_first (p + 1) q [] n h
     shape_held (Some Loop) q n h = two_held (p + 1) (jump shapes p) q n h

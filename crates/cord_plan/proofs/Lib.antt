@@ -25,3 +25,6 @@ pub mod ReadKinds
 pub mod Kept
 pub mod PlannedPairs
 pub mod Numerals
+pub mod Followers
+pub mod Sweeps
+pub mod Told

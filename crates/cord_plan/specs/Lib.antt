@@ -2,6 +2,7 @@ pub mod Exprs
 pub mod Values
 pub mod Operands
 pub mod Unread
+pub mod Liveness
 pub mod Forced
 pub mod Planned
 pub mod Views

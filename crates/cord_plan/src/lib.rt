@@ -4,10 +4,12 @@
 mod expression_laws;
 mod expressions;
 mod laws;
+mod liveness;
 mod meaning;
 mod operations;
 mod pair_laws;
 mod rows;
+mod successors;
 
 pub use expression_laws::{
     flattened_cats_mean_the_nested, measures_are_lengths, own_expressions_mean_their_lines,

@@ -1,0 +1,132 @@
+-- Tables of places from which a name is read, as the backwards flow fills them.
+use Rattle.std.proofs.Common.{◌≡◌, ◌⊎◌, ℕ, zero, suc, ◌+◌, ◌-◌, ◌<◌, ◌≤◌, Bool, true, false, ◌&&◌, List, [], ◌∷◌, map, drop, length, set, get_or, None, refl, sym, ap, ◌∙◌, subst, inl, inr, ⊎_elim, arith, length-set, add-one, cond}
+use Rattle.std.proofs.Math.Bool.{and-false}
+use Rattle.std.proofs.Math.Nat.{eq-or-lt_of_le}
+use Rattle.std.proofs.lemmas.List.{length-map}
+use Rattle.std.specs.Prelude.{slice_get, not}
+use Rattle.std.specs.Str.{bytes_eq}
+use Rattle.std.proofs.Math.Seq.{drop-cons}
+use Rattle.std.proofs.lemmas.Option.{slice_get_past}
+use Rattle.std.proofs.lemmas.List.Sums.{sum_by-set}
+use Rattle.cord_script.specs.declared.statements.Statement.{Statement}
+use Rattle.cord_script.specs.declared.operands.Number as numbers
+use Rattle.cord_script.specs.declared.operands.Argument.{Argument}
+use Rattle.cord_script.specs.declared.operands.Argument.TheVariants.{Number, Cord}
+use Rattle.cord_meaning.specs.Paths.{Next}
+use Rattle.cord_meaning.specs.Statements.{shape_of}
+use Rattle.cord_plan.specs.Operands.{has, cord_arguments, reads, reads_at, assigns_at}
+use Rattle.cord_plan.specs.Unread.{ReadBy, behind, some_of}
+use Rattle.cord_plan.specs.Liveness.{at, unset, finds, IsPartly, IsLive}
+use Rattle.cord_plan.proofs.Flows.{Found, shape_found, shape_held}
+
+module _ (names : List (List ℕ)) (i : ℕ) (y x : List ℕ) (lt : i < length names) (is : y ≡ get_or names i y) where
+  -- whether a name stands in a list, by its first element
+  pub has_here : bytes_eq x y ≡ true → has (drop i names) x ≡ true
+  has_here e = rw (drop-cons names i y, ← is, e) refl
+
+  pub has_on : bytes_eq x y ≡ false → has (drop i names) x ≡ has (drop (i + 1) names) x
+  has_on e = rw (add-one, drop-cons names i y, ← is, e) refl
+
+module _ (arguments : List Argument) (i : ℕ) (a : Argument) (x : List ℕ) (lt : i < length arguments) (is : a ≡ get_or arguments i a) where
+  pub argument_here : (y : List ℕ) → a ≡ Cord y → bytes_eq x y ≡ true → has (cord_arguments (drop i arguments)) x ≡ true
+  argument_here y c e = rw (drop-cons arguments i a, ← is, c, e) refl
+
+  pub argument_on : (y : List ℕ) → a ≡ Cord y → bytes_eq x y ≡ false → has (cord_arguments (drop i arguments)) x ≡ has (cord_arguments (drop (i + 1) arguments)) x
+  argument_on y c e = rw (add-one, drop-cons arguments i a, ← is, c, e) refl
+
+  pub number_on : (n : numbers.Number) → a ≡ Number n → has (cord_arguments (drop i arguments)) x ≡ has (cord_arguments (drop (i + 1) arguments)) x
+  number_on n c = rw (add-one, drop-cons arguments i a, ← is, c) refl
+
+-- the parts of a find
+found_parts : (a b c : Bool) → (not a && (b && not c)) ≡ true → (a ≡ false) × (b ≡ true) × (c ≡ false)
+found_parts false true false e = (refl, refl, refl)
+found_parts false true true e = let bad : ⊥ = cc in absurd bad
+found_parts false false c e = let bad : ⊥ = cc in absurd bad
+found_parts true b c e = let bad : ⊥ = cc in absurd bad
+
+-- what there is to find was found
+none_found : (a b c : Bool) → (not a && (b && not c)) ≡ false → b ≡ true → c ≡ false → a ≡ true
+none_found true b c e f g = refl
+none_found false true false e f g = cc
+none_found false true true e f g = cc
+none_found false false c e f g = cc
+
+at_set : (table : List Bool) (p k : ℕ) → at table k ≡ true → at (set table p true) k ≡ true
+at_set [] p k h = h
+at_set (b ∷ table) zero zero h = refl
+at_set (b ∷ table) zero (suc k) h = h
+at_set (b ∷ table) (suc p) zero h = h
+at_set (b ∷ table) (suc p) (suc k) h = at_set table p k h
+
+-- where the table with one more place has one, it had it, or it is the new one
+set_at : (table : List Bool) (p k : ℕ) → at (set table p true) k ≡ true → (k ≡ p) ⊎ (at table k ≡ true)
+set_at [] p k h = inr h
+set_at (b ∷ table) zero zero h = inl refl
+set_at (b ∷ table) zero (suc k) h = inr h
+set_at (b ∷ table) (suc p) zero h = inr h
+set_at (b ∷ table) (suc p) (suc k) h = ⊎_elim (λ same. inl (ap suc same)) (λ was. inr was) (set_at table p k h)
+
+module _ (s : List Statement) (x : List ℕ) where
+  read_at : (p : ℕ) → at (map (λ l. reads l x) s) p ≡ reads_at (slice_get s p) x
+  read_at p = read_in s p
+    where
+      read_in : (ls : List Statement) (k : ℕ) → at (map (λ l. reads l x) ls) k ≡ reads_at (slice_get ls k) x
+      read_in [] k = refl
+      read_in (l ∷ ls) zero = refl
+      read_in (l ∷ ls) (suc k) = read_in ls k
+
+  -- the table of the lines that read
+  pub readers_partly : (table : List Bool) → table ≡ map (λ l. reads l x) s → IsPartly s x table
+  readers_partly table is = record {
+    size = ap length is ∙ length-map s (λ l. reads l x);
+    reads = λ p r. rw is (read_at p ∙ r);
+    found = λ p h. ([], sym (read_at p) ∙ rw is at h);
+  }
+
+  module _ (table : List Bool) (p : ℕ) where
+    -- a place behind which there is one of the table's
+    path_over : IsPartly s x table → assigns_at (slice_get s p) x ≡ false → Found (λ q. at table q) (map shape_of s) p (Next (map shape_of s) p) → (path : List ℕ) × ReadBy s x p path
+    path_over partly unset found =
+        let rest : (path : List ℕ) × ReadBy s x found.place path = partly.found found.place found.true_there in
+        (found.place ∷ rest.0, (unset, found.next, rest.1))
+
+    path_there : IsPartly s x table → finds s x table p ≡ true → (path : List ℕ) × ReadBy s x p path
+    path_there partly e =
+        let parts : (at table p ≡ false) × (some_of (λ q. at table q) (behind (map shape_of s) p) ≡ true) × (assigns_at (slice_get s p) x ≡ false) = found_parts (at table p) (some_of (λ q. at table q) (behind (map shape_of s) p)) (assigns_at (slice_get s p) x) e in
+        path_over partly parts.2 (shape_found (λ q. at table q) (map shape_of s) p (slice_get (map shape_of s) p) parts.1)
+
+    -- the place that was found is taken in
+    pub set_partly : IsPartly s x table → finds s x table p ≡ true → IsPartly s x (set table p true)
+    set_partly partly e = record {
+      size = length-set table p true ∙ partly.size;
+      reads = λ k r. at_set table p k (partly.reads k r);
+      found = λ k h. ⊎_elim
+          (λ same. subst (λ (n : ℕ). (path : List ℕ) × ReadBy s x n path) (sym same) (path_there partly e))
+          (λ was. partly.found k was)
+          (set_at table p k h);
+    }
+
+    pub set_fewer : finds s x table p ≡ true → p < length table → unset (set table p true) + 1 ≡ unset table
+    set_fewer e lt =
+        let parts : (at table p ≡ false) × (some_of (λ q. at table q) (behind (map shape_of s) p) ≡ true) × (assigns_at (slice_get s p) x ≡ false) = found_parts (at table p) (some_of (λ q. at table q) (behind (map shape_of s) p)) (assigns_at (slice_get s p) x) e in
+        let off : get_or table p false ≡ false = parts.0 in
+        let sums = sum_by-set (λ (b : Bool). cond (not b) 1 0) table p true false lt in
+        omega (arith, rw off at sums)
+
+    -- nothing is found behind the script
+    pub rests_past : length s ≤ p → finds s x table p ≡ false
+    rests_past le =
+        let none : slice_get (map shape_of s) p ≡ None = slice_get_past (map shape_of s) p (simp length-map (omega arith)) in
+        rw none (and-false (not (at table p)))
+
+  -- a table at rest has each place from which a path reads
+  pub path_in_table : (table : List Bool) → IsLive s x table → (p : ℕ) (path : List ℕ) → ReadBy s x p path → at table p ≡ true
+  path_in_table table live p [] r = live.partly.reads p r
+  path_in_table table live p (q ∷ path) r =
+      let there : at table q ≡ true = path_in_table table live q path r.2 in
+      let held : some_of (λ m. at table m) (behind (map shape_of s) p) ≡ true = shape_held (λ m. at table m) (map shape_of s) p (slice_get (map shape_of s) p) q r.1 there in
+      none_found (at table p) (some_of (λ m. at table m) (behind (map shape_of s) p)) (assigns_at (slice_get s p) x) (live.resting p) held r.0
+
+-- at the last place looked at, and at those before
+pub rests_from : (rests : ℕ → Type 0) (p : ℕ) → 0 < p → ((k : ℕ) → p ≤ k → rests k) → rests (p - 1) → (k : ℕ) → p - 1 ≤ k → rests k
+rests_from rests p pos above here k le = ⊎_elim (λ same. subst rests same here) (λ up. above k (omega arith)) (eq-or-lt_of_le le)

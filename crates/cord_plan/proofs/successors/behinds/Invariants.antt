@@ -1,0 +1,12 @@
+use Rattle.std.proofs.Common.{◌≡◌, ℕ, ◌<◌, map, reverse, length}
+use Rattle.cord_meaning.specs.Paths.{open_at}
+use Rattle.cord_plan.specs.Unread.{behind}
+use Rattle.cord_plan.specs.Liveness.{shape_view, places_at}
+use Rattle.cord_plan.proofs.successors.behinds.Given as goal
+
+abbrev pub invariant-loop-p : goal.invariant-loop-p
+invariant-loop-p l = record {
+  opened : reverse l.blocks.items ≡ open_at (map shape_view l.shapes) l.p;
+  size : length l.found.items ≡ l.p;
+  told : (k : ℕ) → k < l.p → places_at l.found.items k ≡ behind (map shape_view l.shapes) k;
+}

@@ -1,0 +1,105 @@
+-- What the code that finds what is read later goes by.
+use Rattle.std.specs.Prelude.{◌≡◌, ℕ, zero, suc, Bool, true, false, not, ◌&&◌, List, [], ◌∷◌, map, length, get_or, if◌then◌else◌, Option, Some, None, slice_get}
+use Rattle.std.specs.List.{count_by}
+use Rattle.std.specs.Option.{option_to_list}
+use Rattle.std.specs.Str.{bytes_eq}
+use Rattle.cord_script.specs.declared.statements.Statement.{Statement}
+use Rattle.cord_meaning.specs.Blocks as blocks
+use Rattle.cord_meaning.specs.Statements.{shape_of}
+use Rattle.cord_plan.specs.Operands.{has, reads_at, assigns_at}
+use Rattle.cord_plan.specs.Unread.{ReadBy, behind, some_of}
+use Rattle.cord_plan.specs.declared.liveness.Later.{Later}
+use Rattle.cord_plan.specs.declared.liveness.Row.{Row}
+use Rattle.cord_plan.specs.declared.successors.Shape.{Shape}
+use Rattle.cord_plan.specs.declared.successors.Shape.TheVariants.{Simple, Loop, Branch, Otherwise, Close}
+use Rattle.cord_plan.specs.declared.successors.Behind.{Behind}
+use Rattle.cord_plan.specs.declared.successors.Turn.{Turn}
+use Rattle.cord_plan.specs.declared.successors.Turn.TheVariants.{Closed, Turned, Inside}
+
+-- the shape that a shape of the program stands for
+abbrev pub shape_view : Shape → blocks.Shape
+shape_view Simple = blocks.Simple
+shape_view Loop = blocks.Loop
+shape_view Branch = blocks.Branch
+shape_view Otherwise = blocks.Otherwise
+shape_view Close = blocks.Close
+
+-- how a statement leads on a search for the end of a block, where so many blocks are open inside it
+abbrev pub turn_of : blocks.Shape → ℕ → Turn
+turn_of blocks.Simple d = Inside d
+turn_of blocks.Loop d = Inside (suc d)
+turn_of blocks.Branch d = Inside (suc d)
+turn_of blocks.Otherwise zero = Turned
+turn_of blocks.Otherwise (suc d) = Inside (suc d)
+turn_of blocks.Close zero = Closed
+turn_of blocks.Close (suc d) = Inside d
+
+-- the innermost open block, where it is a `repeat`
+abbrev pub innermost : List (Option ℕ) → Option ℕ
+innermost [] = None
+innermost (block ∷ blocks) = block
+
+-- the places of the program as a list
+abbrev pub places : Behind → List ℕ
+places b = b.first ∷ option_to_list b.second
+
+abbrev pub places_of : Option Behind → List ℕ
+places_of None = []
+places_of (Some b) = places b
+
+-- the same of the place at p; behind the script there is none
+abbrev pub places_at : List Behind → ℕ → List ℕ
+places_at behinds p = places_of (slice_get behinds p)
+
+-- these are the places that may come next after each place
+pub record AreBehind (shapes : List blocks.Shape) (behinds : List Behind) : Type 0 where
+  pub size : length behinds ≡ length shapes
+  pub told : (p : ℕ) → places_at behinds p ≡ behind shapes p
+
+-- whether a table of places has a place
+abbrev pub at : List Bool → ℕ → Bool
+at table p = get_or table p false
+
+-- how many places a table doesn't have
+abbrev pub unset : List Bool → ℕ
+unset table = count_by not table
+
+module _ (s : List Statement) (x : List ℕ) (table : List Bool) where
+  -- it has each place whose line reads x, and a path that reads x begins at each place that it has
+  pub record IsPartly : Type 0 where
+    pub size : length table ≡ length s
+    pub reads : (p : ℕ) → reads_at (slice_get s p) x ≡ true → at table p ≡ true
+    pub found : (p : ℕ) → at table p ≡ true → (path : List ℕ) × ReadBy s x p path
+
+  -- whether the flow back over the line at p finds a place that the table doesn't have
+  abbrev pub finds : ℕ → Bool
+  finds p = not (at table p) && (some_of (λ q. at table q) (behind (map shape_of s) p) && not (assigns_at (slice_get s p) x))
+
+  -- it has the places from which a path reads x before it assigns it, and no other
+  pub record IsLive : Type 0 where
+    pub partly : IsPartly
+    pub resting : (p : ℕ) → finds p ≡ false
+
+-- the live places of a name
+abbrev pub live_of : List Row → List ℕ → List Bool
+live_of [] x = []
+live_of (row ∷ rows) x = if bytes_eq x row.name then row.live.items else live_of rows x
+
+-- whether a name has been looked at
+abbrev pub knows : List Row → List ℕ → Bool
+knows rows x = has (map (λ row. row.name) rows) x
+
+-- what a table tells: whether a name is read later than the line at a place
+abbrev pub tells : Later → List ℕ → ℕ → Bool
+tells t x p = some_of (λ q. at (live_of t.rows.items x) q) (places_at t.behinds.items p)
+
+-- a table that tells of the names that it knows
+pub record IsBegun (s : List Statement) (t : Later) : Type 0 where
+  pub behinds : AreBehind (map shape_of s) t.behinds.items
+  pub live : (x : List ℕ) → knows t.rows.items x ≡ true → IsLive s x (live_of t.rows.items x)
+
+-- a table comes to know these names too
+pub record Adds (s : List Statement) (xs : List (List ℕ)) (old new : Later) : Type 0 where
+  pub begun : IsBegun s new
+  pub kept : (x : List ℕ) → knows old.rows.items x ≡ true → knows new.rows.items x ≡ true
+  pub added : (x : List ℕ) → has xs x ≡ true → knows new.rows.items x ≡ true

@@ -1,0 +1,197 @@
+// The places that may come next after each place.
+ghost use Rattle.std.specs.Prelude.{◌≡◌, ◌+◌, ◌-◌, ◌^◌, ◌<◌, ◌≤◌, [], ◌∷◌, Some, IfOk, OnOk, map, reverse, length};
+ghost use Rattle.cord_meaning.specs.Blocks.{to_end, to_else};
+ghost use Rattle.cord_meaning.specs.Paths.{opened, open_at};
+ghost use Rattle.cord_meaning.specs.Statements.{shape_of};
+ghost use Rattle.cord_plan.specs.Unread.{behind};
+ghost use Rattle.cord_plan.specs.Liveness.{shape_view, turn_of, innermost, places, AreBehind};
+
+use cord_script::Statement;
+use std::alloc::{AllocError, Global};
+
+/// What a statement is to control.
+#[derive(Clone, Copy)]
+pub(crate) enum Shape {
+    /// Any statement but the others.
+    Simple,
+    /// `repeat`.
+    Loop,
+    /// `if`.
+    Branch,
+    /// `else`.
+    Otherwise,
+    /// `end`.
+    Close,
+}
+
+/// The places that may come next after a place: one, or two.
+#[derive(Clone, Copy)]
+pub(crate) struct Behind {
+    pub(crate) first: usize,
+    pub(crate) second: Option<usize>,
+}
+
+impl Behind {
+    fn one(place: usize) -> Self
+        ensures { places result ≡ place ∷ [] }
+    {
+        Behind {
+            first: place,
+            second: None,
+        }
+    }
+
+    fn two(first: usize, second: usize) -> Self
+        ensures { places result ≡ first ∷ second ∷ [] }
+    {
+        Behind {
+            first,
+            second: Some(second),
+        }
+    }
+}
+
+/// How a statement leads on a search for the end of a block, where so many blocks are open inside it.
+#[derive(Clone, Copy)]
+enum Turn {
+    /// It is the `end` of the block.
+    Closed,
+    /// It is an `else` of the block.
+    Turned,
+    /// So many blocks are open behind it.
+    Inside(usize),
+}
+
+fn shape_of(statement: &Statement) -> Shape
+    ensures { shape_view result ≡ shape_of statement.now }
+{
+    match statement {
+        Statement::Repeat { .. } => Shape::Loop,
+        Statement::If { .. } => Shape::Branch,
+        Statement::Else { .. } => Shape::Otherwise,
+        Statement::End { .. } => Shape::Close,
+        _ => Shape::Simple,
+    }
+}
+
+fn turn_at(shape: Shape, depth: usize) -> Turn
+    requires { depth < 2 ^ 64 - 1 }
+    ensures { result ≡ turn_of (shape_view shape) depth }
+{
+    match shape {
+        Shape::Simple => Turn::Inside(depth),
+        Shape::Loop | Shape::Branch => Turn::Inside(depth + 1),
+        Shape::Otherwise if depth == 0 => Turn::Turned,
+        Shape::Otherwise => Turn::Inside(depth),
+        Shape::Close if depth == 0 => Turn::Closed,
+        Shape::Close => Turn::Inside(depth - 1),
+    }
+}
+
+// How many statements stand before the `end` of the block that they stand in.
+fn to_end(shapes: &[Shape]) -> usize
+    ensures count { result ≡ to_end 0 (map shape_view shapes.now) }
+    ensures within { result ≤ length shapes.now }
+{
+    let mut depth = 0;
+    for (i, shape) in shapes.iter().enumerate() {
+        match turn_at(*shape, depth) {
+            Turn::Closed => return i,
+            Turn::Turned => {}
+            Turn::Inside(deep) => depth = deep,
+        }
+    }
+    shapes.len()
+}
+
+// How many statements stand before the `end` of the `if` that they stand in, or up to and with its `else`.
+fn to_else(shapes: &[Shape]) -> usize
+    ensures count { result ≡ to_else 0 (map shape_view shapes.now) }
+    ensures within { result ≤ length shapes.now }
+{
+    let mut depth = 0;
+    for (i, shape) in shapes.iter().enumerate() {
+        match turn_at(*shape, depth) {
+            Turn::Closed => return i,
+            Turn::Turned => return i + 1,
+            Turn::Inside(deep) => depth = deep,
+        }
+    }
+    shapes.len()
+}
+
+// The innermost open block, where it is a `repeat`.
+fn innermost(blocks: &[Option<usize>]) -> Option<usize>
+    ensures { result ≡ innermost (reverse blocks.now) }
+{
+    match blocks.last() {
+        Some(block) => *block,
+        None => None,
+    }
+}
+
+// The open blocks behind the statement at place p.
+fn open_behind(blocks: &mut Vec<Option<usize>>, p: usize, shape: Shape) -> Result<(), AllocError>
+    ensures { OnOk result (reverse blocks.new.items ≡ opened p (reverse blocks.old.items) (Some (shape_view shape))) }
+{
+    match shape {
+        Shape::Loop => blocks.push(Some(p))?,
+        Shape::Branch => blocks.push(None)?,
+        Shape::Close => {
+            blocks.pop();
+        }
+        Shape::Simple | Shape::Otherwise => {}
+    }
+    Ok(())
+}
+
+// The places that may come next after place p, where this is the innermost open block.
+fn places_behind(shapes: &[Shape], p: usize, block: Option<usize>) -> Behind
+    requires within { p < length shapes.now }
+    requires block { block ≡ innermost (open_at (map shape_view shapes.now) p) }
+    ensures { places result ≡ behind (map shape_view shapes.now) p }
+{
+    let next = p + 1;
+    match shapes[p] {
+        Shape::Simple => Behind::one(next),
+        Shape::Loop => Behind::two(next, next + to_end(&shapes[next..]) + 1),
+        Shape::Branch => Behind::two(next, next + to_else(&shapes[next..])),
+        Shape::Otherwise => Behind::one(next + to_end(&shapes[next..])),
+        Shape::Close => match block {
+            None => Behind::one(next),
+            Some(repeat) => Behind::two(repeat + 1, next),
+        },
+    }
+}
+
+// The places that may come next after each place.
+fn behinds(alloc: Global, shapes: &[Shape]) -> Result<Vec<Behind>, AllocError>
+    ensures { IfOk result (λ v. AreBehind (map shape_view shapes.now) v.items) }
+{
+    let mut blocks = Vec::new(alloc);
+    let mut found = Vec::new(alloc);
+    for (p, shape) in shapes.iter().enumerate() {
+        let block = innermost(&blocks);
+        found.push(places_behind(shapes, p, block))?;
+        open_behind(&mut blocks, p, *shape)?;
+    }
+    Ok(found)
+}
+
+fn shapes_of(alloc: Global, statements: &[Statement]) -> Result<Vec<Shape>, AllocError>
+    ensures { IfOk result (λ v. map shape_view v.items ≡ map shape_of statements.now) }
+{
+    let mut shapes = Vec::new(alloc);
+    for statement in statements {
+        shapes.push(shape_of(statement))?;
+    }
+    Ok(shapes)
+}
+
+/// The places that may come next after each place of a script: each block is walked over once for each line that leads to its end.
+pub(crate) fn successors(alloc: Global, statements: &[Statement]) -> Result<Vec<Behind>, AllocError>
+    ensures { IfOk result (λ v. AreBehind (map shape_of statements.now) v.items) }
+{
+    let shapes = shapes_of(alloc, statements)?;
+    behinds(alloc, &shapes)
+}
