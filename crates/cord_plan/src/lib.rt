@@ -4,9 +4,12 @@
 mod expression_laws;
 mod expressions;
 mod laws;
+mod lines;
 mod meaning;
 mod operations;
+mod own;
 mod pair_laws;
+mod plans;
 mod rows;
 
 pub use expression_laws::{
@@ -26,6 +29,7 @@ pub use operations::{Made, Operation};
 pub use pair_laws::{
     pairs_are_planned, pairs_leave_their_name_out, replacements_keep_expressions_small,
 };
+pub use plans::Plan;
 pub use rows::{plans_are_computed, runs_of_plans_are_computed};
 
 /// The greatest number of parts of an expression that an operand was replaced in.
