@@ -11,6 +11,8 @@ mod own;
 mod pair_laws;
 mod plans;
 mod rows;
+#[cfg(test)]
+mod tests;
 
 pub use expression_laws::{
     flattened_cats_mean_the_nested, measures_are_lengths, own_expressions_mean_their_lines,

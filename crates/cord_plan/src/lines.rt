@@ -47,42 +47,27 @@ fn operation_without(statement: &Statement, dead: bool) -> Result<Operation, Cor
     ensures made { IfOk result (λ o. (e : plain.Expr) (paired : Bool) → operation_view o ≡ plan.operation statement.now e dead paired) }
     ensures refused { IsOkUnless result CordError.NoMemory }
 {
-    match statement {
-        Statement::Let { line, target, text } => {
-            gives(dead, *line, target, Made::Literal(text.clone()?))
-        }
-        Statement::File { line, target, path } => {
-            gives(dead, *line, target, Made::OfFile(path.clone()?))
-        }
-        Statement::Eager { line, target, path } => {
-            gives(dead, *line, target, Made::OfEager(path.clone()?))
-        }
-        Statement::Lazy { line, target, path } => {
-            gives(dead, *line, target, Made::OfLazy(path.clone()?))
-        }
+    let (line, target, made) = match statement {
+        Statement::Let { line, target, text } => (line, target, Made::Literal(text.clone()?)),
+        Statement::File { line, target, path } => (line, target, Made::OfFile(path.clone()?)),
+        Statement::Eager { line, target, path } => (line, target, Made::OfEager(path.clone()?)),
+        Statement::Lazy { line, target, path } => (line, target, Made::OfLazy(path.clone()?)),
         Statement::FromFn {
             line,
             target,
             function,
             count,
-        } => {
-            gives(
-                dead,
-                *line,
-                target,
-                Made::OfFunction(*function, count.clone()?),
-            )
-        }
+        } => (line, target, Made::OfFunction(*function, count.clone()?)),
         Statement::Balance {
             line,
             target,
             operand,
-        } => { gives(dead, *line, target, Made::Balanced(operand.clone()?)) }
+        } => (line, target, Made::Balanced(operand.clone()?)),
         Statement::EcToCord {
             line,
             target,
             extensible,
-        } => { gives(dead, *line, target, Made::OfExtensible(extensible.clone()?)) }
+        } => (line, target, Made::OfExtensible(extensible.clone()?)),
         Statement::Sprintf {
             line,
             target,
@@ -91,10 +76,11 @@ fn operation_without(statement: &Statement, dead: bool) -> Result<Operation, Cor
             arguments,
         } => {
             let made = Made::Printed(text.clone()?, format.clone()?, arguments.clone()?);
-            gives(dead, *line, target, made)
+            (line, target, made)
         }
-        _ => Ok(Operation::Keep(statement.clone()?)),
-    }
+        _ => return Ok(Operation::Keep(statement.clone()?)),
+    };
+    gives(dead, *line, target, made)
 }
 
 // The operation that gives a name what it is made of, or only measures that.
