@@ -4,12 +4,17 @@
 mod expression_laws;
 mod expressions;
 mod laws;
+mod lines;
 mod liveness;
 mod meaning;
 mod operations;
+mod own;
 mod pair_laws;
+mod plans;
 mod rows;
 mod successors;
+#[cfg(test)]
+mod tests;
 
 pub use expression_laws::{
     flattened_cats_mean_the_nested, measures_are_lengths, own_expressions_mean_their_lines,
@@ -28,6 +33,7 @@ pub use operations::{Made, Operation};
 pub use pair_laws::{
     pairs_are_planned, pairs_leave_their_name_out, replacements_keep_expressions_small,
 };
+pub use plans::Plan;
 pub use rows::{plans_are_computed, runs_of_plans_are_computed};
 
 /// The greatest number of parts of an expression that an operand was replaced in.

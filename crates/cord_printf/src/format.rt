@@ -6,7 +6,7 @@ ghost use Rattle.cord_printf.specs.Format.{IsFormat, IsRefusal, IsBadHere};
 use crate::conversions::conversion;
 use crate::reading::{Class, span, uncons};
 use crate::{FormatError, Literal, Piece};
-use std::alloc::Global;
+use std::alloc::{AllocError, Global};
 use std::marker::Model;
 
 /// A format: its pieces, from left to right.
@@ -22,6 +22,16 @@ impl Model for Format {
     ghost Value = { List Piece };
 
     ghost view = { λ f. f.pieces.items };
+}
+
+impl Clone for Format {
+    ghost is_clone = { λ it copy. copy ≡ it };
+
+    fn clone(&self) -> Result<Format, AllocError> {
+        Ok(Format {
+            pieces: self.pieces.clone()?,
+        })
+    }
 }
 
 impl Format {

@@ -1,6 +1,7 @@
 // The pieces of a format.
 ghost use Rattle.std.specs.Prelude.{◌≡◌, List, ℕ};
 
+use std::alloc::AllocError;
 use std::marker::Model;
 
 /// The bytes of a format that stand for themselves.
@@ -13,6 +14,16 @@ impl Model for Literal {
     ghost Value = { List ℕ };
 
     ghost view = { λ l. l.bytes.items };
+}
+
+impl Clone for Literal {
+    ghost is_clone = { λ it copy. copy ≡ it };
+
+    fn clone(&self) -> Result<Literal, AllocError> {
+        Ok(Literal {
+            bytes: self.bytes.clone()?,
+        })
+    }
 }
 
 impl Literal {
@@ -61,7 +72,7 @@ pub enum Radix {
 /// A piece of a format: a text, or a conversion.
 ///
 /// A width is the least length of the text, 0 where none is given. Both width and precision are at most 9,999.
-#[derive(Drop)]
+#[derive(Clone, Drop)]
 pub enum Piece {
     /// Bytes without `%`.
     Text(Literal),

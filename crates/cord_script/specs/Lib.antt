@@ -10,3 +10,4 @@ pub mod Script
 pub mod Steps
 pub mod Tests
 pub mod Words
+pub mod Families

@@ -2,6 +2,7 @@
 #![tactic(auto)]
 
 mod checks;
+mod copies;
 mod kinds;
 mod laws;
 mod names;

@@ -2,6 +2,7 @@
 ghost use Rattle.std.specs.Prelude.{◌≡◌, List, ℕ};
 ghost use Rattle.std.specs.String.{string_bytes};
 
+use std::alloc::AllocError;
 use std::marker::Model;
 
 /// A name, as its bytes: 1 to 32 ASCII letters, digits and `_`, not beginning with a digit.
@@ -14,6 +15,16 @@ impl Model for Name {
     ghost Value = { List ℕ };
 
     ghost view = { λ n. n.name.items };
+}
+
+impl Clone for Name {
+    ghost is_clone = { λ it copy. copy ≡ it };
+
+    fn clone(&self) -> Result<Name, AllocError> {
+        Ok(Name {
+            name: self.name.clone()?,
+        })
+    }
 }
 
 impl Name {
@@ -51,6 +62,16 @@ impl Model for Names {
     ghost view = { λ n. n.list.items };
 }
 
+impl Clone for Names {
+    ghost is_clone = { λ it copy. copy ≡ it };
+
+    fn clone(&self) -> Result<Names, AllocError> {
+        Ok(Names {
+            list: self.list.clone()?,
+        })
+    }
+}
+
 impl Names {
     /// The list of these names, without taking memory.
     pub fn of(names: Vec<Name>) -> Self
@@ -86,6 +107,16 @@ impl Model for Text {
     ghost view = { λ t. t.text.items };
 }
 
+impl Clone for Text {
+    ghost is_clone = { λ it copy. copy ≡ it };
+
+    fn clone(&self) -> Result<Text, AllocError> {
+        Ok(Text {
+            text: self.text.clone()?,
+        })
+    }
+}
+
 impl Text {
     /// The text of these bytes, without taking memory.
     pub fn of(bytes: Vec<u8>) -> Self
@@ -119,6 +150,16 @@ impl Model for Path {
     ghost Value = { List ℕ };
 
     ghost view = { λ p. string_bytes p.path };
+}
+
+impl Clone for Path {
+    ghost is_clone = { λ it copy. copy ≡ it };
+
+    fn clone(&self) -> Result<Path, AllocError> {
+        Ok(Path {
+            path: self.path.clone()?,
+        })
+    }
 }
 
 impl Path {

@@ -2,6 +2,7 @@
 ghost use Rattle.std.specs.Prelude.{◌≡◌};
 
 use crate::Name;
+use std::alloc::AllocError;
 use std::marker::Model;
 
 /// A number operand: a numeral or the name of a number.
@@ -9,6 +10,17 @@ use std::marker::Model;
 pub enum Number {
     Numeral(i64),
     Named(Name),
+}
+
+impl Clone for Number {
+    ghost is_clone = { λ it copy. copy ≡ it };
+
+    fn clone(&self) -> Result<Number, AllocError> {
+        match self {
+            Number::Numeral(value) => Ok(Number::Numeral(*value)),
+            Number::Named(name) => Ok(Number::Named(name.clone()?)),
+        }
+    }
 }
 
 /// The relation of an `if`: `lt`, `eq` or `gt`.
@@ -33,6 +45,17 @@ pub enum Argument {
     Cord(Name),
 }
 
+impl Clone for Argument {
+    ghost is_clone = { λ it copy. copy ≡ it };
+
+    fn clone(&self) -> Result<Argument, AllocError> {
+        match self {
+            Argument::Number(number) => Ok(Argument::Number(number.clone()?)),
+            Argument::Cord(name) => Ok(Argument::Cord(name.clone()?)),
+        }
+    }
+}
+
 /// The arguments of a format, in order.
 #[derive(Drop)]
 pub struct Arguments {
@@ -46,6 +69,16 @@ impl Model for Arguments {
     ghost Value = { List Argument };
 
     ghost view = { λ a. a.arguments.items };
+}
+
+impl Clone for Arguments {
+    ghost is_clone = { λ it copy. copy ≡ it };
+
+    fn clone(&self) -> Result<Arguments, AllocError> {
+        Ok(Arguments {
+            arguments: self.arguments.clone()?,
+        })
+    }
 }
 
 impl Arguments {

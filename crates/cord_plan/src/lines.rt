@@ -1,0 +1,107 @@
+// The operation of a line.
+ghost use Rattle.std.specs.Prelude.{◌≡◌, Bool, None, IfOk, IsOkUnless, option_map};
+ghost use Rattle.cord_plan.specs.Exprs as plain;
+ghost use Rattle.cord_plan.specs.Forced.{own};
+ghost use Rattle.cord_plan.specs.Planned as plan;
+ghost use Rattle.cord_plan.specs.Views.{expr_view, made_view, operation_view};
+
+use crate::{Expr, Made, Members, Operation};
+use cord_io::CordError;
+use cord_script::{Name, Statement};
+use std::alloc::Global;
+
+/// The operation of a line whose expression is this one.
+///
+/// A line whose target is dead only measures, and so does the first line of a forced pair. Refused only with `NoMemory`.
+pub(crate) fn operation_of(
+    alloc: Global,
+    statement: &Statement,
+    expression: Option<Expr>,
+    dead: bool,
+    paired: bool,
+) -> Result<Operation, CordError>
+    ensures made { IfOk result (λ o. operation_view o ≡ plan.operation statement.now (plan.or_nothing (option_map expr_view expression)) dead paired) }
+    ensures refused { IsOkUnless result CordError.NoMemory }
+{
+    let expression = or_nothing(alloc, expression);
+    match statement {
+        Statement::Cat { line, target, .. }
+        | Statement::Catn { line, target, .. }
+        | Statement::Catc { line, target, .. }
+        | Statement::Chars { line, target, .. }
+        | Statement::Nul { line, target, .. }
+        | Statement::Substr { line, target, .. } => {
+            gives(dead || paired, *line, target, Made::Joined(expression))
+        }
+        Statement::Put { line, .. } => Ok(Operation::Write {
+            line: *line,
+            expression,
+        }),
+        _ => operation_without(statement, dead),
+    }
+}
+
+// The operation of a line that has no expression.
+fn operation_without(statement: &Statement, dead: bool) -> Result<Operation, CordError>
+    requires { own statement.now ≡ None }
+    ensures made { IfOk result (λ o. (e : plain.Expr) (paired : Bool) → operation_view o ≡ plan.operation statement.now e dead paired) }
+    ensures refused { IsOkUnless result CordError.NoMemory }
+{
+    let (line, target, made) = match statement {
+        Statement::Let { line, target, text } => (line, target, Made::Literal(text.clone()?)),
+        Statement::File { line, target, path } => (line, target, Made::OfFile(path.clone()?)),
+        Statement::Eager { line, target, path } => (line, target, Made::OfEager(path.clone()?)),
+        Statement::Lazy { line, target, path } => (line, target, Made::OfLazy(path.clone()?)),
+        Statement::FromFn {
+            line,
+            target,
+            function,
+            count,
+        } => (line, target, Made::OfFunction(*function, count.clone()?)),
+        Statement::Balance {
+            line,
+            target,
+            operand,
+        } => (line, target, Made::Balanced(operand.clone()?)),
+        Statement::EcToCord {
+            line,
+            target,
+            extensible,
+        } => (line, target, Made::OfExtensible(extensible.clone()?)),
+        Statement::Sprintf {
+            line,
+            target,
+            text,
+            format,
+            arguments,
+        } => {
+            let made = Made::Printed(text.clone()?, format.clone()?, arguments.clone()?);
+            (line, target, made)
+        }
+        _ => return Ok(Operation::Keep(statement.clone()?)),
+    };
+    gives(dead, *line, target, made)
+}
+
+// The operation that gives a name what it is made of, or only measures that.
+fn gives(measures: bool, line: u32, target: &Name, made: Made) -> Result<Operation, CordError>
+    ensures made { IfOk result (λ o. operation_view o ≡ plan.gives measures line target.now (made_view made)) }
+    ensures refused { IsOkUnless result CordError.NoMemory }
+{
+    let target = target.clone()?;
+    if measures {
+        Ok(Operation::Measure { line, target, made })
+    } else {
+        Ok(Operation::Build { line, target, made })
+    }
+}
+
+// The expression, or where there is none a `cat` of no members.
+fn or_nothing(alloc: Global, expression: Option<Expr>) -> Expr
+    ensures { expr_view result ≡ plan.or_nothing (option_map expr_view expression) }
+{
+    match expression {
+        Some(expression) => expression,
+        None => Expr::Cat(Members::of(Vec::new(alloc))),
+    }
+}
