@@ -25,3 +25,5 @@ pub mod ReadKinds
 pub mod Kept
 pub mod PlannedPairs
 pub mod Numerals
+pub mod Writing
+pub mod Decimals

@@ -8,6 +8,7 @@ mod meaning;
 mod operations;
 mod pair_laws;
 mod rows;
+mod shown;
 
 pub use expression_laws::{
     flattened_cats_mean_the_nested, measures_are_lengths, own_expressions_mean_their_lines,

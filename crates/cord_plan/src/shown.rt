@@ -1,0 +1,3 @@
+// The text of plans.
+mod expressions;
+mod fragments;
