@@ -1,7 +1,8 @@
 -- The decimal form of numbers, as it is printed.
 use Rattle.std.proofs.Common.{◌≡◌, ◌<◌, ◌^◌, ℕ, zero, suc, ◌+◌, ◌-◌, ◌∷◌, ◌++◌, length, replicate, refl, sym, ap, ◌∙◌, arith}
 use Rattle.std.proofs.Common.{ℤ, pos, negsuc, w64, to_z, of_z}
-use mir.Val.{SFits}
+use mir.Val.{SFits, hbits}
+use lib.Signed.{mag}
 use Rattle.std.proofs.lemmas.Int.{to_z-of_z}
 use Rattle.std.specs.Fmt as std
 use Rattle.std.specs.Int.Digits.{digits_of}
@@ -20,10 +21,10 @@ unfolding std.digits
 decimal_is zero fits = refl
 decimal_is (suc n) fits = above_zero (suc n) (omega arith) fits
 
-signed_same : (z : ℤ) → SFits w64 z → std.signed_decimal z ≡ signed_decimal z
+signed_same : (z : ℤ) → mag z < 2 ^ 63 → std.signed_decimal z ≡ signed_decimal z
 signed_same (pos n) fits = decimal_is n (omega (arith, fits))
 signed_same (negsuc n) fits = let e : suc n ≡ n + 1 = omega arith in ap (λ x. 45 ∷ x) (ap std.decimal e ∙ decimal_is (n + 1) (omega (arith, fits)))
 
 -- as a register of 64 bits has it
 pub signed_decimal_is : (z : ℤ) → SFits w64 z → std.signed_decimal (to_z w64 (of_z w64 z)) ≡ signed_decimal z
-signed_decimal_is z fits = ap std.signed_decimal (to_z-of_z w64 z fits) ∙ signed_same z fits
+signed_decimal_is z fits = ap std.signed_decimal (to_z-of_z w64 z fits) ∙ signed_same z (omega (arith, fits))

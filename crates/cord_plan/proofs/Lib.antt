@@ -27,3 +27,5 @@ pub mod PlannedPairs
 pub mod Numerals
 pub mod Writing
 pub mod Decimals
+pub mod MemberTexts
+pub mod Spacing

@@ -40,6 +40,10 @@ writes_stopped {x} {a} {b} {n} {m} {e} y h = record {
   err = (record { out = h.err.0.out; such = front_more (x ++ y) x y h.err.0.out refl h.err.0.such; taken = h.err.0.taken }, h.err.1);
 }
 
+-- some of a text, and the next part of it, which wasn't taken whole
+pub writes_cut : {whole upto first next : List ℕ} {a b c : Option (List ℕ)} {n m k : ℕ} {e : WriteFault} (rest : List ℕ) → whole ≡ upto ++ rest → upto ≡ first ++ next → Writes first a b n m (Ok tt) → Writes next b c m k (Err e) → Writes whole a c n k (Err e)
+writes_cut rest all more h g = writes_same (sym all) (writes_stopped rest (writes_same (sym more) (writes_then h g)))
+
 -- the error that is handed on
 pub writes_failed : {x : List ℕ} {a b : Option (List ℕ)} {n m : ℕ} {e : WriteFault} {r : Result (Unit {0}) WriteFault} → IsErr r → Writes x a b n m (Err e) → Writes x a b n m r
 writes_failed {x} {a} {b} {n} {m} {e} {r = Ok u} is h = absurd (false≢true is)
@@ -61,7 +65,7 @@ joined_next text one xs i d j h =
     ap text (take_more xs i d h) ∙ joined_append text one (take i xs) (get_or xs i d ∷ []) j ∙ ap (λ (t : List ℕ). text (take i xs) ++ t) (j.cons (get_or xs i d) [] ∙ ap (λ (t : List ℕ). one (get_or xs i d) ++ t) j.nil ∙ append-nil (one (get_or xs i d)))
 
 -- all of them
-joined_all : {A : Type 0} (text : List A → List ℕ) (one : A → List ℕ) (xs : List A) (i : ℕ) → AreJoined text one → text xs ≡ text (take i xs) ++ text (drop i xs)
+pub joined_all : {A : Type 0} (text : List A → List ℕ) (one : A → List ℕ) (xs : List A) (i : ℕ) → AreJoined text one → text xs ≡ text (take i xs) ++ text (drop i xs)
 joined_all text one xs i j = ap text (sym (take-append-drop i xs)) ∙ joined_append text one (take i xs) (drop i xs) j
 
 module _ {A : Type 0} (text : List A → List ℕ) (one : A → List ℕ) (j : AreJoined text one) (xs : List A) (i : ℕ) (d : A) (inside : i < length xs) where
@@ -71,6 +75,4 @@ module _ {A : Type 0} (text : List A → List ℕ) (one : A → List ℕ) (j : A
 
   -- the next was not taken whole
   pub writes_broken : {a b c : Option (List ℕ)} {n m k : ℕ} {e : WriteFault} → Writes (text (take i xs)) a b n m (Ok tt) → Writes (one (get_or xs i d)) b c m k (Err e) → Writes (text xs) a c n k (Err e)
-  writes_broken h g =
-      let first : text (take (i + 1) xs) ++ text (drop (i + 1) xs) ≡ text xs = sym (joined_all text one xs (i + 1) j) in
-      writes_same first (writes_stopped (text (drop (i + 1) xs)) (writes_same (sym (joined_next text one xs i d j inside)) (writes_then h g)))
+  writes_broken = writes_cut (text (drop (i + 1) xs)) (joined_all text one xs (i + 1) j) (joined_next text one xs i d j inside)
