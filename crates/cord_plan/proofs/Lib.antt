@@ -29,3 +29,4 @@ pub mod Writing
 pub mod Decimals
 pub mod MemberTexts
 pub mod Spacing
+pub mod ExprViews

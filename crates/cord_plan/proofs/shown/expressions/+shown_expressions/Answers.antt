@@ -5,6 +5,7 @@ use Rattle.cord_plan.specs.declared.expressions.Expr.{Expr}
 use Rattle.cord_plan.specs.Exprs as plain
 use Rattle.cord_plan.specs.Shown.{expr, exprs, number, called, spaced}
 use Rattle.cord_plan.specs.Views.{expr_view, members_of, members_view}
+use Rattle.cord_plan.proofs.ExprViews.{view-Run, view-Cat, view-Sub}
 use Rattle.cord_plan.proofs.MemberTexts.{weight, weights, members_text, blank_at, blank_later, members_next, members_all, rest_of, member_below}
 use Rattle.cord_plan.proofs.Spacing.{two_words, three_words}
 use Rattle.cord_plan.proofs.Writing.{writes_same, writes_then, writes_stopped, writes_failed, writes_cut}
@@ -25,20 +26,20 @@ sub_text x i n = ap (λ (t : List ℕ). sub_open ++ t) (three_words x (number i)
 
 pub put_expression-returns-in_err-put_text-in-Cat : goal.put_expression-returns-in_err-put_text-in-Cat
 put_expression-returns-in_err-put_text-in-Cat g t c =
-    let view : expr_view c.args.expression.now ≡ plain.cat (members_view c.in-Cat.members) = search (rules, c.in-Cat.is) in
+    let view : expr_view c.args.expression.now ≡ plain.cat (members_view c.in-Cat.members) = ap expr_view c.in-Cat.is ∙ view-Cat c.in-Cat.members in
     let text : expr (expr_view c.args.expression.now) ≡ cat_open ++ (exprs (members_view c.in-Cat.members) ++ 41 ∷ []) = ap expr view in
     writes_failed c.from_residual.ensures.0 (writes_same (sym text) (writes_stopped (exprs (members_view c.in-Cat.members) ++ 41 ∷ []) c.in_err-put_text-in-Cat.ensures))
 
 pub put_expression-returns-in_err-put_members-in-Cat : goal.put_expression-returns-in_err-put_members-in-Cat
 put_expression-returns-in_err-put_members-in-Cat g t c =
-    let view : expr_view c.args.expression.now ≡ plain.cat (members_view c.in-Cat.members) = search (rules, c.in-Cat.is) in
+    let view : expr_view c.args.expression.now ≡ plain.cat (members_view c.in-Cat.members) = ap expr_view c.in-Cat.is ∙ view-Cat c.in-Cat.members in
     let text : expr (expr_view c.args.expression.now) ≡ cat_open ++ (exprs (members_view c.in-Cat.members) ++ 41 ∷ []) = ap expr view in
     let same = ap exprs (sym c.as_slice-in-Cat.ensures) in
     writes_failed c.from_residual-in_err-put_members-in-Cat.ensures.0 (writes_same (sym text) (writes_then c.in_ok-put_text-in-Cat.ensures (writes_stopped (41 ∷ []) (writes_same same c.in_err-put_members-in-Cat.ensures))))
 
 pub put_expression-returns-in_ok-put_members-in-Cat : goal.put_expression-returns-in_ok-put_members-in-Cat
 put_expression-returns-in_ok-put_members-in-Cat g t c =
-    let view : expr_view c.args.expression.now ≡ plain.cat (members_view c.in-Cat.members) = search (rules, c.in-Cat.is) in
+    let view : expr_view c.args.expression.now ≡ plain.cat (members_view c.in-Cat.members) = ap expr_view c.in-Cat.is ∙ view-Cat c.in-Cat.members in
     let text : expr (expr_view c.args.expression.now) ≡ cat_open ++ (exprs (members_view c.in-Cat.members) ++ 41 ∷ []) = ap expr view in
     let same = ap exprs (sym c.as_slice-in-Cat.ensures) in
     writes_same (sym text) (writes_then c.in_ok-put_text-in-Cat.ensures (writes_then (writes_same same c.in_ok-put_members-in-Cat.ensures) c.put_text-in-Cat-2.ensures))
@@ -46,14 +47,14 @@ put_expression-returns-in_ok-put_members-in-Cat g t c =
 pub put_expression-returns-in_err-put_text-in-Sub : goal.put_expression-returns-in_err-put_text-in-Sub
 put_expression-returns-in_err-put_text-in-Sub g t c =
     let inner = expr (expr_view c.in-Sub.expression.value) in
-    let view : expr_view c.args.expression.now ≡ plain.sub (expr_view c.in-Sub.expression.value) c.in-Sub.start c.in-Sub.count = search (rules, c.in-Sub.is) in
+    let view : expr_view c.args.expression.now ≡ plain.sub (expr_view c.in-Sub.expression.value) c.in-Sub.start c.in-Sub.count = ap expr_view c.in-Sub.is ∙ view-Sub c.in-Sub.expression c.in-Sub.start c.in-Sub.count in
     let text : expr (expr_view c.args.expression.now) ≡ sub_open ++ (inner ++ behind c.in-Sub.start c.in-Sub.count) = ap expr view ∙ sub_text inner c.in-Sub.start c.in-Sub.count in
     writes_failed c.from_residual-in_err-put_text-in-Sub.ensures.0 (writes_same (sym text) (writes_stopped (inner ++ behind c.in-Sub.start c.in-Sub.count) c.in_err-put_text-in-Sub.ensures))
 
 pub put_expression-returns-in_err-put_expression-in-Sub : goal.put_expression-returns-in_err-put_expression-in-Sub
 put_expression-returns-in_err-put_expression-in-Sub g t c =
     let inner = expr (expr_view c.in-Sub.expression.value) in
-    let view : expr_view c.args.expression.now ≡ plain.sub (expr_view c.in-Sub.expression.value) c.in-Sub.start c.in-Sub.count = search (rules, c.in-Sub.is) in
+    let view : expr_view c.args.expression.now ≡ plain.sub (expr_view c.in-Sub.expression.value) c.in-Sub.start c.in-Sub.count = ap expr_view c.in-Sub.is ∙ view-Sub c.in-Sub.expression c.in-Sub.start c.in-Sub.count in
     let text : expr (expr_view c.args.expression.now) ≡ sub_open ++ (inner ++ behind c.in-Sub.start c.in-Sub.count) = ap expr view ∙ sub_text inner c.in-Sub.start c.in-Sub.count in
     let same = ap (λ e. expr (expr_view e)) c.as_ref.ensures in
     writes_failed c.from_residual-in_err-put_expression-in-Sub.ensures.0 (writes_same (sym text) (writes_then c.in_ok-put_text-in-Sub.ensures (writes_stopped (behind c.in-Sub.start c.in-Sub.count) (writes_same same c.in_err-put_expression-in-Sub.ensures))))
@@ -61,14 +62,14 @@ put_expression-returns-in_err-put_expression-in-Sub g t c =
 pub put_expression-returns-in_ok-put_expression-in-Sub : goal.put_expression-returns-in_ok-put_expression-in-Sub
 put_expression-returns-in_ok-put_expression-in-Sub g t c =
     let inner = expr (expr_view c.in-Sub.expression.value) in
-    let view : expr_view c.args.expression.now ≡ plain.sub (expr_view c.in-Sub.expression.value) c.in-Sub.start c.in-Sub.count = search (rules, c.in-Sub.is) in
+    let view : expr_view c.args.expression.now ≡ plain.sub (expr_view c.in-Sub.expression.value) c.in-Sub.start c.in-Sub.count = ap expr_view c.in-Sub.is ∙ view-Sub c.in-Sub.expression c.in-Sub.start c.in-Sub.count in
     let text : expr (expr_view c.args.expression.now) ≡ sub_open ++ (inner ++ behind c.in-Sub.start c.in-Sub.count) = ap expr view ∙ sub_text inner c.in-Sub.start c.in-Sub.count in
     let same = ap (λ e. expr (expr_view e)) c.as_ref.ensures in
     writes_same (sym text) (writes_then c.in_ok-put_text-in-Sub.ensures (writes_then (writes_same same c.in_ok-put_expression-in-Sub.ensures) c.put_fragments-in-Sub.ensures))
 
 pub put_expression-returns-in-Run : goal.put_expression-returns-in-Run
 put_expression-returns-in-Run g t c =
-    let view : expr_view c.args.expression.now ≡ plain.run c.in-Run.byte c.in-Run.count = search (rules, c.in-Run.is) in
+    let view : expr_view c.args.expression.now ≡ plain.run c.in-Run.byte c.in-Run.count = ap expr_view c.in-Run.is ∙ view-Run c.in-Run.byte c.in-Run.count in
     let text : expr (expr_view c.args.expression.now) ≡ called (codes "run") (spaced (number c.in-Run.byte ∷ number c.in-Run.count ∷ [])) = ap expr view in
     let words = two_words (number c.in-Run.byte) (number c.in-Run.count) (41 ∷ []) in
     writes_same (sym (text ∙ ap (λ (t : List ℕ). codes "run(" ++ t) words)) c.put_fragments.ensures
