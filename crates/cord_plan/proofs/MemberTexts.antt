@@ -4,7 +4,7 @@ use Rattle.cord_plan.specs.Exprs as plain
 use Rattle.cord_plan.specs.Shown.{expr, exprs, more_exprs}
 use Rattle.cord_plan.specs.Views.{expr_view, members_of}
 use Rattle.cord_plan.specs.declared.expressions.Expr.{Expr}
-use Rattle.cord_plan.proofs.Writing.{AreJoined, joined_next, joined_all}
+use Rattle.cord_plan.proofs.Spacing.{AreSpaced}
 
 abbrev mutual
   pub weight : plain.Expr → ℕ
@@ -23,42 +23,17 @@ member_below [] i d h = absurd (omega (arith, h))
 member_below (m ∷ ms) zero d h = omega arith
 member_below (m ∷ ms) (suc i) d h = let below = member_below ms i d (omega (arith, h)) in omega (arith, below)
 
--- the text of members, and that of one behind a blank
+-- the text of members
 abbrev pub members_text : List Expr → List ℕ
 members_text ms = exprs (members_of (map expr_view ms))
 
-abbrev more_text : List Expr → List ℕ
+-- each behind a blank
+abbrev pub more_text : List Expr → List ℕ
 more_text ms = more_exprs (members_of (map expr_view ms))
 
-abbrev behind : Expr → List ℕ
-behind m = 32 ∷ expr (expr_view m)
+-- one of them
+abbrev pub member_text : Expr → List ℕ
+member_text m = expr (expr_view m)
 
-joined : AreJoined more_text behind
-joined = record { nil = refl; cons = λ m ms. refl }
-
--- what stands before member i
-abbrev pub blank_at : ℕ → List ℕ
-blank_at zero = []
-blank_at (suc i) = 32 ∷ []
-
-pub blank_later : (i : ℕ) → 32 ∷ [] ≡ blank_at (i + 1)
-blank_later i = let e : i + 1 ≡ suc i = omega arith in sym (ap blank_at e)
-
-pub members_next : (ms : List Expr) (i : ℕ) (d : Expr) → i < length ms → members_text (take (i + 1) ms) ≡ members_text (take i ms) ++ (blank_at i ++ expr (expr_view (get_or ms i d)))
-members_next [] i d h = absurd (omega (arith, h))
-members_next (m ∷ ms) zero d h = append-nil (expr (expr_view m))
-members_next (m ∷ ms) (suc i) d h =
-    let e : suc i + 1 ≡ suc (i + 1) = omega arith in
-    ap (λ k. members_text (take k (m ∷ ms))) e ∙ ap (λ t. expr (expr_view m) ++ t) (joined_next more_text behind ms i d joined (omega (arith, h))) ∙ sym (append_assoc (expr (expr_view m)) (more_text (take i ms)) (behind (get_or ms i d)))
-
--- what stands behind so many members
-abbrev pub rest_of : ℕ → List Expr → List ℕ
-rest_of i [] = []
-rest_of zero (m ∷ ms) = members_text (m ∷ ms)
-rest_of (suc i) (m ∷ ms) = more_text (drop i ms)
-
-pub members_all : (ms : List Expr) (i : ℕ) → members_text ms ≡ members_text (take i ms) ++ rest_of i ms
-members_all [] zero = refl
-members_all [] (suc i) = refl
-members_all (m ∷ ms) zero = refl
-members_all (m ∷ ms) (suc i) = ap (λ t. expr (expr_view m) ++ t) (joined_all more_text behind ms i joined) ∙ sym (append_assoc (expr (expr_view m)) (more_text (take i ms)) (more_text (drop i ms)))
+pub members_spaced : AreSpaced members_text more_text member_text
+members_spaced = record { nil = refl; cons = λ m ms. refl; behind = record { nil = refl; cons = λ m ms. refl } }

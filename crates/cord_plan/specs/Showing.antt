@@ -8,7 +8,7 @@ use Rattle.cord_io.specs.declared.faults.WriteFault.{WriteFault}
 use Rattle.cord_iter.specs.Taking.{IsFrontOf, Takes}
 use Rattle.cord_plan.specs.Shown.{decimal, number, quoted, argument_words}
 use Rattle.cord_plan.specs.declared.shown.fragments.Fragment.{Fragment}
-use Rattle.cord_plan.specs.declared.shown.fragments.Fragment.TheVariants.{Plain, Count, Number, Path, Arguments}
+use Rattle.cord_plan.specs.declared.shown.fragments.Fragment.TheVariants.{Plain, Name, Count, Number, Path, Arguments}
 
 -- at Ok a sink took exactly this text and didn't fail; at Err it took a front part of it and failed once
 pub record Writes (text : List ℕ) (old new : Option (List ℕ)) (before after : ℕ) (r : Result (Unit {0}) WriteFault) : Type 0 where
@@ -18,6 +18,7 @@ pub record Writes (text : List ℕ) (old new : Option (List ℕ)) (before after 
 -- the text of a fragment
 abbrev pub fragment_text : Fragment → List ℕ
 fragment_text (Plain bytes) = bytes.now
+fragment_text (Name name) = name.now
 fragment_text (Count n) = decimal n
 fragment_text (Number operand) = number operand.now
 fragment_text (Path path) = quoted path.now

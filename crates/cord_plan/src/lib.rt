@@ -28,6 +28,7 @@ pub use pair_laws::{
     pairs_are_planned, pairs_leave_their_name_out, replacements_keep_expressions_small,
 };
 pub use rows::{plans_are_computed, runs_of_plans_are_computed};
+pub use shown::show_operations;
 
 /// The greatest number of parts of an expression that an operand was replaced in.
 pub const MAX_EXPR_PARTS: u32 = 64;

@@ -1,11 +1,11 @@
 // Fragments of a plan's text, and how a sink gets them.
-ghost use Rattle.std.specs.Prelude.{◌≡◌, ◌<◌, flat_map};
-ghost use Rattle.cord_plan.specs.Shown.{argument, argument_words, decimal, hex, number, path_byte, quoted, signed_decimal};
+ghost use Rattle.std.specs.Prelude.{◌≡◌, ◌<◌, flat_map, map};
+ghost use Rattle.cord_plan.specs.Shown.{argument, argument_words, decimal, hex, number, path_byte, quoted, signed_decimal, spaced};
 ghost use Rattle.cord_plan.specs.Showing.{Writes, fragment_text, fragments_text};
 
 use cord_io::{Sink, WriteFault};
 use cord_iter::put_all;
-use cord_script::{Argument, Arguments, Number, Path};
+use cord_script::{Argument, Arguments, Name, Number, Path};
 use itoa::Buffer;
 
 /// A fragment of a line of a plan's text.
@@ -13,6 +13,8 @@ use itoa::Buffer;
 pub enum Fragment<'a> {
     /// These bytes.
     Plain(&'a [u8]),
+    /// A name.
+    Name(&'a Name),
     /// A count, in decimal form.
     Count(u64),
     /// A number operand.
@@ -40,11 +42,25 @@ pub(crate) fn put_fragments<W: Sink>(fragments: &[Fragment], sink: &mut W) -> Re
     Ok(())
 }
 
+// Hands a sink fragments, separated by one blank.
+pub(crate) fn put_words<W: Sink>(words: &[Fragment], sink: &mut W) -> Result<(), WriteFault>
+    ensures { Writes (spaced (map fragment_text words.now)) (W.taken sink.old) (W.taken sink.new) (W.failures sink.old) (W.failures sink.new) result }
+{
+    let mut blank: &[u8] = b"";
+    for word in words {
+        put_text(blank, sink)?;
+        put_fragment(word, sink)?;
+        blank = b" ";
+    }
+    Ok(())
+}
+
 fn put_fragment<W: Sink>(fragment: &Fragment, sink: &mut W) -> Result<(), WriteFault>
     ensures { Writes (fragment_text fragment.now) (W.taken sink.old) (W.taken sink.new) (W.failures sink.old) (W.failures sink.new) result }
 {
     match fragment {
         Fragment::Plain(bytes) => put_text(bytes, sink),
+        Fragment::Name(name) => put_text(name.as_slice(), sink),
         Fragment::Count(count) => put_count(*count, sink),
         Fragment::Number(number) => put_number(number, sink),
         Fragment::Path(path) => put_path(path, sink),
@@ -101,7 +117,10 @@ fn put_path_byte<W: Sink>(byte: u8, sink: &mut W) -> Result<(), WriteFault>
     ensures { Writes (path_byte byte) (W.taken sink.old) (W.taken sink.new) (W.failures sink.old) (W.failures sink.new) result }
 {
     if byte == b'"' || byte == b'\\' || byte < 32 || byte > 126 {
-        put_text(&[b'\\', b'x', hex_digit(byte / 16), hex_digit(byte % 16)], sink)
+        put_text(
+            &[b'\\', b'x', hex_digit(byte / 16), hex_digit(byte % 16)],
+            sink,
+        )
     } else {
         put_text(&[byte], sink)
     }

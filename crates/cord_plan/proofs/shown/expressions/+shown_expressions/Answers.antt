@@ -6,8 +6,8 @@ use Rattle.cord_plan.specs.Exprs as plain
 use Rattle.cord_plan.specs.Shown.{expr, exprs, number, called, spaced}
 use Rattle.cord_plan.specs.Views.{expr_view, members_of, members_view}
 use Rattle.cord_plan.proofs.ExprViews.{view-Run, view-Cat, view-Sub}
-use Rattle.cord_plan.proofs.MemberTexts.{weight, weights, members_text, blank_at, blank_later, members_next, members_all, rest_of, member_below}
-use Rattle.cord_plan.proofs.Spacing.{two_words, three_words}
+use Rattle.cord_plan.proofs.MemberTexts.{weight, weights, members_text, more_text, member_text, members_spaced, member_below}
+use Rattle.cord_plan.proofs.Spacing.{two_words, three_words, blank_at, blank_later, spaced_next, spaced_all, rest_of}
 use Rattle.cord_plan.proofs.Writing.{writes_same, writes_then, writes_stopped, writes_failed, writes_cut}
 use Rattle.cord_plan.proofs.shown.expressions.+shown_expressions.Goals as goal
 
@@ -86,8 +86,8 @@ put_members-returns-in_err-put_text g t c =
     let ms = c.args.members.now in
     let i = c.loop-member.member-index in
     let item = c.member-item.result in
-    let next = members_next ms i item c.loop-member-test.true ∙ ap (λ (x : Expr). members_text (take i ms) ++ (blank_at i ++ expr (expr_view x))) (sym c.member-item.is) in
-    writes_failed c.from_residual.ensures.0 (writes_cut (rest_of (i + 1) ms) (members_all ms (i + 1)) next c.loop-member.invariant.taken
+    let next = spaced_next members_text more_text member_text members_spaced ms i item c.loop-member-test.true ∙ ap (λ (x : Expr). members_text (take i ms) ++ (blank_at i ++ expr (expr_view x))) (sym c.member-item.is) in
+    writes_failed c.from_residual.ensures.0 (writes_cut (rest_of members_text more_text member_text members_spaced (i + 1) ms) (spaced_all members_text more_text member_text members_spaced ms (i + 1)) next c.loop-member.invariant.taken
     (writes_stopped (expr (expr_view item)) (writes_same c.loop-member.invariant.blank c.in_err-put_text.ensures)))
 
 pub put_members-returns-in_err-put_expression : goal.put_members-returns-in_err-put_expression
@@ -95,8 +95,8 @@ put_members-returns-in_err-put_expression g t c =
     let ms = c.args.members.now in
     let i = c.loop-member.member-index in
     let item = c.member-item.result in
-    let next = members_next ms i item c.loop-member-test.true ∙ ap (λ (x : Expr). members_text (take i ms) ++ (blank_at i ++ expr (expr_view x))) (sym c.member-item.is) in
-    writes_failed c.from_residual-in_err-put_expression.ensures.0 (writes_cut (rest_of (i + 1) ms) (members_all ms (i + 1)) next c.loop-member.invariant.taken
+    let next = spaced_next members_text more_text member_text members_spaced ms i item c.loop-member-test.true ∙ ap (λ (x : Expr). members_text (take i ms) ++ (blank_at i ++ expr (expr_view x))) (sym c.member-item.is) in
+    writes_failed c.from_residual-in_err-put_expression.ensures.0 (writes_cut (rest_of members_text more_text member_text members_spaced (i + 1) ms) (spaced_all members_text more_text member_text members_spaced ms (i + 1)) next c.loop-member.invariant.taken
     (writes_then (writes_same c.loop-member.invariant.blank c.in_ok-put_text.ensures) c.in_err-put_expression.ensures))
 
 pub put_members-loop-member-preserved : goal.put_members-loop-member-preserved
@@ -104,7 +104,7 @@ put_members-loop-member-preserved g t c =
     let ms = c.args.members.now in
     let i = c.loop-member.member-index in
     let item = c.member-item.result in
-    let next = members_next ms i item c.loop-member-test.true ∙ ap (λ (x : Expr). members_text (take i ms) ++ (blank_at i ++ expr (expr_view x))) (sym c.member-item.is) in
+    let next = spaced_next members_text more_text member_text members_spaced ms i item c.loop-member-test.true ∙ ap (λ (x : Expr). members_text (take i ms) ++ (blank_at i ++ expr (expr_view x))) (sym c.member-item.is) in
     record {
       taken = writes_same (sym next) (writes_then c.loop-member.invariant.taken (writes_then (writes_same c.loop-member.invariant.blank c.in_ok-put_text.ensures) c.in_ok-put_expression.ensures));
       blank = blank_later i;

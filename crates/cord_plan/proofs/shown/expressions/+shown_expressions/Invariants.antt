@@ -1,7 +1,8 @@
 use Rattle.std.proofs.Common.{◌≡◌, take, map, Ok}
 use Rattle.cord_plan.specs.Showing.{Writes}
 use Rattle.cord_plan.specs.Views.{expr_view, members_of}
-use Rattle.cord_plan.proofs.MemberTexts.{weight, weights, members_text, blank_at}
+use Rattle.cord_plan.proofs.MemberTexts.{weight, weights, members_text}
+use Rattle.cord_plan.proofs.Spacing.{blank_at}
 use Rattle.cord_plan.proofs.shown.expressions.+shown_expressions.Given as goal
 
 abbrev pub decreases-put_expression : goal.decreases-put_expression
