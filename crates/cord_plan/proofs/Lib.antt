@@ -28,3 +28,8 @@ pub mod Numerals
 pub mod Followers
 pub mod Sweeps
 pub mod Told
+pub mod Writing
+pub mod Decimals
+pub mod MemberTexts
+pub mod Spacing
+pub mod ExprViews

@@ -11,6 +11,7 @@ pub mod Flattening
 pub mod Resolved
 pub mod Pairs
 pub mod Shown
+pub mod Showing
 pub mod Meaning
 pub mod Conditions
 pub mod Rows

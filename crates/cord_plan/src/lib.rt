@@ -12,6 +12,7 @@ mod own;
 mod pair_laws;
 mod plans;
 mod rows;
+mod shown;
 mod successors;
 #[cfg(test)]
 mod tests;

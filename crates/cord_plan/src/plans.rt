@@ -1,12 +1,17 @@
 // Plans.
-ghost use Rattle.std.specs.Prelude.{◌≡◌, IfOk, IsOkUnless, map};
+ghost use Rattle.std.specs.Prelude.{◌≡◌, IfErr, IfOk, IsOkUnless, OnErr, OnOk, map};
+ghost use Rattle.std.specs.Io.KnownBytes.{Appends};
+ghost use Rattle.cord_io.specs.Device.{raised};
+ghost use Rattle.cord_iter.specs.Taking.{IsFrontOf, Takes};
 ghost use Rattle.cord_plan.specs.Planned as plan;
+ghost use Rattle.cord_plan.specs.Shown.{shown};
 ghost use Rattle.cord_plan.specs.Views.{operation_view};
 
 use crate::Operation;
 use crate::lines::operation_of;
 use crate::own::own_expression;
-use cord_io::CordError;
+use crate::shown::show_operations;
+use cord_io::{CordError, Sink};
 use cord_script::Script;
 use std::alloc::Global;
 use std::marker::Model;
@@ -50,5 +55,14 @@ impl Plan {
         ensures { result.now ≡ self.now }
     {
         &self.operations
+    }
+    /// Hands a sink the text of the plan: one line an operation, ended by byte 10. Refused with `WriteFailed` where the sink
+    /// failed: then it took a front part of the text.
+    pub fn show<W: Sink>(&self, sink: &mut W) -> Result<(), CordError>
+        ensures ok { OnOk result (Appends (W.taken sink.old) (W.taken sink.new) (shown (map operation_view self.now)) × (W.failures sink.new ≡ W.failures sink.old)) }
+        ensures err { OnErr result (Takes (IsFrontOf (shown (map operation_view self.now))) (W.taken sink.old) (W.taken sink.new) × (W.failures sink.new ≡ raised (W.failures sink.old))) }
+        ensures refused { IfErr result (λ e. e ≡ CordError.WriteFailed) }
+    {
+        show_operations(&self.operations, sink)
     }
 }

@@ -1,0 +1,39 @@
+-- The members of a `cat`: how their text grows, and that each is smaller than all of them.
+use Rattle.std.proofs.Common.{◌≡◌, ◌<◌, ℕ, zero, suc, ◌+◌, List, [], ◌∷◌, ◌++◌, length, map, take, drop, get_or, refl, sym, ap, ◌∙◌, append-nil, append_assoc, arith}
+use Rattle.cord_plan.specs.Exprs as plain
+use Rattle.cord_plan.specs.Shown.{expr, exprs, more_exprs}
+use Rattle.cord_plan.specs.Views.{expr_view, members_of}
+use Rattle.cord_plan.specs.declared.expressions.Expr.{Expr}
+use Rattle.cord_plan.proofs.Spacing.{AreSpaced}
+
+abbrev mutual
+  pub weight : plain.Expr → ℕ
+  weight (plain.name x) = 1
+  weight (plain.run c n) = 1
+  weight (plain.cat es) = weights es + 1
+  weight (plain.sub e i n) = weight e + 1
+
+  pub weights : plain.Exprs → ℕ
+  weights plain.nothing = 0
+  weights (plain.member e es) = weight e + weights es + 1
+
+-- a member is smaller than all of them
+pub member_below : (ms : List Expr) (i : ℕ) (d : Expr) → i < length ms → weight (expr_view (get_or ms i d)) < weights (members_of (map expr_view ms))
+member_below [] i d h = absurd (omega (arith, h))
+member_below (m ∷ ms) zero d h = omega arith
+member_below (m ∷ ms) (suc i) d h = let below = member_below ms i d (omega (arith, h)) in omega (arith, below)
+
+-- the text of members
+abbrev pub members_text : List Expr → List ℕ
+members_text ms = exprs (members_of (map expr_view ms))
+
+-- each behind a blank
+abbrev pub more_text : List Expr → List ℕ
+more_text ms = more_exprs (members_of (map expr_view ms))
+
+-- one of them
+abbrev pub member_text : Expr → List ℕ
+member_text m = expr (expr_view m)
+
+pub members_spaced : AreSpaced members_text more_text member_text
+members_spaced = record { nil = refl; cons = λ m ms. refl; behind = record { nil = refl; cons = λ m ms. refl } }

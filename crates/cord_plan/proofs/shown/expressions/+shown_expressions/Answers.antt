@@ -1,0 +1,111 @@
+use Rattle.std.proofs.Common.{rules, ◌≡◌, ◌<◌, ℕ, List, [], ◌∷◌, ◌++◌, map, refl, sym, ap, subst, ◌∙◌, arith, take, ◌+◌}
+use Rattle.std.specs.Prelude.{codes}
+use Rattle.cord_script.specs.declared.operands.Number.{Number}
+use Rattle.cord_plan.specs.declared.expressions.Expr.{Expr}
+use Rattle.cord_plan.specs.Exprs as plain
+use Rattle.cord_plan.specs.Shown.{expr, exprs, number, called, spaced}
+use Rattle.cord_plan.specs.Views.{expr_view, members_of, members_view}
+use Rattle.cord_plan.proofs.ExprViews.{view-Run, view-Cat, view-Sub}
+use Rattle.cord_plan.proofs.MemberTexts.{weight, weights, members_text, more_text, member_text, members_spaced, member_below}
+use Rattle.cord_plan.proofs.Spacing.{two_words, three_words, blank_at, blank_later, spaced_next, spaced_all, rest_of}
+use Rattle.cord_plan.proofs.Writing.{writes_same, writes_then, writes_stopped, writes_failed, writes_cut}
+use Rattle.cord_plan.proofs.shown.expressions.+shown_expressions.Goals as goal
+
+abbrev cat_open : List ℕ
+cat_open = 99 ∷ 97 ∷ 116 ∷ 40 ∷ []
+
+abbrev sub_open : List ℕ
+sub_open = 115 ∷ 117 ∷ 98 ∷ 40 ∷ []
+
+-- what stands behind the expression of a `sub`
+abbrev behind : Number → Number → List ℕ
+behind i n = 32 ∷ (number i ++ 32 ∷ (number n ++ 41 ∷ []))
+
+sub_text : (x : List ℕ) (i n : Number) → called (codes "sub") (spaced (x ∷ number i ∷ number n ∷ [])) ≡ sub_open ++ (x ++ behind i n)
+sub_text x i n = ap (λ (t : List ℕ). sub_open ++ t) (three_words x (number i) (number n) (41 ∷ []))
+
+pub put_expression-returns-in_err-put_text-in-Cat : goal.put_expression-returns-in_err-put_text-in-Cat
+put_expression-returns-in_err-put_text-in-Cat g t c =
+    let view : expr_view c.args.expression.now ≡ plain.cat (members_view c.in-Cat.members) = ap expr_view c.in-Cat.is ∙ view-Cat c.in-Cat.members in
+    let text : expr (expr_view c.args.expression.now) ≡ cat_open ++ (exprs (members_view c.in-Cat.members) ++ 41 ∷ []) = ap expr view in
+    writes_failed c.from_residual.ensures.0 (writes_same (sym text) (writes_stopped (exprs (members_view c.in-Cat.members) ++ 41 ∷ []) c.in_err-put_text-in-Cat.ensures))
+
+pub put_expression-returns-in_err-put_members-in-Cat : goal.put_expression-returns-in_err-put_members-in-Cat
+put_expression-returns-in_err-put_members-in-Cat g t c =
+    let view : expr_view c.args.expression.now ≡ plain.cat (members_view c.in-Cat.members) = ap expr_view c.in-Cat.is ∙ view-Cat c.in-Cat.members in
+    let text : expr (expr_view c.args.expression.now) ≡ cat_open ++ (exprs (members_view c.in-Cat.members) ++ 41 ∷ []) = ap expr view in
+    let same = ap exprs (sym c.as_slice-in-Cat.ensures) in
+    writes_failed c.from_residual-in_err-put_members-in-Cat.ensures.0 (writes_same (sym text) (writes_then c.in_ok-put_text-in-Cat.ensures (writes_stopped (41 ∷ []) (writes_same same c.in_err-put_members-in-Cat.ensures))))
+
+pub put_expression-returns-in_ok-put_members-in-Cat : goal.put_expression-returns-in_ok-put_members-in-Cat
+put_expression-returns-in_ok-put_members-in-Cat g t c =
+    let view : expr_view c.args.expression.now ≡ plain.cat (members_view c.in-Cat.members) = ap expr_view c.in-Cat.is ∙ view-Cat c.in-Cat.members in
+    let text : expr (expr_view c.args.expression.now) ≡ cat_open ++ (exprs (members_view c.in-Cat.members) ++ 41 ∷ []) = ap expr view in
+    let same = ap exprs (sym c.as_slice-in-Cat.ensures) in
+    writes_same (sym text) (writes_then c.in_ok-put_text-in-Cat.ensures (writes_then (writes_same same c.in_ok-put_members-in-Cat.ensures) c.put_text-in-Cat-2.ensures))
+
+pub put_expression-returns-in_err-put_text-in-Sub : goal.put_expression-returns-in_err-put_text-in-Sub
+put_expression-returns-in_err-put_text-in-Sub g t c =
+    let inner = expr (expr_view c.in-Sub.expression.value) in
+    let view : expr_view c.args.expression.now ≡ plain.sub (expr_view c.in-Sub.expression.value) c.in-Sub.start c.in-Sub.count = ap expr_view c.in-Sub.is ∙ view-Sub c.in-Sub.expression c.in-Sub.start c.in-Sub.count in
+    let text : expr (expr_view c.args.expression.now) ≡ sub_open ++ (inner ++ behind c.in-Sub.start c.in-Sub.count) = ap expr view ∙ sub_text inner c.in-Sub.start c.in-Sub.count in
+    writes_failed c.from_residual-in_err-put_text-in-Sub.ensures.0 (writes_same (sym text) (writes_stopped (inner ++ behind c.in-Sub.start c.in-Sub.count) c.in_err-put_text-in-Sub.ensures))
+
+pub put_expression-returns-in_err-put_expression-in-Sub : goal.put_expression-returns-in_err-put_expression-in-Sub
+put_expression-returns-in_err-put_expression-in-Sub g t c =
+    let inner = expr (expr_view c.in-Sub.expression.value) in
+    let view : expr_view c.args.expression.now ≡ plain.sub (expr_view c.in-Sub.expression.value) c.in-Sub.start c.in-Sub.count = ap expr_view c.in-Sub.is ∙ view-Sub c.in-Sub.expression c.in-Sub.start c.in-Sub.count in
+    let text : expr (expr_view c.args.expression.now) ≡ sub_open ++ (inner ++ behind c.in-Sub.start c.in-Sub.count) = ap expr view ∙ sub_text inner c.in-Sub.start c.in-Sub.count in
+    let same = ap (λ e. expr (expr_view e)) c.as_ref.ensures in
+    writes_failed c.from_residual-in_err-put_expression-in-Sub.ensures.0 (writes_same (sym text) (writes_then c.in_ok-put_text-in-Sub.ensures (writes_stopped (behind c.in-Sub.start c.in-Sub.count) (writes_same same c.in_err-put_expression-in-Sub.ensures))))
+
+pub put_expression-returns-in_ok-put_expression-in-Sub : goal.put_expression-returns-in_ok-put_expression-in-Sub
+put_expression-returns-in_ok-put_expression-in-Sub g t c =
+    let inner = expr (expr_view c.in-Sub.expression.value) in
+    let view : expr_view c.args.expression.now ≡ plain.sub (expr_view c.in-Sub.expression.value) c.in-Sub.start c.in-Sub.count = ap expr_view c.in-Sub.is ∙ view-Sub c.in-Sub.expression c.in-Sub.start c.in-Sub.count in
+    let text : expr (expr_view c.args.expression.now) ≡ sub_open ++ (inner ++ behind c.in-Sub.start c.in-Sub.count) = ap expr view ∙ sub_text inner c.in-Sub.start c.in-Sub.count in
+    let same = ap (λ e. expr (expr_view e)) c.as_ref.ensures in
+    writes_same (sym text) (writes_then c.in_ok-put_text-in-Sub.ensures (writes_then (writes_same same c.in_ok-put_expression-in-Sub.ensures) c.put_fragments-in-Sub.ensures))
+
+pub put_expression-returns-in-Run : goal.put_expression-returns-in-Run
+put_expression-returns-in-Run g t c =
+    let view : expr_view c.args.expression.now ≡ plain.run c.in-Run.byte c.in-Run.count = ap expr_view c.in-Run.is ∙ view-Run c.in-Run.byte c.in-Run.count in
+    let text : expr (expr_view c.args.expression.now) ≡ called (codes "run") (spaced (number c.in-Run.byte ∷ number c.in-Run.count ∷ [])) = ap expr view in
+    let words = two_words (number c.in-Run.byte) (number c.in-Run.count) (41 ∷ []) in
+    writes_same (sym (text ∙ ap (λ (t : List ℕ). codes "run(" ++ t) words)) c.put_fragments.ensures
+
+pub put_members-put_expression-requires : goal.put_members-put_expression-requires
+put_members-put_expression-requires g t c κs within =
+    let ms = c.args.members.now in
+    let item = c.member-item.result in
+    let below : weight (expr_view item) < weights (members_of (map expr_view ms)) = subst (λ (x : Expr). weight (expr_view x) < weights (members_of (map expr_view ms))) (sym c.member-item.is) (member_below ms c.loop-member.member-index item c.loop-member-test.true) in
+    search (rules, below)
+
+pub put_members-returns-in_err-put_text : goal.put_members-returns-in_err-put_text
+put_members-returns-in_err-put_text g t c =
+    let ms = c.args.members.now in
+    let i = c.loop-member.member-index in
+    let item = c.member-item.result in
+    let next = spaced_next members_text more_text member_text members_spaced ms i item c.loop-member-test.true ∙ ap (λ (x : Expr). members_text (take i ms) ++ (blank_at i ++ expr (expr_view x))) (sym c.member-item.is) in
+    writes_failed c.from_residual.ensures.0 (writes_cut (rest_of members_text more_text member_text members_spaced (i + 1) ms) (spaced_all members_text more_text member_text members_spaced ms (i + 1)) next c.loop-member.invariant.taken
+    (writes_stopped (expr (expr_view item)) (writes_same c.loop-member.invariant.blank c.in_err-put_text.ensures)))
+
+pub put_members-returns-in_err-put_expression : goal.put_members-returns-in_err-put_expression
+put_members-returns-in_err-put_expression g t c =
+    let ms = c.args.members.now in
+    let i = c.loop-member.member-index in
+    let item = c.member-item.result in
+    let next = spaced_next members_text more_text member_text members_spaced ms i item c.loop-member-test.true ∙ ap (λ (x : Expr). members_text (take i ms) ++ (blank_at i ++ expr (expr_view x))) (sym c.member-item.is) in
+    writes_failed c.from_residual-in_err-put_expression.ensures.0 (writes_cut (rest_of members_text more_text member_text members_spaced (i + 1) ms) (spaced_all members_text more_text member_text members_spaced ms (i + 1)) next c.loop-member.invariant.taken
+    (writes_then (writes_same c.loop-member.invariant.blank c.in_ok-put_text.ensures) c.in_err-put_expression.ensures))
+
+pub put_members-loop-member-preserved : goal.put_members-loop-member-preserved
+put_members-loop-member-preserved g t c =
+    let ms = c.args.members.now in
+    let i = c.loop-member.member-index in
+    let item = c.member-item.result in
+    let next = spaced_next members_text more_text member_text members_spaced ms i item c.loop-member-test.true ∙ ap (λ (x : Expr). members_text (take i ms) ++ (blank_at i ++ expr (expr_view x))) (sym c.member-item.is) in
+    record {
+      taken = writes_same (sym next) (writes_then c.loop-member.invariant.taken (writes_then (writes_same c.loop-member.invariant.blank c.in_ok-put_text.ensures) c.in_ok-put_expression.ensures));
+      blank = blank_later i;
+    }

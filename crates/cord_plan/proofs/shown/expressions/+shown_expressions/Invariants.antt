@@ -1,0 +1,18 @@
+use Rattle.std.proofs.Common.{◌≡◌, take, map, Ok}
+use Rattle.cord_plan.specs.Showing.{Writes}
+use Rattle.cord_plan.specs.Views.{expr_view, members_of}
+use Rattle.cord_plan.proofs.MemberTexts.{weight, weights, members_text}
+use Rattle.cord_plan.proofs.Spacing.{blank_at}
+use Rattle.cord_plan.proofs.shown.expressions.+shown_expressions.Given as goal
+
+abbrev pub decreases-put_expression : goal.decreases-put_expression
+decreases-put_expression g l = weight (expr_view l.expression.now)
+
+abbrev pub decreases-put_members : goal.decreases-put_members
+decreases-put_members g l = weights (members_of (map expr_view l.members.now))
+
+abbrev pub invariant-put_members-loop-member : goal.invariant-put_members-loop-member
+invariant-put_members-loop-member g l = record {
+  taken : Writes (members_text (take l.member-index l.members)) (g.W.Sink.taken l.initial.sink) (g.W.Sink.taken l.sink) (g.W.Sink.failures l.initial.sink) (g.W.Sink.failures l.sink) (Ok tt);
+  blank : l.blank ≡ blank_at l.member-index;
+}

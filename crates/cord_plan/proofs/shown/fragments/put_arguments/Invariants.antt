@@ -1,0 +1,7 @@
+use Rattle.std.proofs.Common.{take, flat_map, Ok}
+use Rattle.cord_plan.specs.Shown.{path_byte, argument_words}
+use Rattle.cord_plan.specs.Showing.{Writes, fragments_text}
+use Rattle.cord_plan.proofs.shown.fragments.put_arguments.Given as goal
+
+abbrev pub invariant-loop-argument : goal.invariant-loop-argument
+invariant-loop-argument g l = Writes (argument_words (take l.argument-index l.arguments)) (g.W.Sink.taken l.initial.sink) (g.W.Sink.taken l.sink) (g.W.Sink.failures l.initial.sink) (g.W.Sink.failures l.sink) (Ok tt)

@@ -1,0 +1,157 @@
+// The text of plans.
+mod expressions;
+mod fragments;
+mod lines;
+mod statements;
+
+ghost use Rattle.std.specs.Prelude.{◌≡◌, [], ◌∷◌, codes, map, OnOk, OnErr, IfErr};
+ghost use Rattle.std.specs.Io.KnownBytes.{Appends};
+ghost use Rattle.cord_io.specs.Device.{raised};
+ghost use Rattle.cord_meaning.specs.Statements.{line_of};
+ghost use Rattle.cord_iter.specs.Taking.{IsFrontOf, Takes};
+ghost use Rattle.cord_plan.specs.Shown.{decimal, expr, function, spaced, statement, made as made_text, operation as operation_text, shown};
+ghost use Rattle.cord_plan.specs.Showing.{Writes};
+ghost use Rattle.cord_plan.specs.Views.{expr_view, made_view, operation_view};
+
+use self::expressions::put_expression;
+use self::fragments::Fragment::{Arguments, Count, Name, Number, Path, Plain};
+use self::fragments::{put_fragments, put_text};
+use self::lines::line_number;
+use self::statements::put_statement;
+use crate::{Expr, Made, Operation};
+use cord_io::{CordError, Sink, WriteFault};
+use cord_script::{Function, Statement};
+
+/// Hands a sink the text of operations: one line each, ended by byte 10. Refused with `WriteFailed` where the sink failed: then it took
+/// a front part of the text.
+pub(crate) fn show_operations<W: Sink>(operations: &[Operation], sink: &mut W) -> Result<(), CordError>
+    ensures ok { OnOk result (Appends (W.taken sink.old) (W.taken sink.new) (shown (map operation_view operations.now)) × (W.failures sink.new ≡ W.failures sink.old)) }
+    ensures err { OnErr result (Takes (IsFrontOf (shown (map operation_view operations.now))) (W.taken sink.old) (W.taken sink.new) × (W.failures sink.new ≡ raised (W.failures sink.old))) }
+    ensures refused { IfErr result (λ e. e ≡ CordError.WriteFailed) }
+{
+    put_operations(operations, sink)?;
+    Ok(())
+}
+
+fn put_operations<W: Sink>(operations: &[Operation], sink: &mut W) -> Result<(), WriteFault>
+    ensures { Writes (shown (map operation_view operations.now)) (W.taken sink.old) (W.taken sink.new) (W.failures sink.old) (W.failures sink.new) result }
+{
+    for operation in operations {
+        put_operation(operation, sink)?;
+        put_text(b"\n", sink)?;
+    }
+    Ok(())
+}
+
+// A line of the text, without its end.
+fn put_operation<W: Sink>(operation: &Operation, sink: &mut W) -> Result<(), WriteFault>
+    ensures { Writes (operation_text (operation_view operation.now)) (W.taken sink.old) (W.taken sink.new) (W.failures sink.old) (W.failures sink.new) result }
+{
+    match operation {
+        Operation::Build { line, target, made } => put_given(*line, b"build", target, made, sink),
+        Operation::Measure { line, target, made } => put_given(
+            *line, b"measure", target, made, sink,
+        ),
+        Operation::Write { line, expression } => put_written(*line, expression, sink),
+        Operation::Keep(statement) => put_kept(statement, sink),
+    }
+}
+
+// The line of an operation that gives a name its cord or its length.
+fn put_given<'a, W: Sink>(
+    line: u32,
+    verb: &'a [u8],
+    target: &'a cord_script::Name,
+    made: &Made,
+    sink: &mut W,
+) -> Result<(), WriteFault>
+    ensures { Writes (spaced (decimal line ∷ verb.now ∷ target.now ∷ made_text (made_view made.now) ∷ [])) (W.taken sink.old) (W.taken sink.new) (W.failures sink.old) (W.failures sink.new) result }
+{
+    let head = [
+        Count(line as u64),
+        Plain(b" "),
+        Plain(verb),
+        Plain(b" "),
+        Name(target),
+        Plain(b" "),
+    ];
+    put_fragments(&head, sink)?;
+    put_made(made, sink)
+}
+
+// The line of an operation that puts an expression.
+fn put_written<W: Sink>(line: u32, expression: &Expr, sink: &mut W) -> Result<(), WriteFault>
+    ensures { Writes (spaced (decimal line ∷ codes "write" ∷ expr (expr_view expression.now) ∷ [])) (W.taken sink.old) (W.taken sink.new) (W.failures sink.old) (W.failures sink.new) result }
+{
+    put_fragments(&[Count(line as u64), Plain(b" write ")], sink)?;
+    put_expression(expression, sink)
+}
+
+// The line of a statement that is kept.
+fn put_kept<W: Sink>(kept: &Statement, sink: &mut W) -> Result<(), WriteFault>
+    ensures { Writes (spaced (decimal (line_of kept.now) ∷ statement kept.now ∷ [])) (W.taken sink.old) (W.taken sink.new) (W.failures sink.old) (W.failures sink.new) result }
+{
+    put_fragments(&[Count(line_number(kept) as u64), Plain(b" ")], sink)?;
+    put_statement(kept, sink)
+}
+
+// What a name is made of.
+fn put_made<W: Sink>(made: &Made, sink: &mut W) -> Result<(), WriteFault>
+    ensures { Writes (made_text (made_view made.now)) (W.taken sink.old) (W.taken sink.new) (W.failures sink.old) (W.failures sink.new) result }
+{
+    match made {
+        Made::Joined(expression) => put_expression(expression, sink),
+        Made::Literal(text) => put_fragments(
+            &[
+                Plain(b"literal("),
+                Count(text.as_slice().len() as u64),
+                Plain(b")"),
+            ],
+            sink,
+        ),
+        Made::OfFile(path) => put_fragments(&[Plain(b"file("), Path(path), Plain(b")")], sink),
+        Made::OfEager(path) => put_fragments(&[Plain(b"eager("), Path(path), Plain(b")")], sink),
+        Made::OfLazy(path) => put_fragments(&[Plain(b"lazy("), Path(path), Plain(b")")], sink),
+        Made::OfFunction(function, count) => {
+            put_fragments(
+                &[
+                    Plain(b"fn("),
+                    Plain(function_word(*function)),
+                    Plain(b" "),
+                    Number(count),
+                    Plain(b")"),
+                ],
+                sink,
+            )
+        }
+        Made::Balanced(name) => put_fragments(&[Plain(b"balance("), Name(name), Plain(b")")], sink),
+        Made::OfExtensible(name) => put_fragments(
+            &[Plain(b"ectocord("), Name(name), Plain(b")")],
+            sink,
+        ),
+        Made::Printed(text, _, arguments) => {
+            put_fragments(
+                &[
+                    Plain(b"sprintf("),
+                    Count(text.as_slice().len() as u64),
+                    Arguments(arguments),
+                    Plain(b")"),
+                ],
+                sink,
+            )
+        }
+    }
+}
+
+// The word for a function.
+fn function_word(named: Function) -> &'static [u8]
+    ensures { result.now ≡ function named }
+{
+    match named {
+        Function::Digits => b"digits",
+        Function::Bytes => b"bytes",
+    }
+}
+
+#[cfg(test)]
+mod tests;

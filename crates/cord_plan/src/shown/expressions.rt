@@ -1,0 +1,64 @@
+// The text of expressions.
+ghost use Rattle.std.specs.Prelude.{map};
+ghost use Rattle.cord_plan.specs.Shown.{expr, exprs};
+ghost use Rattle.cord_plan.specs.Showing.{Writes};
+ghost use Rattle.cord_plan.specs.Views.{expr_view, members_of};
+
+use super::fragments::{Fragment, put_fragments, put_text};
+use crate::Expr;
+use cord_io::{Sink, WriteFault};
+
+// Hands a sink the text of an expression.
+#[cycle(shown_expressions)]
+pub(crate) fn put_expression<W: Sink>(expression: &Expr, sink: &mut W) -> Result<(), WriteFault>
+    ensures { Writes (expr (expr_view expression.now)) (W.taken sink.old) (W.taken sink.new) (W.failures sink.old) (W.failures sink.new) result }
+{
+    match expression {
+        Expr::Name(name) => put_text(name.as_slice(), sink),
+        Expr::Run { byte, count } => {
+            let numbers = [
+                Fragment::Plain(b"run("),
+                Fragment::Number(byte),
+                Fragment::Plain(b" "),
+                Fragment::Number(count),
+                Fragment::Plain(b")"),
+            ];
+            put_fragments(&numbers, sink)
+        }
+        Expr::Cat(members) => {
+            put_text(b"cat(", sink)?;
+            put_members(members.as_slice(), sink)?;
+            put_text(b")", sink)
+        }
+        Expr::Sub {
+            expression,
+            start,
+            count,
+        } => {
+            put_text(b"sub(", sink)?;
+            put_expression(expression.as_ref(), sink)?;
+            let numbers = [
+                Fragment::Plain(b" "),
+                Fragment::Number(start),
+                Fragment::Plain(b" "),
+                Fragment::Number(count),
+                Fragment::Plain(b")"),
+            ];
+            put_fragments(&numbers, sink)
+        }
+    }
+}
+
+// The members of a `cat`, separated by one blank.
+#[cycle(shown_expressions)]
+fn put_members<W: Sink>(members: &[Expr], sink: &mut W) -> Result<(), WriteFault>
+    ensures { Writes (exprs (members_of (map expr_view members.now))) (W.taken sink.old) (W.taken sink.new) (W.failures sink.old) (W.failures sink.new) result }
+{
+    let mut blank: &[u8] = b"";
+    for member in members {
+        put_text(blank, sink)?;
+        put_expression(member, sink)?;
+        blank = b" ";
+    }
+    Ok(())
+}
