@@ -24,7 +24,10 @@ use cord_script::{Function, Statement};
 
 /// Hands a sink the text of operations: one line each, ended by byte 10. Refused with `WriteFailed` where the sink failed: then it took
 /// a front part of the text.
-pub(crate) fn show_operations<W: Sink>(operations: &[Operation], sink: &mut W) -> Result<(), CordError>
+pub(crate) fn show_operations<W: Sink>(
+    operations: &[Operation],
+    sink: &mut W,
+) -> Result<(), CordError>
     ensures ok { OnOk result (Appends (W.taken sink.old) (W.taken sink.new) (shown (map operation_view operations.now)) × (W.failures sink.new ≡ W.failures sink.old)) }
     ensures err { OnErr result (Takes (IsFrontOf (shown (map operation_view operations.now))) (W.taken sink.old) (W.taken sink.new) × (W.failures sink.new ≡ raised (W.failures sink.old))) }
     ensures refused { IfErr result (λ e. e ≡ CordError.WriteFailed) }
