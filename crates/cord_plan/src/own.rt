@@ -64,8 +64,8 @@ fn run(byte: Number, count: Number) -> Expr
     Expr::Run { byte, count }
 }
 
-// A name as an expression.
-fn named(name: &Name) -> Result<Expr, CordError>
+/// A name as an expression.
+pub(crate) fn named(name: &Name) -> Result<Expr, CordError>
     ensures made { IfOk result (λ e. expr_view e ≡ plain.name name.now) }
     ensures refused { IsOkUnless result CordError.NoMemory }
 {
