@@ -34,5 +34,6 @@ pub mod MemberTexts
 pub mod PartSums
 pub mod Nearest
 pub mod Choices
+pub mod Joined
 pub mod Spacing
 pub mod ExprViews

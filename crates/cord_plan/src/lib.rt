@@ -4,6 +4,7 @@
 mod choosing;
 mod expression_laws;
 mod expressions;
+mod joining;
 mod laws;
 mod lines;
 mod liveness;

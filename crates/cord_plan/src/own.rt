@@ -50,15 +50,15 @@ pub(crate) fn own_expression(
     }
 }
 
-// `cat` of these members.
-fn cat(members: Vec<Expr>) -> Expr
+/// `cat` of these members.
+pub(crate) fn cat(members: Vec<Expr>) -> Expr
     ensures { expr_view result ≡ plain.cat (members_of (map expr_view members.items)) }
 {
     Expr::Cat(Members::of(members))
 }
 
-// `run(byte count)`.
-fn run(byte: Number, count: Number) -> Expr
+/// `run(byte count)`.
+pub(crate) fn run(byte: Number, count: Number) -> Expr
     ensures { expr_view result ≡ plain.run byte count }
 {
     Expr::Run { byte, count }
