@@ -1,11 +1,10 @@
 -- The decimal form of numbers, as it is printed.
 use Rattle.std.proofs.Common.{◌≡◌, ◌<◌, ◌^◌, ℕ, zero, suc, ◌+◌, ◌-◌, ◌∷◌, ◌++◌, length, replicate, refl, sym, ap, ◌∙◌, arith}
 use Rattle.std.proofs.Common.{ℤ, pos, negsuc, w64, to_z, of_z}
-use mir.Val.{SFits, hbits}
+use mir.Val.{SFits}
 use lib.Signed.{mag}
 use Rattle.std.proofs.lemmas.Int.{to_z-of_z}
 use Rattle.std.specs.Fmt as std
-use Rattle.std.specs.Int.Digits.{digits_of}
 use Rattle.std.proofs.lemmas.Fmt.{decimal_nonempty}
 use Rattle.cord_printf.proofs.Figures.{decimal-figures}
 use Rattle.cord_plan.specs.Shown.{decimal, signed_decimal}

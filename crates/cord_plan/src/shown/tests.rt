@@ -157,3 +157,17 @@ fn paths_and_negative_numbers(rt: HostRuntime) -> Result<(), Fail> {
     );
     Ok(())
 }
+
+// A sink that takes a byte a call and fails at the tenth call.
+#[test]
+fn a_sink_that_fails_has_a_front_part(rt: HostRuntime) -> Result<(), Fail> {
+    let alloc = rt.alloc();
+    let plan = seam(alloc)?;
+    let mut sink = FuseSink::new(MemSink::new(alloc), 9, 1);
+    assert_eq!(rt;
+        show_operations(&plan, &mut sink),
+        Err(CordError::WriteFailed)
+    );
+    assert_eq!(rt; sink.inner().bytes(), b"1 build a".as_slice());
+    Ok(())
+}

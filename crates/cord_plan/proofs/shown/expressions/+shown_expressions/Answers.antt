@@ -1,4 +1,4 @@
-use Rattle.std.proofs.Common.{rules, ◌≡◌, ◌<◌, ℕ, List, [], ◌∷◌, ◌++◌, map, refl, sym, ap, subst, ◌∙◌, arith, take, ◌+◌}
+use Rattle.std.proofs.Common.{rules, ◌≡◌, ◌<◌, ℕ, List, [], ◌∷◌, ◌++◌, map, sym, ap, subst, ◌∙◌, take, ◌+◌}
 use Rattle.std.specs.Prelude.{codes}
 use Rattle.cord_script.specs.declared.operands.Number.{Number}
 use Rattle.cord_plan.specs.declared.expressions.Expr.{Expr}

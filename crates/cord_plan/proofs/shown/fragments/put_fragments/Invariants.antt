@@ -1,5 +1,4 @@
-use Rattle.std.proofs.Common.{take, flat_map, Ok}
-use Rattle.cord_plan.specs.Shown.{path_byte, argument_words}
+use Rattle.std.proofs.Common.{take, Ok}
 use Rattle.cord_plan.specs.Showing.{Writes, fragments_text}
 use Rattle.cord_plan.proofs.shown.fragments.put_fragments.Given as goal
 

@@ -1,4 +1,4 @@
-use Rattle.std.proofs.Common.{List, ℕ, [], ◌∷◌, ◌++◌, flat_map, ◌∙◌, ap}
+use Rattle.std.proofs.Common.{[], ◌∷◌, ◌++◌, flat_map, ◌∙◌, ap}
 use Rattle.cord_plan.specs.Shown.{path_byte}
 use Rattle.cord_plan.proofs.Writing.{writes_same, writes_then, writes_stopped, writes_failed}
 use Rattle.cord_plan.proofs.shown.fragments.put_path.Goals as goal

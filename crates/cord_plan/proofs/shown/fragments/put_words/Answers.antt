@@ -1,4 +1,4 @@
-use Rattle.std.proofs.Common.{◌≡◌, ◌+◌, ◌++◌, List, ℕ, map, take, sym, ap, ◌∙◌}
+use Rattle.std.proofs.Common.{◌+◌, ◌++◌, List, ℕ, map, take, sym, ap, ◌∙◌}
 use Rattle.cord_plan.specs.declared.shown.fragments.Fragment.{Fragment}
 use Rattle.cord_plan.specs.Shown.{spaced}
 use Rattle.cord_plan.specs.Showing.{fragment_text}
