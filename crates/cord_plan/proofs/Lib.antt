@@ -31,5 +31,9 @@ pub mod Told
 pub mod Writing
 pub mod Decimals
 pub mod MemberTexts
+pub mod PartSums
+pub mod Nearest
+pub mod Choices
+pub mod Joined
 pub mod Spacing
 pub mod ExprViews

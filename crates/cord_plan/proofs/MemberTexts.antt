@@ -1,5 +1,5 @@
 -- The members of a `cat`: how their text grows, and that each is smaller than all of them.
-use Rattle.std.proofs.Common.{◌<◌, ℕ, zero, suc, ◌+◌, List, [], ◌∷◌, length, map, get_or, refl, arith}
+use Rattle.std.proofs.Common.{◌≡◌, ◌<◌, ℕ, zero, suc, ◌+◌, List, [], ◌∷◌, ◌++◌, length, map, take, drop, get_or, refl, sym, ap, subst, ◌∙◌, append-nil, append_assoc, arith}
 use Rattle.cord_plan.specs.Exprs as plain
 use Rattle.cord_plan.specs.Shown.{expr, exprs, more_exprs}
 use Rattle.cord_plan.specs.Views.{expr_view, members_of}
@@ -37,3 +37,7 @@ member_text m = expr (expr_view m)
 
 pub members_spaced : AreSpaced members_text more_text member_text
 members_spaced = record { nil = refl; cons = λ m ms. refl; behind = record { nil = refl; cons = λ m ms. refl } }
+
+-- the member at hand on a walk over all of them
+pub member_there : (ms : List Expr) (i : ℕ) (m : Expr) → i < length ms → m ≡ get_or ms i m → weight (expr_view m) < weights (members_of (map expr_view ms))
+member_there ms i m h is = subst (λ (x : Expr). weight (expr_view x) < weights (members_of (map expr_view ms))) (sym is) (member_below ms i m h)

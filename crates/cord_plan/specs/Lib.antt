@@ -4,6 +4,7 @@ pub mod Operands
 pub mod Unread
 pub mod Liveness
 pub mod Forced
+pub mod Choices
 pub mod Planned
 pub mod Views
 pub mod Flat

@@ -1,8 +1,10 @@
 //! Plans: what a run of a script makes, what it only measures, and in which order.
 #![tactic(auto)]
 
+mod choosing;
 mod expression_laws;
 mod expressions;
+mod joining;
 mod laws;
 mod lines;
 mod liveness;
@@ -10,6 +12,7 @@ mod meaning;
 mod operations;
 mod own;
 mod pair_laws;
+mod parts;
 mod plans;
 mod rows;
 mod shown;

@@ -62,8 +62,8 @@ fn is_argument(arguments: &[Argument], name: &[u8]) -> bool
     false
 }
 
-// Whether a line reads the bytes of a name.
-fn reads(statement: &Statement, name: &[u8]) -> bool
+/// Whether a line reads the bytes of a name.
+pub(crate) fn reads(statement: &Statement, name: &[u8]) -> bool
     ensures { result ≡ reads statement.now name.now }
 {
     match statement {
@@ -89,8 +89,8 @@ fn reads(statement: &Statement, name: &[u8]) -> bool
     }
 }
 
-// Whether a line assigns a name.
-fn assigns(statement: &Statement, name: &[u8]) -> bool
+/// Whether a line assigns a name.
+pub(crate) fn assigns(statement: &Statement, name: &[u8]) -> bool
     ensures { result ≡ assigns statement.now name.now }
 {
     match statement {

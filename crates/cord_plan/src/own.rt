@@ -50,22 +50,22 @@ pub(crate) fn own_expression(
     }
 }
 
-// `cat` of these members.
-fn cat(members: Vec<Expr>) -> Expr
+/// `cat` of these members.
+pub(crate) fn cat(members: Vec<Expr>) -> Expr
     ensures { expr_view result ≡ plain.cat (members_of (map expr_view members.items)) }
 {
     Expr::Cat(Members::of(members))
 }
 
-// `run(byte count)`.
-fn run(byte: Number, count: Number) -> Expr
+/// `run(byte count)`.
+pub(crate) fn run(byte: Number, count: Number) -> Expr
     ensures { expr_view result ≡ plain.run byte count }
 {
     Expr::Run { byte, count }
 }
 
-// A name as an expression.
-fn named(name: &Name) -> Result<Expr, CordError>
+/// A name as an expression.
+pub(crate) fn named(name: &Name) -> Result<Expr, CordError>
     ensures made { IfOk result (λ e. expr_view e ≡ plain.name name.now) }
     ensures refused { IsOkUnless result CordError.NoMemory }
 {

@@ -1,0 +1,70 @@
+-- The members of a `cat`, one operand after the other.
+use Rattle.std.proofs.Common.{◌≡◌, ℕ, ◌+◌, ◌<◌, List, [], ◌∷◌, ◌++◌, map, take, length, get_or, refl, sym, ap, ◌∙◌}
+use Rattle.std.proofs.lemmas.List.{map-append, take_more}
+use Rattle.cord_script.specs.declared.operands.Number.{Number}
+use Rattle.cord_plan.specs.Exprs.{Expr, Exprs, name, run, cat, sub, nothing, member, append, in_front, members}
+use Rattle.cord_plan.specs.Views.{expr_view, members_of}
+use Rattle.cord_plan.specs.declared.expressions.Expr as code
+use Rattle.cord_plan.specs.declared.choosing.Choice.{Choice}
+use Rattle.cord_plan.specs.Forced as plain
+use Rattle.cord_plan.specs.Forced.{expr_of}
+use Rattle.cord_plan.specs.Choices.{choice_view}
+
+append_thrice : (a b c : Exprs) → append (append a b) c ≡ append a (append b c)
+append_thrice nothing b c = refl
+append_thrice (member e a) b c = ap (λ (es : Exprs). member e es) (append_thrice a b c)
+
+pub append_nothing : (a : Exprs) → append a nothing ≡ a
+append_nothing nothing = refl
+append_nothing (member e a) = ap (λ (es : Exprs). member e es) (append_nothing a)
+
+front_append : (e : Expr) (a b : Exprs) → in_front e (append a b) ≡ append (in_front e a) b
+front_append (name x) a b = refl
+front_append (run c n) a b = refl
+front_append (cat es) a b = sym (append_thrice es a b)
+front_append (sub e i n) a b = refl
+
+-- one expression more
+pub members_more : (es : List Expr) (e : Expr) → members (es ++ e ∷ []) ≡ append (members es) (in_front e nothing)
+members_more [] e = refl
+members_more (d ∷ es) e = ap (λ (ms : Exprs). in_front d ms) (members_more es e) ∙ front_append d (members es) (in_front e nothing)
+
+members_of_both : (xs ys : List Expr) → members_of (xs ++ ys) ≡ append (members_of xs) (members_of ys)
+members_of_both [] ys = refl
+members_of_both (x ∷ xs) ys = ap (λ (ms : Exprs). member x ms) (members_of_both xs ys)
+
+-- the same of members of the program
+pub views_both : (xs ys : List code.Expr) → members_of (map expr_view (xs ++ ys)) ≡ append (members_of (map expr_view xs)) (members_of (map expr_view ys))
+views_both xs ys = ap members_of (map-append expr_view xs ys) ∙ members_of_both (map expr_view xs) (map expr_view ys)
+
+-- the members that choices give, with one choice more
+pub more_joined : (cs : List Choice) (i : ℕ) (c : Choice) → i < length cs → c ≡ get_or cs i c →
+    append (members (map (λ d. expr_of d) (map choice_view (take i cs)))) (in_front (expr_of (choice_view c)) nothing) ≡ members (map (λ d. expr_of d) (map choice_view (take (i + 1) cs)))
+more_joined cs i c lt is = sym (
+    ap (λ (xs : List Choice). members (map (λ d. expr_of d) (map choice_view xs))) (take_more cs i c lt ∙ ap (λ (d : Choice). take i cs ++ d ∷ []) (sym is))
+    ∙ (ap (λ (xs : List plain.Choice). members (map (λ d. expr_of d) xs)) (map-append choice_view (take i cs) (c ∷ []))
+    ∙ (ap members (map-append (λ (d : plain.Choice). expr_of d) (map choice_view (take i cs)) (choice_view c ∷ []))
+    ∙ members_more (map (λ d. expr_of d) (map choice_view (take i cs))) (expr_of (choice_view c)))))
+
+-- a member more, which is no `cat`
+pub added_one : (old new : List code.Expr) (copy : code.Expr) (v w : Expr) → new ≡ old ++ copy ∷ [] → expr_view copy ≡ v → v ≡ w → in_front w nothing ≡ member w nothing → members_of (map expr_view new) ≡ append (members_of (map expr_view old)) (in_front v nothing)
+added_one old new copy v w items made same front =
+    ap (λ (es : List code.Expr). members_of (map expr_view es)) items
+    ∙ (views_both old (copy ∷ [])
+    ∙ ap (λ (ms : Exprs). append (members_of (map expr_view old)) ms) (ap (λ (e : Expr). member e nothing) (made ∙ same) ∙ (sym front ∙ ap (λ (e : Expr). in_front e nothing) (sym same))))
+
+-- members more, for a `cat`
+pub added_all : (old new copies : List code.Expr) (v : Expr) (inner : Exprs) → new ≡ old ++ copies → members_of (map expr_view copies) ≡ inner → v ≡ cat inner → members_of (map expr_view new) ≡ append (members_of (map expr_view old)) (in_front v nothing)
+added_all old new copies v inner items made same =
+    ap (λ (es : List code.Expr). members_of (map expr_view es)) items
+    ∙ (views_both old copies
+    ∙ ap (λ (ms : Exprs). append (members_of (map expr_view old)) ms) (made ∙ (sym (append_nothing inner) ∙ ap (λ (e : Expr). in_front e nothing) (sym same))))
+
+-- a `cat` of expressions and a run behind them
+pub joined_more : (es : List Expr) (ms new : List code.Expr) (last : code.Expr) (c n : Number) → members_of (map expr_view ms) ≡ members es → new ≡ ms ++ last ∷ [] → expr_view last ≡ run c n → cat (members_of (map expr_view new)) ≡ cat (members (es ++ run c n ∷ []))
+joined_more es ms new last c n made items is = ap cat (
+    ap (λ (xs : List code.Expr). members_of (map expr_view xs)) items
+    ∙ (views_both ms (last ∷ [])
+    ∙ (ap (λ (xs : Exprs). append xs (member (expr_view last) nothing)) made
+    ∙ (ap (λ (e : Expr). append (members es) (member e nothing)) is
+    ∙ sym (members_more es (run c n))))))

@@ -1,0 +1,123 @@
+// The expression of a line, with what stands for its operands.
+ghost use Rattle.std.specs.Prelude.{◌≡◌, ◌++◌, ◌∷◌, [], pos, IfOk, IsOkUnless, OnOk, map, option_map};
+ghost use Rattle.cord_plan.specs.Exprs as plain;
+ghost use Rattle.cord_plan.specs.Exprs.{append, in_front, members, nothing};
+ghost use Rattle.cord_script.specs.declared.operands.Number.TheVariants.{Numeral};
+ghost use Rattle.cord_plan.specs.Forced.{expr_of, expr_with};
+ghost use Rattle.cord_plan.specs.Choices.{choice_view};
+ghost use Rattle.cord_plan.specs.Views.{expr_view, members_of};
+
+use crate::Expr;
+use crate::choosing::Choice;
+use crate::own::{cat, named, run};
+use crate::parts::{copy, copy_all};
+use cord_io::CordError;
+use cord_script::{Number, Statement};
+use std::alloc::Global;
+
+// An expression that stands for an operand.
+fn expression_of(alloc: Global, choice: &Choice) -> Result<Expr, CordError>
+    ensures made { IfOk result (λ e. expr_view e ≡ expr_of (choice_view choice.now)) }
+    ensures refused { IsOkUnless result CordError.NoMemory }
+{
+    match choice {
+        Choice::Kept(name) => named(name),
+        Choice::Replaced(_, expression) => copy(alloc, expression),
+    }
+}
+
+// Puts a copy of an expression behind the members of a `cat`; of a `cat` its members.
+fn add_copy(alloc: Global, members: &mut Vec<Expr>, expression: &Expr) -> Result<(), CordError>
+    ensures added { OnOk result (members_of (map expr_view members.new.items) ≡ append (members_of (map expr_view members.old.items)) (in_front (expr_view expression.now) nothing)) }
+    ensures refused { IsOkUnless result CordError.NoMemory }
+{
+    match expression {
+        Expr::Cat(inner) => members.append(&mut copy_all(alloc, inner.as_slice())?)?,
+        Expr::Name(_) => members.push(copy(alloc, expression)?)?,
+        Expr::Run { .. } => members.push(copy(alloc, expression)?)?,
+        Expr::Sub { .. } => members.push(copy(alloc, expression)?)?,
+    }
+    Ok(())
+}
+
+// The same of an expression that stands for an operand.
+fn add(alloc: Global, members: &mut Vec<Expr>, choice: &Choice) -> Result<(), CordError>
+    ensures added { OnOk result (members_of (map expr_view members.new.items) ≡ append (members_of (map expr_view members.old.items)) (in_front (expr_of (choice_view choice.now)) nothing)) }
+    ensures refused { IsOkUnless result CordError.NoMemory }
+{
+    match choice {
+        Choice::Kept(name) => add_copy(alloc, members, &named(name)?)?,
+        Choice::Replaced(_, expression) => add_copy(alloc, members, expression)?,
+    }
+    Ok(())
+}
+
+// The members that these expressions give to a `cat`.
+fn joined(alloc: Global, choices: &[Choice]) -> Result<Vec<Expr>, CordError>
+    ensures made { IfOk result (λ ms. members_of (map expr_view ms.items) ≡ members (map expr_of (map choice_view choices.now))) }
+    ensures refused { IsOkUnless result CordError.NoMemory }
+{
+    let mut members = Vec::new(alloc);
+    'choices: for choice in choices {
+        add(alloc, &mut members, choice)?;
+    }
+    Ok(members)
+}
+
+// `cat` of these expressions.
+fn joined_all(alloc: Global, choices: &[Choice]) -> Result<Expr, CordError>
+    ensures made { IfOk result (λ e. expr_view e ≡ plain.cat (members (map expr_of (map choice_view choices.now)))) }
+    ensures refused { IsOkUnless result CordError.NoMemory }
+{
+    Ok(cat(joined(alloc, choices)?))
+}
+
+// `cat` of these expressions and one byte.
+fn joined_with(alloc: Global, choices: &[Choice], byte: &Number) -> Result<Expr, CordError>
+    ensures made { IfOk result (λ e. expr_view e ≡ plain.cat (members (map expr_of (map choice_view choices.now) ++ plain.run byte.now (Numeral (pos 1)) ∷ []))) }
+    ensures refused { IsOkUnless result CordError.NoMemory }
+{
+    let mut members = joined(alloc, choices)?;
+    let last = run(byte.clone()?, Number::Numeral(1));
+    members.push(last)?;
+    Ok(cat(members))
+}
+
+// `sub` of what stands for an operand.
+fn part(alloc: Global, choice: &Choice, start: &Number, count: &Number) -> Result<Expr, CordError>
+    ensures made { IfOk result (λ e. expr_view e ≡ plain.sub (expr_of (choice_view choice.now)) start.now count.now) }
+    ensures refused { IsOkUnless result CordError.NoMemory }
+{
+    Ok(Expr::Sub {
+        expression: Box::new(alloc, expression_of(alloc, choice)?)?,
+        start: start.clone()?,
+        count: count.clone()?,
+    })
+}
+
+/// The expression of a simple line, where these stand for its operands; of any other line there is none.
+pub(crate) fn expression_with(
+    alloc: Global,
+    statement: &Statement,
+    choices: &[Choice],
+) -> Result<Option<Expr>, CordError>
+    ensures made { IfOk result (λ e. option_map expr_view e ≡ expr_with statement.now (map expr_of (map choice_view choices.now))) }
+    ensures refused { IsOkUnless result CordError.NoMemory }
+{
+    match statement {
+        Statement::Cat { .. } => Ok(Some(joined_all(alloc, choices)?)),
+        Statement::Catn { .. } => Ok(Some(joined_all(alloc, choices)?)),
+        Statement::Catc { byte, .. } => Ok(Some(joined_with(alloc, choices, byte)?)),
+        Statement::Chars { byte, count, .. } => Ok(Some(run(byte.clone()?, count.clone()?))),
+        Statement::Nul { count, .. } => Ok(Some(run(Number::Numeral(0), count.clone()?))),
+        Statement::Substr { start, count, .. } => match choices {
+            [] => Ok(None),
+            [choice, ..] => Ok(Some(part(alloc, choice, start, count)?)),
+        },
+        Statement::Put { .. } => match choices {
+            [] => Ok(None),
+            [choice, ..] => Ok(Some(expression_of(alloc, choice)?)),
+        },
+        _ => Ok(None),
+    }
+}
