@@ -1,5 +1,5 @@
 -- Plans of decisions that meet the conditions keep the meaning, and so does the plan of a script that is read.
-use Rattle.std.proofs.Common.{◌≡◌, ℕ, Bool, List, [], map, Some, sym, subst}
+use Rattle.std.proofs.Common.{ℕ, Bool, List, [], map, Some, sym, subst}
 use Rattle.std.specs.Prelude.{IsSome}
 use Rattle.cord_io.specs.Device.{Folder}
 use Rattle.cord_script.specs.declared.statements.Statement.{Statement}
@@ -8,35 +8,33 @@ use Rattle.cord_script.specs.Script.{ReadsBy}
 use Rattle.cord_meaning.specs.Blocks.{IsNested}
 use Rattle.cord_meaning.specs.State.{start_state}
 use Rattle.cord_meaning.specs.Statements.{rules, shape_of}
-use Rattle.cord_meaning.specs.Simulation.{told}
-use Rattle.cord_meaning.specs.Meaning.{moments_within, end_within}
 use Rattle.cord_meaning.proofs.ReadScripts.{read_nested}
 use Rattle.cord_meaning.proofs.Simulating.{told_same, end_same}
 use Rattle.cord_plan.specs.Unread.{IsLater}
-use Rattle.cord_plan.specs.Planned.{Operation, planned}
-use Rattle.cord_plan.specs.Meaning.{plan_rules, start_holding, plan_moments, plan_end, IsNeverStuck}
+use Rattle.cord_plan.specs.Planned.{Operation, planned, trivial}
+use Rattle.cord_plan.specs.Meaning.{plan_rules, start_holding, KeepsMeaning}
 use Rattle.cord_plan.specs.Conditions.{Decisions, MeetsConditions, decided}
 use Rattle.cord_plan.proofs.Decided.{Related}
 use Rattle.cord_plan.proofs.Beside.{plan_simulates, related_some, related_first}
 use Rattle.cord_plan.proofs.Stays.{each_related}
 use Rattle.cord_plan.proofs.Planning.{decisions, meets, planned_decided}
 use Rattle.cord_plan.proofs.ReadKinds.{read_kinds}
+use Rattle.cord_plan.proofs.TrivialDecided.{plain_decisions, trivial_decided, trivial_meets}
 
 module _ (limit most : ℕ) (files : Folder) (s : List Statement) where
-  -- what it is that a plan keeps the meaning of this script
-  pub record Keeps (plan : List Operation) : Type 0 where
-    pub never_stuck : IsNeverStuck limit most plan files
-    pub members : map told (plan_moments limit most plan files) ≡ map told (moments_within limit most s files)
-    pub end : plan_end limit most plan files ≡ end_within limit most s files
-
-  pub decided_keeps : (d : Decisions) → IsNested [] (map shape_of s) → MeetsConditions s d → Keeps (decided d s)
+  pub decided_keeps : (d : Decisions) → IsNested [] (map shape_of s) → MeetsConditions s d → KeepsMeaning limit most files s (decided d s)
   decided_keeps d nested ok = record {
     never_stuck = each_related (rules limit files) (plan_rules limit files) most s (decided d s) (Related s d ok limit files) (plan_simulates s d ok limit files) (λ t. IsSome t) (related_some s d ok limit files) nested start_state (Some start_holding) (related_first s d ok limit files);
     members = told_same (rules limit files) (plan_rules limit files) most s (decided d s) (Related s d ok limit files) (plan_simulates s d ok limit files) nested start_state (Some start_holding) (related_first s d ok limit files);
     end = end_same (rules limit files) (plan_rules limit files) most s (decided d s) (Related s d ok limit files) (plan_simulates s d ok limit files) nested start_state (Some start_holding) (related_first s d ok limit files);
   }
 
-  pub planned_keeps : (g : Grammar) (text : List ℕ) (later : List ℕ → ℕ → Bool) → ReadsBy g text s → IsLater s later → Keeps (planned s later)
+  pub planned_keeps : (g : Grammar) (text : List ℕ) (later : List ℕ → ℕ → Bool) → ReadsBy g text s → IsLater s later → KeepsMeaning limit most files s (planned s later)
   planned_keeps g text later read is =
-      subst (λ (plan : List Operation). Keeps plan) (sym (planned_decided s later))
+      subst (λ (plan : List Operation). KeepsMeaning limit most files s plan) (sym (planned_decided s later))
       (decided_keeps (decisions s later) (read_nested {g = g} text s read) (meets s later is (read_kinds g text s read)))
+
+  pub trivial_keeps : (g : Grammar) (text : List ℕ) → ReadsBy g text s → KeepsMeaning limit most files s (trivial s)
+  trivial_keeps g text read =
+      subst (λ (plan : List Operation). KeepsMeaning limit most files s plan) (sym (trivial_decided s))
+      (decided_keeps (plain_decisions s) (read_nested {g = g} text s read) (trivial_meets s (read_kinds g text s read)))

@@ -37,3 +37,5 @@ pub mod Choices
 pub mod Joined
 pub mod Spacing
 pub mod ExprViews
+pub mod Marked
+pub mod PlannedLines

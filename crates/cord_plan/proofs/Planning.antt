@@ -247,7 +247,7 @@ module _ (s : List Statement) (later : List ℕ → ℕ → Bool) where
   grown_keeps table b [] k en e = e
   grown_keeps table b (l ∷ rest) k en e = grown_keeps (table ++ operands_chosen s later table b l (own l) ∷ []) (b + 1) rest k en (get_append table (operands_chosen s later table b l (own l) ∷ []) k en e)
 
-  grown_length : (table : Table) (b : ℕ) (rest : List Statement) → length (grown s later table b rest) ≡ length table + length rest
+  pub grown_length : (table : Table) (b : ℕ) (rest : List Statement) → length (grown s later table b rest) ≡ length table + length rest
   grown_length table b [] = omega arith
   grown_length table b (l ∷ rest) =
       let ih : length (grown s later (table ++ operands_chosen s later table b l (own l) ∷ []) (b + 1) rest) ≡ length (table ++ operands_chosen s later table b l (own l) ∷ []) + length rest = grown_length (table ++ operands_chosen s later table b l (own l) ∷ []) (b + 1) rest in
@@ -295,7 +295,7 @@ module _ (s : List Statement) (later : List ℕ → ℕ → Bool) where
   read_at None = []
   read_at (Some l) = read_by l
 
-  abbrev target_at : Option Statement → Option (List ℕ)
+  abbrev pub target_at : Option Statement → Option (List ℕ)
   target_at None = None
   target_at (Some l) = target_of l
 

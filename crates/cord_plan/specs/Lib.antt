@@ -7,6 +7,7 @@ pub mod Forced
 pub mod Choices
 pub mod Planned
 pub mod Views
+pub mod Tables
 pub mod Flat
 pub mod Flattening
 pub mod Resolved

@@ -23,6 +23,7 @@ pub(crate) enum Choice<'a> {
 }
 
 /// A simple line of a script, with its place and its cord operands.
+#[derive(Clone, Copy)]
 pub(crate) struct Line<'a> {
     pub(crate) statements: &'a [Statement],
     pub(crate) place: usize,

@@ -13,10 +13,14 @@ mod operations;
 mod own;
 mod pair_laws;
 mod parts;
+mod planner;
 mod plans;
 mod rows;
+#[cfg(test)]
+mod samples;
 mod shown;
 mod successors;
+mod table;
 #[cfg(test)]
 mod tests;
 
@@ -37,6 +41,7 @@ pub use operations::{Made, Operation};
 pub use pair_laws::{
     pairs_are_planned, pairs_leave_their_name_out, replacements_keep_expressions_small,
 };
+pub use planner::plan;
 pub use plans::Plan;
 pub use rows::{plans_are_computed, runs_of_plans_are_computed};
 

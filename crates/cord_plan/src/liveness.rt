@@ -1,7 +1,7 @@
 // Which names are read later than which lines.
-ghost use Rattle.std.specs.Prelude.{◌≡◌, ◌<◌, ℕ, [], ◌∷◌, true, false, length, map, IfOk, OnOk};
+ghost use Rattle.std.specs.Prelude.{◌≡◌, ◌<◌, ℕ, [], ◌∷◌, true, false, length, map, option_map, IfOk, OnOk};
 ghost use Rattle.cord_meaning.specs.Statements.{shape_of};
-ghost use Rattle.cord_plan.specs.Operands.{has, cord_arguments, read_by, reads, assigns};
+ghost use Rattle.cord_plan.specs.Operands.{has, cord_arguments, read_by, target_of, reads, assigns};
 ghost use Rattle.cord_plan.specs.Unread.{IsLater, some_of};
 ghost use Rattle.cord_plan.specs.Liveness.{places, AreBehind, at, unset, IsPartly, finds, IsLive, live_of, knows, tells, IsBegun, Adds};
 
@@ -89,37 +89,47 @@ pub(crate) fn reads(statement: &Statement, name: &[u8]) -> bool
     }
 }
 
+/// The name that a line assigns.
+pub(crate) fn target_of(statement: &Statement) -> Option<&Name>
+    ensures { option_map (λ n. n.now) result ≡ target_of statement.now }
+{
+    match statement {
+        Statement::Let { target, .. }
+        | Statement::File { target, .. }
+        | Statement::Eager { target, .. }
+        | Statement::Lazy { target, .. }
+        | Statement::Chars { target, .. }
+        | Statement::Nul { target, .. }
+        | Statement::FromFn { target, .. }
+        | Statement::Cat { target, .. }
+        | Statement::Catn { target, .. }
+        | Statement::Catc { target, .. }
+        | Statement::Substr { target, .. }
+        | Statement::Balance { target, .. }
+        | Statement::EcToCord { target, .. }
+        | Statement::Sprintf { target, .. }
+        | Statement::Len { target, .. }
+        | Statement::Fetch { target, .. }
+        | Statement::Cmp { target, .. }
+        | Statement::Ncmp { target, .. }
+        | Statement::Str { target, .. }
+        | Statement::Chr { target, .. }
+        | Statement::Rchr { target, .. }
+        | Statement::Assign { target, .. }
+        | Statement::Add { target, .. }
+        | Statement::Sub { target, .. }
+        | Statement::EcInit { target, .. } => Some(target),
+        _ => None,
+    }
+}
+
 /// Whether a line assigns a name.
 pub(crate) fn assigns(statement: &Statement, name: &[u8]) -> bool
     ensures { result ≡ assigns statement.now name.now }
 {
-    match statement {
-        Statement::Let { target, .. } => name == target.as_slice(),
-        Statement::File { target, .. } => name == target.as_slice(),
-        Statement::Eager { target, .. } => name == target.as_slice(),
-        Statement::Lazy { target, .. } => name == target.as_slice(),
-        Statement::Chars { target, .. } => name == target.as_slice(),
-        Statement::Nul { target, .. } => name == target.as_slice(),
-        Statement::FromFn { target, .. } => name == target.as_slice(),
-        Statement::Cat { target, .. } => name == target.as_slice(),
-        Statement::Catn { target, .. } => name == target.as_slice(),
-        Statement::Catc { target, .. } => name == target.as_slice(),
-        Statement::Substr { target, .. } => name == target.as_slice(),
-        Statement::Balance { target, .. } => name == target.as_slice(),
-        Statement::EcToCord { target, .. } => name == target.as_slice(),
-        Statement::Sprintf { target, .. } => name == target.as_slice(),
-        Statement::Len { target, .. } => name == target.as_slice(),
-        Statement::Fetch { target, .. } => name == target.as_slice(),
-        Statement::Cmp { target, .. } => name == target.as_slice(),
-        Statement::Ncmp { target, .. } => name == target.as_slice(),
-        Statement::Str { target, .. } => name == target.as_slice(),
-        Statement::Chr { target, .. } => name == target.as_slice(),
-        Statement::Rchr { target, .. } => name == target.as_slice(),
-        Statement::Assign { target, .. } => name == target.as_slice(),
-        Statement::Add { target, .. } => name == target.as_slice(),
-        Statement::Sub { target, .. } => name == target.as_slice(),
-        Statement::EcInit { target, .. } => name == target.as_slice(),
-        _ => false,
+    match target_of(statement) {
+        None => false,
+        Some(target) => name == target.as_slice(),
     }
 }
 
@@ -354,191 +364,5 @@ impl Later {
     }
 }
 
-// The scripts of worked plans: which of their names are read later than which lines, told by hand.
 #[cfg(test)]
-mod tests {
-    use super::*;
-    use cord_script::{Number, Relation, Text};
-
-    fn named(alloc: Global, name: &str) -> Result<Name, AllocError> {
-        Ok(Name::of(name.as_bytes().to_vec(alloc)?))
-    }
-
-    fn let_line(alloc: Global, target: &str) -> Result<Statement, AllocError> {
-        Ok(Statement::Let {
-            line: 1,
-            target: named(alloc, target)?,
-            text: Text::of(Vec::new(alloc)),
-        })
-    }
-
-    fn put_line(alloc: Global, operand: &str) -> Result<Statement, AllocError> {
-        Ok(Statement::Put {
-            line: 1,
-            operand: named(alloc, operand)?,
-        })
-    }
-
-    fn cat_line(
-        alloc: Global,
-        target: &str,
-        left: &str,
-        right: &str,
-    ) -> Result<Statement, AllocError> {
-        Ok(Statement::Cat {
-            line: 1,
-            target: named(alloc, target)?,
-            left: named(alloc, left)?,
-            right: named(alloc, right)?,
-        })
-    }
-
-    fn catc_line(alloc: Global, target: &str, operand: &str) -> Result<Statement, AllocError> {
-        Ok(Statement::Catc {
-            line: 1,
-            target: named(alloc, target)?,
-            operand: named(alloc, operand)?,
-            byte: Number::Numeral(65),
-        })
-    }
-
-    fn substr_line(alloc: Global, target: &str, operand: &str) -> Result<Statement, AllocError> {
-        Ok(Statement::Substr {
-            line: 1,
-            target: named(alloc, target)?,
-            operand: named(alloc, operand)?,
-            start: Number::Numeral(0),
-            count: Number::Numeral(2),
-        })
-    }
-
-    fn len_line(alloc: Global, target: &str, operand: &str) -> Result<Statement, AllocError> {
-        Ok(Statement::Len {
-            line: 1,
-            target: named(alloc, target)?,
-            operand: named(alloc, operand)?,
-        })
-    }
-
-    fn if_line(alloc: Global, left: &str) -> Result<Statement, AllocError> {
-        Ok(Statement::If {
-            line: 1,
-            left: Number::Named(named(alloc, left)?),
-            relation: Relation::Equal,
-            right: Number::Numeral(1),
-        })
-    }
-
-    fn repeat_line() -> Statement {
-        Statement::Repeat {
-            line: 1,
-            count: Number::Numeral(3),
-        }
-    }
-
-    // The letters of the names that are read later than the line at each place, in order.
-    fn told(alloc: Global, statements: &[Statement], names: &str) -> Result<String, AllocError> {
-        let later = Later::of(alloc, statements)?;
-        let mut told = String::new(alloc);
-        for place in 0..statements.len() {
-            for name in names.chars() {
-                let text = format!(in alloc; "{name}")?;
-                if later.is_later(text.as_bytes(), place) {
-                    told.push(name)?;
-                }
-            }
-            told.push(';')?;
-        }
-        Ok(told)
-    }
-
-    fn seam(alloc: Global) -> Result<String, AllocError> {
-        let lines = vec![in alloc;
-            let_line(alloc, "a")?,
-            let_line(alloc, "b")?,
-            cat_line(alloc, "t", "a", "b")?,
-            substr_line(alloc, "z", "t")?,
-            put_line(alloc, "z")?,
-        ]?;
-        told(alloc, &lines, "abtz")
-    }
-
-    fn next_turn(alloc: Global) -> Result<String, AllocError> {
-        let lines = vec![in alloc;
-            let_line(alloc, "x")?,
-            repeat_line(),
-            put_line(alloc, "x")?,
-            catc_line(alloc, "x", "x")?,
-            Statement::End { line: 1 },
-        ]?;
-        told(alloc, &lines, "xy")
-    }
-
-    fn both_assign(alloc: Global) -> Result<String, AllocError> {
-        let lines = vec![in alloc;
-            let_line(alloc, "x")?,
-            len_line(alloc, "n", "x")?,
-            if_line(alloc, "n")?,
-            let_line(alloc, "x")?,
-            Statement::Else { line: 1 },
-            let_line(alloc, "x")?,
-            Statement::End { line: 1 },
-            put_line(alloc, "x")?,
-        ]?;
-        told(alloc, &lines, "nx")
-    }
-
-    fn one_keeps(alloc: Global) -> Result<String, AllocError> {
-        let lines = vec![in alloc;
-            let_line(alloc, "x")?,
-            len_line(alloc, "n", "x")?,
-            if_line(alloc, "n")?,
-            let_line(alloc, "x")?,
-            Statement::End { line: 1 },
-            put_line(alloc, "x")?,
-        ]?;
-        told(alloc, &lines, "nx")
-    }
-
-    fn assigned_between(alloc: Global) -> Result<String, AllocError> {
-        let lines = vec![in alloc;
-            let_line(alloc, "a")?,
-            let_line(alloc, "b")?,
-            cat_line(alloc, "t", "a", "b")?,
-            let_line(alloc, "a")?,
-            substr_line(alloc, "z", "t")?,
-            put_line(alloc, "z")?,
-        ]?;
-        told(alloc, &lines, "abtz")
-    }
-
-    #[test]
-    fn substr_over_seam(rt: HostRuntime) {
-        let told = seam(rt.alloc()).expect(&rt, "memory");
-        assert_eq!(rt; told.as_str(), "a;ab;t;z;;");
-    }
-
-    #[test]
-    fn loop_reads_next_turn(rt: HostRuntime) {
-        let told = next_turn(rt.alloc()).expect(&rt, "memory");
-        assert_eq!(rt; told.as_str(), "x;x;x;x;x;");
-    }
-
-    #[test]
-    fn if_else_both_assign(rt: HostRuntime) {
-        let told = both_assign(rt.alloc()).expect(&rt, "memory");
-        assert_eq!(rt; told.as_str(), ";;;x;x;x;x;;");
-    }
-
-    #[test]
-    fn if_without_else_keeps(rt: HostRuntime) {
-        let told = one_keeps(rt.alloc()).expect(&rt, "memory");
-        assert_eq!(rt; told.as_str(), "x;x;x;x;x;;");
-    }
-
-    #[test]
-    fn operand_assigned_between(rt: HostRuntime) {
-        let told = assigned_between(rt.alloc()).expect(&rt, "memory");
-        assert_eq!(rt; told.as_str(), "a;ab;t;t;z;;");
-    }
-}
+mod tests;

@@ -3,6 +3,7 @@ ghost use Rattle.std.specs.Prelude.{◌≡◌, IfErr, IfOk, IsOkUnless, OnErr, O
 ghost use Rattle.std.specs.Io.KnownBytes.{Appends};
 ghost use Rattle.cord_io.specs.Device.{raised};
 ghost use Rattle.cord_iter.specs.Taking.{IsFrontOf, Takes};
+ghost use Rattle.cord_plan.specs.Meaning.{IsPlanOf};
 ghost use Rattle.cord_plan.specs.Planned as plan;
 ghost use Rattle.cord_plan.specs.Shown.{shown};
 ghost use Rattle.cord_plan.specs.Views.{operation_view};
@@ -37,9 +38,17 @@ impl Model for Plan {
 }
 
 impl Plan {
+    // The plan of these operations, without taking memory.
+    pub(crate) fn of(operations: Vec<Operation>) -> Plan
+        ensures { result ≡ operations.items }
+    {
+        Plan { operations }
+    }
+
     /// The plan that makes every line's own expression. Refused only with `NoMemory`.
     pub fn trivial(alloc: Global, script: &Script) -> Result<Plan, CordError>
         ensures made { IfOk result (λ p. map operation_view p ≡ plan.trivial script.now) }
+        ensures means { IfOk result (λ p. IsPlanOf script.now (map operation_view p)) }
         ensures refused { IsOkUnless result CordError.NoMemory }
     {
         let mut operations = Vec::new(alloc);
@@ -56,6 +65,7 @@ impl Plan {
     {
         &self.operations
     }
+
     /// Hands a sink the text of the plan: one line an operation, ended by byte 10. Refused with `WriteFailed` where the sink
     /// failed: then it took a front part of the text.
     pub fn show<W: Sink>(&self, sink: &mut W) -> Result<(), CordError>

@@ -1,227 +1,109 @@
-// Trivial plans of worked scripts.
-use crate::{Expr, Made, Operation, Plan};
-use cord_script::{Name, Number, Script, Statement, Text};
-use std::alloc::{AllocError, Global};
+// Plans of worked scripts, as they are shown, against texts that were written by hand.
+use crate::samples::{
+    assigned_between, both_assign, eager_unread, hello, next_turn, one_keeps, seam, too_long,
+};
+use crate::{Plan, plan};
+use cord_io::MemSink;
+use cord_script::Script;
+use std::alloc::Global;
 use std::test::Fail;
 
-fn name(alloc: Global, bytes: &[u8]) -> Result<Name, AllocError> {
-    Ok(Name::of(Vec::from_slice(alloc, bytes)?))
+// What the plan of a script shows.
+fn planned(alloc: Global, script: &Script) -> Result<MemSink, Fail> {
+    let mut sink = MemSink::new(alloc);
+    plan(alloc, script)?.show(&mut sink)?;
+    Ok(sink)
 }
 
-// `let target "text"`.
-fn literal(alloc: Global, line: u32, target: &[u8], text: &[u8]) -> Result<Statement, AllocError> {
-    Ok(Statement::Let {
-        line,
-        target: name(alloc, target)?,
-        text: Text::of(Vec::from_slice(alloc, text)?),
-    })
+// What its trivial plan shows.
+fn unplanned(alloc: Global, script: &Script) -> Result<MemSink, Fail> {
+    let mut sink = MemSink::new(alloc);
+    Plan::trivial(alloc, script)?.show(&mut sink)?;
+    Ok(sink)
 }
 
-// `put operand`.
-fn put(alloc: Global, line: u32, operand: &[u8]) -> Result<Statement, AllocError> {
-    Ok(Statement::Put {
-        line,
-        operand: name(alloc, operand)?,
-    })
-}
-
-fn is_name(expression: &Expr, wanted: &[u8]) -> bool {
-    match expression {
-        Expr::Name(name) => name.as_slice() == wanted,
-        _ => false,
-    }
-}
-
-fn is_numeral(number: &Number, wanted: i64) -> bool {
-    match number {
-        Number::Numeral(value) => *value == wanted,
-        Number::Named(_) => false,
-    }
-}
-
-// Whether an operation is `line build target literal` of this text.
-fn builds_text(operation: &Operation, line: u32, target: &[u8], wanted: &[u8]) -> bool {
-    match operation {
-        Operation::Build {
-            line: at,
-            target: name,
-            made: Made::Literal(text),
-        } => *at == line && name.as_slice() == target && text.as_slice() == wanted,
-        _ => false,
-    }
-}
-
-// The expression that an operation builds at this line for this name.
-fn built<'a>(operation: &'a Operation, line: u32, target: &[u8]) -> Option<&'a Expr> {
-    match operation {
-        Operation::Build {
-            line: at,
-            target: name,
-            made: Made::Joined(expression),
-        } if *at == line && name.as_slice() == target => Some(expression),
-        _ => None,
-    }
-}
-
-// Whether an operation is `line write x`.
-fn writes(operation: &Operation, line: u32, x: &[u8]) -> bool {
-    match operation {
-        Operation::Write {
-            line: at,
-            expression,
-        } => *at == line && is_name(expression, x),
-        _ => false,
-    }
-}
-
-// `let x "hello" ; put x`.
 #[test]
-fn hello(rt: HostRuntime) -> Result<(), Fail> {
+fn both_plans_of_hello(rt: HostRuntime) -> Result<(), Fail> {
     let alloc = rt.alloc();
-    let lines = vec![in alloc; literal(alloc, 1, b"x", b"hello")?, put(alloc, 2, b"x")?]?;
-    match Plan::trivial(alloc, &Script::of(lines)) {
-        Ok(plan) => match plan.operations() {
-            [first, second] => {
-                assert!(rt; builds_text(first, 1, b"x", b"hello"));
-                assert!(rt; writes(second, 2, b"x"));
-            }
-            _ => assert!(rt; false),
-        },
-        Err(_) => assert!(rt; false),
-    }
+    let script = hello(alloc)?;
+    let shown = b"1 build x literal(5)\n2 write x\n".as_slice();
+    assert_eq!(rt; planned(alloc, &script)?.bytes(), shown);
+    assert_eq!(rt; unplanned(alloc, &script)?.bytes(), shown);
     Ok(())
 }
 
-// `cat t a b ; substr z t 2 3 ; put z`, behind the two lines that assign a and b.
-fn seam(alloc: Global) -> Result<Script, AllocError> {
-    let joined = Statement::Cat {
-        line: 3,
-        target: name(alloc, b"t")?,
-        left: name(alloc, b"a")?,
-        right: name(alloc, b"b")?,
-    };
-    let part = Statement::Substr {
-        line: 4,
-        target: name(alloc, b"z")?,
-        operand: name(alloc, b"t")?,
-        start: Number::Numeral(2),
-        count: Number::Numeral(3),
-    };
-    let first = literal(alloc, 1, b"a", b"abc")?;
-    let second = literal(alloc, 2, b"b", b"def")?;
-    let lines = vec![in alloc; first, second, joined, part, put(alloc, 5, b"z")?]?;
-    Ok(Script::of(lines))
-}
-
-// Whether an expression is `cat(left right)` of two names.
-fn is_cat(expression: &Expr, left: &[u8], right: &[u8]) -> bool {
-    match expression {
-        Expr::Cat(members) => match members.as_slice() {
-            [first, second] => is_name(first, left) && is_name(second, right),
-            _ => false,
-        },
-        _ => false,
-    }
-}
-
-// Whether an expression is `sub(x start count)` of a name.
-fn is_sub(expression: &Expr, x: &[u8], from: i64, many: i64) -> bool {
-    match expression {
-        Expr::Sub {
-            expression,
-            start,
-            count,
-        } => is_name(expression, x) && is_numeral(start, from) && is_numeral(count, many),
-        _ => false,
-    }
-}
-
-// `3 build t cat(a b)` and `4 build z sub(t 2 3)`.
 #[test]
-fn show_trivial_plan(rt: HostRuntime) -> Result<(), Fail> {
+fn substr_over_seam(rt: HostRuntime) -> Result<(), Fail> {
     let alloc = rt.alloc();
-    match Plan::trivial(alloc, &seam(alloc)?) {
-        Ok(plan) => match plan.operations() {
-            [first, second, third, fourth, fifth] => {
-                assert!(rt; builds_text(first, 1, b"a", b"abc"));
-                assert!(rt; builds_text(second, 2, b"b", b"def"));
-                let joined = built(third, 3, b"t").is_some_and(|e| is_cat(e, b"a", b"b"));
-                assert!(rt; joined);
-                let part = built(fourth, 4, b"z").is_some_and(|e| is_sub(e, b"t", 2, 3));
-                assert!(rt; part);
-                assert!(rt; writes(fifth, 5, b"z"));
-            }
-            _ => assert!(rt; false),
-        },
-        Err(_) => assert!(rt; false),
-    }
+    let script = seam(alloc)?;
+    assert_eq!(rt;
+        planned(alloc, &script)?.bytes(),
+        b"1 build a literal(3)\n2 build b literal(3)\n3 measure t cat(a b)\n4 measure z sub(cat(a b) 2 3)\n5 write sub(cat(a b) 2 3)\n".as_slice()
+    );
+    assert_eq!(rt;
+        unplanned(alloc, &script)?.bytes(),
+        b"1 build a literal(3)\n2 build b literal(3)\n3 build t cat(a b)\n4 build z sub(t 2 3)\n5 write z\n".as_slice()
+    );
     Ok(())
 }
 
-// Whether an operation is the statement `repeat` of a numeral.
-fn repeats(operation: &Operation, at: u32, times: i64) -> bool {
-    match operation {
-        Operation::Keep(Statement::Repeat { line, count }) => {
-            *line == at && is_numeral(count, times)
-        }
-        _ => false,
-    }
-}
-
-// Whether an expression is `cat(x run(byte 1))`.
-fn is_cat_with_byte(expression: &Expr, x: &[u8], wanted: i64) -> bool {
-    match expression {
-        Expr::Cat(members) => match members.as_slice() {
-            [first, Expr::Run { byte, count }] => {
-                is_name(first, x) && is_numeral(byte, wanted) && is_numeral(count, 1)
-            }
-            _ => false,
-        },
-        _ => false,
-    }
-}
-
-// `let x "" ; repeat 3 ; put x ; catc x x 65 ; end`.
-fn turns(alloc: Global) -> Result<Script, AllocError> {
-    let longer = Statement::Catc {
-        line: 4,
-        target: name(alloc, b"x")?,
-        operand: name(alloc, b"x")?,
-        byte: Number::Numeral(65),
-    };
-    let repeat = Statement::Repeat {
-        line: 2,
-        count: Number::Numeral(3),
-    };
-    let first = literal(alloc, 1, b"x", b"")?;
-    let third = put(alloc, 3, b"x")?;
-    let lines = vec![in alloc; first, repeat, third, longer, Statement::End { line: 5 }]?;
-    Ok(Script::of(lines))
-}
-
-// `2 repeat 3`, `4 build x cat(x run(65 1))` and `5 end`.
 #[test]
 fn loop_reads_next_turn(rt: HostRuntime) -> Result<(), Fail> {
     let alloc = rt.alloc();
-    match Plan::trivial(alloc, &turns(alloc)?) {
-        Ok(plan) => match plan.operations() {
-            [
-                first,
-                second,
-                third,
-                fourth,
-                Operation::Keep(Statement::End { line }),
-            ] => {
-                assert!(rt; builds_text(first, 1, b"x", b""));
-                assert!(rt; repeats(second, 2, 3));
-                assert!(rt; writes(third, 3, b"x"));
-                let longer = built(fourth, 4, b"x").is_some_and(|e| is_cat_with_byte(e, b"x", 65));
-                assert!(rt; longer);
-                assert_eq!(rt; *line, 5);
-            }
-            _ => assert!(rt; false),
-        },
-        Err(_) => assert!(rt; false),
-    }
+    let script = next_turn(alloc)?;
+    let shown =
+        b"1 build x literal(0)\n2 repeat 3\n3 write x\n4 build x cat(x run(65 1))\n5 end\n".as_slice();
+    assert_eq!(rt; planned(alloc, &script)?.bytes(), shown);
+    assert_eq!(rt; unplanned(alloc, &script)?.bytes(), shown);
+    Ok(())
+}
+
+#[test]
+fn substr_of_unread_cat_too_long(rt: HostRuntime) -> Result<(), Fail> {
+    let alloc = rt.alloc();
+    assert_eq!(rt;
+        planned(alloc, &too_long(alloc)?)?.bytes(),
+        b"1 measure a run(0 1099511627775)\n2 build b literal(1)\n3 measure t cat(run(0 1099511627775) b)\n4 measure z sub(cat(run(0 1099511627775) b) 0 1)\n5 write b\n".as_slice()
+    );
+    Ok(())
+}
+
+#[test]
+fn operand_assigned_between(rt: HostRuntime) -> Result<(), Fail> {
+    let alloc = rt.alloc();
+    assert_eq!(rt;
+        planned(alloc, &assigned_between(alloc)?)?.bytes(),
+        b"1 build a literal(1)\n2 build b literal(1)\n3 build t cat(a b)\n4 measure a literal(1)\n5 measure z sub(t 0 2)\n6 write sub(t 0 2)\n".as_slice()
+    );
+    Ok(())
+}
+
+#[test]
+fn eager_unread_planned(rt: HostRuntime) -> Result<(), Fail> {
+    let alloc = rt.alloc();
+    assert_eq!(rt;
+        planned(alloc, &eager_unread(alloc)?)?.bytes(),
+        b"1 measure x eager(\"p\")\n2 build y literal(1)\n3 write y\n".as_slice()
+    );
+    Ok(())
+}
+
+#[test]
+fn if_else_both_assign(rt: HostRuntime) -> Result<(), Fail> {
+    let alloc = rt.alloc();
+    assert_eq!(rt;
+        planned(alloc, &both_assign(alloc)?)?.bytes(),
+        b"1 measure x literal(1)\n2 number n len(x)\n3 if n eq 1\n4 build x literal(1)\n5 else\n6 build x literal(1)\n7 end\n8 write x\n".as_slice()
+    );
+    Ok(())
+}
+
+#[test]
+fn if_without_else_keeps(rt: HostRuntime) -> Result<(), Fail> {
+    let alloc = rt.alloc();
+    assert_eq!(rt;
+        planned(alloc, &one_keeps(alloc)?)?.bytes(),
+        b"1 build x literal(1)\n2 number n len(x)\n3 if n gt 1\n4 build x literal(1)\n5 end\n6 write x\n".as_slice()
+    );
     Ok(())
 }

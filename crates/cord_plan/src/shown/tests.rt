@@ -1,14 +1,11 @@
 // Plans as they are shown, against texts that were written by hand.
 use super::*;
+use crate::samples::name;
 use crate::{Expr, Made, Members, Operation};
 use cord_io::{FuseSink, MemSink};
 use cord_script::{Name, Number, Path, Relation, Statement, Text};
 use std::alloc::{AllocError, Global};
 use std::test::Fail;
-
-fn name(alloc: Global, text: &str) -> Result<Name, AllocError> {
-    Ok(Name::of(Vec::from_slice(alloc, text.as_bytes())?))
-}
 
 fn named(alloc: Global, text: &str) -> Result<Expr, AllocError> {
     Ok(Expr::Name(name(alloc, text)?))

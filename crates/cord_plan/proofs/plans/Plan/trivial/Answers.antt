@@ -1,5 +1,5 @@
-use Rattle.std.proofs.Common.{◌≡◌, ℕ, ◌+◌, ◌<◌, false, List, [], ◌∷◌, ◌++◌, length, get_or, take, map, Option, refl, sym, ap, ◌∙◌}
-use Rattle.std.proofs.lemmas.List.{map-append, take_more}
+use Rattle.std.proofs.Common.{rules, ◌≡◌, ℕ, ◌+◌, ◌<◌, false, List, [], ◌∷◌, ◌++◌, length, get_or, take, map, Option, refl, sym, ap, ◌∙◌}
+use Rattle.std.proofs.lemmas.List.{map-append, take_all, take_more}
 use Rattle.std.proofs.lemmas.Slice.{pushed}
 use Rattle.cord_script.specs.declared.statements.Statement.{Statement}
 use Rattle.cord_plan.specs.Exprs.{Expr}
@@ -7,6 +7,7 @@ use Rattle.cord_plan.specs.Forced.{own}
 use Rattle.cord_plan.specs.Planned.{operation, or_nothing, trivial}
 use Rattle.cord_plan.specs.declared.operations.Operation.{Operation}
 use Rattle.cord_plan.specs.Views.{operation_view}
+use Rattle.cord_plan.proofs.Kept.{trivial_keeps}
 use Rattle.cord_plan.proofs.plans.Plan.trivial.Goals as goal
 
 -- the trivial plan of one line more
@@ -31,3 +32,8 @@ pub lines-preserved : goal.lines-preserved
 lines-preserved c =
     ap (map operation_view) (pushed (c.in_ok-operation_of.field-0 ∷ []) refl c.in_ok-push.was c.push.ensures.items)
     ∙ one_more _ _ _ _ _ _ c.lines-test.true c.statement-item.is c.lines.invariant c.in_ok-expression.ensures.made c.in_ok-operation_of.ensures.made
+
+pub returns-clause-means : goal.returns-clause-means
+returns-clause-means c = λ g text read limit most files.
+    rw (c.lines.invariant, take_all c.lines.statement-index c.statements-statement-items.result.now c.lines-test.false, c.statements-statement-items.ensures)
+    (trivial_keeps limit most files c.args.script.now g text read)

@@ -1,0 +1,15 @@
+use Rattle.std.proofs.Common.{◌≡◌, ◌≤◌, ℕ, ◌++◌, map, drop, length}
+use Rattle.std.specs.Prelude.{slice_get}
+use Rattle.cord_plan.specs.Conditions.{decided, decided_from}
+use Rattle.cord_plan.specs.Liveness.{tells}
+use Rattle.cord_plan.specs.Views.{operation_view}
+use Rattle.cord_plan.proofs.Planning.{decisions}
+use Rattle.cord_plan.proofs.planner.operations_of.Given as goal
+
+-- the operations so far, and the expressions that are left
+abbrev pub invariant-loop-place : goal.invariant-loop-place
+invariant-loop-place l = record {
+  so_far : map operation_view l.operations.items ++ decided_from (decisions l.statements (tells l.later)) l.place (drop l.place l.statements) ≡ decided (decisions l.statements (tells l.later)) l.statements;
+  size : length l.expressions.items ≡ length l.statements;
+  left : (k : ℕ) → l.place ≤ k → slice_get l.expressions.items k ≡ slice_get l.fn.table.expressions.items k;
+}

@@ -1,0 +1,10 @@
+use Rattle.std.proofs.Common.{map}
+use Rattle.std.specs.Prelude.{option_map}
+use Rattle.cord_plan.specs.Liveness.{tells}
+use Rattle.cord_plan.specs.Tables.{IsGrown}
+use Rattle.cord_plan.specs.Views.{expr_view}
+use Rattle.cord_plan.proofs.table.Table.of.Given as goal
+
+-- the lines so far have these expressions
+abbrev pub invariant-loop-place : goal.invariant-loop-place
+invariant-loop-place l = IsGrown l.statements (tells l.later) l.place (map (option_map expr_view) l.expressions.items) l.firsts.items

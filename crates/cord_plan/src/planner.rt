@@ -1,0 +1,79 @@
+// The planner.
+ghost use Rattle.std.specs.Prelude.{◌≡◌, ◌<◌, ℕ, Bool, List, Some, IfOk, IsOkUnless, length, map, option_map, slice_get};
+ghost use Rattle.cord_plan.specs.Liveness.{tells};
+ghost use Rattle.cord_plan.specs.Meaning.{IsPlanOf};
+ghost use Rattle.cord_plan.specs.Operands.{target_of};
+ghost use Rattle.cord_plan.specs.Planned as plan;
+ghost use Rattle.cord_plan.specs.Tables.{IsTableOf};
+ghost use Rattle.cord_plan.specs.Unread.{IsLater};
+ghost use Rattle.cord_plan.specs.Views.{operation_view};
+
+use crate::lines::operation_of;
+use crate::liveness::{Later, target_of};
+use crate::table::Table;
+use crate::{Expr, Operation, Plan};
+use cord_io::CordError;
+use cord_script::{Script, Statement};
+use std::alloc::Global;
+
+// Whether a line has a target that isn't read later.
+fn is_dead(statement: &Statement, place: usize, later: &Later) -> bool
+    ensures { result ≡ plan.is_dead (tells later.now) place (target_of statement.now) }
+{
+    match target_of(statement) {
+        None => false,
+        Some(target) => !later.is_later(target.as_slice(), place),
+    }
+}
+
+// Takes the expression at a place.
+fn take_at(expressions: &mut [Option<Expr>], place: usize) -> Option<Expr>
+    requires { place < length expressions.old }
+    ensures taken { Some result ≡ slice_get expressions.old place }
+    ensures left { (k : ℕ) → place < k → slice_get expressions.new k ≡ slice_get expressions.old k }
+    ensures size { length expressions.new ≡ length expressions.old }
+{
+    expressions[place].take()
+}
+
+// The operations of a script's lines.
+fn operations_of(
+    alloc: Global,
+    statements: &[Statement],
+    later: &Later,
+    table: Table,
+) -> Result<Vec<Operation>, CordError>
+    requires { IsTableOf statements.now later.now table }
+    ensures made { IfOk result (λ os. map operation_view os.items ≡ plan.planned statements.now (tells later.now)) }
+    ensures refused { IsOkUnless result CordError.NoMemory }
+{
+    let mut operations = Vec::new(alloc);
+    let Table {
+        mut expressions,
+        firsts,
+    } = table;
+    for (place, statement) in statements.iter().enumerate() {
+        let expression = take_at(&mut expressions, place);
+        let dead = is_dead(statement, place, later);
+        operations.push(operation_of(alloc, statement, expression, dead, firsts[place])?)?;
+    }
+    Ok(operations)
+}
+
+/// The plan of a script: a name that nobody reads gets a length alone, and what is read once, in the expression of a later line,
+/// is made there.
+///
+/// Refused only with `NoMemory`.
+pub fn plan(alloc: Global, script: &Script) -> Result<Plan, CordError>
+    // Given exactly what is read later, these are the planned operations.
+    ensures made { IfOk result (λ p. (later : List ℕ → ℕ → Bool) × IsLater script.now later × (map operation_view p ≡ plan.planned script.now later)) }
+    // Over all files it does what the script does.
+    ensures means { IfOk result (λ p. IsPlanOf script.now (map operation_view p)) }
+    ensures refused { IsOkUnless result CordError.NoMemory }
+{
+    let statements = script.statements();
+    let later = Later::of(alloc, statements)?;
+    let table = Table::of(alloc, statements, &later)?;
+    let operations = operations_of(alloc, statements, &later, table)?;
+    Ok(Plan::of(operations))
+}

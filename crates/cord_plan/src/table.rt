@@ -1,0 +1,98 @@
+// The expressions of all lines of a script, and which lines are the first of a forced pair.
+ghost use Rattle.std.specs.Prelude.{◌≡◌, ◌≤◌, IfOk, IsOkUnless, length, map, option_map};
+ghost use Rattle.cord_plan.specs.Choices.{choice_view};
+ghost use Rattle.cord_plan.specs.Liveness.{tells};
+ghost use Rattle.cord_plan.specs.Tables.{IsMarked, IsNext, IsTableOf};
+ghost use Rattle.cord_plan.specs.Views.{expr_view};
+
+use crate::Expr;
+use crate::choosing::{Choice, Line, choose_all, operands_of};
+use crate::joining::expression_with;
+use crate::liveness::Later;
+use cord_io::CordError;
+use cord_script::Statement;
+use std::alloc::Global;
+
+/// What is decided of the lines of a script.
+#[derive(Drop)]
+pub(crate) struct Table {
+    /// The expression of each line, where it is a simple one.
+    pub(crate) expressions: Vec<Option<Expr>>,
+    /// Whether each line is the first of a forced pair.
+    pub(crate) firsts: Vec<bool>,
+}
+
+// Marks the lines whose expressions stand for operands.
+fn mark(firsts: &mut [bool], choices: &[Choice])
+    ensures { IsMarked (map choice_view choices.now) firsts.old firsts.new }
+{
+    for choice in choices {
+        match choice {
+            Choice::Kept(_) => {}
+            Choice::Replaced(place, _) => {
+                if *place < firsts.len() {
+                    firsts[*place] = true;
+                }
+            }
+        }
+    }
+}
+
+// The expression of the next line behind those that have these; the lines that it takes are marked.
+fn next_expression(
+    alloc: Global,
+    statements: &[Statement],
+    place: usize,
+    statement: &Statement,
+    later: &Later,
+    expressions: &[Option<Expr>],
+    firsts: &mut [bool],
+) -> Result<Option<Expr>, CordError>
+    requires { place ≤ length statements.now }
+    ensures made { IfOk result (λ e. IsNext statements.now (tells later.now) place statement.now (map (option_map expr_view) expressions.now) firsts.old firsts.new (option_map expr_view e)) }
+    ensures refused { IsOkUnless result CordError.NoMemory }
+{
+    let Some(operands) = operands_of(alloc, statement)? else {
+        return Ok(None);
+    };
+    let line = Line {
+        statements,
+        place,
+        statement,
+        operands: operands.as_slice(),
+    };
+    let choices = choose_all(alloc, &line, later, expressions)?;
+    mark(firsts, &choices);
+    expression_with(alloc, statement, &choices)
+}
+
+impl Table {
+    /// What is decided of these lines. Refused only with `NoMemory`.
+    pub(crate) fn of(
+        alloc: Global,
+        statements: &[Statement],
+        later: &Later,
+    ) -> Result<Self, CordError>
+        ensures made { IfOk result (λ t. IsTableOf statements.now later.now t) }
+        ensures refused { IsOkUnless result CordError.NoMemory }
+    {
+        let mut expressions = Vec::new(alloc);
+        let mut firsts = vec![in alloc; false; statements.len()]?;
+        for (place, statement) in statements.iter().enumerate() {
+            let expression = next_expression(
+                alloc,
+                statements,
+                place,
+                statement,
+                later,
+                &expressions,
+                &mut firsts,
+            )?;
+            expressions.push(expression)?;
+        }
+        Ok(Table {
+            expressions,
+            firsts,
+        })
+    }
+}
