@@ -25,14 +25,38 @@ module _ (shapes : List control.Shape) (p : ℕ) where
   pub behind_simple : slice_get shapes p ≡ Some Simple → (p + 1) ∷ [] ≡ behind shapes p
   behind_simple is = rw is refl
 
-  pub behind_loop : (n : ℕ) → slice_get shapes p ≡ Some Loop → n ≡ to_end 0 (drop (p + 1) shapes) → (p + 1) ∷ (p + 1 + n + 1) ∷ [] ≡ behind shapes p
-  behind_loop n is count = rw (is, is, count) refl
+  pub jump_simple : slice_get shapes p ≡ Some Simple → p + 1 ≡ jump shapes p
+  jump_simple is = rw is refl
 
-  pub behind_branch : (n : ℕ) → slice_get shapes p ≡ Some Branch → n ≡ to_else 0 (drop (p + 1) shapes) → (p + 1) ∷ (p + 1 + n) ∷ [] ≡ behind shapes p
-  behind_branch n is count = rw (is, is, count) refl
+  pub jump_close : slice_get shapes p ≡ Some Close → p + 1 ≡ jump shapes p
+  jump_close is = rw is refl
 
-  pub behind_otherwise : (n : ℕ) → slice_get shapes p ≡ Some Otherwise → n ≡ to_end 0 (drop (p + 1) shapes) → (p + 1 + n) ∷ [] ≡ behind shapes p
-  behind_otherwise n is count = rw (is, is, count) refl
+  pub jump_loop : (n : ℕ) → slice_get shapes p ≡ Some Loop → n ≡ to_end 0 (drop (p + 1) shapes) → p + 1 + n + 1 ≡ jump shapes p
+  jump_loop n is count = rw (is, count) refl
+
+  pub jump_branch : (n : ℕ) → slice_get shapes p ≡ Some Branch → n ≡ to_else 0 (drop (p + 1) shapes) → p + 1 + n ≡ jump shapes p
+  jump_branch n is count = rw (is, count) refl
+
+  pub jump_otherwise : (n : ℕ) → slice_get shapes p ≡ Some Otherwise → n ≡ to_end 0 (drop (p + 1) shapes) → p + 1 + n ≡ jump shapes p
+  jump_otherwise n is count = rw (is, count) refl
+
+  pub behind_loop : (q : ℕ) → slice_get shapes p ≡ Some Loop → q ≡ jump shapes p → (p + 1) ∷ q ∷ [] ≡ behind shapes p
+  behind_loop q is leads = ap (λ (w : ℕ). (p + 1) ∷ w ∷ []) leads ∙ two
+    where
+      two : (p + 1) ∷ jump shapes p ∷ [] ≡ behind shapes p
+      two = rw (is, is) refl
+
+  pub behind_branch : (q : ℕ) → slice_get shapes p ≡ Some Branch → q ≡ jump shapes p → (p + 1) ∷ q ∷ [] ≡ behind shapes p
+  behind_branch q is leads = ap (λ (w : ℕ). (p + 1) ∷ w ∷ []) leads ∙ two
+    where
+      two : (p + 1) ∷ jump shapes p ∷ [] ≡ behind shapes p
+      two = rw (is, is) refl
+
+  pub behind_otherwise : (q : ℕ) → slice_get shapes p ≡ Some Otherwise → q ≡ jump shapes p → q ∷ [] ≡ behind shapes p
+  behind_otherwise q is leads = ap (λ (w : ℕ). w ∷ []) leads ∙ one
+    where
+      one : jump shapes p ∷ [] ≡ behind shapes p
+      one = rw (is, is) refl
 
   next_of_close : (blocks : List (Option ℕ)) → None ≡ innermost blocks → (p + 1) ∷ [] ≡ behind_close p blocks
   next_of_close [] e = refl

@@ -5,6 +5,7 @@ mod choosing;
 mod expression_laws;
 mod expressions;
 mod joining;
+mod jumps;
 mod laws;
 mod lines;
 mod liveness;

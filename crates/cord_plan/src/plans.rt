@@ -1,14 +1,16 @@
 // Plans.
-ghost use Rattle.std.specs.Prelude.{◌≡◌, IfErr, IfOk, IsOkUnless, OnErr, OnOk, map};
+ghost use Rattle.std.specs.Prelude.{◌≡◌, ◌<◌, ℕ, Some, IfErr, IfOk, IsOkUnless, OnErr, OnOk, length, map, slice_get};
+ghost use Rattle.cord_meaning.specs.Blocks.{jump};
 ghost use Rattle.std.specs.Io.KnownBytes.{Appends};
 ghost use Rattle.cord_io.specs.Device.{raised};
 ghost use Rattle.cord_iter.specs.Taking.{IsFrontOf, Takes};
-ghost use Rattle.cord_plan.specs.Meaning.{IsPlanOf};
+ghost use Rattle.cord_plan.specs.Meaning.{IsPlanOf, operation_shape};
 ghost use Rattle.cord_plan.specs.Planned as plan;
 ghost use Rattle.cord_plan.specs.Shown.{shown};
 ghost use Rattle.cord_plan.specs.Views.{operation_view};
 
 use crate::Operation;
+use crate::jumps::jumps;
 use crate::lines::operation_of;
 use crate::own::own_expression;
 use crate::shown::show_operations;
@@ -64,6 +66,17 @@ impl Plan {
         ensures { result.now ≡ self.now }
     {
         &self.operations
+    }
+
+    /// For each operation the place that it leads to where it passes others over: a `repeat` behind its `end`, an `if` behind its
+    /// `else` or, where it has none, to its `end`, an `else` to its `end`, and any other to the next one. Refused only with
+    /// `NoMemory`.
+    pub fn jumps(&self, alloc: Global) -> Result<Vec<usize>, CordError>
+        ensures size { IfOk result (λ v. length v.items ≡ length self.now) }
+        ensures told { IfOk result (λ v. (p : ℕ) → p < length self.now → slice_get v.items p ≡ Some (jump (map operation_shape (map operation_view self.now)) p)) }
+        ensures refused { IsOkUnless result CordError.NoMemory }
+    {
+        Ok(jumps(alloc, &self.operations)?)
     }
 
     /// Hands a sink the text of the plan: one line an operation, ended by byte 10. Refused with `WriteFailed` where the sink

@@ -86,6 +86,15 @@ fn if_one(
     })
 }
 
+// `eager target "path"`
+fn eager(alloc: Global, line: u32, target: &str, path: &str) -> Result<Statement, AllocError> {
+    Ok(Statement::Eager {
+        line,
+        target: name(alloc, target)?,
+        path: Path::of(String::from_str(alloc, path)?),
+    })
+}
+
 // `let x "hello" ; put x`
 pub(crate) fn hello(alloc: Global) -> Result<Script, AllocError> {
     let lines = vec![in alloc; literal(alloc, 1, "x", "hello")?, put(alloc, 2, "x")?]?;
@@ -159,12 +168,11 @@ pub(crate) fn assigned_between(alloc: Global) -> Result<Script, AllocError> {
 
 // `eager x "p" ; let y "a" ; put y`
 pub(crate) fn eager_unread(alloc: Global) -> Result<Script, AllocError> {
-    let eager = Statement::Eager {
-        line: 1,
-        target: name(alloc, "x")?,
-        path: Path::of(String::from_str(alloc, "p")?),
-    };
-    let lines = vec![in alloc; eager, literal(alloc, 2, "y", "a")?, put(alloc, 3, "y")?]?;
+    let lines = vec![in alloc;
+        eager(alloc, 1, "x", "p")?,
+        literal(alloc, 2, "y", "a")?,
+        put(alloc, 3, "y")?,
+    ]?;
     Ok(Script::of(lines))
 }
 

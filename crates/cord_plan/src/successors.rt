@@ -1,6 +1,6 @@
 // The places that may come next after each place.
 ghost use Rattle.std.specs.Prelude.{◌≡◌, ◌+◌, ◌-◌, ◌^◌, ◌<◌, ◌≤◌, [], ◌∷◌, Some, IfOk, OnOk, map, reverse, length};
-ghost use Rattle.cord_meaning.specs.Blocks.{to_end, to_else};
+ghost use Rattle.cord_meaning.specs.Blocks.{to_end, to_else, jump};
 ghost use Rattle.cord_meaning.specs.Paths.{opened, open_at};
 ghost use Rattle.cord_meaning.specs.Statements.{shape_of};
 ghost use Rattle.cord_plan.specs.Unread.{behind};
@@ -62,7 +62,8 @@ enum Turn {
     Inside(usize),
 }
 
-fn shape_of(statement: &Statement) -> Shape
+/// What a statement is to control.
+pub(crate) fn shape_of(statement: &Statement) -> Shape
     ensures { shape_view result ≡ shape_of statement.now }
 {
     match statement {
@@ -145,6 +146,22 @@ fn open_behind(blocks: &mut Vec<Option<usize>>, p: usize, shape: Shape) -> Resul
     Ok(())
 }
 
+/// The place that the statement at a place leads to where it passes others over: a `repeat` behind its `end`, an `if` behind its
+/// `else` or, where it has none, to its `end`, an `else` to its `end`, and any other to the next one.
+pub(crate) fn jump(shapes: &[Shape], place: usize) -> usize
+    requires { place < length shapes.now }
+    ensures { result ≡ jump (map shape_view shapes.now) place }
+{
+    let next = place + 1;
+    match shapes[place] {
+        Shape::Simple => next,
+        Shape::Loop => next + to_end(&shapes[next..]) + 1,
+        Shape::Branch => next + to_else(&shapes[next..]),
+        Shape::Otherwise => next + to_end(&shapes[next..]),
+        Shape::Close => next,
+    }
+}
+
 // The places that may come next after place p, where this is the innermost open block.
 fn places_behind(shapes: &[Shape], p: usize, block: Option<usize>) -> Behind
     requires within { p < length shapes.now }
@@ -154,9 +171,9 @@ fn places_behind(shapes: &[Shape], p: usize, block: Option<usize>) -> Behind
     let next = p + 1;
     match shapes[p] {
         Shape::Simple => Behind::one(next),
-        Shape::Loop => Behind::two(next, next + to_end(&shapes[next..]) + 1),
-        Shape::Branch => Behind::two(next, next + to_else(&shapes[next..])),
-        Shape::Otherwise => Behind::one(next + to_end(&shapes[next..])),
+        Shape::Loop => Behind::two(next, jump(shapes, p)),
+        Shape::Branch => Behind::two(next, jump(shapes, p)),
+        Shape::Otherwise => Behind::one(jump(shapes, p)),
         Shape::Close => match block {
             None => Behind::one(next),
             Some(repeat) => Behind::two(repeat + 1, next),

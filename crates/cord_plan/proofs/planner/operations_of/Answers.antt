@@ -33,9 +33,9 @@ loop-place-preserved c =
     let there : Some (option_map expr_view e) ≡ slice_get (map (option_map expr_view) all) p = ap (option_map (option_map expr_view)) taken ∙ sym (slice_get-map (option_map expr_view) all p) in
     let within : p < length c.args.table.firsts.items = omega (arith, c.loop-place-test.true, c.requires.size) in
     let made : operation_view c.in_ok-operation_of.field-0 ≡ plan.operation l (plan.or_nothing (option_map expr_view e)) (plan.is_dead later p (target_of l)) (at c.args.table.firsts.items p) =
-        c.in_ok-operation_of.ensures.made
-        ∙ (ap (λ (dead : Bool). plan.operation l (plan.or_nothing (option_map expr_view e)) dead c.index.result.now) c.is_dead-dead.ensures
-        ∙ ap (λ (first : Bool). plan.operation l (plan.or_nothing (option_map expr_view e)) (plan.is_dead later p (target_of l)) first) (at_read c.args.table.firsts.items p c.index.result.now within c.index.ensures)) in
+    c.in_ok-operation_of.ensures.made
+    ∙ (ap (λ (dead : Bool). plan.operation l (plan.or_nothing (option_map expr_view e)) dead c.index.result.now) c.is_dead-dead.ensures
+    ∙ ap (λ (first : Bool). plan.operation l (plan.or_nothing (option_map expr_view e)) (plan.is_dead later p (target_of l)) first) (at_read c.args.table.firsts.items p c.index.result.now within c.index.ensures)) in
     rw (written_back c.loop-place.expressions.len new c.loop-place.expressions.items size)
     (record {
       so_far = rw c.in_ok-push.ensures.items (line_more s later (map (option_map expr_view) all) c.args.table.firsts.items c.requires p l (option_map expr_view e) c.loop-place.operations.items c.in_ok-operation_of.field-0 c.loop-place-test.true c.index-statements-place.is there c.loop-place.invariant.so_far made);

@@ -1,5 +1,4 @@
 use Rattle.std.proofs.Common.{map, ap, ◌∙◌, sym, ◌+◌, ◌<◌, arith}
-use Rattle.cord_meaning.specs.Blocks.{to_end, to_else}
 use Rattle.cord_plan.specs.declared.successors.Shape.TheVariants.{Simple, Loop, Branch, Otherwise, Close}
 use Rattle.cord_plan.specs.Liveness.{shape_view}
 use Rattle.cord_plan.proofs.Followers.{shape_there, shapes_behind, behind_simple, behind_loop, behind_branch, behind_otherwise, behind_branch_end, behind_loop_end, block_below}
@@ -19,23 +18,20 @@ returns-in-Simple c =
 pub returns-in-Loop : goal.returns-in-Loop
 returns-in-Loop c =
     c.two.ensures
-    ∙ behind_loop (map shape_view c.args.shapes.now) c.args.p c.to_end.result
-    (shape_there c.args.shapes.now c.args.p Loop Simple c.requires.within c.in-Loop.is)
-    (c.to_end.ensures.count ∙ ap (to_end 0) (shapes_behind c.args.shapes.now (c.args.p + 1)))
+    ∙ behind_loop (map shape_view c.args.shapes.now) c.args.p c.jump.result
+    (shape_there c.args.shapes.now c.args.p Loop Simple c.requires.within c.in-Loop.is) c.jump.ensures
 
 pub returns-in-Branch : goal.returns-in-Branch
 returns-in-Branch c =
     c.two-in-Branch.ensures
-    ∙ behind_branch (map shape_view c.args.shapes.now) c.args.p c.to_else.result
-    (shape_there c.args.shapes.now c.args.p Branch Simple c.requires.within c.in-Branch.is)
-    (c.to_else.ensures.count ∙ ap (to_else 0) (shapes_behind c.args.shapes.now (c.args.p + 1)))
+    ∙ behind_branch (map shape_view c.args.shapes.now) c.args.p c.jump-in-Branch.result
+    (shape_there c.args.shapes.now c.args.p Branch Simple c.requires.within c.in-Branch.is) c.jump-in-Branch.ensures
 
 pub returns-in-Otherwise : goal.returns-in-Otherwise
 returns-in-Otherwise c =
     c.one-in-Otherwise.ensures
-    ∙ behind_otherwise (map shape_view c.args.shapes.now) c.args.p c.to_end-in-Otherwise.result
-    (shape_there c.args.shapes.now c.args.p Otherwise Simple c.requires.within c.in-Otherwise.is)
-    (c.to_end-in-Otherwise.ensures.count ∙ ap (to_end 0) (shapes_behind c.args.shapes.now (c.args.p + 1)))
+    ∙ behind_otherwise (map shape_view c.args.shapes.now) c.args.p c.jump-in-Otherwise.result
+    (shape_there c.args.shapes.now c.args.p Otherwise Simple c.requires.within c.in-Otherwise.is) c.jump-in-Otherwise.ensures
 
 pub returns-in-None : goal.returns-in-None
 returns-in-None c =

@@ -1,0 +1,12 @@
+use Rattle.std.proofs.Common.{◌≡◌, ◌<◌, ℕ, Some, map, length}
+use Rattle.std.specs.Prelude.{slice_get}
+use Rattle.cord_meaning.specs.Blocks.{jump}
+use Rattle.cord_plan.specs.Liveness.{shape_view}
+use Rattle.cord_plan.proofs.jumps.jumps.Given as goal
+
+-- the places so far
+abbrev pub invariant-loop-place : goal.invariant-loop-place
+invariant-loop-place l = record {
+  size : length l.places.items ≡ l.place;
+  told : (p : ℕ) → p < l.place → slice_get l.places.items p ≡ Some (jump (map shape_view l.shapes.items) p);
+}

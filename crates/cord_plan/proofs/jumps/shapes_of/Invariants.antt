@@ -1,0 +1,9 @@
+use Rattle.std.proofs.Common.{◌≡◌, map, take}
+use Rattle.cord_plan.specs.Liveness.{shape_view}
+use Rattle.cord_plan.specs.Meaning.{operation_shape}
+use Rattle.cord_plan.specs.Views.{operation_view}
+use Rattle.cord_plan.proofs.jumps.shapes_of.Given as goal
+
+-- the shapes of the operations so far
+abbrev pub invariant-loop-operation : goal.invariant-loop-operation
+invariant-loop-operation l = map shape_view l.shapes.items ≡ map operation_shape (map operation_view (take l.operation-index l.operations))
