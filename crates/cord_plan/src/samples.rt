@@ -168,11 +168,10 @@ pub(crate) fn assigned_between(alloc: Global) -> Result<Script, AllocError> {
 
 // `eager x "p" ; let y "a" ; put y`
 pub(crate) fn eager_unread(alloc: Global) -> Result<Script, AllocError> {
-    let lines = vec![in alloc;
-        eager(alloc, 1, "x", "p")?,
-        literal(alloc, 2, "y", "a")?,
-        put(alloc, 3, "y")?,
-    ]?;
+    let mut lines = Vec::new(alloc);
+    lines.push(eager(alloc, 1, "x", "p")?)?;
+    lines.push(literal(alloc, 2, "y", "a")?)?;
+    lines.push(put(alloc, 3, "y")?)?;
     Ok(Script::of(lines))
 }
 
