@@ -1,5 +1,5 @@
 -- The members of a `cat`: how their text grows, and that each is smaller than all of them.
-use Rattle.std.proofs.Common.{◌≡◌, ◌<◌, ℕ, zero, suc, ◌+◌, List, [], ◌∷◌, ◌++◌, length, map, take, drop, get_or, refl, sym, ap, subst, ◌∙◌, append-nil, append_assoc, arith}
+use Rattle.std.proofs.Common.{◌≡◌, ◌<◌, ℕ, zero, suc, ◌+◌, List, [], ◌∷◌, length, map, get_or, refl, sym, subst, arith}
 use Rattle.cord_plan.specs.Exprs as plain
 use Rattle.cord_plan.specs.Shown.{expr, exprs, more_exprs}
 use Rattle.cord_plan.specs.Views.{expr_view, members_of}

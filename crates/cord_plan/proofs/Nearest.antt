@@ -1,5 +1,5 @@
 -- The nearest line that assigns an operand, and what stands for the operand then.
-use Rattle.std.proofs.Common.{◌≡◌, ℕ, zero, suc, ◌+◌, ◌-◌, ◌<◌, ◌≤◌, Bool, true, false, ◌&&◌, ◌||◌, List, [], ◌∷◌, ◌++◌, map, drop, length, get_or, Option, Some, None, refl, sym, ap, ◌∙◌, arith}
+use Rattle.std.proofs.Common.{◌≡◌, ℕ, zero, suc, ◌+◌, ◌-◌, ◌<◌, ◌≤◌, Bool, true, false, ◌&&◌, ◌||◌, List, ◌∷◌, ◌++◌, drop, length, get_or, Option, Some, None, refl, sym, ap, ◌∙◌, arith}
 use Rattle.std.specs.Prelude.{slice_get, not, if◌then◌else◌, option_map}
 use Rattle.std.proofs.Math.Bool.{and-false}
 use Rattle.std.proofs.lemmas.Option.{slice_get-map, slice_get_read}
@@ -9,7 +9,7 @@ use Rattle.cord_script.specs.declared.statements.Statement.{Statement}
 use Rattle.cord_meaning.specs.Statements.{shape_of}
 use Rattle.cord_plan.specs.Exprs.{Expr}
 use Rattle.cord_plan.specs.Operands.{assigns, assigns_at, count, reads, reads_at, read_by}
-use Rattle.cord_plan.specs.Forced.{Choice, kept, replaced, Table, first_of, is_block, is_block_at, keeps, each_from, setter, fits, is_small, expr_with, chosen_from, chosen_of}
+use Rattle.cord_plan.specs.Forced.{Choice, kept, replaced, Table, first_of, is_block, is_block_at, keeps, each_from, setter, is_small, expr_with, chosen_from, chosen_of}
 use Rattle.cord_plan.specs.Choices.{nearest, stands, expression_of, expression_in, Has}
 use Rattle.cord_plan.proofs.Chosen.{setter_is}
 

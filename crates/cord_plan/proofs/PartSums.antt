@@ -1,14 +1,13 @@
 -- The parts and the names of expressions, summed over members and operands.
-use Rattle.std.proofs.Common.{◌≡◌, ℕ, zero, suc, ◌+◌, ◌-◌, ◌<◌, ◌≤◌, Bool, true, false, ◌&&◌, List, [], ◌∷◌, ◌++◌, map, drop, length, get_or, pos, Option, Some, None, refl, sym, ap, ◌∙◌, arith, append_assoc, length-append, length-drop}
+use Rattle.std.proofs.Common.{◌≡◌, ℕ, ◌+◌, ◌-◌, ◌<◌, ◌≤◌, Bool, true, false, ◌&&◌, List, [], ◌∷◌, ◌++◌, map, drop, length, get_or, pos, Option, Some, None, refl, sym, ap, ◌∙◌, arith, length-append, length-drop}
 use Rattle.std.specs.Prelude.{nat_le, not, sum_by, if◌then◌else◌}
 use Rattle.std.proofs.lemmas.Bool.{leb-false, leb-true, lt-leb, le-leb}
 use Rattle.std.proofs.lemmas.List.{at_drop_more, length-map}
 use Rattle.std.proofs.lemmas.List.Sums.{sum_by-cons}
-use Rattle.cord_script.specs.declared.operands.Number.{Number}
 use Rattle.cord_script.specs.declared.operands.Number.TheVariants.{Numeral}
 use Rattle.cord_script.specs.declared.statements.Statement.{Statement}
 use Rattle.cord_script.specs.declared.statements.Statement.TheVariants.{Chars, Nul, Cat, Catn, Catc, Substr, Put}
-use Rattle.cord_plan.specs.Exprs.{Expr, Exprs, name, run, cat, sub, nothing, member, parts, parts_of, names, names_of, number_names, append, in_front, members}
+use Rattle.cord_plan.specs.Exprs.{Expr, Exprs, name, run, cat, sub, nothing, member, parts, parts_of, names, names_of, append, in_front, members}
 use Rattle.cord_plan.specs.Operands.{assigns_at}
 use Rattle.cord_plan.specs.Forced.{Choice, expr_of, keeps, is_small, expr_with}
 use Rattle.cord_plan.specs.Views.{expr_view, members_of}

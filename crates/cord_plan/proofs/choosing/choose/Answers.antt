@@ -1,10 +1,10 @@
-use Rattle.std.proofs.Common.{◌≡◌, ℕ, ◌+◌, Bool, true, false, ◌&&◌, List, ◌∷◌, ◌++◌, map, drop, length, Option, Some, None, sym, ap, ◌∙◌}
-use Rattle.std.specs.Prelude.{slice_get, option_map}
+use Rattle.std.proofs.Common.{◌≡◌, ℕ, ◌+◌, Bool, true, false, ◌&&◌, List, ◌∷◌, ◌++◌, map, drop, length, Some, None, sym, ap, ◌∙◌}
+use Rattle.std.specs.Prelude.{option_map}
 use Rattle.cord_plan.specs.Exprs.{Expr, name}
-use Rattle.cord_plan.specs.Forced.{expr_of, expr_with, first_of, is_small, Table}
+use Rattle.cord_plan.specs.Forced.{expr_of, expr_with, is_small}
 use Rattle.cord_plan.specs.Liveness.{tells}
 use Rattle.cord_plan.specs.Views.{expr_view}
-use Rattle.cord_plan.specs.Choices.{choice_view, nearest, stands, expression_in, Has}
+use Rattle.cord_plan.specs.Choices.{choice_view, nearest, stands, expression_in}
 use Rattle.cord_plan.proofs.Choices.{simple_reads}
 use Rattle.cord_plan.proofs.Nearest.{kept_far, kept_bare, by_tests, first_in}
 use Rattle.cord_plan.proofs.choosing.choose.Goals as goal

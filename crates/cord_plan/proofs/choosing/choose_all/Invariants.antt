@@ -1,4 +1,4 @@
-use Rattle.std.proofs.Common.{◌≡◌, ℕ, List, [], map, drop, length, Option}
+use Rattle.std.proofs.Common.{◌≡◌, [], map, drop, length}
 use Rattle.std.specs.Prelude.{option_map}
 use Rattle.cord_plan.specs.Choices.{choice_view, Has}
 use Rattle.cord_plan.specs.Forced.{Table, choices}

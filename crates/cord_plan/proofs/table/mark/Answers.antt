@@ -1,4 +1,3 @@
-use Rattle.std.proofs.Common.{rules}
 use Rattle.cord_plan.specs.Choices.{choice_view}
 use Rattle.cord_plan.proofs.Marked.{marked_then, marked_kept, marked_at, marked_past}
 use Rattle.cord_plan.proofs.table.mark.Goals as goal

@@ -1,10 +1,9 @@
-use Rattle.std.proofs.Common.{rules, ◌≡◌, List, Option, [], ◌∷◌, map, length, ◌∙◌, subst}
+use Rattle.std.proofs.Common.{◌≡◌, [], ◌∷◌, map, length, ◌∙◌}
 use Rattle.std.specs.Prelude.{option_map}
 use Rattle.std.proofs.lemmas.List.{map-append}
 use Rattle.cord_plan.specs.Liveness.{tells}
 use Rattle.cord_plan.specs.Tables.{IsNext}
 use Rattle.cord_plan.specs.Views.{expr_view}
-use Rattle.cord_plan.specs.declared.expressions.Expr.{Expr}
 use Rattle.cord_plan.proofs.Marked.{grown_then, written_back}
 use Rattle.cord_plan.proofs.table.Table.of.Goals as goal
 
