@@ -1,3 +1,7 @@
 pub mod Texts
 pub mod Slots
 pub mod Runs
+pub mod Held
+pub mod Holdings
+pub mod Ranges
+pub mod Extents

@@ -1,10 +1,13 @@
 //! Runs scripts on cords.
 #![tactic(auto)]
 
+mod checks;
+mod extents;
 mod names;
 mod output;
 mod runner;
 mod slot;
+mod store;
 #[cfg(test)]
 mod tests;
 
