@@ -4,3 +4,6 @@ pub mod Numbered
 pub mod Puts
 pub mod Entries
 pub mod Members
+pub mod Told
+pub mod Ranged
+pub mod SoFar

@@ -2,9 +2,10 @@
 #![tactic(auto)]
 
 mod checks;
-mod extents;
+mod measuring;
 mod names;
 mod output;
+mod picking;
 mod runner;
 mod slot;
 mod store;

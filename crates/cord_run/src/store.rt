@@ -143,11 +143,7 @@ fn set_number(entries: &mut [Entry], name: &[u8], place: usize, number: i64)
 }
 
 // The place of a name, which gets an entry where it has none.
-fn place_for(
-    alloc: Global,
-    entries: &mut Vec<Entry>,
-    name: &[u8],
-) -> Result<usize, AllocError>
+fn place_for(alloc: Global, entries: &mut Vec<Entry>, name: &[u8]) -> Result<usize, AllocError>
     ensures within { IfOk result (λ place. place < length entries.new.items) }
     ensures place { IfOk result (IsEntryAt entries.new.items name.now) }
     ensures same { IfOk result (λ _. SameEntries entries.old.items entries.new.items) }

@@ -2,7 +2,7 @@ use Rattle.std.proofs.Common.{◌≡◌, ◌<◌, ◌^◌, drop}
 use Rattle.cord_plan.specs.Views.{expr_view}
 use Rattle.cord_run.specs.Extents.{counted, members_extent, members_seen}
 use Rattle.cord_run.proofs.Members.{weight, weights}
-use Rattle.cord_run.proofs.extents.+length_of.Given as goal
+use Rattle.cord_run.proofs.measuring.+length_of.Given as goal
 
 abbrev pub decreases-length_of : goal.decreases-length_of
 decreases-length_of l = weight (expr_view l.expression.now)

@@ -7,7 +7,7 @@ use Rattle.cord_plan.specs.Views.{expr_view, members_view}
 use Rattle.cord_plan.proofs.ExprViews.{view-Cat}
 use Rattle.cord_run.specs.Extents.{counted, extent_in, members_extent, members_seen}
 use Rattle.cord_run.proofs.Members.{weight, weights, member_smaller, member_counted, member_faulty, all_counted, counted_length}
-use Rattle.cord_run.proofs.extents.+length_of.Goals as goal
+use Rattle.cord_run.proofs.measuring.+length_of.Goals as goal
 
 pub length_of-returns-in-Ok : goal.length_of-returns-in-Ok
 length_of-returns-in-Ok t c =
@@ -29,8 +29,8 @@ length_of_all-returns-in-Err t c =
 pub length_of_all-loop-member-preserved : goal.length_of_all-loop-member-preserved
 length_of_all-loop-member-preserved t c = record {
   extent = c.loop-member.invariant.extent
-    ∙ member_counted c.args.store.now.entries.items c.args.members.now c.loop-member.member-index c.member-item.result c.loop-member-test.true c.member-item.is c.loop-member.total c.in-Ok.len (sym c.in-Ok.ensures)
-    ∙ ap (λ (n : ℕ). counted n (members_extent c.args.store.now.entries.items (members_seen (drop (c.loop-member.member-index + 1) c.args.members.now)))) (sym c.saturating_add-total.ensures);
+      ∙ member_counted c.args.store.now.entries.items c.args.members.now c.loop-member.member-index c.member-item.result c.loop-member-test.true c.member-item.is c.loop-member.total c.in-Ok.len (sym c.in-Ok.ensures)
+      ∙ ap (λ (n : ℕ). counted n (members_extent c.args.store.now.entries.items (members_seen (drop (c.loop-member.member-index + 1) c.args.members.now)))) (sym c.saturating_add-total.ensures);
   small = omega (arith, c.saturating_add-total.ensures);
 }
 
