@@ -7,3 +7,6 @@ pub mod Members
 pub mod Told
 pub mod Ranged
 pub mod SoFar
+pub mod Growing
+pub mod Assigned
+pub mod Wholes

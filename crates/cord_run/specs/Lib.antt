@@ -5,3 +5,4 @@ pub mod Held
 pub mod Holdings
 pub mod Ranges
 pub mod Extents
+pub mod Whole

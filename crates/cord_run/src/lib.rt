@@ -2,6 +2,7 @@
 #![tactic(auto)]
 
 mod checks;
+mod making;
 mod measuring;
 mod names;
 mod output;
