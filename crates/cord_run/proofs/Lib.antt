@@ -10,3 +10,4 @@ pub mod SoFar
 pub mod Growing
 pub mod Assigned
 pub mod Wholes
+pub mod Handed

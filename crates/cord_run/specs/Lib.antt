@@ -6,3 +6,4 @@ pub mod Holdings
 pub mod Ranges
 pub mod Extents
 pub mod Whole
+pub mod Putting

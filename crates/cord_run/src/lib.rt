@@ -12,6 +12,7 @@ mod slot;
 mod store;
 #[cfg(test)]
 mod tests;
+mod writing;
 
 pub use cord_meaning::{End, FaultKind};
 pub use runner::{run_text, run_unplanned};
