@@ -1,20 +1,17 @@
 -- Cords that a sink is handed one after another.
-use Rattle.std.proofs.Common.{◌≡◌, ◌+◌, ◌<◌, ◌≤◌, ℕ, zero, suc, true, List, [], ◌∷◌, ◌++◌, length, take, drop, get_or, Result, Ok, Err, refl, sym, ap, subst, ◌∙◌, arith}
+use Rattle.std.proofs.Common.{◌≡◌, ◌+◌, ◌<◌, ◌≤◌, ℕ, zero, suc, true, List, [], ◌∷◌, ◌++◌, length, take, drop, get_or, Ok, Err, refl, sym, ap, subst, ◌∙◌, arith}
 use Rattle.std.specs.Prelude.{Option, Some, None, IfSome}
 use Rattle.std.specs.Io.KnownBytes.{Appends}
 use Rattle.std.proofs.lemmas.List.{take_all}
 use Rattle.cord_io.proofs.Taken.{appends_none}
-use Rattle.cord_io.specs.Device.{raised}
 use Rattle.cord_io.specs.Table.{Table, Lengths, HasLengths}
 use Rattle.cord_io.specs.declared.TheConstants.{MAX_LEN}
 use Rattle.cord_io.specs.declared.faults.CordError.{CordError}
 use Rattle.cord_io.specs.declared.faults.CordError.TheVariants.{NoMemory, TooLong, ReadFailed, WriteFailed}
 use Rattle.cord_node.specs.declared.Node.{Node}
-use Rattle.cord_node.specs.Tables.{lengths_of}
 use Rattle.cord_core.specs.Cord.{bytes_of, all_bytes, CordFitsIn, AllFitIn}
 use Rattle.cord_iter.specs.Taking.{Counts, CountsFaults, IsFrontOf, Takes}
-use Rattle.cord_iter.proofs.Takings.{takes_both, takes_such, front_join, front_more}
-use Rattle.cord_meaning.specs.declared.ends.FaultKind.{FaultKind}
+use Rattle.cord_iter.proofs.Takings.{takes_both, front_join, front_more}
 use Rattle.cord_plan.specs.Exprs.{Expr}
 use Rattle.cord_plan.specs.Meaning.{all_texts, cords}
 use Rattle.cord_plan.specs.Values.{text_in}
@@ -57,7 +54,7 @@ module _ (ps : List (Option Node)) (i : ℕ) (p : Option Node) (inside : i < len
   puts_next None h k = tt
   puts_next (Some t) h k =
       let next : all_bytes t (take (i + 1) ps) ≡ all_bytes t (take i ps) ++ bytes_of t p =
-          joined_next (λ (qs : List (Option Node)). all_bytes t qs) (λ (q : Option Node). bytes_of t q) ps i p (pieces_joined t) inside ∙ ap (λ (q : Option Node). all_bytes t (take i ps) ++ bytes_of t q) (sym is) in
+      joined_next (λ (qs : List (Option Node)). all_bytes t qs) (λ (q : Option Node). bytes_of t q) ps i p (pieces_joined t) inside ∙ ap (λ (q : Option Node). all_bytes t (take i ps) ++ bytes_of t q) (sym is) in
       takes_both h k (λ x y e f. (λ j. e j ++ f j) ∙ sym next)
 
   -- the next was not taken whole
@@ -65,7 +62,7 @@ module _ (ps : List (Option Node)) (i : ℕ) (p : Option Node) (inside : i < len
   puts_cut None e h k = tt
   puts_cut (Some t) e h k =
       let next : all_bytes t (take (i + 1) ps) ≡ all_bytes t (take i ps) ++ bytes_of t p =
-          joined_next (λ (qs : List (Option Node)). all_bytes t qs) (λ (q : Option Node). bytes_of t q) ps i p (pieces_joined t) inside ∙ ap (λ (q : Option Node). all_bytes t (take i ps) ++ bytes_of t q) (sym is) in
+      joined_next (λ (qs : List (Option Node)). all_bytes t qs) (λ (q : Option Node). bytes_of t q) ps i p (pieces_joined t) inside ∙ ap (λ (q : Option Node). all_bytes t (take i ps) ++ bytes_of t q) (sym is) in
       let whole : all_bytes t ps ≡ all_bytes t (take (i + 1) ps) ++ all_bytes t (drop (i + 1) ps) = joined_all (λ (qs : List (Option Node)). all_bytes t qs) (λ (q : Option Node). bytes_of t q) ps (i + 1) (pieces_joined t) in
       takes_both h k (λ x y f g. front_more (all_bytes t ps) (all_bytes t (take (i + 1) ps)) (all_bytes t (drop (i + 1) ps)) (x ++ y) whole
       (front_join (all_bytes t (take (i + 1) ps)) x (bytes_of t p) y (next ∙ ap (λ (u : List ℕ). u ++ bytes_of t p) (sym f)) g))

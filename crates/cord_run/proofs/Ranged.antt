@@ -1,29 +1,28 @@
 -- Ranges of expressions among the cords of their parts.
-use Rattle.std.proofs.Common.{◌≡◌, ◌+◌, ◌-◌, ◌<◌, ◌≤◌, ◌^◌, ℕ, ℤ, Bool, true, false, List, [], ◌∷◌, ◌++◌, length, take, drop, replicate, Result, Ok, Err, refl, sym, ap, subst, ◌∙◌, append-nil, append_assoc, arith}
-use Rattle.std.specs.Prelude.{IfOk, min, nat_le, if◌then◌else◌, Option, Some, None}
+use Rattle.std.proofs.Common.{◌≡◌, ◌+◌, ◌-◌, ◌<◌, ◌≤◌, ◌^◌, ℕ, ℤ, List, [], ◌∷◌, ◌++◌, take, drop, replicate, Result, Ok, Err, refl, sym, ap, subst, ◌∙◌, append-nil, append_assoc, arith}
+use Rattle.std.specs.Prelude.{IfOk, min, Option, None}
 use Rattle.std.proofs.Math.Seq.{take-nil, drop-nil}
-use Rattle.std.proofs.lemmas.Bool.{leb-true, leb-false}
-use Rattle.std.proofs.lemmas.List.{take-replicate, drop-replicate, length-append}
+use Rattle.std.proofs.lemmas.List.{take-replicate, drop-replicate}
 use Rattle.cord_io.specs.Table.{Table, Lengths}
 use Rattle.cord_io.specs.declared.TheConstants.{MAX_LEN}
 use Rattle.cord_node.specs.declared.Node.{Node}
 use Rattle.cord_node.specs.Tables.{lengths_of}
-use Rattle.cord_node.proofs.Ranges.{range_of_range, range_left, range_right, range_both}
-use Rattle.cord_core.specs.Cord.{text_len, bytes_of, CordFitsIn, CordFits, all_bytes, all_len, AllFitIn}
+use Rattle.cord_node.proofs.Ranges.{range_of_range}
+use Rattle.cord_core.specs.Cord.{text_len, bytes_of, CordFitsIn, all_bytes, all_len, AllFitIn}
 use Rattle.cord_core.specs.Equations.{IsSubstring, HasText}
 use Rattle.cord_script.specs.declared.operands.Number.{Number}
 use Rattle.cord_meaning.specs.declared.ends.FaultKind.{FaultKind}
 use Rattle.cord_meaning.specs.State.{number_value, and_then, as_index, as_byte, as_length}
-use Rattle.cord_plan.specs.Exprs.{Expr, name, run, cat, sub, Exprs, nothing, member}
-use Rattle.cord_plan.specs.Meaning.{all_texts, cords, cords_of, held_text}
-use Rattle.cord_plan.specs.Values.{within, copies, part_of, measured_copies, measured_part, text_in}
+use Rattle.cord_plan.specs.Exprs.{Expr, name, run, cat, sub, Exprs}
+use Rattle.cord_plan.specs.Meaning.{held_text}
+use Rattle.cord_plan.specs.Values.{within, copies, part_of, measured_copies, text_in}
 use Rattle.cord_plan.proofs.Values.{passes, fits_within, cat_joined}
 use Rattle.cord_run.specs.declared.store.Entry.{Entry}
 use Rattle.cord_run.specs.Extents.{extent_in, members_extent}
-use Rattle.cord_run.specs.Held.{content_in, cord_in, operand_in, IsOver}
+use Rattle.cord_run.specs.Held.{content_in, cord_in, operand_in}
 use Rattle.cord_run.specs.Holdings.{holding_of, plain_of}
-use Rattle.cord_run.specs.Ranges.{IsInside, AddsPart, AddsCopies, AddsRange, AddsExpression, AddsMembers, joined_over}
-use Rattle.cord_run.proofs.Told.{cord_fits, content_text, operand_value, texts_split, text_length, extent_short, length_passed}
+use Rattle.cord_run.specs.Ranges.{IsInside, AddsPart, AddsCopies, AddsExpression, AddsMembers}
+use Rattle.cord_run.proofs.Told.{cord_fits, content_text, operand_value, extent_short, length_passed}
 
 -- ---- one cord more
 all_fit_more : (lengths : Lengths) (old : List (Option Node)) (c : Option Node) → AllFitIn lengths old → CordFitsIn lengths c → AllFitIn lengths (old ++ c ∷ [])
@@ -184,8 +183,8 @@ sub_added entries e i n start count place old new some p at part = record {
       let q = passes (text_in MAX_LEN (plain_of t entries) e) (λ u. part_of MAX_LEN u (number_value (plain_of t entries) i) (number_value (plain_of t entries) n)) whole is in
       let numbers : part_of MAX_LEN q.middle (operand_in entries i) (operand_in entries n) ≡ Ok whole = (λ j. part_of MAX_LEN q.middle (operand_value t entries i j) (operand_value t entries n j)) ∙ q.next in
       let known : within MAX_LEN (take p.most (drop p.first q.middle)) ≡ Ok whole =
-          sym (ap (λ (r : Result ℕ FaultKind). and_then r (λ a. and_then (as_index (operand_in entries n)) (λ m. within MAX_LEN (take m (drop a q.middle))))) p.start_is
-          ∙ ap (λ (r : Result ℕ FaultKind). and_then r (λ m. within MAX_LEN (take m (drop p.first q.middle)))) p.count_is) ∙ numbers in
+      sym (ap (λ (r : Result ℕ FaultKind). and_then r (λ a. and_then (as_index (operand_in entries n)) (λ m. within MAX_LEN (take m (drop a q.middle))))) p.start_is
+      ∙ ap (λ (r : Result ℕ FaultKind). and_then r (λ m. within MAX_LEN (take m (drop p.first q.middle)))) p.count_is) ∙ numbers in
       let whole_is : take p.most (drop p.first q.middle) ≡ whole = (fits_within MAX_LEN (take p.most (drop p.first q.middle)) whole known).same in
       let short : p.len ≤ MAX_LEN = extent_short (lengths_of t) entries over e p.len p.extent in
       let here : place ≡ min (p.first + start) (2 ^ 64 - 1) = at p.first p.start_is in

@@ -1,5 +1,5 @@
 -- A walk over the members of a `cat` that adds a range of their joined text.
-use Rattle.std.proofs.Common.{◌≡◌, ◌+◌, ◌-◌, ◌<◌, ◌≤◌, ℕ, Bool, true, false, List, [], ◌∷◌, ◌++◌, length, take, drop, Result, Ok, Err, refl, sym, ap, subst, ◌∙◌, append-nil, append_assoc, arith}
+use Rattle.std.proofs.Common.{◌≡◌, ◌+◌, ◌-◌, ◌<◌, ◌≤◌, ℕ, Bool, true, false, List, ◌++◌, length, take, drop, Result, Ok, Err, refl, sym, ap, subst, ◌∙◌, append-nil, append_assoc, arith}
 use Rattle.std.specs.Prelude.{min, nat_le, Option}
 use Rattle.std.proofs.lemmas.Bool.{leb-true, leb-false}
 use Rattle.cord_io.specs.Table.{Table, Lengths}
@@ -10,7 +10,7 @@ use Rattle.cord_node.proofs.Ranges.{range_left, range_right, range_both}
 use Rattle.cord_core.specs.Cord.{all_bytes, all_len, AllFitIn}
 use Rattle.cord_meaning.specs.declared.ends.FaultKind.{FaultKind}
 use Rattle.cord_meaning.specs.State.{and_then}
-use Rattle.cord_plan.specs.Exprs.{Expr, Exprs, nothing, member}
+use Rattle.cord_plan.specs.Exprs.{Expr, Exprs, member}
 use Rattle.cord_plan.specs.Meaning.{all_texts, cords, cords_of}
 use Rattle.cord_plan.specs.Values.{text_in}
 use Rattle.cord_plan.proofs.Values.{passes}
@@ -18,7 +18,7 @@ use Rattle.cord_run.specs.declared.store.Entry.{Entry}
 use Rattle.cord_run.specs.Extents.{extent_in, members_extent}
 use Rattle.cord_run.specs.Held.{IsOver}
 use Rattle.cord_run.specs.Holdings.{holding_of, plain_of}
-use Rattle.cord_run.specs.Ranges.{IsInside, AddsRange, AddsExpression, AddsMembers, joined_over}
+use Rattle.cord_run.specs.Ranges.{IsInside, AddsExpression, AddsMembers, joined_over}
 use Rattle.cord_run.proofs.Told.{texts_split, text_length}
 
 -- what is left to add of the members that are left, over a table
@@ -102,7 +102,7 @@ module _ (entries : List Entry) (es : Exprs) (start count : ℕ) (old : List (Op
         let r = s.bytes t over there text is in
         let p = parts_of t over r.rest r.joined r.there in
         let behind : take left (drop skip r.rest) ≡ take left (drop (skip - len) p.second) =
-            ap (λ (u : List ℕ). take left (drop skip u)) (sym p.joined) ∙ range_behind p.first p.second skip left (subst (λ (n : ℕ). n ≤ skip) (sym p.long) past) ∙ ap (λ (n : ℕ). take left (drop (skip - n) p.second)) p.long in
+        ap (λ (u : List ℕ). take left (drop skip u)) (sym p.joined) ∙ range_behind p.first p.second skip left (subst (λ (n : ℕ). n ≤ skip) (sym p.long) past) ∙ ap (λ (n : ℕ). take left (drop (skip - n) p.second)) p.long in
         record { rest = p.second; joined = p.second_is; there = p.second_there; whole = ap (λ (u : List ℕ). all_bytes t now ++ u) (sym behind) ∙ r.whole };
     short = s.short;
   }
@@ -115,17 +115,17 @@ module _ (entries : List Entry) (es : Exprs) (start count : ℕ) (old : List (Op
         let r = s.bytes t over there text is in
         let p = parts_of t over r.rest r.joined r.there in
         let through : take left (drop skip r.rest) ≡ take (min left (len - skip)) (drop skip p.first) ++ take (left - min left (len - skip)) (drop 0 p.second) =
-            ap (λ (u : List ℕ). take left (drop skip u)) (sym p.joined)
-            ∙ range_through p.first p.second skip left (subst (λ (n : ℕ). skip < n) (sym p.long) before)
-            ∙ ap (λ (n : ℕ). take (min left (n - skip)) (drop skip p.first) ++ take (left - min left (n - skip)) (drop 0 p.second)) p.long in
+        ap (λ (u : List ℕ). take left (drop skip u)) (sym p.joined)
+        ∙ range_through p.first p.second skip left (subst (λ (n : ℕ). skip < n) (sym p.long) before)
+        ∙ ap (λ (n : ℕ). take (min left (n - skip)) (drop skip p.first) ++ take (left - min left (n - skip)) (drop 0 p.second)) p.long in
         record {
           rest = p.second;
           joined = p.second_is;
           there = p.second_there;
           whole = ap (λ (u : List ℕ). u ++ take (left - min left (len - skip)) (drop 0 p.second)) (part.bytes t over p.first_there p.first p.first_is)
-            ∙ append_assoc (all_bytes t now) (take (min left (len - skip)) (drop skip p.first)) (take (left - min left (len - skip)) (drop 0 p.second))
-            ∙ ap (λ (u : List ℕ). all_bytes t now ++ u) (sym through)
-            ∙ r.whole;
+              ∙ append_assoc (all_bytes t now) (take (min left (len - skip)) (drop skip p.first)) (take (left - min left (len - skip)) (drop 0 p.second))
+              ∙ ap (λ (u : List ℕ). all_bytes t now ++ u) (sym through)
+              ∙ r.whole;
         };
     short = let more = part.short in let most = s.short in omega (arith, more, most);
   }

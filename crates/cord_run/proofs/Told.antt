@@ -1,5 +1,5 @@
 -- The lengths told of expressions are those of their texts, over every table that the names fit.
-use Rattle.std.proofs.Common.{◌≡◌, ◌≤◌, ◌-◌, ℕ, ℤ, Bool, true, false, ◌&&◌, List, [], ◌∷◌, ◌++◌, length, replicate, Result, Ok, Err, refl, sym, ap, subst, ◌∙◌, inl, inr, arith}
+use Rattle.std.proofs.Common.{◌≡◌, ◌≤◌, ◌-◌, ℕ, Bool, true, false, ◌&&◌, List, [], ◌∷◌, ◌++◌, length, replicate, Result, Ok, Err, refl, sym, ap, subst, ◌∙◌, inl, inr, arith}
 use Rattle.std.specs.Prelude.{nat_le, min, if◌then◌else◌, Some, None}
 use Rattle.std.proofs.lemmas.Bool.{leb-true}
 use Rattle.std.proofs.lemmas.List.{length-replicate}
@@ -7,7 +7,7 @@ use Rattle.cord_io.specs.Table.{Table, Lengths}
 use Rattle.cord_io.specs.declared.TheConstants.{MAX_LEN}
 use Rattle.cord_node.specs.Tables.{lengths_of}
 use Rattle.cord_node.proofs.TreeLemmas.{len_limit}
-use Rattle.cord_core.specs.Cord.{bytes_of, text_len, CordFitsIn, CordFits, IsCord}
+use Rattle.cord_core.specs.Cord.{bytes_of, CordFitsIn}
 use Rattle.cord_core.proofs.OverLemmas.{length-bytes}
 use Rattle.cord_script.specs.declared.operands.Number.{Number}
 use Rattle.cord_script.specs.declared.operands.Number.TheVariants.{Numeral, Named}
@@ -15,7 +15,7 @@ use Rattle.cord_meaning.specs.declared.ends.FaultKind.{FaultKind}
 use Rattle.cord_meaning.specs.declared.ends.FaultKind.TheVariants.{TooLong}
 use Rattle.cord_meaning.specs.State.{State, number_value, and_then, as_index, as_byte, as_length}
 use Rattle.cord_plan.specs.Exprs.{Expr, name, run, cat, sub}
-use Rattle.cord_plan.specs.Values.{measured, measured_copies, measured_part, length_of, text_in}
+use Rattle.cord_plan.specs.Values.{measured, length_of, text_in}
 use Rattle.cord_plan.specs.Meaning.{Held, Text, Holding, plain, is_text, held_text, held_length, all_texts, cords, extent}
 use Rattle.cord_plan.specs.Meaning as meaning
 use Rattle.cord_plan.proofs.Evaluation.{In, value_same, extent_is}
@@ -23,7 +23,7 @@ use Rattle.cord_run.specs.declared.store.Content.{Content}
 use Rattle.cord_run.specs.declared.store.Content.TheVariants.{Whole, Long}
 use Rattle.cord_run.specs.declared.store.Entry.{Entry}
 use Rattle.cord_run.specs.Extents.{extent_in, members_extent}
-use Rattle.cord_run.specs.Held.{content_in, number_in, length_in, operand_in, content_length, cord_in, ContentFits, IsOver}
+use Rattle.cord_run.specs.Held.{content_in, length_in, operand_in, content_length, cord_in, ContentFits, IsOver}
 use Rattle.cord_run.specs.Holdings.{held_over, holding_of, plain_of}
 
 -- the cord of a content that fits

@@ -1,12 +1,12 @@
 -- The cords of a whole expression.
-use Rattle.std.proofs.Common.{◌≡◌, ◌≤◌, ℕ, true, List, [], ◌∷◌, ◌++◌, length, take, drop, Result, Ok, Err, refl, sym, ap, subst, ◌∙◌, arith}
+use Rattle.std.proofs.Common.{◌≡◌, ℕ, true, List, [], ◌∷◌, ◌++◌, length, take, drop, Result, Ok, Err, refl, sym, ap, subst, ◌∙◌, arith}
 use Rattle.std.specs.Prelude.{Option}
 use Rattle.std.proofs.lemmas.List.{take_all}
 use Rattle.cord_io.specs.Table.{Table}
 use Rattle.cord_io.specs.declared.TheConstants.{MAX_LEN}
 use Rattle.cord_node.specs.declared.Node.{Node}
 use Rattle.cord_node.specs.Tables.{lengths_of}
-use Rattle.cord_core.specs.Cord.{bytes_of, all_bytes, AllFitIn, IsCord}
+use Rattle.cord_core.specs.Cord.{all_bytes, AllFitIn, IsCord}
 use Rattle.cord_core.specs.Equations.{IsAllOf}
 use Rattle.cord_meaning.specs.declared.ends.FaultKind.{FaultKind}
 use Rattle.cord_plan.specs.Exprs.{Expr}
@@ -55,9 +55,9 @@ module _ (entries : List Entry) (e : Expr) where
     bytes = λ t over there.
         let k = known (text_in MAX_LEN (plain_of t entries) e) len (sym extent ∙ text_told t entries over e there) in
         let all : all_bytes t pieces ≡ k.text =
-            part.bytes t over there k.text k.is
-            ∙ ap (λ (ps : List (Option Node)). all_bytes t ps ++ take len (drop 0 k.text)) none
-            ∙ take_all len k.text (omega (arith, k.long)) in
+        part.bytes t over there k.text k.is
+        ∙ ap (λ (ps : List (Option Node)). all_bytes t ps ++ take len (drop 0 k.text)) none
+        ∙ take_all len k.text (omega (arith, k.long)) in
         k.is ∙ ap (λ (u : List ℕ). Ok u) (sym all);
   }
 

@@ -1,6 +1,5 @@
 -- What a sink took of the cords of an expression, and what the devices counted.
 use Rattle.std.specs.Prelude.{◌≡◌, ℕ, List, ⊤, Option, Some, None, Result, Ok, Err}
-use Rattle.std.specs.Io.KnownBytes.{Appends}
 use Rattle.cord_io.specs.Device.{raised}
 use Rattle.cord_io.specs.Table.{Table}
 use Rattle.cord_io.specs.declared.faults.CordError.{CordError}

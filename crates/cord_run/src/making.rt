@@ -40,11 +40,7 @@ pub(crate) fn build(alloc: Global, expression: &Expr, store: &Store) -> Result<C
 }
 
 /// Cords of the text of an expression, in order, which share the cords of its names. Refused with its fault, or with `NoMemory`.
-pub(crate) fn pieces_of(
-    alloc: Global,
-    expression: &Expr,
-    store: &Store,
-) -> Result<Vec<Cord>, Halt>
+pub(crate) fn pieces_of(alloc: Global, expression: &Expr, store: &Store) -> Result<Vec<Cord>, Halt>
     ensures whole { IfOk result (λ pieces. AreWhole store.now.entries.items (expr_view expression.now) pieces.items) }
     ensures refused { IfErr result (IsUnbuilt store.now.entries.items (expr_view expression.now)) }
 {

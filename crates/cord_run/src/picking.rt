@@ -126,12 +126,7 @@ fn add_part(
 }
 
 // Adds copies of a byte.
-fn add_copies(
-    alloc: Global,
-    byte: i64,
-    count: u64,
-    pieces: &mut Vec<Cord>,
-) -> Result<(), CordError>
+fn add_copies(alloc: Global, byte: i64, count: u64, pieces: &mut Vec<Cord>) -> Result<(), CordError>
     requires byte { IsOk (meant.as_byte byte) }
     requires short { count ≤ MAX_LEN }
     ensures added { IfOk result (λ _. AddsCopies byte count pieces.old.items pieces.new.items) }

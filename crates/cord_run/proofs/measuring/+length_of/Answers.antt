@@ -1,9 +1,6 @@
-use Rattle.std.proofs.Common.{◌≡◌, ◌<◌, ◌+◌, drop, ℕ, Result, Ok, sym, ap, ◌∙◌, rules, arith}
-use Rattle.cord_meaning.specs.declared.ends.FaultKind.{FaultKind}
-use Rattle.cord_meaning.specs.State.{and_then, as_length}
-use Rattle.cord_io.specs.declared.TheConstants.{MAX_LEN}
+use Rattle.std.proofs.Common.{◌≡◌, ◌<◌, ◌+◌, drop, ℕ, sym, ap, ◌∙◌, rules, arith}
 use Rattle.cord_plan.specs.Exprs as plain
-use Rattle.cord_plan.specs.Views.{expr_view, members_view}
+use Rattle.cord_plan.specs.Views.{expr_view}
 use Rattle.cord_plan.proofs.ExprViews.{view-Cat}
 use Rattle.cord_run.specs.Extents.{counted, extent_in, members_extent, members_seen}
 use Rattle.cord_run.proofs.Members.{weight, weights, member_smaller, member_counted, member_faulty, all_counted, counted_length}

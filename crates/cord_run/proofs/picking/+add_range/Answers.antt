@@ -4,7 +4,7 @@ use Rattle.std.proofs.lemmas.Int.{to_z-of_z}
 use Rattle.cord_meaning.specs.State.{as_index}
 use Rattle.cord_plan.specs.Exprs as plain
 use Rattle.cord_plan.specs.declared.expressions.Expr.{Expr}
-use Rattle.cord_plan.specs.Views.{expr_view, members_view}
+use Rattle.cord_plan.specs.Views.{expr_view}
 use Rattle.cord_plan.proofs.ExprViews.{view-Name, view-Run, view-Cat, view-Sub}
 use Rattle.cord_run.specs.Extents.{extent_in, members_extent, members_seen}
 use Rattle.cord_run.specs.Held.{operand_in}
@@ -113,5 +113,5 @@ add_members-loop-member-preserved t c =
     record {
       inside = inside_before (members_extent entries others) (skip + left - head.len) (0 + (left - c.min-taken.result)) (omega (arith, same, taken, c.if-len-skip.false)) head.behind;
       added = subst (λ (n : ℕ). SoFar entries (members_seen ms) c.args.start c.args.count c.args.pieces.now.items others 0 (left - n) next) (sym taken)
-        (takes entries (members_seen ms) c.args.start c.args.count c.args.pieces.now.items e others len skip left now extent (subst (λ (es : plain.Exprs). SoFar entries (members_seen ms) c.args.start c.args.count c.args.pieces.now.items es skip left now) at c.loop-member.invariant.added) c.if-len-skip.false next part);
+          (takes entries (members_seen ms) c.args.start c.args.count c.args.pieces.now.items e others len skip left now extent (subst (λ (es : plain.Exprs). SoFar entries (members_seen ms) c.args.start c.args.count c.args.pieces.now.items es skip left now) at c.loop-member.invariant.added) c.if-len-skip.false next part);
     }

@@ -1,5 +1,4 @@
-use Rattle.std.proofs.Common.{refl, ap, ◌∙◌, sym}
-use Rattle.cord_run.specs.declared.store.Entry.{Entry}
+use Rattle.std.proofs.Common.{refl}
 use Rattle.cord_run.proofs.Entries.{content_set, name_at_place}
 use Rattle.cord_run.proofs.store.set_content.Goals as goal
 

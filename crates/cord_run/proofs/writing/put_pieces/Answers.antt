@@ -1,4 +1,4 @@
-use Rattle.std.proofs.Common.{◌≡◌, ℕ, Some, None, Ok, Err, sym, subst, ◌∙◌, take, refl}
+use Rattle.std.proofs.Common.{ℕ, Ok, Err, sym, subst, ◌∙◌, refl}
 use Rattle.std.specs.Prelude.{Option}
 use Rattle.cord_io.specs.Table.{Table, Lengths}
 use Rattle.cord_node.specs.declared.Node.{Node}
@@ -54,7 +54,7 @@ loop-piece-preserved g c =
       source = c.in-Ok.ensures.faults.0 ∙ c.loop-piece.invariant.source;
       sink = c.in-Ok.ensures.faults.1 ∙ c.loop-piece.invariant.sink;
       puts = puts_next ps c.loop-piece.piece-index piece c.loop-piece-test.true c.piece-item.is a b d o c.loop-piece.invariant.puts
-        (subst (λ (q : Option Table). Puts q (λ t. bytes_of t piece) b d (Ok tt)) c.loop-piece.invariant.table (put_whole (g.R.Source.table c.loop-piece.source) piece b d c.in-Ok.ensures.text));
+          (subst (λ (q : Option Table). Puts q (λ t. bytes_of t piece) b d (Ok tt)) c.loop-piece.invariant.table (put_whole (g.R.Source.table c.loop-piece.source) piece b d c.in-Ok.ensures.text));
     }
 
 pub returns-clause-puts : goal.returns-clause-puts

@@ -10,7 +10,7 @@ use Rattle.cord_plan.specs.Values.{text_in}
 use Rattle.cord_plan.specs.Views.{expr_view}
 use Rattle.cord_run.specs.declared.making.Halt.{Halt}
 use Rattle.cord_run.specs.Holdings.{holding_of, plain_of}
-use Rattle.cord_run.specs.Putting.{Puts, Wrote, CountsHalts, halt_of}
+use Rattle.cord_run.specs.Putting.{Puts, Wrote, CountsHalts}
 use Rattle.cord_run.proofs.Handed.{wrote_nothing, wrote_whole, wrote_part, halt_counts, unbuilt_counts}
 use Rattle.cord_run.proofs.writing.write.Goals as goal
 

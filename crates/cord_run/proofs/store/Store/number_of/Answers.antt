@@ -1,4 +1,4 @@
-use Rattle.std.proofs.Common.{pos, sym, ap, ◌∙◌, FitsSigned, w64, rules}
+use Rattle.std.proofs.Common.{pos, sym, ◌∙◌, FitsSigned, w64, rules}
 use Rattle.std.proofs.lemmas.Int.{to_z-of_z}
 use Rattle.cord_run.proofs.Entries.{none_there, value_there}
 use Rattle.cord_run.proofs.store.Store.number_of.Goals as goal
