@@ -11,3 +11,4 @@ pub mod Growing
 pub mod Assigned
 pub mod Wholes
 pub mod Handed
+pub mod Naming

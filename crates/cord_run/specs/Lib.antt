@@ -7,3 +7,4 @@ pub mod Ranges
 pub mod Extents
 pub mod Whole
 pub mod Putting
+pub mod Given

@@ -10,6 +10,7 @@ mod picking;
 mod runner;
 mod slot;
 mod store;
+mod targets;
 #[cfg(test)]
 mod tests;
 mod writing;
