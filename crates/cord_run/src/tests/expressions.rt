@@ -1,10 +1,8 @@
-//! Expressions measured and put: the rows that need no planner.
+//! Expressions measured and resolved by lengths: the rows that need no planner.
+use crate::making::pieces_of;
 use crate::measuring::length_of;
 use crate::store::{Content, Store};
-use crate::writing::write;
 use cord_core::Cord;
-use cord_file::Sources;
-use cord_io::{MemFiles, MemSink};
 use cord_meaning::FaultKind;
 use cord_plan::{Expr, Members};
 use cord_script::{Name, Number};
@@ -52,32 +50,36 @@ fn two_names(rt: &(impl AllocGlobal + Abort)) -> Store {
     store
 }
 
-// Puts an expression over the two names, and compares what the sink took.
-fn expect_written(rt: &(impl AllocGlobal + Abort), expression: &Expr, written: &[u8]) {
-    let alloc = rt.alloc();
-    let store = two_names(rt);
-    let Ok(mut sources) = Sources::new(alloc, MemFiles::new(alloc)) else {
-        panic!(rt; "no memory");
-    };
-    let mut sink = MemSink::new(alloc);
-    assert!(rt; write(alloc, expression, &store, &mut sources, &mut sink).is_ok());
-    assert_eq!(rt; sink.bytes(), written);
+// The cords of an expression over the two names.
+fn pieces(rt: &(impl AllocGlobal + Abort), expression: &Expr) -> Vec<Cord> {
+    match pieces_of(rt.alloc(), expression, &two_names(rt)) {
+        Ok(pieces) => pieces,
+        Err(_) => panic!(rt; "refused"),
+    }
 }
 
+// Each member gets its own start and count.
 #[test]
 fn substr_over_seam(rt: HostRuntime) {
     let expression = part_of_both(&rt, named(&rt, b"a"), named(&rt, b"b"), 2, 3);
-    expect_written(&rt, &expression, b"cde");
-    assert!(rt; length_of(&expression, &two_names(&rt)) == Ok(3));
+    assert!(&rt; length_of(&expression, &two_names(&rt)) == Ok(3));
+    let cords = pieces(&rt, &expression);
+    match cords.as_slice() {
+        [first, second] => {
+            assert_eq!(&rt; first.len(), 1);
+            assert_eq!(&rt; second.len(), 2);
+        }
+        _ => panic!(&rt; "not two cords"),
+    }
 }
 
 // A member that gets no byte isn't touched, and one behind the end gives none.
 #[test]
 fn members_without_bytes(rt: HostRuntime) {
     let second = part_of_both(&rt, named(&rt, b"a"), named(&rt, b"b"), 3, 9);
-    expect_written(&rt, &second, b"def");
+    assert_eq!(&rt; pieces(&rt, &second).len(), 1);
     let none = part_of_both(&rt, named(&rt, b"a"), named(&rt, b"unknown"), 3, 9);
-    expect_written(&rt, &none, b"");
+    assert_eq!(&rt; pieces(&rt, &none).len(), 0);
 }
 
 #[test]
@@ -87,5 +89,5 @@ fn substr_of_unread_cat_too_long(rt: HostRuntime) {
         count: Number::Numeral(1_099_511_627_775),
     };
     let expression = part_of_both(&rt, run, named(&rt, b"b"), 0, 1);
-    assert!(rt; length_of(&expression, &two_names(&rt)) == Err(FaultKind::TooLong));
+    assert!(&rt; length_of(&expression, &two_names(&rt)) == Err(FaultKind::TooLong));
 }
