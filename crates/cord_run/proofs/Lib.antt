@@ -2,3 +2,13 @@ pub mod Slots
 pub mod Runs
 pub mod Numbered
 pub mod Puts
+pub mod Entries
+pub mod Members
+pub mod Told
+pub mod Ranged
+pub mod SoFar
+pub mod Growing
+pub mod Assigned
+pub mod Wholes
+pub mod Handed
+pub mod Naming

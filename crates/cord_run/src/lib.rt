@@ -1,12 +1,19 @@
 //! Runs scripts on cords.
 #![tactic(auto)]
 
+mod checks;
+mod making;
+mod measuring;
 mod names;
 mod output;
+mod picking;
 mod runner;
 mod slot;
+mod store;
+mod targets;
 #[cfg(test)]
 mod tests;
+mod writing;
 
 pub use cord_meaning::{End, FaultKind};
 pub use runner::{run_text, run_unplanned};

@@ -1,0 +1,10 @@
+use Rattle.std.proofs.Common.{◌∙◌, ap, Ok, ℕ}
+use Rattle.cord_plan.specs.Views.{expr_view}
+use Rattle.cord_run.proofs.Wholes.{whole_nothing, whole_range}
+use Rattle.cord_run.proofs.making.pieces_within.Goals as goal
+
+pub returns-then-len-eq0-clause-whole : goal.returns-then-len-eq0-clause-whole
+returns-then-len-eq0-clause-whole c = whole_nothing c.args.store.now.entries.items (expr_view c.args.expression.now) c.new-pieces.result.items c.new-pieces.ensures.items (c.requires ∙ ap (λ (n : ℕ). Ok n) c.if-len-eq0.true)
+
+pub returns-clause-whole : goal.returns-clause-whole
+returns-clause-whole c = whole_range c.args.store.now.entries.items (expr_view c.args.expression.now) c.args.len c.new-pieces.result.items c.add_range.new.pieces.items c.new-pieces.ensures.items c.requires c.in_ok-add_range.ensures.added

@@ -1,0 +1,36 @@
+use Rattle.std.proofs.Common.{◌≡◌, ◌<◌, ◌+◌, drop, ℕ, sym, ap, ◌∙◌, rules, arith}
+use Rattle.cord_plan.specs.Exprs as plain
+use Rattle.cord_plan.specs.Views.{expr_view}
+use Rattle.cord_plan.proofs.ExprViews.{view-Cat}
+use Rattle.cord_run.specs.Extents.{counted, extent_in, members_extent, members_seen}
+use Rattle.cord_run.proofs.Members.{weight, weights, member_smaller, member_counted, member_faulty, all_counted, counted_length}
+use Rattle.cord_run.proofs.measuring.+length_of.Goals as goal
+
+pub length_of-returns-in-Ok : goal.length_of-returns-in-Ok
+length_of-returns-in-Ok t c =
+    let es = members_seen c.as_slice-in-Cat.result.now in
+    let view : expr_view c.args.expression.now ≡ plain.cat es = ap expr_view c.in-Cat.is ∙ view-Cat c.in-Cat.members ∙ ap (λ (ms : plain.Exprs). plain.cat ms) c.as_slice-in-Cat.ensures in
+    c.as_length.ensures
+    ∙ counted_length c.in-Ok.len (members_extent c.args.store.now.entries.items es) c.in-Ok.ensures
+    ∙ ap (λ (e : plain.Expr). extent_in c.args.store.now.entries.items e) (sym view)
+
+pub length_of_all-length_of-requires : goal.length_of_all-length_of-requires
+length_of_all-length_of-requires t c =
+    let below : weight (expr_view c.member-item.result) < weights (members_seen c.args.members.now) = member_smaller c.args.members.now c.loop-member.member-index c.member-item.result c.loop-member-test.true c.member-item.is in
+    search (rules, below)
+
+pub length_of_all-returns-in-Err : goal.length_of_all-returns-in-Err
+length_of_all-returns-in-Err t c =
+    sym (c.loop-member.invariant.extent ∙ member_faulty c.args.store.now.entries.items c.args.members.now c.loop-member.member-index c.member-item.result c.loop-member-test.true c.member-item.is c.loop-member.total c.in-Err.kind (sym c.in-Err.ensures))
+
+pub length_of_all-loop-member-preserved : goal.length_of_all-loop-member-preserved
+length_of_all-loop-member-preserved t c = record {
+  extent = c.loop-member.invariant.extent
+      ∙ member_counted c.args.store.now.entries.items c.args.members.now c.loop-member.member-index c.member-item.result c.loop-member-test.true c.member-item.is c.loop-member.total c.in-Ok.len (sym c.in-Ok.ensures)
+      ∙ ap (λ (n : ℕ). counted n (members_extent c.args.store.now.entries.items (members_seen (drop (c.loop-member.member-index + 1) c.args.members.now)))) (sym c.saturating_add-total.ensures);
+  small = omega (arith, c.saturating_add-total.ensures);
+}
+
+pub length_of_all-returns : goal.length_of_all-returns
+length_of_all-returns t c =
+    sym (c.loop-member.invariant.extent ∙ all_counted c.args.store.now.entries.items c.args.members.now c.loop-member.member-index c.loop-member.total c.loop-member-test.false c.loop-member.invariant.small)

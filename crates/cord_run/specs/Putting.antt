@@ -1,0 +1,39 @@
+-- What a sink took of the cords of an expression, and what the devices counted.
+use Rattle.std.specs.Prelude.{◌≡◌, ℕ, List, ⊤, Option, Some, None, Result, Ok, Err}
+use Rattle.cord_io.specs.Device.{raised}
+use Rattle.cord_io.specs.Table.{Table}
+use Rattle.cord_io.specs.declared.faults.CordError.{CordError}
+use Rattle.cord_io.specs.declared.faults.CordError.TheVariants as errors
+use Rattle.cord_iter.specs.Taking.{Counts, IsFrontOf, Takes}
+use Rattle.cord_meaning.specs.declared.ends.FaultKind.{FaultKind}
+use Rattle.cord_run.specs.declared.making.Halt.{Halt}
+use Rattle.cord_run.specs.declared.making.Halt.TheVariants as halts
+
+-- over an honest source a sink took this text, after a fault a front part of it
+abbrev pub Puts : Option Table → (Table → List ℕ) → Option (List ℕ) → Option (List ℕ) → Result (Unit {0}) CordError → Type 0
+Puts None text old new r = ⊤
+Puts (Some t) text old new (Ok x) = Takes (λ out. out ≡ text t) old new
+Puts (Some t) text old new (Err e) = Takes (IsFrontOf (text t)) old new
+
+-- a sink took the text that is meant; after a fault of the text, or where memory was refused, nothing; after a failure of a device a front part of the text
+abbrev pub Wrote : Result (List ℕ) FaultKind → Option (List ℕ) → Option (List ℕ) → Result (Unit {0}) Halt → Type 0
+Wrote meant old new (Ok x) = (text : List ℕ) × (meant ≡ Ok text) × Takes (λ out. out ≡ text) old new
+Wrote meant old new (Err (halts.Fault kind)) = (meant ≡ Err kind) × (new ≡ old)
+Wrote meant old new (Err halts.NoMemory) = new ≡ old
+Wrote meant old new (Err halts.ReadFailed) = (text : List ℕ) × (meant ≡ Ok text) × Takes (IsFrontOf text) old new
+Wrote meant old new (Err halts.WriteFailed) = (text : List ℕ) × (meant ≡ Ok text) × Takes (IsFrontOf text) old new
+
+-- a failure of a device was counted once, and nothing else
+abbrev pub CountsHalts : Counts → Counts → Result (Unit {0}) Halt → Type 0
+CountsHalts old new (Ok x) = (new.source ≡ old.source) × (new.sink ≡ old.sink)
+CountsHalts old new (Err (halts.Fault kind)) = (new.source ≡ old.source) × (new.sink ≡ old.sink)
+CountsHalts old new (Err halts.NoMemory) = (new.source ≡ old.source) × (new.sink ≡ old.sink)
+CountsHalts old new (Err halts.ReadFailed) = (new.source ≡ raised old.source) × (new.sink ≡ old.sink)
+CountsHalts old new (Err halts.WriteFailed) = (new.source ≡ old.source) × (new.sink ≡ raised old.sink)
+
+-- what a failure of a device is to a run: the source's, or else the sink's
+abbrev pub halt_of : CordError → Halt
+halt_of errors.ReadFailed = halts.ReadFailed
+halt_of errors.NoMemory = halts.WriteFailed
+halt_of errors.TooLong = halts.WriteFailed
+halt_of errors.WriteFailed = halts.WriteFailed

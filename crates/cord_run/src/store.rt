@@ -1,0 +1,175 @@
+// What the names of a run of a plan hold.
+ghost use Rattle.std.specs.Prelude.{◌≡◌, ◌<◌, ℤ, pos, length, IfOk, IfSome, IfNone, None, Some};
+ghost use Rattle.cord_run.specs.Held.{content_in, cord_in, extensible_in, length_in, number_in, operand_in, HasContent, HasExtensible, HasNoEntry, HasNumber, IsEntryAt, SameEntries};
+
+use cord_core::Cord;
+use cord_ec::ExtCord;
+use cord_script::Number;
+use std::alloc::{AllocError, Global};
+
+/// What the name of a cord holds: its cord, or a length alone.
+#[derive(Drop)]
+pub(crate) enum Content {
+    Whole(Cord),
+    Long(u64),
+}
+
+/// A name, and what it holds as the name of a cord, of a number and of an extensible cord.
+#[derive(Drop)]
+pub(crate) struct Entry {
+    pub(crate) name: Vec<u8>,
+    pub(crate) content: Content,
+    pub(crate) number: i64,
+    pub(crate) extensible: Option<ExtCord>,
+}
+
+/// What the names hold: a name that was not assigned is empty or 0.
+#[derive(Drop)]
+pub(crate) struct Store {
+    pub(crate) entries: Vec<Entry>,
+}
+
+// The place of a name.
+fn place_of(entries: &[Entry], name: &[u8]) -> Option<usize>
+    ensures within { IfSome result (λ place. place < length entries.now) }
+    ensures some { IfSome result (IsEntryAt entries.now name.now) }
+    ensures none { IfNone result (HasNoEntry entries.now name.now) }
+{
+    for (place, entry) in entries.iter().enumerate() {
+        if name == entry.name.as_slice() {
+            return Some(place);
+        }
+    }
+    None
+}
+
+impl Store {
+    /// The cord of a name, where it has one that isn't empty.
+    pub(crate) fn cord_of(&self, name: &[u8]) -> Option<&Cord>
+        ensures some { IfSome result (λ cord. cord.now ≡ cord_in (content_in self.now.entries.items name.now)) }
+        ensures none { IfNone result (cord_in (content_in self.now.entries.items name.now) ≡ None) }
+    {
+        match place_of(&self.entries, name) {
+            None => None,
+            Some(place) => match &self.entries[place].content {
+                Content::Whole(cord) => Some(cord),
+                Content::Long(_) => None,
+            },
+        }
+    }
+
+    /// The length that is told of the name of a cord.
+    pub(crate) fn length_of(&self, name: &[u8]) -> u64
+        ensures { result ≡ length_in self.now.entries.items name.now }
+    {
+        match place_of(&self.entries, name) {
+            None => 0,
+            Some(place) => match &self.entries[place].content {
+                Content::Whole(cord) => cord.len(),
+                Content::Long(len) => *len,
+            },
+        }
+    }
+
+    /// The value of a number operand.
+    pub(crate) fn value_of(&self, operand: &Number) -> i64
+        ensures { result ≡ operand_in self.now.entries.items operand.now }
+    {
+        match operand {
+            Number::Numeral(value) => *value,
+            Number::Named(name) => self.number_of(name.as_slice()),
+        }
+    }
+
+    // The number of a name.
+    fn number_of(&self, name: &[u8]) -> i64
+        ensures { result ≡ number_in self.now.entries.items name.now }
+    {
+        match place_of(&self.entries, name) {
+            None => 0,
+            Some(place) => self.entries[place].number,
+        }
+    }
+
+    /// Gives a name of a cord its cord, or a length alone.
+    pub(crate) fn assign(
+        &mut self,
+        alloc: Global,
+        name: &[u8],
+        content: Content,
+    ) -> Result<(), AllocError>
+        ensures { IfOk result (λ _. HasContent name.now content self.old.entries.items self.new.entries.items) }
+    {
+        let place = place_for(alloc, &mut self.entries, name)?;
+        set_content(&mut self.entries, name, place, content);
+        Ok(())
+    }
+
+    /// Gives a name of a number its number.
+    pub(crate) fn assign_number(
+        &mut self,
+        alloc: Global,
+        name: &[u8],
+        number: i64,
+    ) -> Result<(), AllocError>
+        ensures { IfOk result (λ _. HasNumber name.now number self.old.entries.items self.new.entries.items) }
+    {
+        let place = place_for(alloc, &mut self.entries, name)?;
+        set_number(&mut self.entries, name, place, number);
+        Ok(())
+    }
+}
+
+// Puts another content into the entry of a name.
+fn set_content(entries: &mut [Entry], name: &[u8], place: usize, content: Content)
+    requires within { place < length entries.old }
+    requires place { IsEntryAt entries.old name.now place }
+    ensures { HasContent name.now content entries.old entries.new }
+{
+    let _ = name;
+    let entry = &mut entries[place];
+    entry.content = content;
+}
+
+// Puts another number into the entry of a name.
+fn set_number(entries: &mut [Entry], name: &[u8], place: usize, number: i64)
+    requires within { place < length entries.old }
+    requires place { IsEntryAt entries.old name.now place }
+    ensures { HasNumber name.now number entries.old entries.new }
+{
+    let _ = name;
+    let entry = &mut entries[place];
+    entry.number = number;
+}
+
+// The place of a name, which gets an entry where it has none.
+fn place_for(alloc: Global, entries: &mut Vec<Entry>, name: &[u8]) -> Result<usize, AllocError>
+    ensures within { IfOk result (λ place. place < length entries.new.items) }
+    ensures place { IfOk result (IsEntryAt entries.new.items name.now) }
+    ensures same { IfOk result (λ _. SameEntries entries.old.items entries.new.items) }
+{
+    match place_of(entries, name) {
+        Some(place) => Ok(place),
+        None => {
+            let name = Vec::from_slice(alloc, name)?;
+            add(entries, name)
+        }
+    }
+}
+
+// Adds an entry, of nothing yet, for a name that has none.
+fn add(entries: &mut Vec<Entry>, name: Vec<u8>) -> Result<usize, AllocError>
+    requires { HasNoEntry entries.old.items name.items }
+    ensures within { IfOk result (λ place. place < length entries.new.items) }
+    ensures place { IfOk result (IsEntryAt entries.new.items name.items) }
+    ensures same { IfOk result (λ _. SameEntries entries.old.items entries.new.items) }
+{
+    let place = entries.len();
+    entries.push(Entry {
+        name,
+        content: Content::Whole(Cord::empty()),
+        number: 0,
+        extensible: None,
+    })?;
+    Ok(place)
+}

@@ -1,0 +1,74 @@
+// Expressions that are put.
+ghost use Rattle.std.specs.Prelude.{◌≡◌, IfSome, true};
+ghost use Rattle.cord_core.specs.Cord.{all_bytes, AllFitIn};
+ghost use Rattle.cord_io.specs.declared.TheConstants.{MAX_LEN};
+ghost use Rattle.cord_iter.specs.Taking.{CountsFaults};
+ghost use Rattle.cord_plan.specs.Meaning.{all_texts, cords};
+ghost use Rattle.cord_plan.specs.Values.{text_in};
+ghost use Rattle.cord_plan.specs.Views.{expr_view};
+ghost use Rattle.cord_run.specs.Held.{IsOver};
+ghost use Rattle.cord_run.specs.Holdings.{holding_of, plain_of};
+ghost use Rattle.cord_run.specs.Putting.{CountsHalts, Puts, Wrote, halt_of};
+
+use crate::making::{Halt, pieces_of};
+use crate::store::Store;
+use cord_core::Cord;
+use cord_io::{CordError, Sink, Source};
+use cord_plan::Expr;
+use std::alloc::Global;
+
+/// Hands a sink the text of an expression, part by part: no cord is made of the whole. Where all its names hold texts, the sink
+/// took the text, or the expression's fault is answered and nothing was put, or after a failure of a device a front part.
+pub(crate) fn write<R: Source, S: Sink>(
+    alloc: Global,
+    expression: &Expr,
+    store: &Store,
+    source: &mut R,
+    sink: &mut S,
+) -> Result<(), Halt>
+    requires over { IsOver (R.lengths source.old) store.now.entries.items }
+    ensures wrote { IfSome (R.table source.old) (λ t. all_texts (holding_of t store.now.entries.items) (cords (expr_view expression.now)) ≡ true → Wrote (text_in MAX_LEN (plain_of t store.now.entries.items) (expr_view expression.now)) (S.taken sink.old) (S.taken sink.new) result) }
+    ensures counts { CountsHalts (record { source = R.failures source.old; sink = S.failures sink.old }) (record { source = R.failures source.new; sink = S.failures sink.new }) result }
+    ensures lengths { R.lengths source.new ≡ R.lengths source.old }
+    ensures table { R.table source.new ≡ R.table source.old }
+{
+    let pieces = match pieces_of(alloc, expression, store) {
+        Ok(pieces) => pieces,
+        Err(halt) => return Err(halt),
+    };
+    match put_pieces(&pieces, source, sink) {
+        Ok(()) => Ok(()),
+        Err(error) => Err(halted(error)),
+    }
+}
+
+// What a failure of a device is to a run.
+fn halted(error: CordError) -> Halt
+    ensures { result ≡ halt_of error }
+{
+    match error {
+        CordError::ReadFailed => Halt::ReadFailed,
+        _ => Halt::WriteFailed,
+    }
+}
+
+// Hands a sink the texts of cords, in order.
+fn put_pieces<R: Source, S: Sink>(
+    pieces: &[Cord],
+    source: &mut R,
+    sink: &mut S,
+) -> Result<(), CordError>
+    requires fits { AllFitIn (R.lengths source.old) pieces.now }
+    ensures puts { Puts (R.table source.old) (λ t. all_bytes t pieces.now) (S.taken sink.old) (S.taken sink.new) result }
+    ensures faults { CountsFaults (record { source = R.failures source.old; sink = S.failures sink.old }) (record { source = R.failures source.new; sink = S.failures sink.new }) result }
+    ensures lengths { R.lengths source.new ≡ R.lengths source.old }
+    ensures table { R.table source.new ≡ R.table source.old }
+{
+    for piece in pieces {
+        match cord_iter::put(piece, source, sink) {
+            Ok(()) => {}
+            Err(error) => return Err(error),
+        }
+    }
+    Ok(())
+}
