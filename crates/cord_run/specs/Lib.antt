@@ -8,3 +8,4 @@ pub mod Extents
 pub mod Whole
 pub mod Putting
 pub mod Given
+pub mod Controls

@@ -2,6 +2,7 @@
 #![tactic(auto)]
 
 mod checks;
+mod control;
 mod making;
 mod measuring;
 mod names;

@@ -1,0 +1,132 @@
+// Where a run stands among the operations of its plan.
+ghost use Rattle.std.specs.Prelude.{◌≡◌, ◌+◌, ◌∷◌, [], Ok, IfOk, IfErr};
+ghost use Rattle.cord_meaning.specs.declared.TheConstants.{MAX_TURNS};
+ghost use Rattle.cord_run.specs.Controls.{Goes, begun, block_view, chosen, closed, repeated, where_of};
+
+use crate::checks::as_index;
+use cord_meaning::{FaultKind, MAX_TURNS};
+use std::alloc::Global;
+
+/// An open block.
+#[derive(Clone, Copy)]
+pub(crate) enum Open {
+    /// A `repeat`, with its place, its line and the turns that are left behind this one.
+    Turns { place: usize, line: u32, left: u64 },
+    /// An `if`.
+    Chosen,
+}
+
+/// Where a run stands.
+#[derive(Drop)]
+pub(crate) struct Control {
+    /// The next place.
+    pub(crate) place: usize,
+    /// The turns begun.
+    pub(crate) turns: u64,
+    /// The open blocks, the innermost last.
+    pub(crate) blocks: Vec<Open>,
+}
+
+/// Why control can't go on.
+#[derive(Drop)]
+pub(crate) enum Barred {
+    /// A fault at a line.
+    Fault(u32, FaultKind),
+    /// Memory was refused.
+    NoMemory,
+}
+
+// The place behind another one. No list is so long that there is none; then there would be no memory for it.
+fn next(place: usize) -> Result<usize, Barred>
+    ensures next { IfOk result (λ n. n ≡ place + 1) }
+    ensures refused { IfErr result (λ e. e ≡ Barred.NoMemory) }
+{
+    match place.checked_add(1) {
+        Some(next) => Ok(next),
+        None => Err(Barred::NoMemory),
+    }
+}
+
+impl Control {
+    /// Before the first operation.
+    pub(crate) fn start(alloc: Global) -> Self
+        ensures { where_of result ≡ record { place = 0; turns = 0; blocks = [] } }
+    {
+        Control {
+            place: 0,
+            turns: 0,
+            blocks: Vec::new(alloc),
+        }
+    }
+
+    /// Goes to another place, in the same blocks.
+    pub(crate) fn go_to(&mut self, place: usize)
+        ensures { where_of self.new ≡ record (where_of self.old) { place = place } }
+    {
+        self.place = place;
+    }
+
+    // Opens a block.
+    fn open(&mut self, block: Open) -> Result<(), Barred>
+        ensures opened { IfOk result (λ _. where_of self.new ≡ record (where_of self.old) { blocks = block_view block ∷ (where_of self.old).blocks }) }
+        ensures refused { IfErr result (λ e. e ≡ Barred.NoMemory) }
+    {
+        match self.blocks.push(block) {
+            Ok(()) => Ok(()),
+            Err(_) => Err(Barred::NoMemory),
+        }
+    }
+
+    // Begins a turn of the `repeat` at a place, if the loops of the run may begin one more.
+    fn begin(&mut self, place: usize, line: u32, left: u64) -> Result<(), Barred>
+        ensures { Goes (begun MAX_TURNS (where_of self.old) place line left (where_of self.old).blocks) (where_of self.new) result }
+    {
+        if self.turns >= MAX_TURNS {
+            return Err(Barred::Fault(line, FaultKind::TooManyTurns));
+        }
+        let first = next(place)?;
+        self.open(Open::Turns { place, line, left })?;
+        self.turns += 1;
+        self.place = first;
+        Ok(())
+    }
+
+    /// A `repeat` that read this number; `behind` is the place behind its `end`.
+    pub(crate) fn repeat(&mut self, line: u32, behind: usize, count: i64) -> Result<(), Barred>
+        ensures { Goes (repeated MAX_TURNS (where_of self.old) line behind count) (where_of self.new) result }
+    {
+        match as_index(count) {
+            Err(kind) => Err(Barred::Fault(line, kind)),
+            Ok(0) => {
+                self.place = behind;
+                Ok(())
+            }
+            Ok(turns) => self.begin(self.place, line, turns - 1),
+        }
+    }
+
+    /// An `if`; `other` is the place behind its `else`, or of its `end`.
+    pub(crate) fn choose(&mut self, other: usize, holds: bool) -> Result<(), Barred>
+        ensures { Goes (Ok (chosen (where_of self.old) other holds)) (where_of self.new) result }
+    {
+        let first = next(self.place)?;
+        self.open(Open::Chosen)?;
+        self.place = if holds { first } else { other };
+        Ok(())
+    }
+
+    /// An `end`: closes the innermost open block, or begins its next turn.
+    pub(crate) fn close(&mut self) -> Result<(), Barred>
+        ensures { Goes (closed MAX_TURNS (where_of self.old) (where_of self.old).blocks) (where_of self.new) result }
+    {
+        match self.blocks.pop() {
+            Some(Open::Turns { place, line, left }) if left > 0 => {
+                self.begin(place, line, left - 1)
+            }
+            _ => {
+                self.place = next(self.place)?;
+                Ok(())
+            }
+        }
+    }
+}
