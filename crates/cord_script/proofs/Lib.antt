@@ -1,5 +1,6 @@
 pub mod Checked
 pub mod Lines
+pub mod Magnitudes
 pub mod Readings
 pub mod Samples
 pub mod Single

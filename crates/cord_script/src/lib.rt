@@ -1,13 +1,20 @@
 //! Scripts: from bytes to statements.
 #![tactic(auto)]
 
+mod before;
+mod blocks;
+mod builds;
 mod checks;
 mod copies;
+mod cursor;
+mod grammar;
 mod kinds;
 mod laws;
 mod names;
+mod numerals;
 mod operands;
 mod parser;
+mod parts;
 mod refusals;
 mod statements;
 mod table;
