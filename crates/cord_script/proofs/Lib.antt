@@ -1,3 +1,4 @@
+pub mod Allowed
 pub mod Checked
 pub mod Lines
 pub mod Magnitudes
@@ -6,7 +7,9 @@ pub mod Samples
 pub mod Single
 pub mod Spelled
 pub mod Stated
+pub mod Tabled
 pub mod Terms
+pub mod Took
 pub mod Unique
 pub mod Worded
 pub mod Worked

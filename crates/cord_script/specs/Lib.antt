@@ -1,3 +1,4 @@
+pub mod Behind
 pub mod Flaws
 pub mod Formats
 pub mod Forms

@@ -1,5 +1,5 @@
 -- What the parts of a statement say, and what the builders take.
-use Rattle.std.specs.Prelude.{◌≡◌, ℕ, List, [], ◌∷◌, map, Bool, true, false, ◌&&◌, not, ◌==◌, nat_le, nat_lt, Option, Some, None, length}
+use Rattle.std.specs.Prelude.{◌≡◌, ℕ, List, [], ◌∷◌, ◌++◌, map, Bool, true, false, ◌&&◌, not, ◌==◌, nat_le, nat_lt, Option, Some, None, length}
 use Rattle.cord_script.specs.declared.TheConstants.{MAX_PATH}
 use Rattle.cord_script.specs.declared.kinds.Kind.{Kind}
 use Rattle.cord_script.specs.declared.kinds.Kind.TheVariants as kinds
@@ -8,10 +8,14 @@ use Rattle.cord_script.specs.declared.kinds.Want.TheVariants as wants
 use Rattle.cord_script.specs.declared.parts.Part.{Part}
 use Rattle.cord_script.specs.declared.parts.Part.TheVariants as parts
 use Rattle.cord_script.specs.declared.words.Word.{Word}
+use Rattle.cord_script.specs.declared.refusals.RefusalKind.{RefusalKind}
+use Rattle.cord_script.specs.declared.refusals.RefusalKind.TheVariants.{WrongCount}
 use Rattle.cord_script.specs.Tests.{each}
 use Rattle.cord_script.specs.Forms.{Term}
 use Rattle.cord_script.specs.Forms.Term.{Target, Operand, Value, Literal, FilePath, Applies, Compares, Formats}
-use Rattle.cord_script.specs.Script.{IsTerm}
+use Rattle.cord_script.specs.Forms.{Shape, Form}
+use Rattle.cord_script.specs.Script.{Before, IsTerm, AreTerms, AreAllowed, FitsBlocks}
+use Rattle.cord_script.specs.Flaws.{first_of, unless, is_count, words_flaw, wants_of, HasFormat}
 
 -- what a term has to be
 abbrev pub want_of : Term → Want
@@ -50,3 +54,31 @@ is_path_text path = nat_lt 0 (length path) && nat_le (length path) MAX_PATH && e
 abbrev pub next_want : List Want → Option Want
 next_want [] = None
 next_want (x ∷ xs) = Some x
+
+-- words in front that are what is wanted have become parts behind the others
+pub record HasTaken (xs : List Want) (old new : List Word) (ps qs : List Part) : Type 0 where
+  pub front : List Word
+  pub more : List Part
+  pub words : old ≡ front ++ new
+  pub parts : qs ≡ ps ++ more
+  pub terms : AreTerms front (map term_of more)
+  pub wanted : map want_of (map term_of more) ≡ xs
+
+-- the words behind a statement's word say these parts, and neither their number nor any of them is wrong
+pub record IsParted (shape : Shape) (ws : List Word) (ps : List Part) : Type 0 where
+  pub formats : Option (List Want)
+  pub has : HasFormat shape ws formats
+  pub count : is_count shape (length ws) ≡ true
+  pub fit : words_flaw shape formats ws ≡ None
+  pub wanted : wants_of shape formats ws ≡ map want_of (map term_of ps)
+  pub terms : AreTerms ws (map term_of ps)
+
+-- the number of the words or the words are wrong
+abbrev pub HasPartFlaw : Shape → List Word → RefusalKind → Type 0
+HasPartFlaw shape ws kind = (formats : Option (List Want)) × HasFormat shape ws formats × (first_of (unless (is_count shape (length ws)) WrongCount) (words_flaw shape formats ws) ≡ Some kind)
+
+-- nothing is wrong with the words behind a statement's word, which say these parts
+pub record IsChecked (form : Form) (before : Before) (ws : List Word) (ps : List Part) : Type 0 where
+  pub parted : IsParted form.shape ws ps
+  pub allowed : AreAllowed before (map term_of ps)
+  pub fits : FitsBlocks form.effect before.blocks

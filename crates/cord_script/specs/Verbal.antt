@@ -1,11 +1,13 @@
 -- The statements' words and what the words behind them have to be, as the code has them.
-use Rattle.std.specs.Prelude.{ℕ, List, [], ◌∷◌, Bool, true, false, codes}
+use Rattle.std.specs.Prelude.{ℕ, List, [], ◌∷◌, Bool, true, false, Option, Some, None, if◌then◌else◌, codes}
+use Rattle.std.specs.Str.{bytes_eq}
 use Rattle.cord_script.specs.declared.grammar.Verb.{Verb}
 use Rattle.cord_script.specs.declared.grammar.Verb.TheVariants as verbs
 use Rattle.cord_script.specs.declared.kinds.Kind.TheVariants as kinds
 use Rattle.cord_script.specs.declared.kinds.Want.{Want}
 use Rattle.cord_script.specs.declared.kinds.Want.TheVariants as wants
-use Rattle.cord_script.specs.Forms.{Effect}
+use Rattle.cord_script.specs.Forms.{Effect, Shape, Form, form_of}
+use Rattle.cord_script.specs.Forms.Shape.{Words, Joined, Printed}
 use Rattle.cord_script.specs.Forms.Effect.{Stays, OpensRepeat, OpensIf, Turns, Closes}
 
 -- the word of a verb
@@ -80,6 +82,28 @@ verb_wants verbs.If = wants.Number ∷ wants.Relation ∷ wants.Number ∷ []
 verb_wants verbs.Else = []
 verb_wants verbs.End = []
 
+-- the shape of the words behind it
+abbrev pub verb_shape : Verb → Shape
+verb_shape verbs.Catn = Joined
+verb_shape verbs.Sprintf = Printed
+verb_shape verb = Words (verb_wants verb)
+
+-- the first of these verbs that has the word
+abbrev pub find_verb : List Verb → List ℕ → Option Verb
+find_verb [] w = None
+find_verb (v ∷ vs) w = if bytes_eq w (verb_word v) then Some v else find_verb vs w
+
+-- the form of a verb's word
+abbrev pub form_at : Option Verb → Option Form
+form_at None = None
+form_at (Some v) = form_of (verb_word v)
+
+-- a verb of a statement that is read today
+abbrev pub is_spoken : Verb → Bool
+is_spoken verbs.Let = true
+is_spoken verbs.Put = true
+is_spoken _ = false
+
 -- what a statement of the verb does to the open blocks
 abbrev pub verb_effect : Verb → Effect
 verb_effect verbs.Repeat = OpensRepeat
@@ -87,6 +111,10 @@ verb_effect verbs.If = OpensIf
 verb_effect verbs.Else = Turns
 verb_effect verbs.End = Closes
 verb_effect _ = Stays
+
+-- the form of the words behind it
+abbrev pub verb_form : Verb → Form
+verb_form verb = record { shape = verb_shape verb; effect = verb_effect verb }
 
 -- a verb of a statement that makes a cord from outside the script or of its words
 abbrev pub is_source : Verb → Bool

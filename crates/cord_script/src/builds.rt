@@ -1,6 +1,7 @@
 // Statements of their parts, family by family.
 ghost use Rattle.std.specs.Prelude.{◌≡◌, map, true};
 ghost use Rattle.cord_script.specs.Forms.{line_of, word_of, terms_of};
+ghost use Rattle.cord_script.specs.Script.{Suits};
 ghost use Rattle.cord_script.specs.Parted.{want_of};
 ghost use Rattle.cord_script.specs.Verbal.{verb_word, verb_wants, is_source, is_simple, is_growth, is_look, is_search, is_count, is_control, is_plain};
 
@@ -16,6 +17,7 @@ fn source_of(verb: Verb, line: u32, mut parts: Parts) -> Statement
     ensures word { word_of result ≡ verb_word verb }
     ensures line { line_of result ≡ line }
     ensures terms { terms_of result ≡ parts }
+    ensures suits { Suits result }
 {
     match verb {
         Verb::Let => Statement::Let {
@@ -55,6 +57,7 @@ fn simple_of(verb: Verb, line: u32, mut parts: Parts) -> Statement
     ensures word { word_of result ≡ verb_word verb }
     ensures line { line_of result ≡ line }
     ensures terms { terms_of result ≡ parts }
+    ensures suits { Suits result }
 {
     match verb {
         Verb::Chars => Statement::Chars {
@@ -103,6 +106,7 @@ fn growth_of(verb: Verb, line: u32, mut parts: Parts) -> Statement
     ensures word { word_of result ≡ verb_word verb }
     ensures line { line_of result ≡ line }
     ensures terms { terms_of result ≡ parts }
+    ensures suits { Suits result }
 {
     match verb {
         Verb::EcToCord => Statement::EcToCord {
@@ -140,6 +144,7 @@ fn look_of(verb: Verb, line: u32, mut parts: Parts) -> Statement
     ensures word { word_of result ≡ verb_word verb }
     ensures line { line_of result ≡ line }
     ensures terms { terms_of result ≡ parts }
+    ensures suits { Suits result }
 {
     match verb {
         Verb::Len => Statement::Len {
@@ -179,6 +184,7 @@ fn search_of(verb: Verb, line: u32, mut parts: Parts) -> Statement
     ensures word { word_of result ≡ verb_word verb }
     ensures line { line_of result ≡ line }
     ensures terms { terms_of result ≡ parts }
+    ensures suits { Suits result }
 {
     match verb {
         Verb::Str => Statement::Str {
@@ -213,6 +219,7 @@ fn count_of(verb: Verb, line: u32, mut parts: Parts) -> Statement
     ensures word { word_of result ≡ verb_word verb }
     ensures line { line_of result ≡ line }
     ensures terms { terms_of result ≡ parts }
+    ensures suits { Suits result }
 {
     match verb {
         Verb::Assign => Statement::Assign {
@@ -243,6 +250,7 @@ fn control_of(verb: Verb, line: u32, mut parts: Parts) -> Statement
     ensures word { word_of result ≡ verb_word verb }
     ensures line { line_of result ≡ line }
     ensures terms { terms_of result ≡ parts }
+    ensures suits { Suits result }
 {
     match verb {
         Verb::Put => Statement::Put {
@@ -272,6 +280,7 @@ pub fn plain_statement(verb: Verb, line: u32, parts: Parts) -> Statement
     ensures word { word_of result ≡ verb_word verb }
     ensures line { line_of result ≡ line }
     ensures terms { terms_of result ≡ parts }
+    ensures suits { Suits result }
 {
     match verb {
         Verb::Let | Verb::File | Verb::Eager | Verb::Lazy | Verb::FromFn => source_of(

@@ -16,8 +16,10 @@ mod operands;
 mod parser;
 mod parts;
 mod refusals;
+mod saying;
 mod statements;
 mod table;
+mod taking;
 #[cfg(test)]
 mod tests;
 mod verbs;
