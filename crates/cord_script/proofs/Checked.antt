@@ -96,7 +96,7 @@ pub record IsPut (names : List Known) (others : List Word) : Type 0 where
   pub allowed : IsAllowed (before_with names) (Operand kinds.Cord operand)
 
 -- a name of this kind
-kind_right : (o : Option Kind) (kind : Kind) → kind_flaw o kind ≡ None → o ≡ Some kind
+pub kind_right : (o : Option Kind) (kind : Kind) → kind_flaw o kind ≡ None → o ≡ Some kind
 kind_right None kind h = cc
 kind_right (Some kinds.Cord) kinds.Cord h = refl
 kind_right (Some kinds.Number) kinds.Number h = refl
@@ -104,7 +104,7 @@ kind_right (Some kinds.Extensible) kinds.Extensible h = refl
 kind_right (Some _) _ h = cc
 
 -- a target of this kind
-target_right : (o : Option Kind) (kind : Kind) (n : ℕ) → assigned_flaw o kind n ≡ None → (o ≡ Some kind) ⊎ ((o ≡ None) × (n < MAX_NAMES))
+pub target_right : (o : Option Kind) (kind : Kind) (n : ℕ) → assigned_flaw o kind n ≡ None → (o ≡ Some kind) ⊎ ((o ≡ None) × (n < MAX_NAMES))
 target_right None kind n h = inr (refl, ltb-true n MAX_NAMES (holds (nat_lt n MAX_NAMES) TooMany h))
 target_right (Some has) kind n h = inl (kind_right (Some has) kind h)
 

@@ -1,11 +1,15 @@
+pub mod Allowed
 pub mod Checked
 pub mod Lines
+pub mod Magnitudes
 pub mod Readings
 pub mod Samples
 pub mod Single
 pub mod Spelled
 pub mod Stated
+pub mod Tabled
 pub mod Terms
+pub mod Took
 pub mod Unique
 pub mod Worded
 pub mod Worked

@@ -27,7 +27,8 @@ use Rattle.cord_script.specs.Script.{Before, Block, Says, Suits, AreTerms, FitsB
 use Rattle.cord_script.specs.Flaws.{first_of, unless, misfit, first_pair, operand_flaw, word_target_flaw, word_path_flaw, is_count, cords, wants_of, words_flaw, else_flaw, block_flaw, names_flaw, form_flaw, HasFormat, HasFormFlaw, HasBadWords}
 use Rattle.cord_script.proofs.Checked.{neither}
 use Rattle.cord_script.proofs.Unique.{within}
-use Rattle.cord_script.proofs.Terms.{want_of, term_fits, term_known, term_assigned, term_opened, pairs_none, terms_count, one_list}
+use Rattle.cord_script.specs.Parted.{want_of}
+use Rattle.cord_script.proofs.Terms.{term_fits, term_known, term_assigned, term_opened, pairs_none, terms_count, one_list}
 
 -- The form of a statement's word, with what its words have to be.
 pub record IsRightForm (others : List Word) (s : Statement) : Type 0 where

@@ -23,19 +23,9 @@ use Rattle.cord_script.specs.Forms.{Term}
 use Rattle.cord_script.specs.Forms.Term.{Target, Operand, Value, Literal, FilePath, Applies, Compares, Formats}
 use Rattle.cord_script.specs.Script.{Before, kind_of, is_among, IsTerm, AreTerms, IsAllowed, AreAllowed}
 use Rattle.cord_script.specs.Flaws.{first_of, unless, misfit, first_pair, kind_flaw, same_kind, operand_flaw, number_flaw, plain_number_misfit, function_misfit, relation_misfit, name_misfit, number_misfit, text_misfit, path_misfit, assigned_flaw, word_target_flaw, word_path_flaw}
+use Rattle.cord_script.specs.Parted.{want_of}
 use Rattle.cord_script.proofs.Spelled.{both, chosen}
 use Rattle.cord_script.proofs.Unique.{above, head_or}
-
--- what a term has to be
-abbrev pub want_of : Term → Want
-want_of (Target kind name) = wants.Target kind
-want_of (Operand kind name) = wants.Operand kind
-want_of (Value number) = wants.Number
-want_of (Literal text) = wants.Text
-want_of (FilePath path) = wants.Path
-want_of (Applies function) = wants.Function
-want_of (Compares relation) = wants.Relation
-want_of (Formats text) = wants.Format
 
 -- one of two tests holds
 pub either : (x y : Bool) → (x || y) ≡ true → (x ≡ true) ⊎ (y ≡ true)
@@ -115,18 +105,21 @@ relation_fits Equal = refl
 relation_fits Greater = refl
 
 -- a word that says a term is no misfit
-pub term_fits : (w : Word) (t : Term) (before : Before) → IsTerm w t → IsAllowed before t → misfit (want_of t) w ≡ None
-term_fits w (Target kind name) before h a = ap name_misfit h.0 ∙ ap (λ b. unless b BadName) h.1
-term_fits w (Operand kind name) before h a = ap name_misfit h.0 ∙ ap (λ b. unless b BadName) h.1
-term_fits w (Value (Numeral v)) before h a = ap number_misfit h.1 ∙ numeral_fits h.0 v h.2
-term_fits w (Value (Named name)) before h a = ap number_misfit h.0 ∙ named_fits name h.1
-term_fits w (Literal text) before h a = ap text_misfit h
-term_fits w (FilePath path) before h a = ap path_misfit h.0 ∙ ap (λ b. unless b BadName) h.1
-term_fits w (Applies function) before h a = ap function_misfit h ∙ function_fits function
-term_fits w (Compares relation) before h a = ap relation_misfit h ∙ relation_fits relation
-term_fits w (Formats text) before h a = ap text_misfit h
+pub term_right : (w : Word) (t : Term) → IsTerm w t → misfit (want_of t) w ≡ None
+term_right w (Target kind name) h = ap name_misfit h.0 ∙ ap (λ b. unless b BadName) h.1
+term_right w (Operand kind name) h = ap name_misfit h.0 ∙ ap (λ b. unless b BadName) h.1
+term_right w (Value (Numeral v)) h = ap number_misfit h.1 ∙ numeral_fits h.0 v h.2
+term_right w (Value (Named name)) h = ap number_misfit h.0 ∙ named_fits name h.1
+term_right w (Literal text) h = ap text_misfit h
+term_right w (FilePath path) h = ap path_misfit h.0 ∙ ap (λ b. unless b BadName) h.1
+term_right w (Applies function) h = ap function_misfit h ∙ function_fits function
+term_right w (Compares relation) h = ap relation_misfit h ∙ relation_fits relation
+term_right w (Formats text) h = ap text_misfit h
 
-numeral_known : (names : List Known) (p : List ℕ) (v : ℤ) → numeral_of p ≡ Some v → number_flaw names p ≡ None
+pub term_fits : (w : Word) (t : Term) (before : Before) → IsTerm w t → IsAllowed before t → misfit (want_of t) w ≡ None
+term_fits w t before h a = term_right w t h
+
+pub numeral_known : (names : List Known) (p : List ℕ) (v : ℤ) → numeral_of p ≡ Some v → number_flaw names p ≡ None
 numeral_known names p v h = ap (λ b. if b then None else kind_flaw (kind_of names p) kinds.Number) (numeral_begins p v h)
 
 named_known : (names : List Known) (p : List ℕ) → is_name p ≡ true → kind_of names p ≡ Some kinds.Number → number_flaw names p ≡ None

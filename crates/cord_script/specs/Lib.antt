@@ -1,7 +1,10 @@
+pub mod Behind
 pub mod Flaws
 pub mod Formats
 pub mod Forms
 pub mod Laws
+pub mod Leaves
+pub mod Parted
 pub mod Passes
 pub mod Reading
 pub mod Refusals
@@ -9,5 +12,6 @@ pub mod Rows
 pub mod Script
 pub mod Steps
 pub mod Tests
+pub mod Verbal
 pub mod Words
 pub mod Families

@@ -1,5 +1,6 @@
--- The byte that the front of a quoted word stands for, computed.
-use Rattle.std.specs.Prelude.{ℕ, ◌+◌, ◌*◌, ◌-◌, List, [], ◌∷◌, ◌&&◌, ◌==◌, nat_le, Option, Some, None, if◌then◌else◌}
+-- What bytes of a word stand for, computed as the code does it.
+use Rattle.std.specs.Prelude.{ℕ, ◌+◌, ◌*◌, ◌-◌, ◌^◌, List, [], ◌∷◌, ◌&&◌, ◌==◌, nat_le, Option, Some, None, if◌then◌else◌}
+use Rattle.cord_script.specs.Tests.{is_digit, each, number_after}
 
 -- the value of a hexadecimal digit
 abbrev pub digit_of : ℕ → Option ℕ
@@ -30,3 +31,7 @@ escape_of (c ∷ rest) =
 abbrev pub unit_of : List ℕ → Option (ℕ × List ℕ)
 unit_of [] = None
 unit_of (c ∷ rest) = if c == 92 then escape_of rest else (if c == 34 then None else Some (c, rest))
+
+-- the number that digits write behind those that write n, where it is at most the greatest magnitude
+abbrev pub magnitude_from : ℕ → List ℕ → Option ℕ
+magnitude_from n ds = if each is_digit ds && nat_le (number_after n ds) (2 ^ 63) then Some (number_after n ds) else None

@@ -45,7 +45,8 @@ fn all_inner(word: &[u8]) -> bool
     true
 }
 
-fn is_name(word: &[u8]) -> bool
+/// Whether a word is a name.
+pub fn is_name(word: &[u8]) -> bool
     ensures { result ≡ is_name word.now }
 {
     match uncons(word) {
@@ -97,8 +98,8 @@ fn is_same(a: Kind, b: Kind) -> bool
     )
 }
 
-// What is wrong with an operand of this kind.
-fn kind_flaw(has: Option<Kind>, kind: Kind) -> Option<RefusalKind>
+/// What is wrong with an operand of this kind.
+pub fn kind_flaw(has: Option<Kind>, kind: Kind) -> Option<RefusalKind>
     ensures { result ≡ kind_flaw has kind }
 {
     match has {
@@ -108,8 +109,8 @@ fn kind_flaw(has: Option<Kind>, kind: Kind) -> Option<RefusalKind>
     }
 }
 
-// What is wrong with a target of this kind, where so many names are known.
-fn assigned_flaw(has: Option<Kind>, kind: Kind, count: usize) -> Option<RefusalKind>
+/// What is wrong with a target of this kind, where so many names are known.
+pub fn assigned_flaw(has: Option<Kind>, kind: Kind, count: usize) -> Option<RefusalKind>
     ensures { result ≡ assigned_flaw has kind count }
 {
     match has {

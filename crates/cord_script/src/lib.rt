@@ -1,16 +1,25 @@
 //! Scripts: from bytes to statements.
 #![tactic(auto)]
 
+mod before;
+mod blocks;
+mod builds;
 mod checks;
 mod copies;
+mod cursor;
+mod grammar;
 mod kinds;
 mod laws;
 mod names;
+mod numerals;
 mod operands;
 mod parser;
+mod parts;
 mod refusals;
+mod saying;
 mod statements;
 mod table;
+mod taking;
 #[cfg(test)]
 mod tests;
 mod verbs;

@@ -39,8 +39,13 @@ fn first_line(bytes: &[u8]) -> (&[u8], &[u8])
     (bytes, tail(bytes, bytes.len()))
 }
 
-// Adds a name that is new.
-fn assign(alloc: Global, names: &mut Vec<Known>, name: &[u8], kind: Kind) -> Result<(), RefusalKind>
+/// Adds a name that is new.
+pub fn assign(
+    alloc: Global,
+    names: &mut Vec<Known>,
+    name: &[u8],
+    kind: Kind,
+) -> Result<(), RefusalKind>
     ensures names { OnOk result (names.new.items ≡ with_name names.old.items name.now kind) }
     ensures flaw { IfErr result (λ e. e ≡ RefusalKind.NoMemory) }
 {

@@ -1,0 +1,160 @@
+-- What the checks of a statement's parts tell.
+use Rattle.std.proofs.Common.{inl, inr, Some, None, ◌≡◌, ◌≢◌, ◌<◌, ℕ, suc, List, [], ◌∷◌, Bool, true, false, refl, sym, ◌∙◌, ap, subst, length, map}
+use Rattle.std.specs.Prelude.{Option, ◌⊎◌, ◌||◌, nat_lt, if◌then◌else◌}
+use Rattle.std.proofs.lemmas.Bool.{ltb-true}
+use Rattle.cord_script.specs.declared.TheConstants.{MAX_PATHS, MAX_BLOCKS}
+use Rattle.cord_script.specs.declared.before.Pass.TheVariants as passes
+use Rattle.cord_script.specs.declared.kinds.Kind.TheVariants as kinds
+use Rattle.cord_script.specs.declared.kinds.Want.{Want}
+use Rattle.cord_script.specs.declared.kinds.Want.TheVariants as wants
+use Rattle.cord_script.specs.declared.operands.Number.TheVariants.{Numeral, Named}
+use Rattle.cord_script.specs.declared.table.Known.{Known}
+use Rattle.cord_script.specs.declared.words.Word.{Word}
+use Rattle.cord_script.specs.declared.refusals.RefusalKind.{RefusalKind}
+use Rattle.cord_script.specs.declared.refusals.RefusalKind.TheVariants.{TooMany, TooDeep, ElseAlone, WrongCount}
+use Rattle.cord_script.specs.Forms.{Term, Effect, Form, Shape}
+use Rattle.cord_script.specs.Forms.Effect.{Stays, OpensRepeat, OpensIf, Turns, Closes}
+use Rattle.cord_script.specs.Forms.Term.{Target, Operand, Value, Literal, FilePath, Applies, Compares, Formats}
+use Rattle.cord_script.specs.Script.{Before, Block, kind_of, is_among, IsTerm, AreTerms, IsAllowed, AreAllowed, FitsBlocks}
+use Rattle.cord_script.specs.Script.Block.{InRepeat, InIf, InElse}
+use Rattle.cord_script.specs.Flaws.{form_flaw, words_flaw, is_count, wants_of, HasFormFlaw, first_of, unless, first_pair, kind_flaw, operand_flaw, word_target_flaw, word_path_flaw, names_flaw, block_flaw}
+use Rattle.cord_script.specs.declared.parts.Part.{Part}
+use Rattle.cord_script.specs.Parted.{want_of, term_of, IsParted, HasPartFlaw, IsChecked}
+use Rattle.cord_script.specs.Leaves.{operand_term_flaw, target_term_flaw, path_term_flaw, term_flaw, first_term, terms_flaw}
+use Rattle.cord_script.proofs.Checked.{neither, holds, kind_right, target_right}
+use Rattle.cord_script.proofs.Terms.{either, name_begins, numeral_known}
+
+-- a word is wrong as an operand where its term is
+operand_same : (names : List Known) (w : Word) (t : Term) → IsTerm w t → operand_flaw names (want_of t) w ≡ operand_term_flaw names t
+operand_same names w (Target kind name) h = refl
+operand_same names w (Operand kind name) h = ap (operand_flaw names (wants.Operand kind)) h.0
+operand_same names w (Value (Numeral v)) h = ap (operand_flaw names wants.Number) h.1 ∙ numeral_known names h.0 v h.2
+operand_same names w (Value (Named name)) h = ap (operand_flaw names wants.Number) h.0 ∙ ap (λ b. if b then None else kind_flaw (kind_of names name) kinds.Number) (name_begins name h.1)
+operand_same names w (Literal text) h = refl
+operand_same names w (FilePath path) h = refl
+operand_same names w (Applies function) h = refl
+operand_same names w (Compares relation) h = refl
+operand_same names w (Formats text) h = refl
+
+-- a word is wrong as the target where its term is
+target_same : (names : List Known) (w : Word) (t : Term) → IsTerm w t → word_target_flaw names (want_of t) w ≡ target_term_flaw names t
+target_same names w (Target kind name) h = ap (word_target_flaw names (wants.Target kind)) h.0
+target_same names w (Operand kind name) h = refl
+target_same names w (Value number) h = refl
+target_same names w (Literal text) h = refl
+target_same names w (FilePath path) h = refl
+target_same names w (Applies function) h = refl
+target_same names w (Compares relation) h = refl
+target_same names w (Formats text) h = refl
+
+-- a word is wrong as a path where its term is
+path_same : (paths : List (List ℕ)) (w : Word) (t : Term) → IsTerm w t → word_path_flaw paths (want_of t) w ≡ path_term_flaw paths t
+path_same paths w (Target kind name) h = refl
+path_same paths w (Operand kind name) h = refl
+path_same paths w (Value number) h = refl
+path_same paths w (Literal text) h = refl
+path_same paths w (FilePath path) h = ap (word_path_flaw paths wants.Path) h.0
+path_same paths w (Applies function) h = refl
+path_same paths w (Compares relation) h = refl
+path_same paths w (Formats text) h = refl
+
+-- the first word that is wrong is the first term that is
+first_same : (test : Want → Word → Option RefusalKind) (other : Term → Option RefusalKind) (ws : List Word) (ts : List Term) → ((w : Word) (t : Term) → IsTerm w t → test (want_of t) w ≡ other t) → AreTerms ws ts → first_pair test (map want_of ts) ws ≡ first_term other ts
+first_same test other [] [] f h = refl
+first_same test other [] (t ∷ ts) f h = absurd h
+first_same test other (w ∷ ws) [] f h = absurd h
+first_same test other (w ∷ ws) (t ∷ ts) f h = ap (λ k. first_of k (first_pair test (map want_of ts) ws)) (f w t h.0) ∙ ap (first_of (other t)) (first_same test other ws ts f h.1)
+
+-- what is wrong with the names of a line is what is wrong with its terms
+pub names_same : (before : Before) (ws : List Word) (ts : List Term) → AreTerms ws ts → names_flaw before (map want_of ts) ws ≡ terms_flaw before ts
+names_same before ws ts h =
+    let o = first_same (operand_flaw before.names) (operand_term_flaw before.names) ws ts (λ w t k. operand_same before.names w t k) h in
+    let t = first_same (word_target_flaw before.names) (target_term_flaw before.names) ws ts (λ w t k. target_same before.names w t k) h in
+    let p = first_same (word_path_flaw before.paths) (path_term_flaw before.paths) ws ts (λ w t k. path_same before.paths w t k) h in
+    ap (λ k. first_of k (first_of (first_pair (word_target_flaw before.names) (map want_of ts) ws) (first_pair (word_path_flaw before.paths) (map want_of ts) ws))) o
+    ∙ ap (λ k. first_of (first_term (operand_term_flaw before.names) ts) (first_of k (first_pair (word_path_flaw before.paths) (map want_of ts) ws))) t
+    ∙ ap (λ k. first_of (first_term (operand_term_flaw before.names) ts) (first_of (first_term (target_term_flaw before.names) ts) k)) p
+
+path_right : (paths : List (List ℕ)) (path : List ℕ) → unless (is_among paths path || nat_lt (length paths) MAX_PATHS) TooMany ≡ None → (is_among paths path ≡ true) ⊎ (length paths < MAX_PATHS)
+path_right paths path h = elim (either (is_among paths path) (nat_lt (length paths) MAX_PATHS) (holds (is_among paths path || nat_lt (length paths) MAX_PATHS) TooMany h)) [
+  | inl x ↦ inl x
+  | inr x ↦ inr (ltb-true (length paths) MAX_PATHS x)
+]
+
+-- a term without a flaw is allowed
+term_allowed : (before : Before) (t : Term) → operand_term_flaw before.names t ≡ None → target_term_flaw before.names t ≡ None → path_term_flaw before.paths t ≡ None → IsAllowed before t
+term_allowed before (Target kind name) o t p = target_right (kind_of before.names name) kind (length before.names) t
+term_allowed before (Operand kind name) o t p = kind_right (kind_of before.names name) kind o
+term_allowed before (Value (Numeral v)) o t p = tt
+term_allowed before (Value (Named name)) o t p = kind_right (kind_of before.names name) kinds.Number o
+term_allowed before (Literal text) o t p = tt
+term_allowed before (FilePath path) o t p = path_right before.paths path p
+term_allowed before (Applies function) o t p = tt
+term_allowed before (Compares relation) o t p = tt
+term_allowed before (Formats text) o t p = tt
+
+terms_allowed : (before : Before) (ts : List Term) → first_term (operand_term_flaw before.names) ts ≡ None → first_term (target_term_flaw before.names) ts ≡ None → first_term (path_term_flaw before.paths) ts ≡ None → AreAllowed before ts
+terms_allowed before [] o t p = tt
+terms_allowed before (x ∷ xs) o t p =
+    let a = neither (operand_term_flaw before.names x) (first_term (operand_term_flaw before.names) xs) o in
+    let b = neither (target_term_flaw before.names x) (first_term (target_term_flaw before.names) xs) t in
+    let c = neither (path_term_flaw before.paths x) (first_term (path_term_flaw before.paths) xs) p in
+    (term_allowed before x a.0 b.0 c.0, terms_allowed before xs a.1 b.1 c.1)
+
+-- terms without a flaw are allowed
+pub all_allowed : (before : Before) (ts : List Term) → terms_flaw before ts ≡ None → AreAllowed before ts
+all_allowed before ts h =
+    let o = first_term (operand_term_flaw before.names) ts in
+    let t = first_term (target_term_flaw before.names) ts in
+    let p = first_term (path_term_flaw before.paths) ts in
+    let a = neither o (first_of t p) h in
+    let b = neither t p a.1 in
+    terms_allowed before ts a.0 b.0 b.1
+
+-- a statement without a flaw fits the open blocks
+pub block_right : (effect : Effect) (blocks : List Block) → block_flaw effect blocks ≡ None → FitsBlocks effect blocks
+block_right Stays blocks h = tt
+block_right OpensRepeat blocks h = ltb-true (length blocks) MAX_BLOCKS (holds (nat_lt (length blocks) MAX_BLOCKS) TooDeep h)
+block_right OpensIf blocks h = ltb-true (length blocks) MAX_BLOCKS (holds (nat_lt (length blocks) MAX_BLOCKS) TooDeep h)
+block_right Turns [] h = cc
+block_right Turns (InIf line ∷ blocks) h = (line, blocks, refl)
+block_right Turns (InRepeat line ∷ blocks) h = cc
+block_right Turns (InElse line ∷ blocks) h = cc
+block_right Closes [] h = cc
+block_right Closes (block ∷ blocks) h = λ e. cc
+
+in_front : (a b c : Option RefusalKind) (kind : RefusalKind) → first_of a b ≡ Some kind → first_of a (first_of b c) ≡ Some kind
+in_front None None c kind h = cc
+in_front None (Some k) c kind h = h
+in_front (Some k) b c kind h = h
+
+behind_two : (a b c d : Option RefusalKind) (kind : RefusalKind) → a ≡ None → b ≡ None → first_of c d ≡ Some kind → first_of a (first_of b (first_of c d)) ≡ Some kind
+behind_two None None c d kind p q h = h
+behind_two _ _ c d kind p q h = cc
+
+-- words that are wrong are a flaw of the form
+pub words_wrong : (before : Before) (form : Form) (ws : List Word) (kind : RefusalKind) → HasPartFlaw form.shape ws kind → HasFormFlaw before (Some form) ws kind
+words_wrong before form ws kind h =
+    (h.0, h.1, in_front (unless (is_count form.shape (length ws)) WrongCount) (words_flaw form.shape h.0 ws) (first_of (names_flaw before (wants_of form.shape h.0 ws) ws) (block_flaw form.effect before.blocks)) kind h.2)
+
+-- what is wrong behind right words is a flaw of the form
+later_wrong : (before : Before) (form : Form) (ws : List Word) (ps : List Part) (kind : RefusalKind) → IsParted form.shape ws ps → first_of (terms_flaw before (map term_of ps)) (block_flaw form.effect before.blocks) ≡ Some kind → HasFormFlaw before (Some form) ws kind
+later_wrong before form ws ps kind h wrong =
+    let same = ap (λ k. names_flaw before k ws) h.wanted ∙ names_same before ws (map term_of ps) h.terms in
+    (h.formats, h.has, behind_two (unless (is_count form.shape (length ws)) WrongCount) (words_flaw form.shape h.formats ws) (names_flaw before (wants_of form.shape h.formats ws) ws) (block_flaw form.effect before.blocks) kind (ap (λ b. unless b WrongCount) h.count) h.fit (ap (λ k. first_of k (block_flaw form.effect before.blocks)) same ∙ wrong))
+
+-- names that are wrong
+pub names_wrong : (before : Before) (form : Form) (ws : List Word) (ps : List Part) (kind : RefusalKind) → IsParted form.shape ws ps → terms_flaw before (map term_of ps) ≡ Some kind → HasFormFlaw before (Some form) ws kind
+names_wrong before form ws ps kind h wrong = later_wrong before form ws ps kind h (ap (λ k. first_of k (block_flaw form.effect before.blocks)) wrong)
+
+-- a statement that the open blocks do not take
+pub blocks_wrong : (before : Before) (form : Form) (ws : List Word) (ps : List Part) (kind : RefusalKind) → IsParted form.shape ws ps → terms_flaw before (map term_of ps) ≡ None → block_flaw form.effect before.blocks ≡ Some kind → HasFormFlaw before (Some form) ws kind
+blocks_wrong before form ws ps kind h names wrong = later_wrong before form ws ps kind h (ap (λ k. first_of k (block_flaw form.effect before.blocks)) names ∙ wrong)
+
+-- a line that is right
+pub checked : (before : Before) (form : Form) (ws : List Word) (ps : List Part) → IsParted form.shape ws ps → terms_flaw before (map term_of ps) ≡ None → block_flaw form.effect before.blocks ≡ None → IsChecked form before ws ps
+checked before form ws ps h names blocks = record {
+  parted = h;
+  allowed = all_allowed before (map term_of ps) names;
+  fits = block_right form.effect before.blocks blocks;
+}

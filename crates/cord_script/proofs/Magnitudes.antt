@@ -1,0 +1,44 @@
+-- Numerals and the digits that write them.
+use Rattle.std.proofs.Common.{Some, None, ◌≡◌, ◌≤◌, ◌<◌, ◌+◌, ◌*◌, ◌-◌, ◌^◌, ℕ, List, [], ◌∷◌, Bool, true, false, refl, sym, ◌∙◌, ap, arith, length, drop, get_or, suc, drop-cons}
+use Rattle.std.specs.Prelude.{Option, ◌&&◌, nat_le, if◌then◌else◌}
+use Rattle.std.proofs.lemmas.Bool.{lt-leb}
+use Rattle.cord_script.specs.Tests.{is_digit, each, number_after}
+use Rattle.cord_script.specs.Reading.{magnitude_from}
+
+-- more digits write no smaller number
+pub no_smaller : (n : ℕ) (ds : List ℕ) → n ≤ number_after n ds
+no_smaller n [] = omega arith
+no_smaller n (d ∷ ds) = let r = no_smaller (10 * n + (d - 48)) ds in omega arith
+
+taken : (x y : Bool) (n : ℕ) → x ≡ true → (if y then Some n else None) ≡ (if x && y then Some n else None)
+taken true y n h = refl
+taken false y n h = cc
+
+not_taken : (x y : Bool) (n : ℕ) → x ≡ false → None ≡ (if x && y then Some n else None)
+not_taken false y n h = refl
+not_taken true y n h = cc
+
+neither_taken : (x y z : Bool) (n : ℕ) → z ≡ false → None ≡ (if (x && y) && z then Some n else None)
+neither_taken true true false n h = refl
+neither_taken true false z n h = refl
+neither_taken false y z n h = refl
+neither_taken true true true n h = cc
+
+-- behind one more digit
+pub more_digits : (n d : ℕ) (ds : List ℕ) → is_digit d ≡ true → magnitude_from n (d ∷ ds) ≡ magnitude_from (10 * n + (d - 48)) ds
+more_digits n d ds h = ap (λ b. if (b && each is_digit ds) && nat_le (number_after n (d ∷ ds)) (2 ^ 63) then Some (number_after n (d ∷ ds)) else None) h
+
+-- a byte that is no digit
+pub no_digit : (n d : ℕ) (ds : List ℕ) → is_digit d ≡ false → magnitude_from n (d ∷ ds) ≡ None
+no_digit n d ds h = ap (λ b. if (b && each is_digit ds) && nat_le (number_after n (d ∷ ds)) (2 ^ 63) then Some (number_after n (d ∷ ds)) else None) h
+
+-- one digit more than fits
+pub one_too_many : (n d : ℕ) (ds : List ℕ) → 922337203685477580 < n → magnitude_from n (d ∷ ds) ≡ None
+one_too_many n d ds h =
+    let r = no_smaller (10 * n + (d - 48)) ds in
+    let great : 2 ^ 63 < number_after n (d ∷ ds) = omega arith in
+    sym (neither_taken (is_digit d) (each is_digit ds) (nat_le (number_after n (d ∷ ds)) (2 ^ 63)) (number_after n (d ∷ ds)) (lt-leb (number_after n (d ∷ ds)) (2 ^ 63) great))
+
+-- the digits behind a place hold one more than fits
+pub stops_at : (xs : List ℕ) (i n : ℕ) → i < length xs → 922337203685477580 < n → magnitude_from 0 xs ≡ magnitude_from n (drop i xs) → None ≡ magnitude_from 0 xs
+stops_at xs i n lt great e = sym (e ∙ ap (magnitude_from n) (drop-cons xs i 0 lt) ∙ one_too_many n (get_or xs i 0) (drop (suc i) xs) great)

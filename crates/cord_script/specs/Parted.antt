@@ -1,0 +1,84 @@
+-- What the parts of a statement say, and what the builders take.
+use Rattle.std.specs.Prelude.{◌≡◌, ℕ, List, [], ◌∷◌, ◌++◌, map, Bool, true, false, ◌&&◌, not, ◌==◌, nat_le, nat_lt, Option, Some, None, length}
+use Rattle.cord_script.specs.declared.TheConstants.{MAX_PATH}
+use Rattle.cord_script.specs.declared.kinds.Kind.{Kind}
+use Rattle.cord_script.specs.declared.kinds.Kind.TheVariants as kinds
+use Rattle.cord_script.specs.declared.kinds.Want.{Want}
+use Rattle.cord_script.specs.declared.kinds.Want.TheVariants as wants
+use Rattle.cord_script.specs.declared.parts.Part.{Part}
+use Rattle.cord_script.specs.declared.parts.Part.TheVariants as parts
+use Rattle.cord_script.specs.declared.words.Word.{Word}
+use Rattle.cord_script.specs.declared.refusals.RefusalKind.{RefusalKind}
+use Rattle.cord_script.specs.declared.refusals.RefusalKind.TheVariants.{WrongCount}
+use Rattle.cord_script.specs.Tests.{each}
+use Rattle.cord_script.specs.Forms.{Term}
+use Rattle.cord_script.specs.Forms.Term.{Target, Operand, Value, Literal, FilePath, Applies, Compares, Formats}
+use Rattle.cord_script.specs.Forms.{Shape, Form}
+use Rattle.cord_script.specs.Script.{Before, IsTerm, AreTerms, AreAllowed, FitsBlocks}
+use Rattle.cord_script.specs.Flaws.{first_of, unless, is_count, words_flaw, wants_of, HasFormat}
+
+-- what a term has to be
+abbrev pub want_of : Term → Want
+want_of (Target kind name) = wants.Target kind
+want_of (Operand kind name) = wants.Operand kind
+want_of (Value number) = wants.Number
+want_of (Literal text) = wants.Text
+want_of (FilePath path) = wants.Path
+want_of (Applies function) = wants.Function
+want_of (Compares relation) = wants.Relation
+want_of (Formats text) = wants.Format
+
+-- what a part says
+abbrev pub term_of : Part → Term
+term_of (parts.Target kind name) = Target kind name
+term_of (parts.Operand kind name) = Operand kind name
+term_of (parts.Value number) = Value number
+term_of (parts.Literal text) = Literal text
+term_of (parts.FilePath path) = FilePath path
+term_of (parts.Applies function) = Applies function
+term_of (parts.Compares relation) = Compares relation
+term_of (parts.Formats text) = Formats text
+
+-- the word says the part, and it is what is wanted
+abbrev pub IsPart : Want → Word → Part → Type 0
+IsPart want word part = IsTerm word (term_of part) × (want_of (term_of part) ≡ want)
+
+-- what a path has to be besides UTF-8
+abbrev pub is_no_zero : ℕ → Bool
+is_no_zero c = not (c == 0)
+
+abbrev pub is_path_text : List ℕ → Bool
+is_path_text path = nat_lt 0 (length path) && nat_le (length path) MAX_PATH && each is_no_zero path
+
+-- the first of what is wanted
+abbrev pub next_want : List Want → Option Want
+next_want [] = None
+next_want (x ∷ xs) = Some x
+
+-- words in front that are what is wanted have become parts behind the others
+pub record HasTaken (xs : List Want) (old new : List Word) (ps qs : List Part) : Type 0 where
+  pub front : List Word
+  pub more : List Part
+  pub words : old ≡ front ++ new
+  pub parts : qs ≡ ps ++ more
+  pub terms : AreTerms front (map term_of more)
+  pub wanted : map want_of (map term_of more) ≡ xs
+
+-- the words behind a statement's word say these parts, and neither their number nor any of them is wrong
+pub record IsParted (shape : Shape) (ws : List Word) (ps : List Part) : Type 0 where
+  pub formats : Option (List Want)
+  pub has : HasFormat shape ws formats
+  pub count : is_count shape (length ws) ≡ true
+  pub fit : words_flaw shape formats ws ≡ None
+  pub wanted : wants_of shape formats ws ≡ map want_of (map term_of ps)
+  pub terms : AreTerms ws (map term_of ps)
+
+-- the number of the words or the words are wrong
+abbrev pub HasPartFlaw : Shape → List Word → RefusalKind → Type 0
+HasPartFlaw shape ws kind = (formats : Option (List Want)) × HasFormat shape ws formats × (first_of (unless (is_count shape (length ws)) WrongCount) (words_flaw shape formats ws) ≡ Some kind)
+
+-- nothing is wrong with the words behind a statement's word, which say these parts
+pub record IsChecked (form : Form) (before : Before) (ws : List Word) (ps : List Part) : Type 0 where
+  pub parted : IsParted form.shape ws ps
+  pub allowed : AreAllowed before (map term_of ps)
+  pub fits : FitsBlocks form.effect before.blocks

@@ -1,0 +1,81 @@
+// The open blocks.
+ghost use Rattle.std.specs.Prelude.{◌≡◌, ◌∷◌, map, IfErr, OnOk};
+ghost use Rattle.cord_script.specs.Script.{blocks_after, turned};
+ghost use Rattle.cord_script.specs.Flaws.{block_flaw, else_flaw};
+ghost use Rattle.cord_script.specs.Leaves.{block_of};
+ghost use Rattle.cord_script.specs.Verbal.{verb_effect};
+
+use crate::grammar::Verb;
+use crate::{MAX_BLOCKS, RefusalKind};
+use std::collections::VecDeque;
+
+/// An open block, with the line of its `repeat` or `if`.
+#[derive(Clone, Copy)]
+pub enum Open {
+    Repeat(u32),
+    If(u32),
+    /// An `if` that had its `else`.
+    Else(u32),
+}
+
+// What is wrong with an `else`.
+fn else_flaw(blocks: &VecDeque<Open>) -> Option<RefusalKind>
+    ensures { result ≡ else_flaw (map block_of blocks.now.items) }
+{
+    match blocks.front() {
+        Some(Open::If(_)) => None,
+        _ => Some(RefusalKind::ElseAlone),
+    }
+}
+
+/// What is wrong with a statement behind these open blocks.
+pub fn block_flaw(verb: Verb, blocks: &VecDeque<Open>) -> Option<RefusalKind>
+    ensures { result ≡ block_flaw (verb_effect verb) (map block_of blocks.now.items) }
+{
+    match verb {
+        Verb::Repeat | Verb::If if blocks.len() >= MAX_BLOCKS => Some(RefusalKind::TooDeep),
+        Verb::Else => else_flaw(blocks),
+        Verb::End if blocks.is_empty() => Some(RefusalKind::EndAlone),
+        _ => None,
+    }
+}
+
+// Opens a block inside the others.
+fn add_block(blocks: &mut VecDeque<Open>, block: Open) -> Result<(), RefusalKind>
+    ensures blocks { OnOk result (map block_of blocks.new.items ≡ block_of block ∷ map block_of blocks.old.items) }
+    ensures flaw { IfErr result (λ kind. kind ≡ RefusalKind.NoMemory) }
+{
+    if blocks.push_front(block).is_err() {
+        return Err(RefusalKind::NoMemory);
+    }
+    Ok(())
+}
+
+// Turns the innermost `if` to its `else`.
+fn turn(blocks: &mut VecDeque<Open>) -> Result<(), RefusalKind>
+    ensures blocks { OnOk result (map block_of blocks.new.items ≡ turned (map block_of blocks.old.items)) }
+    ensures flaw { IfErr result (λ kind. kind ≡ RefusalKind.NoMemory) }
+{
+    match blocks.pop_front() {
+        None => Ok(()),
+        Some(Open::If(line)) => add_block(blocks, Open::Else(line)),
+        Some(block) => add_block(blocks, block),
+    }
+}
+
+/// The open blocks after a statement at a line.
+pub fn set_blocks(verb: Verb, line: u32, blocks: &mut VecDeque<Open>) -> Result<(), RefusalKind>
+    ensures blocks { OnOk result (map block_of blocks.new.items ≡ blocks_after (verb_effect verb) line (map block_of blocks.old.items)) }
+    ensures flaw { IfErr result (λ kind. kind ≡ RefusalKind.NoMemory) }
+{
+    match verb {
+        Verb::Repeat => add_block(blocks, Open::Repeat(line)),
+        Verb::If => add_block(blocks, Open::If(line)),
+        Verb::Else => turn(blocks),
+        Verb::End => {
+            let _ = blocks.pop_front();
+            Ok(())
+        }
+        _ => Ok(()),
+    }
+}

@@ -1,0 +1,302 @@
+// Statements of their parts, family by family.
+ghost use Rattle.std.specs.Prelude.{◌≡◌, map, true};
+ghost use Rattle.cord_script.specs.Forms.{line_of, word_of, terms_of};
+ghost use Rattle.cord_script.specs.Script.{Suits};
+ghost use Rattle.cord_script.specs.Parted.{want_of};
+ghost use Rattle.cord_script.specs.Verbal.{verb_word, verb_wants, is_source, is_simple, is_growth, is_look, is_search, is_count, is_control, is_plain};
+
+use crate::Statement;
+use crate::cursor::Parts;
+use crate::grammar::Verb;
+use crate::kinds::Kind;
+
+// A statement that makes a cord from outside the script or of its words.
+fn source_of(verb: Verb, line: u32, mut parts: Parts) -> Statement
+    requires family { is_source verb ≡ true }
+    requires wants { map want_of parts ≡ verb_wants verb }
+    ensures word { word_of result ≡ verb_word verb }
+    ensures line { line_of result ≡ line }
+    ensures terms { terms_of result ≡ parts }
+    ensures suits { Suits result }
+{
+    match verb {
+        Verb::Let => Statement::Let {
+            line,
+            target: parts.target(Kind::Cord),
+            text: parts.text(),
+        },
+        Verb::File => Statement::File {
+            line,
+            target: parts.target(Kind::Cord),
+            path: parts.path(),
+        },
+        Verb::Eager => Statement::Eager {
+            line,
+            target: parts.target(Kind::Cord),
+            path: parts.path(),
+        },
+        Verb::Lazy => Statement::Lazy {
+            line,
+            target: parts.target(Kind::Cord),
+            path: parts.path(),
+        },
+        Verb::FromFn => Statement::FromFn {
+            line,
+            target: parts.target(Kind::Cord),
+            function: parts.function(),
+            count: parts.number(),
+        },
+        _ => unreachable!(),
+    }
+}
+
+// A statement that makes a cord of cords, or of copies of a byte.
+fn simple_of(verb: Verb, line: u32, mut parts: Parts) -> Statement
+    requires family { is_simple verb ≡ true }
+    requires wants { map want_of parts ≡ verb_wants verb }
+    ensures word { word_of result ≡ verb_word verb }
+    ensures line { line_of result ≡ line }
+    ensures terms { terms_of result ≡ parts }
+    ensures suits { Suits result }
+{
+    match verb {
+        Verb::Chars => Statement::Chars {
+            line,
+            target: parts.target(Kind::Cord),
+            byte: parts.number(),
+            count: parts.number(),
+        },
+        Verb::Nul => Statement::Nul {
+            line,
+            target: parts.target(Kind::Cord),
+            count: parts.number(),
+        },
+        Verb::Cat => Statement::Cat {
+            line,
+            target: parts.target(Kind::Cord),
+            left: parts.operand(Kind::Cord),
+            right: parts.operand(Kind::Cord),
+        },
+        Verb::Catc => Statement::Catc {
+            line,
+            target: parts.target(Kind::Cord),
+            operand: parts.operand(Kind::Cord),
+            byte: parts.number(),
+        },
+        Verb::Substr => Statement::Substr {
+            line,
+            target: parts.target(Kind::Cord),
+            operand: parts.operand(Kind::Cord),
+            start: parts.number(),
+            count: parts.number(),
+        },
+        Verb::Balance => Statement::Balance {
+            line,
+            target: parts.target(Kind::Cord),
+            operand: parts.operand(Kind::Cord),
+        },
+        _ => unreachable!(),
+    }
+}
+
+// A statement that makes, changes or reads an extensible cord.
+fn growth_of(verb: Verb, line: u32, mut parts: Parts) -> Statement
+    requires family { is_growth verb ≡ true }
+    requires wants { map want_of parts ≡ verb_wants verb }
+    ensures word { word_of result ≡ verb_word verb }
+    ensures line { line_of result ≡ line }
+    ensures terms { terms_of result ≡ parts }
+    ensures suits { Suits result }
+{
+    match verb {
+        Verb::EcToCord => Statement::EcToCord {
+            line,
+            target: parts.target(Kind::Cord),
+            extensible: parts.operand(Kind::Extensible),
+        },
+        Verb::EcInit => Statement::EcInit {
+            line,
+            target: parts.target(Kind::Extensible),
+        },
+        Verb::EcPut => Statement::EcPut {
+            line,
+            extensible: parts.operand(Kind::Extensible),
+            byte: parts.number(),
+        },
+        Verb::EcCat => Statement::EcCat {
+            line,
+            extensible: parts.operand(Kind::Extensible),
+            operand: parts.operand(Kind::Cord),
+        },
+        Verb::EcStr => Statement::EcStr {
+            line,
+            extensible: parts.operand(Kind::Extensible),
+            text: parts.text(),
+        },
+        _ => unreachable!(),
+    }
+}
+
+// A statement that measures, looks into or compares cords.
+fn look_of(verb: Verb, line: u32, mut parts: Parts) -> Statement
+    requires family { is_look verb ≡ true }
+    requires wants { map want_of parts ≡ verb_wants verb }
+    ensures word { word_of result ≡ verb_word verb }
+    ensures line { line_of result ≡ line }
+    ensures terms { terms_of result ≡ parts }
+    ensures suits { Suits result }
+{
+    match verb {
+        Verb::Len => Statement::Len {
+            line,
+            target: parts.target(Kind::Number),
+            operand: parts.operand(Kind::Cord),
+        },
+        Verb::Fetch => Statement::Fetch {
+            line,
+            target: parts.target(Kind::Number),
+            operand: parts.operand(Kind::Cord),
+            index: parts.number(),
+        },
+        Verb::Cmp => Statement::Cmp {
+            line,
+            target: parts.target(Kind::Number),
+            left: parts.operand(Kind::Cord),
+            right: parts.operand(Kind::Cord),
+        },
+        Verb::Ncmp => Statement::Ncmp {
+            line,
+            target: parts.target(Kind::Number),
+            left: parts.operand(Kind::Cord),
+            left_start: parts.number(),
+            right: parts.operand(Kind::Cord),
+            right_start: parts.number(),
+            count: parts.number(),
+        },
+        _ => unreachable!(),
+    }
+}
+
+// A statement that searches a cord.
+fn search_of(verb: Verb, line: u32, mut parts: Parts) -> Statement
+    requires family { is_search verb ≡ true }
+    requires wants { map want_of parts ≡ verb_wants verb }
+    ensures word { word_of result ≡ verb_word verb }
+    ensures line { line_of result ≡ line }
+    ensures terms { terms_of result ≡ parts }
+    ensures suits { Suits result }
+{
+    match verb {
+        Verb::Str => Statement::Str {
+            line,
+            target: parts.target(Kind::Number),
+            operand: parts.operand(Kind::Cord),
+            start: parts.number(),
+            pattern: parts.operand(Kind::Cord),
+        },
+        Verb::Chr => Statement::Chr {
+            line,
+            target: parts.target(Kind::Number),
+            operand: parts.operand(Kind::Cord),
+            start: parts.number(),
+            byte: parts.number(),
+        },
+        Verb::Rchr => Statement::Rchr {
+            line,
+            target: parts.target(Kind::Number),
+            operand: parts.operand(Kind::Cord),
+            start: parts.number(),
+            byte: parts.number(),
+        },
+        _ => unreachable!(),
+    }
+}
+
+// A statement that reckons with numbers.
+fn count_of(verb: Verb, line: u32, mut parts: Parts) -> Statement
+    requires family { is_count verb ≡ true }
+    requires wants { map want_of parts ≡ verb_wants verb }
+    ensures word { word_of result ≡ verb_word verb }
+    ensures line { line_of result ≡ line }
+    ensures terms { terms_of result ≡ parts }
+    ensures suits { Suits result }
+{
+    match verb {
+        Verb::Assign => Statement::Assign {
+            line,
+            target: parts.target(Kind::Number),
+            value: parts.number(),
+        },
+        Verb::Add => Statement::Add {
+            line,
+            target: parts.target(Kind::Number),
+            left: parts.number(),
+            right: parts.number(),
+        },
+        Verb::Sub => Statement::Sub {
+            line,
+            target: parts.target(Kind::Number),
+            left: parts.number(),
+            right: parts.number(),
+        },
+        _ => unreachable!(),
+    }
+}
+
+// A statement that puts a cord or leads the run.
+fn control_of(verb: Verb, line: u32, mut parts: Parts) -> Statement
+    requires family { is_control verb ≡ true }
+    requires wants { map want_of parts ≡ verb_wants verb }
+    ensures word { word_of result ≡ verb_word verb }
+    ensures line { line_of result ≡ line }
+    ensures terms { terms_of result ≡ parts }
+    ensures suits { Suits result }
+{
+    match verb {
+        Verb::Put => Statement::Put {
+            line,
+            operand: parts.operand(Kind::Cord),
+        },
+        Verb::Repeat => Statement::Repeat {
+            line,
+            count: parts.number(),
+        },
+        Verb::If => Statement::If {
+            line,
+            left: parts.number(),
+            relation: parts.relation(),
+            right: parts.number(),
+        },
+        Verb::Else => Statement::Else { line },
+        Verb::End => Statement::End { line },
+        _ => unreachable!(),
+    }
+}
+
+/// The statement of a verb whose words are of a fixed number.
+pub fn plain_statement(verb: Verb, line: u32, parts: Parts) -> Statement
+    requires plain { is_plain verb ≡ true }
+    requires wants { map want_of parts ≡ verb_wants verb }
+    ensures word { word_of result ≡ verb_word verb }
+    ensures line { line_of result ≡ line }
+    ensures terms { terms_of result ≡ parts }
+    ensures suits { Suits result }
+{
+    match verb {
+        Verb::Let | Verb::File | Verb::Eager | Verb::Lazy | Verb::FromFn => source_of(
+            verb, line, parts,
+        ),
+        Verb::Chars | Verb::Nul | Verb::Cat | Verb::Catc | Verb::Substr | Verb::Balance =>
+            simple_of(verb, line, parts),
+        Verb::EcToCord | Verb::EcInit | Verb::EcPut | Verb::EcCat | Verb::EcStr => growth_of(
+            verb, line, parts,
+        ),
+        Verb::Len | Verb::Fetch | Verb::Cmp | Verb::Ncmp => look_of(verb, line, parts),
+        Verb::Str | Verb::Chr | Verb::Rchr => search_of(verb, line, parts),
+        Verb::Assign | Verb::Add | Verb::Sub => count_of(verb, line, parts),
+        Verb::Put | Verb::Repeat | Verb::If | Verb::Else | Verb::End => control_of(
+            verb, line, parts,
+        ),
+        Verb::Catn | Verb::Sprintf => unreachable!(),
+    }
+}

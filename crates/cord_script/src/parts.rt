@@ -1,0 +1,191 @@
+// What the words of a statement say.
+ghost use Rattle.std.specs.Prelude.{◌≡◌, true, false, Some, IfOk, IfErr, IfSome, IfNone, ℕ, List};
+ghost use Rattle.std.specs.Str.{is_utf8};
+ghost use Rattle.cord_script.specs.Tests.{each, is_name, is_path, begins_numeral, function_word, relation_word};
+ghost use Rattle.cord_script.specs.Forms.Term.{Value};
+ghost use Rattle.cord_script.specs.Script.{IsTerm};
+ghost use Rattle.cord_script.specs.Flaws.{misfit, name_misfit, number_misfit, text_misfit, path_misfit, function_misfit, relation_misfit};
+ghost use Rattle.cord_script.specs.Parted.{IsPart, is_path_text, is_no_zero};
+
+use crate::checks::is_name;
+use crate::kinds::{Kind, Want};
+use crate::numerals::{is_digit, numeral_of};
+use crate::words::Word;
+use crate::{Function, MAX_PATH, Name, Number, Path, RefusalKind, Relation, Text};
+
+/// What a word of a statement says.
+#[derive(Drop)]
+pub enum Part {
+    /// The name that the line assigns.
+    Target(Kind, Name),
+    /// The name of a cord or an extensible cord that the line uses.
+    Operand(Kind, Name),
+    /// A numeral or the name of a number.
+    Value(Number),
+    /// A text.
+    Literal(Text),
+    /// The path of a file.
+    FilePath(Path),
+    /// The word of a function.
+    Applies(Function),
+    /// The word of a relation.
+    Compares(Relation),
+    /// The text of a format.
+    Formats(Text),
+}
+
+// Where a name is wanted.
+fn name_of(word: Word) -> Result<Name, RefusalKind>
+    ensures name { IfOk result (λ name. (word ≡ Word.Plain name) × (is_name name ≡ true)) }
+    ensures flaw { IfErr result (λ kind. name_misfit word ≡ Some kind) }
+{
+    let Word::Plain(name) = word else {
+        return Err(RefusalKind::BadName);
+    };
+    if !is_name(name.as_slice()) {
+        return Err(RefusalKind::BadName);
+    }
+    Ok(name)
+}
+
+// Whether a word begins as a numeral: with a digit or `-`.
+fn begins_numeral(word: &[u8]) -> bool
+    ensures { result ≡ begins_numeral word.now }
+{
+    match word {
+        [] => false,
+        [first, ..] => is_digit(*first) || *first == 45,
+    }
+}
+
+// Where a number operand is wanted.
+fn number_of(word: Word) -> Result<Number, RefusalKind>
+    ensures number { IfOk result (λ number. IsTerm word (Value number)) }
+    ensures flaw { IfErr result (λ kind. number_misfit word ≡ Some kind) }
+{
+    let Word::Plain(name) = word else {
+        return Err(RefusalKind::BadNumber);
+    };
+    if begins_numeral(name.as_slice()) {
+        return match numeral_of(name.as_slice()) {
+            None => Err(RefusalKind::BadNumber),
+            Some(value) => Ok(Number::Numeral(value)),
+        };
+    }
+    if !is_name(name.as_slice()) {
+        return Err(RefusalKind::BadName);
+    }
+    Ok(Number::Named(name))
+}
+
+// Where a quoted word is wanted.
+fn text_of(word: Word) -> Result<Text, RefusalKind>
+    ensures text { IfOk result (λ text. word ≡ Word.Quoted text) }
+    ensures flaw { IfErr result (λ kind. text_misfit word ≡ Some kind) }
+{
+    match word {
+        Word::Plain(_) => Err(RefusalKind::WrongKind),
+        Word::Quoted(text) => Ok(text),
+    }
+}
+
+// Whether a byte 0 stands nowhere.
+fn has_no_zero(bytes: &[u8]) -> bool
+    ensures { result ≡ each is_no_zero bytes.now }
+{
+    for c in bytes {
+        if *c == 0 {
+            return false;
+        }
+    }
+    true
+}
+
+// Whether bytes that are UTF-8 are a path.
+fn is_path_text(path: &[u8]) -> bool
+    ensures { result ≡ is_path_text path.now }
+{
+    !path.is_empty() && path.len() <= MAX_PATH && has_no_zero(path)
+}
+
+// The path of bytes that are UTF-8.
+fn utf8_path(bytes: Vec<u8>) -> Option<Path>
+    ensures some { IfSome result (λ path. (path ≡ bytes.items) × (is_utf8 bytes.items ≡ true)) }
+    ensures none { IfNone result (is_utf8 bytes.items ≡ false) }
+{
+    match String::from_utf8(bytes) {
+        Ok(text) => Some(Path::of(text)),
+        Err(_) => None,
+    }
+}
+
+// Where a path is wanted.
+fn path_of(word: Word) -> Result<Path, RefusalKind>
+    ensures path { IfOk result (λ path. (word ≡ Word.Quoted path) × (is_path path ≡ true)) }
+    ensures flaw { IfErr result (λ kind. path_misfit word ≡ Some kind) }
+{
+    let Word::Quoted(text) = word else {
+        return Err(RefusalKind::WrongKind);
+    };
+    if !is_path_text(text.as_slice()) {
+        return Err(RefusalKind::BadName);
+    }
+    let Some(path) = utf8_path(text.into_vec()) else {
+        return Err(RefusalKind::BadName);
+    };
+    Ok(path)
+}
+
+// Where a function is wanted.
+fn function_of(word: &Word) -> Result<Function, RefusalKind>
+    ensures function { IfOk result (λ function. word.now ≡ Word.Plain (function_word function)) }
+    ensures flaw { IfErr result (λ kind. function_misfit word.now ≡ Some kind) }
+{
+    let Word::Plain(name) = word else {
+        return Err(RefusalKind::BadName);
+    };
+    if name.as_slice() == b"digits".as_slice() {
+        return Ok(Function::Digits);
+    }
+    if name.as_slice() == b"bytes".as_slice() {
+        return Ok(Function::Bytes);
+    }
+    Err(RefusalKind::BadName)
+}
+
+// Where a relation is wanted.
+fn relation_of(word: &Word) -> Result<Relation, RefusalKind>
+    ensures relation { IfOk result (λ relation. word.now ≡ Word.Plain (relation_word relation)) }
+    ensures flaw { IfErr result (λ kind. relation_misfit word.now ≡ Some kind) }
+{
+    let Word::Plain(name) = word else {
+        return Err(RefusalKind::BadName);
+    };
+    if name.as_slice() == b"lt".as_slice() {
+        return Ok(Relation::Less);
+    }
+    if name.as_slice() == b"eq".as_slice() {
+        return Ok(Relation::Equal);
+    }
+    if name.as_slice() == b"gt".as_slice() {
+        return Ok(Relation::Greater);
+    }
+    Err(RefusalKind::BadName)
+}
+
+/// What a word says where this is wanted, or what is wrong with it.
+pub fn part_of(want: Want, word: Word) -> Result<Part, RefusalKind>
+    ensures part { IfOk result (IsPart want word) }
+    ensures flaw { IfErr result (λ kind. misfit want word ≡ Some kind) }
+{
+    match want {
+        Want::Target(kind) => Ok(Part::Target(kind, name_of(word)?)),
+        Want::Operand(kind) => Ok(Part::Operand(kind, name_of(word)?)),
+        Want::Number => Ok(Part::Value(number_of(word)?)),
+        Want::Text => Ok(Part::Literal(text_of(word)?)),
+        Want::Path => Ok(Part::FilePath(path_of(word)?)),
+        Want::Function => Ok(Part::Applies(function_of(&word)?)),
+        Want::Relation => Ok(Part::Compares(relation_of(&word)?)),
+        Want::Format => Ok(Part::Formats(text_of(word)?)),
+    }
+}

@@ -1,0 +1,80 @@
+// What a line says behind the lines before it.
+ghost use Rattle.std.specs.Prelude.{◌≡◌, ◌≢◌, [], true, Some, IfOk, IfErr, OnOk};
+ghost use Rattle.cord_script.specs.Flaws.{HasFormFlaw, HasBadWords};
+ghost use Rattle.cord_script.specs.Script.{spoken};
+ghost use Rattle.cord_script.specs.Leaves.{before_of};
+ghost use Rattle.cord_script.specs.Parted.{IsChecked};
+ghost use Rattle.cord_script.specs.Behind.{left_after, SaysBehind};
+ghost use Rattle.cord_script.specs.Verbal.{verb_form, is_plain};
+
+use crate::before::{Left, add_names, add_paths, names_flaw};
+use crate::blocks::{block_flaw, set_blocks};
+use crate::builds::plain_statement;
+use crate::cursor::Parts;
+use crate::grammar::{Verb, verb_of};
+use crate::parts::Part;
+use crate::taking::parts_of;
+use crate::words::Word;
+use crate::{RefusalKind, Statement};
+use std::alloc::Global;
+use std::collections::VecDeque;
+
+// The parts of the words behind a statement's word, with nothing wrong in them, their names or the open blocks.
+fn checked_parts(
+    alloc: Global,
+    left: &Left,
+    verb: Verb,
+    words: VecDeque<Word>,
+) -> Result<Vec<Part>, RefusalKind>
+    requires { is_plain verb ≡ true }
+    ensures parts { IfOk result (λ parts. IsChecked (verb_form verb) (before_of left.now) words.items parts.items) }
+    ensures flaw { IfErr result (λ kind. kind ≢ RefusalKind.NoMemory → HasFormFlaw (before_of left.now) (Some (verb_form verb)) words.items kind) }
+{
+    let parts = parts_of(alloc, verb, words)?;
+    if let Some(kind) = names_flaw(left, &parts) {
+        return Err(kind);
+    }
+    if let Some(kind) = block_flaw(verb, &left.blocks) {
+        return Err(kind);
+    }
+    Ok(parts)
+}
+
+// What a line leaves behind what the lines before it leave.
+fn leave(
+    alloc: Global,
+    verb: Verb,
+    number: u32,
+    left: &mut Left,
+    parts: &[Part],
+) -> Result<(), RefusalKind>
+    ensures left { OnOk result (before_of left.new ≡ left_after verb number parts.now (before_of left.old)) }
+    ensures flaw { IfErr result (λ kind. kind ≡ RefusalKind.NoMemory) }
+{
+    add_names(alloc, &mut left.names, parts)?;
+    add_paths(&mut left.paths, parts)?;
+    set_blocks(verb, number, &mut left.blocks)
+}
+
+/// The statement that words say behind the lines before, and what it leaves.
+pub fn said(
+    alloc: Global,
+    number: u32,
+    left: &mut Left,
+    words: Vec<Word>,
+) -> Result<Statement, RefusalKind>
+    requires { words.items ≢ [] }
+    ensures said { IfOk result (SaysBehind number (before_of left.old) (before_of left.new) words.items) }
+    ensures flaw { IfErr result (λ kind. kind ≢ RefusalKind.NoMemory → HasBadWords spoken (before_of left.old) words.items kind) }
+{
+    let mut words = VecDeque::from_vec(words);
+    let Some(Word::Plain(word)) = words.pop_front() else {
+        return Err(RefusalKind::UnknownStatement);
+    };
+    let Some(verb) = verb_of(word.as_slice()) else {
+        return Err(RefusalKind::UnknownStatement);
+    };
+    let parts = checked_parts(alloc, left, verb, words)?;
+    leave(alloc, verb, number, left, &parts)?;
+    Ok(plain_statement(verb, number, Parts::of(parts)))
+}
