@@ -1,9 +1,8 @@
 -- What the checks of a statement's parts tell.
-use Rattle.std.proofs.Common.{inl, inr, Some, None, ◌≡◌, ◌≢◌, ◌<◌, ℕ, suc, List, [], ◌∷◌, Bool, true, false, refl, sym, ◌∙◌, ap, subst, length, map}
+use Rattle.std.proofs.Common.{inl, inr, Some, None, ◌≡◌, ◌<◌, ℕ, List, [], ◌∷◌, true, refl, ◌∙◌, ap, length, map}
 use Rattle.std.specs.Prelude.{Option, ◌⊎◌, ◌||◌, nat_lt, if◌then◌else◌}
 use Rattle.std.proofs.lemmas.Bool.{ltb-true}
 use Rattle.cord_script.specs.declared.TheConstants.{MAX_PATHS, MAX_BLOCKS}
-use Rattle.cord_script.specs.declared.before.Pass.TheVariants as passes
 use Rattle.cord_script.specs.declared.kinds.Kind.TheVariants as kinds
 use Rattle.cord_script.specs.declared.kinds.Want.{Want}
 use Rattle.cord_script.specs.declared.kinds.Want.TheVariants as wants
@@ -11,16 +10,16 @@ use Rattle.cord_script.specs.declared.operands.Number.TheVariants.{Numeral, Name
 use Rattle.cord_script.specs.declared.table.Known.{Known}
 use Rattle.cord_script.specs.declared.words.Word.{Word}
 use Rattle.cord_script.specs.declared.refusals.RefusalKind.{RefusalKind}
-use Rattle.cord_script.specs.declared.refusals.RefusalKind.TheVariants.{TooMany, TooDeep, ElseAlone, WrongCount}
-use Rattle.cord_script.specs.Forms.{Term, Effect, Form, Shape}
+use Rattle.cord_script.specs.declared.refusals.RefusalKind.TheVariants.{TooMany, TooDeep, WrongCount}
+use Rattle.cord_script.specs.Forms.{Term, Effect, Form}
 use Rattle.cord_script.specs.Forms.Effect.{Stays, OpensRepeat, OpensIf, Turns, Closes}
 use Rattle.cord_script.specs.Forms.Term.{Target, Operand, Value, Literal, FilePath, Applies, Compares, Formats}
 use Rattle.cord_script.specs.Script.{Before, Block, kind_of, is_among, IsTerm, AreTerms, IsAllowed, AreAllowed, FitsBlocks}
 use Rattle.cord_script.specs.Script.Block.{InRepeat, InIf, InElse}
-use Rattle.cord_script.specs.Flaws.{form_flaw, words_flaw, is_count, wants_of, HasFormFlaw, first_of, unless, first_pair, kind_flaw, operand_flaw, word_target_flaw, word_path_flaw, names_flaw, block_flaw}
+use Rattle.cord_script.specs.Flaws.{words_flaw, is_count, wants_of, HasFormFlaw, first_of, unless, first_pair, kind_flaw, operand_flaw, word_target_flaw, word_path_flaw, names_flaw, block_flaw}
 use Rattle.cord_script.specs.declared.parts.Part.{Part}
 use Rattle.cord_script.specs.Parted.{want_of, term_of, IsParted, HasPartFlaw, IsChecked}
-use Rattle.cord_script.specs.Leaves.{operand_term_flaw, target_term_flaw, path_term_flaw, term_flaw, first_term, terms_flaw}
+use Rattle.cord_script.specs.Leaves.{operand_term_flaw, target_term_flaw, path_term_flaw, first_term, terms_flaw}
 use Rattle.cord_script.proofs.Checked.{neither, holds, kind_right, target_right}
 use Rattle.cord_script.proofs.Terms.{either, name_begins, numeral_known}
 

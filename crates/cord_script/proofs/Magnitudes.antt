@@ -1,6 +1,6 @@
 -- Numerals and the digits that write them.
 use Rattle.std.proofs.Common.{Some, None, ◌≡◌, ◌≤◌, ◌<◌, ◌+◌, ◌*◌, ◌-◌, ◌^◌, ℕ, List, [], ◌∷◌, Bool, true, false, refl, sym, ◌∙◌, ap, arith, length, drop, get_or, suc, drop-cons}
-use Rattle.std.specs.Prelude.{Option, ◌&&◌, nat_le, if◌then◌else◌}
+use Rattle.std.specs.Prelude.{◌&&◌, nat_le, if◌then◌else◌}
 use Rattle.std.proofs.lemmas.Bool.{lt-leb}
 use Rattle.cord_script.specs.Tests.{is_digit, each, number_after}
 use Rattle.cord_script.specs.Reading.{magnitude_from}

@@ -3,16 +3,15 @@ use Rattle.std.proofs.Common.{inl, inr, Some, None, ◌≡◌, ◌≢◌, ◌≤
 use Rattle.std.specs.Prelude.{All, ◌==◌}
 use Rattle.std.proofs.lemmas.Bool.{eqb-false}
 use Rattle.cord_script.specs.declared.TheConstants.{MAX_SCRIPT, MAX_LINES}
-use Rattle.cord_script.specs.declared.table.Known.{Known}
 use Rattle.cord_script.specs.declared.words.Word.{Word}
 use Rattle.cord_script.specs.declared.statements.Statement.{Statement}
 use Rattle.cord_script.specs.declared.refusals.RefusalKind.{RefusalKind}
 use Rattle.cord_script.specs.declared.refusals.RefusalKind.TheVariants.{TooBig}
 use Rattle.cord_script.specs.Words.{IsSplit, IsIdle, HasWords}
 use Rattle.cord_script.specs.Forms.{Grammar, line_of}
-use Rattle.cord_script.specs.Script.{Before, ReadsBy, Says, LinesSay, spoken, start, after, after_all}
+use Rattle.cord_script.specs.Script.{Before, Block, ReadsBy, Says, LinesSay, spoken, start, after, after_all}
 use Rattle.cord_script.specs.Flaws.{FlawBy, HasBadLine}
-use Rattle.cord_script.specs.Passes.{before_with}
+use Rattle.cord_script.specs.Leaves.{IsInnermostLeft}
 use Rattle.cord_script.specs.Steps.{Takes, HasWrong, HasRead}
 
 all_more_at : {X : Type 0} (P : X → Type 0) (x : X) (xs : List X) → P x → All P xs → (k : ℕ) (d : X) → k < length (x ∷ xs) → P (get_or (x ∷ xs) k d)
@@ -70,7 +69,7 @@ says_more g n m before (x ∷ front) line ss s words (inr h) e shows hw says =
     )
 
 -- a line that was read is one of the lines in front
-pub reads_line : (b rest behind line : List ℕ) (n : ℕ) (old new : List Known) (ss grown : List Statement) → HasRead b rest n old ss → ((lines : List (List ℕ)) → IsSplit behind lines → IsSplit rest (line ∷ lines)) → Takes n line old new ss grown → HasRead b behind (n + 1) new grown
+pub reads_line : (b rest behind line : List ℕ) (n : ℕ) (old new : Before) (ss grown : List Statement) → HasRead b rest n old ss → ((lines : List (List ℕ)) → IsSplit behind lines → IsSplit rest (line ∷ lines)) → Takes n line old new ss grown → HasRead b behind (n + 1) new grown
 reads_line b rest behind line n old new ss grown r first (None, t, e) =
     let same : grown ≡ ss = e ∙ append-nil ss in
     record {
@@ -78,21 +77,20 @@ reads_line b rest behind line n old new ss grown r first (None, t, e) =
       split = λ later h. subst (IsSplit b) (sym (append_assoc r.front (line ∷ []) later)) (r.split (line ∷ later) (first later h));
       say = subst (LinesSay spoken 1 start (r.front ++ line ∷ [])) (sym same) (says_idle spoken 1 start r.front line ss r.say t.0);
       number = omega (arith, r.number, length-append r.front (line ∷ []));
-      leaves = ap (λ x. after_all x start) same ∙ r.leaves ∙ ap before_with (sym t.1);
+      leaves = ap (λ x. after_all x start) same ∙ r.leaves ∙ sym t.1;
     }
 reads_line b rest behind line n old new ss grown r first (Some s, t, e) =
-    let before : after_all ss start ≡ before_with old = r.leaves in
     record {
       front = r.front ++ line ∷ [];
       split = λ later h. subst (IsSplit b) (sym (append_assoc r.front (line ∷ []) later)) (r.split (line ∷ later) (first later h));
-      say = subst (LinesSay spoken 1 start (r.front ++ line ∷ [])) (sym e) (says_more spoken 1 n start r.front line ss s t.1 r.say (omega (arith, r.number)) t.0 t.2 (subst (λ x. Says spoken n x t.1 s) (sym before) t.3.says));
+      say = subst (LinesSay spoken 1 start (r.front ++ line ∷ [])) (sym e) (says_more spoken 1 n start r.front line ss s t.1 r.say (omega (arith, r.number)) t.0 t.2 (subst (λ x. Says spoken n x t.1 s) (sym r.leaves) t.3.says));
       number = omega (arith, r.number, length-append r.front (line ∷ []));
-      leaves = ap (λ x. after_all x start) e ∙ after_push ss (s ∷ []) start ∙ ap (after s) before ∙ t.3.leaves;
+      leaves = ap (λ x. after_all x start) e ∙ after_push ss (s ∷ []) start ∙ ap (after s) r.leaves ∙ t.3.leaves;
     }
 
 -- a line that is too much, or wrong
-pub stops : (b rest behind line : List ℕ) (n : ℕ) (names : List Known) (ss : List Statement) (kind : RefusalKind) → length b ≤ MAX_SCRIPT → HasRead b rest n names ss → ((lines : List (List ℕ)) → IsSplit behind lines → IsSplit rest (line ∷ lines)) → HasBadLine spoken n (before_with names) line kind → FlawBy spoken b n kind
-stops b rest behind line n names ss kind small r first wrong =
+pub stops : (b rest behind line : List ℕ) (n : ℕ) (before : Before) (ss : List Statement) (kind : RefusalKind) → length b ≤ MAX_SCRIPT → HasRead b rest n before ss → ((lines : List (List ℕ)) → IsSplit behind lines → IsSplit rest (line ∷ lines)) → HasBadLine spoken n before line kind → FlawBy spoken b n kind
+stops b rest behind line n before ss kind small r first wrong =
     let later = some_lines behind in
     inr (inl (record {
       size = small;
@@ -106,9 +104,9 @@ stops b rest behind line n names ss kind small r first wrong =
       wrong = subst (λ x. HasBadLine spoken n x line kind) (sym r.leaves) wrong;
     }))
 
-too_many_by : (b rest : List ℕ) (n : ℕ) (names : List Known) (ss : List Statement) (lines : List (List ℕ)) → length b ≤ MAX_SCRIPT → HasRead b rest n names ss → rest ≢ [] → n ≡ MAX_LINES + 1 → IsSplit rest lines → FlawBy spoken b n TooBig
-too_many_by b rest n names ss [] small r some e h = absurd (some h)
-too_many_by b rest n names ss (line ∷ later) small r some e h =
+too_many_by : (b rest : List ℕ) (n : ℕ) (before : Before) (ss : List Statement) (lines : List (List ℕ)) → length b ≤ MAX_SCRIPT → HasRead b rest n before ss → rest ≢ [] → n ≡ MAX_LINES + 1 → IsSplit rest lines → FlawBy spoken b n TooBig
+too_many_by b rest n before ss [] small r some e h = absurd (some h)
+too_many_by b rest n before ss (line ∷ later) small r some e h =
     inr (inl (record {
       size = small;
       front = r.front;
@@ -122,23 +120,43 @@ too_many_by b rest n names ss (line ∷ later) small r some e h =
     }))
 
 -- more lines than there may be
-pub too_many : (b rest : List ℕ) (n : ℕ) (names : List Known) (ss : List Statement) → length b ≤ MAX_SCRIPT → HasRead b rest n names ss → rest ≢ [] → n ≡ MAX_LINES + 1 → FlawBy spoken b n TooBig
-too_many b rest n names ss small r some e = let later = some_lines rest in too_many_by b rest n names ss later.0 small r some e later.1
+pub too_many : (b rest : List ℕ) (n : ℕ) (before : Before) (ss : List Statement) → length b ≤ MAX_SCRIPT → HasRead b rest n before ss → rest ≢ [] → n ≡ MAX_LINES + 1 → FlawBy spoken b n TooBig
+too_many b rest n before ss small r some e = let later = some_lines rest in too_many_by b rest n before ss later.0 small r some e later.1
 
 -- a line that is wrong
-pub is_wrong : (n : ℕ) (line : List ℕ) (names : List Known) (kind : RefusalKind) → n ≤ MAX_LINES → HasWrong line names kind → HasBadLine spoken n (before_with names) line kind
-is_wrong n line names kind few h = inr (few, h.0, h.1)
+pub is_wrong : (n : ℕ) (line : List ℕ) (before : Before) (kind : RefusalKind) → n ≤ MAX_LINES → HasWrong line before kind → HasBadLine spoken n before line kind
+is_wrong n line before kind few h = inr (few, h.0, h.1)
 
--- the bytes are these statements, where no line is left
-pub read_whole : (b rest : List ℕ) (n : ℕ) (names : List Known) (ss : List Statement) → length b ≤ MAX_SCRIPT → n ≤ MAX_LINES + 1 → rest ≡ [] → HasRead b rest n names ss → ReadsBy spoken b ss
-read_whole b rest n names ss small few e r = record {
+-- the bytes are these statements, where no line and no block is left
+pub read_whole : (b rest : List ℕ) (n : ℕ) (before : Before) (ss : List Statement) → length b ≤ MAX_SCRIPT → n ≤ MAX_LINES + 1 → rest ≡ [] → HasRead b rest n before ss → before.blocks ≡ [] → ReadsBy spoken b ss
+read_whole b rest n before ss small few e r closed = record {
   size = small;
   lines = r.front;
   split = subst (IsSplit b) (append-nil r.front) (r.split [] e);
   count = omega (arith, r.number);
   say = r.say;
-  closed = ap (λ x. x.blocks) r.leaves;
+  closed = ap (λ x. x.blocks) r.leaves ∙ closed;
 }
+
+open_by : (b rest : List ℕ) (n at : ℕ) (before : Before) (ss : List Statement) (kind : RefusalKind) (blocks : List Block) → length b ≤ MAX_SCRIPT → n ≤ MAX_LINES + 1 → rest ≡ [] → HasRead b rest n before ss → before.blocks ≡ blocks → IsInnermostLeft blocks at kind → FlawBy spoken b at kind
+open_by b rest n at before ss kind [] small few e r same h = absurd h
+open_by b rest n at before ss kind (block ∷ others) small few e r same h =
+    inr (inr (record {
+      size = small;
+      lines = r.front;
+      split = subst (IsSplit b) (append-nil r.front) (r.split [] e);
+      count = omega (arith, r.number);
+      statements = ss;
+      say = r.say;
+      block = block;
+      others = others;
+      blocks = ap (λ x. x.blocks) r.leaves ∙ same;
+      left = h;
+    }))
+
+-- a block that is open where no line is left
+pub leaves_open : (b rest : List ℕ) (n at : ℕ) (before : Before) (ss : List Statement) (kind : RefusalKind) → length b ≤ MAX_SCRIPT → n ≤ MAX_LINES + 1 → rest ≡ [] → HasRead b rest n before ss → IsInnermostLeft before.blocks at kind → FlawBy spoken b at kind
+leaves_open b rest n at before ss kind small few e r h = open_by b rest n at before ss kind before.blocks small few e r refl h
 
 -- nothing is left
 pub no_bytes : (xs : List ℕ) → length xs ≡ 0 → xs ≡ []
@@ -155,7 +173,7 @@ numbered_push [] s h l = all_more (λ x. 1 ≤ line_of x) s [] l h
 numbered_push (x ∷ xs) s h l = all_more (λ y. 1 ≤ line_of y) x (xs ++ s ∷ []) (h zero x (omega arith)) (numbered_push xs s (λ k d lt. h (suc k) d (omega arith)) l)
 
 -- what a line adds has its number
-pub numbered_line : (n : ℕ) (line : List ℕ) (old new : List Known) (ss grown : List Statement) → 1 ≤ n → All (λ x. 1 ≤ line_of x) ss → Takes n line old new ss grown → All (λ x. 1 ≤ line_of x) grown
+pub numbered_line : (n : ℕ) (line : List ℕ) (old new : Before) (ss grown : List Statement) → 1 ≤ n → All (λ x. 1 ≤ line_of x) ss → Takes n line old new ss grown → All (λ x. 1 ≤ line_of x) grown
 numbered_line n line old new ss grown one h (None, t, e) = subst (All (λ x. 1 ≤ line_of x)) (sym (e ∙ append-nil ss)) h
 numbered_line n line old new ss grown one h (Some s, t, e) =
     let own : 1 ≤ line_of s = omega (arith, t.3.says.line) in

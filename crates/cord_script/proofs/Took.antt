@@ -1,12 +1,10 @@
 -- Words that have become parts.
-use Rattle.std.proofs.Common.{Some, None, ◌≡◌, ◌≤◌, ◌<◌, ◌+◌, ℕ, suc, List, [], ◌∷◌, ◌++◌, map, refl, sym, ◌∙◌, ap, subst, append_assoc, append-nil, length, length-append, arith, get_or, drop, take, drop-cons, eq-eqb, add-one}
-use Rattle.std.specs.Prelude.{Option}
+use Rattle.std.proofs.Common.{Some, None, ◌≡◌, ◌<◌, ◌+◌, ℕ, suc, List, [], ◌∷◌, ◌++◌, map, refl, sym, ◌∙◌, ap, subst, append_assoc, append-nil, length, length-append, arith, get_or, drop, take, drop-cons, eq-eqb, add-one}
 use Rattle.std.proofs.lemmas.List.{take_more}
 use Rattle.cord_script.specs.declared.kinds.Want.{Want}
 use Rattle.cord_script.specs.declared.parts.Part.{Part}
 use Rattle.cord_script.specs.declared.words.Word.{Word}
 use Rattle.cord_script.specs.declared.refusals.RefusalKind.{RefusalKind}
-use Rattle.cord_script.specs.Forms.{Term}
 use Rattle.cord_script.specs.Forms.Shape.{Words}
 use Rattle.cord_script.specs.Script.{AreTerms, IsTerm}
 use Rattle.cord_script.specs.Flaws.{first_of, first_pair, misfit}

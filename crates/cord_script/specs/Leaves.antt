@@ -1,5 +1,5 @@
 -- What the lines before a line leave, as the code keeps it, and what is wrong with terms behind them.
-use Rattle.std.specs.Prelude.{ℕ, List, [], ◌∷◌, map, length, ◌||◌, nat_lt, Option, Some, None}
+use Rattle.std.specs.Prelude.{ℕ, List, [], ◌∷◌, map, length, ◌||◌, nat_lt, Option, None}
 use Rattle.cord_script.specs.declared.TheConstants.{MAX_PATHS}
 use Rattle.cord_script.specs.declared.kinds.Kind.TheVariants as kinds
 use Rattle.cord_script.specs.declared.operands.Number.TheVariants as numbers
@@ -15,13 +15,18 @@ use Rattle.cord_script.specs.Forms.{Term}
 use Rattle.cord_script.specs.Forms.Term.{Target, Operand, Value, FilePath}
 use Rattle.cord_script.specs.Script.{Before, Block, kind_of, is_among}
 use Rattle.cord_script.specs.Script.Block.{InRepeat, InIf, InElse}
-use Rattle.cord_script.specs.Flaws.{first_of, unless, kind_flaw, assigned_flaw}
+use Rattle.cord_script.specs.Flaws.{first_of, unless, kind_flaw, assigned_flaw, IsLeft}
 
 -- an open block
 abbrev pub block_of : Open → Block
 block_of (blocks.Repeat line) = InRepeat line
 block_of (blocks.If line) = InIf line
 block_of (blocks.Else line) = InElse line
+
+-- the innermost open block is told so at the end of a script
+abbrev pub IsInnermostLeft : List Block → ℕ → RefusalKind → Type 0
+IsInnermostLeft [] n kind = ⊥
+IsInnermostLeft (block ∷ blocks) n kind = IsLeft block n kind
 
 -- what the lines before leave
 abbrev pub before_of : Left → Before

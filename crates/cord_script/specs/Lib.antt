@@ -5,7 +5,6 @@ pub mod Forms
 pub mod Laws
 pub mod Leaves
 pub mod Parted
-pub mod Passes
 pub mod Reading
 pub mod Refusals
 pub mod Rows

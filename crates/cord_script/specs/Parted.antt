@@ -1,8 +1,6 @@
 -- What the parts of a statement say, and what the builders take.
-use Rattle.std.specs.Prelude.{◌≡◌, ℕ, List, [], ◌∷◌, ◌++◌, map, Bool, true, false, ◌&&◌, not, ◌==◌, nat_le, nat_lt, Option, Some, None, length}
+use Rattle.std.specs.Prelude.{◌≡◌, ℕ, List, [], ◌∷◌, ◌++◌, map, Bool, true, ◌&&◌, ◌||◌, not, ◌==◌, nat_le, nat_lt, Option, Some, None, length}
 use Rattle.cord_script.specs.declared.TheConstants.{MAX_PATH}
-use Rattle.cord_script.specs.declared.kinds.Kind.{Kind}
-use Rattle.cord_script.specs.declared.kinds.Kind.TheVariants as kinds
 use Rattle.cord_script.specs.declared.kinds.Want.{Want}
 use Rattle.cord_script.specs.declared.kinds.Want.TheVariants as wants
 use Rattle.cord_script.specs.declared.parts.Part.{Part}
@@ -10,7 +8,7 @@ use Rattle.cord_script.specs.declared.parts.Part.TheVariants as parts
 use Rattle.cord_script.specs.declared.words.Word.{Word}
 use Rattle.cord_script.specs.declared.refusals.RefusalKind.{RefusalKind}
 use Rattle.cord_script.specs.declared.refusals.RefusalKind.TheVariants.{WrongCount}
-use Rattle.cord_script.specs.Tests.{each}
+use Rattle.cord_script.specs.Tests.{each, is_letter, is_digit}
 use Rattle.cord_script.specs.Forms.{Term}
 use Rattle.cord_script.specs.Forms.Term.{Target, Operand, Value, Literal, FilePath, Applies, Compares, Formats}
 use Rattle.cord_script.specs.Forms.{Shape, Form}
@@ -42,6 +40,10 @@ term_of (parts.Formats text) = Formats text
 -- the word says the part, and it is what is wanted
 abbrev pub IsPart : Want → Word → Part → Type 0
 IsPart want word part = IsTerm word (term_of part) × (want_of (term_of part) ≡ want)
+
+-- a byte of a name behind its first
+abbrev pub is_inner : ℕ → Bool
+is_inner c = is_letter c || is_digit c
 
 -- what a path has to be besides UTF-8
 abbrev pub is_no_zero : ℕ → Bool

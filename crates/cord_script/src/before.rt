@@ -1,16 +1,15 @@
 // What the lines before a line leave, and what is wrong with a line behind them.
 ghost use Rattle.std.specs.Prelude.{◌≡◌, map, IfErr, OnOk};
-ghost use Rattle.cord_script.specs.Script.{is_among, with_path, names_after, paths_after};
+ghost use Rattle.cord_script.specs.Script.{start, is_among, with_name, with_path, names_after, paths_after};
 ghost use Rattle.cord_script.specs.Leaves.{before_of, operand_term_flaw, target_term_flaw, path_term_flaw, term_flaw, first_term, terms_flaw};
 ghost use Rattle.cord_script.specs.Parted.{term_of};
 
 use crate::blocks::Open;
 use crate::checks::{assigned_flaw, kind_flaw};
 use crate::kinds::Kind;
-use crate::parser::assign;
 use crate::parts::Part;
 use crate::table::{Known, find_kind};
-use crate::{MAX_PATHS, Number, Path, RefusalKind};
+use crate::{MAX_PATHS, Name, Number, Path, RefusalKind};
 use std::alloc::Global;
 use std::collections::VecDeque;
 
@@ -23,6 +22,19 @@ pub struct Left {
     pub paths: Vec<Path>,
     /// The open blocks, the innermost first.
     pub blocks: VecDeque<Open>,
+}
+
+impl Left {
+    /// What stands before the first line.
+    pub fn nothing(alloc: Global) -> Self
+        ensures { before_of result ≡ start }
+    {
+        Left {
+            names: Vec::new(alloc),
+            paths: Vec::new(alloc),
+            blocks: VecDeque::new(alloc),
+        }
+    }
 }
 
 /// A pass over what the words of a statement say, from left to right.
@@ -119,6 +131,24 @@ pub fn names_flaw(left: &Left, parts: &[Part]) -> Option<RefusalKind>
         return Some(kind);
     }
     first_flaw(Pass::Paths, left, parts)
+}
+
+// Adds a name that is new.
+fn assign(alloc: Global, names: &mut Vec<Known>, name: &[u8], kind: Kind) -> Result<(), RefusalKind>
+    ensures names { OnOk result (names.new.items ≡ with_name names.old.items name.now kind) }
+    ensures flaw { IfErr result (λ e. e ≡ RefusalKind.NoMemory) }
+{
+    if find_kind(names, name).is_some() {
+        return Ok(());
+    }
+    let Ok(bytes) = Vec::from_slice(alloc, name) else {
+        return Err(RefusalKind::NoMemory);
+    };
+    let name = Name::of(bytes);
+    if names.push(Known { name, kind }).is_err() {
+        return Err(RefusalKind::NoMemory);
+    }
+    Ok(())
 }
 
 /// Adds the names that a line assigns.

@@ -1,12 +1,12 @@
 // The open blocks.
-ghost use Rattle.std.specs.Prelude.{◌≡◌, ◌∷◌, map, IfErr, OnOk};
+ghost use Rattle.std.specs.Prelude.{◌≡◌, ◌∷◌, [], map, IfErr, OnOk, MatchOption};
 ghost use Rattle.cord_script.specs.Script.{blocks_after, turned};
 ghost use Rattle.cord_script.specs.Flaws.{block_flaw, else_flaw};
-ghost use Rattle.cord_script.specs.Leaves.{block_of};
+ghost use Rattle.cord_script.specs.Leaves.{block_of, IsInnermostLeft};
 ghost use Rattle.cord_script.specs.Verbal.{verb_effect};
 
 use crate::grammar::Verb;
-use crate::{MAX_BLOCKS, RefusalKind};
+use crate::{MAX_BLOCKS, Refusal, RefusalKind};
 use std::collections::VecDeque;
 
 /// An open block, with the line of its `repeat` or `if`.
@@ -77,5 +77,22 @@ pub fn set_blocks(verb: Verb, line: u32, blocks: &mut VecDeque<Open>) -> Result<
             Ok(())
         }
         _ => Ok(()),
+    }
+}
+
+/// What is wrong at the end of a script behind these open blocks.
+pub fn open_flaw(blocks: &VecDeque<Open>) -> Option<Refusal>
+    ensures { MatchOption result (map block_of blocks.now.items ≡ []) (λ r. IsInnermostLeft (map block_of blocks.now.items) r.line r.kind) }
+{
+    match blocks.front() {
+        None => None,
+        Some(Open::Repeat(line)) => Some(Refusal {
+            line: *line,
+            kind: RefusalKind::MissingEnd,
+        }),
+        Some(Open::If(line) | Open::Else(line)) => Some(Refusal {
+            line: *line,
+            kind: RefusalKind::MissingIfEnd,
+        }),
     }
 }

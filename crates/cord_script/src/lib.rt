@@ -22,7 +22,6 @@ mod table;
 mod taking;
 #[cfg(test)]
 mod tests;
-mod verbs;
 mod words;
 
 pub use laws::{

@@ -1,18 +1,17 @@
 // The parser.
-ghost use Rattle.std.specs.Prelude.{◌≡◌, ◌≢◌, ◌≤◌, ◌<◌, [], ◌∷◌, ◌++◌, List, ℕ, All, IfOk, IfErr, OnOk, OnErr, MatchBool, MatchOption, IsTrue, length};
+ghost use Rattle.std.specs.Prelude.{◌≡◌, ◌≢◌, ◌≤◌, ◌<◌, [], ◌∷◌, ◌++◌, List, ℕ, All, IfOk, IfErr, OnOk, MatchBool, length};
 ghost use Rattle.cord_script.specs.Words.{IsIdle, IsSplit};
-ghost use Rattle.cord_script.specs.Forms.{line_of, terms_of};
-ghost use Rattle.cord_script.specs.Script.{Reads, spoken, with_name, names_after};
-ghost use Rattle.cord_script.specs.Flaws.{Flaw, HasBadWords};
-ghost use Rattle.cord_script.specs.Passes.{before_with};
-ghost use Rattle.cord_script.specs.Steps.{IsSaid, Tells, Takes, HasWrong, is_spoken};
+ghost use Rattle.cord_script.specs.Forms.{line_of};
+ghost use Rattle.cord_script.specs.Script.{Reads};
+ghost use Rattle.cord_script.specs.Flaws.{Flaw};
+ghost use Rattle.cord_script.specs.Leaves.{before_of};
+ghost use Rattle.cord_script.specs.Steps.{Tells, Takes, HasWrong};
 
-use crate::checks::form_flaw;
-use crate::kinds::Kind;
-use crate::table::{Known, find_kind};
-use crate::verbs::{statement_of, verb_of, wants_of};
-use crate::words::{Word, blanks, head, tail, uncons, words_of};
-use crate::{MAX_LINES, MAX_SCRIPT, Name, Refusal, RefusalKind, Script, Statement};
+use crate::before::Left;
+use crate::blocks::open_flaw;
+use crate::saying::said;
+use crate::words::{blanks, head, tail, uncons, words_of};
+use crate::{MAX_LINES, MAX_SCRIPT, Refusal, RefusalKind, Script, Statement};
 use std::alloc::Global;
 
 // No statement stands on the line.
@@ -39,99 +38,21 @@ fn first_line(bytes: &[u8]) -> (&[u8], &[u8])
     (bytes, tail(bytes, bytes.len()))
 }
 
-/// Adds a name that is new.
-pub fn assign(
-    alloc: Global,
-    names: &mut Vec<Known>,
-    name: &[u8],
-    kind: Kind,
-) -> Result<(), RefusalKind>
-    ensures names { OnOk result (names.new.items ≡ with_name names.old.items name.now kind) }
-    ensures flaw { IfErr result (λ e. e ≡ RefusalKind.NoMemory) }
-{
-    if find_kind(names, name).is_some() {
-        return Ok(());
-    }
-    let Ok(bytes) = Vec::from_slice(alloc, name) else {
-        return Err(RefusalKind::NoMemory);
-    };
-    let name = Name::of(bytes);
-    if names.push(Known { name, kind }).is_err() {
-        return Err(RefusalKind::NoMemory);
-    }
-    Ok(())
-}
-
-// Adds the name that a statement assigns, if it is new.
-fn assign_target(
-    alloc: Global,
-    names: &mut Vec<Known>,
-    statement: &Statement,
-) -> Result<(), RefusalKind>
-    requires { IsTrue (is_spoken statement.now) }
-    ensures names { OnOk result (names.new.items ≡ names_after (terms_of statement.now) names.old.items) }
-    ensures flaw { IfErr result (λ e. e ≡ RefusalKind.NoMemory) }
-{
-    match statement {
-        Statement::Let { target, .. } => assign(alloc, names, target.as_slice(), Kind::Cord),
-        Statement::Put { .. } => Ok(()),
-        _ => unreachable!(),
-    }
-}
-
-// The first word and the others.
-fn first_word(words: &[Word]) -> Option<(&Word, &[Word])>
-    ensures { MatchOption result (words.now ≡ []) (λ r. words.now ≡ r.0.now ∷ r.1.now) }
-{
-    match words {
-        [] => None,
-        [first, others @ ..] => Some((first, others)),
-    }
-}
-
-// The statement that words say behind these names, and the name that it assigns added to them.
-fn said(
-    alloc: Global,
-    number: u32,
-    names: &mut Vec<Known>,
-    words: Vec<Word>,
-) -> Result<Statement, RefusalKind>
-    requires { words.items ≢ [] }
-    ensures said { IfOk result (IsSaid number names.old.items names.new.items words.items) }
-    ensures flaw { IfErr result (λ kind. kind ≢ RefusalKind.NoMemory → HasBadWords spoken (before_with names.old.items) words.items kind) }
-{
-    let Some((first, others)) = first_word(&words) else {
-        return Err(RefusalKind::UnknownStatement);
-    };
-    let Word::Plain(word) = first else {
-        return Err(RefusalKind::UnknownStatement);
-    };
-    let Some(verb) = verb_of(word.as_slice()) else {
-        return Err(RefusalKind::UnknownStatement);
-    };
-    if let Some(kind) = form_flaw(names, wants_of(verb), others) {
-        return Err(kind);
-    }
-    let statement = statement_of(verb, number, words);
-    assign_target(alloc, names, &statement)?;
-    Ok(statement)
-}
-
 // The statement of a line, if it has one.
 fn line_statement(
     alloc: Global,
     number: u32,
     line: &[u8],
-    names: &mut Vec<Known>,
+    left: &mut Left,
 ) -> Result<Option<Statement>, RefusalKind>
-    ensures tells { IfOk result (Tells number line.now names.old.items names.new.items) }
-    ensures flaw { IfErr result (λ kind. kind ≢ RefusalKind.NoMemory → HasWrong line.now names.old.items kind) }
+    ensures tells { IfOk result (Tells number line.now (before_of left.old) (before_of left.new)) }
+    ensures flaw { IfErr result (λ kind. kind ≢ RefusalKind.NoMemory → HasWrong line.now (before_of left.old) kind) }
 {
     if is_idle(line) {
         return Ok(None);
     }
     let words = words_of(alloc, line)?;
-    let statement = said(alloc, number, names, words)?;
+    let statement = said(alloc, number, left, words)?;
     Ok(Some(statement))
 }
 
@@ -151,13 +72,13 @@ fn take_line(
     alloc: Global,
     number: u32,
     line: &[u8],
-    names: &mut Vec<Known>,
+    left: &mut Left,
     statements: &mut Vec<Statement>,
 ) -> Result<(), RefusalKind>
-    ensures takes { OnOk result (Takes number line.now names.old.items names.new.items statements.old.items statements.new.items) }
-    ensures flaw { IfErr result (λ kind. kind ≢ RefusalKind.NoMemory → HasWrong line.now names.old.items kind) }
+    ensures takes { OnOk result (Takes number line.now (before_of left.old) (before_of left.new) statements.old.items statements.new.items) }
+    ensures flaw { IfErr result (λ kind. kind ≢ RefusalKind.NoMemory → HasWrong line.now (before_of left.old) kind) }
 {
-    let Some(statement) = line_statement(alloc, number, line, names)? else {
+    let Some(statement) = line_statement(alloc, number, line, left)? else {
         return Ok(());
     };
     add(statements, statement)
@@ -179,7 +100,7 @@ pub fn parse(alloc: Global, script: &[u8]) -> Result<Script, Refusal>
         });
     }
     let mut statements = Vec::new(alloc);
-    let mut names = Vec::new(alloc);
+    let mut left = Left::nothing(alloc);
     let mut rest = script;
     let mut number = 1u32;
     'lines: while !rest.is_empty() {
@@ -190,11 +111,14 @@ pub fn parse(alloc: Global, script: &[u8]) -> Result<Script, Refusal>
             });
         }
         let (line, after) = first_line(rest);
-        if let Err(kind) = take_line(alloc, number, line, &mut names, &mut statements) {
+        if let Err(kind) = take_line(alloc, number, line, &mut left, &mut statements) {
             return Err(Refusal { line: number, kind });
         }
         rest = after;
         number += 1;
+    }
+    if let Some(refusal) = open_flaw(&left.blocks) {
+        return Err(refusal);
     }
     Ok(Script::of(statements))
 }
