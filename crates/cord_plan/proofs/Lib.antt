@@ -39,3 +39,4 @@ pub mod Spacing
 pub mod ExprViews
 pub mod Marked
 pub mod PlannedLines
+pub mod OnlyKept

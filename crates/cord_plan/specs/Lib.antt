@@ -6,6 +6,7 @@ pub mod Liveness
 pub mod Forced
 pub mod Choices
 pub mod Planned
+pub mod Kept
 pub mod Views
 pub mod Tables
 pub mod Flat

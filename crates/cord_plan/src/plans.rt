@@ -1,9 +1,10 @@
 // Plans.
-ghost use Rattle.std.specs.Prelude.{◌≡◌, ◌<◌, ℕ, Some, IfErr, IfOk, IsOkUnless, OnErr, OnOk, length, map, slice_get};
+ghost use Rattle.std.specs.Prelude.{◌≡◌, All, ◌<◌, ℕ, Some, IfErr, IfOk, IsOkUnless, OnErr, OnOk, length, map, slice_get};
 ghost use Rattle.cord_meaning.specs.Blocks.{jump};
 ghost use Rattle.std.specs.Io.KnownBytes.{Appends};
 ghost use Rattle.cord_io.specs.Device.{raised};
 ghost use Rattle.cord_iter.specs.Taking.{IsFrontOf, Takes};
+ghost use Rattle.cord_plan.specs.Kept.{KeepsNoOther};
 ghost use Rattle.cord_plan.specs.Meaning.{IsPlanOf, operation_shape};
 ghost use Rattle.cord_plan.specs.Planned as plan;
 ghost use Rattle.cord_plan.specs.Shown.{shown};
@@ -15,7 +16,7 @@ use crate::lines::operation_of;
 use crate::own::own_expression;
 use crate::shown::show_operations;
 use cord_io::{CordError, Sink};
-use cord_script::Script;
+use cord_script::{Script, Statement};
 use std::alloc::Global;
 use std::marker::Model;
 
@@ -37,11 +38,34 @@ impl Model for Plan {
     ghost coded = { Prim.hlevel (codes, expression.the_row.coded) };
 
     ghost view = { λ p. p.operations.items };
+
+    ghost use Rattle.std.specs.Prelude.{All, map};
+    ghost use Rattle.cord_plan.specs.Kept.{KeepsNoOther};
+    ghost use Rattle.cord_plan.specs.Views.{operation_view};
+
+    ghost invariant = { λ p. All KeepsNoOther (map operation_view p.operations.items) };
+}
+
+// The operations of the trivial plan.
+fn trivial_operations(
+    alloc: Global,
+    statements: &[Statement],
+) -> Result<Vec<Operation>, CordError>
+    ensures made { IfOk result (λ os. map operation_view os.items ≡ plan.trivial statements.now) }
+    ensures refused { IsOkUnless result CordError.NoMemory }
+{
+    let mut operations = Vec::new(alloc);
+    'lines: for statement in statements {
+        let expression = own_expression(alloc, statement)?;
+        operations.push(operation_of(alloc, statement, expression, false, false)?)?;
+    }
+    Ok(operations)
 }
 
 impl Plan {
     // The plan of these operations, without taking memory.
     pub(crate) fn of(operations: Vec<Operation>) -> Plan
+        requires kept { All KeepsNoOther (map operation_view operations.items) }
         ensures { result ≡ operations.items }
     {
         Plan { operations }
@@ -53,17 +77,14 @@ impl Plan {
         ensures means { IfOk result (λ p. IsPlanOf script.now (map operation_view p)) }
         ensures refused { IsOkUnless result CordError.NoMemory }
     {
-        let mut operations = Vec::new(alloc);
-        'lines: for statement in script.statements() {
-            let expression = own_expression(alloc, statement)?;
-            operations.push(operation_of(alloc, statement, expression, false, false)?)?;
-        }
-        Ok(Plan { operations })
+        let operations = trivial_operations(alloc, script.statements())?;
+        Ok(Plan::of(operations))
     }
 
-    /// The operations in order.
+    /// The operations in order. Those that are kept make no cord and put nothing.
     pub fn operations(&self) -> &[Operation]
-        ensures { result.now ≡ self.now }
+        ensures listed { result.now ≡ self.now }
+        ensures kept { All KeepsNoOther (map operation_view self.now) }
     {
         &self.operations
     }

@@ -9,3 +9,4 @@ pub mod Whole
 pub mod Putting
 pub mod Given
 pub mod Controls
+pub mod Served

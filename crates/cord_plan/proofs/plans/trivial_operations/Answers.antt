@@ -1,0 +1,32 @@
+use Rattle.std.proofs.Common.{◌≡◌, ℕ, ◌+◌, ◌<◌, false, List, [], ◌∷◌, ◌++◌, length, get_or, take, map, Option, refl, sym, ap, ◌∙◌}
+use Rattle.std.proofs.lemmas.List.{map-append, take_all, take_more}
+use Rattle.std.proofs.lemmas.Slice.{pushed}
+use Rattle.cord_script.specs.declared.statements.Statement.{Statement}
+use Rattle.cord_plan.specs.Exprs.{Expr}
+use Rattle.cord_plan.specs.Forced.{own}
+use Rattle.cord_plan.specs.Planned.{operation, or_nothing, trivial}
+use Rattle.cord_plan.specs.declared.operations.Operation.{Operation}
+use Rattle.cord_plan.specs.Views.{operation_view}
+use Rattle.cord_plan.proofs.plans.trivial_operations.Goals as goal
+
+-- the trivial plan of one line more
+trivial_then : (xs : List Statement) (l : Statement) → trivial (xs ++ l ∷ []) ≡ trivial xs ++ operation l (or_nothing (own l)) false false ∷ []
+trivial_then [] l = refl
+trivial_then (x ∷ xs) l = ap (λ os. operation x (or_nothing (own x)) false false ∷ os) (trivial_then xs l)
+
+-- the operations of the lines before i, and the next one
+one_more : (xs : List Statement) (i : ℕ) (l : Statement) (e : Option Expr) (before : List Operation) (o : Operation) →
+    i < length xs → l ≡ get_or xs i l → map operation_view before ≡ trivial (take i xs) → e ≡ own l →
+    operation_view o ≡ operation l (or_nothing e) false false →
+    map operation_view (before ++ o ∷ []) ≡ trivial (take (i + 1) xs)
+one_more xs i l e before o within at so_far owned made =
+    map-append operation_view before (o ∷ [])
+    ∙ (ap (λ os. os ++ operation_view o ∷ []) so_far
+    ∙ (ap (λ p. trivial (take i xs) ++ p ∷ []) (made ∙ ap (λ f. operation l (or_nothing f) false false) owned)
+    ∙ (sym (trivial_then (take i xs) l)
+    ∙ ap trivial (ap (λ m. take i xs ++ m ∷ []) at ∙ sym (take_more xs i l within)))))
+
+pub lines-preserved : goal.lines-preserved
+lines-preserved c =
+    ap (map operation_view) (pushed (c.in_ok-operation_of.field-0 ∷ []) refl c.in_ok-push.was c.push.ensures.items)
+    ∙ one_more _ _ _ _ _ _ c.lines-test.true c.statement-item.is c.lines.invariant c.in_ok-expression.ensures.made c.in_ok-operation_of.ensures.made
