@@ -1,8 +1,12 @@
-use Rattle.std.proofs.Common.{List, subst}
+use Rattle.std.proofs.Common.{List, sym, subst}
+use Rattle.std.specs.Prelude.{All}
 use Rattle.cord_script.specs.declared.statements.Statement.{Statement}
+use Rattle.cord_plan.specs.Kept.{KeepsNoOther}
 use Rattle.cord_plan.specs.Liveness.{tells}
+use Rattle.cord_plan.specs.Planned.{Operation}
 use Rattle.cord_plan.specs.Unread.{IsLater}
 use Rattle.cord_plan.proofs.Kept.{planned_keeps}
+use Rattle.cord_plan.proofs.OnlyKept.{kept_planned}
 use Rattle.cord_plan.proofs.planner.plan.Goals as goal
 
 pub returns-clause-means : goal.returns-clause-means
@@ -10,3 +14,6 @@ returns-clause-means c = λ g text read limit most files.
     let later = tells c.in_ok-later.later in
     let is : IsLater c.args.script.now later = subst (λ (s : List Statement). IsLater s later) c.statements-statements.ensures c.in_ok-later.ensures in
     rw (c.of-3.ensures, c.in_ok-operations.ensures.made, c.statements-statements.ensures) (planned_keeps limit most files c.args.script.now g text later read is)
+
+pub of-requires-3 : goal.of-requires-3
+of-requires-3 c = record { kept = subst (λ (os : List Operation). All KeepsNoOther os) (sym c.in_ok-operations.ensures.made) (kept_planned c.statements-statements.result.now (tells c.in_ok-later.later)) }

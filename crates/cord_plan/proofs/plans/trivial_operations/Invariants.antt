@@ -5,4 +5,4 @@ use Rattle.cord_plan.proofs.plans.trivial_operations.Given as goal
 
 -- the operations so far are those of the lines so far
 abbrev pub invariant-lines : goal.invariant-lines
-invariant-lines l = map operation_view l.operations.items ≡ trivial (take l.statement-index l.statement-items)
+invariant-lines l = map operation_view l.operations.items ≡ trivial (take l.statement-index l.statements)

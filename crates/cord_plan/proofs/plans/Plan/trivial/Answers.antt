@@ -1,8 +1,15 @@
-use Rattle.std.proofs.Common.{◌≡◌, map}
+use Rattle.std.proofs.Common.{◌≡◌, List, map, sym, subst}
+use Rattle.std.specs.Prelude.{All}
+use Rattle.cord_plan.specs.Kept.{KeepsNoOther}
+use Rattle.cord_plan.specs.Planned.{Operation}
 use Rattle.cord_plan.proofs.Kept.{trivial_keeps}
+use Rattle.cord_plan.proofs.OnlyKept.{kept_trivial}
 use Rattle.cord_plan.proofs.plans.Plan.trivial.Goals as goal
+
+pub of-requires : goal.of-requires
+of-requires c = record { kept = subst (λ (os : List Operation). All KeepsNoOther os) (sym c.in_ok-operations.ensures.made) (kept_trivial c.statements.result.now) }
 
 pub returns-clause-means : goal.returns-clause-means
 returns-clause-means c = λ g text read limit most files.
-    rw (c.of.ensures, c.in_ok-operations.ensures.made, c.statements-statements.ensures)
+    rw (c.of.ensures, c.in_ok-operations.ensures.made, c.statements.ensures)
     (trivial_keeps limit most files c.args.script.now g text read)
