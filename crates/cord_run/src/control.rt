@@ -1,7 +1,7 @@
 // Where a run stands among the operations of its plan.
-ghost use Rattle.std.specs.Prelude.{◌≡◌, ◌+◌, ◌∷◌, [], Ok, IfOk, IfErr};
+ghost use Rattle.std.specs.Prelude.{◌≡◌, ◌+◌, ◌-◌, ◌^◌, ◌<◌, ◌∷◌, [], Ok, IfOk, IfErr};
 ghost use Rattle.cord_meaning.specs.declared.TheConstants.{MAX_TURNS};
-ghost use Rattle.cord_run.specs.Controls.{Goes, begun, block_view, chosen, closed, repeated, where_of};
+ghost use Rattle.cord_run.specs.Controls.{Goes, IsTurnAt, begun, block_view, chosen, closed, repeated, where_of};
 
 use crate::checks::as_index;
 use cord_meaning::{FaultKind, MAX_TURNS};
@@ -32,18 +32,18 @@ pub(crate) struct Control {
 pub(crate) enum Barred {
     /// A fault at a line.
     Fault(u32, FaultKind),
-    /// Memory was refused.
-    NoMemory,
+    /// Memory was refused, for a statement at a line.
+    NoMemory(u32),
 }
 
-// The place behind another one. No list is so long that there is none; then there would be no memory for it.
-fn next(place: usize) -> Result<usize, Barred>
+// The place behind that of a block. No list is so long that there is none; then there would be no memory for it.
+fn next(line: u32, place: usize) -> Result<usize, Barred>
     ensures next { IfOk result (λ n. n ≡ place + 1) }
-    ensures refused { IfErr result (λ e. e ≡ Barred.NoMemory) }
+    ensures refused { IfErr result (λ e. e ≡ Barred.NoMemory line) }
 {
     match place.checked_add(1) {
         Some(next) => Ok(next),
-        None => Err(Barred::NoMemory),
+        None => Err(Barred::NoMemory(line)),
     }
 }
 
@@ -66,26 +66,26 @@ impl Control {
         self.place = place;
     }
 
-    // Opens a block.
-    fn open(&mut self, block: Open) -> Result<(), Barred>
+    // Opens a block, for a statement at a line.
+    fn open(&mut self, line: u32, block: Open) -> Result<(), Barred>
         ensures opened { IfOk result (λ _. where_of self.new ≡ record (where_of self.old) { blocks = block_view block ∷ (where_of self.old).blocks }) }
-        ensures refused { IfErr result (λ e. e ≡ Barred.NoMemory) }
+        ensures refused { IfErr result (λ e. e ≡ Barred.NoMemory line) }
     {
         match self.blocks.push(block) {
             Ok(()) => Ok(()),
-            Err(_) => Err(Barred::NoMemory),
+            Err(_) => Err(Barred::NoMemory(line)),
         }
     }
 
     // Begins a turn of the `repeat` at a place, if the loops of the run may begin one more.
     fn begin(&mut self, place: usize, line: u32, left: u64) -> Result<(), Barred>
-        ensures { Goes (begun MAX_TURNS (where_of self.old) place line left (where_of self.old).blocks) (where_of self.new) result }
+        ensures { Goes (begun MAX_TURNS (where_of self.old) place line left (where_of self.old).blocks) (λ l. l ≡ line) (where_of self.new) result }
     {
         if self.turns >= MAX_TURNS {
             return Err(Barred::Fault(line, FaultKind::TooManyTurns));
         }
-        let first = next(place)?;
-        self.open(Open::Turns { place, line, left })?;
+        let first = next(line, place)?;
+        self.open(line, Open::Turns { place, line, left })?;
         self.turns += 1;
         self.place = first;
         Ok(())
@@ -93,7 +93,7 @@ impl Control {
 
     /// A `repeat` that read this number; `behind` is the place behind its `end`.
     pub(crate) fn repeat(&mut self, line: u32, behind: usize, count: i64) -> Result<(), Barred>
-        ensures { Goes (repeated MAX_TURNS (where_of self.old) line behind count) (where_of self.new) result }
+        ensures { Goes (repeated MAX_TURNS (where_of self.old) line behind count) (λ l. l ≡ line) (where_of self.new) result }
     {
         match as_index(count) {
             Err(kind) => Err(Barred::Fault(line, kind)),
@@ -106,25 +106,26 @@ impl Control {
     }
 
     /// An `if`; `other` is the place behind its `else`, or of its `end`.
-    pub(crate) fn choose(&mut self, other: usize, holds: bool) -> Result<(), Barred>
-        ensures { Goes (Ok (chosen (where_of self.old) other holds)) (where_of self.new) result }
+    pub(crate) fn choose(&mut self, line: u32, other: usize, holds: bool) -> Result<(), Barred>
+        ensures { Goes (Ok (chosen (where_of self.old) other holds)) (λ l. l ≡ line) (where_of self.new) result }
     {
-        let first = next(self.place)?;
-        self.open(Open::Chosen)?;
+        let first = next(line, self.place)?;
+        self.open(line, Open::Chosen)?;
         self.place = if holds { first } else { other };
         Ok(())
     }
 
     /// An `end`: closes the innermost open block, or begins its next turn.
     pub(crate) fn close(&mut self) -> Result<(), Barred>
-        ensures { Goes (closed MAX_TURNS (where_of self.old) (where_of self.old).blocks) (where_of self.new) result }
+        requires { (where_of self.old).place < 2 ^ 64 - 1 }
+        ensures { Goes (closed MAX_TURNS (where_of self.old) (where_of self.old).blocks) (IsTurnAt (where_of self.old).blocks) (where_of self.new) result }
     {
         match self.blocks.pop() {
             Some(Open::Turns { place, line, left }) if left > 0 => {
                 self.begin(place, line, left - 1)
             }
             _ => {
-                self.place = next(self.place)?;
+                self.place += 1;
                 Ok(())
             }
         }

@@ -3,7 +3,10 @@
 
 mod checks;
 mod control;
+mod keeping;
+mod lines;
 mod making;
+mod makings;
 mod measuring;
 mod names;
 mod output;
