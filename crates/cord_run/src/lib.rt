@@ -12,7 +12,10 @@ mod names;
 mod output;
 mod picking;
 mod runner;
+mod running;
+mod serving;
 mod slot;
+mod steering;
 mod store;
 mod targets;
 #[cfg(test)]

@@ -1,5 +1,5 @@
 // What the names of a run of a plan hold.
-ghost use Rattle.std.specs.Prelude.{◌≡◌, ◌<◌, ℤ, pos, length, IfOk, IfSome, IfNone, None, Some};
+ghost use Rattle.std.specs.Prelude.{◌≡◌, ◌<◌, ℤ, pos, [], length, IfOk, IfSome, IfNone, None, Some};
 ghost use Rattle.cord_run.specs.Held.{content_in, cord_in, extensible_in, length_in, number_in, operand_in, HasContent, HasExtensible, HasNoEntry, HasNumber, IsEntryAt, SameEntries};
 
 use cord_core::Cord;
@@ -44,6 +44,15 @@ fn place_of(entries: &[Entry], name: &[u8]) -> Option<usize>
 }
 
 impl Store {
+    /// No name has been assigned.
+    pub(crate) fn empty(alloc: Global) -> Self
+        ensures { result.entries.items ≡ [] }
+    {
+        Store {
+            entries: Vec::new(alloc),
+        }
+    }
+
     /// The cord of a name, where it has one that isn't empty.
     pub(crate) fn cord_of(&self, name: &[u8]) -> Option<&Cord>
         ensures some { IfSome result (λ cord. cord.now ≡ cord_in (content_in self.now.entries.items name.now)) }
