@@ -1,6 +1,3 @@
-pub mod Slots
-pub mod Runs
-pub mod Numbered
 pub mod Puts
 pub mod Entries
 pub mod Members
@@ -15,3 +12,6 @@ pub mod Naming
 pub mod Served
 pub mod Steered
 pub mod Looped
+pub mod LinesCounted
+pub mod SameMembers
+pub mod Meant

@@ -1,5 +1,3 @@
-pub mod Texts
-pub mod Slots
 pub mod Runs
 pub mod Held
 pub mod Holdings

@@ -1,171 +1,54 @@
-//! Runs statements one by one.
-ghost use Rattle.std.specs.Prelude.{◌≡◌, ◌≢◌, ◌<◌, ◌-◌, ◌^◌, ◌≤◌, IfOk, IfErr, IsErrOf, All, OnOk, OnErr, List, ℕ, length, take};
-ghost use Rattle.std.specs.Io.KnownBytes.{Appends};
-ghost use Rattle.cord_io.specs.Device.{raised};
+//! Runs plans, and scripts by their plans.
+ghost use Rattle.std.specs.Prelude.{◌≡◌, ◌≢◌, ◌<◌, ◌-◌, ◌^◌, IfOk, IfErr, OnErr, List, ℕ, map};
+ghost use Rattle.cord_file.specs.Sources.{device_in};
+ghost use Rattle.cord_plan.specs.Meaning.{IsPlanOf};
+ghost use Rattle.cord_plan.specs.Views.{operation_view};
+ghost use Rattle.cord_run.specs.Runs.{Honest, NamesCause, Runs};
+ghost use Rattle.cord_run.specs.Steps.{HonestPlan};
 ghost use Rattle.cord_script.specs.Flaws.{Flaw};
-ghost use Rattle.cord_meaning.specs.State.{with_value};
-ghost use Rattle.cord_script.specs.Flaws.{Flaw};
-ghost use Rattle.cord_meaning.specs.Statements.{line_of};
-ghost use Rattle.cord_run.specs.Runs.{Counted, Does, Honest, IsRunnable, IsSpoken, NamesCause, Runs, Stops, end_at};
-ghost use Rattle.cord_run.specs.Slots.{state_of, text_in};
+ghost use Rattle.cord_script.specs.Forms.{Grammar};
+ghost use Rattle.cord_script.specs.Script.{ReadsBy};
+ghost use Rattle.cord_script.specs.declared.statements.Statement.{Statement};
 
-use crate::names::{assign, cord_of};
-use crate::output::put_cord;
-use crate::slot::Slot;
-use cord_core::Cord;
-use cord_io::{CordError, Files, MAX_LEN, Sink, WriteFault};
-use cord_meaning::{End, FaultKind};
-use cord_script::{Refusal, RefusalKind, Statement, parse};
+use crate::making::Halt;
+use crate::running::run_plan;
+use cord_file::Sources;
+use cord_io::{Files, Sink};
+use cord_meaning::End;
+use cord_plan::{Plan, plan};
+use cord_script::{Refusal, RefusalKind, Script, parse};
 use std::alloc::Global;
 
-/// Why a statement stops a run.
-#[derive(Drop)]
-pub enum Stop {
-    /// The statement met a fault.
-    Fault(FaultKind),
-    /// Memory was refused.
-    NoMemory,
-    /// The sink did not take what was put.
-    WriteFailed,
-}
-
-/// A stop, and the line of its statement.
-#[derive(Drop)]
-pub struct Stopped {
-    line: u32,
-    stop: Stop,
-}
-
-// Gives a name a literal text.
-fn set_text(
+// Runs a plan over sources, and ends the output.
+fn run_over<F: Files, S: Sink>(
     alloc: Global,
-    target: &[u8],
-    text: &[u8],
-    slots: &mut Vec<Slot>,
-) -> Result<(), CordError>
-    ensures short { OnOk result (length text.now ≤ MAX_LEN) }
-    ensures set { OnOk result ((x : List ℕ) → text_in slots.new.items x ≡ with_value (text_in slots.old.items) target.now text.now x) }
-    ensures too_long { IsErrOf result CordError.TooLong → MAX_LEN < length text.now }
-{
-    let cord = Cord::from_bytes(alloc, text)?;
-    if assign(alloc, slots, target, cord).is_err() {
-        return Err(CordError::NoMemory);
-    }
-    Ok(())
-}
-
-// Puts the text of a name.
-fn put_text<S: Sink>(operand: &[u8], slots: &[Slot], sink: &mut S) -> Result<(), WriteFault>
-    ensures ok { OnOk result (Appends (S.taken sink.old) (S.taken sink.new) (text_in slots.now operand.now)) }
-    ensures ok_count { OnOk result (S.failures sink.new ≡ S.failures sink.old) }
-    ensures err { OnErr result ((n : ℕ) × Appends (S.taken sink.old) (S.taken sink.new) (take n (text_in slots.now operand.now))) }
-    ensures err_count { OnErr result (S.failures sink.new ≡ raised (S.failures sink.old)) }
-{
-    match cord_of(slots, operand) {
-        None => Ok(()),
-        Some(cord) => put_cord(cord, sink),
-    }
-}
-
-// Runs one statement.
-fn run_statement<F: Files, S: Sink>(
-    alloc: Global,
-    statement: &Statement,
-    slots: &mut Vec<Slot>,
-    files: &F,
-    sink: &mut S,
-) -> Result<(), Stop>
-    requires spoken { IsSpoken statement.now }
-    requires count { S.failures sink.old < 2 ^ 64 - 1 }
-    ensures ok { OnOk result (Does (F.contents files.now) statement.now (state_of slots.old.items) (state_of slots.new.items) (S.taken sink.old) (S.taken sink.new)) }
-    ensures ok_count { OnOk result (S.failures sink.new ≡ S.failures sink.old) }
-    ensures err { IfErr result (Stops (F.contents files.now) statement.now (state_of slots.old.items) (S.taken sink.old) (S.taken sink.new)) }
-    ensures err_count { IfErr result (Counted (S.failures sink.old) (S.failures sink.new)) }
-{
-    let _ = files;
-    match statement {
-        Statement::Let { target, text, .. } => {
-            match set_text(alloc, target.as_slice(), text.as_slice(), slots) {
-                Ok(()) => Ok(()),
-                Err(CordError::TooLong) => Err(Stop::Fault(FaultKind::TooLong)),
-                Err(_) => Err(Stop::NoMemory),
-            }
-        }
-        Statement::Put { operand, .. } => match put_text(operand.as_slice(), slots, sink) {
-            Ok(()) => Ok(()),
-            Err(_) => Err(Stop::WriteFailed),
-        },
-        _ => unreachable!(),
-    }
-}
-
-// The number of a statement's line.
-fn line_number(statement: &Statement) -> u32
-    requires { IsSpoken statement.now }
-    ensures { result ≡ line_of statement.now }
-{
-    match statement {
-        Statement::Let { line, .. } => *line,
-        Statement::Put { line, .. } => *line,
-        _ => unreachable!(),
-    }
-}
-
-// Runs all statements, up to the first that stops.
-fn run_lines<F: Files, S: Sink>(
-    alloc: Global,
-    statements: &[Statement],
-    files: &F,
-    sink: &mut S,
-) -> Result<(), Stopped>
-    requires count { S.failures sink.old < 2 ^ 64 - 1 }
-    requires runnable { All IsRunnable statements.now }
-    ensures ok { OnOk result (Honest statements.now (F.contents files.now) (S.taken sink.old) (S.taken sink.new)
-        (record { files_before = F.failures files.now; files_after = F.failures files.now; sink_before = S.failures sink.old; sink_after = S.failures sink.new })
-        End.Done) }
-    ensures ok_count { OnOk result (S.failures sink.new ≡ S.failures sink.old) }
-    ensures err { IfErr result (λ e. Honest statements.now (F.contents files.now) (S.taken sink.old) (S.taken sink.new)
-        (record { files_before = F.failures files.now; files_after = F.failures files.now; sink_before = S.failures sink.old; sink_after = S.failures sink.new })
-        (end_at e.line e.stop)) }
-    ensures err_count { IfErr result (λ e. Counted (S.failures sink.old) (S.failures sink.new) e.stop) }
-{
-    let mut slots = Vec::new(alloc);
-    for statement in statements {
-        let line = line_number(statement);
-        match run_statement(alloc, statement, &mut slots, files, sink) {
-            Ok(()) => {}
-            Err(stop) => return Err(Stopped { line, stop }),
-        }
-    }
-    Ok(())
-}
-
-// Runs statements over a sink, and ends its output.
-fn run_statements<F: Files, S: Sink>(
-    alloc: Global,
-    statements: &[Statement],
-    files: &F,
+    plan: &Plan,
+    sources: &mut Sources<F>,
     sink: &mut S,
 ) -> End
-    requires count { S.failures sink.old < 2 ^ 64 - 1 }
-    requires runnable { All IsRunnable statements.now }
-    ensures honest { Honest statements.now (F.contents files.now) (S.taken sink.old) (S.taken sink.new)
-        (record { files_before = F.failures files.now; files_after = F.failures files.now; sink_before = S.failures sink.old; sink_after = S.failures sink.new })
-        result }
-    ensures cause { NamesCause (record { files_before = F.failures files.now; files_after = F.failures files.now; sink_before = S.failures sink.old; sink_after = S.failures sink.new }) result }
+    requires files_count { F.failures (device_in sources.old) < 2 ^ 64 - 1 }
+    requires sink_count { S.failures sink.old < 2 ^ 64 - 1 }
+    ensures contents { F.contents (device_in sources.new) ≡ F.contents (device_in sources.old) }
+    ensures honest { HonestPlan (F.contents (device_in sources.old)) (map operation_view plan.now) (S.taken sink.old) (S.taken sink.new)
+        (record { files_before = F.failures (device_in sources.old); files_after = F.failures (device_in sources.new); sink_before = S.failures sink.old; sink_after = S.failures sink.new }) result }
+    ensures cause { NamesCause (record { files_before = F.failures (device_in sources.old); files_after = F.failures (device_in sources.new); sink_before = S.failures sink.old; sink_after = S.failures sink.new }) result }
 {
-    match run_lines(alloc, statements, files, sink) {
+    match run_plan(alloc, plan, sources, sink) {
         Ok(()) => match sink.finish() {
             Ok(()) => End::Done,
             Err(_) => End::WriteFailed(0),
         },
-        Err(stopped) => match stopped.stop {
-            Stop::WriteFailed => End::WriteFailed(stopped.line),
-            Stop::NoMemory => {
+        Err(stopped) => match stopped.halt {
+            Halt::WriteFailed => End::WriteFailed(stopped.line),
+            Halt::ReadFailed => {
+                let _ = sink.finish();
+                End::ReadFailed(stopped.line)
+            }
+            Halt::NoMemory => {
                 let _ = sink.finish();
                 End::NoMemory(stopped.line)
             }
-            Stop::Fault(kind) => match sink.finish() {
+            Halt::Fault(kind) => match sink.finish() {
                 Ok(()) => End::Fault(stopped.line, kind),
                 Err(_) => End::WriteFailed(0),
             },
@@ -173,7 +56,32 @@ fn run_statements<F: Files, S: Sink>(
     }
 }
 
-/// Parses a script and runs it. A script that is refused writes nothing, and the files are handed back.
+/// Runs a plan over files, ends the output with one `finish`, unless writing failed, and hands the files back. Where a script is
+/// read from some bytes, and this is a plan of it, the end is an honest one of the script's run.
+pub fn run<F: Files, S: Sink>(alloc: Global, plan: &Plan, files: F, sink: &mut S) -> (End, F)
+    requires files_count { F.failures files < 2 ^ 64 - 1 }
+    requires sink_count { S.failures sink.old < 2 ^ 64 - 1 }
+    ensures honest { (statements : List Statement) → IsPlanOf statements (map operation_view plan.now) → (g : Grammar) (script : List ℕ) → ReadsBy g script statements →
+        Honest statements (F.contents files) (S.taken sink.old) (S.taken sink.new)
+        (record { files_before = F.failures files; files_after = F.failures result.1; sink_before = S.failures sink.old; sink_after = S.failures sink.new }) result.0 }
+    ensures cause { NamesCause
+        (record { files_before = F.failures files; files_after = F.failures result.1; sink_before = S.failures sink.old; sink_after = S.failures sink.new }) result.0 }
+    ensures files { F.contents result.1 ≡ F.contents files }
+{
+    match Sources::new(alloc, files) {
+        Ok(mut sources) => {
+            let end = run_over(alloc, plan, &mut sources, sink);
+            (end, sources.close())
+        }
+        Err((_, files)) => {
+            let _ = sink.finish();
+            (End::NoMemory(0), files)
+        }
+    }
+}
+
+/// Parses a script and runs it by its plan. A script that is refused writes nothing, and the files are handed back. Where no memory
+/// is found for the plan the end is `NoMemory(0)`.
 pub fn run_text<F: Files, S: Sink>(
     alloc: Global,
     script: &[u8],
@@ -192,10 +100,16 @@ pub fn run_text<F: Files, S: Sink>(
 {
     match parse(alloc, script) {
         Err(refusal) => (Err(refusal), files),
-        Ok(read) => {
-            let end = run_statements(alloc, read.statements(), &files, sink);
-            (Ok(end), files)
-        }
+        Ok(read) => match plan(alloc, &read) {
+            Ok(plan) => {
+                let (end, files) = run(alloc, &plan, files, sink);
+                (Ok(end), files)
+            }
+            Err(_) => {
+                let _ = sink.finish();
+                (Ok(End::NoMemory(0)), files)
+            }
+        },
     }
 }
 
@@ -216,5 +130,17 @@ pub fn run_unplanned<F: Files, S: Sink>(
     ensures flaw { IfErr result.0 (λ r. r.kind ≢ RefusalKind.NoMemory → Flaw script.now r.line r.kind) }
     ensures files { F.contents result.1 ≡ F.contents files }
 {
-    run_text(alloc, script, files, sink)
+    match parse(alloc, script) {
+        Err(refusal) => (Err(refusal), files),
+        Ok(read) => match Plan::trivial(alloc, &read) {
+            Ok(plan) => {
+                let (end, files) = run(alloc, &plan, files, sink);
+                (Ok(end), files)
+            }
+            Err(_) => {
+                let _ = sink.finish();
+                (Ok(End::NoMemory(0)), files)
+            }
+        },
+    }
 }
