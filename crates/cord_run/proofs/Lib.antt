@@ -12,3 +12,6 @@ pub mod Assigned
 pub mod Wholes
 pub mod Handed
 pub mod Naming
+pub mod Gathered
+pub mod Shares
+pub mod Paths

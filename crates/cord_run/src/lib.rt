@@ -3,8 +3,12 @@
 
 mod checks;
 mod control;
+mod files;
+mod halts;
+mod literals;
 mod making;
 mod measuring;
+mod named;
 mod names;
 mod output;
 mod picking;
