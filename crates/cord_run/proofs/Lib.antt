@@ -15,3 +15,5 @@ pub mod Naming
 pub mod Gathered
 pub mod Shares
 pub mod Paths
+pub mod Printed
+pub mod Refused

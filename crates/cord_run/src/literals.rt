@@ -1,10 +1,10 @@
 // Cords of literals and of functions.
 ghost use Rattle.std.specs.Prelude.{◌≡◌, ◌<◌, ◌≤◌, Err, IfErr, IfOk, IsOkUnless, length};
 ghost use Rattle.cord_core.specs.Refusals.{IsRefusal};
-ghost use Rattle.cord_meaning.specs.State as meant;
-ghost use Rattle.cord_run.specs.Contents.{IsStartOf, IsTextOf, entry_of};
+ghost use Rattle.cord_run.specs.Contents.{IsHaltBy, IsStartAsked, IsStartOf, IsTextOf, entry_of, start_extent};
 
 use crate::checks::{as_index, as_length};
+use crate::making::Halt;
 use cord_core::Cord;
 use cord_ec::ExtCord;
 use cord_io::{CordError, MAX_LEN, SourceId};
@@ -24,8 +24,22 @@ pub(crate) fn literal(alloc: Global, text: &[u8]) -> Result<Cord, CordError>
     Ok(cord)
 }
 
-/// The cord of so many first bytes of a function. Refused only with `NoMemory`.
-pub(crate) fn start_of(alloc: Global, function: Function, count: u64) -> Result<Cord, CordError>
+/// The cord of as many first bytes of a function as a number asks for. Refused with the number's fault, or with `NoMemory`.
+pub(crate) fn start(alloc: Global, function: Function, count: i64) -> Result<Cord, Halt>
+    ensures made { IfOk result (IsStartAsked function count) }
+    ensures refused { IfErr result (IsHaltBy (λ kind. start_extent count ≡ Err kind)) }
+{
+    match start_length(count) {
+        Err(kind) => Err(Halt::Fault(kind)),
+        Ok(len) => {
+            let cord = start_of(alloc, function, len)?;
+            Ok(cord)
+        }
+    }
+}
+
+// The cord of so many first bytes of a function.
+fn start_of(alloc: Global, function: Function, count: u64) -> Result<Cord, CordError>
     requires { count ≤ MAX_LEN }
     ensures made { IfOk result (IsStartOf function count) }
     ensures refused { IsOkUnless result CordError.NoMemory }
@@ -46,7 +60,7 @@ fn source_of(function: Function) -> SourceId
 
 /// How many bytes of a function a number asks for, or its fault.
 pub(crate) fn start_length(count: i64) -> Result<u64, FaultKind>
-    ensures { result ≡ meant.and_then (meant.as_index count) (λ n. meant.as_length MAX_LEN n) }
+    ensures { result ≡ start_extent count }
 {
     match as_index(count) {
         Ok(count) => as_length(count),
