@@ -17,3 +17,4 @@ pub mod Shares
 pub mod Paths
 pub mod Printed
 pub mod Refused
+pub mod Made
