@@ -18,3 +18,4 @@ pub mod Paths
 pub mod Printed
 pub mod Refused
 pub mod Made
+pub mod Giving
