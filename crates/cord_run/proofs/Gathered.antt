@@ -1,17 +1,16 @@
 -- Cords of literals and of functions.
-use Rattle.std.proofs.Common.{◌≡◌, ◌≤◌, ◌+◌, ℕ, List, [], ◌++◌, length, take, drop, refl, sym, ap, subst, ◌∙◌, inl, arith}
+use Rattle.std.proofs.Common.{◌≡◌, ◌≤◌, ◌+◌, ℕ, List, [], ◌++◌, length, take, drop, sym, ap, subst, ◌∙◌, inl, arith}
 use Rattle.std.specs.Prelude.{Option}
 use Rattle.cord_io.specs.declared.TheConstants.{MAX_LEN}
-use Rattle.cord_io.specs.Device.{Folder}
 use Rattle.cord_io.specs.Entries.{text_of, digit_at, byte_value_at, length-text_of, range-text_of}
-use Rattle.cord_io.specs.Table.{Table, Lengths, length_at}
+use Rattle.cord_io.specs.Table.{Lengths}
 use Rattle.cord_node.specs.declared.Node.{Node}
 use Rattle.cord_node.specs.Tree.{Cell}
 use Rattle.cord_node.specs.Tables.{AreHeldIn, lengths_of}
-use Rattle.cord_core.specs.Cord.{bytes_of, CordFitsIn, IsCord}
+use Rattle.cord_core.specs.Cord.{IsCord}
 use Rattle.cord_core.specs.Equations.{IsEntryRange}
 use Rattle.cord_ec.specs.Grown.{bytes_over, IsCordOf, IsGrownBy}
-use Rattle.cord_file.specs.Entries.{Opened, lengths_in, table_in}
+use Rattle.cord_file.specs.Entries.{lengths_in, table_in}
 use Rattle.cord_script.specs.declared.operands.Function.{Function}
 use Rattle.cord_script.specs.declared.operands.Function.TheVariants.{Digits, Bytes}
 use Rattle.cord_run.specs.Contents.{IsStartOf, IsTextOf, entry_of}

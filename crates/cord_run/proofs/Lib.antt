@@ -11,7 +11,6 @@ pub mod Growing
 pub mod Assigned
 pub mod Wholes
 pub mod Handed
-pub mod Naming
 pub mod Gathered
 pub mod Shares
 pub mod Paths

@@ -1,6 +1,6 @@
 -- Cords and lengths of files.
-use Rattle.std.proofs.Common.{◌≡◌, ◌≤◌, ◌<◌, ℕ, List, length, take, drop, Result, Ok, Err, refl, sym, ap, subst, ◌∙◌, inl, inr, arith}
-use Rattle.std.specs.Prelude.{Option, Some, None, IfSome, IsSomeAnd, IfErr, ◌⊎◌, ok_or, ⊤}
+use Rattle.std.proofs.Common.{◌≡◌, ◌≤◌, ◌<◌, ℕ, List, length, take, drop, Result, Ok, Err, sym, ap, subst, ◌∙◌, inl, inr, arith}
+use Rattle.std.specs.Prelude.{Option, Some, None, IfSome, IsSomeAnd, ok_or}
 use Rattle.std.proofs.lemmas.List.{length-take}
 use Rattle.cord_io.specs.declared.TheConstants.{MAX_LEN}
 use Rattle.cord_io.specs.Device.{Folder, file_at}
@@ -12,7 +12,7 @@ use Rattle.cord_core.specs.Forms.{IsFuncOf}
 use Rattle.cord_file.specs.declared.faults.FileError.{FileError}
 use Rattle.cord_file.specs.declared.faults.FileError.TheVariants as errors
 use Rattle.cord_file.specs.Entries.{Opened, lengths_in, table_in}
-use Rattle.cord_file.specs.Making.{IsLazy, IsLazyRefusal, IsReadRefusal, IsWhole, IsWholeOrLazy, IsWholeRefusal, IsOpened}
+use Rattle.cord_file.specs.Making.{IsLazy, IsLazyRefusal, IsReadRefusal, IsWhole, IsWholeOrLazy, IsWholeRefusal}
 use Rattle.cord_file.specs.Opening.{HoldsFile, IsOpenRefusal, Opens}
 use Rattle.cord_meaning.specs.declared.ends.FaultKind.{FaultKind}
 use Rattle.cord_meaning.specs.declared.ends.FaultKind.TheVariants.{NoFile, TooLong}
@@ -21,7 +21,6 @@ use Rattle.cord_meaning.proofs.Checks.{length_above}
 use Rattle.cord_plan.specs.Meaning.{opened}
 use Rattle.cord_plan.specs.Values.{length_of, within}
 use Rattle.cord_plan.proofs.Values.{is_within}
-use Rattle.cord_run.specs.declared.making.Halt.{Halt}
 use Rattle.cord_run.specs.Contents.{IsFileAt, IsLengthAt, IsNoFileAt, halt_of_file}
 
 -- what holds of the value, if there is one

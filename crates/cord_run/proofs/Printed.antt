@@ -7,7 +7,7 @@ use Rattle.cord_io.specs.Table.{Table, Lengths}
 use Rattle.cord_node.specs.declared.Node.{Node}
 use Rattle.cord_node.specs.Tree.{known}
 use Rattle.cord_node.specs.Tables.{byte_at, lengths_of}
-use Rattle.cord_core.specs.Cord.{bytes_of, IsCord}
+use Rattle.cord_core.specs.Cord.{IsCord}
 use Rattle.cord_core.proofs.OverLemmas.{bytes-text}
 use Rattle.cord_printf.specs.declared.arguments.Arg.{Arg}
 use Rattle.cord_printf.specs.declared.arguments.Arg.TheVariants as args
@@ -16,7 +16,7 @@ use Rattle.cord_printf.specs.declared.errors.PrintError.TheVariants as refusals
 use Rattle.cord_printf.specs.declared.pieces.Piece.{Piece}
 use Rattle.cord_printf.specs.Over.{ArgumentsFitIn, IsPrintOf, argument_over}
 use Rattle.cord_printf.specs.PieceText.{PieceArgument, number, text, map_argument, first_refusal, printed}
-use Rattle.cord_printf.specs.Printing.{IsPrintable, IsRefusedFor, argument_of, arguments_of}
+use Rattle.cord_printf.specs.Printing.{IsPrintable, IsRefusedFor, arguments_of}
 use Rattle.cord_printf.proofs.Natural.{first_refusal-map, map-printed}
 use Rattle.cord_script.specs.declared.operands.Argument.{Argument}
 use Rattle.cord_script.specs.declared.operands.Argument.TheVariants as arguments

@@ -1,6 +1,6 @@
 -- Refusals that are passed on.
 use Rattle.std.proofs.Common.{◌≡◌, Result, Ok, Err, sym, subst}
-use Rattle.std.specs.Prelude.{IfErr, IfOk, IsErrAnd}
+use Rattle.std.specs.Prelude.{IfErr, IsErrAnd}
 use Rattle.cord_run.specs.declared.making.Halt.{Halt}
 
 -- what holds of the halt that an error is

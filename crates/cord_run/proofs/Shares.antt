@@ -1,7 +1,7 @@
 -- Cords of the texts that names hold.
-use Rattle.std.proofs.Common.{◌≡◌, ℕ, List, [], Result, Ok, Err, refl, sym, ap, subst, ◌∙◌}
+use Rattle.std.proofs.Common.{◌≡◌, ℕ, List, Result, Ok, Err, refl, sym, ap, subst, ◌∙◌}
 use Rattle.std.specs.Prelude.{Option, None, IfOk}
-use Rattle.cord_io.specs.Table.{Table, Lengths}
+use Rattle.cord_io.specs.Table.{Lengths}
 use Rattle.cord_io.specs.declared.faults.CordError.{CordError}
 use Rattle.cord_node.specs.declared.Node.{Node}
 use Rattle.cord_node.specs.Tree.{Cell}

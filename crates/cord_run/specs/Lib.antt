@@ -7,7 +7,6 @@ pub mod Ranges
 pub mod Extents
 pub mod Whole
 pub mod Putting
-pub mod Given
 pub mod Controls
 pub mod Served
 pub mod Contents

@@ -17,7 +17,6 @@ mod prints;
 mod runner;
 mod slot;
 mod store;
-mod targets;
 #[cfg(test)]
 mod tests;
 mod writing;

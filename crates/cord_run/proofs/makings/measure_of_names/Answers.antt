@@ -3,7 +3,6 @@ use Rattle.std.proofs.lemmas.Int.{to_z-of_z}
 use Rattle.cord_script.specs.declared.operands.Argument.{Argument}
 use Rattle.cord_plan.specs.Planned as plan
 use Rattle.cord_plan.specs.Views.{expr_view, made_view}
-use Rattle.cord_run.specs.Held.{length_in}
 use Rattle.cord_run.proofs.Made.{balanced_told, joined_told, joined_untold, printed_told, printed_untold, start_measured}
 use Rattle.cord_run.proofs.makings.measure_of_names.Goals as goal
 

@@ -1,4 +1,4 @@
-use Rattle.std.proofs.Common.{None, sym}
+use Rattle.std.proofs.Common.{None}
 use Rattle.cord_run.proofs.Entries.{none_there, value_there}
 use Rattle.cord_run.proofs.Shares.{extended_name, extended_none}
 use Rattle.cord_run.proofs.store.Store.extended.Goals as goal
