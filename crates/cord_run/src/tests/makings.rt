@@ -40,7 +40,7 @@ fn printed(rt: &(impl AllocGlobal + Abort), format: &[u8], argument: Argument) -
 }
 
 // The length that `z` has once it is built, or only measured, where `a` is `abc`; or why it has none.
-fn length_of<F: Files>(
+fn length_of<F: Files + Drop>(
     rt: &(impl AllocGlobal + Abort),
     files: F,
     made: &Made,
@@ -53,7 +53,13 @@ fn length_of<F: Files>(
     let mut store = Store {
         entries: Vec::new(alloc),
     };
-    build_target(alloc, &mut store, &mut sources, b"a", &Made::Literal(text(rt, b"abc")))?;
+    build_target(
+        alloc,
+        &mut store,
+        &mut sources,
+        b"a",
+        &Made::Literal(text(rt, b"abc")),
+    )?;
     if is_measured {
         measure_target(alloc, &mut store, &mut sources, b"z", made)?;
     } else {
@@ -92,8 +98,16 @@ fn texts_of_names(rt: HostRuntime) {
 
 #[test]
 fn starts_of_functions(rt: HostRuntime) {
-    expect_length(&rt, &Made::OfFunction(Function::Digits, Number::Numeral(12)), 12);
-    expect_length(&rt, &Made::OfFunction(Function::Bytes, Number::Numeral(0)), 0);
+    expect_length(
+        &rt,
+        &Made::OfFunction(Function::Digits, Number::Numeral(12)),
+        12,
+    );
+    expect_length(
+        &rt,
+        &Made::OfFunction(Function::Bytes, Number::Numeral(0)),
+        0,
+    );
     expect_fault(
         &rt,
         &Made::OfFunction(Function::Digits, Number::Numeral(-1)),
@@ -129,8 +143,16 @@ fn file_cut_off(rt: HostRuntime) {
 
 #[test]
 fn prints(rt: HostRuntime) {
-    expect_length(&rt, &printed(&rt, b"<%s>", Argument::Cord(name(&rt, b"a"))), 5);
-    expect_length(&rt, &printed(&rt, b"%04d", Argument::Number(Number::Numeral(7))), 4);
+    expect_length(
+        &rt,
+        &printed(&rt, b"<%s>", Argument::Cord(name(&rt, b"a"))),
+        5,
+    );
+    expect_length(
+        &rt,
+        &printed(&rt, b"%04d", Argument::Number(Number::Numeral(7))),
+        4,
+    );
     expect_fault(
         &rt,
         &printed(&rt, b"%u", Argument::Number(Number::Numeral(-1))),
