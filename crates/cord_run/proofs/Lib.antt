@@ -8,10 +8,16 @@ pub mod Growing
 pub mod Assigned
 pub mod Wholes
 pub mod Handed
-pub mod Naming
 pub mod Served
 pub mod Steered
 pub mod Looped
 pub mod LinesCounted
 pub mod SameMembers
 pub mod Meant
+pub mod Gathered
+pub mod Shares
+pub mod Paths
+pub mod Printed
+pub mod Refused
+pub mod Made
+pub mod Giving

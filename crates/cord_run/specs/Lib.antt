@@ -5,7 +5,7 @@ pub mod Ranges
 pub mod Extents
 pub mod Whole
 pub mod Putting
-pub mod Given
 pub mod Controls
 pub mod Served
 pub mod Steps
+pub mod Contents

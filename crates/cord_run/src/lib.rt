@@ -8,13 +8,17 @@ mod lines;
 mod making;
 mod makings;
 mod measuring;
+mod files;
+mod halts;
+mod literals;
+mod named;
 mod picking;
+mod prints;
 mod runner;
 mod running;
 mod serving;
 mod steering;
 mod store;
-mod targets;
 #[cfg(test)]
 mod tests;
 mod writing;

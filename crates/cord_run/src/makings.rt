@@ -1,19 +1,30 @@
-// Names that get what their operation makes.
-ghost use Rattle.std.specs.Prelude.{◌≡◌, IfOk};
-ghost use Rattle.cord_file.specs.Entries.{lengths_in, table_in};
-ghost use Rattle.cord_file.specs.Sources.{device_in, opened_in};
+// Names that get what a plan makes for them: a cord, or a length alone.
+ghost use Rattle.std.specs.Prelude.{◌≡◌, IfErr, IfOk};
 ghost use Rattle.cord_io.specs.declared.TheConstants.{MAX_LEN};
+ghost use Rattle.cord_io.specs.Device.{count_after};
+ghost use Rattle.cord_file.specs.Entries.{lengths_in, table_in};
+ghost use Rattle.cord_file.specs.Opening.{Grows};
+ghost use Rattle.cord_file.specs.Sources.{device_in, opened_in};
 ghost use Rattle.cord_plan.specs.Meaning.{does};
 ghost use Rattle.cord_plan.specs.Planned as plan;
 ghost use Rattle.cord_plan.specs.Views.{made_view};
-ghost use Rattle.cord_run.specs.Held.{IsOver};
+ghost use Rattle.cord_run.specs.Contents.{IsLength, IsLengthOfNames, IsMade, IsMadeOfNames, IsUnmade, IsUnmadeOfNames, IsUnmeasured, IsUnmeasuredOfNames, NeedsNoFile, has_failed, halting};
+ghost use Rattle.cord_run.specs.Held.{HasContent, IsOver, SameEntries};
 ghost use Rattle.cord_run.specs.Holdings.{holding_of};
 ghost use Rattle.cord_run.specs.Served.{CountsReads, Gives};
 
-use crate::making::Halt;
-use crate::store::Store;
+use crate::checks::as_length;
+use crate::files::{lazy, opened_length, whole, whole_or_lazy};
+use crate::literals::{literal, start, start_length};
+use crate::making::{Halt, build};
+use crate::measuring::length_of;
+use crate::named::balanced;
+use crate::prints::{print, print_length};
+use crate::store::{Content, Store};
+use cord_core::Cord;
 use cord_file::Sources;
 use cord_io::Files;
+use cord_meaning::FaultKind;
 use cord_plan::Made;
 use std::alloc::Global;
 
@@ -33,12 +44,8 @@ pub(crate) fn build_target<F: Files>(
         (λ folder. holding_of (table_in (opened_in sources.new) folder) store.new.entries.items) result }
     ensures counts { CountsReads (F.failures (device_in sources.old)) (F.failures (device_in sources.new)) result }
 {
-    let _ = alloc;
-    let _ = store;
-    let _ = sources;
-    let _ = target;
-    let _ = made;
-    Err(Halt::NoMemory)
+    let cord = make(alloc, store, sources, made)?;
+    give(alloc, store, target, Content::Whole(cord))
 }
 
 /// Gives a name the length of what it is made of alone.
@@ -57,10 +64,118 @@ pub(crate) fn measure_target<F: Files>(
         (λ folder. holding_of (table_in (opened_in sources.new) folder) store.new.entries.items) result }
     ensures counts { CountsReads (F.failures (device_in sources.old)) (F.failures (device_in sources.new)) result }
 {
-    let _ = alloc;
-    let _ = store;
-    let _ = sources;
-    let _ = target;
-    let _ = made;
-    Err(Halt::NoMemory)
+    let len = measure(alloc, store, sources, made)?;
+    give(alloc, store, target, Content::Long(len))
+}
+
+// Gives a name what was made for it.
+fn give(alloc: Global, store: &mut Store, target: &[u8], content: Content) -> Result<(), Halt>
+    ensures given { IfOk result (λ _. HasContent target.now content store.old.entries.items store.new.entries.items) }
+    ensures refused { IfErr result (λ halt. halt ≡ Halt.NoMemory) }
+{
+    match store.assign(alloc, target, content) {
+        Ok(()) => Ok(()),
+        Err(_) => Err(Halt::NoMemory),
+    }
+}
+
+// Makes the cord for a name. All names hold what they held.
+fn make<F: Files>(
+    alloc: Global,
+    store: &mut Store,
+    sources: &mut Sources<F>,
+    made: &Made,
+) -> Result<Cord, Halt>
+    requires over { IsOver (lengths_in (opened_in sources.old)) store.old.entries.items }
+    ensures built { IfOk result (IsMade (F.contents (device_in sources.old)) (opened_in sources.old) (opened_in sources.new) store.old.entries.items (made_view made.now)) }
+    ensures refused { IfErr result (IsUnmade (F.contents (device_in sources.old)) (opened_in sources.old) store.old.entries.items (made_view made.now)) }
+    ensures same { IfOk result (λ _. SameEntries store.old.entries.items store.new.entries.items) }
+    ensures contents { F.contents (device_in sources.new) ≡ F.contents (device_in sources.old) }
+    ensures grows { Grows (opened_in sources.old) (opened_in sources.new) }
+    ensures counts { F.failures (device_in sources.new) ≡ count_after (has_failed result) (F.failures (device_in sources.old)) }
+{
+    match made {
+        Made::OfFile(path) => whole_or_lazy(alloc, sources, path),
+        Made::OfEager(path) => whole(alloc, sources, path),
+        Made::OfLazy(path) => lazy(alloc, sources, path),
+        _ => make_of_names(alloc, store, made),
+    }
+}
+
+// The same of what needs no file.
+fn make_of_names(alloc: Global, store: &mut Store, made: &Made) -> Result<Cord, Halt>
+    requires { NeedsNoFile (made_view made.now) }
+    ensures built { IfOk result (IsMadeOfNames store.old.entries.items (made_view made.now)) }
+    ensures refused { IfErr result (IsUnmadeOfNames store.old.entries.items (made_view made.now)) }
+    ensures same { IfOk result (λ _. SameEntries store.old.entries.items store.new.entries.items) }
+{
+    match made {
+        Made::Joined(expression) => build(alloc, expression, store),
+        Made::Literal(text) => {
+            let cord = literal(alloc, text.as_slice())?;
+            Ok(cord)
+        }
+        Made::OfFunction(function, count) => start(alloc, *function, store.value_of(count)),
+        Made::Balanced(name) => {
+            let cord = balanced(alloc, store, name.as_slice())?;
+            Ok(cord)
+        }
+        Made::OfExtensible(name) => {
+            let cord = store.extended(alloc, name.as_slice())?;
+            Ok(cord)
+        }
+        Made::Printed(_, format, arguments) => print(alloc, store, format, arguments.as_slice()),
+        Made::OfFile(_) | Made::OfEager(_) | Made::OfLazy(_) => unreachable!(),
+    }
+}
+
+// Tells the length for a name: no cord is made, but a file is opened.
+fn measure<F: Files>(
+    alloc: Global,
+    store: &Store,
+    sources: &mut Sources<F>,
+    made: &Made,
+) -> Result<u64, Halt>
+    requires over { IsOver (lengths_in (opened_in sources.old)) store.now.entries.items }
+    ensures told { IfOk result (IsLength (F.contents (device_in sources.old)) (opened_in sources.old) store.now.entries.items (made_view made.now)) }
+    ensures refused { IfErr result (IsUnmeasured (F.contents (device_in sources.old)) (opened_in sources.old) store.now.entries.items (made_view made.now)) }
+    ensures contents { F.contents (device_in sources.new) ≡ F.contents (device_in sources.old) }
+    ensures grows { Grows (opened_in sources.old) (opened_in sources.new) }
+    ensures counts { F.failures (device_in sources.new) ≡ count_after (has_failed result) (F.failures (device_in sources.old)) }
+{
+    match made {
+        Made::OfFile(path) | Made::OfEager(path) | Made::OfLazy(path) => {
+            opened_length(alloc, sources, path)
+        }
+        _ => measure_of_names(alloc, store, made),
+    }
+}
+
+// The same of what needs no file.
+fn measure_of_names(alloc: Global, store: &Store, made: &Made) -> Result<u64, Halt>
+    requires { NeedsNoFile (made_view made.now) }
+    ensures told { IfOk result (IsLengthOfNames store.now.entries.items (made_view made.now)) }
+    ensures refused { IfErr result (IsUnmeasuredOfNames store.now.entries.items (made_view made.now)) }
+{
+    match made {
+        Made::Joined(expression) => halted(length_of(expression, store)),
+        Made::Literal(text) => halted(as_length(text.as_slice().len() as u64)),
+        Made::OfFunction(_, count) => halted(start_length(store.value_of(count))),
+        Made::Balanced(name) => halted(as_length(store.length_of(name.as_slice()))),
+        Made::OfExtensible(name) => halted(as_length(store.extended_length(name.as_slice()))),
+        Made::Printed(_, format, arguments) => {
+            print_length(alloc, store, format, arguments.as_slice())
+        }
+        Made::OfFile(_) | Made::OfEager(_) | Made::OfLazy(_) => unreachable!(),
+    }
+}
+
+// A length or a fault, as a run has it.
+fn halted(length: Result<u64, FaultKind>) -> Result<u64, Halt>
+    ensures { result ≡ halting length }
+{
+    match length {
+        Ok(len) => Ok(len),
+        Err(kind) => Err(Halt::Fault(kind)),
+    }
 }

@@ -29,8 +29,8 @@ pub(crate) struct Store {
     pub(crate) entries: Vec<Entry>,
 }
 
-// The place of a name.
-fn place_of(entries: &[Entry], name: &[u8]) -> Option<usize>
+/// The place of a name.
+pub(crate) fn place_of(entries: &[Entry], name: &[u8]) -> Option<usize>
     ensures within { IfSome result (λ place. place < length entries.now) }
     ensures some { IfSome result (IsEntryAt entries.now name.now) }
     ensures none { IfNone result (HasNoEntry entries.now name.now) }

@@ -1,5 +1,6 @@
 //! Rows of scripts through `run_text` and `run_unplanned`: the end, and what is written.
 mod expressions;
+mod makings;
 
 use crate::{End, run_text, run_unplanned};
 use cord_io::{FuseSink, MemFiles, MemSink, Sink};

@@ -1,0 +1,57 @@
+-- Cords of literals and of functions.
+use Rattle.std.proofs.Common.{◌≡◌, ◌≤◌, ◌+◌, ℕ, List, [], ◌++◌, length, take, drop, sym, ap, subst, ◌∙◌, inl, arith}
+use Rattle.std.specs.Prelude.{Option}
+use Rattle.cord_io.specs.declared.TheConstants.{MAX_LEN}
+use Rattle.cord_io.specs.Entries.{text_of, digit_at, byte_value_at, length-text_of, range-text_of}
+use Rattle.cord_io.specs.Table.{Lengths}
+use Rattle.cord_node.specs.declared.Node.{Node}
+use Rattle.cord_node.specs.Tree.{Cell}
+use Rattle.cord_node.specs.Tables.{AreHeldIn, lengths_of}
+use Rattle.cord_core.specs.Cord.{IsCord}
+use Rattle.cord_core.specs.Equations.{IsEntryRange}
+use Rattle.cord_ec.specs.Grown.{bytes_over, IsCordOf, IsGrownBy}
+use Rattle.cord_file.specs.Entries.{lengths_in, table_in}
+use Rattle.cord_script.specs.declared.operands.Function.{Function}
+use Rattle.cord_script.specs.declared.operands.Function.TheVariants.{Digits, Bytes}
+use Rattle.cord_run.specs.Contents.{IsStartOf, IsTextOf, entry_of}
+
+-- an extensible cord of no bytes that has grown by a text
+pub gathered_text : (text : List ℕ) (before after : List Cell) (cord : Option Node) → before ≡ [] → length before + length text ≤ MAX_LEN → IsGrownBy before after text → IsCordOf after cord → IsCord cord → IsTextOf text cord
+gathered_text text before after cord none short grown of sound = record {
+  sound = sound;
+  short = let more : length text ≤ length before + length text = omega arith in omega (arith, more, short);
+  whole = record {
+    fits = λ lengths. of.fits lengths (held lengths);
+    bytes = λ t. of.bytes t (held (lengths_of t)) ∙ grown.bytes t (nothing (lengths_of t)) ∙ ap (λ (xs : List Cell). bytes_over t xs ++ text) none;
+  };
+}
+  where
+    nothing : (lengths : Lengths) → AreHeldIn lengths before
+    nothing lengths = subst (λ (xs : List Cell). AreHeldIn lengths xs) (sym none) tt
+
+    held : (lengths : Lengths) → AreHeldIn lengths after
+    held lengths = grown.fits lengths (nothing lengths)
+
+-- the first bytes of a function's entry are those of the function
+start_text : (f : ℕ → ℕ) (n count : ℕ) → count ≤ n → take count (drop 0 (text_of f n)) ≡ text_of f count
+unfolding text_of
+start_text f n count h = range-text_of f n 0 count (omega arith)
+
+module _ (count : ℕ) (cord : Option Node) (short : count ≤ MAX_LEN) (sound : IsCord cord) where
+  inside : 0 + count ≤ MAX_LEN
+  inside = omega (arith, short)
+
+  start_by : (function : Function) → IsEntryRange (entry_of function) 0 count cord → IsStartOf function count cord
+  start_by Digits range = record {
+    sound = sound;
+    fits = λ now. range.fits (lengths_in now) (inl inside);
+    bytes = λ now folder. range.bytes (table_in now folder) (inl (let long : length (text_of digit_at MAX_LEN) ≡ MAX_LEN = length-text_of digit_at MAX_LEN in subst (λ (n : ℕ). 0 + count ≤ n) (sym long) inside)) ∙ start_text digit_at MAX_LEN count short;
+  }
+  start_by Bytes range = record {
+    sound = sound;
+    fits = λ now. range.fits (lengths_in now) (inl inside);
+    bytes = λ now folder. range.bytes (table_in now folder) (inl (let long : length (text_of byte_value_at MAX_LEN) ≡ MAX_LEN = length-text_of byte_value_at MAX_LEN in subst (λ (n : ℕ). 0 + count ≤ n) (sym long) inside)) ∙ start_text byte_value_at MAX_LEN count short;
+  }
+
+  pub start_made : (function : Function) (id : ℕ) → id ≡ entry_of function → IsEntryRange id 0 count cord → IsStartOf function count cord
+  start_made function id is range = start_by function (subst (λ (n : ℕ). IsEntryRange n 0 count cord) is range)

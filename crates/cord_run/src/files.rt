@@ -1,0 +1,77 @@
+// Cords and lengths of files.
+ghost use Rattle.std.specs.Prelude.{◌≡◌, IfErr, IfOk};
+ghost use Rattle.cord_io.specs.Device.{count_after};
+ghost use Rattle.cord_file.specs.Opening.{Grows};
+ghost use Rattle.cord_file.specs.Sources.{device_in, opened_in};
+ghost use Rattle.cord_run.specs.Contents.{IsFileAt, IsLengthAt, IsNoFileAt, has_failed};
+
+use crate::making::Halt;
+use cord_core::Cord;
+use cord_file::Sources;
+use cord_io::Files;
+use cord_script::Path;
+use std::alloc::Global;
+
+/// The file at a path, read at once where it is short. Refused with `NoFile`, `TooLong`, `ReadFailed` or `NoMemory`.
+pub(crate) fn whole_or_lazy<F: Files>(
+    alloc: Global,
+    sources: &mut Sources<F>,
+    path: &Path,
+) -> Result<Cord, Halt>
+    ensures made { IfOk result (IsFileAt (F.contents (device_in sources.old)) (opened_in sources.new) path.now) }
+    ensures refused { IfErr result (IsNoFileAt (F.contents (device_in sources.old)) path.now) }
+    ensures contents { F.contents (device_in sources.new) ≡ F.contents (device_in sources.old) }
+    ensures grows { Grows (opened_in sources.old) (opened_in sources.new) }
+    ensures counts { F.failures (device_in sources.new) ≡ count_after (has_failed result) (F.failures (device_in sources.old)) }
+{
+    let cord = sources.from_file(alloc, path.as_str())?;
+    Ok(cord)
+}
+
+/// The file at a path, read at once. Refused as `whole_or_lazy` is.
+pub(crate) fn whole<F: Files>(
+    alloc: Global,
+    sources: &mut Sources<F>,
+    path: &Path,
+) -> Result<Cord, Halt>
+    ensures made { IfOk result (IsFileAt (F.contents (device_in sources.old)) (opened_in sources.new) path.now) }
+    ensures refused { IfErr result (IsNoFileAt (F.contents (device_in sources.old)) path.now) }
+    ensures contents { F.contents (device_in sources.new) ≡ F.contents (device_in sources.old) }
+    ensures grows { Grows (opened_in sources.old) (opened_in sources.new) }
+    ensures counts { F.failures (device_in sources.new) ≡ count_after (has_failed result) (F.failures (device_in sources.old)) }
+{
+    let cord = sources.eager(alloc, path.as_str())?;
+    Ok(cord)
+}
+
+/// The file at a path, of which nothing is read yet. Refused as `whole_or_lazy` is.
+pub(crate) fn lazy<F: Files>(
+    alloc: Global,
+    sources: &mut Sources<F>,
+    path: &Path,
+) -> Result<Cord, Halt>
+    ensures made { IfOk result (IsFileAt (F.contents (device_in sources.old)) (opened_in sources.new) path.now) }
+    ensures refused { IfErr result (IsNoFileAt (F.contents (device_in sources.old)) path.now) }
+    ensures contents { F.contents (device_in sources.new) ≡ F.contents (device_in sources.old) }
+    ensures grows { Grows (opened_in sources.old) (opened_in sources.new) }
+    ensures counts { F.failures (device_in sources.new) ≡ count_after (has_failed result) (F.failures (device_in sources.old)) }
+{
+    let cord = sources.lazy(alloc, path.as_str())?;
+    Ok(cord)
+}
+
+/// The length of the file at a path, which is opened. Refused as `whole_or_lazy` is.
+pub(crate) fn opened_length<F: Files>(
+    alloc: Global,
+    sources: &mut Sources<F>,
+    path: &Path,
+) -> Result<u64, Halt>
+    ensures told { IfOk result (IsLengthAt (F.contents (device_in sources.old)) path.now) }
+    ensures refused { IfErr result (IsNoFileAt (F.contents (device_in sources.old)) path.now) }
+    ensures contents { F.contents (device_in sources.new) ≡ F.contents (device_in sources.old) }
+    ensures grows { Grows (opened_in sources.old) (opened_in sources.new) }
+    ensures counts { F.failures (device_in sources.new) ≡ count_after (has_failed result) (F.failures (device_in sources.old)) }
+{
+    let (_, len) = sources.open(alloc, path.as_str())?;
+    Ok(len)
+}

@@ -1,0 +1,166 @@
+//! Each kind of making, built and measured: its length, or why there is none.
+use crate::making::Halt;
+use crate::makings::{build_target, measure_target};
+use crate::store::Store;
+use cord_file::Sources;
+use cord_io::{CutFiles, Files, MemFiles};
+use cord_meaning::FaultKind;
+use cord_plan::{Expr, Made};
+use cord_printf::Format;
+use cord_script::{Argument, Arguments, Function, Name, Number, Path, Text};
+use std::process::Abort;
+
+// Files in memory, with `hello` at the path `p`.
+fn hello_files(rt: &(impl AllocGlobal + Abort)) -> MemFiles {
+    let mut files = MemFiles::new(rt.alloc());
+    assert_eq!(rt; files.add(rt.alloc(), "p", b"hello"), Ok(()));
+    files
+}
+
+fn name(rt: &(impl AllocGlobal + Abort), text: &[u8]) -> Name {
+    Name::of(Vec::from_slice(rt.alloc(), text).expect(rt, "no memory"))
+}
+
+fn text(rt: &(impl AllocGlobal + Abort), text: &[u8]) -> Text {
+    Text::of(Vec::from_slice(rt.alloc(), text).expect(rt, "no memory"))
+}
+
+fn path(rt: &(impl AllocGlobal + Abort), path: &str) -> Path {
+    Path::of(String::from_str(rt.alloc(), path).expect(rt, "no memory"))
+}
+
+// The print of a format with one argument.
+fn printed(rt: &(impl AllocGlobal + Abort), format: &[u8], argument: Argument) -> Made {
+    let mut arguments = Vec::new(rt.alloc());
+    arguments.push(argument).expect(rt, "no memory");
+    let Ok(pieces) = Format::parse(rt.alloc(), format) else {
+        panic!(rt; "no format");
+    };
+    Made::Printed(text(rt, format), pieces, Arguments::of(arguments))
+}
+
+// The length that `z` has once it is built, or only measured, where `a` is `abc`; or why it has none.
+fn length_of<F: Files + Drop>(
+    rt: &(impl AllocGlobal + Abort),
+    files: F,
+    made: &Made,
+    is_measured: bool,
+) -> Result<u64, Halt> {
+    let alloc = rt.alloc();
+    let Ok(mut sources) = Sources::new(alloc, files) else {
+        panic!(rt; "no memory");
+    };
+    let mut store = Store {
+        entries: Vec::new(alloc),
+    };
+    build_target(
+        alloc,
+        &mut store,
+        &mut sources,
+        b"a",
+        &Made::Literal(text(rt, b"abc")),
+    )?;
+    if is_measured {
+        measure_target(alloc, &mut store, &mut sources, b"z", made)?;
+    } else {
+        build_target(alloc, &mut store, &mut sources, b"z", made)?;
+    }
+    Ok(store.length_of(b"z"))
+}
+
+// Both ways there is this length.
+fn expect_length(rt: &(impl AllocGlobal + Abort), made: &Made, expected: u64) {
+    for is_measured in [false, true] {
+        match length_of(rt, hello_files(rt), made, is_measured) {
+            Ok(len) => assert_eq!(rt; len, expected),
+            Err(_) => panic!(rt; "nothing is made"),
+        }
+    }
+}
+
+// Both ways there is this fault.
+fn expect_fault(rt: &(impl AllocGlobal + Abort), made: &Made, expected: FaultKind) {
+    for is_measured in [false, true] {
+        match length_of(rt, hello_files(rt), made, is_measured) {
+            Err(Halt::Fault(kind)) => assert!(rt; kind == expected),
+            _ => panic!(rt; "no fault"),
+        }
+    }
+}
+
+#[test]
+fn texts_of_names(rt: HostRuntime) {
+    expect_length(&rt, &Made::Joined(Expr::Name(name(&rt, b"a"))), 3);
+    expect_length(&rt, &Made::Literal(text(&rt, b"hello")), 5);
+    expect_length(&rt, &Made::Balanced(name(&rt, b"a")), 3);
+    expect_length(&rt, &Made::OfExtensible(name(&rt, b"e")), 0);
+}
+
+#[test]
+fn starts_of_functions(rt: HostRuntime) {
+    expect_length(
+        &rt,
+        &Made::OfFunction(Function::Digits, Number::Numeral(12)),
+        12,
+    );
+    expect_length(
+        &rt,
+        &Made::OfFunction(Function::Bytes, Number::Numeral(0)),
+        0,
+    );
+    expect_fault(
+        &rt,
+        &Made::OfFunction(Function::Digits, Number::Numeral(-1)),
+        FaultKind::Negative,
+    );
+    expect_fault(
+        &rt,
+        &Made::OfFunction(Function::Bytes, Number::Numeral(1_099_511_627_776)),
+        FaultKind::TooLong,
+    );
+}
+
+#[test]
+fn files_by_path(rt: HostRuntime) {
+    expect_length(&rt, &Made::OfFile(path(&rt, "p")), 5);
+    expect_length(&rt, &Made::OfEager(path(&rt, "p")), 5);
+    expect_length(&rt, &Made::OfLazy(path(&rt, "p")), 5);
+    expect_fault(&rt, &Made::OfFile(path(&rt, "q")), FaultKind::NoFile);
+    expect_fault(&rt, &Made::OfEager(path(&rt, "q")), FaultKind::NoFile);
+    expect_fault(&rt, &Made::OfLazy(path(&rt, "q")), FaultKind::NoFile);
+}
+
+// A file that is cut off fails where it is read, and a lazy one isn't read.
+#[test]
+fn file_cut_off(rt: HostRuntime) {
+    let eager = Made::OfEager(path(&rt, "p"));
+    let result = length_of(&rt, CutFiles::new(hello_files(&rt), 2), &eager, false);
+    assert!(&rt; matches!(result, Err(Halt::ReadFailed)));
+    let lazy = Made::OfLazy(path(&rt, "p"));
+    let result = length_of(&rt, CutFiles::new(hello_files(&rt), 2), &lazy, false);
+    assert!(&rt; matches!(result, Ok(5)));
+}
+
+#[test]
+fn prints(rt: HostRuntime) {
+    expect_length(
+        &rt,
+        &printed(&rt, b"<%s>", Argument::Cord(name(&rt, b"a"))),
+        5,
+    );
+    expect_length(
+        &rt,
+        &printed(&rt, b"%04d", Argument::Number(Number::Numeral(7))),
+        4,
+    );
+    expect_fault(
+        &rt,
+        &printed(&rt, b"%u", Argument::Number(Number::Numeral(-1))),
+        FaultKind::Negative,
+    );
+    expect_fault(
+        &rt,
+        &printed(&rt, b"%c", Argument::Number(Number::Numeral(256))),
+        FaultKind::BadByte,
+    );
+}
