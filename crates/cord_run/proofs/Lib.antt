@@ -12,3 +12,4 @@ pub mod Assigned
 pub mod Wholes
 pub mod Handed
 pub mod Naming
+pub mod Finding

@@ -10,3 +10,4 @@ pub mod Putting
 pub mod Given
 pub mod Controls
 pub mod Served
+pub mod Finding

@@ -9,6 +9,7 @@ mod names;
 mod output;
 mod picking;
 mod runner;
+mod searches;
 mod slot;
 mod store;
 mod targets;
