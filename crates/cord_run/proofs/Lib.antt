@@ -13,3 +13,4 @@ pub mod Wholes
 pub mod Handed
 pub mod Naming
 pub mod Finding
+pub mod Kept

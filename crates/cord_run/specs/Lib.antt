@@ -11,3 +11,4 @@ pub mod Given
 pub mod Controls
 pub mod Served
 pub mod Finding
+pub mod Keeping

@@ -6,6 +6,7 @@ mod control;
 mod making;
 mod measuring;
 mod names;
+mod numbers;
 mod output;
 mod picking;
 mod runner;
