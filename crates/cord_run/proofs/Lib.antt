@@ -14,3 +14,4 @@ pub mod Handed
 pub mod Naming
 pub mod Finding
 pub mod Kept
+pub mod Sourced

@@ -3,6 +3,7 @@
 
 mod checks;
 mod control;
+mod keeping;
 mod making;
 mod measuring;
 mod names;

@@ -18,14 +18,32 @@ use cord_meaning::FaultKind;
 use cord_script::Statement;
 use std::alloc::Global;
 
-/// Does what a statement means that gives a name a number.
-pub(crate) fn keep_number<R: Source>(
+/// Does what a statement means that gives a name a number and reads no cord.
+pub(crate) fn keep_computed(
+    alloc: Global,
+    store: &mut Store,
+    statement: &Statement,
+) -> Result<(), Halt>
+    requires computed { IsComputed statement.now }
+    requires short { (x : List ℕ) → length_in store.old.entries.items x ≤ MAX_LEN }
+    ensures over { StaysOver store.old.entries.items store.new.entries.items result }
+    ensures kept { (t : Table) → IsOver (lengths_of t) store.old.entries.items → KeepsOver t statement.now store.old.entries.items store.new.entries.items result }
+    ensures counts { (n : ℕ) → CountsReads n n result }
+{
+    match computed(store, statement) {
+        Ok(number) => give_number(alloc, store, target_name(statement), number),
+        Err(kind) => Err(Halt::Fault(kind)),
+    }
+}
+
+/// Does what a statement means that searches cords.
+pub(crate) fn keep_search<R: Source>(
     alloc: Global,
     store: &mut Store,
     source: &mut R,
     statement: &Statement,
 ) -> Result<(), Halt>
-    requires numeric { IsNumeric statement.now }
+    requires search { IsSearch statement.now }
     requires over { IsOver (R.lengths source.old) store.old.entries.items }
     ensures over { StaysOver store.old.entries.items store.new.entries.items result }
     ensures kept { IfSome (R.table source.old) (λ t. KeepsOver t statement.now store.old.entries.items store.new.entries.items result) }
@@ -33,33 +51,8 @@ pub(crate) fn keep_number<R: Source>(
     ensures lengths { R.lengths source.new ≡ R.lengths source.old }
     ensures table { R.table source.new ≡ R.table source.old }
 {
-    let number = number_of(store, source, statement)?;
+    let number = searched(store, source, statement)?;
     give_number(alloc, store, target_name(statement), number)
-}
-
-// The number that a statement gives.
-fn number_of<R: Source>(
-    store: &Store,
-    source: &mut R,
-    statement: &Statement,
-) -> Result<i64, Halt>
-    requires numeric { IsNumeric statement.now }
-    requires over { IsOver (R.lengths source.old) store.now.entries.items }
-    ensures found { IfSome (R.table source.old) (λ t. FindsOver t statement.now store.now.entries.items result) }
-    ensures counts { CountsFinding (R.failures source.old) (R.failures source.new) result }
-    ensures lengths { R.lengths source.new ≡ R.lengths source.old }
-    ensures table { R.table source.new ≡ R.table source.old }
-{
-    match statement {
-        Statement::Len { .. }
-        | Statement::Assign { .. }
-        | Statement::Add { .. }
-        | Statement::Sub { .. } => match computed(store, statement) {
-            Ok(number) => Ok(number),
-            Err(kind) => Err(Halt::Fault(kind)),
-        },
-        _ => searched(store, source, statement),
-    }
 }
 
 // The number of a statement that reads nothing.

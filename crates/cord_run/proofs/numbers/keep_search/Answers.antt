@@ -3,7 +3,7 @@ use Rattle.std.specs.Prelude.{IfOk}
 use Rattle.std.proofs.lemmas.Int.{to_z-of_z}
 use Rattle.cord_run.specs.Held.{HasNumber}
 use Rattle.cord_run.proofs.Kept.{kept_given}
-use Rattle.cord_run.proofs.numbers.keep_number.Goals as goal
+use Rattle.cord_run.proofs.numbers.keep_search.Goals as goal
 
 pub returns-clause-kept : goal.returns-clause-kept
 returns-clause-kept g c =
