@@ -15,3 +15,4 @@ pub mod Naming
 pub mod Finding
 pub mod Kept
 pub mod Sourced
+pub mod Extending

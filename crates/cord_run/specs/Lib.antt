@@ -12,3 +12,4 @@ pub mod Controls
 pub mod Served
 pub mod Finding
 pub mod Keeping
+pub mod Extending

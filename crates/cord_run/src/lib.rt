@@ -3,6 +3,7 @@
 
 mod checks;
 mod control;
+mod extensibles;
 mod keeping;
 mod making;
 mod measuring;

@@ -142,8 +142,8 @@ fn searched<R: Source>(
     }
 }
 
-// The cord of a name, or this empty one where it has none.
-fn cord_or<'a>(store: &'a Store, name: &[u8], empty: &'a Cord) -> &'a Cord
+/// The cord of a name, or this empty one where it has none.
+pub(crate) fn cord_or<'a>(store: &'a Store, name: &[u8], empty: &'a Cord) -> &'a Cord
     requires { empty.now ≡ None }
     ensures { result.now ≡ cord_in (content_in store.now.entries.items name.now) }
 {
