@@ -21,3 +21,7 @@ pub mod Printed
 pub mod Refused
 pub mod Made
 pub mod Giving
+pub mod Finding
+pub mod Kept
+pub mod Sourced
+pub mod Extending

@@ -37,7 +37,7 @@ content_text t (Whole cord) = refl
 content_text t (Long len) = refl
 
 -- the length told of a content is that of what it holds
-told_length : (t : Table) (c : Content) → ContentFits (lengths_of t) c → content_length c ≡ held_length (held_over t c)
+pub told_length : (t : Table) (c : Content) → ContentFits (lengths_of t) c → content_length c ≡ held_length (held_over t c)
 told_length t (Whole cord) h = length-bytes t cord h.0 h.1
 told_length t (Long len) h = refl
 

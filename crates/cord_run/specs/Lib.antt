@@ -9,3 +9,6 @@ pub mod Controls
 pub mod Served
 pub mod Steps
 pub mod Contents
+pub mod Finding
+pub mod Keeping
+pub mod Extending

@@ -1,15 +1,19 @@
-// The statements that plans keep as they are.
-ghost use Rattle.std.specs.Prelude.{◌≡◌, IfOk};
+// Statements that plans keep as they are.
+ghost use Rattle.std.specs.Prelude.{◌≡◌, ◌≤◌, ℕ, List, IfOk};
+ghost use Rattle.cord_io.specs.Table.{Table};
+ghost use Rattle.cord_node.specs.Tables.{lengths_of};
 ghost use Rattle.cord_file.specs.Entries.{lengths_in, table_in};
 ghost use Rattle.cord_file.specs.Sources.{device_in, opened_in};
 ghost use Rattle.cord_io.specs.declared.TheConstants.{MAX_LEN};
 ghost use Rattle.cord_plan.specs.Kept.{IsKept};
 ghost use Rattle.cord_plan.specs.Meaning.{keeps};
-ghost use Rattle.cord_run.specs.Held.{IsOver};
+ghost use Rattle.cord_run.specs.Held.{IsOver, length_in};
 ghost use Rattle.cord_run.specs.Holdings.{holding_of};
+ghost use Rattle.cord_run.specs.Keeping.{IsKeptUnread, KeepsOver, StaysOver};
 ghost use Rattle.cord_run.specs.Served.{CountsReads, Gives};
 
 use crate::making::Halt;
+use crate::numbers::keep_computed;
 use crate::store::Store;
 use cord_file::Sources;
 use cord_io::Files;
@@ -32,9 +36,37 @@ pub(crate) fn keep<F: Files>(
         (λ folder. holding_of (table_in (opened_in sources.new) folder) store.new.entries.items) result }
     ensures counts { CountsReads (F.failures (device_in sources.old)) (F.failures (device_in sources.new)) result }
 {
-    let _ = alloc;
-    let _ = store;
-    let _ = sources;
-    let _ = statement;
-    Err(Halt::NoMemory)
+    match statement {
+        Statement::Fetch { .. }
+        | Statement::Cmp { .. }
+        | Statement::Ncmp { .. }
+        | Statement::Str { .. }
+        | Statement::Chr { .. }
+        | Statement::Rchr { .. } => {
+            let _ = sources;
+            Err(Halt::NoMemory)
+        }
+        _ => keep_unread(alloc, store, statement),
+    }
+}
+
+// The same of a statement that searches no cord.
+fn keep_unread(alloc: Global, store: &mut Store, statement: &Statement) -> Result<(), Halt>
+    requires kept { IsKeptUnread statement.now }
+    requires short { (x : List ℕ) → length_in store.old.entries.items x ≤ MAX_LEN }
+    ensures over { StaysOver store.old.entries.items store.new.entries.items result }
+    ensures kept { (t : Table) → IsOver (lengths_of t) store.old.entries.items → KeepsOver t statement.now store.old.entries.items store.new.entries.items result }
+    ensures counts { (n : ℕ) → CountsReads n n result }
+{
+    match statement {
+        Statement::Len { .. }
+        | Statement::Assign { .. }
+        | Statement::Add { .. }
+        | Statement::Sub { .. } => keep_computed(alloc, store, statement),
+        Statement::EcInit { .. }
+        | Statement::EcPut { .. }
+        | Statement::EcCat { .. }
+        | Statement::EcStr { .. } => Err(Halt::NoMemory),
+        _ => Ok(()),
+    }
 }

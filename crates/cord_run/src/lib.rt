@@ -3,19 +3,22 @@
 
 mod checks;
 mod control;
+mod extensibles;
+mod files;
+mod halts;
 mod keeping;
 mod lines;
+mod literals;
 mod making;
 mod makings;
 mod measuring;
-mod files;
-mod halts;
-mod literals;
 mod named;
+mod numbers;
 mod picking;
 mod prints;
 mod runner;
 mod running;
+mod searches;
 mod serving;
 mod steering;
 mod store;

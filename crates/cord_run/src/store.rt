@@ -6,6 +6,7 @@ use cord_core::Cord;
 use cord_ec::ExtCord;
 use cord_script::Number;
 use std::alloc::{AllocError, Global};
+use std::mem::replace;
 
 /// What the name of a cord holds: its cord, or a length alone.
 #[derive(Drop)]
@@ -127,6 +128,31 @@ impl Store {
         set_number(&mut self.entries, name, place, number);
         Ok(())
     }
+
+    /// Gives a name its extensible cord.
+    pub(crate) fn assign_extensible(
+        &mut self,
+        alloc: Global,
+        name: &[u8],
+        extensible: ExtCord,
+    ) -> Result<(), AllocError>
+        ensures { IfOk result (λ _. HasExtensible name.now (Some extensible) self.old.entries.items self.new.entries.items) }
+    {
+        let place = place_for(alloc, &mut self.entries, name)?;
+        let _ = set_extensible(&mut self.entries, name, place, Some(extensible));
+        Ok(())
+    }
+
+    /// Takes the extensible cord of a name out, which then has none.
+    pub(crate) fn take_extensible(&mut self, name: &[u8]) -> Option<ExtCord>
+        ensures taken { result ≡ extensible_in self.old.entries.items name.now }
+        ensures left { HasExtensible name.now None self.old.entries.items self.new.entries.items }
+    {
+        match place_of(&self.entries, name) {
+            None => None,
+            Some(place) => set_extensible(&mut self.entries, name, place, None),
+        }
+    }
 }
 
 // Puts another content into the entry of a name.
@@ -149,6 +175,23 @@ fn set_number(entries: &mut [Entry], name: &[u8], place: usize, number: i64)
     let _ = name;
     let entry = &mut entries[place];
     entry.number = number;
+}
+
+// Puts another extensible cord, or none, into the entry of a name, and answers what it had.
+fn set_extensible(
+    entries: &mut [Entry],
+    name: &[u8],
+    place: usize,
+    extensible: Option<ExtCord>,
+) -> Option<ExtCord>
+    requires within { place < length entries.old }
+    requires place { IsEntryAt entries.old name.now place }
+    ensures before { result ≡ extensible_in entries.old name.now }
+    ensures set { HasExtensible name.now extensible entries.old entries.new }
+{
+    let _ = name;
+    let entry = &mut entries[place];
+    replace(&mut entry.extensible, extensible)
 }
 
 // The place of a name, which gets an entry where it has none.

@@ -1,0 +1,18 @@
+use Rattle.std.proofs.Common.{ℤ, Ok, sym, subst, FitsSigned, w64, rules}
+use Rattle.std.specs.Prelude.{IfOk, Result}
+use Rattle.std.proofs.lemmas.Int.{to_z-of_z}
+use Rattle.cord_meaning.specs.declared.ends.FaultKind.{FaultKind}
+use Rattle.cord_run.specs.Finding.{FindsOver, or_halt}
+use Rattle.cord_run.specs.Held.{HasNumber}
+use Rattle.cord_run.proofs.Kept.{kept_giving}
+use Rattle.cord_run.proofs.numbers.keep_computed.Goals as goal
+
+pub returns-in-Ok-clause-kept : goal.returns-in-Ok-clause-kept
+returns-in-Ok-clause-kept c = λ t over.
+    let z : ℤ = c.in-Ok.number in
+    let fits : FitsSigned w64 z = search rules in
+    let old = c.args.store.now.entries.items in
+    let new = c.give_number.new.store.entries.items in
+    let has = subst (λ (v : ℤ). IfOk c.give_number.result (λ _. HasNumber c.target_name.result.now v old new)) (to_z-of_z w64 z fits) c.give_number.ensures.given in
+    let found = subst (λ (r : Result ℤ FaultKind). FindsOver t c.args.statement.now old (or_halt r)) c.in-Ok.is (c.computed.ensures t over) in
+    kept_giving c.args.statement.now c.target_name.result.now z old new t c.give_number.result found c.target_name.ensures has c.give_number.ensures.refused

@@ -1,0 +1,104 @@
+// Statements that begin extensible cords, and let them grow.
+ghost use Rattle.std.specs.Prelude.{◌≡◌, ℕ, [], ◌∷◌, IfErr, IfOk, Some};
+ghost use Rattle.cord_core.specs.Cord.{bytes_of};
+ghost use Rattle.cord_io.specs.Table.{Table};
+ghost use Rattle.cord_node.specs.Tables.{lengths_of};
+ghost use Rattle.cord_run.specs.Extending.{Becomes, IsExtending, IsTaken, longer_text, refusal_of};
+ghost use Rattle.cord_run.specs.Finding.{text_over};
+ghost use Rattle.cord_run.specs.Held.{HasExtensible, IsOver};
+ghost use Rattle.cord_run.specs.Keeping.{KeepsOver, StaysOver};
+ghost use Rattle.cord_run.specs.Served.{CountsReads};
+
+use crate::checks::as_byte;
+use crate::making::Halt;
+use crate::numbers::cord_or;
+use crate::store::Store;
+use cord_core::Cord;
+use cord_ec::ExtCord;
+use cord_io::CordError;
+use cord_meaning::FaultKind;
+use cord_script::Statement;
+use std::alloc::Global;
+
+// Begins the extensible cord of a name, with no byte.
+fn begin(alloc: Global, store: &mut Store, name: &[u8]) -> Result<(), Halt>
+    ensures over { StaysOver store.old.entries.items store.new.entries.items result }
+    ensures becomes { Becomes name.now (λ t. []) store.old.entries.items store.new.entries.items result }
+{
+    match ExtCord::new(alloc) {
+        Ok(extensible) => give(alloc, store, name, extensible),
+        Err(_) => Err(Halt::NoMemory),
+    }
+}
+
+// Lets the extensible cord of a name grow by a byte.
+fn grow_by_byte(alloc: Global, store: &mut Store, name: &[u8], byte: u8) -> Result<(), Halt>
+    ensures over { StaysOver store.old.entries.items store.new.entries.items result }
+    ensures becomes { Becomes name.now (longer_text store.old.entries.items name.now (byte ∷ [])) store.old.entries.items store.new.entries.items result }
+{
+    let mut extensible = taken(alloc, store, name)?;
+    match extensible.append(alloc, byte) {
+        Ok(()) => give(alloc, store, name, extensible),
+        Err(error) => Err(refusal(error)),
+    }
+}
+
+// Lets it grow by bytes.
+fn grow_by_bytes(alloc: Global, store: &mut Store, name: &[u8], bytes: &[u8]) -> Result<(), Halt>
+    ensures over { StaysOver store.old.entries.items store.new.entries.items result }
+    ensures becomes { Becomes name.now (longer_text store.old.entries.items name.now bytes.now) store.old.entries.items store.new.entries.items result }
+{
+    let mut extensible = taken(alloc, store, name)?;
+    match extensible.append_bytes(alloc, bytes) {
+        Ok(()) => give(alloc, store, name, extensible),
+        Err(error) => Err(refusal(error)),
+    }
+}
+
+// Lets it grow by the cord of another name.
+fn grow_by_cord(alloc: Global, store: &mut Store, name: &[u8], operand: &[u8]) -> Result<(), Halt>
+    ensures over { StaysOver store.old.entries.items store.new.entries.items result }
+    ensures becomes { Becomes name.now (λ t. longer_text store.old.entries.items name.now (text_over t store.old.entries.items operand.now) t) store.old.entries.items store.new.entries.items result }
+{
+    let empty = Cord::empty();
+    let mut extensible = taken(alloc, store, name)?;
+    match extensible.append_cord(alloc, cord_or(store, operand, &empty)) {
+        Ok(()) => give(alloc, store, name, extensible),
+        Err(error) => Err(refusal(error)),
+    }
+}
+
+// What a refused growth is to a run.
+fn refusal(error: CordError) -> Halt
+    ensures { result ≡ refusal_of error }
+{
+    match error {
+        CordError::TooLong => Halt::Fault(FaultKind::TooLong),
+        _ => Halt::NoMemory,
+    }
+}
+
+// The extensible cord of a name, taken out of its entry: an empty one where it was not begun.
+fn taken(alloc: Global, store: &mut Store, name: &[u8]) -> Result<ExtCord, Halt>
+    ensures taken { IfOk result (IsTaken name.now store.old.entries.items store.new.entries.items) }
+    ensures refused { IfErr result (λ halt. halt ≡ Halt.NoMemory) }
+{
+    match store.take_extensible(name) {
+        Some(extensible) => Ok(extensible),
+        None => match ExtCord::new(alloc) {
+            Ok(extensible) => Ok(extensible),
+            Err(_) => Err(Halt::NoMemory),
+        },
+    }
+}
+
+// Gives a name its extensible cord.
+fn give(alloc: Global, store: &mut Store, name: &[u8], extensible: ExtCord) -> Result<(), Halt>
+    ensures given { IfOk result (λ _. HasExtensible name.now (Some extensible) store.old.entries.items store.new.entries.items) }
+    ensures refused { IfErr result (λ halt. halt ≡ Halt.NoMemory) }
+{
+    match store.assign_extensible(alloc, name, extensible) {
+        Ok(()) => Ok(()),
+        Err(_) => Err(Halt::NoMemory),
+    }
+}
