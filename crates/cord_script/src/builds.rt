@@ -1,14 +1,17 @@
 // Statements of their parts, family by family.
-ghost use Rattle.std.specs.Prelude.{◌≡◌, map, true};
+ghost use Rattle.std.specs.Prelude.{◌≡◌, map, true, IfOk, IfErr};
 ghost use Rattle.cord_script.specs.Forms.{line_of, word_of, terms_of};
 ghost use Rattle.cord_script.specs.Script.{Suits};
 ghost use Rattle.cord_script.specs.Parted.{want_of};
 ghost use Rattle.cord_script.specs.Verbal.{verb_word, verb_wants, is_source, is_simple, is_growth, is_look, is_search, is_count, is_control, is_plain};
+ghost use Rattle.cord_script.specs.Built.{IsJoined, IsPrinted, IsWorded};
 
-use crate::Statement;
 use crate::cursor::Parts;
 use crate::grammar::Verb;
 use crate::kinds::Kind;
+use crate::{RefusalKind, Statement};
+use cord_printf::Format;
+use std::alloc::Global;
 
 // A statement that makes a cord from outside the script or of its words.
 fn source_of(verb: Verb, line: u32, mut parts: Parts) -> Statement
@@ -273,8 +276,8 @@ fn control_of(verb: Verb, line: u32, mut parts: Parts) -> Statement
     }
 }
 
-/// The statement of a verb whose words are of a fixed number.
-pub fn plain_statement(verb: Verb, line: u32, parts: Parts) -> Statement
+// The statement of a verb whose words are of a fixed number.
+fn plain_statement(verb: Verb, line: u32, parts: Parts) -> Statement
     requires plain { is_plain verb ≡ true }
     requires wants { map want_of parts ≡ verb_wants verb }
     ensures word { word_of result ≡ verb_word verb }
@@ -298,5 +301,72 @@ pub fn plain_statement(verb: Verb, line: u32, parts: Parts) -> Statement
             verb, line, parts,
         ),
         Verb::Catn | Verb::Sprintf => unreachable!(),
+    }
+}
+
+// A `catn`.
+fn joined_statement(alloc: Global, line: u32, mut parts: Parts) -> Result<Statement, RefusalKind>
+    requires { IsJoined parts }
+    ensures word { IfOk result (λ s. word_of s ≡ verb_word Verb.Catn) }
+    ensures line { IfOk result (λ s. line_of s ≡ line) }
+    ensures terms { IfOk result (λ s. terms_of s ≡ parts) }
+    ensures suits { IfOk result Suits }
+    ensures flaw { IfErr result (λ kind. kind ≡ RefusalKind.NoMemory) }
+{
+    let target = parts.target(Kind::Cord);
+    let parts = parts.cords(alloc)?;
+    Ok(Statement::Catn {
+        line,
+        target,
+        parts,
+    })
+}
+
+// A `sprintf`.
+fn printed_statement(
+    alloc: Global,
+    line: u32,
+    format: Option<Format>,
+    mut parts: Parts,
+) -> Result<Statement, RefusalKind>
+    requires { IsPrinted format parts }
+    ensures word { IfOk result (λ s. word_of s ≡ verb_word Verb.Sprintf) }
+    ensures line { IfOk result (λ s. line_of s ≡ line) }
+    ensures terms { IfOk result (λ s. terms_of s ≡ parts) }
+    ensures suits { IfOk result Suits }
+    ensures flaw { IfErr result (λ kind. kind ≡ RefusalKind.NoMemory) }
+{
+    let Some(format) = format else { unreachable!() };
+    let target = parts.target(Kind::Cord);
+    let text = parts.format();
+    let arguments = parts.arguments(alloc)?;
+    Ok(Statement::Sprintf {
+        line,
+        target,
+        text,
+        format,
+        arguments,
+    })
+}
+
+/// The statement of a verb and its parts, and what the text of a `sprintf` is read as.
+pub fn statement_of(
+    alloc: Global,
+    verb: Verb,
+    line: u32,
+    format: Option<Format>,
+    parts: Parts,
+) -> Result<Statement, RefusalKind>
+    requires { IsWorded verb parts format }
+    ensures word { IfOk result (λ s. word_of s ≡ verb_word verb) }
+    ensures line { IfOk result (λ s. line_of s ≡ line) }
+    ensures terms { IfOk result (λ s. terms_of s ≡ parts) }
+    ensures suits { IfOk result Suits }
+    ensures flaw { IfErr result (λ kind. kind ≡ RefusalKind.NoMemory) }
+{
+    match verb {
+        Verb::Catn => joined_statement(alloc, line, parts),
+        Verb::Sprintf => printed_statement(alloc, line, format, parts),
+        _ => Ok(plain_statement(verb, line, parts)),
     }
 }
