@@ -151,12 +151,6 @@ plain_shape verbs.Catn h = cc
 plain_shape verbs.Sprintf h = cc
 plain_shape _ h = refl
 
--- a verb that is spoken has a fixed number of words
-pub spoken_plain : (v : Verb) → is_spoken v ≡ true → is_plain v ≡ true
-spoken_plain verbs.Let h = refl
-spoken_plain verbs.Put h = refl
-spoken_plain _ h = cc
-
 -- a word that has a form is in the grammar
 pub in_grammar : (b : Bool) (f : Option Form) (form : Form) → (if b then f else None) ≡ Some form → b ≡ true
 in_grammar true f form h = refl
