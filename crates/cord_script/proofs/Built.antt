@@ -1,5 +1,5 @@
 -- What the parts of a `catn` and of a `sprintf` are.
-use Rattle.std.proofs.Common.{Some, None, ◌≡◌, ◌≤◌, ◌+◌, ℕ, suc, List, [], ◌∷◌, true, false, map, refl, sym, ◌∙◌, ap, subst, length, arith}
+use Rattle.std.proofs.Common.{Some, None, ◌≡◌, ◌+◌, ℕ, List, [], ◌∷◌, true, map, refl, sym, ◌∙◌, ap, subst, length, arith}
 use Rattle.std.specs.Prelude.{Option, nat_le}
 use Rattle.std.proofs.lemmas.Bool.{leb-true}
 use Rattle.cord_printf.specs.declared.pieces.ArgKind.{ArgKind}
@@ -11,7 +11,6 @@ use Rattle.cord_script.specs.declared.TheConstants.{MIN_PARTS, MAX_PARTS}
 use Rattle.cord_script.specs.declared.grammar.Verb.{Verb}
 use Rattle.cord_script.specs.declared.grammar.Verb.TheVariants as verbs
 use Rattle.cord_script.specs.declared.kinds.Kind.TheVariants as kinds
-use Rattle.cord_script.specs.declared.kinds.Want.{Want}
 use Rattle.cord_script.specs.declared.kinds.Want.TheVariants as wants
 use Rattle.cord_script.specs.declared.parts.Part.{Part}
 use Rattle.cord_script.specs.declared.words.Word.{Word}

@@ -7,7 +7,7 @@ use Rattle.cord_script.specs.declared.words.Word.{Word}
 use Rattle.cord_script.specs.declared.refusals.RefusalKind.{RefusalKind}
 use Rattle.cord_script.specs.Forms.{Term}
 use Rattle.cord_script.specs.Forms.Shape.{Words}
-use Rattle.cord_script.specs.Script.{AreTerms, IsTerm}
+use Rattle.cord_script.specs.Script.{AreTerms}
 use Rattle.cord_script.specs.Flaws.{first_of, first_pair, misfit, format_wants, argument_words}
 use Rattle.cord_script.proofs.Terms.{term_right, terms_count}
 use Rattle.cord_script.specs.Parted.{HasTaken, IsPart, IsParted, term_of, want_of}
@@ -97,8 +97,7 @@ whole_taken xs ws behind none ps same empty h =
     let more : ps ≡ h.more = h.parts ∙ ap (λ k. k ++ h.more) empty in
     let whole = ap length h.words in
     let counted = front_count xs ws behind none ps h in
-    let front : ws ≡ h.front = h.words ∙ nothing_left h.front behind (omega arith) in
-    (
+    let front : ws ≡ h.front = h.words ∙ nothing_left h.front behind (omega arith) in (
       subst (λ k. AreTerms k (map term_of ps)) (sym front) (subst (λ k. AreTerms h.front (map term_of k)) (sym more) h.terms),
       sym h.wanted ∙ ap (λ k. map want_of (map term_of k)) (sym more),
     )

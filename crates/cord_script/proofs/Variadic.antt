@@ -1,13 +1,12 @@
 -- Words of a `catn` and of a `sprintf` that have become parts.
-use Rattle.std.proofs.Common.{Some, None, ◌≡◌, ◌≢◌, ◌≤◌, ◌+◌, ◌-◌, ℕ, List, [], ◌∷◌, ◌++◌, refl, sym, ◌∙◌, ap, subst, take, length, arith, eq-eqb, true}
-use Rattle.std.specs.Prelude.{Option, ◌==◌, replicate}
-use Rattle.std.proofs.lemmas.Bool.{le-leb, ne_eqb}
+use Rattle.std.proofs.Common.{Some, None, ◌≡◌, ◌≤◌, ◌+◌, ◌-◌, ℕ, List, [], ◌∷◌, ◌++◌, refl, sym, ◌∙◌, ap, subst, take, length, arith, eq-eqb}
+use Rattle.std.specs.Prelude.{Option, replicate}
+use Rattle.std.proofs.lemmas.Bool.{le-leb}
 use Rattle.std.proofs.lemmas.List.{take-replicate}
 use Rattle.cord_printf.specs.declared.pieces.Piece.{Piece}
 use Rattle.cord_script.specs.declared.TheConstants.{MIN_PARTS, MAX_PARTS}
 use Rattle.cord_script.specs.declared.taking.TheConstants.{TARGET, CORDS}
 use Rattle.cord_script.specs.declared.kinds.Kind.TheVariants as kinds
-use Rattle.cord_script.specs.declared.kinds.Want.{Want}
 use Rattle.cord_script.specs.declared.kinds.Want.TheVariants as wants
 use Rattle.cord_script.specs.declared.parts.Part.{Part}
 use Rattle.cord_script.specs.declared.words.Word.{Word}
@@ -15,8 +14,8 @@ use Rattle.cord_script.specs.declared.refusals.RefusalKind.{RefusalKind}
 use Rattle.cord_script.specs.declared.refusals.RefusalKind.TheVariants.{WrongCount}
 use Rattle.cord_script.specs.Forms.Shape.{Joined, Printed}
 use Rattle.cord_script.specs.Formats.{wants_of_pieces}
-use Rattle.cord_script.specs.Flaws.{first_of, unless, first_pair, first_misfit, misfit, is_count, cords, joined, format_wants, argument_words, arguments_flaw, words_flaw}
-use Rattle.cord_script.specs.Parted.{HasTaken, IsFormatOf, IsParted, HasPartFlaw, wanted_by}
+use Rattle.cord_script.specs.Flaws.{first_of, unless, first_pair, first_misfit, misfit, cords, joined, format_wants, argument_words, arguments_flaw, words_flaw}
+use Rattle.cord_script.specs.Parted.{HasTaken, counted_misfit, IsFormatOf, IsParted, HasPartFlaw, wanted_by}
 use Rattle.cord_script.proofs.Unique.{within}
 use Rattle.cord_script.proofs.Took.{both_taken, left_count, whole_taken, behind_taken, arguments_left}
 use Rattle.cord_script.proofs.Allowed.{format_wants_are}
@@ -81,27 +80,16 @@ front_wrong ws format kind some has wrong = (
 )
 
 -- arguments that are wrong
-behind_wrong : (ws mid : List Word) (ps qs : List Part) (pieces : List Piece) (kind : RefusalKind) → 2 ≤ length ws → IsFormatOf Printed ws (Some pieces) → HasTaken format_wants ws mid ps qs → first_pair misfit format_wants ws ≡ None → arguments_flaw (Some (wants_of_pieces pieces)) mid ≡ Some kind → HasPartFlaw Printed ws kind
-behind_wrong ws mid ps qs pieces kind some has h fit wrong = (
-  Some (wants_of_pieces pieces),
-  format_wants_are Printed ws (Some pieces) has,
-  ap (λ b. first_of (unless b WrongCount) (words_flaw Printed (Some (wants_of_pieces pieces)) ws)) (le-leb 2 (length ws) some)
-  ∙ ap (λ k. first_of k (arguments_flaw (Some (wants_of_pieces pieces)) (argument_words ws))) fit
-  ∙ ap (arguments_flaw (Some (wants_of_pieces pieces))) (arguments_left ws mid ps qs h)
-  ∙ wrong,
-)
-
--- too few or too many arguments
-pub arguments_uncounted : (ws mid : List Word) (ps qs : List Part) (pieces : List Piece) → 2 ≤ length ws → IsFormatOf Printed ws (Some pieces) → HasTaken format_wants ws mid ps qs → first_pair misfit format_wants ws ≡ None → length mid ≢ length (wants_of_pieces pieces) → HasPartFlaw Printed ws WrongCount
-arguments_uncounted ws mid ps qs pieces some has h fit other =
-    let xs = wants_of_pieces pieces in
-    behind_wrong ws mid ps qs pieces WrongCount some has h fit (ap (λ b. first_of (unless b WrongCount) (first_misfit xs mid)) (ne_eqb (length mid) (length xs) other))
-
--- an argument that is wrong
-pub argument_wrong : (ws mid : List Word) (ps qs : List Part) (pieces : List Piece) (kind : RefusalKind) → 2 ≤ length ws → IsFormatOf Printed ws (Some pieces) → HasTaken format_wants ws mid ps qs → first_pair misfit format_wants ws ≡ None → length mid ≡ length (wants_of_pieces pieces) → first_pair misfit (wants_of_pieces pieces) mid ≡ Some kind → HasPartFlaw Printed ws kind
-argument_wrong ws mid ps qs pieces kind some has h fit same wrong =
-    let xs = wants_of_pieces pieces in
-    behind_wrong ws mid ps qs pieces kind some has h fit (ap (λ b. first_of (unless b WrongCount) (first_misfit xs mid)) (eq-eqb (length mid) (length xs) same) ∙ wrong)
+pub arguments_wrong : (ws mid : List Word) (ps qs : List Part) (pieces : List Piece) (kind : RefusalKind) → 2 ≤ length ws → IsFormatOf Printed ws (Some pieces) → HasTaken format_wants ws mid ps qs → first_pair misfit format_wants ws ≡ None → counted_misfit (wants_of_pieces pieces) mid ≡ Some kind → HasPartFlaw Printed ws kind
+arguments_wrong ws mid ps qs pieces kind some has h fit wrong =
+    let xs = wants_of_pieces pieces in (
+      Some xs,
+      format_wants_are Printed ws (Some pieces) has,
+      ap (λ b. first_of (unless b WrongCount) (words_flaw Printed (Some xs) ws)) (le-leb 2 (length ws) some)
+          ∙ ap (λ k. first_of k (arguments_flaw (Some xs) (argument_words ws))) fit
+          ∙ ap (arguments_flaw (Some xs)) (arguments_left ws mid ps qs h)
+          ∙ wrong,
+    )
 
 -- a target, a format and its arguments
 pub arguments_taken : (ws mid behind : List Word) (none qs rs : List Part) (pieces : List Piece) → 2 ≤ length ws → IsFormatOf Printed ws (Some pieces) → none ≡ [] → HasTaken format_wants ws mid none qs → first_pair misfit format_wants ws ≡ None → length mid ≡ length (wants_of_pieces pieces) → HasTaken (wants_of_pieces pieces) mid behind qs rs → first_pair misfit (wants_of_pieces pieces) mid ≡ None → IsParted Printed ws rs (Some pieces)

@@ -18,7 +18,7 @@ use Rattle.cord_script.specs.Forms.{Shape, Form}
 use Rattle.cord_script.specs.Forms.Shape.{Printed}
 use Rattle.cord_script.specs.Formats.{wants_of_pieces}
 use Rattle.cord_script.specs.Script.{Before, IsTerm, AreTerms, AreAllowed, FitsBlocks}
-use Rattle.cord_script.specs.Flaws.{first_of, unless, is_count, words_flaw, wants_of, HasFormat}
+use Rattle.cord_script.specs.Flaws.{first_of, unless, is_count, first_misfit, words_flaw, wants_of, HasFormat}
 
 -- what a term has to be
 abbrev pub want_of : Term → Want
@@ -70,6 +70,10 @@ pub record HasTaken (xs : List Want) (old new : List Word) (ps qs : List Part) :
   pub parts : qs ≡ ps ++ more
   pub terms : AreTerms front (map term_of more)
   pub wanted : map want_of (map term_of more) ≡ xs
+
+-- the number of the words, or the first of them that is wrong
+abbrev pub counted_misfit : List Want → List Word → Option RefusalKind
+counted_misfit xs ws = first_of (unless (length ws == length xs) WrongCount) (first_misfit xs ws)
 
 -- what a text is read as, none where it is no format
 abbrev pub IsReadAs : List ℕ → Option (List Piece) → Type 0

@@ -1,5 +1,5 @@
 // What a line says behind the lines before it.
-ghost use Rattle.std.specs.Prelude.{◌≡◌, ◌≢◌, [], true, Some, IfOk, IfErr, OnOk};
+ghost use Rattle.std.specs.Prelude.{◌≡◌, ◌≢◌, [], Some, IfOk, IfErr, OnOk};
 ghost use Rattle.cord_script.specs.Flaws.{HasFormFlaw, HasBadWords};
 ghost use Rattle.cord_script.specs.Script.{spoken};
 ghost use Rattle.cord_script.specs.Leaves.{before_of};

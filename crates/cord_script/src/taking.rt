@@ -1,9 +1,9 @@
 // What the words behind a statement's word say.
-ghost use Rattle.std.specs.Prelude.{◌≡◌, ◌≢◌, ◌≤◌, length, IfOk, IfErr, OnOk, true};
+ghost use Rattle.std.specs.Prelude.{◌≡◌, ◌≢◌, ◌≤◌, length, IfOk, IfErr, OnOk};
 ghost use Rattle.cord_script.specs.Forms.Shape.{Words, Joined, Printed};
 ghost use Rattle.cord_script.specs.Formats.{want_of_kind, wants_of_pieces};
 ghost use Rattle.cord_script.specs.Flaws.{first_pair, misfit};
-ghost use Rattle.cord_script.specs.Parted.{HasTaken, IsFormatOf, IsParted, HasPartFlaw};
+ghost use Rattle.cord_script.specs.Parted.{HasTaken, counted_misfit, IsFormatOf, IsParted, HasPartFlaw};
 ghost use Rattle.cord_script.specs.Verbal.{verb_shape};
 
 use crate::grammar::{Verb, wants_of};
@@ -54,6 +54,23 @@ fn take_parts(
     Ok(())
 }
 
+// Takes all words, one for each want.
+fn take_all(
+    wants: &[Want],
+    words: &mut VecDeque<Word>,
+    parts: &mut Vec<Part>,
+) -> Result<(), RefusalKind>
+    ensures count { OnOk result (length words.old.items ≡ length wants.now) }
+    ensures taken { OnOk result (HasTaken wants.now words.old.items words.new.items parts.old.items parts.new.items) }
+    ensures fit { OnOk result (first_pair misfit wants.now words.old.items ≡ None) }
+    ensures flaw { IfErr result (λ kind. kind ≢ RefusalKind.NoMemory → counted_misfit wants.now words.old.items ≡ Some kind) }
+{
+    if words.len() != wants.len() {
+        return Err(RefusalKind::WrongCount);
+    }
+    take_parts(wants, words, parts)
+}
+
 // The parts of words that have to be these.
 fn plain_parts(
     alloc: Global,
@@ -63,11 +80,8 @@ fn plain_parts(
     ensures parts { IfOk result (λ worded. IsParted (Words wants.now) words.items worded.parts.items worded.format) }
     ensures flaw { IfErr result (λ kind. kind ≢ RefusalKind.NoMemory → HasPartFlaw (Words wants.now) words.items kind) }
 {
-    if words.len() != wants.len() {
-        return Err(RefusalKind::WrongCount);
-    }
     let mut parts = Vec::new(alloc);
-    take_parts(wants, &mut words, &mut parts)?;
+    take_all(wants, &mut words, &mut parts)?;
     Ok(Worded {
         parts,
         format: None,
@@ -140,6 +154,7 @@ fn printed_parts(alloc: Global, mut words: VecDeque<Word>) -> Result<Worded, Ref
     if words.len() < 2 {
         return Err(RefusalKind::WrongCount);
     }
+    // Before `take_parts` takes the text.
     let read = format_in(alloc, &words)?;
     let mut parts = Vec::new(alloc);
     take_parts(&FORMAT, &mut words, &mut parts)?;
@@ -147,10 +162,7 @@ fn printed_parts(alloc: Global, mut words: VecDeque<Word>) -> Result<Worded, Ref
         return Err(RefusalKind::BadFormat);
     };
     let wants = wants_of_pieces(alloc, format.pieces())?;
-    if words.len() != wants.len() {
-        return Err(RefusalKind::WrongCount);
-    }
-    take_parts(&wants, &mut words, &mut parts)?;
+    take_all(&wants, &mut words, &mut parts)?;
     Ok(Worded {
         parts,
         format: Some(format),
