@@ -6,9 +6,8 @@ use Rattle.cord_script.specs.declared.grammar.Verb.{Verb}
 use Rattle.cord_script.specs.declared.grammar.Verb.TheVariants as verbs
 use Rattle.cord_script.specs.declared.grammar.TheConstants.{VERBS}
 use Rattle.cord_script.specs.Forms.{Form, form_of, form_in}
-use Rattle.cord_script.specs.Forms.Shape.{Words}
 use Rattle.cord_script.specs.Script.{spoken}
-use Rattle.cord_script.specs.Verbal.{verb_word, verb_wants, verb_shape, verb_form, find_verb, form_at, is_spoken, is_plain}
+use Rattle.cord_script.specs.Verbal.{verb_word, verb_form, find_verb, form_at, is_spoken}
 
 -- a choice of verbs is a choice of forms
 chosen_form : (c : Bool) (v : Verb) (o : Option Verb) (f rest : Option Form) → form_at (Some v) ≡ f → form_at o ≡ rest → form_at (if c then Some v else o) ≡ (if c then f else rest)
@@ -144,12 +143,6 @@ pub spoken_form : (v : Verb) (w : List ℕ) → w ≡ verb_word v → is_spoken 
 spoken_form verbs.Let w e h = ap (form_in spoken) e ∙ form_is verbs.Let
 spoken_form verbs.Put w e h = ap (form_in spoken) e ∙ form_is verbs.Put
 spoken_form _ w e h = cc
-
--- the shape where the number of words is fixed
-pub plain_shape : (v : Verb) → is_plain v ≡ true → Words (verb_wants v) ≡ verb_shape v
-plain_shape verbs.Catn h = cc
-plain_shape verbs.Sprintf h = cc
-plain_shape _ h = refl
 
 -- a word that has a form is in the grammar
 pub in_grammar : (b : Bool) (f : Option Form) (form : Form) → (if b then f else None) ≡ Some form → b ≡ true

@@ -174,9 +174,3 @@ is_control verbs.If = true
 is_control verbs.Else = true
 is_control verbs.End = true
 is_control _ = false
-
--- a verb whose words are of a fixed number
-abbrev pub is_plain : Verb → Bool
-is_plain verbs.Catn = false
-is_plain verbs.Sprintf = false
-is_plain _ = true
