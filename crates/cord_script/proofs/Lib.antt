@@ -1,4 +1,5 @@
 pub mod Allowed
+pub mod Behind
 pub mod Built
 pub mod Checked
 pub mod Lines

@@ -98,12 +98,6 @@ abbrev pub form_at : Option Verb → Option Form
 form_at None = None
 form_at (Some v) = form_of (verb_word v)
 
--- a verb of a statement that is read today
-abbrev pub is_spoken : Verb → Bool
-is_spoken verbs.Let = true
-is_spoken verbs.Put = true
-is_spoken _ = false
-
 -- what a statement of the verb does to the open blocks
 abbrev pub verb_effect : Verb → Effect
 verb_effect verbs.Repeat = OpensRepeat

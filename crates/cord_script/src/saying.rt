@@ -1,7 +1,7 @@
 // What a line says behind the lines before it.
 ghost use Rattle.std.specs.Prelude.{◌≡◌, ◌≢◌, [], Some, IfOk, IfErr, OnOk};
 ghost use Rattle.cord_script.specs.Flaws.{HasFormFlaw, HasBadWords};
-ghost use Rattle.cord_script.specs.Script.{spoken};
+ghost use Rattle.cord_script.specs.Script.{whole};
 ghost use Rattle.cord_script.specs.Leaves.{before_of};
 ghost use Rattle.cord_script.specs.Parted.{IsChecked};
 ghost use Rattle.cord_script.specs.Behind.{left_after, SaysBehind};
@@ -64,7 +64,7 @@ pub fn said(
 ) -> Result<Statement, RefusalKind>
     requires { words.items ≢ [] }
     ensures said { IfOk result (SaysBehind number (before_of left.old) (before_of left.new) words.items) }
-    ensures flaw { IfErr result (λ kind. kind ≢ RefusalKind.NoMemory → HasBadWords spoken (before_of left.old) words.items kind) }
+    ensures flaw { IfErr result (λ kind. kind ≢ RefusalKind.NoMemory → HasBadWords whole (before_of left.old) words.items kind) }
 {
     let mut words = VecDeque::from_vec(words);
     let Some(Word::Plain(word)) = words.pop_front() else {
