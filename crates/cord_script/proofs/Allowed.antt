@@ -11,14 +11,18 @@ use Rattle.cord_script.specs.declared.table.Known.{Known}
 use Rattle.cord_script.specs.declared.words.Word.{Word}
 use Rattle.cord_script.specs.declared.refusals.RefusalKind.{RefusalKind}
 use Rattle.cord_script.specs.declared.refusals.RefusalKind.TheVariants.{TooMany, TooDeep, WrongCount}
-use Rattle.cord_script.specs.Forms.{Term, Effect, Form}
+use Rattle.cord_printf.specs.declared.pieces.Piece.{Piece}
+use Rattle.cord_script.specs.declared.words.Word.TheVariants.{Plain, Quoted}
+use Rattle.cord_script.specs.Forms.{Term, Effect, Form, Shape}
+use Rattle.cord_script.specs.Forms.Shape.{Words, Joined, Printed}
+use Rattle.cord_script.specs.Formats.{Converts}
 use Rattle.cord_script.specs.Forms.Effect.{Stays, OpensRepeat, OpensIf, Turns, Closes}
 use Rattle.cord_script.specs.Forms.Term.{Target, Operand, Value, Literal, FilePath, Applies, Compares, Formats}
 use Rattle.cord_script.specs.Script.{Before, Block, kind_of, is_among, IsTerm, AreTerms, IsAllowed, AreAllowed, FitsBlocks}
 use Rattle.cord_script.specs.Script.Block.{InRepeat, InIf, InElse}
-use Rattle.cord_script.specs.Flaws.{words_flaw, is_count, wants_of, HasFormFlaw, first_of, unless, first_pair, kind_flaw, operand_flaw, word_target_flaw, word_path_flaw, names_flaw, block_flaw}
+use Rattle.cord_script.specs.Flaws.{words_flaw, is_count, wants_of, HasFormat, HasFormFlaw, first_of, unless, first_pair, kind_flaw, operand_flaw, word_target_flaw, word_path_flaw, names_flaw, block_flaw}
 use Rattle.cord_script.specs.declared.parts.Part.{Part}
-use Rattle.cord_script.specs.Parted.{want_of, term_of, IsParted, HasPartFlaw, IsChecked}
+use Rattle.cord_script.specs.Parted.{want_of, term_of, wanted_by, IsReadAs, IsFormatOf, IsParted, HasPartFlaw, IsChecked}
 use Rattle.cord_script.specs.Leaves.{operand_term_flaw, target_term_flaw, path_term_flaw, first_term, terms_flaw}
 use Rattle.cord_script.proofs.Checked.{neither, holds, kind_right, target_right}
 use Rattle.cord_script.proofs.Terms.{either, name_begins, numeral_known}
@@ -136,23 +140,39 @@ pub words_wrong : (before : Before) (form : Form) (ws : List Word) (kind : Refus
 words_wrong before form ws kind h =
     (h.0, h.1, in_front (unless (is_count form.shape (length ws)) WrongCount) (words_flaw form.shape h.0 ws) (first_of (names_flaw before (wants_of form.shape h.0 ws) ws) (block_flaw form.effect before.blocks)) kind h.2)
 
+read_converts : (text : List ℕ) (format : Option (List Piece)) → IsReadAs text format → Converts text (wanted_by format)
+read_converts text None h = h
+read_converts text (Some pieces) h = (pieces, h, refl)
+
+none_wanted : (format : Option (List Piece)) → format ≡ None → wanted_by format ≡ None
+none_wanted format h = ap wanted_by h
+
+-- what the conversions of the format want
+pub format_wants_are : (shape : Shape) (ws : List Word) (format : Option (List Piece)) → IsFormatOf shape ws format → HasFormat shape ws (wanted_by format)
+format_wants_are (Words xs) ws format h = none_wanted format h
+format_wants_are Joined ws format h = none_wanted format h
+format_wants_are Printed [] format h = none_wanted format h
+format_wants_are Printed (t ∷ []) format h = none_wanted format h
+format_wants_are Printed (t ∷ Plain p ∷ ws) format h = none_wanted format h
+format_wants_are Printed (t ∷ Quoted text ∷ ws) format h = read_converts text format h
+
 -- what is wrong behind right words is a flaw of the form
-later_wrong : (before : Before) (form : Form) (ws : List Word) (ps : List Part) (kind : RefusalKind) → IsParted form.shape ws ps → first_of (terms_flaw before (map term_of ps)) (block_flaw form.effect before.blocks) ≡ Some kind → HasFormFlaw before (Some form) ws kind
-later_wrong before form ws ps kind h wrong =
+later_wrong : (before : Before) (form : Form) (ws : List Word) (ps : List Part) (format : Option (List Piece)) (kind : RefusalKind) → IsParted form.shape ws ps format → first_of (terms_flaw before (map term_of ps)) (block_flaw form.effect before.blocks) ≡ Some kind → HasFormFlaw before (Some form) ws kind
+later_wrong before form ws ps format kind h wrong =
     let same = ap (λ k. names_flaw before k ws) h.wanted ∙ names_same before ws (map term_of ps) h.terms in
-    (h.formats, h.has, behind_two (unless (is_count form.shape (length ws)) WrongCount) (words_flaw form.shape h.formats ws) (names_flaw before (wants_of form.shape h.formats ws) ws) (block_flaw form.effect before.blocks) kind (ap (λ b. unless b WrongCount) h.count) h.fit (ap (λ k. first_of k (block_flaw form.effect before.blocks)) same ∙ wrong))
+    (wanted_by format, format_wants_are form.shape ws format h.has, behind_two (unless (is_count form.shape (length ws)) WrongCount) (words_flaw form.shape (wanted_by format) ws) (names_flaw before (wants_of form.shape (wanted_by format) ws) ws) (block_flaw form.effect before.blocks) kind (ap (λ b. unless b WrongCount) h.count) h.fit (ap (λ k. first_of k (block_flaw form.effect before.blocks)) same ∙ wrong))
 
 -- names that are wrong
-pub names_wrong : (before : Before) (form : Form) (ws : List Word) (ps : List Part) (kind : RefusalKind) → IsParted form.shape ws ps → terms_flaw before (map term_of ps) ≡ Some kind → HasFormFlaw before (Some form) ws kind
-names_wrong before form ws ps kind h wrong = later_wrong before form ws ps kind h (ap (λ k. first_of k (block_flaw form.effect before.blocks)) wrong)
+pub names_wrong : (before : Before) (form : Form) (ws : List Word) (ps : List Part) (format : Option (List Piece)) (kind : RefusalKind) → IsParted form.shape ws ps format → terms_flaw before (map term_of ps) ≡ Some kind → HasFormFlaw before (Some form) ws kind
+names_wrong before form ws ps format kind h wrong = later_wrong before form ws ps format kind h (ap (λ k. first_of k (block_flaw form.effect before.blocks)) wrong)
 
 -- a statement that the open blocks do not take
-pub blocks_wrong : (before : Before) (form : Form) (ws : List Word) (ps : List Part) (kind : RefusalKind) → IsParted form.shape ws ps → terms_flaw before (map term_of ps) ≡ None → block_flaw form.effect before.blocks ≡ Some kind → HasFormFlaw before (Some form) ws kind
-blocks_wrong before form ws ps kind h names wrong = later_wrong before form ws ps kind h (ap (λ k. first_of k (block_flaw form.effect before.blocks)) names ∙ wrong)
+pub blocks_wrong : (before : Before) (form : Form) (ws : List Word) (ps : List Part) (format : Option (List Piece)) (kind : RefusalKind) → IsParted form.shape ws ps format → terms_flaw before (map term_of ps) ≡ None → block_flaw form.effect before.blocks ≡ Some kind → HasFormFlaw before (Some form) ws kind
+blocks_wrong before form ws ps format kind h names wrong = later_wrong before form ws ps format kind h (ap (λ k. first_of k (block_flaw form.effect before.blocks)) names ∙ wrong)
 
 -- a line that is right
-pub checked : (before : Before) (form : Form) (ws : List Word) (ps : List Part) → IsParted form.shape ws ps → terms_flaw before (map term_of ps) ≡ None → block_flaw form.effect before.blocks ≡ None → IsChecked form before ws ps
-checked before form ws ps h names blocks = record {
+pub checked : (before : Before) (form : Form) (ws : List Word) (ps : List Part) (format : Option (List Piece)) → IsParted form.shape ws ps format → terms_flaw before (map term_of ps) ≡ None → block_flaw form.effect before.blocks ≡ None → IsChecked form before ws ps format
+checked before form ws ps format h names blocks = record {
   parted = h;
   allowed = all_allowed before (map term_of ps) names;
   fits = block_right form.effect before.blocks blocks;

@@ -1,4 +1,6 @@
 pub mod Allowed
+pub mod Behind
+pub mod Built
 pub mod Checked
 pub mod Lines
 pub mod Magnitudes
@@ -11,5 +13,6 @@ pub mod Tabled
 pub mod Terms
 pub mod Took
 pub mod Unique
+pub mod Variadic
 pub mod Worded
 pub mod Worked

@@ -9,7 +9,7 @@ use Rattle.cord_script.specs.declared.refusals.RefusalKind.{RefusalKind}
 use Rattle.cord_script.specs.declared.refusals.RefusalKind.TheVariants.{TooBig}
 use Rattle.cord_script.specs.Words.{IsSplit, IsIdle, HasWords}
 use Rattle.cord_script.specs.Forms.{Grammar, line_of}
-use Rattle.cord_script.specs.Script.{Before, Block, ReadsBy, Says, LinesSay, spoken, start, after, after_all}
+use Rattle.cord_script.specs.Script.{Before, Block, ReadsBy, Says, LinesSay, whole, start, after, after_all}
 use Rattle.cord_script.specs.Flaws.{FlawBy, HasBadLine}
 use Rattle.cord_script.specs.Leaves.{IsInnermostLeft}
 use Rattle.cord_script.specs.Steps.{Takes, HasWrong, HasRead}
@@ -75,7 +75,7 @@ reads_line b rest behind line n old new ss grown r first (None, t, e) =
     record {
       front = r.front ++ line ∷ [];
       split = λ later h. subst (IsSplit b) (sym (append_assoc r.front (line ∷ []) later)) (r.split (line ∷ later) (first later h));
-      say = subst (LinesSay spoken 1 start (r.front ++ line ∷ [])) (sym same) (says_idle spoken 1 start r.front line ss r.say t.0);
+      say = subst (LinesSay whole 1 start (r.front ++ line ∷ [])) (sym same) (says_idle whole 1 start r.front line ss r.say t.0);
       number = omega (arith, r.number, length-append r.front (line ∷ []));
       leaves = ap (λ x. after_all x start) same ∙ r.leaves ∙ sym t.1;
     }
@@ -83,13 +83,13 @@ reads_line b rest behind line n old new ss grown r first (Some s, t, e) =
     record {
       front = r.front ++ line ∷ [];
       split = λ later h. subst (IsSplit b) (sym (append_assoc r.front (line ∷ []) later)) (r.split (line ∷ later) (first later h));
-      say = subst (LinesSay spoken 1 start (r.front ++ line ∷ [])) (sym e) (says_more spoken 1 n start r.front line ss s t.1 r.say (omega (arith, r.number)) t.0 t.2 (subst (λ x. Says spoken n x t.1 s) (sym r.leaves) t.3.says));
+      say = subst (LinesSay whole 1 start (r.front ++ line ∷ [])) (sym e) (says_more whole 1 n start r.front line ss s t.1 r.say (omega (arith, r.number)) t.0 t.2 (subst (λ x. Says whole n x t.1 s) (sym r.leaves) t.3.says));
       number = omega (arith, r.number, length-append r.front (line ∷ []));
       leaves = ap (λ x. after_all x start) e ∙ after_push ss (s ∷ []) start ∙ ap (after s) r.leaves ∙ t.3.leaves;
     }
 
 -- a line that is too much, or wrong
-pub stops : (b rest behind line : List ℕ) (n : ℕ) (before : Before) (ss : List Statement) (kind : RefusalKind) → length b ≤ MAX_SCRIPT → HasRead b rest n before ss → ((lines : List (List ℕ)) → IsSplit behind lines → IsSplit rest (line ∷ lines)) → HasBadLine spoken n before line kind → FlawBy spoken b n kind
+pub stops : (b rest behind line : List ℕ) (n : ℕ) (before : Before) (ss : List Statement) (kind : RefusalKind) → length b ≤ MAX_SCRIPT → HasRead b rest n before ss → ((lines : List (List ℕ)) → IsSplit behind lines → IsSplit rest (line ∷ lines)) → HasBadLine whole n before line kind → FlawBy whole b n kind
 stops b rest behind line n before ss kind small r first wrong =
     let later = some_lines behind in
     inr (inl (record {
@@ -101,10 +101,10 @@ stops b rest behind line n before ss kind small r first wrong =
       number = r.number;
       statements = ss;
       say = r.say;
-      wrong = subst (λ x. HasBadLine spoken n x line kind) (sym r.leaves) wrong;
+      wrong = subst (λ x. HasBadLine whole n x line kind) (sym r.leaves) wrong;
     }))
 
-too_many_by : (b rest : List ℕ) (n : ℕ) (before : Before) (ss : List Statement) (lines : List (List ℕ)) → length b ≤ MAX_SCRIPT → HasRead b rest n before ss → rest ≢ [] → n ≡ MAX_LINES + 1 → IsSplit rest lines → FlawBy spoken b n TooBig
+too_many_by : (b rest : List ℕ) (n : ℕ) (before : Before) (ss : List Statement) (lines : List (List ℕ)) → length b ≤ MAX_SCRIPT → HasRead b rest n before ss → rest ≢ [] → n ≡ MAX_LINES + 1 → IsSplit rest lines → FlawBy whole b n TooBig
 too_many_by b rest n before ss [] small r some e h = absurd (some h)
 too_many_by b rest n before ss (line ∷ later) small r some e h =
     inr (inl (record {
@@ -120,15 +120,15 @@ too_many_by b rest n before ss (line ∷ later) small r some e h =
     }))
 
 -- more lines than there may be
-pub too_many : (b rest : List ℕ) (n : ℕ) (before : Before) (ss : List Statement) → length b ≤ MAX_SCRIPT → HasRead b rest n before ss → rest ≢ [] → n ≡ MAX_LINES + 1 → FlawBy spoken b n TooBig
+pub too_many : (b rest : List ℕ) (n : ℕ) (before : Before) (ss : List Statement) → length b ≤ MAX_SCRIPT → HasRead b rest n before ss → rest ≢ [] → n ≡ MAX_LINES + 1 → FlawBy whole b n TooBig
 too_many b rest n before ss small r some e = let later = some_lines rest in too_many_by b rest n before ss later.0 small r some e later.1
 
 -- a line that is wrong
-pub is_wrong : (n : ℕ) (line : List ℕ) (before : Before) (kind : RefusalKind) → n ≤ MAX_LINES → HasWrong line before kind → HasBadLine spoken n before line kind
+pub is_wrong : (n : ℕ) (line : List ℕ) (before : Before) (kind : RefusalKind) → n ≤ MAX_LINES → HasWrong line before kind → HasBadLine whole n before line kind
 is_wrong n line before kind few h = inr (few, h.0, h.1)
 
 -- the bytes are these statements, where no line and no block is left
-pub read_whole : (b rest : List ℕ) (n : ℕ) (before : Before) (ss : List Statement) → length b ≤ MAX_SCRIPT → n ≤ MAX_LINES + 1 → rest ≡ [] → HasRead b rest n before ss → before.blocks ≡ [] → ReadsBy spoken b ss
+pub read_whole : (b rest : List ℕ) (n : ℕ) (before : Before) (ss : List Statement) → length b ≤ MAX_SCRIPT → n ≤ MAX_LINES + 1 → rest ≡ [] → HasRead b rest n before ss → before.blocks ≡ [] → ReadsBy whole b ss
 read_whole b rest n before ss small few e r closed = record {
   size = small;
   lines = r.front;
@@ -138,7 +138,7 @@ read_whole b rest n before ss small few e r closed = record {
   closed = ap (λ x. x.blocks) r.leaves ∙ closed;
 }
 
-open_by : (b rest : List ℕ) (n at : ℕ) (before : Before) (ss : List Statement) (kind : RefusalKind) (blocks : List Block) → length b ≤ MAX_SCRIPT → n ≤ MAX_LINES + 1 → rest ≡ [] → HasRead b rest n before ss → before.blocks ≡ blocks → IsInnermostLeft blocks at kind → FlawBy spoken b at kind
+open_by : (b rest : List ℕ) (n at : ℕ) (before : Before) (ss : List Statement) (kind : RefusalKind) (blocks : List Block) → length b ≤ MAX_SCRIPT → n ≤ MAX_LINES + 1 → rest ≡ [] → HasRead b rest n before ss → before.blocks ≡ blocks → IsInnermostLeft blocks at kind → FlawBy whole b at kind
 open_by b rest n at before ss kind [] small few e r same h = absurd h
 open_by b rest n at before ss kind (block ∷ others) small few e r same h =
     inr (inr (record {
@@ -155,7 +155,7 @@ open_by b rest n at before ss kind (block ∷ others) small few e r same h =
     }))
 
 -- a block that is open where no line is left
-pub leaves_open : (b rest : List ℕ) (n at : ℕ) (before : Before) (ss : List Statement) (kind : RefusalKind) → length b ≤ MAX_SCRIPT → n ≤ MAX_LINES + 1 → rest ≡ [] → HasRead b rest n before ss → IsInnermostLeft before.blocks at kind → FlawBy spoken b at kind
+pub leaves_open : (b rest : List ℕ) (n at : ℕ) (before : Before) (ss : List Statement) (kind : RefusalKind) → length b ≤ MAX_SCRIPT → n ≤ MAX_LINES + 1 → rest ≡ [] → HasRead b rest n before ss → IsInnermostLeft before.blocks at kind → FlawBy whole b at kind
 leaves_open b rest n at before ss kind small few e r h = open_by b rest n at before ss kind before.blocks small few e r refl h
 
 -- nothing is left

@@ -1,14 +1,13 @@
 -- The table of statements, as the code walks through it.
 use Rattle.std.proofs.Common.{Some, None, ◌≡◌, ℕ, List, Bool, true, false, refl, sym, ◌∙◌, ap}
-use Rattle.std.specs.Prelude.{Option, codes, if◌then◌else◌}
+use Rattle.std.specs.Prelude.{Option, IfSome, MatchOption, codes, if◌then◌else◌}
 use Rattle.std.specs.Str.{bytes_eq}
 use Rattle.cord_script.specs.declared.grammar.Verb.{Verb}
 use Rattle.cord_script.specs.declared.grammar.Verb.TheVariants as verbs
 use Rattle.cord_script.specs.declared.grammar.TheConstants.{VERBS}
 use Rattle.cord_script.specs.Forms.{Form, form_of, form_in}
-use Rattle.cord_script.specs.Forms.Shape.{Words}
-use Rattle.cord_script.specs.Script.{spoken}
-use Rattle.cord_script.specs.Verbal.{verb_word, verb_wants, verb_shape, verb_form, find_verb, form_at, is_spoken, is_plain}
+use Rattle.cord_script.specs.Script.{whole}
+use Rattle.cord_script.specs.Verbal.{verb_word, verb_form, find_verb, form_at}
 
 -- a choice of verbs is a choice of forms
 chosen_form : (c : Bool) (v : Verb) (o : Option Verb) (f rest : Option Form) → form_at (Some v) ≡ f → form_at o ≡ rest → form_at (if c then Some v else o) ≡ (if c then f else rest)
@@ -16,7 +15,7 @@ chosen_form true v o f rest p q = p
 chosen_form false v o f rest p q = q
 
 -- the verb of a word has its form
-pub form_found : (w : List ℕ) → form_at (find_verb VERBS w) ≡ form_of w
+form_found : (w : List ℕ) → form_at (find_verb VERBS w) ≡ form_of w
 unfolding form_of
 form_found w =
     chosen_form (bytes_eq w (codes "let")) verbs.Let _ _ _ refl (
@@ -91,73 +90,7 @@ form_is verbs.If = refl
 form_is verbs.Else = refl
 form_is verbs.End = refl
 
-nothing : (b : Bool) (f : Option Form) → f ≡ None → (if b then f else None) ≡ None
-nothing true f h = h
-nothing false f h = refl
-
--- what is not spoken is not in the grammar
-silent : (v : Verb) → is_spoken v ≡ false → spoken.has (verb_word v) ≡ false
-silent verbs.Let h = cc
-silent verbs.Put h = cc
-silent verbs.File h = refl
-silent verbs.Eager h = refl
-silent verbs.Lazy h = refl
-silent verbs.Chars h = refl
-silent verbs.Nul h = refl
-silent verbs.FromFn h = refl
-silent verbs.Cat h = refl
-silent verbs.Catn h = refl
-silent verbs.Catc h = refl
-silent verbs.Substr h = refl
-silent verbs.Balance h = refl
-silent verbs.EcToCord h = refl
-silent verbs.Sprintf h = refl
-silent verbs.Len h = refl
-silent verbs.Fetch h = refl
-silent verbs.Cmp h = refl
-silent verbs.Ncmp h = refl
-silent verbs.Str h = refl
-silent verbs.Chr h = refl
-silent verbs.Rchr h = refl
-silent verbs.Assign h = refl
-silent verbs.Add h = refl
-silent verbs.Sub h = refl
-silent verbs.EcInit h = refl
-silent verbs.EcPut h = refl
-silent verbs.EcCat h = refl
-silent verbs.EcStr h = refl
-silent verbs.Repeat h = refl
-silent verbs.If h = refl
-silent verbs.Else h = refl
-silent verbs.End h = refl
-
--- the form of a word that has no verb, in a grammar
-pub no_form : (w : List ℕ) → find_verb VERBS w ≡ None → form_in spoken w ≡ None
-no_form w h = nothing (spoken.has w) (form_of w) (sym (form_found w) ∙ ap form_at h)
-
--- a verb that is not spoken
-pub not_spoken : (v : Verb) (w : List ℕ) → w ≡ verb_word v → is_spoken v ≡ false → form_in spoken w ≡ None
-not_spoken v w e h = ap (form_in spoken) e ∙ ap (λ b. if b then form_of (verb_word v) else None) (silent v h)
-
--- a verb that is spoken
-pub spoken_form : (v : Verb) (w : List ℕ) → w ≡ verb_word v → is_spoken v ≡ true → form_in spoken w ≡ Some (verb_form v)
-spoken_form verbs.Let w e h = ap (form_in spoken) e ∙ form_is verbs.Let
-spoken_form verbs.Put w e h = ap (form_in spoken) e ∙ form_is verbs.Put
-spoken_form _ w e h = cc
-
--- the shape where the number of words is fixed
-pub plain_shape : (v : Verb) → is_plain v ≡ true → Words (verb_wants v) ≡ verb_shape v
-plain_shape verbs.Catn h = cc
-plain_shape verbs.Sprintf h = cc
-plain_shape _ h = refl
-
--- a verb that is spoken has a fixed number of words
-pub spoken_plain : (v : Verb) → is_spoken v ≡ true → is_plain v ≡ true
-spoken_plain verbs.Let h = refl
-spoken_plain verbs.Put h = refl
-spoken_plain _ h = cc
-
--- a word that has a form is in the grammar
-pub in_grammar : (b : Bool) (f : Option Form) (form : Form) → (if b then f else None) ≡ Some form → b ≡ true
-in_grammar true f form h = refl
-in_grammar false f form h = cc
+-- the form of the word that a verb was looked for
+pub found : (w : List ℕ) (r : Option Verb) → r ≡ find_verb VERBS w → IfSome r (λ v. w ≡ verb_word v) → MatchOption r (form_in whole w ≡ None) (λ v. (w ≡ verb_word v) × (form_in whole w ≡ Some (verb_form v)))
+found w None e h = sym (form_found w) ∙ ap form_at (sym e)
+found w (Some v) e h = (h, ap form_of h ∙ form_is v)

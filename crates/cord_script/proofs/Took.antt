@@ -5,35 +5,47 @@ use Rattle.cord_script.specs.declared.kinds.Want.{Want}
 use Rattle.cord_script.specs.declared.parts.Part.{Part}
 use Rattle.cord_script.specs.declared.words.Word.{Word}
 use Rattle.cord_script.specs.declared.refusals.RefusalKind.{RefusalKind}
+use Rattle.cord_script.specs.Forms.{Term}
 use Rattle.cord_script.specs.Forms.Shape.{Words}
-use Rattle.cord_script.specs.Script.{AreTerms, IsTerm}
-use Rattle.cord_script.specs.Flaws.{first_of, first_pair, misfit}
+use Rattle.cord_script.specs.Script.{AreTerms}
+use Rattle.cord_script.specs.Flaws.{first_of, first_pair, misfit, format_wants, argument_words}
 use Rattle.cord_script.proofs.Terms.{term_right, terms_count}
 use Rattle.cord_script.specs.Parted.{HasTaken, IsPart, IsParted, term_of, want_of}
 
-terms_push : (ws : List Word) (ps : List Part) (w : Word) (p : Part) → AreTerms ws (map term_of ps) → IsTerm w (term_of p) → AreTerms (ws ++ w ∷ []) (map term_of (ps ++ p ∷ []))
-terms_push [] [] w p h t = (t, tt)
-terms_push [] (q ∷ ps) w p h t = absurd h
-terms_push (v ∷ ws) [] w p h t = absurd h
-terms_push (v ∷ ws) (q ∷ ps) w p h t = (h.0, terms_push ws ps w p h.1 t)
+terms_append : (ws vs : List Word) (ps qs : List Part) → AreTerms ws (map term_of ps) → AreTerms vs (map term_of qs) → AreTerms (ws ++ vs) (map term_of (ps ++ qs))
+terms_append [] vs [] qs h k = k
+terms_append [] vs (p ∷ ps) qs h k = absurd h
+terms_append (w ∷ ws) vs [] qs h k = absurd h
+terms_append (w ∷ ws) vs (p ∷ ps) qs h k = (h.0, terms_append ws vs ps qs h.1 k)
 
-wanted_push : (ps : List Part) (p : Part) → map want_of (map term_of (ps ++ p ∷ [])) ≡ map want_of (map term_of ps) ++ want_of (term_of p) ∷ []
-wanted_push [] p = refl
-wanted_push (q ∷ ps) p = ap (λ k. want_of (term_of q) ∷ k) (wanted_push ps p)
+wanted_append : (ps qs : List Part) → map want_of (map term_of (ps ++ qs)) ≡ map want_of (map term_of ps) ++ map want_of (map term_of qs)
+wanted_append [] qs = refl
+wanted_append (p ∷ ps) qs = ap (λ k. want_of (term_of p) ∷ k) (wanted_append ps qs)
 
 -- nothing is taken yet
 pub none_taken : (old : List Word) (ps : List Part) → HasTaken [] old old ps ps
 none_taken old ps = record { front = []; more = []; words = refl; parts = sym (append-nil ps); terms = tt; wanted = refl }
 
--- one more word
-pub one_taken : (xs : List Want) (old new behind : List Word) (ps qs rs : List Part) (x : Want) (w : Word) (p : Part) → HasTaken xs old new ps qs → new ≡ w ∷ behind → rs ≡ qs ++ p ∷ [] → IsPart x w p → HasTaken (xs ++ x ∷ []) old behind ps rs
-one_taken xs old new behind ps qs rs x w p h e f part = record {
-  front = h.front ++ w ∷ [];
-  more = h.more ++ p ∷ [];
-  words = h.words ∙ ap (λ k. h.front ++ k) e ∙ sym (append_assoc h.front (w ∷ []) behind);
-  parts = f ∙ ap (λ k. k ++ p ∷ []) h.parts ∙ append_assoc ps h.more (p ∷ []);
-  terms = terms_push h.front h.more w p h.terms part.0;
-  wanted = wanted_push h.more p ∙ ap (λ k. k ++ want_of (term_of p) ∷ []) h.wanted ∙ ap (λ k. xs ++ k ∷ []) part.1;
+-- some words, and then others
+pub both_taken : (xs ys : List Want) (old new behind : List Word) (ps qs rs : List Part) → HasTaken xs old new ps qs → HasTaken ys new behind qs rs → HasTaken (xs ++ ys) old behind ps rs
+both_taken xs ys old new behind ps qs rs h k = record {
+  front = h.front ++ k.front;
+  more = h.more ++ k.more;
+  words = h.words ∙ ap (λ z. h.front ++ z) k.words ∙ sym (append_assoc h.front k.front behind);
+  parts = k.parts ∙ ap (λ z. z ++ k.more) h.parts ∙ append_assoc ps h.more k.more;
+  terms = terms_append h.front k.front h.more k.more h.terms k.terms;
+  wanted = wanted_append h.more k.more ∙ ap (λ z. z ++ map want_of (map term_of k.more)) h.wanted ∙ ap (λ z. xs ++ z) k.wanted;
+}
+
+-- one word
+one_taken : (new behind : List Word) (qs rs : List Part) (x : Want) (w : Word) (p : Part) → new ≡ w ∷ behind → rs ≡ qs ++ p ∷ [] → IsPart x w p → HasTaken (x ∷ []) new behind qs rs
+one_taken new behind qs rs x w p e f part = record {
+  front = w ∷ [];
+  more = p ∷ [];
+  words = e;
+  parts = f;
+  terms = (part.0, tt);
+  wanted = ap (λ k. k ∷ []) part.1;
 }
 
 -- a word that says a part is no misfit
@@ -43,7 +55,7 @@ part_fits x w p part = ap (λ k. misfit k w) (sym part.1) ∙ term_right w (term
 -- one more of the wants
 pub step_taken : (xs : List Want) (i : ℕ) (d : Want) (old new behind : List Word) (ps qs rs : List Part) (w : Word) (p : Part) → i < length xs → HasTaken (take i xs) old new ps qs → new ≡ w ∷ behind → rs ≡ qs ++ p ∷ [] → IsPart (get_or xs i d) w p → HasTaken (take (i + 1) xs) old behind ps rs
 step_taken xs i d old new behind ps qs rs w p lt h e f part =
-    subst (λ k. HasTaken k old behind ps rs) (sym (take_more xs i d lt)) (one_taken (take i xs) old new behind ps qs rs (get_or xs i d) w p h e f part)
+    subst (λ k. HasTaken k old behind ps rs) (sym (take_more xs i d lt)) (both_taken (take i xs) (get_or xs i d ∷ []) old new behind ps qs rs h (one_taken new behind qs rs (get_or xs i d) w p e f part))
 
 -- the first of the wants that are left
 pub next_pair : (xs : List Want) (i : ℕ) (d : Want) (ws behind : List Word) (w : Word) → i < length xs → ws ≡ w ∷ behind → first_pair misfit (drop i xs) ws ≡ first_of (misfit (get_or xs i d) w) (first_pair misfit (drop (i + 1) xs) behind)
@@ -68,20 +80,57 @@ nothing_left : (front behind : List Word) → length (front ++ behind) ≡ lengt
 nothing_left front [] h = append-nil front
 nothing_left front (w ∷ ws) h = absurd (let l = length-append front (w ∷ ws) in omega arith)
 
--- words of a fixed number are parted
-pub all_taken : (xs : List Want) (ws behind : List Word) (none ps : List Part) → length ws ≡ length xs → none ≡ [] → HasTaken xs ws behind none ps → first_pair misfit xs ws ≡ None → IsParted (Words xs) ws ps
-all_taken xs ws behind none ps same empty h fit =
-    let more : ps ≡ h.more = h.parts ∙ ap (λ k. k ++ h.more) empty in
+front_count : (xs : List Want) (ws behind : List Word) (ps qs : List Part) (h : HasTaken xs ws behind ps qs) → length h.front ≡ length xs
+front_count xs ws behind ps qs h =
     let counted = terms_count h.front (map term_of h.more) h.terms in
     let many = many_wants h.more in
     let wide = ap length h.wanted in
+    omega arith
+
+-- how many words are left
+pub left_count : (xs : List Want) (ws behind : List Word) (ps qs : List Part) → HasTaken xs ws behind ps qs → length ws ≡ length xs + length behind
+left_count xs ws behind ps qs h = omega (arith, ap length h.words, length-append h.front behind, front_count xs ws behind ps qs h)
+
+-- as many words as wants say the parts that are wanted
+pub whole_taken : (xs : List Want) (ws behind : List Word) (none ps : List Part) → length ws ≡ length xs → none ≡ [] → HasTaken xs ws behind none ps → AreTerms ws (map term_of ps) × (xs ≡ map want_of (map term_of ps))
+whole_taken xs ws behind none ps same empty h =
+    let more : ps ≡ h.more = h.parts ∙ ap (λ k. k ++ h.more) empty in
     let whole = ap length h.words in
-    let front : ws ≡ h.front = h.words ∙ nothing_left h.front behind (omega arith) in
+    let counted = front_count xs ws behind none ps h in
+    let front : ws ≡ h.front = h.words ∙ nothing_left h.front behind (omega arith) in (
+      subst (λ k. AreTerms k (map term_of ps)) (sym front) (subst (λ k. AreTerms h.front (map term_of k)) (sym more) h.terms),
+      sym h.wanted ∙ ap (λ k. map want_of (map term_of k)) (sym more),
+    )
+
+-- words of a fixed number are parted
+pub all_taken : (xs : List Want) (ws behind : List Word) (none ps : List Part) → length ws ≡ length xs → none ≡ [] → HasTaken xs ws behind none ps → first_pair misfit xs ws ≡ None → IsParted (Words xs) ws ps None
+all_taken xs ws behind none ps same empty h fit =
+    let whole = whole_taken xs ws behind none ps same empty h in
     record {
-      formats = None;
       has = refl;
       count = eq-eqb (length ws) (length xs) same;
       fit = fit;
-      wanted = sym h.wanted ∙ ap (λ k. map want_of (map term_of k)) (sym more);
-      terms = subst (λ k. AreTerms k (map term_of ps)) (sym front) (subst (λ k. AreTerms h.front (map term_of k)) (sym more) h.terms);
+      wanted = whole.1;
+      terms = whole.0;
     }
+
+terms_passed : (front behind : List Word) (ts : List Term) (ys : List Want) → AreTerms front ts → first_pair misfit (map want_of ts ++ ys) (front ++ behind) ≡ first_pair misfit ys behind
+terms_passed [] behind [] ys h = refl
+terms_passed [] behind (t ∷ ts) ys h = absurd h
+terms_passed (w ∷ ws) behind [] ys h = absurd h
+terms_passed (w ∷ ws) behind (t ∷ ts) ys h = ap (λ k. first_of k (first_pair misfit (map want_of ts ++ ys) (ws ++ behind))) (term_right w t h.0) ∙ terms_passed ws behind ts ys h.1
+
+-- what is wrong with words stands behind those that are parts
+pub behind_taken : (xs ys : List Want) (ws behind : List Word) (ps qs : List Part) → HasTaken xs ws behind ps qs → first_pair misfit (xs ++ ys) ws ≡ first_pair misfit ys behind
+behind_taken xs ys ws behind ps qs h =
+    ap (λ k. first_pair misfit (k ++ ys) ws) (sym h.wanted) ∙ ap (first_pair misfit (map want_of (map term_of h.more) ++ ys)) h.words ∙ terms_passed h.front behind (map term_of h.more) ys h.terms
+
+two_in_front : (front behind ws : List Word) → length front ≡ 2 → ws ≡ front ++ behind → argument_words ws ≡ behind
+two_in_front [] behind ws h e = absurd (omega arith)
+two_in_front (w ∷ []) behind ws h e = absurd (omega arith)
+two_in_front (w ∷ x ∷ []) behind ws h e = ap argument_words e
+two_in_front (w ∷ x ∷ y ∷ front) behind ws h e = absurd (omega arith)
+
+-- the words behind a target and a format
+pub arguments_left : (ws behind : List Word) (ps qs : List Part) → HasTaken format_wants ws behind ps qs → argument_words ws ≡ behind
+arguments_left ws behind ps qs h = two_in_front h.front behind ws (front_count format_wants ws behind ps qs h) h.words

@@ -4,7 +4,7 @@ use Rattle.cord_script.specs.declared.grammar.Verb.{Verb}
 use Rattle.cord_script.specs.declared.parts.Part.{Part}
 use Rattle.cord_script.specs.declared.words.Word.{Word}
 use Rattle.cord_script.specs.declared.statements.Statement.{Statement}
-use Rattle.cord_script.specs.Script.{Before, Says, spoken, after, names_after, paths_after, blocks_after}
+use Rattle.cord_script.specs.Script.{Before, Says, whole, after, names_after, paths_after, blocks_after}
 use Rattle.cord_script.specs.Parted.{term_of}
 use Rattle.cord_script.specs.Verbal.{verb_effect}
 
@@ -18,5 +18,5 @@ left_after verb n ps before = record {
 
 -- what the words of line n say behind these lines, and what is left after it
 pub record SaysBehind (n : ℕ) (old new : Before) (words : List Word) (s : Statement) : Type 0 where
-  pub says : Says spoken n old words s
+  pub says : Says whole n old words s
   pub leaves : after s old ≡ new

@@ -18,7 +18,7 @@ use Rattle.cord_script.specs.Tests.{is_name, begins_numeral, numeral_of, is_path
 use Rattle.cord_script.specs.Forms.{Grammar, Shape, Form, Effect, form_in}
 use Rattle.cord_script.specs.Forms.Shape.{Words, Joined, Printed}
 use Rattle.cord_script.specs.Forms.Effect.{Stays, OpensRepeat, OpensIf, Turns, Closes}
-use Rattle.cord_script.specs.Script.{Before, Block, start, kind_of, is_among, after_all, LinesSay, spoken}
+use Rattle.cord_script.specs.Script.{Before, Block, start, kind_of, is_among, after_all, LinesSay, whole}
 use Rattle.cord_script.specs.Script.Block.{InRepeat, InIf, InElse}
 
 -- the first that is something
@@ -278,4 +278,4 @@ FlawBy g b n kind = IsTooBig b n kind ⊎ StopsAt g b n kind ⊎ LeavesOpen g b 
 
 -- The first thing wrong in a script's bytes is of this kind at line n.
 abbrev pub Flaw : List ℕ → ℕ → RefusalKind → Type 0
-Flaw b n kind = FlawBy spoken b n kind
+Flaw b n kind = FlawBy whole b n kind

@@ -1,4 +1,5 @@
 pub mod Behind
+pub mod Built
 pub mod Flaws
 pub mod Formats
 pub mod Forms

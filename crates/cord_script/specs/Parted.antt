@@ -1,19 +1,24 @@
 -- What the parts of a statement say, and what the builders take.
 use Rattle.std.specs.Prelude.{◌≡◌, ℕ, List, [], ◌∷◌, ◌++◌, map, Bool, true, ◌&&◌, ◌||◌, not, ◌==◌, nat_le, nat_lt, Option, Some, None, length}
+use Rattle.cord_printf.specs.declared.pieces.Piece.{Piece}
+use Rattle.cord_printf.specs.Format.{IsFormat, IsBadAt}
 use Rattle.cord_script.specs.declared.TheConstants.{MAX_PATH}
 use Rattle.cord_script.specs.declared.kinds.Want.{Want}
 use Rattle.cord_script.specs.declared.kinds.Want.TheVariants as wants
 use Rattle.cord_script.specs.declared.parts.Part.{Part}
 use Rattle.cord_script.specs.declared.parts.Part.TheVariants as parts
 use Rattle.cord_script.specs.declared.words.Word.{Word}
+use Rattle.cord_script.specs.declared.words.Word.TheVariants.{Quoted}
 use Rattle.cord_script.specs.declared.refusals.RefusalKind.{RefusalKind}
 use Rattle.cord_script.specs.declared.refusals.RefusalKind.TheVariants.{WrongCount}
 use Rattle.cord_script.specs.Tests.{each, is_letter, is_digit}
 use Rattle.cord_script.specs.Forms.{Term}
 use Rattle.cord_script.specs.Forms.Term.{Target, Operand, Value, Literal, FilePath, Applies, Compares, Formats}
 use Rattle.cord_script.specs.Forms.{Shape, Form}
+use Rattle.cord_script.specs.Forms.Shape.{Printed}
+use Rattle.cord_script.specs.Formats.{wants_of_pieces}
 use Rattle.cord_script.specs.Script.{Before, IsTerm, AreTerms, AreAllowed, FitsBlocks}
-use Rattle.cord_script.specs.Flaws.{first_of, unless, is_count, words_flaw, wants_of, HasFormat}
+use Rattle.cord_script.specs.Flaws.{first_of, unless, is_count, first_misfit, words_flaw, wants_of, HasFormat}
 
 -- what a term has to be
 abbrev pub want_of : Term → Want
@@ -66,13 +71,31 @@ pub record HasTaken (xs : List Want) (old new : List Word) (ps qs : List Part) :
   pub terms : AreTerms front (map term_of more)
   pub wanted : map want_of (map term_of more) ≡ xs
 
+-- the number of the words, or the first of them that is wrong
+abbrev pub counted_misfit : List Want → List Word → Option RefusalKind
+counted_misfit xs ws = first_of (unless (length ws == length xs) WrongCount) (first_misfit xs ws)
+
+-- what a text is read as, none where it is no format
+abbrev pub IsReadAs : List ℕ → Option (List Piece) → Type 0
+IsReadAs text None = (offset : ℕ) × IsBadAt text offset
+IsReadAs text (Some pieces) = IsFormat text pieces
+
+-- what the text of a `sprintf` is read as; no other statement has a format
+abbrev pub IsFormatOf : Shape → List Word → Option (List Piece) → Type 0
+IsFormatOf Printed (target ∷ Quoted text ∷ ws) format = IsReadAs text format
+IsFormatOf _ ws format = format ≡ None
+
+-- what the conversions of a format want
+abbrev pub wanted_by : Option (List Piece) → Option (List Want)
+wanted_by None = None
+wanted_by (Some pieces) = Some (wants_of_pieces pieces)
+
 -- the words behind a statement's word say these parts, and neither their number nor any of them is wrong
-pub record IsParted (shape : Shape) (ws : List Word) (ps : List Part) : Type 0 where
-  pub formats : Option (List Want)
-  pub has : HasFormat shape ws formats
+pub record IsParted (shape : Shape) (ws : List Word) (ps : List Part) (format : Option (List Piece)) : Type 0 where
+  pub has : IsFormatOf shape ws format
   pub count : is_count shape (length ws) ≡ true
-  pub fit : words_flaw shape formats ws ≡ None
-  pub wanted : wants_of shape formats ws ≡ map want_of (map term_of ps)
+  pub fit : words_flaw shape (wanted_by format) ws ≡ None
+  pub wanted : wants_of shape (wanted_by format) ws ≡ map want_of (map term_of ps)
   pub terms : AreTerms ws (map term_of ps)
 
 -- the number of the words or the words are wrong
@@ -80,7 +103,7 @@ abbrev pub HasPartFlaw : Shape → List Word → RefusalKind → Type 0
 HasPartFlaw shape ws kind = (formats : Option (List Want)) × HasFormat shape ws formats × (first_of (unless (is_count shape (length ws)) WrongCount) (words_flaw shape formats ws) ≡ Some kind)
 
 -- nothing is wrong with the words behind a statement's word, which say these parts
-pub record IsChecked (form : Form) (before : Before) (ws : List Word) (ps : List Part) : Type 0 where
-  pub parted : IsParted form.shape ws ps
+pub record IsChecked (form : Form) (before : Before) (ws : List Word) (ps : List Part) (format : Option (List Piece)) : Type 0 where
+  pub parted : IsParted form.shape ws ps format
   pub allowed : AreAllowed before (map term_of ps)
   pub fits : FitsBlocks form.effect before.blocks

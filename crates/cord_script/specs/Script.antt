@@ -1,5 +1,5 @@
 -- What a script's bytes say: kinds of names, paths, open blocks, statements.
-use Rattle.std.specs.Prelude.{◌≡◌, ◌≢◌, ℕ, ◌+◌, ◌<◌, ◌≤◌, ◌⊎◌, List, [], ◌∷◌, ◌++◌, map, length, Bool, true, false, not, ◌||◌, Option, Some, None, is_some, if◌then◌else◌, codes}
+use Rattle.std.specs.Prelude.{◌≡◌, ◌≢◌, ℕ, ◌+◌, ◌<◌, ◌≤◌, ◌⊎◌, List, [], ◌∷◌, ◌++◌, map, length, Bool, true, false, not, ◌||◌, Option, Some, None, is_some, if◌then◌else◌}
 use Rattle.std.specs.Str.{bytes_eq}
 use Rattle.cord_printf.specs.Format.{IsFormat}
 use Rattle.cord_script.specs.declared.TheConstants.{MAX_SCRIPT, MAX_LINES, MAX_NAMES, MAX_PATHS, MAX_BLOCKS, MIN_PARTS, MAX_PARTS}
@@ -176,10 +176,6 @@ whole = record { has = λ w. true }
 abbrev pub without_branches : Grammar
 without_branches = record { has = λ w. not (is_branch w) }
 
--- The grammar that `parse` reads today: `let` and `put`.
-abbrev pub spoken : Grammar
-spoken = record { has = λ w. bytes_eq w (codes "let") || bytes_eq w (codes "put") }
-
 -- The script's bytes are these statements.
 abbrev pub Reads : List ℕ → List Statement → Type 0
-Reads b ss = ReadsBy spoken b ss
+Reads b ss = ReadsBy whole b ss

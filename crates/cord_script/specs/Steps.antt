@@ -4,7 +4,7 @@ use Rattle.cord_script.specs.declared.words.Word.{Word}
 use Rattle.cord_script.specs.declared.statements.Statement.{Statement}
 use Rattle.cord_script.specs.declared.refusals.RefusalKind.{RefusalKind}
 use Rattle.cord_script.specs.Words.{IsIdle, IsSplit, HasWords, HasBadBytes}
-use Rattle.cord_script.specs.Script.{Before, LinesSay, spoken, start, after_all}
+use Rattle.cord_script.specs.Script.{Before, LinesSay, whole, start, after_all}
 use Rattle.cord_script.specs.Flaws.{HasBadWords}
 use Rattle.cord_script.specs.Behind.{SaysBehind}
 
@@ -19,12 +19,12 @@ Takes n line old new ss grown = (found : Option Statement) × Tells n line old n
 
 -- what is wrong with a line behind the lines before it
 abbrev pub HasWrong : List ℕ → Before → RefusalKind → Type 0
-HasWrong line before kind = (¬ IsIdle line) × (HasBadBytes line kind ⊎ ((words : List Word) × HasWords line words × HasBadWords spoken before words kind))
+HasWrong line before kind = (¬ IsIdle line) × (HasBadBytes line kind ⊎ ((words : List Word) × HasWords line words × HasBadWords whole before words kind))
 
 -- the lines that were read in front of the rest, what they say, and what they leave
 pub record HasRead (b rest : List ℕ) (n : ℕ) (before : Before) (statements : List Statement) : Type 0 where
   pub front : List (List ℕ)
   pub split : (later : List (List ℕ)) → IsSplit rest later → IsSplit b (front ++ later)
-  pub say : LinesSay spoken 1 start front statements
+  pub say : LinesSay whole 1 start front statements
   pub number : n ≡ length front + 1
   pub leaves : after_all statements start ≡ before

@@ -98,12 +98,6 @@ abbrev pub form_at : Option Verb → Option Form
 form_at None = None
 form_at (Some v) = form_of (verb_word v)
 
--- a verb of a statement that is read today
-abbrev pub is_spoken : Verb → Bool
-is_spoken verbs.Let = true
-is_spoken verbs.Put = true
-is_spoken _ = false
-
 -- what a statement of the verb does to the open blocks
 abbrev pub verb_effect : Verb → Effect
 verb_effect verbs.Repeat = OpensRepeat
@@ -174,9 +168,3 @@ is_control verbs.If = true
 is_control verbs.Else = true
 is_control verbs.End = true
 is_control _ = false
-
--- a verb whose words are of a fixed number
-abbrev pub is_plain : Verb → Bool
-is_plain verbs.Catn = false
-is_plain verbs.Sprintf = false
-is_plain _ = true

@@ -1,14 +1,17 @@
 // Statements of their parts, family by family.
-ghost use Rattle.std.specs.Prelude.{◌≡◌, map, true};
+ghost use Rattle.std.specs.Prelude.{◌≡◌, map, true, IfOk, IfErr};
 ghost use Rattle.cord_script.specs.Forms.{line_of, word_of, terms_of};
 ghost use Rattle.cord_script.specs.Script.{Suits};
 ghost use Rattle.cord_script.specs.Parted.{want_of};
-ghost use Rattle.cord_script.specs.Verbal.{verb_word, verb_wants, is_source, is_simple, is_growth, is_look, is_search, is_count, is_control, is_plain};
+ghost use Rattle.cord_script.specs.Verbal.{verb_word, verb_wants, is_source, is_simple, is_growth, is_look, is_search, is_count, is_control};
+ghost use Rattle.cord_script.specs.Built.{IsJoined, IsPrinted, IsWorded};
 
-use crate::Statement;
 use crate::cursor::Parts;
 use crate::grammar::Verb;
 use crate::kinds::Kind;
+use crate::{RefusalKind, Statement};
+use cord_printf::Format;
+use std::alloc::Global;
 
 // A statement that makes a cord from outside the script or of its words.
 fn source_of(verb: Verb, line: u32, mut parts: Parts) -> Statement
@@ -273,30 +276,83 @@ fn control_of(verb: Verb, line: u32, mut parts: Parts) -> Statement
     }
 }
 
-/// The statement of a verb whose words are of a fixed number.
-pub fn plain_statement(verb: Verb, line: u32, parts: Parts) -> Statement
-    requires plain { is_plain verb ≡ true }
-    requires wants { map want_of parts ≡ verb_wants verb }
-    ensures word { word_of result ≡ verb_word verb }
-    ensures line { line_of result ≡ line }
-    ensures terms { terms_of result ≡ parts }
-    ensures suits { Suits result }
+// A `catn`.
+fn joined_of(alloc: Global, line: u32, mut parts: Parts) -> Result<Statement, RefusalKind>
+    requires { IsJoined parts }
+    ensures word { IfOk result (λ s. word_of s ≡ verb_word Verb.Catn) }
+    ensures line { IfOk result (λ s. line_of s ≡ line) }
+    ensures terms { IfOk result (λ s. terms_of s ≡ parts) }
+    ensures suits { IfOk result Suits }
+    ensures flaw { IfErr result (λ kind. kind ≡ RefusalKind.NoMemory) }
+{
+    let target = parts.target(Kind::Cord);
+    let parts = parts.cords(alloc)?;
+    Ok(Statement::Catn {
+        line,
+        target,
+        parts,
+    })
+}
+
+// A `sprintf`.
+fn printed_of(
+    alloc: Global,
+    line: u32,
+    format: Option<Format>,
+    mut parts: Parts,
+) -> Result<Statement, RefusalKind>
+    requires { IsPrinted format parts }
+    ensures word { IfOk result (λ s. word_of s ≡ verb_word Verb.Sprintf) }
+    ensures line { IfOk result (λ s. line_of s ≡ line) }
+    ensures terms { IfOk result (λ s. terms_of s ≡ parts) }
+    ensures suits { IfOk result Suits }
+    ensures flaw { IfErr result (λ kind. kind ≡ RefusalKind.NoMemory) }
+{
+    let Some(format) = format else { unreachable!() };
+    let target = parts.target(Kind::Cord);
+    let text = parts.format();
+    let arguments = parts.arguments(alloc)?;
+    Ok(Statement::Sprintf {
+        line,
+        target,
+        text,
+        format,
+        arguments,
+    })
+}
+
+/// The statement of a verb and its parts, and what the text of a `sprintf` is read as.
+pub fn statement_of(
+    alloc: Global,
+    verb: Verb,
+    line: u32,
+    format: Option<Format>,
+    parts: Parts,
+) -> Result<Statement, RefusalKind>
+    requires { IsWorded verb parts format }
+    ensures word { IfOk result (λ s. word_of s ≡ verb_word verb) }
+    ensures line { IfOk result (λ s. line_of s ≡ line) }
+    ensures terms { IfOk result (λ s. terms_of s ≡ parts) }
+    ensures suits { IfOk result Suits }
+    ensures flaw { IfErr result (λ kind. kind ≡ RefusalKind.NoMemory) }
 {
     match verb {
-        Verb::Let | Verb::File | Verb::Eager | Verb::Lazy | Verb::FromFn => source_of(
-            verb, line, parts,
-        ),
-        Verb::Chars | Verb::Nul | Verb::Cat | Verb::Catc | Verb::Substr | Verb::Balance =>
-            simple_of(verb, line, parts),
-        Verb::EcToCord | Verb::EcInit | Verb::EcPut | Verb::EcCat | Verb::EcStr => growth_of(
-            verb, line, parts,
-        ),
-        Verb::Len | Verb::Fetch | Verb::Cmp | Verb::Ncmp => look_of(verb, line, parts),
-        Verb::Str | Verb::Chr | Verb::Rchr => search_of(verb, line, parts),
-        Verb::Assign | Verb::Add | Verb::Sub => count_of(verb, line, parts),
-        Verb::Put | Verb::Repeat | Verb::If | Verb::Else | Verb::End => control_of(
-            verb, line, parts,
-        ),
-        Verb::Catn | Verb::Sprintf => unreachable!(),
+        Verb::Let | Verb::File | Verb::Eager | Verb::Lazy | Verb::FromFn => {
+            Ok(source_of(verb, line, parts))
+        }
+        Verb::Chars | Verb::Nul | Verb::Cat | Verb::Catc | Verb::Substr | Verb::Balance => {
+            Ok(simple_of(verb, line, parts))
+        }
+        Verb::EcToCord | Verb::EcInit | Verb::EcPut | Verb::EcCat | Verb::EcStr => {
+            Ok(growth_of(verb, line, parts))
+        }
+        Verb::Len | Verb::Fetch | Verb::Cmp | Verb::Ncmp => Ok(look_of(verb, line, parts)),
+        Verb::Str | Verb::Chr | Verb::Rchr => Ok(search_of(verb, line, parts)),
+        Verb::Assign | Verb::Add | Verb::Sub => Ok(count_of(verb, line, parts)),
+        Verb::Put | Verb::Repeat | Verb::If | Verb::Else | Verb::End => {
+            Ok(control_of(verb, line, parts))
+        }
+        Verb::Catn => joined_of(alloc, line, parts),
+        Verb::Sprintf => printed_of(alloc, line, format, parts),
     }
 }

@@ -1,11 +1,16 @@
 // The parts of a statement, taken from left to right.
-ghost use Rattle.std.specs.Prelude.{◌≡◌, ◌∷◌, Some, map};
+ghost use Rattle.std.specs.Prelude.{◌≡◌, ◌≢◌, ◌==◌, ◌∷◌, Some, IfErr, IfOk, true, length, map};
+ghost use Rattle.cord_script.specs.Forms.{argument_term};
 ghost use Rattle.cord_script.specs.Forms.Term.{Target, Operand, Value, Literal, FilePath, Applies, Compares, Formats};
 ghost use Rattle.cord_script.specs.Parted.{term_of, want_of, next_want};
+ghost use Rattle.cord_script.specs.Built.{are_cords, are_arguments};
 
 use crate::kinds::{Kind, Want};
 use crate::parts::Part;
-use crate::{Function, Name, Number, Path, Relation, Text};
+use crate::{
+    Argument, Arguments, Function, Name, Names, Number, Path, RefusalKind, Relation, Text,
+};
+use std::alloc::Global;
 use std::collections::VecDeque;
 use std::marker::Model;
 
@@ -123,5 +128,57 @@ impl Parts {
             unreachable!()
         };
         text
+    }
+
+    // Whether all parts are taken.
+    fn is_empty(&self) -> bool
+        ensures { result ≡ (length self.now == 0) }
+    {
+        self.rest.is_empty()
+    }
+
+    // An argument of a format.
+    fn argument(&mut self) -> Argument
+        requires some { length self.old ≢ 0 }
+        requires wants { are_arguments (map want_of self.old) ≡ true }
+        ensures { self.old ≡ argument_term result ∷ self.new }
+    {
+        match self.rest.pop_front() {
+            Some(Part::Value(number)) => Argument::Number(number),
+            Some(Part::Operand(_, name)) => Argument::Cord(name),
+            _ => unreachable!(),
+        }
+    }
+
+    /// The parts that are left, each the name of a cord.
+    pub fn cords(mut self, alloc: Global) -> Result<Names, RefusalKind>
+        requires { are_cords (map want_of self) ≡ true }
+        ensures names { IfOk result (λ names. self ≡ map (Operand Kind.Cord) names) }
+        ensures flaw { IfErr result (λ kind. kind ≡ RefusalKind.NoMemory) }
+    {
+        let mut names = Vec::new(alloc);
+        'cords: while !self.is_empty() {
+            let name = self.operand(Kind::Cord);
+            if names.push(name).is_err() {
+                return Err(RefusalKind::NoMemory);
+            }
+        }
+        Ok(Names::of(names))
+    }
+
+    /// The parts that are left, each an argument of a format.
+    pub fn arguments(mut self, alloc: Global) -> Result<Arguments, RefusalKind>
+        requires { are_arguments (map want_of self) ≡ true }
+        ensures arguments { IfOk result (λ arguments. self ≡ map argument_term arguments) }
+        ensures flaw { IfErr result (λ kind. kind ≡ RefusalKind.NoMemory) }
+    {
+        let mut arguments = Vec::new(alloc);
+        'arguments: while !self.is_empty() {
+            let argument = self.argument();
+            if arguments.push(argument).is_err() {
+                return Err(RefusalKind::NoMemory);
+            }
+        }
+        Ok(Arguments::of(arguments))
     }
 }

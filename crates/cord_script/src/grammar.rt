@@ -1,8 +1,8 @@
 // The statements' words, and what the words behind them have to be.
-ghost use Rattle.std.specs.Prelude.{◌≡◌, MatchOption, IfSome, Some, None, true};
+ghost use Rattle.std.specs.Prelude.{◌≡◌, MatchOption, IfSome, Some, None};
 ghost use Rattle.cord_script.specs.Forms.{form_in};
-ghost use Rattle.cord_script.specs.Script.{spoken};
-ghost use Rattle.cord_script.specs.Verbal.{verb_word, verb_wants, verb_form, find_verb, is_spoken, is_plain};
+ghost use Rattle.cord_script.specs.Script.{whole};
+ghost use Rattle.cord_script.specs.Verbal.{verb_word, verb_wants, verb_form, find_verb};
 
 use crate::kinds::{Kind, Want};
 
@@ -94,28 +94,11 @@ fn find_verb(verbs: &[Verb], word: &[u8]) -> Option<Verb>
     None
 }
 
-// The verb of a word in the grammar with all statements.
-fn whole_verb_of(word: &[u8]) -> Option<Verb>
-    ensures verb { result ≡ find_verb VERBS word.now }
-    ensures word { IfSome result (λ verb. word.now ≡ verb_word verb) }
-{
-    find_verb(&VERBS, word)
-}
-
-// Whether the statement of a verb is read today.
-fn is_spoken(verb: Verb) -> bool
-    ensures { result ≡ is_spoken verb }
-{
-    matches!(verb, Verb::Let | Verb::Put)
-}
-
-#[tactic(auto, using(crate::proofs::Tabled::no_form, crate::proofs::Tabled::not_spoken, crate::proofs::Tabled::spoken_form))]
 /// The verb of a word, if it is a statement's word.
 pub fn verb_of(word: &[u8]) -> Option<Verb>
-    ensures { MatchOption result (form_in spoken word.now ≡ None) (λ verb. (word.now ≡ verb_word verb) × (form_in spoken word.now ≡ Some (verb_form verb)) × (is_plain verb ≡ true)) }
+    ensures { MatchOption result (form_in whole word.now ≡ None) (λ verb. (word.now ≡ verb_word verb) × (form_in whole word.now ≡ Some (verb_form verb))) }
 {
-    let verb = whole_verb_of(word)?;
-    if is_spoken(verb) { Some(verb) } else { None }
+    find_verb(&VERBS, word)
 }
 
 // The word of a verb.

@@ -1,19 +1,19 @@
 // What a line says behind the lines before it.
-ghost use Rattle.std.specs.Prelude.{◌≡◌, ◌≢◌, [], true, Some, IfOk, IfErr, OnOk};
+ghost use Rattle.std.specs.Prelude.{◌≡◌, ◌≢◌, [], Some, IfOk, IfErr, OnOk};
 ghost use Rattle.cord_script.specs.Flaws.{HasFormFlaw, HasBadWords};
-ghost use Rattle.cord_script.specs.Script.{spoken};
+ghost use Rattle.cord_script.specs.Script.{whole};
 ghost use Rattle.cord_script.specs.Leaves.{before_of};
 ghost use Rattle.cord_script.specs.Parted.{IsChecked};
 ghost use Rattle.cord_script.specs.Behind.{left_after, SaysBehind};
-ghost use Rattle.cord_script.specs.Verbal.{verb_form, is_plain};
+ghost use Rattle.cord_script.specs.Verbal.{verb_form};
 
 use crate::before::{Left, add_names, add_paths, names_flaw};
 use crate::blocks::{block_flaw, set_blocks};
-use crate::builds::plain_statement;
+use crate::builds::statement_of;
 use crate::cursor::Parts;
 use crate::grammar::{Verb, verb_of};
 use crate::parts::Part;
-use crate::taking::parts_of;
+use crate::taking::{Worded, parts_of};
 use crate::words::Word;
 use crate::{RefusalKind, Statement};
 use std::alloc::Global;
@@ -25,19 +25,18 @@ fn checked_parts(
     left: &Left,
     verb: Verb,
     words: VecDeque<Word>,
-) -> Result<Vec<Part>, RefusalKind>
-    requires { is_plain verb ≡ true }
-    ensures parts { IfOk result (λ parts. IsChecked (verb_form verb) (before_of left.now) words.items parts.items) }
+) -> Result<Worded, RefusalKind>
+    ensures parts { IfOk result (λ worded. IsChecked (verb_form verb) (before_of left.now) words.items worded.parts.items worded.format) }
     ensures flaw { IfErr result (λ kind. kind ≢ RefusalKind.NoMemory → HasFormFlaw (before_of left.now) (Some (verb_form verb)) words.items kind) }
 {
-    let parts = parts_of(alloc, verb, words)?;
-    if let Some(kind) = names_flaw(left, &parts) {
+    let worded = parts_of(alloc, verb, words)?;
+    if let Some(kind) = names_flaw(left, &worded.parts) {
         return Err(kind);
     }
     if let Some(kind) = block_flaw(verb, &left.blocks) {
         return Err(kind);
     }
-    Ok(parts)
+    Ok(worded)
 }
 
 // What a line leaves behind what the lines before it leave.
@@ -65,7 +64,7 @@ pub fn said(
 ) -> Result<Statement, RefusalKind>
     requires { words.items ≢ [] }
     ensures said { IfOk result (SaysBehind number (before_of left.old) (before_of left.new) words.items) }
-    ensures flaw { IfErr result (λ kind. kind ≢ RefusalKind.NoMemory → HasBadWords spoken (before_of left.old) words.items kind) }
+    ensures flaw { IfErr result (λ kind. kind ≢ RefusalKind.NoMemory → HasBadWords whole (before_of left.old) words.items kind) }
 {
     let mut words = VecDeque::from_vec(words);
     let Some(Word::Plain(word)) = words.pop_front() else {
@@ -74,7 +73,7 @@ pub fn said(
     let Some(verb) = verb_of(word.as_slice()) else {
         return Err(RefusalKind::UnknownStatement);
     };
-    let parts = checked_parts(alloc, left, verb, words)?;
+    let Worded { parts, format } = checked_parts(alloc, left, verb, words)?;
     leave(alloc, verb, number, left, &parts)?;
-    Ok(plain_statement(verb, number, Parts::of(parts)))
+    statement_of(alloc, verb, number, format, Parts::of(parts))
 }

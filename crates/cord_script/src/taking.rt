@@ -1,17 +1,35 @@
 // What the words behind a statement's word say.
-ghost use Rattle.std.specs.Prelude.{◌≡◌, true, ◌≢◌, ◌≤◌, length, IfOk, IfErr, OnOk, Some, None};
-ghost use Rattle.cord_script.specs.Forms.Shape.{Words};
+ghost use Rattle.std.specs.Prelude.{◌≡◌, ◌≢◌, ◌≤◌, length, IfOk, IfErr, OnOk};
+ghost use Rattle.cord_script.specs.Forms.Shape.{Words, Joined, Printed};
+ghost use Rattle.cord_script.specs.Formats.{want_of_kind, wants_of_pieces};
 ghost use Rattle.cord_script.specs.Flaws.{first_pair, misfit};
-ghost use Rattle.cord_script.specs.Parted.{HasTaken, IsParted, HasPartFlaw};
-ghost use Rattle.cord_script.specs.Verbal.{verb_shape, is_plain};
+ghost use Rattle.cord_script.specs.Parted.{HasTaken, counted_misfit, IsFormatOf, IsParted, HasPartFlaw};
+ghost use Rattle.cord_script.specs.Verbal.{verb_shape};
 
-use crate::RefusalKind;
 use crate::grammar::{Verb, wants_of};
-use crate::kinds::Want;
+use crate::kinds::{Kind, Want};
 use crate::parts::{Part, part_of};
 use crate::words::Word;
+use crate::{MAX_PARTS, MIN_PARTS, RefusalKind};
+use cord_printf::{ArgKind, Format, FormatError, Piece};
 use std::alloc::Global;
 use std::collections::VecDeque;
+
+/// The parts of a statement, and what the text of a `sprintf` is read as.
+#[derive(Drop)]
+pub struct Worded {
+    pub parts: Vec<Part>,
+    pub format: Option<Format>,
+}
+
+// The target of a `catn`.
+const TARGET: [Want; 1] = [Want::Target(Kind::Cord)];
+
+// As many cords as a `catn` may have.
+const CORDS: [Want; MAX_PARTS] = [Want::Operand(Kind::Cord); MAX_PARTS];
+
+// The target and the format of a `sprintf`.
+const FORMAT: [Want; 2] = [Want::Target(Kind::Cord), Want::Format];
 
 // Takes a word for each want, from left to right.
 fn take_parts(
@@ -36,28 +54,129 @@ fn take_parts(
     Ok(())
 }
 
+// Takes all words, one for each want.
+fn take_all(
+    wants: &[Want],
+    words: &mut VecDeque<Word>,
+    parts: &mut Vec<Part>,
+) -> Result<(), RefusalKind>
+    ensures count { OnOk result (length words.old.items ≡ length wants.now) }
+    ensures taken { OnOk result (HasTaken wants.now words.old.items words.new.items parts.old.items parts.new.items) }
+    ensures fit { OnOk result (first_pair misfit wants.now words.old.items ≡ None) }
+    ensures flaw { IfErr result (λ kind. kind ≢ RefusalKind.NoMemory → counted_misfit wants.now words.old.items ≡ Some kind) }
+{
+    if words.len() != wants.len() {
+        return Err(RefusalKind::WrongCount);
+    }
+    take_parts(wants, words, parts)
+}
+
 // The parts of words that have to be these.
 fn plain_parts(
     alloc: Global,
     wants: &[Want],
     mut words: VecDeque<Word>,
-) -> Result<Vec<Part>, RefusalKind>
-    ensures parts { IfOk result (λ parts. IsParted (Words wants.now) words.items parts.items) }
+) -> Result<Worded, RefusalKind>
+    ensures parts { IfOk result (λ worded. IsParted (Words wants.now) words.items worded.parts.items worded.format) }
     ensures flaw { IfErr result (λ kind. kind ≢ RefusalKind.NoMemory → HasPartFlaw (Words wants.now) words.items kind) }
 {
-    if words.len() != wants.len() {
+    let mut parts = Vec::new(alloc);
+    take_all(wants, &mut words, &mut parts)?;
+    Ok(Worded {
+        parts,
+        format: None,
+    })
+}
+
+// The parts of words that have to be a target and 2 to 16 cords.
+fn joined_parts(alloc: Global, mut words: VecDeque<Word>) -> Result<Worded, RefusalKind>
+    ensures parts { IfOk result (λ worded. IsParted Joined words.items worded.parts.items worded.format) }
+    ensures flaw { IfErr result (λ kind. kind ≢ RefusalKind.NoMemory → HasPartFlaw Joined words.items kind) }
+{
+    let count = words.len();
+    if count < 1 + MIN_PARTS || count > 1 + MAX_PARTS {
         return Err(RefusalKind::WrongCount);
     }
     let mut parts = Vec::new(alloc);
-    take_parts(wants, &mut words, &mut parts)?;
-    Ok(parts)
+    take_parts(&TARGET, &mut words, &mut parts)?;
+    take_parts(&CORDS[..count - 1], &mut words, &mut parts)?;
+    Ok(Worded {
+        parts,
+        format: None,
+    })
+}
+
+// What the second word is read as: no format where it is a plain word, or the text of none.
+fn format_in(alloc: Global, words: &VecDeque<Word>) -> Result<Option<Format>, RefusalKind>
+    ensures format { IfOk result (λ format. IsFormatOf Printed words.now.items format) }
+    ensures flaw { IfErr result (λ kind. kind ≡ RefusalKind.NoMemory) }
+{
+    let Some(Word::Quoted(text)) = words.get(1) else {
+        return Ok(None);
+    };
+    match Format::parse(alloc, text.as_slice()) {
+        Ok(format) => Ok(Some(format)),
+        Err(FormatError::BadFormat(_)) => Ok(None),
+        Err(FormatError::NoMemory) => Err(RefusalKind::NoMemory),
+    }
+}
+
+// What an argument of a format has to be.
+fn want_of_kind(kind: ArgKind) -> Want
+    ensures { result ≡ want_of_kind kind }
+{
+    match kind {
+        ArgKind::Number => Want::Number,
+        ArgKind::Cord => Want::Operand(Kind::Cord),
+    }
+}
+
+// What the conversions of a format want.
+fn wants_of_pieces(alloc: Global, pieces: &[Piece]) -> Result<Vec<Want>, RefusalKind>
+    ensures wants { IfOk result (λ wants. wants.items ≡ wants_of_pieces pieces.now) }
+    ensures flaw { IfErr result (λ kind. kind ≡ RefusalKind.NoMemory) }
+{
+    let mut wants = Vec::new(alloc);
+    for piece in pieces {
+        let Some(kind) = piece.wants() else { continue };
+        if wants.push(want_of_kind(kind)).is_err() {
+            return Err(RefusalKind::NoMemory);
+        }
+    }
+    Ok(wants)
+}
+
+// The parts of words that have to be a target, a format and its arguments.
+fn printed_parts(alloc: Global, mut words: VecDeque<Word>) -> Result<Worded, RefusalKind>
+    ensures parts { IfOk result (λ worded. IsParted Printed words.items worded.parts.items worded.format) }
+    ensures flaw { IfErr result (λ kind. kind ≢ RefusalKind.NoMemory → HasPartFlaw Printed words.items kind) }
+{
+    if words.len() < 2 {
+        return Err(RefusalKind::WrongCount);
+    }
+    // Before `take_parts` takes the text.
+    let read = format_in(alloc, &words)?;
+    let mut parts = Vec::new(alloc);
+    take_parts(&FORMAT, &mut words, &mut parts)?;
+    let Some(format) = read else {
+        return Err(RefusalKind::BadFormat);
+    };
+    let wants = wants_of_pieces(alloc, format.pieces())?;
+    take_all(&wants, &mut words, &mut parts)?;
+    Ok(Worded {
+        parts,
+        format: Some(format),
+    })
 }
 
 /// The parts of the words behind a verb.
-pub fn parts_of(alloc: Global, verb: Verb, words: VecDeque<Word>) -> Result<Vec<Part>, RefusalKind>
-    requires { is_plain verb ≡ true }
-    ensures parts { IfOk result (λ parts. IsParted (verb_shape verb) words.items parts.items) }
+pub fn parts_of(alloc: Global, verb: Verb, words: VecDeque<Word>) -> Result<Worded, RefusalKind>
+    ensures parts { IfOk result (λ worded. IsParted (verb_shape verb) words.items worded.parts.items worded.format) }
     ensures flaw { IfErr result (λ kind. kind ≢ RefusalKind.NoMemory → HasPartFlaw (verb_shape verb) words.items kind) }
 {
-    plain_parts(alloc, wants_of(verb), words)
+    match verb {
+        Verb::Catn => joined_parts(alloc, words),
+        Verb::Sprintf => printed_parts(alloc, words),
+        _ => plain_parts(alloc, wants_of(verb), words),
+    }
 }

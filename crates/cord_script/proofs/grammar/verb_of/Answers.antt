@@ -1,9 +1,5 @@
-use Rattle.std.proofs.Common.{sym, ◌∙◌}
-use Rattle.cord_script.proofs.Tabled.{spoken_form, spoken_plain}
+use Rattle.cord_script.proofs.Tabled.{found}
 use Rattle.cord_script.proofs.grammar.verb_of.Goals as goal
 
-pub returns-then-is_spoken : goal.returns-then-is_spoken
-returns-then-is_spoken c =
-    let word = c.in_ok-verb.ensures.word in
-    let spoken = sym c.is_spoken.ensures ∙ c.if-is_spoken.true in
-    (word, spoken_form c.in_ok-verb.verb c.args.word.now word spoken, spoken_plain c.in_ok-verb.verb spoken)
+pub returns : goal.returns
+returns c = found c.args.word.now c.find_verb.result c.find_verb.ensures.verb c.find_verb.ensures.word
