@@ -1,6 +1,7 @@
 //! Rows of scripts through `run_text` and `run_unplanned`: the end, and what is written.
 mod expressions;
 mod files;
+mod hostile;
 mod refusals;
 mod rows;
 

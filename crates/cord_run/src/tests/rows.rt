@@ -7,9 +7,9 @@ use cord_meaning::FaultKind::{
 use std::process::Abort;
 
 // A name, a script with ` ; ` between its lines, how it ends, and what it writes.
-type Row = (&'static str, &'static str, End, &'static [u8]);
+pub(super) type Row = (&'static str, &'static str, End, &'static [u8]);
 
-const CORDS: [Row; 13] = [
+pub(super) const CORDS: [Row; 13] = [
     ("empty-script", "", End::Done, b""),
     ("hello", r#"let x "hello" ; put x"#, End::Done, b"hello"),
     (
@@ -80,7 +80,7 @@ const CORDS: [Row; 13] = [
     ),
 ];
 
-const SEARCHES: [Row; 12] = [
+pub(super) const SEARCHES: [Row; 12] = [
     (
         "str-at-later-place",
         r#"let p "ab" ; let q "c" ; catn x p p q ; let s "abc" ; str n x 0 s ; sprintf t "%d" n ; put t"#,
@@ -155,7 +155,7 @@ const SEARCHES: [Row; 12] = [
     ),
 ];
 
-const BLOCKS: [Row; 8] = [
+pub(super) const BLOCKS: [Row; 8] = [
     (
         "doubled-thirty-times",
         r#"let x "ab" ; repeat 30 ; cat x x x ; end ; len n x ; fetch c x 2147483647 ; sprintf z "%d %c" n c ; put z"#,
@@ -201,7 +201,7 @@ const BLOCKS: [Row; 8] = [
     ("turns-at-the-limit", "repeat 1000000 ; end", End::Done, b""),
 ];
 
-const FAULTS: [Row; 15] = [
+pub(super) const FAULTS: [Row; 15] = [
     (
         "fetch-past-end",
         r#"let x "ab" ; put x ; fetch n x 2"#,
