@@ -1,6 +1,10 @@
 //! Rows of scripts through `run_text` and `run_unplanned`: the end, and what is written.
 mod expressions;
 mod makings;
+mod files;
+mod hostile;
+mod refusals;
+mod rows;
 
 use crate::{End, run_text, run_unplanned};
 use cord_io::{FuseSink, MemFiles, MemSink, Sink};
@@ -9,31 +13,54 @@ use std::process::Abort;
 
 const HELLO: &[u8] = b"let x \"hello\"\nput x\n";
 
+// The bytes of a script that is shown with ` ; ` between its lines.
+fn lines(rt: &(impl AllocGlobal + Abort), shown: &str) -> Vec<u8> {
+    let mut script = Vec::new(rt.alloc());
+    for line in shown.split(" ; ") {
+        script
+            .extend_from_slice(line.as_bytes())
+            .expect(rt, "no memory");
+        script.push(b'\n').expect(rt, "no memory");
+    }
+    script
+}
+
 // Runs a script both ways, and compares the end and what is written.
-fn expect_end(rt: &(impl AllocGlobal + Abort), script: &[u8], end: End, written: &[u8]) {
+fn expect_end(
+    rt: &(impl AllocGlobal + Abort),
+    name: &str,
+    script: &[u8],
+    end: End,
+    written: &[u8],
+) {
     let alloc = rt.alloc();
     let mut planned = MemSink::new(alloc);
     let (result, _) = run_text(alloc, script, MemFiles::new(alloc), &mut planned);
-    assert!(rt; result == Ok(end));
-    assert_eq!(rt; planned.bytes(), written);
+    assert!(rt; result == Ok(end), "{name} planned");
+    assert!(rt; planned.bytes() == written, "{name} planned");
     let mut unplanned = MemSink::new(alloc);
     let (result, _) = run_unplanned(alloc, script, MemFiles::new(alloc), &mut unplanned);
-    assert!(rt; result == Ok(end));
-    assert_eq!(rt; unplanned.bytes(), written);
+    assert!(rt; result == Ok(end), "{name} unplanned");
+    assert!(rt; unplanned.bytes() == written, "{name} unplanned");
 }
 
 // Runs a script that is refused, both ways; nothing is written or finished.
-fn expect_refused(rt: &(impl AllocGlobal + Abort), script: &[u8], line: u32, kind: RefusalKind) {
+fn expect_refused(
+    rt: &(impl AllocGlobal + Abort),
+    name: &str,
+    script: &[u8],
+    line: u32,
+    kind: RefusalKind,
+) {
     let alloc = rt.alloc();
     let refusal = Refusal { line, kind };
     let mut sink = FuseSink::new(MemSink::new(alloc), 0, 1);
     let (result, _) = run_text(alloc, script, MemFiles::new(alloc), &mut sink);
-    assert!(rt; result == Err(refusal));
+    assert!(rt; result == Err(refusal), "{name} planned");
     let (result, _) = run_unplanned(alloc, script, MemFiles::new(alloc), &mut sink);
-    assert!(rt; result == Err(refusal));
-    assert_eq!(rt; sink.failures(), 0);
+    assert!(rt; result == Err(refusal), "{name} unplanned");
+    assert!(rt; sink.failures() == 0, "{name}");
 }
-
 // So many copies of a byte behind a text.
 fn filled(rt: &(impl AllocGlobal + Abort), text: &[u8], byte: u8, count: usize) -> Vec<u8> {
     let mut bytes = Vec::from_slice(rt.alloc(), text).expect(rt, "no memory");
@@ -58,110 +85,14 @@ fn names(rt: &(impl AllocGlobal + Abort), count: u16) -> Vec<u8> {
 }
 
 #[test]
-fn empty_script(rt: HostRuntime) {
-    expect_end(&rt, b"", End::Done, b"");
-}
-
-#[test]
-fn hello(rt: HostRuntime) {
-    expect_end(&rt, HELLO, End::Done, b"hello");
-}
-
-#[test]
-fn nul_in_literal(rt: HostRuntime) {
-    expect_end(
-        &rt,
-        b"let x \"a\\x00b\"\nput x\n",
-        End::Done,
-        &[0x61, 0x00, 0x62],
-    );
-}
-
-// A name that is assigned again has the new text from there on, and other names keep theirs.
-#[test]
-fn assigned_again(rt: HostRuntime) {
-    let script = b"let x \"a\"\nlet y \"b\"\nput x\nlet x \"c\"\nput x\nput y\nlet x \"\"\nput x\n";
-    expect_end(&rt, script, End::Done, b"acb");
-}
-
-#[test]
-fn unknown_name(rt: HostRuntime) {
-    expect_refused(&rt, b"put x\n", 1, RefusalKind::UnknownName);
-}
-
-#[test]
-fn let_quote_open(rt: HostRuntime) {
-    expect_refused(&rt, b"let x \"a", 1, RefusalKind::Unterminated);
-}
-
-#[test]
-fn let_bad_escape(rt: HostRuntime) {
-    expect_refused(&rt, b"let x \"\\q\"", 1, RefusalKind::BadEscape);
-}
-
-#[test]
-fn put_two_words(rt: HostRuntime) {
-    expect_refused(&rt, b"put x y", 1, RefusalKind::WrongCount);
-}
-
-#[test]
-fn let_digit_name(rt: HostRuntime) {
-    expect_refused(&rt, b"let 9x \"a\"", 1, RefusalKind::BadName);
-}
-
-#[test]
-fn put_quoted_word(rt: HostRuntime) {
-    expect_refused(&rt, b"put \"x\"", 1, RefusalKind::BadName);
-}
-
-#[test]
-fn let_plain_word(rt: HostRuntime) {
-    expect_refused(&rt, b"let x a", 1, RefusalKind::WrongKind);
-}
-
-#[test]
-fn script_too_big(rt: HostRuntime) {
-    expect_refused(
-        &rt,
-        &filled(&rt, b"", b' ', 1_048_577),
-        0,
-        RefusalKind::TooBig,
-    );
-}
-
-#[test]
-fn too_many_lines(rt: HostRuntime) {
-    expect_refused(
-        &rt,
-        &filled(&rt, b"", b'\n', 65_537),
-        65_537,
-        RefusalKind::TooBig,
-    );
-}
-
-#[test]
 fn lines_at_the_limit(rt: HostRuntime) {
-    expect_end(&rt, &filled(&rt, b"", b'\n', 65_536), End::Done, b"");
-}
-
-#[test]
-fn literal_too_long(rt: HostRuntime) {
-    expect_refused(
-        &rt,
-        &filled(&rt, b"let x \"", b'a', 65_536),
-        1,
-        RefusalKind::LiteralTooLong,
-    );
-}
-
-#[test]
-fn names_one_too_many(rt: HostRuntime) {
-    expect_refused(&rt, &names(&rt, 257), 257, RefusalKind::TooMany);
+    let script = filled(&rt, b"", b'\n', 65_536);
+    expect_end(&rt, "lines-at-the-limit", &script, End::Done, b"");
 }
 
 #[test]
 fn names_at_the_limit(rt: HostRuntime) {
-    expect_end(&rt, &names(&rt, 256), End::Done, b"");
+    expect_end(&rt, "names-at-the-limit", &names(&rt, 256), End::Done, b"");
 }
 
 // Runs a script over a sink that passes `k` calls of at most 3 bytes, both ways.
@@ -200,4 +131,29 @@ fn write_failed_is_not_finished(rt: HostRuntime) {
     let (result, _) = run_text(alloc, HELLO, MemFiles::new(alloc), &mut sink);
     assert!(rt; result == Ok(End::WriteFailed(2)));
     assert_eq!(rt; sink.failures(), 1);
+}
+
+// Substrings of a text of two gigabytes share it.
+#[test]
+fn substrings_share(rt: HostRuntime) {
+    let mut script = lines(&rt, "let x \"ab\" ; repeat 30 ; cat x x x ; end");
+    for k in 1..=200 {
+        let line = format!(in rt.alloc(); "substr y{k} x {k} 2147483000\n").expect(
+            &rt,
+            "no memory",
+        );
+        script
+            .extend_from_slice(line.as_bytes())
+            .expect(&rt, "no memory");
+    }
+    for k in 1..=200 {
+        let line = format!(in rt.alloc(); "fetch n y{k} 0\n").expect(&rt, "no memory");
+        script
+            .extend_from_slice(line.as_bytes())
+            .expect(&rt, "no memory");
+    }
+    script
+        .extend_from_slice(b"sprintf z \"%d\" n\nput z\n")
+        .expect(&rt, "no memory");
+    expect_end(&rt, "substrings-share", &script, End::Done, b"97");
 }

@@ -1,0 +1,171 @@
+//! Rows of scripts over files: whole ones, ones that fail after some calls, and ones that give no byte behind a place.
+use super::lines;
+use crate::{End, FaultKind, run_text, run_unplanned};
+use cord_io::{CutFiles, Files, FuseFiles, MemFiles, MemSink};
+use std::process::Abort;
+
+// Which run a row is about.
+#[derive(Clone, Copy)]
+enum Way {
+    Planned,
+    Unplanned,
+}
+
+// Runs a script over files: how it ended, and what it wrote.
+fn ran<F: Files + Drop>(
+    rt: &(impl AllocGlobal + Abort),
+    way: Way,
+    script: &str,
+    files: F,
+) -> (End, MemSink) {
+    let alloc = rt.alloc();
+    let script = lines(rt, script);
+    let mut sink = MemSink::new(alloc);
+    let (result, _) = match way {
+        Way::Planned => run_text(alloc, &script, files, &mut sink),
+        Way::Unplanned => run_unplanned(alloc, &script, files, &mut sink),
+    };
+    match result {
+        Ok(end) => (end, sink),
+        Err(_) => panic!(rt; "refused"),
+    }
+}
+
+// Files of which each path has so many copies of a byte.
+fn files_of(rt: &(impl AllocGlobal + Abort), entries: &[(&str, u8, usize)]) -> MemFiles {
+    let alloc = rt.alloc();
+    let mut files = MemFiles::new(alloc);
+    for (path, byte, count) in entries {
+        let bytes = vec![in alloc; *byte; *count].expect(rt, "no memory");
+        files.add(alloc, path, &bytes).expect(rt, "no memory");
+    }
+    files
+}
+
+// The file "p" of the text `line` and byte 10.
+fn one_line(rt: &(impl AllocGlobal + Abort)) -> MemFiles {
+    let alloc = rt.alloc();
+    let mut files = MemFiles::new(alloc);
+    files.add(alloc, "p", b"line\n").expect(rt, "no memory");
+    files
+}
+
+// So many copies of a byte, and nothing else.
+fn is_filled(bytes: &[u8], byte: u8, count: usize) -> bool {
+    bytes.len() == count && bytes.iter().all(|b| *b == byte)
+}
+
+#[test]
+fn file_twice(rt: HostRuntime) {
+    for way in [Way::Planned, Way::Unplanned] {
+        let (end, sink) = ran(&rt, way, r#"file x "p" ; put x ; put x"#, one_line(&rt));
+        assert!(rt; end == End::Done);
+        assert!(rt; sink.bytes() == b"line\nline\n".as_slice());
+    }
+}
+
+#[test]
+fn eager_unread_planned(rt: HostRuntime) {
+    let script = r#"eager x "p" ; let y "a" ; put y"#;
+    let files = FuseFiles::new(one_line(&rt), 1);
+    let (end, sink) = ran(&rt, Way::Planned, script, files);
+    assert!(rt; end == End::Done);
+    assert!(rt; sink.bytes() == b"a".as_slice());
+}
+
+#[test]
+fn eager_unread_unplanned(rt: HostRuntime) {
+    let script = r#"eager x "p" ; let y "a" ; put y"#;
+    let files = FuseFiles::new(one_line(&rt), 1);
+    let (end, sink) = ran(&rt, Way::Unplanned, script, files);
+    assert!(rt; end == End::ReadFailed(1));
+    assert!(rt; sink.bytes() == b"".as_slice());
+}
+
+#[test]
+fn lazy_block_fails(rt: HostRuntime) {
+    for way in [Way::Planned, Way::Unplanned] {
+        let files = FuseFiles::new(files_of(&rt, &[("big", b'x', 200_000)]), 2);
+        let (end, sink) = ran(&rt, way, r#"lazy x "big" ; put x"#, files);
+        assert!(rt; end == End::ReadFailed(2));
+        let count = sink.bytes().len();
+        assert!(rt; count <= 512);
+        assert!(rt; is_filled(sink.bytes(), b'x', count));
+    }
+}
+
+#[test]
+fn lazy_twice(rt: HostRuntime) {
+    for way in [Way::Planned, Way::Unplanned] {
+        let files = FuseFiles::new(files_of(&rt, &[("f", b'x', 10_000)]), 21);
+        let (end, sink) = ran(&rt, way, r#"lazy x "f" ; put x ; put x"#, files);
+        assert!(rt; end == End::Done);
+        assert!(rt; is_filled(sink.bytes(), b'x', 20_000));
+    }
+}
+
+#[test]
+fn lazy_last_block_fails(rt: HostRuntime) {
+    for way in [Way::Planned, Way::Unplanned] {
+        let files = FuseFiles::new(files_of(&rt, &[("f", b'x', 10_000)]), 20);
+        let (end, sink) = ran(&rt, way, r#"lazy x "f" ; put x ; put x"#, files);
+        assert!(rt; end == End::ReadFailed(2));
+        let count = sink.bytes().len();
+        assert!(rt; count <= 9_728);
+        assert!(rt; is_filled(sink.bytes(), b'x', count));
+    }
+}
+
+#[test]
+fn blocks_by_entry(rt: HostRuntime) {
+    let script =
+        r#"lazy x "a" ; lazy y "b" ; substr u x 550 10 ; substr v y 550 10 ; put u ; put v"#;
+    for way in [Way::Planned, Way::Unplanned] {
+        let files = files_of(&rt, &[("a", b'a', 600), ("b", b'b', 600)]);
+        let (end, sink) = ran(&rt, way, script, files);
+        assert!(rt; end == End::Done);
+        assert!(rt; sink.bytes() == b"aaaaaaaaaabbbbbbbbbb".as_slice());
+    }
+}
+
+#[test]
+fn cut_lazy_whole(rt: HostRuntime) {
+    for way in [Way::Planned, Way::Unplanned] {
+        let files = CutFiles::new(files_of(&rt, &[("p", b'x', 1_000)]), 600);
+        let (end, sink) = ran(&rt, way, r#"lazy x "p" ; put x"#, files);
+        assert!(rt; end == End::ReadFailed(2));
+        let count = sink.bytes().len();
+        assert!(rt; count <= 512);
+        assert!(rt; is_filled(sink.bytes(), b'x', count));
+    }
+}
+
+#[test]
+fn cut_lazy_first_block(rt: HostRuntime) {
+    let script = r#"lazy x "p" ; substr y x 0 512 ; put y"#;
+    for way in [Way::Planned, Way::Unplanned] {
+        let files = CutFiles::new(files_of(&rt, &[("p", b'x', 1_000)]), 600);
+        let (end, sink) = ran(&rt, way, script, files);
+        assert!(rt; end == End::Done);
+        assert!(rt; is_filled(sink.bytes(), b'x', 512));
+    }
+}
+
+#[test]
+fn cut_eager(rt: HostRuntime) {
+    for way in [Way::Planned, Way::Unplanned] {
+        let files = CutFiles::new(files_of(&rt, &[("p", b'x', 1_000)]), 600);
+        let (end, sink) = ran(&rt, way, r#"eager x "p" ; put x"#, files);
+        assert!(rt; end == End::ReadFailed(1));
+        assert!(rt; sink.bytes() == b"".as_slice());
+    }
+}
+
+#[test]
+fn missing_file_is_a_fault(rt: HostRuntime) {
+    for way in [Way::Planned, Way::Unplanned] {
+        let (end, sink) = ran(&rt, way, r#"eager x "q" ; put x"#, one_line(&rt));
+        assert!(rt; end == End::Fault(1, FaultKind::NoFile));
+        assert!(rt; sink.bytes() == b"".as_slice());
+    }
+}
