@@ -15,3 +15,4 @@ pub mod Looped
 pub mod LinesCounted
 pub mod SameMembers
 pub mod Meant
+pub mod Wrote
