@@ -69,6 +69,8 @@ impl<F: Files> Source for Sources<F> {
 
     ghost table = { λ s. option_map (table_in (opened_in s)) (F.contents (device_in s)) };
 
+    ghost files = { λ s. F.contents (device_in s) };
+
     ghost failures = { λ s. F.failures (device_in s) };
 
     ghost lengths_of_table = { λ s. as_long_as_told (F.contents (device_in s)) s.entries.items s.sound.as_long };

@@ -1,7 +1,7 @@
 // Sources of bytes, by id and place.
 ghost use Rattle.std.specs.Prelude.{◌≡◌, ◌+◌, ◌≤◌, ℕ, length, take, drop, is_err, OnOk, IfSome, IsSomeAnd};
 ghost use Rattle.std.specs.declared.option.Option.{Option};
-ghost use Rattle.cord_io.specs.Device.{count_after};
+ghost use Rattle.cord_io.specs.Device.{Folder, count_after};
 ghost use Rattle.cord_io.specs.Table.{Table, Lengths, HasLengths};
 
 use crate::ReadFault;
@@ -17,6 +17,9 @@ pub trait Source {
 
     /// The bytes of the entries, or `None`, which claims nothing: an honest source has `Some`.
     ghost table: { Self → Option Table };
+
+    /// The files behind the entries, or `None` where none are known: no call below changes them.
+    ghost files: { Self → Option Folder };
 
     /// How often a read has failed: at 2^64 - 1 the count stays.
     ghost failures: { Self → ℕ };
@@ -35,6 +38,7 @@ pub trait Source {
         requires inside { IsSomeAnd (lengths self.old id.0) (λ len. start + length out.old ≤ len) }
         ensures lengths { lengths self.new ≡ lengths self.old }
         ensures table { table self.new ≡ table self.old }
+        ensures files { files self.new ≡ files self.old }
         ensures count { failures self.new ≡ count_after (is_err result) (failures self.old) }
         ensures bytes { OnOk result (IfSome (table self.old) (λ t.
             out.new ≡ take (length out.new) (drop start (t id.0)))) };

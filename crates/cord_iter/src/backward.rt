@@ -28,6 +28,7 @@ pub fn riter4<S: Source, V: Visitor>(
     ensures steady { S.failures src.old < u64.MAX → S.failures src.new ≡ S.failures src.old → IsOk result }
     ensures lengths { S.lengths src.new ≡ S.lengths src.old }
     ensures table { S.table src.new ≡ S.table src.old }
+    ensures files { S.files src.new ≡ S.files src.old }
 {
     let mut position = Position::set(cord, i);
     while position.is_valid() {
@@ -55,6 +56,7 @@ pub fn riter<S: Source, V: Visitor>(
     ensures steady { S.failures src.old < u64.MAX → S.failures src.new ≡ S.failures src.old → IsOk result }
     ensures lengths { S.lengths src.new ≡ S.lengths src.old }
     ensures table { S.table src.new ≡ S.table src.old }
+    ensures files { S.files src.new ≡ S.files src.old }
 {
     let len = cord.len();
     if len == 0 {

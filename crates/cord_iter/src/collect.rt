@@ -18,6 +18,7 @@ pub fn to_vec<S: Source>(alloc: Global, cord: &Cord, src: &mut S) -> Result<Vec<
     ensures reads { CountsReads (S.failures src.old) (S.failures src.new) result }
     ensures lengths { S.lengths src.new ≡ S.lengths src.old }
     ensures table { S.table src.new ≡ S.table src.old }
+    ensures files { S.files src.new ≡ S.files src.old }
 {
     let mut sink = Collector {
         bytes: Vec::with_capacity(alloc, cord.len() as usize)?,

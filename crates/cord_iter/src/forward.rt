@@ -31,6 +31,7 @@ pub fn iter5<S: Source, V: Visitor>(
     ensures steady { S.failures src.old < u64.MAX → S.failures src.new ≡ S.failures src.old → IsOk result }
     ensures lengths { S.lengths src.new ≡ S.lengths src.old }
     ensures table { S.table src.new ≡ S.table src.old }
+    ensures files { S.files src.new ≡ S.files src.old }
 {
     let Some(root) = cord.root() else {
         unreachable!()
@@ -53,6 +54,7 @@ pub fn iter<S: Source, V: Visitor>(
     ensures steady { S.failures src.old < u64.MAX → S.failures src.new ≡ S.failures src.old → IsOk result }
     ensures lengths { S.lengths src.new ≡ S.lengths src.old }
     ensures table { S.table src.new ≡ S.table src.old }
+    ensures files { S.files src.new ≡ S.files src.old }
 {
     let Some(root) = cord.root() else {
         return Ok(false);
@@ -76,6 +78,7 @@ fn walk_node<S: Source, V: Visitor>(
     ensures count { S.failures src.new ≡ count_after (is_err result) (S.failures src.old) }
     ensures lengths { S.lengths src.new ≡ S.lengths src.old }
     ensures table { S.table src.new ≡ S.table src.old }
+    ensures files { S.files src.new ≡ S.files src.old }
 {
     let stopped = match node {
         Node::Leaf { bytes, start, len } => {
@@ -128,6 +131,7 @@ fn walk_func<S: Source, V: Visitor>(
     ensures count { S.failures src.new ≡ count_after (is_err result) (S.failures src.old) }
     ensures lengths { S.lengths src.new ≡ S.lengths src.old }
     ensures table { S.table src.new ≡ S.table src.old }
+    ensures files { S.files src.new ≡ S.files src.old }
 {
     let mut done = 0;
     while done < len {
@@ -156,6 +160,7 @@ fn walk_piece<S: Source, V: Visitor>(
     ensures count { S.failures src.new ≡ count_after (is_err result) (S.failures src.old) }
     ensures lengths { S.lengths src.new ≡ S.lengths src.old }
     ensures table { S.table src.new ≡ S.table src.old }
+    ensures files { S.files src.new ≡ S.files src.old }
 {
     let mut buffer = [0; PIECE_LEN];
     let piece = &mut buffer[..count];

@@ -26,6 +26,7 @@ pub fn put<S: Source, W: Sink>(cord: &Cord, src: &mut S, sink: &mut W) -> Result
     ensures steady { S.failures src.old < u64.MAX → W.failures sink.old < u64.MAX → S.failures src.new ≡ S.failures src.old → W.failures sink.new ≡ W.failures sink.old → IsOk result }
     ensures lengths { S.lengths src.new ≡ S.lengths src.old }
     ensures table { S.table src.new ≡ S.table src.old }
+    ensures files { S.files src.new ≡ S.files src.old }
 {
     if let Some(root) = cord.root() {
         put_node(root.as_ref(), src, sink)?;
@@ -42,6 +43,7 @@ fn put_node<S: Source, W: Sink>(node: &Node, src: &mut S, sink: &mut W) -> Resul
     ensures faults { CountsFaults (record { source = S.failures src.old; sink = W.failures sink.old }) (record { source = S.failures src.new; sink = W.failures sink.new }) result }
     ensures lengths { S.lengths src.new ≡ S.lengths src.old }
     ensures table { S.table src.new ≡ S.table src.old }
+    ensures files { S.files src.new ≡ S.files src.old }
 {
     match node {
         Node::Leaf { bytes, start, len } => {
@@ -75,6 +77,7 @@ fn put_func<S: Source, W: Sink>(
     ensures faults { CountsFaults (record { source = S.failures src.old; sink = W.failures sink.old }) (record { source = S.failures src.new; sink = W.failures sink.new }) result }
     ensures lengths { S.lengths src.new ≡ S.lengths src.old }
     ensures table { S.table src.new ≡ S.table src.old }
+    ensures files { S.files src.new ≡ S.files src.old }
 {
     let mut done = 0;
     while done < len {
@@ -101,6 +104,7 @@ fn put_piece<S: Source, W: Sink>(
     ensures faults { CountsFaults (record { source = S.failures src.old; sink = W.failures sink.old }) (record { source = S.failures src.new; sink = W.failures sink.new }) result }
     ensures lengths { S.lengths src.new ≡ S.lengths src.old }
     ensures table { S.table src.new ≡ S.table src.old }
+    ensures files { S.files src.new ≡ S.files src.old }
 {
     let mut buffer = [0; PIECE_LEN];
     let piece = &mut buffer[..count];

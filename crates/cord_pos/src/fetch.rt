@@ -25,6 +25,7 @@ impl<'a> Position<'a> {
         ensures steady { S.failures src.old < u64.MAX → S.failures src.new ≡ S.failures src.old → IsOk result }
         ensures lengths { S.lengths src.new ≡ S.lengths src.old }
         ensures table { S.table src.new ≡ S.table src.old }
+        ensures files { S.files src.new ≡ S.files src.old }
     {
         let Some(spot) = self.spot else {
             unreachable!()
@@ -44,6 +45,7 @@ fn byte_of<S: Source>(part: &Node, place: u64, src: &mut S) -> Result<u8, ReadFa
     ensures count { S.failures src.new ≡ count_after (is_err result) (S.failures src.old) }
     ensures lengths { S.lengths src.new ≡ S.lengths src.old }
     ensures table { S.table src.new ≡ S.table src.old }
+    ensures files { S.files src.new ≡ S.files src.old }
 {
     match part {
         Node::Leaf { bytes, start, .. } => Ok(bytes.as_slice()[(*start + place) as usize]),

@@ -25,3 +25,4 @@ pub mod Finding
 pub mod Kept
 pub mod Sourced
 pub mod Extending
+pub mod Wrote

@@ -1,5 +1,5 @@
 -- The members of a run stand on the lines of its statements, which are counted from 1.
-use Rattle.std.proofs.Common.{◌≡◌, ◌+◌, ◌<◌, ℕ, zero, suc, ℤ, pos, negsuc, Bool, true, false, List, [], ◌∷◌, ◌++◌, Result, Ok, Err, refl, sym, subst, nat_lt}
+use Rattle.std.proofs.Common.{◌≡◌, ◌<◌, ℕ, zero, suc, ℤ, pos, negsuc, Bool, true, false, List, [], ◌∷◌, Result, Ok, Err, refl, sym, subst, nat_lt}
 use Rattle.std.specs.Prelude.{Option, Some, None, All, slice_get, if◌then◌else◌}
 use Rattle.std.proofs.lemmas.List.Elements.{All-nil, All-push}
 use Rattle.std.proofs.lemmas.Option.{get_or_from_slice_get, slice_get_within}
@@ -7,7 +7,7 @@ use Rattle.cord_meaning.specs.declared.ends.End.{End}
 use Rattle.cord_meaning.specs.declared.ends.FaultKind.{FaultKind}
 use Rattle.cord_meaning.specs.declared.ends.FaultKind.TheVariants.{Negative, TooManyTurns}
 use Rattle.cord_meaning.specs.Blocks.{Shape, Simple, Loop, Branch, Otherwise, Close}
-use Rattle.cord_meaning.specs.Machine.{Rules, Moment, Block, Turns, Chosen, Config, acted, after, begins, chooses, closes, enough, faults, if_running, jump_from, notes, repeats, run_moments, runs, runs_shape, step, turned}
+use Rattle.cord_meaning.specs.Machine.{Rules, Block, Turns, Chosen, Config, acted, after, begins, chooses, closes, enough, faults, if_running, jump_from, notes, repeats, run_moments, runs, runs_shape, turned}
 use Rattle.cord_meaning.proofs.Terminates.{ends, settles}
 
 -- the lines of the open blocks

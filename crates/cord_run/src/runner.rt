@@ -16,7 +16,7 @@ use cord_file::Sources;
 use cord_io::{Files, Sink};
 use cord_meaning::End;
 use cord_plan::{Plan, plan};
-use cord_script::{Refusal, RefusalKind, Script, parse};
+use cord_script::{Refusal, RefusalKind, parse};
 use std::alloc::Global;
 
 // Runs a plan over sources, and ends the output.
@@ -130,17 +130,18 @@ pub fn run_unplanned<F: Files, S: Sink>(
     ensures flaw { IfErr result.0 (λ r. r.kind ≢ RefusalKind.NoMemory → Flaw script.now r.line r.kind) }
     ensures files { F.contents result.1 ≡ F.contents files }
 {
-    match parse(alloc, script) {
-        Err(refusal) => (Err(refusal), files),
-        Ok(read) => match Plan::trivial(alloc, &read) {
-            Ok(plan) => {
-                let (end, files) = run(alloc, &plan, files, sink);
-                (Ok(end), files)
-            }
-            Err(_) => {
-                let _ = sink.finish();
-                (Ok(End::NoMemory(0)), files)
-            }
-        },
+    let read = match parse(alloc, script) {
+        Ok(read) => read,
+        Err(refusal) => return (Err(refusal), files),
+    };
+    match Plan::trivial(alloc, &read) {
+        Ok(plan) => {
+            let (end, files) = run(alloc, &plan, files, sink);
+            (Ok(end), files)
+        }
+        Err(_) => {
+            let _ = sink.finish();
+            (Ok(End::NoMemory(0)), files)
+        }
     }
 }

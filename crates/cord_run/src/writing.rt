@@ -31,6 +31,7 @@ pub(crate) fn write<R: Source, S: Sink>(
     ensures counts { CountsHalts (record { source = R.failures source.old; sink = S.failures sink.old }) (record { source = R.failures source.new; sink = S.failures sink.new }) result }
     ensures lengths { R.lengths source.new ≡ R.lengths source.old }
     ensures table { R.table source.new ≡ R.table source.old }
+    ensures files { R.files source.new ≡ R.files source.old }
 {
     let pieces = match pieces_of(alloc, expression, store) {
         Ok(pieces) => pieces,
@@ -63,6 +64,7 @@ fn put_pieces<R: Source, S: Sink>(
     ensures faults { CountsFaults (record { source = R.failures source.old; sink = S.failures sink.old }) (record { source = R.failures source.new; sink = S.failures sink.new }) result }
     ensures lengths { R.lengths source.new ≡ R.lengths source.old }
     ensures table { R.table source.new ≡ R.table source.old }
+    ensures files { R.files source.new ≡ R.files source.old }
 {
     for piece in pieces {
         match cord_iter::put(piece, source, sink) {

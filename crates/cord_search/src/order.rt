@@ -24,6 +24,7 @@ pub fn cmp<S: Source>(x: &Cord, y: &Cord, src: &mut S) -> Result<i8, CordError>
     ensures steady { S.failures src.old < u64.MAX → S.failures src.new ≡ S.failures src.old → IsOk result }
     ensures lengths { S.lengths src.new ≡ S.lengths src.old }
     ensures table { S.table src.new ≡ S.table src.old }
+    ensures files { S.files src.new ≡ S.files src.old }
 {
     let ordering = compare(x, 0, x.len(), y, 0, y.len(), src)?;
     Ok(sign(ordering))
@@ -47,6 +48,7 @@ pub fn ncmp<S: Source>(
     ensures steady { S.failures src.old < u64.MAX → S.failures src.new ≡ S.failures src.old → IsOk result }
     ensures lengths { S.lengths src.new ≡ S.lengths src.old }
     ensures table { S.table src.new ≡ S.table src.old }
+    ensures files { S.files src.new ≡ S.files src.old }
 {
     let left = k.min(x.len().saturating_sub(i));
     let right = k.min(y.len().saturating_sub(j));
@@ -75,6 +77,7 @@ pub(crate) fn compare<S: Source>(
     ensures count { S.failures src.new ≡ count_after (is_err result) (S.failures src.old) }
     ensures lengths { S.lengths src.new ≡ S.lengths src.old }
     ensures table { S.table src.new ≡ S.table src.old }
+    ensures files { S.files src.new ≡ S.files src.old }
 {
     let (mut buffer, mut other_buffer) = ([0; PIECE_LEN], [0; PIECE_LEN]);
     let both = left.min(right);

@@ -25,6 +25,7 @@ pub(crate) fn cord_piece_at<'a, S: Source>(
     ensures count { S.failures src.new ≡ count_after (is_err result) (S.failures src.old) }
     ensures lengths { S.lengths src.new ≡ S.lengths src.old }
     ensures table { S.table src.new ≡ S.table src.old }
+    ensures files { S.files src.new ≡ S.files src.old }
 {
     let piece = first_piece(cord_stretch_at(cord, place), buffer, src)?;
     Ok(piece)
@@ -50,6 +51,7 @@ pub(crate) fn window_at<'a, S: Source>(
     ensures count { S.failures src.new ≡ count_after (is_err result) (S.failures src.old) }
     ensures lengths { S.lengths src.new ≡ S.lengths src.old }
     ensures table { S.table src.new ≡ S.table src.old }
+    ensures files { S.files src.new ≡ S.files src.old }
 {
     let piece = cord_piece_at(cord, place, buffer, src)?;
     if count <= piece.len() {
@@ -75,6 +77,7 @@ pub(crate) fn gather<S: Source>(
     ensures count { S.failures src.new ≡ count_after (is_err result) (S.failures src.old) }
     ensures lengths { S.lengths src.new ≡ S.lengths src.old }
     ensures table { S.table src.new ≡ S.table src.old }
+    ensures files { S.files src.new ≡ S.files src.old }
 {
     let mut buffer = [0; PIECE_LEN];
     let mut done = 0;
@@ -101,6 +104,7 @@ pub(crate) fn first_piece<'a, S: Source>(
     ensures count { S.failures src.new ≡ count_after (is_err result) (S.failures src.old) }
     ensures lengths { S.lengths src.new ≡ S.lengths src.old }
     ensures table { S.table src.new ≡ S.table src.old }
+    ensures files { S.files src.new ≡ S.files src.old }
 {
     match stretch {
         Stretch::Bytes(bytes) => Ok(bytes),
@@ -131,6 +135,7 @@ pub(crate) fn last_piece<'a, S: Source>(
     ensures count { S.failures src.new ≡ count_after (is_err result) (S.failures src.old) }
     ensures lengths { S.lengths src.new ≡ S.lengths src.old }
     ensures table { S.table src.new ≡ S.table src.old }
+    ensures files { S.files src.new ≡ S.files src.old }
 {
     match stretch {
         Stretch::Bytes(bytes) => Ok(bytes),

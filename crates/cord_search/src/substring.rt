@@ -24,6 +24,7 @@ pub fn str<S: Source>(x: &Cord, start: u64, s: &Cord, src: &mut S) -> Result<Opt
     ensures steady { S.failures src.old < u64.MAX → S.failures src.new ≡ S.failures src.old → IsOk result }
     ensures lengths { S.lengths src.new ≡ S.lengths src.old }
     ensures table { S.table src.new ≡ S.table src.old }
+    ensures files { S.files src.new ≡ S.files src.old }
 {
     let count = s.len();
     if !lies_inside(start, count, x.len()) {
@@ -61,6 +62,7 @@ fn first_place<S: Source>(
     ensures count { S.failures src.new ≡ count_after (is_err result) (S.failures src.old) }
     ensures lengths { S.lengths src.new ≡ S.lengths src.old }
     ensures table { S.table src.new ≡ S.table src.old }
+    ensures files { S.files src.new ≡ S.files src.old }
 {
     let last = x.len() - s.len();
     let mut front = [0; PIECE_LEN];
@@ -115,6 +117,7 @@ fn stands_at<S: Source>(x: &Cord, place: u64, s: &Cord, src: &mut S) -> Result<b
     ensures count { S.failures src.new ≡ count_after (is_err result) (S.failures src.old) }
     ensures lengths { S.lengths src.new ≡ S.lengths src.old }
     ensures table { S.table src.new ≡ S.table src.old }
+    ensures files { S.files src.new ≡ S.files src.old }
 {
     match compare(x, place, s.len(), s, 0, s.len(), src)? {
         Ordering::Equal => Ok(true),

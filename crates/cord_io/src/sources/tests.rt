@@ -34,12 +34,14 @@ fn fill(id: SourceId, start: u64, out: &mut [u8])
 }
 
 impl Source for Functions {
-    ghost use Rattle.std.specs.Prelude.{Some};
+    ghost use Rattle.std.specs.Prelude.{None, Some};
     ghost use Rattle.cord_io.specs.Entries.{function_lengths, function_texts, lengths_of_functions};
 
     ghost lengths = { λ _. function_lengths };
 
     ghost table = { λ _. Some function_texts };
+
+    ghost files = { λ _. None };
 
     ghost failures = { λ s. s.failures };
 

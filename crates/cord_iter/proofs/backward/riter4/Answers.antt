@@ -41,4 +41,5 @@ loop-position-preserved g c =
       reads = c.in_ok-byte.ensures.count ∙ c.loop-position.invariant.reads;
       lengths = c.fetch.ensures.lengths ∙ c.loop-position.invariant.lengths;
       table = c.fetch.ensures.table ∙ c.loop-position.invariant.table;
+      files = c.fetch.ensures.files ∙ c.loop-position.invariant.files;
     }

@@ -31,4 +31,5 @@ loop-done-preserved g c =
       reads = c.in_ok-walk_piece.ensures.count ∙ c.loop-done.invariant.reads;
       lengths = c.walk_piece.ensures.lengths ∙ c.loop-done.invariant.lengths;
       table = c.walk_piece.ensures.table ∙ c.loop-done.invariant.table;
+      files = c.walk_piece.ensures.files ∙ c.loop-done.invariant.files;
     }

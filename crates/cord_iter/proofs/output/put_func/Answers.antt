@@ -26,4 +26,5 @@ loop-done-preserved g c =
       puts = c.in_ok-put_piece.ensures.faults.1 ∙ c.loop-done.invariant.puts;
       lengths = c.put_piece.ensures.lengths ∙ c.loop-done.invariant.lengths;
       table = c.put_piece.ensures.table ∙ c.loop-done.invariant.table;
+      files = c.put_piece.ensures.files ∙ c.loop-done.invariant.files;
     }

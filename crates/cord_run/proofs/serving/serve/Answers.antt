@@ -1,5 +1,4 @@
 use Rattle.std.proofs.Common.{sym, ap, subst}
-use Rattle.cord_io.specs.Device.{Folder}
 use Rattle.cord_io.specs.declared.TheConstants.{MAX_LEN}
 use Rattle.cord_file.specs.Entries.{table_in}
 use Rattle.cord_file.specs.Sources.{device_in, opened_in}

@@ -19,6 +19,7 @@ pub loop-piece-init : goal.loop-piece-init
 loop-piece-init g c = record {
   lengths = refl;
   table = refl;
+  files = refl;
   source = refl;
   sink = refl;
   puts = puts_none (g.R.Source.table c.args.source.now) c.args.pieces.now (g.S.Sink.taken c.args.sink.now);
@@ -51,6 +52,7 @@ loop-piece-preserved g c =
     record {
       lengths = c.in-Ok.ensures.lengths ∙ c.loop-piece.invariant.lengths;
       table = c.in-Ok.ensures.table ∙ c.loop-piece.invariant.table;
+      files = c.in-Ok.ensures.files ∙ c.loop-piece.invariant.files;
       source = c.in-Ok.ensures.faults.0 ∙ c.loop-piece.invariant.source;
       sink = c.in-Ok.ensures.faults.1 ∙ c.loop-piece.invariant.sink;
       puts = puts_next ps c.loop-piece.piece-index piece c.loop-piece-test.true c.piece-item.is a b d o c.loop-piece.invariant.puts

@@ -24,6 +24,7 @@ loop-place-preserved-in-Some g c =
       reads = c.loop-place.invariant.reads;
       lengths = c.loop-place.invariant.lengths;
       table = c.loop-place.invariant.table;
+      files = c.loop-place.invariant.files;
     }
 
 pub returns-in-Some-memchr-clause-first : goal.returns-in-Some-memchr-clause-first
@@ -51,6 +52,7 @@ loop-place-preserved g c =
       reads = c.in_ok-piece.ensures.count ∙ c.loop-place.invariant.reads;
       lengths = c.first_piece.ensures.lengths ∙ c.loop-place.invariant.lengths;
       table = c.first_piece.ensures.table ∙ c.loop-place.invariant.table;
+      files = c.first_piece.ensures.files ∙ c.loop-place.invariant.files;
     }
 
 pub returns-clause-first : goal.returns-clause-first

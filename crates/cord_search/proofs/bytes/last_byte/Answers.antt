@@ -24,6 +24,7 @@ loop-end-preserved-in-Some g c =
       reads = c.loop-end.invariant.reads;
       lengths = c.loop-end.invariant.lengths;
       table = c.loop-end.invariant.table;
+      files = c.loop-end.invariant.files;
     }
 
 pub returns-in-Some-memrchr-clause-last : goal.returns-in-Some-memrchr-clause-last
@@ -58,6 +59,7 @@ loop-end-preserved g c =
       reads = c.in_ok-piece.ensures.count ∙ c.loop-end.invariant.reads;
       lengths = c.last_piece.ensures.lengths ∙ c.loop-end.invariant.lengths;
       table = c.last_piece.ensures.table ∙ c.loop-end.invariant.table;
+      files = c.last_piece.ensures.files ∙ c.loop-end.invariant.files;
     }
 
 pub returns-clause-last : goal.returns-clause-last

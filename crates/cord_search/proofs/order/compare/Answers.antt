@@ -37,6 +37,7 @@ loop-done-preserved-in-Some g c =
       reads = c.loop-done.invariant.reads;
       lengths = c.loop-done.invariant.lengths;
       table = c.loop-done.invariant.table;
+      files = c.loop-done.invariant.files;
     }
 
 pub loop-done-preserved : goal.loop-done-preserved
@@ -58,6 +59,7 @@ loop-done-preserved g c =
       reads = c.in_ok-other.ensures.count ∙ (c.in_ok-piece.ensures.count ∙ c.loop-done.invariant.reads);
       lengths = c.first_piece-in-loop-done.ensures.lengths ∙ (c.first_piece.ensures.lengths ∙ c.loop-done.invariant.lengths);
       table = c.first_piece-in-loop-done.ensures.table ∙ (c.first_piece.ensures.table ∙ c.loop-done.invariant.table);
+      files = c.first_piece-in-loop-done.ensures.files ∙ (c.first_piece.ensures.files ∙ c.loop-done.invariant.files);
     }
 
 pub returns-in-Less-clause-order : goal.returns-in-Less-clause-order

@@ -10,6 +10,7 @@ invariant-loop-done g l = record {
   reads : g.S.Source.failures l.src ≡ g.S.Source.failures l.initial.src;
   lengths : g.S.Source.lengths l.src ≡ g.S.Source.lengths l.initial.src;
   table : g.S.Source.table l.src ≡ g.S.Source.table l.initial.src;
+  files : g.S.Source.files l.src ≡ g.S.Source.files l.initial.src;
 }
 
 abbrev pub decreases-loop-done : goal.decreases-loop-done

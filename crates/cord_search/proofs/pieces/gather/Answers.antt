@@ -20,4 +20,5 @@ loop-done-preserved g c =
       reads = c.in_ok-piece.ensures.count ∙ c.loop-done.invariant.reads;
       lengths = c.cord_piece_at.ensures.lengths ∙ c.loop-done.invariant.lengths;
       table = c.cord_piece_at.ensures.table ∙ c.loop-done.invariant.table;
+      files = c.cord_piece_at.ensures.files ∙ c.loop-done.invariant.files;
     }

@@ -21,6 +21,7 @@ loop-place-preserved-in-None g c =
       reads = c.in_ok-window.ensures.count ∙ c.loop-place.invariant.reads;
       lengths = c.window_at.ensures.lengths ∙ c.loop-place.invariant.lengths;
       table = c.window_at.ensures.table ∙ c.loop-place.invariant.table;
+      files = c.window_at.ensures.files ∙ c.loop-place.invariant.files;
     }
 
 pub returns-then-last-place-clause-first : goal.returns-then-last-place-clause-first
@@ -67,6 +68,7 @@ loop-place-preserved g c =
       reads = c.in_ok-stands_at.ensures.count ∙ (c.in_ok-window.ensures.count ∙ c.loop-place.invariant.reads);
       lengths = c.stands_at.ensures.lengths ∙ (c.window_at.ensures.lengths ∙ c.loop-place.invariant.lengths);
       table = c.stands_at.ensures.table ∙ (c.window_at.ensures.table ∙ c.loop-place.invariant.table);
+      files = c.stands_at.ensures.files ∙ (c.window_at.ensures.files ∙ c.loop-place.invariant.files);
     }
 
 pub returns-clause-first : goal.returns-clause-first
