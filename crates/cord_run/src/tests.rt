@@ -1,4 +1,5 @@
 //! Rows of scripts through `run_text` and `run_unplanned`: the end, and what is written.
+mod blocks;
 mod expressions;
 mod makings;
 mod files;
