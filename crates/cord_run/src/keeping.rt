@@ -12,6 +12,7 @@ ghost use Rattle.cord_run.specs.Holdings.{holding_of};
 ghost use Rattle.cord_run.specs.Keeping.{IsKeptUnread, KeepsOver, StaysOver};
 ghost use Rattle.cord_run.specs.Served.{CountsReads, Gives};
 
+use crate::extensibles::keep_extensible;
 use crate::making::Halt;
 use crate::numbers::keep_computed;
 use crate::store::Store;
@@ -66,7 +67,7 @@ fn keep_unread(alloc: Global, store: &mut Store, statement: &Statement) -> Resul
         Statement::EcInit { .. }
         | Statement::EcPut { .. }
         | Statement::EcCat { .. }
-        | Statement::EcStr { .. } => Err(Halt::NoMemory),
+        | Statement::EcStr { .. } => keep_extensible(alloc, store, statement),
         _ => Ok(()),
     }
 }
