@@ -35,7 +35,9 @@ pub(crate) fn keep_extensible(
     match statement {
         Statement::EcInit { target, .. } => begin(alloc, store, target.as_slice()),
         Statement::EcPut {
-            extensible, byte, ..
+            extensible,
+            byte,
+            ..
         } => {
             let byte = store.value_of(byte);
             keep_byte(alloc, store, extensible.as_slice(), byte)
@@ -46,7 +48,9 @@ pub(crate) fn keep_extensible(
             ..
         } => grow_by_cord(alloc, store, extensible.as_slice(), operand.as_slice()),
         Statement::EcStr {
-            extensible, text, ..
+            extensible,
+            text,
+            ..
         } => grow_by_bytes(alloc, store, extensible.as_slice(), text.as_slice()),
         _ => unreachable!(),
     }
@@ -87,12 +91,7 @@ fn grow_by_byte(alloc: Global, store: &mut Store, name: &[u8], byte: u8) -> Resu
 }
 
 // Lets it grow by bytes.
-fn grow_by_bytes(
-    alloc: Global,
-    store: &mut Store,
-    name: &[u8],
-    bytes: &[u8],
-) -> Result<(), Halt>
+fn grow_by_bytes(alloc: Global, store: &mut Store, name: &[u8], bytes: &[u8]) -> Result<(), Halt>
     ensures over { StaysOver store.old.entries.items store.new.entries.items result }
     ensures becomes { Becomes name.now (longer_text store.old.entries.items name.now bytes.now) store.old.entries.items store.new.entries.items result }
 {
@@ -104,12 +103,7 @@ fn grow_by_bytes(
 }
 
 // Lets it grow by the cord of another name.
-fn grow_by_cord(
-    alloc: Global,
-    store: &mut Store,
-    name: &[u8],
-    operand: &[u8],
-) -> Result<(), Halt>
+fn grow_by_cord(alloc: Global, store: &mut Store, name: &[u8], operand: &[u8]) -> Result<(), Halt>
     ensures over { StaysOver store.old.entries.items store.new.entries.items result }
     ensures becomes { Becomes name.now (λ t. longer_text store.old.entries.items name.now (text_over t store.old.entries.items operand.now) t) store.old.entries.items store.new.entries.items result }
 {
@@ -146,12 +140,7 @@ fn taken(alloc: Global, store: &mut Store, name: &[u8]) -> Result<ExtCord, Halt>
 }
 
 // Gives a name its extensible cord.
-fn give(
-    alloc: Global,
-    store: &mut Store,
-    name: &[u8],
-    extensible: ExtCord,
-) -> Result<(), Halt>
+fn give(alloc: Global, store: &mut Store, name: &[u8], extensible: ExtCord) -> Result<(), Halt>
     ensures given { IfOk result (λ _. HasExtensible name.now (Some extensible) store.old.entries.items store.new.entries.items) }
     ensures refused { IfErr result (λ halt. halt ≡ Halt.NoMemory) }
 {

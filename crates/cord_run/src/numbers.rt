@@ -73,11 +73,7 @@ fn computed(store: &Store, statement: &Statement) -> Result<i64, FaultKind>
 }
 
 // The number that a statement finds in cords.
-fn searched<R: Source>(
-    store: &Store,
-    source: &mut R,
-    statement: &Statement,
-) -> Result<i64, Halt>
+fn searched<R: Source>(store: &Store, source: &mut R, statement: &Statement) -> Result<i64, Halt>
     requires search { IsSearch statement.now }
     requires over { IsOver (R.lengths source.old) store.now.entries.items }
     ensures found { IfSome (R.table source.old) (λ t. FindsOver t statement.now store.now.entries.items result) }
@@ -202,12 +198,7 @@ fn target_name(statement: &Statement) -> &[u8]
 }
 
 // Gives a name of a number its number.
-fn give_number(
-    alloc: Global,
-    store: &mut Store,
-    target: &[u8],
-    number: i64,
-) -> Result<(), Halt>
+fn give_number(alloc: Global, store: &mut Store, target: &[u8], number: i64) -> Result<(), Halt>
     ensures given { IfOk result (λ _. HasNumber target.now number store.old.entries.items store.new.entries.items) }
     ensures refused { IfErr result (λ halt. halt ≡ Halt.NoMemory) }
 {

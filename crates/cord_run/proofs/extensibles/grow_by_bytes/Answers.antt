@@ -1,4 +1,4 @@
-use Rattle.std.proofs.Common.{ℕ, List, Err, sym, subst}
+use Rattle.std.proofs.Common.{Err, sym, subst}
 use Rattle.cord_run.specs.declared.making.Halt.{Halt}
 use Rattle.cord_run.specs.Extending.{Becomes, longer_text}
 use Rattle.cord_run.proofs.Extending.{grown_over, grown_becomes, grown_refused}
