@@ -2,8 +2,9 @@
 ghost use Rattle.std.specs.Prelude.{◌≡◌, ℕ, [], ◌∷◌, IfErr, IfOk, Some};
 ghost use Rattle.cord_core.specs.Cord.{bytes_of};
 ghost use Rattle.cord_io.specs.Table.{Table};
+ghost use Rattle.cord_meaning.specs.State as meant;
 ghost use Rattle.cord_node.specs.Tables.{lengths_of};
-ghost use Rattle.cord_run.specs.Extending.{Becomes, IsExtending, IsTaken, longer_text, refusal_of};
+ghost use Rattle.cord_run.specs.Extending.{Becomes, GrowsByByte, IsExtending, IsTaken, longer_text, refusal_of};
 ghost use Rattle.cord_run.specs.Finding.{text_over};
 ghost use Rattle.cord_run.specs.Held.{HasExtensible, IsOver};
 ghost use Rattle.cord_run.specs.Keeping.{KeepsOver, StaysOver};
@@ -19,6 +20,52 @@ use cord_io::CordError;
 use cord_meaning::FaultKind;
 use cord_script::Statement;
 use std::alloc::Global;
+
+/// Does what a statement means that begins an extensible cord or lets it grow.
+pub(crate) fn keep_extensible(
+    alloc: Global,
+    store: &mut Store,
+    statement: &Statement,
+) -> Result<(), Halt>
+    requires extending { IsExtending statement.now }
+    ensures over { StaysOver store.old.entries.items store.new.entries.items result }
+    ensures kept { (t : Table) → IsOver (lengths_of t) store.old.entries.items → KeepsOver t statement.now store.old.entries.items store.new.entries.items result }
+    ensures counts { (n : ℕ) → CountsReads n n result }
+{
+    match statement {
+        Statement::EcInit { target, .. } => begin(alloc, store, target.as_slice()),
+        Statement::EcPut {
+            extensible,
+            byte,
+            ..
+        } => {
+            let byte = store.value_of(byte);
+            keep_byte(alloc, store, extensible.as_slice(), byte)
+        }
+        Statement::EcCat {
+            extensible,
+            operand,
+            ..
+        } => grow_by_cord(alloc, store, extensible.as_slice(), operand.as_slice()),
+        Statement::EcStr {
+            extensible,
+            text,
+            ..
+        } => grow_by_bytes(alloc, store, extensible.as_slice(), text.as_slice()),
+        _ => unreachable!(),
+    }
+}
+
+// Lets the extensible cord of a name grow by a number in the place of a byte.
+fn keep_byte(alloc: Global, store: &mut Store, name: &[u8], byte: i64) -> Result<(), Halt>
+    ensures over { StaysOver store.old.entries.items store.new.entries.items result }
+    ensures becomes { GrowsByByte name.now (meant.as_byte byte) store.old.entries.items store.new.entries.items result }
+{
+    match as_byte(byte) {
+        Ok(byte) => grow_by_byte(alloc, store, name, byte),
+        Err(kind) => Err(Halt::Fault(kind)),
+    }
+}
 
 // Begins the extensible cord of a name, with no byte.
 fn begin(alloc: Global, store: &mut Store, name: &[u8]) -> Result<(), Halt>

@@ -7,13 +7,15 @@ ghost use Rattle.cord_file.specs.Sources.{device_in, opened_in};
 ghost use Rattle.cord_io.specs.declared.TheConstants.{MAX_LEN};
 ghost use Rattle.cord_plan.specs.Kept.{IsKept};
 ghost use Rattle.cord_plan.specs.Meaning.{keeps};
+ghost use Rattle.cord_run.specs.Finding.{IsSearch};
 ghost use Rattle.cord_run.specs.Held.{IsOver, length_in};
 ghost use Rattle.cord_run.specs.Holdings.{holding_of};
 ghost use Rattle.cord_run.specs.Keeping.{IsKeptUnread, KeepsOver, StaysOver};
 ghost use Rattle.cord_run.specs.Served.{CountsReads, Gives};
 
+use crate::extensibles::keep_extensible;
 use crate::making::Halt;
-use crate::numbers::keep_computed;
+use crate::numbers::{keep_computed, keep_search};
 use crate::store::Store;
 use cord_file::Sources;
 use cord_io::Files;
@@ -42,12 +44,28 @@ pub(crate) fn keep<F: Files>(
         | Statement::Ncmp { .. }
         | Statement::Str { .. }
         | Statement::Chr { .. }
-        | Statement::Rchr { .. } => {
-            let _ = sources;
-            Err(Halt::NoMemory)
-        }
+        | Statement::Rchr { .. } => keep_searching(alloc, store, sources, statement),
         _ => keep_unread(alloc, store, statement),
     }
+}
+
+// The same of a statement that searches cords.
+fn keep_searching<F: Files>(
+    alloc: Global,
+    store: &mut Store,
+    sources: &mut Sources<F>,
+    statement: &Statement,
+) -> Result<(), Halt>
+    requires search { IsSearch statement.now }
+    requires over { IsOver (lengths_in (opened_in sources.old)) store.old.entries.items }
+    ensures over { IfOk result (λ _. IsOver (lengths_in (opened_in sources.new)) store.new.entries.items) }
+    ensures contents { F.contents (device_in sources.new) ≡ F.contents (device_in sources.old) }
+    ensures gives { Gives (F.contents (device_in sources.old))
+        (λ folder. keeps MAX_LEN folder statement.now (holding_of (table_in (opened_in sources.old) folder) store.old.entries.items))
+        (λ folder. holding_of (table_in (opened_in sources.new) folder) store.new.entries.items) result }
+    ensures counts { CountsReads (F.failures (device_in sources.old)) (F.failures (device_in sources.new)) result }
+{
+    keep_search(alloc, store, sources, statement)
 }
 
 // The same of a statement that searches no cord.
@@ -66,7 +84,7 @@ fn keep_unread(alloc: Global, store: &mut Store, statement: &Statement) -> Resul
         Statement::EcInit { .. }
         | Statement::EcPut { .. }
         | Statement::EcCat { .. }
-        | Statement::EcStr { .. } => Err(Halt::NoMemory),
+        | Statement::EcStr { .. } => keep_extensible(alloc, store, statement),
         _ => Ok(()),
     }
 }

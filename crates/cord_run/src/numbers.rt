@@ -50,6 +50,7 @@ pub(crate) fn keep_search<R: Source>(
     ensures counts { CountsReads (R.failures source.old) (R.failures source.new) result }
     ensures lengths { R.lengths source.new ≡ R.lengths source.old }
     ensures table { R.table source.new ≡ R.table source.old }
+    ensures files { R.files source.new ≡ R.files source.old }
 {
     let number = searched(store, source, statement)?;
     give_number(alloc, store, target_name(statement), number)
@@ -80,6 +81,7 @@ fn searched<R: Source>(store: &Store, source: &mut R, statement: &Statement) -> 
     ensures counts { CountsFinding (R.failures source.old) (R.failures source.new) result }
     ensures lengths { R.lengths source.new ≡ R.lengths source.old }
     ensures table { R.table source.new ≡ R.table source.old }
+    ensures files { R.files source.new ≡ R.files source.old }
 {
     let empty = Cord::empty();
     match statement {

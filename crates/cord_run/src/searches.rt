@@ -20,6 +20,7 @@ pub(crate) fn fetched<R: Source>(cord: &Cord, index: i64, source: &mut R) -> Res
     ensures counts { CountsFinding (R.failures source.old) (R.failures source.new) result }
     ensures lengths { R.lengths source.new ≡ R.lengths source.old }
     ensures table { R.table source.new ≡ R.table source.old }
+    ensures files { R.files source.new ≡ R.files source.old }
 {
     let index = checked_index(index)?;
     if cord.len() <= index {
@@ -39,6 +40,7 @@ pub(crate) fn compared<R: Source>(left: &Cord, right: &Cord, source: &mut R) -> 
     ensures counts { CountsFinding (R.failures source.old) (R.failures source.new) result }
     ensures lengths { R.lengths source.new ≡ R.lengths source.old }
     ensures table { R.table source.new ≡ R.table source.old }
+    ensures files { R.files source.new ≡ R.files source.old }
 {
     match cord_search::cmp(left, right, source) {
         Ok(sign) => Ok(i64::from(sign)),
@@ -61,6 +63,7 @@ pub(crate) fn parts_compared<R: Source>(
     ensures counts { CountsFinding (R.failures source.old) (R.failures source.new) result }
     ensures lengths { R.lengths source.new ≡ R.lengths source.old }
     ensures table { R.table source.new ≡ R.table source.old }
+    ensures files { R.files source.new ≡ R.files source.old }
 {
     let left_index = checked_index(left_start)?;
     let right_index = checked_index(right_start)?;
@@ -84,6 +87,7 @@ pub(crate) fn text_found<R: Source>(
     ensures counts { CountsFinding (R.failures source.old) (R.failures source.new) result }
     ensures lengths { R.lengths source.new ≡ R.lengths source.old }
     ensures table { R.table source.new ≡ R.table source.old }
+    ensures files { R.files source.new ≡ R.files source.old }
 {
     let index = checked_index(start)?;
     let len = cord.len();
@@ -105,6 +109,7 @@ pub(crate) fn byte_found<R: Source>(
     ensures counts { CountsFinding (R.failures source.old) (R.failures source.new) result }
     ensures lengths { R.lengths source.new ≡ R.lengths source.old }
     ensures table { R.table source.new ≡ R.table source.old }
+    ensures files { R.files source.new ≡ R.files source.old }
 {
     let index = checked_index(start)?;
     let wanted = checked_byte(byte)?;
@@ -130,6 +135,7 @@ pub(crate) fn last_found<R: Source>(
     ensures counts { CountsFinding (R.failures source.old) (R.failures source.new) result }
     ensures lengths { R.lengths source.new ≡ R.lengths source.old }
     ensures table { R.table source.new ≡ R.table source.old }
+    ensures files { R.files source.new ≡ R.files source.old }
 {
     let index = checked_index(start)?;
     let wanted = checked_byte(byte)?;

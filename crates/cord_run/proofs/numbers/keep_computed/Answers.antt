@@ -1,4 +1,4 @@
-use Rattle.std.proofs.Common.{ℤ, Ok, sym, subst, FitsSigned, w64, rules}
+use Rattle.std.proofs.Common.{ℤ, subst, FitsSigned, w64, rules}
 use Rattle.std.specs.Prelude.{IfOk, Result}
 use Rattle.std.proofs.lemmas.Int.{to_z-of_z}
 use Rattle.cord_meaning.specs.declared.ends.FaultKind.{FaultKind}

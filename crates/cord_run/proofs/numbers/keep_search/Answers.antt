@@ -1,4 +1,4 @@
-use Rattle.std.proofs.Common.{◌≡◌, ℤ, List, ℕ, sym, subst, to_z, of_z, w64, FitsSigned, rules}
+use Rattle.std.proofs.Common.{ℤ, subst, w64, FitsSigned, rules}
 use Rattle.std.specs.Prelude.{IfOk}
 use Rattle.std.proofs.lemmas.Int.{to_z-of_z}
 use Rattle.cord_run.specs.Held.{HasNumber}
