@@ -6,6 +6,7 @@ mod program;
 mod reader;
 #[cfg(test)]
 mod tests;
+mod words;
 
 use cord_io::{DiskFiles, StdSink};
 use outcome::{Outcome, report};
