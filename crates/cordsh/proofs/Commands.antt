@@ -1,11 +1,11 @@
 -- What clap tells of the program's words.
-use Rattle.std.proofs.Common.{◌≡◌, ◌∙◌, ◌<◌, ◌⊎◌, ℕ, Bool, List, [], ◌∷◌, zero, suc, Option, Some, None, Ok, Err, length, codes, ap, sym, subst, refl, inl, inr, arith, is_some, true, false, true≢false}
+use Rattle.std.proofs.Common.{◌≡◌, ◌∙◌, ℕ, List, [], ◌∷◌, zero, suc, Option, Some, None, codes, ap, sym, subst, refl, inl, inr, arith, is_some, true, false, true≢false}
 use Rattle.std.specs.Prelude.{IfSome, IfOk}
 use Rattle.std.specs.Option.{ok_or}
 use Rattle.std.specs.List.{All}
 use Rattle.std.specs.Str.{bytes_eq}
-use Rattle.clap.specs.Words.{App, AddsArg, HasMatchesOf, HasKind, IsAmong, IsParsedFrom, IsPlainArg, args_of, groups_of, fault_of, first_of, first_value, found_of, is_simple, is_simple_and_free, kind_of, matches_of, one_of, one_text, rows_of}
-use Rattle.clap.specs.Built.{FitsChain, HasDistinctIds, IsAuto, TakesValue}
+use Rattle.clap.specs.Words.{App, Rule, rule_of, AddsArg, HasMatchesOf, HasKind, IsAmong, IsParsedFrom, IsPlainArg, args_of, groups_of, fault_of, first_of, first_value, found_of, is_simple, is_simple_and_free, kind_of, matches_of, one_of, one_text, rows_of}
+use Rattle.clap.specs.Built.{FitsChain, HasDistinctIds, TakesValue}
 use Rattle.clap.specs.declared.builder.arg.Arg.{Arg}
 use Rattle.clap.specs.declared.builder.command.Command.{Command}
 use Rattle.clap.specs.declared.builder.command.Command.TheViews.{out-Command}
@@ -99,21 +99,38 @@ all_three a b c fa fb fc (suc zero) d lt = fb
 all_three a b c fa fb fc (suc (suc zero)) d lt = fc
 all_three a b c fa fb fc (suc (suc (suc k))) d lt = absurd (omega arith)
 
+-- a command with no argument yet
+abbrev pub IsBare : Command → Type 0
+IsBare c = (args_of c ≡ []) × (groups_of c ≡ []) × ((out-Command c).has_globals ≡ false) × ((out-Command c).subcommand_negates_reqs ≡ false)
+
+-- it stays one where its words don't begin with the program's name
+pub still_bare : (old new : Command) → out-Command new ≡ record (out-Command old) { no_binary_name = true } → IsBare old → IsBare new
+still_bare old new same bare = (
+  ap (λ f. f.args.items) same ∙ bare.0,
+  ap (λ f. f.groups.items) same ∙ bare.1,
+  ap (λ f. f.has_globals) same ∙ bare.2,
+  ap (λ f. f.subcommand_negates_reqs) same ∙ bare.3,
+)
+
+-- an argument of this id that excludes nothing
+abbrev pub IsNamed : Arg → List ℕ → Type 0
+IsNamed a id = IsPlainArg a × (a.global ≡ false) × (a.id.now ≡ id)
+
+pub named : (a : Arg) (rule : Rule) → rule_of a ≡ rule → IsPlainArg a → a.global ≡ false → IsNamed a rule.id
+named a rule is plain local = (plain, local, ap (λ (r : Rule). r.id) is)
+
 -- where the program's command takes the words, it finds the script's path
 pub finds_script : (start one two three : Command) (unplanned show_plan script : Arg) → AddsArg start unplanned one → AddsArg one show_plan two → AddsArg two script three
-    → args_of start ≡ [] → groups_of start ≡ [] → (out-Command start).has_globals ≡ false → (out-Command start).subcommand_negates_reqs ≡ false
-    → IsPlainArg unplanned → unplanned.global ≡ false → unplanned.id.now ≡ codes "unplanned"
-    → IsPlainArg show_plan → show_plan.global ≡ false → show_plan.id.now ≡ codes "show-plan"
-    → IsPlainArg script → script.global ≡ false → script.id.now ≡ codes "SCRIPT" → TakesValue script
+    → IsBare start → IsNamed unplanned (codes "unplanned") → IsNamed show_plan (codes "show-plan") → IsNamed script (codes "SCRIPT") → TakesValue script
     → (m : ArgMatches) → IsParsedFrom three m → is_some (first_value (found_of m) (codes "SCRIPT")) ≡ true
-finds_script start one two three unplanned show_plan script first second third args groups globals negates plain-u local-u id-u plain-p local-p id-p plain-s local-s id-s value m parsed =
+finds_script start one two three unplanned show_plan script first second third bare u p s value m parsed =
     let all = unplanned ∷ show_plan ∷ script ∷ [] in
-    let fit-u = fits unplanned (codes "unplanned") id-u (λ e. cc) (λ e. cc) (λ e. cc) plain-u local-u in
-    let fit-p = fits show_plan (codes "show-plan") id-p (λ e. cc) (λ e. cc) (λ e. cc) plain-p local-p in
-    let fit-s = fits script (codes "SCRIPT") id-s (λ e. cc) (λ e. cc) (λ e. cc) plain-s local-s in
+    let fit-u = fits unplanned (codes "unplanned") u.2 (λ e. cc) (λ e. cc) (λ e. cc) u.0 u.1 in
+    let fit-p = fits show_plan (codes "show-plan") p.2 (λ e. cc) (λ e. cc) (λ e. cc) p.0 p.1 in
+    let fit-s = fits script (codes "SCRIPT") s.2 (λ e. cc) (λ e. cc) (λ e. cc) s.0 s.1 in
     let distinct : HasDistinctIds all = three_ids unplanned show_plan script
-        (same_ids _ _ _ _ id-u id-p refl) (same_ids _ _ _ _ id-u id-s refl) (same_ids _ _ _ _ id-p id-u refl)
-        (same_ids _ _ _ _ id-p id-s refl) (same_ids _ _ _ _ id-s id-u refl) (same_ids _ _ _ _ id-s id-p refl) in
-    let found = required_in_chain start three all 2 script m (one, first, (two, second, (three, third, refl))) args groups globals negates
-        (all_three unplanned show_plan script fit-u fit-p fit-s) distinct (omega arith) value parsed in
-    subst (λ (id : List ℕ). is_some (first_value (found_of m) id) ≡ true) id-s found
+    (same_ids _ _ _ _ u.2 p.2 refl) (same_ids _ _ _ _ u.2 s.2 refl) (same_ids _ _ _ _ p.2 u.2 refl)
+    (same_ids _ _ _ _ p.2 s.2 refl) (same_ids _ _ _ _ s.2 u.2 refl) (same_ids _ _ _ _ s.2 p.2 refl) in
+    let found = required_in_chain start three all 2 script m (one, first, (two, second, (three, third, refl))) bare.0 bare.1 bare.2 bare.3
+    (all_three unplanned show_plan script fit-u fit-p fit-s) distinct (omega arith) value parsed in
+    subst (λ (id : List ℕ). is_some (first_value (found_of m) id) ≡ true) s.2 found

@@ -6,7 +6,7 @@ use Rattle.cord_meaning.specs.Ends.{Counts}
 use Rattle.cord_meaning.specs.declared.ends.End.{End}
 use Rattle.cord_run.specs.Runs.{Runs, NamesCause}
 use Rattle.cord_script.specs.declared.refusals.Refusal.{Refusal}
-use Rattle.cordsh.specs.Drives.{Does, IsRun, IsShown, IsWrong, Serves}
+use Rattle.cordsh.specs.Drives.{IsRun, IsShown, IsWrong, Serves}
 use Rattle.cordsh.specs.Outcomes.{outcome_of}
 use Rattle.cordsh.specs.declared.outcome.Outcome.{Outcome}
 use Rattle.cordsh.specs.declared.outcome.Outcome.TheVariants as outcomes

@@ -132,12 +132,7 @@ fn show_help<S: Sink>(text: &str, out: &mut S) -> Outcome
 }
 
 // Does what the words ask for.
-fn answer<F: Files, S: Sink>(
-    alloc: Global,
-    words: &[String],
-    files: F,
-    out: &mut S,
-) -> (Outcome, F)
+fn answer<F: Files, S: Sink>(alloc: Global, words: &[String], files: F, out: &mut S) -> (Outcome, F)
     requires files_count { F.failures files < 2 ^ 64 - 1 }
     requires out_count { S.failures out.old < 2 ^ 64 - 1 }
     ensures run { ComesTo (F.contents files) (map string_bytes words.now) (S.taken out.old) (S.taken out.new)

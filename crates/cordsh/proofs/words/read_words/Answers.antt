@@ -2,7 +2,6 @@ use Rattle.std.proofs.Common.{map}
 use Rattle.std.specs.String.{string_bytes}
 use Rattle.clap.specs.Words.{app_of}
 use Rattle.cordsh.proofs.Commands.{asked, not_asked}
-use Rattle.cordsh.specs.CommandLine.{IsRequest}
 use Rattle.cordsh.proofs.words.read_words.Goals as goal
 
 pub returns-in-Ok-try_get_matches_from-clause-request : goal.returns-in-Ok-try_get_matches_from-clause-request
