@@ -1,4 +1,4 @@
-//! Runs scripts of cord statements: `cordsh SCRIPT`.
+//! Runs scripts of cord statements: `cordsh [--unplanned] [--show-plan] SCRIPT`.
 #![tactic(auto)]
 
 mod outcome;
