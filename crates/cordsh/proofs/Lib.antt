@@ -1,1 +1,3 @@
 pub mod Said
+pub mod Commands
+pub mod Served

@@ -1,4 +1,5 @@
 pub mod Files
+pub mod CommandLine
 pub mod Outcomes
 pub mod Tells
 pub mod Drives

@@ -1,4 +1,4 @@
-//! Runs scripts of cord statements: `cordsh SCRIPT`.
+//! Runs scripts of cord statements: `cordsh [--unplanned] [--show-plan] SCRIPT`.
 #![tactic(auto)]
 
 mod outcome;
@@ -6,6 +6,7 @@ mod program;
 mod reader;
 #[cfg(test)]
 mod tests;
+mod words;
 
 use cord_io::{DiskFiles, StdSink};
 use outcome::{Outcome, report};

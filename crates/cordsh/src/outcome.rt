@@ -1,10 +1,13 @@
 //! What a script came to, and what the program tells of it.
-ghost use Rattle.std.specs.Prelude.{◌≡◌, ◌≤◌, ◌∷◌, ◌++◌, [], codes, decimal, length};
-ghost use Rattle.cordsh.specs.Outcomes.{line_text, message_of, message_of_end, status_of_outcome};
+ghost use Rattle.std.specs.Prelude.{◌≡◌, ◌≤◌, ◌∷◌, ◌++◌, [], codes, decimal, length, OnOk, OnErr};
+ghost use Rattle.std.specs.Io.KnownBytes.{Appends};
+ghost use Rattle.cord_io.specs.Device.{raised};
+ghost use Rattle.cord_iter.specs.Taking.{IsFrontOf, Takes};
+ghost use Rattle.cordsh.specs.Outcomes.{line_text, message_of, message_of_end, outcome_of, status_of_outcome};
 ghost use Rattle.cordsh.specs.Tells.{Says, Tells};
 
 use arrayvec::ArrayString;
-use cord_io::Sink;
+use cord_io::{Sink, WriteFault};
 use cord_iter::put_all;
 use cord_meaning::{End, FaultKind};
 use cord_script::{Refusal, RefusalKind};
@@ -23,11 +26,29 @@ pub enum Outcome {
     Unreadable,
     /// Memory was refused before the run.
     NoMemory,
-    /// The words are not one script.
+    /// The script was read, and its plan shown.
+    PlanShown,
+    /// The plan could not be written.
+    PlanUnwritten,
+    /// The help was shown.
+    HelpShown,
+    /// The help could not be written.
+    HelpUnwritten,
+    /// The words are not the program's.
     BadCommandLine,
 }
 
 impl Outcome {
+    /// What a run of the script came to.
+    pub fn of_run(answer: Result<End, Refusal>) -> Outcome
+        ensures { result ≡ outcome_of answer }
+    {
+        match answer {
+            Ok(end) => Outcome::Ended(end),
+            Err(refusal) => Outcome::Refused(refusal),
+        }
+    }
+
     /// The exit status.
     pub fn status(&self) -> u8
         ensures { result ≡ status_of_outcome self.now }
@@ -45,6 +66,8 @@ impl Outcome {
             Outcome::NoScript => 2,
             Outcome::Unreadable => 4,
             Outcome::NoMemory => 3,
+            Outcome::PlanShown | Outcome::HelpShown => 0,
+            Outcome::PlanUnwritten | Outcome::HelpUnwritten => 5,
             Outcome::BadCommandLine => 2,
         }
     }
@@ -71,16 +94,20 @@ fn message_at(line: u32, text: &str) -> Message
     message
 }
 
-// Hands a message over, and ends it.
+/// Hands a text over, and ends it. After a fault the sink has taken a front part.
+pub fn write_text<S: Sink>(text: &str, sink: &mut S) -> Result<(), WriteFault>
+    ensures ok { OnOk result (Appends (S.taken sink.old) (S.taken sink.new) text.now × (S.failures sink.new ≡ S.failures sink.old)) }
+    ensures err { OnErr result (Takes (IsFrontOf text.now) (S.taken sink.old) (S.taken sink.new) × (S.failures sink.new ≡ raised (S.failures sink.old))) }
+{
+    put_all(text.as_bytes(), sink)?;
+    sink.finish()
+}
+
+// Hands a message over. A fault changes nothing else.
 fn tell<T: Sink>(message: &str, err: &mut T)
     ensures { Says (T.taken err.old) (T.taken err.new) (T.failures err.old) (T.failures err.new) message.now }
 {
-    match put_all(message.as_bytes(), err) {
-        Ok(()) => {
-            let _ = err.finish();
-        }
-        Err(_) => {}
-    }
+    let _ = write_text(message, err);
 }
 
 fn tell_at<T: Sink>(line: u32, text: &str, err: &mut T)
@@ -114,6 +141,8 @@ pub fn report<T: Sink>(outcome: &Outcome, err: &mut T)
         Outcome::NoScript => tell_at(0, FaultKind::NoFile.text(), err),
         Outcome::Unreadable => tell_at(0, "read failed", err),
         Outcome::NoMemory => tell_at(0, "no memory", err),
+        Outcome::PlanShown | Outcome::HelpShown => {}
+        Outcome::PlanUnwritten | Outcome::HelpUnwritten => tell_at(0, "write failed", err),
         Outcome::BadCommandLine => tell("cordsh: bad command line\n", err),
     }
 }

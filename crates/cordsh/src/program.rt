@@ -1,62 +1,105 @@
 //! The program over any devices.
-ghost use Rattle.std.specs.Prelude.{◌≡◌, ◌<◌, ◌-◌, ◌^◌, map, IfSome, IfNone};
+ghost use Rattle.std.specs.Prelude.{◌≡◌, ◌<◌, ◌-◌, ◌^◌, false, true, map, IfOk, IsOkUnless, OnOk, OnErr};
+ghost use Rattle.std.specs.Io.KnownBytes.{Appends};
 ghost use Rattle.std.specs.String.{string_bytes};
-ghost use Rattle.cordsh.specs.Drives.{ComesTo, is_flag, script_of};
+ghost use Rattle.cord_io.specs.Device.{raised};
+ghost use Rattle.cord_iter.specs.Taking.{IsFrontOf, Takes};
+ghost use Rattle.cord_plan.specs.Shown.{shown};
+ghost use Rattle.cord_plan.specs.Views.{operation_view};
+ghost use Rattle.cordsh.specs.Drives.{ComesTo, IsHelp, IsPlan, IsRun, IsShown, Serves};
 ghost use Rattle.cordsh.specs.Outcomes.{message_of, status_of_outcome};
 ghost use Rattle.cordsh.specs.Tells.{Tells};
 ghost use Rattle.cordsh.specs.declared.outcome.Outcome.{Outcome};
 
-use crate::outcome::{Outcome, report};
+use crate::outcome::{Outcome, report, write_text};
 use crate::reader::{Unread, read_whole};
-use cord_io::{Files, Sink};
-use cord_run::run_text;
-use cord_script::{MAX_SCRIPT, Refusal, RefusalKind};
+use crate::words::{NoRequest, Request, read_words};
+use cord_io::{CordError, Files, Sink, WriteFault};
+use cord_plan::{Plan, plan};
+use cord_run::{run_text, run_unplanned};
+use cord_script::{MAX_SCRIPT, Refusal, RefusalKind, Script, parse};
 use std::alloc::Global;
 
-// Whether a word begins with a dash and has more bytes.
-fn is_option(word: &[u8]) -> bool
-    ensures { result ≡ is_flag word.now }
-{
-    match word {
-        [] | [_] => false,
-        [first, ..] => *first == b'-',
-    }
-}
-
-// The script that the words name.
-fn script_word(words: &[String]) -> Option<&str>
-    ensures some { IfSome result (λ word. script_of (map string_bytes words.now) ≡ Some word.now) }
-    ensures none { IfNone result (script_of (map string_bytes words.now) ≡ None) }
-{
-    match words {
-        [word] => {
-            if is_option(word.as_bytes()) {
-                return None;
-            }
-            Some(word.as_str())
-        }
-        _ => None,
-    }
-}
-
-// Reads and runs the script at a path.
-fn run_file<F: Files, S: Sink>(
+// Runs a script.
+fn run_script<F: Files, S: Sink>(
     alloc: Global,
-    words: &[String],
-    path: &str,
+    unplanned: bool,
+    script: &[u8],
+    files: F,
+    out: &mut S,
+) -> (Outcome, F)
+    requires files_count { F.failures files < 2 ^ 64 - 1 }
+    requires out_count { S.failures out.old < 2 ^ 64 - 1 }
+    ensures run { IsRun (F.contents files) script.now (S.taken out.old) (S.taken out.new)
+        (record { files_before = F.failures files; files_after = F.failures result.1; sink_before = S.failures out.old; sink_after = S.failures out.new })
+        result.0 }
+    ensures files { F.contents result.1 ≡ F.contents files }
+{
+    if unplanned {
+        let (answer, files) = run_unplanned(alloc, script, files, out);
+        (Outcome::of_run(answer), files)
+    } else {
+        let (answer, files) = run_text(alloc, script, files, out);
+        (Outcome::of_run(answer), files)
+    }
+}
+
+// The plan that is asked for. Refused only with `NoMemory`.
+fn plan_of(alloc: Global, unplanned: bool, script: &Script) -> Result<Plan, CordError>
+    ensures made { IfOk result (λ p. IsPlan unplanned script.now (map operation_view p)) }
+    ensures refused { IsOkUnless result CordError.NoMemory }
+{
+    if unplanned {
+        Plan::trivial(alloc, script)
+    } else {
+        plan(alloc, script)
+    }
+}
+
+// Writes the plan's text, and ends it.
+fn write_plan<S: Sink>(plan: &Plan, out: &mut S) -> Result<(), WriteFault>
+    ensures ok { OnOk result (Appends (S.taken out.old) (S.taken out.new) (shown (map operation_view plan.now)) × (S.failures out.new ≡ S.failures out.old)) }
+    ensures err { OnErr result (Takes (IsFrontOf (shown (map operation_view plan.now))) (S.taken out.old) (S.taken out.new) × (S.failures out.new ≡ raised (S.failures out.old))) }
+{
+    match plan.show(out) {
+        Ok(()) => out.finish(),
+        Err(_) => Err(WriteFault),
+    }
+}
+
+// Shows the plan of a script.
+fn show_script<S: Sink>(alloc: Global, unplanned: bool, script: &[u8], out: &mut S) -> Outcome
+    requires out_count { S.failures out.old < 2 ^ 64 - 1 }
+    ensures { IsShown unplanned script.now (S.taken out.old) (S.taken out.new) (S.failures out.old) (S.failures out.new) result }
+{
+    let read = match parse(alloc, script) {
+        Ok(read) => read,
+        Err(refusal) => return Outcome::Refused(refusal),
+    };
+    let Ok(plan) = plan_of(alloc, unplanned, &read) else {
+        return Outcome::NoMemory;
+    };
+    match write_plan(&plan, out) {
+        Ok(()) => Outcome::PlanShown,
+        Err(_) => Outcome::PlanUnwritten,
+    }
+}
+
+// Reads the script of a request, and runs it or shows its plan.
+fn serve<F: Files, S: Sink>(
+    alloc: Global,
+    request: &Request<'_>,
     mut files: F,
     out: &mut S,
 ) -> (Outcome, F)
     requires files_count { F.failures files < 2 ^ 64 - 1 }
     requires out_count { S.failures out.old < 2 ^ 64 - 1 }
-    requires script { script_of (map string_bytes words.now) ≡ Some path.now }
-    ensures run { ComesTo (F.contents files) (map string_bytes words.now) (S.taken out.old) (S.taken out.new)
+    ensures run { Serves (F.contents files) request.now.script.now request.now.unplanned request.now.show_plan (S.taken out.old) (S.taken out.new)
         (record { files_before = F.failures files; files_after = F.failures result.1; sink_before = S.failures out.old; sink_after = S.failures out.new })
         result.0 }
     ensures files { F.contents result.1 ≡ F.contents files }
 {
-    let _ = words;
-    match read_whole(alloc, &mut files, path, MAX_SCRIPT as u64) {
+    match read_whole(alloc, &mut files, request.script, MAX_SCRIPT as u64) {
         Err(Unread::NotFound) => (Outcome::NoScript, files),
         Err(Unread::TooBig) => {
             let refusal = Refusal {
@@ -67,20 +110,29 @@ fn run_file<F: Files, S: Sink>(
         }
         Err(Unread::NoMemory) => (Outcome::NoMemory, files),
         Err(Unread::Failed) => (Outcome::Unreadable, files),
-        Ok(script) => match run_text(alloc, &script, files, out) {
-            (Ok(end), files) => (Outcome::Ended(end), files),
-            (Err(refusal), files) => (Outcome::Refused(refusal), files),
-        },
+        Ok(script) => {
+            if request.show_plan {
+                (show_script(alloc, request.unplanned, &script, out), files)
+            } else {
+                run_script(alloc, request.unplanned, &script, files, out)
+            }
+        }
     }
 }
 
-// Runs what the words name.
-fn run_words<F: Files, S: Sink>(
-    alloc: Global,
-    words: &[String],
-    files: F,
-    out: &mut S,
-) -> (Outcome, F)
+// Writes the help.
+fn show_help<S: Sink>(text: &str, out: &mut S) -> Outcome
+    requires out_count { S.failures out.old < 2 ^ 64 - 1 }
+    ensures { IsHelp (S.taken out.old) (S.taken out.new) (S.failures out.old) (S.failures out.new) result }
+{
+    match write_text(text, out) {
+        Ok(()) => Outcome::HelpShown,
+        Err(_) => Outcome::HelpUnwritten,
+    }
+}
+
+// Does what the words ask for.
+fn answer<F: Files, S: Sink>(alloc: Global, words: &[String], files: F, out: &mut S) -> (Outcome, F)
     requires files_count { F.failures files < 2 ^ 64 - 1 }
     requires out_count { S.failures out.old < 2 ^ 64 - 1 }
     ensures run { ComesTo (F.contents files) (map string_bytes words.now) (S.taken out.old) (S.taken out.new)
@@ -88,13 +140,16 @@ fn run_words<F: Files, S: Sink>(
         result.0 }
     ensures files { F.contents result.1 ≡ F.contents files }
 {
-    match script_word(words) {
-        None => (Outcome::BadCommandLine, files),
-        Some(path) => run_file(alloc, words, path, files, out),
+    match read_words(alloc, words) {
+        Ok(request) => serve(alloc, &request, files, out),
+        Err(NoRequest::Help(text)) => (show_help(text.as_str(), out), files),
+        Err(NoRequest::Refused) => (Outcome::BadCommandLine, files),
+        Err(NoRequest::NoMemory) => (Outcome::NoMemory, files),
     }
 }
 
-/// Runs the script that the words name: one word that doesn't begin with a dash, or a dash alone.
+/// Does what the words after the program's name ask for: `[--unplanned] [--show-plan] SCRIPT`, as clap reads them.
+/// It runs the script, or shows its plan, or the help, on `out`.
 /// It answers the exit status, tells on `err` what went wrong, and hands back the files.
 pub fn drive<F: Files, S: Sink, T: Sink>(
     alloc: Global,
@@ -113,7 +168,7 @@ pub fn drive<F: Files, S: Sink, T: Sink>(
         × Tells (T.taken err.old) (T.taken err.new) (T.failures err.old) (T.failures err.new) (message_of outcome) }
     ensures files { F.contents result.1 ≡ F.contents files }
 {
-    let (outcome, files) = run_words(alloc, words, files, out);
+    let (outcome, files) = answer(alloc, words, files, out);
     report(&outcome, err);
     (outcome.status(), files)
 }

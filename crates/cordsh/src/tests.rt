@@ -1,4 +1,6 @@
 //! Rows of scripts through `drive`: the status, what is written and what is told.
+mod words;
+
 use crate::program::drive;
 use cord_io::{FuseFiles, FuseSink, MemFiles, MemSink, Sink};
 use std::process::Abort;
@@ -190,32 +192,10 @@ fn names_one_too_many(rt: HostRuntime) {
 }
 
 #[test]
-fn words_refused(rt: HostRuntime) {
-    let told = b"cordsh: bad command line\n";
-    expect_driven(&rt, &[], HELLO, 2, b"", told);
-    expect_driven(&rt, &["s", "t"], HELLO, 2, b"", told);
-    expect_driven(&rt, &["--nope", "s"], HELLO, 2, b"", told);
-    expect_driven(&rt, &["--nope"], HELLO, 2, b"", told);
-}
-
-#[test]
 fn script_missing(rt: HostRuntime) {
     expect_driven(
         &rt,
         &["none"],
-        HELLO,
-        2,
-        b"",
-        b"cordsh: line 0: no such file\n",
-    );
-}
-
-// A dash alone is a script.
-#[test]
-fn dash_is_a_script(rt: HostRuntime) {
-    expect_driven(
-        &rt,
-        &["-"],
         HELLO,
         2,
         b"",
