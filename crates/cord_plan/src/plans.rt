@@ -47,10 +47,7 @@ impl Model for Plan {
 }
 
 // The operations of the trivial plan.
-fn trivial_operations(
-    alloc: Global,
-    statements: &[Statement],
-) -> Result<Vec<Operation>, CordError>
+fn trivial_operations(alloc: Global, statements: &[Statement]) -> Result<Vec<Operation>, CordError>
     ensures made { IfOk result (λ os. map operation_view os.items ≡ plan.trivial statements.now) }
     ensures refused { IsOkUnless result CordError.NoMemory }
 {

@@ -1,9 +1,9 @@
 //! Rows of scripts through `run_text` and `run_unplanned`: the end, and what is written.
 mod blocks;
 mod expressions;
-mod makings;
 mod files;
 mod hostile;
+mod makings;
 mod refusals;
 mod rows;
 
