@@ -13,7 +13,6 @@ pub mod Wholes
 pub mod Handed
 pub mod Gathered
 pub mod Shares
-pub mod Paths
 pub mod Printed
 pub mod Refused
 pub mod Made
