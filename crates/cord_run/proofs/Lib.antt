@@ -16,7 +16,6 @@ pub mod SameMembers
 pub mod Meant
 pub mod Gathered
 pub mod Shares
-pub mod Paths
 pub mod Printed
 pub mod Refused
 pub mod Made

@@ -28,7 +28,8 @@ use cord_meaning::FaultKind;
 use cord_plan::Made;
 use std::alloc::Global;
 
-/// Gives a name the cord of what it is made of.
+/// Gives a name the cord of what it is made of. Refused with the fault that this means, with `ReadFailed` where the files failed,
+/// or with `NoMemory`.
 pub(crate) fn build_target<F: Files>(
     alloc: Global,
     store: &mut Store,
@@ -48,7 +49,7 @@ pub(crate) fn build_target<F: Files>(
     give(alloc, store, target, Content::Whole(cord))
 }
 
-/// Gives a name the length of what it is made of alone.
+/// Gives a name the length of what it is made of alone: no cord is made, but a file is opened. Refused as `build_target` is.
 pub(crate) fn measure_target<F: Files>(
     alloc: Global,
     store: &mut Store,

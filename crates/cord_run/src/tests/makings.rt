@@ -1,7 +1,9 @@
 //! Each kind of making, built and measured: its length, or why there is none.
 use crate::making::Halt;
 use crate::makings::{build_target, measure_target};
-use crate::store::Store;
+use crate::store::{Content, Entry, Store};
+use cord_core::Cord;
+use cord_ec::ExtCord;
 use cord_file::Sources;
 use cord_io::{CutFiles, Files, MemFiles};
 use cord_meaning::FaultKind;
@@ -94,6 +96,33 @@ fn texts_of_names(rt: HostRuntime) {
     expect_length(&rt, &Made::Literal(text(&rt, b"hello")), 5);
     expect_length(&rt, &Made::Balanced(name(&rt, b"a")), 3);
     expect_length(&rt, &Made::OfExtensible(name(&rt, b"e")), 0);
+}
+
+// An extensible cord gives its text twice, since it keeps it.
+#[test]
+fn extensible_cord_stays(rt: HostRuntime) {
+    let alloc = rt.alloc();
+    let Ok(mut gathered) = ExtCord::new(alloc) else {
+        panic!(&rt; "no memory");
+    };
+    assert_eq!(&rt; gathered.append_bytes(alloc, b"ab"), Ok(()));
+    let mut store = Store {
+        entries: Vec::new(alloc),
+    };
+    let begun = Entry {
+        name: Vec::from_slice(alloc, b"e").expect(&rt, "no memory"),
+        content: Content::Whole(Cord::empty()),
+        number: 0,
+        extensible: Some(gathered),
+    };
+    store.entries.push(begun).expect(&rt, "no memory");
+    for _ in 0..2 {
+        assert_eq!(&rt; store.extended_length(b"e"), 2);
+        match store.extended(alloc, b"e") {
+            Ok(cord) => assert_eq!(&rt; cord.len(), 2),
+            Err(_) => panic!(&rt; "no memory"),
+        }
+    }
 }
 
 #[test]
