@@ -1,7 +1,6 @@
 // The text of plans.
 mod expressions;
 mod fragments;
-mod lines;
 mod statements;
 
 ghost use Rattle.std.specs.Prelude.{◌≡◌, [], ◌∷◌, codes, map, OnOk, OnErr, IfErr};
@@ -16,7 +15,6 @@ ghost use Rattle.cord_plan.specs.Views.{expr_view, made_view, operation_view};
 use self::expressions::put_expression;
 use self::fragments::Fragment::{Arguments, Count, Name, Number, Path, Plain};
 use self::fragments::{put_fragments, put_text};
-use self::lines::line_number;
 use self::statements::put_statement;
 use crate::{Expr, Made, Operation};
 use cord_io::{CordError, Sink, WriteFault};
@@ -94,7 +92,7 @@ fn put_written<W: Sink>(line: u32, expression: &Expr, sink: &mut W) -> Result<()
 fn put_kept<W: Sink>(kept: &Statement, sink: &mut W) -> Result<(), WriteFault>
     ensures { Writes (spaced (decimal (line_of kept.now) ∷ statement kept.now ∷ [])) (W.taken sink.old) (W.taken sink.new) (W.failures sink.old) (W.failures sink.new) result }
 {
-    put_fragments(&[Count(line_number(kept) as u64), Plain(b" ")], sink)?;
+    put_fragments(&[Count(kept.line() as u64), Plain(b" ")], sink)?;
     put_statement(kept, sink)
 }
 

@@ -4,7 +4,7 @@ ghost use Rattle.cord_io.specs.Table.{Table};
 ghost use Rattle.cord_io.specs.declared.TheConstants.{MAX_LEN};
 ghost use Rattle.cord_node.specs.Tables.{lengths_of};
 ghost use Rattle.cord_plan.specs.Operands.{target_of};
-ghost use Rattle.cord_run.specs.Finding.{CountsFinding, FindsOver, in_i64, IsComputed, IsNumeric, IsSearch, or_halt};
+ghost use Rattle.cord_run.specs.Finding.{CountsFinding, FindsOver, in_i64, IsComputed, IsLook, IsNumeric, IsPlace, IsSearch, or_halt};
 ghost use Rattle.cord_run.specs.Held.{content_in, cord_in, HasNumber, IsOver, length_in};
 ghost use Rattle.cord_run.specs.Keeping.{KeepsOver, StaysOver};
 ghost use Rattle.cord_run.specs.Served.{CountsReads};
@@ -83,6 +83,24 @@ fn searched<R: Source>(store: &Store, source: &mut R, statement: &Statement) -> 
     ensures table { R.table source.new ≡ R.table source.old }
     ensures files { R.files source.new ≡ R.files source.old }
 {
+    match statement {
+        Statement::Fetch { .. } | Statement::Cmp { .. } | Statement::Ncmp { .. } => {
+            looked_at(store, source, statement)
+        }
+        _ => place_found(store, source, statement),
+    }
+}
+
+// The byte or the order that a statement finds.
+fn looked_at<R: Source>(store: &Store, source: &mut R, statement: &Statement) -> Result<i64, Halt>
+    requires look { IsLook statement.now }
+    requires over { IsOver (R.lengths source.old) store.now.entries.items }
+    ensures found { IfSome (R.table source.old) (λ t. FindsOver t statement.now store.now.entries.items result) }
+    ensures counts { CountsFinding (R.failures source.old) (R.failures source.new) result }
+    ensures lengths { R.lengths source.new ≡ R.lengths source.old }
+    ensures table { R.table source.new ≡ R.table source.old }
+    ensures files { R.files source.new ≡ R.files source.old }
+{
     let empty = Cord::empty();
     match statement {
         Statement::Fetch { operand, index, .. } => {
@@ -108,6 +126,22 @@ fn searched<R: Source>(store: &Store, source: &mut R, statement: &Statement) -> 
             store.value_of(count),
             source,
         ),
+        _ => unreachable!(),
+    }
+}
+
+// The place that a statement finds, or -1.
+fn place_found<R: Source>(store: &Store, source: &mut R, statement: &Statement) -> Result<i64, Halt>
+    requires place { IsPlace statement.now }
+    requires over { IsOver (R.lengths source.old) store.now.entries.items }
+    ensures found { IfSome (R.table source.old) (λ t. FindsOver t statement.now store.now.entries.items result) }
+    ensures counts { CountsFinding (R.failures source.old) (R.failures source.new) result }
+    ensures lengths { R.lengths source.new ≡ R.lengths source.old }
+    ensures table { R.table source.new ≡ R.table source.old }
+    ensures files { R.files source.new ≡ R.files source.old }
+{
+    let empty = Cord::empty();
+    match statement {
         Statement::Str {
             operand,
             start,

@@ -1,5 +1,6 @@
 // What a script says.
 ghost use Rattle.std.specs.Prelude.{◌≡◌};
+ghost use Rattle.cord_script.specs.Forms.{line_of};
 
 use crate::{Arguments, Function, Name, Names, Number, Path, Relation, Text};
 use cord_printf::Format;
@@ -225,6 +226,49 @@ pub enum Statement {
     End {
         line: u32,
     },
+}
+
+impl Statement {
+    /// The number of its line, counted from 1.
+    pub fn line(&self) -> u32
+        ensures { result ≡ line_of self.now }
+    {
+        match self {
+            Statement::Let { line, .. }
+            | Statement::File { line, .. }
+            | Statement::Eager { line, .. }
+            | Statement::Lazy { line, .. }
+            | Statement::Chars { line, .. }
+            | Statement::Nul { line, .. }
+            | Statement::FromFn { line, .. }
+            | Statement::Cat { line, .. }
+            | Statement::Catn { line, .. }
+            | Statement::Catc { line, .. }
+            | Statement::Substr { line, .. }
+            | Statement::Balance { line, .. }
+            | Statement::EcToCord { line, .. }
+            | Statement::Sprintf { line, .. }
+            | Statement::Len { line, .. }
+            | Statement::Fetch { line, .. }
+            | Statement::Cmp { line, .. }
+            | Statement::Ncmp { line, .. }
+            | Statement::Str { line, .. }
+            | Statement::Chr { line, .. }
+            | Statement::Rchr { line, .. }
+            | Statement::Assign { line, .. }
+            | Statement::Add { line, .. }
+            | Statement::Sub { line, .. }
+            | Statement::EcInit { line, .. }
+            | Statement::EcPut { line, .. }
+            | Statement::EcCat { line, .. }
+            | Statement::EcStr { line, .. }
+            | Statement::Put { line, .. }
+            | Statement::Repeat { line, .. }
+            | Statement::If { line, .. }
+            | Statement::Else { line, .. }
+            | Statement::End { line, .. } => *line,
+        }
+    }
 }
 
 /// The statements of a script, in the order of its lines.

@@ -219,6 +219,22 @@ fn script_unreadable(rt: HostRuntime) {
     }
 }
 
+// Of a file that no one reads the plan reads no byte, and the run without a plan does.
+#[test]
+fn unplanned_reads_what_is_unread(rt: HostRuntime) {
+    let alloc = rt.alloc();
+    let script = b"eager x \"s\"\nlet y \"a\"\nput y\n";
+    for (word, status) in [("--", 0), ("--unplanned", 4)] {
+        let words = words_of(&rt, &[word, "s"]);
+        let mut out = MemSink::new(alloc);
+        let mut err = MemSink::new(alloc);
+        // Passes the opening and the reading of the script, and the opening of the line's file.
+        let files = FuseFiles::new(files_with(&rt, script), 3);
+        let (answered, _) = drive(alloc, &words, files, &mut out, &mut err);
+        assert_eq!(rt; answered, status);
+    }
+}
+
 // Drives a script over an output that passes `k` calls of at most 3 bytes.
 fn expect_fused(
     rt: &(impl AllocGlobal + Abort),

@@ -20,6 +20,7 @@ fn ran<F: Files + Drop>(
 ) -> (End, MemSink) {
     let alloc = rt.alloc();
     let script = lines(rt, script);
+    assert!(rt; files.failures() < u64::MAX);
     let mut sink = MemSink::new(alloc);
     let (result, _) = match way {
         Way::Planned => run_text(alloc, &script, files, &mut sink),
@@ -31,14 +32,23 @@ fn ran<F: Files + Drop>(
     }
 }
 
-// Files of which each path has so many copies of a byte.
-fn files_of(rt: &(impl AllocGlobal + Abort), entries: &[(&str, u8, usize)]) -> MemFiles {
+// A file of so many copies of a byte.
+fn file_of(rt: &(impl AllocGlobal + Abort), path: &str, byte: u8, count: usize) -> MemFiles {
     let alloc = rt.alloc();
     let mut files = MemFiles::new(alloc);
-    for (path, byte, count) in entries {
-        let bytes = vec![in alloc; *byte; *count].expect(rt, "no memory");
-        files.add(alloc, path, &bytes).expect(rt, "no memory");
-    }
+    let bytes = vec![in alloc; byte; count].expect(rt, "no memory");
+    files.add(alloc, path, &bytes).expect(rt, "no memory");
+    files
+}
+
+// The files "a" and "b" of 600 bytes each.
+fn two_long_files(rt: &(impl AllocGlobal + Abort)) -> MemFiles {
+    let alloc = rt.alloc();
+    let mut files = MemFiles::new(alloc);
+    let first = vec![in alloc; b'a'; 600].expect(rt, "no memory");
+    files.add(alloc, "a", &first).expect(rt, "no memory");
+    let second = vec![in alloc; b'b'; 600].expect(rt, "no memory");
+    files.add(alloc, "b", &second).expect(rt, "no memory");
     files
 }
 
@@ -85,7 +95,7 @@ fn eager_unread_unplanned(rt: HostRuntime) {
 #[test]
 fn lazy_block_fails(rt: HostRuntime) {
     for way in [Way::Planned, Way::Unplanned] {
-        let files = FuseFiles::new(files_of(&rt, &[("big", b'x', 200_000)]), 2);
+        let files = FuseFiles::new(file_of(&rt, "big", b'x', 200_000), 2);
         let (end, sink) = ran(&rt, way, r#"lazy x "big" ; put x"#, files);
         assert!(rt; end == End::ReadFailed(2));
         let count = sink.bytes().len();
@@ -97,7 +107,7 @@ fn lazy_block_fails(rt: HostRuntime) {
 #[test]
 fn lazy_twice(rt: HostRuntime) {
     for way in [Way::Planned, Way::Unplanned] {
-        let files = FuseFiles::new(files_of(&rt, &[("f", b'x', 10_000)]), 21);
+        let files = FuseFiles::new(file_of(&rt, "f", b'x', 10_000), 21);
         let (end, sink) = ran(&rt, way, r#"lazy x "f" ; put x ; put x"#, files);
         assert!(rt; end == End::Done);
         assert!(rt; is_filled(sink.bytes(), b'x', 20_000));
@@ -107,7 +117,7 @@ fn lazy_twice(rt: HostRuntime) {
 #[test]
 fn lazy_last_block_fails(rt: HostRuntime) {
     for way in [Way::Planned, Way::Unplanned] {
-        let files = FuseFiles::new(files_of(&rt, &[("f", b'x', 10_000)]), 20);
+        let files = FuseFiles::new(file_of(&rt, "f", b'x', 10_000), 20);
         let (end, sink) = ran(&rt, way, r#"lazy x "f" ; put x ; put x"#, files);
         assert!(rt; end == End::ReadFailed(2));
         let count = sink.bytes().len();
@@ -121,7 +131,7 @@ fn blocks_by_entry(rt: HostRuntime) {
     let script =
         r#"lazy x "a" ; lazy y "b" ; substr u x 550 10 ; substr v y 550 10 ; put u ; put v"#;
     for way in [Way::Planned, Way::Unplanned] {
-        let files = files_of(&rt, &[("a", b'a', 600), ("b", b'b', 600)]);
+        let files = two_long_files(&rt);
         let (end, sink) = ran(&rt, way, script, files);
         assert!(rt; end == End::Done);
         assert!(rt; sink.bytes() == b"aaaaaaaaaabbbbbbbbbb".as_slice());
@@ -131,7 +141,7 @@ fn blocks_by_entry(rt: HostRuntime) {
 #[test]
 fn cut_lazy_whole(rt: HostRuntime) {
     for way in [Way::Planned, Way::Unplanned] {
-        let files = CutFiles::new(files_of(&rt, &[("p", b'x', 1_000)]), 600);
+        let files = CutFiles::new(file_of(&rt, "p", b'x', 1_000), 600);
         let (end, sink) = ran(&rt, way, r#"lazy x "p" ; put x"#, files);
         assert!(rt; end == End::ReadFailed(2));
         let count = sink.bytes().len();
@@ -144,7 +154,7 @@ fn cut_lazy_whole(rt: HostRuntime) {
 fn cut_lazy_first_block(rt: HostRuntime) {
     let script = r#"lazy x "p" ; substr y x 0 512 ; put y"#;
     for way in [Way::Planned, Way::Unplanned] {
-        let files = CutFiles::new(files_of(&rt, &[("p", b'x', 1_000)]), 600);
+        let files = CutFiles::new(file_of(&rt, "p", b'x', 1_000), 600);
         let (end, sink) = ran(&rt, way, script, files);
         assert!(rt; end == End::Done);
         assert!(rt; is_filled(sink.bytes(), b'x', 512));
@@ -154,7 +164,7 @@ fn cut_lazy_first_block(rt: HostRuntime) {
 #[test]
 fn cut_eager(rt: HostRuntime) {
     for way in [Way::Planned, Way::Unplanned] {
-        let files = CutFiles::new(files_of(&rt, &[("p", b'x', 1_000)]), 600);
+        let files = CutFiles::new(file_of(&rt, "p", b'x', 1_000), 600);
         let (end, sink) = ran(&rt, way, r#"eager x "p" ; put x"#, files);
         assert!(rt; end == End::ReadFailed(1));
         assert!(rt; sink.bytes() == b"".as_slice());

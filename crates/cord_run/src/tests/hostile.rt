@@ -81,6 +81,7 @@ fn run_fused(
 ) -> bool {
     let alloc = rt.alloc();
     let script = lines(rt, hostile.script);
+    assert!(rt; most >= 1);
     let files = FuseFiles::new(two_files(rt), passes.0);
     let mut sink = FuseSink::new(MemSink::new(alloc), passes.1, most);
     let (result, files) = if planned {
@@ -107,17 +108,30 @@ fn run_fused(
     end == End::Done
 }
 
-// Lets the files fail at each call, and then the sink, until the run is done.
+// Lets the files fail at each call until the run is done.
+fn fuse_files(rt: &(impl AllocGlobal + Abort), hostile: &Hostile, planned: bool, most: u64) {
+    for k in 0..1_000 {
+        if run_fused(rt, hostile, planned, (k, u64::MAX), most) {
+            return;
+        }
+    }
+    panic!(rt; "not done");
+}
+
+// Lets the sink fail at each call until the run is done.
+fn fuse_sink(rt: &(impl AllocGlobal + Abort), hostile: &Hostile, planned: bool, most: u64) {
+    for k in 0..1_000 {
+        if run_fused(rt, hostile, planned, (u64::MAX, k), most) {
+            return;
+        }
+    }
+    panic!(rt; "not done");
+}
+
 fn fuse_each(rt: &(impl AllocGlobal + Abort), hostile: &Hostile, most: u64) {
     for planned in [true, false] {
-        let mut k = 0;
-        while !run_fused(rt, hostile, planned, (k, u64::MAX), most) {
-            k += 1;
-        }
-        k = 0;
-        while !run_fused(rt, hostile, planned, (u64::MAX, k), most) {
-            k += 1;
-        }
+        fuse_files(rt, hostile, planned, most);
+        fuse_sink(rt, hostile, planned, most);
     }
 }
 

@@ -111,14 +111,23 @@ const SEAM: &[u8] = b"let a \"abc\"\nlet b \"def\"\ncat t a b\nsubstr z t 2 3\np
 
 #[test]
 fn show_plan(rt: HostRuntime) {
-    let shown = b"1 build a literal(3)\n2 build b literal(3)\n3 measure t cat(a b)\n4 measure z sub(cat(a b) 2 3)\n5 write sub(cat(a b) 2 3)\n";
+    let shown =
+        b"1 build a literal(3)\n2 build b literal(3)\n3 measure t cat(a b)\n4 measure z sub(cat(a b) 2 3)\n5 write sub(cat(a b) 2 3)\n";
     expect_driven(&rt, &["--show-plan", "s"], SEAM, 0, shown, b"");
 }
 
 #[test]
 fn show_trivial_plan(rt: HostRuntime) {
-    let shown = b"1 build a literal(3)\n2 build b literal(3)\n3 build t cat(a b)\n4 build z sub(t 2 3)\n5 write z\n";
-    expect_driven(&rt, &["--unplanned", "--show-plan", "s"], SEAM, 0, shown, b"");
+    let shown =
+        b"1 build a literal(3)\n2 build b literal(3)\n3 build t cat(a b)\n4 build z sub(t 2 3)\n5 write z\n";
+    expect_driven(
+        &rt,
+        &["--unplanned", "--show-plan", "s"],
+        SEAM,
+        0,
+        shown,
+        b"",
+    );
 }
 
 #[test]
