@@ -64,3 +64,11 @@ IsWholeRefusal contents old new path e = ((new ≡ old) × IsOpenRefusal content
 -- why no cord was made of a file that isn't read: the path wasn't opened, or it is open and there was no memory
 abbrev pub IsLazyRefusal : Option Folder → Opened → Opened → List ℕ → FileError → Type 0
 IsLazyRefusal contents old new path e = ((new ≡ old) × IsOpenRefusal contents old path e) ⊎ ((e ≡ NoMemory) × IsOpened old new path)
+
+-- the path is open, and its file is a short one
+abbrev pub IsShortOpened : Opened → Opened → List ℕ → Type 0
+IsShortOpened old new path = (id : ℕ) × (len : ℕ) × Opens old new path id len × (len ≤ SHORT_FILE)
+
+-- why no cord was made of a file that is read where it is short: the path wasn't opened, or it is open, and there was no memory or a short file wasn't read
+abbrev pub IsWholeOrLazyRefusal : Option Folder → Opened → Opened → List ℕ → FileError → Type 0
+IsWholeOrLazyRefusal contents old new path e = IsLazyRefusal contents old new path e ⊎ (IsReadRefusal e × IsShortOpened old new path)

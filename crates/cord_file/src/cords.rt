@@ -4,7 +4,7 @@ ghost use Rattle.cord_io.specs.Device.{count_after};
 ghost use Rattle.cord_file.specs.Faults.{has_failed};
 ghost use Rattle.cord_file.specs.Entries.{lengths_in};
 ghost use Rattle.cord_file.specs.Opening.{Grows};
-ghost use Rattle.cord_file.specs.Making.{IsLeafOver, IsFuncOver, IsWhole, IsLazy, IsWholeOrLazy, IsReadRefusal, IsWholeRefusal, IsLazyRefusal};
+ghost use Rattle.cord_file.specs.Making.{IsLeafOver, IsFuncOver, IsWhole, IsLazy, IsWholeOrLazy, IsReadRefusal, IsWholeRefusal, IsLazyRefusal, IsWholeOrLazyRefusal};
 
 use crate::{FileError, SHORT_FILE, Sources};
 use cord_core::Cord;
@@ -50,7 +50,7 @@ impl<F: Files> Sources<F> {
             ≡ count_after (has_failed result) (F.failures (device_in self.old)) }
         ensures grows { Grows (opened_in self.old) (opened_in self.new) }
         ensures cord { IfOk result (IsWholeOrLazy (F.contents (device_in self.old)) (opened_in self.old) (opened_in self.new) path.now) }
-        ensures refused { IfErr result (IsWholeRefusal (F.contents (device_in self.old)) (opened_in self.old) (opened_in self.new) path.now) }
+        ensures refused { IfErr result (IsWholeOrLazyRefusal (F.contents (device_in self.old)) (opened_in self.old) (opened_in self.new) path.now) }
     {
         let (id, len) = self.open(alloc, path)?;
         if len <= SHORT_FILE {
