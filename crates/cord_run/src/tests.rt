@@ -4,6 +4,8 @@ mod expressions;
 mod files;
 mod hostile;
 mod makings;
+mod malformed;
+mod plans;
 mod refusals;
 mod rows;
 
@@ -71,6 +73,15 @@ fn filled(rt: &(impl AllocGlobal + Abort), text: &[u8], byte: u8, count: usize) 
     bytes
 }
 
+// So many bytes, each of which is its place modulo 251, so that neighbouring blocks differ.
+fn numbered(rt: &(impl AllocGlobal + Abort), count: usize) -> Vec<u8> {
+    let mut bytes = Vec::new(rt.alloc());
+    for place in 0..count {
+        bytes.push((place % 251) as u8).expect(rt, "no memory");
+    }
+    bytes
+}
+
 // A line `let` for each of so many names of two letters.
 fn names(rt: &(impl AllocGlobal + Abort), count: u16) -> Vec<u8> {
     let mut script = Vec::new(rt.alloc());
@@ -134,27 +145,35 @@ fn write_failed_is_not_finished(rt: HostRuntime) {
     assert_eq!(rt; sink.failures(), 1);
 }
 
-// Substrings of a text of two gigabytes share it.
-#[test]
-fn substrings_share(rt: HostRuntime) {
-    let mut script = lines(&rt, "let x \"ab\" ; repeat 30 ; cat x x x ; end");
-    for k in 1..=200 {
-        let line = format!(in rt.alloc(); "substr y{k} x {k} 2147483000\n").expect(
-            &rt,
-            "no memory",
-        );
+// The script of substrings-share with so many substrings of its text: the row has 200.
+fn substrings(rt: &(impl AllocGlobal + Abort), count: u32) -> Vec<u8> {
+    let mut script = lines(rt, "let x \"ab\" ; repeat 30 ; cat x x x ; end");
+    for k in 1..=count {
+        let line = format!(in rt.alloc(); "substr y{k} x {k} 2147483000\n").expect(rt, "no memory");
         script
             .extend_from_slice(line.as_bytes())
-            .expect(&rt, "no memory");
+            .expect(rt, "no memory");
     }
-    for k in 1..=200 {
-        let line = format!(in rt.alloc(); "fetch n y{k} 0\n").expect(&rt, "no memory");
+    for k in 1..=count {
+        let line = format!(in rt.alloc(); "fetch n y{k} 0\n").expect(rt, "no memory");
         script
             .extend_from_slice(line.as_bytes())
-            .expect(&rt, "no memory");
+            .expect(rt, "no memory");
     }
     script
         .extend_from_slice(b"sprintf z \"%d\" n\nput z\n")
-        .expect(&rt, "no memory");
-    expect_end(&rt, "substrings-share", &script, End::Done, b"97");
+        .expect(rt, "no memory");
+    script
+}
+
+// Substrings of a text of two gigabytes share it.
+#[test]
+fn substrings_share(rt: HostRuntime) {
+    expect_end(
+        &rt,
+        "substrings-share",
+        &substrings(&rt, 200),
+        End::Done,
+        b"97",
+    );
 }

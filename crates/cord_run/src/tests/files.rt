@@ -1,5 +1,5 @@
 //! Rows of scripts over files: whole ones, ones that fail after some calls, and ones that give no byte behind a place.
-use super::lines;
+use super::{lines, numbered};
 use crate::{End, FaultKind, run_text, run_unplanned};
 use cord_io::{CutFiles, Files, FuseFiles, MemFiles, MemSink};
 use std::process::Abort;
@@ -32,12 +32,13 @@ fn ran<F: Files + Drop>(
     }
 }
 
-// A file of so many copies of a byte.
-fn file_of(rt: &(impl AllocGlobal + Abort), path: &str, byte: u8, count: usize) -> MemFiles {
+// A file of so many numbered bytes.
+fn file_of(rt: &(impl AllocGlobal + Abort), path: &str, count: usize) -> MemFiles {
     let alloc = rt.alloc();
     let mut files = MemFiles::new(alloc);
-    let bytes = vec![in alloc; byte; count].expect(rt, "no memory");
-    files.add(alloc, path, &bytes).expect(rt, "no memory");
+    files
+        .add(alloc, path, &numbered(rt, count))
+        .expect(rt, "no memory");
     files
 }
 
@@ -58,11 +59,6 @@ fn one_line(rt: &(impl AllocGlobal + Abort)) -> MemFiles {
     let mut files = MemFiles::new(alloc);
     files.add(alloc, "p", b"line\n").expect(rt, "no memory");
     files
-}
-
-// So many copies of a byte, and nothing else.
-fn is_filled(bytes: &[u8], byte: u8, count: usize) -> bool {
-    bytes.len() == count && bytes.iter().all(|b| *b == byte)
 }
 
 #[test]
@@ -95,34 +91,35 @@ fn eager_unread_unplanned(rt: HostRuntime) {
 #[test]
 fn lazy_block_fails(rt: HostRuntime) {
     for way in [Way::Planned, Way::Unplanned] {
-        let files = FuseFiles::new(file_of(&rt, "big", b'x', 200_000), 2);
+        let files = FuseFiles::new(file_of(&rt, "big", 200_000), 2);
         let (end, sink) = ran(&rt, way, r#"lazy x "big" ; put x"#, files);
         assert!(rt; end == End::ReadFailed(2));
-        let count = sink.bytes().len();
-        assert!(rt; count <= 512);
-        assert!(rt; is_filled(sink.bytes(), b'x', count));
+        assert!(rt; sink.bytes().len() <= 512);
+        assert!(rt; numbered(&rt, 512).starts_with(sink.bytes()));
     }
 }
 
 #[test]
 fn lazy_twice(rt: HostRuntime) {
     for way in [Way::Planned, Way::Unplanned] {
-        let files = FuseFiles::new(file_of(&rt, "f", b'x', 10_000), 21);
+        let files = FuseFiles::new(file_of(&rt, "f", 10_000), 21);
         let (end, sink) = ran(&rt, way, r#"lazy x "f" ; put x ; put x"#, files);
         assert!(rt; end == End::Done);
-        assert!(rt; is_filled(sink.bytes(), b'x', 20_000));
+        assert_eq!(rt; sink.bytes().len(), 20_000);
+        let (first, second) = sink.bytes().split_at(10_000);
+        assert!(rt; first == numbered(&rt, 10_000).as_slice());
+        assert!(rt; second == numbered(&rt, 10_000).as_slice());
     }
 }
 
 #[test]
 fn lazy_last_block_fails(rt: HostRuntime) {
     for way in [Way::Planned, Way::Unplanned] {
-        let files = FuseFiles::new(file_of(&rt, "f", b'x', 10_000), 20);
+        let files = FuseFiles::new(file_of(&rt, "f", 10_000), 20);
         let (end, sink) = ran(&rt, way, r#"lazy x "f" ; put x ; put x"#, files);
         assert!(rt; end == End::ReadFailed(2));
-        let count = sink.bytes().len();
-        assert!(rt; count <= 9_728);
-        assert!(rt; is_filled(sink.bytes(), b'x', count));
+        assert!(rt; sink.bytes().len() <= 9_728);
+        assert!(rt; numbered(&rt, 9_728).starts_with(sink.bytes()));
     }
 }
 
@@ -141,12 +138,11 @@ fn blocks_by_entry(rt: HostRuntime) {
 #[test]
 fn cut_lazy_whole(rt: HostRuntime) {
     for way in [Way::Planned, Way::Unplanned] {
-        let files = CutFiles::new(file_of(&rt, "p", b'x', 1_000), 600);
+        let files = CutFiles::new(file_of(&rt, "p", 1_000), 600);
         let (end, sink) = ran(&rt, way, r#"lazy x "p" ; put x"#, files);
         assert!(rt; end == End::ReadFailed(2));
-        let count = sink.bytes().len();
-        assert!(rt; count <= 512);
-        assert!(rt; is_filled(sink.bytes(), b'x', count));
+        assert!(rt; sink.bytes().len() <= 512);
+        assert!(rt; numbered(&rt, 512).starts_with(sink.bytes()));
     }
 }
 
@@ -154,17 +150,17 @@ fn cut_lazy_whole(rt: HostRuntime) {
 fn cut_lazy_first_block(rt: HostRuntime) {
     let script = r#"lazy x "p" ; substr y x 0 512 ; put y"#;
     for way in [Way::Planned, Way::Unplanned] {
-        let files = CutFiles::new(file_of(&rt, "p", b'x', 1_000), 600);
+        let files = CutFiles::new(file_of(&rt, "p", 1_000), 600);
         let (end, sink) = ran(&rt, way, script, files);
         assert!(rt; end == End::Done);
-        assert!(rt; is_filled(sink.bytes(), b'x', 512));
+        assert!(rt; sink.bytes() == numbered(&rt, 512).as_slice());
     }
 }
 
 #[test]
 fn cut_eager(rt: HostRuntime) {
     for way in [Way::Planned, Way::Unplanned] {
-        let files = CutFiles::new(file_of(&rt, "p", b'x', 1_000), 600);
+        let files = CutFiles::new(file_of(&rt, "p", 1_000), 600);
         let (end, sink) = ran(&rt, way, r#"eager x "p" ; put x"#, files);
         assert!(rt; end == End::ReadFailed(1));
         assert!(rt; sink.bytes() == b"".as_slice());

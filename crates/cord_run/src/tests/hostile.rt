@@ -1,44 +1,82 @@
-//! Devices that fail after some calls, and scripts with a byte changed or cut off.
-use super::lines;
-use super::rows::{BLOCKS, CORDS, FAULTS, SEARCHES};
+//! Devices that fail at each call: every end is honest.
+use super::{lines, numbered};
 use crate::{End, run_text, run_unplanned};
 use cord_io::{Files, FuseFiles, FuseSink, MemFiles, MemSink, Sink};
 use std::process::Abort;
 
-// A script over the files "p" and "f", and what it writes: a text, then so many copies of a byte.
+// What a line puts: a text, and then so many bytes of the file "f".
+struct Put {
+    line: u32,
+    text: &'static [u8],
+    count: usize,
+}
+
+// A script over the files "p" and "f" that has no loop, the number of its lines, and its lines that put something, in order.
 struct Hostile {
     script: &'static str,
-    text: &'static [u8],
-    byte: u8,
-    count: usize,
+    lines: u32,
+    puts: &'static [Put],
 }
 
 const SHORT: [Hostile; 3] = [
     Hostile {
         script: r#"let h "hello" ; sprintf z "%5.2r|%-4d|%05d|%.0d|%%" h 7 -7 0 ; put z"#,
-        text: b"   he|7   |-0007||%",
-        byte: 0,
-        count: 0,
+        lines: 3,
+        puts: &[Put {
+            line: 3,
+            text: b"   he|7   |-0007||%",
+            count: 0,
+        }],
     },
     Hostile {
         script: r#"file x "p" ; put x ; put x"#,
-        text: b"line\nline\n",
-        byte: 0,
-        count: 0,
+        lines: 3,
+        puts: &[
+            Put {
+                line: 2,
+                text: b"line\n",
+                count: 0,
+            },
+            Put {
+                line: 3,
+                text: b"line\n",
+                count: 0,
+            },
+        ],
     },
     Hostile {
         script: r#"ecinit e ; ecstr e "ab" ; ecput e 67 ; ectocord z e ; ecput e 68 ; put z ; ectocord y e ; put y"#,
-        text: b"abCabCD",
-        byte: 0,
-        count: 0,
+        lines: 8,
+        puts: &[
+            Put {
+                line: 6,
+                text: b"abC",
+                count: 0,
+            },
+            Put {
+                line: 8,
+                text: b"abCD",
+                count: 0,
+            },
+        ],
     },
 ];
 
 const LAZY_TWICE: Hostile = Hostile {
     script: r#"lazy x "f" ; put x ; put x"#,
-    text: b"",
-    byte: b'x',
-    count: 20_000,
+    lines: 3,
+    puts: &[
+        Put {
+            line: 2,
+            text: b"",
+            count: 10_000,
+        },
+        Put {
+            line: 3,
+            text: b"",
+            count: 10_000,
+        },
+    ],
 };
 
 // The files "p" of one line and "f" of 10,000 bytes.
@@ -46,27 +84,50 @@ fn two_files(rt: &(impl AllocGlobal + Abort)) -> MemFiles {
     let alloc = rt.alloc();
     let mut files = MemFiles::new(alloc);
     files.add(alloc, "p", b"line\n").expect(rt, "no memory");
-    let long = vec![in alloc; b'x'; 10_000].expect(rt, "no memory");
-    files.add(alloc, "f", &long).expect(rt, "no memory");
+    files
+        .add(alloc, "f", &numbered(rt, 10_000))
+        .expect(rt, "no memory");
     files
 }
 
-// All that a script writes.
-fn whole(rt: &(impl AllocGlobal + Abort), hostile: &Hostile) -> Vec<u8> {
-    let mut out = Vec::from_slice(rt.alloc(), hostile.text).expect(rt, "no memory");
-    for _ in 0..hostile.count {
-        out.push(hostile.byte).expect(rt, "no memory");
+// All that the lines of a script up to one put.
+fn put_up_to(rt: &(impl AllocGlobal + Abort), hostile: &Hostile, line: u32) -> Vec<u8> {
+    let mut out = Vec::new(rt.alloc());
+    for put in hostile.puts {
+        if put.line <= line {
+            out.extend_from_slice(put.text).expect(rt, "no memory");
+            out.extend_from_slice(&numbered(rt, put.count))
+                .expect(rt, "no memory");
+        }
     }
     out
 }
 
-// Whether an end is honest of a run that has no fault: it is done and all is written, or a front part is, and the device that is
-// named has failed once.
-fn is_honest(end: End, out: &[u8], all: &[u8], files_failed: u64, sink_failed: u64) -> bool {
+// Whether a run stopped in a line of a script: what the lines before it put is written, and then a front part of what it puts.
+fn is_stopped(rt: &(impl AllocGlobal + Abort), hostile: &Hostile, line: u32, out: &[u8]) -> bool {
+    if line == 0 || line > hostile.lines {
+        return false;
+    }
+    let before = put_up_to(rt, hostile, line - 1);
+    let with_it = put_up_to(rt, hostile, line);
+    out.starts_with(&before) && with_it.starts_with(out)
+}
+
+// Whether an end is honest of a run that has no fault, where the files and the sink failed so often: it is done and all is
+// written, or it stopped in a line or in the finish, and the device that is named has failed once and the other one never.
+fn is_honest(
+    rt: &(impl AllocGlobal + Abort),
+    hostile: &Hostile,
+    end: End,
+    out: &[u8],
+    failed: (u64, u64),
+) -> bool {
+    let all = put_up_to(rt, hostile, hostile.lines);
     match end {
-        End::Done => out == all && files_failed == 0 && sink_failed == 0,
-        End::ReadFailed(line) => line > 0 && all.starts_with(out) && files_failed == 1,
-        End::WriteFailed(_) => all.starts_with(out) && sink_failed == 1,
+        End::Done => out == all.as_slice() && failed == (0, 0),
+        End::WriteFailed(0) => out == all.as_slice() && failed == (0, 1),
+        End::ReadFailed(line) => is_stopped(rt, hostile, line, out) && failed == (1, 0),
+        End::WriteFailed(line) => is_stopped(rt, hostile, line, out) && failed == (0, 1),
         _ => false,
     }
 }
@@ -92,14 +153,8 @@ fn run_fused(
     let Ok(end) = result else {
         panic!(rt; "refused");
     };
-    let all = whole(rt, hostile);
-    let honest = is_honest(
-        end,
-        sink.inner().bytes(),
-        &all,
-        files.failures(),
-        sink.failures(),
-    );
+    let failed = (files.failures(), sink.failures());
+    let honest = is_honest(rt, hostile, end, sink.inner().bytes(), failed);
     assert!(rt;
         honest,
         "{} with {} and {} calls of {most}",
@@ -143,44 +198,4 @@ fn fuses_at_each_call(rt: HostRuntime) {
         }
     }
     fuse_each(&rt, &LAZY_TWICE, 4_096);
-}
-
-// Runs a script; where it is refused nothing is written.
-fn run_any(rt: &(impl AllocGlobal + Abort), script: &[u8]) {
-    let alloc = rt.alloc();
-    let mut sink = MemSink::new(alloc);
-    let (result, _) = run_text(alloc, script, MemFiles::new(alloc), &mut sink);
-    if result.is_err() {
-        assert!(rt; sink.bytes().is_empty());
-    }
-}
-
-// Runs each prefix of a script, and the script with each byte made 0, 10, 34 or 255.
-fn run_malformed(rt: &(impl AllocGlobal + Abort), shown: &str) {
-    let mut script = lines(rt, shown);
-    for at in 0..script.len() {
-        run_any(rt, &script[..at]);
-        let kept = script[at];
-        for byte in [0, 10, 34, 255] {
-            script[at] = byte;
-            run_any(rt, &script);
-        }
-        script[at] = kept;
-    }
-}
-
-#[test]
-fn malformed_scripts(rt: HostRuntime) {
-    for (_, script, _, _) in CORDS.iter().chain(&SEARCHES).chain(&FAULTS) {
-        run_malformed(&rt, script);
-    }
-}
-
-#[test]
-fn malformed_blocks(rt: HostRuntime) {
-    for (name, script, _, _) in &BLOCKS {
-        if !name.starts_with("turns") {
-            run_malformed(&rt, script);
-        }
-    }
 }

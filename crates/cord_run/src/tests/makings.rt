@@ -1,4 +1,5 @@
 //! Each kind of making, built and measured: its length, or why there is none.
+use super::numbered;
 use crate::making::Halt;
 use crate::makings::{build_target, measure_target};
 use crate::store::{Content, Entry, Store};
@@ -168,6 +169,26 @@ fn file_cut_off(rt: HostRuntime) {
     let lazy = Made::OfLazy(path(&rt, "p"));
     let result = length_of(&rt, CutFiles::new(hello_files(&rt), 2), &lazy, false);
     assert!(&rt; matches!(result, Ok(5)));
+}
+
+// A file of this length at the path `p`.
+fn long_file(rt: &(impl AllocGlobal + Abort), len: usize) -> MemFiles {
+    let mut files = MemFiles::new(rt.alloc());
+    let bytes = numbered(rt, len);
+    assert_eq!(rt; files.add(rt.alloc(), "p", &bytes), Ok(()));
+    files
+}
+
+// A file of at most 131,072 bytes is read at once, and a longer one isn't read: it fails only where it is read.
+#[test]
+fn file_short_or_long(rt: HostRuntime) {
+    let file = Made::OfFile(path(&rt, "p"));
+    let short = length_of(&rt, long_file(&rt, 131_072), &file, false);
+    assert!(&rt; matches!(short, Ok(131_072)));
+    let short = CutFiles::new(long_file(&rt, 131_072), 131_071);
+    assert!(&rt; matches!(length_of(&rt, short, &file, false), Err(Halt::ReadFailed)));
+    let long = CutFiles::new(long_file(&rt, 131_073), 0);
+    assert!(&rt; matches!(length_of(&rt, long, &file, false), Ok(131_073)));
 }
 
 #[test]

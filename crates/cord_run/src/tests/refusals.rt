@@ -7,9 +7,9 @@ use cord_script::RefusalKind::{
 };
 
 // A name, a script with ` ; ` between its lines, the line and the kind of its refusal.
-type Row = (&'static str, &'static str, u32, RefusalKind);
+pub(super) type Row = (&'static str, &'static str, u32, RefusalKind);
 
-const REFUSALS: [Row; 32] = [
+pub(super) const REFUSALS: [Row; 32] = [
     ("unknown-name", "put x", 1, UnknownName),
     ("cat-one-operand", "cat z x", 1, WrongCount),
     ("let-quote-open", r#"let x "a"#, 1, Unterminated),

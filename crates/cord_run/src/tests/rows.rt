@@ -10,7 +10,7 @@ use std::process::Abort;
 pub(super) type Row = (&'static str, &'static str, End, &'static [u8]);
 
 pub(super) const CORDS: [Row; 13] = [
-    ("empty-script", "", End::Done, b""),
+    ("empty-line", "", End::Done, b""),
     ("hello", r#"let x "hello" ; put x"#, End::Done, b"hello"),
     (
         "nul-in-literal",
@@ -294,10 +294,18 @@ pub(super) const FAULTS: [Row; 15] = [
     ),
 ];
 
+pub(super) const EC_GOES_ON: &str =
+    r#"ecinit e ; repeat 129 ; ecput e 65 ; end ; ectocord z e ; ecput e 66 ; put z ; ectocord y e ; len n y ; sprintf t "%d" n ; put t"#;
+
 fn expect_rows(rt: &(impl AllocGlobal + Abort), rows: &[Row]) {
     for (name, script, end, out) in rows {
         expect_end(rt, name, &lines(rt, script), *end, out);
     }
+}
+
+#[test]
+fn empty_script(rt: HostRuntime) {
+    expect_end(&rt, "empty-script", b"", End::Done, b"");
 }
 
 #[test]
@@ -322,14 +330,12 @@ fn faults(rt: HostRuntime) {
 
 #[test]
 fn ec_goes_on_after_tocord(rt: HostRuntime) {
-    let script =
-        r#"ecinit e ; repeat 129 ; ecput e 65 ; end ; ectocord z e ; ecput e 66 ; put z ; ectocord y e ; len n y ; sprintf t "%d" n ; put t"#;
     let mut out = vec![in rt.alloc(); b'A'; 129].expect(&rt, "no memory");
     out.extend_from_slice(b"130").expect(&rt, "no memory");
     expect_end(
         &rt,
         "ec-goes-on-after-tocord",
-        &lines(&rt, script),
+        &lines(&rt, EC_GOES_ON),
         End::Done,
         &out,
     );

@@ -1,0 +1,115 @@
+//! Scripts that are cut off, and scripts with a byte changed: each is refused and nothing is written, or it runs to its end.
+use super::refusals::REFUSALS;
+use super::rows::{BLOCKS, CORDS, EC_GOES_ON, FAULTS, SEARCHES};
+use super::{lines, numbered, substrings};
+use crate::{End, run_text};
+use cord_io::{FuseSink, MemFiles, MemSink, Sink};
+use std::process::Abort;
+
+// The files "p" of one line and "big" of these bytes.
+fn two_files(rt: &(impl AllocGlobal + Abort), big: &[u8]) -> MemFiles {
+    let alloc = rt.alloc();
+    let mut files = MemFiles::new(alloc);
+    files.add(alloc, "p", b"line\n").expect(rt, "no memory");
+    files.add(alloc, "big", big).expect(rt, "no memory");
+    files
+}
+
+// Runs a script; where it is refused nothing is written and no finish is called, and else it is done or has a fault.
+fn run_any(rt: &(impl AllocGlobal + Abort), script: &[u8], big: &[u8]) {
+    let alloc = rt.alloc();
+    let mut sink = MemSink::new(alloc);
+    let (result, _) = run_text(alloc, script, two_files(rt, big), &mut sink);
+    match result {
+        Ok(end) => assert!(rt; matches!(end, End::Done | End::Fault(..))),
+        Err(_) => {
+            assert!(rt; sink.bytes().is_empty());
+            let mut failing = FuseSink::new(MemSink::new(alloc), 0, 1);
+            let (_, _) = run_text(alloc, script, two_files(rt, big), &mut failing);
+            assert!(rt; failing.failures() == 0);
+        }
+    }
+}
+
+// Runs each prefix of a script, and the script with each byte made 0, 10, 34 or 255.
+fn run_malformed(rt: &(impl AllocGlobal + Abort), whole: Vec<u8>, big: &[u8]) {
+    let mut script = whole;
+    for at in 0..script.len() {
+        run_any(rt, &script[..at], big);
+        let kept = script[at];
+        for byte in [0, 10, 34, 255] {
+            if byte != kept {
+                script[at] = byte;
+                run_any(rt, &script, big);
+            }
+        }
+        script[at] = kept;
+    }
+}
+
+#[test]
+fn rows_over_no_files(rt: HostRuntime) {
+    for (_, script, _, _) in CORDS.iter().chain(&SEARCHES).chain(&FAULTS) {
+        run_malformed(&rt, lines(&rt, script), b"");
+    }
+}
+
+#[test]
+fn rows_with_blocks(rt: HostRuntime) {
+    for (name, script, _, _) in &BLOCKS {
+        if !name.starts_with("turns") {
+            run_malformed(&rt, lines(&rt, script), b"");
+        }
+    }
+    run_malformed(&rt, lines(&rt, EC_GOES_ON), b"");
+}
+
+#[test]
+fn rows_with_all_turns(rt: HostRuntime) {
+    for (name, script, _, _) in &BLOCKS {
+        if name.starts_with("turns") {
+            run_malformed(&rt, lines(&rt, script), b"");
+        }
+    }
+}
+
+#[test]
+fn rows_that_are_refused(rt: HostRuntime) {
+    for (_, script, _, _) in &REFUSALS {
+        run_malformed(&rt, lines(&rt, script), b"");
+    }
+}
+
+#[test]
+fn rows_with_devices(rt: HostRuntime) {
+    for script in [
+        r#"let x "a" ; put x"#,
+        r#"file x "p" ; put x ; put x"#,
+        r#"eager x "p" ; let y "a" ; put y"#,
+    ] {
+        run_malformed(&rt, lines(&rt, script), b"");
+    }
+    let big = numbered(&rt, 2_000);
+    run_malformed(&rt, lines(&rt, r#"lazy x "big" ; put x"#), &big);
+}
+
+#[test]
+fn few_substrings(rt: HostRuntime) {
+    run_malformed(&rt, substrings(&rt, 2), b"");
+}
+
+// The row of 200 substrings, cut off and changed at one place in 127, by one of the bytes: each run plans up to 400 lines, so
+// that all places would take many minutes. The script of two substrings is tried at every place.
+#[test]
+fn many_substrings(rt: HostRuntime) {
+    let mut script = substrings(&rt, 200);
+    for at in 0..script.len() {
+        if at % 127 == 0 {
+            run_any(&rt, &script[..at], b"");
+            let kept = script[at];
+            script[at] = [0, 10, 34, 255][at % 4];
+            run_any(&rt, &script, b"");
+            script[at] = kept;
+        }
+    }
+}
