@@ -26,4 +26,10 @@ macro_rules! refused {
 }
 
 mod cords;
+mod files;
+mod iteration;
+mod plans;
+mod runs;
+mod scripts;
+mod sources;
 mod texts;
