@@ -1,15 +1,36 @@
-//! The bytes of cords, without a call that takes memory.
+//! Texts, and the bytes of nodes and cords, which are compared without a call that takes memory.
+ghost use Rattle.std.specs.Prelude.{◌≡◌, length};
 ghost use Rattle.cord_node.specs.Tree.{IsSound};
 
 use cord_core::{Cord, Node};
+use std::alloc::Global;
+use std::process::Abort;
 use std::rc::Rc;
+
+/// So many bytes: at each place the place modulo 251, which no length of a block or a leaf divides.
+pub fn pattern(rt: &impl Abort, alloc: Global, count: usize) -> Vec<u8>
+    ensures { length result.items ≡ count }
+{
+    let mut text = again!(rt, Vec::from_elem(alloc, 0, count));
+    for (place, byte) in text.iter_mut().enumerate() {
+        *byte = (place % 251) as u8;
+    }
+    text
+}
 
 /// Whether a cord of leaves and runs has this text.
 pub fn is(cord: &Cord, text: &[u8]) -> bool {
     match cord.root() {
         None => text.is_empty(),
-        Some(node) => after(node, text).is_some_and(|rest| rest.is_empty()),
+        Some(node) => spells(node, text),
     }
+}
+
+/// Whether a node of leaves and runs has this text.
+pub fn spells(node: &Rc<Node>, text: &[u8]) -> bool
+    requires { IsSound node.now.value }
+{
+    after(node, text).is_some_and(|rest| rest.is_empty())
 }
 
 // What follows the bytes of a node in a text that begins with them.
