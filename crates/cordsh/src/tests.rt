@@ -1,9 +1,28 @@
 //! Rows of scripts through `drive`: the status, what is written and what is told.
+
+// The value of a call, which is made again where it was refused memory.
+macro_rules! again {
+    ($rt:expr, $call:expr) => {
+        match $call {
+            Ok(value) => value,
+            Err(_) => $call.expect($rt, "no memory"),
+        }
+    };
+}
+
+mod devices;
+mod hostile;
+mod refusals;
+mod refused;
+mod rows;
 mod words;
 
 use crate::program::drive;
-use cord_io::{FuseFiles, FuseSink, MemFiles, MemSink, Sink};
+use cord_io::{Files, FuseFiles, FuseSink, MemFiles, MemSink, Sink};
 use std::process::Abort;
+
+// The words that run the script at "s": by its plan, and as its statements stand.
+const WAYS: [&[&str]; 2] = [&["s"], &["--unplanned", "s"]];
 
 const HELLO: &[u8] = b"let x \"hello\"\nput x\n";
 
@@ -11,7 +30,16 @@ const HELLO: &[u8] = b"let x \"hello\"\nput x\n";
 fn files_with(rt: &(impl AllocGlobal + Abort), script: &[u8]) -> MemFiles {
     let alloc = rt.alloc();
     let mut files = MemFiles::new(alloc);
-    files.add(alloc, "s", script).expect(rt, "no memory");
+    again!(rt, files.add(alloc, "s", script));
+    files
+}
+
+// Files with one script, at "s", and one other file.
+fn files_and(rt: &(impl AllocGlobal + Abort), script: &[u8], path: &str, bytes: &[u8]) -> MemFiles {
+    let alloc = rt.alloc();
+    let mut files = MemFiles::new(alloc);
+    again!(rt, files.add(alloc, "s", script));
+    again!(rt, files.add(alloc, path, bytes));
     files
 }
 
@@ -19,10 +47,32 @@ fn words_of(rt: &(impl AllocGlobal + Abort), words: &[&str]) -> Vec<String> {
     let alloc = rt.alloc();
     let mut all = Vec::new(alloc);
     for word in words {
-        let owned = String::from_str(alloc, word).expect(rt, "no memory");
-        all.push(owned).expect(rt, "no memory");
+        again!(rt, all.push(again!(rt, String::from_str(alloc, word))));
     }
     all
+}
+
+// What came of the program's words: the status, what is written and what is told.
+#[derive(Drop)]
+struct Driven {
+    status: u8,
+    out: MemSink,
+    err: MemSink,
+}
+
+// Drives the words over files.
+fn drive_over<F: Files + Drop>(
+    rt: &(impl AllocGlobal + Abort),
+    words: &[&str],
+    files: F,
+) -> Driven {
+    let alloc = rt.alloc();
+    let words = words_of(rt, words);
+    assert!(rt; files.failures() < u64::MAX);
+    let mut out = MemSink::new(alloc);
+    let mut err = MemSink::new(alloc);
+    let (status, _) = drive(alloc, &words, files, &mut out, &mut err);
+    Driven { status, out, err }
 }
 
 // Drives the words over a script at "s", and compares what comes of it.
@@ -34,15 +84,18 @@ fn expect_driven(
     written: &[u8],
     told: &[u8],
 ) {
-    let alloc = rt.alloc();
-    let words = words_of(rt, words);
-    let mut out = MemSink::new(alloc);
-    let mut err = MemSink::new(alloc);
-    let files = files_with(rt, script);
-    let (answered, _) = drive(alloc, &words, files, &mut out, &mut err);
-    assert_eq!(rt; answered, status);
-    assert_eq!(rt; out.bytes(), written);
-    assert_eq!(rt; err.bytes(), told);
+    let come = drive_over(rt, words, files_with(rt, script));
+    assert_eq!(rt; come.status, status);
+    assert_eq!(rt; come.out.bytes(), written);
+    assert_eq!(rt; come.err.bytes(), told);
+}
+
+// Compares a run whose files failed: what is written is a front part of a file, of at most so many bytes.
+fn expect_failed(rt: &impl Abort, come: &Driven, told: &[u8], file: &[u8], most: usize) {
+    assert_eq!(rt; come.status, 4);
+    assert_eq!(rt; come.err.bytes(), told);
+    assert!(rt; come.out.bytes().len() <= most);
+    assert!(rt; file.starts_with(come.out.bytes()));
 }
 
 // Drives the script at "s".
@@ -61,6 +114,15 @@ fn filled(rt: &(impl AllocGlobal + Abort), text: &[u8], byte: u8, count: usize) 
     let mut bytes = Vec::from_slice(rt.alloc(), text).expect(rt, "no memory");
     for _ in 0..count {
         bytes.push(byte).expect(rt, "no memory");
+    }
+    bytes
+}
+
+// So many bytes: those from 0 to 250 in turn.
+fn numbered(rt: &(impl AllocGlobal + Abort), count: usize) -> Vec<u8> {
+    let mut bytes = Vec::new(rt.alloc());
+    for k in 0..count {
+        bytes.push((k % 251) as u8).expect(rt, "no memory");
     }
     bytes
 }
@@ -216,6 +278,25 @@ fn script_unreadable(rt: HostRuntime) {
         assert_eq!(rt; status, 4);
         assert_eq!(rt; out.bytes(), b"".as_slice());
         assert_eq!(rt; err.bytes(), b"cordsh: line 0: read failed\n".as_slice());
+    }
+}
+
+// The opening of the script fails, its reading, the opening of the file, the reading of its first block, and of its second.
+#[test]
+fn drive_files_fail(rt: HostRuntime) {
+    let script = b"lazy x \"big\"\nput x\n";
+    let file = numbered(&rt, 200_000);
+    for words in WAYS {
+        for (k, told, most) in [
+            (0, b"cordsh: line 0: read failed\n".as_slice(), 0),
+            (1, b"cordsh: line 0: read failed\n", 0),
+            (2, b"cordsh: line 1: read failed\n", 0),
+            (3, b"cordsh: line 2: read failed\n", 0),
+            (4, b"cordsh: line 2: read failed\n", 512),
+        ] {
+            let files = FuseFiles::new(files_and(&rt, script, "big", &file), k);
+            expect_failed(&rt, &drive_over(&rt, words, files), told, &file, most);
+        }
     }
 }
 

@@ -1,0 +1,71 @@
+//! The program with one allocation refused, which whoever runs a test names: it stops where it says, and serves when it is
+//! called again.
+use super::hostile::{FILE_TWICE, Hostile, expect_stopped, files_of, whole};
+use super::{Driven, WAYS, drive_over};
+use cord_io::Sink;
+use std::process::Abort;
+
+const SEAM: Hostile<'static> = Hostile {
+    script: r#"let a "abc" ; let b "def" ; cat t a b ; substr z t 2 3 ; put z"#,
+    file: None,
+    puts: &[(5, b"cde")],
+};
+
+const PAST_END: Hostile<'static> = Hostile {
+    script: r#"let x "ab" ; put x ; fetch n x 2"#,
+    file: None,
+    puts: &[(2, b"ab")],
+};
+
+// Whether a run has come to its end: the status, the whole output and the message. Where the growth of `err` was refused a front
+// part of the message stands there, and nothing else is changed.
+fn is_served(
+    rt: &(impl AllocGlobal + Abort),
+    hostile: &Hostile<'_>,
+    come: &Driven,
+    status: u8,
+    told: &[u8],
+) -> bool {
+    let err = come.err.bytes();
+    let all_told = err == told && come.err.failures() == 0;
+    let cut = told.starts_with(err) && come.err.failures() == 1;
+    let written = come.out.bytes() == whole(rt, hostile).as_slice();
+    come.status == status && written && (all_told || cut)
+}
+
+// Drives a script both ways. A run that was refused memory, in its work or on `out`, tells it whole, since only one allocation is
+// refused; the next run is served.
+fn expect_refusable(
+    rt: &(impl AllocGlobal + Abort),
+    hostile: &Hostile<'_>,
+    status: u8,
+    told: &[u8],
+) {
+    for words in WAYS {
+        let come = drive_over(rt, words, files_of(rt, hostile));
+        if !is_served(rt, hostile, &come, status, told) {
+            assert!(rt; come.status == 3 || come.status == 5);
+            assert_eq!(rt; come.out.failures() == 1, come.status == 5);
+            let _ = expect_stopped(rt, hostile, come.status, come.out.bytes(), come.err.bytes());
+            let next = drive_over(rt, words, files_of(rt, hostile));
+            assert!(rt; is_served(rt, hostile, &next, status, told));
+            assert_eq!(rt; next.err.failures(), 0);
+        }
+    }
+}
+
+#[test]
+fn refused_substr_over_seam(rt: HostRuntime) {
+    expect_refusable(&rt, &SEAM, 0, b"");
+}
+
+#[test]
+fn refused_file_twice(rt: HostRuntime) {
+    expect_refusable(&rt, &FILE_TWICE, 0, b"");
+}
+
+// Of the three this one tells something where nothing is refused.
+#[test]
+fn refused_fetch_past_end(rt: HostRuntime) {
+    expect_refusable(&rt, &PAST_END, 1, b"cordsh: line 3: index out of range\n");
+}
