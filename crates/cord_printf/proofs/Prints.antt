@@ -89,3 +89,10 @@ further all rest others pieces i p a shown within is taken left text none are fe
 -- no piece is left
 pub all_written : (pieces : List Piece) (i : ℕ) (args : List (PieceArgument Cell)) (grown whole : List Cell) → length pieces ≤ i → grown ++ printed known (drop i pieces) args ≡ whole → grown ≡ whole
 all_written pieces i args grown whole h e = sym (append-nil grown) ∙ ap (λ x. grown ++ printed known x args) (sym (drop_all i pieces h)) ∙ e
+
+-- no piece is left, and what was counted lies below the greatest number
+pub all_counted : (pieces : List Piece) (i : ℕ) (args : List (PieceArgument Cell)) (total whole most limit : ℕ) → length pieces ≤ i → min (total + length (printed known (drop i pieces) args)) most ≡ min whole most
+    → total ≤ limit → limit < most → total ≡ whole
+all_counted pieces i args total whole most limit h e fits below =
+    let none : length (printed known (drop i pieces) args) ≡ 0 = ap (λ x. length (printed known x args)) (drop_all i pieces h) in
+    omega (arith, none)

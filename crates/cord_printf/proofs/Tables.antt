@@ -1,5 +1,6 @@
 -- A print over a table of sources.
 use Rattle.std.proofs.Common.{◌≡◌, ℕ, zero, suc, ◌-◌, Bool, true, false, Option, Some, None, List, [], ◌∷◌, length, map, replicate, refl, sym, ap, ◌∙◌, subst}
+use Rattle.std.proofs.lemmas.List.{length-map}
 use Rattle.cord_io.specs.Table.{Table, Lengths}
 use Rattle.cord_node.specs.declared.Node.{Node}
 use Rattle.cord_node.specs.Tree.{Cell, known}
@@ -15,7 +16,7 @@ use Rattle.cord_printf.specs.declared.pieces.Piece.TheVariants.{Text, Signed, Un
 use Rattle.cord_printf.specs.Pieces.{wants}
 use Rattle.cord_printf.specs.PieceText.{PieceArgument, number, text, map_argument, padded, cut, piece_text, argument_if, others_if, printed}
 use Rattle.cord_printf.specs.Printing.{arguments_of}
-use Rattle.cord_printf.specs.Over.{ArgumentsFitIn, argument_over, IsPrintOf}
+use Rattle.cord_printf.specs.Over.{ArgumentsFitIn, argument_over, IsPrintOf, IsLengthOfPrint}
 use Rattle.cord_printf.proofs.Natural.{map-printed}
 
 -- each element of an argument is held
@@ -92,3 +93,9 @@ print_of pieces args xs c h e = record {
       ∙ map-printed (byte_at t) known pieces (arguments_of args)
       ∙ ap (printed (λ b. b) pieces) (arguments-over t args fit);
 }
+
+pub length_of_print : (pieces : List Piece) (args : List Arg) (n : ℕ) → n ≡ length (printed known pieces (arguments_of args)) → IsLengthOfPrint pieces args n
+length_of_print pieces args n e = λ t fit.
+    let cells : List Cell = printed known pieces (arguments_of args) in
+    let bytes : map (byte_at t) cells ≡ printed (λ b. b) pieces (map (argument_over t) args) = map-printed (byte_at t) known pieces (arguments_of args) ∙ ap (printed (λ b. b) pieces) (arguments-over t args fit) in
+    e ∙ sym (length-map cells (byte_at t)) ∙ ap length bytes

@@ -1,5 +1,5 @@
 -- Prints over a table of sources, as prints of plain bytes.
-use Rattle.std.specs.Prelude.{◌≡◌, ℕ, List, [], ◌∷◌, Option, map}
+use Rattle.std.specs.Prelude.{◌≡◌, ℕ, List, [], ◌∷◌, Option, length, map}
 use Rattle.cord_io.specs.Table.{Table, Lengths}
 use Rattle.cord_node.specs.declared.Node.{Node}
 use Rattle.cord_node.specs.Tables.{lengths_of}
@@ -24,3 +24,7 @@ argument_over t (Cord c) = text (bytes_of t c)
 pub record IsPrintOf (pieces : List Piece) (args : List Arg) (cord : Option Node) : Type 0 where
   pub fits : (lengths : Lengths) → ArgumentsFitIn lengths args → CordFitsIn lengths cord
   pub bytes : (t : Table) → ArgumentsFitIn (lengths_of t) args → bytes_of t cord ≡ printed (λ b. b) pieces (map (argument_over t) args)
+
+-- over every table that the arguments fit, the print of their bytes is so long
+abbrev pub IsLengthOfPrint : List Piece → List Arg → ℕ → Type 0
+IsLengthOfPrint pieces args len = (t : Table) → ArgumentsFitIn (lengths_of t) args → len ≡ length (printed (λ b. b) pieces (map (argument_over t) args))

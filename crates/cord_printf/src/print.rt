@@ -3,7 +3,7 @@ ghost use Rattle.std.specs.Prelude.{◌≡◌, ◌≢◌, ◌≤◌, length, IfO
 ghost use Rattle.cord_node.specs.Tree.{known};
 ghost use Rattle.cord_core.specs.Cord.{text, IsCord};
 ghost use Rattle.cord_printf.specs.PieceText.{printed, first_refusal};
-ghost use Rattle.cord_printf.specs.Over.{IsPrintOf};
+ghost use Rattle.cord_printf.specs.Over.{IsLengthOfPrint, IsPrintOf};
 ghost use Rattle.cord_printf.specs.Printing.{arguments_of, IsPrintable, IsRefusedFor};
 
 use crate::arguments::{are_wanted, next_argument};
@@ -22,6 +22,7 @@ use std::alloc::Global;
 pub fn sprintf_len(format: &Format, args: &[Arg]) -> Result<u64, PrintError>
     ensures taken { IfOk result (λ _. IsPrintable format.now (arguments_of args.now)) }
     ensures length { IfOk result (λ n. n ≡ length (printed known format.now (arguments_of args.now))) }
+    ensures over { IfOk result (IsLengthOfPrint format.now args.now) }
     ensures fits { IfOk result (λ n. n ≤ MAX_LEN) }
     ensures refused { IfErr result (IsRefusedFor MAX_LEN format.now (arguments_of args.now)) }
 {
