@@ -24,6 +24,11 @@ abbrev pub file_count : Option Folder → ℕ
 file_count None = 0
 file_count (Some folder) = length folder
 
+-- a file is at the path, of a device whose files are known
+abbrev pub HasFile : Option Folder → List ℕ → Type 0
+HasFile None path = ⊥
+HasFile (Some folder) path = IsSome (file_at folder path)
+
 -- the map with these bytes at a path, and what it had at every other path
 pub record Adds (old new : Folder) (path bytes : List ℕ) : Type 0 where
   pub file : file_at new path ≡ Some bytes

@@ -1,7 +1,7 @@
 // Files in memory.
 ghost use Rattle.std.specs.Prelude.{◌≡◌, ◌<◌, ◌≤◌, ℕ, List, [], None, Some, length, take, drop, IfSome, IfNone, IfErr, OnOk, OnErr, IsTrue, ◌+◌, ◌-◌, min, is_err, IsOk, IfOk, IsSomeAnd};
 ghost use Rattle.std.specs.Vec.{vec_len};
-ghost use Rattle.cord_io.specs.Device.{file_at, bytes_at, file_count, count_after, AddsFile};
+ghost use Rattle.cord_io.specs.Device.{file_at, bytes_at, file_count, count_after, AddsFile, HasFile};
 ghost use Rattle.cord_io.specs.Memory.{IsAt, Marks, Rewrites, folder_of, paths_differ};
 
 use crate::{CordError, FileNo, Files, OpenFault, ReadFault};
@@ -92,6 +92,10 @@ impl MemFiles {
         ensures unopened { (n : ℕ) → ⟦<MemFiles as Files>⟧.opened self.new n ≡ None }
         ensures few { file_count (⟦<MemFiles as Files>⟧.contents self.new)
             ≤ file_count (⟦<MemFiles as Files>⟧.contents self.old) + 1 }
+
+        // A path that is there takes no second place.
+        ensures again { OnOk result (HasFile (⟦<MemFiles as Files>⟧.contents self.old) path.now
+            → file_count (⟦<MemFiles as Files>⟧.contents self.new) ≡ file_count (⟦<MemFiles as Files>⟧.contents self.old)) }
     {
         let kept = Vec::from_slice(alloc, bytes)?;
         match place_of(&self.entries, path) {
