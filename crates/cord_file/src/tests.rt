@@ -6,7 +6,8 @@ ghost use Rattle.cord_io.specs.Device.{file_count};
 
 use super::*;
 use cord_core::{Cord, Node};
-use cord_io::{CutFiles, Files, MemFiles, Source, SourceId};
+use cord_io::{CutFiles, Files, MemFiles, MemSink, Source, SourceId};
+use reading::put_part;
 use std::alloc::Global;
 use std::process::Abort;
 
@@ -69,6 +70,12 @@ fn sources_open(rt: HostRuntime) {
         panic!(rt; "not opened");
     };
     assert_eq!(rt; func_fields(&lazy), Some((SourceId(2), 0, 5)));
+    let mut sink = MemSink::new(alloc);
+    assert_eq!(rt;
+        put_part(alloc, &mut sources, "p", (0, 5), &mut sink),
+        Ok(())
+    );
+    assert_eq!(rt; sink.bytes(), b"hello".as_slice());
     let Ok(short) = sources.from_file(alloc, "p") else {
         panic!(rt; "not read");
     };

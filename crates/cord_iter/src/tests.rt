@@ -7,6 +7,7 @@ use super::*;
 use cord_core::Cord;
 use cord_io::{CordError, FuseSink, MemSink, ReadFault, Source, SourceId};
 use std::alloc::Global;
+use std::process::Abort;
 use std::test::Fail;
 
 // A source whose entry 2 is these bytes: it reads so often, and then every read fails.
@@ -85,6 +86,19 @@ fn run_and_leaf(alloc: Global) -> Result<Cord, CordError>
     Ok(cord)
 }
 
+// Nothing with 65 bytes appended 10,000 times, the k-th time of the byte k modulo 256; it never is deeper than 60.
+fn appended(rt: &impl Abort, alloc: Global) -> Result<Cord, CordError>
+    ensures { IfOk result (λ c. (lengths : Lengths) → CordFitsIn lengths c) }
+{
+    let mut cord = Cord::empty();
+    for k in 0..10_000u32 {
+        let byte = ((k + 1) % 256) as u8;
+        cord = Cord::cat_bytes(alloc, &cord, &[byte; 65])?;
+        assert!(rt; cord.depth() <= 60);
+    }
+    Ok(cord)
+}
+
 // The first 600 bytes of entry 2.
 fn entry_cord(alloc: Global) -> Result<Cord, CordError>
     ensures { IfOk result (λ c. (lengths : Lengths) → 600 ≤ length_at lengths 2 → CordFitsIn lengths c) }
@@ -135,6 +149,19 @@ fn to_vec_and_put(rt: HostRuntime) -> Result<(), Fail> {
     let mut sink = MemSink::new(alloc);
     assert_eq!(rt; put(&cord, &mut source, &mut sink), Ok(()));
     assert_eq!(rt; sink.bytes(), b"abccd".as_slice());
+    Ok(())
+}
+
+#[test]
+fn depth_after_many_appends(rt: HostRuntime) -> Result<(), Fail> {
+    let alloc = rt.alloc();
+    let cord = appended(&rt, alloc)?;
+    let mut source = unread();
+    let bytes = to_vec(alloc, &cord, &mut source)?;
+    assert_eq!(rt; bytes.len(), 650_000);
+    for (place, byte) in bytes.iter().enumerate() {
+        assert_eq!(rt; *byte as usize, (place / 65 + 1) % 256);
+    }
     Ok(())
 }
 

@@ -23,7 +23,7 @@ fn long_file() -> [u8; 10_000] {
 }
 
 // Puts bytes of the file at a path, which is opened but not read before.
-fn put_part<F: Files>(
+pub(super) fn put_part<F: Files>(
     alloc: Global,
     sources: &mut Sources<F>,
     path: &str,

@@ -79,7 +79,8 @@ fn told_line(rt: &(impl AllocGlobal + Abort), told: &[u8], cause: &str) -> Optio
 }
 
 /// Compares a run that stopped for want of memory or a failing device: the line is told with the cause that the status says,
-/// and what is written ends there. It is all where the failure was that of the end; the line is answered.
+/// and what is written ends there. It is all where the failure was that of the end, and nothing where memory was refused to the
+/// reading of a line; the line is answered.
 pub(super) fn expect_stopped(
     rt: &(impl AllocGlobal + Abort),
     hostile: &Hostile<'_>,
@@ -102,7 +103,7 @@ pub(super) fn expect_stopped(
             "{}: a part, at the end",
             hostile.script
         );
-    } else {
+    } else if status != 3 || !out.is_empty() {
         assert!(rt;
             stops_at(rt, hostile, line, out),
             "{}: not what was put until line {line}",
