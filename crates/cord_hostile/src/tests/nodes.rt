@@ -133,6 +133,7 @@ fn refused_balance_parts(rt: HostRuntime) {
     assert_eq!(rt; node.len(), 300);
     assert!(rt; node.depth() <= 13);
     for (place, byte) in [(0, 1), (100, 2), (200, 3)] {
+        assert!(rt; place <= 200 && node.len() == 300);
         let part = again!(&rt, sub_node(rt.alloc(), &node, place, 100));
         assert!(rt; spells(&part, &[byte; 100]), "from {place}");
     }
