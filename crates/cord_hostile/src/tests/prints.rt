@@ -89,7 +89,7 @@ fn refused_sprintf_that_pads(rt: HostRuntime) {
         &rt,
         sprintf(rt.alloc(), &format, &args),
         PrintError::NoMemory,
-        sprintf_len(&format, &args) == Ok(18)
+        sprintf_len(&format, &args) == Ok(19)
             && matches!(
                 &args,
                 [Arg::Cord(hello), Arg::Num(7), Arg::Num(-7), Arg::Num(0)] if is(hello, b"hello")
