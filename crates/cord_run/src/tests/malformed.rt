@@ -1,4 +1,6 @@
 //! Scripts that are cut off, and scripts with a byte changed: each is refused and nothing is written, or it runs to its end.
+ghost use Rattle.std.specs.Prelude.{◌≡◌, ◌<◌, length};
+
 use super::refusals::REFUSALS;
 use super::rows::{BLOCKS, CORDS, EC_GOES_ON, FAULTS, SEARCHES};
 use super::{lines, numbered, substrings};
@@ -31,19 +33,27 @@ fn run_any(rt: &(impl AllocGlobal + Abort), script: &[u8], big: &[u8]) {
     }
 }
 
+// Runs the prefix of a script up to a place, and the script with the byte at the place made 0, 10, 34 or 255.
+fn run_at(rt: &(impl AllocGlobal + Abort), script: &mut [u8], at: usize, big: &[u8])
+    requires { at < length script.old }
+    ensures { length script.new ≡ length script.old }
+{
+    run_any(rt, &script[..at], big);
+    let kept = script[at];
+    for byte in [0, 10, 34, 255] {
+        if byte != kept {
+            script[at] = byte;
+            run_any(rt, script, big);
+        }
+    }
+    script[at] = kept;
+}
+
 // Runs each prefix of a script, and the script with each byte made 0, 10, 34 or 255.
 fn run_malformed(rt: &(impl AllocGlobal + Abort), whole: Vec<u8>, big: &[u8]) {
     let mut script = whole;
     for at in 0..script.len() {
-        run_any(rt, &script[..at], big);
-        let kept = script[at];
-        for byte in [0, 10, 34, 255] {
-            if byte != kept {
-                script[at] = byte;
-                run_any(rt, &script, big);
-            }
-        }
-        script[at] = kept;
+        run_at(rt, &mut script, at, big);
     }
 }
 
@@ -93,23 +103,35 @@ fn rows_with_devices(rt: HostRuntime) {
     run_malformed(&rt, lines(&rt, r#"lazy x "big" ; put x"#), &big);
 }
 
-#[test]
-fn few_substrings(rt: HostRuntime) {
-    run_malformed(&rt, substrings(&rt, 2), b"");
-}
+// How many tests share the places of the script of 200 substrings.
+const SHARES: usize = 4;
 
-// The row of 200 substrings, cut off and changed at one place in 127, by one of the bytes: each run plans up to 400 lines, so
-// that all places would take many minutes. The script of two substrings is tried at every place.
-#[test]
-fn many_substrings(rt: HostRuntime) {
-    let mut script = substrings(&rt, 200);
+// Does the same at one share of the places of the script of 200 substrings.
+fn run_share(rt: &(impl AllocGlobal + Abort), share: usize) {
+    let mut script = substrings(rt);
     for at in 0..script.len() {
-        if at % 127 == 0 {
-            run_any(&rt, &script[..at], b"");
-            let kept = script[at];
-            script[at] = [0, 10, 34, 255][at % 4];
-            run_any(&rt, &script, b"");
-            script[at] = kept;
+        if at % SHARES == share {
+            run_at(rt, &mut script, at, b"");
         }
     }
+}
+
+#[test]
+fn substrings_first_share(rt: HostRuntime) {
+    run_share(&rt, 0);
+}
+
+#[test]
+fn substrings_second_share(rt: HostRuntime) {
+    run_share(&rt, 1);
+}
+
+#[test]
+fn substrings_third_share(rt: HostRuntime) {
+    run_share(&rt, 2);
+}
+
+#[test]
+fn substrings_last_share(rt: HostRuntime) {
+    run_share(&rt, 3);
 }
