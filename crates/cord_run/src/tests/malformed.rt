@@ -104,7 +104,7 @@ fn rows_with_devices(rt: HostRuntime) {
 }
 
 // How many tests share the places of the script of 200 substrings.
-const SHARES: usize = 4;
+const SHARES: usize = 8;
 
 // Does the same at one share of the places of the script of 200 substrings.
 fn run_share(rt: &(impl AllocGlobal + Abort), share: usize) {
@@ -132,6 +132,26 @@ fn substrings_third_share(rt: HostRuntime) {
 }
 
 #[test]
-fn substrings_last_share(rt: HostRuntime) {
+fn substrings_fourth_share(rt: HostRuntime) {
     run_share(&rt, 3);
+}
+
+#[test]
+fn substrings_fifth_share(rt: HostRuntime) {
+    run_share(&rt, 4);
+}
+
+#[test]
+fn substrings_sixth_share(rt: HostRuntime) {
+    run_share(&rt, 5);
+}
+
+#[test]
+fn substrings_seventh_share(rt: HostRuntime) {
+    run_share(&rt, 6);
+}
+
+#[test]
+fn substrings_eighth_share(rt: HostRuntime) {
+    run_share(&rt, 7);
 }
