@@ -1,6 +1,6 @@
 //! Runs of scripts: each is refused, ends for want of memory behind a front part of its output, or is done with all of it.
 use super::files::holds;
-use super::sources::pattern;
+use super::texts::pattern;
 use cord_io::{Files, MemFiles, MemSink, Sink};
 use cord_run::{End, run_text, run_unplanned};
 use cord_script::Refusal;
@@ -139,7 +139,7 @@ fn refused_file_twice(rt: HostRuntime) {
 
 #[test]
 fn refused_lazy_twice(rt: HostRuntime) {
-    let bytes = pattern::<10_000>();
+    let bytes = pattern(&rt, rt.alloc(), 10_000);
     let run = Run {
         script: "lazy x \"f\"\nput x\nput x",
         lines: 3,

@@ -1,6 +1,6 @@
 //! Tables of files: made, paths opened, and files read.
 use super::files::holds;
-use super::texts::is;
+use super::texts::{is, pattern};
 use cord_core::{Cord, Node};
 use cord_file::{FileError, Sources};
 use cord_io::{CordError, Files, MemFiles, MemSink, Sink, Source, SourceId};
@@ -153,15 +153,6 @@ fn refused_from_file(rt: HostRuntime) {
     assert!(rt; is_two(&mut sources));
 }
 
-/// So many bytes, of which the one at place i is i mod 251.
-pub fn pattern<const N: usize>() -> [u8; N] {
-    let mut bytes = [0; N];
-    for (i, byte) in bytes.iter_mut().enumerate() {
-        *byte = (i % 251) as u8;
-    }
-    bytes
-}
-
 // Puts the file "f", of which a read keeps each block for which it finds memory.
 fn put_file(
     alloc: Global,
@@ -191,7 +182,7 @@ fn expect_put(rt: &impl Abort, alloc: Global, sources: &mut Sources<MemFiles>, b
 #[test]
 fn refused_blocks(rt: HostRuntime) {
     let alloc = rt.alloc();
-    let bytes = pattern::<1500>();
+    let bytes = pattern(&rt, alloc, 1_500);
     let mut files = MemFiles::new(alloc);
     again!(&rt, files.add(alloc, "f", &bytes));
     let mut sources = table(&rt, alloc, files);

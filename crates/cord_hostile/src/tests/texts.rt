@@ -7,15 +7,11 @@ use std::alloc::Global;
 use std::process::Abort;
 use std::rc::Rc;
 
-/// So many bytes: at each place the place modulo 251, which no length of a block or a leaf divides.
+/// So many bytes of the pattern.
 pub fn pattern(rt: &impl Abort, alloc: Global, count: usize) -> Vec<u8>
     ensures { length result.items ≡ count }
 {
-    let mut text = again!(rt, Vec::from_elem(alloc, 0, count));
-    for (place, byte) in text.iter_mut().enumerate() {
-        *byte = (place % 251) as u8;
-    }
-    text
+    again!(rt, crate::pattern(alloc, count))
 }
 
 /// Whether a cord of leaves and runs has this text.
