@@ -61,7 +61,7 @@ pub fn slot_of(len: u64) -> u32
 
 /// The texts of these ropes in order, as one rope no deeper than its slot: at least one rope, with
 /// lengths that sum to at most `MAX_LEN`. Its leaves are theirs, but where `join` makes one of two.
-/// Each greatest balanced part of a rope is taken as it is, without opening it.
+/// Each greatest balanced part of a rope is taken as it is, without opening it. Refused where memory was refused.
 pub fn balance_parts(alloc: Global, ropes: &[Rc<Node>]) -> Result<Rc<Node>, AllocError>
     requires not_empty { 0 < length ropes.now }
     requires sound { AllSound ropes.now }

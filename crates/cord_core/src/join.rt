@@ -16,7 +16,7 @@ use std::alloc::Global;
 impl Cord {
     /// The text of `left` and then that of `right`, which share their trees with the result. It is the join
     /// of the two trees, and balanced where that would be deeper than `MAX_DEPTH`.
-    /// `TooLong` where the result would be longer than `MAX_LEN`.
+    /// `TooLong` where the result would be longer than `MAX_LEN`, `NoMemory` where memory was refused.
     pub fn cat(alloc: Global, left: &Cord, right: &Cord) -> Result<Cord, CordError>
         ensures text { IfOk result (λ c. text c ≡ text left.now ++ text right.now) }
         ensures over { IfOk result (IsCatOf left.now right.now) }
@@ -50,7 +50,7 @@ impl Cord {
     }
 
     /// The texts of all cords in order: of no cords the empty cord.
-    /// `TooLong` where the result would be longer than `MAX_LEN`.
+    /// `TooLong` where the result would be longer than `MAX_LEN`, `NoMemory` where memory was refused.
     pub fn catn(alloc: Global, cords: &[Cord]) -> Result<Cord, CordError>
         ensures text { IfOk result (λ c. text c ≡ all_text cords.now) }
         ensures over { IfOk result (IsAllOf cords.now) }
@@ -70,7 +70,7 @@ impl Cord {
     }
 
     /// The text of `cord` and then these bytes: the `cat` with what `from_bytes` makes of them.
-    /// `TooLong` where the result would be longer than `MAX_LEN`.
+    /// `TooLong` where the result would be longer than `MAX_LEN`, `NoMemory` where memory was refused.
     pub fn cat_bytes(alloc: Global, cord: &Cord, bytes: &[u8]) -> Result<Cord, CordError>
         ensures text { IfOk result (λ c. text c ≡ text cord.now ++ map known bytes.now) }
         ensures over { IfOk result (IsAppended cord.now bytes.now) }
@@ -88,7 +88,7 @@ impl Cord {
     }
 
     /// The text of `cord` and then the byte `c`: the `cat` with what `from_bytes` makes of it.
-    /// `TooLong` where the result would be longer than `MAX_LEN`.
+    /// `TooLong` where the result would be longer than `MAX_LEN`, `NoMemory` where memory was refused.
     pub fn cat_char(alloc: Global, cord: &Cord, c: u8) -> Result<Cord, CordError>
         ensures text { IfOk result (λ longer. text longer ≡ text cord.now ++ known c ∷ []) }
         ensures over { IfOk result (IsAppended cord.now (c ∷ [])) }

@@ -16,7 +16,7 @@ use std::rc::RcSlice;
 
 impl Cord {
     /// These bytes as one leaf, which takes a copy of them.
-    /// `TooLong` where they are more than `MAX_LEN`.
+    /// `TooLong` where they are more than `MAX_LEN`, `NoMemory` where memory was refused.
     pub fn from_bytes(alloc: Global, bytes: &[u8]) -> Result<Cord, CordError>
         ensures form { IfOk result (IsLeafOf bytes.now) }
         ensures text { IfOk result (λ c. text c ≡ map known bytes.now) }
@@ -37,7 +37,7 @@ impl Cord {
     }
 
     /// Bytes that are shared already as one leaf, without a copy of them.
-    /// `TooLong` where they are more than `MAX_LEN`.
+    /// `TooLong` where they are more than `MAX_LEN`, `NoMemory` where memory was refused.
     pub fn from_shared(alloc: Global, bytes: RcSlice<u8>) -> Result<Cord, CordError>
         ensures form { IfOk result (IsLeafOf (rc_slice_items bytes)) }
         ensures text { IfOk result (λ c. text c ≡ map known (rc_slice_items bytes)) }
@@ -59,7 +59,8 @@ impl Cord {
         Ok(Cord { root: Some(node) })
     }
 
-    /// `n` times the byte `c`, as one run. `TooLong` where `n` is more than `MAX_LEN`.
+    /// `n` times the byte `c`, as one run.
+    /// `TooLong` where `n` is more than `MAX_LEN`, `NoMemory` where memory was refused.
     pub fn chars(alloc: Global, c: u8, n: u64) -> Result<Cord, CordError>
         ensures form { IfOk result (IsRunOf c n) }
         ensures text { IfOk result (λ cord. text cord ≡ replicate n (known c)) }

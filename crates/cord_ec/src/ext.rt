@@ -62,7 +62,8 @@ impl ExtCord {
     }
 
     /// Adds a byte at the end.
-    /// `TooLong` where the text would be longer than `MAX_LEN`. After a refusal the text is as before.
+    /// `TooLong` where the text would be longer than `MAX_LEN`, `NoMemory` where memory was refused. After either the text is as
+    /// before.
     pub fn append(&mut self, alloc: Global, byte: u8) -> Result<(), CordError>
         ensures text { IfOk result (λ _. self.new ≡ self.old ++ known byte ∷ []) }
         ensures over { IfOk result (λ _. IsGrownBy self.old self.new (byte ∷ [])) }
@@ -82,7 +83,8 @@ impl ExtCord {
     }
 
     /// Adds bytes at the end, as leaves of at most `RawBuf::CAP` bytes.
-    /// `TooLong` where the text would be longer than `MAX_LEN`. After a refusal the text is as before.
+    /// `TooLong` where the text would be longer than `MAX_LEN`, `NoMemory` where memory was refused. After either the text is as
+    /// before.
     pub fn append_bytes(&mut self, alloc: Global, bytes: &[u8]) -> Result<(), CordError>
         ensures text { IfOk result (λ _. self.new ≡ self.old ++ map known bytes.now) }
         ensures over { IfOk result (λ _. IsGrownBy self.old self.new bytes.now) }
@@ -106,7 +108,8 @@ impl ExtCord {
     }
 
     /// Adds the text of a cord at the end, which shares its tree.
-    /// `TooLong` where the text would be longer than `MAX_LEN`. After a refusal the text is as before.
+    /// `TooLong` where the text would be longer than `MAX_LEN`, `NoMemory` where memory was refused. After either the text is as
+    /// before.
     pub fn append_cord(&mut self, alloc: Global, cord: &Cord) -> Result<(), CordError>
         ensures text { IfOk result (λ _. self.new ≡ self.old ++ text cord.now) }
         ensures over { IfOk result (λ _. IsGrownByCord self.old self.new cord.now) }

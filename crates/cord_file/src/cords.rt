@@ -43,7 +43,7 @@ impl<F: Files> Sources<F> {
         self.function_over(alloc, id, len)
     }
 
-    /// The file at a path as a cord: `eager` where it is short, of at most `SHORT_FILE` bytes, else `lazy`.
+    /// The file at a path as a cord: `eager` where it is short, of at most `SHORT_FILE` bytes, else `lazy`. Refused as that one is.
     pub fn from_file(&mut self, alloc: Global, path: &str) -> Result<Cord, FileError>
         ensures contents { F.contents (device_in self.new) ≡ F.contents (device_in self.old) }
         ensures count { F.failures (device_in self.new)

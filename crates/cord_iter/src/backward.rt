@@ -41,8 +41,8 @@ pub fn riter4<S: Source, V: Visitor>(
     Ok(false)
 }
 
-/// Hands a visitor the bytes of a cord from the last one down to the first one until it stops: the empty cord answers false
-/// without a call.
+/// Hands a visitor the bytes of a cord from the last one down to the first one until it stops, as `riter4` from its last place:
+/// the empty cord answers false without a call.
 pub fn riter<S: Source, V: Visitor>(
     cord: &Cord,
     src: &mut S,

@@ -10,7 +10,7 @@ use cord_io::{MAX_DEPTH, MAX_LEN, SourceId};
 use std::alloc::{AllocError, Global};
 use std::rc::{Rc, RcSlice};
 
-/// A part that is the whole of these bytes: 1 to `MAX_LEN` of them.
+/// A part that is the whole of these bytes: 1 to `MAX_LEN` of them. Refused where memory was refused.
 pub fn leaf(alloc: Global, bytes: RcSlice<u8>) -> Result<Rc<Node>, AllocError>
     requires not_empty { 0 < length (rc_slice_items bytes) }
     requires fits { length (rc_slice_items bytes) ≤ MAX_LEN }
@@ -30,7 +30,7 @@ pub fn leaf(alloc: Global, bytes: RcSlice<u8>) -> Result<Rc<Node>, AllocError>
     Ok(node)
 }
 
-/// A part that is one byte `len` times, where `len` is 1 to `MAX_LEN`.
+/// A part that is one byte `len` times, where `len` is 1 to `MAX_LEN`. Refused where memory was refused.
 pub fn run(alloc: Global, byte: u8, len: u64) -> Result<Rc<Node>, AllocError>
     requires not_empty { 0 < len }
     requires fits { len ≤ MAX_LEN }
@@ -43,7 +43,7 @@ pub fn run(alloc: Global, byte: u8, len: u64) -> Result<Rc<Node>, AllocError>
 }
 
 /// A part that is `len` bytes of the source `id`, from its byte `start` on: at least one byte, none
-/// of them behind the first `MAX_LEN`.
+/// of them behind the first `MAX_LEN`. Refused where memory was refused.
 pub fn func(alloc: Global, id: SourceId, start: u64, len: u64) -> Result<Rc<Node>, AllocError>
     requires not_empty { 0 < len }
     requires fits { start + len ≤ MAX_LEN }
@@ -104,7 +104,7 @@ fn merged(alloc: Global, left: &[u8], right: &[u8]) -> Result<Rc<Node>, AllocErr
 
 /// The text of `left` and then that of `right`, which are shared. Two nodes of the form `Leaf`, of at
 /// most `SMALL_LEN` bytes together, become one `Leaf`; all else becomes a `Cat`. The lengths sum to
-/// at most `MAX_LEN`, and one plus the greater depth is at most `MAX_DEPTH`.
+/// at most `MAX_LEN`, and one plus the greater depth is at most `MAX_DEPTH`. Refused where memory was refused.
 pub fn join(alloc: Global, left: &Rc<Node>, right: &Rc<Node>) -> Result<Rc<Node>, AllocError>
     requires left_sound { IsSound left.now.value }
     requires right_sound { IsSound right.now.value }

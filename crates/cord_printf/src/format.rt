@@ -38,7 +38,7 @@ impl Format {
     /// Reads a format, after C's printf: texts without `%`, each as long as possible, and conversions.
     ///
     /// A conversion is `%`, flags, a width, a precision, `l` or `ll`, and a letter. `BadFormat` has the offset of the
-    /// first `%` that stands after whole pieces and begins no conversion.
+    /// first `%` that stands after whole pieces and begins no conversion; `NoMemory` says nothing of the format.
     pub fn parse(alloc: Global, bytes: &[u8]) -> Result<Format, FormatError>
         ensures pieces { IfOk result (IsFormat bytes.now) }
         ensures refused { IfErr result (IsRefusal bytes.now) }

@@ -113,7 +113,8 @@ pub fn run_text<F: Files, S: Sink>(
     }
 }
 
-/// The same as `run_text`, by the plan that does what the script says, statement by statement.
+/// The same as `run_text`, by the plan that does what the script says, statement by statement: it too ends with `NoMemory(0)` where
+/// no memory is found for it.
 pub fn run_unplanned<F: Files, S: Sink>(
     alloc: Global,
     script: &[u8],
