@@ -72,10 +72,8 @@ fn begin(alloc: Global, store: &mut Store, name: &[u8]) -> Result<(), Halt>
     ensures over { StaysOver store.old.entries.items store.new.entries.items result }
     ensures becomes { Becomes name.now (λ t. []) store.old.entries.items store.new.entries.items result }
 {
-    match ExtCord::new(alloc) {
-        Ok(extensible) => give(alloc, store, name, extensible),
-        Err(_) => Err(Halt::NoMemory),
-    }
+    let extensible = ExtCord::new(alloc)?;
+    give(alloc, store, name, extensible)
 }
 
 // Lets the extensible cord of a name grow by a byte.
@@ -132,10 +130,7 @@ fn taken(alloc: Global, store: &mut Store, name: &[u8]) -> Result<ExtCord, Halt>
 {
     match store.take_extensible(name) {
         Some(extensible) => Ok(extensible),
-        None => match ExtCord::new(alloc) {
-            Ok(extensible) => Ok(extensible),
-            Err(_) => Err(Halt::NoMemory),
-        },
+        None => Ok(ExtCord::new(alloc)?),
     }
 }
 
@@ -144,8 +139,6 @@ fn give(alloc: Global, store: &mut Store, name: &[u8], extensible: ExtCord) -> R
     ensures given { IfOk result (λ _. HasExtensible name.now (Some extensible) store.old.entries.items store.new.entries.items) }
     ensures refused { IfErr result (λ halt. halt ≡ Halt.NoMemory) }
 {
-    match store.assign_extensible(alloc, name, extensible) {
-        Ok(()) => Ok(()),
-        Err(_) => Err(Halt::NoMemory),
-    }
+    store.assign_extensible(alloc, name, extensible)?;
+    Ok(())
 }

@@ -1,12 +1,30 @@
 // What a refusal of a call on cords, files or prints is to a run.
 ghost use Rattle.std.specs.Prelude.{◌≡◌};
 ghost use Rattle.cord_run.specs.Contents.{halt_of_cord, halt_of_file, halt_of_print};
+ghost use Rattle.cord_run.specs.declared.making.Halt.TheVariants.{Fault, NoMemory};
 
 use crate::making::Halt;
 use cord_file::FileError;
 use cord_io::CordError;
 use cord_meaning::FaultKind;
 use cord_printf::PrintError;
+use std::alloc::AllocError;
+
+impl From<AllocError> for Halt {
+    ghost from_gives = { λ _ halt. halt ≡ NoMemory };
+
+    fn from(_error: AllocError) -> Halt {
+        Halt::NoMemory
+    }
+}
+
+impl From<FaultKind> for Halt {
+    ghost from_gives = { λ kind halt. halt ≡ Fault kind };
+
+    fn from(kind: FaultKind) -> Halt {
+        Halt::Fault(kind)
+    }
+}
 
 impl From<CordError> for Halt {
     ghost from_gives = { λ error halt. halt ≡ halt_of_cord error };

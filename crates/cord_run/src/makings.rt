@@ -74,10 +74,8 @@ fn give(alloc: Global, store: &mut Store, target: &[u8], content: Content) -> Re
     ensures given { IfOk result (λ _. HasContent target.now content store.old.entries.items store.new.entries.items) }
     ensures refused { IfErr result (λ halt. halt ≡ Halt.NoMemory) }
 {
-    match store.assign(alloc, target, content) {
-        Ok(()) => Ok(()),
-        Err(_) => Err(Halt::NoMemory),
-    }
+    store.assign(alloc, target, content)?;
+    Ok(())
 }
 
 // Makes the cord for a name. All names hold what they held.

@@ -238,8 +238,6 @@ fn give_number(alloc: Global, store: &mut Store, target: &[u8], number: i64) -> 
     ensures given { IfOk result (λ _. HasNumber target.now number store.old.entries.items store.new.entries.items) }
     ensures refused { IfErr result (λ halt. halt ≡ Halt.NoMemory) }
 {
-    match store.assign_number(alloc, target, number) {
-        Ok(()) => Ok(()),
-        Err(_) => Err(Halt::NoMemory),
-    }
+    store.assign_number(alloc, target, number)?;
+    Ok(())
 }

@@ -165,10 +165,7 @@ fn checked_byte(value: i64) -> Result<u8, Halt>
     ensures byte { IfOk result (λ b. meant.as_byte value ≡ Ok b) }
     ensures refused { IfErr result (Refuses (meant.as_byte value)) }
 {
-    match as_byte(value) {
-        Ok(byte) => Ok(byte),
-        Err(kind) => Err(Halt::Fault(kind)),
-    }
+    Ok(as_byte(value)?)
 }
 
 // A number in the place of an index or a count.
@@ -176,8 +173,5 @@ fn checked_index(value: i64) -> Result<u64, Halt>
     ensures index { IfOk result (λ i. meant.as_index value ≡ Ok i) }
     ensures refused { IfErr result (Refuses (meant.as_index value)) }
 {
-    match as_index(value) {
-        Ok(index) => Ok(index),
-        Err(kind) => Err(Halt::Fault(kind)),
-    }
+    Ok(as_index(value)?)
 }
