@@ -1,8 +1,10 @@
 -- Lines of a script.
-use Rattle.std.proofs.Common.{inl, inr, ◌≡◌, ℕ, zero, suc, List, [], ◌∷◌, ◌++◌, refl, sym, ◌∙◌, ap, subst, append-nil, take, drop, length, arith, Bool, true, false, eqb-true}
+use Rattle.std.proofs.Common.{inl, inr, ◌≡◌, ◌≢◌, ◌<◌, ◌+◌, ℕ, zero, suc, List, [], ◌∷◌, ◌++◌, refl, sym, ◌∙◌, ap, subst, take, drop, length, arith, Bool, true, false, Some, None, eq-eqb, eqb-true}
 use Rattle.std.proofs.lemmas.Bool.{eqb-false}
+use Rattle.std.proofs.lemmas.List.Elements.{All-nil, All-cons}
 use Rattle.std.specs.Prelude.{All, MatchBool, ◌==◌}
-use Rattle.std.proofs.lemmas.List.{take-append-drop}
+use Rattle.std.proofs.lemmas.List.{take-append-drop, take_all}
+use Rattle.memchr.specs.Find.{Nowhere, Passes, IsFirstByte, is_byte}
 use Rattle.cord_script.specs.Words.{IsSplit, IsBlank, IsIdle, StartsNoBlank}
 
 -- a list in two parts
@@ -22,13 +24,31 @@ split_nil ([] ∷ lines) (n, inr h) = cc
 split_nil ((c ∷ cs) ∷ lines) (n, inl h) = cc
 split_nil ((c ∷ cs) ∷ lines) (n, inr h) = cc
 
+-- the bytes up to a place, of which none is byte 10
+before_end : (b : List ℕ) (end : ℕ) → Nowhere (Passes (is_byte 10) b) 0 end → All (λ c. c ≢ 10) (take end b)
+before_end b zero none = All-nil (λ c. c ≢ 10)
+before_end [] (suc end) none = All-nil (λ c. c ≢ 10)
+before_end (c ∷ cs) (suc end) none = All-cons (λ d. d ≢ 10) c (take end cs) (λ e. none zero (omega arith) (omega arith) (eq-eqb c 10 e)) (before_end cs end (λ k low high. none (suc k) (omega arith) (omega arith)))
+
+-- a byte 10, what is before it and what follows it
+at_end : (b : List ℕ) (end : ℕ) → end < length b → Passes (is_byte 10) b end → b ≡ take end b ++ 10 ∷ drop (suc end) b
+at_end [] end lt h = absurd (omega arith)
+at_end (c ∷ cs) zero lt h = ap (λ d. d ∷ cs) (eqb-true c 10 h)
+at_end (c ∷ cs) (suc end) lt h = ap (λ r. c ∷ r) (at_end cs end (omega arith) h)
+
+-- the first line ends at the first byte 10
+pub split_first : (b : List ℕ) (end : ℕ) (lines : List (List ℕ)) → IsFirstByte (is_byte 10) b (Some end) → IsSplit (drop (end + 1) b) lines → IsSplit b (take end b ∷ lines)
+split_first b end lines h s =
+    let next : end + 1 ≡ suc end = omega arith in
+    (before_end b end h.0.before, inr (drop (suc end) b, at_end b end h.0.high h.1, subst (λ n. IsSplit (drop n b) lines) next s))
+
+-- bytes without a byte 10 are one line
+pub split_last : (b : List ℕ) (lines : List (List ℕ)) → b ≢ [] → IsFirstByte (is_byte 10) b None → IsSplit [] lines → IsSplit b (b ∷ lines)
+split_last b lines some h s = (subst (All (λ c. c ≢ 10)) (take_all (length b) b (omega arith)) (before_end b (length b) h), inl (split_nil lines s, some, refl))
+
 -- a note is no statement
 pub idle_note : (line inner : List ℕ) (b : ℕ) → drop b line ≡ 35 ∷ inner → All IsBlank (take b line) → IsIdle line
 idle_note line inner b e h = inr (take b line, inner, h, parts b line ∙ ap (λ x. take b line ++ x) e)
-
--- a line of blanks
-pub all_blank : (line : List ℕ) (b : ℕ) → drop b line ≡ [] → All IsBlank (take b line) → All IsBlank line
-all_blank line b e h = subst (All IsBlank) (sym (parts b line ∙ ap (λ x. take b line ++ x) e ∙ append-nil (take b line))) h
 
 -- the first and the others of a list of which this holds
 pub head_of : (P : ℕ → Type 0) (x : ℕ) (xs : List ℕ) → All P (x ∷ xs) → P x

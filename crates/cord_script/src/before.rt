@@ -141,13 +141,8 @@ fn assign(alloc: Global, names: &mut Vec<Known>, name: &[u8], kind: Kind) -> Res
     if find_kind(names, name).is_some() {
         return Ok(());
     }
-    let Ok(bytes) = Vec::from_slice(alloc, name) else {
-        return Err(RefusalKind::NoMemory);
-    };
-    let name = Name::of(bytes);
-    if names.push(Known { name, kind }).is_err() {
-        return Err(RefusalKind::NoMemory);
-    }
+    let name = Name::of(Vec::from_slice(alloc, name)?);
+    names.push(Known { name, kind })?;
     Ok(())
 }
 
@@ -172,12 +167,7 @@ fn add_path(paths: &mut Vec<Path>, path: &Path) -> Result<(), RefusalKind>
     if is_among(paths, path) {
         return Ok(());
     }
-    let Ok(path) = path.clone() else {
-        return Err(RefusalKind::NoMemory);
-    };
-    if paths.push(path).is_err() {
-        return Err(RefusalKind::NoMemory);
-    }
+    paths.push(path.clone()?)?;
     Ok(())
 }
 

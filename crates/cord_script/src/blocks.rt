@@ -45,9 +45,7 @@ fn add_block(blocks: &mut VecDeque<Open>, block: Open) -> Result<(), RefusalKind
     ensures blocks { OnOk result (map block_of blocks.new.items ≡ block_of block ∷ map block_of blocks.old.items) }
     ensures flaw { IfErr result (λ kind. kind ≡ RefusalKind.NoMemory) }
 {
-    if blocks.push_front(block).is_err() {
-        return Err(RefusalKind::NoMemory);
-    }
+    blocks.push_front(block)?;
     Ok(())
 }
 

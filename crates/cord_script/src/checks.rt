@@ -5,6 +5,7 @@ ghost use Rattle.cord_script.specs.Flaws.{kind_flaw, assigned_flaw, same_kind};
 ghost use Rattle.cord_script.specs.Parted.{is_inner};
 
 use crate::kinds::Kind;
+use crate::numerals::is_digit;
 use crate::words::uncons;
 use crate::{MAX_NAME, MAX_NAMES, RefusalKind};
 
@@ -17,7 +18,7 @@ fn is_letter(c: u8) -> bool
 fn is_inner(c: u8) -> bool
     ensures { result ≡ is_inner c }
 {
-    is_letter(c) || (c >= 48 && c <= 57)
+    is_letter(c) || is_digit(c)
 }
 
 fn all_inner(word: &[u8]) -> bool

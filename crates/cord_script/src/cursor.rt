@@ -159,9 +159,7 @@ impl Parts {
         let mut names = Vec::new(alloc);
         'cords: while !self.is_empty() {
             let name = self.operand(Kind::Cord);
-            if names.push(name).is_err() {
-                return Err(RefusalKind::NoMemory);
-            }
+            names.push(name)?;
         }
         Ok(Names::of(names))
     }
@@ -175,9 +173,7 @@ impl Parts {
         let mut arguments = Vec::new(alloc);
         'arguments: while !self.is_empty() {
             let argument = self.argument();
-            if arguments.push(argument).is_err() {
-                return Err(RefusalKind::NoMemory);
-            }
+            arguments.push(argument)?;
         }
         Ok(Arguments::of(arguments))
     }

@@ -12,7 +12,7 @@ const GREATEST: u64 = 9_223_372_036_854_775_808;
 pub fn is_digit(c: u8) -> bool
     ensures { result ≡ is_digit c }
 {
-    c >= 48 && c <= 57
+    c >= b'0' && c <= b'9'
 }
 
 // The number that digits write, where it is at most the greatest magnitude.
@@ -27,7 +27,7 @@ fn magnitude(digits: &[u8]) -> Option<u64>
         if value > GREATEST / 10 {
             return None;
         }
-        value = 10 * value + (*digit - 48) as u64;
+        value = 10 * value + u64::from(*digit - b'0');
     }
     if value <= GREATEST { Some(value) } else { None }
 }
@@ -48,7 +48,7 @@ pub fn numeral_of(word: &[u8]) -> Option<i64>
     ensures { result ≡ numeral_of word.now }
 {
     let (first, digits) = uncons(word)?;
-    if first == 45 {
+    if first == b'-' {
         if digits.is_empty() {
             return None;
         }

@@ -12,6 +12,7 @@ use crate::blocks::open_flaw;
 use crate::saying::said;
 use crate::words::{blanks, head, tail, uncons, words_of};
 use crate::{MAX_LINES, MAX_SCRIPT, Refusal, RefusalKind, Script, Statement};
+use memchr::memchr;
 use std::alloc::Global;
 
 // No statement stands on the line.
@@ -20,7 +21,7 @@ fn is_idle(line: &[u8]) -> bool
 {
     match uncons(tail(line, blanks(line))) {
         None => true,
-        Some((first, _)) => first == 35,
+        Some((first, _)) => first == b'#',
     }
 }
 
@@ -30,12 +31,10 @@ fn first_line(bytes: &[u8]) -> (&[u8], &[u8])
     ensures first { (lines : List (List ℕ)) → IsSplit result.1.now lines → IsSplit bytes.now (result.0.now ∷ lines) }
     ensures shorter { length result.1.now < length bytes.now }
 {
-    for (i, c) in bytes.iter().enumerate() {
-        if *c == 10 {
-            return (head(bytes, i), tail(bytes, i + 1));
-        }
+    match memchr(b'\n', bytes) {
+        Some(end) => (head(bytes, end), tail(bytes, end + 1)),
+        None => (bytes, tail(bytes, bytes.len())),
     }
-    (bytes, tail(bytes, bytes.len()))
 }
 
 // The statement of a line, if it has one.
@@ -61,9 +60,7 @@ fn add(statements: &mut Vec<Statement>, statement: Statement) -> Result<(), Refu
     ensures statements { OnOk result (statements.new.items ≡ statements.old.items ++ statement ∷ []) }
     ensures flaw { IfErr result (λ kind. kind ≡ RefusalKind.NoMemory) }
 {
-    if statements.push(statement).is_err() {
-        return Err(RefusalKind::NoMemory);
-    }
+    statements.push(statement)?;
     Ok(())
 }
 
@@ -84,7 +81,11 @@ fn take_line(
     add(statements, statement)
 }
 
-/// What the bytes of a script say.
+/// Reads a script: lines that end with byte 10, or with the script, and on each one statement, a comment or nothing.
+/// docs/GRAMMAR.md gives the grammar.
+///
+/// Refused with the line of the first flaw, counted from 1, and what it is: the bytes of a line come first, then its verb, the
+/// number of its words, the words, and the names. Line 0 is the script as a whole. `NoMemory` says nothing of the script.
 pub fn parse(alloc: Global, script: &[u8]) -> Result<Script, Refusal>
     // The bytes are these statements.
     ensures reads { IfOk result (λ s. Reads script.now s) }

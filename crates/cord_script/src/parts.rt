@@ -12,6 +12,7 @@ use crate::kinds::{Kind, Want};
 use crate::numerals::{is_digit, numeral_of};
 use crate::words::Word;
 use crate::{Function, MAX_PATH, Name, Number, Path, RefusalKind, Relation, Text};
+use memchr::memchr;
 
 /// What a word of a statement says.
 #[derive(Drop)]
@@ -54,7 +55,7 @@ fn begins_numeral(word: &[u8]) -> bool
 {
     match word {
         [] => false,
-        [first, ..] => is_digit(*first) || *first == 45,
+        [first, ..] => is_digit(*first) || *first == b'-',
     }
 }
 
@@ -93,12 +94,7 @@ fn text_of(word: Word) -> Result<Text, RefusalKind>
 fn has_no_zero(bytes: &[u8]) -> bool
     ensures { result ≡ each is_no_zero bytes.now }
 {
-    for c in bytes {
-        if *c == 0 {
-            return false;
-        }
-    }
-    true
+    memchr(0, bytes).is_none()
 }
 
 // Whether bytes that are UTF-8 are a path.

@@ -1,6 +1,9 @@
 // Why a script is refused.
 ghost use Rattle.std.specs.Prelude.{◌≡◌};
 ghost use Rattle.cord_script.specs.Refusals.{code_of, text_of};
+ghost use Rattle.cord_script.specs.declared.refusals.RefusalKind.TheVariants.{NoMemory};
+
+use std::alloc::{AllocError, AllocFailed};
 
 /// What is wrong with a script; the comments give the code and the text of each.
 #[derive(Clone, Copy, Debug, PartialEq, Eq)]
@@ -94,6 +97,22 @@ impl RefusalKind {
             RefusalKind::ElseAlone => "else without if",
             RefusalKind::MissingIfEnd => "if without end",
         }
+    }
+}
+
+impl From<AllocError> for RefusalKind {
+    ghost from_gives = { λ _ kind. kind ≡ NoMemory };
+
+    fn from(_error: AllocError) -> RefusalKind {
+        RefusalKind::NoMemory
+    }
+}
+
+impl<T: Drop> From<AllocFailed<T>> for RefusalKind {
+    ghost from_gives = { λ _ kind. kind ≡ NoMemory };
+
+    fn from(_failed: AllocFailed<T>) -> RefusalKind {
+        AllocError.into()
     }
 }
 

@@ -47,9 +47,7 @@ fn take_parts(
             unreachable!()
         };
         let part = part_of(*want, word)?;
-        if parts.push(part).is_err() {
-            return Err(RefusalKind::NoMemory);
-        }
+        parts.push(part)?;
     }
     Ok(())
 }
@@ -139,9 +137,7 @@ fn wants_of_pieces(alloc: Global, pieces: &[Piece]) -> Result<Vec<Want>, Refusal
     let mut wants = Vec::new(alloc);
     for piece in pieces {
         let Some(kind) = piece.wants() else { continue };
-        if wants.push(want_of_kind(kind)).is_err() {
-            return Err(RefusalKind::NoMemory);
-        }
+        wants.push(want_of_kind(kind))?;
     }
     Ok(wants)
 }

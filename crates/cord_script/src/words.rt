@@ -17,7 +17,7 @@ fn is_blank(c: u8) -> bool
     ensures yes { IsTrue result → IsBlank c }
     ensures no { result ≡ false → ¬ IsBlank c }
 {
-    c == 32 || c == 9 || c == 13
+    c == b' ' || c == b'\t' || c == b'\r'
 }
 
 /// How many blanks stand at the front.
@@ -41,7 +41,7 @@ fn plain_len(line: &[u8]) -> usize
     ensures ends { EndsPlain (drop result line.now) }
 {
     for (i, c) in line.iter().enumerate() {
-        if *c == 34 || is_blank(*c) {
+        if *c == b'"' || is_blank(*c) {
             return i;
         }
     }
@@ -80,9 +80,9 @@ fn digit(c: u8) -> Option<u8>
     ensures small { IfSome result (λ v. v < 16) }
 {
     match c {
-        b'0'..=b'9' => Some(c - 48),
-        b'a'..=b'f' => Some(c - 87),
-        b'A'..=b'F' => Some(c - 55),
+        b'0'..=b'9' => Some(c - b'0'),
+        b'a'..=b'f' => Some(c - b'a' + 10),
+        b'A'..=b'F' => Some(c - b'A' + 10),
         _ => None,
     }
 }
@@ -104,11 +104,11 @@ fn escape(bytes: &[u8]) -> Option<(u8, &[u8])>
 {
     let (c, rest) = uncons(bytes)?;
     match c {
-        92 => Some((92, rest)),
-        34 => Some((34, rest)),
-        110 => Some((10, rest)),
-        116 => Some((9, rest)),
-        120 => hex_byte(rest),
+        b'\\' => Some((b'\\', rest)),
+        b'"' => Some((b'"', rest)),
+        b'n' => Some((b'\n', rest)),
+        b't' => Some((b'\t', rest)),
+        b'x' => hex_byte(rest),
         _ => None,
     }
 }
@@ -119,8 +119,8 @@ fn unit(bytes: &[u8]) -> Option<(u8, &[u8])>
 {
     let (c, rest) = uncons(bytes)?;
     match c {
-        92 => escape(rest),
-        34 => None,
+        b'\\' => escape(rest),
+        b'"' => None,
         _ => Some((c, rest)),
     }
 }
@@ -133,7 +133,7 @@ fn quoted(alloc: Global, inner: &[u8]) -> Result<(Text, &[u8]), RefusalKind>
     let mut text = Vec::new(alloc);
     let mut rest = inner;
     'units: while let Some((first, after)) = uncons(rest) {
-        if first == 34 {
+        if first == b'"' {
             return Ok((Text::of(text), after));
         }
         let Some((byte, behind)) = unit(rest) else {
@@ -142,9 +142,7 @@ fn quoted(alloc: Global, inner: &[u8]) -> Result<(Text, &[u8]), RefusalKind>
         if text.len() == MAX_TEXT {
             return Err(RefusalKind::LiteralTooLong);
         }
-        if text.push(byte).is_err() {
-            return Err(RefusalKind::NoMemory);
-        }
+        text.push(byte)?;
         rest = behind;
     }
     Err(RefusalKind::Unterminated)
@@ -159,15 +157,13 @@ fn next_word(alloc: Global, line: &[u8]) -> Result<Option<(Word, &[u8])>, Refusa
     let Some((first, inner)) = uncons(rest) else {
         return Ok(None);
     };
-    if first == 34 {
+    if first == b'"' {
         let (text, after) = quoted(alloc, inner)?;
         return Ok(Some((Word::Quoted(text), after)));
     }
     let len = plain_len(rest);
-    match Vec::from_slice(alloc, head(rest, len)) {
-        Err(_) => Err(RefusalKind::NoMemory),
-        Ok(bytes) => Ok(Some((Word::Plain(Name::of(bytes)), tail(rest, len)))),
-    }
+    let bytes = Vec::from_slice(alloc, head(rest, len))?;
+    Ok(Some((Word::Plain(Name::of(bytes)), tail(rest, len))))
 }
 
 /// The words of a line, in order.
@@ -181,9 +177,7 @@ pub fn words_of(alloc: Global, line: &[u8]) -> Result<Vec<Word>, RefusalKind>
         match next_word(alloc, rest)? {
             None => return Ok(words),
             Some((word, behind)) => {
-                if words.push(word).is_err() {
-                    return Err(RefusalKind::NoMemory);
-                }
+                words.push(word)?;
                 rest = behind;
             }
         }

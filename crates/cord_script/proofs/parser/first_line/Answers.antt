@@ -1,12 +1,13 @@
-use Rattle.std.proofs.Common.{◌∙◌, refl, inl, subst, ◌≢◌, List, ℕ}
-use Rattle.std.specs.Prelude.{All}
-use Rattle.std.proofs.lemmas.List.{take_all}
+use Rattle.std.proofs.Common.{◌∙◌, subst}
+use Rattle.memchr.specs.Find.{IsFirstByte, is_byte}
 use Rattle.cord_script.specs.Words.{IsSplit}
-use Rattle.cord_script.proofs.Lines.{split_nil, drop_whole}
+use Rattle.cord_script.proofs.Lines.{split_first, split_last, drop_whole}
 use Rattle.cord_script.proofs.parser.first_line.Goals as goal
 
-pub returns-clause-first : goal.returns-clause-first
-returns-clause-first c = λ lines h. (
-  subst (λ (xs : List ℕ). All (λ (x : ℕ). x ≢ 10) xs) (take_all c.loop-i.i c.args.bytes.now c.loop-i-test.false) c.loop-i.invariant,
-  inl (split_nil lines (subst (λ x. IsSplit x lines) (c.tail-2.ensures ∙ drop_whole c.args.bytes.now) h), c.requires, refl),
-)
+pub returns-in-Some-clause-first : goal.returns-in-Some-clause-first
+returns-in-Some-clause-first c = λ lines h.
+    rw c.head.ensures (split_first c.args.bytes.now c.in-Some.end lines (subst (λ r. IsFirstByte (is_byte 10) c.args.bytes.now r) c.in-Some.is c.memchr.ensures) (subst (λ x. IsSplit x lines) c.tail.ensures h))
+
+pub returns-in-None-clause-first : goal.returns-in-None-clause-first
+returns-in-None-clause-first c = λ lines h.
+    split_last c.args.bytes.now lines c.requires (subst (λ r. IsFirstByte (is_byte 10) c.args.bytes.now r) c.in-None.is c.memchr.ensures) (subst (λ x. IsSplit x lines) (c.tail-in-None.ensures ∙ drop_whole c.args.bytes.now) h)

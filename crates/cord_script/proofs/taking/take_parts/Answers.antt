@@ -1,5 +1,4 @@
-use Rattle.std.proofs.Common.{◌∙◌, ap, ◌++◌, ◌∷◌, [], arith, length}
-use Rattle.std.specs.Prelude.{if◌then◌else◌}
+use Rattle.std.proofs.Common.{◌∙◌, ap, arith, length}
 use Rattle.std.proofs.lemmas.Result.{err_from_is_err_and}
 use Rattle.cord_script.proofs.Took.{step_taken, step_fit, step_wrong}
 use Rattle.cord_script.proofs.taking.take_parts.Goals as goal
@@ -13,7 +12,7 @@ pub loop-want-preserved : goal.loop-want-preserved
 loop-want-preserved c =
     let old = c.loop-want.parts.items in
     let part = c.in_ok-part.part in
-    let grown = c.push.ensures.items ∙ ap (λ b. if b then old ++ part ∷ [] else old) c.if-is_err.ensures.negation in
+    let grown = c.in_ok-push.ensures.items in
     let says = c.in_ok-part.ensures.part in
     record {
       taken = step_taken c.args.wants.now c.loop-want.want-index _ c.args.words.now.items c.loop-want.words.items c.pop_front.new.self.items c.args.parts.now.items old c.push.new.self.items c.in-Some.word part (omega arith) c.loop-want.invariant.taken c.in-Some.ensures.items grown says;

@@ -1,5 +1,4 @@
 use Rattle.std.proofs.Common.{◌++◌, ◌∷◌, [], sym, ◌∙◌, ap, subst, append_assoc, inl, inr, refl, length, arith, length-append, ◌≤◌, ◌≡◌}
-use Rattle.std.specs.Prelude.{if◌then◌else◌}
 use Rattle.cord_script.specs.declared.TheConstants.{MAX_TEXT}
 use Rattle.cord_script.specs.Words.{Spells}
 use Rattle.cord_script.proofs.Spelled.{spells_push, unit_stands}
@@ -16,7 +15,7 @@ pub units-preserved : goal.units-preserved
 units-preserved c =
     let inv = c.units.invariant in
     let s = unit_stands c.units.rest.now c.in-Some-unit.behind.now c.in-Some-unit.byte (sym c.in-Some-unit.ensures) in
-    let grown = c.push.ensures.items ∙ ap (λ b. if b then c.units.text.items ++ c.in-Some-unit.byte ∷ [] else c.units.text.items) c.if-is_err.ensures.negation in
+    let grown = c.in_ok-push.ensures.items in
     let one_more = ap length grown ∙ length-append c.units.text.items (c.in-Some-unit.byte ∷ []) in
     let few : length c.push.new.self.items ≤ MAX_TEXT = omega (arith, c.len.ensures) in
     record {

@@ -1,5 +1,5 @@
-use Rattle.std.proofs.Common.{◌∙◌, ap, ◌∷◌, ◌++◌, [], sym, subst}
-use Rattle.std.specs.Prelude.{if◌then◌else◌, option_map}
+use Rattle.std.proofs.Common.{sym, subst}
+use Rattle.std.specs.Prelude.{option_map}
 use Rattle.cord_script.specs.Words.{StartsWith, HasNext}
 use Rattle.cord_script.proofs.Worded.{starts_push}
 use Rattle.cord_script.proofs.words.words_of.Goals as goal
@@ -8,6 +8,6 @@ pub words-preserved : goal.words-preserved
 words-preserved c =
     let old = c.words.words.items in
     let w = c.in-Some.word in
-    let grown = c.push.ensures.items ∙ ap (λ b. if b then old ++ w ∷ [] else old) c.if-is_err.ensures.negation in
+    let grown = c.in_ok-push-in-Some.ensures.items in
     let next = subst (λ o. HasNext c.words.rest.now (option_map (λ r. (r.0, r.1.now)) o)) c.in-Some.is c.in_ok-next_word.ensures.word in
     subst (λ ws. StartsWith c.args.line.now ws c.in-Some.behind.now) (sym grown) (starts_push c.args.line.now c.words.rest.now c.in-Some.behind.now old w c.words.invariant next.0)
