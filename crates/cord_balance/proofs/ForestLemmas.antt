@@ -5,7 +5,7 @@ use Rattle.cord_io.specs.declared.TheConstants.{MAX_LEN, MAX_DEPTH}
 use Rattle.cord_balance.specs.declared.TheConstants.{MAX_INDEX}
 use Rattle.cord_node.specs.Tree.{Cell, cells, len_of}
 use Rattle.cord_node.specs.Kept.{Part, parts}
-use Rattle.cord_node.proofs.KeptLemmas.{Kept-self, Kept_same, Kept-both, Kept-trans}
+use Rattle.cord_node.proofs.KeptLemmas.{Kept_same}
 use Rattle.cord_balance.specs.Fib.{fib_of}
 use Rattle.cord_balance.specs.declared.forest.Piece.{Piece}
 use Rattle.cord_balance.specs.Forest.{IsPiece, AllBelow, AllFrom, IsForest, forest_cells, forest_parts, forest_len}

@@ -2,7 +2,7 @@
 use Rattle.std.proofs.Common.{◌≡◌, ℕ, ◌-◌, ◌≤◌, List, [], length, take, drop, refl, zero, suc, length-drop}
 use Rattle.std.specs.Prelude.{min}
 use Rattle.std.proofs.lemmas.List.{take_min, drop_all}
-use Rattle.cord_node.proofs.TreeLemmas.{length-cells, len_positive}
+use Rattle.cord_node.proofs.TreeLemmas.{length-cells}
 
 -- a range that ends at the end of the list
 pub range_min : {X : Type 0} (xs : List X) (i n m : ℕ) → length xs ≡ m → take (min n (m - i)) (drop i xs) ≡ take n (drop i xs)

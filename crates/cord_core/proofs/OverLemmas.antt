@@ -1,12 +1,12 @@
 -- The text of a cord over a table is that of its cells. These laws are meant for use above too.
-use Rattle.std.proofs.Common.{◌≡◌, ℕ, ◌<◌, ◌≤◌, List, [], ◌∷◌, ◌++◌, length, map, take, drop, refl, ◌∙◌, sym, ap}
+use Rattle.std.proofs.Common.{◌≡◌, ℕ, ◌≤◌, List, [], ◌∷◌, ◌++◌, length, map, take, drop, refl, ◌∙◌, sym, ap}
 use Rattle.std.specs.Prelude.{Option, Some, None}
 use Rattle.std.proofs.lemmas.List.{map-append, take-map, drop-map, length-map}
 use Rattle.cord_io.specs.Table.{Table, Lengths, length_at, HasLengths}
 use Rattle.cord_node.specs.declared.Node.{Node}
 use Rattle.cord_node.specs.Tables.{lengths_of, byte_at, AreHeldIn}
 use Rattle.cord_node.proofs.TreeLemmas.{length-cells}
-use Rattle.cord_node.proofs.TableLemmas.{bytes-cells, AreHeldIn-append, AreHeldIn-cells, AreHeldIn-take, AreHeldIn-drop, FitsIn-cells, FitsIn-longer, Fits-told, bytes_over-same}
+use Rattle.cord_node.proofs.TableLemmas.{bytes-cells, AreHeldIn-append, AreHeldIn-cells, AreHeldIn-take, AreHeldIn-drop, FitsIn-cells, FitsIn-longer, Fits-told}
 use Rattle.cord_core.specs.Cord.{text, text_len, IsCord, bytes_of, CordFitsIn, CordFits, all_text, all_bytes, AllFitIn}
 use Rattle.cord_core.specs.Equations.{HasText, IsSameText, IsCatOf, IsAppended, IsAllOf, IsSubstring}
 
@@ -98,8 +98,3 @@ CordFitsIn-longer ls ms (Some n) h f = FitsIn-longer ls ms n h f
 pub CordFits-told : (ls : Lengths) (t : Table) (c : Option Node) → HasLengths ls t → CordFitsIn ls c → CordFits t c
 CordFits-told ls t None h f = tt
 CordFits-told ls t (Some n) h f = Fits-told ls t n h f
-
--- over a table that has the same entries and perhaps more
-pub bytes_of-same : (t u : Table) (c : Option Node) → ((id : ℕ) → 0 < length (t id) → u id ≡ t id) → IsCord c → CordFits t c → bytes_of u c ≡ bytes_of t c
-bytes_of-same t u None h s f = refl
-bytes_of-same t u (Some n) h s f = bytes_over-same t u n h s f

@@ -1,7 +1,7 @@
 -- What a sink took in several calls, one after the other.
-use Rattle.std.proofs.Common.{◌≡◌, ℕ, ◌+◌, ◌-◌, ◌≤◌, List, [], ◌++◌, length, take, drop, None, Some, Ok, Err, refl, subst, sym, ◌∙◌, ap, arith, append-nil, append_assoc, length-append}
+use Rattle.std.proofs.Common.{◌≡◌, ℕ, ◌+◌, ◌-◌, ◌≤◌, List, ◌++◌, length, take, drop, None, Some, Ok, Err, refl, subst, sym, ◌∙◌, ap, arith, append_assoc, length-append}
 use Rattle.std.specs.Prelude.{Option, replicate}
-use Rattle.std.specs.Io.KnownBytes.{Appends, Keeps}
+use Rattle.std.specs.Io.KnownBytes.{Appends}
 use Rattle.std.proofs.lemmas.List.{take-append-drop, drop-drop, take-replicate, replicate-append-replicate}
 use Rattle.std.specs.declared.rc.Rc.{Rc}
 use Rattle.std.specs.Global.{Global}
@@ -28,11 +28,6 @@ takes_both {P} {Q} {R} {a} {b} {c} s t h = record {
 -- bytes of which one thing holds and so another
 pub takes_such : {P Q : List ℕ → Type 0} {a b : Option (List ℕ)} → Takes P a b → ((x : List ℕ) → P x → Q x) → Takes Q a b
 takes_such s h = record { out = s.out; such = h s.out s.such; taken = s.taken }
-
--- nothing of a range of an entry
-pub func_none : (o : Option Table) (id : SourceId) (s : ℕ) → IsTextOver o (Func id s 0) []
-func_none None id s = refl
-func_none (Some t) id s = refl
 
 -- a first part, and a front part of what is behind it
 pub front_join : (whole x more y : List ℕ) → whole ≡ x ++ more → IsFrontOf more y → IsFrontOf whole (x ++ y)

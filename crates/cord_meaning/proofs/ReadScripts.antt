@@ -6,7 +6,7 @@ use Rattle.cord_script.specs.declared.statements.Statement.{Statement}
 use Rattle.cord_script.specs.declared.statements.Statement.TheVariants.{Repeat, If, Else, End}
 use Rattle.cord_script.specs.Forms.{Grammar, effect_of}
 use Rattle.cord_script.specs.Script as scripts
-use Rattle.cord_script.specs.Script.{Before, LinesSay, Says, ReadsBy, FitsBlocks, blocks_after, after_all}
+use Rattle.cord_script.specs.Script.{Before, LinesSay, ReadsBy, FitsBlocks, blocks_after, after_all}
 use Rattle.cord_meaning.specs.Blocks.{Shape, Otherwise, Close, IsNested}
 use Rattle.cord_meaning.specs.Statements.{line_of, shape_of}
 

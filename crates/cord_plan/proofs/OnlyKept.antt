@@ -1,5 +1,5 @@
 -- Plans keep only statements that make no cord and put nothing.
-use Rattle.std.proofs.Common.{◌≡◌, ℕ, ◌+◌, Bool, true, false, ◌||◌, List, [], ◌∷◌, map, sym, subst}
+use Rattle.std.proofs.Common.{ℕ, ◌+◌, Bool, true, false, ◌||◌, List, [], ◌∷◌}
 use Rattle.std.specs.Prelude.{All}
 use Rattle.std.proofs.lemmas.List.Elements.{All-nil, All-cons}
 use Rattle.cord_script.specs.declared.statements.Statement.{Statement}
@@ -8,7 +8,7 @@ use Rattle.cord_plan.specs.Exprs.{Expr}
 use Rattle.cord_plan.specs.Forced.{Table, own, exprs}
 use Rattle.cord_plan.specs.Kept.{KeepsNoOther}
 use Rattle.cord_plan.specs.Operands.{target_of}
-use Rattle.cord_plan.specs.Planned.{Made, Joined, Literal, OfFile, OfEager, OfLazy, OfFunction, Balanced, OfExtensible, Printed, Operation, gives, operation, operations, or_nothing, is_dead, is_first, planned, trivial}
+use Rattle.cord_plan.specs.Planned.{Made, Joined, Literal, OfFile, OfEager, OfLazy, OfFunction, Balanced, OfExtensible, Printed, gives, operation, operations, or_nothing, is_dead, is_first, planned, trivial}
 
 kept_gives : (measures : Bool) (line : ℕ) (target : List ℕ) (made : Made) → KeepsNoOther (gives measures line target made)
 kept_gives true line target made = tt

@@ -6,17 +6,13 @@ use Rattle.std.specs.Prelude.{Option, IsErr}
 use Rattle.std.specs.declared.result.Result.{Result}
 use Rattle.cord_io.specs.Device.{raised}
 use Rattle.cord_io.specs.declared.faults.WriteFault.{WriteFault}
-use Rattle.cord_io.proofs.Taken.{appends_both, appends_none}
+use Rattle.cord_io.proofs.Taken.{appends_both}
 use Rattle.cord_iter.proofs.Takings.{front_join, front_more}
 use Rattle.cord_plan.specs.Showing.{Writes}
 
 -- the same text
 pub writes_same : {x y : List ℕ} {a b : Option (List ℕ)} {n m : ℕ} {r : Result (Unit {0}) WriteFault} → x ≡ y → Writes x a b n m r → Writes y a b n m r
 writes_same {x} {y} {a} {b} {n} {m} {r} e h = subst (λ (t : List ℕ). Writes t a b n m r) e h
-
--- nothing
-pub writes_none : (a : Option (List ℕ)) (n : ℕ) → Writes [] a a n n (Ok tt)
-writes_none a n = record { ok = (appends_none a, refl); err = tt }
 
 -- a text, and the one behind it, as far as that came
 pub writes_then : {x y : List ℕ} {a b c : Option (List ℕ)} {n m k : ℕ} {r : Result (Unit {0}) WriteFault} → Writes x a b n m (Ok tt) → Writes y b c m k r → Writes (x ++ y) a c n k r

@@ -136,9 +136,3 @@ lettered-unique letter width flags precision p q h k =
     let one = lettered-is letter width flags precision p h in
     let two = lettered-is letter width flags precision q k in
     cc (one, two)
-
--- a conversion spells one piece
-pub spells-unique : (c : Conversion) (p q : Piece) → Spells c p → Spells c q → p ≡ q
-spells-unique c p q s t =
-    let point = point_of c p s in
-    lettered-unique c.letter (number_of c.digits) (flags_of c.marks) point.0 p q (lettered_of c point.0 p point.1 s) (lettered_of c point.0 q point.1 t)

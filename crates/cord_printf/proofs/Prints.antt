@@ -4,7 +4,6 @@ use Rattle.std.proofs.Math.Seq.{drop-cons}
 use Rattle.std.proofs.lemmas.List.{length-map, drop_all}
 use Rattle.std.specs.Prelude.{option_to_list}
 use Rattle.cord_node.specs.Tree.{Cell, known}
-use Rattle.cord_printf.specs.declared.errors.PrintError.{PrintError}
 use Rattle.cord_printf.specs.declared.pieces.ArgKind.{ArgKind}
 use Rattle.cord_printf.specs.declared.pieces.Piece.{Piece}
 use Rattle.cord_printf.specs.Pieces.{wants, wanted}
@@ -48,13 +47,6 @@ next place pieces i p args others a shown within is taken left text none are =
     let first = piece_at pieces i p within is in
     let one = next_of place p (drop (i + 1) pieces) args (subst (λ x. refusal place p x ≡ None) taken none) (subst (λ x. AreWanted x args) first are) in
     rw (first, left, text, taken) one
-
--- a refusal at a piece is the first
-pub refused_now : (place : ℕ) (pieces : List Piece) (i : ℕ) (p : Piece) (args : List (PieceArgument Cell)) (a : Option (PieceArgument Cell)) (e : PrintError) → i < length pieces → p ≡ get_or pieces i p
-    → a ≡ argument_if (wants p) args → refusal place p a ≡ Some e → first_refusal place (drop i pieces) args ≡ Some e
-refused_now place pieces i p args a e within is taken refused =
-    ap (λ x. first_refusal place x args) (piece_at pieces i p within is)
-    ∙ ap (λ r. first_of r (first_refusal (place + count_if (wants p)) (drop (i + 1) pieces) (others_if (wants p) args))) (subst (λ x. refusal place p x ≡ Some e) taken refused)
 
 -- lengths are counted up to a greatest number
 pub counted_more : (most total total' len : ℕ) (shown after left : List Cell) (all : ℕ) → left ≡ shown ++ after → len ≡ min (length shown) most → total' ≡ min (total + len) most

@@ -44,9 +44,6 @@ longs m (inr (inr h)) = subst (All IsLong) (sym h) (one_long (108 ∷ []) (one_l
 spelled : (c : Conversion) (flags : Flags) (width : ℕ) → HasWidth c flags width → IsPointed c.point → All IsLong c.modifier → IsLast c.letter → IsSpelled c
 spelled c flags width h point modifier last = record { marks = h.marks; digits = h.digits; no_zero = h.no_zero; point = point; modifier = modifier; last = last }
 
-last_at : (b n : ℕ) → b ≡ n → IsLast n → IsLast b
-last_at b n e h = subst IsLast (sym e) h
-
 signed_last : (b : ℕ) → (b ≡ 100) ⊎ (b ≡ 105) → IsLast b
 signed_last b (inl e) = inr (inl (omega arith, omega arith))
 signed_last b (inr e) = inr (inl (omega arith, omega arith))

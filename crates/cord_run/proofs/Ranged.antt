@@ -1,7 +1,6 @@
 -- Ranges of expressions among the cords of their parts.
 use Rattle.std.proofs.Common.{◌≡◌, ◌+◌, ◌-◌, ◌<◌, ◌≤◌, ◌^◌, ℕ, ℤ, List, [], ◌∷◌, ◌++◌, take, drop, replicate, Result, Ok, Err, refl, sym, ap, subst, ◌∙◌, append-nil, append_assoc, arith}
-use Rattle.std.specs.Prelude.{IfOk, min, Option, None}
-use Rattle.std.proofs.Math.Seq.{take-nil, drop-nil}
+use Rattle.std.specs.Prelude.{IfOk, min, Option}
 use Rattle.std.proofs.lemmas.List.{take-replicate, drop-replicate}
 use Rattle.cord_io.specs.Table.{Table, Lengths}
 use Rattle.cord_io.specs.declared.TheConstants.{MAX_LEN}
@@ -18,7 +17,7 @@ use Rattle.cord_plan.specs.Meaning.{held_text}
 use Rattle.cord_plan.specs.Values.{within, copies, part_of, measured_copies, text_in}
 use Rattle.cord_plan.proofs.Values.{passes, fits_within, cat_joined}
 use Rattle.cord_run.specs.declared.store.Entry.{Entry}
-use Rattle.cord_run.specs.Extents.{extent_in, members_extent}
+use Rattle.cord_run.specs.Extents.{extent_in}
 use Rattle.cord_run.specs.Held.{content_in, cord_in, operand_in}
 use Rattle.cord_run.specs.Holdings.{holding_of, plain_of}
 use Rattle.cord_run.specs.Ranges.{IsInside, AddsPart, AddsCopies, AddsExpression, AddsMembers}
@@ -43,14 +42,6 @@ part_added cord part start count old new is len pushed = subst (AddsPart cord st
   fits = λ lengths one all. all_fit_more lengths old part all (is.fits lengths one);
   bytes = λ t one. all_bytes_more t old part ∙ ap (λ (u : List ℕ). all_bytes t old ++ u) (is.bytes t one);
   short = let more = all_len_more old part in omega (arith, more, len);
-})
-
--- a cord of nothing
-pub nothing_added : (cord : Option Node) (start count : ℕ) (old : List (Option Node)) → cord ≡ None → AddsPart cord start count old old
-nothing_added cord start count old none = subst (λ (c : Option Node). AddsPart c start count old old) (sym none) (record {
-  fits = λ lengths one all. all;
-  bytes = λ t one. sym (ap (λ (u : List ℕ). all_bytes t old ++ u) (ap (λ (u : List ℕ). take count u) (drop-nil start) ∙ take-nil count) ∙ append-nil (all_bytes t old));
-  short = omega arith;
 })
 
 -- copies of a byte
@@ -124,17 +115,6 @@ run_added entries c n start count old new inside part =
     }
 
 -- ---- a `cat`
-pub cat_inside : (entries : List Entry) (es : Exprs) (place : ℕ) → IsInside (extent_in entries (cat es)) place → IsInside (members_extent entries es) place
-cat_inside entries es place h = by_checks (members_extent entries es) h
-  where
-    by_length : (n : ℕ) (r : Result ℕ FaultKind) → as_length MAX_LEN n ≡ r → IsInside r place → place ≤ n
-    by_length n (Err kind) f h = absurd h
-    by_length n (Ok k) f h = let passed = length_passed n k f in omega (arith, h, passed.0)
-
-    by_checks : (r : Result ℕ FaultKind) → IsInside (and_then r (λ n. as_length MAX_LEN n)) place → IsInside r place
-    by_checks (Err kind) h = absurd h
-    by_checks (Ok n) h = by_length n (as_length MAX_LEN n) refl h
-
 pub cat_added : (entries : List Entry) (es : Exprs) (start count : ℕ) (old new : List (Option Node)) → AddsMembers entries es start count old new → AddsExpression entries (cat es) start count old new
 cat_added entries es start count old new part = record {
   fits = part.fits;
@@ -168,13 +148,6 @@ sub_inside entries e i n start count h = by_checks (extent_in entries e) (as_ind
     by_checks (Ok len) (Err kind) rn a b c h = absurd h
     by_checks (Ok len) (Ok first) (Err kind) a b c h = absurd h
     by_checks (Ok len) (Ok first) (Ok most) a b c h = by_length len first most (as_length MAX_LEN (min most (len - first))) a b c refl h
-
--- a range of the inner one
-pub inner_inside : (entries : List Entry) (e : Expr) (z w : ℤ) (start count place : ℕ) → 0 < count → IsPart entries e z w start count → ((first : ℕ) → as_index z ≡ Ok first → place ≡ min (first + start) (2 ^ 64 - 1)) → IsInside (extent_in entries e) (place + count)
-inner_inside entries e z w start count place some p at =
-    let here : place ≡ min (p.first + start) (2 ^ 64 - 1) = at p.first p.start_is in
-    let below : place + count ≤ p.len = omega (arith, here, p.inside) in
-    subst (λ (r : Result ℕ FaultKind). IsInside r (place + count)) (sym p.extent) below
 
 pub sub_added : (entries : List Entry) (e : Expr) (i n : Number) (start count place : ℕ) (old new : List (Option Node)) → 0 < count → IsPart entries e (operand_in entries i) (operand_in entries n) start count → ((first : ℕ) → as_index (operand_in entries i) ≡ Ok first → place ≡ min (first + start) (2 ^ 64 - 1)) → AddsExpression entries e place count old new → AddsExpression entries (sub e i n) start count old new
 sub_added entries e i n start count place old new some p at part = record {

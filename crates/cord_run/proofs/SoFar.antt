@@ -18,7 +18,7 @@ use Rattle.cord_run.specs.declared.store.Entry.{Entry}
 use Rattle.cord_run.specs.Extents.{extent_in, members_extent}
 use Rattle.cord_run.specs.Held.{IsOver}
 use Rattle.cord_run.specs.Holdings.{holding_of, plain_of}
-use Rattle.cord_run.specs.Ranges.{IsInside, AddsExpression, AddsMembers, joined_over}
+use Rattle.cord_run.specs.Ranges.{IsInside, AddsExpression, joined_over}
 use Rattle.cord_run.proofs.Told.{texts_split, text_length}
 
 -- what is left to add of the members that are left, over a table
@@ -40,16 +40,6 @@ starts entries es start count old = record {
   fits = λ lengths over all. all;
   bytes = λ t over there text is. record { rest = text; joined = is; there = there; whole = refl };
   short = omega arith;
-}
-
--- where nothing is left to add
-pub ends_full : (entries : List Entry) (es : Exprs) (start count : ℕ) (old : List (Option Node)) (left_over : Exprs) (skip left : ℕ) (now : List (Option Node)) → left ≡ 0 → SoFar entries es start count old left_over skip left now → AddsMembers entries es start count old now
-ends_full entries es start count old left_over skip left now none s = record {
-  fits = s.fits;
-  bytes = λ t over there text is.
-      let r = s.bytes t over there text is in
-      sym (append-nil (all_bytes t now)) ∙ ap (λ (k : ℕ). all_bytes t now ++ take k (drop skip r.rest)) (sym none) ∙ r.whole;
-  short = let most = s.short in omega (arith, none, most);
 }
 
 -- two texts, of which the first ends before the range begins

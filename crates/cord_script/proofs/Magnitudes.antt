@@ -14,23 +14,11 @@ taken : (x y : Bool) (n : ℕ) → x ≡ true → (if y then Some n else None) �
 taken true y n h = refl
 taken false y n h = cc
 
-not_taken : (x y : Bool) (n : ℕ) → x ≡ false → None ≡ (if x && y then Some n else None)
-not_taken false y n h = refl
-not_taken true y n h = cc
-
 neither_taken : (x y z : Bool) (n : ℕ) → z ≡ false → None ≡ (if (x && y) && z then Some n else None)
 neither_taken true true false n h = refl
 neither_taken true false z n h = refl
 neither_taken false y z n h = refl
 neither_taken true true true n h = cc
-
--- behind one more digit
-pub more_digits : (n d : ℕ) (ds : List ℕ) → is_digit d ≡ true → magnitude_from n (d ∷ ds) ≡ magnitude_from (10 * n + (d - 48)) ds
-more_digits n d ds h = ap (λ b. if (b && each is_digit ds) && nat_le (number_after n (d ∷ ds)) (2 ^ 63) then Some (number_after n (d ∷ ds)) else None) h
-
--- a byte that is no digit
-pub no_digit : (n d : ℕ) (ds : List ℕ) → is_digit d ≡ false → magnitude_from n (d ∷ ds) ≡ None
-no_digit n d ds h = ap (λ b. if (b && each is_digit ds) && nat_le (number_after n (d ∷ ds)) (2 ^ 63) then Some (number_after n (d ∷ ds)) else None) h
 
 -- one digit more than fits
 pub one_too_many : (n d : ℕ) (ds : List ℕ) → 922337203685477580 < n → magnitude_from n (d ∷ ds) ≡ None

@@ -22,10 +22,6 @@ wanted_append : (ps qs : List Part) → map want_of (map term_of (ps ++ qs)) ≡
 wanted_append [] qs = refl
 wanted_append (p ∷ ps) qs = ap (λ k. want_of (term_of p) ∷ k) (wanted_append ps qs)
 
--- nothing is taken yet
-pub none_taken : (old : List Word) (ps : List Part) → HasTaken [] old old ps ps
-none_taken old ps = record { front = []; more = []; words = refl; parts = sym (append-nil ps); terms = tt; wanted = refl }
-
 -- some words, and then others
 pub both_taken : (xs ys : List Want) (old new behind : List Word) (ps qs rs : List Part) → HasTaken xs old new ps qs → HasTaken ys new behind qs rs → HasTaken (xs ++ ys) old behind ps rs
 both_taken xs ys old new behind ps qs rs h k = record {

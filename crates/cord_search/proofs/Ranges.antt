@@ -33,17 +33,6 @@ pub record IsWithin (n : Node) (place : ℕ) (m : Node) (at : ℕ) : Type 0 wher
   pub fits : (lengths : Lengths) → FitsIn lengths n → FitsIn lengths m
   pub text : (t : Table) → Fits t n → (i k : ℕ) → i + k ≤ len_of m → take k (drop (offset + i) (bytes_over t n)) ≡ take k (drop i (bytes_over t m))
 
--- a node is within itself
-pub within_start : (n : Node) (place : ℕ) → IsSound n → IsWithin n place n place
-within_start n place s = record {
-  offset = 0;
-  here = omega arith;
-  inside = omega arith;
-  sound = s;
-  fits = λ lengths f. f;
-  text = λ t f i k h. let none : 0 + i ≡ i = omega arith in ap (λ (j : ℕ). take k (drop j (bytes_over t n))) none;
-}
-
 -- a concatenation is as long as its two sides
 pub cat_len : (m : Node) (p : Rc (Unit {0}) Global) (l : Node) (q : Rc (Unit {0}) Global) (r : Node) (len depth : ℕ) → m ≡ Cat' p l q r len depth → IsSound m → len_of m ≡ len_of l + len_of r
 cat_len m p l q r len depth e s = let v : IsSound (Cat' p l q r len depth) = rw e at s in ap len_of e ∙ v.2

@@ -1,4 +1,4 @@
-use Rattle.std.proofs.Common.{List, subst, sym}
+use Rattle.std.proofs.Common.{subst, sym}
 use Rattle.cord_io.specs.Table.{Lengths}
 use Rattle.std.specs.Prelude.{IfOk}
 use Rattle.cord_file.specs.Entries.{lengths_in}

@@ -1,4 +1,4 @@
-use Rattle.std.proofs.Common.{◌≡◌, List, map, sym, subst}
+use Rattle.std.proofs.Common.{List, sym, subst}
 use Rattle.std.specs.Prelude.{All}
 use Rattle.cord_plan.specs.Kept.{KeepsNoOther}
 use Rattle.cord_plan.specs.Planned.{Operation}
