@@ -1,0 +1,152 @@
+"""Random scripts: most are read, and some are changed in places so that most of those are refused."""
+from random import Random
+
+from reading import FORMS
+
+CORDS, NUMBERS, GROWN = "abcdtuz", "nmik", "ef"
+FILES = {b"short": b"hello file\n", b"long": bytes(range(256)) * 9, b"empty": b"", 'odd"\\\u00e9'.encode(): b"odd"}
+PATHS = [*FILES, b"short", b"long", b"none", b"folder", b"short/x"]
+STATEMENTS = sorted([*FORMS, "catn", "sprintf"])
+OFTEN = ["let", "cat", "substr", "put", "catc", "chars", "catn", "sprintf"]
+WEIGHTS = [3, 6, 6, 7, 3, 2, 2, 1]
+GREAT = [-(1 << 63), (1 << 63) - 1, 1 << 40, -1, 255, 256, 300]
+
+
+class Scripts:
+    """Scripts from a seed; the same seed gives the same scripts."""
+
+    def __init__(self, seed):
+        self.random = Random(seed)
+        self.assigned = set()
+        self.careless = False
+
+    def chance(self, share):
+        return self.random.random() < share
+
+    def quoted(self, text):
+        """The text as a quoted word, some bytes by escapes."""
+        word = b""
+        for byte in text:
+            if byte in b'"\\' and self.chance(0.7):
+                word += b"\\" + bytes([byte])
+            elif byte in b"\n\t" and self.chance(0.7):
+                word += {10: b"\\n", 9: b"\\t"}[byte]
+            elif byte in b'"\\\n' or self.chance(0.05):
+                word += f"\\x{byte:02{self.random.choice('xX')}}".encode()
+            else:
+                word += bytes([byte])
+        return b'"' + word + b'"'
+
+    def text(self):
+        if self.chance(0.1):
+            return bytes(self.random.choices(range(256), k=self.random.randint(1, 200)))
+        return bytes(self.random.choices(b'abcab"\\\n\t %\x00\xff', k=self.random.randint(0, 8)))
+
+    def name(self, among):
+        """A name that is assigned, if there is one of these; now and then any other."""
+        known = sorted(self.assigned & set(among))
+        if known and not (self.careless and self.chance(0.03)):
+            return self.random.choice(known).encode()
+        return self.random.choice(CORDS + NUMBERS + GROWN if self.careless else among).encode()
+
+    def number(self, most=12):
+        known = self.assigned & set(NUMBERS)
+        if known and self.chance(0.2):
+            return self.name(NUMBERS)
+        if self.chance(0.05):
+            return str(self.random.choice(GREAT)).encode()
+        return str(self.random.randint(0, most)).encode()
+
+    def conversion(self):
+        """A conversion, and the words that it takes."""
+        letter = self.random.choice("diuoxXcsrdrs%")
+        allowed = {"%": "", "c": "-", "s": "-", "r": "-", "d": "-0+", "i": "-0+"}.get(letter, "-0")
+        flags = "".join(self.random.choices(allowed, k=self.random.randint(0, 2))) if allowed else ""
+        width = str(self.random.choice([1, 5, 12])) if letter != "%" and self.chance(0.5) else ""
+        precision = self.random.choice([".", ".0", ".3", ".00012"]) if letter not in "c%" and self.chance(0.4) else ""
+        long = self.random.choice(["l", "ll"]) if letter in "diuoxX" and self.chance(0.2) else ""
+        if self.careless and self.chance(0.1):
+            width, flags = self.random.choice(["9999", "10000", "0"]), flags + self.random.choice("+-#")
+        words = [] if letter == "%" else [self.name(CORDS) if letter in "sr" else self.number(120)]
+        return f"%{flags}{width}{precision}{long}{letter}".encode(), words
+
+    def printing(self):
+        """The format and the arguments of a sprintf."""
+        form, words = b"", []
+        for _ in range(self.random.randint(0, 4)):
+            piece, more = (b"ab ", []) if self.chance(0.3) else self.conversion()
+            form += piece
+            words += more
+        return [self.quoted(form), *words]
+
+    def word(self, letter):
+        """A word for a letter of the table of forms."""
+        if letter in "zne":
+            return self.random.choice({"z": CORDS, "n": NUMBERS, "e": GROWN}[letter]).encode()
+        if letter in "xE":
+            return self.name(CORDS if letter == "x" else GROWN)
+        if letter in "tp":
+            return self.quoted(self.text() if letter == "t" else self.random.choice(PATHS))
+        if letter in "fr":
+            return self.random.choice([b"digits", b"bytes"] if letter == "f" else [b"lt", b"eq", b"gt"])
+        return self.number(self.random.choice([1, 12, 120]))
+
+    def words(self, statement):
+        if statement == "catn":
+            return [self.word(letter) for letter in "z" + "x" * self.random.choice([2, 3, 4, 16])]
+        if statement == "sprintf":
+            return [self.word("z"), *self.printing()]
+        return [self.word(letter) for letter in FORMS[statement]]
+
+    def line(self, statement=None):
+        """A line that stands outside blocks' own lines."""
+        while statement is None or statement in ("repeat", "if", "else", "end"):
+            often = self.random.choices(OFTEN, WEIGHTS)[0]
+            statement = often if self.chance(0.7) else self.random.choice(STATEMENTS)
+        if statement in ("ectocord", "ecput", "eccat", "ecstr") and not self.assigned & set(GROWN):
+            statement = "ecinit"
+        words = [statement.encode(), *self.words(statement)]
+        if statement in ("catn", "sprintf") or FORMS[statement][0] in "zne":
+            self.assigned.add(words[1].decode())
+        blank = self.random.choice([b" "] * 9 + [b"\t", b"  ", b" \r"])
+        return blank.join(words)
+
+    def lines(self, count, depth):
+        """count lines, with blocks among them, and what closes these."""
+        lines = []
+        for _ in range(count):
+            if depth < 5 and self.chance(0.07):
+                begin = b"repeat " + self.number(4) if self.chance(0.5) else None
+                lines.append(begin or b" ".join([b"if", *map(self.word, "iri")]))
+                lines += self.lines(self.random.randint(0, 5), depth + 1)
+                if begin is None and self.chance(0.5):
+                    lines += [b"else", *self.lines(self.random.randint(0, 5), depth + 1)]
+                lines.append(b"end")
+            else:
+                lines.append(self.random.choice([b"", b"  ", b'# "note']) if self.chance(0.02) else self.line())
+        return lines
+
+    def changed(self, script):
+        """The script with a byte, a word or a line put elsewhere, changed or left out."""
+        place, way = self.random.randrange(len(script)), self.random.choice(["byte", "more", "less", "lines", "words"])
+        byte = bytes([self.random.choice([0, 10, 34, 255, 92, 32, 45, 48, 35, 37, 9, 95])])
+        if way in ("byte", "more", "less"):
+            return script[:place] + (b"" if way == "less" else byte) + script[place if way == "more" else place + 1 :]
+        lines = script.split(b"\n")
+        first, second = self.random.randrange(len(lines)), self.random.randrange(len(lines))
+        if way == "lines":
+            lines[first], lines[second] = lines[second], lines[first]
+        else:
+            words = lines[first].split(b" ")
+            lines[first] = b" ".join(self.random.sample(words, len(words)))
+        return b"\n".join(lines)
+
+    def script(self):
+        self.assigned, self.careless = set(), self.chance(0.3)
+        lines = [self.line("let") for _ in range(self.random.randint(2, 6))]
+        if self.chance(0.6):
+            lines.append(self.line("set"))
+        script = b"\n".join(lines + self.lines(self.random.choice([3, 10, 20, 40]), 0) + [b""])
+        for _ in range(self.random.randint(1, 3) if self.careless else 0):
+            script = self.changed(script)
+        return script
