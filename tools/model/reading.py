@@ -15,6 +15,7 @@ GREATEST_PATH = 4_095
 BLANKS = b" \t\r"
 NAME = re.compile(rb"[A-Za-z_][A-Za-z0-9_]{0,31}")
 NUMERAL = re.compile(rb"-?[0-9]+")
+PLAIN = re.compile(rb'[^ \t\r"]+')
 ESCAPE = re.compile(rb'\\(?:([\\"nt])|x([0-9a-fA-F]{2}))')
 SIMPLE_ESCAPES = {b"\\": 92, b'"': 34, b"n": 10, b"t": 9}
 
@@ -126,7 +127,7 @@ def words_of(line):
             text, place = quoted_word(line, place)
             words.append(Word(True, text))
         else:
-            plain = re.compile(rb'[^ \t\r"]+').match(line, place)
+            plain = PLAIN.match(line, place)
             words.append(Word(False, plain[0]))
             place = plain.end()
     return words
