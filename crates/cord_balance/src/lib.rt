@@ -14,6 +14,7 @@ use std::alloc::{AllocError, Global};
 use std::rc::Rc;
 
 mod forest;
+mod limits;
 #[cfg(test)]
 mod tests;
 

@@ -27,6 +27,7 @@ fn append(bytes: &mut Vec<u8>, node: &Rc<Node>) -> Result<bool, AllocError>
             bytes: shared,
             start,
             len,
+            ..
         } => {
             bytes.extend_from_slice(&shared.as_slice()[*start as usize..(*start + *len) as usize])?;
             Ok(true)
@@ -48,7 +49,12 @@ fn append(bytes: &mut Vec<u8>, node: &Rc<Node>) -> Result<bool, AllocError>
 // The bytes, the start and the length of a cord that is one leaf.
 fn leaf_fields(cord: &Cord) -> Option<(&[u8], u64, u64)> {
     match cord.root()?.as_ref() {
-        Node::Leaf { bytes, start, len } => Some((bytes.as_slice(), *start, *len)),
+        Node::Leaf {
+            bytes,
+            start,
+            len,
+            ..
+        } => Some((bytes.as_slice(), *start, *len)),
         _ => None,
     }
 }
@@ -176,5 +182,32 @@ fn nothing_has_no_root(rt: HostRuntime) -> Result<(), Fail> {
     }
     let shared = Cord::from_shared(alloc, RcSlice::from_slice(alloc, b"abc")?)?;
     assert!(rt; leaf_fields(&shared) == Some((b"abc", 0, 3)));
+    Ok(())
+}
+
+// Whether the roots of two cords are one node.
+fn is_one(a: &Cord, b: &Cord) -> bool {
+    match (a.root(), b.root()) {
+        (Some(a), Some(b)) => Rc::ptr_eq(a, b),
+        _ => false,
+    }
+}
+
+#[test]
+fn whole_cords_are_shared(rt: HostRuntime) -> Result<(), Fail> {
+    let alloc = rt.alloc();
+    let part = Cord::from_bytes(alloc, &[7; 100])?;
+    let cord = Cord::cat(alloc, &part, &Cord::chars(alloc, 0, 1000)?)?;
+    for shared in [
+        cord.share(alloc)?,
+        cord.substr(alloc, 0, cord.len())?,
+        cord.balance(alloc)?,
+        Cord::catn(alloc, &[cord.share(alloc)?])?,
+        Cord::cat(alloc, &Cord::empty(), &cord)?,
+    ] {
+        assert!(rt; is_one(&shared, &cord));
+    }
+    assert!(rt; is_one(&cord.substr(alloc, 0, 100)?, &part));
+    assert!(rt; !is_one(&Cord::from_bytes(alloc, &[7; 100])?, &part));
     Ok(())
 }

@@ -1,5 +1,5 @@
 -- The text of a node and of its ranges.
-use Rattle.std.proofs.Common.{◌≡◌, ℕ, ◌+◌, ◌-◌, ◌<◌, ◌≤◌, List, length, map, take, drop, refl, arith, ◌∙◌, sym, length-append, length-drop}
+use Rattle.std.proofs.Common.{◌≡◌, ℕ, ◌+◌, ◌-◌, ◌<◌, ◌≤◌, List, [], ◌∷◌, ◌++◌, length, map, take, drop, refl, arith, ◌∙◌, sym, ap, append_assoc, append-nil, length-append, length-drop}
 use Rattle.std.specs.Prelude.{replicate}
 use Rattle.std.specs.List.{range_with_len}
 use Rattle.std.specs.Rc.{rc_slice_items}
@@ -9,17 +9,18 @@ use Rattle.cord_node.specs.declared.Node.{Node}
 use Rattle.cord_node.specs.declared.Node.TheVariants.{Leaf, Run, Func, Cat'}
 use Rattle.cord_io.specs.declared.TheConstants.{MAX_LEN}
 use Rattle.cord_node.specs.Tree.{Cell, known, held_by, cells, len_of, depth_of, true_len, true_depth, IsSound}
+use Rattle.cord_node.specs.Kept.{Part, leaf_part, run_part, func_part, parts}
 use Rattle.cord_node.proofs.KeptLemmas.{Kept_same}
 use Rattle.cord_node.proofs.Ranges.{range_whole, range_of_range, drop-range_with_len, take-range_with_len, range_left, range_right, range_both}
 
 -- a node stores the length of its text
 pub length-cells : (n : Node) → IsSound n → length (cells n) ≡ len_of n
-length-cells (Leaf bytes start len) s =
+length-cells (Leaf bytes start len mark) s =
     let d : len ≤ length (drop start (rc_slice_items bytes)) = rw length-drop (omega arith) in
     length-map (take len (drop start (rc_slice_items bytes))) known ∙ length-take-le len (drop start (rc_slice_items bytes)) d
 length-cells (Run byte len) s = length-replicate len (known byte)
 length-cells (Func id start len) s = length-map (range_with_len start len) (held_by id.0) ∙ length-range_with_len start len
-length-cells (Cat' p left q right len depth) s = length-append (cells left) (cells right) ∙ (let a : length (cells left) ≡ len_of left = length-cells left s.0 in let b : length (cells right) ≡ len_of right = length-cells right s.1 in omega arith)
+length-cells (Cat' p left q right len depth mark) s = length-append (cells left) (cells right) ∙ (let a : length (cells left) ≡ len_of left = length-cells left s.0 in let b : length (cells right) ≡ len_of right = length-cells right s.1 in omega arith)
 
 -- a range of a leaf's text
 pub range_of_leaf : (xs : List ℕ) (start len from count : ℕ) → from + count ≤ len → map known (take count (drop (start + from) xs)) ≡ take count (drop from (map known (take len (drop start xs))))
@@ -40,28 +41,54 @@ pub ruleset ranges = (range_whole, range_of_leaf, range_of_run, range_of_func, r
 
 -- what a node stores is within the limits
 pub len_limit : (n : Node) → IsSound n → len_of n ≤ MAX_LEN
-len_limit (Leaf bytes start len) s = s.2
+len_limit (Leaf bytes start len mark) s = s.2
 len_limit (Run byte len) s = s.1
 len_limit (Func id start len) s = omega arith
-len_limit (Cat' p left q right len depth) s = s.4
+len_limit (Cat' p left q right len depth mark) s = s.4
 
 -- no node is empty
 pub len_positive : (n : Node) → IsSound n → 0 < len_of n
-len_positive (Leaf bytes start len) s = s.0
+len_positive (Leaf bytes start len mark) s = s.0
 len_positive (Run byte len) s = s.0
 len_positive (Func id start len) s = s.0
-len_positive (Cat' p left q right len depth) s = let a : 0 < len_of left = len_positive left s.0 in let e : len ≡ len_of left + len_of right = s.2 in omega arith
+len_positive (Cat' p left q right len depth mark) s = let a : 0 < len_of left = len_positive left s.0 in let e : len ≡ len_of left + len_of right = s.2 in omega arith
 
 -- the stored length is the true one
 pub true_len-len_of : (n : Node) → IsSound n → len_of n ≡ true_len n
-true_len-len_of (Leaf bytes start len) s = refl
+true_len-len_of (Leaf bytes start len mark) s = refl
 true_len-len_of (Run byte len) s = refl
 true_len-len_of (Func id start len) s = refl
-true_len-len_of (Cat' p left q right len depth) s = let a : len_of left ≡ true_len left = true_len-len_of left s.0 in let b : len_of right ≡ true_len right = true_len-len_of right s.1 in omega arith
+true_len-len_of (Cat' p left q right len depth mark) s = let a : len_of left ≡ true_len left = true_len-len_of left s.0 in let b : len_of right ≡ true_len right = true_len-len_of right s.1 in omega arith
 
 -- the stored depth is the true one
 pub true_depth-depth_of : (n : Node) → IsSound n → depth_of n ≡ true_depth n
-true_depth-depth_of (Leaf bytes start len) s = refl
+true_depth-depth_of (Leaf bytes start len mark) s = refl
 true_depth-depth_of (Run byte len) s = refl
 true_depth-depth_of (Func id start len) s = refl
-true_depth-depth_of (Cat' p left q right len depth) s = let a : depth_of left ≡ true_depth left = true_depth-depth_of left s.0 in let b : depth_of right ≡ true_depth right = true_depth-depth_of right s.1 in omega arith
+true_depth-depth_of (Cat' p left q right len depth mark) s = let a : depth_of left ≡ true_depth left = true_depth-depth_of left s.0 in let b : depth_of right ≡ true_depth right = true_depth-depth_of right s.1 in omega arith
+
+-- the places of one part
+abbrev pub part_cells : Part → List Cell
+part_cells (leaf_part bytes start len) = map known (take len (drop start bytes))
+part_cells (run_part byte len) = replicate len (known byte)
+part_cells (func_part id start len) = map (held_by id) (range_with_len start len)
+
+-- those of parts, in order
+abbrev pub all_part_cells : List Part → List Cell
+all_part_cells [] = []
+all_part_cells (p ∷ ps) = part_cells p ++ all_part_cells ps
+
+pub all_part_cells-append : (ps qs : List Part) → all_part_cells (ps ++ qs) ≡ all_part_cells ps ++ all_part_cells qs
+all_part_cells-append [] qs = refl
+all_part_cells-append (p ∷ ps) qs = ap (λ (l : List Cell). part_cells p ++ l) (all_part_cells-append ps qs) ∙ sym (append_assoc (part_cells p) (all_part_cells ps) (all_part_cells qs))
+
+-- a node's text is that of its parts
+pub cells-parts : (n : Node) → cells n ≡ all_part_cells (parts n)
+cells-parts (Leaf bytes start len mark) = sym (append-nil (map known (take len (drop start (rc_slice_items bytes)))))
+cells-parts (Run byte len) = sym (append-nil (replicate len (known byte)))
+cells-parts (Func id start len) = sym (append-nil (map (held_by id.0) (range_with_len start len)))
+cells-parts (Cat' p left q right len depth mark) = rw (cells-parts left, cells-parts right) (sym (all_part_cells-append (parts left) (parts right)))
+
+-- nodes of the same parts have one text
+pub same_parts-cells : (m n : Node) → parts m ≡ parts n → cells m ≡ cells n
+same_parts-cells m n e = cells-parts m ∙ ap all_part_cells e ∙ sym (cells-parts n)

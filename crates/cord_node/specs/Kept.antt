@@ -1,22 +1,17 @@
 -- When the parts of a node come from other nodes.
 use Rattle.std.specs.Prelude.{◌≡◌, ℕ, ◌+◌, ◌≤◌, ◌⊎◌, List, [], ◌∷◌, ◌++◌, length, ⊤}
 use Rattle.std.specs.Rc.{rc_slice_items}
+pub use Rattle.cord_mark.specs.Part.{Part, leaf_part, run_part, func_part}
 use Rattle.cord_node.specs.declared.Node.{Node}
 use Rattle.cord_node.specs.declared.Node.TheVariants.{Leaf, Run, Func, Cat'}
 use Rattle.cord_node.specs.declared.TheConstants.{SMALL_LEN}
 
--- a place of a node that isn't a concatenation
-pub data Part : Type 0 where
-  leaf_part : List ℕ → ℕ → ℕ → Part
-  run_part : ℕ → ℕ → Part
-  func_part : ℕ → ℕ → ℕ → Part
-
 -- the parts of a node, from left to right
 abbrev pub parts : Node → List Part
-parts (Leaf bytes start len) = leaf_part (rc_slice_items bytes) start len ∷ []
+parts (Leaf bytes start len mark) = leaf_part (rc_slice_items bytes) start len ∷ []
 parts (Run byte len) = run_part byte len ∷ []
 parts (Func id start len) = func_part id.0 start len ∷ []
-parts (Cat' p left q right len depth) = parts left ++ parts right
+parts (Cat' p left q right len depth mark) = parts left ++ parts right
 
 -- a leaf of at most SMALL_LEN bytes
 abbrev pub IsSmall : Part → Type 0

@@ -1,11 +1,12 @@
 -- What a node is: its text as a list of cells, its length and depth, and when it is sound.
-use Rattle.std.specs.Prelude.{◌≡◌, ℕ, ◌+◌, ◌<◌, ◌≤◌, max, List, ◌++◌, length, map, take, drop, replicate, Bool, true, false, ◌&&◌, nat_le, if◌then◌else◌}
+use Rattle.std.specs.Prelude.{◌≡◌, ℕ, ◌+◌, ◌<◌, ◌≤◌, max, List, [], ◌∷◌, ◌++◌, length, map, take, drop, replicate, Bool, true, false, ◌&&◌, nat_le, if◌then◌else◌}
 use Rattle.std.specs.List.{range_with_len}
 use Rattle.std.specs.Rc.{rc_slice_items}
 use Rattle.cord_io.specs.declared.TheConstants.{MAX_LEN, MAX_DEPTH}
 use Rattle.cord_node.specs.declared.Node.{Node}
 use Rattle.cord_node.specs.declared.Node.TheVariants.{Leaf, Run, Func, Cat'}
 use Rattle.cord_node.specs.declared.TheConstants.{SMALL_LEN}
+use Rattle.cord_node.specs.Kept.{leaf_part, parts}
 
 -- one place of a text: a byte that is known, or the byte that a source has at an index
 pub data Cell : Type 0 where
@@ -14,50 +15,51 @@ pub data Cell : Type 0 where
 
 -- the places of a node's text, in order
 abbrev pub cells : Node → List Cell
-cells (Leaf bytes start len) = map known (take len (drop start (rc_slice_items bytes)))
+cells (Leaf bytes start len mark) = map known (take len (drop start (rc_slice_items bytes)))
 cells (Run byte len) = replicate len (known byte)
 cells (Func id start len) = map (held_by id.0) (range_with_len start len)
-cells (Cat' p left q right len depth) = cells left ++ cells right
+cells (Cat' p left q right len depth mark) = cells left ++ cells right
 
 -- the length of the text, counted part by part
 abbrev pub true_len : Node → ℕ
-true_len (Leaf bytes start len) = len
+true_len (Leaf bytes start len mark) = len
 true_len (Run byte len) = len
 true_len (Func id start len) = len
-true_len (Cat' p left q right len depth) = true_len left + true_len right
+true_len (Cat' p left q right len depth mark) = true_len left + true_len right
 
 -- the depth: 0 for a part, else one more than the greater depth of the two sides
 abbrev pub true_depth : Node → ℕ
-true_depth (Leaf bytes start len) = 0
+true_depth (Leaf bytes start len mark) = 0
 true_depth (Run byte len) = 0
 true_depth (Func id start len) = 0
-true_depth (Cat' p left q right len depth) = max (true_depth left) (true_depth right) + 1
+true_depth (Cat' p left q right len depth mark) = max (true_depth left) (true_depth right) + 1
 
 -- the length that a node stores
 abbrev pub len_of : Node → ℕ
-len_of (Leaf bytes start len) = len
+len_of (Leaf bytes start len mark) = len
 len_of (Run byte len) = len
 len_of (Func id start len) = len
-len_of (Cat' p left q right len depth) = len
+len_of (Cat' p left q right len depth mark) = len
 
 -- the depth that a node stores, and 0 for a part
 abbrev pub depth_of : Node → ℕ
-depth_of (Leaf bytes start len) = 0
+depth_of (Leaf bytes start len mark) = 0
 depth_of (Run byte len) = 0
 depth_of (Func id start len) = 0
-depth_of (Cat' p left q right len depth) = depth
+depth_of (Cat' p left q right len depth mark) = depth
 
 -- the ranges of leaves lie inside their bytes, nothing is empty, the limits hold, and what a
--- concatenation stores fits what its two sides store, so that it is the true length and depth
+-- concatenation stores fits what its two sides store, so that it is the true length and depth; each
+-- mark stands for the parts of its node
 abbrev pub IsSound : Node → Type 0
-IsSound (Leaf bytes start len) = (0 < len) × (start + len ≤ length (rc_slice_items bytes)) × (len ≤ MAX_LEN)
+IsSound (Leaf bytes start len mark) = (0 < len) × (start + len ≤ length (rc_slice_items bytes)) × (len ≤ MAX_LEN) × (mark ≡ leaf_part (rc_slice_items bytes) start len ∷ [])
 IsSound (Run byte len) = (0 < len) × (len ≤ MAX_LEN)
 IsSound (Func id start len) = (0 < len) × (start + len ≤ MAX_LEN)
-IsSound (Cat' p left q right len depth) = IsSound left × IsSound right × (len ≡ len_of left + len_of right) × (depth ≡ max (depth_of left) (depth_of right) + 1) × (len ≤ MAX_LEN) × (depth ≤ MAX_DEPTH)
+IsSound (Cat' p left q right len depth mark) = IsSound left × IsSound right × (len ≡ len_of left + len_of right) × (depth ≡ max (depth_of left) (depth_of right) + 1) × (len ≤ MAX_LEN) × (depth ≤ MAX_DEPTH) × (mark ≡ parts left ++ parts right)
 
 -- it is a `Leaf`
 abbrev pub is_leaf : Node → Bool
-is_leaf (Leaf bytes start len) = true
+is_leaf (Leaf bytes start len mark) = true
 is_leaf _ = false
 
 -- two leaves that are so short together that their join is one leaf

@@ -4,12 +4,14 @@
 ghost use Rattle.std.specs.Prelude.{◌≡◌, length};
 
 use cord_io::SourceId;
+use cord_mark::Mark;
 use std::rc::{Rc, RcSlice};
 
 /// Two leaves of at most this many bytes together are joined to one leaf.
 pub const SMALL_LEN: usize = 64;
 
-/// A text of at least one byte: a part, or two texts joined.
+/// A text of at least one byte: a part, or two texts joined. By the marks of its leaves and
+/// concatenations `same` tells one node from two that are equal.
 #[derive(Drop)]
 pub enum Node {
     /// The `len` bytes from `start` on of shared bytes.
@@ -17,6 +19,7 @@ pub enum Node {
         bytes: RcSlice<u8>,
         start: u64,
         len: u64,
+        mark: Mark,
     },
     /// One byte, `len` times.
     Run {
@@ -35,11 +38,13 @@ pub enum Node {
         right: Rc<Node>,
         len: u64,
         depth: u32,
+        mark: Mark,
     },
 }
 
 impl Node {
     ghost use Rattle.std.specs.Prelude.{MatchOption, IfSome, false, true, map};
+    ghost use Rattle.cord_node.specs.Kept.{parts};
     ghost use Rattle.cord_node.specs.Tree.{cells, known, len_of, depth_of, true_len, true_depth, is_leaf, IsSound};
 
     /// The length of the text, in bytes.
@@ -69,6 +74,29 @@ impl Node {
         depth
     }
 
+    /// Whether the two are one `Leaf` or one `Cat`; of the other forms, whether they are equal. Then
+    /// they have one text, of the same parts. It takes the same time for nodes of any length.
+    pub fn same(&self, other: &Node) -> bool
+        requires { IsSound self.now × IsSound other.now }
+        ensures text { result ≡ true → cells self.now ≡ cells other.now }
+        ensures parts { result ≡ true → parts self.now ≡ parts other.now }
+    {
+        match (self, other) {
+            (Node::Leaf { mark: mine, .. }, Node::Leaf { mark: others, .. }) => mine.same(others),
+            (Node::Cat { mark: mine, .. }, Node::Cat { mark: others, .. }) => mine.same(others),
+            (Node::Run { byte, len }, Node::Run { byte: b, len: n }) => byte == b && len == n,
+            (
+                Node::Func { id, start, len },
+                Node::Func {
+                    id: i,
+                    start: s,
+                    len: n,
+                },
+            ) => { id == i && start == s && len == n }
+            _ => false,
+        }
+    }
+
     // The bytes of a `Leaf`.
     fn leaf_bytes(&self) -> Option<&[u8]>
         requires { IsSound self.now }
@@ -77,18 +105,23 @@ impl Node {
         ensures len { IfSome result (λ bytes. length bytes.now ≡ len_of self.now) }
     {
         match self {
-            Node::Leaf { bytes, start, len } => {
-                Some(&bytes.as_slice()[*start as usize..(*start + *len) as usize])
-            }
+            Node::Leaf {
+                bytes,
+                start,
+                len,
+                ..
+            } => { Some(&bytes.as_slice()[*start as usize..(*start + *len) as usize]) }
             _ => None,
         }
     }
 }
 
+mod limits;
 mod make;
 mod range;
 #[cfg(test)]
 mod tests;
 
+pub use limits::limits_are;
 pub use make::{func, join, leaf, run};
 pub use range::sub_node;

@@ -7,26 +7,46 @@ ghost use Rattle.cord_node.specs.Kept.{parts, leaf_part, Kept};
 
 use crate::{Node, SMALL_LEN};
 use cord_io::{MAX_DEPTH, MAX_LEN, SourceId};
+use cord_mark::Mark;
 use std::alloc::{AllocError, Global};
 use std::rc::{Rc, RcSlice};
+
+// A part that is `len` of these bytes, from `start` on.
+pub fn leaf_range(
+    alloc: Global,
+    bytes: RcSlice<u8>,
+    start: u64,
+    len: u64,
+) -> Result<Rc<Node>, AllocError>
+    requires not_empty { 0 < len }
+    requires inside { start + len ≤ length (rc_slice_items bytes) }
+    requires fits { len ≤ MAX_LEN }
+    ensures form { IfOk result (λ node. node.value ≡ Node.Leaf bytes start len (leaf_part (rc_slice_items bytes) start len ∷ [])) }
+{
+    let range = (start, len);
+    let mark = Mark::new(&bytes, &range);
+    let node = Rc::new(
+        alloc,
+        Node::Leaf {
+            bytes,
+            start,
+            len,
+            mark,
+        },
+    )?;
+    Ok(node)
+}
 
 /// A part that is the whole of these bytes: 1 to `MAX_LEN` of them. Refused where memory was refused.
 pub fn leaf(alloc: Global, bytes: RcSlice<u8>) -> Result<Rc<Node>, AllocError>
     requires not_empty { 0 < length (rc_slice_items bytes) }
     requires fits { length (rc_slice_items bytes) ≤ MAX_LEN }
-    ensures form { IfOk result (λ node. node.value ≡ Node.Leaf bytes 0 (length (rc_slice_items bytes))) }
+    ensures form { IfOk result (λ node. node.value ≡ Node.Leaf bytes 0 (length (rc_slice_items bytes)) (leaf_part (rc_slice_items bytes) 0 (length (rc_slice_items bytes)) ∷ [])) }
     ensures sound { IfOk result (λ node. IsSound node.value) }
     ensures depth { IfOk result (λ node. depth_of node.value ≡ 0) }
 {
     let len = bytes.len() as u64;
-    let node = Rc::new(
-        alloc,
-        Node::Leaf {
-            bytes,
-            start: 0,
-            len,
-        },
-    )?;
+    let node = leaf_range(alloc, bytes, 0, len)?;
     Ok(node)
 }
 
@@ -70,6 +90,7 @@ fn cat(alloc: Global, left: &Rc<Node>, right: &Rc<Node>) -> Result<Rc<Node>, All
 {
     let len = left.len() + right.len();
     let depth = left.depth().max(right.depth()) + 1;
+    let mark = Mark::new(left, right);
     let left = left.clone()?;
     let right = right.clone()?;
     let node = Rc::new(
@@ -79,6 +100,7 @@ fn cat(alloc: Global, left: &Rc<Node>, right: &Rc<Node>) -> Result<Rc<Node>, All
             right,
             len,
             depth,
+            mark,
         },
     )?;
     Ok(node)

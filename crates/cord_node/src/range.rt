@@ -3,6 +3,7 @@ ghost use Rattle.std.specs.Prelude.{◌≡◌, ◌+◌, ◌<◌, ◌≤◌, IfOk
 ghost use Rattle.cord_node.specs.Tree.{cells, len_of, depth_of, IsSound};
 ghost use Rattle.cord_node.specs.Kept.{parts, Kept};
 
+use crate::make::leaf_range;
 use crate::{Node, func, join, run};
 use std::alloc::{AllocError, Global};
 use std::rc::Rc;
@@ -32,15 +33,7 @@ pub fn sub_node(
     match node.as_ref() {
         Node::Leaf { bytes, start, .. } => {
             let bytes = bytes.clone()?;
-            let start = *start + from;
-            let part = Rc::new(
-                alloc,
-                Node::Leaf {
-                    bytes,
-                    start,
-                    len: count,
-                },
-            )?;
+            let part = leaf_range(alloc, bytes, *start + from, count)?;
             Ok(part)
         }
         Node::Run { byte, .. } => {

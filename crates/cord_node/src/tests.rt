@@ -21,7 +21,12 @@ fn leaf_of(alloc: Global, bytes: &[u8]) -> Result<Rc<Node>, AllocError>
 // The bytes, the start and the length of a `Leaf`.
 fn fields(node: &Node) -> Option<(&[u8], u64, u64)> {
     match node {
-        Node::Leaf { bytes, start, len } => Some((bytes.as_slice(), *start, *len)),
+        Node::Leaf {
+            bytes,
+            start,
+            len,
+            ..
+        } => Some((bytes.as_slice(), *start, *len)),
         _ => None,
     }
 }
@@ -72,4 +77,36 @@ fn ranges_share(rt: HostRuntime) -> Result<(), Fail> {
     let whole = sub_node(alloc, &both, 0, 8)?;
     assert!(rt; fields(whole.as_ref()) == Some((b"abcdefgh", 0, 8)));
     Ok(())
+}
+
+// Whether it is the same as itself and as a clone, both ways.
+fn is_its_clone(node: &Rc<Node>) -> Result<bool, AllocError>
+    requires { IsSound node.now.value }
+{
+    let again = node.clone()?;
+    Ok(node.same(node) && node.same(&again) && again.same(node))
+}
+
+#[test]
+fn one_node_is_the_same_and_two_are_not(rt: HostRuntime) -> Result<(), Fail> {
+    let alloc = rt.alloc();
+    let part = leaf_of(alloc, b"ab")?;
+    let one = join(alloc, &part, &run(alloc, 0, 1000)?)?;
+    assert!(rt; is_its_clone(&part)?);
+    assert!(rt; is_its_clone(&one)?);
+    assert!(rt; is_its_clone(&run(alloc, 0, 1000)?)?);
+    assert!(rt; is_its_clone(&func(alloc, SourceId(1), 2, 3)?)?);
+    let equal = join(alloc, &part, &run(alloc, 0, 1000)?)?;
+    assert!(rt; !one.same(&equal));
+    assert!(rt; !equal.same(&one));
+    let letters = leaf_of(alloc, b"ab")?;
+    assert!(rt; !part.same(&letters));
+    assert!(rt; !part.same(&one));
+    Ok(())
+}
+
+// The marks lie in bytes that a node had without them.
+#[test]
+fn a_node_has_40_bytes(rt: HostRuntime) {
+    assert_eq!(rt; size_of::<Node>(), 40);
 }

@@ -1,0 +1,2 @@
+pub mod Part
+pub mod Ownership
