@@ -1,6 +1,6 @@
 -- Parts of blocks, and what is kept.
 use Rattle.std.proofs.Common.{◌≡◌, ℕ, ◌+◌, ◌*◌, ◌/◌, ◌%◌, ◌<◌, ◌≤◌, ◌⊎◌, inl, inr, List, [], ◌∷◌, ◌++◌, Bool, true, false, length, length-append, take, drop, Contains, Option, Some, None, refl, sym, ap, subst, ◌∙◌, arith}
-use Rattle.std.specs.Prelude.{slice_get, is_some, IsSome, IfSome, IsSomeAnd, if◌then◌else◌}
+use Rattle.std.specs.Prelude.{slice_get, is_some, IsSome, IsSomeAnd, if◌then◌else◌}
 use Rattle.std.specs.String.{string_bytes}
 use Rattle.std.proofs.lemmas.Option.{slice_get_within}
 use Rattle.std.proofs.lemmas.List.{drop-take, take-take, drop-drop}
@@ -9,7 +9,7 @@ use Rattle.cord_file.specs.declared.blocks.TheConstants.{BLOCK}
 use Rattle.cord_file.specs.declared.blocks.BlockKey.{BlockKey}
 use Rattle.cord_file.specs.declared.files.OpenFile.{OpenFile}
 use Rattle.cord_file.specs.Blocks.{block_size, IsBlock, IsKept, AreKept, AreRead}
-use Rattle.cord_file.specs.Files.{told_of, AreThere, AreAsLong}
+use Rattle.cord_file.specs.Files.{told_of}
 use Rattle.cord_file.specs.Soundness.{IsSound}
 use Rattle.cord_file.proofs.Growing.{place_inside}
 
@@ -26,37 +26,30 @@ part_of_block len number from count text block inside within is =
     same_part (block_size len number) from count block (drop (number * BLOCK) text) fits is ∙ ap (take count) (drop-drop from (number * BLOCK) text)
 
 -- a block that was read of an opened file can be kept
-pub kept_of_read : (contents : Option Folder) (told : Option (List ℕ × ℕ)) (files : List OpenFile) (key : BlockKey) (file : OpenFile) (block : List ℕ) → slice_get files key.place ≡ Some file → told ≡ Some (told_of file) → IfSome contents (λ folder. IsSomeAnd told (λ t. IsBlock file.len (bytes_at folder t.0) key.number block)) → IsKept contents files (key, block)
-kept_of_read contents told files key file block here same read = record {
+pub kept_of_read : (keeps : Folder → Type 0) (told : Option (List ℕ × ℕ)) (files : List OpenFile) (key : BlockKey) (file : OpenFile) (block : List ℕ) → slice_get files key.place ≡ Some file → told ≡ Some (told_of file) → ((folder : Folder) → keeps folder → IsSomeAnd told (λ t. IsBlock file.len (bytes_at folder t.0) key.number block)) → IsKept keeps files (key, block)
+kept_of_read keeps told files key file block here same read = record {
   opened = slice_get_within files key.place file here;
-  block = λ f e folder is. subst (λ x. IsBlock x.len (bytes_at folder (string_bytes x.path)) key.number block) (one_file file f (sym here ∙ e)) (at contents read folder is);
+  block = λ f e folder kept. subst (λ x. IsBlock x.len (bytes_at folder (string_bytes x.path)) key.number block) (one_file file f (sym here ∙ e)) (subst (λ o. IsSomeAnd o (λ t. IsBlock file.len (bytes_at folder t.0) key.number block)) same (read folder kept));
 } where
   one_file : (f g : OpenFile) → Some f ≡ Some g → f ≡ g
   one_file f g e = cc
 
-  at : (o : Option Folder) → IfSome o (λ folder. IsSomeAnd told (λ t. IsBlock file.len (bytes_at folder t.0) key.number block)) → (folder : Folder) → o ≡ Some folder → IsBlock file.len (bytes_at folder (string_bytes file.path)) key.number block
-  at None h folder e = cc
-  at (Some f) h folder e =
-      let one : f ≡ folder = cc in
-      subst (λ x. IsBlock file.len (bytes_at x (string_bytes file.path)) key.number block) one (subst (λ o. IsSomeAnd o (λ t. IsBlock file.len (bytes_at f t.0) key.number block)) same h)
-
 -- what is copied of a kept block is the file's
-pub read_of_kept : (contents : Option Folder) (files : List OpenFile) (key : BlockKey) (block out : List ℕ) (start : ℕ) → IsKept contents files (key, block) → key.number ≡ start / BLOCK → IsSomeAnd (slice_get files key.place) (λ file. start + length out ≤ file.len) → start % BLOCK + length out ≤ BLOCK → out ≡ take (length out) (drop (start % BLOCK) block) → AreRead contents (slice_get files key.place) start out
-read_of_kept None files key block out start kept number inside part copied = tt
-read_of_kept (Some folder) files key block out start kept number inside part copied = at (slice_get files key.place) refl inside where
+pub read_of_kept : (keeps : Folder → Type 0) (files : List OpenFile) (key : BlockKey) (block out : List ℕ) (start : ℕ) → IsKept keeps files (key, block) → key.number ≡ start / BLOCK → IsSomeAnd (slice_get files key.place) (λ file. start + length out ≤ file.len) → start % BLOCK + length out ≤ BLOCK → out ≡ take (length out) (drop (start % BLOCK) block) → (folder : Folder) → keeps folder → AreRead folder (slice_get files key.place) start out
+read_of_kept keeps files key block out start kept number inside part copied folder is = at (slice_get files key.place) refl inside where
   at : (o : Option OpenFile) → slice_get files key.place ≡ o → IsSomeAnd o (λ file. start + length out ≤ file.len) → IsSomeAnd o (λ file. out ≡ take (length out) (drop start (bytes_at folder (string_bytes file.path))))
   at None e h = absurd h
   at (Some file) e within =
       let place : key.number * BLOCK + start % BLOCK ≡ start = omega (arith, number) in
       let range : key.number * BLOCK + start % BLOCK + length out ≤ file.len = omega (arith, place, within) in
       let text : List ℕ = bytes_at folder (string_bytes file.path) in
-      copied ∙ part_of_block file.len key.number (start % BLOCK) (length out) text block part range (kept.block file e folder refl) ∙ ap (λ n. take (length out) (drop n text)) place
+      copied ∙ part_of_block file.len key.number (start % BLOCK) (length out) text block part range (kept.block file e folder is) ∙ ap (λ n. take (length out) (drop n text)) place
 
 -- one more block is kept
-pub kept_with : (contents : Option Folder) (files : List OpenFile) (old new : List (BlockKey × List ℕ)) (entry : BlockKey × List ℕ) → AreKept contents files old → IsKept contents files entry → ((e : BlockKey × List ℕ) → Contains new e → Contains old e ⊎ (e ≡ entry)) → AreKept contents files new
-kept_with contents files old new entry all one among e h = elim (among e h) [
+pub kept_with : (keeps : Folder → Type 0) (files : List OpenFile) (old new : List (BlockKey × List ℕ)) (entry : BlockKey × List ℕ) → AreKept keeps files old → IsKept keeps files entry → ((e : BlockKey × List ℕ) → Contains new e → Contains old e ⊎ (e ≡ entry)) → AreKept keeps files new
+kept_with keeps files old new entry all one among e h = elim (among e h) [
   | inl was ↦ all e was
-  | inr same ↦ subst (IsKept contents files) (sym same) one
+  | inr same ↦ subst (IsKept keeps files) (sym same) one
 ]
 
 -- a place that has a file lies among those opened
@@ -71,32 +64,38 @@ pub of_slot : (P : OpenFile → Type 0) {o : Option OpenFile} {file : OpenFile} 
 of_slot P e h = subst (λ o. IsSomeAnd o P) e h
 
 -- kept blocks stay so where one more file is opened, and memory was found for it
-pub kept_behind : (contents : Option Folder) (files new : List OpenFile) (file : OpenFile) (b : Bool) (entries : List (BlockKey × List ℕ)) → new ≡ (if b then files ++ file ∷ [] else files) → AreKept contents files entries → AreKept contents new entries
-kept_behind contents files new file false entries same all = subst (λ xs. AreKept contents xs entries) (sym same) all
-kept_behind contents files new file true entries same all = subst (λ xs. AreKept contents xs entries) (sym same) (λ e h. more e (all e h)) where
-  more : (e : BlockKey × List ℕ) → IsKept contents files e → IsKept contents (files ++ file ∷ []) e
+pub kept_behind : (keeps : Folder → Type 0) (files new : List OpenFile) (file : OpenFile) (b : Bool) (entries : List (BlockKey × List ℕ)) → new ≡ (if b then files ++ file ∷ [] else files) → AreKept keeps files entries → AreKept keeps new entries
+kept_behind keeps files new file false entries same all = subst (λ xs. AreKept keeps xs entries) (sym same) all
+kept_behind keeps files new file true entries same all = subst (λ xs. AreKept keeps xs entries) (sym same) (λ e h. more e (all e h)) where
+  more : (e : BlockKey × List ℕ) → IsKept keeps files e → IsKept keeps (files ++ file ∷ []) e
   more e kept = record {
     opened = omega (arith, kept.opened, length-append files (file ∷ []));
     block = λ f here. kept.block f (sym (place_inside files (file ∷ []) e.0.place kept.opened) ∙ here);
   }
 
 -- no block is kept
-pub kept_none : (contents : Option Folder) (files : List OpenFile) → AreKept contents files []
-kept_none contents files e h = absurd (omega (arith, h.1))
+pub kept_none : (keeps : Folder → Type 0) (files : List OpenFile) → AreKept keeps files []
+kept_none keeps files e h = absurd (omega (arith, h.1))
 
--- the table stays sound where the device keeps its files and the numbers that it handed out
-pub sound_moved : (old new : Option Folder) (before after : ℕ → Option (List ℕ × ℕ)) (files : List OpenFile) (blocks : List (BlockKey × List ℕ)) → new ≡ old → ((n : ℕ) → IsSome (before n) → after n ≡ before n) → IsSound old before files blocks → IsSound new after files blocks
-sound_moved old new before after files blocks same stays sound = record {
+-- kept blocks stay so where no other folder is kept
+pub kept_earlier : (old new : Folder → Type 0) (files : List OpenFile) (entries : List (BlockKey × List ℕ)) → ((folder : Folder) → new folder → old folder) → AreKept old files entries → AreKept new files entries
+kept_earlier old new files entries earlier all e h =
+    let was = all e h in
+    record { opened = was.opened; block = λ f here folder kept. was.block f here folder (earlier folder kept) }
+
+-- the table stays sound where no other folder is kept, and the numbers that were handed out stay
+pub sound_moved : (old new : Folder → Type 0) (before after : ℕ → Option (List ℕ × ℕ)) (files : List OpenFile) (blocks : List (BlockKey × List ℕ)) → ((folder : Folder) → new folder → old folder) → ((n : ℕ) → IsSome (before n) → after n ≡ before n) → IsSound old before files blocks → IsSound new after files blocks
+sound_moved old new before after files blocks earlier stays sound = record {
   handed_out = λ k f h. let was = sound.handed_out k f h in stays f.no.0 (ap is_some was) ∙ was;
   short_enough = sound.short_enough;
-  there = subst (λ o. AreThere o files) (sym same) sound.there;
-  as_long = subst (λ o. AreAsLong o files) (sym same) sound.as_long;
-  kept = subst (λ o. AreKept o files blocks) (sym same) sound.kept;
+  there = λ k f h folder kept. sound.there k f h folder (earlier folder kept);
+  as_long = λ k f h folder kept. sound.as_long k f h folder (earlier folder kept);
+  kept = kept_earlier old new files blocks earlier sound.kept;
 }
 
 -- and where other blocks are kept
-pub sound_keeping : (contents : Option Folder) (told : ℕ → Option (List ℕ × ℕ)) (files : List OpenFile) (old new : List (BlockKey × List ℕ)) → AreKept contents files new → IsSound contents told files old → IsSound contents told files new
-sound_keeping contents told files old new kept sound = record {
+pub sound_keeping : (keeps : Folder → Type 0) (told : ℕ → Option (List ℕ × ℕ)) (files : List OpenFile) (old new : List (BlockKey × List ℕ)) → AreKept keeps files new → IsSound keeps told files old → IsSound keeps told files new
+sound_keeping keeps told files old new kept sound = record {
   handed_out = sound.handed_out;
   short_enough = sound.short_enough;
   there = sound.there;

@@ -1,6 +1,6 @@
 -- What is read of an entry.
 use Rattle.std.proofs.Common.{◌≡◌, ℕ, zero, suc, ◌+◌, ◌-◌, ◌<◌, ◌≤◌, List, [], ◌∷◌, length, take, drop, Option, Some, None, Result, Ok, Err, refl, sym, ap, subst, ◌∙◌, arith}
-use Rattle.std.specs.Prelude.{slice_get, slice_index, IfSome, IsSomeAnd, OnOk, unwrap_or}
+use Rattle.std.specs.Prelude.{slice_get, slice_index, IsSomeAnd, OnOk, unwrap_or}
 use Rattle.std.specs.Option.{option_map}
 use Rattle.std.specs.String.{string_bytes}
 use Rattle.std.proofs.lemmas.Option.{slice_get-map}
@@ -49,11 +49,10 @@ entry_limit files short (suc (suc n)) len e = at files n short e where
   at (file ∷ files) (suc n) short e = at files n (λ k. short (suc k)) e
 
 -- the bytes of a function
-pub function_bytes : (contents : Option Folder) (opened : Opened) (id start : ℕ) (out : List ℕ) → id < 2 → start + length out ≤ MAX_LEN → ((k : ℕ) → k < length out → slice_index out k ≡ function_byte id (start + k)) → IfSome (option_map (table_in opened) contents) (λ t. out ≡ take (length out) (drop start (t id)))
-function_bytes None opened id start out below inside each = tt
-function_bytes (Some folder) opened zero start out below inside each = function_read zero start out inside each
-function_bytes (Some folder) opened (suc zero) start out below inside each = function_read (suc zero) start out inside each
-function_bytes (Some folder) opened (suc (suc n)) start out below inside each = absurd (omega arith)
+pub function_bytes : (folder : Folder) (opened : Opened) (id start : ℕ) (out : List ℕ) → id < 2 → start + length out ≤ MAX_LEN → ((k : ℕ) → k < length out → slice_index out k ≡ function_byte id (start + k)) → out ≡ take (length out) (drop start (table_in opened folder id))
+function_bytes folder opened zero start out below inside each = function_read zero start out inside each
+function_bytes folder opened (suc zero) start out below inside each = function_read (suc zero) start out inside each
+function_bytes folder opened (suc (suc n)) start out below inside each = absurd (omega arith)
 
 -- the text of an entry that is a file
 pub text_of_file : (folder : Folder) (files : List OpenFile) (id : ℕ) (file : OpenFile) → 2 ≤ id → slice_get files (id - 2) ≡ Some file → table_in (opened_of files) folder id ≡ bytes_at folder (string_bytes file.path)
@@ -65,17 +64,16 @@ text_of_file folder files (suc (suc n)) file h e =
     ap (λ o. unwrap_or (option_map (λ f. bytes_at folder f.0) o) []) (slice_get-map told_of files n ∙ ap (option_map told_of) here)
 
 -- the bytes of a file are those of its entry
-pub entry_read : (contents : Option Folder) (files : List OpenFile) (id start : ℕ) (out : List ℕ) → 2 ≤ id → AreRead contents (slice_get files (id - 2)) start out → IfSome (option_map (table_in (opened_of files)) contents) (λ t. out ≡ take (length out) (drop start (t id)))
-entry_read None files id start out h read = tt
-entry_read (Some folder) files id start out h read = at (slice_get files (id - 2)) refl read where
-  at : (o : Option OpenFile) → slice_get files (id - 2) ≡ o → AreRead (Some folder) o start out → out ≡ take (length out) (drop start (table_in (opened_of files) folder id))
+pub entry_read : (folder : Folder) (files : List OpenFile) (id start : ℕ) (out : List ℕ) → 2 ≤ id → AreRead folder (slice_get files (id - 2)) start out → out ≡ take (length out) (drop start (table_in (opened_of files) folder id))
+entry_read folder files id start out h read = at (slice_get files (id - 2)) refl read where
+  at : (o : Option OpenFile) → slice_get files (id - 2) ≡ o → AreRead folder o start out → out ≡ take (length out) (drop start (table_in (opened_of files) folder id))
   at None e read = absurd read
   at (Some file) e read = read ∙ ap (λ b. take (length out) (drop start b)) (sym (text_of_file folder files id file h e))
 
 -- the same where a read may have failed
-pub entry_read_ok : {A E : Type 0} (r : Result A E) (contents : Option Folder) (files : List OpenFile) (id start : ℕ) (out : List ℕ) → 2 ≤ id → OnOk r (AreRead contents (slice_get files (id - 2)) start out) → OnOk r (IfSome (option_map (table_in (opened_of files)) contents) (λ t. out ≡ take (length out) (drop start (t id))))
-entry_read_ok (Err e) contents files id start out h read = tt
-entry_read_ok (Ok x) contents files id start out h read = entry_read contents files id start out h read
+pub entry_read_ok : {A E : Type 0} (r : Result A E) (folder : Folder) (files : List OpenFile) (id start : ℕ) (out : List ℕ) → 2 ≤ id → OnOk r (AreRead folder (slice_get files (id - 2)) start out) → OnOk r (out ≡ take (length out) (drop start (table_in (opened_of files) folder id)))
+entry_read_ok (Err e) folder files id start out h read = tt
+entry_read_ok (Ok x) folder files id start out h read = entry_read folder files id start out h read
 
 -- the range of a function lies below the greatest length
 pub function_limit : (opened : Opened) (id n : ℕ) → id < 2 → IsSomeAnd (lengths_in opened id) (λ len. n ≤ len) → n ≤ MAX_LEN

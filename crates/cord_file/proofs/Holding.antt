@@ -1,6 +1,6 @@
 -- What holds of each opened file, while files are added.
 use Rattle.std.proofs.Common.{◌≡◌, ℕ, zero, suc, ◌+◌, Bool, true, false, inl, inr, List, [], ◌∷◌, ◌++◌, length, Option, Some, None, refl, sym, ap, subst, ◌∙◌, arith}
-use Rattle.std.specs.Prelude.{slice_get, if◌then◌else◌, IfSome, IsSomeAnd, unwrap_or}
+use Rattle.std.specs.Prelude.{slice_get, if◌then◌else◌, IsSomeAnd, unwrap_or}
 use Rattle.std.specs.Option.{option_map}
 use Rattle.std.specs.String.{string_bytes}
 use Rattle.std.proofs.lemmas.List.{map-append}
@@ -28,27 +28,22 @@ pub opened_more : (files : List OpenFile) (file : OpenFile) (path : List ℕ) �
 opened_more files file path e = map-append told_of files (file ∷ []) ∙ ap (λ p. opened_of files ++ (p, file.len) ∷ []) e
 
 -- the file at a path is there, and as long as was told
-abbrev pub IsFound : Option Folder → List ℕ → ℕ → Type 0
-IsFound contents path len = (folder : Folder) → contents ≡ Some folder → (file_at folder path ≡ Some (bytes_at folder path)) × (length (bytes_at folder path) ≡ len)
+abbrev pub IsFound : Folder → List ℕ → ℕ → Type 0
+IsFound folder path len = (file_at folder path ≡ Some (bytes_at folder path)) × (length (bytes_at folder path) ≡ len)
 
 there_at : (o : Option (List ℕ)) (len : ℕ) → IsSomeAnd o (λ bytes. len ≡ length bytes) → (o ≡ Some (unwrap_or o [])) × (length (unwrap_or o []) ≡ len)
 there_at None len h = absurd h
 there_at (Some bytes) len h = (refl, sym h)
 
 -- what a device says of a file that it opened
-pub found_there : (contents : Option Folder) (path : List ℕ) (len : ℕ) → IfSome contents (λ folder. IsSomeAnd (file_at folder path) (λ bytes. len ≡ length bytes)) → IsFound contents path len
-found_there None path len h folder e = cc
-found_there (Some f) path len h folder e =
-    let same : f ≡ folder = cc in
-    subst (λ x. (file_at x path ≡ Some (bytes_at x path)) × (length (bytes_at x path) ≡ len)) same (there_at (file_at f path) len h)
+pub found_there : (folder : Folder) (path : List ℕ) (len : ℕ) → IsSomeAnd (file_at folder path) (λ bytes. len ≡ length bytes) → IsFound folder path len
+found_there folder path len h = there_at (file_at folder path) len h
 
 -- an entry holds the file that was found
-pub holds_file : (contents : Option Folder) (opened : Opened) (path : List ℕ) (id len n : ℕ) → id ≡ suc (suc n) → slice_get opened n ≡ Some (path, len) → IsFound contents path len → HoldsFile contents opened path id len
-holds_file None opened path id len n e slot found = tt
-holds_file (Some folder) opened path id len n e slot found =
-    let both = found folder refl in
+pub holds_file : (folder : Folder) (opened : Opened) (path : List ℕ) (id len n : ℕ) → id ≡ suc (suc n) → slice_get opened n ≡ Some (path, len) → IsFound folder path len → HoldsFile folder opened path id len
+holds_file folder opened path id len n e slot found =
     let here : table_in opened folder id ≡ bytes_at folder path = ap (table_in opened folder) e ∙ ap (λ o. unwrap_or (option_map (λ file. bytes_at folder file.0) o) []) slot in
-    (both.0 ∙ ap (λ b. Some b) (sym here), sym both.1 ∙ ap (λ b. length b) (sym here))
+    (found.0 ∙ ap (λ b. Some b) (sym here), sym found.1 ∙ ap (λ b. length b) (sym here))
 
 -- the file of an opened path
 pub file_of : (files : List OpenFile) (path : List ℕ) (len n : ℕ) → slice_get (opened_of files) n ≡ Some (path, len) → (file : OpenFile) × (slice_get files n ≡ Some file) × (string_bytes file.path ≡ path) × (file.len ≡ len)

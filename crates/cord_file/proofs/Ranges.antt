@@ -1,6 +1,6 @@
 -- Ranges that are read piece by piece.
 use Rattle.std.proofs.Common.{◌≡◌, ℕ, ◌+◌, ◌≤◌, List, ◌++◌, length, take, drop, sym, ap, ◌∙◌}
-use Rattle.std.specs.Prelude.{IfSome, IsSomeAnd, Some, None}
+use Rattle.std.specs.Prelude.{IsSomeAnd, Some, None}
 use Rattle.std.specs.declared.option.Option.{Option}
 use Rattle.std.proofs.lemmas.List.{drop-drop, length-take-le, take-append-le}
 use Rattle.std.proofs.Math.Seq.{take-add, take-append-add, take-length}
@@ -24,14 +24,12 @@ more_bytes done k room start out part text fits inside before more =
     ∙ ap (λ xs. xs ++ take k (drop done (drop start text))) before
     ∙ sym (take-add done k (drop start text))
 
--- the same of an opened file, where the device keeps its bytes
-pub more_read : {X : Type 0} (path : X → List ℕ) (contents : Option Folder) (opened : Option X) (done k room start : ℕ) (out part : List ℕ) → done ≤ length out → k ≤ length part → IfSome contents (λ folder. IsSomeAnd opened (λ file. take done out ≡ take done (drop start (bytes_at folder (path file))))) → IfSome contents (λ folder. IsSomeAnd opened (λ file. take k part ≡ take k (drop (start + done) (bytes_at folder (path file))))) → IfSome contents (λ folder. IsSomeAnd opened (λ file. take (done + k) (put_mid done room out part) ≡ take (done + k) (drop start (bytes_at folder (path file)))))
-more_read path None opened done k room start out part fits inside before more = tt
-more_read path (Some folder) None done k room start out part fits inside before more = absurd before
-more_read path (Some folder) (Some file) done k room start out part fits inside before more = more_bytes done k room start out part (bytes_at folder (path file)) fits inside before more
+-- the same of an opened file
+pub more_read : {X : Type 0} (path : X → List ℕ) (folder : Folder) (opened : Option X) (done k room start : ℕ) (out part : List ℕ) → done ≤ length out → k ≤ length part → IsSomeAnd opened (λ file. take done out ≡ take done (drop start (bytes_at folder (path file)))) → IsSomeAnd opened (λ file. take k part ≡ take k (drop (start + done) (bytes_at folder (path file)))) → IsSomeAnd opened (λ file. take (done + k) (put_mid done room out part) ≡ take (done + k) (drop start (bytes_at folder (path file))))
+more_read path folder None done k room start out part fits inside before more = absurd before
+more_read path folder (Some file) done k room start out part fits inside before more = more_bytes done k room start out part (bytes_at folder (path file)) fits inside before more
 
 -- bytes that were read are as many as they are
-pub all_read : (contents : Option Folder) (slot : Option OpenFile) (start k : ℕ) (part : List ℕ) → k ≡ length part → AreRead contents slot start part → IfSome contents (λ folder. IsSomeAnd slot (λ file. take k part ≡ take k (drop start (bytes_at folder (string_bytes file.path)))))
-all_read None slot start k part same read = tt
-all_read (Some folder) None start k part same read = read
-all_read (Some folder) (Some file) start k part same read = ap (λ n. take n part) same ∙ take-length part ∙ read ∙ ap (λ n. take n (drop start (bytes_at folder (string_bytes file.path)))) (sym same)
+pub all_read : (folder : Folder) (slot : Option OpenFile) (start k : ℕ) (part : List ℕ) → k ≡ length part → AreRead folder slot start part → IsSomeAnd slot (λ file. take k part ≡ take k (drop start (bytes_at folder (string_bytes file.path))))
+all_read folder None start k part same read = read
+all_read folder (Some file) start k part same read = ap (λ n. take n part) same ∙ take-length part ∙ read ∙ ap (λ n. take n (drop start (bytes_at folder (string_bytes file.path)))) (sym same)

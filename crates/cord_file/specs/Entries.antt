@@ -18,7 +18,7 @@ lengths_in opened zero = Some MAX_LEN
 lengths_in opened (suc zero) = Some MAX_LEN
 lengths_in opened (suc (suc n)) = option_map (λ file. file.1) (slice_get opened n)
 
--- the text of an entry, where the files keep these bytes
+-- the text of an entry over a folder
 abbrev pub table_in : Opened → Folder → Table
 table_in opened folder zero = digits MAX_LEN
 table_in opened folder (suc zero) = byte_values MAX_LEN

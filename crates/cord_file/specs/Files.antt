@@ -1,5 +1,5 @@
 -- The opened files of a table, as the device told them.
-use Rattle.std.specs.Prelude.{◌≡◌, ℕ, zero, suc, ◌≤◌, List, [], ◌∷◌, length, map, slice_get, Some, None, IfSome, refl}
+use Rattle.std.specs.Prelude.{◌≡◌, ℕ, zero, suc, ◌≤◌, List, [], ◌∷◌, length, map, slice_get, Some, refl}
 use Rattle.std.specs.Option.{option_map}
 use Rattle.std.specs.String.{string_bytes}
 use Rattle.std.specs.declared.option.Option.{Option}
@@ -30,13 +30,13 @@ AreHandedOut told files = Each (λ file. told file.no.0 ≡ Some (told_of file))
 abbrev pub AreShortEnough : List OpenFile → Type 0
 AreShortEnough files = Each (λ file. file.len ≤ MAX_LEN) files
 
--- where the device keeps these files, each path is there
-abbrev pub AreThere : Option Folder → List OpenFile → Type 0
-AreThere contents files = Each (λ file. (folder : Folder) → contents ≡ Some folder → file_at folder (string_bytes file.path) ≡ Some (bytes_at folder (string_bytes file.path))) files
+-- each path is there, in each folder that is kept
+abbrev pub AreThere : (Folder → Type 0) → List OpenFile → Type 0
+AreThere keeps files = Each (λ file. (folder : Folder) → keeps folder → file_at folder (string_bytes file.path) ≡ Some (bytes_at folder (string_bytes file.path))) files
 
--- and each is as long as was told
-abbrev pub AreAsLong : Option Folder → List OpenFile → Type 0
-AreAsLong contents files = Each (λ file. (folder : Folder) → contents ≡ Some folder → length (bytes_at folder (string_bytes file.path)) ≡ file.len) files
+-- and each file is as long as was told
+abbrev pub AreAsLong : (Folder → Type 0) → List OpenFile → Type 0
+AreAsLong keeps files = Each (λ file. (folder : Folder) → keeps folder → length (bytes_at folder (string_bytes file.path)) ≡ file.len) files
 
 lengths_of_one : (folder : Folder) (files : List OpenFile) (n : ℕ) → ((file : OpenFile) → slice_get files n ≡ Some file → length (bytes_at folder (string_bytes file.path)) ≡ file.len) → length (table_in (opened_of files) folder (suc (suc n))) ≡ length_at (lengths_in (opened_of files)) (suc (suc n))
 lengths_of_one folder [] n h = refl
@@ -48,7 +48,6 @@ lengths_of_table folder files h zero = length-text_of digit_at MAX_LEN
 lengths_of_table folder files h (suc zero) = length-text_of byte_value_at MAX_LEN
 lengths_of_table folder files h (suc (suc n)) = lengths_of_one folder files n (h n)
 
--- the table over the files that a device keeps has the lengths told
-pub as_long_as_told : (contents : Option Folder) (files : List OpenFile) → AreAsLong contents files → IfSome (option_map (table_in (opened_of files)) contents) (HasLengths (lengths_in (opened_of files)))
-as_long_as_told None files h = tt
-as_long_as_told (Some folder) files h = lengths_of_table folder files (λ k file e. h k file e folder refl)
+-- over each folder that is kept the table has the lengths told
+pub as_long_as_told : (keeps : Folder → Type 0) (files : List OpenFile) → AreAsLong keeps files → (folder : Folder) → keeps folder → HasLengths (lengths_in (opened_of files)) (table_in (opened_of files) folder)
+as_long_as_told keeps files h folder kept = lengths_of_table folder files (λ k file e. h k file e folder kept)

@@ -1,5 +1,5 @@
 -- What opening a path does to a table of files, and when it is refused.
-use Rattle.std.specs.Prelude.{◌≡◌, ℕ, ◌<◌, ◌≤◌, List, [], ◌∷◌, ◌++◌, length, Some, None, ⊤, IsSome, IfSome, IsSomeAnd}
+use Rattle.std.specs.Prelude.{◌≡◌, ℕ, ◌<◌, ◌≤◌, List, [], ◌∷◌, ◌++◌, length, Some, None, ⊤, IsSome, IsSomeAnd}
 use Rattle.std.specs.declared.option.Option.{Option}
 use Rattle.cord_io.specs.declared.TheConstants.{MAX_LEN}
 use Rattle.cord_io.specs.Device.{Folder, file_at}
@@ -22,18 +22,26 @@ pub record Opens (old new : Opened) (path : List ℕ) (id len : ℕ) : Type 0 wh
   pub again : IsSome (id_in old path) → new ≡ old
   pub fresh : id_in old path ≡ None → (length old < MAX_FILES) × (new ≡ old ++ (path, len) ∷ [])
 
--- over files that keep their bytes the entry has the bytes at the path, as many as was told
-abbrev pub HoldsFile : Option Folder → Opened → List ℕ → ℕ → ℕ → Type 0
-HoldsFile contents opened path id len = IfSome contents (λ folder. (file_at folder path ≡ Some (table_in opened folder id)) × (len ≡ length (table_in opened folder id)))
+-- over a folder the entry has the bytes at the path, as many as was told
+abbrev pub HoldsFile : Folder → Opened → List ℕ → ℕ → ℕ → Type 0
+HoldsFile folder opened path id len = (file_at folder path ≡ Some (table_in opened folder id)) × (len ≡ length (table_in opened folder id))
 
 -- the path isn't open, and there is room for one more
 abbrev pub HasRoomFor : Opened → List ℕ → Type 0
 HasRoomFor opened path = (id_in opened path ≡ None) × (length opened < MAX_FILES)
 
--- why a path wasn't opened: the first of these that applies, but want of memory may come in the place of any answer
-abbrev pub IsOpenRefusal : Option Folder → Opened → List ℕ → FileError → Type 0
-IsOpenRefusal contents opened path TooManyFiles = (id_in opened path ≡ None) × (length opened ≡ MAX_FILES)
-IsOpenRefusal contents opened path NoFile = HasRoomFor opened path × IfSome contents (λ folder. file_at folder path ≡ None)
-IsOpenRefusal contents opened path ReadFailed = HasRoomFor opened path
-IsOpenRefusal contents opened path TooLong = HasRoomFor opened path × IfSome contents (λ folder. IsSomeAnd (file_at folder path) (λ bytes. MAX_LEN < length bytes))
-IsOpenRefusal contents opened path NoMemory = ⊤
+-- why a path wasn't opened, by the table: the first of these that applies, but want of memory may come in the place of any answer
+abbrev pub IsOpenRefusal : Opened → List ℕ → FileError → Type 0
+IsOpenRefusal opened path TooManyFiles = (id_in opened path ≡ None) × (length opened ≡ MAX_FILES)
+IsOpenRefusal opened path NoFile = HasRoomFor opened path
+IsOpenRefusal opened path ReadFailed = HasRoomFor opened path
+IsOpenRefusal opened path TooLong = HasRoomFor opened path
+IsOpenRefusal opened path NoMemory = ⊤
+
+-- the same, by a folder
+abbrev pub IsRefusalOver : Folder → List ℕ → FileError → Type 0
+IsRefusalOver folder path TooManyFiles = ⊤
+IsRefusalOver folder path NoFile = file_at folder path ≡ None
+IsRefusalOver folder path ReadFailed = ⊤
+IsRefusalOver folder path TooLong = IsSomeAnd (file_at folder path) (λ bytes. MAX_LEN < length bytes)
+IsRefusalOver folder path NoMemory = ⊤

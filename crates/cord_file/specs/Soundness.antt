@@ -8,9 +8,9 @@ use Rattle.cord_file.specs.Blocks.{AreKept}
 use Rattle.cord_file.specs.Files.{AreHandedOut, AreShortEnough, AreThere, AreAsLong}
 
 -- the opened files are as the device told, and the kept blocks are theirs
-pub record IsSound (contents : Option Folder) (told : ℕ → Option (List ℕ × ℕ)) (files : List OpenFile) (blocks : List (BlockKey × List ℕ)) : Type 0 where
+pub record IsSound (keeps : Folder → Type 0) (told : ℕ → Option (List ℕ × ℕ)) (files : List OpenFile) (blocks : List (BlockKey × List ℕ)) : Type 0 where
   pub handed_out : AreHandedOut told files
   pub short_enough : AreShortEnough files
-  pub there : AreThere contents files
-  pub as_long : AreAsLong contents files
-  pub kept : AreKept contents files blocks
+  pub there : AreThere keeps files
+  pub as_long : AreAsLong keeps files
+  pub kept : AreKept keeps files blocks

@@ -1,6 +1,6 @@
 // Blocks of files, and those that are kept.
-ghost use Rattle.std.specs.Prelude.{◌≡◌, ◌+◌, ◌*◌, ◌<◌, ◌≤◌, ℕ, List, length, take, drop, true, is_err, Contains, IfOk, IfSome, IsSomeAnd, ◌⊎◌};
-ghost use Rattle.cord_io.specs.Device.{bytes_at, count_after};
+ghost use Rattle.std.specs.Prelude.{◌≡◌, ◌+◌, ◌*◌, ◌<◌, ◌≤◌, ℕ, List, length, take, drop, true, is_err, Contains, IfOk, IsSomeAnd, ◌⊎◌};
+ghost use Rattle.cord_io.specs.Device.{Folder, bytes_at, count_after};
 ghost use Rattle.cord_file.specs.Blocks.{IsBlock};
 
 use crate::reading::read_range;
@@ -33,11 +33,11 @@ pub(crate) fn read_block<F: Files>(
     requires told { IsSomeAnd (F.opened files.old no.0) (λ told. len ≡ told.1) }
     requires inside { number * BLOCK < len }
     requires limit { len ≤ MAX_LEN }
-    ensures contents { F.contents files.new ≡ F.contents files.old }
+    ensures earlier { (folder : Folder) → F.keeps files.new folder → F.keeps files.old folder }
     ensures opened { (n : ℕ) → F.opened files.new n ≡ F.opened files.old n }
     ensures count { F.failures files.new ≡ count_after (is_err result) (F.failures files.old) }
-    ensures block { IfOk result (λ block. IfSome (F.contents files.old) (λ folder.
-        IsSomeAnd (F.opened files.old no.0) (λ told. IsBlock len (bytes_at folder told.0) number block))) }
+    ensures block { (folder : Folder) → F.keeps files.new folder → IfOk result (λ block.
+        IsSomeAnd (F.opened files.old no.0) (λ told. IsBlock len (bytes_at folder told.0) number block)) }
 {
     let start = number * BLOCK as u64;
     let size = (len - start).min(BLOCK as u64) as usize;
@@ -64,7 +64,8 @@ pub(crate) fn copy_kept(cache: &mut Blocks, key: BlockKey, from: usize, out: &mu
 
 // Keeps a block, where memory is found for it.
 pub(crate) fn keep(cache: &mut Blocks, key: BlockKey, block: [u8; BLOCK])
-    ensures { (e : BlockKey × List ℕ) → Contains cache.new.entries e → Contains cache.old.entries e ⊎ (e ≡ (key, block)) }
+    ensures { (e : BlockKey × List ℕ) → Contains cache.new.entries e →
+        Contains cache.old.entries e ⊎ (e ≡ (key, block)) }
 {
     let _ = cache.put(key, block);
 }

@@ -1,10 +1,11 @@
 // Cords over files.
 ghost use Rattle.std.specs.Prelude.{◌≡◌, ◌+◌, ◌<◌, ◌≤◌, IfOk, IfErr, IsOkUnless, Some};
-ghost use Rattle.cord_io.specs.Device.{count_after};
+ghost use Rattle.cord_io.specs.Device.{Folder, count_after};
+ghost use Rattle.cord_core.specs.Cord.{bytes_of};
 ghost use Rattle.cord_file.specs.Faults.{has_failed};
-ghost use Rattle.cord_file.specs.Entries.{lengths_in};
-ghost use Rattle.cord_file.specs.Opening.{Grows};
-ghost use Rattle.cord_file.specs.Making.{IsLeafOver, IsFuncOver, IsWhole, IsLazy, IsWholeOrLazy, IsReadRefusal, IsWholeRefusal, IsLazyRefusal, IsWholeOrLazyRefusal};
+ghost use Rattle.cord_file.specs.Entries.{lengths_in, table_in};
+ghost use Rattle.cord_file.specs.Opening.{Grows, IsRefusalOver};
+ghost use Rattle.cord_file.specs.Making.{IsLeafOver, IsFuncOver, IsFileIn, IsWhole, IsLazy, IsWholeOrLazy, IsReadRefusal, IsWholeRefusal, IsLazyRefusal, IsWholeOrLazyRefusal};
 
 use crate::{FileError, SHORT_FILE, Sources};
 use cord_core::Cord;
@@ -15,42 +16,59 @@ use std::rc::RcSlice;
 impl<F: Files> Sources<F> {
     ghost use Rattle.cord_file.specs.Sources.{device_in, opened_in};
 
-    /// The file at a path as a cord whose bytes are all read now, into one leaf. The path is opened as by `open`. Refused as
-    /// `open` is, or after it with `ReadFailed` where the device failed, or `NoMemory`: then the path stays open.
+    /// The file at a path as a cord whose bytes are all read now, into one leaf. The path is opened as by `open`.
+    /// Refused as `open` is, or after it with `ReadFailed` where the device failed, or `NoMemory`: then the path
+    /// stays open.
     pub fn eager(&mut self, alloc: Global, path: &str) -> Result<Cord, FileError>
-        ensures contents { F.contents (device_in self.new) ≡ F.contents (device_in self.old) }
+        ensures earlier { (folder : Folder) →
+            F.keeps (device_in self.new) folder → F.keeps (device_in self.old) folder }
         ensures count { F.failures (device_in self.new)
             ≡ count_after (has_failed result) (F.failures (device_in self.old)) }
         ensures grows { Grows (opened_in self.old) (opened_in self.new) }
-        ensures cord { IfOk result (IsWhole (F.contents (device_in self.old)) (opened_in self.old) (opened_in self.new) path.now) }
-        ensures refused { IfErr result (IsWholeRefusal (F.contents (device_in self.old)) (opened_in self.old) (opened_in self.new) path.now) }
+        ensures cord { IfOk result (IsWhole (opened_in self.old) (opened_in self.new) path.now) }
+        ensures file { (folder : Folder) → F.keeps (device_in self.new) folder →
+            IfOk result (IsFileIn folder (opened_in self.new) path.now) }
+        ensures refused { IfErr result (IsWholeRefusal (opened_in self.old) (opened_in self.new) path.now) }
+        ensures cause { (folder : Folder) → F.keeps (device_in self.new) folder →
+            IfErr result (IsRefusalOver folder path.now) }
     {
         let (id, len) = self.open(alloc, path)?;
         self.read_whole(alloc, id, len)
     }
 
-    /// The file at a path as a cord of which no byte is read now, one function part over its entry. The path is opened as by
-    /// `open`. Refused as `open` is, or after it with `NoMemory`: then the path stays open.
+    /// The file at a path as a cord of which no byte is read now, one function part over its entry. The path is
+    /// opened as by `open`. Refused as `open` is, or after it with `NoMemory`: then the path stays open.
     pub fn lazy(&mut self, alloc: Global, path: &str) -> Result<Cord, FileError>
-        ensures contents { F.contents (device_in self.new) ≡ F.contents (device_in self.old) }
+        ensures earlier { (folder : Folder) →
+            F.keeps (device_in self.new) folder → F.keeps (device_in self.old) folder }
         ensures count { F.failures (device_in self.new)
             ≡ count_after (has_failed result) (F.failures (device_in self.old)) }
         ensures grows { Grows (opened_in self.old) (opened_in self.new) }
-        ensures cord { IfOk result (IsLazy (F.contents (device_in self.old)) (opened_in self.old) (opened_in self.new) path.now) }
-        ensures refused { IfErr result (IsLazyRefusal (F.contents (device_in self.old)) (opened_in self.old) (opened_in self.new) path.now) }
+        ensures cord { IfOk result (IsLazy (opened_in self.old) (opened_in self.new) path.now) }
+        ensures file { (folder : Folder) → F.keeps (device_in self.new) folder →
+            IfOk result (IsFileIn folder (opened_in self.new) path.now) }
+        ensures refused { IfErr result (IsLazyRefusal (opened_in self.old) (opened_in self.new) path.now) }
+        ensures cause { (folder : Folder) → F.keeps (device_in self.new) folder →
+            IfErr result (IsRefusalOver folder path.now) }
     {
         let (id, len) = self.open(alloc, path)?;
         self.function_over(alloc, id, len)
     }
 
-    /// The file at a path as a cord: `eager` where it is short, of at most `SHORT_FILE` bytes, else `lazy`. Refused as that one is.
+    /// The file at a path as a cord: `eager` where it is short, of at most `SHORT_FILE` bytes, else `lazy`. Refused
+    /// as that one is.
     pub fn from_file(&mut self, alloc: Global, path: &str) -> Result<Cord, FileError>
-        ensures contents { F.contents (device_in self.new) ≡ F.contents (device_in self.old) }
+        ensures earlier { (folder : Folder) →
+            F.keeps (device_in self.new) folder → F.keeps (device_in self.old) folder }
         ensures count { F.failures (device_in self.new)
             ≡ count_after (has_failed result) (F.failures (device_in self.old)) }
         ensures grows { Grows (opened_in self.old) (opened_in self.new) }
-        ensures cord { IfOk result (IsWholeOrLazy (F.contents (device_in self.old)) (opened_in self.old) (opened_in self.new) path.now) }
-        ensures refused { IfErr result (IsWholeOrLazyRefusal (F.contents (device_in self.old)) (opened_in self.old) (opened_in self.new) path.now) }
+        ensures cord { IfOk result (IsWholeOrLazy (opened_in self.old) (opened_in self.new) path.now) }
+        ensures file { (folder : Folder) → F.keeps (device_in self.new) folder →
+            IfOk result (IsFileIn folder (opened_in self.new) path.now) }
+        ensures refused { IfErr result (IsWholeOrLazyRefusal (opened_in self.old) (opened_in self.new) path.now) }
+        ensures cause { (folder : Folder) → F.keeps (device_in self.new) folder →
+            IfErr result (IsRefusalOver folder path.now) }
     {
         let (id, len) = self.open(alloc, path)?;
         if len <= SHORT_FILE {
@@ -64,11 +82,15 @@ impl<F: Files> Sources<F> {
     fn read_whole(&mut self, alloc: Global, id: SourceId, len: u64) -> Result<Cord, FileError>
         requires file { 2 ≤ id.0 }
         requires len { lengths_in (opened_in self.old) id.0 ≡ Some len }
-        ensures contents { F.contents (device_in self.new) ≡ F.contents (device_in self.old) }
+        ensures earlier { (folder : Folder) →
+            F.keeps (device_in self.new) folder → F.keeps (device_in self.old) folder }
         ensures count { F.failures (device_in self.new)
             ≡ count_after (has_failed result) (F.failures (device_in self.old)) }
         ensures opened { opened_in self.new ≡ opened_in self.old }
-        ensures cord { IfOk result (IsLeafOver (F.contents (device_in self.old)) (opened_in self.old) id.0 len) }
+        ensures cord { IfOk result (IsLeafOver len) }
+        ensures text { (folder : Folder) → F.keeps (device_in self.new) folder →
+            IfOk result (λ cord.
+            bytes_of (table_in (opened_in self.old) folder) cord ≡ table_in (opened_in self.old) folder id.0) }
         ensures refused { IfErr result IsReadRefusal }
     {
         let mut bytes = vec![in alloc; 0; len as usize]?;
@@ -81,7 +103,10 @@ impl<F: Files> Sources<F> {
     // An opened file as one function part.
     fn function_over(&self, alloc: Global, id: SourceId, len: u64) -> Result<Cord, FileError>
         requires len { lengths_in (opened_in self.now) id.0 ≡ Some len }
-        ensures cord { IfOk result (IsFuncOver (F.contents (device_in self.now)) (opened_in self.now) id.0 len) }
+        ensures cord { IfOk result (IsFuncOver (opened_in self.now) id.0 len) }
+        ensures text { (folder : Folder) → F.keeps (device_in self.now) folder →
+            IfOk result (λ cord.
+            bytes_of (table_in (opened_in self.now) folder) cord ≡ table_in (opened_in self.now) folder id.0) }
         ensures refused { IsOkUnless result FileError.NoMemory }
     {
         let cord = Cord::from_fn(alloc, id, 0, len)?;

@@ -6,6 +6,7 @@ mod cords;
 mod faults;
 mod files;
 mod functions;
+mod limits;
 mod opening;
 mod reading;
 mod sources;
@@ -13,6 +14,7 @@ mod sources;
 mod tests;
 
 pub use faults::FileError;
+pub use limits::limits_are;
 pub use sources::Sources;
 
 /// The greatest number of paths that are open at a time.

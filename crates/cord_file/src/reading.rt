@@ -1,6 +1,6 @@
 // Reading ranges of files.
-ghost use Rattle.std.specs.Prelude.{◌≡◌, ◌+◌, ◌%◌, ◌<◌, ◌≤◌, ℕ, length, take, drop, is_err, slice_get, IfSome, OnOk, IsSomeAnd};
-ghost use Rattle.cord_io.specs.Device.{bytes_at, count_after};
+ghost use Rattle.std.specs.Prelude.{◌≡◌, ◌+◌, ◌%◌, ◌<◌, ◌≤◌, ℕ, length, take, drop, is_err, slice_get, OnOk, IsSomeAnd};
+ghost use Rattle.cord_io.specs.Device.{Folder, bytes_at, count_after};
 ghost use Rattle.cord_file.specs.Blocks.{AreRead};
 ghost use Rattle.cord_file.specs.declared.blocks.TheConstants.{BLOCK};
 
@@ -17,12 +17,12 @@ pub(crate) fn read_range<F: Files>(
 ) -> Result<(), ReadFault>
     requires inside { IsSomeAnd (F.opened files.old no.0) (λ told. start + length out.old ≤ told.1) }
     requires limit { start + length out.old ≤ MAX_LEN }
-    ensures contents { F.contents files.new ≡ F.contents files.old }
+    ensures earlier { (folder : Folder) → F.keeps files.new folder → F.keeps files.old folder }
     ensures opened { (n : ℕ) → F.opened files.new n ≡ F.opened files.old n }
     ensures count { F.failures files.new ≡ count_after (is_err result) (F.failures files.old) }
-    ensures bytes { OnOk result (IfSome (F.contents files.old) (λ folder.
-        IsSomeAnd (F.opened files.old no.0) (λ told.
-        out.new ≡ take (length out.new) (drop start (bytes_at folder told.0))))) }
+    ensures bytes { (folder : Folder) → F.keeps files.new folder → OnOk result
+        (IsSomeAnd (F.opened files.old no.0) (λ told.
+        out.new ≡ take (length out.new) (drop start (bytes_at folder told.0)))) }
 {
     let mut done = 0;
     while done < out.len() {
@@ -41,11 +41,15 @@ impl<F: Files> Sources<F> {
         start: u64,
         out: &mut [u8],
     ) -> Result<(), ReadFault>
-        requires inside { IsSomeAnd (slice_get self.old.entries.items place) (λ file. start + length out.old ≤ file.len) }
-        ensures contents { F.contents (device_in self.new) ≡ F.contents (device_in self.old) }
+        requires inside { IsSomeAnd (slice_get self.old.entries.items place) (λ file.
+            start + length out.old ≤ file.len) }
+        ensures earlier { (folder : Folder) →
+            F.keeps (device_in self.new) folder → F.keeps (device_in self.old) folder }
         ensures entries { self.new.entries.items ≡ self.old.entries.items }
-        ensures count { F.failures (device_in self.new) ≡ count_after (is_err result) (F.failures (device_in self.old)) }
-        ensures bytes { OnOk result (AreRead (F.contents (device_in self.old)) (slice_get self.old.entries.items place) start out.new) }
+        ensures count { F.failures (device_in self.new)
+            ≡ count_after (is_err result) (F.failures (device_in self.old)) }
+        ensures bytes { (folder : Folder) → F.keeps (device_in self.new) folder →
+            OnOk result (AreRead folder (slice_get self.old.entries.items place) start out.new) }
     {
         let mut done = 0;
         while done < out.len() {
@@ -58,15 +62,20 @@ impl<F: Files> Sources<F> {
         Ok(())
     }
 
-    // Fills `out` with bytes of one block of an opened file: of the block that is kept, or else of one that is read and then kept.
+    // Fills `out` with bytes of one block of an opened file: of the block that is kept, or else of one that is read
+    // and then kept.
     fn read_part(&mut self, place: usize, start: u64, out: &mut [u8]) -> Result<(), ReadFault>
-        requires inside { IsSomeAnd (slice_get self.old.entries.items place) (λ file. start + length out.old ≤ file.len) }
+        requires inside { IsSomeAnd (slice_get self.old.entries.items place) (λ file.
+            start + length out.old ≤ file.len) }
         requires some { 0 < length out.old }
         requires part { start % BLOCK + length out.old ≤ BLOCK }
-        ensures contents { F.contents (device_in self.new) ≡ F.contents (device_in self.old) }
+        ensures earlier { (folder : Folder) →
+            F.keeps (device_in self.new) folder → F.keeps (device_in self.old) folder }
         ensures entries { self.new.entries.items ≡ self.old.entries.items }
-        ensures count { F.failures (device_in self.new) ≡ count_after (is_err result) (F.failures (device_in self.old)) }
-        ensures bytes { OnOk result (AreRead (F.contents (device_in self.old)) (slice_get self.old.entries.items place) start out.new) }
+        ensures count { F.failures (device_in self.new)
+            ≡ count_after (is_err result) (F.failures (device_in self.old)) }
+        ensures bytes { (folder : Folder) → F.keeps (device_in self.new) folder →
+            OnOk result (AreRead folder (slice_get self.old.entries.items place) start out.new) }
     {
         let number = start / BLOCK as u64;
         let from = (start % BLOCK as u64) as usize;

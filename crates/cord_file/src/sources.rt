@@ -1,5 +1,6 @@
 // A table of entries: two functions, and the files that were opened.
-ghost use Rattle.std.specs.Prelude.{◌≡◌, ◌+◌, ◌<◌, ◌≤◌, ℕ, length, [], MatchResult, vec_len};
+ghost use Rattle.std.specs.Prelude.{◌≡◌, ◌+◌, ◌<◌, ◌≤◌, ℕ, length, take, drop, [], MatchResult, vec_len, is_err, OnOk, IsSomeAnd};
+ghost use Rattle.cord_io.specs.Device.{Folder, count_after};
 ghost use Rattle.cord_file.specs.declared.TheConstants.{MAX_FILES};
 ghost use Rattle.cord_file.specs.Soundness.{IsSound};
 
@@ -12,23 +13,23 @@ use std::alloc::Global;
 use std::num::NonZeroUsize;
 
 /// Entries of bytes by id: 0 is the function `digits` (byte `48 + i mod 10` at place i) and 1 the function `bytes`
-/// (`i mod 256`), both `MAX_LEN` long, and from 2 on stand the files that were opened, at most `MAX_FILES` of them. Files are read
-/// by blocks of 512 bytes, of which the 32 used last are kept. No read is refused for want of memory: a block for which none is
-/// found isn't kept.
+/// (`i mod 256`), both `MAX_LEN` long, and from 2 on stand the files that were opened, at most `MAX_FILES` of them.
+/// Files are read by blocks of 512 bytes, of which the 32 used last are kept. No read is refused for want of memory:
+/// a block for which none is found isn't kept.
 #[derive(Drop)]
 pub struct Sources<F: Files> {
     pub(crate) files: F,
     pub(crate) entries: Vec<OpenFile>,
     pub(crate) cache: Blocks,
     ghost few: { vec_len entries ≤ MAX_FILES },
-    ghost sound: { IsSound (F.contents files) (F.opened files) entries.items cache.entries },
+    ghost sound: { IsSound (F.keeps files) (F.opened files) entries.items cache.entries },
 }
 
 impl<F: Files> Sources<F> {
     ghost use Rattle.cord_file.specs.Sources.{device_in, opened_in};
 
-    /// The functions alone, over files of which none is open here. Refused with `NoMemory` alone, and then the files are given
-    /// back.
+    /// The functions alone, over files of which none is open here. Refused with `NoMemory` alone, and then the files
+    /// are given back.
     pub fn new(alloc: Global, files: F) -> Result<Sources<F>, (CordError, F)>
         ensures made { MatchResult result
             (λ sources. (device_in sources ≡ files) × (opened_in sources ≡ []))
@@ -60,20 +61,19 @@ impl<F: Files> Sources<F> {
 }
 
 impl<F: Files> Source for Sources<F> {
-    ghost use Rattle.std.specs.Option.{option_map};
     ghost use Rattle.cord_file.specs.Entries.{lengths_in, table_in};
     ghost use Rattle.cord_file.specs.Sources.{device_in, opened_in};
     ghost use Rattle.cord_file.specs.Files.{as_long_as_told};
 
     ghost lengths = { λ s. lengths_in (opened_in s) };
 
-    ghost table = { λ s. option_map (table_in (opened_in s)) (F.contents (device_in s)) };
+    ghost keeps = { λ s. F.keeps (device_in s) };
 
-    ghost files = { λ s. F.contents (device_in s) };
+    ghost table = { λ s. table_in (opened_in s) };
 
     ghost failures = { λ s. F.failures (device_in s) };
 
-    ghost lengths_of_table = { λ s. as_long_as_told (F.contents (device_in s)) s.entries.items s.sound.as_long };
+    ghost lengths_of_table = { λ s. as_long_as_told (F.keeps (device_in s)) s.entries.items s.sound.as_long };
 
     fn failures(&self) -> u64 {
         self.files.failures()
@@ -89,7 +89,20 @@ impl<F: Files> Source for Sources<F> {
         }
     }
 
-    fn read(&mut self, id: SourceId, start: u64, out: &mut [u8]) -> Result<(), ReadFault> {
+    fn read(&mut self, id: SourceId, start: u64, out: &mut [u8]) -> Result<(), ReadFault>
+        requires inside { IsSomeAnd (lengths_in (opened_in self.old) id.0) (λ len. start + length out.old ≤ len) }
+        ensures lengths { lengths_in (opened_in self.new) ≡ lengths_in (opened_in self.old) }
+        ensures table { table_in (opened_in self.new) ≡ table_in (opened_in self.old) }
+        ensures earlier { (folder : Folder) →
+            F.keeps (device_in self.new) folder → F.keeps (device_in self.old) folder }
+        ensures count { F.failures (device_in self.new)
+            ≡ count_after (is_err result) (F.failures (device_in self.old)) }
+        ensures bytes { (folder : Folder) → F.keeps (device_in self.new) folder → OnOk result
+            (out.new ≡ take (length out.new) (drop start (table_in (opened_in self.old) folder id.0))) }
+
+        // A path that is open keeps its entry.
+        ensures opened { opened_in self.new ≡ opened_in self.old }
+    {
         match id.0 {
             0 | 1 => {
                 fill(id, start, out);

@@ -1,8 +1,8 @@
 // Rows of worked examples over files in memory.
 mod reading;
 
-ghost use Rattle.std.specs.Prelude.{◌≡◌, ◌≤◌, ℕ, None};
-ghost use Rattle.cord_io.specs.Device.{file_count};
+ghost use Rattle.std.specs.Prelude.{◌≡◌, ◌≤◌, ℕ, length, None};
+ghost use Rattle.cord_io.specs.MemoryFolder.{folder_in};
 
 use super::*;
 use cord_core::{Cord, Node};
@@ -14,7 +14,7 @@ use std::process::Abort;
 // Files in memory with one file.
 fn one_file(rt: &impl Abort, alloc: Global, path: &str, bytes: &[u8]) -> MemFiles
     ensures unopened { (n : ℕ) → ⟦<MemFiles as Files>⟧.opened result n ≡ None }
-    ensures few { file_count (⟦<MemFiles as Files>⟧.contents result) ≤ 1 }
+    ensures few { length (folder_in result) ≤ 1 }
 {
     let mut files = MemFiles::new(alloc);
     assert_eq!(rt; files.add(alloc, path, bytes), Ok(()));

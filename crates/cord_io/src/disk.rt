@@ -1,9 +1,11 @@
 // The machine's files.
-ghost use Rattle.std.specs.Prelude.{◌≡◌, ◌<◌, ◌≤◌, ◌↔◌, ℕ, length, IfOk};
+ghost use Rattle.std.specs.Prelude.{◌≡◌, ◌<◌, ◌≤◌, ◌↔◌, ℕ, [], None, length, take, drop, is_err, IfOk, OnErr, IsErrOf, IsSomeAnd};
 ghost use Rattle.std.specs.String.{string_bytes};
 ghost use Rattle.std.specs.IoError.{error_kind};
+ghost use Rattle.cord_io.specs.Device.{Folder, file_at, bytes_at, count_after, open_failed, HandsOut};
 
 use crate::faults::raise;
+use crate::trace::{Answer, Trace};
 use crate::{FileNo, Files, OpenFault, ReadFault};
 use std::alloc::{AllocError, Global};
 use std::fs::OpenFile;
@@ -19,14 +21,16 @@ struct OpenedFile<F> {
     place: Option<u64>,
 }
 
-/// The machine's files. Nothing is known of what they hold, and every fault of the machine but a missing path is a failure: a
-/// read of 0 bytes inside the length told, a call that was interrupted, a directory, and want of memory in `open` too, where
-/// it was refused twice.
+/// The machine's files. They keep each folder with which all that they told agrees: a trace, which only proofs read and which
+/// costs nothing, holds each answer once and nothing else. Every fault of the machine but a missing path is a failure, which
+/// tells nothing: a read of 0 bytes inside the length told, a call that was interrupted, a directory, and want of memory in
+/// `open` too, where it was refused twice.
 #[derive(Drop)]
 pub struct DiskFiles<R: rt::Files> {
     runtime: R,
     alloc: Global,
     opened: Vec<OpenedFile<R::File>>,
+    trace: Trace,
     failures: u64,
 }
 
@@ -70,15 +74,19 @@ fn read_some<F: Read + Seek>(
 }
 
 impl<R: rt::Files> DiskFiles<R> {
+    ghost use Rattle.cord_io.specs.DiskTold.{told_by};
+
     /// The machine's files, as the runtime opens them, with none opened yet.
     pub fn new(runtime: R, alloc: Global) -> Self
         ensures opened { (n : ℕ) → ⟦<DiskFiles<R> as Files>⟧.opened result n ≡ None }
+        ensures told { told_by result ≡ [] }
         ensures count { ⟦<DiskFiles<R> as Files>⟧.failures result ≡ 0 }
     {
         DiskFiles {
             runtime,
             alloc,
             opened: Vec::new(alloc),
+            trace: Trace::new(),
             failures: 0,
         }
     }
@@ -87,6 +95,7 @@ impl<R: rt::Files> DiskFiles<R> {
     fn room_for(&mut self, path: &str) -> Result<String, AllocError>
         ensures path { IfOk result (λ p. string_bytes p ≡ path.now) }
         ensures opened { self.new.opened.items ≡ self.old.opened.items }
+        ensures told { self.new.trace.told ≡ self.old.trace.told }
         ensures count { self.new.failures ≡ self.old.failures }
     {
         self.opened.reserve(1)?;
@@ -97,6 +106,7 @@ impl<R: rt::Files> DiskFiles<R> {
     fn opened_file(&mut self, path: &str) -> Result<OpenedFile<R::File>, OpenFault>
         ensures path { IfOk result (λ f. string_bytes f.path ≡ path.now) }
         ensures opened { self.new.opened.items ≡ self.old.opened.items }
+        ensures told { self.new.trace.told ≡ self.old.trace.told }
         ensures count { self.new.failures ≡ self.old.failures }
     {
         let room = match self.room_for(path) {
@@ -116,11 +126,12 @@ impl<R: rt::Files> DiskFiles<R> {
 }
 
 impl<R: rt::Files> Files for DiskFiles<R> {
-    ghost use Rattle.std.specs.Prelude.{None};
     ghost use Rattle.cord_io.specs.Disk.{opened_of};
+    ghost use Rattle.cord_io.specs.DiskTold.{told_by, after_opening, after_reading};
+    ghost use Rattle.cord_io.specs.Told.{Agrees};
 
-    // Nothing is known of what the machine's files hold.
-    ghost contents = { λ _. None };
+    // The folder holds what each answer told.
+    ghost keeps = { λ s folder. Agrees folder s.trace.told };
 
     ghost opened = { λ s. opened_of s.opened.items };
 
@@ -130,14 +141,33 @@ impl<R: rt::Files> Files for DiskFiles<R> {
         self.failures
     }
 
-    fn open(&mut self, path: &str) -> Result<(FileNo, u64), OpenFault> {
+    fn open(&mut self, path: &str) -> Result<(FileNo, u64), OpenFault>
+        ensures earlier { (folder : Folder) → Agrees folder (told_by self.new) → Agrees folder (told_by self.old) }
+        ensures count { ⟦<DiskFiles<R> as Files>⟧.failures self.new
+            ≡ count_after (open_failed result) (⟦<DiskFiles<R> as Files>⟧.failures self.old) }
+        ensures opened { IfOk result (λ r. HandsOut (⟦<DiskFiles<R> as Files>⟧.opened self.old)
+            (⟦<DiskFiles<R> as Files>⟧.opened self.new) r.0.0 path.now r.1) }
+        ensures none_opened { OnErr result ((n : ℕ) →
+            ⟦<DiskFiles<R> as Files>⟧.opened self.new n ≡ ⟦<DiskFiles<R> as Files>⟧.opened self.old n) }
+        ensures found { (folder : Folder) → Agrees folder (told_by self.new) → IfOk result (λ r.
+            IsSomeAnd (file_at folder path.now) (λ bytes. r.1 ≡ length bytes)) }
+        ensures not_found { (folder : Folder) → Agrees folder (told_by self.new) →
+            IsErrOf result OpenFault.NotFound → file_at folder path.now ≡ None }
+
+        // Each answer is told once, and nothing else is.
+        ensures told { told_by self.new ≡ after_opening path.now result (told_by self.old) }
+    {
         match self.opened_file(path) {
-            Err(OpenFault::NotFound) => return Err(OpenFault::NotFound),
+            Err(OpenFault::NotFound) => {
+                self.trace = self.trace.then(&Answer::Missing(path));
+                return Err(OpenFault::NotFound);
+            }
             Err(OpenFault::Failed) => {}
             Ok(file) => {
                 let len = file.len;
                 if let Ok(no) = u32::try_from(self.opened.len()) {
                     if self.opened.push(file).is_ok() {
+                        self.trace = self.trace.then(&Answer::Len(path, len));
                         return Ok((FileNo(no), len));
                     }
                 }
@@ -147,10 +177,31 @@ impl<R: rt::Files> Files for DiskFiles<R> {
         Err(OpenFault::Failed)
     }
 
-    fn read_at(&mut self, no: FileNo, start: u64, out: &mut [u8]) -> Result<usize, ReadFault> {
+    fn read_at(&mut self, no: FileNo, start: u64, out: &mut [u8]) -> Result<usize, ReadFault>
+        requires inside { IsSomeAnd (⟦<DiskFiles<R> as Files>⟧.opened self.old no.0) (λ told. start < told.1) }
+        requires room { 0 < length out.old }
+        ensures earlier { (folder : Folder) → Agrees folder (told_by self.new) → Agrees folder (told_by self.old) }
+        ensures count { ⟦<DiskFiles<R> as Files>⟧.failures self.new
+            ≡ count_after (is_err result) (⟦<DiskFiles<R> as Files>⟧.failures self.old) }
+        ensures opened { (n : ℕ) →
+            ⟦<DiskFiles<R> as Files>⟧.opened self.new n ≡ ⟦<DiskFiles<R> as Files>⟧.opened self.old n }
+        ensures some { IfOk result (λ k. (0 < k) × (k ≤ length out.new)) }
+        ensures bytes { (folder : Folder) → Agrees folder (told_by self.new) → IfOk result (λ k.
+            IsSomeAnd (⟦<DiskFiles<R> as Files>⟧.opened self.old no.0) (λ told.
+            take k out.new ≡ take k (drop start (bytes_at folder told.0)))) }
+
+        // Each answer is told once, and nothing else is.
+        ensures told { told_by self.new
+            ≡ after_reading (⟦<DiskFiles<R> as Files>⟧.opened self.old no.0) start out.new result (told_by self.old) }
+    {
         let opened = &mut self.opened[no.0 as usize];
         match read_some(&mut opened.file, &mut opened.place, start, out) {
-            Ok(count) => Ok(count),
+            Ok(count) => {
+                self.trace = self
+                    .trace
+                    .then(&Answer::Bytes(opened.path.as_str(), start, &out[..count]));
+                Ok(count)
+            }
             Err(_) => {
                 raise(&mut self.failures);
                 Err(ReadFault)

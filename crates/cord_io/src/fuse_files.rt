@@ -1,6 +1,6 @@
 // Files that pass so many calls to the files inside, and then fail each.
-ghost use Rattle.std.specs.Prelude.{◌≡◌, ◌+◌, ◌-◌, ◌<◌, ◌≤◌, ℕ, length, take, drop, is_err, IfOk, OnErr, IfSome, IsErr, IsErrOf, IsSomeAnd};
-ghost use Rattle.cord_io.specs.Device.{file_at, bytes_at, count_after, open_failed, HandsOut};
+ghost use Rattle.std.specs.Prelude.{◌≡◌, ◌-◌, ◌<◌, ◌≤◌, ℕ, length, take, drop, is_err, IfOk, OnErr, IsErr, IsErrOf, IsSomeAnd};
+ghost use Rattle.cord_io.specs.Device.{Folder, file_at, bytes_at, count_after, open_failed, HandsOut};
 
 use crate::faults::raise;
 use crate::{FileNo, Files, OpenFault, ReadFault};
@@ -20,7 +20,8 @@ impl<F: Files> FuseFiles<F> {
     /// Files that pass `k` calls to `inner`.
     pub fn new(inner: F, k: u64) -> Self
         ensures inner { files_inside result ≡ inner }
-        ensures contents { ⟦<FuseFiles<F> as Files>⟧.contents result ≡ F.contents inner }
+        ensures keeps { (folder : Folder) → (⟦<FuseFiles<F> as Files>⟧.keeps result folder → F.keeps inner folder)
+            × (F.keeps inner folder → ⟦<FuseFiles<F> as Files>⟧.keeps result folder) }
         ensures opened { ⟦<FuseFiles<F> as Files>⟧.opened result ≡ F.opened inner }
         ensures passes { passes_left result ≡ k }
         ensures count { ⟦<FuseFiles<F> as Files>⟧.failures result ≡ 0 }
@@ -32,9 +33,12 @@ impl<F: Files> FuseFiles<F> {
         }
     }
 
-    /// The files inside.
+    /// The files inside: it keeps what they keep.
     pub fn inner(&self) -> &F
-        ensures { result.now ≡ files_inside self.now }
+        ensures value { result.now ≡ files_inside self.now }
+        ensures keeps { (folder : Folder) → (⟦<FuseFiles<F> as Files>⟧.keeps self.now folder → F.keeps result.now folder)
+            × (F.keeps result.now folder → ⟦<FuseFiles<F> as Files>⟧.keeps self.now folder) }
+        ensures opened { ⟦<FuseFiles<F> as Files>⟧.opened self.now ≡ F.opened result.now }
     {
         &self.inner
     }
@@ -43,7 +47,7 @@ impl<F: Files> FuseFiles<F> {
 impl<F: Files> Files for FuseFiles<F> {
     ghost use Rattle.cord_io.specs.FusedFiles.{files_inside, passes_left};
 
-    ghost contents = { λ s. F.contents s.inner };
+    ghost keeps = { λ s. F.keeps s.inner };
 
     ghost opened = { λ s. F.opened s.inner };
 
@@ -54,17 +58,17 @@ impl<F: Files> Files for FuseFiles<F> {
     }
 
     fn open(&mut self, path: &str) -> Result<(FileNo, u64), OpenFault>
-        ensures contents { F.contents (files_inside self.new) ≡ F.contents (files_inside self.old) }
+        ensures earlier { (folder : Folder) → F.keeps (files_inside self.new) folder → F.keeps (files_inside self.old) folder }
         ensures count { ⟦<FuseFiles<F> as Files>⟧.failures self.new
             ≡ count_after (open_failed result) (⟦<FuseFiles<F> as Files>⟧.failures self.old) }
         ensures opened { IfOk result (λ r. HandsOut (F.opened (files_inside self.old))
             (F.opened (files_inside self.new)) r.0.0 path.now r.1) }
         ensures none_opened { OnErr result ((n : ℕ) →
             F.opened (files_inside self.new) n ≡ F.opened (files_inside self.old) n) }
-        ensures found { IfOk result (λ r. IfSome (F.contents (files_inside self.old)) (λ files.
-            IsSomeAnd (file_at files path.now) (λ bytes. r.1 ≡ length bytes))) }
-        ensures not_found { IsErrOf result OpenFault.NotFound →
-            IfSome (F.contents (files_inside self.old)) (λ files. file_at files path.now ≡ None) }
+        ensures found { (folder : Folder) → F.keeps (files_inside self.new) folder → IfOk result (λ r.
+            IsSomeAnd (file_at folder path.now) (λ bytes. r.1 ≡ length bytes)) }
+        ensures not_found { (folder : Folder) → F.keeps (files_inside self.new) folder →
+            IsErrOf result OpenFault.NotFound → file_at folder path.now ≡ None }
 
         // A call that passes is a call of the files inside, one that doesn't is none.
         ensures left { passes_left self.new ≡ passes_left self.old - 1 }
@@ -91,14 +95,14 @@ impl<F: Files> Files for FuseFiles<F> {
     fn read_at(&mut self, no: FileNo, start: u64, out: &mut [u8]) -> Result<usize, ReadFault>
         requires inside { IsSomeAnd (F.opened (files_inside self.old) no.0) (λ told. start < told.1) }
         requires room { 0 < length out.old }
-        ensures contents { F.contents (files_inside self.new) ≡ F.contents (files_inside self.old) }
+        ensures earlier { (folder : Folder) → F.keeps (files_inside self.new) folder → F.keeps (files_inside self.old) folder }
         ensures count { ⟦<FuseFiles<F> as Files>⟧.failures self.new
             ≡ count_after (is_err result) (⟦<FuseFiles<F> as Files>⟧.failures self.old) }
         ensures opened { (n : ℕ) → F.opened (files_inside self.new) n ≡ F.opened (files_inside self.old) n }
         ensures some { IfOk result (λ k. (0 < k) × (k ≤ length out.new)) }
-        ensures bytes { IfOk result (λ k. IfSome (F.contents (files_inside self.old)) (λ files.
+        ensures bytes { (folder : Folder) → F.keeps (files_inside self.new) folder → IfOk result (λ k.
             IsSomeAnd (F.opened (files_inside self.old) no.0) (λ told.
-            take k out.new ≡ take k (drop start (bytes_at files told.0))))) }
+            take k out.new ≡ take k (drop start (bytes_at folder told.0)))) }
 
         // A call that passes is a call of the files inside, one that doesn't is none.
         ensures left { passes_left self.new ≡ passes_left self.old - 1 }

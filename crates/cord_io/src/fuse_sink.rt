@@ -1,7 +1,6 @@
 // A sink that passes so many calls to the sink inside, and then fails each.
-ghost use Rattle.std.specs.Prelude.{◌≡◌, ◌-◌, ◌<◌, ◌≤◌, length, is_err, IfOk, IsErr};
-ghost use Rattle.std.specs.Io.KnownBytes.{WriteAppends, Keeps};
-ghost use Rattle.cord_io.specs.Device.{count_after};
+ghost use Rattle.std.specs.Prelude.{◌≡◌, ◌-◌, ◌<◌, ◌≤◌, ◌++◌, length, take, is_err, is_ok, IfOk, IsErr, OnErr};
+ghost use Rattle.cord_io.specs.Device.{count_after, finished_after};
 
 use crate::faults::raise;
 use crate::{Sink, WriteFault};
@@ -27,6 +26,7 @@ impl<S: Sink> FuseSink<S> {
         ensures passes { passes_left result ≡ k }
         ensures most { most_offered result ≡ most }
         ensures taken { ⟦<FuseSink<S> as Sink>⟧.taken result ≡ S.taken inner }
+        ensures finished { ⟦<FuseSink<S> as Sink>⟧.finished result ≡ S.finished inner }
         ensures count { ⟦<FuseSink<S> as Sink>⟧.failures result ≡ 0 }
     {
         FuseSink {
@@ -37,9 +37,11 @@ impl<S: Sink> FuseSink<S> {
         }
     }
 
-    /// The sink inside.
+    /// The sink inside: it took and finished what that one did.
     pub fn inner(&self) -> &S
-        ensures { result.now ≡ sink_inside self.now }
+        ensures value { result.now ≡ sink_inside self.now }
+        ensures taken { ⟦<FuseSink<S> as Sink>⟧.taken self.now ≡ S.taken result.now }
+        ensures finished { ⟦<FuseSink<S> as Sink>⟧.finished self.now ≡ S.finished result.now }
     {
         &self.inner
     }
@@ -50,6 +52,8 @@ impl<S: Sink> Sink for FuseSink<S> {
 
     ghost taken = { λ s. S.taken s.inner };
 
+    ghost finished = { λ s. S.finished s.inner };
+
     ghost failures = { λ s. s.failures };
 
     fn failures(&self) -> u64 {
@@ -59,8 +63,10 @@ impl<S: Sink> Sink for FuseSink<S> {
     fn put(&mut self, bytes: &[u8]) -> Result<usize, WriteFault>
         requires { 0 < length bytes.now }
         ensures some { IfOk result (λ k. (0 < k) × (k ≤ length bytes.now)) }
-        ensures taken { WriteAppends (S.taken (sink_inside self.old)) (S.taken (sink_inside self.new))
-            result bytes.now }
+        ensures taken { IfOk result (λ k. S.taken (sink_inside self.new)
+            ≡ S.taken (sink_inside self.old) ++ take k bytes.now) }
+        ensures refused { OnErr result (S.taken (sink_inside self.new) ≡ S.taken (sink_inside self.old)) }
+        ensures finished { S.finished (sink_inside self.new) ≡ S.finished (sink_inside self.old) }
         ensures count { ⟦<FuseSink<S> as Sink>⟧.failures self.new
             ≡ count_after (is_err result) (⟦<FuseSink<S> as Sink>⟧.failures self.old) }
 
@@ -89,7 +95,9 @@ impl<S: Sink> Sink for FuseSink<S> {
     }
 
     fn finish(&mut self) -> Result<(), WriteFault>
-        ensures taken { Keeps (S.taken (sink_inside self.old)) (S.taken (sink_inside self.new)) }
+        ensures taken { S.taken (sink_inside self.new) ≡ S.taken (sink_inside self.old) }
+        ensures finished { S.finished (sink_inside self.new)
+            ≡ finished_after (is_ok result) (S.finished (sink_inside self.old)) }
         ensures count { ⟦<FuseSink<S> as Sink>⟧.failures self.new
             ≡ count_after (is_err result) (⟦<FuseSink<S> as Sink>⟧.failures self.old) }
 

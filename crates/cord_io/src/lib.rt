@@ -6,13 +6,16 @@ mod disk;
 mod faults;
 mod fuse_files;
 mod fuse_sink;
+mod limits;
 mod memory;
 mod memory_sink;
 mod reading;
 mod sources;
 mod standard;
+mod tally;
 #[cfg(test)]
 mod testing;
+mod trace;
 mod writing;
 
 pub use cut::CutFiles;
@@ -20,7 +23,8 @@ pub use disk::DiskFiles;
 pub use faults::{CordError, OpenFault, ReadFault, WriteFault};
 pub use fuse_files::FuseFiles;
 pub use fuse_sink::FuseSink;
-pub use memory::MemFiles;
+pub use limits::limits_are;
+pub use memory::{MemFiles, keeps_what_was_added};
 pub use memory_sink::MemSink;
 pub use reading::{FileNo, Files};
 pub use sources::{Source, SourceId};

@@ -1,11 +1,13 @@
 // Files in memory.
-ghost use Rattle.std.specs.Prelude.{◌≡◌, ◌<◌, ◌≤◌, ℕ, List, [], None, Some, length, take, drop, IfSome, IfNone, IfErr, OnOk, OnErr, IsTrue, ◌+◌, ◌-◌, min, is_err, IsOk, IfOk, IsSomeAnd};
+ghost use Rattle.std.specs.Prelude.{◌≡◌, ◌<◌, ◌≤◌, ℕ, None, length, take, drop, IfSome, IfNone, IsTrue, ◌-◌, min, is_err, IsOk, IfOk, IsSomeAnd};
 ghost use Rattle.std.specs.Vec.{vec_len};
-ghost use Rattle.cord_io.specs.Device.{file_at, bytes_at, file_count, count_after, AddsFile, HasFile};
+ghost use Rattle.cord_io.specs.Device.{Folder, file_at, bytes_at, count_after};
 ghost use Rattle.cord_io.specs.Memory.{IsAt, Marks, Rewrites, folder_of, paths_differ};
 
-use crate::{CordError, FileNo, Files, OpenFault, ReadFault};
-use std::alloc::Global;
+mod adding;
+
+use crate::{FileNo, Files, OpenFault, ReadFault};
+pub use adding::keeps_what_was_added;
 
 #[derive(Drop)]
 struct Entry {
@@ -14,7 +16,7 @@ struct Entry {
     is_open: bool,
 }
 
-/// Files in memory: an honest device, which is the map that was added. No call of it but `add` takes memory, and none fails.
+/// Files in memory: they keep the map that was added, and no other. No call but `add` takes memory, and none fails.
 #[derive(Drop)]
 pub struct MemFiles {
     entries: Vec<Entry>,
@@ -67,58 +69,11 @@ fn copy_from(bytes: &[u8], start: usize, out: &mut [u8]) -> usize
     count
 }
 
-impl MemFiles {
-    /// Files with no path yet.
-    pub fn new(alloc: Global) -> Self
-        ensures contents { ⟦<MemFiles as Files>⟧.contents result ≡ Some [] }
-        ensures opened { (n : ℕ) → ⟦<MemFiles as Files>⟧.opened result n ≡ None }
-        ensures count { ⟦<MemFiles as Files>⟧.failures result ≡ 0 }
-    {
-        MemFiles {
-            entries: Vec::new(alloc),
-        }
-    }
-
-    /// Adds a file, before any is opened and while fewer than 65,536 paths are there. A path that is there gets the new bytes.
-    /// Refused with `NoMemory` alone, and then no file is changed.
-    pub fn add(&mut self, alloc: Global, path: &str, bytes: &[u8]) -> Result<(), CordError>
-        requires unopened { (n : ℕ) → ⟦<MemFiles as Files>⟧.opened self.old n ≡ None }
-        requires few { file_count (⟦<MemFiles as Files>⟧.contents self.old) < 65536 }
-        ensures added { OnOk result (AddsFile (⟦<MemFiles as Files>⟧.contents self.old)
-            (⟦<MemFiles as Files>⟧.contents self.new) path.now bytes.now) }
-        ensures refused { OnErr result (⟦<MemFiles as Files>⟧.contents self.new
-            ≡ ⟦<MemFiles as Files>⟧.contents self.old) }
-        ensures cause { IfErr result (λ e. e ≡ CordError.NoMemory) }
-        ensures unopened { (n : ℕ) → ⟦<MemFiles as Files>⟧.opened self.new n ≡ None }
-        ensures few { file_count (⟦<MemFiles as Files>⟧.contents self.new)
-            ≤ file_count (⟦<MemFiles as Files>⟧.contents self.old) + 1 }
-
-        // A path that is there takes no second place.
-        ensures again { OnOk result (HasFile (⟦<MemFiles as Files>⟧.contents self.old) path.now
-            → file_count (⟦<MemFiles as Files>⟧.contents self.new) ≡ file_count (⟦<MemFiles as Files>⟧.contents self.old)) }
-    {
-        let kept = Vec::from_slice(alloc, bytes)?;
-        match place_of(&self.entries, path) {
-            Some(place) => rewrite(&mut self.entries, place, kept),
-            None => {
-                let path = String::from_str(alloc, path)?;
-                let entry = Entry {
-                    path,
-                    bytes: kept,
-                    is_open: false,
-                };
-                self.entries.push(entry)?;
-            }
-        }
-        Ok(())
-    }
-}
-
 impl Files for MemFiles {
-    ghost use Rattle.std.specs.Prelude.{Some};
     ghost use Rattle.cord_io.specs.Memory.{folder_of, opened_of};
 
-    ghost contents = { λ s. Some (folder_of s.entries.items) };
+    // The map that was added.
+    ghost keeps = { λ s folder. folder ≡ folder_of s.entries.items };
 
     ghost opened = { λ s. opened_of s.entries.items };
 
@@ -141,15 +96,15 @@ impl Files for MemFiles {
     fn read_at(&mut self, no: FileNo, start: u64, out: &mut [u8]) -> Result<usize, ReadFault>
         requires inside { IsSomeAnd (⟦<MemFiles as Files>⟧.opened self.old no.0) (λ told. start < told.1) }
         requires room { 0 < length out.old }
-        ensures contents { ⟦<MemFiles as Files>⟧.contents self.new ≡ ⟦<MemFiles as Files>⟧.contents self.old }
+        ensures earlier { (folder : Folder) → ⟦<MemFiles as Files>⟧.keeps self.new folder → ⟦<MemFiles as Files>⟧.keeps self.old folder }
         ensures ok { IsOk result }
         ensures count { ⟦<MemFiles as Files>⟧.failures self.new
             ≡ count_after (is_err result) (⟦<MemFiles as Files>⟧.failures self.old) }
         ensures opened { (n : ℕ) → ⟦<MemFiles as Files>⟧.opened self.new n ≡ ⟦<MemFiles as Files>⟧.opened self.old n }
         ensures some { IfOk result (λ k. (0 < k) × (k ≤ length out.new)) }
-        ensures bytes { IfOk result (λ k. IfSome (⟦<MemFiles as Files>⟧.contents self.old) (λ files.
+        ensures bytes { (folder : Folder) → ⟦<MemFiles as Files>⟧.keeps self.new folder → IfOk result (λ k.
             IsSomeAnd (⟦<MemFiles as Files>⟧.opened self.old no.0) (λ told.
-            take k out.new ≡ take k (drop start (bytes_at files told.0))))) }
+            take k out.new ≡ take k (drop start (bytes_at folder told.0)))) }
 
         // It fills as much of `out` as lies inside the file.
         ensures fills { IfOk result (λ k. IsSomeAnd (⟦<MemFiles as Files>⟧.opened self.old no.0) (λ told.

@@ -1,9 +1,9 @@
 // A sink in memory.
-ghost use Rattle.std.specs.Prelude.{◌≡◌, ◌<◌, ◌≤◌, [], Some, length, is_err, IsOk, IfOk};
-ghost use Rattle.std.specs.Io.KnownBytes.{WriteAppends};
+ghost use Rattle.std.specs.Prelude.{◌≡◌, ◌<◌, ◌+◌, ◌++◌, [], length, take, is_err, IsOk, IfOk, OnErr};
 ghost use Rattle.cord_io.specs.Device.{count_after};
 
 use crate::faults::raise;
+use crate::tally::{Taking, Tally};
 use crate::{Sink, WriteFault};
 use std::alloc::Global;
 
@@ -11,33 +11,36 @@ use std::alloc::Global;
 #[derive(Drop)]
 pub struct MemSink {
     bytes: Vec<u8>,
+    tally: Tally,
     failures: u64,
 }
 
 impl MemSink {
     /// A sink that has taken nothing.
     pub fn new(alloc: Global) -> Self
-        ensures taken { ⟦<MemSink as Sink>⟧.taken result ≡ Some [] }
+        ensures taken { ⟦<MemSink as Sink>⟧.taken result ≡ [] }
+        ensures finished { ⟦<MemSink as Sink>⟧.finished result ≡ 0 }
         ensures count { ⟦<MemSink as Sink>⟧.failures result ≡ 0 }
     {
         MemSink {
             bytes: Vec::new(alloc),
+            tally: Tally::new(),
             failures: 0,
         }
     }
 
     /// The bytes taken.
     pub fn bytes(&self) -> &[u8]
-        ensures { ⟦<MemSink as Sink>⟧.taken self.now ≡ Some result.now }
+        ensures { ⟦<MemSink as Sink>⟧.taken self.now ≡ result.now }
     {
         &self.bytes
     }
 }
 
 impl Sink for MemSink {
-    ghost use Rattle.std.specs.Prelude.{Some};
+    ghost taken = { λ s. s.bytes.items };
 
-    ghost taken = { λ s. Some s.bytes.items };
+    ghost finished = { λ s. s.tally.ends };
 
     ghost failures = { λ s. s.failures };
 
@@ -48,8 +51,9 @@ impl Sink for MemSink {
     fn put(&mut self, bytes: &[u8]) -> Result<usize, WriteFault>
         requires { 0 < length bytes.now }
         ensures whole { IfOk result (λ k. k ≡ length bytes.now) }
-        ensures taken { WriteAppends (⟦<MemSink as Sink>⟧.taken self.old) (⟦<MemSink as Sink>⟧.taken self.new)
-            result bytes.now }
+        ensures taken { IfOk result (λ k. ⟦<MemSink as Sink>⟧.taken self.new ≡ ⟦<MemSink as Sink>⟧.taken self.old ++ take k bytes.now) }
+        ensures refused { OnErr result (⟦<MemSink as Sink>⟧.taken self.new ≡ ⟦<MemSink as Sink>⟧.taken self.old) }
+        ensures finished { ⟦<MemSink as Sink>⟧.finished self.new ≡ ⟦<MemSink as Sink>⟧.finished self.old }
         ensures count { ⟦<MemSink as Sink>⟧.failures self.new
             ≡ count_after (is_err result) (⟦<MemSink as Sink>⟧.failures self.old) }
     {
@@ -63,8 +67,10 @@ impl Sink for MemSink {
     fn finish(&mut self) -> Result<(), WriteFault>
         ensures ok { IsOk result }
         ensures taken { ⟦<MemSink as Sink>⟧.taken self.new ≡ ⟦<MemSink as Sink>⟧.taken self.old }
+        ensures finished { ⟦<MemSink as Sink>⟧.finished self.new ≡ ⟦<MemSink as Sink>⟧.finished self.old + 1 }
         ensures count { ⟦<MemSink as Sink>⟧.failures self.new ≡ ⟦<MemSink as Sink>⟧.failures self.old }
     {
+        self.tally = self.tally.then(&Taking::Ended);
         Ok(())
     }
 }

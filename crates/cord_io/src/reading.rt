@@ -1,5 +1,5 @@
 // Files that are read by number and place.
-ghost use Rattle.std.specs.Prelude.{◌≡◌, ◌+◌, ◌<◌, ◌≤◌, ℕ, List, length, take, drop, is_err, IfOk, OnErr, IfSome, IsErrOf, IsSomeAnd};
+ghost use Rattle.std.specs.Prelude.{◌≡◌, ◌<◌, ◌≤◌, ℕ, List, length, take, drop, is_err, IfOk, OnErr, IsErrOf, IsSomeAnd};
 ghost use Rattle.std.specs.declared.option.Option.{Option};
 ghost use Rattle.cord_io.specs.Device.{Folder, file_at, bytes_at, count_after, open_failed, HandsOut};
 
@@ -9,10 +9,10 @@ use crate::{OpenFault, ReadFault};
 #[derive(Clone, Copy, Debug, PartialEq, Eq)]
 pub struct FileNo(pub u32);
 
-/// Files by path: a finite map from path to bytes, which no call changes.
+/// Files by path. What a call answers is judged by the maps from path to bytes that fit all answers so far.
 pub trait Files {
-    /// The files that the device keeps, or `None`, which claims nothing: an honest device has `Some`.
-    ghost contents: { Self → Option Folder };
+    /// All that the device has answered so far is what the folder holds.
+    ghost keeps: { Self → Folder → Type 0 };
 
     /// The path and the length told of each number that was handed out.
     ghost opened: { Self → ℕ → Option (List ℕ × ℕ) };
@@ -25,27 +25,27 @@ pub trait Files {
         ensures { result ≡ failures self.now };
 
     /// Opens the file at a path, and answers its number and its length in bytes. A fault is `NotFound`, where there is no such
-    /// file, or `Failed`, and only the second raises the count.
+    /// file, or `Failed`, which tells nothing and raises the count.
     fn open(&mut self, path: &str) -> Result<(FileNo, u64), OpenFault>
-        ensures contents { contents self.new ≡ contents self.old }
+        ensures earlier { (folder : Folder) → keeps self.new folder → keeps self.old folder }
         ensures count { failures self.new ≡ count_after (open_failed result) (failures self.old) }
         ensures opened { IfOk result (λ r. HandsOut (opened self.old) (opened self.new) r.0.0 path.now r.1) }
         ensures none_opened { OnErr result ((n : ℕ) → opened self.new n ≡ opened self.old n) }
-        ensures found { IfOk result (λ r. IfSome (contents self.old) (λ files.
-            IsSomeAnd (file_at files path.now) (λ bytes. r.1 ≡ length bytes))) }
-        ensures not_found { IsErrOf result OpenFault.NotFound → IfSome (contents self.old) (λ files.
-            file_at files path.now ≡ None) };
+        ensures found { (folder : Folder) → keeps self.new folder → IfOk result (λ r.
+            IsSomeAnd (file_at folder path.now) (λ bytes. r.1 ≡ length bytes)) }
+        ensures not_found { (folder : Folder) → keeps self.new folder → IsErrOf result OpenFault.NotFound →
+            file_at folder path.now ≡ None };
 
     /// Reads at least one byte of an opened file into the front of `out`, from place `start` on, and answers how many. What else
-    /// `out` holds is open, also after a fault, which raises the count.
+    /// `out` holds is open, also after a fault, which tells nothing and raises the count.
     fn read_at(&mut self, no: FileNo, start: u64, out: &mut [u8]) -> Result<usize, ReadFault>
         requires inside { IsSomeAnd (opened self.old no.0) (λ told. start < told.1) }
         requires room { 0 < length out.old }
-        ensures contents { contents self.new ≡ contents self.old }
+        ensures earlier { (folder : Folder) → keeps self.new folder → keeps self.old folder }
         ensures count { failures self.new ≡ count_after (is_err result) (failures self.old) }
         ensures opened { (n : ℕ) → opened self.new n ≡ opened self.old n }
         ensures some { IfOk result (λ k. (0 < k) × (k ≤ length out.new)) }
-        ensures bytes { IfOk result (λ k. IfSome (contents self.old) (λ files.
+        ensures bytes { (folder : Folder) → keeps self.new folder → IfOk result (λ k.
             IsSomeAnd (opened self.old no.0) (λ told.
-            take k out.new ≡ take k (drop start (bytes_at files told.0))))) };
+            take k out.new ≡ take k (drop start (bytes_at folder told.0)))) };
 }

@@ -1,6 +1,6 @@
 -- Walks from a place down, by positions.
 use Rattle.std.proofs.Common.{◌≡◌, ℕ, ◌+◌, ◌-◌, ◌<◌, ◌≤◌, Bool, true, false, List, [], ◌∷◌, ◌++◌, length, take, drop, get_or, None, Some, refl, sym, ◌∙◌, ap, subst, arith, zero, suc}
-use Rattle.std.specs.Prelude.{Option, IfSome, reverse, slice_get, unwrap_or}
+use Rattle.std.specs.Prelude.{Option, reverse, slice_get, unwrap_or}
 use Rattle.std.proofs.lemmas.List.{take_more, get_or-reverse, get_or-take, length-reverse, length-take-le, take-append-drop, take_all}
 use Rattle.std.proofs.lemmas.Option.{unwrap_or-slice_get}
 use Rattle.cord_io.specs.Table.{Table, Lengths, HasLengths}
@@ -13,10 +13,9 @@ use Rattle.cord_iter.proofs.Lengths.{length-bytes_over}
 use Rattle.cord_iter.proofs.Walks.{walk_on, walk_one, walk_stop_in}
 
 -- a cord that fits has as long a text as it stores
-pub cord_len : (ls : Lengths) (o : Option Table) (c : Option Node) → IfSome o (HasLengths ls) → IsCord c → CordFitsIn ls c → IfSome o (λ t. length (bytes_of t c) ≡ text_len c)
-cord_len ls None c told s f = tt
-cord_len ls (Some t) None told s f = refl
-cord_len ls (Some t) (Some n) told s f = length-bytes_over t n s (Fits-told ls t n told f)
+pub cord_len : (ls : Lengths) (t : Table) (c : Option Node) → HasLengths ls t → IsCord c → CordFitsIn ls c → length (bytes_of t c) ≡ text_len c
+cord_len ls t None told s f = refl
+cord_len ls t (Some n) told s f = length-bytes_over t n s (Fits-told ls t n told f)
 
 -- the bytes from the place `i` down
 abbrev pub downward : List ℕ → ℕ → List ℕ
@@ -50,25 +49,22 @@ next_at t c i (Some (suc j)) b inside below e =
     rw (m, n) (next_down (bytes_of t c) i (suc j) b inside h e)
 
 -- one byte further down
-pub back_on : {S : Type 0} (step : S → ℕ → S × Bool) (s a d : S) (o : Option Table) (c : Option Node) (i : ℕ) (index : Option ℕ) (b : ℕ) → IfSome o (λ t. length (bytes_of t c) ≡ text_len c) → i < text_len c → left_of index ≤ i + 1 → IfSome o (λ t. IsByteAt t c index b) → (d, false) ≡ step a b → IfSome o (λ t. walk step s (take (i + 1 - left_of index) (downward (bytes_of t c) i)) ≡ (a, false)) → IfSome o (λ t. walk step s (take (i + 1 - left_of (prev_index index)) (downward (bytes_of t c) i)) ≡ (d, false))
-back_on step s a d None c i index b len inside below byte e h = tt
-back_on step s a d (Some t) c i index b len inside below byte e h =
+pub back_on : {S : Type 0} (step : S → ℕ → S × Bool) (s a d : S) (t : Table) (c : Option Node) (i : ℕ) (index : Option ℕ) (b : ℕ) → length (bytes_of t c) ≡ text_len c → i < text_len c → left_of index ≤ i + 1 → IsByteAt t c index b → (d, false) ≡ step a b → walk step s (take (i + 1 - left_of index) (downward (bytes_of t c) i)) ≡ (a, false) → walk step s (take (i + 1 - left_of (prev_index index)) (downward (bytes_of t c) i)) ≡ (d, false)
+back_on step s a d t c i index b len inside below byte e h =
     let k : i < length (bytes_of t c) = rw len inside in
     ap (λ (l : List ℕ). walk step s l) (next_at t c i index b k below byte) ∙ walk_on step s a (d, false) (take (i + 1 - left_of index) (downward (bytes_of t c) i)) (b ∷ []) h (walk_one step a d false b e)
 
 -- a stop at one
-pub back_stop : {S : Type 0} (step : S → ℕ → S × Bool) (s a d : S) (o : Option Table) (c : Option Node) (i : ℕ) (index : Option ℕ) (b : ℕ) → IfSome o (λ t. length (bytes_of t c) ≡ text_len c) → i < text_len c → left_of index ≤ i + 1 → IfSome o (λ t. IsByteAt t c index b) → (d, true) ≡ step a b → IfSome o (λ t. walk step s (take (i + 1 - left_of index) (downward (bytes_of t c) i)) ≡ (a, false)) → IfSome o (λ t. walk step s (downward (bytes_of t c) i) ≡ (d, true))
-back_stop step s a d None c i index b len inside below byte e h = tt
-back_stop step s a d (Some t) c i index b len inside below byte e h =
+pub back_stop : {S : Type 0} (step : S → ℕ → S × Bool) (s a d : S) (t : Table) (c : Option Node) (i : ℕ) (index : Option ℕ) (b : ℕ) → length (bytes_of t c) ≡ text_len c → i < text_len c → left_of index ≤ i + 1 → IsByteAt t c index b → (d, true) ≡ step a b → walk step s (take (i + 1 - left_of index) (downward (bytes_of t c) i)) ≡ (a, false) → walk step s (downward (bytes_of t c) i) ≡ (d, true)
+back_stop step s a d t c i index b len inside below byte e h =
     let k : i < length (bytes_of t c) = rw len inside in
     let whole = downward (bytes_of t c) i in
     let n = i + 1 - left_of (prev_index index) in
     walk_stop_in step s d whole n (ap (λ (l : List ℕ). walk step s l) (next_at t c i index b k below byte) ∙ walk_on step s a (d, true) (take (i + 1 - left_of index) whole) (b ∷ []) h (walk_one step a d true b e))
 
 -- the next one could not be read
-pub back_front : {S : Type 0} (step : S → ℕ → S × Bool) (s a : S) (o : Option Table) (c : Option Node) (i n : ℕ) → IfSome o (λ t. walk step s (take n (downward (bytes_of t c) i)) ≡ (a, false)) → IfSome o (λ t. WalkedFront step s a (downward (bytes_of t c) i))
-back_front step s a None c i n h = tt
-back_front step s a (Some t) c i n h = record {
+pub back_front : {S : Type 0} (step : S → ℕ → S × Bool) (s a : S) (t : Table) (c : Option Node) (i n : ℕ) → walk step s (take n (downward (bytes_of t c) i)) ≡ (a, false) → WalkedFront step s a (downward (bytes_of t c) i)
+back_front step s a t c i n h = record {
   front = take n (downward (bytes_of t c) i);
   rest = drop n (downward (bytes_of t c) i);
   split = sym (take-append-drop n (downward (bytes_of t c) i));
@@ -86,18 +82,15 @@ none_left [] h = refl
 none_left (x ∷ xs) h = absurd (omega arith)
 
 -- a walk over the empty cord
-pub empty_walk : {S : Type 0} (step : S → ℕ → S × Bool) (s : S) (o : Option Table) (c : Option Node) → IfSome o (λ t. length (bytes_of t c) ≡ text_len c) → text_len c ≡ 0 → IfSome o (λ t. walk step s (reverse (bytes_of t c)) ≡ (s, false))
-empty_walk step s None c len e = tt
-empty_walk step s (Some t) c len e = ap (λ (l : List ℕ). walk step s (reverse l)) (none_left (bytes_of t c) (len ∙ e))
+pub empty_walk : {S : Type 0} (step : S → ℕ → S × Bool) (s : S) (t : Table) (c : Option Node) → length (bytes_of t c) ≡ text_len c → text_len c ≡ 0 → walk step s (reverse (bytes_of t c)) ≡ (s, false)
+empty_walk step s t c len e = ap (λ (l : List ℕ). walk step s (reverse l)) (none_left (bytes_of t c) (len ∙ e))
 
 -- from the last place down
 whole_down : (xs : List ℕ) (n : ℕ) → length xs ≡ n → 0 < n → reverse (take (n - 1 + 1) xs) ≡ reverse xs
 whole_down xs n h k = ap (λ (l : List ℕ). reverse l) (take_all (n - 1 + 1) xs (omega arith))
 
-pub all_walk : {S : Type 0} (step : S → ℕ → S × Bool) (s : S) (p : S × Bool) (o : Option Table) (c : Option Node) (n : ℕ) → IfSome o (λ t. length (bytes_of t c) ≡ text_len c) → n ≡ text_len c → 0 < n → IfSome o (λ t. walk step s (reverse (take (n - 1 + 1) (bytes_of t c))) ≡ p) → IfSome o (λ t. walk step s (reverse (bytes_of t c)) ≡ p)
-all_walk step s p None c n len e k h = tt
-all_walk step s p (Some t) c n len e k h = rw (← whole_down (bytes_of t c) n (len ∙ sym e) k) h
+pub all_walk : {S : Type 0} (step : S → ℕ → S × Bool) (s : S) (p : S × Bool) (t : Table) (c : Option Node) (n : ℕ) → length (bytes_of t c) ≡ text_len c → n ≡ text_len c → 0 < n → walk step s (reverse (take (n - 1 + 1) (bytes_of t c))) ≡ p → walk step s (reverse (bytes_of t c)) ≡ p
+all_walk step s p t c n len e k h = rw (← whole_down (bytes_of t c) n (len ∙ sym e) k) h
 
-pub all_front : {S : Type 0} (step : S → ℕ → S × Bool) (s a : S) (o : Option Table) (c : Option Node) (n : ℕ) → IfSome o (λ t. length (bytes_of t c) ≡ text_len c) → n ≡ text_len c → 0 < n → IfSome o (λ t. WalkedFront step s a (reverse (take (n - 1 + 1) (bytes_of t c)))) → IfSome o (λ t. WalkedFront step s a (reverse (bytes_of t c)))
-all_front step s a None c n len e k h = tt
-all_front step s a (Some t) c n len e k h = subst (WalkedFront step s a) (whole_down (bytes_of t c) n (len ∙ sym e) k) h
+pub all_front : {S : Type 0} (step : S → ℕ → S × Bool) (s a : S) (t : Table) (c : Option Node) (n : ℕ) → length (bytes_of t c) ≡ text_len c → n ≡ text_len c → 0 < n → WalkedFront step s a (reverse (take (n - 1 + 1) (bytes_of t c))) → WalkedFront step s a (reverse (bytes_of t c))
+all_front step s a t c n len e k h = subst (WalkedFront step s a) (whole_down (bytes_of t c) n (len ∙ sym e) k) h

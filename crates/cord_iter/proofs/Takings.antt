@@ -1,24 +1,28 @@
 -- What a sink took in several calls, one after the other.
-use Rattle.std.proofs.Common.{◌≡◌, ℕ, ◌+◌, ◌-◌, ◌≤◌, List, ◌++◌, length, take, drop, None, Some, Ok, Err, refl, subst, sym, ◌∙◌, ap, arith, append_assoc, length-append}
-use Rattle.std.specs.Prelude.{Option, replicate}
-use Rattle.std.specs.Io.KnownBytes.{Appends}
+use Rattle.std.proofs.Common.{◌≡◌, ℕ, ◌+◌, ◌-◌, ◌≤◌, List, ◌++◌, length, take, drop, Ok, Err, refl, sym, ◌∙◌, ap, arith, append_assoc, length-append}
+use Rattle.std.specs.Prelude.{replicate}
 use Rattle.std.proofs.lemmas.List.{take-append-drop, drop-drop, take-replicate, replicate-append-replicate}
 use Rattle.std.specs.declared.rc.Rc.{Rc}
 use Rattle.std.specs.Global.{Global}
 use Rattle.std.specs.Result.{OnErr}
 use Rattle.std.specs.declared.result.Result.{Result}
 use Rattle.std.proofs.Math.Seq.{take-add}
-use Rattle.cord_io.proofs.Taken.{appends_both}
+use Rattle.cord_io.specs.Device.{Folder}
 use Rattle.cord_io.specs.Table.{Table}
 use Rattle.cord_io.specs.declared.SourceId.{SourceId}
+use Rattle.cord_node.specs.Kept.{Part}
 use Rattle.cord_node.specs.declared.Node.{Node}
 use Rattle.cord_node.specs.declared.Node.TheVariants.{Func, Cat'}
 use Rattle.cord_node.specs.Tree.{len_of, IsSound}
 use Rattle.cord_node.specs.Tables.{bytes_over}
 use Rattle.cord_iter.specs.Taking.{IsFrontOf, IsTextOver, IsPrefixOver, Takes}
 
+-- bytes behind bytes
+pub appends_both : (a b c x y : List ℕ) → b ≡ a ++ x → c ≡ b ++ y → c ≡ a ++ (x ++ y)
+appends_both a b c x y h k = k ∙ ap (λ (l : List ℕ). l ++ y) h ∙ append_assoc a x y
+
 -- two calls, one after the other
-pub takes_both : {P Q R : List ℕ → Type 0} {a b c : Option (List ℕ)} → Takes P a b → Takes Q b c → ((x y : List ℕ) → P x → Q y → R (x ++ y)) → Takes R a c
+pub takes_both : {P Q R : List ℕ → Type 0} {a b c : List ℕ} → Takes P a b → Takes Q b c → ((x y : List ℕ) → P x → Q y → R (x ++ y)) → Takes R a c
 takes_both {P} {Q} {R} {a} {b} {c} s t h = record {
   out = s.out ++ t.out;
   such = h s.out t.out s.such t.such;
@@ -26,7 +30,7 @@ takes_both {P} {Q} {R} {a} {b} {c} s t h = record {
 }
 
 -- bytes of which one thing holds and so another
-pub takes_such : {P Q : List ℕ → Type 0} {a b : Option (List ℕ)} → Takes P a b → ((x : List ℕ) → P x → Q x) → Takes Q a b
+pub takes_such : {P Q : List ℕ → Type 0} {a b : List ℕ} → Takes P a b → ((x : List ℕ) → P x → Q x) → Takes Q a b
 takes_such s h = record { out = s.out; such = h s.out s.such; taken = s.taken }
 
 -- a first part, and a front part of what is behind it
@@ -46,19 +50,28 @@ range_join : (xs : List ℕ) (s a b : ℕ) → take (a + b) (drop s xs) ≡ take
 range_join xs s a b = take-add a b (drop s xs) ∙ ap (λ (l : List ℕ). take a (drop s xs) ++ take b l) (drop-drop a s xs)
 
 -- a range of an entry and the range behind it
-pub func_text : (o : Option Table) (id : SourceId) (s a b : ℕ) (x y : List ℕ) → IsTextOver o (Func id s a) x → IsTextOver o (Func id (s + a) b) y → IsTextOver o (Func id s (a + b)) (x ++ y)
-func_text None id s a b x y h k = length-append x y ∙ (let i : length x ≡ a = h in let j : length y ≡ b = k in omega arith)
-func_text (Some t) id s a b x y h k = let i : x ≡ take a (drop s (t id.0)) = h in let j : y ≡ take b (drop (s + a) (t id.0)) = k in rw (i, j) (sym (range_join (t id.0) s a b))
+func_range : (xs x y : List ℕ) (s a b : ℕ) → x ≡ take a (drop s xs) → y ≡ take b (drop (s + a) xs) → x ++ y ≡ take (a + b) (drop s xs)
+func_range xs x y s a b h k = rw (h, k) (sym (range_join xs s a b))
+
+pub func_text : {before keeps : Folder → Type 0} (table : Folder → Table) (id : SourceId) (s a b : ℕ) (x y : List ℕ) → ((folder : Folder) → keeps folder → before folder) → IsTextOver before table (Func id s a) x → IsTextOver keeps table (Func id (s + a) b) y → IsTextOver keeps table (Func id s (a + b)) (x ++ y)
+func_text table id s a b x y earlier h k = record {
+  len = length-append x y ∙ (let i : length x ≡ a = h.len in let j : length y ≡ b = k.len in omega arith);
+  text = λ folder kept. func_range (table folder id.0) x y s a b (h.text folder (earlier folder kept)) (k.text folder kept);
+}
 
 -- a range of an entry and a front part of the range behind it
-pub func_prefix : (o : Option Table) (id : SourceId) (s a b n : ℕ) (x y : List ℕ) → a + b ≤ n → IsTextOver o (Func id s a) x → IsPrefixOver o (Func id (s + a) b) y → IsPrefixOver o (Func id s n) (x ++ y)
-func_prefix None id s a b n x y e h k = rw (length-append x y) (let i : length x ≡ a = h in let j : length y ≤ b = k in omega arith)
-func_prefix (Some t) id s a b n x y e h k =
-    let i : x ≡ take a (drop s (t id.0)) = h in
+range_front : (xs x y : List ℕ) (s a b n : ℕ) → a + b ≤ n → x ≡ take a (drop s xs) → IsFrontOf (take b (drop (s + a) xs)) y → IsFrontOf (take n (drop s xs)) (x ++ y)
+range_front xs x y s a b n e h k =
     let m : n ≡ (a + b) + (n - (a + b)) = omega arith in
-    let first : take n (drop s (t id.0)) ≡ take (a + b) (drop s (t id.0)) ++ take (n - (a + b)) (drop (a + b) (drop s (t id.0))) = ap (λ (l : ℕ). take l (drop s (t id.0))) m ∙ take-add (a + b) (n - (a + b)) (drop s (t id.0)) in
-    front_more (take n (drop s (t id.0))) (take (a + b) (drop s (t id.0))) (take (n - (a + b)) (drop (a + b) (drop s (t id.0)))) (x ++ y) first
-    (rw i (front_join (take (a + b) (drop s (t id.0))) (take a (drop s (t id.0))) (take b (drop (s + a) (t id.0))) y (range_join (t id.0) s a b) k))
+    let first : take n (drop s xs) ≡ take (a + b) (drop s xs) ++ take (n - (a + b)) (drop (a + b) (drop s xs)) = ap (λ (l : ℕ). take l (drop s xs)) m ∙ take-add (a + b) (n - (a + b)) (drop s xs) in
+    front_more (take n (drop s xs)) (take (a + b) (drop s xs)) (take (n - (a + b)) (drop (a + b) (drop s xs))) (x ++ y) first
+    (rw h (front_join (take (a + b) (drop s xs)) (take a (drop s xs)) (take b (drop (s + a) xs)) y (range_join xs s a b) k))
+
+pub func_prefix : {before keeps : Folder → Type 0} (table : Folder → Table) (id : SourceId) (s a b n : ℕ) (x y : List ℕ) → a + b ≤ n → ((folder : Folder) → keeps folder → before folder) → IsTextOver before table (Func id s a) x → IsPrefixOver keeps table (Func id (s + a) b) y → IsPrefixOver keeps table (Func id s n) (x ++ y)
+func_prefix table id s a b n x y e earlier h k = record {
+  len = rw (length-append x y) (let i : length x ≡ a = h.len in let j : length y ≤ b = k.len in omega arith);
+  front = λ folder kept. range_front (table folder id.0) x y s a b n e (h.text folder (earlier folder kept)) (k.front folder kept);
+}
 
 -- the two sides of a concatenation
 pub record AreSides (l r n : Node) : Type 0 where
@@ -66,19 +79,25 @@ pub record AreSides (l r n : Node) : Type 0 where
   pub bytes : (t : Table) → bytes_over t n ≡ bytes_over t l ++ bytes_over t r
 
 -- the texts of both
-pub cat_text : (o : Option Table) (l r n : Node) (x y : List ℕ) → AreSides l r n → IsTextOver o l x → IsTextOver o r y → IsTextOver o n (x ++ y)
-cat_text None l r n x y e h k = length-append x y ∙ (let i : length x ≡ len_of l = h in let j : length y ≡ len_of r = k in let m : len_of n ≡ len_of l + len_of r = e.len in omega arith)
-cat_text (Some t) l r n x y e h k = let i : x ≡ bytes_over t l = h in let j : y ≡ bytes_over t r = k in rw (i, j) (sym (e.bytes t))
+pub cat_text : {before keeps : Folder → Type 0} (table : Folder → Table) (l r n : Node) (x y : List ℕ) → AreSides l r n → ((folder : Folder) → keeps folder → before folder) → IsTextOver before table l x → IsTextOver keeps table r y → IsTextOver keeps table n (x ++ y)
+cat_text table l r n x y e earlier h k = record {
+  len = length-append x y ∙ (let i : length x ≡ len_of l = h.len in let j : length y ≡ len_of r = k.len in let m : len_of n ≡ len_of l + len_of r = e.len in omega arith);
+  text = λ folder kept. rw (h.text folder (earlier folder kept), k.text folder kept) (sym (e.bytes (table folder)));
+}
 
 -- a front part of the left one
-pub cat_left : (o : Option Table) (l r n : Node) (x : List ℕ) → AreSides l r n → IsPrefixOver o l x → IsPrefixOver o n x
-cat_left None l r n x e h = let i : length x ≤ len_of l = h in let m : len_of n ≡ len_of l + len_of r = e.len in omega arith
-cat_left (Some t) l r n x e h = front_more (bytes_over t n) (bytes_over t l) (bytes_over t r) x (e.bytes t) h
+pub cat_left : {keeps : Folder → Type 0} (table : Folder → Table) (l r n : Node) (x : List ℕ) → AreSides l r n → IsPrefixOver keeps table l x → IsPrefixOver keeps table n x
+cat_left table l r n x e h = record {
+  len = let i : length x ≤ len_of l = h.len in let m : len_of n ≡ len_of l + len_of r = e.len in omega arith;
+  front = λ folder kept. let t = table folder in front_more (bytes_over t n) (bytes_over t l) (bytes_over t r) x (e.bytes t) (h.front folder kept);
+}
 
 -- the left one and a front part of the right one
-pub cat_right : (o : Option Table) (l r n : Node) (x y : List ℕ) → AreSides l r n → IsTextOver o l x → IsPrefixOver o r y → IsPrefixOver o n (x ++ y)
-cat_right None l r n x y e h k = rw (length-append x y) (let i : length x ≡ len_of l = h in let j : length y ≤ len_of r = k in let m : len_of n ≡ len_of l + len_of r = e.len in omega arith)
-cat_right (Some t) l r n x y e h k = let i : x ≡ bytes_over t l = h in rw i (front_join (bytes_over t n) (bytes_over t l) (bytes_over t r) y (e.bytes t) k)
+pub cat_right : {before keeps : Folder → Type 0} (table : Folder → Table) (l r n : Node) (x y : List ℕ) → AreSides l r n → ((folder : Folder) → keeps folder → before folder) → IsTextOver before table l x → IsPrefixOver keeps table r y → IsPrefixOver keeps table n (x ++ y)
+cat_right table l r n x y e earlier h k = record {
+  len = rw (length-append x y) (let i : length x ≡ len_of l = h.len in let j : length y ≤ len_of r = k.len in let m : len_of n ≡ len_of l + len_of r = e.len in omega arith);
+  front = λ folder kept. let t = table folder in rw (h.text folder (earlier folder kept)) (front_join (bytes_over t n) (bytes_over t l) (bytes_over t r) y (e.bytes t) (k.front folder kept));
+}
 
 -- what holds where there is an error
 pub on_err : {T E P : Type 0} (r : Result T E) → P → OnErr r P
@@ -95,7 +114,7 @@ run_front byte len done count y h k =
     front_join (replicate len byte) (replicate done byte) (replicate (len - done) byte) y first (front_more (replicate (len - done) byte) (replicate count byte) (replicate (len - done - count) byte) y next k)
 
 -- some of a run, and a front part of the next piece of it
-pub run_stopped : (a b c : Option (List ℕ)) (byte len done count n : ℕ) → done + count ≤ len → count ≤ n → Appends a b (replicate done byte) → Takes (IsFrontOf (take count (replicate n byte))) b c → Takes (IsFrontOf (replicate len byte)) a c
+pub run_stopped : (a b c : List ℕ) (byte len done count n : ℕ) → done + count ≤ len → count ≤ n → b ≡ a ++ replicate done byte → Takes (IsFrontOf (take count (replicate n byte))) b c → Takes (IsFrontOf (replicate len byte)) a c
 run_stopped a b c byte len done count n h k s t = record {
   out = replicate done byte ++ t.out;
   such = run_front byte len done count t.out h (rw (take-replicate count n byte k) at t.such);
@@ -103,11 +122,11 @@ run_stopped a b c byte len done count n h k s t = record {
 }
 
 -- some of a run, and the next piece of it
-pub run_more : (a b c : Option (List ℕ)) (byte done count n : ℕ) → count ≤ n → Appends a b (replicate done byte) → Appends b c (take count (replicate n byte)) → Appends a c (replicate (done + count) byte)
-run_more a b c byte done count n k s t = subst (Appends a c) (replicate-append-replicate done count byte) (appends_both a b c (replicate done byte) (replicate count byte) s (rw (take-replicate count n byte k) at t))
+pub run_more : (a b c : List ℕ) (byte done count n : ℕ) → count ≤ n → b ≡ a ++ replicate done byte → c ≡ b ++ take count (replicate n byte) → c ≡ a ++ replicate (done + count) byte
+run_more a b c byte done count n k s t = appends_both a b c (replicate done byte) (replicate count byte) s (rw (take-replicate count n byte k) at t) ∙ ap (λ (l : List ℕ). a ++ l) (replicate-append-replicate done count byte)
 
 -- the two sides of a node that is a concatenation
-pub cat_sides : (p : Rc (Unit {0}) Global) (l : Node) (q : Rc (Unit {0}) Global) (r : Node) (len depth : ℕ) (n : Node) → n ≡ Cat' p l q r len depth → IsSound n → AreSides l r n
-cat_sides p l q r len depth n e s =
-    let sound : IsSound (Cat' p l q r len depth) = rw e at s in
+pub cat_sides : (p : Rc (Unit {0}) Global) (l : Node) (q : Rc (Unit {0}) Global) (r : Node) (len depth : ℕ) (mark : List Part) (n : Node) → n ≡ Cat' p l q r len depth mark → IsSound n → AreSides l r n
+cat_sides p l q r len depth mark n e s =
+    let sound : IsSound (Cat' p l q r len depth mark) = rw e at s in
     rw e (record { len = sound.2; bytes = λ t. refl })

@@ -1,6 +1,6 @@
 -- Walks over one list after another.
-use Rattle.std.proofs.Common.{◌≡◌, ℕ, ◌+◌, ◌-◌, ◌<◌, ◌≤◌, Bool, true, false, List, [], ◌∷◌, ◌++◌, length, take, drop, get_or, None, Some, refl, sym, ◌∙◌, ap, subst, arith, append_assoc}
-use Rattle.std.specs.Prelude.{Option, IfSome, replicate, if◌then◌else◌}
+use Rattle.std.proofs.Common.{◌≡◌, ℕ, ◌+◌, ◌-◌, ◌<◌, ◌≤◌, Bool, true, false, List, [], ◌∷◌, ◌++◌, length, take, drop, get_or, refl, sym, ◌∙◌, ap, arith, append_assoc}
+use Rattle.std.specs.Prelude.{replicate, if◌then◌else◌}
 use Rattle.std.proofs.lemmas.List.{drop-take, drop-drop, take_more, take-append-drop, take-replicate, replicate-append-replicate}
 use Rattle.std.proofs.Math.Seq.{take-add}
 use Rattle.cord_io.specs.Table.{Table}
@@ -65,11 +65,6 @@ front_second step a b c whole x y e h k = record {
   walked = walk_on step a b (c, false) x k.front h k.walked;
 }
 
--- what holds of a text over a table holds of it in another spelling
-pub same_text : (o : Option Table) (P : List ℕ → Type 0) (x y : Table → List ℕ) → ((t : Table) → x t ≡ y t) → IfSome o (λ t. P (x t)) → IfSome o (λ t. P (y t))
-same_text None P x y e h = tt
-same_text (Some t) P x y e h = subst P (e t) h
-
 -- a run: some of it, a piece, and the rest
 run_split : (byte len done count : ℕ) → done + count ≤ len → replicate len byte ≡ (replicate done byte ++ replicate count byte) ++ replicate (len - (done + count)) byte
 run_split byte len done count h =
@@ -92,18 +87,15 @@ range_split xs s a b n h =
     let e : n ≡ (a + b) + (n - (a + b)) = omega arith in
     ap (λ (k : ℕ). take k (drop s xs)) e ∙ range_next xs s (a + b) (n - (a + b)) ∙ ap (λ (l : List ℕ). l ++ take (n - (a + b)) (drop (s + (a + b)) xs)) (range_next xs s a b)
 
-pub func_stop : {S : Type 0} (step : S → ℕ → S × Bool) (a b c : S) (o : Option Table) (id s len done count : ℕ) → done + count ≤ len → IfSome o (λ t. walk step a (take done (drop s (t id))) ≡ (b, false)) → IfSome o (λ t. walk step b (take count (drop (s + done) (t id))) ≡ (c, true)) → IfSome o (λ t. walk step a (take len (drop s (t id))) ≡ (c, true))
-func_stop step a b c None id s len done count inside h k = tt
-func_stop step a b c (Some t) id s len done count inside h k = walk_stop_between step a b c (take len (drop s (t id))) (take done (drop s (t id))) (take count (drop (s + done) (t id))) (take (len - (done + count)) (drop (s + (done + count)) (t id))) (range_split (t id) s done count len inside) h k
+pub func_stop : {S : Type 0} (step : S → ℕ → S × Bool) (a b c : S) (t : Table) (id s len done count : ℕ) → done + count ≤ len → walk step a (take done (drop s (t id))) ≡ (b, false) → walk step b (take count (drop (s + done) (t id))) ≡ (c, true) → walk step a (take len (drop s (t id))) ≡ (c, true)
+func_stop step a b c t id s len done count inside h k = walk_stop_between step a b c (take len (drop s (t id))) (take done (drop s (t id))) (take count (drop (s + done) (t id))) (take (len - (done + count)) (drop (s + (done + count)) (t id))) (range_split (t id) s done count len inside) h k
 
-pub func_on : {S : Type 0} (step : S → ℕ → S × Bool) (a b : S) (p : S × Bool) (o : Option Table) (id s done count : ℕ) → IfSome o (λ t. walk step a (take done (drop s (t id))) ≡ (b, false)) → IfSome o (λ t. walk step b (take count (drop (s + done) (t id))) ≡ p) → IfSome o (λ t. walk step a (take (done + count) (drop s (t id))) ≡ p)
-func_on step a b p None id s done count h k = tt
-func_on step a b p (Some t) id s done count h k = ap (λ (l : List ℕ). walk step a l) (range_next (t id) s done count) ∙ walk_on step a b p (take done (drop s (t id))) (take count (drop (s + done) (t id))) h k
+pub func_on : {S : Type 0} (step : S → ℕ → S × Bool) (a b : S) (p : S × Bool) (t : Table) (id s done count : ℕ) → walk step a (take done (drop s (t id))) ≡ (b, false) → walk step b (take count (drop (s + done) (t id))) ≡ p → walk step a (take (done + count) (drop s (t id))) ≡ p
+func_on step a b p t id s done count h k = ap (λ (l : List ℕ). walk step a l) (range_next (t id) s done count) ∙ walk_on step a b p (take done (drop s (t id))) (take count (drop (s + done) (t id))) h k
 
 -- some of a range was walked over, and the next piece was not read
-pub func_front : {S : Type 0} (step : S → ℕ → S × Bool) (a b c : S) (o : Option Table) (id s len done : ℕ) → done ≤ len → c ≡ b → IfSome o (λ t. walk step a (take done (drop s (t id))) ≡ (b, false)) → IfSome o (λ t. WalkedFront step a c (take len (drop s (t id))))
-func_front step a b c None id s len done inside e h = tt
-func_front step a b c (Some t) id s len done inside e h =
+pub func_front : {S : Type 0} (step : S → ℕ → S × Bool) (a b c : S) (t : Table) (id s len done : ℕ) → done ≤ len → c ≡ b → walk step a (take done (drop s (t id))) ≡ (b, false) → WalkedFront step a c (take len (drop s (t id)))
+func_front step a b c t id s len done inside e h =
     let m : len ≡ done + (len - done) = omega arith in
     record {
       front = take done (drop s (t id));
@@ -119,11 +111,5 @@ range_rest xs s len from h =
     sym (ap (λ (k : ℕ). drop from (take k (drop s xs))) e ∙ drop-take from (len - from) (drop s xs) ∙ ap (λ (l : List ℕ). take (len - from) l) (drop-drop from s xs))
 
 -- a walk over a text in another spelling
-pub same_walk : {S : Type 0} (step : S → ℕ → S × Bool) (a : S) (p : S × Bool) (o : Option Table) (x y : Table → List ℕ) → ((t : Table) → x t ≡ y t) → IfSome o (λ t. walk step a (x t) ≡ p) → IfSome o (λ t. walk step a (y t) ≡ p)
-same_walk step a p None x y e h = tt
-same_walk step a p (Some t) x y e h = rw (← e t) h
-
--- a walk over bytes that no table decides
-pub known_walk : {S : Type 0} (step : S → ℕ → S × Bool) (a : S) (p : S × Bool) (o : Option Table) (x : List ℕ) (y : Table → List ℕ) → ((t : Table) → x ≡ y t) → walk step a x ≡ p → IfSome o (λ t. walk step a (y t) ≡ p)
-known_walk step a p None x y e h = tt
-known_walk step a p (Some t) x y e h = rw (← e t) h
+pub same_walk : {S : Type 0} (step : S → ℕ → S × Bool) (a : S) (p : S × Bool) (x y : List ℕ) → x ≡ y → walk step a x ≡ p → walk step a y ≡ p
+same_walk step a p x y e h = rw (← e) h

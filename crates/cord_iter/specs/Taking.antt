@@ -1,9 +1,8 @@
 -- What a sink takes of a cord, and how often the devices have failed then.
-use Rattle.std.specs.Prelude.{◌≡◌, ℕ, ◌≤◌, List, ◌++◌, length, Option, Some, None, Ok, Err}
+use Rattle.std.specs.Prelude.{◌≡◌, ℕ, ◌≤◌, List, ◌++◌, length, Ok, Err}
 use Rattle.std.specs.declared.result.Result.{Result}
-use Rattle.std.specs.Io.KnownBytes.{Appends}
+use Rattle.cord_io.specs.Device.{Folder, raised}
 use Rattle.cord_io.specs.Table.{Table}
-use Rattle.cord_io.specs.Device.{raised}
 use Rattle.cord_io.specs.declared.faults.CordError.{CordError}
 use Rattle.cord_io.specs.declared.faults.CordError.TheVariants.{NoMemory, TooLong, ReadFailed, WriteFailed}
 use Rattle.cord_node.specs.declared.Node.{Node}
@@ -14,21 +13,21 @@ use Rattle.cord_node.specs.Tables.{bytes_over}
 abbrev pub IsFrontOf : List ℕ → List ℕ → Type 0
 IsFrontOf whole out = (rest : List ℕ) × (whole ≡ out ++ rest)
 
--- the bytes of a node over a source: its text where the source is honest, else as many bytes
-abbrev pub IsTextOver : Option Table → Node → List ℕ → Type 0
-IsTextOver None n out = length out ≡ len_of n
-IsTextOver (Some t) n out = out ≡ bytes_over t n
+-- the bytes of a node over a source: as many as it stores, and its text over the table of each folder that is kept
+pub record IsTextOver (keeps : Folder → Type 0) (table : Folder → Table) (n : Node) (out : List ℕ) : Type 0 where
+  pub len : length out ≡ len_of n
+  pub text : (folder : Folder) → keeps folder → out ≡ bytes_over (table folder) n
 
 -- a front part of them
-abbrev pub IsPrefixOver : Option Table → Node → List ℕ → Type 0
-IsPrefixOver None n out = length out ≤ len_of n
-IsPrefixOver (Some t) n out = IsFrontOf (bytes_over t n) out
+pub record IsPrefixOver (keeps : Folder → Type 0) (table : Folder → Table) (n : Node) (out : List ℕ) : Type 0 where
+  pub len : length out ≤ len_of n
+  pub front : (folder : Folder) → keeps folder → IsFrontOf (bytes_over (table folder) n) out
 
 -- a sink took bytes of which this holds
-pub record Takes (P : List ℕ → Type 0) (old new : Option (List ℕ)) : Type 0 where
+pub record Takes (P : List ℕ → Type 0) (old new : List ℕ) : Type 0 where
   pub out : List ℕ
   pub such : P out
-  pub taken : Appends old new out
+  pub taken : new ≡ old ++ out
 
 -- how often a source and a sink have failed
 pub record Counts : Type 0 where

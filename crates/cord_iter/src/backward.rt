@@ -1,6 +1,6 @@
 // Walks from a place to the beginning.
-ghost use Rattle.std.specs.Prelude.{◌≡◌, ◌+◌, ◌<◌, take, reverse, is_err, IsOk, IfOk, IfErr, OnErr, IfSome};
-ghost use Rattle.cord_io.specs.Device.{count_after};
+ghost use Rattle.std.specs.Prelude.{◌≡◌, ◌+◌, ◌<◌, take, reverse, is_err, IsOk, IfOk, IfErr, OnErr};
+ghost use Rattle.cord_io.specs.Device.{Folder, count_after};
 ghost use Rattle.cord_core.specs.Cord.{text_len, bytes_of, CordFitsIn};
 ghost use Rattle.cord_iter.specs.Walk.{walk, WalkedFront};
 
@@ -21,14 +21,14 @@ pub fn riter4<S: Source, V: Visitor>(
 ) -> Result<bool, CordError>
     requires inside { i < text_len cord.now }
     requires fits { CordFitsIn (S.lengths src.old) cord.now }
-    ensures walked { IfOk result (λ stopped. IfSome (S.table src.old) (λ t. walk V.step (V.state visitor.old) (reverse (take (i + 1) (bytes_of t cord.now))) ≡ (V.state visitor.new, stopped))) }
-    ensures prefix { OnErr result (IfSome (S.table src.old) (λ t. WalkedFront V.step (V.state visitor.old) (V.state visitor.new) (reverse (take (i + 1) (bytes_of t cord.now))))) }
+    ensures walked { (folder : Folder) → S.keeps src.new folder → IfOk result (λ stopped. walk V.step (V.state visitor.old) (reverse (take (i + 1) (bytes_of (S.table src.old folder) cord.now))) ≡ (V.state visitor.new, stopped)) }
+    ensures prefix { (folder : Folder) → S.keeps src.new folder → OnErr result (WalkedFront V.step (V.state visitor.old) (V.state visitor.new) (reverse (take (i + 1) (bytes_of (S.table src.old folder) cord.now)))) }
     ensures refused { IfErr result (λ e. e ≡ CordError.ReadFailed) }
     ensures count { S.failures src.new ≡ count_after (is_err result) (S.failures src.old) }
     ensures steady { S.failures src.old < u64.MAX → S.failures src.new ≡ S.failures src.old → IsOk result }
     ensures lengths { S.lengths src.new ≡ S.lengths src.old }
     ensures table { S.table src.new ≡ S.table src.old }
-    ensures files { S.files src.new ≡ S.files src.old }
+    ensures earlier { (folder : Folder) → S.keeps src.new folder → S.keeps src.old folder }
 {
     let mut position = Position::set(cord, i);
     while position.is_valid() {
@@ -49,14 +49,14 @@ pub fn riter<S: Source, V: Visitor>(
     visitor: &mut V,
 ) -> Result<bool, CordError>
     requires fits { CordFitsIn (S.lengths src.old) cord.now }
-    ensures walked { IfOk result (λ stopped. IfSome (S.table src.old) (λ t. walk V.step (V.state visitor.old) (reverse (bytes_of t cord.now)) ≡ (V.state visitor.new, stopped))) }
-    ensures prefix { OnErr result (IfSome (S.table src.old) (λ t. WalkedFront V.step (V.state visitor.old) (V.state visitor.new) (reverse (bytes_of t cord.now)))) }
+    ensures walked { (folder : Folder) → S.keeps src.new folder → IfOk result (λ stopped. walk V.step (V.state visitor.old) (reverse (bytes_of (S.table src.old folder) cord.now)) ≡ (V.state visitor.new, stopped)) }
+    ensures prefix { (folder : Folder) → S.keeps src.new folder → OnErr result (WalkedFront V.step (V.state visitor.old) (V.state visitor.new) (reverse (bytes_of (S.table src.old folder) cord.now))) }
     ensures refused { IfErr result (λ e. e ≡ CordError.ReadFailed) }
     ensures count { S.failures src.new ≡ count_after (is_err result) (S.failures src.old) }
     ensures steady { S.failures src.old < u64.MAX → S.failures src.new ≡ S.failures src.old → IsOk result }
     ensures lengths { S.lengths src.new ≡ S.lengths src.old }
     ensures table { S.table src.new ≡ S.table src.old }
-    ensures files { S.files src.new ≡ S.files src.old }
+    ensures earlier { (folder : Folder) → S.keeps src.new folder → S.keeps src.old folder }
 {
     let len = cord.len();
     if len == 0 {

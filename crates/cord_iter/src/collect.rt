@@ -1,5 +1,6 @@
 // The text of a cord in a vector.
-ghost use Rattle.std.specs.Prelude.{◌≡◌, ◌<◌, ◌≤◌, length, is_err, IfOk, IfSome};
+ghost use Rattle.std.specs.Prelude.{◌≡◌, ◌<◌, length, is_err, IfOk};
+ghost use Rattle.cord_io.specs.Device.{Folder};
 ghost use Rattle.cord_core.specs.Cord.{text_len, bytes_of, CordFitsIn};
 ghost use Rattle.cord_iter.specs.Taking.{CountsReads};
 
@@ -9,16 +10,16 @@ use cord_io::{CordError, Sink, Source, WriteFault};
 use std::alloc::Global;
 
 /// The text of a cord over a source, in a vector of that length. Each function part lies inside an entry of `src`. Refused with
-/// `ReadFailed` where a read failed, and with `NoMemory` where the vector was refused memory. Of a source that isn't honest
-/// only the number of bytes is known.
+/// `ReadFailed` where a read failed, and with `NoMemory` where the vector was refused memory. The text is that over the table of
+/// each folder that `src` keeps after the call, and as many bytes are there whatever it keeps.
 pub fn to_vec<S: Source>(alloc: Global, cord: &Cord, src: &mut S) -> Result<Vec<u8>, CordError>
     requires fits { CordFitsIn (S.lengths src.old) cord.now }
-    ensures text { IfOk result (λ v. IfSome (S.table src.old) (λ t. v.items ≡ bytes_of t cord.now)) }
+    ensures text { (folder : Folder) → S.keeps src.new folder → IfOk result (λ v. v.items ≡ bytes_of (S.table src.old folder) cord.now) }
     ensures len { IfOk result (λ v. length v.items ≡ text_len cord.now) }
     ensures reads { CountsReads (S.failures src.old) (S.failures src.new) result }
     ensures lengths { S.lengths src.new ≡ S.lengths src.old }
     ensures table { S.table src.new ≡ S.table src.old }
-    ensures files { S.files src.new ≡ S.files src.old }
+    ensures earlier { (folder : Folder) → S.keeps src.new folder → S.keeps src.old folder }
 {
     let mut sink = Collector {
         bytes: Vec::with_capacity(alloc, cord.len() as usize)?,
@@ -39,9 +40,9 @@ struct Collector {
 }
 
 impl Sink for Collector {
-    ghost use Rattle.std.specs.Prelude.{Some};
+    ghost taken = { λ s. s.bytes.items };
 
-    ghost taken = { λ s. Some s.bytes.items };
+    ghost finished = { λ _. 0 };
 
     ghost failures = { λ s. s.failures };
 
@@ -57,7 +58,9 @@ impl Sink for Collector {
         Ok(bytes.len())
     }
 
+    // It has no end.
     fn finish(&mut self) -> Result<(), WriteFault> {
-        Ok(())
+        self.failures = self.failures.saturating_add(1);
+        Err(WriteFault)
     }
 }

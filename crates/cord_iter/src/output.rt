@@ -1,8 +1,8 @@
 // Output of cords.
-ghost use Rattle.std.specs.Prelude.{◌≡◌, ◌+◌, ◌<◌, ◌≤◌, OnOk, OnErr, IsOk, IfSome, length};
-ghost use Rattle.std.specs.Io.KnownBytes.{Appends};
+ghost use Rattle.std.specs.Prelude.{◌≡◌, ◌+◌, ◌<◌, ◌≤◌, ◌++◌, OnOk, OnErr, IsOk, length};
+ghost use Rattle.cord_io.specs.Device.{Folder};
 ghost use Rattle.cord_io.specs.Table.{length_at};
-ghost use Rattle.cord_node.specs.Tree.{len_of, IsSound};
+ghost use Rattle.cord_node.specs.Tree.{IsSound};
 ghost use Rattle.cord_node.specs.Tables.{FitsIn};
 ghost use Rattle.cord_core.specs.Cord.{text_len, bytes_of, CordFitsIn};
 ghost use Rattle.cord_iter.specs.Taking.{IsFrontOf, IsTextOver, IsPrefixOver, Takes, CountsFaults};
@@ -15,18 +15,20 @@ use cord_io::{CordError, MAX_LEN, Sink, Source, SourceId};
 /// Hands a sink the text of a cord over a source, after `CORD_put` of `cord.h`: each leaf's slice is offered whole, after a short
 /// `put` the rest, a run or a function part in pieces of at most 512 bytes. Each function part lies inside an entry of `src`.
 /// Refused with `ReadFailed` where a read failed and with `WriteFailed` where a `put` failed: then the sink has taken a front part
-/// of the text. Of a source that isn't honest only the number of bytes is known.
+/// of the text. The text is that over the table of each folder that `src` keeps after the call, and as many bytes are taken
+/// whatever it keeps. It doesn't finish the sink.
 pub fn put<S: Source, W: Sink>(cord: &Cord, src: &mut S, sink: &mut W) -> Result<(), CordError>
     requires fits { CordFitsIn (S.lengths src.old) cord.now }
-    ensures text { OnOk result (IfSome (S.table src.old) (λ t. Appends (W.taken sink.old) (W.taken sink.new) (bytes_of t cord.now))) }
-    ensures prefix { OnErr result (IfSome (S.table src.old) (λ t. Takes (IsFrontOf (bytes_of t cord.now)) (W.taken sink.old) (W.taken sink.new))) }
+    ensures text { (folder : Folder) → S.keeps src.new folder → OnOk result (W.taken sink.new ≡ W.taken sink.old ++ bytes_of (S.table src.old folder) cord.now) }
+    ensures prefix { (folder : Folder) → S.keeps src.new folder → OnErr result (Takes (IsFrontOf (bytes_of (S.table src.old folder) cord.now)) (W.taken sink.old) (W.taken sink.new)) }
     ensures len { OnOk result (Takes (λ out. length out ≡ text_len cord.now) (W.taken sink.old) (W.taken sink.new)) }
     ensures most { OnErr result (Takes (λ out. length out ≤ text_len cord.now) (W.taken sink.old) (W.taken sink.new)) }
     ensures faults { CountsFaults (record { source = S.failures src.old; sink = W.failures sink.old }) (record { source = S.failures src.new; sink = W.failures sink.new }) result }
     ensures steady { S.failures src.old < u64.MAX → W.failures sink.old < u64.MAX → S.failures src.new ≡ S.failures src.old → W.failures sink.new ≡ W.failures sink.old → IsOk result }
     ensures lengths { S.lengths src.new ≡ S.lengths src.old }
     ensures table { S.table src.new ≡ S.table src.old }
-    ensures files { S.files src.new ≡ S.files src.old }
+    ensures earlier { (folder : Folder) → S.keeps src.new folder → S.keeps src.old folder }
+    ensures finished { W.finished sink.new ≡ W.finished sink.old }
 {
     if let Some(root) = cord.root() {
         put_node(root.as_ref(), src, sink)?;
@@ -38,15 +40,21 @@ pub fn put<S: Source, W: Sink>(cord: &Cord, src: &mut S, sink: &mut W) -> Result
 fn put_node<S: Source, W: Sink>(node: &Node, src: &mut S, sink: &mut W) -> Result<(), CordError>
     requires sound { IsSound node.now }
     requires fits { FitsIn (S.lengths src.old) node.now }
-    ensures text { OnOk result (Takes (IsTextOver (S.table src.old) node.now) (W.taken sink.old) (W.taken sink.new)) }
-    ensures prefix { OnErr result (Takes (IsPrefixOver (S.table src.old) node.now) (W.taken sink.old) (W.taken sink.new)) }
+    ensures text { OnOk result (Takes (IsTextOver (S.keeps src.new) (S.table src.old) node.now) (W.taken sink.old) (W.taken sink.new)) }
+    ensures prefix { OnErr result (Takes (IsPrefixOver (S.keeps src.new) (S.table src.old) node.now) (W.taken sink.old) (W.taken sink.new)) }
     ensures faults { CountsFaults (record { source = S.failures src.old; sink = W.failures sink.old }) (record { source = S.failures src.new; sink = W.failures sink.new }) result }
     ensures lengths { S.lengths src.new ≡ S.lengths src.old }
     ensures table { S.table src.new ≡ S.table src.old }
-    ensures files { S.files src.new ≡ S.files src.old }
+    ensures earlier { (folder : Folder) → S.keeps src.new folder → S.keeps src.old folder }
+    ensures finished { W.finished sink.new ≡ W.finished sink.old }
 {
     match node {
-        Node::Leaf { bytes, start, len } => {
+        Node::Leaf {
+            bytes,
+            start,
+            len,
+            ..
+        } => {
             put_all(
                 &bytes.as_slice()[*start as usize..(*start + *len) as usize],
                 sink,
@@ -72,12 +80,13 @@ fn put_func<S: Source, W: Sink>(
 ) -> Result<(), CordError>
     requires fits { start + len ≤ length_at (S.lengths src.old) id.0 }
     requires limit { start + len ≤ MAX_LEN }
-    ensures text { OnOk result (Takes (IsTextOver (S.table src.old) (Node.Func id start len)) (W.taken sink.old) (W.taken sink.new)) }
-    ensures prefix { OnErr result (Takes (IsPrefixOver (S.table src.old) (Node.Func id start len)) (W.taken sink.old) (W.taken sink.new)) }
+    ensures text { OnOk result (Takes (IsTextOver (S.keeps src.new) (S.table src.old) (Node.Func id start len)) (W.taken sink.old) (W.taken sink.new)) }
+    ensures prefix { OnErr result (Takes (IsPrefixOver (S.keeps src.new) (S.table src.old) (Node.Func id start len)) (W.taken sink.old) (W.taken sink.new)) }
     ensures faults { CountsFaults (record { source = S.failures src.old; sink = W.failures sink.old }) (record { source = S.failures src.new; sink = W.failures sink.new }) result }
     ensures lengths { S.lengths src.new ≡ S.lengths src.old }
     ensures table { S.table src.new ≡ S.table src.old }
-    ensures files { S.files src.new ≡ S.files src.old }
+    ensures earlier { (folder : Folder) → S.keeps src.new folder → S.keeps src.old folder }
+    ensures finished { W.finished sink.new ≡ W.finished sink.old }
 {
     let mut done = 0;
     while done < len {
@@ -99,12 +108,13 @@ fn put_piece<S: Source, W: Sink>(
     requires some { 0 < count }
     requires piece { count ≤ PIECE_LEN }
     requires fits { start + count ≤ length_at (S.lengths src.old) id.0 }
-    ensures text { OnOk result (Takes (IsTextOver (S.table src.old) (Node.Func id start count)) (W.taken sink.old) (W.taken sink.new)) }
-    ensures prefix { OnErr result (Takes (IsPrefixOver (S.table src.old) (Node.Func id start count)) (W.taken sink.old) (W.taken sink.new)) }
+    ensures text { OnOk result (Takes (IsTextOver (S.keeps src.new) (S.table src.old) (Node.Func id start count)) (W.taken sink.old) (W.taken sink.new)) }
+    ensures prefix { OnErr result (Takes (IsPrefixOver (S.keeps src.new) (S.table src.old) (Node.Func id start count)) (W.taken sink.old) (W.taken sink.new)) }
     ensures faults { CountsFaults (record { source = S.failures src.old; sink = W.failures sink.old }) (record { source = S.failures src.new; sink = W.failures sink.new }) result }
     ensures lengths { S.lengths src.new ≡ S.lengths src.old }
     ensures table { S.table src.new ≡ S.table src.old }
-    ensures files { S.files src.new ≡ S.files src.old }
+    ensures earlier { (folder : Folder) → S.keeps src.new folder → S.keeps src.old folder }
+    ensures finished { W.finished sink.new ≡ W.finished sink.old }
 {
     let mut buffer = [0; PIECE_LEN];
     let piece = &mut buffer[..count];

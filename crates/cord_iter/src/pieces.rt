@@ -1,6 +1,5 @@
 // Output of plain bytes and of runs.
-ghost use Rattle.std.specs.Prelude.{◌≡◌, ◌<◌, ◌≤◌, OnOk, OnErr, replicate};
-ghost use Rattle.std.specs.Io.KnownBytes.{Appends};
+ghost use Rattle.std.specs.Prelude.{◌≡◌, ◌<◌, ◌≤◌, ◌++◌, OnOk, OnErr, replicate};
 ghost use Rattle.cord_io.specs.Device.{raised};
 ghost use Rattle.cord_iter.specs.Taking.{IsFrontOf, Takes};
 
@@ -9,8 +8,9 @@ use cord_io::{Sink, WriteFault};
 
 /// Offers the bytes until the sink has taken them all: after a short `put` the rest. After a fault the sink has taken a front part.
 pub fn put_all<W: Sink>(bytes: &[u8], sink: &mut W) -> Result<(), WriteFault>
-    ensures ok { OnOk result (Appends (W.taken sink.old) (W.taken sink.new) bytes.now × (W.failures sink.new ≡ W.failures sink.old)) }
+    ensures ok { OnOk result ((W.taken sink.new ≡ W.taken sink.old ++ bytes.now) × (W.failures sink.new ≡ W.failures sink.old)) }
     ensures err { OnErr result (Takes (IsFrontOf bytes.now) (W.taken sink.old) (W.taken sink.new) × (W.failures sink.new ≡ raised (W.failures sink.old))) }
+    ensures finished { W.finished sink.new ≡ W.finished sink.old }
 {
     let mut done = 0;
     while done < bytes.len() {
@@ -21,8 +21,9 @@ pub fn put_all<W: Sink>(bytes: &[u8], sink: &mut W) -> Result<(), WriteFault>
 
 // Puts `len` times the byte, in pieces.
 pub(crate) fn put_run<W: Sink>(byte: u8, len: u64, sink: &mut W) -> Result<(), WriteFault>
-    ensures ok { OnOk result (Appends (W.taken sink.old) (W.taken sink.new) (replicate len byte) × (W.failures sink.new ≡ W.failures sink.old)) }
+    ensures ok { OnOk result ((W.taken sink.new ≡ W.taken sink.old ++ replicate len byte) × (W.failures sink.new ≡ W.failures sink.old)) }
     ensures err { OnErr result (Takes (IsFrontOf (replicate len byte)) (W.taken sink.old) (W.taken sink.new) × (W.failures sink.new ≡ raised (W.failures sink.old))) }
+    ensures finished { W.finished sink.new ≡ W.finished sink.old }
 {
     let buffer = [byte; PIECE_LEN];
     let mut done = 0;

@@ -38,17 +38,17 @@ under_self root n s t h e f = rw (← e, ← f) (record { sound = h; from = omeg
 -- each place on a way is that of a sound node, whose text lies inside that of the root
 pub under_root : (root : Node) (s i : ℕ) (front rest : List Place) (n : Node) (t : ℕ) → IsSound root → way root s i ≡ front ++ (Some n, t) ∷ rest → IsUnder root s (length front) n t
 under_root root s i [] rest n t h e = let f : SamePlace root s n t = same_place root s n t (cc) in under_self root n s t h f.node f.start
-under_root (Leaf bytes from len) s i (x ∷ front) rest n t h e = absurd (not_empty front rest (Some n, t) (cc))
+under_root (Leaf bytes from len mark) s i (x ∷ front) rest n t h e = absurd (not_empty front rest (Some n, t) (cc))
 under_root (Run byte len) s i (x ∷ front) rest n t h e = absurd (not_empty front rest (Some n, t) (cc))
 under_root (Func id from len) s i (x ∷ front) rest n t h e = absurd (not_empty front rest (Some n, t) (cc))
-under_root (Cat' p left q right len depth) s i (x ∷ front) rest n t h e =
+under_root (Cat' p left q right len depth mark) s i (x ∷ front) rest n t h e =
     ⊎_elim
     (λ (k : i < len_of left).
-    let b : below (Cat' p left q right len depth) s i ≡ way left s i = below-left p q left right len depth s i k in
+    let b : below (Cat' p left q right len depth mark) s i ≡ way left s i = below-left p q left right len depth mark s i k in
     let u : IsUnder left s (length front) n t = under_root left s i front rest n t h.0 (cc) in
     record { sound = u.sound; from = u.from; to = omega (arith, h.2); depth = omega (arith, h.3) })
     (λ (k : len_of left ≤ i).
-    let b : below (Cat' p left q right len depth) s i ≡ way right (s + len_of left) (i - len_of left) = below-right p q left right len depth s i k in
+    let b : below (Cat' p left q right len depth mark) s i ≡ way right (s + len_of left) (i - len_of left) = below-right p q left right len depth mark s i k in
     let u : IsUnder right (s + len_of left) (length front) n t = under_root right (s + len_of left) (i - len_of left) front rest n t h.1 (cc) in
     record { sound = u.sound; from = omega arith; to = omega (arith, h.2); depth = omega (arith, h.3) })
     (cases_lt i (len_of left))
@@ -68,19 +68,19 @@ lies_outside n t at h k = grind (arith, nat_tests)
 
 -- where no place below the root holds the second index, the ways part at the root
 parted : (root : Node) (s i j at : ℕ) → at ≡ s + j → j < len_of root → IsSound root → NoneHolds at (below root s i) → shared_level root i j ≡ 0
-parted (Leaf bytes from len) s i j at z b h out = refl
+parted (Leaf bytes from len mark) s i j at z b h out = refl
 parted (Run byte len) s i j at z b h out = refl
 parted (Func id from len) s i j at z b h out = refl
-parted (Cat' p left q right len depth) s i j at z b h out =
+parted (Cat' p left q right len depth mark) s i j at z b h out =
     ⊎_elim
     (λ (k : i < len_of left).
-    let out' : NoneHolds at (way left s i) = rw (below-left p q left right len depth s i k) at out in
+    let out' : NoneHolds at (way left s i) = rw (below-left p q left right len depth mark s i k) at out in
     let o : s + len_of left ≤ at = lies_outside left s at out'.0 (omega arith) in
-    shared-parted p q left right len depth i j k (omega arith))
+    shared-parted p q left right len depth mark i j k (omega arith))
     (λ (k : len_of left ≤ i).
-    let out' : NoneHolds at (way right (s + len_of left) (i - len_of left)) = rw (below-right p q left right len depth s i k) at out in
+    let out' : NoneHolds at (way right (s + len_of left) (i - len_of left)) = rw (below-right p q left right len depth mark s i k) at out in
     ⊎_elim
-    (λ (m : j < len_of left). shared-parted_back p q left right len depth i j k m)
+    (λ (m : j < len_of left). shared-parted_back p q left right len depth mark i j k m)
     (λ (m : len_of left ≤ j).
     let o : s + len_of left + len_of right ≤ at = lies_outside right (s + len_of left) at out'.0 (omega arith) in
     absurd (omega (arith, h.2)))
@@ -107,38 +107,38 @@ moved root s i j at [] rest n t z b h e g out =
     let r : rest ≡ below root s i = cc in
     let out' : NoneHolds at (below root s i) = rw r at out in
     moved_self root n s i j t at z (parted root s i j at z b h out') f.node f.start
-moved (Leaf bytes from len) s i j at (x ∷ front) rest n t z b h e g out = absurd (not_empty front rest (Some n, t) (cc))
+moved (Leaf bytes from len mark) s i j at (x ∷ front) rest n t z b h e g out = absurd (not_empty front rest (Some n, t) (cc))
 moved (Run byte len) s i j at (x ∷ front) rest n t z b h e g out = absurd (not_empty front rest (Some n, t) (cc))
 moved (Func id from len) s i j at (x ∷ front) rest n t z b h e g out = absurd (not_empty front rest (Some n, t) (cc))
-moved (Cat' p left q right len depth) s i j at (x ∷ front) rest n t z b h e g out =
+moved (Cat' p left q right len depth mark) s i j at (x ∷ front) rest n t z b h e g out =
     let l : LiesIn n t at = lies_in n t at g in
     ⊎_elim
     (λ (k : i < len_of left).
-    let f : below (Cat' p left q right len depth) s i ≡ way left s i = below-left p q left right len depth s i k in
+    let f : below (Cat' p left q right len depth mark) s i ≡ way left s i = below-left p q left right len depth mark s i k in
     let w : way left s i ≡ front ++ (Some n, t) ∷ rest = cc in
     let u : IsUnder left s (length front) n t = under_root left s i front rest n t h.0 w in
     let a : j < len_of left = omega arith in
     let m : IsMove left s i j front n t at = moved left s i j at front rest n t z a h.0 w g out in
     let mw : front ++ way n t (at - t) ≡ way left s j = m.way in
-    let fj : below (Cat' p left q right len depth) s j ≡ way left s j = below-left p q left right len depth s j a in
+    let fj : below (Cat' p left q right len depth mark) s j ≡ way left s j = below-left p q left right len depth mark s j a in
     record {
       way = cc;
-      shared = omega (arith, m.shared, shared-left p q left right len depth i j k a);
-      level = omega (arith, m.level, level-left p q left right len depth j a);
-      part = m.part ∙ sym (part_at-left p q left right len depth s j a);
+      shared = omega (arith, m.shared, shared-left p q left right len depth mark i j k a);
+      level = omega (arith, m.level, level-left p q left right len depth mark j a);
+      part = m.part ∙ sym (part_at-left p q left right len depth mark s j a);
     })
     (λ (k : len_of left ≤ i).
-    let f : below (Cat' p left q right len depth) s i ≡ way right (s + len_of left) (i - len_of left) = below-right p q left right len depth s i k in
+    let f : below (Cat' p left q right len depth mark) s i ≡ way right (s + len_of left) (i - len_of left) = below-right p q left right len depth mark s i k in
     let w : way right (s + len_of left) (i - len_of left) ≡ front ++ (Some n, t) ∷ rest = cc in
     let u : IsUnder right (s + len_of left) (length front) n t = under_root right (s + len_of left) (i - len_of left) front rest n t h.1 w in
     let a : len_of left ≤ j = omega arith in
     let m : IsMove right (s + len_of left) (i - len_of left) (j - len_of left) front n t at = moved right (s + len_of left) (i - len_of left) (j - len_of left) at front rest n t (omega arith) (omega (arith, h.2)) h.1 w g out in
     let mw : front ++ way n t (at - t) ≡ way right (s + len_of left) (j - len_of left) = m.way in
-    let fj : below (Cat' p left q right len depth) s j ≡ way right (s + len_of left) (j - len_of left) = below-right p q left right len depth s j a in
+    let fj : below (Cat' p left q right len depth mark) s j ≡ way right (s + len_of left) (j - len_of left) = below-right p q left right len depth mark s j a in
     record {
       way = cc;
-      shared = omega (arith, m.shared, shared-right p q left right len depth i j k a);
-      level = omega (arith, m.level, level-right p q left right len depth j a);
-      part = m.part ∙ sym (part_at-right p q left right len depth s j a);
+      shared = omega (arith, m.shared, shared-right p q left right len depth mark i j k a);
+      level = omega (arith, m.level, level-right p q left right len depth mark j a);
+      part = m.part ∙ sym (part_at-right p q left right len depth mark s j a);
     })
     (cases_lt i (len_of left))

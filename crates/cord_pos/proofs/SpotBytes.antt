@@ -1,6 +1,6 @@
 -- The part at which a position stands has the byte at its index.
 use Rattle.std.proofs.Common.{◌≡◌, ℕ, ◌-◌, ◌<◌, ◌≤◌, ap, arith, Some, None, true}
-use Rattle.std.specs.Prelude.{Option, IfSome}
+use Rattle.std.specs.Prelude.{Option}
 use Rattle.cord_io.specs.Table.{Table, Lengths, HasLengths}
 use Rattle.cord_node.specs.declared.Node.{Node}
 use Rattle.cord_node.specs.Tree.{len_of, IsSound}
@@ -43,10 +43,9 @@ spot_part lengths (Some n) spot path on =
     }
 
 -- over a table with the lengths that were told, the byte of the part is that of the cord
-pub spot_byte : (lengths : Lengths) (o : Option Table) (c : Option Node) (spot : Spot) (path : Path) (b : ℕ) → IsPosition c (Some spot) path → IfSome o (HasLengths lengths) → CordFitsIn lengths c → IfSome o (λ t. HasByte t spot.part.node.now (spot.index - spot.part.start) b) → IfSome o (λ t. IsByteAt t c (Some spot.index) b)
-spot_byte lengths None c spot path b on told fits e = tt
-spot_byte lengths (Some t) None spot path b on told fits e = absurd on.on_spot
-spot_byte lengths (Some t) (Some n) spot path b on told fits e =
+pub spot_byte : (lengths : Lengths) (t : Table) (c : Option Node) (spot : Spot) (path : Path) (b : ℕ) → IsPosition c (Some spot) path → HasLengths lengths t → CordFitsIn lengths c → HasByte t spot.part.node.now (spot.index - spot.part.start) b → IsByteAt t c (Some spot.index) b
+spot_byte lengths t None spot path b on told fits e = absurd on.on_spot
+spot_byte lengths t (Some n) spot path b on told fits e =
     let p : IsOnPart n spot.index spot.part (places path.stops.items) = on.on_spot in
     let start : spot.part.start ≡ (part_at n 0 spot.index).1 = ap (λ (x : Node × ℕ). x.1) p.holder in
     let node : spot.part.node.now ≡ (part_at n 0 spot.index).0 = ap (λ (x : Node × ℕ). x.0) p.holder in

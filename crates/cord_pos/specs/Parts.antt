@@ -7,10 +7,10 @@ use Rattle.cord_node.specs.Tables.{bytes_over}
 
 -- the node is no concatenation
 abbrev pub is_part : Node → Bool
-is_part (Leaf bytes start len) = true
+is_part (Leaf bytes start len mark) = true
 is_part (Run byte len) = true
 is_part (Func id start len) = true
-is_part (Cat' p left q right len depth) = false
+is_part (Cat' p left q right len depth mark) = false
 
 -- the byte of a node's text at a place, over a table
 abbrev pub HasByte : Table → Node → ℕ → ℕ → Type 0

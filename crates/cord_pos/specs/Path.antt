@@ -21,10 +21,10 @@ places os = map place_of os
 
 -- the places below a node that begins at `start`, down to the part that holds the index `i` of the node
 abbrev pub below : Node → ℕ → ℕ → List Place
-below (Leaf bytes s len) start i = []
+below (Leaf bytes s len mark) start i = []
 below (Run byte len) start i = []
 below (Func id s len) start i = []
-below (Cat' p left q right len depth) start i = if nat_lt i (len_of left) then (Some left, start) ∷ below left start i else (Some right, start + len_of left) ∷ below right (start + len_of left) (i - len_of left)
+below (Cat' p left q right len depth mark) start i = if nat_lt i (len_of left) then (Some left, start) ∷ below left start i else (Some right, start + len_of left) ∷ below right (start + len_of left) (i - len_of left)
 
 -- the same, with the node's own place first
 abbrev pub way : Node → ℕ → ℕ → List Place
@@ -32,10 +32,10 @@ way n start i = (Some n, start) ∷ below n start i
 
 -- the part that holds the index `i` of a node that begins at `start`, and where the part begins
 abbrev pub part_at : Node → ℕ → ℕ → Node × ℕ
-part_at (Leaf bytes s len) start i = (Leaf bytes s len, start)
+part_at (Leaf bytes s len mark) start i = (Leaf bytes s len mark, start)
 part_at (Run byte len) start i = (Run byte len, start)
 part_at (Func id s len) start i = (Func id s len, start)
-part_at (Cat' p left q right len depth) start i = if nat_lt i (len_of left) then part_at left start i else part_at right (start + len_of left) (i - len_of left)
+part_at (Cat' p left q right len depth mark) start i = if nat_lt i (len_of left) then part_at left start i else part_at right (start + len_of left) (i - len_of left)
 
 -- the node at a place holds this index of the root's text
 abbrev pub holds : ℕ → Place → Bool

@@ -1,6 +1,6 @@
 // The byte at a position.
-ghost use Rattle.std.specs.Prelude.{◌≡◌, ◌+◌, ◌<◌, ◌≤◌, true, is_err, IfOk, IfErr, IsOk, IfSome, IsSome};
-ghost use Rattle.cord_io.specs.Device.{count_after};
+ghost use Rattle.std.specs.Prelude.{◌≡◌, ◌+◌, ◌<◌, true, is_err, IfOk, IfErr, IsOk, IsSome};
+ghost use Rattle.cord_io.specs.Device.{Folder, count_after};
 ghost use Rattle.cord_node.specs.Tree.{len_of, IsSound};
 ghost use Rattle.cord_node.specs.Tables.{FitsIn};
 ghost use Rattle.cord_core.specs.Cord.{CordFitsIn};
@@ -19,13 +19,13 @@ impl<'a> Position<'a> {
         requires valid { IsSome self.old.index }
         requires fits { CordFitsIn (S.lengths src.old) self.old.cord }
         ensures stays { self.new ≡ self.old }
-        ensures byte { IfOk result (λ b. IfSome (S.table src.old) (λ t. IsByteAt t self.old.cord self.old.index b)) }
+        ensures byte { (folder : Folder) → S.keeps src.new folder → IfOk result (λ b. IsByteAt (S.table src.old folder) self.old.cord self.old.index b) }
         ensures refused { IfErr result (λ e. e ≡ CordError.ReadFailed) }
         ensures count { S.failures src.new ≡ count_after (is_err result) (S.failures src.old) }
         ensures steady { S.failures src.old < u64.MAX → S.failures src.new ≡ S.failures src.old → IsOk result }
         ensures lengths { S.lengths src.new ≡ S.lengths src.old }
         ensures table { S.table src.new ≡ S.table src.old }
-        ensures files { S.files src.new ≡ S.files src.old }
+        ensures earlier { (folder : Folder) → S.keeps src.new folder → S.keeps src.old folder }
     {
         let Some(spot) = self.spot else {
             unreachable!()
@@ -41,11 +41,11 @@ fn byte_of<S: Source>(part: &Node, place: u64, src: &mut S) -> Result<u8, ReadFa
     requires sound { IsSound part.now }
     requires inside { place < len_of part.now }
     requires fits { FitsIn (S.lengths src.old) part.now }
-    ensures byte { IfOk result (λ b. IfSome (S.table src.old) (λ t. HasByte t part.now place b)) }
+    ensures byte { (folder : Folder) → S.keeps src.new folder → IfOk result (λ b. HasByte (S.table src.old folder) part.now place b) }
     ensures count { S.failures src.new ≡ count_after (is_err result) (S.failures src.old) }
     ensures lengths { S.lengths src.new ≡ S.lengths src.old }
     ensures table { S.table src.new ≡ S.table src.old }
-    ensures files { S.files src.new ≡ S.files src.old }
+    ensures earlier { (folder : Folder) → S.keeps src.new folder → S.keeps src.old folder }
 {
     match part {
         Node::Leaf { bytes, start, .. } => Ok(bytes.as_slice()[(*start + place) as usize]),

@@ -17,19 +17,20 @@ struct Entry<'a> {
 }
 
 impl<'a> Source for Entry<'a> {
-    ghost use Rattle.std.specs.Prelude.{Some, None, [], length, if◌then◌else◌, nat_eq};
+    ghost use Rattle.std.specs.Prelude.{Some, None, [], length, if◌then◌else◌, nat_eq, ⊤};
     ghost use Rattle.std.proofs.Common.{arith};
     ghost use Rattle.std.proofs.lemmas.Bool.Decides.{nat_tests};
 
     ghost lengths = { λ s id. if nat_eq id 2 then Some (length s.bytes.now) else None };
 
-    ghost table = { λ s. Some (λ id. if nat_eq id 2 then s.bytes.now else []) };
+    // It has no files behind it.
+    ghost keeps = { λ _ _. ⊤ };
 
-    ghost files = { λ _. None };
+    ghost table = { λ s _ id. if nat_eq id 2 then s.bytes.now else [] };
 
     ghost failures = { λ s. s.failures };
 
-    ghost lengths_of_table = { λ s id. Prim.grind (arith, nat_tests) };
+    ghost lengths_of_table = { λ s _ _ id. Prim.grind (arith, nat_tests) };
 
     fn failures(&self) -> u64 {
         self.failures

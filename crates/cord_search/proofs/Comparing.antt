@@ -1,6 +1,6 @@
 -- Comparisons by pieces: the first difference decides, and else the lengths.
 use Rattle.std.proofs.Common.{◌==◌, Bool, true, false, append_assoc, to_z, of_z, w8, ◌≡◌, ℕ, ◌+◌, ◌-◌, ◌<◌, ◌≤◌, zero, suc, List, [], ◌∷◌, ◌++◌, length, take, drop, None, Some, refl, sym, ◌∙◌, ap, arith, length-drop}
-use Rattle.std.specs.Prelude.{Option, IfSome, min, ℤ, pos, negsuc, nat_lt, if◌then◌else◌, cond}
+use Rattle.std.specs.Prelude.{Option, min, ℤ, pos, negsuc, nat_lt, if◌then◌else◌, cond}
 use Rattle.std.specs.Ordering.{nat_cmp, ordering_then, MatchOrdering}
 use Rattle.std.specs.Cmp.{ranked, nat_cmp_is}
 use Rattle.std.specs.Cmp.Lexicographic.{slice_cmp}
@@ -81,18 +81,16 @@ pub piece_front : (x piece : List ℕ) (i done n : ℕ) → piece ≡ take (leng
 piece_front x piece i done n e h = ap (λ (ys : List ℕ). take n ys) e ∙ take-take n (length piece) (drop (i + done) x) h ∙ ap (λ (ys : List ℕ). take n ys) (sym (drop-drop done i x))
 
 -- the next bytes are the same too
-pub same_on : (o : Option Table) (x : Option Node) (i : ℕ) (y : Option Node) (j done n : ℕ) (piece other : List ℕ) → n ≤ length piece → n ≤ length other → IsPieceOf o x (i + done) piece → IsPieceOf o y (j + done) other → Equal ≡ slice_cmp nat_cmp (take n piece) (take n other) → AreSame o x i y j done → AreSame o x i y j (done + n)
-same_on None x i y j done n piece other p q e f h s = tt
-same_on (Some t) x i y j done n piece other p q e f h s =
+pub same_on : (t : Table) (x : Option Node) (i : ℕ) (y : Option Node) (j done n : ℕ) (piece other : List ℕ) → n ≤ length piece → n ≤ length other → IsPieceOf t x (i + done) piece → IsPieceOf t y (j + done) other → Equal ≡ slice_cmp nat_cmp (take n piece) (take n other) → AreSame t x i y j done → AreSame t x i y j (done + n)
+same_on t x i y j done n piece other p q e f h s =
     let u = drop i (bytes_of t x) in
     let v = drop j (bytes_of t y) in
     let next : take n (drop done u) ≡ take n (drop done v) = sym (piece_front (bytes_of t x) piece i done n e p) ∙ cmp_equal (take n piece) (take n other) (sym h) ∙ piece_front (bytes_of t y) other j done n f q in
     take-add done n u ∙ ap (λ (zs : List ℕ). zs ++ take n (drop done u)) s ∙ ap (λ (zs : List ℕ). take done v ++ zs) next ∙ sym (take-add done n v)
 
 -- the next bytes are not the same
-pub different : (o : Option Table) (x : Option Node) (i a : ℕ) (y : Option Node) (j b done n : ℕ) (piece other : List ℕ) (r : Ordering) → done + n ≤ a → done + n ≤ b → n ≤ length piece → n ≤ length other → IsPieceOf o x (i + done) piece → IsPieceOf o y (j + done) other → r ≡ slice_cmp nat_cmp (take n piece) (take n other) → (r ≡ Equal → ⊥) → AreSame o x i y j done → IsOrderOf o x i a y j b r
-different None x i a y j b done n piece other r k m p q e f h not s = tt
-different (Some t) x i a y j b done n piece other r k m p q e f h not s =
+pub different : (t : Table) (x : Option Node) (i a : ℕ) (y : Option Node) (j b done n : ℕ) (piece other : List ℕ) (r : Ordering) → done + n ≤ a → done + n ≤ b → n ≤ length piece → n ≤ length other → IsPieceOf t x (i + done) piece → IsPieceOf t y (j + done) other → r ≡ slice_cmp nat_cmp (take n piece) (take n other) → (r ≡ Equal → ⊥) → AreSame t x i y j done → IsOrderOf t x i a y j b r
+different t x i a y j b done n piece other r k m p q e f h not s =
     let u = drop i (bytes_of t x) in
     let v = drop j (bytes_of t y) in
     let l : length (take n piece) ≡ length (take n other) = length-take-le n piece p ∙ sym (length-take-le n other q) in
@@ -106,19 +104,17 @@ different (Some t) x i a y j b done n piece other r k m p q e f h not s =
         ap (λ (m : ℕ). take m u) whole ∙ take-add (done + n) (a - (done + n)) u ∙ ap (λ (ws : List ℕ). ws ++ take (a - (done + n)) (drop (done + n) u)) (take-add done n u) ∙ append_assoc (take done u) (take n (drop done u)) (take (a - (done + n)) (drop (done + n) u)) ∙ ap (λ (ws : List ℕ). take done u ++ (ws ++ take (a - (done + n)) (drop (done + n) u))) (sym e)
 
 -- all of the shorter one is the same
-pub no_different : (o : Option Table) (x : Option Node) (i a : ℕ) (y : Option Node) (j b done : ℕ) → done ≤ min a b → min a b ≤ done → IfSome o (λ t. length (take a (drop i (bytes_of t x))) ≡ a) → IfSome o (λ t. length (take b (drop j (bytes_of t y))) ≡ b) → AreSame o x i y j done → IsOrderOf o x i a y j b (nat_cmp a b)
-no_different None x i a y j b done low high p q s = tt
-no_different (Some t) x i a y j b done low high p q s =
+pub no_different : (t : Table) (x : Option Node) (i a : ℕ) (y : Option Node) (j b done : ℕ) → done ≤ min a b → min a b ≤ done → length (take a (drop i (bytes_of t x))) ≡ a → length (take b (drop j (bytes_of t y))) ≡ b → AreSame t x i y j done → IsOrderOf t x i a y j b (nat_cmp a b)
+no_different t x i a y j b done low high p q s =
     let u = drop i (bytes_of t x) in
     let v = drop j (bytes_of t y) in
     let same : take done (take a u) ≡ take done (take b v) = take-take done a u (omega (arith, low)) ∙ s ∙ sym (take-take done b v (omega (arith, low))) in
     ap (λ (k : ℕ). nat_cmp k b) (sym p) ∙ ap (λ (k : ℕ). nat_cmp (length (take a u)) k) (sym q) ∙ cmp_lengths (take a u) (take b v) done (omega (arith, p, q, high)) same
 
 -- a range that lies inside is as long as was asked
-pub range_len : (o : Option Table) (x : Option Node) (i a : ℕ) → IfSome o (λ t. length (bytes_of t x) ≡ text_len x) → (0 < a → i + a ≤ text_len x) → IfSome o (λ t. length (take a (drop i (bytes_of t x))) ≡ a)
-range_len None x i a len inside = tt
-range_len (Some t) x i zero len inside = refl
-range_len (Some t) x i (suc a) len inside = let fits : i + suc a ≤ text_len x = inside (omega arith) in length-take-le (suc a) (drop i (bytes_of t x)) (omega (arith, fits, len, length-drop i (bytes_of t x)))
+pub range_len : (t : Table) (x : Option Node) (i a : ℕ) → length (bytes_of t x) ≡ text_len x → (0 < a → i + a ≤ text_len x) → length (take a (drop i (bytes_of t x))) ≡ a
+range_len t x i zero len inside = refl
+range_len t x i (suc a) len inside = let fits : i + suc a ≤ text_len x = inside (omega arith) in length-take-le (suc a) (drop i (bytes_of t x)) (omega (arith, fits, len, length-drop i (bytes_of t x)))
 
 -- the order of two texts as a number
 pub order_sign : (xs ys : List ℕ) → sign_of (slice_cmp nat_cmp xs ys) ≡ order xs ys
@@ -141,17 +137,15 @@ signed Equal = refl
 signed Greater = refl
 
 -- the order of two cords
-pub sign_whole : (o : Option Table) (x y : Option Node) (a b : ℕ) (r : Ordering) (s : ℤ) → IfSome o (λ t. length (bytes_of t x) ≡ text_len x) → IfSome o (λ t. length (bytes_of t y) ≡ text_len y) → a ≡ text_len x → b ≡ text_len y → s ≡ sign_of r → IsOrderOf o x 0 a y 0 b r → IfSome o (λ t. to_z w8 (of_z w8 s) ≡ order (bytes_of t x) (bytes_of t y))
-sign_whole None x y a b r s p q d e f h = tt
-sign_whole (Some t) x y a b r s p q d e f h =
+pub sign_whole : (t : Table) (x y : Option Node) (a b : ℕ) (r : Ordering) (s : ℤ) → length (bytes_of t x) ≡ text_len x → length (bytes_of t y) ≡ text_len y → a ≡ text_len x → b ≡ text_len y → s ≡ sign_of r → IsOrderOf t x 0 a y 0 b r → to_z w8 (of_z w8 s) ≡ order (bytes_of t x) (bytes_of t y)
+sign_whole t x y a b r s p q d e f h =
     let left : take a (bytes_of t x) ≡ bytes_of t x = take_all a (bytes_of t x) (omega (arith, p, d)) in
     let right : take b (bytes_of t y) ≡ bytes_of t y = take_all b (bytes_of t y) (omega (arith, q, e)) in
     ap (λ (z : ℤ). to_z w8 (of_z w8 z)) f ∙ signed r ∙ ap sign_of h ∙ order_sign (take a (bytes_of t x)) (take b (bytes_of t y)) ∙ ap (λ (zs : List ℕ). order zs (take b (bytes_of t y))) left ∙ ap (λ (zs : List ℕ). order (bytes_of t x) zs) right
 
 -- the order of two ranges
-pub sign_ranges : (o : Option Table) (x : Option Node) (i : ℕ) (y : Option Node) (j k a b : ℕ) (r : Ordering) (s : ℤ) → IfSome o (λ t. length (bytes_of t x) ≡ text_len x) → IfSome o (λ t. length (bytes_of t y) ≡ text_len y) → a ≡ min k (text_len x - i) → b ≡ min k (text_len y - j) → s ≡ sign_of r → IsOrderOf o x i a y j b r → IfSome o (λ t. to_z w8 (of_z w8 s) ≡ order (take k (drop i (bytes_of t x))) (take k (drop j (bytes_of t y))))
-sign_ranges None x i y j k a b r s p q d e f h = tt
-sign_ranges (Some t) x i y j k a b r s p q d e f h =
+pub sign_ranges : (t : Table) (x : Option Node) (i : ℕ) (y : Option Node) (j k a b : ℕ) (r : Ordering) (s : ℤ) → length (bytes_of t x) ≡ text_len x → length (bytes_of t y) ≡ text_len y → a ≡ min k (text_len x - i) → b ≡ min k (text_len y - j) → s ≡ sign_of r → IsOrderOf t x i a y j b r → to_z w8 (of_z w8 s) ≡ order (take k (drop i (bytes_of t x))) (take k (drop j (bytes_of t y)))
+sign_ranges t x i y j k a b r s p q d e f h =
     let u = drop i (bytes_of t x) in
     let v = drop j (bytes_of t y) in
     let left : take a u ≡ take k u = ap (λ (m : ℕ). take m u) d ∙ range_min (bytes_of t x) i k (text_len x) p in

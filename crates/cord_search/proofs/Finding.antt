@@ -1,6 +1,6 @@
 -- Places of a byte: those in a piece are those in the text.
 use Rattle.std.proofs.Common.{◌≡◌, ◌≢◌, ℕ, ◌+◌, ◌-◌, ◌<◌, ◌≤◌, List, [], ◌∷◌, length, take, drop, get_or, None, Some, refl, sym, ◌∙◌, ap, arith, ⊎_elim, eq-eqb, length-drop}
-use Rattle.std.specs.Prelude.{Option, IfSome, slice_get}
+use Rattle.std.specs.Prelude.{Option, slice_get}
 use Rattle.std.proofs.lemmas.Bool.{cases_lt, eqb-true}
 use Rattle.std.proofs.lemmas.List.{get_or-take, get_or-drop, length-take, length-take-le}
 use Rattle.std.proofs.lemmas.Option.{slice_get_within, get_or_from_slice_get, slice_get-get_or}
@@ -19,9 +19,8 @@ use Rattle.cord_search.specs.Stretches.{stretch_len, stretch_bytes, IsStretchAt,
 use Rattle.cord_search.specs.declared.stretches.Stretch.{Stretch}
 
 -- a node that fits a table has as long a text there as it stores
-pub node_len : (ls : Lengths) (o : Option Table) (n : Node) → IfSome o (HasLengths ls) → IsSound n → FitsIn ls n → IfSome o (λ t. length (bytes_over t n) ≡ len_of n)
-node_len ls None n told s f = tt
-node_len ls (Some t) n told s f = length-bytes_over t n s (Fits-told ls t n told f)
+pub node_len : (ls : Lengths) (t : Table) (n : Node) → HasLengths ls t → IsSound n → FitsIn ls n → length (bytes_over t n) ≡ len_of n
+node_len ls t n told s f = length-bytes_over t n s (Fits-told ls t n told f)
 
 -- there is one first place
 same_first : (x s : List ℕ) (i : ℕ) (a b : Option ℕ) → IsFirst x i s a → IsFirst x i s b → a ≡ b
@@ -78,49 +77,43 @@ found x xs c p k e lt h =
     slice_get-get_or x (p + k) 0 (omega arith) ∙ ap (λ (b : ℕ). Some b) (sym (range_at x xs p k e lt) ∙ eqb-true (get_or xs k 0) c h)
 
 -- a search by pieces goes on
-pub first_on : (o : Option Table) (n : Node) (xs : List ℕ) (c from p : ℕ) (r : Option ℕ) → r ≡ None → IsFirstByte (is_byte c) xs r → IsPieceAt o n p xs → NotFound o n (c ∷ []) from p → NotFound o n (c ∷ []) from (p + length xs)
-first_on None n xs c from p r is h e none = tt
-first_on (Some t) n xs c from p r is h e none =
+pub first_on : (t : Table) (n : Node) (xs : List ℕ) (c from p : ℕ) (r : Option ℕ) → r ≡ None → IsFirstByte (is_byte c) xs r → IsPieceAt t n p xs → NotFound t n (c ∷ []) from p → NotFound t n (c ∷ []) from (p + length xs)
+first_on t n xs c from p r is h e none =
     let nowhere : Nowhere (Passes (is_byte c) xs) 0 (length xs) = rw is at h in
     let x = bytes_over t n in
     λ q low to at. ⊎_elim (λ (lt : q < p). none q low lt at) (λ (le : p ≤ q). nowhere (q - p) (omega arith) (omega arith) (passes x xs c p q e le to (byte_there x c q at))) (cases_lt q p)
 
 -- and ends where the byte is found
-pub first_found : (o : Option Table) (n : Node) (xs : List ℕ) (c from p k : ℕ) (r : Option ℕ) → r ≡ Some k → IsFirstByte (is_byte c) xs r → from ≤ p → IsPieceAt o n p xs → NotFound o n (c ∷ []) from p → IfSome o (λ t. Some (p + k) ≡ first (bytes_over t n) from (c ∷ []))
-first_found None n xs c from p k r is h low e none = tt
-first_found (Some t) n xs c from p k r is h low e none =
+pub first_found : (t : Table) (n : Node) (xs : List ℕ) (c from p k : ℕ) (r : Option ℕ) → r ≡ Some k → IsFirstByte (is_byte c) xs r → from ≤ p → IsPieceAt t n p xs → NotFound t n (c ∷ []) from p → Some (p + k) ≡ first (bytes_over t n) from (c ∷ [])
+first_found t n xs c from p k r is h low e none =
     let x = bytes_over t n in
     let here : NoneBefore (Passes (is_byte c) xs) 0 (length xs) k × Passes (is_byte c) xs k = rw is at h in
     let before : (q : ℕ) → from ≤ q → q < p + k → StandsAt x (c ∷ []) q → ⊥ = λ q low' to at. ⊎_elim (λ (lt : q < p). none q low' lt at) (λ (le : p ≤ q). let below : k < length xs = here.0.high in here.0.before (q - p) (omega arith) (omega arith) (passes x xs c p q e le (omega arith) (byte_there x c q at))) (cases_lt q p) in
     first_only x (c ∷ []) from (Some (p + k)) (omega arith, byte_here x c (p + k) (found x xs c p k e here.0.high here.1), before)
 
 -- or at the end of the text
-pub first_none : (o : Option Table) (n : Node) (c from p : ℕ) → len_of n ≤ p → IfSome o (λ t. length (bytes_over t n) ≡ len_of n) → NotFound o n (c ∷ []) from p → IfSome o (λ t. None ≡ first (bytes_over t n) from (c ∷ []))
-first_none None n c from p end len none = tt
-first_none (Some t) n c from p end len none =
+pub first_none : (t : Table) (n : Node) (c from p : ℕ) → len_of n ≤ p → length (bytes_over t n) ≡ len_of n → NotFound t n (c ∷ []) from p → None ≡ first (bytes_over t n) from (c ∷ [])
+first_none t n c from p end len none =
     let x = bytes_over t n in
     first_only x (c ∷ []) from None (λ q low at. let inside : q < length x = slice_get_within x q c (byte_there x c q at) in none q low (omega (arith, len, inside)) at)
 
 -- the same from behind
-pub last_on : (o : Option Table) (n : Node) (xs : List ℕ) (c at p end : ℕ) (r : Option ℕ) → r ≡ None → IsLastByte (is_byte c) xs r → p + length xs ≡ end → IsPieceAt o n p xs → HasNot o n c end (at + 1) → HasNot o n c p (at + 1)
-last_on None n xs c at p end r is h seam e none = tt
-last_on (Some t) n xs c at p end r is h seam e none =
+pub last_on : (t : Table) (n : Node) (xs : List ℕ) (c at p end : ℕ) (r : Option ℕ) → r ≡ None → IsLastByte (is_byte c) xs r → p + length xs ≡ end → IsPieceAt t n p xs → HasNot t n c end (at + 1) → HasNot t n c p (at + 1)
+last_on t n xs c at p end r is h seam e none =
     let nowhere : Nowhere (Passes (is_byte c) xs) 0 (length xs) = rw is at h in
     let x = bytes_over t n in
     λ q low to here. ⊎_elim (λ (lt : q < end). nowhere (q - p) (omega arith) (omega arith) (passes x xs c p q e low (omega arith) here)) (λ (le : end ≤ q). none q le to here) (cases_lt q end)
 
-pub last_found : (o : Option Table) (n : Node) (xs : List ℕ) (c at p k end : ℕ) (r : Option ℕ) → r ≡ Some k → IsLastByte (is_byte c) xs r → p + length xs ≡ end → end ≤ at + 1 → IsPieceAt o n p xs → HasNot o n c end (at + 1) → IfSome o (λ t. Some (p + k) ≡ last (bytes_over t n) at c)
-last_found None n xs c at p k end r is h seam high e none = tt
-last_found (Some t) n xs c at p k end r is h seam high e none =
+pub last_found : (t : Table) (n : Node) (xs : List ℕ) (c at p k end : ℕ) (r : Option ℕ) → r ≡ Some k → IsLastByte (is_byte c) xs r → p + length xs ≡ end → end ≤ at + 1 → IsPieceAt t n p xs → HasNot t n c end (at + 1) → Some (p + k) ≡ last (bytes_over t n) at c
+last_found t n xs c at p k end r is h seam high e none =
     let x = bytes_over t n in
     let here : NoneAfter (Passes (is_byte c) xs) 0 (length xs) k × Passes (is_byte c) xs k = rw is at h in
     let below : k < length xs = here.0.high in
     let behind : (q : ℕ) → p + k < q → q ≤ at → slice_get x q ≢ Some c = λ q low to there. ⊎_elim (λ (lt : q < end). here.0.after (q - p) (omega arith) (omega arith) (passes x xs c p q e (omega arith) (omega arith) there)) (λ (le : end ≤ q). none q le (omega arith) there) (cases_lt q end) in
     last_only x at c (Some (p + k)) (omega arith, found x xs c p k e below here.1, behind)
 
-pub last_none : (o : Option Table) (n : Node) (c at end : ℕ) → end ≤ 0 → HasNot o n c end (at + 1) → IfSome o (λ t. None ≡ last (bytes_over t n) at c)
-last_none None n c at end low none = tt
-last_none (Some t) n c at end low none = last_only (bytes_over t n) at c None (λ q to there. none q (omega arith) (omega arith) there)
+pub last_none : (t : Table) (n : Node) (c at end : ℕ) → end ≤ 0 → HasNot t n c end (at + 1) → None ≡ last (bytes_over t n) at c
+last_none t n c at end low none = last_only (bytes_over t n) at c None (λ q to there. none q (omega arith) (omega arith) there)
 
 -- a byte of the text is one of the stretch that holds its place
 in_stretch : (t : Table) (n : Node) (p : ℕ) (s : Stretch) (c q : ℕ) → Fits t n → IsSound n → IsStretchAt n p s → p ≤ q → q < p + stretch_len s → slice_get (bytes_over t n) q ≡ Some c → slice_get (stretch_bytes t s) (q - p) ≡ Some c
@@ -134,12 +127,10 @@ in_stretch t n p s c q fits sound h from to there =
     slice_get-get_or xs (q - p) 0 (omega (arith, long, from, to)) ∙ ap (λ (b : ℕ). Some b) (range_at x xs p (q - p) range (omega (arith, long, from, to)) ∙ ap (λ (k : ℕ). get_or x k 0) m ∙ get_or_from_slice_get x q c 0 there)
 
 -- a search goes on behind a stretch that hasn't the byte
-pub first_past : (ls : Lengths) (o : Option Table) (n : Node) (s : Stretch) (c from p : ℕ) → IfSome o (HasLengths ls) → FitsIn ls n → IsSound n → IsStretchAt n p s → IsWithout s c → NotFound o n (c ∷ []) from p → NotFound o n (c ∷ []) from (p + stretch_len s)
-first_past ls None n s c from p told f sound h not none = tt
-first_past ls (Some t) n s c from p told f sound h not none =
+pub first_past : (ls : Lengths) (t : Table) (n : Node) (s : Stretch) (c from p : ℕ) → HasLengths ls t → FitsIn ls n → IsSound n → IsStretchAt n p s → IsWithout s c → NotFound t n (c ∷ []) from p → NotFound t n (c ∷ []) from (p + stretch_len s)
+first_past ls t n s c from p told f sound h not none =
     λ q low to at. ⊎_elim (λ (lt : q < p). none q low lt at) (λ (le : p ≤ q). not t (q - p) (in_stretch t n p s c q (Fits-told ls t n told f) sound h le to (byte_there (bytes_over t n) c q at))) (cases_lt q p)
 
-pub last_past : (ls : Lengths) (o : Option Table) (n : Node) (s : Stretch) (c at p end : ℕ) → IfSome o (HasLengths ls) → FitsIn ls n → IsSound n → p + stretch_len s ≡ end → IsStretchAt n p s → IsWithout s c → HasNot o n c end (at + 1) → HasNot o n c p (at + 1)
-last_past ls None n s c at p end told f sound seam h not none = tt
-last_past ls (Some t) n s c at p end told f sound seam h not none =
+pub last_past : (ls : Lengths) (t : Table) (n : Node) (s : Stretch) (c at p end : ℕ) → HasLengths ls t → FitsIn ls n → IsSound n → p + stretch_len s ≡ end → IsStretchAt n p s → IsWithout s c → HasNot t n c end (at + 1) → HasNot t n c p (at + 1)
+last_past ls t n s c at p end told f sound seam h not none =
     λ q low to here. ⊎_elim (λ (lt : q < end). not t (q - p) (in_stretch t n p s c q (Fits-told ls t n told f) sound h low (omega arith) here)) (λ (le : end ≤ q). none q le to here) (cases_lt q end)

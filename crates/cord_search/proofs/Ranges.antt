@@ -1,6 +1,6 @@
 -- Where stretches and pieces stand in the text of a node.
 use Rattle.std.proofs.Common.{◌≡◌, ℕ, ◌+◌, ◌-◌, ◌<◌, ◌≤◌, List, ◌++◌, length, take, drop, None, Some, sym, ◌∙◌, ap, arith, length-drop}
-use Rattle.std.specs.Prelude.{Option, IfSome, min, replicate}
+use Rattle.std.specs.Prelude.{Option, min, replicate}
 use Rattle.std.specs.declared.rc.Rc.{Rc}
 use Rattle.std.specs.Global.{Global}
 use Rattle.std.proofs.Math.Seq.{take-add}
@@ -8,6 +8,7 @@ use Rattle.std.proofs.lemmas.List.{take_min, drop-replicate, take-replicate, len
 use Rattle.cord_io.specs.declared.SourceId.{SourceId}
 use Rattle.cord_io.specs.Table.{Table, Lengths, HasLengths, length_at}
 use Rattle.cord_io.specs.declared.TheConstants.{MAX_LEN}
+use Rattle.cord_node.specs.Kept.{Part}
 use Rattle.cord_node.specs.declared.Node.{Node}
 use Rattle.cord_node.specs.declared.Node.TheVariants.{Run, Func, Cat'}
 use Rattle.cord_node.specs.Tree.{len_of, IsSound}
@@ -15,7 +16,8 @@ use Rattle.cord_node.specs.Tables.{bytes_over, lengths_of, FitsIn, Fits}
 use Rattle.cord_node.proofs.Ranges.{range_of_range, range_left, range_right}
 use Rattle.cord_node.proofs.TableLemmas.{Fits-told}
 use Rattle.cord_iter.proofs.Lengths.{length-bytes_over}
-use Rattle.cord_core.specs.Cord.{bytes_of, CordFitsIn, CordFits}
+use Rattle.cord_core.specs.Cord.{text_len, bytes_of, IsCord, CordFitsIn, CordFits}
+use Rattle.cord_core.proofs.OverLemmas.{length-bytes}
 use Rattle.cord_search.specs.Pieces.{IsPieceOf, AreSame}
 use Rattle.cord_search.specs.Stretches.{stretch_len, stretch_bytes, StretchFitsIn, IsStretchOf, IsStretchAt, IsPartOf, BeginAlike}
 use Rattle.cord_search.specs.declared.stretches.Stretch.{Stretch}
@@ -34,13 +36,13 @@ pub record IsWithin (n : Node) (place : ℕ) (m : Node) (at : ℕ) : Type 0 wher
   pub text : (t : Table) → Fits t n → (i k : ℕ) → i + k ≤ len_of m → take k (drop (offset + i) (bytes_over t n)) ≡ take k (drop i (bytes_over t m))
 
 -- a concatenation is as long as its two sides
-pub cat_len : (m : Node) (p : Rc (Unit {0}) Global) (l : Node) (q : Rc (Unit {0}) Global) (r : Node) (len depth : ℕ) → m ≡ Cat' p l q r len depth → IsSound m → len_of m ≡ len_of l + len_of r
-cat_len m p l q r len depth e s = let v : IsSound (Cat' p l q r len depth) = rw e at s in ap len_of e ∙ v.2
+pub cat_len : (m : Node) (p : Rc (Unit {0}) Global) (l : Node) (q : Rc (Unit {0}) Global) (r : Node) (len depth : ℕ) (mark : List Part) → m ≡ Cat' p l q r len depth mark → IsSound m → len_of m ≡ len_of l + len_of r
+cat_len m p l q r len depth mark e s = let v : IsSound (Cat' p l q r len depth mark) = rw e at s in ap len_of e ∙ v.2
 
 -- and so is the left side of what is within
-pub within_left : (n : Node) (place : ℕ) (m : Node) (at : ℕ) (p : Rc (Unit {0}) Global) (l : Node) (q : Rc (Unit {0}) Global) (r : Node) (len depth : ℕ) → m ≡ Cat' p l q r len depth → IsWithin n place m at → IsWithin n place l at
-within_left n place m at p l q r len depth e w =
-    let v : IsWithin n place (Cat' p l q r len depth) at = rw e at w in
+pub within_left : (n : Node) (place : ℕ) (m : Node) (at : ℕ) (p : Rc (Unit {0}) Global) (l : Node) (q : Rc (Unit {0}) Global) (r : Node) (len depth : ℕ) (mark : List Part) → m ≡ Cat' p l q r len depth mark → IsWithin n place m at → IsWithin n place l at
+within_left n place m at p l q r len depth mark e w =
+    let v : IsWithin n place (Cat' p l q r len depth mark) at = rw e at w in
     let long : len ≡ len_of l + len_of r = v.sound.2 in
     record {
       offset = v.offset;
@@ -54,9 +56,9 @@ within_left n place m at p l q r len depth e w =
     }
 
 -- and the right side
-pub within_right : (n : Node) (place : ℕ) (m : Node) (at next : ℕ) (p : Rc (Unit {0}) Global) (l : Node) (q : Rc (Unit {0}) Global) (r : Node) (len depth : ℕ) → m ≡ Cat' p l q r len depth → at ≡ len_of l + next → IsWithin n place m at → IsWithin n place r next
-within_right n place m at next p l q r len depth e seam w =
-    let v : IsWithin n place (Cat' p l q r len depth) at = rw e at w in
+pub within_right : (n : Node) (place : ℕ) (m : Node) (at next : ℕ) (p : Rc (Unit {0}) Global) (l : Node) (q : Rc (Unit {0}) Global) (r : Node) (len depth : ℕ) (mark : List Part) → m ≡ Cat' p l q r len depth mark → at ≡ len_of l + next → IsWithin n place m at → IsWithin n place r next
+within_right n place m at next p l q r len depth mark e seam w =
+    let v : IsWithin n place (Cat' p l q r len depth mark) at = rw e at w in
     let long : len ≡ len_of l + len_of r = v.sound.2 in
     record {
       offset = v.offset + len_of l;
@@ -122,32 +124,32 @@ func_stretch m s id start len from at k e sound f h some count bytes fits =
     }
 
 -- so many times the byte of a run
-pub run_part : (o : Option Table) (s : Stretch) (xs : List ℕ) (byte len i k : ℕ) → ((t : Table) → stretch_bytes t s ≡ replicate len byte) → i + k ≤ len → xs ≡ replicate k byte → IsPartOf o s i xs
-run_part None s xs byte len i k e h is = tt
-run_part (Some t) s xs byte len i k e h is =
+pub run_part : (t : Table) (s : Stretch) (xs : List ℕ) (byte len i k : ℕ) → ((t : Table) → stretch_bytes t s ≡ replicate len byte) → i + k ≤ len → xs ≡ replicate k byte → IsPartOf t s i xs
+run_part t s xs byte len i k e h is =
     let inside : k ≤ len - i = omega arith in
     own_range xs (drop i (stretch_bytes t s)) k (is ∙ sym (take-replicate k (len - i) byte inside) ∙ ap (λ (ys : List ℕ). take k ys) (sym (drop-replicate i len byte)) ∙ ap (λ (ys : List ℕ). take k (drop i ys)) (sym (e t)))
 
 -- bytes that were read of an entry
-pub func_part : (o : Option Table) (s : Stretch) (xs : List ℕ) (id start len from i : ℕ) → ((t : Table) → stretch_bytes t s ≡ take len (drop start (t id))) → from ≡ start + i → i + length xs ≤ len → IfSome o (λ t. xs ≡ take (length xs) (drop from (t id))) → IsPartOf o s i xs
-func_part None s xs id start len from i e f h is = tt
-func_part (Some t) s xs id start len from i e f h is =
+pub func_part : (t : Table) (s : Stretch) (xs : List ℕ) (id start len from i : ℕ) → ((t : Table) → stretch_bytes t s ≡ take len (drop start (t id))) → from ≡ start + i → i + length xs ≤ len → xs ≡ take (length xs) (drop from (t id)) → IsPartOf t s i xs
+func_part t s xs id start len from i e f h is =
     is ∙ ap (λ (m : ℕ). take (length xs) (drop m (t id))) f ∙ sym (range_of_range (t id) i (length xs) start len h) ∙ ap (λ (ys : List ℕ). take (length xs) (drop i ys)) (sym (e t))
 
 -- the whole of a stretch
-pub whole_part : (o : Option Table) (s : Stretch) (xs : List ℕ) (i : ℕ) → ((t : Table) → stretch_bytes t s ≡ xs) → i ≡ 0 → IsPartOf o s i xs
-whole_part None s xs i e z = tt
-whole_part (Some t) s xs i e z = sym (take_all (length xs) xs (omega arith)) ∙ ap (λ (j : ℕ). take (length xs) (drop j xs)) (sym z) ∙ ap (λ (ys : List ℕ). take (length xs) (drop i ys)) (sym (e t))
+pub whole_part : (t : Table) (s : Stretch) (xs : List ℕ) (i : ℕ) → ((t : Table) → stretch_bytes t s ≡ xs) → i ≡ 0 → IsPartOf t s i xs
+whole_part t s xs i e z = sym (take_all (length xs) xs (omega arith)) ∙ ap (λ (j : ℕ). take (length xs) (drop j xs)) (sym z) ∙ ap (λ (ys : List ℕ). take (length xs) (drop i ys)) (sym (e t))
 
 -- a cord that fits the lengths of a table fits the table
 cord_told : (ls : Lengths) (t : Table) (c : Option Node) → HasLengths ls t → CordFitsIn ls c → CordFits t c
 cord_told ls t None told f = tt
 cord_told ls t (Some n) told f = Fits-told ls t n told f
 
+-- and has as long a text there as it stores
+pub cord_len : (ls : Lengths) (t : Table) (c : Option Node) → HasLengths ls t → IsCord c → CordFitsIn ls c → length (bytes_of t c) ≡ text_len c
+cord_len ls t c told sound f = sym (length-bytes t c sound (cord_told ls t c told f))
+
 -- a part of a stretch is a piece of the text
-pub piece_within : (ls : Lengths) (o : Option Table) (c : Option Node) (place : ℕ) (s : Stretch) (i j : ℕ) (xs : List ℕ) → IfSome o (HasLengths ls) → CordFitsIn ls c → IsStretchOf c place s → i + length xs ≤ stretch_len s → j ≡ place + i → IsPartOf o s i xs → IsPieceOf o c j xs
-piece_within ls None c place s i j xs told f h inside e p = tt
-piece_within ls (Some t) c place s i j xs told f h inside e p =
+pub piece_within : (ls : Lengths) (t : Table) (c : Option Node) (place : ℕ) (s : Stretch) (i j : ℕ) (xs : List ℕ) → HasLengths ls t → CordFitsIn ls c → IsStretchOf c place s → i + length xs ≤ stretch_len s → j ≡ place + i → IsPartOf t s i xs → IsPieceOf t c j xs
+piece_within ls t c place s i j xs told f h inside e p =
     p ∙ ap (λ (ys : List ℕ). take (length xs) (drop i ys)) (h.text t (cord_told ls t c told f)) ∙ range_of_range (bytes_of t c) i (length xs) place (stretch_len s) inside ∙ ap (λ (m : ℕ). take (length xs) (drop m (bytes_of t c))) (sym e)
 
 -- the first bytes of a stretch
@@ -155,9 +157,8 @@ front : (ls : Lengths) (t : Table) (c : Option Node) (place : ℕ) (s : Stretch)
 front ls t c place s n m told f h lt le = sym (take-take n (stretch_len s) (drop place (bytes_of t c)) (omega arith)) ∙ ap (λ (ys : List ℕ). take n ys) (sym (h.text t (cord_told ls t c told f))) ∙ sym (take-take n m (stretch_bytes t s) lt)
 
 -- the next bytes of two texts are those of two stretches that begin alike
-pub same_stretch : (ls : Lengths) (o : Option Table) (x : Option Node) (i : ℕ) (y : Option Node) (j done n m : ℕ) (s other : Stretch) → IfSome o (HasLengths ls) → CordFitsIn ls x → CordFitsIn ls y → IsStretchOf x (i + done) s → IsStretchOf y (j + done) other → n ≤ m → m ≡ min (stretch_len s) (stretch_len other) → BeginAlike s other m → AreSame o x i y j done → AreSame o x i y j (done + n)
-same_stretch ls None x i y j done n m s other told f g h k lt le alike same = tt
-same_stretch ls (Some t) x i y j done n m s other told f g h k lt le alike same =
+pub same_stretch : (ls : Lengths) (t : Table) (x : Option Node) (i : ℕ) (y : Option Node) (j done n m : ℕ) (s other : Stretch) → HasLengths ls t → CordFitsIn ls x → CordFitsIn ls y → IsStretchOf x (i + done) s → IsStretchOf y (j + done) other → n ≤ m → m ≡ min (stretch_len s) (stretch_len other) → BeginAlike s other m → AreSame t x i y j done → AreSame t x i y j (done + n)
+same_stretch ls t x i y j done n m s other told f g h k lt le alike same =
     let u = drop i (bytes_of t x) in
     let v = drop j (bytes_of t y) in
     let left : take n (drop done u) ≡ take n (take m (stretch_bytes t s)) = ap (λ (ys : List ℕ). take n ys) (drop-drop done i (bytes_of t x)) ∙ front ls t x (i + done) s n m told f h lt (omega (arith, le)) in

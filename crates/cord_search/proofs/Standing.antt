@@ -1,6 +1,6 @@
 -- Places of a text in another, by windows.
 use Rattle.std.proofs.Common.{◌≡◌, ◌≢◌, ℕ, ◌+◌, ◌-◌, ◌<◌, ◌≤◌, Bool, true, false, List, [], ◌∷◌, ◌++◌, length, take, drop, get_or, None, Some, refl, sym, ◌∙◌, ap, subst, arith, ⊎_elim, eq-eqb, length-drop, length-append}
-use Rattle.std.specs.Prelude.{Option, IfSome, nat_eq, ◌&&◌}
+use Rattle.std.specs.Prelude.{Option, nat_eq, ◌&&◌}
 use Rattle.std.specs.Ordering.{nat_cmp}
 use Rattle.std.specs.Cmp.Lexicographic.{slice_cmp, pointwise}
 use Rattle.std.specs.declared.cmp.Ordering.{Ordering}
@@ -21,9 +21,8 @@ use Rattle.cord_search.proofs.Finding.{range_at, first_only}
 use Rattle.cord_search.proofs.Comparing.{cmp_same, cmp_equal, piece_front}
 
 -- a piece was copied behind what was filled
-pub filled_on : (o : Option Table) (c : Option Node) (place done k n : ℕ) (out piece part : List ℕ) → IsFilled o c place done out → IsPieceOf o c (place + done) piece → n ≤ length piece → done ≤ length out → part ≡ take n piece → IsFilled o c place (done + n) (put_mid done k out part)
-filled_on None c place done k n out piece part h e p q is = tt
-filled_on (Some t) c place done k n out piece part h e p q is =
+pub filled_on : (t : Table) (c : Option Node) (place done k n : ℕ) (out piece part : List ℕ) → IsFilled t c place done out → IsPieceOf t c (place + done) piece → n ≤ length piece → done ≤ length out → part ≡ take n piece → IsFilled t c place (done + n) (put_mid done k out part)
+filled_on t c place done k n out piece part h e p q is =
     let x = drop place (bytes_of t c) in
     let long : length part ≡ n = ap (λ (ys : List ℕ). length ys) is ∙ length-take-le n piece p in
     take-put_mid done k out part (done + n) (omega (arith, long)) q ∙ ap (λ (ys : List ℕ). ys ++ part) h ∙ ap (λ (ys : List ℕ). take done x ++ ys) (is ∙ piece_front (bytes_of t c) piece place done n e p) ∙ sym (take-add done n x)
@@ -55,9 +54,8 @@ occurs x s window head place q e f from to at =
           range_at x window place (q - place + j) e (omega arith) ∙ ap (λ (k : ℕ). get_or x k 0) here ∙ stands_get x s q j at (omega arith) ∙ sym (range_at s head 0 j f lt ∙ ap (λ (k : ℕ). get_or s k 0) there);
     }
 
-window_on : (o : Option Table) (x s : Option Node) (start place next m : ℕ) (window head : List ℕ) → Nowhere (OccursAt window head) 0 m → next ≤ place + m → next + length head ≤ place + length window + 1 → IsPieceOf o x place window → IsPieceOf o s 0 head → StandsNot o x s start place → StandsNot o x s start next
-window_on None x s start place next m window head h p q e f none = tt
-window_on (Some t) x s start place next m window head h p q e f none =
+window_on : (t : Table) (x s : Option Node) (start place next m : ℕ) (window head : List ℕ) → Nowhere (OccursAt window head) 0 m → next ≤ place + m → next + length head ≤ place + length window + 1 → IsPieceOf t x place window → IsPieceOf t s 0 head → StandsNot t x s start place → StandsNot t x s start next
+window_on t x s start place next m window head h p q e f none =
     λ k low to at. ⊎_elim (λ (lt : k < place). none k low lt at) (λ (le : place ≤ k). h (k - place) (omega arith) (omega arith) (occurs (bytes_of t x) (bytes_of t s) window head place k e f le (omega arith) at)) (cases_lt k place)
 
 -- behind what was searched, a place where the bytes of a window are no front part of `head`
@@ -92,63 +90,55 @@ overlap_on tail head p r is not h k lt same = ⊎_elim (λ (below : k < p). h k 
         differ (sym not ∙ is ∙ ap (λ (ys : List ℕ). pointwise nat_eq ys (take (length tail - p) head)) whole ∙ same_bytes (take (length tail - p) head))
 
 -- the front doesn't occur in a window, and no front part of it from some place on to the end
-pub window_none : (o : Option Table) (x s : Option Node) (start place searched k : ℕ) (window head : List ℕ) (r : Option ℕ) → r ≡ None → FindsNeedle window head 0 r → searched + length head ≡ length window + 1 → k ≤ length (take (length window - searched) (drop searched window)) → ((j : ℕ) → j < k → drop j (take (length window - searched) (drop searched window)) ≢ take (length (take (length window - searched) (drop searched window)) - j) head) → IsPieceOf o x place window → IsPieceOf o s 0 head → StandsNot o x s start place → StandsNot o x s start (place + (searched + k))
-window_none None x s start place searched k window head r is h long inside over e f none = tt
-window_none (Some t) x s start place searched k window head r is h long inside over e f none =
+pub window_none : (t : Table) (x s : Option Node) (start place searched k : ℕ) (window head : List ℕ) (r : Option ℕ) → r ≡ None → FindsNeedle window head 0 r → searched + length head ≡ length window + 1 → k ≤ length (take (length window - searched) (drop searched window)) → ((j : ℕ) → j < k → drop j (take (length window - searched) (drop searched window)) ≢ take (length (take (length window - searched) (drop searched window)) - j) head) → IsPieceOf t x place window → IsPieceOf t s 0 head → StandsNot t x s start place → StandsNot t x s start (place + (searched + k))
+window_none t x s start place searched k window head r is h long inside over e f none =
     let nowhere : Nowhere (OccursAt window head) 0 (length window + 1) = rw is at h in
     let rest : length (take (length window - searched) (drop searched window)) ≡ length window - searched = ap (λ (ys : List ℕ). length ys) (take_rest window searched) ∙ length-drop searched window in
-    let before : StandsNot (Some t) x s start (place + searched) = window_on (Some t) x s start place (place + searched) (length window + 1) window head nowhere (omega arith) (omega arith) e f none in
+    let before : StandsNot t x s start (place + searched) = window_on t x s start place (place + searched) (length window + 1) window head nowhere (omega arith) (omega arith) e f none in
     λ q low to at. ⊎_elim (λ (lt : q < place + searched). before q low lt at) (λ (le : place + searched ≤ q). over (q - (place + searched)) (omega arith) (no_overlap (bytes_of t x) (bytes_of t s) window head place searched q e f long le (omega (arith, rest, inside)) at)) (cases_lt q (place + searched))
 
 -- or occurs first at a place of it
-pub window_some : (o : Option Table) (x s : Option Node) (start place k : ℕ) (window head : List ℕ) (r : Option ℕ) → r ≡ Some k → FindsNeedle window head 0 r → IsPieceOf o x place window → IsPieceOf o s 0 head → StandsNot o x s start place → StandsNot o x s start (place + k)
-window_some o x s start place k window head r is h e f none =
+pub window_some : (t : Table) (x s : Option Node) (start place k : ℕ) (window head : List ℕ) (r : Option ℕ) → r ≡ Some k → FindsNeedle window head 0 r → IsPieceOf t x place window → IsPieceOf t s 0 head → StandsNot t x s start place → StandsNot t x s start (place + k)
+window_some t x s start place k window head r is h e f none =
     let here : NoneBefore (OccursAt window head) 0 (length window + 1) k × OccursAt window head k = rw is at h in
     let fits : k + length head ≤ length window = here.1.fits in
-    window_on o x s start place (place + k) k window head here.0.before (omega arith) (omega arith) e f none
+    window_on t x s start place (place + k) k window head here.0.before (omega arith) (omega arith) e f none
 
 -- a place where it doesn't stand
-pub stands_on : (o : Option Table) (x s : Option Node) (start place : ℕ) → IsStanding o x place s false → StandsNot o x s start place → StandsNot o x s start (place + 1)
-stands_on None x s start place h none = tt
-stands_on (Some t) x s start place h none =
+pub stands_on : (t : Table) (x s : Option Node) (start place : ℕ) → IsStanding t x place s false → StandsNot t x s start place → StandsNot t x s start (place + 1)
+stands_on t x s start place h none =
     λ k low to at. ⊎_elim (λ (lt : k < place). none k low lt at) (λ (le : place ≤ k). let same : k ≡ place = omega arith in h (subst (λ (n : ℕ). StandsAt (bytes_of t x) (bytes_of t s) n) same at)) (cases_lt k place)
 
 -- the first place
-pub stands_first : (o : Option Table) (x s : Option Node) (start place : ℕ) → start ≤ place → IsStanding o x place s true → StandsNot o x s start place → IfSome o (λ t. Some place ≡ first (bytes_of t x) start (bytes_of t s))
-stands_first None x s start place low h none = tt
-stands_first (Some t) x s start place low h none = first_only (bytes_of t x) (bytes_of t s) start (Some place) (low, h, none)
+pub stands_first : (t : Table) (x s : Option Node) (start place : ℕ) → start ≤ place → IsStanding t x place s true → StandsNot t x s start place → Some place ≡ first (bytes_of t x) start (bytes_of t s)
+stands_first t x s start place low h none = first_only (bytes_of t x) (bytes_of t s) start (Some place) (low, h, none)
 
 -- no place is left
-pub stands_none : (o : Option Table) (x s : Option Node) (start place : ℕ) → text_len x < place + text_len s → IfSome o (λ t. length (bytes_of t x) ≡ text_len x) → IfSome o (λ t. length (bytes_of t s) ≡ text_len s) → StandsNot o x s start place → IfSome o (λ t. None ≡ first (bytes_of t x) start (bytes_of t s))
-stands_none None x s start place past p q none = tt
-stands_none (Some t) x s start place past p q none =
+pub stands_none : (t : Table) (x s : Option Node) (start place : ℕ) → text_len x < place + text_len s → length (bytes_of t x) ≡ text_len x → length (bytes_of t s) ≡ text_len s → StandsNot t x s start place → None ≡ first (bytes_of t x) start (bytes_of t s)
+stands_none t x s start place past p q none =
     first_only (bytes_of t x) (bytes_of t s) start None (λ k low at. ⊎_elim (λ (lt : k < place). none k low lt at) (λ (le : place ≤ k). omega (arith, past, p, q, stands_inside (bytes_of t x) (bytes_of t s) k at)) (cases_lt k place))
 
 -- nothing was searched yet
-pub stands_start : (o : Option Table) (x s : Option Node) (start : ℕ) → StandsNot o x s start start
-stands_start None x s start = tt
-stands_start (Some t) x s start = λ k low to at. omega arith
+pub stands_start : (t : Table) (x s : Option Node) (start : ℕ) → StandsNot t x s start start
+stands_start t x s start = λ k low to at. omega arith
 
 -- nothing stands at each place up to the end
-pub nothing_stands : (o : Option Table) (x s : Option Node) (place : ℕ) → place ≤ text_len x → text_len s ≡ 0 → IfSome o (λ t. length (bytes_of t x) ≡ text_len x) → IfSome o (λ t. length (bytes_of t s) ≡ text_len s) → IsStanding o x place s true
-nothing_stands None x s place low e p q = tt
-nothing_stands (Some t) x s place low e p q = record { within = omega (arith, p); rest = drop place (bytes_of t x); here = sym (ap (λ (ys : List ℕ). ys ++ drop place (bytes_of t x)) (empty (bytes_of t s) (q ∙ e))) }
+pub nothing_stands : (t : Table) (x s : Option Node) (place : ℕ) → place ≤ text_len x → text_len s ≡ 0 → length (bytes_of t x) ≡ text_len x → length (bytes_of t s) ≡ text_len s → IsStanding t x place s true
+nothing_stands t x s place low e p q = record { within = omega (arith, p); rest = drop place (bytes_of t x); here = sym (ap (λ (ys : List ℕ). ys ++ drop place (bytes_of t x)) (empty (bytes_of t s) (q ∙ e))) }
   where
     empty : (xs : List ℕ) → length xs ≡ 0 → xs ≡ []
     empty [] h = refl
     empty (b ∷ xs) h = absurd (omega arith)
 
 -- the order tells whether a text stands in another
-pub order_stands : (o : Option Table) (x s : Option Node) (place n m : ℕ) (r : Ordering) → r ≡ Equal → place + text_len s ≤ text_len x → n ≡ text_len s → m ≡ text_len s → IfSome o (λ t. length (bytes_of t x) ≡ text_len x) → IfSome o (λ t. length (bytes_of t s) ≡ text_len s) → IsOrderOf o x place n s 0 m r → IsStanding o x place s true
-order_stands None x s place n m r is inside d e p q h = tt
-order_stands (Some t) x s place n m r is inside d e p q h =
+pub order_stands : (t : Table) (x s : Option Node) (place n m : ℕ) (r : Ordering) → r ≡ Equal → place + text_len s ≤ text_len x → n ≡ text_len s → m ≡ text_len s → length (bytes_of t x) ≡ text_len x → length (bytes_of t s) ≡ text_len s → IsOrderOf t x place n s 0 m r → IsStanding t x place s true
+order_stands t x s place n m r is inside d e p q h =
     let y = drop place (bytes_of t x) in
     let same : take n y ≡ bytes_of t s = cmp_equal (take n y) (take m (bytes_of t s)) (sym h ∙ is) ∙ take_all m (bytes_of t s) (omega (arith, e, q)) in
     record { within = omega (arith, p, inside); rest = drop n y; here = sym (take-append-drop n y) ∙ ap (λ (ys : List ℕ). ys ++ drop n y) same }
 
-pub order_stands_not : (o : Option Table) (x s : Option Node) (place n m : ℕ) (r : Ordering) → (r ≡ Equal → ⊥) → n ≡ text_len s → m ≡ text_len s → IfSome o (λ t. length (bytes_of t s) ≡ text_len s) → IsOrderOf o x place n s 0 m r → IsStanding o x place s false
-order_stands_not None x s place n m r not d e q h = tt
-order_stands_not (Some t) x s place n m r not d e q h =
+pub order_stands_not : (t : Table) (x s : Option Node) (place n m : ℕ) (r : Ordering) → (r ≡ Equal → ⊥) → n ≡ text_len s → m ≡ text_len s → length (bytes_of t s) ≡ text_len s → IsOrderOf t x place n s 0 m r → IsStanding t x place s false
+order_stands_not t x s place n m r not d e q h =
     λ at.
     let text = bytes_of t s in
     let left : take n (drop place (bytes_of t x)) ≡ text = ap (λ (ys : List ℕ). take n ys) at.here ∙ take_at text at.rest n (q ∙ sym d) in

@@ -1,5 +1,5 @@
--- Ranges of texts, over a table that a source tells or that it doesn't tell.
-use Rattle.std.specs.Prelude.{Bool, true, false, ◌≡◌, ◌≢◌, ℕ, ◌<◌, ◌≤◌, List, length, take, drop, Option, Some, IfSome, slice_get, ℤ, pos, negsuc}
+-- Ranges of texts, over a table.
+use Rattle.std.specs.Prelude.{Bool, true, false, ◌≡◌, ◌≢◌, ℕ, ◌<◌, ◌≤◌, List, length, take, drop, Option, Some, slice_get, ℤ, pos, negsuc}
 use Rattle.std.specs.Ordering.{nat_cmp}
 use Rattle.std.specs.Cmp.Lexicographic.{slice_cmp}
 use Rattle.std.specs.declared.cmp.Ordering.{Ordering}
@@ -11,33 +11,33 @@ use Rattle.cord_core.specs.Cord.{bytes_of}
 use Rattle.cord_core.specs.Texts.{StandsAt}
 
 -- the bytes stand in the node's text from the place on
-abbrev pub IsPieceAt : Option Table → Node → ℕ → List ℕ → Type 0
-IsPieceAt o n place xs = IfSome o (λ t. xs ≡ take (length xs) (drop place (bytes_over t n)))
+abbrev pub IsPieceAt : Table → Node → ℕ → List ℕ → Type 0
+IsPieceAt t n place xs = xs ≡ take (length xs) (drop place (bytes_over t n))
 
 -- the bytes stand in the cord's text from the place on
-abbrev pub IsPieceOf : Option Table → Option Node → ℕ → List ℕ → Type 0
-IsPieceOf o c place xs = IfSome o (λ t. xs ≡ take (length xs) (drop place (bytes_of t c)))
+abbrev pub IsPieceOf : Table → Option Node → ℕ → List ℕ → Type 0
+IsPieceOf t c place xs = xs ≡ take (length xs) (drop place (bytes_of t c))
 
 -- the first n bytes of a list are those of the cord's text from the place on
-abbrev pub IsFilled : Option Table → Option Node → ℕ → ℕ → List ℕ → Type 0
-IsFilled o c place n xs = IfSome o (λ t. take n xs ≡ take n (drop place (bytes_of t c)))
+abbrev pub IsFilled : Table → Option Node → ℕ → ℕ → List ℕ → Type 0
+IsFilled t c place n xs = take n xs ≡ take n (drop place (bytes_of t c))
 
 -- the answer says whether s stands in the text of x over the table at the place
-abbrev pub IsStanding : Option Table → Option Node → ℕ → Option Node → Bool → Type 0
-IsStanding o x place s true = IfSome o (λ t. StandsAt (bytes_of t x) (bytes_of t s) place)
-IsStanding o x place s false = IfSome o (λ t. StandsAt (bytes_of t x) (bytes_of t s) place → ⊥)
+abbrev pub IsStanding : Table → Option Node → ℕ → Option Node → Bool → Type 0
+IsStanding t x place s true = StandsAt (bytes_of t x) (bytes_of t s) place
+IsStanding t x place s false = StandsAt (bytes_of t x) (bytes_of t s) place → ⊥
 
 -- the text of s stands in that of x at no place from i on and below j
-abbrev pub StandsNot : Option Table → Option Node → Option Node → ℕ → ℕ → Type 0
-StandsNot o x s i j = IfSome o (λ t. (q : ℕ) → i ≤ q → q < j → StandsAt (bytes_of t x) (bytes_of t s) q → ⊥)
+abbrev pub StandsNot : Table → Option Node → Option Node → ℕ → ℕ → Type 0
+StandsNot t x s i j = (q : ℕ) → i ≤ q → q < j → StandsAt (bytes_of t x) (bytes_of t s) q → ⊥
 
 -- the first n bytes from two places are the same
-abbrev pub AreSame : Option Table → Option Node → ℕ → Option Node → ℕ → ℕ → Type 0
-AreSame o x i y j n = IfSome o (λ t. take n (drop i (bytes_of t x)) ≡ take n (drop j (bytes_of t y)))
+abbrev pub AreSame : Table → Option Node → ℕ → Option Node → ℕ → ℕ → Type 0
+AreSame t x i y j n = take n (drop i (bytes_of t x)) ≡ take n (drop j (bytes_of t y))
 
 -- the order of two texts, as what `cmp` answers at lists of bytes, of the first a bytes from one place and the first b from another
-abbrev pub IsOrderOf : Option Table → Option Node → ℕ → ℕ → Option Node → ℕ → ℕ → Ordering → Type 0
-IsOrderOf o x i a y j b r = IfSome o (λ t. r ≡ slice_cmp nat_cmp (take a (drop i (bytes_of t x))) (take b (drop j (bytes_of t y))))
+abbrev pub IsOrderOf : Table → Option Node → ℕ → ℕ → Option Node → ℕ → ℕ → Ordering → Type 0
+IsOrderOf t x i a y j b r = r ≡ slice_cmp nat_cmp (take a (drop i (bytes_of t x))) (take b (drop j (bytes_of t y)))
 
 -- the number that tells an order
 abbrev pub sign_of : Ordering → ℤ
@@ -46,9 +46,9 @@ sign_of Equal = pos 0
 sign_of Greater = pos 1
 
 -- s stands in the text over the table at no place from i on and below j
-abbrev pub NotFound : Option Table → Node → List ℕ → ℕ → ℕ → Type 0
-NotFound o n s i j = IfSome o (λ t. (q : ℕ) → i ≤ q → q < j → StandsAt (bytes_over t n) s q → ⊥)
+abbrev pub NotFound : Table → Node → List ℕ → ℕ → ℕ → Type 0
+NotFound t n s i j = (q : ℕ) → i ≤ q → q < j → StandsAt (bytes_over t n) s q → ⊥
 
 -- the text over the table has the byte c at no place from i on and below j
-abbrev pub HasNot : Option Table → Node → ℕ → ℕ → ℕ → Type 0
-HasNot o n c i j = IfSome o (λ t. (q : ℕ) → i ≤ q → q < j → slice_get (bytes_over t n) q ≢ Some c)
+abbrev pub HasNot : Table → Node → ℕ → ℕ → ℕ → Type 0
+HasNot t n c i j = (q : ℕ) → i ≤ q → q < j → slice_get (bytes_over t n) q ≢ Some c

@@ -1,5 +1,5 @@
 -- Stretches: texts that lie in one part of a node.
-use Rattle.std.specs.Prelude.{◌≡◌, ◌≢◌, ℕ, ◌+◌, ◌<◌, ◌≤◌, List, length, take, drop, replicate, slice_get, Bool, false, not, ◌==◌, Option, Some, IfSome, ⊤}
+use Rattle.std.specs.Prelude.{◌≡◌, ◌≢◌, ℕ, ◌+◌, ◌<◌, ◌≤◌, List, length, take, drop, replicate, slice_get, Bool, false, not, ◌==◌, Option, Some, ⊤}
 use Rattle.cord_io.specs.Table.{Table, Lengths, length_at}
 use Rattle.cord_io.specs.declared.TheConstants.{MAX_LEN}
 use Rattle.cord_node.specs.declared.Node.{Node}
@@ -37,8 +37,8 @@ abbrev pub IsStretchAt : Node → ℕ → Stretch → Type 0
 IsStretchAt n place s = IsStretchOf (Some n) place s
 
 -- the bytes stand in the stretch's text from the place on
-abbrev pub IsPartOf : Option Table → Stretch → ℕ → List ℕ → Type 0
-IsPartOf o s place xs = IfSome o (λ t. xs ≡ take (length xs) (drop place (stretch_bytes t s)))
+abbrev pub IsPartOf : Table → Stretch → ℕ → List ℕ → Type 0
+IsPartOf t s place xs = xs ≡ take (length xs) (drop place (stretch_bytes t s))
 
 -- its text has this byte nowhere
 abbrev pub IsWithout : Stretch → ℕ → Type 0

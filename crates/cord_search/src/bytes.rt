@@ -1,6 +1,6 @@
 // The byte at a place, and the places of a byte.
-ghost use Rattle.std.specs.Prelude.{◌≡◌, ◌+◌, ◌<◌, ◌≤◌, [], ◌∷◌, Some, slice_get, is_err, IsOk, IfOk, IfErr, IfSome};
-ghost use Rattle.cord_io.specs.Device.{count_after};
+ghost use Rattle.std.specs.Prelude.{◌≡◌, ◌+◌, ◌<◌, ◌≤◌, [], ◌∷◌, Some, slice_get, is_err, IsOk, IfOk, IfErr};
+ghost use Rattle.cord_io.specs.Device.{Folder, count_after};
 ghost use Rattle.cord_node.specs.Tree.{len_of, IsSound};
 ghost use Rattle.cord_node.specs.Tables.{bytes_over, FitsIn};
 ghost use Rattle.cord_core.specs.Cord.{text_len, bytes_of, CordFitsIn};
@@ -14,53 +14,56 @@ use cord_io::{CordError, ReadFault, Source};
 use cord_pos::Position;
 use memchr::{memchr, memrchr};
 
-/// The byte of a cord at place `i`, after `CORD_fetch` of `cord.h`. The place is below the length, and each function part lies
-/// inside an entry of `src`. Refused with `ReadFailed` where a read failed.
+/// The byte of a cord at place `i`, after `CORD_fetch` of `cord.h`. The place is below the length, and each function
+/// part lies inside an entry of `src`. Refused with `ReadFailed` where a read failed.
 pub fn fetch<S: Source>(x: &Cord, i: u64, src: &mut S) -> Result<u8, CordError>
     requires inside { i < text_len x.now }
     requires fits { CordFitsIn (S.lengths src.old) x.now }
-    ensures byte { IfOk result (λ b. IfSome (S.table src.old) (λ t. slice_get (bytes_of t x.now) i ≡ Some b)) }
+    ensures byte { (folder : Folder) → S.keeps src.new folder →
+        IfOk result (λ b. slice_get (bytes_of (S.table src.old folder) x.now) i ≡ Some b) }
     ensures refused { IfErr result (λ e. e ≡ CordError.ReadFailed) }
     ensures count { S.failures src.new ≡ count_after (is_err result) (S.failures src.old) }
     ensures steady { S.failures src.old < u64.MAX → S.failures src.new ≡ S.failures src.old → IsOk result }
     ensures lengths { S.lengths src.new ≡ S.lengths src.old }
     ensures table { S.table src.new ≡ S.table src.old }
-    ensures files { S.files src.new ≡ S.files src.old }
+    ensures earlier { (folder : Folder) → S.keeps src.new folder → S.keeps src.old folder }
 {
     let byte = Position::set(x, i).fetch(src)?;
     Ok(byte)
 }
 
-/// The first place of the byte `c` at `i` or later, after `CORD_chr` of `cord.h`. The place `i` is below the length, and each
-/// function part lies inside an entry of `src`. Refused with `ReadFailed` where a read failed.
+/// The first place of the byte `c` at `i` or later, after `CORD_chr` of `cord.h`. The place `i` is below the length,
+/// and each function part lies inside an entry of `src`. Refused with `ReadFailed` where a read failed.
 pub fn chr<S: Source>(x: &Cord, i: u64, c: u8, src: &mut S) -> Result<Option<u64>, CordError>
     requires inside { i < text_len x.now }
     requires fits { CordFitsIn (S.lengths src.old) x.now }
-    ensures first { IfOk result (λ place. IfSome (S.table src.old) (λ t. place ≡ first (bytes_of t x.now) i (c ∷ []))) }
+    ensures first { (folder : Folder) → S.keeps src.new folder →
+        IfOk result (λ place. place ≡ first (bytes_of (S.table src.old folder) x.now) i (c ∷ [])) }
     ensures refused { IfErr result (λ e. e ≡ CordError.ReadFailed) }
     ensures count { S.failures src.new ≡ count_after (is_err result) (S.failures src.old) }
     ensures steady { S.failures src.old < u64.MAX → S.failures src.new ≡ S.failures src.old → IsOk result }
     ensures lengths { S.lengths src.new ≡ S.lengths src.old }
     ensures table { S.table src.new ≡ S.table src.old }
-    ensures files { S.files src.new ≡ S.files src.old }
+    ensures earlier { (folder : Folder) → S.keeps src.new folder → S.keeps src.old folder }
 {
     let Some(root) = x.root() else { unreachable!() };
     let place = first_byte(root.as_ref(), i, c, src)?;
     Ok(place)
 }
 
-/// The last place of the byte `c` at `i` or earlier, after `CORD_rchr` of `cord.h`. The place `i` is below the length, and each
-/// function part lies inside an entry of `src`. Refused with `ReadFailed` where a read failed.
+/// The last place of the byte `c` at `i` or earlier, after `CORD_rchr` of `cord.h`. The place `i` is below the
+/// length, and each function part lies inside an entry of `src`. Refused with `ReadFailed` where a read failed.
 pub fn rchr<S: Source>(x: &Cord, i: u64, c: u8, src: &mut S) -> Result<Option<u64>, CordError>
     requires inside { i < text_len x.now }
     requires fits { CordFitsIn (S.lengths src.old) x.now }
-    ensures last { IfOk result (λ place. IfSome (S.table src.old) (λ t. place ≡ last (bytes_of t x.now) i c)) }
+    ensures last { (folder : Folder) → S.keeps src.new folder →
+        IfOk result (λ place. place ≡ last (bytes_of (S.table src.old folder) x.now) i c) }
     ensures refused { IfErr result (λ e. e ≡ CordError.ReadFailed) }
     ensures count { S.failures src.new ≡ count_after (is_err result) (S.failures src.old) }
     ensures steady { S.failures src.old < u64.MAX → S.failures src.new ≡ S.failures src.old → IsOk result }
     ensures lengths { S.lengths src.new ≡ S.lengths src.old }
     ensures table { S.table src.new ≡ S.table src.old }
-    ensures files { S.files src.new ≡ S.files src.old }
+    ensures earlier { (folder : Folder) → S.keeps src.new folder → S.keeps src.old folder }
 {
     let Some(root) = x.root() else { unreachable!() };
     let place = last_byte(root.as_ref(), i, c, src)?;
@@ -77,11 +80,12 @@ fn first_byte<S: Source>(
     requires sound { IsSound node.now }
     requires inside { from ≤ len_of node.now }
     requires fits { FitsIn (S.lengths src.old) node.now }
-    ensures first { IfOk result (λ place. IfSome (S.table src.old) (λ t. place ≡ first (bytes_over t node.now) from (byte ∷ []))) }
+    ensures first { (folder : Folder) → S.keeps src.new folder →
+        IfOk result (λ place. place ≡ first (bytes_over (S.table src.old folder) node.now) from (byte ∷ [])) }
     ensures count { S.failures src.new ≡ count_after (is_err result) (S.failures src.old) }
     ensures lengths { S.lengths src.new ≡ S.lengths src.old }
     ensures table { S.table src.new ≡ S.table src.old }
-    ensures files { S.files src.new ≡ S.files src.old }
+    ensures earlier { (folder : Folder) → S.keeps src.new folder → S.keeps src.old folder }
 {
     let mut buffer = [0; PIECE_LEN];
     let len = node.len();
@@ -111,11 +115,12 @@ fn last_byte<S: Source>(
     requires sound { IsSound node.now }
     requires inside { at < len_of node.now }
     requires fits { FitsIn (S.lengths src.old) node.now }
-    ensures last { IfOk result (λ place. IfSome (S.table src.old) (λ t. place ≡ last (bytes_over t node.now) at byte)) }
+    ensures last { (folder : Folder) → S.keeps src.new folder →
+        IfOk result (λ place. place ≡ last (bytes_over (S.table src.old folder) node.now) at byte) }
     ensures count { S.failures src.new ≡ count_after (is_err result) (S.failures src.old) }
     ensures lengths { S.lengths src.new ≡ S.lengths src.old }
     ensures table { S.table src.new ≡ S.table src.old }
-    ensures files { S.files src.new ≡ S.files src.old }
+    ensures earlier { (folder : Folder) → S.keeps src.new folder → S.keeps src.old folder }
 {
     let mut buffer = [0; PIECE_LEN];
     let mut end = at + 1;

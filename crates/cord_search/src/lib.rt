@@ -1,5 +1,5 @@
-//! Fetching bytes, comparing cords and finding bytes and cords in them, after `CORD_fetch`, `CORD_chr`, `CORD_rchr`, `CORD_cmp`,
-//! `CORD_ncmp` and `CORD_str` of `cord.h` of the Boehm collector's distribution.
+//! Fetching bytes, comparing cords and finding bytes and cords in them, after `CORD_fetch`, `CORD_chr`, `CORD_rchr`,
+//! `CORD_cmp`, `CORD_ncmp` and `CORD_str` of `cord.h` of the Boehm collector's distribution.
 #![tactic(auto)]
 
 mod bytes;

@@ -1,6 +1,6 @@
 // The order of texts.
-ghost use Rattle.std.specs.Prelude.{◌≡◌, ◌+◌, ◌<◌, ◌≤◌, take, drop, is_err, IsOk, IfOk, IfErr, IfSome};
-ghost use Rattle.cord_io.specs.Device.{count_after};
+ghost use Rattle.std.specs.Prelude.{◌≡◌, ◌+◌, ◌<◌, ◌≤◌, take, drop, is_err, IsOk, IfOk, IfErr};
+ghost use Rattle.cord_io.specs.Device.{Folder, count_after};
 ghost use Rattle.cord_core.specs.Cord.{text_len, bytes_of, IsCord, CordFitsIn};
 ghost use Rattle.cord_core.specs.Texts.{order};
 ghost use Rattle.cord_search.specs.Pieces.{IsOrderOf, sign_of};
@@ -12,26 +12,27 @@ use cord_core::Cord;
 use cord_io::{CordError, ReadFault, Source};
 use std::cmp::Ordering;
 
-/// The order of two texts, after `CORD_cmp` of `cord.h`: -1, 0 or 1 by the bytes, as unsigned numbers, at the first place of
-/// difference; a proper prefix is less. Each function part lies inside an entry of `src`. Refused with `ReadFailed` where a read
-/// failed.
+/// The order of two texts, after `CORD_cmp` of `cord.h`: -1, 0 or 1 by the bytes, as unsigned numbers, at the first
+/// place of difference; a proper prefix is less. Each function part lies inside an entry of `src`. Refused with
+/// `ReadFailed` where a read failed.
 pub fn cmp<S: Source>(x: &Cord, y: &Cord, src: &mut S) -> Result<i8, CordError>
     requires left_fits { CordFitsIn (S.lengths src.old) x.now }
     requires right_fits { CordFitsIn (S.lengths src.old) y.now }
-    ensures order { IfOk result (λ sign. IfSome (S.table src.old) (λ t. sign ≡ order (bytes_of t x.now) (bytes_of t y.now))) }
+    ensures order { (folder : Folder) → S.keeps src.new folder → IfOk result (λ sign.
+        sign ≡ order (bytes_of (S.table src.old folder) x.now) (bytes_of (S.table src.old folder) y.now)) }
     ensures refused { IfErr result (λ e. e ≡ CordError.ReadFailed) }
     ensures count { S.failures src.new ≡ count_after (is_err result) (S.failures src.old) }
     ensures steady { S.failures src.old < u64.MAX → S.failures src.new ≡ S.failures src.old → IsOk result }
     ensures lengths { S.lengths src.new ≡ S.lengths src.old }
     ensures table { S.table src.new ≡ S.table src.old }
-    ensures files { S.files src.new ≡ S.files src.old }
+    ensures earlier { (folder : Folder) → S.keeps src.new folder → S.keeps src.old folder }
 {
     let ordering = compare(x, 0, x.len(), y, 0, y.len(), src)?;
     Ok(sign(ordering))
 }
 
-/// The order of at most `k` bytes of `x` from `i` on and at most `k` bytes of `y` from `j` on, after `CORD_ncmp` of `cord.h`:
-/// as `cmp` of the two substrings. Refused with `ReadFailed` where a read failed.
+/// The order of at most `k` bytes of `x` from `i` on and at most `k` bytes of `y` from `j` on, after `CORD_ncmp` of
+/// `cord.h`: as `cmp` of the two substrings. Refused with `ReadFailed` where a read failed.
 pub fn ncmp<S: Source>(
     x: &Cord,
     i: u64,
@@ -42,13 +43,15 @@ pub fn ncmp<S: Source>(
 ) -> Result<i8, CordError>
     requires left_fits { CordFitsIn (S.lengths src.old) x.now }
     requires right_fits { CordFitsIn (S.lengths src.old) y.now }
-    ensures order { IfOk result (λ sign. IfSome (S.table src.old) (λ t. sign ≡ order (take k (drop i (bytes_of t x.now))) (take k (drop j (bytes_of t y.now))))) }
+    ensures order { (folder : Folder) → S.keeps src.new folder → IfOk result (λ sign.
+        sign ≡ order (take k (drop i (bytes_of (S.table src.old folder) x.now)))
+        (take k (drop j (bytes_of (S.table src.old folder) y.now)))) }
     ensures refused { IfErr result (λ e. e ≡ CordError.ReadFailed) }
     ensures count { S.failures src.new ≡ count_after (is_err result) (S.failures src.old) }
     ensures steady { S.failures src.old < u64.MAX → S.failures src.new ≡ S.failures src.old → IsOk result }
     ensures lengths { S.lengths src.new ≡ S.lengths src.old }
     ensures table { S.table src.new ≡ S.table src.old }
-    ensures files { S.files src.new ≡ S.files src.old }
+    ensures earlier { (folder : Folder) → S.keeps src.new folder → S.keeps src.old folder }
 {
     let left = k.min(x.len().saturating_sub(i));
     let right = k.min(y.len().saturating_sub(j));
@@ -56,8 +59,8 @@ pub fn ncmp<S: Source>(
     Ok(sign(ordering))
 }
 
-// The order of `left` bytes of `x` from `i` on and `right` bytes of `y` from `j` on: slice against slice, and two runs of one byte
-// at once.
+// The order of `left` bytes of `x` from `i` on and `right` bytes of `y` from `j` on: slice against slice, and two
+// runs of one byte at once.
 pub(crate) fn compare<S: Source>(
     x: &Cord,
     i: u64,
@@ -73,11 +76,12 @@ pub(crate) fn compare<S: Source>(
     requires right_inside { 0 < right → j + right ≤ text_len y.now }
     requires left_fits { CordFitsIn (S.lengths src.old) x.now }
     requires right_fits { CordFitsIn (S.lengths src.old) y.now }
-    ensures order { IfOk result (IsOrderOf (S.table src.old) x.now i left y.now j right) }
+    ensures order { (folder : Folder) → S.keeps src.new folder →
+        IfOk result (IsOrderOf (S.table src.old folder) x.now i left y.now j right) }
     ensures count { S.failures src.new ≡ count_after (is_err result) (S.failures src.old) }
     ensures lengths { S.lengths src.new ≡ S.lengths src.old }
     ensures table { S.table src.new ≡ S.table src.old }
-    ensures files { S.files src.new ≡ S.files src.old }
+    ensures earlier { (folder : Folder) → S.keeps src.new folder → S.keeps src.old folder }
 {
     let (mut buffer, mut other_buffer) = ([0; PIECE_LEN], [0; PIECE_LEN]);
     let both = left.min(right);

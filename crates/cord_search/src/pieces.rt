@@ -1,6 +1,6 @@
 // Texts in pieces: slices of leaves as they are, runs and function parts through a buffer.
 ghost use Rattle.std.specs.Prelude.{◌≡◌, ◌+◌, ◌-◌, ◌<◌, ◌≤◌, length, is_err, IfOk, OnOk};
-ghost use Rattle.cord_io.specs.Device.{count_after};
+ghost use Rattle.cord_io.specs.Device.{Folder, count_after};
 ghost use Rattle.cord_core.specs.Cord.{text_len, IsCord, CordFitsIn};
 ghost use Rattle.cord_search.specs.Pieces.{IsPieceOf};
 ghost use Rattle.cord_search.specs.Stretches.{stretch_len, StretchFitsIn, IsPartOf};
@@ -21,18 +21,19 @@ pub(crate) fn cord_piece_at<'a, S: Source>(
     requires fits { CordFitsIn (S.lengths src.old) cord.now }
     ensures some { IfOk result (λ piece. 0 < length piece.now) }
     ensures inside { IfOk result (λ piece. place + length piece.now ≤ text_len cord.now) }
-    ensures text { IfOk result (λ piece. IsPieceOf (S.table src.old) cord.now place piece.now) }
+    ensures text { (folder : Folder) → S.keeps src.new folder →
+        IfOk result (λ piece. IsPieceOf (S.table src.old folder) cord.now place piece.now) }
     ensures count { S.failures src.new ≡ count_after (is_err result) (S.failures src.old) }
     ensures lengths { S.lengths src.new ≡ S.lengths src.old }
     ensures table { S.table src.new ≡ S.table src.old }
-    ensures files { S.files src.new ≡ S.files src.old }
+    ensures earlier { (folder : Folder) → S.keeps src.new folder → S.keeps src.old folder }
 {
     let piece = first_piece(cord_stretch_at(cord, place), buffer, src)?;
     Ok(piece)
 }
 
-// At least `count` bytes of a cord's text from a place on, which it has: the rest of a leaf where that is enough, else what is left
-// of the part and the next bytes, copied.
+// At least `count` bytes of a cord's text from a place on, which it has: the rest of a leaf where that is enough,
+// else what is left of the part and the next bytes, copied.
 pub(crate) fn window_at<'a, S: Source>(
     cord: &'a Cord,
     place: u64,
@@ -47,11 +48,12 @@ pub(crate) fn window_at<'a, S: Source>(
     requires fits { CordFitsIn (S.lengths src.old) cord.now }
     ensures enough { IfOk result (λ window. count ≤ length window.now) }
     ensures inside { IfOk result (λ window. place + length window.now ≤ text_len cord.now) }
-    ensures text { IfOk result (λ window. IsPieceOf (S.table src.old) cord.now place window.now) }
+    ensures text { (folder : Folder) → S.keeps src.new folder →
+        IfOk result (λ window. IsPieceOf (S.table src.old folder) cord.now place window.now) }
     ensures count { S.failures src.new ≡ count_after (is_err result) (S.failures src.old) }
     ensures lengths { S.lengths src.new ≡ S.lengths src.old }
     ensures table { S.table src.new ≡ S.table src.old }
-    ensures files { S.files src.new ≡ S.files src.old }
+    ensures earlier { (folder : Folder) → S.keeps src.new folder → S.keeps src.old folder }
 {
     let piece = cord_piece_at(cord, place, buffer, src)?;
     if count <= piece.len() {
@@ -73,11 +75,12 @@ pub(crate) fn gather<S: Source>(
     requires sound { IsCord cord.now }
     requires inside { place + length out.old ≤ text_len cord.now }
     requires fits { CordFitsIn (S.lengths src.old) cord.now }
-    ensures text { OnOk result (IsPieceOf (S.table src.old) cord.now place out.new) }
+    ensures text { (folder : Folder) → S.keeps src.new folder →
+        OnOk result (IsPieceOf (S.table src.old folder) cord.now place out.new) }
     ensures count { S.failures src.new ≡ count_after (is_err result) (S.failures src.old) }
     ensures lengths { S.lengths src.new ≡ S.lengths src.old }
     ensures table { S.table src.new ≡ S.table src.old }
-    ensures files { S.files src.new ≡ S.files src.old }
+    ensures earlier { (folder : Folder) → S.keeps src.new folder → S.keeps src.old folder }
 {
     let mut buffer = [0; PIECE_LEN];
     let mut done = 0;
@@ -100,11 +103,12 @@ pub(crate) fn first_piece<'a, S: Source>(
     requires fits { StretchFitsIn (S.lengths src.old) stretch }
     ensures some { IfOk result (λ piece. 0 < length piece.now) }
     ensures inside { IfOk result (λ piece. length piece.now ≤ stretch_len stretch.entry) }
-    ensures text { IfOk result (λ piece. IsPartOf (S.table src.old) stretch.entry 0 piece.now) }
+    ensures text { (folder : Folder) → S.keeps src.new folder →
+        IfOk result (λ piece. IsPartOf (S.table src.old folder) stretch.entry 0 piece.now) }
     ensures count { S.failures src.new ≡ count_after (is_err result) (S.failures src.old) }
     ensures lengths { S.lengths src.new ≡ S.lengths src.old }
     ensures table { S.table src.new ≡ S.table src.old }
-    ensures files { S.files src.new ≡ S.files src.old }
+    ensures earlier { (folder : Folder) → S.keeps src.new folder → S.keeps src.old folder }
 {
     match stretch {
         Stretch::Bytes(bytes) => Ok(bytes),
@@ -131,11 +135,13 @@ pub(crate) fn last_piece<'a, S: Source>(
     requires fits { StretchFitsIn (S.lengths src.old) stretch }
     ensures some { IfOk result (λ piece. 0 < length piece.now) }
     ensures inside { IfOk result (λ piece. length piece.now ≤ stretch_len stretch.entry) }
-    ensures text { IfOk result (λ piece. IsPartOf (S.table src.old) stretch.entry (stretch_len stretch.entry - length piece.now) piece.now) }
+    ensures text { (folder : Folder) → S.keeps src.new folder →
+        IfOk result (λ piece. IsPartOf (S.table src.old folder) stretch.entry
+        (stretch_len stretch.entry - length piece.now) piece.now) }
     ensures count { S.failures src.new ≡ count_after (is_err result) (S.failures src.old) }
     ensures lengths { S.lengths src.new ≡ S.lengths src.old }
     ensures table { S.table src.new ≡ S.table src.old }
-    ensures files { S.files src.new ≡ S.files src.old }
+    ensures earlier { (folder : Folder) → S.keeps src.new folder → S.keeps src.old folder }
 {
     match stretch {
         Stretch::Bytes(bytes) => Ok(bytes),

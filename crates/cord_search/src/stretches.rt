@@ -75,7 +75,12 @@ pub(crate) fn stretch_at(top: &Node, mut place: u64) -> Stretch
         }
     }
     match node {
-        Node::Leaf { bytes, start, len } => {
+        Node::Leaf {
+            bytes,
+            start,
+            len,
+            ..
+        } => {
             Stretch::Bytes(&bytes.as_slice()[(*start + place) as usize..(*start + *len) as usize])
         }
         Node::Run { byte, len } => Stretch::Run {

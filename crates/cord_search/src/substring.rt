@@ -1,6 +1,6 @@
 // The places of a text in another.
-ghost use Rattle.std.specs.Prelude.{◌≡◌, ◌≢◌, ℕ, ◌+◌, ◌-◌, ◌<◌, ◌≤◌, length, take, drop, true, false, is_err, IsOk, IfOk, IfErr, IfSome};
-ghost use Rattle.cord_io.specs.Device.{count_after};
+ghost use Rattle.std.specs.Prelude.{◌≡◌, ◌≢◌, ℕ, ◌+◌, ◌-◌, ◌<◌, ◌≤◌, length, take, drop, true, false, is_err, IsOk, IfOk, IfErr};
+ghost use Rattle.cord_io.specs.Device.{Folder, count_after};
 ghost use Rattle.cord_core.specs.Cord.{text_len, bytes_of, IsCord, CordFitsIn};
 ghost use Rattle.cord_core.specs.Texts.{first};
 ghost use Rattle.cord_search.specs.Pieces.{IsStanding};
@@ -13,18 +13,20 @@ use cord_io::{CordError, ReadFault, Source};
 use memchr::memmem::Finder;
 use std::cmp::Ordering;
 
-/// The first place of `x` at `start` or later where `s` stands, after `CORD_str` of `cord.h`. An empty `s` stands at each place up
-/// to the length of `x`. Each function part lies inside an entry of `src`. Refused with `ReadFailed` where a read failed.
+/// The first place of `x` at `start` or later where `s` stands, after `CORD_str` of `cord.h`. An empty `s` stands at
+/// each place up to the length of `x`. Each function part lies inside an entry of `src`. Refused with `ReadFailed`
+/// where a read failed.
 pub fn str<S: Source>(x: &Cord, start: u64, s: &Cord, src: &mut S) -> Result<Option<u64>, CordError>
     requires fits { CordFitsIn (S.lengths src.old) x.now }
     requires pattern_fits { CordFitsIn (S.lengths src.old) s.now }
-    ensures first { IfOk result (λ place. IfSome (S.table src.old) (λ t. place ≡ first (bytes_of t x.now) start (bytes_of t s.now))) }
+    ensures first { (folder : Folder) → S.keeps src.new folder → IfOk result (λ place.
+        place ≡ first (bytes_of (S.table src.old folder) x.now) start (bytes_of (S.table src.old folder) s.now)) }
     ensures refused { IfErr result (λ e. e ≡ CordError.ReadFailed) }
     ensures count { S.failures src.new ≡ count_after (is_err result) (S.failures src.old) }
     ensures steady { S.failures src.old < u64.MAX → S.failures src.new ≡ S.failures src.old → IsOk result }
     ensures lengths { S.lengths src.new ≡ S.lengths src.old }
     ensures table { S.table src.new ≡ S.table src.old }
-    ensures files { S.files src.new ≡ S.files src.old }
+    ensures earlier { (folder : Folder) → S.keeps src.new folder → S.keeps src.old folder }
 {
     let count = s.len();
     if !lies_inside(start, count, x.len()) {
@@ -58,11 +60,12 @@ fn first_place<S: Source>(
     requires inside { start + text_len s.now ≤ text_len x.now }
     requires fits { CordFitsIn (S.lengths src.old) x.now }
     requires pattern_fits { CordFitsIn (S.lengths src.old) s.now }
-    ensures first { IfOk result (λ place. IfSome (S.table src.old) (λ t. place ≡ first (bytes_of t x.now) start (bytes_of t s.now))) }
+    ensures first { (folder : Folder) → S.keeps src.new folder → IfOk result (λ place.
+        place ≡ first (bytes_of (S.table src.old folder) x.now) start (bytes_of (S.table src.old folder) s.now)) }
     ensures count { S.failures src.new ≡ count_after (is_err result) (S.failures src.old) }
     ensures lengths { S.lengths src.new ≡ S.lengths src.old }
     ensures table { S.table src.new ≡ S.table src.old }
-    ensures files { S.files src.new ≡ S.files src.old }
+    ensures earlier { (folder : Folder) → S.keeps src.new folder → S.keeps src.old folder }
 {
     let last = x.len() - s.len();
     let mut front = [0; PIECE_LEN];
@@ -92,7 +95,8 @@ fn first_place<S: Source>(
     Ok(None)
 }
 
-// The first place of `tail` from which its bytes are the first ones of `head`, which is longer: the length of `tail` where there is none.
+// The first place of `tail` from which its bytes are the first ones of `head`, which is longer: the length of `tail`
+// where there is none.
 fn overlap(tail: &[u8], head: &[u8]) -> usize
     requires { length tail.now < length head.now }
     ensures inside { result ≤ length tail.now }
@@ -113,11 +117,12 @@ fn stands_at<S: Source>(x: &Cord, place: u64, s: &Cord, src: &mut S) -> Result<b
     requires inside { place + text_len s.now ≤ text_len x.now }
     requires fits { CordFitsIn (S.lengths src.old) x.now }
     requires pattern_fits { CordFitsIn (S.lengths src.old) s.now }
-    ensures stands { IfOk result (IsStanding (S.table src.old) x.now place s.now) }
+    ensures stands { (folder : Folder) → S.keeps src.new folder →
+        IfOk result (IsStanding (S.table src.old folder) x.now place s.now) }
     ensures count { S.failures src.new ≡ count_after (is_err result) (S.failures src.old) }
     ensures lengths { S.lengths src.new ≡ S.lengths src.old }
     ensures table { S.table src.new ≡ S.table src.old }
-    ensures files { S.files src.new ≡ S.files src.old }
+    ensures earlier { (folder : Folder) → S.keeps src.new folder → S.keeps src.old folder }
 {
     match compare(x, place, s.len(), s, 0, s.len(), src)? {
         Ordering::Equal => Ok(true),

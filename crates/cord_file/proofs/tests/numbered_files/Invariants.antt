@@ -1,5 +1,5 @@
-use Rattle.std.proofs.Common.{◌≡◌, ℕ, ◌≤◌, None}
-use Rattle.cord_io.specs.Device.{file_count}
+use Rattle.std.proofs.Common.{◌≡◌, ℕ, ◌≤◌, length, None}
+use Rattle.cord_io.specs.MemoryFolder.{folder_in}
 use Rattle.cord_io.specs.contracts.memory.MemFilesFiles.TheImpl.{ghosts}
 use Rattle.cord_file.proofs.tests.numbered_files.Given as goal
 
@@ -7,5 +7,5 @@ use Rattle.cord_file.proofs.tests.numbered_files.Given as goal
 abbrev pub invariant-loop-i : goal.invariant-loop-i
 invariant-loop-i g l = record {
   unopened : (n : ℕ) → ghosts.opened l.files n ≡ None;
-  few : file_count (ghosts.contents l.files) ≤ l.i-counter;
+  few : length (folder_in l.files) ≤ l.i-counter;
 }

@@ -1,45 +1,50 @@
 use Rattle.std.proofs.Common.{◌≡◌, ◌+◌, ◌∙◌, true, false}
-use Rattle.std.specs.Prelude.{IfSome}
 use Rattle.cord_pos.specs.Position.{IsByteAt, prev_index}
 use Rattle.cord_iter.proofs.Takings.{on_err}
 use Rattle.cord_iter.proofs.Backs.{cord_len, back_on, back_stop, back_front, left_prev}
 use Rattle.cord_iter.proofs.backward.riter4.Goals as goal
 
 pub returns-in_err-byte-clause-prefix : goal.returns-in_err-byte-clause-prefix
-returns-in_err-byte-clause-prefix g c =
+returns-in_err-byte-clause-prefix g c folder kept =
     let state = g.V.Visitor.state in
-    on_err c.from_residual.result (back_front g.V.Visitor.step (state c.args.visitor.now) (state c.loop-position.visitor) (g.S.Source.table c.args.src.now) c.args.cord.now c.args.i _ c.loop-position.invariant.walked)
+    let walked = c.loop-position.invariant.walked folder (c.fetch.ensures.earlier folder kept) in
+    on_err c.from_residual.result (back_front g.V.Visitor.step (state c.args.visitor.now) (state c.loop-position.visitor) (g.S.Source.table c.args.src.now folder) c.args.cord.now c.args.i _ walked)
 
 pub returns-then-byte-clause-walked : goal.returns-then-byte-clause-walked
-returns-then-byte-clause-walked g c =
+returns-then-byte-clause-walked g c folder kept =
     let state = g.V.Visitor.state in
     let step = g.V.Visitor.step in
-    let o = g.S.Source.table c.args.src.now in
+    let t = g.S.Source.table c.args.src.now folder in
     let cord = c.args.cord.now in
     let index = c.loop-position.position.index in
-    let len = cord_len (g.S.Source.lengths c.args.src.now) o cord (g.met.S.Source.lengths_of_table c.args.src.now) c.set-position.ensures.sound c.requires.fits in
-    let byte : IfSome o (λ t. IsByteAt t cord index c.in_ok-byte.byte) = rw (c.loop-position.invariant.table, c.loop-position.invariant.cord) at c.in_ok-byte.ensures.byte in
+    let before = c.fetch.ensures.earlier folder kept in
+    let told = g.met.S.Source.lengths_of_table c.args.src.now folder (c.loop-position.invariant.earlier folder before) in
+    let len = cord_len (g.S.Source.lengths c.args.src.now) t cord told c.set-position.ensures.sound c.requires.fits in
+    let byte : IsByteAt t cord index c.in_ok-byte.byte = rw (c.loop-position.invariant.table, c.loop-position.invariant.cord) at c.in_ok-byte.ensures.byte folder kept in
     let stop : (state c.byte.new.self, true) ≡ step (state c.loop-position.visitor) c.in_ok-byte.byte = rw c.if-byte.true at c.byte.ensures in
-    back_stop step (state c.args.visitor.now) (state c.loop-position.visitor) (state c.byte.new.self) o cord c.args.i index c.in_ok-byte.byte len c.requires.inside c.loop-position.invariant.below byte stop c.loop-position.invariant.walked
+    back_stop step (state c.args.visitor.now) (state c.loop-position.visitor) (state c.byte.new.self) t cord c.args.i index c.in_ok-byte.byte len c.requires.inside c.loop-position.invariant.below byte stop (c.loop-position.invariant.walked folder before)
 
 pub loop-position-preserved : goal.loop-position-preserved
 loop-position-preserved g c =
     let state = g.V.Visitor.state in
     let step = g.V.Visitor.step in
-    let o = g.S.Source.table c.args.src.now in
     let cord = c.args.cord.now in
     let index = c.loop-position.position.index in
-    let len = cord_len (g.S.Source.lengths c.args.src.now) o cord (g.met.S.Source.lengths_of_table c.args.src.now) c.set-position.ensures.sound c.requires.fits in
-    let byte : IfSome o (λ t. IsByteAt t cord index c.in_ok-byte.byte) = rw (c.loop-position.invariant.table, c.loop-position.invariant.cord) at c.in_ok-byte.ensures.byte in
     let on : (state c.byte.new.self, false) ≡ step (state c.loop-position.visitor) c.in_ok-byte.byte = rw c.if-byte.false at c.byte.ensures in
     let to : c.prev.new.self.index ≡ prev_index index = rw c.fetch.ensures.stays at c.prev.ensures.index in
     let same : c.prev.new.self.cord ≡ cord = (rw c.fetch.ensures.stays at c.prev.ensures.cord) ∙ c.loop-position.invariant.cord in
     record {
       cord = same;
       below = rw to (left_prev index (c.args.i + 1) c.loop-position.invariant.below);
-      walked = rw to (back_on step (state c.args.visitor.now) (state c.loop-position.visitor) (state c.byte.new.self) o cord c.args.i index c.in_ok-byte.byte len c.requires.inside c.loop-position.invariant.below byte on c.loop-position.invariant.walked);
+      walked = λ folder kept.
+          let t = g.S.Source.table c.args.src.now folder in
+          let before = c.fetch.ensures.earlier folder kept in
+          let told = g.met.S.Source.lengths_of_table c.args.src.now folder (c.loop-position.invariant.earlier folder before) in
+          let len = cord_len (g.S.Source.lengths c.args.src.now) t cord told c.set-position.ensures.sound c.requires.fits in
+          let byte : IsByteAt t cord index c.in_ok-byte.byte = rw (c.loop-position.invariant.table, c.loop-position.invariant.cord) at c.in_ok-byte.ensures.byte folder kept in
+          rw to (back_on step (state c.args.visitor.now) (state c.loop-position.visitor) (state c.byte.new.self) t cord c.args.i index c.in_ok-byte.byte len c.requires.inside c.loop-position.invariant.below byte on (c.loop-position.invariant.walked folder before));
       reads = c.in_ok-byte.ensures.count ∙ c.loop-position.invariant.reads;
       lengths = c.fetch.ensures.lengths ∙ c.loop-position.invariant.lengths;
       table = c.fetch.ensures.table ∙ c.loop-position.invariant.table;
-      files = c.fetch.ensures.files ∙ c.loop-position.invariant.files;
+      earlier = λ folder kept. c.loop-position.invariant.earlier folder (c.fetch.ensures.earlier folder kept);
     }

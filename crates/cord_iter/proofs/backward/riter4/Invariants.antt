@@ -1,5 +1,6 @@
 use Rattle.std.proofs.Common.{◌≡◌, ◌+◌, ◌-◌, ◌≤◌, take, false}
-use Rattle.std.specs.Prelude.{reverse, IfSome}
+use Rattle.std.specs.Prelude.{reverse}
+use Rattle.cord_io.specs.Device.{Folder}
 use Rattle.cord_core.specs.Cord.{bytes_of}
 use Rattle.cord_iter.specs.Walk.{walk}
 use Rattle.cord_iter.specs.Walk.{left_of}
@@ -10,11 +11,11 @@ abbrev pub invariant-loop-position : goal.invariant-loop-position
 invariant-loop-position g l = record {
   cord : l.position.cord ≡ l.cord;
   below : left_of l.position.index ≤ l.i + 1;
-  walked : IfSome (g.S.Source.table l.initial.src) (λ t. walk g.V.Visitor.step (g.V.Visitor.state l.initial.visitor) (take (l.i + 1 - left_of l.position.index) (reverse (take (l.i + 1) (bytes_of t l.cord)))) ≡ (g.V.Visitor.state l.visitor, false));
+  walked : (folder : Folder) → g.S.Source.keeps l.src folder → walk g.V.Visitor.step (g.V.Visitor.state l.initial.visitor) (take (l.i + 1 - left_of l.position.index) (reverse (take (l.i + 1) (bytes_of (g.S.Source.table l.initial.src folder) l.cord)))) ≡ (g.V.Visitor.state l.visitor, false);
   reads : g.S.Source.failures l.src ≡ g.S.Source.failures l.initial.src;
   lengths : g.S.Source.lengths l.src ≡ g.S.Source.lengths l.initial.src;
   table : g.S.Source.table l.src ≡ g.S.Source.table l.initial.src;
-  files : g.S.Source.files l.src ≡ g.S.Source.files l.initial.src;
+  earlier : (folder : Folder) → g.S.Source.keeps l.src folder → g.S.Source.keeps l.initial.src folder;
 }
 
 abbrev pub decreases-loop-position : goal.decreases-loop-position

@@ -1,68 +1,71 @@
 use Rattle.std.proofs.Common.{◌≡◌, ℕ, List, ◌+◌, ◌-◌, ◌≤◌, ◌∙◌, take, drop, sym, ap, subst, arith}
-use Rattle.std.specs.Prelude.{IfSome, replicate}
+use Rattle.std.specs.Prelude.{replicate}
 use Rattle.std.proofs.lemmas.List.{drop-replicate}
 use Rattle.cord_node.specs.declared.Node.{Node}
 use Rattle.cord_node.specs.Tree.{len_of}
 use Rattle.cord_node.specs.Tables.{bytes_over}
 use Rattle.cord_iter.specs.Walk.{WalkedFront}
 use Rattle.cord_iter.proofs.Takings.{on_err}
-use Rattle.cord_iter.proofs.Walks.{same_text, same_walk, known_walk, range_rest}
+use Rattle.cord_iter.proofs.Walks.{same_walk, range_rest}
 use Rattle.cord_iter.proofs.Cuts.{IsCut, cut_of, cut_stop, cut_on, cut_front, cut_on_front, cut_past, cut_past_walk}
 use Rattle.cord_iter.proofs.forward.+walk_node.Goals as goal
 
 pub returns-in_err-stopped-in-Func-clause-prefix : goal.returns-in_err-stopped-in-Func-clause-prefix
-returns-in_err-stopped-in-Func-clause-prefix g t c =
+returns-in_err-stopped-in-Func-clause-prefix g t c folder kept =
     let step = g.V.Visitor.step in
     let state = g.V.Visitor.state in
-    let o = g.S.Source.table c.args.src.now in
+    let text = g.S.Source.table c.args.src.now folder in
     let node = c.args.node.now in
     let inside : c.args.from ≤ c.in-Func.len = rw c.in-Func.is at c.requires.inside in
-    on_err c.from_residual.result (same_text o (λ xs. WalkedFront step (state c.args.visitor.now) (state c.walk_func.new.visitor) xs) (λ t. take (c.in-Func.len - c.args.from) (drop (c.in-Func.start + c.args.from) (t c.in-Func.id.0))) (λ t. drop c.args.from (bytes_over t node)) (λ t. range_rest (t c.in-Func.id.0) c.in-Func.start c.in-Func.len c.args.from inside ∙ ap (λ (n : Node). drop c.args.from (bytes_over t n)) (sym c.in-Func.is)) c.in_err-stopped-in-Func.ensures.prefix)
+    on_err c.from_residual.result (subst (WalkedFront step (state c.args.visitor.now) (state c.walk_func.new.visitor)) (range_rest (text c.in-Func.id.0) c.in-Func.start c.in-Func.len c.args.from inside ∙ ap (λ (n : Node). drop c.args.from (bytes_over text n)) (sym c.in-Func.is)) (c.in_err-stopped-in-Func.ensures.prefix folder kept))
 
 pub returns-in_err-stopped-in-Cat-clause-prefix : goal.returns-in_err-stopped-in-Cat-clause-prefix
-returns-in_err-stopped-in-Cat-clause-prefix g t c =
+returns-in_err-stopped-in-Cat-clause-prefix g t c folder kept =
     let step = g.V.Visitor.step in
     let state = g.V.Visitor.state in
-    let o = g.S.Source.table c.args.src.now in
+    let text = g.S.Source.table c.args.src.now folder in
     let node = c.args.node.now in
     let left = c.in-Cat.left.value in
     let right = c.in-Cat.right.value in
-    let cut : IfSome o (λ t. IsCut t left right node) = cut_of (g.S.Source.lengths c.args.src.now) o _ left _ right _ _ node c.in-Cat.is c.requires.sound c.requires.fits (g.met.S.Source.lengths_of_table c.args.src.now) in
+    let told = g.met.S.Source.lengths_of_table c.args.src.now folder (c.walk_node.ensures.earlier folder kept) in
+    let cut : IsCut text left right node = cut_of (g.S.Source.lengths c.args.src.now) text _ left _ right _ _ _ node c.in-Cat.is c.requires.sound c.requires.fits told in
     let seam : c.len-seam.result ≡ len_of left = c.len-seam.ensures.stored ∙ ap len_of c.deref.ensures in
     let inside : len_of left ≤ c.args.from = subst (λ k. k ≤ c.args.from) seam c.if-seam-from.true in
-    on_err c.from_residual-in_err-stopped-in-Cat.result (cut_past (λ xs. WalkedFront step (state c.args.visitor.now) (state c.walk_node.new.visitor) xs) o left right node c.args.from cut inside (rw (c.as_ref.ensures, seam) at c.in_err-stopped-in-Cat.ensures.prefix))
+    on_err c.from_residual-in_err-stopped-in-Cat.result (cut_past (λ xs. WalkedFront step (state c.args.visitor.now) (state c.walk_node.new.visitor) xs) text left right node c.args.from cut inside (rw (c.as_ref.ensures, seam) at c.in_err-stopped-in-Cat.ensures.prefix folder kept))
 
 pub returns-in_err-walk_node-in-Cat-clause-prefix : goal.returns-in_err-walk_node-in-Cat-clause-prefix
-returns-in_err-walk_node-in-Cat-clause-prefix g t c =
+returns-in_err-walk_node-in-Cat-clause-prefix g t c folder kept =
     let step = g.V.Visitor.step in
     let state = g.V.Visitor.state in
-    let o = g.S.Source.table c.args.src.now in
+    let text = g.S.Source.table c.args.src.now folder in
     let node = c.args.node.now in
     let left = c.in-Cat.left.value in
     let right = c.in-Cat.right.value in
-    let cut : IfSome o (λ t. IsCut t left right node) = cut_of (g.S.Source.lengths c.args.src.now) o _ left _ right _ _ node c.in-Cat.is c.requires.sound c.requires.fits (g.met.S.Source.lengths_of_table c.args.src.now) in
+    let told = g.met.S.Source.lengths_of_table c.args.src.now folder (c.walk_node-else-seam-from.ensures.earlier folder kept) in
+    let cut : IsCut text left right node = cut_of (g.S.Source.lengths c.args.src.now) text _ left _ right _ _ _ node c.in-Cat.is c.requires.sound c.requires.fits told in
     let seam : c.len-seam.result ≡ len_of left = c.len-seam.ensures.stored ∙ ap len_of c.deref.ensures in
     let inside : c.args.from ≤ len_of left = omega (arith, seam, c.if-seam-from.false) in
-    on_err c.from_residual-in_err-walk_node-in-Cat.result (cut_front step (state c.args.visitor.now) (state c.walk_node-else-seam-from.new.visitor) o left right node c.args.from cut inside (rw c.as_ref-else-seam-from.ensures at c.in_err-walk_node-in-Cat.ensures.prefix))
+    on_err c.from_residual-in_err-walk_node-in-Cat.result (cut_front step (state c.args.visitor.now) (state c.walk_node-else-seam-from.new.visitor) text left right node c.args.from cut inside (rw c.as_ref-else-seam-from.ensures at c.in_err-walk_node-in-Cat.ensures.prefix folder kept))
 
 pub returns-in_err-stopped-in-Cat-2-clause-prefix : goal.returns-in_err-stopped-in-Cat-2-clause-prefix
-returns-in_err-stopped-in-Cat-2-clause-prefix g t c =
+returns-in_err-stopped-in-Cat-2-clause-prefix g t c folder kept =
     let step = g.V.Visitor.step in
     let state = g.V.Visitor.state in
-    let o = g.S.Source.table c.args.src.now in
+    let text = g.S.Source.table c.args.src.now folder in
     let node = c.args.node.now in
     let left = c.in-Cat.left.value in
     let right = c.in-Cat.right.value in
-    let cut : IfSome o (λ t. IsCut t left right node) = cut_of (g.S.Source.lengths c.args.src.now) o _ left _ right _ _ node c.in-Cat.is c.requires.sound c.requires.fits (g.met.S.Source.lengths_of_table c.args.src.now) in
+    let told = g.met.S.Source.lengths_of_table c.args.src.now folder (c.walk_node-else-seam-from.ensures.earlier folder (c.walk_node-else-branch.ensures.earlier folder kept)) in
+    let cut : IsCut text left right node = cut_of (g.S.Source.lengths c.args.src.now) text _ left _ right _ _ _ node c.in-Cat.is c.requires.sound c.requires.fits told in
     let seam : c.len-seam.result ≡ len_of left = c.len-seam.ensures.stored ∙ ap len_of c.deref.ensures in
     let inside : c.args.from ≤ len_of left = omega (arith, seam, c.if-seam-from.false) in
-    on_err c.from_residual-in_err-stopped-in-Cat-2.result (cut_on_front step (state c.args.visitor.now) (state c.walk_node-else-seam-from.new.visitor) (state c.walk_node-else-branch.new.visitor) o left right node c.args.from cut inside (rw (c.as_ref-else-seam-from.ensures, c.if-branch.false) at c.in_ok-walk_node-in-Cat.ensures.walked) (rw (c.as_ref-else-branch.ensures, c.walk_node-else-seam-from.ensures.table) at c.in_err-stopped-in-Cat-2.ensures.prefix))
+    on_err c.from_residual-in_err-stopped-in-Cat-2.result (cut_on_front step (state c.args.visitor.now) (state c.walk_node-else-seam-from.new.visitor) (state c.walk_node-else-branch.new.visitor) text left right node c.args.from cut inside (rw (c.as_ref-else-seam-from.ensures, c.if-branch.false) at c.in_ok-walk_node-in-Cat.ensures.walked folder (c.walk_node-else-branch.ensures.earlier folder kept)) (rw (c.as_ref-else-branch.ensures, c.walk_node-else-seam-from.ensures.table) at c.in_err-stopped-in-Cat-2.ensures.prefix folder kept))
 
 pub returns-in-Leaf-clause-walked : goal.returns-in-Leaf-clause-walked
-returns-in-Leaf-clause-walked g t c =
+returns-in-Leaf-clause-walked g t c folder kept =
     let step = g.V.Visitor.step in
     let state = g.V.Visitor.state in
-    let o = g.S.Source.table c.args.src.now in
+    let text = g.S.Source.table c.args.src.now folder in
     let node = c.args.node.now in
     let from = c.args.from in
     let start = c.in-Leaf.start in
@@ -70,65 +73,69 @@ returns-in-Leaf-clause-walked g t c =
     let slice = c.as_slice.result.now in
     let inside : from ≤ len = rw c.in-Leaf.is at c.requires.inside in
     let count : (start + len) - (start + from) ≡ len - from = omega arith in
-    known_walk step (state c.args.visitor.now) _ o (take ((start + len) - (start + from)) (drop (start + from) slice)) (λ t. drop from (bytes_over t node))
-    (λ t. ap (λ (k : ℕ). take k (drop (start + from) slice)) count ∙ range_rest slice start len from inside ∙ ap (λ (xs : List ℕ). drop from (take len (drop start xs))) c.as_slice.ensures.value ∙ ap (λ (n : Node). drop from (bytes_over t n)) (sym c.in-Leaf.is))
+    same_walk step (state c.args.visitor.now) _ (take ((start + len) - (start + from)) (drop (start + from) slice)) (drop from (bytes_over text node))
+    (ap (λ (k : ℕ). take k (drop (start + from) slice)) count ∙ range_rest slice start len from inside ∙ ap (λ (xs : List ℕ). drop from (take len (drop start xs))) c.as_slice.ensures.value ∙ ap (λ (n : Node). drop from (bytes_over text n)) (sym c.in-Leaf.is))
     (sym c.bytes-stopped.ensures)
 
 pub returns-in-Run-clause-walked : goal.returns-in-Run-clause-walked
-returns-in-Run-clause-walked g t c =
+returns-in-Run-clause-walked g t c folder kept =
     let step = g.V.Visitor.step in
     let state = g.V.Visitor.state in
-    let o = g.S.Source.table c.args.src.now in
+    let text = g.S.Source.table c.args.src.now folder in
     let node = c.args.node.now in
     let from = c.args.from in
-    known_walk step (state c.args.visitor.now) _ o (replicate (c.in-Run.len - from) c.in-Run.byte) (λ t. drop from (bytes_over t node))
-    (λ t. sym (drop-replicate from c.in-Run.len c.in-Run.byte) ∙ ap (λ (n : Node). drop from (bytes_over t n)) (sym c.in-Run.is))
+    same_walk step (state c.args.visitor.now) _ (replicate (c.in-Run.len - from) c.in-Run.byte) (drop from (bytes_over text node))
+    (sym (drop-replicate from c.in-Run.len c.in-Run.byte) ∙ ap (λ (n : Node). drop from (bytes_over text n)) (sym c.in-Run.is))
     c.walk_run-stopped.ensures
 
 pub returns-in_ok-stopped-in-Func-clause-walked : goal.returns-in_ok-stopped-in-Func-clause-walked
-returns-in_ok-stopped-in-Func-clause-walked g t c =
+returns-in_ok-stopped-in-Func-clause-walked g t c folder kept =
     let step = g.V.Visitor.step in
     let state = g.V.Visitor.state in
-    let o = g.S.Source.table c.args.src.now in
+    let text = g.S.Source.table c.args.src.now folder in
     let node = c.args.node.now in
     let inside : c.args.from ≤ c.in-Func.len = rw c.in-Func.is at c.requires.inside in
-    same_walk step (state c.args.visitor.now) _ o (λ t. take (c.in-Func.len - c.args.from) (drop (c.in-Func.start + c.args.from) (t c.in-Func.id.0))) (λ t. drop c.args.from (bytes_over t node)) (λ t. range_rest (t c.in-Func.id.0) c.in-Func.start c.in-Func.len c.args.from inside ∙ ap (λ (n : Node). drop c.args.from (bytes_over t n)) (sym c.in-Func.is)) c.in_ok-stopped-in-Func.ensures.walked
+    same_walk step (state c.args.visitor.now) _ (take (c.in-Func.len - c.args.from) (drop (c.in-Func.start + c.args.from) (text c.in-Func.id.0))) (drop c.args.from (bytes_over text node)) (range_rest (text c.in-Func.id.0) c.in-Func.start c.in-Func.len c.args.from inside ∙ ap (λ (n : Node). drop c.args.from (bytes_over text n)) (sym c.in-Func.is)) (c.in_ok-stopped-in-Func.ensures.walked folder kept)
 
 pub returns-in_ok-stopped-in-Cat-clause-walked : goal.returns-in_ok-stopped-in-Cat-clause-walked
-returns-in_ok-stopped-in-Cat-clause-walked g t c =
+returns-in_ok-stopped-in-Cat-clause-walked g t c folder kept =
     let step = g.V.Visitor.step in
     let state = g.V.Visitor.state in
-    let o = g.S.Source.table c.args.src.now in
+    let text = g.S.Source.table c.args.src.now folder in
     let node = c.args.node.now in
     let left = c.in-Cat.left.value in
     let right = c.in-Cat.right.value in
-    let cut : IfSome o (λ t. IsCut t left right node) = cut_of (g.S.Source.lengths c.args.src.now) o _ left _ right _ _ node c.in-Cat.is c.requires.sound c.requires.fits (g.met.S.Source.lengths_of_table c.args.src.now) in
+    let told = g.met.S.Source.lengths_of_table c.args.src.now folder (c.walk_node.ensures.earlier folder kept) in
+    let cut : IsCut text left right node = cut_of (g.S.Source.lengths c.args.src.now) text _ left _ right _ _ _ node c.in-Cat.is c.requires.sound c.requires.fits told in
     let seam : c.len-seam.result ≡ len_of left = c.len-seam.ensures.stored ∙ ap len_of c.deref.ensures in
     let inside : len_of left ≤ c.args.from = subst (λ k. k ≤ c.args.from) seam c.if-seam-from.true in
-    cut_past_walk step (state c.args.visitor.now) _ o left right node c.args.from cut inside (rw (c.as_ref.ensures, seam) at c.in_ok-stopped-in-Cat.ensures.walked)
+    cut_past_walk step (state c.args.visitor.now) _ text left right node c.args.from cut inside (rw (c.as_ref.ensures, seam) at c.in_ok-stopped-in-Cat.ensures.walked folder kept)
 
 pub returns-then-branch-clause-walked : goal.returns-then-branch-clause-walked
-returns-then-branch-clause-walked g t c =
+returns-then-branch-clause-walked g t c folder kept =
     let step = g.V.Visitor.step in
     let state = g.V.Visitor.state in
-    let o = g.S.Source.table c.args.src.now in
+    let text = g.S.Source.table c.args.src.now folder in
     let node = c.args.node.now in
     let left = c.in-Cat.left.value in
     let right = c.in-Cat.right.value in
-    let cut : IfSome o (λ t. IsCut t left right node) = cut_of (g.S.Source.lengths c.args.src.now) o _ left _ right _ _ node c.in-Cat.is c.requires.sound c.requires.fits (g.met.S.Source.lengths_of_table c.args.src.now) in
+    let told = g.met.S.Source.lengths_of_table c.args.src.now folder (c.walk_node-else-seam-from.ensures.earlier folder kept) in
+    let cut : IsCut text left right node = cut_of (g.S.Source.lengths c.args.src.now) text _ left _ right _ _ _ node c.in-Cat.is c.requires.sound c.requires.fits told in
     let seam : c.len-seam.result ≡ len_of left = c.len-seam.ensures.stored ∙ ap len_of c.deref.ensures in
     let inside : c.args.from ≤ len_of left = omega (arith, seam, c.if-seam-from.false) in
-    cut_stop step (state c.args.visitor.now) (state c.walk_node-else-seam-from.new.visitor) o left right node c.args.from cut inside (rw (c.as_ref-else-seam-from.ensures, c.if-branch.true) at c.in_ok-walk_node-in-Cat.ensures.walked)
+    cut_stop step (state c.args.visitor.now) (state c.walk_node-else-seam-from.new.visitor) text left right node c.args.from cut inside (rw (c.as_ref-else-seam-from.ensures, c.if-branch.true) at c.in_ok-walk_node-in-Cat.ensures.walked folder kept)
 
 pub returns-in_ok-stopped-in-Cat-2-clause-walked : goal.returns-in_ok-stopped-in-Cat-2-clause-walked
-returns-in_ok-stopped-in-Cat-2-clause-walked g t c =
+returns-in_ok-stopped-in-Cat-2-clause-walked g t c folder kept =
     let step = g.V.Visitor.step in
     let state = g.V.Visitor.state in
-    let o = g.S.Source.table c.args.src.now in
+    let text = g.S.Source.table c.args.src.now folder in
     let node = c.args.node.now in
     let left = c.in-Cat.left.value in
     let right = c.in-Cat.right.value in
-    let cut : IfSome o (λ t. IsCut t left right node) = cut_of (g.S.Source.lengths c.args.src.now) o _ left _ right _ _ node c.in-Cat.is c.requires.sound c.requires.fits (g.met.S.Source.lengths_of_table c.args.src.now) in
+    let before = c.walk_node-else-branch.ensures.earlier folder kept in
+    let told = g.met.S.Source.lengths_of_table c.args.src.now folder (c.walk_node-else-seam-from.ensures.earlier folder before) in
+    let cut : IsCut text left right node = cut_of (g.S.Source.lengths c.args.src.now) text _ left _ right _ _ _ node c.in-Cat.is c.requires.sound c.requires.fits told in
     let seam : c.len-seam.result ≡ len_of left = c.len-seam.ensures.stored ∙ ap len_of c.deref.ensures in
     let inside : c.args.from ≤ len_of left = omega (arith, seam, c.if-seam-from.false) in
-    cut_on step (state c.args.visitor.now) (state c.walk_node-else-seam-from.new.visitor) _ o left right node c.args.from cut inside (rw (c.as_ref-else-seam-from.ensures, c.if-branch.false) at c.in_ok-walk_node-in-Cat.ensures.walked) (rw (c.as_ref-else-branch.ensures, c.walk_node-else-seam-from.ensures.table) at c.in_ok-stopped-in-Cat-2.ensures.walked)
+    cut_on step (state c.args.visitor.now) (state c.walk_node-else-seam-from.new.visitor) _ text left right node c.args.from cut inside (rw (c.as_ref-else-seam-from.ensures, c.if-branch.false) at c.in_ok-walk_node-in-Cat.ensures.walked folder before) (rw (c.as_ref-else-branch.ensures, c.walk_node-else-seam-from.ensures.table) at c.in_ok-stopped-in-Cat-2.ensures.walked folder kept)

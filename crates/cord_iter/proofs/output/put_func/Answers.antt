@@ -6,25 +6,26 @@ use Rattle.cord_iter.proofs.output.put_func.Goals as goal
 
 pub returns-in_err-put_piece-clause-prefix : goal.returns-in_err-put_piece-clause-prefix
 returns-in_err-put_piece-clause-prefix g c =
-    let o = g.S.Source.table c.args.src.now in
+    let table = g.S.Source.table c.args.src.now in
     let done = c.loop-done.done in
     let count = c.piece_len-count.result in
     let inside : done + count ≤ c.args.len = omega (arith, c.piece_len-count.ensures.inside) in
-    let piece : Takes (IsPrefixOver o (Func c.args.id (c.args.start + done) count)) (g.W.Sink.taken c.loop-done.sink) (g.W.Sink.taken c.put_piece.new.sink) = rw c.loop-done.invariant.table at c.in_err-put_piece.ensures.prefix in
-    on_err c.from_residual.result (takes_both c.loop-done.invariant.taken piece (λ x y. func_prefix o c.args.id c.args.start done count c.args.len x y inside))
+    let piece : Takes (IsPrefixOver (g.S.Source.keeps c.put_piece.new.src) table (Func c.args.id (c.args.start + done) count)) (g.W.Sink.taken c.loop-done.sink) (g.W.Sink.taken c.put_piece.new.sink) = rw c.loop-done.invariant.table at c.in_err-put_piece.ensures.prefix in
+    on_err c.from_residual.result (takes_both c.loop-done.invariant.taken piece (λ x y. func_prefix table c.args.id c.args.start done count c.args.len x y inside c.put_piece.ensures.earlier))
 
 pub loop-done-preserved : goal.loop-done-preserved
 loop-done-preserved g c =
-    let o = g.S.Source.table c.args.src.now in
+    let table = g.S.Source.table c.args.src.now in
     let done = c.loop-done.done in
     let count = c.piece_len-count.result in
-    let piece : Takes (IsTextOver o (Func c.args.id (c.args.start + done) count)) (g.W.Sink.taken c.loop-done.sink) (g.W.Sink.taken c.put_piece.new.sink) = rw c.loop-done.invariant.table at c.in_ok-put_piece.ensures.text in
+    let piece : Takes (IsTextOver (g.S.Source.keeps c.put_piece.new.src) table (Func c.args.id (c.args.start + done) count)) (g.W.Sink.taken c.loop-done.sink) (g.W.Sink.taken c.put_piece.new.sink) = rw c.loop-done.invariant.table at c.in_ok-put_piece.ensures.text in
     record {
       in_range = omega (arith, c.piece_len-count.ensures.inside);
-      taken = takes_both c.loop-done.invariant.taken piece (λ x y. func_text o c.args.id c.args.start done count x y);
+      taken = takes_both c.loop-done.invariant.taken piece (λ x y. func_text table c.args.id c.args.start done count x y c.put_piece.ensures.earlier);
       reads = c.in_ok-put_piece.ensures.faults.0 ∙ c.loop-done.invariant.reads;
       puts = c.in_ok-put_piece.ensures.faults.1 ∙ c.loop-done.invariant.puts;
       lengths = c.put_piece.ensures.lengths ∙ c.loop-done.invariant.lengths;
       table = c.put_piece.ensures.table ∙ c.loop-done.invariant.table;
-      files = c.put_piece.ensures.files ∙ c.loop-done.invariant.files;
+      earlier = λ folder kept. c.loop-done.invariant.earlier folder (c.put_piece.ensures.earlier folder kept);
+      finished = c.put_piece.ensures.finished ∙ c.loop-done.invariant.finished;
     }

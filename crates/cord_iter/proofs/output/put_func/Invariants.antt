@@ -1,4 +1,5 @@
 use Rattle.std.proofs.Common.{◌-◌, ◌≡◌, ◌≤◌}
+use Rattle.cord_io.specs.Device.{Folder}
 use Rattle.cord_node.specs.declared.Node.TheVariants.{Func}
 use Rattle.cord_iter.specs.Taking.{IsTextOver, Takes}
 use Rattle.cord_iter.proofs.output.put_func.Given as goal
@@ -7,12 +8,13 @@ use Rattle.cord_iter.proofs.output.put_func.Given as goal
 abbrev pub invariant-loop-done : goal.invariant-loop-done
 invariant-loop-done g l = record {
   in_range : l.done ≤ l.len;
-  taken : Takes (IsTextOver (g.S.Source.table l.initial.src) (Func l.id l.start l.done)) (g.W.Sink.taken l.initial.sink) (g.W.Sink.taken l.sink);
+  taken : Takes (IsTextOver (g.S.Source.keeps l.src) (g.S.Source.table l.initial.src) (Func l.id l.start l.done)) (g.W.Sink.taken l.initial.sink) (g.W.Sink.taken l.sink);
   reads : g.S.Source.failures l.src ≡ g.S.Source.failures l.initial.src;
   puts : g.W.Sink.failures l.sink ≡ g.W.Sink.failures l.initial.sink;
   lengths : g.S.Source.lengths l.src ≡ g.S.Source.lengths l.initial.src;
   table : g.S.Source.table l.src ≡ g.S.Source.table l.initial.src;
-  files : g.S.Source.files l.src ≡ g.S.Source.files l.initial.src;
+  earlier : (folder : Folder) → g.S.Source.keeps l.src folder → g.S.Source.keeps l.initial.src folder;
+  finished : g.W.Sink.finished l.sink ≡ g.W.Sink.finished l.initial.sink;
 }
 
 abbrev pub decreases-loop-done : goal.decreases-loop-done

@@ -15,4 +15,5 @@ loop-done-preserved g c = record {
   in_range = omega (arith, c.piece_len-count.ensures.inside);
   taken = run_more (g.W.Sink.taken c.args.sink.now) (g.W.Sink.taken c.loop-done.sink) (g.W.Sink.taken c.put_all.new.sink) c.args.byte c.loop-done.done c.piece_len-count.result PIECE_LEN c.piece_len-count.ensures.most c.loop-done.invariant.taken c.in_ok-put_all.ensures.ok.0;
   count = c.in_ok-put_all.ensures.ok.1 ∙ c.loop-done.invariant.count;
+  finished = c.put_all.ensures.finished ∙ c.loop-done.invariant.finished;
 }

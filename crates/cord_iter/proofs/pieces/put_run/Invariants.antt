@@ -1,13 +1,13 @@
-use Rattle.std.proofs.Common.{◌-◌, ◌≡◌, ◌≤◌}
+use Rattle.std.proofs.Common.{◌-◌, ◌≡◌, ◌≤◌, ◌++◌}
 use Rattle.std.specs.Prelude.{replicate}
-use Rattle.std.specs.Io.KnownBytes.{Appends}
 use Rattle.cord_iter.proofs.pieces.put_run.Given as goal
 
 abbrev pub invariant-loop-done : goal.invariant-loop-done
 invariant-loop-done g l = record {
   in_range : l.done ≤ l.len;
-  taken : Appends (g.W.Sink.taken l.initial.sink) (g.W.Sink.taken l.sink) (replicate l.done l.byte);
+  taken : g.W.Sink.taken l.sink ≡ g.W.Sink.taken l.initial.sink ++ replicate l.done l.byte;
   count : g.W.Sink.failures l.sink ≡ g.W.Sink.failures l.initial.sink;
+  finished : g.W.Sink.finished l.sink ≡ g.W.Sink.finished l.initial.sink;
 }
 
 abbrev pub decreases-loop-done : goal.decreases-loop-done

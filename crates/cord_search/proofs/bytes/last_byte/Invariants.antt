@@ -1,4 +1,5 @@
 use Rattle.std.proofs.Common.{◌≡◌, ◌+◌, ◌≤◌}
+use Rattle.cord_io.specs.Device.{Folder}
 use Rattle.cord_search.specs.Pieces.{HasNot}
 use Rattle.cord_search.proofs.bytes.last_byte.Given as goal
 
@@ -6,11 +7,11 @@ use Rattle.cord_search.proofs.bytes.last_byte.Given as goal
 abbrev pub invariant-loop-end : goal.invariant-loop-end
 invariant-loop-end g l = record {
   high : l.end ≤ l.at + 1;
-  none : HasNot (g.S.Source.table l.initial.src) l.node l.byte l.end (l.at + 1);
+  none : (folder : Folder) → g.S.Source.keeps l.src folder → HasNot (g.S.Source.table l.initial.src folder) l.node l.byte l.end (l.at + 1);
   reads : g.S.Source.failures l.src ≡ g.S.Source.failures l.initial.src;
   lengths : g.S.Source.lengths l.src ≡ g.S.Source.lengths l.initial.src;
   table : g.S.Source.table l.src ≡ g.S.Source.table l.initial.src;
-  files : g.S.Source.files l.src ≡ g.S.Source.files l.initial.src;
+  earlier : (folder : Folder) → g.S.Source.keeps l.src folder → g.S.Source.keeps l.initial.src folder;
 }
 
 abbrev pub decreases-loop-end : goal.decreases-loop-end

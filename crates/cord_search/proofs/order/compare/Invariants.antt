@@ -1,4 +1,5 @@
 use Rattle.std.proofs.Common.{◌≡◌, ◌-◌, ◌≤◌}
+use Rattle.cord_io.specs.Device.{Folder}
 use Rattle.cord_search.specs.Pieces.{AreSame}
 use Rattle.cord_search.proofs.order.compare.Given as goal
 
@@ -6,11 +7,11 @@ use Rattle.cord_search.proofs.order.compare.Given as goal
 abbrev pub invariant-loop-done : goal.invariant-loop-done
 invariant-loop-done g l = record {
   in_range : l.done ≤ l.both;
-  same : AreSame (g.S.Source.table l.initial.src) l.x l.i l.y l.j l.done;
+  same : (folder : Folder) → g.S.Source.keeps l.src folder → AreSame (g.S.Source.table l.initial.src folder) l.x l.i l.y l.j l.done;
   reads : g.S.Source.failures l.src ≡ g.S.Source.failures l.initial.src;
   lengths : g.S.Source.lengths l.src ≡ g.S.Source.lengths l.initial.src;
   table : g.S.Source.table l.src ≡ g.S.Source.table l.initial.src;
-  files : g.S.Source.files l.src ≡ g.S.Source.files l.initial.src;
+  earlier : (folder : Folder) → g.S.Source.keeps l.src folder → g.S.Source.keeps l.initial.src folder;
 }
 
 abbrev pub decreases-loop-done : goal.decreases-loop-done

@@ -6,4 +6,6 @@ pub first_piece-requires-clause-fits : goal.first_piece-requires-clause-fits
 first_piece-requires-clause-fits g c = c.cord_stretch_at.ensures.fits (g.S.Source.lengths c.args.src.now) c.requires.fits
 
 pub returns-clause-text : goal.returns-clause-text
-returns-clause-text g c = piece_within (g.S.Source.lengths c.args.src.now) (g.S.Source.table c.args.src.now) c.args.cord.now c.args.place c.cord_stretch_at.result 0 c.args.place c.in_ok-piece.piece.now (g.met.S.Source.lengths_of_table c.args.src.now) c.requires.fits c.cord_stretch_at.ensures (omega (arith, c.in_ok-piece.ensures.inside)) (omega arith) c.in_ok-piece.ensures.text
+returns-clause-text g c = λ folder kept.
+    let told = g.met.S.Source.lengths_of_table c.args.src.now folder (c.in_ok-piece.ensures.earlier folder kept) in
+    piece_within (g.S.Source.lengths c.args.src.now) (g.S.Source.table c.args.src.now folder) c.args.cord.now c.args.place c.cord_stretch_at.result 0 c.args.place c.in_ok-piece.piece.now told c.requires.fits c.cord_stretch_at.ensures (omega (arith, c.in_ok-piece.ensures.inside)) (omega arith) (c.in_ok-piece.ensures.text folder kept)

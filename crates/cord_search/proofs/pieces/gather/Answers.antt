@@ -9,16 +9,17 @@ overflow_add-place g c = omega (arith, c.requires.inside, c.loop-done-test.true,
 
 pub loop-done-preserved : goal.loop-done-preserved
 loop-done-preserved g c =
-    let o = g.S.Source.table c.args.src.now in
     let done = c.loop-done.done in
     let n = c.min-count.result in
     let piece = c.in_ok-piece.piece.now in
-    let text : IsPieceOf o c.args.cord.now (c.args.place + done) piece = rw c.loop-done.invariant.table at c.in_ok-piece.ensures.text in
     record {
       in_range = filled_inside done _ n c.loop-done.out piece c.copy_from_slice.new.self (omega (arith, c.min-count.ensures)) c.loop-done.invariant.in_range c.copy_from_slice.ensures.after;
-      filled = filled_on o c.args.cord.now c.args.place done _ n c.loop-done.out piece c.copy_from_slice.new.self c.loop-done.invariant.filled text (omega (arith, c.min-count.ensures)) c.loop-done.invariant.in_range c.copy_from_slice.ensures.after;
+      filled = λ folder kept.
+          let t = g.S.Source.table c.args.src.now folder in
+          let text : IsPieceOf t c.args.cord.now (c.args.place + done) piece = rw c.loop-done.invariant.table at c.in_ok-piece.ensures.text folder kept in
+          filled_on t c.args.cord.now c.args.place done _ n c.loop-done.out piece c.copy_from_slice.new.self (c.loop-done.invariant.filled folder (c.in_ok-piece.ensures.earlier folder kept)) text (omega (arith, c.min-count.ensures)) c.loop-done.invariant.in_range c.copy_from_slice.ensures.after;
       reads = c.in_ok-piece.ensures.count ∙ c.loop-done.invariant.reads;
       lengths = c.cord_piece_at.ensures.lengths ∙ c.loop-done.invariant.lengths;
       table = c.cord_piece_at.ensures.table ∙ c.loop-done.invariant.table;
-      files = c.cord_piece_at.ensures.files ∙ c.loop-done.invariant.files;
+      earlier = λ folder kept. c.loop-done.invariant.earlier folder (c.in_ok-piece.ensures.earlier folder kept);
     }

@@ -1,4 +1,5 @@
 use Rattle.std.proofs.Common.{◌≡◌, ◌-◌, ◌≤◌, length}
+use Rattle.cord_io.specs.Device.{Folder}
 use Rattle.cord_search.specs.Pieces.{IsFilled}
 use Rattle.cord_search.proofs.pieces.gather.Given as goal
 
@@ -6,11 +7,11 @@ use Rattle.cord_search.proofs.pieces.gather.Given as goal
 abbrev pub invariant-loop-done : goal.invariant-loop-done
 invariant-loop-done g l = record {
   in_range : l.done ≤ length l.out;
-  filled : IsFilled (g.S.Source.table l.initial.src) l.cord l.place l.done l.out;
+  filled : (folder : Folder) → g.S.Source.keeps l.src folder → IsFilled (g.S.Source.table l.initial.src folder) l.cord l.place l.done l.out;
   reads : g.S.Source.failures l.src ≡ g.S.Source.failures l.initial.src;
   lengths : g.S.Source.lengths l.src ≡ g.S.Source.lengths l.initial.src;
   table : g.S.Source.table l.src ≡ g.S.Source.table l.initial.src;
-  files : g.S.Source.files l.src ≡ g.S.Source.files l.initial.src;
+  earlier : (folder : Folder) → g.S.Source.keeps l.src folder → g.S.Source.keeps l.initial.src folder;
 }
 
 abbrev pub decreases-loop-done : goal.decreases-loop-done

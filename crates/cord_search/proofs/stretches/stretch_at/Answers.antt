@@ -1,6 +1,8 @@
+use mathlib.Core.List.{[], ◌∷◌}
 use Rattle.std.proofs.Common.{◌≡◌, List, ℕ, ◌+◌, ◌-◌, ◌<◌, ◌≤◌, ◌∙◌, length, take, drop, sym, ap, refl, arith}
 use Rattle.std.specs.Rc.{rc_slice_items}
 use Rattle.cord_io.specs.declared.TheConstants.{MAX_LEN}
+use Rattle.cord_node.specs.Kept.{leaf_part}
 use Rattle.cord_node.specs.declared.Node.{Node}
 use Rattle.cord_node.specs.Tree.{len_of}
 use Rattle.cord_node.specs.Tables.{bytes_over}
@@ -14,7 +16,7 @@ loop-node-preserved-then-place-seam c =
     let left = c.in-Cat.left.value in
     let seam : c.len-seam.result ≡ len_of left = c.len-seam.ensures.stored ∙ ap len_of c.deref.ensures in
     let inside : c.loop-node.place < len_of left = omega (arith, seam, c.if-place-seam.true) in
-    let within : IsWithin top place left c.loop-node.place = within_left top place c.loop-node.node.now c.loop-node.place _ left _ c.in-Cat.right.value _ _ c.in-Cat.is c.loop-node.invariant.within in
+    let within : IsWithin top place left c.loop-node.place = within_left top place c.loop-node.node.now c.loop-node.place _ left _ c.in-Cat.right.value _ _ _ c.in-Cat.is c.loop-node.invariant.within in
     record {
       inside = rw c.as_ref-node.ensures inside;
       within = rw c.as_ref-node.ensures within;
@@ -30,8 +32,8 @@ loop-node-preserved c =
     let right = c.in-Cat.right.value in
     let seam : c.len-seam.result ≡ len_of left = c.len-seam.ensures.stored ∙ ap len_of c.deref.ensures in
     let behind : at ≡ len_of left + (at - c.len-seam.result) = omega (arith, seam, c.if-place-seam.false) in
-    let within : IsWithin top place right (at - c.len-seam.result) = within_right top place node at (at - c.len-seam.result) _ left _ right _ _ c.in-Cat.is behind c.loop-node.invariant.within in
-    let sound : len_of node ≡ len_of left + len_of right = cat_len node _ left _ right _ _ c.in-Cat.is c.loop-node.invariant.within.sound in
+    let within : IsWithin top place right (at - c.len-seam.result) = within_right top place node at (at - c.len-seam.result) _ left _ right _ _ _ c.in-Cat.is behind c.loop-node.invariant.within in
+    let sound : len_of node ≡ len_of left + len_of right = cat_len node _ left _ right _ _ _ c.in-Cat.is c.loop-node.invariant.within.sound in
     let inside : at - c.len-seam.result < len_of right = omega (arith, seam, c.if-place-seam.false, c.loop-node.invariant.inside, sound) in
     record {
       inside = rw c.as_ref-node-else-place-seam.ensures inside;
@@ -48,7 +50,7 @@ returns-in-Leaf c =
     let count = start + len - (start + at) in
     let w = c.loop-node.invariant.within in
     let inside : at < len = rw c.in-Leaf.is at c.loop-node.invariant.inside in
-    let sound : (0 < len) × (start + len ≤ length (rc_slice_items c.in-Leaf.bytes)) × (len ≤ MAX_LEN) = rw c.in-Leaf.is at w.sound in
+    let sound : (0 < len) × (start + len ≤ length (rc_slice_items c.in-Leaf.bytes)) × (len ≤ MAX_LEN) × (c.in-Leaf.mark ≡ leaf_part (rc_slice_items c.in-Leaf.bytes) start len ∷ []) = rw c.in-Leaf.is at w.sound in
     stretch_on c.args.top.now c.args.place node at _ w (leaf_stretch node _ slice (take count (drop (start + at) slice)) start len (start + at) at count (λ t. ap (λ (n : Node). bytes_over t n) c.in-Leaf.is ∙ ap (λ (xs : List ℕ). take len (drop start xs)) (sym c.as_slice.ensures.value)) (ap len_of c.in-Leaf.is) (omega (arith, sound.1, c.as_slice.ensures.len)) refl (omega (arith, inside)) (omega (arith, inside)) refl refl (λ t. refl) (λ lengths. tt))
 
 pub returns-in-Run : goal.returns-in-Run

@@ -1,7 +1,9 @@
+use mathlib.Core.List.{[], ◌∷◌}
 use Rattle.std.proofs.Common.{◌≡◌, List, ℕ, ◌+◌, ◌-◌, ◌<◌, ◌≤◌, ◌∙◌, length, take, drop, sym, ap, refl, arith}
 use Rattle.std.proofs.lemmas.List.{length-drop, length-take-le}
 use Rattle.std.specs.Rc.{rc_slice_items}
 use Rattle.cord_io.specs.declared.TheConstants.{MAX_LEN}
+use Rattle.cord_node.specs.Kept.{leaf_part}
 use Rattle.cord_node.specs.declared.Node.{Node}
 use Rattle.cord_node.specs.Tree.{len_of}
 use Rattle.cord_node.specs.Tables.{bytes_over}
@@ -14,7 +16,7 @@ loop-node-preserved-then-end-seam c =
     let left = c.in-Cat.left.value in
     let seam : c.len-seam.result ≡ len_of left = c.len-seam.ensures.stored ∙ ap len_of c.deref.ensures in
     let inside : c.loop-node.end ≤ len_of left = omega (arith, seam, c.if-end-seam.true) in
-    let within : IsWithin top c.args.end left c.loop-node.end = within_left top c.args.end c.loop-node.node.now c.loop-node.end _ left _ c.in-Cat.right.value _ _ c.in-Cat.is c.loop-node.invariant.within in
+    let within : IsWithin top c.args.end left c.loop-node.end = within_left top c.args.end c.loop-node.node.now c.loop-node.end _ left _ c.in-Cat.right.value _ _ _ c.in-Cat.is c.loop-node.invariant.within in
     record {
       some = c.loop-node.invariant.some;
       inside = rw c.as_ref-node.ensures inside;
@@ -31,8 +33,8 @@ loop-node-preserved c =
     let next = end - c.len-seam.result in
     let seam : c.len-seam.result ≡ len_of left = c.len-seam.ensures.stored ∙ ap len_of c.deref.ensures in
     let behind : end ≡ len_of left + next = omega (arith, seam, c.if-end-seam.false) in
-    let within : IsWithin top c.args.end right next = within_right top c.args.end node end next _ left _ right _ _ c.in-Cat.is behind c.loop-node.invariant.within in
-    let both : len_of node ≡ len_of left + len_of right = cat_len node _ left _ right _ _ c.in-Cat.is c.loop-node.invariant.within.sound in
+    let within : IsWithin top c.args.end right next = within_right top c.args.end node end next _ left _ right _ _ _ c.in-Cat.is behind c.loop-node.invariant.within in
+    let both : len_of node ≡ len_of left + len_of right = cat_len node _ left _ right _ _ _ c.in-Cat.is c.loop-node.invariant.within.sound in
     let inside : next ≤ len_of right = omega (arith, seam, c.if-end-seam.false, c.loop-node.invariant.inside, both) in
     record {
       some = omega (arith, c.if-end-seam.false);
@@ -50,7 +52,7 @@ returns-in-Leaf c =
     let count = start + end - start in
     let w = c.loop-node.invariant.within in
     let inside : end ≤ len = rw c.in-Leaf.is at c.loop-node.invariant.inside in
-    let sound : (0 < len) × (start + len ≤ length (rc_slice_items c.in-Leaf.bytes)) × (len ≤ MAX_LEN) = rw c.in-Leaf.is at w.sound in
+    let sound : (0 < len) × (start + len ≤ length (rc_slice_items c.in-Leaf.bytes)) × (len ≤ MAX_LEN) × (c.in-Leaf.mark ≡ leaf_part (rc_slice_items c.in-Leaf.bytes) start len ∷ []) = rw c.in-Leaf.is at w.sound in
     let behind : count ≤ length (drop start slice) = omega (arith, sound.1, inside, c.as_slice.ensures.len, length-drop start slice) in
     let long : length (take count (drop start slice)) ≡ count = length-take-le count (drop start slice) behind in
     record {

@@ -1,4 +1,5 @@
 use Rattle.std.proofs.Common.{◌≡◌, ◌+◌, ◌-◌, ◌≤◌}
+use Rattle.cord_io.specs.Device.{Folder}
 use Rattle.cord_search.specs.Pieces.{StandsNot}
 use Rattle.cord_search.proofs.substring.first_place.Given as goal
 
@@ -6,11 +7,11 @@ use Rattle.cord_search.proofs.substring.first_place.Given as goal
 abbrev pub invariant-loop-place : goal.invariant-loop-place
 invariant-loop-place g l = record {
   low : l.start ≤ l.place;
-  none : StandsNot (g.S.Source.table l.initial.src) l.x l.s l.start l.place;
+  none : (folder : Folder) → g.S.Source.keeps l.src folder → StandsNot (g.S.Source.table l.initial.src folder) l.x l.s l.start l.place;
   reads : g.S.Source.failures l.src ≡ g.S.Source.failures l.initial.src;
   lengths : g.S.Source.lengths l.src ≡ g.S.Source.lengths l.initial.src;
   table : g.S.Source.table l.src ≡ g.S.Source.table l.initial.src;
-  files : g.S.Source.files l.src ≡ g.S.Source.files l.initial.src;
+  earlier : (folder : Folder) → g.S.Source.keeps l.src folder → g.S.Source.keeps l.initial.src folder;
 }
 
 abbrev pub decreases-loop-place : goal.decreases-loop-place

@@ -9,8 +9,7 @@ use Rattle.cord_file.specs.declared.files.OpenFile.{OpenFile}
 use Rattle.cord_file.specs.Files.{told_of, opened_of}
 use Rattle.cord_file.specs.Opening.{Opens}
 use Rattle.cord_file.proofs.Growing.{opens_behind, last_place}
-use Rattle.cord_file.specs.Blocks.{AreKept}
-use Rattle.cord_file.proofs.BlockParts.{kept_behind, sound_moved}
+use Rattle.cord_file.proofs.BlockParts.{kept_behind, kept_earlier, sound_moved}
 use Rattle.cord_file.proofs.Holding.{each_pushed, opened_more, IsFound, found_there, holds_file}
 use Rattle.cord_file.proofs.sources.Sources.add.Goals as goal
 
@@ -19,7 +18,7 @@ invariant_of-self g c =
     let old = c.args.self.now in
     record {
       few = old.few;
-      sound = sound_moved (g.F.Files.contents old.files) (g.F.Files.contents c.open.new.self) (g.F.Files.opened old.files) (g.F.Files.opened c.open.new.self) old.entries.items old.cache.entries c.open.ensures.contents (λ n h. c.in_err-no.ensures.none_opened n) old.sound;
+      sound = sound_moved (g.F.Files.keeps old.files) (g.F.Files.keeps c.open.new.self) (g.F.Files.opened old.files) (g.F.Files.opened c.open.new.self) old.entries.items old.cache.entries c.open.ensures.earlier (λ n h. c.in_err-no.ensures.none_opened n) old.sound;
     }
 
 pub invariant_of-self-then-len-gt-MAX_LEN : goal.invariant_of-self-then-len-gt-MAX_LEN
@@ -27,7 +26,7 @@ invariant_of-self-then-len-gt-MAX_LEN g c =
     let old = c.args.self.now in
     record {
       few = old.few;
-      sound = sound_moved (g.F.Files.contents old.files) (g.F.Files.contents c.open.new.self) (g.F.Files.opened old.files) (g.F.Files.opened c.open.new.self) old.entries.items old.cache.entries c.open.ensures.contents c.in_ok-no.ensures.opened.kept old.sound;
+      sound = sound_moved (g.F.Files.keeps old.files) (g.F.Files.keeps c.open.new.self) (g.F.Files.opened old.files) (g.F.Files.opened c.open.new.self) old.entries.items old.cache.entries c.open.ensures.earlier c.in_ok-no.ensures.opened.kept old.sound;
     }
 
 pub invariant_of-self-2 : goal.invariant_of-self-2
@@ -37,8 +36,9 @@ invariant_of-self-2 g c =
     let file : OpenFile = record { path = c.in_ok-kept.kept; no = c.in_ok-no.no; len = c.in_ok-no.len } in
     let path : string_bytes file.path ≡ c.args.path.now = c.in_ok-kept.ensures.ok in
     let hands : HandsOut (g.F.Files.opened old.files) (g.F.Files.opened c.open.new.self) file.no.0 c.args.path.now file.len = c.in_ok-no.ensures.opened in
-    let found : IsFound (g.F.Files.contents old.files) c.args.path.now file.len = found_there _ _ _ c.in_ok-no.ensures.found in
-    let same : g.F.Files.contents c.open.new.self ≡ g.F.Files.contents old.files = c.open.ensures.contents in
+    let Keeps : Folder → Type 0 = g.F.Files.keeps c.open.new.self in
+    let earlier : (folder : Folder) → Keeps folder → g.F.Files.keeps old.files folder = c.open.ensures.earlier in
+    let found : (folder : Folder) → Keeps folder → IsFound folder (string_bytes file.path) file.len = λ folder kept. subst (λ p. IsFound folder p file.len) (sym path) (found_there folder _ _ (c.in_ok-no.ensures.found folder kept)) in
     record {
       few = search rules;
       sound = record {
@@ -46,13 +46,13 @@ invariant_of-self-2 g c =
             (λ k f h. let was = old.sound.handed_out k f h in hands.kept f.no.0 (ap is_some was) ∙ was)
             (hands.told ∙ ap (λ p. Some (p, file.len)) (sym path));
         short_enough = each_pushed (λ f. f.len ≤ MAX_LEN) files _ file (is_ok c.push.result) c.push.ensures.items old.sound.short_enough (search rules);
-        there = each_pushed (λ f. (folder : Folder) → g.F.Files.contents c.open.new.self ≡ Some folder → file_at folder (string_bytes f.path) ≡ Some (bytes_at folder (string_bytes f.path))) files _ file (is_ok c.push.result) c.push.ensures.items
-            (λ k f h folder e. old.sound.there k f h folder (sym same ∙ e))
-            (λ folder e. subst (λ p. file_at folder p ≡ Some (bytes_at folder p)) (sym path) (found folder (sym same ∙ e)).0);
-        as_long = each_pushed (λ f. (folder : Folder) → g.F.Files.contents c.open.new.self ≡ Some folder → length (bytes_at folder (string_bytes f.path)) ≡ f.len) files _ file (is_ok c.push.result) c.push.ensures.items
-            (λ k f h folder e. old.sound.as_long k f h folder (sym same ∙ e))
-            (λ folder e. subst (λ p. length (bytes_at folder p) ≡ file.len) (sym path) (found folder (sym same ∙ e)).1);
-        kept = kept_behind (g.F.Files.contents c.open.new.self) files _ file (is_ok c.push.result) _ c.push.ensures.items (subst (λ o. AreKept o files old.cache.entries) (sym same) old.sound.kept);
+        there = each_pushed (λ f. (folder : Folder) → Keeps folder → file_at folder (string_bytes f.path) ≡ Some (bytes_at folder (string_bytes f.path))) files _ file (is_ok c.push.result) c.push.ensures.items
+            (λ k f h folder kept. old.sound.there k f h folder (earlier folder kept))
+            (λ folder kept. (found folder kept).0);
+        as_long = each_pushed (λ f. (folder : Folder) → Keeps folder → length (bytes_at folder (string_bytes f.path)) ≡ f.len) files _ file (is_ok c.push.result) c.push.ensures.items
+            (λ k f h folder kept. old.sound.as_long k f h folder (earlier folder kept))
+            (λ folder kept. (found folder kept).1);
+        kept = kept_behind Keeps files _ file (is_ok c.push.result) _ c.push.ensures.items (kept_earlier (g.F.Files.keeps old.files) Keeps files old.cache.entries earlier old.sound.kept);
       };
     }
 
@@ -72,7 +72,7 @@ returns-clause-opens g c =
     (opens_behind (opened_of files) c.args.path.now file.len c.requires room limit))
 
 pub returns-clause-file : goal.returns-clause-file
-returns-clause-file g c =
+returns-clause-file g c = λ folder kept.
     let old = c.args.self.now in
     let files = old.entries.items in
     let file : OpenFile = record { path = c.in_ok-kept.kept; no = c.in_ok-no.no; len = c.in_ok-no.len } in
@@ -82,4 +82,4 @@ returns-clause-file g c =
     let id : c.len-2.result + 2 ≡ suc (suc (length (opened_of files))) = search rules in
     let slot : slice_get (opened_of c.push.new.self.items) (length (opened_of files)) ≡ Some (c.args.path.now, file.len) =
     ap (λ xs. slice_get xs (length (opened_of files))) more ∙ last_place (opened_of files) (c.args.path.now, file.len) in
-    holds_file (g.F.Files.contents old.files) (opened_of c.push.new.self.items) c.args.path.now (c.len-2.result + 2) file.len (length (opened_of files)) id slot (found_there _ _ _ c.in_ok-no.ensures.found)
+    holds_file folder (opened_of c.push.new.self.items) c.args.path.now (c.len-2.result + 2) file.len (length (opened_of files)) id slot (found_there folder _ _ (c.in_ok-no.ensures.found folder kept))

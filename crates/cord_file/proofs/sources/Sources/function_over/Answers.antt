@@ -1,7 +1,8 @@
 use Rattle.std.proofs.Common.{◌≤◌, arith}
 use Rattle.cord_io.specs.declared.TheConstants.{MAX_LEN}
+use Rattle.cord_file.specs.Files.{as_long_as_told}
 use Rattle.cord_file.proofs.EntryBytes.{entry_limit}
-use Rattle.cord_file.proofs.CordTexts.{func_over}
+use Rattle.cord_file.proofs.CordTexts.{func_over, text_over}
 use Rattle.cord_file.proofs.sources.Sources.function_over.Goals as goal
 
 pub from_fn-requires : goal.from_fn-requires
@@ -11,4 +12,9 @@ from_fn-requires g c =
     omega (arith, limit)
 
 pub returns-clause-cord : goal.returns-clause-cord
-returns-clause-cord g c = func_over _ c.args.self.now.entries.items c.args.id.0 c.args.len _ c.args.self.now.sound.as_long c.requires.len c.in_ok-cord.ensures.form c.in_ok-cord.ensures.over
+returns-clause-cord g c = func_over c.args.self.now.entries.items c.args.id.0 c.args.len _ c.requires.len c.in_ok-cord.ensures.form c.in_ok-cord.ensures.over
+
+pub returns-clause-text : goal.returns-clause-text
+returns-clause-text g c = λ folder kept.
+    let self = c.args.self.now in
+    text_over folder self.entries.items c.args.id.0 c.args.len _ (as_long_as_told (g.F.Files.keeps self.files) self.entries.items self.sound.as_long folder kept) c.requires.len c.in_ok-cord.ensures.over

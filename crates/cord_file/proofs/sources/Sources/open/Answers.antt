@@ -4,7 +4,6 @@ use Rattle.std.specs.Prelude.{slice_get}
 use Rattle.std.specs.Option.{option_map}
 use Rattle.std.specs.String.{string_bytes}
 use Rattle.std.proofs.lemmas.Option.{slice_get-map, slice_get_read}
-use Rattle.cord_io.specs.Device.{file_at, bytes_at}
 use Rattle.cord_file.specs.declared.files.OpenFile.{OpenFile}
 use Rattle.cord_file.specs.Entries.{Opened, id_in, lengths_in}
 use Rattle.cord_file.specs.Files.{told_of, opened_of}
@@ -39,7 +38,7 @@ returns-in-Some-clause-opens g c =
     opens_again (opened_of files) path (n + 2) e.len found told (self.sound.short_enough n e here)
 
 pub returns-in-Some-clause-file : goal.returns-in-Some-clause-file
-returns-in-Some-clause-file g c =
+returns-in-Some-clause-file g c = λ folder kept.
     let self = c.args.self.now in
     let files = self.entries.items in
     let n = c.in-Some.place in
@@ -53,6 +52,5 @@ returns-in-Some-clause-file g c =
     let at : string_bytes e.path ≡ path = ap (λ f. string_bytes f.path) (sym same) ∙ file.2 in
     let id : n + 2 ≡ suc (suc n) = omega arith in
     let slot : slice_get (opened_of files) n ≡ Some (path, e.len) = slice_get-map told_of files n ∙ ap (option_map told_of) here ∙ ap (λ p. Some (p, e.len)) at in
-    let there : IsFound (g.F.Files.contents self.files) path e.len =
-    λ folder k. subst (λ p. (file_at folder p ≡ Some (bytes_at folder p)) × (length (bytes_at folder p) ≡ e.len)) at (self.sound.there n e here folder k, self.sound.as_long n e here folder k) in
-    holds_file (g.F.Files.contents self.files) (opened_of files) path (n + 2) e.len n id slot there
+    let there : IsFound folder path e.len = subst (λ p. IsFound folder p e.len) at (self.sound.there n e here folder kept, self.sound.as_long n e here folder kept) in
+    holds_file folder (opened_of files) path (n + 2) e.len n id slot there

@@ -15,12 +15,13 @@ loop-done-preserved g c =
     let count : size ≡ length part = search rules in
     let at : Option OpenFile = slice_get old.entries.items c.args.place in
     let here : slice_get loop.self.entries.items c.args.place ≡ at = ap (λ xs. slice_get xs c.args.place) loop.invariant.entries in
-    let read : AreRead (g.F.Files.contents old.files) at (c.args.start + loop.done) part =
-    subst (λ o. AreRead o at (c.args.start + loop.done) part) loop.invariant.contents (subst (λ o. AreRead (g.F.Files.contents loop.self.files) o (c.args.start + loop.done) part) here c.in_ok-read_part.ensures.bytes) in
     record {
       done = search rules;
-      contents = search rules;
+      earlier = λ folder kept. loop.invariant.earlier folder (c.in_ok-read_part.ensures.earlier folder kept);
       entries = c.read_part.ensures.entries ∙ loop.invariant.entries;
       count = search rules;
-      bytes = more_read (λ f. string_bytes f.path) (g.F.Files.contents old.files) at loop.done size _ c.args.start loop.out part loop.invariant.done (omega (arith, count)) loop.invariant.bytes (all_read (g.F.Files.contents old.files) at (c.args.start + loop.done) size part count read);
+      bytes = λ folder kept.
+          let read : AreRead folder at (c.args.start + loop.done) part = subst (λ o. AreRead folder o (c.args.start + loop.done) part) here (c.in_ok-read_part.ensures.bytes folder kept) in
+          more_read (λ f. string_bytes f.path) folder at loop.done size _ c.args.start loop.out part loop.invariant.done (omega (arith, count))
+          (loop.invariant.bytes folder (c.in_ok-read_part.ensures.earlier folder kept)) (all_read folder at (c.args.start + loop.done) size part count read);
     }

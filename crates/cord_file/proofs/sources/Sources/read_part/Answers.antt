@@ -7,16 +7,16 @@ use Rattle.cord_file.specs.declared.files.OpenFile.{OpenFile}
 use Rattle.cord_file.specs.Blocks.{IsKept, AreKept}
 use Rattle.cord_file.specs.Soundness.{IsSound}
 use Rattle.cord_file.proofs.EntryBytes.{of_told}
-use Rattle.cord_file.proofs.BlockParts.{inside_opened, of_slot, kept_of_read, read_of_kept, kept_with, sound_moved, sound_keeping}
+use Rattle.cord_file.proofs.BlockParts.{inside_opened, of_slot, kept_of_read, read_of_kept, kept_with, kept_earlier, sound_moved, sound_keeping}
 use Rattle.cord_file.proofs.sources.Sources.read_part.Goals as goal
 
 pub invariant_of-self-clause-sound : goal.invariant_of-self-clause-sound
 invariant_of-self-clause-sound g c =
     let self = c.args.self.now in
-    sound_keeping (g.F.Files.contents self.files) (g.F.Files.opened self.files) self.entries.items self.cache.entries c.copy_kept.new.cache.entries (λ e h. self.sound.kept e (c.copy_kept.ensures.kept e h)) self.sound
+    sound_keeping (g.F.Files.keeps self.files) (g.F.Files.opened self.files) self.entries.items self.cache.entries c.copy_kept.new.cache.entries (λ e h. self.sound.kept e (c.copy_kept.ensures.kept e h)) self.sound
 
 pub returns-then-copy_kept-clause-bytes : goal.returns-then-copy_kept-clause-bytes
-returns-then-copy_kept-clause-bytes g c =
+returns-then-copy_kept-clause-bytes g c = λ folder kept.
     let self = c.args.self.now in
     let files = self.entries.items in
     let out : List ℕ = c.copy_kept.new.out in
@@ -24,7 +24,7 @@ returns-then-copy_kept-clause-bytes g c =
     let key : BlockKey = record { place = c.args.place; number = c.args.start / BLOCK } in
     let block = c.copy_kept.ensures.copied c.if-copy_kept.true in
     let part : c.args.start % BLOCK + length out ≤ BLOCK = omega (arith, same, c.requires.part) in
-    read_of_kept (g.F.Files.contents self.files) files key block.0 out c.args.start (self.sound.kept (key, block.0) block.1) refl (subst (λ n. IsSomeAnd (slice_get files c.args.place) (λ file. c.args.start + n ≤ file.len)) (sym same) c.requires.inside) part block.2
+    read_of_kept (g.F.Files.keeps self.files) files key block.0 out c.args.start (self.sound.kept (key, block.0) block.1) refl (subst (λ n. IsSomeAnd (slice_get files c.args.place) (λ file. c.args.start + n ≤ file.len)) (sym same) c.requires.inside) part block.2 folder kept
 
 pub index-file-requires : goal.index-file-requires
 index-file-requires g c =
@@ -61,10 +61,10 @@ pub invariant_of-self-in-Break-1 : goal.invariant_of-self-in-Break-1
 invariant_of-self-in-Break-1 g c =
     let self = c.args.self.now in
     let files = self.entries.items in
-    let sound : IsSound (g.F.Files.contents self.files) (g.F.Files.opened self.files) files c.copy_kept.new.cache.entries = sound_keeping (g.F.Files.contents self.files) (g.F.Files.opened self.files) files self.cache.entries c.copy_kept.new.cache.entries (λ e h. self.sound.kept e (c.copy_kept.ensures.kept e h)) self.sound in
+    let sound : IsSound (g.F.Files.keeps self.files) (g.F.Files.opened self.files) files c.copy_kept.new.cache.entries = sound_keeping (g.F.Files.keeps self.files) (g.F.Files.opened self.files) files self.cache.entries c.copy_kept.new.cache.entries (λ e h. self.sound.kept e (c.copy_kept.ensures.kept e h)) self.sound in
     record {
       few = self.few;
-      sound = sound_moved (g.F.Files.contents self.files) (g.F.Files.contents c.read_block.new.files) (g.F.Files.opened self.files) (g.F.Files.opened c.read_block.new.files) files c.copy_kept.new.cache.entries c.read_block.ensures.contents (λ n h. c.read_block.ensures.opened n) sound;
+      sound = sound_moved (g.F.Files.keeps self.files) (g.F.Files.keeps c.read_block.new.files) (g.F.Files.opened self.files) (g.F.Files.opened c.read_block.new.files) files c.copy_kept.new.cache.entries c.read_block.ensures.earlier (λ n h. c.read_block.ensures.opened n) sound;
     }
 
 pub invariant_of-self-2-clause-sound : goal.invariant_of-self-2-clause-sound
@@ -75,13 +75,14 @@ invariant_of-self-2-clause-sound g c =
     let inside : c.args.place < length files = inside_opened files c.args.place (λ f. c.args.start + length c.args.out.now ≤ f.len) c.requires.inside in
     let here : slice_get files c.args.place ≡ Some file = slice_get_read files (length files) c.args.place file refl inside c.index-file.ensures in
     let key : BlockKey = record { place = c.args.place; number = c.args.start / BLOCK } in
-    let kept : IsKept (g.F.Files.contents self.files) files (key, c.in_ok-block.block) = kept_of_read (g.F.Files.contents self.files) (g.F.Files.opened self.files file.no.0) files key file c.in_ok-block.block here (self.sound.handed_out c.args.place file here) c.in_ok-block.ensures.block in
-    let all : AreKept (g.F.Files.contents self.files) files c.keep.new.cache.entries = kept_with (g.F.Files.contents self.files) files c.copy_kept.new.cache.entries c.keep.new.cache.entries (key, c.in_ok-block.block) (λ e h. self.sound.kept e (c.copy_kept.ensures.kept e h)) kept c.keep.ensures in
-    sound_moved (g.F.Files.contents self.files) (g.F.Files.contents c.read_block.new.files) (g.F.Files.opened self.files) (g.F.Files.opened c.read_block.new.files) files c.keep.new.cache.entries c.read_block.ensures.contents (λ n h. c.read_block.ensures.opened n)
-    (sound_keeping (g.F.Files.contents self.files) (g.F.Files.opened self.files) files self.cache.entries c.keep.new.cache.entries all self.sound)
+    let kept : IsKept (g.F.Files.keeps c.read_block.new.files) files (key, c.in_ok-block.block) = kept_of_read (g.F.Files.keeps c.read_block.new.files) (g.F.Files.opened self.files file.no.0) files key file c.in_ok-block.block here (self.sound.handed_out c.args.place file here) c.in_ok-block.ensures.block in
+    let before : AreKept (g.F.Files.keeps c.read_block.new.files) files c.copy_kept.new.cache.entries = kept_earlier (g.F.Files.keeps self.files) (g.F.Files.keeps c.read_block.new.files) files c.copy_kept.new.cache.entries c.read_block.ensures.earlier (λ e h. self.sound.kept e (c.copy_kept.ensures.kept e h)) in
+    let all : AreKept (g.F.Files.keeps c.read_block.new.files) files c.keep.new.cache.entries = kept_with (g.F.Files.keeps c.read_block.new.files) files c.copy_kept.new.cache.entries c.keep.new.cache.entries (key, c.in_ok-block.block) before kept c.keep.ensures in
+    sound_keeping (g.F.Files.keeps c.read_block.new.files) (g.F.Files.opened c.read_block.new.files) files self.cache.entries c.keep.new.cache.entries all
+    (sound_moved (g.F.Files.keeps self.files) (g.F.Files.keeps c.read_block.new.files) (g.F.Files.opened self.files) (g.F.Files.opened c.read_block.new.files) files self.cache.entries c.read_block.ensures.earlier (λ n h. c.read_block.ensures.opened n) self.sound)
 
 pub returns-clause-bytes : goal.returns-clause-bytes
-returns-clause-bytes g c =
+returns-clause-bytes g c = λ folder is.
     let self = c.args.self.now in
     let files = self.entries.items in
     let file : OpenFile = c.index-file.result.now in
@@ -89,9 +90,9 @@ returns-clause-bytes g c =
     let here : slice_get files c.args.place ≡ Some file = slice_get_read files (length files) c.args.place file refl inside c.index-file.ensures in
     let key : BlockKey = record { place = c.args.place; number = c.args.start / BLOCK } in
     let block : List ℕ = c.in_ok-block.block in
-    let kept : IsKept (g.F.Files.contents self.files) files (key, block) = kept_of_read (g.F.Files.contents self.files) (g.F.Files.opened self.files file.no.0) files key file block here (self.sound.handed_out c.args.place file here) c.in_ok-block.ensures.block in
+    let kept : IsKept (g.F.Files.keeps c.read_block.new.files) files (key, block) = kept_of_read (g.F.Files.keeps c.read_block.new.files) (g.F.Files.opened self.files file.no.0) files key file block here (self.sound.handed_out c.args.place file here) c.in_ok-block.ensures.block in
     let out : List ℕ = c.copy_from_slice.new.self in
     let same : length out ≡ length c.args.out.now = search rules in
     let count : (c.args.start % BLOCK + length c.copy_kept.new.out) - c.args.start % BLOCK ≡ length out = search rules in
     let part : c.args.start % BLOCK + length out ≤ BLOCK = omega (arith, same, c.requires.part) in
-    read_of_kept (g.F.Files.contents self.files) files key block out c.args.start kept refl (subst (λ n. IsSomeAnd (slice_get files c.args.place) (λ f. c.args.start + n ≤ f.len)) (sym same) c.requires.inside) part (c.copy_from_slice.ensures.after ∙ ap (λ n. take n (drop (c.args.start % BLOCK) block)) count)
+    read_of_kept (g.F.Files.keeps c.read_block.new.files) files key block out c.args.start kept refl (subst (λ n. IsSomeAnd (slice_get files c.args.place) (λ f. c.args.start + n ≤ f.len)) (sym same) c.requires.inside) part (c.copy_from_slice.ensures.after ∙ ap (λ n. take n (drop (c.args.start % BLOCK) block)) count) folder is

@@ -10,10 +10,10 @@ use Rattle.cord_io.specs.declared.faults.CordError.TheVariants.{NoMemory, TooLon
 use Rattle.cord_file.specs.Faults.{file_error_of}
 use Rattle.cord_file.specs.Making.{IsReadRefusal}
 use Rattle.cord_file.specs.declared.faults.FileError.{FileError}
-use Rattle.cord_file.specs.Entries.{lengths_in}
-use Rattle.cord_file.specs.Files.{opened_of}
+use Rattle.cord_file.specs.Entries.{lengths_in, table_in}
+use Rattle.cord_file.specs.Files.{opened_of, as_long_as_told}
 use Rattle.cord_file.proofs.EntryBytes.{in_slot, entry_limit}
-use Rattle.cord_file.proofs.CordTexts.{written, leaf_over}
+use Rattle.cord_file.proofs.CordTexts.{written, entry_bytes}
 use Rattle.cord_file.proofs.sources.Sources.read_whole.Goals as goal
 
 pub read_file-requires : goal.read_file-requires
@@ -25,6 +25,19 @@ read_file-requires g c =
 
 pub returns-clause-cord : goal.returns-clause-cord
 returns-clause-cord g c =
+    let out : List ℕ = c.read_file.new.out in
+    let value : c.deref_mut.result.now ≡ c.in_ok-bytes.bytes.items = c.deref_mut.ensures.value in
+    let long : length out ≡ length c.in_ok-bytes.bytes.items = c.read_file.auto.out ∙ ap length value in
+    let items : rc_slice_items c.in_ok-shared.shared ≡ out = c.in_ok-shared.ensures ∙ written c.in_ok-bytes.bytes.len out c.in_ok-bytes.bytes.items c.in_ok-bytes.bytes.ok.0 long in
+    record {
+      bytes = out;
+      form = subst (λ xs. IsLeafOf xs c.in_ok-cord.cord) items c.in_ok-cord.ensures.form;
+      text = subst (λ xs. HasText xs c.in_ok-cord.cord) items c.in_ok-cord.ensures.over;
+      count = c.read_file.auto.out ∙ c.deref_mut.ensures.len ∙ c.in_ok-bytes.ensures.len;
+    }
+
+pub returns-clause-text : goal.returns-clause-text
+returns-clause-text g c = λ folder kept.
     let self = c.args.self.now in
     let files = self.entries.items in
     let out : List ℕ = c.read_file.new.out in
@@ -32,8 +45,9 @@ returns-clause-cord g c =
     let long : length out ≡ length c.in_ok-bytes.bytes.items = c.read_file.auto.out ∙ ap length value in
     let count : length out ≡ c.args.len = c.read_file.auto.out ∙ c.deref_mut.ensures.len ∙ c.in_ok-bytes.ensures.len in
     let items : rc_slice_items c.in_ok-shared.shared ≡ out = c.in_ok-shared.ensures ∙ written c.in_ok-bytes.bytes.len out c.in_ok-bytes.bytes.items c.in_ok-bytes.bytes.ok.0 long in
-    leaf_over (g.F.Files.contents self.files) files c.args.id.0 c.args.len out c.in_ok-cord.cord c.requires.file self.sound.as_long c.requires.len count c.in_ok-read_file.ensures.bytes
-    (subst (λ xs. IsLeafOf xs c.in_ok-cord.cord) items c.in_ok-cord.ensures.form) (subst (λ xs. HasText xs c.in_ok-cord.cord) items c.in_ok-cord.ensures.over)
+    let told = as_long_as_told (g.F.Files.keeps self.files) files self.sound.as_long folder (c.in_ok-read_file.ensures.earlier folder kept) in
+    c.in_ok-cord.ensures.over.bytes (table_in (opened_of files) folder) ∙ items
+    ∙ entry_bytes folder files c.args.id.0 c.args.len out c.requires.file told c.requires.len count (c.in_ok-read_file.ensures.bytes folder kept)
 
 -- bytes that aren't too long for a cord are refused for want of memory alone
 refusal : {A : Type 0} (r : Result A FileError) (e : CordError) → IsErrAnd r (λ f. f ≡ file_error_of e) → IsRefusal e → (e ≡ TooLong → ⊥) → IfErr r IsReadRefusal
