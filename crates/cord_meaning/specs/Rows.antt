@@ -11,6 +11,7 @@ use Rattle.cord_script.specs.declared.operands.Number.{Number}
 use Rattle.cord_script.specs.declared.operands.Number.TheVariants.{Numeral, Named}
 use Rattle.cord_script.specs.declared.operands.Argument.TheVariants as arguments
 use Rattle.cord_script.specs.declared.operands.Relation.TheVariants.{Equal, Greater}
+use Rattle.cord_meaning.specs.Ends.{Counts}
 
 -- a numeral of at least 0
 abbrev pub numeral : ℕ → Number
@@ -254,3 +255,11 @@ sprintf_negative_hex = Sprintf 1 (codes "z") (codes "%x") (Unsigned LowerHex no_
 -- `repeat n ; end`
 abbrev pub empty_turns : ℕ → List Statement
 empty_turns n = Repeat 1 (numeral n) ∷ End 2 ∷ []
+
+-- the sink has finished, and nothing has failed
+abbrev pub nothing_failed : Counts
+nothing_failed = record { files_before = 0; files_after = 0; sink_before = 0; sink_after = 0; finished_before = 0; finished_after = 1 }
+
+-- the sink has failed
+abbrev pub sink_failed : Counts
+sink_failed = record { files_before = 0; files_after = 0; sink_before = 0; sink_after = 1; finished_before = 0; finished_after = 0 }

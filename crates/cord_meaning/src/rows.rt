@@ -1,9 +1,10 @@
 // Scripts whose runs are computed: each clause is a worked row, whose bytes and end the check computes.
-ghost use Rattle.std.specs.Prelude.{ℕ, [], ◌∷◌, codes};
+ghost use Rattle.std.specs.Prelude.{◌≡◌, ◌+◌, ℕ, [], ◌∷◌, codes};
 ghost use Rattle.cord_io.specs.declared.TheConstants.{MAX_LEN};
+ghost use Rattle.cord_meaning.specs.Ends.{Counts, EndsHonestly};
 ghost use Rattle.cord_meaning.specs.Meaning.{Means, MeansWithin};
 ghost use Rattle.cord_meaning.specs.Rows;
-ghost use Rattle.cord_meaning.specs.declared.ends.End.TheVariants.{Done, Fault};
+ghost use Rattle.cord_meaning.specs.declared.ends.End.TheVariants.{Done, Fault, NoMemory, ReadFailed, WriteFailed};
 ghost use Rattle.cord_meaning.specs.declared.ends.FaultKind.TheVariants.{Negative, BadByte, OutOfRange, NoFile, TooLong, Overflow, TooManyTurns};
 
 use crate::MAX_TURNS;
@@ -54,4 +55,26 @@ pub fn rows_with_blocks_are_computed()
     ensures if_without_else_keeps { Means Rows.if_without_else_keeps [] (codes "a") Done }
     ensures turns_at_the_limit { MeansWithin MAX_LEN 3 (Rows.empty_turns 3) [] [] Done }
     ensures turns_one_too_many { MeansWithin MAX_LEN 3 (Rows.empty_turns 4) [] [] (Fault 1 TooManyTurns) }
+{}
+
+/// Ends that are honest: of a whole run, and of one whose sink failed inside a `put`.
+pub fn right_ends_are_honest()
+    ensures whole { EndsHonestly Rows.hello [] [] (codes "hello") Rows.nothing_failed Done }
+    ensures cut { EndsHonestly Rows.hello [] [] (codes "hel") Rows.sink_failed (WriteFailed 2) }
+{}
+
+/// Ends that aren't honest: what was put, which line is named, and which cause.
+pub fn wrong_ends_are_not_honest()
+    ensures too_little_put { (n : Counts) → EndsHonestly Rows.hello [] [] (codes "hell") n Done → ⊥ }
+    ensures put_too_early { (n : Counts) → EndsHonestly Rows.hello [] [] (codes "h") n (NoMemory 1) → ⊥ }
+    ensures later_line { (n : Counts) → EndsHonestly Rows.fetch_past_end [] [] (codes "ab") n (Fault 4 OutOfRange) → ⊥ }
+    ensures another_fault { (n : Counts) → EndsHonestly Rows.fetch_past_end [] [] (codes "ab") n (Fault 3 Negative) → ⊥ }
+    ensures done_without_finish { (n : Counts) → n.sink_after ≡ n.sink_before + 1 → EndsHonestly Rows.hello [] [] (codes "hello") n Done → ⊥ }
+    ensures fault_without_finish { (n : Counts) → n.finished_after ≡ n.finished_before → EndsHonestly Rows.fetch_past_end [] [] (codes "ab") n (Fault 3 OutOfRange) → ⊥ }
+    ensures finish_after_write_failed { (n : Counts) → n.finished_after ≡ n.finished_before + 1 → EndsHonestly Rows.hello [] [] (codes "hel") n (WriteFailed 2) → ⊥ }
+    ensures no_read_failed { (n : Counts) → n.files_after ≡ n.files_before → EndsHonestly Rows.file_twice Rows.one_file [] [] n (ReadFailed 1) → ⊥ }
+    ensures read_failure_as_no_memory { (n : Counts) → n.files_after ≡ n.files_before + 1 → EndsHonestly Rows.file_twice Rows.one_file [] [] n (NoMemory 1) → ⊥ }
+    ensures write_failure_as_no_memory { (n : Counts) → n.sink_after ≡ n.sink_before + 1 → n.finished_after ≡ n.finished_before + 1 → EndsHonestly Rows.hello [] [] [] n (NoMemory 2) → ⊥ }
+    ensures nothing_reads_there { (n : Counts) → EndsHonestly Rows.hello [] [] [] n (ReadFailed 1) → ⊥ }
+    ensures nothing_puts_there { (n : Counts) → EndsHonestly Rows.hello [] [] [] n (WriteFailed 1) → ⊥ }
 {}

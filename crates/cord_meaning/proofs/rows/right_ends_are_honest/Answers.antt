@@ -1,0 +1,44 @@
+use Rattle.std.proofs.Common.{[], ◌∷◌, arith, inl, inr, refl, sym}
+use Rattle.std.specs.Prelude.{codes}
+use Rattle.cord_io.specs.declared.TheConstants.{MAX_LEN}
+use Rattle.cord_meaning.specs.declared.TheConstants.{MAX_TURNS}
+use Rattle.cord_meaning.specs.declared.ends.End.TheVariants.{Done}
+use Rattle.cord_meaning.specs.Rows
+use Rattle.cord_meaning.specs.State.{start_state}
+use Rattle.cord_meaning.specs.Statements.{rules}
+use Rattle.cord_meaning.proofs.Computed.{means_after}
+use Rattle.cord_meaning.proofs.Runs.{moments_when_ended}
+use Rattle.cord_meaning.proofs.rows.right_ends_are_honest.Goals as goal
+
+pub returns-clause-whole : goal.returns-clause-whole
+returns-clause-whole c =
+    let run = means_after MAX_LEN MAX_TURNS Rows.hello [] (codes "hello") Done 3 refl refl in
+    record {
+      puts = record { out = codes "hello"; taken = refl; honest = (sym run.output_is, sym run.end_is) };
+      fails = tt;
+      names = record { files_kept = refl; sink_kept = refl; finished = refl };
+    }
+
+pub returns-clause-cut : goal.returns-clause-cut
+returns-clause-cut c = record {
+  puts = record {
+    out = codes "hel";
+    taken = refl;
+    honest = inr (
+      omega arith,
+      record {
+        earlier = _ ∷ [];
+        moment = _;
+        later = [];
+        front = codes "hel";
+        rest = codes "lo";
+        run = moments_when_ended (rules MAX_LEN []) MAX_TURNS Rows.hello start_state 3 Done refl;
+        line = refl;
+        puts = refl;
+        taken = refl;
+      },
+    );
+  };
+  fails = inr (inr (inl (refl, tt)));
+  names = record { sink_failed = refl; unfinished = refl; files_kept = refl };
+}
