@@ -1,7 +1,8 @@
 // Formats.
-ghost use Rattle.std.specs.Prelude.{◌≡◌, ◌≢◌, ◌<◌, List, ℕ, [], ◌++◌, length, IfOk, IfErr};
+ghost use Rattle.std.specs.Prelude.{◌≡◌, ◌≢◌, ◌<◌, List, ℕ, [], ◌∷◌, ◌++◌, length, IfOk, IfErr, IfSome, IfNone};
 ghost use Rattle.cord_printf.specs.Pieces.{IsPiece};
-ghost use Rattle.cord_printf.specs.Format.{IsFormat, IsRefusal, IsBadHere};
+ghost use Rattle.cord_printf.specs.Format.{IsFormat, IsBadAt, IsRefusal, IsBadHere, BeginsConversion};
+ghost use Rattle.cord_printf.specs.declared.pieces.Piece.{Piece};
 
 use crate::conversions::conversion;
 use crate::reading::{Class, span, uncons};
@@ -55,12 +56,44 @@ impl Format {
         Ok(Format { pieces })
     }
 
+    /// The offset of the first `%` that stands after whole pieces and begins no conversion, or `None` where the bytes are a
+    /// format. So all bytes are a format or have a first bad offset, and `parse` refuses a format for want of memory alone.
+    /// It takes no memory, and time in proportion to the bytes.
+    pub fn bad_offset(bytes: &[u8]) -> Option<usize>
+        ensures bad { IfSome result (IsBadAt bytes.now) }
+        ensures format { IfNone result ((pieces : List Piece) × IsFormat bytes.now pieces) }
+    {
+        let mut rest = bytes;
+        'pieces: while !rest.is_empty() {
+            let Some(after) = past_piece(rest) else {
+                return Some(bytes.len() - rest.len());
+            };
+            rest = after;
+        }
+        None
+    }
+
     /// The pieces, from left to right.
     pub fn pieces(&self) -> &[Piece]
         ensures { result.now ≡ self.now }
     {
         &self.pieces
     }
+}
+
+// What follows the piece at the front of the bytes, or `None` where a `%` that begins no conversion stands there.
+fn past_piece(bytes: &[u8]) -> Option<&[u8]>
+    requires { bytes.now ≢ [] }
+    ensures piece { IfSome result (λ after. (p : Piece) × (w : List ℕ) × (bytes.now ≡ w ++ after.now) × IsPiece w p after.now) }
+    ensures shorter { IfSome result (λ after. length after.now < length bytes.now) }
+    ensures bad { IfNone result (((rest : List ℕ) × (bytes.now ≡ 37 ∷ rest)) × ¬ BeginsConversion bytes.now) }
+{
+    if let Some((b'%', inner)) = uncons(bytes) {
+        let (_, after) = conversion(inner)?;
+        return Some(after);
+    }
+    let (_, after) = span(Class::Plain, bytes);
+    Some(after)
 }
 
 // The piece at the front of the bytes at an offset, and what follows it.

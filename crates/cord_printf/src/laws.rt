@@ -1,4 +1,6 @@
 // Laws of formats: each function's contract is the law, and its body does nothing.
+ghost use Rattle.std.specs.Prelude.{◌≡◌};
+ghost use Rattle.cord_printf.specs.declared.TheConstants.{MAX_WIDTH};
 ghost use Rattle.cord_printf.specs.FormatLaws.{
   OneFormat,
   BadIsNoFormat,
@@ -20,4 +22,9 @@ pub fn refused_formats_are_none()
 /// The digits that conversions show write their number: the most significant first, none of them 0 in front.
 pub fn digits_write_their_number()
     ensures { DigitsWriteNumbers }
+{}
+
+/// The limit of formats, as a numeral.
+pub fn limits_are()
+    ensures width { MAX_WIDTH ≡ 9999 }
 {}

@@ -18,7 +18,9 @@ mod tests;
 pub use arguments::Arg;
 pub use errors::{FormatError, PrintError};
 pub use format::Format;
-pub use laws::{digits_write_their_number, formats_have_one_reading, refused_formats_are_none};
+pub use laws::{
+    digits_write_their_number, formats_have_one_reading, limits_are, refused_formats_are_none,
+};
 pub use pieces::{ArgKind, Flags, Literal, Piece, Radix};
 pub use print::{sprintf, sprintf_len};
 

@@ -128,6 +128,7 @@ fn append(bytes: &mut Vec<u8>, node: &Rc<Node>) -> Result<bool, AllocError>
             bytes: shared,
             start,
             len,
+            ..
         } => {
             bytes.extend_from_slice(&shared.as_slice()[*start as usize..(*start + *len) as usize])?;
             Ok(true)

@@ -10,6 +10,7 @@ mod cursor;
 mod grammar;
 mod kinds;
 mod laws;
+mod limits;
 mod names;
 mod numerals;
 mod operands;
@@ -28,6 +29,7 @@ pub use laws::{
     branches_change_no_script, bytes_are_one_script, bytes_have_one_flaw,
     read_scripts_have_no_flaw, worked_rows_hold,
 };
+pub use limits::limits_are;
 pub use names::{Name, Names, Path, Text};
 pub use operands::{Argument, Arguments, Function, Number, Relation};
 pub use parser::parse;
