@@ -26,6 +26,9 @@ pub mod Kept
 pub mod PlannedPairs
 pub mod Numerals
 pub mod Followers
+pub mod Words
+pub mod Numbers
+pub mod MarkedNames
 pub mod Sweeps
 pub mod Told
 pub mod Writing

@@ -25,7 +25,7 @@ no_true false h = refl
 pub same_bytes : (x y : List ℕ) → bytes_eq x y ≡ true → x ≡ y
 same_bytes x y e = (bytes_eq-Decides x y).0 e
 
-own_bytes : (x : List ℕ) → bytes_eq x x ≡ true
+pub own_bytes : (x : List ℕ) → bytes_eq x x ≡ true
 own_bytes x = (bytes_eq-Decides x x).1 refl
 
 -- a name stands among the names of lists that are joined

@@ -1,5 +1,5 @@
 -- The nearest line that assigns an operand, and what stands for the operand then.
-use Rattle.std.proofs.Common.{◌≡◌, ℕ, zero, suc, ◌+◌, ◌-◌, ◌<◌, ◌≤◌, Bool, true, false, ◌&&◌, ◌||◌, List, ◌∷◌, ◌++◌, drop, length, get_or, Option, Some, None, refl, sym, ap, ◌∙◌, arith}
+use Rattle.std.proofs.Common.{◌≡◌, ℕ, zero, suc, ◌+◌, ◌-◌, ◌<◌, ◌≤◌, Bool, true, false, ◌&&◌, ◌||◌, ◌==◌, List, ◌∷◌, ◌++◌, drop, length, get_or, Option, Some, None, refl, sym, ap, ◌∙◌, arith}
 use Rattle.std.specs.Prelude.{slice_get, not, if◌then◌else◌, option_map}
 use Rattle.std.proofs.Math.Bool.{and-false}
 use Rattle.std.proofs.lemmas.Option.{slice_get-map, slice_get_read}
@@ -7,10 +7,10 @@ use Rattle.std.proofs.lemmas.List.{at_drop_more}
 use Rattle.std.specs.Str.{bytes_eq}
 use Rattle.cord_script.specs.declared.statements.Statement.{Statement}
 use Rattle.cord_meaning.specs.Statements.{shape_of}
-use Rattle.cord_plan.specs.Exprs.{Expr}
+use Rattle.cord_plan.specs.Exprs.{Expr, names}
 use Rattle.cord_plan.specs.Operands.{assigns, assigns_at, count, reads, reads_at, read_by}
 use Rattle.cord_plan.specs.Forced.{Choice, kept, replaced, Table, first_of, is_block, is_block_at, keeps, each_from, setter, is_small, expr_with, chosen_from, chosen_of}
-use Rattle.cord_plan.specs.Choices.{nearest, stands, expression_of, expression_in, Has}
+use Rattle.cord_plan.specs.Choices.{nearest, is_spare, stands, expression_of, expression_in, Has}
 use Rattle.cord_plan.proofs.Chosen.{setter_is}
 
 -- one place more at the end
@@ -100,6 +100,31 @@ module _ (s : List Statement) (later : List ℕ → ℕ → Bool) (t : Table) (b
       pick : (o : Option ℕ) → setter s x b ≡ o → kept x ≡ chosen_of s later t b l x before after o
       pick None set = refl
       pick (Some a) set = from a (first_of (slice_get t a)) set
+
+  -- where it isn't spare, it is kept too
+  pub kept_needed : (xs : List (List ℕ)) → read_by l ≡ xs → is_spare s later b l xs x ≡ false → kept x ≡ chosen_of s later t b l x before after (setter s x b)
+  kept_needed xs reads e = pick (setter s x b)
+    where
+      needed : is_spare s later b l (read_by l) x ≡ false
+      needed = rw reads e
+
+      shut : (between once free fixed small : Bool) → (once && free) ≡ false → ((between && (once && (free && fixed))) && small) ≡ false
+      shut false once free fixed small f = refl
+      shut true false free fixed small f = refl
+      shut true true false fixed small f = refl
+      shut true true true fixed small f = let bad : ⊥ = cc in absurd bad
+
+      from : (a : ℕ) (o : Option Expr) → kept x ≡ chosen_from s later b l x before after a o
+      from a None = refl
+      from a (Some e) = ap (λ (v : Bool). if v then replaced a e else kept x) (sym (shut
+          (each_from (λ m. not (is_block_at (slice_get s m)) && not (reads_at (slice_get s m) x)) (b - (a + 1)) (a + 1))
+          (count x (read_by l) == 1) (assigns l x || not (later x b))
+          (each_from (λ m. keeps (slice_get s m) (names e)) (b - a) a)
+          (is_small (expr_with l (before ++ e ∷ after))) needed))
+
+      pick : (o : Option ℕ) → kept x ≡ chosen_of s later t b l x before after o
+      pick None = refl
+      pick (Some a) = from a (first_of (slice_get t a))
 
   -- where there is one, its expression is looked at
   from_near : (a : ℕ) → nearest s x b ≡ Some a → chosen_of s later t b l x before after (setter s x b) ≡ chosen_from s later b l x before after a (first_of (slice_get t a))

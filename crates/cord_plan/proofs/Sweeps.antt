@@ -1,22 +1,21 @@
 -- Tables of places from which a name is read, as the backwards flow fills them.
-use Rattle.std.proofs.Common.{◌≡◌, ◌⊎◌, ℕ, zero, suc, ◌+◌, ◌-◌, ◌<◌, ◌≤◌, Bool, true, false, ◌&&◌, List, [], ◌∷◌, map, drop, length, set, get_or, None, refl, sym, ap, ◌∙◌, subst, inl, inr, ⊎_elim, arith, length-set, add-one, cond}
+use Rattle.std.proofs.Common.{◌≡◌, ◌⊎◌, ℕ, zero, suc, ◌+◌, ◌-◌, ◌<◌, ◌≤◌, Bool, true, false, ◌&&◌, List, [], ◌∷◌, map, drop, length, set, get_or, None, refl, sym, ap, ◌∙◌, subst, inl, inr, ⊎_elim, arith, length-set, add-one}
 use Rattle.std.proofs.Math.Bool.{and-false}
 use Rattle.std.proofs.Math.Nat.{eq-or-lt_of_le}
-use Rattle.std.proofs.lemmas.List.{length-map}
+use Rattle.std.proofs.lemmas.List.{length-map, set-get_or}
 use Rattle.std.specs.Prelude.{slice_get, not}
 use Rattle.std.specs.Str.{bytes_eq}
 use Rattle.std.proofs.Math.Seq.{drop-cons}
 use Rattle.std.proofs.lemmas.Option.{slice_get_past}
-use Rattle.std.proofs.lemmas.List.Sums.{sum_by-set}
 use Rattle.cord_script.specs.declared.statements.Statement.{Statement}
 use Rattle.cord_script.specs.declared.operands.Number as numbers
 use Rattle.cord_script.specs.declared.operands.Argument.{Argument}
 use Rattle.cord_script.specs.declared.operands.Argument.TheVariants.{Number, Cord}
 use Rattle.cord_meaning.specs.Paths.{Next}
 use Rattle.cord_meaning.specs.Statements.{shape_of}
-use Rattle.cord_plan.specs.Operands.{has, cord_arguments, reads, reads_at, assigns_at}
+use Rattle.cord_plan.specs.Operands.{has, cord_arguments, reads, reads_at, assigns, assigns_at}
 use Rattle.cord_plan.specs.Unread.{ReadBy, behind, some_of}
-use Rattle.cord_plan.specs.Liveness.{at, unset, finds, IsPartly, IsLive}
+use Rattle.cord_plan.specs.Liveness.{at, finds, flow, IsPartly, IsLive}
 use Rattle.cord_plan.proofs.Flows.{Found, shape_found, shape_held}
 
 module _ (names : List (List ℕ)) (i : ℕ) (y x : List ℕ) (lt : i < length names) (is : y ≡ get_or names i y) where
@@ -51,6 +50,21 @@ none_found false true false e f g = cc
 none_found false true true e f g = cc
 none_found false false c e f g = cc
 
+-- what the flow makes of a bit, by whether it finds the place
+flow_found : (a b c : Bool) → (not a && (b && not c)) ≡ true → flow a b c ≡ true
+flow_found false true false e = refl
+flow_found false true true e = let bad : ⊥ = cc in absurd bad
+flow_found false false c e = let bad : ⊥ = cc in absurd bad
+flow_found true b c e = let bad : ⊥ = cc in absurd bad
+
+flow_none : (a b c : Bool) → (not a && (b && not c)) ≡ false → flow a b c ≡ a
+flow_none true b c e = refl
+flow_none false b c e = e
+
+flow_rests : (a b c : Bool) → flow a b c ≡ a → (not a && (b && not c)) ≡ false
+flow_rests true b c e = refl
+flow_rests false b c e = e
+
 at_set : (table : List Bool) (p k : ℕ) → at table k ≡ true → at (set table p true) k ≡ true
 at_set [] p k h = h
 at_set (b ∷ table) zero zero h = refl
@@ -74,6 +88,14 @@ module _ (s : List Statement) (x : List ℕ) where
       read_in [] k = refl
       read_in (l ∷ ls) zero = refl
       read_in (l ∷ ls) (suc k) = read_in ls k
+
+  pub assigned_at : (p : ℕ) → at (map (λ l. assigns l x) s) p ≡ assigns_at (slice_get s p) x
+  assigned_at p = assigned_in s p
+    where
+      assigned_in : (ls : List Statement) (k : ℕ) → at (map (λ l. assigns l x) ls) k ≡ assigns_at (slice_get ls k) x
+      assigned_in [] k = refl
+      assigned_in (l ∷ ls) zero = refl
+      assigned_in (l ∷ ls) (suc k) = assigned_in ls k
 
   -- the table of the lines that read
   pub readers_partly : (table : List Bool) → table ≡ map (λ l. reads l x) s → IsPartly s x table
@@ -106,12 +128,17 @@ module _ (s : List Statement) (x : List ℕ) where
           (set_at table p k h);
     }
 
-    pub set_fewer : finds s x table p ≡ true → p < length table → unset (set table p true) + 1 ≡ unset table
-    set_fewer e lt =
-        let parts : (at table p ≡ false) × (some_of (λ q. at table q) (behind (map shape_of s) p) ≡ true) × (assigns_at (slice_get s p) x ≡ false) = found_parts (at table p) (some_of (λ q. at table q) (behind (map shape_of s) p)) (assigns_at (slice_get s p) x) e in
-        let off : get_or table p false ≡ false = parts.0 in
-        let sums = sum_by-set (λ (b : Bool). cond (not b) 1 0) table p true false lt in
-        omega (arith, rw off at sums)
+    -- what the flow makes of the place is taken in
+    pub flow_partly : IsPartly s x table → (b : Bool) → b ≡ flow (at table p) (some_of (λ q. at table q) (behind (map shape_of s) p)) (assigns_at (slice_get s p) x) → IsPartly s x (set table p b)
+    flow_partly partly b is = by_find (finds s x table p) refl
+      where
+        by_find : (v : Bool) → finds s x table p ≡ v → IsPartly s x (set table p b)
+        by_find true e = rw (is ∙ flow_found (at table p) (some_of (λ q. at table q) (behind (map shape_of s) p)) (assigns_at (slice_get s p) x) e) (set_partly partly e)
+        by_find false e = rw (is ∙ flow_none (at table p) (some_of (λ q. at table q) (behind (map shape_of s) p)) (assigns_at (slice_get s p) x) e, set-get_or table p false) partly
+
+    -- what the flow leaves was not to be found
+    pub flow_resting : flow (at table p) (some_of (λ q. at table q) (behind (map shape_of s) p)) (assigns_at (slice_get s p) x) ≡ at table p → finds s x table p ≡ false
+    flow_resting e = flow_rests (at table p) (some_of (λ q. at table q) (behind (map shape_of s) p)) (assigns_at (slice_get s p) x) e
 
     -- nothing is found behind the script
     pub rests_past : length s ≤ p → finds s x table p ≡ false

@@ -59,6 +59,10 @@ abbrev pub Has : List (Option Expr) → plain.Table → Type 0
 Has table t = map (λ entry. entry.0) t ≡ table
 
 module _ (s : List Statement) (later : List ℕ → ℕ → Bool) where
+  -- the line l at b, whose operands are xs, names x once, and x is not read later unless l assigns it
+  abbrev pub is_spare : ℕ → Statement → List (List ℕ) → List ℕ → Bool
+  is_spare b l xs x = (count x xs == 1) && (assigns l x || not (later x b))
+
   -- e, the expression of the line at a, may stand for x in the line l at b, whose operands are xs, where the lines between are no blocks and don't read x
   abbrev pub stands : Expr → ℕ → ℕ → Statement → List (List ℕ) → List ℕ → Bool
   stands e a b l xs x = (count x xs == 1) && ((assigns l x || not (later x b)) && plain.each_from (λ m. plain.keeps (slice_get s m) (names e)) (b - a) a)

@@ -2,6 +2,9 @@ pub mod Exprs
 pub mod Values
 pub mod Operands
 pub mod Unread
+pub mod Readings
+pub mod Numbering
+pub mod Marks
 pub mod Liveness
 pub mod Forced
 pub mod Choices

@@ -1,15 +1,16 @@
 -- What the code that finds what is read later goes by.
-use Rattle.std.specs.Prelude.{◌≡◌, ℕ, zero, suc, Bool, true, false, not, ◌&&◌, List, [], ◌∷◌, map, length, get_or, if◌then◌else◌, Option, Some, None, slice_get}
-use Rattle.std.specs.List.{count_by}
+use Rattle.std.specs.Prelude.{◌≡◌, ℕ, zero, suc, ◌<◌, ◌/◌, ◌%◌, Bool, true, false, not, ◌&&◌, ◌||◌, List, [], ◌∷◌, map, length, get_or, Option, Some, None, slice_get}
 use Rattle.std.specs.Option.{option_to_list}
-use Rattle.std.specs.Str.{bytes_eq}
 use Rattle.cord_script.specs.declared.statements.Statement.{Statement}
 use Rattle.cord_meaning.specs.Blocks as blocks
 use Rattle.cord_meaning.specs.Statements.{shape_of}
-use Rattle.cord_plan.specs.Operands.{has, reads_at, assigns_at}
+use Rattle.cord_plan.specs.Operands.{reads_at, assigns_at}
+use Rattle.cord_plan.specs.Numbering.{number_of, names_of}
+use Rattle.cord_plan.specs.Marks.{column, IsBit}
 use Rattle.cord_plan.specs.Unread.{ReadBy, behind, some_of}
 use Rattle.cord_plan.specs.declared.liveness.Later.{Later}
-use Rattle.cord_plan.specs.declared.liveness.Row.{Row}
+use Rattle.cord_plan.specs.declared.liveness.Group.{Group}
+use Rattle.cord_plan.specs.declared.numbering.Numbering.{Numbering}
 use Rattle.cord_plan.specs.declared.successors.Shape.{Shape}
 use Rattle.cord_plan.specs.declared.successors.Shape.TheVariants.{Simple, Loop, Branch, Otherwise, Close}
 use Rattle.cord_plan.specs.declared.successors.Behind.{Behind}
@@ -60,10 +61,6 @@ pub record AreBehind (shapes : List blocks.Shape) (behinds : List Behind) : Type
 abbrev pub at : List Bool → ℕ → Bool
 at table p = get_or table p false
 
--- how many places a table doesn't have
-abbrev pub unset : List Bool → ℕ
-unset table = count_by not table
-
 module _ (s : List Statement) (x : List ℕ) (table : List Bool) where
   -- it has each place whose line reads x, and a path that reads x begins at each place that it has
   pub record IsPartly : Type 0 where
@@ -80,26 +77,46 @@ module _ (s : List Statement) (x : List ℕ) (table : List Bool) where
     pub partly : IsPartly
     pub resting : (p : ℕ) → finds p ≡ false
 
--- the live places of a name
-abbrev pub live_of : List Row → List ℕ → List Bool
-live_of [] x = []
-live_of (row ∷ rows) x = if bytes_eq x row.name then row.live.items else live_of rows x
+-- what the flow back over a line makes of a bit
+abbrev pub flow : Bool → Bool → Bool → Bool
+flow here behind assigned = here || (behind && not assigned)
 
--- whether a name has been looked at
-abbrev pub knows : List Row → List ℕ → Bool
-knows rows x = has (map (λ row. row.name) rows) x
+module _ (s : List Statement) (t : Numbering) (g : ℕ) (words : List ℕ) where
+  -- the bits of each line are the name of the group that it assigns
+  pub record AreAssigned : Type 0 where
+    pub size : length words ≡ length s
+    pub told : (x : List ℕ) (i : ℕ) → IsBit t g x i → (p : ℕ) → at (column words i) p ≡ assigns_at (slice_get s p) x
+
+  -- each name of the group has its places partly
+  pub record ArePartly : Type 0 where
+    pub size : length words ≡ length s
+    pub told : (x : List ℕ) (i : ℕ) → IsBit t g x i → IsPartly s x (column words i)
+
+  -- each name of the group has its live places
+  abbrev pub AreLive : Type 0
+  AreLive = (x : List ℕ) (i : ℕ) → IsBit t g x i → IsLive s x (column words i)
+
+-- the live places of the name of a number
+abbrev pub column_in : Option Group → ℕ → List Bool
+column_in None i = []
+column_in (Some g) i = column g.words.items i
+
+abbrev pub column_of : List Group → Option ℕ → List Bool
+column_of groups None = []
+column_of groups (Some n) = column_in (slice_get groups (n / 64)) (n % 64)
+
+-- the live places of a name
+abbrev pub live_of : Later → List ℕ → List Bool
+live_of t x = column_of t.groups.items (number_of t.numbering x)
 
 -- what a table tells: whether a name is read later than the line at a place
 abbrev pub tells : Later → List ℕ → ℕ → Bool
-tells t x p = some_of (λ q. at (live_of t.rows.items x) q) (places_at t.behinds.items p)
+tells t x p = some_of (λ q. at (live_of t x) q) (places_at t.behinds.items p)
 
--- a table that tells of the names that it knows
-pub record IsBegun (s : List Statement) (t : Later) : Type 0 where
-  pub behinds : AreBehind (map shape_of s) t.behinds.items
-  pub live : (x : List ℕ) → knows t.rows.items x ≡ true → IsLive s x (live_of t.rows.items x)
+-- each of the first k groups is live
+abbrev pub LiveTo : List Statement → Numbering → ℕ → List Group → Type 0
+LiveTo s t k groups = (g : ℕ) → g < k → (group : Group) × (slice_get groups g ≡ Some group) × AreLive s t g group.words.items
 
--- a table comes to know these names too
-pub record Adds (s : List Statement) (xs : List (List ℕ)) (old new : Later) : Type 0 where
-  pub begun : IsBegun s new
-  pub kept : (x : List ℕ) → knows old.rows.items x ≡ true → knows new.rows.items x ≡ true
-  pub added : (x : List ℕ) → has xs x ≡ true → knows new.rows.items x ≡ true
+-- the group of each name is live
+abbrev pub AllLive : List Statement → Numbering → List Group → Type 0
+AllLive s t groups = (n : ℕ) → n < length (names_of t) → (group : Group) × (slice_get groups (n / 64) ≡ Some group) × AreLive s t (n / 64) group.words.items

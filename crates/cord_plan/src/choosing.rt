@@ -1,15 +1,16 @@
 // What stands for the operands of a line: their names, or expressions of earlier lines.
-ghost use Rattle.std.specs.Prelude.{◌≡◌, ◌==◌, ◌+◌, ◌-◌, ◌<◌, ◌≤◌, ◌++◌, [], ◌∷◌, Some, ◌||◌, IfOk, IsOkUnless, drop, length, map, option_map, slice_get};
+ghost use Rattle.std.specs.Prelude.{◌≡◌, ◌==◌, ◌+◌, ◌-◌, ◌<◌, ◌≤◌, ◌++◌, [], ◌∷◌, Some, ◌||◌, IfOk, IsOkUnless, drop, length, map, not, option_map, slice_get};
 ghost use Rattle.cord_plan.specs.Exprs.{names, name};
-ghost use Rattle.cord_plan.specs.Operands.{count, reads};
+ghost use Rattle.cord_plan.specs.Operands.{assigns, count, reads};
 ghost use Rattle.cord_plan.specs.Forced.{each_from, keeps, is_block, is_small, expr_of, expr_with};
 ghost use Rattle.cord_meaning.specs.Statements.{shape_of};
-ghost use Rattle.cord_plan.specs.Choices.{nearest, simple_operands, parts_beside, expression_in, stands, room_left_by, choice_view, IsChoice, AreChoices};
+ghost use Rattle.cord_plan.specs.Choices.{nearest, simple_operands, parts_beside, expression_in, is_spare, stands, room_left_by, choice_view, IsChoice, AreChoices};
 ghost use Rattle.cord_plan.specs.Liveness.{tells};
 ghost use Rattle.cord_plan.specs.Views.{expr_view};
 
-use crate::liveness::{Later, assigns, reads};
+use crate::liveness::Later;
 use crate::parts::{keeps_names, room_behind};
+use crate::readings::{assigns, reads};
 use crate::{Expr, MAX_EXPR_PARTS};
 use cord_io::CordError;
 use cord_script::{Name, Names, Statement};
@@ -110,6 +111,21 @@ fn is_named_once(operands: &[Name], name: &[u8]) -> bool
     times == 1
 }
 
+// Whether no line behind a line reads the name that it has as an operand, but for what the line itself assigns.
+fn is_free(line: &Line, later: &Later, name: &[u8]) -> bool
+    ensures { result ≡ (assigns line.now.statement.now name.now || not (tells later.now name.now line.now.place)) }
+{
+    assigns(line.statement, name) || !later.is_later(name, line.place)
+}
+
+// Whether nothing but a line itself needs the text of an operand: the line names it once, and assigns it or it isn't read later.
+fn is_spare(line: &Line, later: &Later, operand: &Name) -> bool
+    ensures { result ≡ is_spare line.now.statements.now (tells later.now) line.now.place line.now.statement.now line.now.operands.now operand.now }
+{
+    let name = operand.as_slice();
+    is_named_once(line.operands, name) && is_free(line, later, name)
+}
+
 // Whether the expression of an earlier line may stand for an operand, but for the lines between that read it.
 fn stands(line: &Line, later: &Later, operand: &Name, source: usize, expression: &Expr) -> bool
     requires { line.now.place ≤ length line.now.statements.now }
@@ -117,7 +133,7 @@ fn stands(line: &Line, later: &Later, operand: &Name, source: usize, expression:
 {
     let name = operand.as_slice();
     is_named_once(line.operands, name)
-        && (assigns(line.statement, name) || !later.is_later(name, line.place))
+        && is_free(line, later, name)
         && all_keep(line.statements, source, line.place, expression)
 }
 
@@ -188,6 +204,9 @@ fn choose<'a>(
     requires more { length chosen.now < length line.now.operands.now }
     ensures { IsChoice line.now.statements.now (tells later.now) line.now.place line.now.statement.now line.now.operands.now operand.now (map (option_map expr_view) table.now) (map choice_view chosen.now) (choice_view result) }
 {
+    if !is_spare(line, later, operand) {
+        return Choice::Kept(operand);
+    }
     match nearest(line.statements, line.place, operand.as_slice()) {
         None => Choice::Kept(operand),
         Some(source) => match expression_at(table, source) {

@@ -7,15 +7,19 @@ mod expressions;
 mod joining;
 mod jumps;
 mod laws;
+mod limits;
 mod lines;
 mod liveness;
+mod marks;
 mod meaning;
+mod numbering;
 mod operations;
 mod own;
 mod pair_laws;
 mod parts;
 mod planner;
 mod plans;
+mod readings;
 mod rows;
 #[cfg(test)]
 mod samples;
@@ -34,6 +38,7 @@ pub use laws::{
     dead_targets_are_not_built, fixed_points_tell_what_is_read, no_cat_stands_in_a_cat,
     what_is_read_later_is_one,
 };
+pub use limits::limits_are;
 pub use meaning::{
     planned_scripts_keep_the_meaning, planned_scripts_meet_the_conditions, plans_keep_the_meaning,
     trivial_plans_keep_the_meaning,

@@ -1,240 +1,185 @@
 // Which names are read later than which lines.
-ghost use Rattle.std.specs.Prelude.{◌≡◌, ◌<◌, ℕ, [], ◌∷◌, true, false, length, map, option_map, IfOk, OnOk};
+ghost use Rattle.std.specs.Prelude.{◌≡◌, ◌<◌, ◌≤◌, ◌/◌, ◌^◌, ℕ, List, true, false, Some, length, map, get_or, slice_get, IfOk};
 ghost use Rattle.cord_meaning.specs.Statements.{shape_of};
-ghost use Rattle.cord_plan.specs.Operands.{has, cord_arguments, read_by, target_of, reads, assigns};
-ghost use Rattle.cord_plan.specs.Unread.{IsLater, some_of};
-ghost use Rattle.cord_plan.specs.Liveness.{places, AreBehind, at, unset, IsPartly, finds, IsLive, live_of, knows, tells, IsBegun, Adds};
+ghost use Rattle.cord_plan.specs.Operands.{assigns_at};
+ghost use Rattle.cord_plan.specs.Unread.{IsLater, behind, some_of};
+ghost use Rattle.cord_plan.specs.Marks.{bit, column, room, IsBit};
+ghost use Rattle.cord_plan.specs.Numbering.{names_of};
+ghost use Rattle.cord_plan.specs.Liveness.{places, places_at, AreBehind, at, tells, flow, AreAssigned, ArePartly, AreLive, AllLive, column_of};
 
+use crate::marks::{GROUP, has_bit, mark_assigned, mark_read};
+use crate::numbering::Numbering;
 use crate::successors::{Behind, successors};
-use cord_script::{Argument, Name, Statement};
+use cord_script::Statement;
 use std::alloc::{AllocError, Global};
 
-/// A name, and for each place whether a path from there reads the name before a line assigns it.
+/// For each place the names of a group that a path from there reads before a line assigns them.
 #[derive(Drop)]
-struct Row {
-    name: Name,
-    live: Vec<bool>,
+struct Group {
+    words: Vec<u64>,
 }
 
 /// For each name and each line of a script whether some path behind the line reads the bytes of the name before a line assigns it.
 #[derive(Drop)]
 pub(crate) struct Later {
     behinds: Vec<Behind>,
-    rows: Vec<Row>,
+    numbering: Numbering,
+    groups: Vec<Group>,
 }
 
-fn is(operand: &Name, name: &[u8]) -> bool
-    ensures { result ≡ has (operand.now ∷ []) name.now }
-{
-    name == operand.as_slice()
+/// The lines of a script, the places behind them, and a group of its names.
+#[derive(Clone, Copy)]
+struct Flow<'a> {
+    statements: &'a [Statement],
+    behinds: &'a [Behind],
+    numbering: &'a Numbering,
+    group: usize,
 }
 
-fn is_either(left: &Name, right: &Name, name: &[u8]) -> bool
-    ensures { result ≡ has (left.now ∷ right.now ∷ []) name.now }
+fn word_at(words: &[u64], place: usize) -> u64
+    ensures bits { (i : ℕ) → bit result i ≡ at (column words.now i) place }
+    ensures value { result ≡ get_or words.now place 0 }
 {
-    is(left, name) || is(right, name)
+    match words.get(place) {
+        Some(word) => *word,
+        None => 0,
+    }
 }
 
-fn is_among(names: &[Name], name: &[u8]) -> bool
-    ensures { result ≡ has names.now name.now }
+// The bits of the places that may come next.
+fn word_behind(words: &[u64], behind: Behind) -> u64
+    ensures { (i : ℕ) → bit result i ≡ some_of (λ q. at (column words.now i) q) (places behind) }
 {
-    for operand in names {
-        if name == operand.as_slice() {
-            return true;
+    let first = word_at(words, behind.first);
+    match behind.second {
+        Some(second) => first | word_at(words, second),
+        None => first,
+    }
+}
+
+// What the backwards flow over a line makes of its word: what the places behind it have, but for what the line assigns, is added.
+fn flowed(word: u64, behind: u64, assigned: u64) -> u64
+    ensures bits { (i : ℕ) → i < 64 → bit result i ≡ flow (bit word i) (bit behind i) (bit assigned i) }
+    ensures grows { word ≤ result }
+    ensures fits { result < 2 ^ 64 }
+{
+    word | (behind & !assigned)
+}
+
+impl Flow<'_> {
+    // For each line the word of the names that it reads.
+    fn words_read(&self, alloc: Global) -> Result<Vec<u64>, AllocError>
+        ensures { IfOk result (λ v. ArePartly self.now.statements.now self.now.numbering.now self.now.group v.items) }
+    {
+        let mut words = Vec::new(alloc);
+        for statement in self.statements {
+            words.push(mark_read(self.numbering, self.group, statement))?;
+        }
+        Ok(words)
+    }
+
+    // For each line the word of the name that it assigns.
+    fn words_assigned(&self, alloc: Global) -> Result<Vec<u64>, AllocError>
+        ensures { IfOk result (λ v. AreAssigned self.now.statements.now self.now.numbering.now self.now.group v.items) }
+    {
+        let mut words = Vec::new(alloc);
+        for statement in self.statements {
+            words.push(mark_assigned(self.numbering, self.group, statement))?;
+        }
+        Ok(words)
+    }
+
+    // The bits of the places that may come next after a place.
+    fn word_behind_at(&self, words: &[u64], place: usize) -> u64
+        ensures { (i : ℕ) → bit result i ≡ some_of (λ q. at (column words.now i) q) (places_at self.now.behinds.now place) }
+    {
+        match self.behinds.get(place) {
+            Some(behind) => word_behind(words, *behind),
+            None => 0,
         }
     }
-    false
-}
 
-fn is_argument(arguments: &[Argument], name: &[u8]) -> bool
-    ensures { result ≡ has (cord_arguments arguments.now) name.now }
-{
-    for argument in arguments {
-        match argument {
-            Argument::Number(_) => {}
-            Argument::Cord(operand) => {
-                if name == operand.as_slice() {
-                    return true;
-                }
+    // What the flow back over the line at a place makes of its word.
+    fn flow_at(&self, assigned: &[u64], words: &[u64], place: usize) -> u64
+        requires behinds { AreBehind (map shape_of self.now.statements.now) self.now.behinds.now }
+        requires assigned { AreAssigned self.now.statements.now self.now.numbering.now self.now.group assigned.now }
+        ensures bits { (x : List ℕ) (i : ℕ) → IsBit self.now.numbering.now self.now.group x i → bit result i ≡ flow (at (column words.now i) place) (some_of (λ q. at (column words.now i) q) (behind (map shape_of self.now.statements.now) place)) (assigns_at (slice_get self.now.statements.now place) x) }
+        ensures grows { get_or words.now place 0 ≤ result }
+        ensures fits { result < 2 ^ 64 }
+    {
+        let here = word_at(words, place);
+        let behind = self.word_behind_at(words, place);
+        let kill = word_at(assigned, place);
+        flowed(here, behind, kill)
+    }
+
+    // One pass of the backwards flow over the lines, and whether it has found another place.
+    fn sweep(&self, assigned: &[u64], words: &mut [u64]) -> bool
+        requires behinds { AreBehind (map shape_of self.now.statements.now) self.now.behinds.now }
+        requires assigned { AreAssigned self.now.statements.now self.now.numbering.now self.now.group assigned.now }
+        requires partly { ArePartly self.now.statements.now self.now.numbering.now self.now.group words.old }
+        ensures partly { ArePartly self.now.statements.now self.now.numbering.now self.now.group words.new }
+        ensures live { result ≡ false → AreLive self.now.statements.now self.now.numbering.now self.now.group words.new }
+        ensures fewer { result ≡ true → room words.new < room words.old }
+    {
+        let mut changed = false;
+        for p in (0..words.len()).rev() {
+            let here = word_at(words, p);
+            let word = self.flow_at(assigned, words, p);
+            if word != here {
+                words[p] = word;
+                changed = true;
             }
         }
+        changed
     }
-    false
-}
 
-/// Whether a line reads the bytes of a name.
-pub(crate) fn reads(statement: &Statement, name: &[u8]) -> bool
-    ensures { result ≡ reads statement.now name.now }
-{
-    match statement {
-        Statement::Cat { left, right, .. } => is_either(left, right, name),
-        Statement::Catn { parts, .. } => is_among(parts.as_slice(), name),
-        Statement::Catc { operand, .. } => is(operand, name),
-        Statement::Substr { operand, .. } => is(operand, name),
-        Statement::Balance { operand, .. } => is(operand, name),
-        Statement::Sprintf { arguments, .. } => is_argument(arguments.as_slice(), name),
-        Statement::Fetch { operand, .. } => is(operand, name),
-        Statement::Cmp { left, right, .. } => is_either(left, right, name),
-        Statement::Ncmp { left, right, .. } => is_either(left, right, name),
-        Statement::Str {
-            operand,
-            pattern,
-            ..
-        } => is_either(operand, pattern, name),
-        Statement::Chr { operand, .. } => is(operand, name),
-        Statement::Rchr { operand, .. } => is(operand, name),
-        Statement::EcCat { operand, .. } => is(operand, name),
-        Statement::Put { operand, .. } => is(operand, name),
-        _ => false,
+    // For each place the names of the group that a path from there reads before a line assigns them.
+    fn live_words(&self, alloc: Global) -> Result<Vec<u64>, AllocError>
+        requires { AreBehind (map shape_of self.now.statements.now) self.now.behinds.now }
+        ensures { IfOk result (λ v. AreLive self.now.statements.now self.now.numbering.now self.now.group v.items) }
+    {
+        let assigned = self.words_assigned(alloc)?;
+        let mut words = self.words_read(alloc)?;
+        'sweeps: while self.sweep(&assigned, &mut words) {}
+        Ok(words)
     }
 }
 
-/// The name that a line assigns.
-pub(crate) fn target_of(statement: &Statement) -> Option<&Name>
-    ensures { option_map (λ n. n.now) result ≡ target_of statement.now }
-{
-    match statement {
-        Statement::Let { target, .. }
-        | Statement::File { target, .. }
-        | Statement::Eager { target, .. }
-        | Statement::Lazy { target, .. }
-        | Statement::Chars { target, .. }
-        | Statement::Nul { target, .. }
-        | Statement::FromFn { target, .. }
-        | Statement::Cat { target, .. }
-        | Statement::Catn { target, .. }
-        | Statement::Catc { target, .. }
-        | Statement::Substr { target, .. }
-        | Statement::Balance { target, .. }
-        | Statement::EcToCord { target, .. }
-        | Statement::Sprintf { target, .. }
-        | Statement::Len { target, .. }
-        | Statement::Fetch { target, .. }
-        | Statement::Cmp { target, .. }
-        | Statement::Ncmp { target, .. }
-        | Statement::Str { target, .. }
-        | Statement::Chr { target, .. }
-        | Statement::Rchr { target, .. }
-        | Statement::Assign { target, .. }
-        | Statement::Add { target, .. }
-        | Statement::Sub { target, .. }
-        | Statement::EcInit { target, .. } => Some(target),
-        _ => None,
-    }
-}
-
-/// Whether a line assigns a name.
-pub(crate) fn assigns(statement: &Statement, name: &[u8]) -> bool
-    ensures { result ≡ assigns statement.now name.now }
-{
-    match target_of(statement) {
-        None => false,
-        Some(target) => name == target.as_slice(),
-    }
-}
-
-fn is_at(table: &[bool], place: usize) -> bool
-    ensures { result ≡ at table.now place }
-{
-    match table.get(place) {
-        Some(live) => *live,
-        None => false,
-    }
-}
-
-// Whether a table has one of the places that may come next.
-fn is_live_behind(table: &[bool], behind: Behind) -> bool
-    ensures { result ≡ some_of (λ q. at table.now q) (places behind) }
-{
-    if is_at(table, behind.first) {
-        return true;
-    }
-    match behind.second {
-        Some(second) => is_at(table, second),
-        None => false,
-    }
-}
-
-// For each place whether its line reads the name.
-fn readers(alloc: Global, statements: &[Statement], name: &[u8]) -> Result<Vec<bool>, AllocError>
-    ensures { IfOk result (λ v. IsPartly statements.now name.now v.items) }
-{
-    let mut table = Vec::new(alloc);
-    for statement in statements {
-        table.push(reads(statement, name))?;
-    }
-    Ok(table)
-}
-
-// Whether the flow back over the line at a place finds one that the table doesn't have.
-fn finds(
-    statements: &[Statement],
-    behinds: &[Behind],
-    name: &[u8],
-    table: &[bool],
-    place: usize,
-) -> bool
-    requires behinds { AreBehind (map shape_of statements.now) behinds.now }
-    requires size { length table.now ≡ length statements.now }
-    requires within { place < length statements.now }
-    ensures { result ≡ finds statements.now name.now table.now place }
-{
-    !table[place] && is_live_behind(table, behinds[place]) && !assigns(&statements[place], name)
-}
-
-// One pass of the backwards flow over the lines, and whether it has found another place.
-fn sweep(statements: &[Statement], behinds: &[Behind], name: &[u8], table: &mut [bool]) -> bool
-    requires behinds { AreBehind (map shape_of statements.now) behinds.now }
-    requires partly { IsPartly statements.now name.now table.old }
-    ensures partly { IsPartly statements.now name.now table.new }
-    ensures resting { result ≡ false → (p : ℕ) → finds statements.now name.now table.new p ≡ false }
-    ensures fewer { result ≡ true → unset table.new < unset table.old }
-{
-    let mut changed = false;
-    for p in (0..table.len()).rev() {
-        if finds(statements, behinds, name, table, p) {
-            table[p] = true;
-            changed = true;
-        }
-    }
-    changed
-}
-
-// For each place whether a path from there reads the name before a line assigns it.
-fn live_places(
+// What is live of each group of names.
+fn groups_of(
     alloc: Global,
     statements: &[Statement],
     behinds: &[Behind],
-    name: &[u8],
-) -> Result<Vec<bool>, AllocError>
+    numbering: &Numbering,
+) -> Result<Vec<Group>, AllocError>
     requires { AreBehind (map shape_of statements.now) behinds.now }
-    ensures { IfOk result (λ v. IsLive statements.now name.now v.items) }
+    ensures { IfOk result (λ v. AllLive statements.now numbering.now v.items) }
 {
-    let mut table = readers(alloc, statements, name)?;
-    'sweeps: while sweep(statements, behinds, name, &mut table) {}
-    Ok(table)
+    let mut groups = Vec::new(alloc);
+    for group in 0..group_count(numbering) {
+        let flow = Flow {
+            statements,
+            behinds,
+            numbering,
+            group,
+        };
+        let words = flow.live_words(alloc)?;
+        groups.push(Group { words })?;
+    }
+    Ok(groups)
 }
 
-fn live_of<'a>(rows: &'a [Row], name: &[u8]) -> &'a [bool]
-    ensures { result.now ≡ live_of rows.now name.now }
+// How many groups hold the names.
+fn group_count(numbering: &Numbering) -> usize
+    ensures { (n : ℕ) → n < length (names_of numbering.now) → n / 64 < result }
 {
-    for row in rows {
-        if name == row.name.as_slice() {
-            return &row.live;
-        }
+    let whole = numbering.count() / GROUP;
+    if numbering.count() % GROUP == 0 {
+        whole
+    } else {
+        whole + 1
     }
-    &[]
-}
-
-fn knows(rows: &[Row], name: &[u8]) -> bool
-    ensures { result ≡ knows rows.now name.now }
-{
-    for row in rows {
-        if name == row.name.as_slice() {
-            return true;
-        }
-    }
-    false
 }
 
 impl Later {
@@ -243,14 +188,23 @@ impl Later {
         ensures { IfOk result (λ t. IsLater statements.now (tells t)) }
     {
         let behinds = successors(alloc, statements)?;
-        let mut later = Later {
+        let numbering = Numbering::of(alloc, statements)?;
+        let groups = groups_of(alloc, statements, &behinds, &numbering)?;
+        Ok(Later {
             behinds,
-            rows: Vec::new(alloc),
-        };
-        for statement in statements {
-            later.add_read(alloc, statements, statement)?;
+            numbering,
+            groups,
+        })
+    }
+
+    // Whether a place that may come next has the name of a number.
+    fn is_live_behind(&self, number: usize, behind: Behind) -> bool
+        ensures { result ≡ some_of (λ q. at (column_of self.now.groups.items (Some number)) q) (places behind) }
+    {
+        match self.groups.get(number / GROUP) {
+            None => false,
+            Some(group) => has_bit(word_behind(&group.words, behind), number % GROUP),
         }
-        Ok(later)
     }
 
     /// Whether a name is read later than the line at a place.
@@ -258,108 +212,11 @@ impl Later {
         ensures { result ≡ tells self.now name.now place }
     {
         match self.behinds.get(place) {
-            Some(behind) => is_live_behind(live_of(&self.rows, name), *behind),
             None => false,
-        }
-    }
-
-    fn add(
-        &mut self,
-        alloc: Global,
-        statements: &[Statement],
-        name: &Name,
-    ) -> Result<(), AllocError>
-        requires { IsBegun statements.now self.old }
-        ensures { OnOk result (Adds statements.now (name.now ∷ []) self.old self.new) }
-    {
-        if knows(&self.rows, name.as_slice()) {
-            return Ok(());
-        }
-        let live = live_places(alloc, statements, &self.behinds, name.as_slice())?;
-        let name = Name::of(name.as_slice().to_vec(alloc)?);
-        self.rows.push(Row { name, live })?;
-        Ok(())
-    }
-
-    fn add_two(
-        &mut self,
-        alloc: Global,
-        statements: &[Statement],
-        left: &Name,
-        right: &Name,
-    ) -> Result<(), AllocError>
-        requires { IsBegun statements.now self.old }
-        ensures { OnOk result (Adds statements.now (left.now ∷ right.now ∷ []) self.old self.new) }
-    {
-        self.add(alloc, statements, left)?;
-        self.add(alloc, statements, right)
-    }
-
-    fn add_all(
-        &mut self,
-        alloc: Global,
-        statements: &[Statement],
-        names: &[Name],
-    ) -> Result<(), AllocError>
-        requires { IsBegun statements.now self.old }
-        ensures { OnOk result (Adds statements.now names.now self.old self.new) }
-    {
-        for name in names {
-            self.add(alloc, statements, name)?;
-        }
-        Ok(())
-    }
-
-    fn add_arguments(
-        &mut self,
-        alloc: Global,
-        statements: &[Statement],
-        arguments: &[Argument],
-    ) -> Result<(), AllocError>
-        requires { IsBegun statements.now self.old }
-        ensures { OnOk result (Adds statements.now (cord_arguments arguments.now) self.old self.new) }
-    {
-        for argument in arguments {
-            match argument {
-                Argument::Number(_) => {}
-                Argument::Cord(name) => self.add(alloc, statements, name)?,
-            }
-        }
-        Ok(())
-    }
-
-    // Takes in the names whose bytes a line reads.
-    fn add_read(
-        &mut self,
-        alloc: Global,
-        statements: &[Statement],
-        statement: &Statement,
-    ) -> Result<(), AllocError>
-        requires { IsBegun statements.now self.old }
-        ensures { OnOk result (Adds statements.now (read_by statement.now) self.old self.new) }
-    {
-        match statement {
-            Statement::Cat { left, right, .. } => self.add_two(alloc, statements, left, right),
-            Statement::Catn { parts, .. } => self.add_all(alloc, statements, parts.as_slice()),
-            Statement::Catc { operand, .. } => self.add(alloc, statements, operand),
-            Statement::Substr { operand, .. } => self.add(alloc, statements, operand),
-            Statement::Balance { operand, .. } => self.add(alloc, statements, operand),
-            Statement::Sprintf { arguments, .. } => {
-                self.add_arguments(alloc, statements, arguments.as_slice())
-            }
-            Statement::Fetch { operand, .. } => self.add(alloc, statements, operand),
-            Statement::Cmp { left, right, .. } => self.add_two(alloc, statements, left, right),
-            Statement::Ncmp { left, right, .. } => self.add_two(alloc, statements, left, right),
-            Statement::Str {
-                operand,
-                pattern,
-                ..
-            } => self.add_two(alloc, statements, operand, pattern),
-            Statement::Chr { operand, .. } => self.add(alloc, statements, operand),
-            Statement::Rchr { operand, .. } => self.add(alloc, statements, operand),
-            Statement::EcCat { operand, .. } => self.add(alloc, statements, operand),
-            Statement::Put { operand, .. } => self.add(alloc, statements, operand),
-            _ => Ok(()),
+            Some(behind) => match self.numbering.number_of(name) {
+                None => false,
+                Some(number) => self.is_live_behind(number, *behind),
+            },
         }
     }
 }

@@ -5,7 +5,7 @@ ghost use Rattle.cord_plan.specs.Choices.{room_left};
 ghost use Rattle.cord_plan.specs.Forced.{keeps};
 ghost use Rattle.cord_plan.specs.Views.{expr_view, members_of};
 
-use crate::liveness::assigns;
+use crate::readings::assigns;
 use crate::{Expr, Members};
 use cord_io::CordError;
 use cord_script::{Number, Statement};

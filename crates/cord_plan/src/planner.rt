@@ -9,7 +9,8 @@ ghost use Rattle.cord_plan.specs.Unread.{IsLater};
 ghost use Rattle.cord_plan.specs.Views.{operation_view};
 
 use crate::lines::operation_of;
-use crate::liveness::{Later, target_of};
+use crate::liveness::Later;
+use crate::readings::target_of;
 use crate::table::Table;
 use crate::{Expr, Operation, Plan};
 use cord_io::CordError;

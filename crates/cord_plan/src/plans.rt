@@ -1,7 +1,6 @@
 // Plans.
-ghost use Rattle.std.specs.Prelude.{◌≡◌, All, ◌<◌, ℕ, Some, IfErr, IfOk, IsOkUnless, OnErr, OnOk, length, map, slice_get};
+ghost use Rattle.std.specs.Prelude.{◌≡◌, All, ◌<◌, ◌++◌, ℕ, Some, IfErr, IfOk, IsOkUnless, OnErr, OnOk, length, map, slice_get};
 ghost use Rattle.cord_meaning.specs.Blocks.{jump};
-ghost use Rattle.std.specs.Io.KnownBytes.{Appends};
 ghost use Rattle.cord_io.specs.Device.{raised};
 ghost use Rattle.cord_iter.specs.Taking.{IsFrontOf, Takes};
 ghost use Rattle.cord_plan.specs.Kept.{KeepsNoOther};
@@ -100,8 +99,9 @@ impl Plan {
     /// Hands a sink the text of the plan: one line an operation, ended by byte 10. Refused with `WriteFailed` where the sink
     /// failed: then it took a front part of the text.
     pub fn show<W: Sink>(&self, sink: &mut W) -> Result<(), CordError>
-        ensures ok { OnOk result (Appends (W.taken sink.old) (W.taken sink.new) (shown (map operation_view self.now)) × (W.failures sink.new ≡ W.failures sink.old)) }
+        ensures ok { OnOk result ((W.taken sink.new ≡ W.taken sink.old ++ shown (map operation_view self.now)) × (W.failures sink.new ≡ W.failures sink.old)) }
         ensures err { OnErr result (Takes (IsFrontOf (shown (map operation_view self.now))) (W.taken sink.old) (W.taken sink.new) × (W.failures sink.new ≡ raised (W.failures sink.old))) }
+        ensures finished { W.finished sink.new ≡ W.finished sink.old }
         ensures refused { IfErr result (λ e. e ≡ CordError.WriteFailed) }
     {
         show_operations(&self.operations, sink)

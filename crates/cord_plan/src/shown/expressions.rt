@@ -11,7 +11,7 @@ use cord_io::{Sink, WriteFault};
 // Hands a sink the text of an expression.
 #[cycle(shown_expressions)]
 pub(crate) fn put_expression<W: Sink>(expression: &Expr, sink: &mut W) -> Result<(), WriteFault>
-    ensures { Writes (expr (expr_view expression.now)) (W.taken sink.old) (W.taken sink.new) (W.failures sink.old) (W.failures sink.new) result }
+    ensures { Writes (expr (expr_view expression.now)) (W.taken sink.old) (W.taken sink.new) (W.failures sink.old) (W.failures sink.new) (W.finished sink.old) (W.finished sink.new) result }
 {
     match expression {
         Expr::Name(name) => put_text(name.as_slice(), sink),
@@ -52,7 +52,7 @@ pub(crate) fn put_expression<W: Sink>(expression: &Expr, sink: &mut W) -> Result
 // The members of a `cat`, separated by one blank.
 #[cycle(shown_expressions)]
 fn put_members<W: Sink>(members: &[Expr], sink: &mut W) -> Result<(), WriteFault>
-    ensures { Writes (exprs (members_of (map expr_view members.now))) (W.taken sink.old) (W.taken sink.new) (W.failures sink.old) (W.failures sink.new) result }
+    ensures { Writes (exprs (members_of (map expr_view members.now))) (W.taken sink.old) (W.taken sink.new) (W.failures sink.old) (W.failures sink.new) (W.finished sink.old) (W.finished sink.new) result }
 {
     let mut blank: &[u8] = b"";
     for member in members {

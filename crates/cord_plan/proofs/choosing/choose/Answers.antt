@@ -4,11 +4,19 @@ use Rattle.cord_plan.specs.Exprs.{Expr, name}
 use Rattle.cord_plan.specs.Forced.{expr_of, expr_with, is_small}
 use Rattle.cord_plan.specs.Liveness.{tells}
 use Rattle.cord_plan.specs.Views.{expr_view}
-use Rattle.cord_plan.specs.Choices.{choice_view, nearest, stands, expression_in}
+use Rattle.cord_plan.specs.Choices.{choice_view, is_spare, nearest, stands, expression_in}
 use Rattle.cord_plan.proofs.Choices.{simple_reads}
-use Rattle.cord_plan.proofs.Nearest.{kept_far, kept_bare, by_tests, first_in}
+use Rattle.cord_plan.proofs.Nearest.{kept_far, kept_bare, kept_needed, by_tests, first_in}
 use Rattle.cord_plan.proofs.choosing.choose.Goals as goal
 use Rattle.cord_plan.proofs.choosing.choose.Goals.{else-stands-via-then-stands+else-stays_small, else-stands-via-else-stands}
+
+pub returns-then-not-is_spare : goal.returns-then-not-is_spare
+returns-then-not-is_spare c =
+    let line = c.args.line.now in
+    let before : List Expr = map (λ d. expr_of d) (map choice_view c.args.chosen.now) in
+    let after : List Expr = map (λ y. name y) (drop (length (map choice_view c.args.chosen.now) + 1) line.operands.now) in
+    let needed : is_spare line.statements.now (tells c.args.later.now) line.place line.statement.now line.operands.now c.args.operand.now ≡ false = sym c.is_spare.ensures ∙ c.if-not-is_spare.true in
+    λ t has. kept_needed line.statements.now (tells c.args.later.now) t line.place line.statement.now c.args.operand.now before after line.operands.now (simple_reads line.statement.now line.operands.now c.requires.operands) needed
 
 pub returns-in-None : goal.returns-in-None
 returns-in-None c =

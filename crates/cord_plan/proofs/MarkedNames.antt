@@ -1,0 +1,121 @@
+-- Words that mark names.
+use Rattle.std.proofs.Common.{◌≡◌, ◌⊎◌, ℕ, ◌+◌, ◌*◌, ◌/◌, ◌%◌, ◌^◌, ◌<◌, Bool, true, false, ◌||◌, List, [], ◌∷◌, ◌++◌, take, length, get_or, Some, None, refl, sym, ap, ◌∙◌, subst, inl, inr, ⊎_elim, arith}
+use Rattle.std.specs.Prelude.{slice_get}
+use Rattle.std.specs.Str.{bytes_eq}
+use Rattle.std.specs.Int.RustNames.{bit_or}
+use Rattle.std.proofs.Math.Bool.{or-false}
+use Rattle.std.proofs.Math.Nat.{div-add-mod, mod-lt}
+use Rattle.std.proofs.lemmas.Bool.{cases_eq}
+use Rattle.std.proofs.lemmas.List.{take_more}
+use Rattle.cord_plan.specs.declared.numbering.Numbering.{Numbering}
+use Rattle.cord_script.specs.declared.statements.Statement.{Statement}
+use Rattle.cord_script.specs.declared.operands.Number as numbers
+use Rattle.cord_script.specs.declared.operands.Argument.{Argument}
+use Rattle.cord_script.specs.declared.operands.Argument.TheVariants.{Number, Cord}
+use Rattle.cord_plan.specs.Operands.{has, cord_arguments, read_by, target_of, reads, assigns}
+use Rattle.cord_plan.specs.Numbering.{names_of, number_of}
+use Rattle.cord_plan.specs.Marks.{bit, IsBit, Marks}
+use Rattle.cord_plan.proofs.Named.{same_bytes, own_bytes}
+use Rattle.cord_plan.proofs.Numbers.{number_there, arguments_more}
+use Rattle.cord_plan.proofs.Words.{bit_or_is, bit_zero_is, bit_one_same, bit_one_other}
+
+module _ (t : Numbering) (g : ℕ) where
+  module _ (y : List ℕ) where
+    -- the word without bits marks a name that is none of the group
+    pub marks_none : ((i : ℕ) → IsBit t g y i → ⊥) → Marks t g (λ x. bytes_eq x y) 0
+    marks_none none x i b = rw (bit_zero_is i) (by_name (bytes_eq x y) refl)
+      where
+        by_name : (v : Bool) → bytes_eq x y ≡ v → false ≡ bytes_eq x y
+        by_name false e = sym e
+        by_name true e = absurd (none i (subst (λ (z : List ℕ). IsBit t g z i) (same_bytes x y e) b))
+
+    -- a name of the group
+    module _ (k : ℕ) (mine : IsBit t g y k) where
+      same_number : (x : List ℕ) → IsBit t g x k → x ≡ y
+      same_number x b =
+          let one : slice_get (names_of t) (64 * g + k) ≡ Some x = number_there t x (64 * g + k) b.number in
+          let other : slice_get (names_of t) (64 * g + k) ≡ Some y = number_there t y (64 * g + k) mine.number in
+          cc
+
+      same_bit : (x : List ℕ) (i : ℕ) → IsBit t g x i → x ≡ y → i ≡ k
+      same_bit x i b same =
+          let number : number_of t x ≡ Some (64 * g + k) = rw same mine.number in
+          let is : 64 * g + i ≡ 64 * g + k = let one = b.number in cc in
+          omega arith
+
+      pub marks_one : Marks t g (λ x. bytes_eq x y) (1 * 2 ^ k % 2 ^ 64)
+      marks_one x i b = by_bit (cases_eq i k)
+        where
+          other_name : (v : Bool) → bytes_eq x y ≡ v → (i ≡ k → ⊥) → false ≡ bytes_eq x y
+          other_name false e differ = sym e
+          other_name true e differ = absurd (differ (same_bit x i b (same_bytes x y e)))
+
+          by_bit : (i ≡ k) ⊎ (i ≡ k → ⊥) → bit (1 * 2 ^ k % 2 ^ 64) i ≡ bytes_eq x y
+          by_bit (inl same) =
+              let mine_too : IsBit t g x k = rw (← same) b in
+              rw (same, same_number x mine_too, own_bytes y) (bit_one_same k mine.within)
+          by_bit (inr differ) = rw (bit_one_other k i mine.within differ) (other_name (bytes_eq x y) refl differ)
+
+  pub marks_or : (f h : List ℕ → Bool) (v w : ℕ) → Marks t g f v → Marks t g h w → Marks t g (λ x. f x || h x) (bit_or v w)
+  marks_or f h v w one two x i b = rw (bit_or_is v w i, one x i b, two x i b) refl
+
+  pub marks_nothing : Marks t g (λ x. false) 0
+  marks_nothing x i b = bit_zero_is i
+
+  pub marks_same : (f h : List ℕ → Bool) (w : ℕ) → ((x : List ℕ) → h x ≡ f x) → Marks t g f w → Marks t g h w
+  marks_same f h w same marks x i b = marks x i b ∙ sym (same x)
+
+pub has_both : (xs ys : List (List ℕ)) (x : List ℕ) → has (xs ++ ys) x ≡ (has xs x || has ys x)
+has_both [] ys x = refl
+has_both (y ∷ xs) ys x = by_name (bytes_eq x y) (has_both xs ys x)
+  where
+    by_name : (b : Bool) → has (xs ++ ys) x ≡ (has xs x || has ys x) → (b || has (xs ++ ys) x) ≡ ((b || has xs x) || has ys x)
+    by_name true ih = refl
+    by_name false ih = ih
+
+pub has_one : (y x : List ℕ) → has (y ∷ []) x ≡ bytes_eq x y
+has_one y x = or-false (bytes_eq x y)
+
+pub has_more : (names : List (List ℕ)) (i : ℕ) (y x : List ℕ) → i < length names → y ≡ get_or names i y → has (take (i + 1) names) x ≡ (has (take i names) x || bytes_eq x y)
+has_more names i y x lt is =
+    let front : take (i + 1) names ≡ take i names ++ y ∷ [] = take_more names i y lt ∙ ap (λ (z : List ℕ). take i names ++ z ∷ []) (sym is) in
+    rw (front, has_both (take i names) (y ∷ []) x, has_one y x) refl
+
+module _ (t : Numbering) (g : ℕ) where
+  -- a name by its number
+  pub marks_number : (y : List ℕ) (n : ℕ) → number_of t y ≡ Some n → n / 64 ≡ g → Marks t g (λ x. bytes_eq x y) (1 * 2 ^ (n % 64) % 2 ^ 64)
+  marks_number y n is group =
+      let whole : 64 * g + n % 64 ≡ n = rw (← group) (div-add-mod n 64) in
+      marks_one t g y (n % 64) (record { within = mod-lt n (omega arith); number = is ∙ ap Some (sym whole) })
+
+  pub marks_apart : (y : List ℕ) (n : ℕ) → number_of t y ≡ Some n → (n / 64 ≡ g → ⊥) → Marks t g (λ x. bytes_eq x y) 0
+  marks_apart y n is other = marks_none t g y (λ i b.
+      let same : n ≡ 64 * g + i = let one = b.number in cc in
+      let small : i < 64 = b.within in
+      other (omega arith))
+
+  pub marks_unknown : (y : List ℕ) → number_of t y ≡ None → Marks t g (λ x. bytes_eq x y) 0
+  marks_unknown y is = marks_none t g y (λ i b. let one = b.number in cc)
+
+  pub marks_more : (names : List (List ℕ)) (i : ℕ) (y : List ℕ) (v w : ℕ) → i < length names → y ≡ get_or names i y → Marks t g (λ x. has (take i names) x) v → Marks t g (λ x. bytes_eq x y) w → Marks t g (λ x. has (take (i + 1) names) x) (bit_or v w)
+  marks_more names i y v w lt is one two = marks_same t g (λ x. has (take i names) x || bytes_eq x y) (λ x. has (take (i + 1) names) x) (bit_or v w) (λ x. has_more names i y x lt is) (marks_or t g (λ x. has (take i names) x) (λ x. bytes_eq x y) v w one two)
+
+  -- an argument more: a number
+  pub marks_number_more : (arguments : List Argument) (i : ℕ) (e : Argument) (n : numbers.Number) (v : ℕ) → i < length arguments → e ≡ get_or arguments i e → e ≡ Number n → Marks t g (λ x. has (cord_arguments (take i arguments)) x) v → Marks t g (λ x. has (cord_arguments (take (i + 1) arguments)) x) v
+  marks_number_more arguments i e n v lt is c one x j b = one x j b ∙ sym (ap (λ (xs : List (List ℕ)). has xs x) (arguments_more arguments i e lt is) ∙ has_both (cord_arguments (take i arguments)) (cord_arguments (e ∷ [])) x ∙ rw c (or-false (has (cord_arguments (take i arguments)) x)))
+
+  -- and a cord
+  pub marks_cord_more : (arguments : List Argument) (i : ℕ) (e : Argument) (y : List ℕ) (v w : ℕ) → i < length arguments → e ≡ get_or arguments i e → e ≡ Cord y → Marks t g (λ x. has (cord_arguments (take i arguments)) x) v → Marks t g (λ x. bytes_eq x y) w → Marks t g (λ x. has (cord_arguments (take (i + 1) arguments)) x) (bit_or v w)
+  marks_cord_more arguments i e y v w lt is c one two x j b =
+      marks_or t g (λ z. has (cord_arguments (take i arguments)) z) (λ z. bytes_eq z y) v w one two x j b
+      ∙ sym (ap (λ (xs : List (List ℕ)). has xs x) (arguments_more arguments i e lt is) ∙ has_both (cord_arguments (take i arguments)) (cord_arguments (e ∷ [])) x ∙ rw (c, has_one y x) refl)
+
+  module _ (l : Statement) where
+    pub marks_reads : (xs : List (List ℕ)) (w : ℕ) → read_by l ≡ xs → Marks t g (λ x. has xs x) w → Marks t g (λ x. reads l x) w
+    marks_reads xs w is marks x i b = rw is (marks x i b)
+
+    pub marks_target : (y : List ℕ) (w : ℕ) → target_of l ≡ Some y → Marks t g (λ x. bytes_eq x y) w → Marks t g (λ x. assigns l x) w
+    marks_target y w is marks x i b = rw is (marks x i b)
+
+    pub marks_no_target : target_of l ≡ None → Marks t g (λ x. assigns l x) 0
+    marks_no_target is x i b = rw is (bit_zero_is i)

@@ -1,0 +1,191 @@
+-- Names and their numbers.
+use Rattle.std.proofs.Common.{◌≡◌, ◌⊎◌, ℕ, zero, suc, ◌+◌, ◌<◌, Bool, true, false, ◌||◌, List, [], ◌∷◌, ◌++◌, drop, take, length, get_or, Option, Some, None, refl, sym, ap, ◌∙◌, subst, inl, inr, ⊎_elim, arith, add-one, if◌then◌else◌}
+use Rattle.std.specs.Prelude.{slice_get, option_map}
+use Rattle.std.specs.Str.{bytes_eq}
+use Rattle.std.proofs.Math.Seq.{drop-cons}
+use Rattle.std.proofs.Math.Bool.{or-false}
+use Rattle.std.proofs.Math.Nat.{eq-or-lt_of_le}
+use Rattle.std.proofs.lemmas.Bool.{or_left, or_right}
+use Rattle.std.proofs.lemmas.List.{take_more}
+use Rattle.std.proofs.lemmas.Option.{slice_get-get_or, slice_get_within}
+use Rattle.cord_script.specs.declared.statements.Statement.{Statement}
+use Rattle.cord_script.specs.declared.operands.Argument.{Argument}
+use Rattle.cord_script.specs.declared.operands.Argument.TheVariants.{Number, Cord}
+use Rattle.cord_plan.specs.declared.numbering.Numbering.{Numbering}
+use Rattle.cord_plan.specs.Operands.{has, is_name, cord_arguments, read_by, reads_at}
+use Rattle.cord_plan.specs.Numbering.{slot_of, place_of, names_of, number_by, number_of, Adds, CoversTo}
+use Rattle.cord_plan.proofs.Named.{same_bytes, own_bytes, has_append}
+
+-- a name's place in the list that begins at its element
+module _ (names : List (List ℕ)) (i : ℕ) (y x : List ℕ) (lt : i < length names) (is : y ≡ get_or names i y) where
+  pub place_here : bytes_eq x y ≡ true → place_of (drop i names) x ≡ Some 0
+  place_here e = rw (drop-cons names i y, ← is, e) refl
+
+  pub place_on : bytes_eq x y ≡ false → place_of (drop i names) x ≡ option_map suc (place_of (drop (i + 1) names) x)
+  place_on e = rw (add-one, drop-cons names i y, ← is, e) refl
+
+-- a place behind i elements
+abbrev pub moved : ℕ → Option ℕ → Option ℕ
+moved i o = option_map (λ n. n + i) o
+
+pub moved_suc : (i : ℕ) (o : Option ℕ) → moved i (option_map suc o) ≡ moved (i + 1) o
+moved_suc i None = refl
+moved_suc i (Some n) = ap Some (omega arith)
+
+-- the name at the place that was found
+pub place_found : (names : List (List ℕ)) (x : List ℕ) (n : ℕ) → place_of names x ≡ Some n → slice_get names n ≡ Some x
+place_found [] x n e = let bad : ⊥ = cc in absurd bad
+place_found (y ∷ ys) x n e = by_name (bytes_eq x y) refl (place_of ys x) e (λ m h. place_found ys x m h)
+  where
+    by_name : (b : Bool) → bytes_eq x y ≡ b → (o : Option ℕ) → (if b then Some 0 else option_map suc o) ≡ Some n → ((m : ℕ) → o ≡ Some m → slice_get ys m ≡ Some x) → slice_get (y ∷ ys) n ≡ Some x
+    by_name true same o f ih =
+        let is : 0 ≡ n = cc in
+        rw (← is) (ap Some (sym (same_bytes x y same)))
+    by_name false other None f ih = let bad : ⊥ = cc in absurd bad
+    by_name false other (Some m) f ih =
+        let is : suc m ≡ n = cc in
+        rw (← is) (ih m refl)
+
+-- a name that stands in the list has a place
+pub place_within : (names : List (List ℕ)) (x : List ℕ) → has names x ≡ true → (n : ℕ) × (place_of names x ≡ Some n)
+place_within [] x h = let bad : ⊥ = cc in absurd bad
+place_within (y ∷ ys) x h = by_name (bytes_eq x y) h (λ k. place_within ys x k)
+  where
+    by_name : (b : Bool) → (b || has ys x) ≡ true → (has ys x ≡ true → (n : ℕ) × (place_of ys x ≡ Some n)) → (n : ℕ) × ((if b then Some 0 else option_map suc (place_of ys x)) ≡ Some n)
+    by_name true k ih = (0, refl)
+    by_name false k ih = let rest : (n : ℕ) × (place_of ys x ≡ Some n) = ih k in (suc rest.0, rw rest.1 refl)
+
+-- a name at a place stands in the list
+pub has_there : (names : List (List ℕ)) (x : List ℕ) (n : ℕ) → slice_get names n ≡ Some x → has names x ≡ true
+has_there [] x n e = let bad : ⊥ = cc in absurd bad
+has_there (y ∷ ys) x zero e =
+    let same : y ≡ x = cc in
+    rw same (or_left (bytes_eq x x) (has ys x) (own_bytes x))
+has_there (y ∷ ys) x (suc n) e = or_right (bytes_eq x y) (has ys x) (has_there ys x n e)
+
+is_name_there : (names : List (List ℕ)) (x : List ℕ) (n : ℕ) → is_name (slice_get names n) x ≡ true → slice_get names n ≡ Some x
+is_name_there names x n e = by_place (slice_get names n) e
+  where
+    by_place : (o : Option (List ℕ)) → is_name o x ≡ true → o ≡ Some x
+    by_place None h = let bad : ⊥ = cc in absurd bad
+    by_place (Some y) h = ap Some (sym (same_bytes x y h))
+
+module _ (t : Numbering) (x : List ℕ) where
+  -- the name of a number
+  pub number_there : (n : ℕ) → number_of t x ≡ Some n → slice_get (names_of t) n ≡ Some x
+  number_there n e = by_guess (slice_get t.guesses.items (slot_of x)) e
+    where
+      by_guess : (o : Option ℕ) → number_by (names_of t) x o ≡ Some n → slice_get (names_of t) n ≡ Some x
+      by_guess None f = place_found (names_of t) x n f
+      by_guess (Some g) f = by_right (is_name (slice_get (names_of t) g) x) refl f
+        where
+          by_right : (b : Bool) → is_name (slice_get (names_of t) g) x ≡ b → (if b then Some g else place_of (names_of t) x) ≡ Some n → slice_get (names_of t) n ≡ Some x
+          by_right true right h =
+              let is : g ≡ n = cc in
+              rw (← is) (is_name_there (names_of t) x g right)
+          by_right false wrong h = place_found (names_of t) x n h
+
+  -- a name with its number
+  pub record Numbered : Type 0 where
+    pub number : ℕ
+    pub is : number_of t x ≡ Some number
+    pub within : number < length (names_of t)
+
+  pub numbered : has (names_of t) x ≡ true → Numbered
+  numbered known = with_number (some_number (slice_get t.guesses.items (slot_of x)))
+    where
+      by_right : (g : ℕ) (b : Bool) → (n : ℕ) × ((if b then Some g else place_of (names_of t) x) ≡ Some n)
+      by_right g true = (g, refl)
+      by_right g false = place_within (names_of t) x known
+
+      some_number : (o : Option ℕ) → (n : ℕ) × (number_by (names_of t) x o ≡ Some n)
+      some_number None = place_within (names_of t) x known
+      some_number (Some g) = by_right g (is_name (slice_get (names_of t) g) x)
+
+      with_number : (n : ℕ) × (number_of t x ≡ Some n) → Numbered
+      with_number found = record { number = found.0; is = found.1; within = slice_get_within (names_of t) found.0 x (number_there found.0 found.1) }
+
+  pub unnumbered : has (names_of t) x ≡ false → number_of t x ≡ None
+  unnumbered unknown = by_number (number_of t x) refl
+    where
+      by_number : (o : Option ℕ) → number_of t x ≡ o → o ≡ None
+      by_number None e = refl
+      by_number (Some n) e =
+          let known : has (names_of t) x ≡ true = has_there (names_of t) x n (number_there n e) in
+          let bad : ⊥ = cc in
+          absurd bad
+
+-- a list of names with one more
+has_before : (x y : List ℕ) (names : List (List ℕ)) → has names x ≡ true → has (names ++ y ∷ []) x ≡ true
+has_before x y [] h = let bad : ⊥ = cc in absurd bad
+has_before x y (z ∷ names) h = by_name (bytes_eq x z) h (λ k. has_before x y names k)
+  where
+    by_name : (b : Bool) → (b || has names x) ≡ true → (has names x ≡ true → has (names ++ y ∷ []) x ≡ true) → (b || has (names ++ y ∷ []) x) ≡ true
+    by_name true k ih = refl
+    by_name false k ih = ih k
+
+has_last : (x y : List ℕ) (names : List (List ℕ)) → bytes_eq x y ≡ true → has (names ++ y ∷ []) x ≡ true
+has_last x y [] h = or_left (bytes_eq x y) false h
+has_last x y (z ∷ names) h = or_right (bytes_eq x z) (has (names ++ y ∷ []) x) (has_last x y names h)
+
+same_name : (y x : List ℕ) → has (y ∷ []) x ≡ true → bytes_eq x y ≡ true
+same_name y x h = sym (or-false (bytes_eq x y)) ∙ h
+
+pub name_added : (y : List ℕ) (names : List (List ℕ)) → Adds (y ∷ []) names (names ++ y ∷ [])
+name_added y names = record {
+  kept = λ x k. has_before x y names k;
+  added = λ x h. has_last x y names (same_name y x h);
+}
+
+pub name_known : (y : List ℕ) (t : Numbering) (n : ℕ) → number_of t y ≡ Some n → Adds (y ∷ []) (names_of t) (names_of t)
+name_known y t n e = record {
+  kept = λ x k. k;
+  added = λ x h. subst (λ (z : List ℕ). has (names_of t) z ≡ true) (sym (same_bytes x y (same_name y x h))) (has_there (names_of t) y n (number_there t y n e));
+}
+
+pub none_added : (names : List (List ℕ)) → Adds [] names names
+none_added names = record { kept = λ x k. k; added = λ x h. let bad : ⊥ = cc in absurd bad }
+
+pub both_added : (xs ys a b c : List (List ℕ)) → Adds xs a b → Adds ys b c → Adds (xs ++ ys) a c
+both_added xs ys a b c one two = record {
+  kept = λ x k. two.kept x (one.kept x k);
+  added = λ x h. ⊎_elim (λ left. two.kept x (one.added x left)) (λ right. two.added x right) (has_append xs ys x h);
+}
+
+-- what was added before stays
+pub first_added : (xs ys a b c : List (List ℕ)) → Adds xs a b → Adds ys b c → Adds xs a c
+first_added xs ys a b c one two = record {
+  kept = λ x k. two.kept x (one.kept x k);
+  added = λ x h. two.kept x (one.added x h);
+}
+
+pub more_added : (names : List (List ℕ)) (i : ℕ) (y : List ℕ) (a b c : List (List ℕ)) → i < length names → y ≡ get_or names i y → Adds (take i names) a b → Adds (y ∷ []) b c → Adds (take (i + 1) names) a c
+more_added names i y a b c lt is one two =
+    let front : take (i + 1) names ≡ take i names ++ y ∷ [] = take_more names i y lt ∙ ap (λ (z : List ℕ). take i names ++ z ∷ []) (sym is) in
+    rw front (both_added (take i names) (y ∷ []) a b c one two)
+
+cords_append : (xs ys : List Argument) → cord_arguments (xs ++ ys) ≡ cord_arguments xs ++ cord_arguments ys
+cords_append [] ys = refl
+cords_append (Number n ∷ xs) ys = cords_append xs ys
+cords_append (Cord y ∷ xs) ys = ap (λ (zs : List (List ℕ)). y ∷ zs) (cords_append xs ys)
+
+pub arguments_more : (arguments : List Argument) (i : ℕ) (e : Argument) → i < length arguments → e ≡ get_or arguments i e → cord_arguments (take (i + 1) arguments) ≡ cord_arguments (take i arguments) ++ cord_arguments (e ∷ [])
+arguments_more arguments i e lt is =
+    let front : take (i + 1) arguments ≡ take i arguments ++ e ∷ [] = take_more arguments i e lt ∙ ap (λ (z : Argument). take i arguments ++ z ∷ []) (sym is) in
+    rw front (cords_append (take i arguments) (e ∷ []))
+
+pub more_arguments : (arguments : List Argument) (i : ℕ) (e : Argument) (a b c : List (List ℕ)) → i < length arguments → e ≡ get_or arguments i e → Adds (cord_arguments (take i arguments)) a b → Adds (cord_arguments (e ∷ [])) b c → Adds (cord_arguments (take (i + 1) arguments)) a c
+more_arguments arguments i e a b c lt is one two =
+    rw (arguments_more arguments i e lt is) (both_added (cord_arguments (take i arguments)) (cord_arguments (e ∷ [])) a b c one two)
+
+pub more_covered : (s : List Statement) (i : ℕ) (l : Statement) (old new : Numbering) → i < length s → l ≡ get_or s i l → CoversTo s i old → Adds (read_by l) (names_of old) (names_of new) → CoversTo s (i + 1) new
+more_covered s i l old new lt is covers adds k within x r = ⊎_elim (λ here. adds.added x (reads_here here)) (λ before. adds.kept x (covers k before x r)) (last_or_before k within)
+  where
+    there : slice_get s i ≡ Some l
+    there = slice_get-get_or s i l lt ∙ ap Some (sym is)
+
+    reads_here : k ≡ i → has (read_by l) x ≡ true
+    reads_here same = rw (same, there) at r
+
+    last_or_before : (n : ℕ) → n < i + 1 → (n ≡ i) ⊎ (n < i)
+    last_or_before n h = eq-or-lt_of_le (omega arith)

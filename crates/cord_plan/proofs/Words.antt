@@ -1,0 +1,93 @@
+-- Words as sets of bits.
+use Rattle.std.proofs.Common.{◌≡◌, ◌≢◌, ◌⊎◌, ℕ, zero, suc, ◌+◌, ◌-◌, ◌*◌, ◌%◌, ◌^◌, ◌<◌, ◌≤◌, ◌==◌, Bool, true, false, ◌&&◌, ◌||◌, List, [], ◌∷◌, ◌++◌, map, take, length, set, get_or, Option, Some, refl, sym, ap, ◌∙◌, subst, inl, inr, ⊎_elim, arith}
+use Rattle.std.specs.Prelude.{not, min, max, sum_by}
+use Rattle.std.specs.Int.{bit_at, bit_not, w64}
+use Rattle.std.specs.Int.RustNames.{bit_and, bit_or}
+use Rattle.std.proofs.lemmas.Nat.Bits.{bit_at_or, bit_at_and, bit_at_not, bit_at-lt, bit_at-zero, bit_at_set_same, bit_at_set_other, bit_at_above}
+use Rattle.std.specs.Int.Bits.{or_zero_l}
+use Rattle.std.proofs.lemmas.List.Sums.{sum_by-set}
+use Rattle.std.specs.Option.{option_to_list}
+use Rattle.std.proofs.Math.Bool.{or-false}
+use Rattle.std.proofs.lemmas.List.{map-append, take_more, length-append}
+use Rattle.cord_script.specs.declared.statements.Statement.{Statement}
+use Rattle.cord_plan.specs.Unread.{some_of}
+use Rattle.cord_plan.specs.Marks.{bit, column, room}
+use Rattle.cord_plan.specs.Liveness.{at, flow}
+
+-- a digit of two
+of_max : (a b : ℕ) → a < 2 → b < 2 → (max a b == 1) ≡ ((a == 1) || (b == 1))
+of_max zero zero p q = refl
+of_max zero (suc zero) p q = refl
+of_max (suc zero) zero p q = refl
+of_max (suc zero) (suc zero) p q = refl
+of_max (suc (suc a)) b p q = absurd (omega arith)
+of_max a (suc (suc b)) p q = absurd (omega arith)
+
+of_min : (a b : ℕ) → a < 2 → b < 2 → (min a b == 1) ≡ ((a == 1) && (b == 1))
+of_min zero zero p q = refl
+of_min zero (suc zero) p q = refl
+of_min (suc zero) zero p q = refl
+of_min (suc zero) (suc zero) p q = refl
+of_min (suc (suc a)) b p q = absurd (omega arith)
+of_min a (suc (suc b)) p q = absurd (omega arith)
+
+of_not : (a : ℕ) → a < 2 → (1 - a == 1) ≡ not (a == 1)
+of_not zero p = refl
+of_not (suc zero) p = refl
+of_not (suc (suc a)) p = absurd (omega arith)
+
+pub bit_or_is : (a b i : ℕ) → bit (bit_or a b) i ≡ (bit a i || bit b i)
+bit_or_is a b i = rw (bit_at_or a b i) (of_max (bit_at a i) (bit_at b i) (bit_at-lt a i) (bit_at-lt b i))
+
+pub bit_and_is : (a b i : ℕ) → bit (bit_and a b) i ≡ (bit a i && bit b i)
+bit_and_is a b i = rw (bit_at_and a b i) (of_min (bit_at a i) (bit_at b i) (bit_at-lt a i) (bit_at-lt b i))
+
+pub bit_not_is : (a i : ℕ) → a < 2 ^ 64 → i < 64 → bit (bit_not w64 a) i ≡ not (bit a i)
+bit_not_is a i lt within = rw (bit_at_not w64 a i lt within) (of_not (bit_at a i) (bit_at-lt a i))
+
+pub bit_zero_is : (i : ℕ) → bit 0 i ≡ false
+bit_zero_is i = rw (bit_at-zero i) refl
+
+pub bit_one_same : (k : ℕ) → k < 64 → bit (1 * 2 ^ k % 2 ^ 64) k ≡ true
+bit_one_same k within =
+    let there : bit_at (1 * 2 ^ k % 2 ^ 64) k ≡ 1 = rw (or_zero_l (1 * 2 ^ k % 2 ^ 64)) at (bit_at_set_same w64 0 k within) in
+    rw there refl
+
+pub bit_one_other : (k i : ℕ) → k < 64 → i ≢ k → bit (1 * 2 ^ k % 2 ^ 64) i ≡ false
+bit_one_other k i within other =
+    let there : bit_at (1 * 2 ^ k % 2 ^ 64) i ≡ 0 = rw (or_zero_l (1 * 2 ^ k % 2 ^ 64), bit_at-zero i) at (bit_at_set_other w64 0 k within i other) in
+    rw there refl
+
+-- what the flow makes of a word
+pub flow_bits : (word behind assigned i : ℕ) → assigned < 2 ^ 64 → i < 64 → bit (bit_or word (bit_and behind (bit_not w64 assigned))) i ≡ flow (bit word i) (bit behind i) (bit assigned i)
+flow_bits word behind assigned i lt within = rw (bit_or_is word (bit_and behind (bit_not w64 assigned)) i, bit_and_is behind (bit_not w64 assigned) i, bit_not_is assigned i lt within) refl
+
+-- the column of a bit
+pub column_at : (words : List ℕ) (i p : ℕ) → at (column words i) p ≡ bit (get_or words p 0) i
+column_at [] i p = sym (bit_zero_is i)
+column_at (w ∷ words) i zero = refl
+column_at (w ∷ words) i (suc p) = column_at words i p
+
+-- the bits of two places behind
+pub behind_bits : (words : List ℕ) (i first second : ℕ) (o : Option ℕ) (v w : ℕ) → o ≡ Some second → bit v i ≡ at (column words i) first → bit w i ≡ at (column words i) second → bit (bit_or v w) i ≡ some_of (λ q. at (column words i) q) (first ∷ option_to_list o)
+behind_bits words i first second o v w is one two = rw (is, bit_or_is v w i, one, two) (ap (λ (b : Bool). at (column words i) first || b) (sym (or-false (at (column words i) second))))
+
+pub flow_same : (a b c d e f : Bool) → a ≡ d → b ≡ e → c ≡ f → flow a b c ≡ flow d e f
+flow_same a b c d e f one two three = rw (one, two, three) refl
+
+-- a greater word takes room
+pub room_less : (words : List ℕ) (p new : ℕ) → p < length words → get_or words p 0 < new → new < 2 ^ 64 → room (set words p new) < room words
+room_less words p new lt less within = less_room (room (set words p new)) (room words) (get_or words p 0) (sum_by-set (λ w. 2 ^ 64 - w) words p new 0 lt) less
+  where
+    less_room : (a b old : ℕ) → a + (2 ^ 64 - old) ≡ b + (2 ^ 64 - new) → old < new → a < b
+    less_room a b old e more = omega arith
+
+-- columns of lists with one more
+pub told_more : (f : Statement → Bool) (s : List Statement) (k : ℕ) (l : Statement) (words : List ℕ) (w i : ℕ) → k < length s → l ≡ get_or s k l → column words i ≡ map f (take k s) → bit w i ≡ f l → column (words ++ w ∷ []) i ≡ map f (take (k + 1) s)
+told_more f s k l words w i lt is before here =
+    let front : take (k + 1) s ≡ take k s ++ l ∷ [] = take_more s k l lt ∙ ap (λ (z : Statement). take k s ++ z ∷ []) (sym is) in
+    map-append (λ v. bit v i) words (w ∷ [])
+    ∙ rw (before, here) (sym (ap (λ (ls : List Statement). map f ls) front ∙ map-append f (take k s) (l ∷ [])))
+
+pub size_more : (words : List ℕ) (w k : ℕ) → length words ≡ k → length (words ++ w ∷ []) ≡ k + 1
+size_more words w k is = length-append words (w ∷ []) ∙ ap (λ (n : ℕ). n + 1) is

@@ -1,0 +1,9 @@
+use Rattle.std.proofs.Common.{◌≡◌, ◌<◌, drop}
+use Rattle.cord_plan.specs.Numbering.{slot_from, slot_of}
+use Rattle.cord_plan.proofs.numbering.slot_of.Given as goal
+
+abbrev pub invariant-loop-byte : goal.invariant-loop-byte
+invariant-loop-byte l = record {
+  slot : slot_from l.slot (drop l.byte-index l.name) ≡ slot_of l.name;
+  within : l.slot < 4096;
+}

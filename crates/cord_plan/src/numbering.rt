@@ -1,0 +1,166 @@
+// Names with numbers.
+ghost use Rattle.std.specs.Prelude.{◌≡◌, ◌<◌, [], ◌∷◌, IfOk, OnOk, length, slice_get};
+ghost use Rattle.cord_plan.specs.Operands.{cord_arguments, is_name, read_by};
+ghost use Rattle.cord_plan.specs.Readings.{read_names};
+ghost use Rattle.cord_plan.specs.Numbering.{slot_of, place_of, number_of, names_of, Adds, Covers};
+
+use crate::readings::{Reading, reading_of, target_of};
+use cord_script::{Argument, Name, Statement};
+use std::alloc::{AllocError, Global};
+
+/// The number of slots that guess a name's number.
+const SLOTS: usize = 4_096;
+
+/// Names, each with a number: its place in the list.
+#[derive(Drop)]
+pub(crate) struct Numbering {
+    names: Vec<Name>,
+    // For each slot the number of a name of that slot: of two names of one slot the second is looked for.
+    guesses: Vec<usize>,
+}
+
+// The slot of a name.
+fn slot_of(name: &[u8]) -> usize
+    ensures slot { result ≡ slot_of name.now }
+    ensures within { result < 4096 }
+{
+    let mut slot: usize = 0;
+    for byte in name {
+        slot = (slot * 31 + *byte as usize) % SLOTS;
+    }
+    slot
+}
+
+// The first place of a name among others.
+fn place_of(names: &[Name], name: &[u8]) -> Option<usize>
+    ensures { result ≡ place_of names.now name.now }
+{
+    for (i, known) in names.iter().enumerate() {
+        if name == known.as_slice() {
+            return Some(i);
+        }
+    }
+    None
+}
+
+// Whether this is the name at a place.
+fn is_at(names: &[Name], place: usize, name: &[u8]) -> bool
+    ensures { result ≡ is_name (slice_get names.now place) name.now }
+{
+    match names.get(place) {
+        Some(known) => name == known.as_slice(),
+        None => false,
+    }
+}
+
+// The number that is guessed for the names of a slot.
+fn set_guess(guesses: &mut [usize], slot: usize, number: usize)
+    ensures { length guesses.new ≡ length guesses.old }
+{
+    if slot < guesses.len() {
+        guesses[slot] = number;
+    }
+}
+
+impl Numbering {
+    /// The names that the lines of a script read or assign.
+    pub(crate) fn of(alloc: Global, statements: &[Statement]) -> Result<Self, AllocError>
+        ensures { IfOk result (λ t. Covers statements.now t) }
+    {
+        let mut numbering = Numbering {
+            names: Vec::new(alloc),
+            guesses: vec![in alloc; 0; SLOTS]?,
+        };
+        for statement in statements {
+            numbering.add_names(alloc, statement)?;
+        }
+        Ok(numbering)
+    }
+
+    /// How many names there are.
+    pub(crate) fn count(&self) -> usize
+        ensures { result ≡ length (names_of self.now) }
+    {
+        self.names.len()
+    }
+
+    /// The number of a name.
+    pub(crate) fn number_of(&self, name: &[u8]) -> Option<usize>
+        ensures { result ≡ number_of self.now name.now }
+    {
+        match self.guesses.get(slot_of(name)) {
+            Some(guess) if is_at(&self.names, *guess, name) => Some(*guess),
+            _ => place_of(&self.names, name),
+        }
+    }
+
+    // Takes in a name that isn't there.
+    fn add_new(&mut self, alloc: Global, name: &Name) -> Result<(), AllocError>
+        ensures { OnOk result (Adds (name.now ∷ []) (names_of self.old) (names_of self.new)) }
+    {
+        let copy = Name::of(name.as_slice().to_vec(alloc)?);
+        set_guess(
+            &mut self.guesses,
+            slot_of(name.as_slice()),
+            self.names.len(),
+        );
+        self.names.push(copy)?;
+        Ok(())
+    }
+
+    fn add(&mut self, alloc: Global, name: &Name) -> Result<(), AllocError>
+        ensures { OnOk result (Adds (name.now ∷ []) (names_of self.old) (names_of self.new)) }
+    {
+        match self.number_of(name.as_slice()) {
+            Some(_) => Ok(()),
+            None => self.add_new(alloc, name),
+        }
+    }
+
+    fn add_all(&mut self, alloc: Global, names: &[Name]) -> Result<(), AllocError>
+        ensures { OnOk result (Adds names.now (names_of self.old) (names_of self.new)) }
+    {
+        for name in names {
+            self.add(alloc, name)?;
+        }
+        Ok(())
+    }
+
+    fn add_arguments(&mut self, alloc: Global, arguments: &[Argument]) -> Result<(), AllocError>
+        ensures { OnOk result (Adds (cord_arguments arguments.now) (names_of self.old) (names_of self.new)) }
+    {
+        for argument in arguments {
+            match argument {
+                Argument::Number(_) => {}
+                Argument::Cord(name) => self.add(alloc, name)?,
+            }
+        }
+        Ok(())
+    }
+
+    fn add_reading(&mut self, alloc: Global, reading: Reading) -> Result<(), AllocError>
+        ensures { OnOk result (Adds (read_names reading.entry) (names_of self.old) (names_of self.new)) }
+    {
+        match reading {
+            Reading::Nothing => Ok(()),
+            Reading::One(operand) => self.add(alloc, operand),
+            Reading::Two(left, right) => {
+                self.add(alloc, left)?;
+                self.add(alloc, right)
+            }
+            Reading::Many(parts) => self.add_all(alloc, parts),
+            Reading::Printed(arguments) => self.add_arguments(alloc, arguments),
+        }
+    }
+
+    // Takes in the names that a line reads, and the one that it assigns.
+    fn add_names(&mut self, alloc: Global, statement: &Statement) -> Result<(), AllocError>
+        ensures { OnOk result (Adds (read_by statement.now) (names_of self.old) (names_of self.new)) }
+    {
+        self.add_reading(alloc, reading_of(statement))?;
+        match target_of(statement) {
+            None => Ok(()),
+            Some(target) => self.add(alloc, target),
+        }
+    }
+}

@@ -1,0 +1,140 @@
+// The names whose bytes a line reads, and the name that it assigns.
+ghost use Rattle.std.specs.Prelude.{◌≡◌, [], ◌∷◌, option_map};
+ghost use Rattle.cord_plan.specs.Operands.{has, cord_arguments, read_by, target_of, reads, assigns};
+ghost use Rattle.cord_plan.specs.Readings.{read_names};
+
+use cord_script::{Argument, Name, Statement};
+
+/// The cords whose bytes a line reads, from left to right.
+#[derive(Clone, Copy)]
+pub(crate) enum Reading<'a> {
+    Nothing,
+    One(&'a Name),
+    Two(&'a Name, &'a Name),
+    Many(&'a [Name]),
+    /// Those among the arguments of a format.
+    Printed(&'a [Argument]),
+}
+
+/// The cords whose bytes a line reads.
+pub(crate) fn reading_of(statement: &Statement) -> Reading
+    ensures { read_names result ≡ read_by statement.now }
+{
+    match statement {
+        Statement::Cat { left, right, .. } => Reading::Two(left, right),
+        Statement::Catn { parts, .. } => Reading::Many(parts.as_slice()),
+        Statement::Catc { operand, .. } => Reading::One(operand),
+        Statement::Substr { operand, .. } => Reading::One(operand),
+        Statement::Balance { operand, .. } => Reading::One(operand),
+        Statement::Sprintf { arguments, .. } => Reading::Printed(arguments.as_slice()),
+        Statement::Fetch { operand, .. } => Reading::One(operand),
+        Statement::Cmp { left, right, .. } => Reading::Two(left, right),
+        Statement::Ncmp { left, right, .. } => Reading::Two(left, right),
+        Statement::Str {
+            operand,
+            pattern,
+            ..
+        } => Reading::Two(operand, pattern),
+        Statement::Chr { operand, .. } => Reading::One(operand),
+        Statement::Rchr { operand, .. } => Reading::One(operand),
+        Statement::EcCat { operand, .. } => Reading::One(operand),
+        Statement::Put { operand, .. } => Reading::One(operand),
+        _ => Reading::Nothing,
+    }
+}
+
+fn is(operand: &Name, name: &[u8]) -> bool
+    ensures { result ≡ has (operand.now ∷ []) name.now }
+{
+    name == operand.as_slice()
+}
+
+fn is_either(left: &Name, right: &Name, name: &[u8]) -> bool
+    ensures { result ≡ has (left.now ∷ right.now ∷ []) name.now }
+{
+    is(left, name) || is(right, name)
+}
+
+fn is_among(names: &[Name], name: &[u8]) -> bool
+    ensures { result ≡ has names.now name.now }
+{
+    for operand in names {
+        if name == operand.as_slice() {
+            return true;
+        }
+    }
+    false
+}
+
+fn is_argument(arguments: &[Argument], name: &[u8]) -> bool
+    ensures { result ≡ has (cord_arguments arguments.now) name.now }
+{
+    for argument in arguments {
+        match argument {
+            Argument::Number(_) => {}
+            Argument::Cord(operand) => {
+                if name == operand.as_slice() {
+                    return true;
+                }
+            }
+        }
+    }
+    false
+}
+
+/// Whether a line reads the bytes of a name.
+pub(crate) fn reads(statement: &Statement, name: &[u8]) -> bool
+    ensures { result ≡ reads statement.now name.now }
+{
+    match reading_of(statement) {
+        Reading::Nothing => false,
+        Reading::One(operand) => is(operand, name),
+        Reading::Two(left, right) => is_either(left, right, name),
+        Reading::Many(parts) => is_among(parts, name),
+        Reading::Printed(arguments) => is_argument(arguments, name),
+    }
+}
+
+/// The name that a line assigns.
+pub(crate) fn target_of(statement: &Statement) -> Option<&Name>
+    ensures { option_map (λ n. n.now) result ≡ target_of statement.now }
+{
+    match statement {
+        Statement::Let { target, .. }
+        | Statement::File { target, .. }
+        | Statement::Eager { target, .. }
+        | Statement::Lazy { target, .. }
+        | Statement::Chars { target, .. }
+        | Statement::Nul { target, .. }
+        | Statement::FromFn { target, .. }
+        | Statement::Cat { target, .. }
+        | Statement::Catn { target, .. }
+        | Statement::Catc { target, .. }
+        | Statement::Substr { target, .. }
+        | Statement::Balance { target, .. }
+        | Statement::EcToCord { target, .. }
+        | Statement::Sprintf { target, .. }
+        | Statement::Len { target, .. }
+        | Statement::Fetch { target, .. }
+        | Statement::Cmp { target, .. }
+        | Statement::Ncmp { target, .. }
+        | Statement::Str { target, .. }
+        | Statement::Chr { target, .. }
+        | Statement::Rchr { target, .. }
+        | Statement::Assign { target, .. }
+        | Statement::Add { target, .. }
+        | Statement::Sub { target, .. }
+        | Statement::EcInit { target, .. } => Some(target),
+        _ => None,
+    }
+}
+
+/// Whether a line assigns a name.
+pub(crate) fn assigns(statement: &Statement, name: &[u8]) -> bool
+    ensures { result ≡ assigns statement.now name.now }
+{
+    match target_of(statement) {
+        None => false,
+        Some(target) => name == target.as_slice(),
+    }
+}
