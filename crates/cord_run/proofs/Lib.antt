@@ -1,4 +1,3 @@
-pub mod Puts
 pub mod Entries
 pub mod Members
 pub mod Told
@@ -8,17 +7,21 @@ pub mod Growing
 pub mod Assigned
 pub mod Wholes
 pub mod Handed
+pub mod Failing
 pub mod Served
 pub mod Steered
 pub mod Looped
 pub mod LinesCounted
 pub mod SameMembers
+pub mod Alike
+pub mod Ended
 pub mod Meant
 pub mod Gathered
 pub mod Shares
 pub mod Printed
 pub mod Refused
 pub mod Made
+pub mod Opened
 pub mod Giving
 pub mod Finding
 pub mod Kept

@@ -1,11 +1,11 @@
 -- Runs whose members tell the same have the same honest ends.
 use Rattle.std.proofs.Common.{◌≡◌, ◌<◌, inl, inr, ⊎_elim, ℕ, List, [], ◌∷◌, ◌++◌, map, refl, sym, ap, ◌∙◌}
-use Rattle.std.specs.Prelude.{All, Option, flat_map}
+use Rattle.std.specs.Prelude.{All, flat_map}
 use Rattle.std.proofs.lemmas.List.{map-append}
 use Rattle.std.proofs.lemmas.List.Elements.{All-cons, All-head, All-map, All-nil, All-same, All-tail}
 use Rattle.cord_meaning.specs.declared.ends.End.{End}
 use Rattle.cord_meaning.specs.declared.ends.End.TheVariants.{Done, Fault, NoMemory, ReadFailed, WriteFailed}
-use Rattle.cord_meaning.specs.Ends.{Counts, EndsHonestly, HonestEnd, IsComplete, StopsAt}
+use Rattle.cord_meaning.specs.Ends.{HonestEnd, HonestOutput, IsComplete, StopsAt}
 use Rattle.cord_meaning.specs.Machine.{Moment, output}
 use Rattle.cord_meaning.specs.Simulation.{told}
 
@@ -76,16 +76,16 @@ module _ {S T : Type 0} (ms : List (Moment S)) (ns : List (Moment T)) (same : ma
         taken = s.taken ∙ ap (λ (xs : List ℕ). xs ++ s.front) before;
       }
 
-  complete_same : (meant other : End) → meant ≡ other → (out : List ℕ) (n : Counts) (e : End) → IsComplete ms meant out n e → IsComplete ns other out n e
-  complete_same meant other ends out n e h = record { out_is = h.out_is ∙ outputs; end_is = h.end_is ∙ ends; files_kept = h.files_kept; sink_kept = h.sink_kept }
+  complete_same : (meant other : End) → meant ≡ other → (out : List ℕ) (e : End) → IsComplete ms meant out e → IsComplete ns other out e
+  complete_same meant other ends out e h = (h.0 ∙ outputs, h.1 ∙ ends)
 
-  honest_same : (meant other : End) → meant ≡ other → (out : List ℕ) (n : Counts) (e : End) → HonestEnd ms meant out n e → HonestEnd ns other out n e
-  honest_same meant other ends out n Done h = complete_same meant other ends out n Done h
-  honest_same meant other ends out n (Fault line kind) h = complete_same meant other ends out n (Fault line kind) h
-  honest_same meant other ends out n (NoMemory line) h = ⊎_elim (λ none. inl none) (λ some. inr (some.0, stop_same line out some.1)) h
-  honest_same meant other ends out n (ReadFailed line) h = (h.0, stop_same line out h.1, h.2)
-  honest_same meant other ends out n (WriteFailed line) h = (⊎_elim (λ all. inl (all.0, all.1 ∙ outputs)) (λ some. inr (some.0, stop_same line out some.1)) h.0, h.1)
+  honest_same : (meant other : End) → meant ≡ other → (out : List ℕ) (e : End) → HonestEnd ms meant out e → HonestEnd ns other out e
+  honest_same meant other ends out Done h = complete_same meant other ends out Done h
+  honest_same meant other ends out (Fault line kind) h = complete_same meant other ends out (Fault line kind) h
+  honest_same meant other ends out (NoMemory line) h = ⊎_elim (λ none. inl none) (λ some. inr (some.0, stop_same line out some.1)) h
+  honest_same meant other ends out (ReadFailed line) h = (h.0, stop_same line out h.1)
+  honest_same meant other ends out (WriteFailed line) h = ⊎_elim (λ all. inl (all.0, all.1 ∙ outputs)) (λ some. inr (some.0, stop_same line out some.1)) h
 
   -- the same honest ends
-  pub ends_same : (meant other : End) → meant ≡ other → (before after : Option (List ℕ)) (n : Counts) (e : End) → EndsHonestly ms meant before after n e → EndsHonestly ns other before after n e
-  ends_same meant other ends before after n e h = record { out = h.out; taken = h.taken; honest = honest_same meant other ends h.out n e h.honest }
+  pub ends_same : (meant other : End) → meant ≡ other → (before after : List ℕ) (e : End) → HonestOutput ms meant before after e → HonestOutput ns other before after e
+  ends_same meant other ends before after e h = record { out = h.out; taken = h.taken; honest = honest_same meant other ends h.out e h.honest }

@@ -7,6 +7,7 @@ pub mod Whole
 pub mod Putting
 pub mod Controls
 pub mod Served
+pub mod Failing
 pub mod Steps
 pub mod Contents
 pub mod Finding

@@ -1,7 +1,6 @@
 -- What a sink took of the cords of an expression, and what the devices counted.
-use Rattle.std.specs.Prelude.{◌≡◌, ℕ, List, ⊤, Option, Some, None, Result, Ok, Err}
+use Rattle.std.specs.Prelude.{◌≡◌, ◌++◌, ℕ, List, Result, Ok, Err}
 use Rattle.cord_io.specs.Device.{raised}
-use Rattle.cord_io.specs.Table.{Table}
 use Rattle.cord_io.specs.declared.faults.CordError.{CordError}
 use Rattle.cord_io.specs.declared.faults.CordError.TheVariants as errors
 use Rattle.cord_iter.specs.Taking.{Counts, IsFrontOf, Takes}
@@ -9,15 +8,14 @@ use Rattle.cord_meaning.specs.declared.ends.FaultKind.{FaultKind}
 use Rattle.cord_run.specs.declared.making.Halt.{Halt}
 use Rattle.cord_run.specs.declared.making.Halt.TheVariants as halts
 
--- over an honest source a sink took this text, after a fault a front part of it
-abbrev pub Puts : Option Table → (Table → List ℕ) → Option (List ℕ) → Option (List ℕ) → Result (Unit {0}) CordError → Type 0
-Puts None text old new r = ⊤
-Puts (Some t) text old new (Ok x) = Takes (λ out. out ≡ text t) old new
-Puts (Some t) text old new (Err e) = Takes (IsFrontOf (text t)) old new
+-- a sink took this text, after a fault a front part of it
+abbrev pub Puts : List ℕ → List ℕ → List ℕ → Result (Unit {0}) CordError → Type 0
+Puts text old new (Ok x) = new ≡ old ++ text
+Puts text old new (Err e) = Takes (IsFrontOf text) old new
 
 -- a sink took the text that is meant; after a fault of the text, or where memory was refused, nothing; after a failure of a device a front part of the text
-abbrev pub Wrote : Result (List ℕ) FaultKind → Option (List ℕ) → Option (List ℕ) → Result (Unit {0}) Halt → Type 0
-Wrote meant old new (Ok x) = (text : List ℕ) × (meant ≡ Ok text) × Takes (λ out. out ≡ text) old new
+abbrev pub Wrote : Result (List ℕ) FaultKind → List ℕ → List ℕ → Result (Unit {0}) Halt → Type 0
+Wrote meant old new (Ok x) = (text : List ℕ) × (meant ≡ Ok text) × (new ≡ old ++ text)
 Wrote meant old new (Err (halts.Fault kind)) = (meant ≡ Err kind) × (new ≡ old)
 Wrote meant old new (Err halts.NoMemory) = new ≡ old
 Wrote meant old new (Err halts.ReadFailed) = (text : List ℕ) × (meant ≡ Ok text) × Takes (IsFrontOf text) old new

@@ -1,6 +1,6 @@
 // Cords and lengths of files.
 ghost use Rattle.std.specs.Prelude.{◌≡◌, IfErr, IfOk};
-ghost use Rattle.cord_io.specs.Device.{count_after};
+ghost use Rattle.cord_io.specs.Device.{Folder, count_after};
 ghost use Rattle.cord_file.specs.Opening.{Grows};
 ghost use Rattle.cord_file.specs.Sources.{device_in, opened_in};
 ghost use Rattle.cord_run.specs.Contents.{IsFileAt, IsLengthAt, IsNoFileAt, has_failed};
@@ -18,9 +18,9 @@ pub(crate) fn whole_or_lazy<F: Files>(
     sources: &mut Sources<F>,
     path: &Path,
 ) -> Result<Cord, Halt>
-    ensures made { IfOk result (IsFileAt (F.contents (device_in sources.old)) (opened_in sources.new) path.now) }
-    ensures refused { IfErr result (IsNoFileAt (F.contents (device_in sources.old)) path.now) }
-    ensures contents { F.contents (device_in sources.new) ≡ F.contents (device_in sources.old) }
+    ensures made { IfOk result (IsFileAt (F.keeps (device_in sources.new)) (opened_in sources.new) path.now) }
+    ensures refused { IfErr result (IsNoFileAt (F.keeps (device_in sources.new)) path.now) }
+    ensures earlier { (folder : Folder) → F.keeps (device_in sources.new) folder → F.keeps (device_in sources.old) folder }
     ensures grows { Grows (opened_in sources.old) (opened_in sources.new) }
     ensures counts { F.failures (device_in sources.new) ≡ count_after (has_failed result) (F.failures (device_in sources.old)) }
 {
@@ -34,9 +34,9 @@ pub(crate) fn whole<F: Files>(
     sources: &mut Sources<F>,
     path: &Path,
 ) -> Result<Cord, Halt>
-    ensures made { IfOk result (IsFileAt (F.contents (device_in sources.old)) (opened_in sources.new) path.now) }
-    ensures refused { IfErr result (IsNoFileAt (F.contents (device_in sources.old)) path.now) }
-    ensures contents { F.contents (device_in sources.new) ≡ F.contents (device_in sources.old) }
+    ensures made { IfOk result (IsFileAt (F.keeps (device_in sources.new)) (opened_in sources.new) path.now) }
+    ensures refused { IfErr result (IsNoFileAt (F.keeps (device_in sources.new)) path.now) }
+    ensures earlier { (folder : Folder) → F.keeps (device_in sources.new) folder → F.keeps (device_in sources.old) folder }
     ensures grows { Grows (opened_in sources.old) (opened_in sources.new) }
     ensures counts { F.failures (device_in sources.new) ≡ count_after (has_failed result) (F.failures (device_in sources.old)) }
 {
@@ -50,9 +50,9 @@ pub(crate) fn lazy<F: Files>(
     sources: &mut Sources<F>,
     path: &Path,
 ) -> Result<Cord, Halt>
-    ensures made { IfOk result (IsFileAt (F.contents (device_in sources.old)) (opened_in sources.new) path.now) }
-    ensures refused { IfErr result (IsNoFileAt (F.contents (device_in sources.old)) path.now) }
-    ensures contents { F.contents (device_in sources.new) ≡ F.contents (device_in sources.old) }
+    ensures made { IfOk result (IsFileAt (F.keeps (device_in sources.new)) (opened_in sources.new) path.now) }
+    ensures refused { IfErr result (IsNoFileAt (F.keeps (device_in sources.new)) path.now) }
+    ensures earlier { (folder : Folder) → F.keeps (device_in sources.new) folder → F.keeps (device_in sources.old) folder }
     ensures grows { Grows (opened_in sources.old) (opened_in sources.new) }
     ensures counts { F.failures (device_in sources.new) ≡ count_after (has_failed result) (F.failures (device_in sources.old)) }
 {
@@ -66,9 +66,9 @@ pub(crate) fn opened_length<F: Files>(
     sources: &mut Sources<F>,
     path: &Path,
 ) -> Result<u64, Halt>
-    ensures told { IfOk result (IsLengthAt (F.contents (device_in sources.old)) path.now) }
-    ensures refused { IfErr result (IsNoFileAt (F.contents (device_in sources.old)) path.now) }
-    ensures contents { F.contents (device_in sources.new) ≡ F.contents (device_in sources.old) }
+    ensures told { IfOk result (IsLengthAt (F.keeps (device_in sources.new)) path.now) }
+    ensures refused { IfErr result (IsNoFileAt (F.keeps (device_in sources.new)) path.now) }
+    ensures earlier { (folder : Folder) → F.keeps (device_in sources.new) folder → F.keeps (device_in sources.old) folder }
     ensures grows { Grows (opened_in sources.old) (opened_in sources.new) }
     ensures counts { F.failures (device_in sources.new) ≡ count_after (has_failed result) (F.failures (device_in sources.old)) }
 {

@@ -1,5 +1,5 @@
 // Statements that plans keep as they are.
-ghost use Rattle.std.specs.Prelude.{◌≡◌, ◌≤◌, ℕ, List, IfOk};
+ghost use Rattle.std.specs.Prelude.{◌≡◌, ◌≤◌, ℕ, List, IfErr, IfOk};
 ghost use Rattle.cord_io.specs.Table.{Table};
 ghost use Rattle.cord_node.specs.Tables.{lengths_of};
 ghost use Rattle.cord_file.specs.Entries.{lengths_in, table_in};
@@ -7,11 +7,14 @@ ghost use Rattle.cord_file.specs.Sources.{device_in, opened_in};
 ghost use Rattle.cord_io.specs.declared.TheConstants.{MAX_LEN};
 ghost use Rattle.cord_plan.specs.Kept.{IsKept};
 ghost use Rattle.cord_plan.specs.Meaning.{keeps};
+ghost use Rattle.cord_plan.specs.Planned as plan;
+ghost use Rattle.cord_run.specs.Failing.{FailsIn};
 ghost use Rattle.cord_run.specs.Finding.{IsSearch};
 ghost use Rattle.cord_run.specs.Held.{IsOver, length_in};
 ghost use Rattle.cord_run.specs.Holdings.{holding_of};
 ghost use Rattle.cord_run.specs.Keeping.{IsKeptUnread, KeepsOver, StaysOver};
 ghost use Rattle.cord_run.specs.Served.{CountsReads, Gives};
+ghost use Rattle.cord_io.specs.Device.{Folder};
 
 use crate::extensibles::keep_extensible;
 use crate::making::Halt;
@@ -32,10 +35,11 @@ pub(crate) fn keep<F: Files>(
     requires kept { IsKept statement.now }
     requires over { IsOver (lengths_in (opened_in sources.old)) store.old.entries.items }
     ensures over { IfOk result (λ _. IsOver (lengths_in (opened_in sources.new)) store.new.entries.items) }
-    ensures contents { F.contents (device_in sources.new) ≡ F.contents (device_in sources.old) }
-    ensures gives { Gives (F.contents (device_in sources.old))
-        (λ folder. keeps MAX_LEN folder statement.now (holding_of (table_in (opened_in sources.old) folder) store.old.entries.items))
-        (λ folder. holding_of (table_in (opened_in sources.new) folder) store.new.entries.items) result }
+    ensures earlier { (folder : Folder) → F.keeps (device_in sources.new) folder → F.keeps (device_in sources.old) folder }
+    ensures gives { (folder : Folder) → F.keeps (device_in sources.new) folder → Gives
+        (keeps MAX_LEN folder statement.now (holding_of (table_in (opened_in sources.old) folder) store.old.entries.items))
+        (holding_of (table_in (opened_in sources.new) folder) store.new.entries.items) result }
+    ensures fails { IfErr result (FailsIn (plan.Keep statement.now)) }
     ensures counts { CountsReads (F.failures (device_in sources.old)) (F.failures (device_in sources.new)) result }
 {
     match statement {
@@ -59,10 +63,11 @@ fn keep_searching<F: Files>(
     requires search { IsSearch statement.now }
     requires over { IsOver (lengths_in (opened_in sources.old)) store.old.entries.items }
     ensures over { IfOk result (λ _. IsOver (lengths_in (opened_in sources.new)) store.new.entries.items) }
-    ensures contents { F.contents (device_in sources.new) ≡ F.contents (device_in sources.old) }
-    ensures gives { Gives (F.contents (device_in sources.old))
-        (λ folder. keeps MAX_LEN folder statement.now (holding_of (table_in (opened_in sources.old) folder) store.old.entries.items))
-        (λ folder. holding_of (table_in (opened_in sources.new) folder) store.new.entries.items) result }
+    ensures earlier { (folder : Folder) → F.keeps (device_in sources.new) folder → F.keeps (device_in sources.old) folder }
+    ensures gives { (folder : Folder) → F.keeps (device_in sources.new) folder → Gives
+        (keeps MAX_LEN folder statement.now (holding_of (table_in (opened_in sources.old) folder) store.old.entries.items))
+        (holding_of (table_in (opened_in sources.new) folder) store.new.entries.items) result }
+    ensures fails { IfErr result (FailsIn (plan.Keep statement.now)) }
     ensures counts { CountsReads (F.failures (device_in sources.old)) (F.failures (device_in sources.new)) result }
 {
     keep_search(alloc, store, sources, statement)

@@ -1,7 +1,7 @@
 // Names that get what a plan makes for them: a cord, or a length alone.
 ghost use Rattle.std.specs.Prelude.{◌≡◌, IfErr, IfOk};
 ghost use Rattle.cord_io.specs.declared.TheConstants.{MAX_LEN};
-ghost use Rattle.cord_io.specs.Device.{count_after};
+ghost use Rattle.cord_io.specs.Device.{Folder, count_after};
 ghost use Rattle.cord_file.specs.Entries.{lengths_in, table_in};
 ghost use Rattle.cord_file.specs.Opening.{Grows};
 ghost use Rattle.cord_file.specs.Sources.{device_in, opened_in};
@@ -9,6 +9,7 @@ ghost use Rattle.cord_plan.specs.Meaning.{does};
 ghost use Rattle.cord_plan.specs.Planned as plan;
 ghost use Rattle.cord_plan.specs.Views.{made_view};
 ghost use Rattle.cord_run.specs.Contents.{IsLength, IsLengthOfNames, IsMade, IsMadeOfNames, IsUnmade, IsUnmadeOfNames, IsUnmeasured, IsUnmeasuredOfNames, NeedsNoFile, has_failed, halting};
+ghost use Rattle.cord_run.specs.Failing.{FailsBy, FailsIn, IsFileMade};
 ghost use Rattle.cord_run.specs.Held.{HasContent, IsOver, SameEntries};
 ghost use Rattle.cord_run.specs.Holdings.{holding_of};
 ghost use Rattle.cord_run.specs.Served.{CountsReads, Gives};
@@ -39,10 +40,11 @@ pub(crate) fn build_target<F: Files>(
 ) -> Result<(), Halt>
     requires over { IsOver (lengths_in (opened_in sources.old)) store.old.entries.items }
     ensures over { IfOk result (λ _. IsOver (lengths_in (opened_in sources.new)) store.new.entries.items) }
-    ensures contents { F.contents (device_in sources.new) ≡ F.contents (device_in sources.old) }
-    ensures gives { Gives (F.contents (device_in sources.old))
-        (λ folder. does MAX_LEN folder (plan.Build 0 target.now (made_view made.now)) (holding_of (table_in (opened_in sources.old) folder) store.old.entries.items))
-        (λ folder. holding_of (table_in (opened_in sources.new) folder) store.new.entries.items) result }
+    ensures earlier { (folder : Folder) → F.keeps (device_in sources.new) folder → F.keeps (device_in sources.old) folder }
+    ensures gives { (folder : Folder) → F.keeps (device_in sources.new) folder → Gives
+        (does MAX_LEN folder (plan.Build 0 target.now (made_view made.now)) (holding_of (table_in (opened_in sources.old) folder) store.old.entries.items))
+        (holding_of (table_in (opened_in sources.new) folder) store.new.entries.items) result }
+    ensures fails { IfErr result (FailsIn (plan.Build 0 target.now (made_view made.now))) }
     ensures counts { CountsReads (F.failures (device_in sources.old)) (F.failures (device_in sources.new)) result }
 {
     let cord = make(alloc, store, sources, made)?;
@@ -59,10 +61,11 @@ pub(crate) fn measure_target<F: Files>(
 ) -> Result<(), Halt>
     requires over { IsOver (lengths_in (opened_in sources.old)) store.old.entries.items }
     ensures over { IfOk result (λ _. IsOver (lengths_in (opened_in sources.new)) store.new.entries.items) }
-    ensures contents { F.contents (device_in sources.new) ≡ F.contents (device_in sources.old) }
-    ensures gives { Gives (F.contents (device_in sources.old))
-        (λ folder. does MAX_LEN folder (plan.Measure 0 target.now (made_view made.now)) (holding_of (table_in (opened_in sources.old) folder) store.old.entries.items))
-        (λ folder. holding_of (table_in (opened_in sources.new) folder) store.new.entries.items) result }
+    ensures earlier { (folder : Folder) → F.keeps (device_in sources.new) folder → F.keeps (device_in sources.old) folder }
+    ensures gives { (folder : Folder) → F.keeps (device_in sources.new) folder → Gives
+        (does MAX_LEN folder (plan.Measure 0 target.now (made_view made.now)) (holding_of (table_in (opened_in sources.old) folder) store.old.entries.items))
+        (holding_of (table_in (opened_in sources.new) folder) store.new.entries.items) result }
+    ensures fails { IfErr result (FailsIn (plan.Measure 0 target.now (made_view made.now))) }
     ensures counts { CountsReads (F.failures (device_in sources.old)) (F.failures (device_in sources.new)) result }
 {
     let len = measure(alloc, store, sources, made)?;
@@ -86,11 +89,12 @@ fn make<F: Files>(
     made: &Made,
 ) -> Result<Cord, Halt>
     requires over { IsOver (lengths_in (opened_in sources.old)) store.old.entries.items }
-    ensures built { IfOk result (IsMade (F.contents (device_in sources.old)) (opened_in sources.old) (opened_in sources.new) store.old.entries.items (made_view made.now)) }
-    ensures refused { IfErr result (IsUnmade (F.contents (device_in sources.old)) (opened_in sources.old) store.old.entries.items (made_view made.now)) }
+    ensures built { IfOk result (IsMade (F.keeps (device_in sources.new)) (opened_in sources.old) (opened_in sources.new) store.old.entries.items (made_view made.now)) }
+    ensures refused { IfErr result (IsUnmade (F.keeps (device_in sources.new)) (opened_in sources.old) store.old.entries.items (made_view made.now)) }
     ensures same { IfOk result (λ _. SameEntries store.old.entries.items store.new.entries.items) }
-    ensures contents { F.contents (device_in sources.new) ≡ F.contents (device_in sources.old) }
+    ensures earlier { (folder : Folder) → F.keeps (device_in sources.new) folder → F.keeps (device_in sources.old) folder }
     ensures grows { Grows (opened_in sources.old) (opened_in sources.new) }
+    ensures fails { IfErr result (FailsBy (IsFileMade (made_view made.now)) ⊥) }
     ensures counts { F.failures (device_in sources.new) ≡ count_after (has_failed result) (F.failures (device_in sources.old)) }
 {
     match made {
@@ -136,10 +140,11 @@ fn measure<F: Files>(
     made: &Made,
 ) -> Result<u64, Halt>
     requires over { IsOver (lengths_in (opened_in sources.old)) store.now.entries.items }
-    ensures told { IfOk result (IsLength (F.contents (device_in sources.old)) (opened_in sources.old) store.now.entries.items (made_view made.now)) }
-    ensures refused { IfErr result (IsUnmeasured (F.contents (device_in sources.old)) (opened_in sources.old) store.now.entries.items (made_view made.now)) }
-    ensures contents { F.contents (device_in sources.new) ≡ F.contents (device_in sources.old) }
+    ensures told { IfOk result (IsLength (F.keeps (device_in sources.new)) (opened_in sources.old) store.now.entries.items (made_view made.now)) }
+    ensures refused { IfErr result (IsUnmeasured (F.keeps (device_in sources.new)) (opened_in sources.old) store.now.entries.items (made_view made.now)) }
+    ensures earlier { (folder : Folder) → F.keeps (device_in sources.new) folder → F.keeps (device_in sources.old) folder }
     ensures grows { Grows (opened_in sources.old) (opened_in sources.new) }
+    ensures fails { IfErr result (FailsBy (IsFileMade (made_view made.now)) ⊥) }
     ensures counts { F.failures (device_in sources.new) ≡ count_after (has_failed result) (F.failures (device_in sources.old)) }
 {
     match made {

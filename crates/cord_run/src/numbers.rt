@@ -8,6 +8,7 @@ ghost use Rattle.cord_run.specs.Finding.{CountsFinding, FindsOver, in_i64, IsCom
 ghost use Rattle.cord_run.specs.Held.{content_in, cord_in, HasNumber, IsOver, length_in};
 ghost use Rattle.cord_run.specs.Keeping.{KeepsOver, StaysOver};
 ghost use Rattle.cord_run.specs.Served.{CountsReads};
+ghost use Rattle.cord_io.specs.Device.{Folder};
 
 use crate::making::Halt;
 use crate::searches::{byte_found, compared, fetched, last_found, parts_compared, text_found};
@@ -46,11 +47,11 @@ pub(crate) fn keep_search<R: Source>(
     requires search { IsSearch statement.now }
     requires over { IsOver (R.lengths source.old) store.old.entries.items }
     ensures over { StaysOver store.old.entries.items store.new.entries.items result }
-    ensures kept { IfSome (R.table source.old) (λ t. KeepsOver t statement.now store.old.entries.items store.new.entries.items result) }
+    ensures kept { (folder : Folder) → R.keeps source.new folder → KeepsOver (R.table source.old folder) statement.now store.old.entries.items store.new.entries.items result }
     ensures counts { CountsReads (R.failures source.old) (R.failures source.new) result }
     ensures lengths { R.lengths source.new ≡ R.lengths source.old }
     ensures table { R.table source.new ≡ R.table source.old }
-    ensures files { R.files source.new ≡ R.files source.old }
+    ensures earlier { (folder : Folder) → R.keeps source.new folder → R.keeps source.old folder }
 {
     let number = searched(store, source, statement)?;
     give_number(alloc, store, target_name(statement), number)
@@ -77,11 +78,11 @@ fn computed(store: &Store, statement: &Statement) -> Result<i64, FaultKind>
 fn searched<R: Source>(store: &Store, source: &mut R, statement: &Statement) -> Result<i64, Halt>
     requires search { IsSearch statement.now }
     requires over { IsOver (R.lengths source.old) store.now.entries.items }
-    ensures found { IfSome (R.table source.old) (λ t. FindsOver t statement.now store.now.entries.items result) }
+    ensures found { (folder : Folder) → R.keeps source.new folder → FindsOver (R.table source.old folder) statement.now store.now.entries.items result }
     ensures counts { CountsFinding (R.failures source.old) (R.failures source.new) result }
     ensures lengths { R.lengths source.new ≡ R.lengths source.old }
     ensures table { R.table source.new ≡ R.table source.old }
-    ensures files { R.files source.new ≡ R.files source.old }
+    ensures earlier { (folder : Folder) → R.keeps source.new folder → R.keeps source.old folder }
 {
     match statement {
         Statement::Fetch { .. } | Statement::Cmp { .. } | Statement::Ncmp { .. } => {
@@ -95,11 +96,11 @@ fn searched<R: Source>(store: &Store, source: &mut R, statement: &Statement) -> 
 fn looked_at<R: Source>(store: &Store, source: &mut R, statement: &Statement) -> Result<i64, Halt>
     requires look { IsLook statement.now }
     requires over { IsOver (R.lengths source.old) store.now.entries.items }
-    ensures found { IfSome (R.table source.old) (λ t. FindsOver t statement.now store.now.entries.items result) }
+    ensures found { (folder : Folder) → R.keeps source.new folder → FindsOver (R.table source.old folder) statement.now store.now.entries.items result }
     ensures counts { CountsFinding (R.failures source.old) (R.failures source.new) result }
     ensures lengths { R.lengths source.new ≡ R.lengths source.old }
     ensures table { R.table source.new ≡ R.table source.old }
-    ensures files { R.files source.new ≡ R.files source.old }
+    ensures earlier { (folder : Folder) → R.keeps source.new folder → R.keeps source.old folder }
 {
     let empty = Cord::empty();
     match statement {
@@ -134,11 +135,11 @@ fn looked_at<R: Source>(store: &Store, source: &mut R, statement: &Statement) ->
 fn place_found<R: Source>(store: &Store, source: &mut R, statement: &Statement) -> Result<i64, Halt>
     requires place { IsPlace statement.now }
     requires over { IsOver (R.lengths source.old) store.now.entries.items }
-    ensures found { IfSome (R.table source.old) (λ t. FindsOver t statement.now store.now.entries.items result) }
+    ensures found { (folder : Folder) → R.keeps source.new folder → FindsOver (R.table source.old folder) statement.now store.now.entries.items result }
     ensures counts { CountsFinding (R.failures source.old) (R.failures source.new) result }
     ensures lengths { R.lengths source.new ≡ R.lengths source.old }
     ensures table { R.table source.new ≡ R.table source.old }
-    ensures files { R.files source.new ≡ R.files source.old }
+    ensures earlier { (folder : Folder) → R.keeps source.new folder → R.keeps source.old folder }
 {
     let empty = Cord::empty();
     match statement {

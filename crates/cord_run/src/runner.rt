@@ -1,9 +1,12 @@
 //! Runs plans, and scripts by their plans.
 ghost use Rattle.std.specs.Prelude.{◌≡◌, ◌≢◌, ◌<◌, ◌-◌, ◌^◌, IfOk, IfErr, OnErr, List, ℕ, map};
 ghost use Rattle.cord_file.specs.Sources.{device_in};
+ghost use Rattle.cord_io.specs.Device.{Folder};
+ghost use Rattle.cord_meaning.specs.Ends.{EndsHonestly, FailsWhere, NamesCause};
 ghost use Rattle.cord_plan.specs.Meaning.{IsPlanOf};
 ghost use Rattle.cord_plan.specs.Views.{operation_view};
-ghost use Rattle.cord_run.specs.Runs.{Honest, NamesCause, Runs};
+ghost use Rattle.cord_run.specs.Failing.{FailsAmong, FailsNowhereElse};
+ghost use Rattle.cord_run.specs.Runs.{NothingCalled, Runs};
 ghost use Rattle.cord_run.specs.Steps.{HonestPlan};
 ghost use Rattle.cord_script.specs.Flaws.{Flaw};
 ghost use Rattle.cord_script.specs.Forms.{Grammar};
@@ -28,10 +31,11 @@ fn run_over<F: Files, S: Sink>(
 ) -> End
     requires files_count { F.failures (device_in sources.old) < 2 ^ 64 - 1 }
     requires sink_count { S.failures sink.old < 2 ^ 64 - 1 }
-    ensures contents { F.contents (device_in sources.new) ≡ F.contents (device_in sources.old) }
-    ensures honest { HonestPlan (F.contents (device_in sources.old)) (map operation_view plan.now) (S.taken sink.old) (S.taken sink.new)
-        (record { files_before = F.failures (device_in sources.old); files_after = F.failures (device_in sources.new); sink_before = S.failures sink.old; sink_after = S.failures sink.new }) result }
-    ensures cause { NamesCause (record { files_before = F.failures (device_in sources.old); files_after = F.failures (device_in sources.new); sink_before = S.failures sink.old; sink_after = S.failures sink.new }) result }
+    ensures earlier { (folder : Folder) → F.keeps (device_in sources.new) folder → F.keeps (device_in sources.old) folder }
+    ensures honest { (folder : Folder) → F.keeps (device_in sources.new) folder → HonestPlan folder (map operation_view plan.now) (S.taken sink.old) (S.taken sink.new) result }
+    ensures fails { FailsAmong (map operation_view plan.now) result }
+    ensures cause { NamesCause
+        (record { files_before = F.failures (device_in sources.old); files_after = F.failures (device_in sources.new); sink_before = S.failures sink.old; sink_after = S.failures sink.new; finished_before = S.finished sink.old; finished_after = S.finished sink.new }) result }
 {
     match run_plan(alloc, plan, sources, sink) {
         Ok(()) => match sink.finish() {
@@ -57,16 +61,18 @@ fn run_over<F: Files, S: Sink>(
 }
 
 /// Runs a plan over files, ends the output with one `finish`, unless writing failed, and hands the files back. Where a script is
-/// read from some bytes, and this is a plan of it, the end is an honest one of the script's run.
+/// read from some bytes, and this is a plan of it, the end is an honest one of the script's run, over each folder that the files
+/// keep then. Which device failed, and where one may fail, is said over any files.
 pub fn run<F: Files, S: Sink>(alloc: Global, plan: &Plan, files: F, sink: &mut S) -> (End, F)
     requires files_count { F.failures files < 2 ^ 64 - 1 }
     requires sink_count { S.failures sink.old < 2 ^ 64 - 1 }
-    ensures honest { (statements : List Statement) → IsPlanOf statements (map operation_view plan.now) → (g : Grammar) (script : List ℕ) → ReadsBy g script statements →
-        Honest statements (F.contents files) (S.taken sink.old) (S.taken sink.new)
-        (record { files_before = F.failures files; files_after = F.failures result.1; sink_before = S.failures sink.old; sink_after = S.failures sink.new }) result.0 }
+    ensures honest { (statements : List Statement) → IsPlanOf statements (map operation_view plan.now) → FailsNowhereElse statements (map operation_view plan.now) →
+        (g : Grammar) (script : List ℕ) → ReadsBy g script statements → (folder : Folder) → F.keeps result.1 folder → EndsHonestly statements folder (S.taken sink.old) (S.taken sink.new)
+        (record { files_before = F.failures files; files_after = F.failures result.1; sink_before = S.failures sink.old; sink_after = S.failures sink.new; finished_before = S.finished sink.old; finished_after = S.finished sink.new }) result.0 }
+    ensures fails { (statements : List Statement) → FailsNowhereElse statements (map operation_view plan.now) → FailsWhere statements result.0 }
     ensures cause { NamesCause
-        (record { files_before = F.failures files; files_after = F.failures result.1; sink_before = S.failures sink.old; sink_after = S.failures sink.new }) result.0 }
-    ensures files { F.contents result.1 ≡ F.contents files }
+        (record { files_before = F.failures files; files_after = F.failures result.1; sink_before = S.failures sink.old; sink_after = S.failures sink.new; finished_before = S.finished sink.old; finished_after = S.finished sink.new }) result.0 }
+    ensures earlier { (folder : Folder) → F.keeps result.1 folder → F.keeps files folder }
 {
     match Sources::new(alloc, files) {
         Ok(mut sources) => {
@@ -90,13 +96,15 @@ pub fn run_text<F: Files, S: Sink>(
 ) -> (Result<End, Refusal>, F)
     requires files_count { F.failures files < 2 ^ 64 - 1 }
     requires sink_count { S.failures sink.old < 2 ^ 64 - 1 }
-    ensures run { IfOk result.0 (Runs script.now (F.contents files) (S.taken sink.old) (S.taken sink.new)
-        (record { files_before = F.failures files; files_after = F.failures result.1; sink_before = S.failures sink.old; sink_after = S.failures sink.new })) }
+    ensures run { IfOk result.0 (Runs script.now (F.keeps result.1) (S.taken sink.old) (S.taken sink.new)
+        (record { files_before = F.failures files; files_after = F.failures result.1; sink_before = S.failures sink.old; sink_after = S.failures sink.new; finished_before = S.finished sink.old; finished_after = S.finished sink.new })) }
     ensures cause { IfOk result.0 (NamesCause
-        (record { files_before = F.failures files; files_after = F.failures result.1; sink_before = S.failures sink.old; sink_after = S.failures sink.new })) }
-    ensures refused { OnErr result.0 ((S.taken sink.new ≡ S.taken sink.old) × (S.failures sink.new ≡ S.failures sink.old) × (F.failures result.1 ≡ F.failures files)) }
+        (record { files_before = F.failures files; files_after = F.failures result.1; sink_before = S.failures sink.old; sink_after = S.failures sink.new; finished_before = S.finished sink.old; finished_after = S.finished sink.new })) }
+    ensures refused { OnErr result.0 (S.taken sink.new ≡ S.taken sink.old) }
+    ensures unasked { OnErr result.0 (NothingCalled
+        (record { files_before = F.failures files; files_after = F.failures result.1; sink_before = S.failures sink.old; sink_after = S.failures sink.new; finished_before = S.finished sink.old; finished_after = S.finished sink.new })) }
     ensures flaw { IfErr result.0 (λ r. r.kind ≢ RefusalKind.NoMemory → Flaw script.now r.line r.kind) }
-    ensures files { F.contents result.1 ≡ F.contents files }
+    ensures earlier { (folder : Folder) → F.keeps result.1 folder → F.keeps files folder }
 {
     match parse(alloc, script) {
         Err(refusal) => (Err(refusal), files),
@@ -123,13 +131,15 @@ pub fn run_unplanned<F: Files, S: Sink>(
 ) -> (Result<End, Refusal>, F)
     requires files_count { F.failures files < 2 ^ 64 - 1 }
     requires sink_count { S.failures sink.old < 2 ^ 64 - 1 }
-    ensures run { IfOk result.0 (Runs script.now (F.contents files) (S.taken sink.old) (S.taken sink.new)
-        (record { files_before = F.failures files; files_after = F.failures result.1; sink_before = S.failures sink.old; sink_after = S.failures sink.new })) }
+    ensures run { IfOk result.0 (Runs script.now (F.keeps result.1) (S.taken sink.old) (S.taken sink.new)
+        (record { files_before = F.failures files; files_after = F.failures result.1; sink_before = S.failures sink.old; sink_after = S.failures sink.new; finished_before = S.finished sink.old; finished_after = S.finished sink.new })) }
     ensures cause { IfOk result.0 (NamesCause
-        (record { files_before = F.failures files; files_after = F.failures result.1; sink_before = S.failures sink.old; sink_after = S.failures sink.new })) }
-    ensures refused { OnErr result.0 ((S.taken sink.new ≡ S.taken sink.old) × (S.failures sink.new ≡ S.failures sink.old) × (F.failures result.1 ≡ F.failures files)) }
+        (record { files_before = F.failures files; files_after = F.failures result.1; sink_before = S.failures sink.old; sink_after = S.failures sink.new; finished_before = S.finished sink.old; finished_after = S.finished sink.new })) }
+    ensures refused { OnErr result.0 (S.taken sink.new ≡ S.taken sink.old) }
+    ensures unasked { OnErr result.0 (NothingCalled
+        (record { files_before = F.failures files; files_after = F.failures result.1; sink_before = S.failures sink.old; sink_after = S.failures sink.new; finished_before = S.finished sink.old; finished_after = S.finished sink.new })) }
     ensures flaw { IfErr result.0 (λ r. r.kind ≢ RefusalKind.NoMemory → Flaw script.now r.line r.kind) }
-    ensures files { F.contents result.1 ≡ F.contents files }
+    ensures earlier { (folder : Folder) → F.keeps result.1 folder → F.keeps files folder }
 {
     let read = match parse(alloc, script) {
         Ok(read) => read,

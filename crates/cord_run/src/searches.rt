@@ -6,6 +6,7 @@ ghost use Rattle.cord_io.specs.declared.TheConstants.{MAX_LEN};
 ghost use Rattle.cord_meaning.specs.State as meant;
 ghost use Rattle.cord_meaning.specs.Statements as statements;
 ghost use Rattle.cord_run.specs.Finding.{byte_place, CountsFinding, fetched, Finds, last_place, parts_order, Refuses, text_place};
+ghost use Rattle.cord_io.specs.Device.{Folder};
 
 use crate::checks::{as_byte, as_index};
 use crate::making::Halt;
@@ -16,11 +17,11 @@ use cord_meaning::FaultKind;
 /// The byte of a cord at a place.
 pub(crate) fn fetched<R: Source>(cord: &Cord, index: i64, source: &mut R) -> Result<i64, Halt>
     requires fits { CordFitsIn (R.lengths source.old) cord.now }
-    ensures found { IfSome (R.table source.old) (λ t. Finds (fetched (bytes_of t cord.now) index) result) }
+    ensures found { (folder : Folder) → R.keeps source.new folder → Finds (fetched (bytes_of (R.table source.old folder) cord.now) index) result }
     ensures counts { CountsFinding (R.failures source.old) (R.failures source.new) result }
     ensures lengths { R.lengths source.new ≡ R.lengths source.old }
     ensures table { R.table source.new ≡ R.table source.old }
-    ensures files { R.files source.new ≡ R.files source.old }
+    ensures earlier { (folder : Folder) → R.keeps source.new folder → R.keeps source.old folder }
 {
     let index = checked_index(index)?;
     if cord.len() <= index {
@@ -36,11 +37,11 @@ pub(crate) fn fetched<R: Source>(cord: &Cord, index: i64, source: &mut R) -> Res
 pub(crate) fn compared<R: Source>(left: &Cord, right: &Cord, source: &mut R) -> Result<i64, Halt>
     requires left_fits { CordFitsIn (R.lengths source.old) left.now }
     requires right_fits { CordFitsIn (R.lengths source.old) right.now }
-    ensures found { IfSome (R.table source.old) (λ t. Finds (Ok (order (bytes_of t left.now) (bytes_of t right.now))) result) }
+    ensures found { (folder : Folder) → R.keeps source.new folder → Finds (Ok (order (bytes_of (R.table source.old folder) left.now) (bytes_of (R.table source.old folder) right.now))) result }
     ensures counts { CountsFinding (R.failures source.old) (R.failures source.new) result }
     ensures lengths { R.lengths source.new ≡ R.lengths source.old }
     ensures table { R.table source.new ≡ R.table source.old }
-    ensures files { R.files source.new ≡ R.files source.old }
+    ensures earlier { (folder : Folder) → R.keeps source.new folder → R.keeps source.old folder }
 {
     match cord_search::cmp(left, right, source) {
         Ok(sign) => Ok(i64::from(sign)),
@@ -59,11 +60,11 @@ pub(crate) fn parts_compared<R: Source>(
 ) -> Result<i64, Halt>
     requires left_fits { CordFitsIn (R.lengths source.old) left.now }
     requires right_fits { CordFitsIn (R.lengths source.old) right.now }
-    ensures found { IfSome (R.table source.old) (λ t. Finds (parts_order (bytes_of t left.now) left_start (bytes_of t right.now) right_start count) result) }
+    ensures found { (folder : Folder) → R.keeps source.new folder → Finds (parts_order (bytes_of (R.table source.old folder) left.now) left_start (bytes_of (R.table source.old folder) right.now) right_start count) result }
     ensures counts { CountsFinding (R.failures source.old) (R.failures source.new) result }
     ensures lengths { R.lengths source.new ≡ R.lengths source.old }
     ensures table { R.table source.new ≡ R.table source.old }
-    ensures files { R.files source.new ≡ R.files source.old }
+    ensures earlier { (folder : Folder) → R.keeps source.new folder → R.keeps source.old folder }
 {
     let left_index = checked_index(left_start)?;
     let right_index = checked_index(right_start)?;
@@ -83,11 +84,11 @@ pub(crate) fn text_found<R: Source>(
 ) -> Result<i64, Halt>
     requires fits { CordFitsIn (R.lengths source.old) cord.now }
     requires pattern_fits { CordFitsIn (R.lengths source.old) pattern.now }
-    ensures found { IfSome (R.table source.old) (λ t. Finds (text_place (bytes_of t cord.now) start (bytes_of t pattern.now)) result) }
+    ensures found { (folder : Folder) → R.keeps source.new folder → Finds (text_place (bytes_of (R.table source.old folder) cord.now) start (bytes_of (R.table source.old folder) pattern.now)) result }
     ensures counts { CountsFinding (R.failures source.old) (R.failures source.new) result }
     ensures lengths { R.lengths source.new ≡ R.lengths source.old }
     ensures table { R.table source.new ≡ R.table source.old }
-    ensures files { R.files source.new ≡ R.files source.old }
+    ensures earlier { (folder : Folder) → R.keeps source.new folder → R.keeps source.old folder }
 {
     let index = checked_index(start)?;
     let len = cord.len();
@@ -105,11 +106,11 @@ pub(crate) fn byte_found<R: Source>(
     source: &mut R,
 ) -> Result<i64, Halt>
     requires fits { CordFitsIn (R.lengths source.old) cord.now }
-    ensures found { IfSome (R.table source.old) (λ t. Finds (byte_place (bytes_of t cord.now) start byte) result) }
+    ensures found { (folder : Folder) → R.keeps source.new folder → Finds (byte_place (bytes_of (R.table source.old folder) cord.now) start byte) result }
     ensures counts { CountsFinding (R.failures source.old) (R.failures source.new) result }
     ensures lengths { R.lengths source.new ≡ R.lengths source.old }
     ensures table { R.table source.new ≡ R.table source.old }
-    ensures files { R.files source.new ≡ R.files source.old }
+    ensures earlier { (folder : Folder) → R.keeps source.new folder → R.keeps source.old folder }
 {
     let index = checked_index(start)?;
     let wanted = checked_byte(byte)?;
@@ -131,11 +132,11 @@ pub(crate) fn last_found<R: Source>(
     source: &mut R,
 ) -> Result<i64, Halt>
     requires fits { CordFitsIn (R.lengths source.old) cord.now }
-    ensures found { IfSome (R.table source.old) (λ t. Finds (last_place (bytes_of t cord.now) start byte) result) }
+    ensures found { (folder : Folder) → R.keeps source.new folder → Finds (last_place (bytes_of (R.table source.old folder) cord.now) start byte) result }
     ensures counts { CountsFinding (R.failures source.old) (R.failures source.new) result }
     ensures lengths { R.lengths source.new ≡ R.lengths source.old }
     ensures table { R.table source.new ≡ R.table source.old }
-    ensures files { R.files source.new ≡ R.files source.old }
+    ensures earlier { (folder : Folder) → R.keeps source.new folder → R.keeps source.old folder }
 {
     let index = checked_index(start)?;
     let wanted = checked_byte(byte)?;

@@ -1,5 +1,5 @@
 // Operations that aren't control.
-ghost use Rattle.std.specs.Prelude.{◌≡◌, IfOk};
+ghost use Rattle.std.specs.Prelude.{◌≡◌, IfErr, IfOk};
 ghost use Rattle.cord_file.specs.Entries.{lengths_in, table_in};
 ghost use Rattle.cord_file.specs.Sources.{device_in, opened_in};
 ghost use Rattle.cord_io.specs.declared.TheConstants.{MAX_LEN};
@@ -7,10 +7,12 @@ ghost use Rattle.cord_plan.specs.Kept.{KeepsNoOther};
 ghost use Rattle.cord_plan.specs.Meaning.{does};
 ghost use Rattle.cord_plan.specs.Planned as plan;
 ghost use Rattle.cord_plan.specs.Views.{expr_view, operation_view};
+ghost use Rattle.cord_run.specs.Failing.{FailsIn};
 ghost use Rattle.cord_run.specs.Held.{IsOver};
 ghost use Rattle.cord_run.specs.Holdings.{holding_of};
 ghost use Rattle.cord_run.specs.Putting.{CountsHalts};
 ghost use Rattle.cord_run.specs.Served.{Serves};
+ghost use Rattle.cord_io.specs.Device.{Folder};
 
 use crate::keeping::keep;
 use crate::making::Halt;
@@ -33,11 +35,13 @@ pub(crate) fn serve<F: Files, S: Sink>(
     requires kept { KeepsNoOther (operation_view operation.now) }
     requires over { IsOver (lengths_in (opened_in sources.old)) store.old.entries.items }
     ensures over { IfOk result (λ _. IsOver (lengths_in (opened_in sources.new)) store.new.entries.items) }
-    ensures contents { F.contents (device_in sources.new) ≡ F.contents (device_in sources.old) }
-    ensures serves { Serves (F.contents (device_in sources.old))
-        (λ folder. does MAX_LEN folder (operation_view operation.now) (holding_of (table_in (opened_in sources.old) folder) store.old.entries.items))
-        (λ folder. holding_of (table_in (opened_in sources.new) folder) store.new.entries.items)
+    ensures earlier { (folder : Folder) → F.keeps (device_in sources.new) folder → F.keeps (device_in sources.old) folder }
+    ensures serves { (folder : Folder) → F.keeps (device_in sources.new) folder → Serves
+        (does MAX_LEN folder (operation_view operation.now) (holding_of (table_in (opened_in sources.old) folder) store.old.entries.items))
+        (holding_of (table_in (opened_in sources.new) folder) store.new.entries.items)
         (S.taken sink.old) (S.taken sink.new) result }
+    ensures finished { S.finished sink.new ≡ S.finished sink.old }
+    ensures fails { IfErr result (FailsIn (operation_view operation.now)) }
     ensures counts { CountsHalts (record { source = F.failures (device_in sources.old); sink = S.failures sink.old }) (record { source = F.failures (device_in sources.new); sink = S.failures sink.new }) result }
 {
     match operation {
@@ -62,11 +66,12 @@ fn put<F: Files, S: Sink>(
 ) -> Result<(), Halt>
     requires over { IsOver (lengths_in (opened_in sources.old)) store.now.entries.items }
     ensures over { IsOver (lengths_in (opened_in sources.new)) store.now.entries.items }
-    ensures contents { F.contents (device_in sources.new) ≡ F.contents (device_in sources.old) }
-    ensures serves { Serves (F.contents (device_in sources.old))
-        (λ folder. does MAX_LEN folder (plan.Write 0 (expr_view expression.now)) (holding_of (table_in (opened_in sources.old) folder) store.now.entries.items))
-        (λ folder. holding_of (table_in (opened_in sources.new) folder) store.now.entries.items)
+    ensures earlier { (folder : Folder) → F.keeps (device_in sources.new) folder → F.keeps (device_in sources.old) folder }
+    ensures serves { (folder : Folder) → F.keeps (device_in sources.new) folder → Serves
+        (does MAX_LEN folder (plan.Write 0 (expr_view expression.now)) (holding_of (table_in (opened_in sources.old) folder) store.now.entries.items))
+        (holding_of (table_in (opened_in sources.new) folder) store.now.entries.items)
         (S.taken sink.old) (S.taken sink.new) result }
+    ensures finished { S.finished sink.new ≡ S.finished sink.old }
     ensures counts { CountsHalts (record { source = F.failures (device_in sources.old); sink = S.failures sink.old }) (record { source = F.failures (device_in sources.new); sink = S.failures sink.new }) result }
 {
     write(alloc, expression, store, sources, sink)

@@ -9,7 +9,7 @@ mod plans;
 mod refusals;
 mod rows;
 
-use crate::{End, run_text, run_unplanned};
+use crate::{End, FaultKind, run_text, run_unplanned};
 use cord_io::{FuseSink, MemFiles, MemSink, Sink};
 use cord_script::{Refusal, RefusalKind};
 use std::process::Abort;
@@ -133,6 +133,15 @@ fn fuse_sink_enough(rt: HostRuntime) {
 #[test]
 fn fuse_sink_finish_fails(rt: HostRuntime) {
     expect_fused(&rt, b"let x \"a\"\nput x\n", 1, End::WriteFailed(0), b"a");
+}
+
+// Where the finish fails after a fault, that is the end.
+#[test]
+fn fuse_sink_fault_and_finish_fails(rt: HostRuntime) {
+    let script = b"let x \"a\"\nput x\nfetch n x 1\n";
+    expect_fused(&rt, script, 1, End::WriteFailed(0), b"a");
+    let fault = End::Fault(3, FaultKind::OutOfRange);
+    expect_fused(&rt, script, 2, fault, b"a");
 }
 
 // Where writing failed there is no finish.

@@ -1,5 +1,5 @@
 // Expressions that are put.
-ghost use Rattle.std.specs.Prelude.{◌≡◌, IfSome, true};
+ghost use Rattle.std.specs.Prelude.{◌≡◌, true};
 ghost use Rattle.cord_core.specs.Cord.{all_bytes, AllFitIn};
 ghost use Rattle.cord_io.specs.declared.TheConstants.{MAX_LEN};
 ghost use Rattle.cord_iter.specs.Taking.{CountsFaults};
@@ -9,6 +9,7 @@ ghost use Rattle.cord_plan.specs.Views.{expr_view};
 ghost use Rattle.cord_run.specs.Held.{IsOver};
 ghost use Rattle.cord_run.specs.Holdings.{holding_of, plain_of};
 ghost use Rattle.cord_run.specs.Putting.{CountsHalts, Puts, Wrote, halt_of};
+ghost use Rattle.cord_io.specs.Device.{Folder};
 
 use crate::making::{Halt, pieces_of};
 use crate::store::Store;
@@ -27,11 +28,12 @@ pub(crate) fn write<R: Source, S: Sink>(
     sink: &mut S,
 ) -> Result<(), Halt>
     requires over { IsOver (R.lengths source.old) store.now.entries.items }
-    ensures wrote { IfSome (R.table source.old) (λ t. all_texts (holding_of t store.now.entries.items) (cords (expr_view expression.now)) ≡ true → Wrote (text_in MAX_LEN (plain_of t store.now.entries.items) (expr_view expression.now)) (S.taken sink.old) (S.taken sink.new) result) }
+    ensures wrote { (folder : Folder) → R.keeps source.new folder → all_texts (holding_of (R.table source.old folder) store.now.entries.items) (cords (expr_view expression.now)) ≡ true → Wrote (text_in MAX_LEN (plain_of (R.table source.old folder) store.now.entries.items) (expr_view expression.now)) (S.taken sink.old) (S.taken sink.new) result }
     ensures counts { CountsHalts (record { source = R.failures source.old; sink = S.failures sink.old }) (record { source = R.failures source.new; sink = S.failures sink.new }) result }
+    ensures finished { S.finished sink.new ≡ S.finished sink.old }
     ensures lengths { R.lengths source.new ≡ R.lengths source.old }
     ensures table { R.table source.new ≡ R.table source.old }
-    ensures files { R.files source.new ≡ R.files source.old }
+    ensures earlier { (folder : Folder) → R.keeps source.new folder → R.keeps source.old folder }
 {
     let pieces = match pieces_of(alloc, expression, store) {
         Ok(pieces) => pieces,
@@ -60,11 +62,12 @@ fn put_pieces<R: Source, S: Sink>(
     sink: &mut S,
 ) -> Result<(), CordError>
     requires fits { AllFitIn (R.lengths source.old) pieces.now }
-    ensures puts { Puts (R.table source.old) (λ t. all_bytes t pieces.now) (S.taken sink.old) (S.taken sink.new) result }
+    ensures puts { (folder : Folder) → R.keeps source.new folder → Puts (all_bytes (R.table source.old folder) pieces.now) (S.taken sink.old) (S.taken sink.new) result }
     ensures faults { CountsFaults (record { source = R.failures source.old; sink = S.failures sink.old }) (record { source = R.failures source.new; sink = S.failures sink.new }) result }
+    ensures finished { S.finished sink.new ≡ S.finished sink.old }
     ensures lengths { R.lengths source.new ≡ R.lengths source.old }
     ensures table { R.table source.new ≡ R.table source.old }
-    ensures files { R.files source.new ≡ R.files source.old }
+    ensures earlier { (folder : Folder) → R.keeps source.new folder → R.keeps source.old folder }
 {
     for piece in pieces {
         match cord_iter::put(piece, source, sink) {

@@ -1,3 +1,5 @@
 pub mod Said
 pub mod Commands
 pub mod Served
+pub mod Pieces
+pub mod Headline

@@ -1,65 +1,57 @@
 -- What a script comes to.
-use Rattle.std.proofs.Common.{◌≡◌, ℕ, List, Bool, true, false, Option, Some, None, Ok, Err, subst}
-use Rattle.std.specs.Prelude.{IfSome, IfOk, IfErr, OnErr, Result}
+use Rattle.std.proofs.Common.{◌≡◌, ℕ, List, Bool, true, false, Some, Ok, Err, subst, sym}
+use Rattle.std.specs.Prelude.{IfOk, IfErr, OnErr, Result}
 use Rattle.cord_io.specs.Device.{Folder, file_at}
-use Rattle.cord_meaning.specs.Ends.{Counts}
+use Rattle.cord_meaning.specs.Ends.{Counts, FilesKept, NamesCause}
 use Rattle.cord_meaning.specs.declared.ends.End.{End}
-use Rattle.cord_run.specs.Runs.{Runs, NamesCause}
+use Rattle.cord_run.specs.Runs.{Runs, NothingCalled}
 use Rattle.cord_script.specs.declared.refusals.Refusal.{Refusal}
 use Rattle.cordsh.specs.Drives.{IsRun, IsShown, IsWrong, Serves}
 use Rattle.cordsh.specs.Outcomes.{outcome_of}
+use Rattle.cordsh.specs.Tells.{sink_of}
 use Rattle.cordsh.specs.declared.outcome.Outcome.{Outcome}
 use Rattle.cordsh.specs.declared.outcome.Outcome.TheVariants as outcomes
 
 -- what a run answers
-pub answered : (files : Option Folder) (b : List ℕ) (before after : Option (List ℕ)) (n : Counts) (r : Result End Refusal) (X : Type 0)
-    → IfOk r (Runs b files before after n) → IfOk r (NamesCause n)
-    → OnErr r ((after ≡ before) × (n.sink_after ≡ n.sink_before) × X) → IfErr r (IsWrong b) → IsRun files b before after n (outcome_of r)
-answered files b before after n (Ok end_) X runs cause untouched wrong = (runs, cause)
-answered files b before after n (Err refusal) X runs cause untouched wrong = ((untouched.0, untouched.1), wrong)
+pub answered : (keeps : Folder → Type 0) (b before after : List ℕ) (n : Counts) (r : Result End Refusal)
+    → IfOk r (Runs b keeps before after n) → IfOk r (NamesCause n)
+    → OnErr r (after ≡ before) → OnErr r (NothingCalled n) → IfErr r (IsWrong b) → IsRun keeps b before after n (outcome_of r)
+answered keeps b before after n (Ok end_) runs cause same unasked wrong = (runs, cause)
+answered keeps b before after n (Err refusal) runs cause same unasked wrong = (((same, unasked.1, unasked.2), unasked.0), wrong)
 
-wrong_at : (files : Option Folder) (path b : List ℕ) (refusal : Refusal) → IfSome files (λ folder. file_at folder path ≡ Some b) → IsWrong b refusal
-    → IfSome files (λ folder. (bytes : List ℕ) × (file_at folder path ≡ Some bytes) × IsWrong bytes refusal)
-wrong_at None path b refusal at wrong = tt
-wrong_at (Some folder) path b refusal at wrong = (b, at, wrong)
+module _ (keeps : Folder → Type 0) (path : List ℕ) (unplanned : Bool) (b before after : List ℕ) where
+  module _ (n : Counts) (at : (folder : Folder) → keeps folder → file_at folder path ≡ Some b) where
+    shows : (outcome : Outcome) → IsShown unplanned b before after (sink_of n) outcome → FilesKept n → Serves keeps path unplanned true before after n outcome
+    shows (outcomes.Ended end_) h kept = absurd h
+    shows (outcomes.Refused refusal) h kept = ((h.0, kept), (λ folder keeping. (b, at folder keeping, h.1)))
+    shows outcomes.NoScript h kept = absurd h
+    shows outcomes.Unreadable h kept = absurd h
+    shows outcomes.NoMemory h kept = (h, kept)
+    shows outcomes.PlanShown h kept = (b, at, (h, kept))
+    shows outcomes.PlanUnwritten h kept = (b, at, (h, kept))
+    shows outcomes.HelpShown h kept = absurd h
+    shows outcomes.HelpUnwritten h kept = absurd h
+    shows outcomes.BadCommandLine h kept = absurd h
 
--- a plan that was shown
-pub shown_at : (files : Option Folder) (path : List ℕ) (unplanned show_plan : Bool) (b : List ℕ) (before after : Option (List ℕ)) (n : Counts) (outcome : Outcome)
-    → show_plan ≡ true → IfSome files (λ folder. file_at folder path ≡ Some b) → IsShown unplanned b before after n.sink_before n.sink_after outcome
-    → Serves files path unplanned show_plan before after n outcome
-shown_at files path unplanned false b before after n outcome shows at h = cc
-shown_at files path unplanned true b before after n (outcomes.Ended end_) shows at h = absurd h
-shown_at files path unplanned true b before after n (outcomes.Refused refusal) shows at h = (h.0, wrong_at files path b refusal at h.1)
-shown_at files path unplanned true b before after n outcomes.NoScript shows at h = absurd h
-shown_at files path unplanned true b before after n outcomes.Unreadable shows at h = absurd h
-shown_at files path unplanned true b before after n outcomes.NoMemory shows at h = h
-shown_at files path unplanned true b before after n outcomes.PlanShown shows at h = (b, at, h)
-shown_at files path unplanned true b before after n outcomes.PlanUnwritten shows at h = (b, at, h)
-shown_at files path unplanned true b before after n outcomes.HelpShown shows at h = absurd h
-shown_at files path unplanned true b before after n outcomes.HelpUnwritten shows at h = absurd h
-shown_at files path unplanned true b before after n outcomes.BadCommandLine shows at h = absurd h
+    went : (outcome : Outcome) → IsRun keeps b before after n outcome → Serves keeps path unplanned false before after n outcome
+    went (outcomes.Ended end_) h = (b, at, h)
+    went (outcomes.Refused refusal) h = (h.0, (λ folder keeping. (b, at folder keeping, h.1)))
+    went outcomes.NoScript h = absurd h
+    went outcomes.Unreadable h = absurd h
+    went outcomes.NoMemory h = absurd h
+    went outcomes.PlanShown h = absurd h
+    went outcomes.PlanUnwritten h = absurd h
+    went outcomes.HelpShown h = absurd h
+    went outcomes.HelpUnwritten h = absurd h
+    went outcomes.BadCommandLine h = absurd h
 
-went : (files : Option Folder) (path : List ℕ) (unplanned show_plan : Bool) (b : List ℕ) (before after : Option (List ℕ)) (n : Counts) (outcome : Outcome)
-    → show_plan ≡ false → IfSome files (λ folder. file_at folder path ≡ Some b) → IsRun files b before after n outcome
-    → Serves files path unplanned show_plan before after n outcome
-went files path unplanned true b before after n outcome runs at h = cc
-went files path unplanned false b before after n (outcomes.Ended end_) runs at h = (b, at, h)
-went files path unplanned false b before after n (outcomes.Refused refusal) runs at h = (h.0, wrong_at files path b refusal at h.1)
-went files path unplanned false b before after n outcomes.NoScript runs at h = absurd h
-went files path unplanned false b before after n outcomes.Unreadable runs at h = absurd h
-went files path unplanned false b before after n outcomes.NoMemory runs at h = absurd h
-went files path unplanned false b before after n outcomes.PlanShown runs at h = absurd h
-went files path unplanned false b before after n outcomes.PlanUnwritten runs at h = absurd h
-went files path unplanned false b before after n outcomes.HelpShown runs at h = absurd h
-went files path unplanned false b before after n outcomes.HelpUnwritten runs at h = absurd h
-went files path unplanned false b before after n outcomes.BadCommandLine runs at h = absurd h
+    -- a plan that was shown
+    pub shown_at : (show_plan : Bool) (outcome : Outcome) → show_plan ≡ true → IsShown unplanned b before after (sink_of n) outcome → FilesKept n
+        → Serves keeps path unplanned show_plan before after n outcome
+    shown_at show_plan outcome is h kept = subst (λ (s : Bool). Serves keeps path unplanned s before after n outcome) (sym is) (shows outcome h kept)
 
--- a script that was run, over the files as reading it left them
-pub run_at : (files : Option Folder) (path : List ℕ) (unplanned show_plan : Bool) (b : List ℕ) (before after : Option (List ℕ)) (n : Counts) (outcome : Outcome)
-    → show_plan ≡ false → IfSome files (λ folder. file_at folder path ≡ Some b)
-    → (left : Option Folder) (k : ℕ) → left ≡ files → k ≡ n.files_before → IsRun left b before after (record n { files_before = k }) outcome
-    → Serves files path unplanned show_plan before after n outcome
-run_at files path unplanned show_plan b before after n outcome runs at left k same count h =
-    went files path unplanned show_plan b before after n outcome runs at
-    (subst (λ (f : Option Folder). IsRun f b before after n outcome) same
-    (subst (λ (j : ℕ). IsRun left b before after (record n { files_before = j }) outcome) count h))
+    -- a script that was run, after a reading that didn't fail
+    pub run_at : (show_plan : Bool) (outcome : Outcome) → show_plan ≡ false → (k : ℕ) → k ≡ n.files_before → IsRun keeps b before after (record n { files_before = k }) outcome
+        → Serves keeps path unplanned show_plan before after n outcome
+    run_at show_plan outcome is k count h = subst (λ (s : Bool). Serves keeps path unplanned s before after n outcome) (sym is)
+        (went outcome (subst (λ (j : ℕ). IsRun keeps b before after (record n { files_before = j }) outcome) count h))

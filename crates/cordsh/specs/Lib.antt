@@ -3,3 +3,4 @@ pub mod CommandLine
 pub mod Outcomes
 pub mod Tells
 pub mod Drives
+pub mod Headline

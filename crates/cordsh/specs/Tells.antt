@@ -1,16 +1,43 @@
--- What a sink for messages got.
-use Rattle.std.specs.Prelude.{◌≡◌, ◌⊎◌, ℕ, List, [], ◌∷◌, take}
-use Rattle.std.specs.declared.option.Option.{Option}
-use Rattle.std.specs.Io.KnownBytes.{Appends}
+-- What a sink got, and how often it failed and ended.
+use Rattle.std.specs.Prelude.{◌≡◌, ◌⊎◌, ◌+◌, ℕ, List, [], ◌∷◌, ◌++◌, take}
 use Rattle.cord_io.specs.Device.{raised}
+use Rattle.cord_iter.specs.Taking.{IsFrontOf, Takes}
+use Rattle.cord_meaning.specs.Ends.{Counts}
 
--- the sink took the message and was not at fault, or it failed once and took a prefix
-abbrev pub Says : Option (List ℕ) → Option (List ℕ) → ℕ → ℕ → List ℕ → Type 0
-Says before after n m message =
-    (Appends before after message × (m ≡ n))
-    ⊎ ((k : ℕ) × Appends before after (take k message) × (m ≡ raised n))
+-- how often a sink has failed and ended, before a call and after it
+pub record SinkCounts : Type 0 where
+  pub failed_before : ℕ
+  pub failed_after : ℕ
+  pub ended_before : ℕ
+  pub ended_after : ℕ
 
--- the same, but that with no message the sink was left alone
-abbrev pub Tells : Option (List ℕ) → Option (List ℕ) → ℕ → ℕ → List ℕ → Type 0
-Tells before after n m [] = (after ≡ before) × (m ≡ n)
-Tells before after n m (b ∷ message) = Says before after n m (b ∷ message)
+-- those of the sink of a run
+abbrev pub sink_of : Counts → SinkCounts
+sink_of n = record {
+  failed_before = n.sink_before;
+  failed_after = n.sink_after;
+  ended_before = n.finished_before;
+  ended_after = n.finished_after;
+}
+
+-- the sink was left alone
+abbrev pub IsUntouched : List ℕ → List ℕ → SinkCounts → Type 0
+IsUntouched before after n = (after ≡ before) × (n.failed_after ≡ n.failed_before) × (n.ended_after ≡ n.ended_before)
+
+-- it took the text and was ended, and didn't fail
+abbrev pub IsWritten : List ℕ → List ℕ → List ℕ → SinkCounts → Type 0
+IsWritten text before after n = (after ≡ before ++ text) × (n.failed_after ≡ n.failed_before) × (n.ended_after ≡ n.ended_before + 1)
+
+-- it took a front part of the text and failed, and wasn't ended
+abbrev pub IsCut : List ℕ → List ℕ → List ℕ → SinkCounts → Type 0
+IsCut text before after n =
+    Takes (IsFrontOf text) before after × (n.failed_after ≡ raised n.failed_before) × (n.ended_after ≡ n.ended_before)
+
+-- it was handed the message
+abbrev pub Says : List ℕ → List ℕ → SinkCounts → List ℕ → Type 0
+Says before after n message = IsWritten message before after n ⊎ IsCut message before after n
+
+-- the same, but that with no message it was left alone
+abbrev pub Tells : List ℕ → List ℕ → SinkCounts → List ℕ → Type 0
+Tells before after n [] = IsUntouched before after n
+Tells before after n (b ∷ message) = Says before after n (b ∷ message)

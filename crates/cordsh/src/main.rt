@@ -1,6 +1,7 @@
 //! Runs scripts of cord statements: `cordsh [--unplanned] [--show-plan] SCRIPT`.
 #![tactic(auto)]
 
+mod machine;
 mod outcome;
 mod program;
 mod reader;
@@ -8,7 +9,8 @@ mod reader;
 mod tests;
 mod words;
 
-use cord_io::{DiskFiles, StdSink};
+use cord_io::StdSink;
+use machine::run_on_machine;
 use outcome::{Outcome, report};
 use std::env;
 use std::io::{BufWriter, ErrorKind};
@@ -45,11 +47,8 @@ fn run(rt: &HostRuntime) -> Result<u8, Outcome> {
     let Ok(buffered) = BufWriter::with_capacity(alloc, OUTPUT_BUFFER, rt.stdout()) else {
         return Err(Outcome::NoMemory);
     };
-    let mut out = StdSink::new(buffered);
-    let mut err = StdSink::new(rt.stderr());
-    let files = DiskFiles::new(runtime, alloc);
-    let (status, _) = program::drive(alloc, &words, files, &mut out, &mut err);
-    Ok(status)
+    let ran = run_on_machine(runtime, alloc, &words, buffered, rt.stderr());
+    Ok(ran.status)
 }
 
 fn main(rt: HostRuntime) -> ExitCode {

@@ -1,10 +1,7 @@
 //! What a script came to, and what the program tells of it.
 ghost use Rattle.std.specs.Prelude.{◌≡◌, ◌≤◌, ◌∷◌, ◌++◌, [], codes, decimal, length, OnOk, OnErr};
-ghost use Rattle.std.specs.Io.KnownBytes.{Appends};
-ghost use Rattle.cord_io.specs.Device.{raised};
-ghost use Rattle.cord_iter.specs.Taking.{IsFrontOf, Takes};
 ghost use Rattle.cordsh.specs.Outcomes.{line_text, message_of, message_of_end, outcome_of, status_of_outcome};
-ghost use Rattle.cordsh.specs.Tells.{Says, Tells};
+ghost use Rattle.cordsh.specs.Tells.{SinkCounts, IsCut, IsWritten, Says, Tells};
 
 use arrayvec::ArrayString;
 use cord_io::{Sink, WriteFault};
@@ -96,8 +93,20 @@ fn message_at(line: u32, text: &str) -> Message
 
 /// Hands a text over, and ends it. After a fault the sink has taken a front part.
 pub fn write_text<S: Sink>(text: &str, sink: &mut S) -> Result<(), WriteFault>
-    ensures ok { OnOk result (Appends (S.taken sink.old) (S.taken sink.new) text.now × (S.failures sink.new ≡ S.failures sink.old)) }
-    ensures err { OnErr result (Takes (IsFrontOf text.now) (S.taken sink.old) (S.taken sink.new) × (S.failures sink.new ≡ raised (S.failures sink.old))) }
+    ensures ok { OnOk result (IsWritten text.now (S.taken sink.old) (S.taken sink.new)
+        (record {
+          failed_before = S.failures sink.old;
+          failed_after = S.failures sink.new;
+          ended_before = S.finished sink.old;
+          ended_after = S.finished sink.new;
+        })) }
+    ensures err { OnErr result (IsCut text.now (S.taken sink.old) (S.taken sink.new)
+        (record {
+          failed_before = S.failures sink.old;
+          failed_after = S.failures sink.new;
+          ended_before = S.finished sink.old;
+          ended_after = S.finished sink.new;
+        })) }
 {
     put_all(text.as_bytes(), sink)?;
     sink.finish()
@@ -105,14 +114,26 @@ pub fn write_text<S: Sink>(text: &str, sink: &mut S) -> Result<(), WriteFault>
 
 // Hands a message over. A fault changes nothing else.
 fn tell<T: Sink>(message: &str, err: &mut T)
-    ensures { Says (T.taken err.old) (T.taken err.new) (T.failures err.old) (T.failures err.new) message.now }
+    ensures { Says (T.taken err.old) (T.taken err.new)
+        (record {
+          failed_before = T.failures err.old;
+          failed_after = T.failures err.new;
+          ended_before = T.finished err.old;
+          ended_after = T.finished err.new;
+        }) message.now }
 {
     let _ = write_text(message, err);
 }
 
 fn tell_at<T: Sink>(line: u32, text: &str, err: &mut T)
     requires { length text.now ≤ MAX_TEXT }
-    ensures { Says (T.taken err.old) (T.taken err.new) (T.failures err.old) (T.failures err.new) (line_text line text.now) }
+    ensures { Says (T.taken err.old) (T.taken err.new)
+        (record {
+          failed_before = T.failures err.old;
+          failed_after = T.failures err.new;
+          ended_before = T.finished err.old;
+          ended_after = T.finished err.new;
+        }) (line_text line text.now) }
 {
     let message = message_at(line, text);
     tell(message.as_str(), err);
@@ -120,7 +141,13 @@ fn tell_at<T: Sink>(line: u32, text: &str, err: &mut T)
 
 // Tells how a run went wrong.
 fn report_end<T: Sink>(end: &End, err: &mut T)
-    ensures { Tells (T.taken err.old) (T.taken err.new) (T.failures err.old) (T.failures err.new) (message_of_end end.now) }
+    ensures { Tells (T.taken err.old) (T.taken err.new)
+        (record {
+          failed_before = T.failures err.old;
+          failed_after = T.failures err.new;
+          ended_before = T.finished err.old;
+          ended_after = T.finished err.new;
+        }) (message_of_end end.now) }
 {
     match end {
         End::Done => {}
@@ -133,7 +160,13 @@ fn report_end<T: Sink>(end: &End, err: &mut T)
 
 /// Tells what went wrong; where nothing did, nothing. A fault of `err` stops the message.
 pub fn report<T: Sink>(outcome: &Outcome, err: &mut T)
-    ensures { Tells (T.taken err.old) (T.taken err.new) (T.failures err.old) (T.failures err.new) (message_of outcome.now) }
+    ensures { Tells (T.taken err.old) (T.taken err.new)
+        (record {
+          failed_before = T.failures err.old;
+          failed_after = T.failures err.new;
+          ended_before = T.finished err.old;
+          ended_after = T.finished err.new;
+        }) (message_of outcome.now) }
 {
     match outcome {
         Outcome::Ended(end) => report_end(end, err),

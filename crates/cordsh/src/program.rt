@@ -1,14 +1,13 @@
 //! The program over any devices.
 ghost use Rattle.std.specs.Prelude.{◌≡◌, ◌<◌, ◌-◌, ◌^◌, false, true, map, IfOk, IsOkUnless, OnOk, OnErr};
-ghost use Rattle.std.specs.Io.KnownBytes.{Appends};
 ghost use Rattle.std.specs.String.{string_bytes};
-ghost use Rattle.cord_io.specs.Device.{raised};
-ghost use Rattle.cord_iter.specs.Taking.{IsFrontOf, Takes};
+ghost use Rattle.cord_io.specs.Device.{Folder};
+ghost use Rattle.cord_meaning.specs.Ends.{Counts};
 ghost use Rattle.cord_plan.specs.Shown.{shown};
 ghost use Rattle.cord_plan.specs.Views.{operation_view};
 ghost use Rattle.cordsh.specs.Drives.{ComesTo, IsHelp, IsPlan, IsRun, IsShown, Serves};
 ghost use Rattle.cordsh.specs.Outcomes.{message_of, status_of_outcome};
-ghost use Rattle.cordsh.specs.Tells.{Tells};
+ghost use Rattle.cordsh.specs.Tells.{SinkCounts, IsCut, IsWritten, Tells};
 ghost use Rattle.cordsh.specs.declared.outcome.Outcome.{Outcome};
 
 use crate::outcome::{Outcome, report, write_text};
@@ -30,10 +29,17 @@ fn run_script<F: Files, S: Sink>(
 ) -> (Outcome, F)
     requires files_count { F.failures files < 2 ^ 64 - 1 }
     requires out_count { S.failures out.old < 2 ^ 64 - 1 }
-    ensures run { IsRun (F.contents files) script.now (S.taken out.old) (S.taken out.new)
-        (record { files_before = F.failures files; files_after = F.failures result.1; sink_before = S.failures out.old; sink_after = S.failures out.new })
+    ensures run { IsRun (F.keeps result.1) script.now (S.taken out.old) (S.taken out.new)
+        (record {
+          files_before = F.failures files;
+          files_after = F.failures result.1;
+          sink_before = S.failures out.old;
+          sink_after = S.failures out.new;
+          finished_before = S.finished out.old;
+          finished_after = S.finished out.new;
+        })
         result.0 }
-    ensures files { F.contents result.1 ≡ F.contents files }
+    ensures earlier { (folder : Folder) → F.keeps result.1 folder → F.keeps files folder }
 {
     if unplanned {
         let (answer, files) = run_unplanned(alloc, script, files, out);
@@ -58,8 +64,20 @@ fn plan_of(alloc: Global, unplanned: bool, script: &Script) -> Result<Plan, Cord
 
 // Writes the plan's text, and ends it.
 fn write_plan<S: Sink>(plan: &Plan, out: &mut S) -> Result<(), WriteFault>
-    ensures ok { OnOk result (Appends (S.taken out.old) (S.taken out.new) (shown (map operation_view plan.now)) × (S.failures out.new ≡ S.failures out.old)) }
-    ensures err { OnErr result (Takes (IsFrontOf (shown (map operation_view plan.now))) (S.taken out.old) (S.taken out.new) × (S.failures out.new ≡ raised (S.failures out.old))) }
+    ensures ok { OnOk result (IsWritten (shown (map operation_view plan.now)) (S.taken out.old) (S.taken out.new)
+        (record {
+          failed_before = S.failures out.old;
+          failed_after = S.failures out.new;
+          ended_before = S.finished out.old;
+          ended_after = S.finished out.new;
+        })) }
+    ensures err { OnErr result (IsCut (shown (map operation_view plan.now)) (S.taken out.old) (S.taken out.new)
+        (record {
+          failed_before = S.failures out.old;
+          failed_after = S.failures out.new;
+          ended_before = S.finished out.old;
+          ended_after = S.finished out.new;
+        })) }
 {
     match plan.show(out) {
         Ok(()) => out.finish(),
@@ -70,7 +88,13 @@ fn write_plan<S: Sink>(plan: &Plan, out: &mut S) -> Result<(), WriteFault>
 // Shows the plan of a script.
 fn show_script<S: Sink>(alloc: Global, unplanned: bool, script: &[u8], out: &mut S) -> Outcome
     requires out_count { S.failures out.old < 2 ^ 64 - 1 }
-    ensures { IsShown unplanned script.now (S.taken out.old) (S.taken out.new) (S.failures out.old) (S.failures out.new) result }
+    ensures { IsShown unplanned script.now (S.taken out.old) (S.taken out.new)
+        (record {
+          failed_before = S.failures out.old;
+          failed_after = S.failures out.new;
+          ended_before = S.finished out.old;
+          ended_after = S.finished out.new;
+        }) result }
 {
     let read = match parse(alloc, script) {
         Ok(read) => read,
@@ -94,10 +118,17 @@ fn serve<F: Files, S: Sink>(
 ) -> (Outcome, F)
     requires files_count { F.failures files < 2 ^ 64 - 1 }
     requires out_count { S.failures out.old < 2 ^ 64 - 1 }
-    ensures run { Serves (F.contents files) request.now.script.now request.now.unplanned request.now.show_plan (S.taken out.old) (S.taken out.new)
-        (record { files_before = F.failures files; files_after = F.failures result.1; sink_before = S.failures out.old; sink_after = S.failures out.new })
+    ensures run { Serves (F.keeps result.1) request.now.script.now request.now.unplanned request.now.show_plan (S.taken out.old) (S.taken out.new)
+        (record {
+          files_before = F.failures files;
+          files_after = F.failures result.1;
+          sink_before = S.failures out.old;
+          sink_after = S.failures out.new;
+          finished_before = S.finished out.old;
+          finished_after = S.finished out.new;
+        })
         result.0 }
-    ensures files { F.contents result.1 ≡ F.contents files }
+    ensures earlier { (folder : Folder) → F.keeps result.1 folder → F.keeps files folder }
 {
     match read_whole(alloc, &mut files, request.script, MAX_SCRIPT as u64) {
         Err(Unread::NotFound) => (Outcome::NoScript, files),
@@ -123,7 +154,13 @@ fn serve<F: Files, S: Sink>(
 // Writes the help.
 fn show_help<S: Sink>(text: &str, out: &mut S) -> Outcome
     requires out_count { S.failures out.old < 2 ^ 64 - 1 }
-    ensures { IsHelp (S.taken out.old) (S.taken out.new) (S.failures out.old) (S.failures out.new) result }
+    ensures { IsHelp (S.taken out.old) (S.taken out.new)
+        (record {
+          failed_before = S.failures out.old;
+          failed_after = S.failures out.new;
+          ended_before = S.finished out.old;
+          ended_after = S.finished out.new;
+        }) result }
 {
     match write_text(text, out) {
         Ok(()) => Outcome::HelpShown,
@@ -135,10 +172,17 @@ fn show_help<S: Sink>(text: &str, out: &mut S) -> Outcome
 fn answer<F: Files, S: Sink>(alloc: Global, words: &[String], files: F, out: &mut S) -> (Outcome, F)
     requires files_count { F.failures files < 2 ^ 64 - 1 }
     requires out_count { S.failures out.old < 2 ^ 64 - 1 }
-    ensures run { ComesTo (F.contents files) (map string_bytes words.now) (S.taken out.old) (S.taken out.new)
-        (record { files_before = F.failures files; files_after = F.failures result.1; sink_before = S.failures out.old; sink_after = S.failures out.new })
+    ensures run { ComesTo (F.keeps result.1) (map string_bytes words.now) (S.taken out.old) (S.taken out.new)
+        (record {
+          files_before = F.failures files;
+          files_after = F.failures result.1;
+          sink_before = S.failures out.old;
+          sink_after = S.failures out.new;
+          finished_before = S.finished out.old;
+          finished_after = S.finished out.new;
+        })
         result.0 }
-    ensures files { F.contents result.1 ≡ F.contents files }
+    ensures earlier { (folder : Folder) → F.keeps result.1 folder → F.keeps files folder }
 {
     match read_words(alloc, words) {
         Ok(request) => serve(alloc, &request, files, out),
@@ -161,12 +205,25 @@ pub fn drive<F: Files, S: Sink, T: Sink>(
     requires files_count { F.failures files < 2 ^ 64 - 1 }
     requires out_count { S.failures out.old < 2 ^ 64 - 1 }
     ensures drives { (outcome : Outcome)
-        × ComesTo (F.contents files) (map string_bytes words.now) (S.taken out.old) (S.taken out.new)
-        (record { files_before = F.failures files; files_after = F.failures result.1; sink_before = S.failures out.old; sink_after = S.failures out.new })
+        × ComesTo (F.keeps result.1) (map string_bytes words.now) (S.taken out.old) (S.taken out.new)
+        (record {
+          files_before = F.failures files;
+          files_after = F.failures result.1;
+          sink_before = S.failures out.old;
+          sink_after = S.failures out.new;
+          finished_before = S.finished out.old;
+          finished_after = S.finished out.new;
+        })
         outcome
         × (result.0 ≡ status_of_outcome outcome)
-        × Tells (T.taken err.old) (T.taken err.new) (T.failures err.old) (T.failures err.new) (message_of outcome) }
-    ensures files { F.contents result.1 ≡ F.contents files }
+        × Tells (T.taken err.old) (T.taken err.new)
+        (record {
+          failed_before = T.failures err.old;
+          failed_after = T.failures err.new;
+          ended_before = T.finished err.old;
+          ended_after = T.finished err.new;
+        }) (message_of outcome) }
+    ensures earlier { (folder : Folder) → F.keeps result.1 folder → F.keeps files folder }
 {
     let (outcome, files) = answer(alloc, words, files, out);
     report(&outcome, err);

@@ -1,7 +1,7 @@
 //! Reads whole files.
-ghost use Rattle.std.specs.Prelude.{◌≡◌, ◌<◌, ◌≤◌, ◌-◌, ◌^◌, ℕ, IfOk, IfSome, IfErr, OnOk, OnErr, Some, None, IsSomeAnd, length};
-ghost use Rattle.cord_io.specs.Device.{file_at, bytes_at};
-ghost use Rattle.cordsh.specs.Files.{HasCause, IsFailed, IsFailedOrMemory};
+ghost use Rattle.std.specs.Prelude.{◌≡◌, ◌<◌, ◌≤◌, ◌-◌, ◌^◌, ℕ, IfOk, IfErr, Some, IsSomeAnd, length};
+ghost use Rattle.cord_io.specs.Device.{Folder, file_at, bytes_at, count_after};
+ghost use Rattle.cordsh.specs.Files.{HasCause, IsFailedOrMemory, read_failed};
 
 use cord_io::{FileNo, Files, OpenFault};
 use std::alloc::Global;
@@ -15,19 +15,22 @@ pub enum Unread {
     Failed,
 }
 
-/// All bytes of a file that is not longer than `most`.
+// How many bytes are asked for at once.
+const BLOCK: usize = 512;
+
+/// All bytes of a file that is not longer than `most`, as each folder holds them that the files keep then.
 pub fn read_whole<F: Files>(
     alloc: Global,
     files: &mut F,
     path: &str,
     most: u64,
 ) -> Result<Vec<u8>, Unread>
-    requires { F.failures files.old < 2 ^ 64 - 1 }
-    ensures contents { F.contents files.new ≡ F.contents files.old }
-    ensures found { IfOk result (λ v. IfSome (F.contents files.old) (λ folder. file_at folder path.now ≡ Some v.items)) }
-    ensures counted { OnOk result (F.failures files.new ≡ F.failures files.old) }
-    ensures cause { IfErr result (λ e. IfSome (F.contents files.old) (λ folder. HasCause (file_at folder path.now) most e)) }
-    ensures failed { IfErr result (λ e. IsFailed e → F.failures files.old < F.failures files.new) }
+    ensures earlier { (folder : Folder) → F.keeps files.new folder → F.keeps files.old folder }
+    ensures found { (folder : Folder) → F.keeps files.new folder →
+        IfOk result (λ v. file_at folder path.now ≡ Some v.items) }
+    ensures cause { (folder : Folder) → F.keeps files.new folder →
+        IfErr result (λ e. HasCause (file_at folder path.now) most e) }
+    ensures count { F.failures files.new ≡ count_after (read_failed result) (F.failures files.old) }
 {
     match files.open(path) {
         Err(OpenFault::NotFound) => Err(Unread::NotFound),
@@ -48,19 +51,20 @@ fn read_opened<F: Files>(
     no: FileNo,
     len: u64,
 ) -> Result<Vec<u8>, Unread>
-    requires count { F.failures files.old < 2 ^ 64 - 1 }
     requires opened { IsSomeAnd (F.opened files.old no.0) (λ told. told.1 ≡ len) }
-    ensures contents { F.contents files.new ≡ F.contents files.old }
-    ensures read { IfOk result (λ v. IfSome (F.contents files.old) (λ folder.
-        IsSomeAnd (F.opened files.old no.0) (λ told. length (bytes_at folder told.0) ≡ len → v.items ≡ bytes_at folder told.0))) }
-    ensures counted { OnOk result (F.failures files.new ≡ F.failures files.old) }
+    ensures earlier { (folder : Folder) → F.keeps files.new folder → F.keeps files.old folder }
+    ensures read { (folder : Folder) → F.keeps files.new folder → IfOk result (λ v.
+        IsSomeAnd (F.opened files.old no.0) (λ told.
+        length (bytes_at folder told.0) ≡ len → v.items ≡ bytes_at folder told.0)) }
+    ensures count { F.failures files.new ≡ count_after (read_failed result) (F.failures files.old) }
     ensures why { IfErr result IsFailedOrMemory }
-    ensures failed { IfErr result (λ e. IsFailed e → F.failures files.old < F.failures files.new) }
 {
     let mut bytes = Vec::new(alloc);
-    let mut block = [0u8; 512];
+    let mut block = [0u8; BLOCK];
     'reading: while (bytes.len() as u64) < len {
-        match files.read_at(no, bytes.len() as u64, &mut block) {
+        let done = bytes.len() as u64;
+        let room = (len - done).min(BLOCK as u64) as usize;
+        match files.read_at(no, done, &mut block[..room]) {
             Err(_) => return Err(Unread::Failed),
             Ok(count) => {
                 if bytes.extend_from_slice(&block[..count]).is_err() {

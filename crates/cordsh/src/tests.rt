@@ -12,6 +12,7 @@ macro_rules! again {
 
 mod devices;
 mod hostile;
+mod machine;
 mod refusals;
 mod refused;
 mod rows;

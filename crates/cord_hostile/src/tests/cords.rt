@@ -187,7 +187,13 @@ fn refused_substr_of_a_leaf(rt: HostRuntime) {
     let Some(node) = part.root() else {
         panic!(rt; "no part");
     };
-    let Node::Leaf { bytes, start, len } = node.as_ref() else {
+    let Node::Leaf {
+        bytes,
+        start,
+        len,
+        ..
+    } = node.as_ref()
+    else {
         panic!(rt; "no leaf");
     };
     assert!(rt; bytes.as_slice() == text.as_slice() && *start == 10 && *len == 80);

@@ -1,6 +1,6 @@
 //! Files in memory: a file is added whole or not at all.
-ghost use Rattle.std.specs.Prelude.{◌≡◌, ◌≤◌, ℕ, None};
-ghost use Rattle.cord_io.specs.Device.{file_count};
+ghost use Rattle.std.specs.Prelude.{◌≡◌, ◌≤◌, ℕ, None, length};
+ghost use Rattle.cord_io.specs.MemoryFolder.{folder_in};
 
 use cord_io::{CordError, Files, MemFiles};
 use std::alloc::Global;
@@ -34,7 +34,7 @@ fn are(files: &mut MemFiles, folder: &Folder) -> bool {
 // The files "a" and "b".
 fn two_files(rt: &impl Abort, alloc: Global) -> MemFiles
     ensures unopened { (n : ℕ) → ⟦<MemFiles as Files>⟧.opened result n ≡ None }
-    ensures few { file_count (⟦<MemFiles as Files>⟧.contents result) ≤ 4 }
+    ensures few { length (folder_in result) ≤ 4 }
 {
     let mut files = MemFiles::new(alloc);
     again!(rt, files.add(alloc, "a", b"old"));

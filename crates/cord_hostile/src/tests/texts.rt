@@ -34,9 +34,12 @@ fn after<'a>(node: &Rc<Node>, text: &'a [u8]) -> Option<&'a [u8]>
     requires { IsSound node.now.value }
 {
     match node.as_ref() {
-        Node::Leaf { bytes, start, len } => {
-            text.strip_prefix(&bytes.as_slice()[*start as usize..(*start + *len) as usize])
-        }
+        Node::Leaf {
+            bytes,
+            start,
+            len,
+            ..
+        } => { text.strip_prefix(&bytes.as_slice()[*start as usize..(*start + *len) as usize]) }
         Node::Run { byte, len } => {
             let (run, rest) = text.split_at_checked(*len as usize)?;
             run.iter().all(|each| each == byte).then_some(rest)

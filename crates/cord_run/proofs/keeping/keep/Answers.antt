@@ -1,7 +1,7 @@
-use Rattle.std.proofs.Common.{refl}
 use Rattle.cord_file.specs.Entries.{lengths_in}
 use Rattle.cord_file.specs.Files.{as_long_as_told}
 use Rattle.cord_file.specs.Sources.{device_in, opened_in}
+use Rattle.cord_run.proofs.Failing.{unread_fails}
 use Rattle.cord_run.proofs.Sourced.{gives_unread, stays_there}
 use Rattle.cord_run.proofs.keeping.keep.Goals as goal
 
@@ -11,10 +11,10 @@ returns-in_default g c =
     let old = c.args.store.now.entries.items in
     let new = c.keep_unread.new.store.entries.items in
     let ls = lengths_in (opened_in sources) in
-    let contents = g.F.Files.contents (device_in sources) in
     record {
       over = stays_there ls old new c.keep_unread.result c.keep_unread.ensures.over c.requires.over;
-      contents = refl;
-      gives = gives_unread c.args.statement.now old new c.keep_unread.result (opened_in sources) ls contents (as_long_as_told contents sources.entries.items sources.sound.as_long) c.requires.over c.keep_unread.ensures.kept;
+      earlier = λ folder kept. kept;
+      gives = λ folder kept. gives_unread c.args.statement.now old new c.keep_unread.result (opened_in sources) folder ls (as_long_as_told (g.F.Files.keeps (device_in sources)) sources.entries.items sources.sound.as_long folder kept) c.requires.over c.keep_unread.ensures.kept;
+      fails = unread_fails _ _ c.keep_unread.result c.keep_unread.ensures.counts;
       counts = c.keep_unread.ensures.counts (g.F.Files.failures (device_in sources));
     }

@@ -1,7 +1,7 @@
 use Rattle.std.proofs.Common.{subst, sym}
 use Rattle.cord_io.specs.Table.{Lengths}
 use Rattle.cord_file.specs.Entries.{table_in}
-use Rattle.cord_file.specs.Sources.{device_in, opened_in}
+use Rattle.cord_file.specs.Sources.{opened_in}
 use Rattle.cord_plan.specs.Views.{expr_view}
 use Rattle.cord_run.specs.Held.{IsOver}
 use Rattle.cord_run.specs.Holdings.{holding_of}
@@ -11,14 +11,13 @@ use Rattle.cord_run.proofs.serving.put.Goals as goal
 pub returns-clause-over : goal.returns-clause-over
 returns-clause-over g c = subst (λ (ls : Lengths). IsOver ls c.args.store.now.entries.items) (sym c.write.ensures.lengths) c.requires.over
 
-pub returns-clause-contents : goal.returns-clause-contents
-returns-clause-contents g c = c.write.ensures.files
+pub returns-clause-earlier : goal.returns-clause-earlier
+returns-clause-earlier g c = c.write.ensures.earlier
 
 pub returns-clause-serves : goal.returns-clause-serves
-returns-clause-serves g c =
-    let files = g.F.Files.contents (device_in c.args.sources.now) in
+returns-clause-serves g c = λ folder kept.
     let entries = c.args.store.now.entries.items in
     let old = opened_in c.args.sources.now in
     let new = opened_in c.write.new.source in
-    wrote_serves old entries (expr_view c.args.expression.now) (g.S.Sink.taken c.args.sink.now) (g.S.Sink.taken c.write.new.sink) c.write.result files (λ folder. holding_of (table_in new folder) entries)
-    (held_read old new entries files (g.F.Files.contents (device_in c.write.new.source)) c.write.ensures.files c.write.ensures.table) c.write.ensures.wrote
+    wrote_serves (table_in old folder) entries (expr_view c.args.expression.now) (g.S.Sink.taken c.args.sink.now) (g.S.Sink.taken c.write.new.sink) c.write.result folder (holding_of (table_in new folder) entries)
+    (held_read old new entries folder c.write.ensures.table) (c.write.ensures.wrote folder kept)

@@ -1,5 +1,11 @@
+use Rattle.cordsh.specs.Tells.{SinkCounts}
 use Rattle.cordsh.proofs.Said.{said}
 use Rattle.cordsh.proofs.outcome.tell.Goals as goal
 
 pub returns : goal.returns
-returns g c = said (g.T.Sink.taken c.args.err.now) (g.T.Sink.taken c.write_text.new.sink) c.args.message.now (g.T.Sink.failures c.args.err.now) (g.T.Sink.failures c.write_text.new.sink) c.write_text.result c.write_text.ensures.ok c.write_text.ensures.err
+returns g c =
+    let sink = g.T.Sink in
+    let old = c.args.err.now in
+    let new = c.write_text.new.sink in
+    let counts : SinkCounts = record { failed_before = sink.failures old; failed_after = sink.failures new; ended_before = sink.finished old; ended_after = sink.finished new } in
+    said (sink.taken old) (sink.taken new) c.args.message.now counts c.write_text.result c.write_text.ensures.ok c.write_text.ensures.err
