@@ -126,6 +126,18 @@ class Scripts:
                 lines.append(self.random.choice([b"", b"  ", b'# "note']) if self.chance(0.02) else self.line())
         return lines
 
+    def deep_rope(self):
+        """A loop that joins more than a rope's depth may be, and a part of what it made."""
+        rope, part = (name.encode() for name in self.random.sample(CORDS, 2))
+        joins = [b"cat %b %b %b" % (rope, *pair) for pair in [(rope, part), (part, rope)]]
+        joins.append(b"catc %b %b 10" % (rope, rope))
+        lines = [b"let " + part + b" " + self.quoted(bytes(self.random.choices(b"ab ", k=self.random.randint(60, 90))))]
+        lines += [b"let " + rope + b' ""', b"repeat %d" % self.random.randint(20, 150)]
+        lines += [*self.random.choices(joins, k=self.random.randint(1, 3)), b"end"]
+        lines.append(b"substr %b %b %d %d" % (part, rope, self.random.randint(0, 9000), self.random.randint(0, 9000)))
+        self.assigned |= {rope.decode(), part.decode()}
+        return [*lines, b"put " + self.random.choice([rope, part])]
+
     def changed(self, script):
         """The script with a byte, a word or a line put elsewhere, changed or left out."""
         place, way = self.random.randrange(len(script)), self.random.choice(["byte", "more", "less", "lines", "words"])
@@ -146,6 +158,8 @@ class Scripts:
         lines = [self.line("let") for _ in range(self.random.randint(2, 6))]
         if self.chance(0.6):
             lines.append(self.line("set"))
+        if self.chance(0.1):
+            lines += self.deep_rope()
         script = b"\n".join(lines + self.lines(self.random.choice([3, 10, 20, 40]), 0) + [b""])
         for _ in range(self.random.randint(1, 3) if self.careless else 0):
             script = self.changed(script)
