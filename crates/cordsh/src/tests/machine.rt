@@ -120,7 +120,8 @@ fn file_cut_while_it_is_read(rt: HostRuntime) -> Result<(), Fail> {
     assert_eq!(rt; ran.status, 4);
     drop(ran);
     assert_eq!(rt; err.as_slice(), b"cordsh: line 2: read failed\n".as_slice());
-    assert_eq!(rt; out.taken.as_slice(), &file[..512]);
+    assert_eq!(rt; out.taken.len(), 512);
+    assert!(rt; file.as_slice().starts_with(out.taken.as_slice()));
     Ok(())
 }
 
