@@ -5,26 +5,19 @@ ghost use Rattle.std.specs.IoError.{error_kind};
 ghost use Rattle.cord_io.specs.Device.{Folder, file_at, bytes_at, count_after, open_failed, HandsOut};
 
 use crate::faults::raise;
+use crate::opened::OpenedFile;
 use crate::trace::{Answer, Trace};
 use crate::{FileNo, Files, OpenFault, ReadFault};
 use std::alloc::{AllocError, Global};
 use std::fs::OpenFile;
-use std::io::{self, ErrorKind, Read, Seek, SeekFrom};
+use std::io::{self, ErrorKind, Seek, SeekFrom};
 use std::{fs, rt};
-
-// A file that was opened: its place is where the next read of the machine begins, where that is known.
-#[derive(Drop)]
-struct OpenedFile<F> {
-    file: F,
-    path: String,
-    len: u64,
-    place: Option<u64>,
-}
 
 /// The machine's files. They keep each folder with which all that they told agrees: a trace, which only proofs read and which
 /// costs nothing, holds each answer once and nothing else. Every fault of the machine but a missing path is a failure, which
 /// tells nothing: a read of 0 bytes inside the length told, a call that was interrupted, a directory, and want of memory in
-/// `open` too, where it was refused twice.
+/// `open` too, where it was refused twice. A file that is read on is read ahead, by 64 KiB, into memory that it does
+/// without where none is found: what fails there is met when its bytes are asked for.
 #[derive(Drop)]
 pub struct DiskFiles<R: rt::Files> {
     runtime: R,
@@ -50,27 +43,6 @@ fn len_of<F: Seek + OpenFile>(file: &mut F) -> io::Result<u64> {
         return Err(io::Error::from(ErrorKind::IsADirectory));
     }
     file.seek(SeekFrom::End(0))
-}
-
-// Reads at least one byte from a place of a file. It seeks only where the last read ended elsewhere, so that reading on is one
-// system call.
-fn read_some<F: Read + Seek>(
-    file: &mut F,
-    place: &mut Option<u64>,
-    start: u64,
-    out: &mut [u8],
-) -> io::Result<usize>
-    ensures { IfOk result (λ k. (0 < k) × (k ≤ length out.new)) }
-{
-    if place.take() != Some(start) {
-        file.seek(SeekFrom::Start(start))?;
-    }
-    let count = file.read(out)?;
-    if count == 0 {
-        return Err(io::Error::from(ErrorKind::UnexpectedEof));
-    }
-    *place = start.checked_add(count as u64);
-    Ok(count)
 }
 
 impl<R: rt::Files> DiskFiles<R> {
@@ -104,7 +76,7 @@ impl<R: rt::Files> DiskFiles<R> {
 
     // Opens a file. Where memory was refused it is asked for once more, so that a want that passes is no fault.
     fn opened_file(&mut self, path: &str) -> Result<OpenedFile<R::File>, OpenFault>
-        ensures path { IfOk result (λ f. string_bytes f.path ≡ path.now) }
+        ensures path { IfOk result (λ f. string_bytes f.reader.path ≡ path.now) }
         ensures opened { self.new.opened.items ≡ self.old.opened.items }
         ensures told { self.new.trace.told ≡ self.old.trace.told }
         ensures count { self.new.failures ≡ self.old.failures }
@@ -116,18 +88,13 @@ impl<R: rt::Files> DiskFiles<R> {
         let path_kept = room.map_err(|_| OpenFault::Failed)?;
         let mut file = fs::open(&self.runtime, path).map_err(|error| fault_of(&error))?;
         let len = len_of(&mut file).map_err(|_| OpenFault::Failed)?;
-        Ok(OpenedFile {
-            file,
-            path: path_kept,
-            len,
-            place: Some(len),
-        })
+        Ok(OpenedFile::new(self.alloc, file, path_kept, len))
     }
 }
 
 impl<R: rt::Files> Files for DiskFiles<R> {
     ghost use Rattle.cord_io.specs.Disk.{opened_of};
-    ghost use Rattle.cord_io.specs.DiskTold.{told_by, after_opening, after_reading};
+    ghost use Rattle.cord_io.specs.DiskTold.{told_by, after_opening, after_reading, AgreesWithMachine};
     ghost use Rattle.cord_io.specs.Told.{Agrees};
 
     // The folder holds what each answer told.
@@ -156,6 +123,9 @@ impl<R: rt::Files> Files for DiskFiles<R> {
 
         // Each answer is told once, and nothing else is.
         ensures told { told_by self.new ≡ after_opening path.now result (told_by self.old) }
+
+        // What the machine gave stays.
+        ensures given_earlier { (folder : Folder) → AgreesWithMachine folder self.new → AgreesWithMachine folder self.old }
     {
         match self.opened_file(path) {
             Err(OpenFault::NotFound) => {
@@ -193,13 +163,18 @@ impl<R: rt::Files> Files for DiskFiles<R> {
         // Each answer is told once, and nothing else is.
         ensures told { told_by self.new
             ≡ after_reading (⟦<DiskFiles<R> as Files>⟧.opened self.old no.0) start out.new result (told_by self.old) }
+
+        // The bytes are those that the machine gave of the file, now or ahead.
+        ensures given_earlier { (folder : Folder) → AgreesWithMachine folder self.new → AgreesWithMachine folder self.old }
+        ensures given { (folder : Folder) → AgreesWithMachine folder self.new → IfOk result (λ k.
+            IsSomeAnd (⟦<DiskFiles<R> as Files>⟧.opened self.old no.0) (λ told.
+            take k out.new ≡ take k (drop start (bytes_at folder told.0)))) }
     {
         let opened = &mut self.opened[no.0 as usize];
-        match read_some(&mut opened.file, &mut opened.place, start, out) {
+        match opened.read(self.alloc, start, out) {
             Ok(count) => {
-                self.trace = self
-                    .trace
-                    .then(&Answer::Bytes(opened.path.as_str(), start, &out[..count]));
+                let path = opened.reader.path.as_str();
+                self.trace = self.trace.then(&Answer::Bytes(path, start, &out[..count]));
                 Ok(count)
             }
             Err(_) => {

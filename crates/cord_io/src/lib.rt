@@ -9,6 +9,8 @@ mod fuse_sink;
 mod limits;
 mod memory;
 mod memory_sink;
+mod opened;
+mod reader;
 mod reading;
 mod sources;
 mod standard;

@@ -57,7 +57,7 @@ fn rewrite(entries: &mut [Entry], place: usize, bytes: Vec<u8>)
 }
 
 // Copies what fits of the bytes from `start` on.
-fn copy_from(bytes: &[u8], start: usize, out: &mut [u8]) -> usize
+pub(crate) fn copy_from(bytes: &[u8], start: usize, out: &mut [u8]) -> usize
     requires inside { start < length bytes.now }
     requires room { 0 < length out.old }
     ensures fills { result ≡ min (length out.new) (length bytes.now - start) }

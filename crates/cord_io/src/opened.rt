@@ -1,0 +1,118 @@
+// A file of the machine that is read ahead.
+ghost use Rattle.std.specs.Prelude.{◌≡◌, ◌<◌, ◌≤◌, [], length, take, drop, IfOk, IfSome};
+ghost use Rattle.std.specs.String.{string_bytes};
+ghost use Rattle.cord_io.specs.Device.{Folder, bytes_at};
+ghost use Rattle.cord_io.specs.Told.{Agrees};
+ghost use Rattle.cord_io.specs.Given.{IsAhead};
+
+use crate::memory::copy_from;
+use crate::reader::Reader;
+use std::alloc::Global;
+use std::io::{self, Read, Seek};
+
+// How many bytes the machine is asked for at most where a file is read on.
+const AHEAD: usize = 65_536;
+
+// A file of the machine that was opened, with its length. The first `count` of `bytes` are those that the machine gave
+// of it ahead, from `start` on.
+#[derive(Drop)]
+pub(crate) struct OpenedFile<F> {
+    pub(crate) reader: Reader<F>,
+    pub(crate) len: u64,
+    bytes: Vec<u8>,
+    start: u64,
+    count: usize,
+    ghost ahead: { IsAhead reader.given.told (string_bytes reader.path) start count bytes.items },
+}
+
+impl<F: Read + Seek> OpenedFile<F> {
+    // A file that was opened, and of which nothing is read.
+    pub(crate) fn new(alloc: Global, file: F, path: String, len: u64) -> Self
+        ensures path { result.reader.path ≡ path }
+        ensures len { result.len ≡ len }
+        ensures given { result.reader.given.told ≡ [] }
+    {
+        OpenedFile {
+            reader: Reader::new(file, path, len),
+            len,
+            bytes: Vec::new(alloc),
+            start: 0,
+            count: 0,
+        }
+    }
+
+    // Reads at least one byte from a place on: of those that were read ahead, or else from the machine.
+    pub(crate) fn read(&mut self, alloc: Global, start: u64, out: &mut [u8]) -> io::Result<usize>
+        requires room { 0 < length out.old }
+        ensures some { IfOk result (λ k. (0 < k) × (k ≤ length out.new)) }
+        ensures path { self.new.reader.path ≡ self.old.reader.path }
+        ensures len { self.new.len ≡ self.old.len }
+        ensures earlier { (folder : Folder) →
+            Agrees folder self.new.reader.given.told → Agrees folder self.old.reader.given.told }
+        ensures bytes { (folder : Folder) → Agrees folder self.new.reader.given.told → IfOk result (λ k.
+            take k out.new ≡ take k (drop start (bytes_at folder (string_bytes self.old.reader.path)))) }
+    {
+        match self.take_ahead(alloc, start, out) {
+            Some(count) => Ok(count),
+            None => self.reader.ask(start, out),
+        }
+    }
+
+    // Gives bytes that were read ahead, from a place on. Where there are none, and reading goes on there from where the
+    // machine's last read ended, it reads ahead.
+    fn take_ahead(&mut self, alloc: Global, start: u64, out: &mut [u8]) -> Option<usize>
+        requires room { 0 < length out.old }
+        ensures some { IfSome result (λ k. (0 < k) × (k ≤ length out.new)) }
+        ensures path { self.new.reader.path ≡ self.old.reader.path }
+        ensures len { self.new.len ≡ self.old.len }
+        ensures earlier { (folder : Folder) →
+            Agrees folder self.new.reader.given.told → Agrees folder self.old.reader.given.told }
+        ensures bytes { (folder : Folder) → Agrees folder self.new.reader.given.told → IfSome result (λ k.
+            take k out.new ≡ take k (drop start (bytes_at folder (string_bytes self.old.reader.path)))) }
+    {
+        if let Some(count) = self.copy_ahead(start, out) {
+            return Some(count);
+        }
+        let left = self.len.saturating_sub(start).min(AHEAD as u64) as usize;
+        if left <= out.len() || !self.reader.stands_at(start) {
+            return None;
+        }
+        self.read_ahead(alloc, start, left);
+        self.copy_ahead(start, out)
+    }
+
+    // Copies bytes that were read ahead, from a place on, where there are any.
+    fn copy_ahead(&self, start: u64, out: &mut [u8]) -> Option<usize>
+        requires room { 0 < length out.old }
+        ensures some { IfSome result (λ k. (0 < k) × (k ≤ length out.new)) }
+        ensures bytes { (folder : Folder) → Agrees folder self.now.reader.given.told → IfSome result (λ k.
+            take k out.new ≡ take k (drop start (bytes_at folder (string_bytes self.now.reader.path)))) }
+    {
+        let skipped = start.checked_sub(self.start)?;
+        if skipped >= self.count as u64 {
+            return None;
+        }
+        Some(copy_from(&self.bytes[..self.count], skipped as usize, out))
+    }
+
+    // Reads ahead from a place on, as many bytes as the machine gives of those that are left. Where memory is refused, or
+    // the machine fails, nothing is read ahead: what fails is met when its bytes are asked for.
+    fn read_ahead(&mut self, alloc: Global, start: u64, left: usize)
+        ensures path { self.new.reader.path ≡ self.old.reader.path }
+        ensures len { self.new.len ≡ self.old.len }
+        ensures earlier { (folder : Folder) →
+            Agrees folder self.new.reader.given.told → Agrees folder self.old.reader.given.told }
+    {
+        self.count = 0;
+        if self.bytes.len() < left {
+            match vec![in alloc; 0; left] {
+                Ok(bytes) => self.bytes = bytes,
+                Err(_) => return,
+            }
+        }
+        self.start = start;
+        if let Ok(count) = self.reader.ask(start, &mut self.bytes) {
+            self.count = count;
+        }
+    }
+}

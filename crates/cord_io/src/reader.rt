@@ -1,0 +1,73 @@
+// A file of the machine that is read.
+ghost use Rattle.std.specs.Prelude.{◌≡◌, ◌<◌, ◌≤◌, [], length, IfOk};
+ghost use Rattle.std.specs.String.{string_bytes};
+ghost use Rattle.cord_io.specs.Device.{Folder};
+ghost use Rattle.cord_io.specs.Told.{Agrees};
+ghost use Rattle.cord_io.specs.Given.{after_asking};
+
+use crate::trace::{Answer, Trace};
+use std::io::{self, ErrorKind, Read, Seek, SeekFrom};
+
+// An opened file of the machine: its path, the place where its next read begins, where that is known, and all that it
+// gave, which only proofs read.
+#[derive(Drop)]
+pub(crate) struct Reader<F> {
+    file: F,
+    pub(crate) path: String,
+    place: Option<u64>,
+    pub(crate) given: Trace,
+}
+
+impl<F: Read + Seek> Reader<F> {
+    // A file that has given nothing, and whose next read begins at a place.
+    pub(crate) fn new(file: F, path: String, place: u64) -> Self
+        ensures path { result.path ≡ path }
+        ensures given { result.given.told ≡ [] }
+    {
+        Reader {
+            file,
+            path,
+            place: Some(place),
+            given: Trace::new(),
+        }
+    }
+
+    // Whether a read from a place on needs no seek.
+    pub(crate) fn stands_at(&self, place: u64) -> bool {
+        self.place == Some(place)
+    }
+
+    // Asks the machine for bytes from a place on, of which it gives at least one.
+    pub(crate) fn ask(&mut self, start: u64, out: &mut [u8]) -> io::Result<usize>
+        ensures some { IfOk result (λ k. (0 < k) × (k ≤ length out.new)) }
+        ensures path { self.new.path ≡ self.old.path }
+        ensures earlier { (folder : Folder) → Agrees folder self.new.given.told → Agrees folder self.old.given.told }
+
+        // Each answer of the machine is given once, and nothing else is.
+        ensures given { self.new.given.told
+            ≡ after_asking (string_bytes self.old.path) start out.new result self.old.given.told }
+    {
+        let count = self.read_some(start, out)?;
+        self.given = self
+            .given
+            .then(&Answer::Bytes(self.path.as_str(), start, &out[..count]));
+        Ok(count)
+    }
+
+    // The machine's own answer. It seeks only where the last read ended elsewhere: reading on is one system call.
+    fn read_some(&mut self, start: u64, out: &mut [u8]) -> io::Result<usize>
+        ensures some { IfOk result (λ k. (0 < k) × (k ≤ length out.new)) }
+        ensures path { self.new.path ≡ self.old.path }
+        ensures given { self.new.given.told ≡ self.old.given.told }
+    {
+        if self.place.take() != Some(start) {
+            self.file.seek(SeekFrom::Start(start))?;
+        }
+        let count = self.file.read(out)?;
+        if count == 0 {
+            return Err(io::Error::from(ErrorKind::UnexpectedEof));
+        }
+        self.place = start.checked_add(count as u64);
+        Ok(count)
+    }
+}
