@@ -1,6 +1,6 @@
 -- Ranges that are read piece by piece.
-use Rattle.std.proofs.Common.{◌≡◌, ℕ, ◌+◌, ◌≤◌, List, ◌++◌, length, take, drop, sym, ap, ◌∙◌}
-use Rattle.std.specs.Prelude.{IsSomeAnd, Some, None}
+use Rattle.std.proofs.Common.{◌≡◌, ℕ, ◌+◌, ◌≤◌, List, ◌++◌, length, take, drop, Result, Ok, Err, sym, ap, subst, ◌∙◌}
+use Rattle.std.specs.Prelude.{IsSomeAnd, OnOk, Some, None}
 use Rattle.std.specs.declared.option.Option.{Option}
 use Rattle.std.proofs.lemmas.List.{drop-drop, length-take-le, take-append-le}
 use Rattle.std.proofs.Math.Seq.{take-add, take-append-add, take-length}
@@ -8,6 +8,7 @@ use borrow.Rule.Slice.PartMut.{put_mid}
 use Rattle.std.specs.String.{string_bytes}
 use Rattle.cord_io.specs.Device.{Folder, bytes_at}
 use Rattle.cord_file.specs.Blocks.{AreRead}
+use Rattle.cord_file.specs.Files.{told_of}
 use Rattle.cord_file.specs.declared.files.OpenFile.{OpenFile}
 
 -- so many bytes more, read behind those that are there
@@ -33,3 +34,10 @@ more_read path folder (Some file) done k room start out part fits inside before 
 pub all_read : (folder : Folder) (slot : Option OpenFile) (start k : ℕ) (part : List ℕ) → k ≡ length part → AreRead folder slot start part → IsSomeAnd slot (λ file. take k part ≡ take k (drop start (bytes_at folder (string_bytes file.path))))
 all_read folder None start k part same read = read
 all_read folder (Some file) start k part same read = ap (λ n. take n part) same ∙ take-length part ∙ read ∙ ap (λ n. take n (drop start (bytes_at folder (string_bytes file.path)))) (sym same)
+
+-- bytes that were read of the file that the device told are those of the file in its place, where the read didn't fail
+pub read_of_told : {A E : Type 0} (r : Result A E) (folder : Folder) (told : Option (List ℕ × ℕ)) (slot : Option OpenFile) (file : OpenFile) (start : ℕ) (out : List ℕ) → told ≡ Some (told_of file) → slot ≡ Some file → OnOk r (IsSomeAnd told (λ t. out ≡ take (length out) (drop start (bytes_at folder t.0)))) → OnOk r (AreRead folder slot start out)
+read_of_told (Err e) folder told slot file start out same here read = tt
+read_of_told (Ok x) folder told slot file start out same here read =
+    let text : Option (List ℕ × ℕ) → Type 0 = λ o. IsSomeAnd o (λ t. out ≡ take (length out) (drop start (bytes_at folder t.0))) in
+    subst (λ o. AreRead folder o start out) (sym here) (subst text same read)

@@ -78,7 +78,7 @@ impl<F: Files> Sources<F> {
         }
     }
 
-    // An opened file as one leaf, for which its bytes are read without a copy of the whole.
+    // An opened file as one leaf, for which its bytes are read where they stay.
     fn read_whole(&mut self, alloc: Global, id: SourceId, len: u64) -> Result<Cord, FileError>
         requires file { 2 ≤ id.0 }
         requires len { lengths_in (opened_in self.old) id.0 ≡ Some len }
@@ -94,7 +94,7 @@ impl<F: Files> Sources<F> {
         ensures refused { IfErr result IsReadRefusal }
     {
         let mut bytes = vec![in alloc; 0; len as usize]?;
-        self.read_file(id.0 as usize - 2, 0, &mut bytes)?;
+        self.read_past_blocks(id.0 as usize - 2, 0, &mut bytes)?;
         let shared = RcSlice::from_vec(bytes)?;
         let cord = Cord::from_shared(alloc, shared)?;
         Ok(cord)

@@ -62,6 +62,27 @@ impl<F: Files> Sources<F> {
         Ok(())
     }
 
+    // Fills `out` with an opened file's bytes from a place on, past the kept blocks, by as few calls as the device allows.
+    pub(crate) fn read_past_blocks(
+        &mut self,
+        place: usize,
+        start: u64,
+        out: &mut [u8],
+    ) -> Result<(), ReadFault>
+        requires inside { IsSomeAnd (slice_get self.old.entries.items place) (λ file.
+            start + length out.old ≤ file.len) }
+        ensures earlier { (folder : Folder) →
+            F.keeps (device_in self.new) folder → F.keeps (device_in self.old) folder }
+        ensures entries { self.new.entries.items ≡ self.old.entries.items }
+        ensures count { F.failures (device_in self.new)
+            ≡ count_after (is_err result) (F.failures (device_in self.old)) }
+        ensures bytes { (folder : Folder) → F.keeps (device_in self.new) folder →
+            OnOk result (AreRead folder (slice_get self.old.entries.items place) start out.new) }
+    {
+        let file = &self.entries[place];
+        read_range(&mut self.files, file.no, start, out)
+    }
+
     // Fills `out` with bytes of one block of an opened file: of the block that is kept, or else of one that is read
     // and then kept.
     fn read_part(&mut self, place: usize, start: u64, out: &mut [u8]) -> Result<(), ReadFault>

@@ -3,7 +3,7 @@ ghost use Rattle.std.specs.Prelude.{◌≡◌, ◌≤◌, IfOk, IsSome};
 ghost use Rattle.cord_io.specs.Table.{Lengths, length_at};
 ghost use Rattle.cord_core.specs.Cord.{CordFitsIn};
 
-use super::one_file;
+use super::{is_leaf_of, one_file};
 use crate::{FileError, Sources};
 use cord_core::Cord;
 use cord_io::{CordError, CutFiles, Files, FuseFiles, MemFiles, MemSink, Source, SourceId};
@@ -73,6 +73,33 @@ fn lazy_last_block_fails(rt: HostRuntime) {
     assert!(rt; sink.bytes().len() <= 9_728);
     assert!(rt; bytes.starts_with(sink.bytes()));
     assert_eq!(rt; sources.failures(), 1);
+}
+
+// One call reads a file whole, and the kept blocks stay: 21 calls for one file, and 2 for the other.
+#[test]
+fn eager_is_one_call(rt: HostRuntime) {
+    let alloc = rt.alloc();
+    let bytes = long_file();
+    let mut files = one_file(&rt, alloc, "f", &bytes);
+    assert_eq!(rt; files.add(alloc, "g", &[103; 20_000]), Ok(()));
+    let Ok(mut sources) = Sources::new(alloc, FuseFiles::new(files, 23)) else {
+        panic!(rt; "no memory");
+    };
+    let mut sink = MemSink::new(alloc);
+    assert_eq!(rt;
+        put_part(alloc, &mut sources, "f", (0, 10_000), &mut sink),
+        Ok(())
+    );
+    let Ok(eager) = sources.eager(alloc, "g") else {
+        panic!(rt; "not read");
+    };
+    assert!(rt; is_leaf_of(&eager, &[103; 20_000]));
+    assert_eq!(rt;
+        put_part(alloc, &mut sources, "f", (0, 10_000), &mut sink),
+        Ok(())
+    );
+    assert_eq!(rt; sink.bytes().len(), 20_000);
+    assert_eq!(rt; sources.failures(), 0);
 }
 
 #[test]
