@@ -2,6 +2,7 @@ pub mod Allowed
 pub mod Behind
 pub mod Built
 pub mod Checked
+pub mod Firsts
 pub mod Lines
 pub mod Magnitudes
 pub mod Readings

@@ -30,7 +30,7 @@ IsInnermostLeft (block ∷ blocks) n kind = IsLeft block n kind
 
 -- what the lines before leave
 abbrev pub before_of : Left → Before
-before_of left = record { names = left.names.items; paths = left.paths.items; blocks = map block_of left.blocks.items }
+before_of left = record { names = left.names; paths = left.paths.items; blocks = map block_of left.blocks.items }
 
 -- what is wrong with a term as an operand
 abbrev pub operand_term_flaw : List Known → Term → Option RefusalKind

@@ -11,6 +11,7 @@ pub mod Refusals
 pub mod Rows
 pub mod Script
 pub mod Steps
+pub mod Tables
 pub mod Tests
 pub mod Verbal
 pub mod Words

@@ -1,6 +1,6 @@
 // What the lines before a line leave, and what is wrong with a line behind them.
 ghost use Rattle.std.specs.Prelude.{◌≡◌, map, IfErr, OnOk};
-ghost use Rattle.cord_script.specs.Script.{start, is_among, with_name, with_path, names_after, paths_after};
+ghost use Rattle.cord_script.specs.Script.{start, is_among, with_path, names_after, paths_after};
 ghost use Rattle.cord_script.specs.Leaves.{before_of, operand_term_flaw, target_term_flaw, path_term_flaw, term_flaw, first_term, terms_flaw};
 ghost use Rattle.cord_script.specs.Parted.{term_of};
 
@@ -8,8 +8,8 @@ use crate::blocks::Open;
 use crate::checks::{assigned_flaw, kind_flaw};
 use crate::kinds::Kind;
 use crate::parts::Part;
-use crate::table::{Known, find_kind};
-use crate::{MAX_PATHS, Name, Number, Path, RefusalKind};
+use crate::table::Table;
+use crate::{MAX_PATHS, Number, Path, RefusalKind};
 use std::alloc::Global;
 use std::collections::VecDeque;
 
@@ -17,7 +17,7 @@ use std::collections::VecDeque;
 #[derive(Drop)]
 pub struct Left {
     /// The names with their kinds, in the order of their first assignment.
-    pub names: Vec<Known>,
+    pub names: Table,
     /// The distinct paths.
     pub paths: Vec<Path>,
     /// The open blocks, the innermost first.
@@ -30,7 +30,7 @@ impl Left {
         ensures { before_of result ≡ start }
     {
         Left {
-            names: Vec::new(alloc),
+            names: Table::nothing(alloc),
             paths: Vec::new(alloc),
             blocks: VecDeque::new(alloc),
         }
@@ -61,25 +61,25 @@ fn is_among(paths: &[Path], path: &Path) -> bool
 }
 
 // What is wrong with an operand.
-fn operand_flaw(names: &[Known], part: &Part) -> Option<RefusalKind>
+fn operand_flaw(names: &Table, part: &Part) -> Option<RefusalKind>
     ensures { result ≡ operand_term_flaw names.now (term_of part.now) }
 {
     match part {
-        Part::Operand(kind, name) => kind_flaw(find_kind(names, name.as_slice()), *kind),
+        Part::Operand(kind, name) => kind_flaw(names.kind_of(name.as_slice()), *kind),
         Part::Value(Number::Named(name)) => {
-            kind_flaw(find_kind(names, name.as_slice()), Kind::Number)
+            kind_flaw(names.kind_of(name.as_slice()), Kind::Number)
         }
         _ => None,
     }
 }
 
 // What is wrong with a target.
-fn target_flaw(names: &[Known], part: &Part) -> Option<RefusalKind>
+fn target_flaw(names: &Table, part: &Part) -> Option<RefusalKind>
     ensures { result ≡ target_term_flaw names.now (term_of part.now) }
 {
     match part {
         Part::Target(kind, name) => {
-            assigned_flaw(find_kind(names, name.as_slice()), *kind, names.len())
+            assigned_flaw(names.kind_of(name.as_slice()), *kind, names.len())
         }
         _ => None,
     }
@@ -133,27 +133,14 @@ pub fn names_flaw(left: &Left, parts: &[Part]) -> Option<RefusalKind>
     first_flaw(Pass::Paths, left, parts)
 }
 
-// Adds a name that is new.
-fn assign(alloc: Global, names: &mut Vec<Known>, name: &[u8], kind: Kind) -> Result<(), RefusalKind>
-    ensures names { OnOk result (names.new.items ≡ with_name names.old.items name.now kind) }
-    ensures flaw { IfErr result (λ e. e ≡ RefusalKind.NoMemory) }
-{
-    if find_kind(names, name).is_some() {
-        return Ok(());
-    }
-    let name = Name::of(Vec::from_slice(alloc, name)?);
-    names.push(Known { name, kind })?;
-    Ok(())
-}
-
 /// Adds the names that a line assigns.
-pub fn add_names(alloc: Global, names: &mut Vec<Known>, parts: &[Part]) -> Result<(), RefusalKind>
-    ensures names { OnOk result (names.new.items ≡ names_after (map term_of parts.now) names.old.items) }
+pub fn add_names(names: &mut Table, parts: &[Part]) -> Result<(), RefusalKind>
+    ensures names { OnOk result (names.new ≡ names_after (map term_of parts.now) names.old) }
     ensures flaw { IfErr result (λ kind. kind ≡ RefusalKind.NoMemory) }
 {
     for part in parts {
         if let Part::Target(kind, name) = part {
-            assign(alloc, names, name.as_slice(), *kind)?;
+            names.assign(name, *kind)?;
         }
     }
     Ok(())

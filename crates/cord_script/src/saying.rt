@@ -40,17 +40,11 @@ fn checked_parts(
 }
 
 // What a line leaves behind what the lines before it leave.
-fn leave(
-    alloc: Global,
-    verb: Verb,
-    number: u32,
-    left: &mut Left,
-    parts: &[Part],
-) -> Result<(), RefusalKind>
+fn leave(verb: Verb, number: u32, left: &mut Left, parts: &[Part]) -> Result<(), RefusalKind>
     ensures left { OnOk result (before_of left.new ≡ left_after verb number parts.now (before_of left.old)) }
     ensures flaw { IfErr result (λ kind. kind ≡ RefusalKind.NoMemory) }
 {
-    add_names(alloc, &mut left.names, parts)?;
+    add_names(&mut left.names, parts)?;
     add_paths(&mut left.paths, parts)?;
     set_blocks(verb, number, &mut left.blocks)
 }
@@ -74,6 +68,6 @@ pub fn said(
         return Err(RefusalKind::UnknownStatement);
     };
     let Worded { parts, format } = checked_parts(alloc, left, verb, words)?;
-    leave(alloc, verb, number, left, &parts)?;
+    leave(verb, number, left, &parts)?;
     statement_of(alloc, verb, number, format, Parts::of(parts))
 }

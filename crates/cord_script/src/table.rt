@@ -1,9 +1,20 @@
 // The names that the lines before assign.
-ghost use Rattle.std.specs.Prelude.{◌≡◌};
-ghost use Rattle.cord_script.specs.Script.{kind_of};
+ghost use Rattle.std.specs.Prelude.{◌≡◌, ◌<◌, [], ◌∷◌, ◌++◌, Some, None, length, IfErr, IfSome, MatchOption, OnOk};
+ghost use Rattle.cord_script.specs.Script.{kind_of, with_name};
 
-use crate::Name;
 use crate::kinds::Kind;
+use crate::{Name, RefusalKind};
+use std::alloc::Global;
+use std::marker::Model;
+
+/// The number of slots that guess the place of a name.
+const SLOTS: usize = 1_024;
+
+/// How many slots are looked at, from the name's own on.
+const PROBES: usize = 8;
+
+/// A guess that is none: no table has so many names.
+const FREE: u16 = 65_535;
 
 /// A name with its kind.
 #[derive(Drop)]
@@ -12,14 +23,154 @@ pub struct Known {
     pub kind: Kind,
 }
 
-/// The kind of a name, from the first line that assigns it.
-pub fn find_kind(names: &[Known], name: &[u8]) -> Option<Kind>
-    ensures { result ≡ kind_of names.now name.now }
+/// Names with their kinds, in the order of their first assignment.
+#[derive(Drop)]
+pub struct Table {
+    known: Vec<Known>,
+    // The place of a name of the slot, or of one before it; a name that no guess leads to is searched for.
+    guesses: [u16; SLOTS],
+}
+
+impl Model for Table {
+    ghost use Rattle.std.specs.Prelude.{List};
+    ghost use Rattle.cord_script.specs.declared.table.Known.{Known};
+    ghost use Rattle.cord_script.specs.Tables.{AreFirst};
+
+    ghost Value = { List Known };
+
+    ghost view = { λ t. t.known.items };
+
+    ghost invariant = { λ t. AreFirst t.known.items };
+}
+
+// The slot of a name.
+fn slot_of(name: &[u8]) -> usize
+    ensures { result < 1024 }
 {
-    for known in names {
-        if known.name.as_slice() == name {
-            return Some(known.kind);
+    let mut hash: usize = 0;
+    for byte in name {
+        hash = hash.wrapping_mul(31).wrapping_add(*byte as usize);
+    }
+    hash % SLOTS
+}
+
+// The first of these with the name.
+fn search<'a>(known: &'a [Known], name: &[u8]) -> Option<&'a Known>
+    ensures { MatchOption result (kind_of known.now name.now ≡ None) (λ found. (found.now.name ≡ name.now) × (kind_of known.now name.now ≡ Some found.now.kind)) }
+{
+    for entry in known {
+        if entry.name.as_slice() == name {
+            return Some(entry);
         }
     }
     None
+}
+
+impl Table {
+    /// A table without names.
+    pub fn nothing(alloc: Global) -> Self
+        ensures { result ≡ [] }
+    {
+        Table {
+            known: Vec::new(alloc),
+            guesses: [FREE; SLOTS],
+        }
+    }
+
+    /// How many names there are.
+    pub fn len(&self) -> usize
+        ensures { result ≡ length self.now }
+    {
+        self.known.len()
+    }
+
+    // The entry at a place, if it has the name.
+    fn at(&self, place: usize, name: &[u8]) -> Option<&Known>
+        ensures { IfSome result (λ found. (found.now.name ≡ name.now) × (kind_of self.now name.now ≡ Some found.now.kind)) }
+    {
+        match self.known.get(place) {
+            Some(entry) if entry.name.as_slice() == name => Some(entry),
+            _ => None,
+        }
+    }
+
+    // The entry that a guess leads to.
+    fn guessed(&self, name: &[u8]) -> Option<&Known>
+        ensures { IfSome result (λ found. (found.now.name ≡ name.now) × (kind_of self.now name.now ≡ Some found.now.kind)) }
+    {
+        let slot = slot_of(name);
+        for probe in 0..PROBES {
+            let place = self.guesses[(slot + probe) % SLOTS];
+            if place == FREE {
+                return None;
+            }
+            if let Some(entry) = self.at(usize::from(place), name) {
+                return Some(entry);
+            }
+        }
+        None
+    }
+
+    // The first entry with the name.
+    fn find(&self, name: &[u8]) -> Option<&Known>
+        ensures { MatchOption result (kind_of self.now name.now ≡ None) (λ found. (found.now.name ≡ name.now) × (kind_of self.now name.now ≡ Some found.now.kind)) }
+    {
+        match self.guessed(name) {
+            Some(entry) => Some(entry),
+            None => search(&self.known, name),
+        }
+    }
+
+    /// The kind of a name, from the first line that assigns it.
+    pub fn kind_of(&self, name: &[u8]) -> Option<Kind>
+        ensures { result ≡ kind_of self.now name.now }
+    {
+        match self.find(name) {
+            Some(entry) => Some(entry.kind),
+            None => None,
+        }
+    }
+
+    // Leads the name's slot, or the first free one behind it, to a place.
+    fn guess(&mut self, name: &[u8], place: usize)
+        ensures { self.new ≡ self.old }
+    {
+        let Ok(place) = u16::try_from(place) else {
+            return;
+        };
+        let slot = slot_of(name);
+        for probe in 0..PROBES {
+            let probed = (slot + probe) % SLOTS;
+            if self.guesses[probed] == FREE {
+                self.guesses[probed] = place;
+                return;
+            }
+        }
+    }
+
+    /// Adds a name, if it is new.
+    pub fn assign(&mut self, name: &Name, kind: Kind) -> Result<(), RefusalKind>
+        ensures names { OnOk result (self.new ≡ with_name self.old name.now kind) }
+        ensures flaw { IfErr result (λ e. e ≡ RefusalKind.NoMemory) }
+    {
+        if self.find(name.as_slice()).is_some() {
+            return Ok(());
+        }
+        self.push(name, kind)
+    }
+
+    // Adds a name that is new.
+    fn push(&mut self, name: &Name, kind: Kind) -> Result<(), RefusalKind>
+        requires { kind_of self.old name.now ≡ None }
+        ensures names { OnOk result (self.new ≡ self.old ++ record { name = name.now; kind = kind } ∷ []) }
+        ensures flaw { IfErr result (λ e. e ≡ RefusalKind.NoMemory) }
+    {
+        let place = self.known.len();
+        self.known.push(Known {
+            name: name.clone()?,
+            kind,
+        })?;
+        self.guess(name.as_slice(), place);
+        Ok(())
+    }
 }

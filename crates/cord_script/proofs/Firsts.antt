@@ -1,0 +1,62 @@
+-- Tables whose entries are each the first with their name.
+use Rattle.std.proofs.Common.{◌≡◌, ◌⊎◌, ◌<◌, ℕ, zero, suc, List, [], ◌∷◌, ◌++◌, Bool, true, false, Some, None, drop, length, get_or, inl, inr, refl, sym, ap, ◌∙◌, if◌then◌else◌}
+use Rattle.std.specs.Prelude.{slice_get}
+use Rattle.std.specs.Str.{bytes_eq}
+use Rattle.std.proofs.Math.Seq.{drop-cons}
+use Rattle.std.proofs.lemmas.Slice.Eq.{bytes_eq-Decides}
+use Rattle.cord_script.specs.declared.kinds.Kind.{Kind}
+use Rattle.cord_script.specs.declared.table.Known.{Known}
+use Rattle.cord_script.specs.Script.{kind_of}
+use Rattle.cord_script.specs.Tables.{AreFirst}
+
+pub same_bytes : (x y : List ℕ) → bytes_eq x y ≡ true → x ≡ y
+same_bytes x y e = (bytes_eq-Decides x y).0 e
+
+own_bytes : (x : List ℕ) → bytes_eq x x ≡ true
+own_bytes x = (bytes_eq-Decides x x).1 refl
+
+-- the kind of a name that is found at a place of the search
+pub found_here : (names : List Known) (i : ℕ) (entry : Known) (name : List ℕ) → i < length names → entry ≡ get_or names i entry → bytes_eq entry.name name ≡ true → kind_of names name ≡ kind_of (drop i names) name → kind_of names name ≡ Some entry.kind
+found_here names i entry name lt is same on =
+    let here : kind_of (drop i names) name ≡ Some entry.kind = rw (drop-cons names i entry, ← is, same) refl in
+    on ∙ here
+
+-- the kind of an entry's name
+pub kind_at : (names : List Known) (i : ℕ) (entry : Known) (name : List ℕ) → AreFirst names → slice_get names i ≡ Some entry → entry.name ≡ name → kind_of names name ≡ Some entry.kind
+kind_at names i entry name first at same = ap (kind_of names) (sym same) ∙ first i entry at
+
+-- names that are added change no kind
+kept : (names more : List Known) (name : List ℕ) (kind : Kind) → kind_of names name ≡ Some kind → kind_of (names ++ more) name ≡ Some kind
+kept [] more name kind h = let bad : ⊥ = cc in absurd bad
+kept (k ∷ ks) more name kind h = by_name (bytes_eq k.name name) h (λ e. kept ks more name kind e)
+  where
+    by_name : (b : Bool) → (if b then Some k.kind else kind_of ks name) ≡ Some kind → (kind_of ks name ≡ Some kind → kind_of (ks ++ more) name ≡ Some kind) → (if b then Some k.kind else kind_of (ks ++ more) name) ≡ Some kind
+    by_name true e ih = e
+    by_name false e ih = ih e
+
+-- the kind of a name that stands among those that are added alone
+added : (names more : List Known) (name : List ℕ) → kind_of names name ≡ None → kind_of (names ++ more) name ≡ kind_of more name
+added [] more name h = refl
+added (k ∷ ks) more name h = by_name (bytes_eq k.name name) h (λ e. added ks more name e)
+  where
+    by_name : (b : Bool) → (if b then Some k.kind else kind_of ks name) ≡ None → (kind_of ks name ≡ None → kind_of (ks ++ more) name ≡ kind_of more name) → (if b then Some k.kind else kind_of (ks ++ more) name) ≡ kind_of more name
+    by_name true e ih = let bad : ⊥ = cc in absurd bad
+    by_name false e ih = ih e
+
+-- an entry stands among the others, or is the last
+at_push : (names : List Known) (last : Known) (i : ℕ) (entry : Known) → slice_get (names ++ last ∷ []) i ≡ Some entry → (slice_get names i ≡ Some entry) ⊎ (last ≡ entry)
+at_push [] last zero entry e = inr cc
+at_push [] last (suc i) entry e = let bad : ⊥ = cc in absurd bad
+at_push (k ∷ ks) last zero entry e = inl e
+at_push (k ∷ ks) last (suc i) entry e = at_push ks last i entry e
+
+-- a name that is new may be added
+pub first_push : (names : List Known) (last : Known) → AreFirst names → kind_of names last.name ≡ None → AreFirst (names ++ last ∷ [])
+first_push names last first new i entry e = by_place (at_push names last i entry e)
+  where
+    own : kind_of (last ∷ []) last.name ≡ Some last.kind
+    own = rw (own_bytes last.name) refl
+
+    by_place : (slice_get names i ≡ Some entry) ⊎ (last ≡ entry) → kind_of (names ++ last ∷ []) entry.name ≡ Some entry.kind
+    by_place (inl at) = kept names (last ∷ []) entry.name entry.kind (first i entry at)
+    by_place (inr is) = rw (← is) (added names (last ∷ []) last.name new ∙ own)

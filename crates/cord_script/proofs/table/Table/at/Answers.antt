@@ -1,0 +1,15 @@
+use Rattle.std.proofs.Common.{◌≡◌, Some, length, refl, sym, subst, ◌∙◌}
+use Rattle.std.specs.Prelude.{slice_get}
+use Rattle.std.proofs.lemmas.Option.{slice_get_read}
+use Rattle.cord_script.specs.Tables.{AreFirst}
+use Rattle.cord_script.proofs.Firsts.{same_bytes, kind_at}
+use Rattle.cord_script.proofs.table.Table.at.Goals as goal
+
+pub returns-in-Some : goal.returns-in-Some
+returns-in-Some c =
+    let entry = c.in-Some.entry.now in
+    let found = c.in-Some.ensures.lookup in
+    let there = slice_get_read c.deref.result.now (length c.deref.result.now) c.args.place entry refl found.3.0 found.1 in
+    let at = subst (λ names. slice_get names c.args.place ≡ Some entry) (c.deref.ensures.value ∙ c.self.view_is) there in
+    let same : entry.name ≡ c.args.name.now = sym c.as_slice.ensures ∙ same_bytes c.as_slice.result.now c.args.name.now (sym c.eq.ensures ∙ c.if-eq.true) in
+    (same, kind_at c.args.self.now c.args.place entry c.args.name.now (subst AreFirst c.self.view_is c.self.invariant) at same)

@@ -1,0 +1,5 @@
+use Rattle.std.proofs.Common.{◌≡◌}
+use Rattle.cord_script.proofs.table.Table.guess.Given as goal
+
+abbrev pub invariant-loop-probe : goal.invariant-loop-probe
+invariant-loop-probe l = l.self-inside.known ≡ l.initial.self-inside.known

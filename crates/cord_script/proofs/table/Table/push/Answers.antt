@@ -1,0 +1,13 @@
+use Rattle.std.proofs.Common.{◌≡◌, ◌∷◌, ◌++◌, [], None, sym, subst, rules}
+use Rattle.cord_script.specs.declared.table.Known.{Known}
+use Rattle.cord_script.specs.Script.{kind_of}
+use Rattle.cord_script.specs.Tables.{AreFirst}
+use Rattle.cord_script.proofs.Firsts.{first_push}
+use Rattle.cord_script.proofs.table.Table.push.Goals as goal
+
+pub invariant_of-self-2 : goal.invariant_of-self-2
+invariant_of-self-2 c =
+    let last : Known = record { name = c.args.name.now; kind = c.args.kind } in
+    let is : c.push.new.self.items ≡ c.self.inside.known.items ++ last ∷ [] = search rules in
+    let new : kind_of c.self.inside.known.items last.name ≡ None = search rules in
+    subst AreFirst (sym is) (first_push c.self.inside.known.items last c.self.invariant new)

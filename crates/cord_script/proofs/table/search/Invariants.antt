@@ -1,0 +1,6 @@
+use Rattle.std.proofs.Common.{◌≡◌, drop}
+use Rattle.cord_script.specs.Script.{kind_of}
+use Rattle.cord_script.proofs.table.search.Given as goal
+
+abbrev pub invariant-loop-entry : goal.invariant-loop-entry
+invariant-loop-entry l = kind_of l.known l.name ≡ kind_of (drop l.entry-index l.known) l.name

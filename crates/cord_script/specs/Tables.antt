@@ -1,0 +1,8 @@
+-- What holds of a table of names.
+use Rattle.std.specs.Prelude.{◌≡◌, ℕ, List, Some, slice_get}
+use Rattle.cord_script.specs.declared.table.Known.{Known}
+use Rattle.cord_script.specs.Script.{kind_of}
+
+-- each entry is the first with its name
+abbrev pub AreFirst : List Known → Type 0
+AreFirst names = (i : ℕ) (entry : Known) → slice_get names i ≡ Some entry → kind_of names entry.name ≡ Some entry.kind
