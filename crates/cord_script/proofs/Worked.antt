@@ -186,19 +186,32 @@ sprintf_argument_missing =
     first_bad line line [] WrongCount (lit≤ tt) (last_line line refl refl)
     (bad_line 1 start 115 (codes "printf") others WrongCount (lit≤ tt) (record { shows = refl; no_note = refl; words = refl }) (Some (wants.Number ∷ []), decimal_converts, refl))
 
+-- a line of plain words that is wrong behind `let x "a"`
+bad_behind_let : (c : ℕ) (cs : List ℕ) (ws : List (List ℕ)) (kind : RefusalKind) → length (let_line (codes "a") ++ 10 ∷ spelled (plain c cs ws)) ≤ MAX_SCRIPT → each no_end (spelled (plain c cs ws)) ≡ true → IsLine c cs (behind ws) → HasBadWords whole (after_all (Let 1 (codes "x") (codes "a") ∷ []) start) (chunk_words (plain c cs ws)) kind → FlawBy whole (let_line (codes "a") ++ 10 ∷ spelled (plain c cs ws)) 2 kind
+bad_behind_let c cs ws kind small l h bad = second_bad (let_line (codes "a") ++ 10 ∷ spelled (plain c cs ws)) (let_line (codes "a")) (spelled (plain c cs ws)) [] (Let 1 (codes "x") (codes "a") ∷ []) kind small
+    (more_lines (let_line (codes "a")) (spelled (plain c cs ws)) (spelled (plain c cs ws) ∷ []) refl (last_line (spelled (plain c cs ws)) l refl))
+    (let_first (codes "a") (record { shows = refl; no_note = refl; words = refl }))
+    (bad_line 2 (after_all (Let 1 (codes "x") (codes "a") ∷ []) start) c cs (behind ws) kind (lit≤ tt) h bad)
+
 fetch_into_cord : FlawBy whole (codes "let x " ++ quote (codes "a") ++ 10 ∷ codes "fetch x x 0") 2 WrongKind
 unfolding form_of
-fetch_into_cord = second_bad (let_line (codes "a") ++ 10 ∷ codes "fetch x x 0") (let_line (codes "a")) (codes "fetch x x 0") [] (Let 1 (codes "x") (codes "a") ∷ []) WrongKind (lit≤ tt)
-    (more_lines (let_line (codes "a")) (codes "fetch x x 0") (codes "fetch x x 0" ∷ []) refl (last_line (codes "fetch x x 0") refl refl))
-    (let_first (codes "a") (record { shows = refl; no_note = refl; words = refl }))
-    (bad_line 2 (after_all (Let 1 (codes "x") (codes "a") ∷ []) start) 102 (codes "etch") (behind (codes "x" ∷ codes "x" ∷ codes "0" ∷ [])) WrongKind (lit≤ tt) (record { shows = refl; no_note = refl; words = refl }) (None, refl, refl))
+fetch_into_cord = bad_behind_let 102 (codes "etch") (codes "x" ∷ codes "x" ∷ codes "0" ∷ []) WrongKind (lit≤ tt) refl (record { shows = refl; no_note = refl; words = refl }) (None, refl, refl)
 
 len_into_cord : FlawBy whole (codes "let x " ++ quote (codes "a") ++ 10 ∷ codes "len x x") 2 WrongKind
 unfolding form_of
-len_into_cord = second_bad (let_line (codes "a") ++ 10 ∷ codes "len x x") (let_line (codes "a")) (codes "len x x") [] (Let 1 (codes "x") (codes "a") ∷ []) WrongKind (lit≤ tt)
-    (more_lines (let_line (codes "a")) (codes "len x x") (codes "len x x" ∷ []) refl (last_line (codes "len x x") refl refl))
-    (let_first (codes "a") (record { shows = refl; no_note = refl; words = refl }))
-    (bad_line 2 (after_all (Let 1 (codes "x") (codes "a") ∷ []) start) 108 (codes "en") (behind (codes "x" ∷ codes "x" ∷ [])) WrongKind (lit≤ tt) (record { shows = refl; no_note = refl; words = refl }) (None, refl, refl))
+len_into_cord = bad_behind_let 108 (codes "en") (codes "x" ∷ codes "x" ∷ []) WrongKind (lit≤ tt) refl (record { shows = refl; no_note = refl; words = refl }) (None, refl, refl)
+
+operand_before_target : FlawBy whole (codes "let x " ++ quote (codes "a") ++ 10 ∷ codes "len x y") 2 UnknownName
+unfolding form_of
+operand_before_target = bad_behind_let 108 (codes "en") (codes "x" ∷ codes "y" ∷ []) UnknownName (lit≤ tt) refl (record { shows = refl; no_note = refl; words = refl }) (None, refl, refl)
+
+wrong_kind_before_unknown : FlawBy whole (codes "let x " ++ quote (codes "a") ++ 10 ∷ codes "add n x y") 2 WrongKind
+unfolding form_of
+wrong_kind_before_unknown = bad_behind_let 97 (codes "dd") (codes "n" ∷ codes "x" ∷ codes "y" ∷ []) WrongKind (lit≤ tt) refl (record { shows = refl; no_note = refl; words = refl }) (None, refl, refl)
+
+unknown_before_wrong_kind : FlawBy whole (codes "let x " ++ quote (codes "a") ++ 10 ∷ codes "add n y x") 2 UnknownName
+unfolding form_of
+unknown_before_wrong_kind = bad_behind_let 97 (codes "dd") (codes "n" ∷ codes "y" ∷ codes "x" ∷ []) UnknownName (lit≤ tt) refl (record { shows = refl; no_note = refl; words = refl }) (None, refl, refl)
 
 hello : ReadsBy whole (codes "let x " ++ quote (codes "hello") ++ 10 ∷ codes "put x") (Let 1 (codes "x") (codes "hello") ∷ Put 2 (codes "x") ∷ [])
 hello = record {
@@ -383,6 +396,9 @@ rows = record {
   if_bad_relation = if_bad_relation;
   fetch_into_cord = fetch_into_cord;
   len_into_cord = len_into_cord;
+  operand_before_target = operand_before_target;
+  wrong_kind_before_unknown = wrong_kind_before_unknown;
+  unknown_before_wrong_kind = unknown_before_wrong_kind;
   outer_repeat_open = outer_repeat_open;
   else_in_repeat = else_in_repeat;
   else_twice = else_twice;

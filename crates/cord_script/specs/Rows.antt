@@ -23,6 +23,9 @@ pub record Rows : Type 0 where
   pub if_bad_relation : FlawBy whole (codes "if 1 ne 1" ++ 10 ∷ codes "end") 1 BadName
   pub fetch_into_cord : FlawBy whole (codes "let x " ++ quote (codes "a") ++ 10 ∷ codes "fetch x x 0") 2 WrongKind
   pub len_into_cord : FlawBy whole (codes "let x " ++ quote (codes "a") ++ 10 ∷ codes "len x x") 2 WrongKind
+  pub operand_before_target : FlawBy whole (codes "let x " ++ quote (codes "a") ++ 10 ∷ codes "len x y") 2 UnknownName
+  pub wrong_kind_before_unknown : FlawBy whole (codes "let x " ++ quote (codes "a") ++ 10 ∷ codes "add n x y") 2 WrongKind
+  pub unknown_before_wrong_kind : FlawBy whole (codes "let x " ++ quote (codes "a") ++ 10 ∷ codes "add n y x") 2 UnknownName
   pub outer_repeat_open : FlawBy whole (codes "repeat 1" ++ 10 ∷ codes "repeat 1" ++ 10 ∷ codes "end") 1 MissingEnd
   pub else_in_repeat : FlawBy whole (codes "repeat 1" ++ 10 ∷ codes "else" ++ 10 ∷ codes "end") 2 ElseAlone
   pub else_twice : FlawBy whole (codes "if 1 eq 1" ++ 10 ∷ codes "else" ++ 10 ∷ codes "else" ++ 10 ∷ codes "end") 3 ElseAlone
