@@ -6,10 +6,11 @@ use Rattle.cord_script.specs.declared.TheConstants.{MAX_SCRIPT, MAX_LINES}
 use Rattle.cord_script.specs.declared.words.Word.{Word}
 use Rattle.cord_script.specs.declared.statements.Statement.{Statement}
 use Rattle.cord_script.specs.declared.refusals.RefusalKind.{RefusalKind}
-use Rattle.cord_script.specs.declared.refusals.RefusalKind.TheVariants.{TooBig}
+use Rattle.cord_script.specs.declared.refusals.RefusalKind.TheVariants.{TooBig, NoMemory}
 use Rattle.cord_script.specs.Words.{IsSplit, IsIdle, HasWords}
 use Rattle.cord_script.specs.Forms.{Grammar, line_of}
-use Rattle.cord_script.specs.Script.{Before, Block, ReadsBy, Says, LinesSay, whole, start, after, after_all}
+use Rattle.cord_script.specs.Script.{Before, Block, ReadsBy, ReadsUpTo, Says, LinesSay, whole, start, after, after_all}
+use Rattle.cord_script.specs.Script.Block.{InRepeat, InIf, InElse}
 use Rattle.cord_script.specs.Flaws.{FlawBy, HasBadLine}
 use Rattle.cord_script.specs.Leaves.{IsInnermostLeft}
 use Rattle.cord_script.specs.Steps.{Takes, HasWrong, HasRead}
@@ -87,6 +88,29 @@ reads_line b rest behind line n old new ss grown r first (Some s, t, e) =
       number = omega (arith, r.number, length-append r.front (line ∷ []));
       leaves = ap (λ x. after_all x start) e ∙ after_push ss (s ∷ []) start ∙ ap (after s) r.leaves ∙ t.3.leaves;
     }
+
+-- the line that is being read
+pub reached : (b rest behind line : List ℕ) (n : ℕ) (before : Before) (ss : List Statement) → length b ≤ MAX_SCRIPT → n ≤ MAX_LINES → HasRead b rest n before ss → ((lines : List (List ℕ)) → IsSplit behind lines → IsSplit rest (line ∷ lines)) → ReadsUpTo b n
+reached b rest behind line n before ss small few r first =
+    let later = some_lines behind in
+    record {
+      size = small;
+      few = few;
+      front = r.front;
+      line = line;
+      later = later.0;
+      split = r.split (line ∷ later.0) (first later.0 later.1);
+      number = r.number;
+      statements = ss;
+      say = r.say;
+    }
+
+-- an open block is no want of memory
+pub left_found : (blocks : List Block) (n : ℕ) (kind : RefusalKind) → IsInnermostLeft blocks n kind → kind ≢ NoMemory
+left_found [] n kind h = absurd h
+left_found (InRepeat line ∷ blocks) n kind h = λ e. cc
+left_found (InIf line ∷ blocks) n kind h = λ e. cc
+left_found (InElse line ∷ blocks) n kind h = λ e. cc
 
 -- a line that is too much, or wrong
 pub stops : (b rest behind line : List ℕ) (n : ℕ) (before : Before) (ss : List Statement) (kind : RefusalKind) → length b ≤ MAX_SCRIPT → HasRead b rest n before ss → ((lines : List (List ℕ)) → IsSplit behind lines → IsSplit rest (line ∷ lines)) → HasBadLine whole n before line kind → FlawBy whole b n kind

@@ -179,3 +179,15 @@ without_branches = record { has = λ w. not (is_branch w) }
 -- The script's bytes are these statements.
 abbrev pub Reads : List ℕ → List Statement → Type 0
 Reads b ss = ReadsBy whole b ss
+
+-- Line n is one of the script's, which has at most 1,048,576 bytes, and the lines before it say statements.
+pub record ReadsUpTo (b : List ℕ) (n : ℕ) : Type 0 where
+  pub size : length b ≤ MAX_SCRIPT
+  pub few : n ≤ MAX_LINES
+  pub front : List (List ℕ)
+  pub line : List ℕ
+  pub later : List (List ℕ)
+  pub split : IsSplit b (front ++ line ∷ later)
+  pub number : n ≡ length front + 1
+  pub statements : List Statement
+  pub say : LinesSay whole 1 start front statements

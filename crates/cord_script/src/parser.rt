@@ -2,7 +2,7 @@
 ghost use Rattle.std.specs.Prelude.{◌≡◌, ◌≢◌, ◌≤◌, ◌<◌, [], ◌∷◌, ◌++◌, List, ℕ, All, IfOk, IfErr, OnOk, MatchBool, length};
 ghost use Rattle.cord_script.specs.Words.{IsIdle, IsSplit};
 ghost use Rattle.cord_script.specs.Forms.{line_of};
-ghost use Rattle.cord_script.specs.Script.{Reads};
+ghost use Rattle.cord_script.specs.Script.{Reads, ReadsUpTo};
 ghost use Rattle.cord_script.specs.Flaws.{Flaw};
 ghost use Rattle.cord_script.specs.Leaves.{before_of};
 ghost use Rattle.cord_script.specs.Steps.{Tells, Takes, HasWrong};
@@ -85,12 +85,15 @@ fn take_line(
 /// docs/GRAMMAR.md gives the grammar.
 ///
 /// Refused with the line of the first flaw, counted from 1, and what it is: the bytes of a line come first, then its verb, the
-/// number of its words, the words, and the names. Line 0 is the script as a whole. `NoMemory` says nothing of the script.
+/// number of its words, the words, and the names. Line 0 is the script as a whole. `NoMemory` comes
+/// at the line that was being read, and says nothing of the script but that the lines before are read.
 pub fn parse(alloc: Global, script: &[u8]) -> Result<Script, Refusal>
     // The bytes are these statements.
     ensures reads { IfOk result (λ s. Reads script.now s) }
     // Unless memory was refused, this is the first thing wrong with the bytes.
     ensures flaw { IfErr result (λ r. r.kind ≢ RefusalKind.NoMemory → Flaw script.now r.line r.kind) }
+    // Where memory was refused, the line is the one that was being read.
+    ensures no_memory { IfErr result (λ r. r.kind ≡ RefusalKind.NoMemory → ReadsUpTo script.now r.line) }
     // Lines are numbered from 1.
     ensures numbered { IfOk result (λ s. All (λ statement. 1 ≤ line_of statement) s) }
 {

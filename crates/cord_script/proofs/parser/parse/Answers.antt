@@ -1,7 +1,7 @@
 use Rattle.std.proofs.Common.{length, arith, sym, subst, eqb-true}
 use Rattle.cord_script.specs.Script.{Reads}
 use Rattle.cord_script.specs.Leaves.{before_of}
-use Rattle.cord_script.proofs.Readings.{reads_line, stops, too_many, is_wrong, read_whole, leaves_open, no_bytes, some_bytes, numbered_line}
+use Rattle.cord_script.proofs.Readings.{reads_line, stops, too_many, is_wrong, read_whole, leaves_open, no_bytes, some_bytes, numbered_line, reached, left_found}
 use Rattle.cord_script.proofs.parser.parse.Goals as goal
 
 pub returns-then-number-gt-MAX_LINES-clause-flaw : goal.returns-then-number-gt-MAX_LINES-clause-flaw
@@ -11,6 +11,10 @@ returns-then-number-gt-MAX_LINES-clause-flaw c = λ n.
 pub returns-in-Err-clause-flaw : goal.returns-in-Err-clause-flaw
 returns-in-Err-clause-flaw c = λ n.
     stops c.args.script.now c.lines.rest.now c.first_line.result.1.now c.first_line.result.0.now c.lines.number (before_of c.lines.left) c.lines.statements.items c.in-Err.kind (omega arith) c.lines.invariant.read c.first_line.ensures.first (is_wrong c.lines.number c.first_line.result.0.now (before_of c.lines.left) c.in-Err.kind (omega arith) (c.in-Err.ensures.flaw n))
+
+pub returns-in-Err-clause-no_memory : goal.returns-in-Err-clause-no_memory
+returns-in-Err-clause-no_memory c = λ n.
+    reached c.args.script.now c.lines.rest.now c.first_line.result.1.now c.first_line.result.0.now c.lines.number (before_of c.lines.left) c.lines.statements.items (omega arith) (omega arith) c.lines.invariant.read c.first_line.ensures.first
 
 pub lines-preserved : goal.lines-preserved
 lines-preserved c = record {
@@ -22,6 +26,9 @@ lines-preserved c = record {
 pub returns-in-Some-clause-flaw : goal.returns-in-Some-clause-flaw
 returns-in-Some-clause-flaw c = λ n.
     leaves_open c.args.script.now c.lines.rest.now c.lines.number c.in-Some.refusal.line (before_of c.lines.left) c.lines.statements.items c.in-Some.refusal.kind (omega arith) c.lines.invariant.few (no_bytes c.lines.rest.now (eqb-true (length c.lines.rest.now) 0 (sym c.lines-test.ensures))) c.lines.invariant.read c.in-Some.ensures
+
+pub returns-in-Some-clause-no_memory : goal.returns-in-Some-clause-no_memory
+returns-in-Some-clause-no_memory c = λ n. absurd (left_found _ c.in-Some.refusal.line c.in-Some.refusal.kind c.in-Some.ensures n)
 
 pub returns-clause-reads : goal.returns-clause-reads
 returns-clause-reads c =
