@@ -98,7 +98,7 @@ impl Numbering {
     fn add_new(&mut self, alloc: Global, name: &Name) -> Result<(), AllocError>
         ensures { OnOk result (Adds (name.now ∷ []) (names_of self.old) (names_of self.new)) }
     {
-        let copy = Name::of(name.as_slice().to_vec(alloc)?);
+        let copy = Name::of(alloc, name.as_slice())?;
         set_guess(
             &mut self.guesses,
             slot_of(name.as_slice()),

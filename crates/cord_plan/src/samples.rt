@@ -3,7 +3,7 @@ use cord_script::{Name, Number, Path, Relation, Script, Statement, Text};
 use std::alloc::{AllocError, Global};
 
 pub(crate) fn name(alloc: Global, text: &str) -> Result<Name, AllocError> {
-    Ok(Name::of(Vec::from_slice(alloc, text.as_bytes())?))
+    Name::of(alloc, text.as_bytes())
 }
 
 // `let target "text"`

@@ -9,7 +9,8 @@ use Rattle.cord_script.specs.declared.words.Word.TheVariants.{Plain}
 use Rattle.cord_script.specs.declared.refusals.RefusalKind.{RefusalKind}
 use Rattle.cord_script.specs.declared.statements.Statement.{Statement}
 use Rattle.cord_script.specs.Forms.{Term, form_of, line_of, word_of, terms_of, effect_of}
-use Rattle.cord_script.specs.Script.{Before, AreTerms, AreAllowed, FitsBlocks, Suits, after, names_after, paths_after, blocks_after}
+use Rattle.cord_script.specs.Script.{Before, AreTerms, AreAllowed, FitsBlocks, Suits, whole, after, names_after, paths_after, blocks_after}
+use Rattle.cord_script.specs.Flaws.{HasFormFlaw, HasBadWords}
 use Rattle.cord_script.specs.Parted.{term_of, IsChecked}
 use Rattle.cord_script.specs.Verbal.{verb_word, verb_effect, verb_form}
 use Rattle.cord_script.specs.Behind.{left_after, SaysBehind}
@@ -53,3 +54,7 @@ says v n old new word words others ps format s e spelled checked left named line
 pub said : (v : Verb) (n : ℕ) (old new : Before) (word : List ℕ) (words others : List Word) (ps : List Part) (format : Option (List Piece)) (ts : List Term) (r : Result Statement RefusalKind) → words ≡ Plain word ∷ others → word ≡ verb_word v → IsChecked (verb_form v) old others ps format → new ≡ left_after v n ps old → ts ≡ map term_of ps → IfOk r (λ s. word_of s ≡ verb_word v) → IfOk r (λ s. line_of s ≡ n) → IfOk r (λ s. terms_of s ≡ ts) → IfOk r Suits → IfOk r (SaysBehind n old new words)
 said v n old new word words others ps format ts (Ok s) e spelled checked left same named line terms suits = says v n old new word words others ps format s e spelled checked left named line (terms ∙ same) suits
 said v n old new word words others ps format ts (Err kind) e spelled checked left same named line terms suits = tt
+
+-- what is wrong with the words behind a verb is wrong with all words
+pub bad_words : (v : Verb) (old : Before) (words others : List Word) (kind : RefusalKind) → words ≡ Plain (verb_word v) ∷ others → HasFormFlaw old (Some (verb_form v)) others kind → HasBadWords whole old words kind
+bad_words v old words others kind e h = subst (λ ws. HasBadWords whole old ws kind) (sym e) (subst (λ form. HasFormFlaw old form others kind) (sym (form_is v)) h)

@@ -1,20 +1,21 @@
 // Names, texts and paths, as they stand in statements.
-ghost use Rattle.std.specs.Prelude.{◌≡◌, List, ℕ};
+ghost use Rattle.std.specs.Prelude.{◌≡◌, List, ℕ, IfOk};
 ghost use Rattle.std.specs.String.{string_bytes};
 
-use std::alloc::AllocError;
+use std::alloc::{AllocError, Global};
 use std::marker::Model;
+use std::rc::Rc;
 
-/// A name, as its bytes: 1 to 32 ASCII letters, digits and `_`, not beginning with a digit.
+/// A name, as its bytes: 1 to 32 ASCII letters, digits and `_`, not beginning with a digit. Copies share the bytes.
 #[derive(Drop)]
 pub struct Name {
-    name: Vec<u8>,
+    name: Rc<Vec<u8>>,
 }
 
 impl Model for Name {
     ghost Value = { List ℕ };
 
-    ghost view = { λ n. n.name.items };
+    ghost view = { λ n. n.name.value.items };
 }
 
 impl Clone for Name {
@@ -28,25 +29,20 @@ impl Clone for Name {
 }
 
 impl Name {
-    /// The name of these bytes, without taking memory.
-    pub fn of(bytes: Vec<u8>) -> Self
-        ensures { result ≡ bytes.items }
+    /// The name of these bytes.
+    pub fn of(alloc: Global, bytes: &[u8]) -> Result<Self, AllocError>
+        ensures { IfOk result (λ name. name ≡ bytes.now) }
     {
-        Name { name: bytes }
+        Ok(Name {
+            name: Rc::new(alloc, Vec::from_slice(alloc, bytes)?)?,
+        })
     }
 
     /// The bytes of the name.
     pub fn as_slice(&self) -> &[u8]
         ensures { result.now ≡ self.now }
     {
-        &self.name
-    }
-
-    /// Gives the bytes back, without taking memory.
-    pub fn into_vec(self) -> Vec<u8>
-        ensures { result.items ≡ self }
-    {
-        self.name
+        self.name.as_ref().as_slice()
     }
 }
 

@@ -1,5 +1,5 @@
 // What the words of a statement say.
-ghost use Rattle.std.specs.Prelude.{◌≡◌, true, false, Some, IfOk, IfErr, IfSome, IfNone, ℕ, List};
+ghost use Rattle.std.specs.Prelude.{◌≡◌, ◌≢◌, true, false, Some, IfOk, IfErr, IfSome, IfNone, ℕ, List};
 ghost use Rattle.std.specs.Str.{is_utf8};
 ghost use Rattle.cord_script.specs.Tests.{each, is_name, is_path, begins_numeral, function_word, relation_word};
 ghost use Rattle.cord_script.specs.Forms.Term.{Value};
@@ -10,9 +10,11 @@ ghost use Rattle.cord_script.specs.Parted.{IsPart, is_path_text, is_no_zero};
 use crate::checks::is_name;
 use crate::kinds::{Kind, Want};
 use crate::numerals::{is_digit, numeral_of};
+use crate::table::Table;
 use crate::words::Word;
 use crate::{Function, MAX_PATH, Name, Number, Path, RefusalKind, Relation, Text};
 use memchr::memchr;
+use std::alloc::Global;
 
 /// What a word of a statement says.
 #[derive(Drop)]
@@ -36,9 +38,9 @@ pub enum Part {
 }
 
 // Where a name is wanted.
-fn name_of(word: Word) -> Result<Name, RefusalKind>
-    ensures name { IfOk result (λ name. (word ≡ Word.Plain name) × (is_name name ≡ true)) }
-    ensures flaw { IfErr result (λ kind. name_misfit word ≡ Some kind) }
+fn name_of(alloc: Global, names: &Table, word: Word) -> Result<Name, RefusalKind>
+    ensures name { IfOk result (λ name. (word.entry ≡ Word.Plain name) × (is_name name ≡ true)) }
+    ensures flaw { IfErr result (λ kind. kind ≢ RefusalKind.NoMemory → name_misfit word.entry ≡ Some kind) }
 {
     let Word::Plain(name) = word else {
         return Err(RefusalKind::BadName);
@@ -46,7 +48,7 @@ fn name_of(word: Word) -> Result<Name, RefusalKind>
     if !is_name(name.as_slice()) {
         return Err(RefusalKind::BadName);
     }
-    Ok(name)
+    Ok(names.name_of(alloc, name.as_slice())?)
 }
 
 // Whether a word begins as a numeral: with a digit or `-`.
@@ -60,9 +62,9 @@ fn begins_numeral(word: &[u8]) -> bool
 }
 
 // Where a number operand is wanted.
-fn number_of(word: Word) -> Result<Number, RefusalKind>
-    ensures number { IfOk result (λ number. IsTerm word (Value number)) }
-    ensures flaw { IfErr result (λ kind. number_misfit word ≡ Some kind) }
+fn number_of(alloc: Global, names: &Table, word: Word) -> Result<Number, RefusalKind>
+    ensures number { IfOk result (λ number. IsTerm word.entry (Value number)) }
+    ensures flaw { IfErr result (λ kind. kind ≢ RefusalKind.NoMemory → number_misfit word.entry ≡ Some kind) }
 {
     let Word::Plain(name) = word else {
         return Err(RefusalKind::BadNumber);
@@ -76,13 +78,13 @@ fn number_of(word: Word) -> Result<Number, RefusalKind>
     if !is_name(name.as_slice()) {
         return Err(RefusalKind::BadName);
     }
-    Ok(Number::Named(name))
+    Ok(Number::Named(names.name_of(alloc, name.as_slice())?))
 }
 
 // Where a quoted word is wanted.
 fn text_of(word: Word) -> Result<Text, RefusalKind>
-    ensures text { IfOk result (λ text. word ≡ Word.Quoted text) }
-    ensures flaw { IfErr result (λ kind. text_misfit word ≡ Some kind) }
+    ensures text { IfOk result (λ text. word.entry ≡ Word.Quoted text) }
+    ensures flaw { IfErr result (λ kind. text_misfit word.entry ≡ Some kind) }
 {
     match word {
         Word::Plain(_) => Err(RefusalKind::WrongKind),
@@ -117,8 +119,8 @@ fn utf8_path(bytes: Vec<u8>) -> Option<Path>
 
 // Where a path is wanted.
 fn path_of(word: Word) -> Result<Path, RefusalKind>
-    ensures path { IfOk result (λ path. (word ≡ Word.Quoted path) × (is_path path ≡ true)) }
-    ensures flaw { IfErr result (λ kind. path_misfit word ≡ Some kind) }
+    ensures path { IfOk result (λ path. (word.entry ≡ Word.Quoted path) × (is_path path ≡ true)) }
+    ensures flaw { IfErr result (λ kind. path_misfit word.entry ≡ Some kind) }
 {
     let Word::Quoted(text) = word else {
         return Err(RefusalKind::WrongKind);
@@ -170,14 +172,14 @@ fn relation_of(word: &Word) -> Result<Relation, RefusalKind>
 }
 
 /// What a word says where this is wanted, or what is wrong with it.
-pub fn part_of(want: Want, word: Word) -> Result<Part, RefusalKind>
-    ensures part { IfOk result (IsPart want word) }
-    ensures flaw { IfErr result (λ kind. misfit want word ≡ Some kind) }
+pub fn part_of(alloc: Global, names: &Table, want: Want, word: Word) -> Result<Part, RefusalKind>
+    ensures part { IfOk result (IsPart want word.entry) }
+    ensures flaw { IfErr result (λ kind. kind ≢ RefusalKind.NoMemory → misfit want word.entry ≡ Some kind) }
 {
     match want {
-        Want::Target(kind) => Ok(Part::Target(kind, name_of(word)?)),
-        Want::Operand(kind) => Ok(Part::Operand(kind, name_of(word)?)),
-        Want::Number => Ok(Part::Value(number_of(word)?)),
+        Want::Target(kind) => Ok(Part::Target(kind, name_of(alloc, names, word)?)),
+        Want::Operand(kind) => Ok(Part::Operand(kind, name_of(alloc, names, word)?)),
+        Want::Number => Ok(Part::Value(number_of(alloc, names, word)?)),
         Want::Text => Ok(Part::Literal(text_of(word)?)),
         Want::Path => Ok(Part::FilePath(path_of(word)?)),
         Want::Function => Ok(Part::Applies(function_of(&word)?)),

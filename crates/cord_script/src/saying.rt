@@ -1,11 +1,11 @@
 // What a line says behind the lines before it.
-ghost use Rattle.std.specs.Prelude.{◌≡◌, ◌≢◌, [], Some, IfOk, IfErr, OnOk};
+ghost use Rattle.std.specs.Prelude.{◌≡◌, ◌≢◌, [], ◌∷◌, Some, IfOk, IfErr, MatchOption, OnOk};
 ghost use Rattle.cord_script.specs.Flaws.{HasFormFlaw, HasBadWords};
-ghost use Rattle.cord_script.specs.Script.{whole};
+ghost use Rattle.cord_script.specs.Script.{Before, whole};
 ghost use Rattle.cord_script.specs.Leaves.{before_of};
 ghost use Rattle.cord_script.specs.Parted.{IsChecked};
 ghost use Rattle.cord_script.specs.Behind.{left_after, SaysBehind};
-ghost use Rattle.cord_script.specs.Verbal.{verb_form};
+ghost use Rattle.cord_script.specs.Verbal.{verb_form, verb_word};
 
 use crate::before::{Left, add_names, add_paths, names_flaw};
 use crate::blocks::{block_flaw, set_blocks};
@@ -26,10 +26,10 @@ fn checked_parts(
     verb: Verb,
     words: VecDeque<Word>,
 ) -> Result<Worded, RefusalKind>
-    ensures parts { IfOk result (λ worded. IsChecked (verb_form verb) (before_of left.now) words.items worded.parts.items worded.format) }
-    ensures flaw { IfErr result (λ kind. kind ≢ RefusalKind.NoMemory → HasFormFlaw (before_of left.now) (Some (verb_form verb)) words.items kind) }
+    ensures parts { IfOk result (λ worded. IsChecked (verb_form verb) (before_of left.now) words.entry.items worded.parts.items worded.format) }
+    ensures flaw { IfErr result (λ kind. kind ≢ RefusalKind.NoMemory → HasFormFlaw (before_of left.now) (Some (verb_form verb)) words.entry.items kind) }
 {
-    let worded = parts_of(alloc, verb, words)?;
+    let worded = parts_of(alloc, &left.names, verb, words)?;
     if let Some(kind) = names_flaw(left, &worded.parts) {
         return Err(kind);
     }
@@ -49,6 +49,18 @@ fn leave(verb: Verb, number: u32, left: &mut Left, parts: &[Part]) -> Result<(),
     set_blocks(verb, number, &mut left.blocks)
 }
 
+// The verb of the first word, which is taken.
+fn verb_in(words: &mut VecDeque<Word>) -> Option<Verb>
+    requires { words.old.items ≢ [] }
+    ensures { MatchOption result ((before : Before) → HasBadWords whole before words.old.items RefusalKind.UnknownStatement) (λ verb. words.old.items ≡ Word.Plain (verb_word verb) ∷ words.new.items) }
+{
+    match words.pop_front() {
+        Some(Word::Plain(word)) => verb_of(word.as_slice()),
+        Some(Word::Quoted(_text)) => None,
+        None => None,
+    }
+}
+
 /// The statement that words say behind the lines before, and what it leaves.
 pub fn said(
     alloc: Global,
@@ -57,14 +69,11 @@ pub fn said(
     words: Vec<Word>,
 ) -> Result<Statement, RefusalKind>
     requires { words.items ≢ [] }
-    ensures said { IfOk result (SaysBehind number (before_of left.old) (before_of left.new) words.items) }
-    ensures flaw { IfErr result (λ kind. kind ≢ RefusalKind.NoMemory → HasBadWords whole (before_of left.old) words.items kind) }
+    ensures said { IfOk result (SaysBehind number (before_of left.old) (before_of left.new) words.entry.items) }
+    ensures flaw { IfErr result (λ kind. kind ≢ RefusalKind.NoMemory → HasBadWords whole (before_of left.old) words.entry.items kind) }
 {
     let mut words = VecDeque::from_vec(words);
-    let Some(Word::Plain(word)) = words.pop_front() else {
-        return Err(RefusalKind::UnknownStatement);
-    };
-    let Some(verb) = verb_of(word.as_slice()) else {
+    let Some(verb) = verb_in(&mut words) else {
         return Err(RefusalKind::UnknownStatement);
     };
     let Worded { parts, format } = checked_parts(alloc, left, verb, words)?;

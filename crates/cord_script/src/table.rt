@@ -1,10 +1,10 @@
 // The names that the lines before assign.
-ghost use Rattle.std.specs.Prelude.{◌≡◌, ◌<◌, [], ◌∷◌, ◌++◌, Some, None, length, IfErr, IfSome, MatchOption, OnOk};
+ghost use Rattle.std.specs.Prelude.{◌≡◌, ◌<◌, [], ◌∷◌, ◌++◌, Some, None, length, IfErr, IfOk, IfSome, MatchOption, OnOk};
 ghost use Rattle.cord_script.specs.Script.{kind_of, with_name};
 
 use crate::kinds::Kind;
 use crate::{Name, RefusalKind};
-use std::alloc::Global;
+use std::alloc::{AllocError, Global};
 use std::marker::Model;
 
 /// The number of slots that guess the place of a name.
@@ -128,6 +128,16 @@ impl Table {
         match self.find(name) {
             Some(entry) => Some(entry.kind),
             None => None,
+        }
+    }
+
+    /// The name of these bytes, which it shares with the table where it is known.
+    pub fn name_of(&self, alloc: Global, bytes: &[u8]) -> Result<Name, AllocError>
+        ensures { IfOk result (λ name. name ≡ bytes.now) }
+    {
+        match self.find(bytes) {
+            Some(entry) => entry.name.clone(),
+            None => Name::of(alloc, bytes),
         }
     }
 

@@ -9,6 +9,7 @@ ghost use Rattle.cord_script.specs.Verbal.{verb_shape};
 use crate::grammar::{Verb, wants_of};
 use crate::kinds::{Kind, Want};
 use crate::parts::{Part, part_of};
+use crate::table::Table;
 use crate::words::Word;
 use crate::{MAX_PARTS, MIN_PARTS, RefusalKind};
 use cord_printf::{ArgKind, Format, FormatError, Piece};
@@ -33,6 +34,8 @@ const FORMAT: [Want; 2] = [Want::Target(Kind::Cord), Want::Format];
 
 // Takes a word for each want, from left to right.
 fn take_parts(
+    alloc: Global,
+    names: &Table,
     wants: &[Want],
     words: &mut VecDeque<Word>,
     parts: &mut Vec<Part>,
@@ -46,7 +49,7 @@ fn take_parts(
         let Some(word) = words.pop_front() else {
             unreachable!()
         };
-        let part = part_of(*want, word)?;
+        let part = part_of(alloc, names, *want, word)?;
         parts.push(part)?;
     }
     Ok(())
@@ -54,6 +57,8 @@ fn take_parts(
 
 // Takes all words, one for each want.
 fn take_all(
+    alloc: Global,
+    names: &Table,
     wants: &[Want],
     words: &mut VecDeque<Word>,
     parts: &mut Vec<Part>,
@@ -66,20 +71,21 @@ fn take_all(
     if words.len() != wants.len() {
         return Err(RefusalKind::WrongCount);
     }
-    take_parts(wants, words, parts)
+    take_parts(alloc, names, wants, words, parts)
 }
 
 // The parts of words that have to be these.
 fn plain_parts(
     alloc: Global,
+    names: &Table,
     wants: &[Want],
     mut words: VecDeque<Word>,
 ) -> Result<Worded, RefusalKind>
-    ensures parts { IfOk result (λ worded. IsParted (Words wants.now) words.items worded.parts.items worded.format) }
-    ensures flaw { IfErr result (λ kind. kind ≢ RefusalKind.NoMemory → HasPartFlaw (Words wants.now) words.items kind) }
+    ensures parts { IfOk result (λ worded. IsParted (Words wants.now) words.entry.items worded.parts.items worded.format) }
+    ensures flaw { IfErr result (λ kind. kind ≢ RefusalKind.NoMemory → HasPartFlaw (Words wants.now) words.entry.items kind) }
 {
     let mut parts = Vec::new(alloc);
-    take_all(wants, &mut words, &mut parts)?;
+    take_all(alloc, names, wants, &mut words, &mut parts)?;
     Ok(Worded {
         parts,
         format: None,
@@ -87,17 +93,21 @@ fn plain_parts(
 }
 
 // The parts of words that have to be a target and 2 to 16 cords.
-fn joined_parts(alloc: Global, mut words: VecDeque<Word>) -> Result<Worded, RefusalKind>
-    ensures parts { IfOk result (λ worded. IsParted Joined words.items worded.parts.items worded.format) }
-    ensures flaw { IfErr result (λ kind. kind ≢ RefusalKind.NoMemory → HasPartFlaw Joined words.items kind) }
+fn joined_parts(
+    alloc: Global,
+    names: &Table,
+    mut words: VecDeque<Word>,
+) -> Result<Worded, RefusalKind>
+    ensures parts { IfOk result (λ worded. IsParted Joined words.entry.items worded.parts.items worded.format) }
+    ensures flaw { IfErr result (λ kind. kind ≢ RefusalKind.NoMemory → HasPartFlaw Joined words.entry.items kind) }
 {
     let count = words.len();
     if count < 1 + MIN_PARTS || count > 1 + MAX_PARTS {
         return Err(RefusalKind::WrongCount);
     }
     let mut parts = Vec::new(alloc);
-    take_parts(&TARGET, &mut words, &mut parts)?;
-    take_parts(&CORDS[..count - 1], &mut words, &mut parts)?;
+    take_parts(alloc, names, &TARGET, &mut words, &mut parts)?;
+    take_parts(alloc, names, &CORDS[..count - 1], &mut words, &mut parts)?;
     Ok(Worded {
         parts,
         format: None,
@@ -143,9 +153,13 @@ fn wants_of_pieces(alloc: Global, pieces: &[Piece]) -> Result<Vec<Want>, Refusal
 }
 
 // The parts of words that have to be a target, a format and its arguments.
-fn printed_parts(alloc: Global, mut words: VecDeque<Word>) -> Result<Worded, RefusalKind>
-    ensures parts { IfOk result (λ worded. IsParted Printed words.items worded.parts.items worded.format) }
-    ensures flaw { IfErr result (λ kind. kind ≢ RefusalKind.NoMemory → HasPartFlaw Printed words.items kind) }
+fn printed_parts(
+    alloc: Global,
+    names: &Table,
+    mut words: VecDeque<Word>,
+) -> Result<Worded, RefusalKind>
+    ensures parts { IfOk result (λ worded. IsParted Printed words.entry.items worded.parts.items worded.format) }
+    ensures flaw { IfErr result (λ kind. kind ≢ RefusalKind.NoMemory → HasPartFlaw Printed words.entry.items kind) }
 {
     if words.len() < 2 {
         return Err(RefusalKind::WrongCount);
@@ -153,12 +167,12 @@ fn printed_parts(alloc: Global, mut words: VecDeque<Word>) -> Result<Worded, Ref
     // Before `take_parts` takes the text.
     let read = format_in(alloc, &words)?;
     let mut parts = Vec::new(alloc);
-    take_parts(&FORMAT, &mut words, &mut parts)?;
+    take_parts(alloc, names, &FORMAT, &mut words, &mut parts)?;
     let Some(format) = read else {
         return Err(RefusalKind::BadFormat);
     };
     let wants = wants_of_pieces(alloc, format.pieces())?;
-    take_all(&wants, &mut words, &mut parts)?;
+    take_all(alloc, names, &wants, &mut words, &mut parts)?;
     Ok(Worded {
         parts,
         format: Some(format),
@@ -166,13 +180,18 @@ fn printed_parts(alloc: Global, mut words: VecDeque<Word>) -> Result<Worded, Ref
 }
 
 /// The parts of the words behind a verb.
-pub fn parts_of(alloc: Global, verb: Verb, words: VecDeque<Word>) -> Result<Worded, RefusalKind>
-    ensures parts { IfOk result (λ worded. IsParted (verb_shape verb) words.items worded.parts.items worded.format) }
-    ensures flaw { IfErr result (λ kind. kind ≢ RefusalKind.NoMemory → HasPartFlaw (verb_shape verb) words.items kind) }
+pub fn parts_of(
+    alloc: Global,
+    names: &Table,
+    verb: Verb,
+    words: VecDeque<Word>,
+) -> Result<Worded, RefusalKind>
+    ensures parts { IfOk result (λ worded. IsParted (verb_shape verb) words.entry.items worded.parts.items worded.format) }
+    ensures flaw { IfErr result (λ kind. kind ≢ RefusalKind.NoMemory → HasPartFlaw (verb_shape verb) words.entry.items kind) }
 {
     match verb {
-        Verb::Catn => joined_parts(alloc, words),
-        Verb::Sprintf => printed_parts(alloc, words),
-        _ => plain_parts(alloc, wants_of(verb), words),
+        Verb::Catn => joined_parts(alloc, names, words),
+        Verb::Sprintf => printed_parts(alloc, names, words),
+        _ => plain_parts(alloc, names, wants_of(verb), words),
     }
 }

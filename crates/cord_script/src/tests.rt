@@ -394,14 +394,14 @@ fn kinds_have_codes_and_texts(rt: HostRuntime) {
 
 #[test]
 fn small_types_give_their_parts_back(rt: HostRuntime) -> Result<(), Fail> {
-    let name = Name::of(Vec::from_slice(rt.alloc(), b"x")?);
+    let name = Name::of(rt.alloc(), b"x")?;
     assert_eq!(rt; name.as_slice(), b"x".as_slice());
     let mut list = Vec::new(rt.alloc());
     list.push(name)?;
     let names = Names::of(list);
     assert_eq!(rt; names.as_slice().len(), 1);
     for name in names.into_vec() {
-        assert_eq!(rt; name.into_vec().as_slice(), b"x".as_slice());
+        assert_eq!(rt; name.as_slice(), b"x".as_slice());
     }
     let text = Text::of(Vec::from_slice(rt.alloc(), b"t")?);
     assert_eq!(rt; text.into_vec().as_slice(), b"t".as_slice());

@@ -3,13 +3,43 @@ ghost use Rattle.std.specs.Prelude.{◌≡◌, ◌≢◌, ◌<◌, ◌≤◌, �
 ghost use Rattle.cord_script.specs.Words.{IsBlank, IsPlain, EndsPlain, StartsNoBlank, Spells, IsBadText, HasNext, BeginsBadText, HasWords, HasBadBytes};
 ghost use Rattle.cord_script.specs.Reading.{digit_of, hex_of, escape_of, unit_of};
 
-use crate::{MAX_TEXT, Name, RefusalKind, Text};
+use crate::{MAX_TEXT, RefusalKind, Text};
 use std::alloc::Global;
+use std::marker::Model;
+
+/// The bytes of a plain word, which stand in the script.
+#[derive(Drop)]
+pub struct Plain<'a> {
+    bytes: &'a [u8],
+}
+
+impl<'a> Model for Plain<'a> {
+    ghost use Rattle.std.specs.Prelude.{List, ℕ};
+
+    ghost Value = { List ℕ };
+
+    ghost view = { λ p. p.bytes.now };
+}
+
+impl<'a> Plain<'a> {
+    fn of(bytes: &'a [u8]) -> Plain<'a>
+        ensures { result ≡ bytes.now }
+    {
+        Plain { bytes }
+    }
+
+    /// The bytes of the word.
+    pub fn as_slice(&self) -> &[u8]
+        ensures { result.now ≡ self.now }
+    {
+        self.bytes
+    }
+}
 
 /// A word: a plain one as its bytes, a quoted one as the text that it spells.
 #[derive(Drop)]
-pub enum Word {
-    Plain(Name),
+pub enum Word<'a> {
+    Plain(Plain<'a>),
     Quoted(Text),
 }
 
@@ -149,7 +179,7 @@ fn quoted(alloc: Global, inner: &[u8]) -> Result<(Text, &[u8]), RefusalKind>
 }
 
 // The first word of a line and what follows it, if there is one.
-fn next_word(alloc: Global, line: &[u8]) -> Result<Option<(Word, &[u8])>, RefusalKind>
+fn next_word(alloc: Global, line: &[u8]) -> Result<Option<(Word<'_>, &[u8])>, RefusalKind>
     ensures word { IfOk result (λ o. HasNext line.now (option_map (λ r. (r.0, r.1.now)) o)) }
     ensures flaw { IfErr result (λ kind. kind ≢ RefusalKind.NoMemory → BeginsBadText line.now kind) }
 {
@@ -162,12 +192,12 @@ fn next_word(alloc: Global, line: &[u8]) -> Result<Option<(Word, &[u8])>, Refusa
         return Ok(Some((Word::Quoted(text), after)));
     }
     let len = plain_len(rest);
-    let bytes = Vec::from_slice(alloc, head(rest, len))?;
-    Ok(Some((Word::Plain(Name::of(bytes)), tail(rest, len))))
+    let word = Word::Plain(Plain::of(head(rest, len)));
+    Ok(Some((word, tail(rest, len))))
 }
 
 /// The words of a line, in order.
-pub fn words_of(alloc: Global, line: &[u8]) -> Result<Vec<Word>, RefusalKind>
+pub fn words_of(alloc: Global, line: &[u8]) -> Result<Vec<Word<'_>>, RefusalKind>
     ensures words { IfOk result (λ ws. HasWords line.now ws.items) }
     ensures flaw { IfErr result (λ kind. kind ≢ RefusalKind.NoMemory → HasBadBytes line.now kind) }
 {

@@ -10,8 +10,7 @@ use std::process::Abort;
 
 // The expression that is a name.
 fn named(rt: &(impl AllocGlobal + Abort), name: &[u8]) -> Expr {
-    let bytes = Vec::from_slice(rt.alloc(), name).expect(rt, "no memory");
-    Expr::Name(Name::of(bytes))
+    Expr::Name(Name::of(rt.alloc(), name).expect(rt, "no memory"))
 }
 
 // Some bytes of two expressions, one after the other.

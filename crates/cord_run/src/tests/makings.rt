@@ -21,7 +21,7 @@ fn hello_files(rt: &(impl AllocGlobal + Abort)) -> MemFiles {
 }
 
 fn name(rt: &(impl AllocGlobal + Abort), text: &[u8]) -> Name {
-    Name::of(Vec::from_slice(rt.alloc(), text).expect(rt, "no memory"))
+    Name::of(rt.alloc(), text).expect(rt, "no memory")
 }
 
 fn text(rt: &(impl AllocGlobal + Abort), text: &[u8]) -> Text {

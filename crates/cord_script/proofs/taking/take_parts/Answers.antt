@@ -6,7 +6,7 @@ use Rattle.cord_script.proofs.taking.take_parts.Goals as goal
 pub returns-in_err-part-clause-flaw : goal.returns-in_err-part-clause-flaw
 returns-in_err-part-clause-flaw c =
     let p = err_from_is_err_and c.from_residual.result c.from_residual.ensures.1 in
-    rw (p.1, p.2) (λ n. c.loop-want.invariant.fit ∙ step_wrong c.args.wants.now c.loop-want.want-index _ c.loop-want.words.items c.pop_front.new.self.items c.in-Some.word c.in_err-part.field-0.0 (omega arith) c.in-Some.ensures.items c.in_err-part.ensures.flaw)
+    rw (p.1, p.2) (λ n. c.loop-want.invariant.fit ∙ step_wrong c.args.wants.now c.loop-want.want-index _ c.loop-want.words.items c.pop_front.new.self.items c.in-Some.word c.in_err-part.field-0.0 (omega arith) c.in-Some.ensures.items (c.in_err-part.ensures.flaw n))
 
 pub loop-want-preserved : goal.loop-want-preserved
 loop-want-preserved c =

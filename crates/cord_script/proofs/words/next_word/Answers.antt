@@ -14,4 +14,4 @@ returns-then-first-eq34-clause-word c =
     quoted_next c.args.line.now c.tail-rest.result.now c.in-Some.inner.now read.0 c.in_ok-text.after.now c.in_ok-text.text c.blanks.result c.in-Some.first c.tail-rest.ensures c.in-Some.ensures c.if-first-eq34.true read.1 c.blanks.ensures.blank read.2 read.3
 
 pub returns-clause-word : goal.returns-clause-word
-returns-clause-word c = plain_next c.args.line.now c.tail-rest.result.now c.in-Some.inner.now c.of.result c.tail.result.now c.in-Some.first c.blanks.result c.plain_len-len.result (c.of.ensures ∙ c.in_ok-bytes.ensures.items ∙ c.head.ensures) c.tail.ensures c.tail-rest.ensures c.in-Some.ensures c.blanks.ensures.blank c.blanks.ensures.stops c.if-first-eq34.false c.plain_len-len.ensures.plain c.plain_len-len.ensures.ends
+returns-clause-word c = plain_next c.args.line.now c.tail-rest.result.now c.in-Some.inner.now c.of.result c.tail.result.now c.in-Some.first c.blanks.result c.plain_len-len.result (c.of.ensures ∙ c.head.ensures) c.tail.ensures c.tail-rest.ensures c.in-Some.ensures c.blanks.ensures.blank c.blanks.ensures.stops c.if-first-eq34.false c.plain_len-len.ensures.plain c.plain_len-len.ensures.ends
