@@ -36,6 +36,8 @@ pub mod Decimals
 pub mod MemberTexts
 pub mod PartSums
 pub mod Nearest
+pub mod Recents
+pub mod Lasts
 pub mod Choices
 pub mod Joined
 pub mod Spacing

@@ -14,7 +14,7 @@ use Rattle.cord_plan.specs.Choices.{nearest, is_spare, stands, expression_of, ex
 use Rattle.cord_plan.proofs.Chosen.{setter_is}
 
 -- one place more at the end
-each_more : (holds : ℕ → Bool) (n a : ℕ) → each_from holds (suc n) a ≡ each_from holds n a && holds (a + n)
+pub each_more : (holds : ℕ → Bool) (n a : ℕ) → each_from holds (suc n) a ≡ each_from holds n a && holds (a + n)
 each_more holds zero a = pick (holds a) (holds (a + 0)) (ap holds (let same : a ≡ a + 0 = omega arith in same))
   where
     pick : (v w : Bool) → v ≡ w → (v && true) ≡ (true && w)
@@ -145,6 +145,18 @@ module _ (s : List Statement) (later : List ℕ → ℕ → Bool) (t : Table) (b
     where
       told : (setter s x b ≡ Some a) × (each_from (clear s x) (b - (a + 1)) (a + 1) ≡ true)
       told = rw e at (nearest_told s x b)
+
+-- for a spare operand an expression stands that stays
+pub spare_stands : (s : List Statement) (later : List ℕ → ℕ → Bool) (e : Expr) (a b : ℕ) (l : Statement) (xs : List (List ℕ)) (x : List ℕ) → is_spare s later b l xs x ≡ true → stands s later e a b l xs x ≡ each_from (λ m. keeps (slice_get s m) (names e)) (b - a) a
+spare_stands s later e a b l xs x spare = pick (count x xs == 1) (assigns l x || not (later x b)) spare
+  where
+    stay : Bool
+    stay = each_from (λ m. keeps (slice_get s m) (names e)) (b - a) a
+
+    pick : (c f : Bool) → (c && f) ≡ true → (c && (f && stay)) ≡ stay
+    pick true true h = refl
+    pick true false h = let bad : ⊥ = cc in absurd bad
+    pick false f h = let bad : ⊥ = cc in absurd bad
 
 -- what the nearest line is, by the line before
 pub near_here : (s : List Statement) (x : List ℕ) (p : ℕ) (l : Statement) → 0 < p → p ≤ length s → l ≡ get_or s (p - 1) l →

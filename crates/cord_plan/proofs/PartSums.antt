@@ -1,17 +1,15 @@
 -- The parts and the names of expressions, summed over members and operands.
-use Rattle.std.proofs.Common.{◌≡◌, ℕ, ◌+◌, ◌-◌, ◌<◌, ◌≤◌, Bool, true, false, ◌&&◌, List, [], ◌∷◌, ◌++◌, map, drop, length, get_or, pos, Option, Some, None, refl, sym, ap, ◌∙◌, arith, length-append, length-drop}
+use Rattle.std.proofs.Common.{◌≡◌, ℕ, ◌+◌, ◌-◌, ◌<◌, ◌≤◌, Bool, true, false, ◌&&◌, List, [], ◌∷◌, ◌++◌, map, drop, length, pos, Option, Some, None, refl, sym, ap, ◌∙◌, arith, length-append, length-drop}
 use Rattle.std.specs.Prelude.{nat_le, not, sum_by, if◌then◌else◌}
 use Rattle.std.proofs.lemmas.Bool.{leb-false, leb-true, lt-leb, le-leb}
-use Rattle.std.proofs.lemmas.List.{at_drop_more, length-map}
+use Rattle.std.proofs.lemmas.List.{length-map}
 use Rattle.std.proofs.lemmas.List.Sums.{sum_by-cons}
 use Rattle.cord_script.specs.declared.operands.Number.TheVariants.{Numeral}
 use Rattle.cord_script.specs.declared.statements.Statement.{Statement}
 use Rattle.cord_script.specs.declared.statements.Statement.TheVariants.{Chars, Nul, Cat, Catn, Catc, Substr, Put}
-use Rattle.cord_plan.specs.Exprs.{Expr, Exprs, name, run, cat, sub, nothing, member, parts, parts_of, names, names_of, append, in_front, members}
+use Rattle.cord_plan.specs.Exprs.{Expr, Exprs, name, run, cat, sub, nothing, member, parts, parts_of, names, append, in_front, members}
 use Rattle.cord_plan.specs.Operands.{assigns_at}
 use Rattle.cord_plan.specs.Forced.{Choice, expr_of, keeps, is_small, expr_with}
-use Rattle.cord_plan.specs.Views.{expr_view, members_of}
-use Rattle.cord_plan.specs.declared.expressions.Expr as code
 use Rattle.cord_plan.specs.Choices.{room_left, room_left_by, simple_operands, parts_beside}
 
 -- where one count of parts is too large, so is it with more
@@ -48,14 +46,6 @@ keeps_append l (x ∷ xs) ys = pick (not (assigns_at l x)) (keeps_append l xs ys
     pick : (v : Bool) → keeps l (xs ++ ys) ≡ (keeps l xs && keeps l ys) → (v && keeps l (xs ++ ys)) ≡ ((v && keeps l xs) && keeps l ys)
     pick true more = more
     pick false more = refl
-
--- the names of members, at one that is walked over
-pub keeps_member : (l : Option Statement) (ms : List code.Expr) (k : ℕ) (m : code.Expr) → k < length ms → m ≡ get_or ms k m →
-    keeps l (names_of (members_of (map expr_view (drop k ms)))) ≡ keeps l (names (expr_view m)) && keeps l (names_of (members_of (map expr_view (drop (k + 1) ms))))
-keeps_member l ms k m lt is =
-    at_drop_more (λ (es : List code.Expr). keeps l (names_of (members_of (map expr_view es)))) ms k m lt
-    ∙ ap (λ (x : code.Expr). keeps l (names_of (members_of (map expr_view (x ∷ drop (k + 1) ms))))) (sym is)
-    ∙ keeps_append l (names (expr_view m)) (names_of (members_of (map expr_view (drop (k + 1) ms))))
 
 abbrev pub sum_parts : List Expr → ℕ
 sum_parts [] = 0

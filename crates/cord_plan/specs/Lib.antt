@@ -8,6 +8,7 @@ pub mod Marks
 pub mod Liveness
 pub mod Forced
 pub mod Choices
+pub mod Recent
 pub mod Planned
 pub mod Kept
 pub mod Views

@@ -20,10 +20,12 @@ mod parts;
 mod planner;
 mod plans;
 mod readings;
+mod recent;
 mod rows;
 #[cfg(test)]
 mod samples;
 mod shown;
+mod staying;
 mod successors;
 mod table;
 #[cfg(test)]

@@ -23,7 +23,7 @@ struct Group {
 #[derive(Drop)]
 pub(crate) struct Later {
     behinds: Vec<Behind>,
-    numbering: Numbering,
+    pub(crate) numbering: Numbering,
     groups: Vec<Group>,
 }
 

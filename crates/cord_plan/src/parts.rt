@@ -1,14 +1,11 @@
-// Walks over expressions: their parts, their names, copies of them.
-ghost use Rattle.std.specs.Prelude.{◌≡◌, ◌++◌, IfOk, IsOkUnless, Some, map};
-ghost use Rattle.cord_plan.specs.Exprs.{parts, parts_of, names, names_of, number_names};
+// Walks over expressions: their parts, copies of them.
+ghost use Rattle.std.specs.Prelude.{◌≡◌, IfOk, IsOkUnless, map};
+ghost use Rattle.cord_plan.specs.Exprs.{parts, parts_of};
 ghost use Rattle.cord_plan.specs.Choices.{room_left};
-ghost use Rattle.cord_plan.specs.Forced.{keeps};
 ghost use Rattle.cord_plan.specs.Views.{expr_view, members_of};
 
-use crate::readings::assigns;
 use crate::{Expr, Members};
 use cord_io::CordError;
-use cord_script::{Number, Statement};
 use std::alloc::Global;
 
 /// How much of a room is left behind the parts of an expression, where they find room.
@@ -39,53 +36,6 @@ pub(crate) fn room_behind_all(members: &[Expr], room: u32) -> Option<u32>
         }
     }
     Some(left)
-}
-
-fn keeps_number(statement: &Statement, number: &Number) -> bool
-    ensures { result ≡ keeps (Some statement.now) (number_names number.now) }
-{
-    match number {
-        Number::Numeral(_) => true,
-        Number::Named(name) => !assigns(statement, name.as_slice()),
-    }
-}
-
-fn keeps_numbers(statement: &Statement, first: &Number, second: &Number) -> bool
-    ensures { result ≡ keeps (Some statement.now) (number_names first.now ++ number_names second.now) }
-{
-    keeps_number(statement, first) && keeps_number(statement, second)
-}
-
-/// Whether a line assigns none of the names of an expression.
-#[cycle(keeps_names)]
-pub(crate) fn keeps_names(statement: &Statement, expression: &Expr) -> bool
-    ensures { result ≡ keeps (Some statement.now) (names (expr_view expression.now)) }
-{
-    match expression {
-        Expr::Name(name) => !assigns(statement, name.as_slice()),
-        Expr::Run { byte, count } => keeps_numbers(statement, byte, count),
-        Expr::Cat(members) => keeps_all_names(statement, members.as_slice()),
-        Expr::Sub {
-            expression,
-            start,
-            count,
-        } => {
-            keeps_names(statement, expression.as_ref()) && keeps_numbers(statement, start, count)
-        }
-    }
-}
-
-// The same of all these expressions.
-#[cycle(keeps_names)]
-fn keeps_all_names(statement: &Statement, members: &[Expr]) -> bool
-    ensures { result ≡ keeps (Some statement.now) (names_of (members_of (map expr_view members.now))) }
-{
-    for member in members {
-        if !keeps_names(statement, member) {
-            return false;
-        }
-    }
-    true
 }
 
 /// A copy of an expression. Refused only with `NoMemory`.

@@ -2,6 +2,7 @@
 ghost use Rattle.std.specs.Prelude.{◌≡◌, ◌≤◌, IfOk, IsOkUnless, length, map, option_map};
 ghost use Rattle.cord_plan.specs.Choices.{choice_view};
 ghost use Rattle.cord_plan.specs.Liveness.{tells};
+ghost use Rattle.cord_plan.specs.Recent.{IsRecent};
 ghost use Rattle.cord_plan.specs.Tables.{IsMarked, IsNext, IsTableOf};
 ghost use Rattle.cord_plan.specs.Views.{expr_view};
 
@@ -9,6 +10,7 @@ use crate::Expr;
 use crate::choosing::{Choice, Line, choose_all, operands_of};
 use crate::joining::expression_with;
 use crate::liveness::Later;
+use crate::recent::Recent;
 use cord_io::CordError;
 use cord_script::Statement;
 use std::alloc::Global;
@@ -44,12 +46,13 @@ fn next_expression(
     statements: &[Statement],
     place: usize,
     statement: &Statement,
-    later: &Later,
+    recent: &Recent,
     expressions: &[Option<Expr>],
     firsts: &mut [bool],
 ) -> Result<Option<Expr>, CordError>
-    requires { place ≤ length statements.now }
-    ensures made { IfOk result (λ e. IsNext statements.now (tells later.now) place statement.now (map (option_map expr_view) expressions.now) firsts.old firsts.new (option_map expr_view e)) }
+    requires place { place ≤ length statements.now }
+    requires recent { IsRecent statements.now place recent.now }
+    ensures made { IfOk result (λ e. IsNext statements.now (tells recent.now.later.now) place statement.now (map (option_map expr_view) expressions.now) firsts.old firsts.new (option_map expr_view e)) }
     ensures refused { IsOkUnless result CordError.NoMemory }
 {
     let Some(operands) = operands_of(alloc, statement)? else {
@@ -60,8 +63,9 @@ fn next_expression(
         place,
         statement,
         operands: operands.as_slice(),
+        recent,
     };
-    let choices = choose_all(alloc, &line, later, expressions)?;
+    let choices = choose_all(alloc, &line, expressions)?;
     mark(firsts, &choices);
     expression_with(alloc, statement, &choices)
 }
@@ -78,17 +82,19 @@ impl Table {
     {
         let mut expressions = Vec::new(alloc);
         let mut firsts = vec![in alloc; false; statements.len()]?;
+        let mut recent = Recent::of(alloc, later)?;
         for (place, statement) in statements.iter().enumerate() {
             let expression = next_expression(
                 alloc,
                 statements,
                 place,
                 statement,
-                later,
+                &recent,
                 &expressions,
                 &mut firsts,
             )?;
             expressions.push(expression)?;
+            recent.note(statement, place);
         }
         Ok(Table {
             expressions,

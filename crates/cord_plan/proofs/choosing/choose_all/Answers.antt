@@ -18,7 +18,7 @@ pub loop-operand-preserved : goal.loop-operand-preserved
 loop-operand-preserved c =
     let line = c.args.line.now in
     let s = line.statements.now in
-    let later = tells c.args.later.now in
+    let later = tells line.recent.now.later.now in
     let b = line.place in
     let l = line.statement.now in
     let xs = line.operands.now in
@@ -42,7 +42,7 @@ pub returns : goal.returns
 returns c =
     let line = c.args.line.now in
     let s = line.statements.now in
-    let later = tells c.args.later.now in
+    let later = tells line.recent.now.later.now in
     let b = line.place in
     let l = line.statement.now in
     let xs = line.operands.now in

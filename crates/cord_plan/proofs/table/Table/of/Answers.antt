@@ -1,10 +1,11 @@
-use Rattle.std.proofs.Common.{◌≡◌, [], ◌∷◌, map, length, ◌∙◌}
-use Rattle.std.specs.Prelude.{option_map}
+use Rattle.std.proofs.Common.{◌≡◌, false, [], ◌∷◌, Some, map, length, refl, ◌∙◌, rules}
+use Rattle.std.specs.Prelude.{option_map, replicate, slice_get}
+use Rattle.std.proofs.lemmas.Option.{slice_get_read}
 use Rattle.std.proofs.lemmas.List.{map-append}
 use Rattle.cord_plan.specs.Liveness.{tells}
 use Rattle.cord_plan.specs.Tables.{IsNext}
 use Rattle.cord_plan.specs.Views.{expr_view}
-use Rattle.cord_plan.proofs.Marked.{grown_then, written_back}
+use Rattle.cord_plan.proofs.Marked.{grown_none, grown_then, written_back}
 use Rattle.cord_plan.proofs.table.Table.of.Goals as goal
 
 pub loop-place-preserved : goal.loop-place-preserved
@@ -18,6 +19,23 @@ loop-place-preserved c =
     let old = c.loop-place.firsts.items in
     let new = c.next_expression.new.firsts in
     let size : length new ≡ c.loop-place.firsts.len = c.next_expression.auto.firsts ∙ c.deref_mut.ensures.len in
-    let next : IsNext s later b l table old new (option_map expr_view e) = rw (← c.deref.ensures.value, ← c.deref_mut.ensures.value) c.in_ok-expression.ensures.made in
-    rw (written_back c.loop-place.firsts.len new old size, c.in_ok-push.ensures.items, map-append (option_map expr_view) c.loop-place.expressions.items (e ∷ []))
-    (grown_then s later b l table (option_map expr_view e) old new c.loop-place-test.true c.index-statements-place.is c.loop-place.invariant next)
+    let next : IsNext s later b l table old new (option_map expr_view e) = rw (← c.loop-place.invariant.later, ← c.deref.ensures.value, ← c.deref_mut.ensures.value) c.in_ok-expression.ensures.made in
+    let here : slice_get s b ≡ Some l = slice_get_read s (length s) b l refl c.loop-place-test.true c.index-statements-place.is in
+    record {
+      grown = rw (written_back c.loop-place.firsts.len new old size, c.in_ok-push.ensures.items, map-append (option_map expr_view) c.loop-place.expressions.items (e ∷ []))
+          (grown_then s later b l table (option_map expr_view e) old new c.loop-place-test.true c.index-statements-place.is c.loop-place.invariant.grown next);
+      later = c.note.ensures.later ∙ c.loop-place.invariant.later;
+      recent = c.note.ensures.recent s here c.loop-place.invariant.recent;
+    }
+
+pub loop-place-init : goal.loop-place-init
+loop-place-init c =
+    let s = c.args.statements.now in
+    let firsts = c.in_ok-firsts.firsts.items in
+    let none : firsts ≡ replicate (length s) false = search rules in
+    let size : length firsts ≡ length s = search rules in
+    record {
+      grown = rw c.new-expressions.ensures.items (grown_none s (tells c.args.later.now) firsts none size);
+      later = c.in_ok-recent.ensures.later;
+      recent = c.in_ok-recent.ensures.recent s;
+    }

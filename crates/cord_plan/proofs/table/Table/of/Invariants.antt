@@ -1,10 +1,15 @@
-use Rattle.std.proofs.Common.{map}
+use Rattle.std.proofs.Common.{◌≡◌, map}
 use Rattle.std.specs.Prelude.{option_map}
 use Rattle.cord_plan.specs.Liveness.{tells}
+use Rattle.cord_plan.specs.Recent.{IsRecent}
 use Rattle.cord_plan.specs.Tables.{IsGrown}
 use Rattle.cord_plan.specs.Views.{expr_view}
 use Rattle.cord_plan.proofs.table.Table.of.Given as goal
 
--- the lines so far have these expressions
+-- the lines so far have these expressions, and are those that were noted
 abbrev pub invariant-loop-place : goal.invariant-loop-place
-invariant-loop-place l = IsGrown l.statements (tells l.later) l.place (map (option_map expr_view) l.expressions.items) l.firsts.items
+invariant-loop-place l = record {
+  grown : IsGrown l.statements (tells l.later) l.place (map (option_map expr_view) l.expressions.items) l.firsts.items;
+  later : l.recent.later.now ≡ l.later;
+  recent : IsRecent l.statements l.place l.recent;
+}

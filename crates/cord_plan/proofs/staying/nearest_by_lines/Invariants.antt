@@ -1,6 +1,6 @@
 use Rattle.std.proofs.Common.{◌≡◌}
 use Rattle.cord_plan.specs.Choices.{nearest}
-use Rattle.cord_plan.proofs.choosing.nearest.Given as goal
+use Rattle.cord_plan.proofs.staying.nearest_by_lines.Given as goal
 
 abbrev pub invariant-loop-p : goal.invariant-loop-p
 invariant-loop-p l = nearest l.statements l.name l.place ≡ nearest l.statements l.name l.p

@@ -5,7 +5,7 @@ use Rattle.cord_plan.specs.Forced.{is_block}
 use Rattle.cord_plan.specs.Operands.{reads}
 use Rattle.cord_plan.specs.Choices.{nearest}
 use Rattle.cord_plan.proofs.Nearest.{near_here}
-use Rattle.cord_plan.proofs.choosing.nearest.Goals as goal
+use Rattle.cord_plan.proofs.staying.nearest_by_lines.Goals as goal
 
 pub returns-then-assigns : goal.returns-then-assigns
 returns-then-assigns c =

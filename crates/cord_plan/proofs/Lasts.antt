@@ -1,0 +1,185 @@
+-- The nearest line, and what stays, by the last lines that assign and read a name.
+use Rattle.std.proofs.Common.{◌≡◌, ◌⊎◌, ℕ, zero, suc, ◌+◌, ◌-◌, ◌<◌, ◌≤◌, Bool, true, false, ◌||◌, ◌&&◌, List, [], ◌∷◌, ◌++◌, map, drop, length, get_or, Option, Some, None, inl, inr, refl, sym, ap, ◌∙◌, arith}
+use Rattle.std.specs.Prelude.{slice_get, if◌then◌else◌, not, nat_le}
+use Rattle.std.proofs.Math.Bool.{and-false, and-true}
+use Rattle.std.proofs.lemmas.Bool.{le-leb}
+use Rattle.std.proofs.lemmas.Bool.Decides.{leb_tells}
+use Rattle.cord_script.specs.declared.statements.Statement.{Statement}
+use Rattle.std.proofs.lemmas.List.{at_drop_more}
+use Rattle.cord_plan.specs.declared.expressions.Expr as code
+use Rattle.cord_plan.specs.Exprs.{names, names_of}
+use Rattle.cord_plan.specs.Views.{expr_view, members_of}
+use Rattle.cord_meaning.specs.Statements.{shape_of}
+use Rattle.cord_plan.specs.Operands.{assigns, assigns_at, reads, reads_at}
+use Rattle.cord_plan.specs.declared.numbering.Numbering.{Numbering}
+use Rattle.cord_plan.specs.Forced.{each_from, is_block, is_block_at, keeps, setter}
+use Rattle.cord_plan.specs.Choices.{nearest}
+use Rattle.cord_plan.specs.Recent.{Notes, entry_of, reader, blocker, is_before, is_behind, stay, unless_behind}
+use Rattle.cord_plan.proofs.Chosen.{setter_is}
+use Rattle.cord_plan.proofs.Nearest.{each_more}
+use Rattle.cord_plan.proofs.PartSums.{keeps_append}
+use Rattle.cord_plan.proofs.Recents.{last_then}
+
+not_behind : (p a : ℕ) → p ≤ a → is_behind (Some p) a ≡ false
+not_behind p a le = ap not (le-leb p a le)
+
+behind : (p a : ℕ) → a < p → is_behind (Some p) a ≡ true
+behind p a lt = elim (leb_tells p a) [
+  | inl w ↦ absurd (omega (arith, lt, w.1))
+  | inr w ↦ ap not w.0
+]
+
+module _ (s : List Statement) (x : List ℕ) where
+  reader_before : (b q : ℕ) → reader s x b ≡ Some q → q < b
+  reader_before zero q e = let bad : ⊥ = cc in absurd bad
+  reader_before (suc b) q e = pick (reads_at (slice_get s b) x) e (λ h. reader_before b q h)
+    where
+      pick : (v : Bool) → (if v then Some b else reader s x b) ≡ Some q → (reader s x b ≡ Some q → q < b) → q < suc b
+      pick true h before = let same : b ≡ q = cc in omega arith
+      pick false h before = let below : q < b = before h in omega arith
+
+  blocker_before : (b q : ℕ) → blocker s b ≡ Some q → q < b
+  blocker_before zero q e = let bad : ⊥ = cc in absurd bad
+  blocker_before (suc b) q e = pick (is_block_at (slice_get s b)) e (λ h. blocker_before b q h)
+    where
+      pick : (v : Bool) → (if v then Some b else blocker s b) ≡ Some q → (blocker s b ≡ Some q → q < b) → q < suc b
+      pick true h before = let same : b ≡ q = cc in omega arith
+      pick false h before = let below : q < b = before h in omega arith
+
+  -- nothing before b stands behind it
+  none_behind : (o : Option ℕ) (b : ℕ) → ((q : ℕ) → o ≡ Some q → q < b) → is_behind o b ≡ false
+  none_behind None b below = refl
+  none_behind (Some q) b below = let lt : q < b = below q refl in not_behind q b (omega arith)
+
+  -- the nearest line by the last ones
+  pub nearest_by_last : (b : ℕ) → nearest s x b ≡ unless_behind (setter s x b) (reader s x b) (blocker s b)
+  nearest_by_last zero = refl
+  nearest_by_last (suc b) = by_assigns (assigns_at (slice_get s b) x) (is_block_at (slice_get s b)) (reads_at (slice_get s b) x) (nearest_by_last b)
+    where
+      shut : (o : Option ℕ) → ((a : ℕ) → o ≡ Some a → a < b) → (r k : Option ℕ) → ((a : ℕ) → a < b → (is_behind r a || is_behind k a) ≡ true) → None ≡ unless_behind o r k
+      shut None below r k bars = refl
+      shut (Some a) below r k bars = ap (λ (v : Bool). if v then None else Some a) (sym (bars a (below a refl)))
+
+      or_true : (v w : Bool) → w ≡ true → (v || w) ≡ true
+      or_true true w e = refl
+      or_true false w e = e
+
+      by_assigns : (f k r : Bool) → nearest s x b ≡ unless_behind (setter s x b) (reader s x b) (blocker s b)
+          → (if f then Some b else (if k || r then None else nearest s x b)) ≡ unless_behind (if f then Some b else setter s x b) (if r then Some b else reader s x b) (if k then Some b else blocker s b)
+      by_assigns true k r ih = sym (ap (λ (v : Bool). if v then None else Some b) (free k r))
+        where
+          here : is_behind (Some b) b ≡ false
+          here = not_behind b b (omega arith)
+
+          read : is_behind (reader s x b) b ≡ false
+          read = none_behind (reader s x b) b (reader_before b)
+
+          block : is_behind (blocker s b) b ≡ false
+          block = none_behind (blocker s b) b (blocker_before b)
+
+          free : (k r : Bool) → (is_behind (if r then Some b else reader s x b) b || is_behind (if k then Some b else blocker s b) b) ≡ false
+          free true true = rw here refl
+          free true false = rw (read, here) refl
+          free false true = rw (here, block) refl
+          free false false = rw (read, block) refl
+      by_assigns false true r ih = shut (setter s x b) (λ a e. (setter_is s x b a e).before) (if r then Some b else reader s x b) (Some b) (λ a lt. or_true (is_behind (if r then Some b else reader s x b) a) (is_behind (Some b) a) (behind b a lt))
+      by_assigns false false true ih = shut (setter s x b) (λ a e. (setter_is s x b a e).before) (Some b) (blocker s b) (λ a lt. ap (λ (v : Bool). v || is_behind (blocker s b) a) (behind b a lt))
+      by_assigns false false false ih = ih
+
+  -- a name stays where no line assigned it since
+  keeps_one : (m : ℕ) → keeps (slice_get s m) (x ∷ []) ≡ not (assigns_at (slice_get s m) x)
+  keeps_one m = pick (assigns_at (slice_get s m) x)
+    where
+      pick : (v : Bool) → (not v && true) ≡ not v
+      pick true = refl
+      pick false = refl
+
+  pub stay_by_last : (a b : ℕ) → stay s a b (x ∷ []) ≡ is_before (setter s x b) a
+  stay_by_last a zero = none
+    where
+      none : stay s a zero (x ∷ []) ≡ true
+      none = let zero_left : zero - a ≡ 0 = omega arith in ap (λ (n : ℕ). each_from (λ m. keeps (slice_get s m) (x ∷ [])) n a) zero_left
+  stay_by_last a (suc b) = elim (leb_tells a b) [
+    | inl w ↦ within w.1 (stay_by_last a b)
+    | inr w ↦ past w.1
+  ]
+    where
+      each : ℕ → Bool
+      each n = each_from (λ m. keeps (slice_get s m) (x ∷ [])) n a
+
+      within : a ≤ b → stay s a b (x ∷ []) ≡ is_before (setter s x b) a → stay s a (suc b) (x ∷ []) ≡ is_before (setter s x (suc b)) a
+      within le ih =
+          let more : suc b - a ≡ suc (b - a) = omega (arith, le) in
+          let last : a + (b - a) ≡ b = omega (arith, le) in
+          ap each more
+          ∙ (each_more (λ m. keeps (slice_get s m) (x ∷ [])) (b - a) a
+          ∙ (ap (λ (m : ℕ). each (b - a) && keeps (slice_get s m) (x ∷ [])) last
+          ∙ (ap (λ (v : Bool). each (b - a) && v) (keeps_one b)
+          ∙ pick (assigns_at (slice_get s b) x))))
+        where
+          pick : (v : Bool) → (each (b - a) && not v) ≡ is_before (if v then Some b else setter s x b) a
+          pick true = and-false (each (b - a)) ∙ sym (ap not (le-leb a b le))
+          pick false = and-true (each (b - a)) ∙ ih
+
+      past : b < a → stay s a (suc b) (x ∷ []) ≡ is_before (setter s x (suc b)) a
+      past lt =
+          let none : suc b - a ≡ 0 = omega (arith, lt) in
+          ap each none ∙ sym (early (setter s x (suc b)) (λ q e. (setter_is s x (suc b) q e).before))
+        where
+          early : (o : Option ℕ) → ((q : ℕ) → o ≡ Some q → q < suc b) → is_before o a ≡ true
+          early None below = refl
+          early (Some q) below = elim (leb_tells a q) [
+            | inl w ↦ (let less : q < suc b = below q refl in absurd (omega (arith, w.1)))
+            | inr w ↦ ap not w.0
+          ]
+
+-- what stays of two lists of names
+module _ (s : List Statement) (a b : ℕ) where
+  stay_append_from : (xs ys : List (List ℕ)) (n k : ℕ) → each_from (λ m. keeps (slice_get s m) (xs ++ ys)) n k ≡ (each_from (λ m. keeps (slice_get s m) xs) n k && each_from (λ m. keeps (slice_get s m) ys) n k)
+  stay_append_from xs ys zero k = refl
+  stay_append_from xs ys (suc n) k = pick (keeps (slice_get s k) xs) (keeps (slice_get s k) ys) (keeps (slice_get s k) (xs ++ ys)) (keeps_append (slice_get s k) xs ys) (stay_append_from xs ys n (k + 1))
+    where
+      pick : (v w u : Bool) → u ≡ (v && w) → each_from (λ m. keeps (slice_get s m) (xs ++ ys)) n (k + 1) ≡ (each_from (λ m. keeps (slice_get s m) xs) n (k + 1) && each_from (λ m. keeps (slice_get s m) ys) n (k + 1))
+          → (u && each_from (λ m. keeps (slice_get s m) (xs ++ ys)) n (k + 1)) ≡ ((v && each_from (λ m. keeps (slice_get s m) xs) n (k + 1)) && (w && each_from (λ m. keeps (slice_get s m) ys) n (k + 1)))
+      pick true true u e ih = rw e ih
+      pick true false u e ih = rw e (sym (and-false (each_from (λ m. keeps (slice_get s m) xs) n (k + 1))))
+      pick false w u e ih = rw e refl
+
+  pub stay_append : (xs ys : List (List ℕ)) → stay s a b (xs ++ ys) ≡ (stay s a b xs && stay s a b ys)
+  stay_append xs ys = stay_append_from xs ys (b - a) a
+
+  stay_nothing_from : (n k : ℕ) → each_from (λ m. keeps (slice_get s m) []) n k ≡ true
+  stay_nothing_from zero k = refl
+  stay_nothing_from (suc n) k = stay_nothing_from n (k + 1)
+
+  pub stay_nothing : stay s a b [] ≡ true
+  stay_nothing = stay_nothing_from (b - a) a
+
+  -- what stays of members, by the first
+  pub stay_member : (ms : List code.Expr) (k : ℕ) (m : code.Expr) → k < length ms → m ≡ get_or ms k m →
+      stay s a b (names_of (members_of (map expr_view (drop k ms)))) ≡ (stay s a b (names (expr_view m)) && stay s a b (names_of (members_of (map expr_view (drop (k + 1) ms)))))
+  stay_member ms k m lt is =
+      at_drop_more (λ (es : List code.Expr). stay s a b (names_of (members_of (map expr_view es)))) ms k m lt
+      ∙ (ap (λ (x : code.Expr). stay s a b (names_of (members_of (map expr_view (x ∷ drop (k + 1) ms))))) (sym is)
+      ∙ stay_append (names (expr_view m)) (names_of (members_of (map expr_view (drop (k + 1) ms)))))
+
+-- a line more
+module _ (s : List Statement) (t : Numbering) (b : ℕ) (l : Statement) (here : slice_get s b ≡ Some l) where
+  up : b + 1 ≡ suc b
+  up = omega arith
+
+  pub assigned_then : (old new : List (Option ℕ)) → Notes t (λ x. assigns l x) b old new → ((x : List ℕ) (o : Option ℕ) → entry_of t old x ≡ Some o → o ≡ setter s x b) → (x : List ℕ) (o : Option ℕ) → entry_of t new x ≡ Some o → o ≡ setter s x (b + 1)
+  assigned_then old new notes before x o is =
+      last_then (assigns l x) b (entry_of t old x) o (setter s x b) (sym (notes x) ∙ is) (λ q e. before x q e)
+      ∙ sym (ap (λ (n : ℕ). setter s x n) up ∙ ap (λ (at : Option Statement). if assigns_at at x then Some b else setter s x b) here)
+
+  pub read_then : (old new : List (Option ℕ)) → Notes t (λ x. reads l x) b old new → ((x : List ℕ) (o : Option ℕ) → entry_of t old x ≡ Some o → o ≡ reader s x b) → (x : List ℕ) (o : Option ℕ) → entry_of t new x ≡ Some o → o ≡ reader s x (b + 1)
+  read_then old new notes before x o is =
+      last_then (reads l x) b (entry_of t old x) o (reader s x b) (sym (notes x) ∙ is) (λ q e. before x q e)
+      ∙ sym (ap (λ (n : ℕ). reader s x n) up ∙ ap (λ (at : Option Statement). if reads_at at x then Some b else reader s x b) here)
+
+  pub block_then : (old : Option ℕ) (v : Bool) → v ≡ is_block (shape_of l) → old ≡ blocker s b → (if v then Some b else old) ≡ blocker s (b + 1)
+  block_then old v is before =
+      ap (λ (o : Option ℕ). if v then Some b else o) before
+      ∙ (ap (λ (w : Bool). if w then Some b else blocker s b) is
+      ∙ sym (ap (λ (n : ℕ). blocker s n) up ∙ ap (λ (at : Option Statement). if is_block_at at then Some b else blocker s b) here))
