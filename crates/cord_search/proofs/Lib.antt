@@ -1,4 +1,5 @@
 pub mod Ranges
+pub mod Sharing
 pub mod Finding
 pub mod Comparing
 pub mod Standing

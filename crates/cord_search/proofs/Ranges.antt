@@ -1,10 +1,9 @@
 -- Where stretches and pieces stand in the text of a node.
-use Rattle.std.proofs.Common.{◌≡◌, ℕ, ◌+◌, ◌-◌, ◌<◌, ◌≤◌, List, ◌++◌, length, take, drop, None, Some, sym, ◌∙◌, ap, arith, length-drop}
-use Rattle.std.specs.Prelude.{Option, min, replicate}
+use Rattle.std.proofs.Common.{◌≡◌, ℕ, ◌+◌, ◌-◌, ◌<◌, ◌≤◌, List, length, take, drop, None, Some, sym, ◌∙◌, ap, arith, length-drop}
+use Rattle.std.specs.Prelude.{Option, replicate}
 use Rattle.std.specs.declared.rc.Rc.{Rc}
 use Rattle.std.specs.Global.{Global}
-use Rattle.std.proofs.Math.Seq.{take-add}
-use Rattle.std.proofs.lemmas.List.{take_min, drop-replicate, take-replicate, length-take, length-take-le, take_all, take-take, drop-drop}
+use Rattle.std.proofs.lemmas.List.{take_min, drop-replicate, take-replicate, length-take, length-take-le, take_all}
 use Rattle.cord_io.specs.declared.SourceId.{SourceId}
 use Rattle.cord_io.specs.Table.{Table, Lengths, HasLengths, length_at}
 use Rattle.cord_io.specs.declared.TheConstants.{MAX_LEN}
@@ -12,32 +11,64 @@ use Rattle.cord_node.specs.Kept.{Part}
 use Rattle.cord_node.specs.declared.Node.{Node}
 use Rattle.cord_node.specs.declared.Node.TheVariants.{Run, Func, Cat'}
 use Rattle.cord_node.specs.Tree.{len_of, IsSound}
-use Rattle.cord_node.specs.Tables.{bytes_over, lengths_of, FitsIn, Fits}
+use Rattle.cord_node.specs.Tables.{bytes_over, lengths_of}
 use Rattle.cord_node.proofs.Ranges.{range_of_range, range_left, range_right}
+use Rattle.cord_node.proofs.TreeLemmas.{len_positive}
 use Rattle.cord_node.proofs.TableLemmas.{Fits-told}
 use Rattle.cord_iter.proofs.Lengths.{length-bytes_over}
 use Rattle.cord_core.specs.Cord.{text_len, bytes_of, IsCord, CordFitsIn, CordFits}
 use Rattle.cord_core.proofs.OverLemmas.{length-bytes}
-use Rattle.cord_search.specs.Pieces.{IsPieceOf, AreSame}
-use Rattle.cord_search.specs.Stretches.{stretch_len, stretch_bytes, StretchFitsIn, IsStretchOf, IsStretchAt, IsPartOf, BeginAlike}
+use Rattle.cord_search.specs.Ahead.{IsWithin}
+use Rattle.cord_search.specs.Pieces.{IsPieceOf}
+use Rattle.cord_search.specs.Stretches.{stretch_len, stretch_bytes, StretchFitsIn, IsStretchOf, IsStretchAt, IsPartOf}
 use Rattle.cord_search.specs.declared.stretches.Stretch.{Stretch}
 
 -- a range is its own first bytes
 own_range : (xs ys : List ℕ) (k : ℕ) → xs ≡ take k ys → xs ≡ take (length xs) ys
 own_range xs ys k e = e ∙ sym (take_min k ys) ∙ ap (λ (m : ℕ). take m ys) (sym (ap (λ (zs : List ℕ). length zs) e ∙ length-take k ys))
 
--- a place of a node is the place `at` of another one, whose text stands in the node's
-pub record IsWithin (n : Node) (place : ℕ) (m : Node) (at : ℕ) : Type 0 where
-  pub offset : ℕ
-  pub here : place ≡ offset + at
-  pub inside : offset + len_of m ≤ len_of n
-  pub sound : IsSound m
-  pub fits : (lengths : Lengths) → FitsIn lengths n → FitsIn lengths m
-  pub text : (t : Table) → Fits t n → (i k : ℕ) → i + k ≤ len_of m → take k (drop (offset + i) (bytes_over t n)) ≡ take k (drop i (bytes_over t m))
+-- a place of a node is one of that node
+pub within_self : (n : Node) (place : ℕ) → IsSound n → IsWithin n place n place
+within_self n place s = record {
+  offset = 0;
+  here = omega arith;
+  inside = omega arith;
+  sound = s;
+  fits = λ lengths f. f;
+  text = λ t f i k h. ap (λ (j : ℕ). take k (drop j (bytes_over t n))) (let e : 0 + i ≡ i = omega arith in e);
+}
+
+-- what is within what is within
+pub within_on : (n : Node) (place : ℕ) (m : Node) (at : ℕ) (l : Node) (to : ℕ) → IsWithin n place m at → IsWithin m at l to → IsWithin n place l to
+within_on n place m at l to v w = record {
+  offset = v.offset + w.offset;
+  here = omega (arith, v.here, w.here);
+  inside = omega (arith, v.inside, w.inside);
+  sound = w.sound;
+  fits = λ lengths f. w.fits lengths (v.fits lengths f);
+  text = λ t f i k h.
+      let from : v.offset + w.offset + i ≡ v.offset + (w.offset + i) = omega arith in
+      ap (λ (j : ℕ). take k (drop j (bytes_over t n))) from ∙ v.text t f (w.offset + i) k (omega (arith, h, w.inside)) ∙ w.text t (v.fits (lengths_of t) f) i k h;
+}
 
 -- a concatenation is as long as its two sides
 pub cat_len : (m : Node) (p : Rc (Unit {0}) Global) (l : Node) (q : Rc (Unit {0}) Global) (r : Node) (len depth : ℕ) (mark : List Part) → m ≡ Cat' p l q r len depth mark → IsSound m → len_of m ≡ len_of l + len_of r
 cat_len m p l q r len depth mark e s = let v : IsSound (Cat' p l q r len depth mark) = rw e at s in ap len_of e ∙ v.2
+
+-- each side is shorter
+pub left_shorter : (m : Node) (p : Rc (Unit {0}) Global) (l : Node) (q : Rc (Unit {0}) Global) (r : Node) (len depth : ℕ) (mark : List Part) → m ≡ Cat' p l q r len depth mark → IsSound m → len_of l < len_of m
+left_shorter m p l q r len depth mark e s =
+    let v : IsSound (Cat' p l q r len depth mark) = rw e at s in
+    let some : 0 < len_of r = len_positive r v.1 in
+    let both : len_of m ≡ len_of l + len_of r = cat_len m p l q r len depth mark e s in
+    omega (arith, some, both)
+
+pub right_shorter : (m : Node) (p : Rc (Unit {0}) Global) (l : Node) (q : Rc (Unit {0}) Global) (r : Node) (len depth : ℕ) (mark : List Part) → m ≡ Cat' p l q r len depth mark → IsSound m → len_of r < len_of m
+right_shorter m p l q r len depth mark e s =
+    let v : IsSound (Cat' p l q r len depth mark) = rw e at s in
+    let some : 0 < len_of l = len_positive l v.0 in
+    let both : len_of m ≡ len_of l + len_of r = cat_len m p l q r len depth mark e s in
+    omega (arith, some, both)
 
 -- and so is the left side of what is within
 pub within_left : (n : Node) (place : ℕ) (m : Node) (at : ℕ) (p : Rc (Unit {0}) Global) (l : Node) (q : Rc (Unit {0}) Global) (r : Node) (len depth : ℕ) (mark : List Part) → m ≡ Cat' p l q r len depth mark → IsWithin n place m at → IsWithin n place l at
@@ -139,7 +170,7 @@ pub whole_part : (t : Table) (s : Stretch) (xs : List ℕ) (i : ℕ) → ((t : T
 whole_part t s xs i e z = sym (take_all (length xs) xs (omega arith)) ∙ ap (λ (j : ℕ). take (length xs) (drop j xs)) (sym z) ∙ ap (λ (ys : List ℕ). take (length xs) (drop i ys)) (sym (e t))
 
 -- a cord that fits the lengths of a table fits the table
-cord_told : (ls : Lengths) (t : Table) (c : Option Node) → HasLengths ls t → CordFitsIn ls c → CordFits t c
+pub cord_told : (ls : Lengths) (t : Table) (c : Option Node) → HasLengths ls t → CordFitsIn ls c → CordFits t c
 cord_told ls t None told f = tt
 cord_told ls t (Some n) told f = Fits-told ls t n told f
 
@@ -151,17 +182,3 @@ cord_len ls t c told sound f = sym (length-bytes t c sound (cord_told ls t c tol
 pub piece_within : (ls : Lengths) (t : Table) (c : Option Node) (place : ℕ) (s : Stretch) (i j : ℕ) (xs : List ℕ) → HasLengths ls t → CordFitsIn ls c → IsStretchOf c place s → i + length xs ≤ stretch_len s → j ≡ place + i → IsPartOf t s i xs → IsPieceOf t c j xs
 piece_within ls t c place s i j xs told f h inside e p =
     p ∙ ap (λ (ys : List ℕ). take (length xs) (drop i ys)) (h.text t (cord_told ls t c told f)) ∙ range_of_range (bytes_of t c) i (length xs) place (stretch_len s) inside ∙ ap (λ (m : ℕ). take (length xs) (drop m (bytes_of t c))) (sym e)
-
--- the first bytes of a stretch
-front : (ls : Lengths) (t : Table) (c : Option Node) (place : ℕ) (s : Stretch) (n m : ℕ) → HasLengths ls t → CordFitsIn ls c → IsStretchOf c place s → n ≤ m → m ≤ stretch_len s → take n (drop place (bytes_of t c)) ≡ take n (take m (stretch_bytes t s))
-front ls t c place s n m told f h lt le = sym (take-take n (stretch_len s) (drop place (bytes_of t c)) (omega arith)) ∙ ap (λ (ys : List ℕ). take n ys) (sym (h.text t (cord_told ls t c told f))) ∙ sym (take-take n m (stretch_bytes t s) lt)
-
--- the next bytes of two texts are those of two stretches that begin alike
-pub same_stretch : (ls : Lengths) (t : Table) (x : Option Node) (i : ℕ) (y : Option Node) (j done n m : ℕ) (s other : Stretch) → HasLengths ls t → CordFitsIn ls x → CordFitsIn ls y → IsStretchOf x (i + done) s → IsStretchOf y (j + done) other → n ≤ m → m ≡ min (stretch_len s) (stretch_len other) → BeginAlike s other m → AreSame t x i y j done → AreSame t x i y j (done + n)
-same_stretch ls t x i y j done n m s other told f g h k lt le alike same =
-    let u = drop i (bytes_of t x) in
-    let v = drop j (bytes_of t y) in
-    let left : take n (drop done u) ≡ take n (take m (stretch_bytes t s)) = ap (λ (ys : List ℕ). take n ys) (drop-drop done i (bytes_of t x)) ∙ front ls t x (i + done) s n m told f h lt (omega (arith, le)) in
-    let right : take n (drop done v) ≡ take n (take m (stretch_bytes t other)) = ap (λ (ys : List ℕ). take n ys) (drop-drop done j (bytes_of t y)) ∙ front ls t y (j + done) other n m told g k lt (omega (arith, le)) in
-    let next : take n (drop done u) ≡ take n (drop done v) = left ∙ ap (λ (ys : List ℕ). take n ys) (alike t) ∙ sym right in
-    take-add done n u ∙ ap (λ (zs : List ℕ). zs ++ take n (drop done u)) same ∙ ap (λ (zs : List ℕ). take done v ++ zs) next ∙ sym (take-add done n v)

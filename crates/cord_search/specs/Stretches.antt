@@ -49,11 +49,12 @@ abbrev pub is_other_run : Stretch → ℕ → Bool
 is_other_run (Run byte len) c = not (byte == c)
 is_other_run _ c = false
 
--- the two are runs of one byte
-abbrev pub are_one_run : Stretch → Stretch → Bool
-are_one_run (Run byte len) (Run other_byte other_len) = byte == other_byte
-are_one_run _ _ = false
+-- the two begin with the same bytes, up to the end of the shorter one
+abbrev pub BeginAlike : Stretch → Stretch → Type 0
+BeginAlike s other = (t : Table) → (n : ℕ) → n ≤ stretch_len s → n ≤ stretch_len other → take n (stretch_bytes t s) ≡ take n (stretch_bytes t other)
 
--- the two begin with the same n bytes
-abbrev pub BeginAlike : Stretch → Stretch → ℕ → Type 0
-BeginAlike s other n = (t : Table) → take n (stretch_bytes t s) ≡ take n (stretch_bytes t other)
+-- the first n bytes of a stretch
+pub record IsFrontOf (s : Stretch) (n : ℕ) (front : Stretch) : Type 0 where
+  pub len : stretch_len front ≡ n
+  pub fits : (lengths : Lengths) → StretchFitsIn lengths s → StretchFitsIn lengths front
+  pub text : (t : Table) → stretch_bytes t front ≡ take n (stretch_bytes t s)

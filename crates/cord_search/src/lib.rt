@@ -2,6 +2,7 @@
 //! `CORD_cmp`, `CORD_ncmp` and `CORD_str` of `cord.h` of the Boehm collector's distribution.
 #![tactic(auto)]
 
+mod ahead;
 mod bytes;
 mod order;
 mod pieces;

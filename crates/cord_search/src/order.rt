@@ -6,8 +6,8 @@ ghost use Rattle.cord_core.specs.Texts.{order};
 ghost use Rattle.cord_search.specs.Pieces.{IsOrderOf, sign_of};
 
 use crate::PIECE_LEN;
+use crate::ahead::{Ahead, look_ahead};
 use crate::pieces::first_piece;
-use crate::stretches::cord_stretch_at;
 use cord_core::Cord;
 use cord_io::{CordError, ReadFault, Source};
 use std::cmp::Ordering;
@@ -59,8 +59,8 @@ pub fn ncmp<S: Source>(
     Ok(sign(ordering))
 }
 
-// The order of `left` bytes of `x` from `i` on and `right` bytes of `y` from `j` on: slice against slice, and two
-// runs of one byte at once.
+// The order of `left` bytes of `x` from `i` on and `right` bytes of `y` from `j` on: what both share at once, and else
+// slice against slice.
 pub(crate) fn compare<S: Source>(
     x: &Cord,
     i: u64,
@@ -87,19 +87,18 @@ pub(crate) fn compare<S: Source>(
     let both = left.min(right);
     let mut done = 0;
     while done < both {
-        let stretch = cord_stretch_at(x, i + done);
-        let other = cord_stretch_at(y, j + done);
-        if let Some(same) = stretch.same_run(other) {
-            done += same.min(both - done);
-            continue;
-        }
-        let piece = first_piece(stretch, &mut buffer, src)?;
-        let other = first_piece(other, &mut other_buffer, src)?;
-        let count = ((piece.len().min(other.len())) as u64).min(both - done) as usize;
-        match piece[..count].cmp(&other[..count]) {
-            Ordering::Equal => done += count as u64,
-            Ordering::Less => return Ok(Ordering::Less),
-            Ordering::Greater => return Ok(Ordering::Greater),
+        match look_ahead(x, i + done, y, j + done, both - done) {
+            Ahead::Same(count) => done += count,
+            Ahead::Apart(stretch, other) => {
+                let piece = first_piece(stretch, &mut buffer, src)?;
+                let other = first_piece(other, &mut other_buffer, src)?;
+                let count = piece.len().min(other.len());
+                match piece[..count].cmp(&other[..count]) {
+                    Ordering::Equal => done += count as u64,
+                    Ordering::Less => return Ok(Ordering::Less),
+                    Ordering::Greater => return Ok(Ordering::Greater),
+                }
+            }
         }
     }
     Ok(left.cmp(&right))

@@ -1,8 +1,8 @@
 // Stretches of a node's text: what lies in one part, from a place on or up to a place.
-ghost use Rattle.std.specs.Prelude.{◌≡◌, ◌-◌, ◌<◌, ◌≤◌, min, is_some, IfSome};
+ghost use Rattle.std.specs.Prelude.{◌≡◌, ◌-◌, ◌<◌, ◌≤◌, true, is_some, IfSome};
 ghost use Rattle.cord_core.specs.Cord.{text_len};
 ghost use Rattle.cord_node.specs.Tree.{len_of, IsSound};
-ghost use Rattle.cord_search.specs.Stretches.{stretch_len, is_other_run, are_one_run, IsStretchOf, IsStretchAt, IsWithout, BeginAlike};
+ghost use Rattle.cord_search.specs.Stretches.{stretch_len, is_other_run, IsStretchOf, IsStretchAt, IsWithout, BeginAlike, IsFrontOf};
 
 use cord_core::{Cord, Node};
 use cord_io::SourceId;
@@ -28,21 +28,48 @@ impl<'a> Stretch<'a> {
         }
     }
 
-    /// How many bytes of two runs of one byte are the same: all of the shorter one.
-    pub(crate) fn same_run(self, other: Stretch) -> Option<u64>
-        ensures found { is_some result ≡ are_one_run self.entry other.entry }
-        ensures len { IfSome result (λ count. count ≡ min (stretch_len self.entry) (stretch_len other.entry)) }
-        ensures same { IfSome result (λ count. BeginAlike self.entry other.entry count) }
+    /// Whether the two are runs of one byte, or ranges of one entry from one place on: then all of the shorter one is the same.
+    pub(crate) fn begins_like(self, other: Stretch) -> bool
+        ensures { result ≡ true → BeginAlike self.entry other.entry }
     {
         match (self, other) {
+            (Stretch::Run { byte, .. }, Stretch::Run { byte: b, .. }) => byte == b,
             (
-                Stretch::Run { byte, len },
-                Stretch::Run {
-                    byte: other_byte,
-                    len: other_len,
+                Stretch::Func { id, start, .. },
+                Stretch::Func {
+                    id: i,
+                    start: s,
+                    ..
                 },
-            ) if byte == other_byte => Some(len.min(other_len)),
-            _ => None,
+            ) => { id == i && start == s }
+            _ => false,
+        }
+    }
+
+    /// The length.
+    pub(crate) fn len(self) -> u64
+        ensures { result ≡ stretch_len self.entry }
+    {
+        match self {
+            Stretch::Bytes(bytes) => bytes.len() as u64,
+            Stretch::Run { len, .. } => len,
+            Stretch::Func { len, .. } => len,
+        }
+    }
+
+    /// Its first `count` bytes.
+    pub(crate) fn up_to(self, count: u64) -> Stretch<'a>
+        requires { count ≤ stretch_len self }
+        ensures { IsFrontOf self.entry count result }
+    {
+        match self {
+            Stretch::Bytes(bytes) => Stretch::Bytes(&bytes[..count as usize]),
+            Stretch::Run { byte, .. } => Stretch::Run { byte, len: count },
+            Stretch::Func { id, start, .. } => Stretch::Func {
+                id,
+                start,
+                len: count,
+            },
         }
     }
 }

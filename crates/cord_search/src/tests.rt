@@ -1,5 +1,5 @@
 // Rows of worked examples, and a read that fails.
-ghost use Rattle.std.specs.Prelude.{◌≤◌, IfOk, length};
+ghost use Rattle.std.specs.Prelude.{◌+◌, ◌≤◌, IfOk, length};
 ghost use Rattle.cord_io.specs.Table.{Lengths, length_at};
 ghost use Rattle.cord_core.specs.Cord.{CordFitsIn};
 
@@ -9,10 +9,11 @@ use cord_io::{CordError, MAX_LEN, ReadFault, Source, SourceId};
 use std::alloc::Global;
 use std::test::Fail;
 
-// A source whose entry 2 is these bytes: it reads so often, and then every read fails.
+// A source whose entry 2 is these bytes: it reads so often, and then every read fails, as does one that goes past `cut`.
 #[derive(Drop)]
 struct Entry<'a> {
     bytes: &'a [u8],
+    cut: u64,
     reads: u64,
     failures: u64,
 }
@@ -45,7 +46,7 @@ impl<'a> Source for Entry<'a> {
     }
 
     fn read(&mut self, id: SourceId, start: u64, out: &mut [u8]) -> Result<(), ReadFault> {
-        if self.reads == 0 || id.0 != 2 {
+        if self.reads == 0 || id.0 != 2 || self.cut < start + out.len() as u64 {
             self.failures = self.failures.saturating_add(1);
             return Err(ReadFault);
         }
@@ -60,6 +61,7 @@ impl<'a> Source for Entry<'a> {
 fn nothing() -> Entry<'static> {
     Entry {
         bytes: b"",
+        cut: 0,
         reads: 0,
         failures: 0,
     }
@@ -71,8 +73,19 @@ fn six_hundred(reads: u64) -> Entry<'static>
 {
     Entry {
         bytes: &[120; 600],
+        cut: 600,
         reads,
         failures: 0,
+    }
+}
+
+// Six hundred bytes, of which those before `cut` can be read.
+fn cut_at(cut: u64) -> Entry<'static>
+    ensures { 600 ≤ length result.bytes.now }
+{
+    Entry {
+        cut,
+        ..six_hundred(u64::MAX)
     }
 }
 
@@ -113,11 +126,42 @@ fn run_of(alloc: Global, len: u64) -> Result<Cord, CordError>
     Ok(cord)
 }
 
+// A cord and itself, one behind the other, so often: a leaf of 64 bytes, 2^turns times.
+fn doubled(alloc: Global, turns: u32) -> Result<Cord, CordError>
+    ensures { IfOk result (λ c. (lengths : Lengths) → CordFitsIn lengths c) }
+{
+    let mut cord = leaf(alloc, &[b'a'; 64])?;
+    for _turn in 0..turns {
+        cord = Cord::cat(alloc, &cord, &cord)?;
+    }
+    Ok(cord)
+}
+
+// The cord twice, and then this byte: a concatenation of its own each time.
+fn twice_and(alloc: Global, cord: &Cord, end: u8) -> Result<Cord, CordError>
+    requires { (lengths : Lengths) → CordFitsIn lengths cord.now }
+    ensures { IfOk result (λ c. (lengths : Lengths) → CordFitsIn lengths c) }
+{
+    let both = Cord::cat(alloc, cord, cord)?;
+    let end = leaf(alloc, &[end])?;
+    let cord = Cord::cat(alloc, &both, &end)?;
+    Ok(cord)
+}
+
 // The first 600 bytes of entry 2.
 fn entry_cord(alloc: Global) -> Result<Cord, CordError>
     ensures { IfOk result (λ c. (lengths : Lengths) → 600 ≤ length_at lengths 2 → CordFitsIn lengths c) }
 {
-    let cord = Cord::from_fn(alloc, SourceId(2), 0, 600)?;
+    let cord = entry_range(alloc, 0, 600)?;
+    Ok(cord)
+}
+
+// A range of the first 600 bytes of entry 2.
+fn entry_range(alloc: Global, start: u64, count: u64) -> Result<Cord, CordError>
+    requires { start + count ≤ 600 }
+    ensures { IfOk result (λ c. (lengths : Lengths) → 600 ≤ length_at lengths 2 → CordFitsIn lengths c) }
+{
+    let cord = Cord::from_fn(alloc, SourceId(2), start, count)?;
     Ok(cord)
 }
 
@@ -193,8 +237,13 @@ fn a_read_fails_in_the_middle(rt: HostRuntime) -> Result<(), Fail> {
         Err(CordError::ReadFailed)
     );
     assert_eq!(rt; source.failures(), 1);
-    let mut source = six_hundred(2);
-    assert_eq!(rt; cmp(&cord, &cord, &mut source), Err(CordError::ReadFailed));
+    let front = entry_range(alloc, 0, 590)?;
+    let back = entry_range(alloc, 10, 590)?;
+    assert_eq!(rt;
+        cmp(&front, &back, &mut six_hundred(2)),
+        Err(CordError::ReadFailed)
+    );
+    assert_eq!(rt; cmp(&front, &back, &mut six_hundred(4)), Ok(0));
     if cord.len() == 600 {
         let mut source = six_hundred(2);
         assert_eq!(rt; chr(&cord, 0, 121, &mut source), Ok(None));
@@ -207,5 +256,66 @@ fn a_read_fails_in_the_middle(rt: HostRuntime) -> Result<(), Fail> {
         assert_eq!(rt; fetch(&cord, 599, &mut source), Err(CordError::ReadFailed));
         assert_eq!(rt; source.failures(), 1);
     }
+    Ok(())
+}
+
+#[test]
+fn what_both_share_is_passed_over(rt: HostRuntime) -> Result<(), Fail> {
+    let alloc = rt.alloc();
+    let half = doubled(alloc, 32)?;
+    let left = twice_and(alloc, &half, b'x')?;
+    let right = twice_and(alloc, &half, b'y')?;
+    assert_eq!(rt; left.len(), 549_755_813_889);
+    assert_eq!(rt; cmp(&left, &right, &mut nothing()), Ok(-1));
+    assert_eq!(rt; cmp(&right, &left, &mut nothing()), Ok(1));
+    assert_eq!(rt; cmp(&left, &left, &mut nothing()), Ok(0));
+    assert_eq!(rt;
+        ncmp(&left, 0, &right, 0, half.len(), &mut nothing()),
+        Ok(0)
+    );
+    assert_eq!(rt;
+        ncmp(&left, 5, &right, half.len() + 5, MAX_LEN, &mut nothing()),
+        Ok(-1)
+    );
+    Ok(())
+}
+
+#[test]
+fn unequal_places_of_a_shared_node_differ(rt: HostRuntime) -> Result<(), Fail> {
+    let alloc = rt.alloc();
+    let cord = joined(alloc)?;
+    assert_eq!(rt; ncmp(&cord, 0, &cord, 1, 2, &mut nothing()), Ok(-1));
+    assert_eq!(rt; ncmp(&cord, 2, &cord, 0, 3, &mut nothing()), Ok(1));
+    assert_eq!(rt; ncmp(&cord, 2, &cord, 0, 2, &mut nothing()), Ok(0));
+    Ok(())
+}
+
+#[test]
+fn equal_ranges_of_an_entry_need_no_read(rt: HostRuntime) -> Result<(), Fail> {
+    let alloc = rt.alloc();
+    let whole = entry_range(alloc, 7, 500)?;
+    let again = entry_range(alloc, 7, 500)?;
+    let shorter = entry_range(alloc, 7, 499)?;
+    assert_eq!(rt; cmp(&whole, &again, &mut six_hundred(0)), Ok(0));
+    assert_eq!(rt; cmp(&shorter, &whole, &mut six_hundred(0)), Ok(-1));
+    assert_eq!(rt;
+        ncmp(&whole, 3, &shorter, 3, MAX_LEN, &mut six_hundred(0)),
+        Ok(1)
+    );
+    Ok(())
+}
+
+#[test]
+fn nothing_is_read_past_what_is_compared(rt: HostRuntime) -> Result<(), Fail> {
+    let alloc = rt.alloc();
+    let cord = entry_cord(alloc)?;
+    assert_eq!(rt; ncmp(&cord, 300, &cord, 0, 5, &mut cut_at(305)), Ok(0));
+    assert_eq!(rt;
+        ncmp(&cord, 300, &cord, 0, 5, &mut cut_at(304)),
+        Err(CordError::ReadFailed)
+    );
+    let prefix = leaf(alloc, b"xxy")?;
+    assert_eq!(rt; cmp(&cord, &prefix, &mut cut_at(3)), Ok(-1));
+    assert_eq!(rt; cmp(&prefix, &cord, &mut cut_at(3)), Ok(1));
     Ok(())
 }
