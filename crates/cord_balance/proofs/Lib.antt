@@ -6,3 +6,4 @@ pub mod Inserting
 pub mod Filling
 pub mod PiecesLemmas
 pub mod States
+pub mod Forms

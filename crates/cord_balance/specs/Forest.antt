@@ -1,10 +1,12 @@
 -- Pieces in slots, from the longest to the shortest.
-use Rattle.std.specs.Prelude.{ℕ, ◌+◌, ◌<◌, ◌≤◌, List, [], ◌∷◌, ◌++◌, Option, Some, None, ⊤}
+use Rattle.std.specs.Prelude.{◌≡◌, ℕ, ◌+◌, ◌<◌, ◌≤◌, List, [], ◌∷◌, ◌++◌, Option, Some, None, ⊤}
 use Rattle.cord_node.specs.Tree.{Cell, cells, len_of, depth_of, IsSound}
-use Rattle.cord_node.specs.Kept.{Part, parts}
+use Rattle.cord_node.specs.Kept.{Part, parts, Kept}
+use Rattle.cord_node.specs.declared.Node.{Node}
 use Rattle.cord_balance.specs.Fib.{fib_of, IsSlotOf}
 use Rattle.cord_balance.specs.Pieces.{Shared}
 use Rattle.cord_balance.specs.declared.forest.Piece.{Piece}
+use Rattle.cord_balance.specs.declared.forest.known.Known.{Known}
 
 -- a piece in its slot, less deep than the slot's number
 pub record IsPiece (p : Piece) : Type 0 where
@@ -61,3 +63,14 @@ piece_len (Some n) = len_of n.value
 abbrev pub IsGathered : ℕ → Option Shared → Type 0
 IsGathered below None = ⊤
 IsGathered below (Some n) = IsSound n.value × (fib_of (depth_of n.value) ≤ len_of n.value) × (depth_of n.value < below)
+
+-- it has the text and the parts of the node, and is as long
+pub record IsForm (node form : Node) : Type 0 where
+  pub sound : IsSound form
+  pub text : cells form ≡ cells node
+  pub len : len_of form ≡ len_of node
+  pub kept : Kept (parts node) (parts form)
+
+-- a subtree with its form
+abbrev pub IsKnown : Known → Type 0
+IsKnown k = IsSound k.node.value × IsForm k.node.value k.form.value

@@ -18,11 +18,14 @@ mod limits;
 #[cfg(test)]
 mod tests;
 
-use forest::{gather, insert_tree};
+use forest::{gather, insert_once};
 
 /// The index of the last Fibonacci number that `fib` serves. It is above `MAX_LEN`, so each slot of a
 /// text has a lesser number.
 pub const MAX_INDEX: u32 = 60;
+
+/// The owners of a rope that stands once in the list: the list and its cord.
+const ROOT_OWNERS: usize = 2;
 
 /// The Fibonacci number with the index `n`, which is at most `MAX_INDEX`: `fib(1)` and `fib(2)` are 1.
 #[tactic(auto, using(crate::proofs::FibLemmas::fibs))]
@@ -62,7 +65,8 @@ pub fn slot_of(len: u64) -> u32
 
 /// The texts of these ropes in order, as one rope no deeper than its slot: at least one rope, with
 /// lengths that sum to at most `MAX_LEN`. Its leaves are theirs, but where `join` makes one of two.
-/// Each greatest balanced part of a rope is taken as it is, without opening it. Refused where memory was refused.
+/// Each greatest balanced part of a rope is taken as it is, without opening it. A shared subtree that isn't balanced is
+/// opened once in a call, however often it occurs. Refused where memory was refused.
 pub fn balance_parts(alloc: Global, ropes: &[Rc<Node>]) -> Result<Rc<Node>, AllocError>
     requires not_empty { 0 < length ropes.now }
     requires sound { AllSound ropes.now }
@@ -77,8 +81,9 @@ pub fn balance_parts(alloc: Global, ropes: &[Rc<Node>]) -> Result<Rc<Node>, Allo
     ensures kept { IfOk result (λ node. Kept (all_parts ropes.now) (parts node.value)) }
 {
     let mut forest = Vec::new(alloc);
+    let mut known = Vec::new(alloc);
     for rope in ropes {
-        insert_tree(alloc, &mut forest, rope)?;
+        insert_once(alloc, &mut forest, &mut known, rope, ROOT_OWNERS)?;
     }
     match gather(alloc, &mut forest, MAX_INDEX)? {
         Some(node) => Ok(node),

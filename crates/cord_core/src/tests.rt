@@ -211,3 +211,56 @@ fn whole_cords_are_shared(rt: HostRuntime) -> Result<(), Fail> {
     assert!(rt; !is_one(&Cord::from_bytes(alloc, &[7; 100])?, &part));
     Ok(())
 }
+
+// Whether a tree is this node, over and over.
+fn is_made_of(node: &Rc<Node>, piece: &Rc<Node>) -> bool {
+    if Rc::ptr_eq(node, piece) {
+        return true;
+    }
+    match node.as_ref() {
+        Node::Cat { left, right, .. } => is_made_of(left, piece) && is_made_of(right, piece),
+        _ => false,
+    }
+}
+
+// Whether a cord's tree is the root of another one, over and over.
+fn repeats(cord: &Cord, piece: &Cord) -> bool {
+    match (cord.root(), piece.root()) {
+        (Some(node), Some(piece)) => is_made_of(node, piece),
+        _ => false,
+    }
+}
+
+#[test]
+fn subtrees_are_shared(rt: HostRuntime) -> Result<(), Fail> {
+    let alloc = rt.alloc();
+    let leaf = Cord::from_bytes(alloc, &[7; 100])?;
+    let piece = Cord::cat(alloc, &leaf, &leaf)?;
+    let mut cord = piece.share(alloc)?;
+    for _ in 0..40 {
+        cord = Cord::cat(alloc, &cord, &piece)?;
+    }
+    assert_eq!(rt; cord.depth(), 41);
+    let balanced = cord.balance(alloc)?;
+    assert!(rt; balanced.depth() < 20);
+    assert!(rt; repeats(&balanced, &piece));
+    assert!(rt; repeats(&cord.substr(alloc, 200, 6000)?, &piece));
+    assert!(rt; repeats(&cord.substr(alloc, 100, 7900)?, &leaf));
+    assert!(rt; is_one(&balanced.balance(alloc)?.substr(alloc, 200, 200)?, &piece));
+    Ok(())
+}
+
+#[test]
+fn a_shared_subtree_is_balanced_once(rt: HostRuntime) -> Result<(), Fail> {
+    let alloc = rt.alloc();
+    let one = Cord::chars(alloc, 66, 1)?;
+    let mut cord = Cord::chars(alloc, 65, 1)?;
+    for _ in 0..38 {
+        let longer = Cord::cat(alloc, &cord, &one)?;
+        cord = Cord::cat(alloc, &longer, &cord)?;
+        assert!(rt; cord.depth() <= 60);
+    }
+    assert_eq!(rt; cord.len(), 549_755_813_887);
+    assert!(rt; cord.balance(alloc)?.depth() <= 57);
+    Ok(())
+}

@@ -7,7 +7,7 @@ ghost use Rattle.cord_balance.specs.Fib.{fib_of, IsSlotOf};
 ghost use Rattle.cord_balance.specs.Forest.{IsPiece, AllFrom, IsForest, forest_cells, forest_parts, forest_len, piece_cells, piece_parts, piece_len, IsGathered};
 
 use super::Piece;
-use crate::slot_of;
+use crate::{MAX_INDEX, slot_of};
 use cord_io::MAX_LEN;
 use cord_node::{Node, join};
 use std::alloc::{AllocError, Global};
@@ -75,6 +75,22 @@ pub fn gather(
         joined = Some(put_left(alloc, piece.node, joined)?);
     }
     Ok(joined)
+}
+
+/// All pieces, at least one, joined.
+pub fn gather_all(alloc: Global, forest: &mut Vec<Piece>) -> Result<Rc<Node>, AllocError>
+    requires forest { IsForest forest.old.items }
+    requires fits { forest_len forest.old.items ≤ MAX_LEN }
+    requires some { 0 < forest_len forest.old.items }
+    ensures sound { IfOk result (λ node. IsSound node.value) }
+    ensures text { IfOk result (λ node. cells node.value ≡ forest_cells forest.old.items) }
+    ensures len { IfOk result (λ node. len_of node.value ≡ forest_len forest.old.items) }
+    ensures kept { IfOk result (λ node. Kept (forest_parts forest.old.items) (parts node.value)) }
+{
+    match gather(alloc, forest, MAX_INDEX)? {
+        Some(node) => Ok(node),
+        None => unreachable!(),
+    }
 }
 
 /// Puts a node behind the pieces, joined with each last one whose slot isn't above its own.

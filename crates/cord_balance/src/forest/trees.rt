@@ -4,10 +4,12 @@ ghost use Rattle.cord_node.specs.Tree.{cells, len_of, depth_of, IsSound};
 ghost use Rattle.cord_node.specs.Kept.{parts, Kept};
 ghost use Rattle.cord_balance.specs.Fib.{fib_of};
 ghost use Rattle.cord_balance.specs.Pieces.{all_cells, all_parts, total_len, AllSound};
-ghost use Rattle.cord_balance.specs.Forest.{IsForest, forest_cells, forest_parts, forest_len};
+ghost use Rattle.std.specs.List.{All};
+ghost use Rattle.cord_balance.specs.Forest.{IsForest, IsKnown, forest_cells, forest_parts, forest_len};
 
 use super::Piece;
-use super::slots::insert;
+use super::known::{Known, find};
+use super::slots::{gather_all, insert};
 use crate::{MAX_INDEX, fib};
 use cord_io::MAX_LEN;
 use cord_node::Node;
@@ -54,4 +56,52 @@ pub fn insert_tree(
         Node::Run { .. } => unreachable!(),
         Node::Func { .. } => unreachable!(),
     }
+}
+
+/// Puts a tree behind the pieces, each greatest balanced part of it as one piece. A subtree that isn't balanced and has
+/// more than `alone` owners, which is 1 for a side, is opened by itself where it is first met, once in a call. At each
+/// further place the pairs are looked through, and its balanced form goes in, opened as far as that isn't balanced: a
+/// few nodes for each of its levels.
+pub fn insert_once(
+    alloc: Global,
+    forest: &mut Vec<Piece>,
+    known: &mut Vec<Known>,
+    node: &Rc<Node>,
+    alone: usize,
+) -> Result<(), AllocError>
+    requires forest { IsForest forest.old.items }
+    requires known { All IsKnown known.old.items }
+    requires sound { IsSound node.now.value }
+    requires fits { forest_len forest.old.items + len_of node.now.value ≤ MAX_LEN }
+    ensures known { OnOk result (All IsKnown known.new.items) }
+    ensures rest { OnOk result (IsForest forest.new.items) }
+    ensures text { OnOk result (forest_cells forest.new.items ≡ forest_cells forest.old.items ++ cells node.now.value) }
+    ensures len { OnOk result (forest_len forest.new.items ≡ forest_len forest.old.items + len_of node.now.value) }
+    ensures kept { OnOk result (Kept (forest_parts forest.old.items ++ parts node.now.value) (forest_parts forest.new.items)) }
+{
+    let Node::Cat { left, right, .. } = node.as_ref() else {
+        insert_tree(alloc, forest, node)?;
+        return Ok(());
+    };
+    if is_balanced(node) {
+        insert_tree(alloc, forest, node)?;
+        return Ok(());
+    }
+    if Rc::strong_count(node) <= alone {
+        insert_once(alloc, forest, known, left, 1)?;
+        insert_once(alloc, forest, known, right, 1)?;
+        return Ok(());
+    }
+    if let Some(form) = find(known.as_slice(), node.as_ref()) {
+        insert_tree(alloc, forest, form)?;
+        return Ok(());
+    }
+    let mut own = Vec::new(alloc);
+    insert_once(alloc, &mut own, known, left, 1)?;
+    insert_once(alloc, &mut own, known, right, 1)?;
+    let form = gather_all(alloc, &mut own)?;
+    insert_tree(alloc, forest, &form)?;
+    let node = node.clone()?;
+    known.push(Known { node, form })?;
+    Ok(())
 }
