@@ -3,7 +3,7 @@ ghost use Rattle.std.specs.Prelude.{◌≡◌, IfOk, IsOkUnless, Ok};
 ghost use Rattle.cord_run.specs.Contents.{IsExtended, IsTextOver, extensible_length};
 ghost use Rattle.cord_run.specs.Held.{SameEntries, content_in, cord_in, extensible_in};
 
-use crate::store::{Store, place_of};
+use crate::store::Store;
 use cord_core::Cord;
 use cord_ec::ExtCord;
 use cord_io::CordError;
@@ -39,7 +39,7 @@ impl Store {
         ensures same { SameEntries self.old.entries.items self.new.entries.items }
         ensures refused { IsOkUnless result CordError.NoMemory }
     {
-        match place_of(&self.entries, name) {
+        match self.place(name) {
             None => Ok(Cord::empty()),
             Some(place) => {
                 let extensible = &mut self.entries[place].extensible;
@@ -52,7 +52,7 @@ impl Store {
     pub(crate) fn extended_length(&self, name: &[u8]) -> u64
         ensures { result ≡ extensible_length (extensible_in self.now.entries.items name.now) }
     {
-        match place_of(&self.entries, name) {
+        match self.place(name) {
             None => 0,
             Some(place) => match &self.entries[place].extensible {
                 None => 0,

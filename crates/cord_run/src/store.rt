@@ -1,6 +1,7 @@
 // What the names of a run of a plan hold.
-ghost use Rattle.std.specs.Prelude.{◌≡◌, ◌<◌, ℤ, pos, [], length, IfOk, IfSome, IfNone, None, Some};
-ghost use Rattle.cord_run.specs.Held.{content_in, cord_in, extensible_in, length_in, number_in, operand_in, HasContent, HasExtensible, HasNoEntry, HasNumber, IsEntryAt, SameEntries};
+ghost use Rattle.std.specs.Prelude.{◌≡◌, ◌<◌, ℤ, pos, true, [], length, IfOk, IfSome, IfNone, None, Some};
+ghost use Rattle.std.specs.Str.{bytes_eq};
+ghost use Rattle.cord_run.specs.Held.{are_distinct, content_in, cord_in, extensible_in, length_in, names_in, number_in, operand_in, HasContent, HasExtensible, HasNoEntry, HasNumber, IsEntryAt, SameEntries};
 
 use cord_core::Cord;
 use cord_ec::ExtCord;
@@ -24,20 +25,100 @@ pub(crate) struct Entry {
     pub(crate) extensible: Option<ExtCord>,
 }
 
-/// What the names hold: a name that was not assigned is empty or 0.
+/// So many entries are looked through without a guess.
+const FEW: usize = 8;
+
+/// The number of slots that guess the place of a name.
+const SLOTS: usize = 4_096;
+
+/// What the names hold: a name that was not assigned is empty or 0. No two entries have one name.
 #[derive(Drop)]
 pub(crate) struct Store {
     pub(crate) entries: Vec<Entry>,
+    // For each slot the place of a name of that slot, of those behind the first few: where it is another name's, the name is
+    // looked for. Empty before there are more than a few.
+    guesses: Vec<usize>,
+    ghost distinct: { are_distinct (names_in entries.items) ≡ true },
 }
 
-/// The place of a name.
-pub(crate) fn place_of(entries: &[Entry], name: &[u8]) -> Option<usize>
+// The slot of a name.
+fn slot_of(name: &[u8]) -> usize {
+    let mut slot: usize = 0;
+    for byte in name {
+        slot = (slot * 31 + *byte as usize) % SLOTS;
+    }
+    slot
+}
+
+// Whether two names are one: a loop of its own, since most of them are of a byte or two.
+fn is_same(left: &[u8], right: &[u8]) -> bool
+    ensures { result ≡ bytes_eq left.now right.now }
+{
+    if left.len() != right.len() {
+        return false;
+    }
+    for i in 0..left.len() {
+        if left[i] != right[i] {
+            return false;
+        }
+    }
+    true
+}
+
+// Whether this is the name at a place.
+fn is_at(entries: &[Entry], place: usize, name: &[u8]) -> bool
+    requires { are_distinct (names_in entries.now) ≡ true }
+    ensures within { result ≡ true → place < length entries.now }
+    ensures place { result ≡ true → IsEntryAt entries.now name.now place }
+{
+    if place >= entries.len() {
+        return false;
+    }
+    let entry = &entries[place];
+    is_same(name, entry.name.as_slice())
+}
+
+// The place of a name: the one that is guessed, where it is right.
+fn place_by(entries: &[Entry], guesses: &[usize], name: &[u8]) -> Option<usize>
+    requires distinct { are_distinct (names_in entries.now) ≡ true }
+    ensures within { IfSome result (λ place. place < length entries.now) }
+    ensures some { IfSome result (IsEntryAt entries.now name.now) }
+    ensures none { IfNone result (HasNoEntry entries.now name.now) }
+{
+    if entries.len() <= FEW {
+        return place_of(entries, name);
+    }
+    match guesses.get(slot_of(name)) {
+        Some(guess) if is_at(entries, *guess, name) => Some(*guess),
+        _ => place_of(entries, name),
+    }
+}
+
+// Guesses this place for the names of a name's slot. The first call makes the slots.
+fn guess_place(
+    alloc: Global,
+    guesses: &mut Vec<usize>,
+    name: &[u8],
+    place: usize,
+) -> Result<(), AllocError> {
+    if guesses.is_empty() {
+        *guesses = vec![in alloc; 0; SLOTS]?;
+    }
+    let slot = slot_of(name);
+    if slot < guesses.len() {
+        guesses[slot] = place;
+    }
+    Ok(())
+}
+
+// The place of a name, which is looked for.
+fn place_of(entries: &[Entry], name: &[u8]) -> Option<usize>
     ensures within { IfSome result (λ place. place < length entries.now) }
     ensures some { IfSome result (IsEntryAt entries.now name.now) }
     ensures none { IfNone result (HasNoEntry entries.now name.now) }
 {
     for (place, entry) in entries.iter().enumerate() {
-        if name == entry.name.as_slice() {
+        if is_same(name, entry.name.as_slice()) {
             return Some(place);
         }
     }
@@ -51,7 +132,17 @@ impl Store {
     {
         Store {
             entries: Vec::new(alloc),
+            guesses: Vec::new(alloc),
         }
+    }
+
+    /// The place of a name.
+    pub(crate) fn place(&self, name: &[u8]) -> Option<usize>
+        ensures within { IfSome result (λ place. place < length self.now.entries.items) }
+        ensures some { IfSome result (IsEntryAt self.now.entries.items name.now) }
+        ensures none { IfNone result (HasNoEntry self.now.entries.items name.now) }
+    {
+        place_by(&self.entries, &self.guesses, name)
     }
 
     /// The cord of a name, where it has one that isn't empty.
@@ -59,7 +150,7 @@ impl Store {
         ensures some { IfSome result (λ cord. cord.now ≡ cord_in (content_in self.now.entries.items name.now)) }
         ensures none { IfNone result (cord_in (content_in self.now.entries.items name.now) ≡ None) }
     {
-        match place_of(&self.entries, name) {
+        match self.place(name) {
             None => None,
             Some(place) => match &self.entries[place].content {
                 Content::Whole(cord) => Some(cord),
@@ -72,7 +163,7 @@ impl Store {
     pub(crate) fn length_of(&self, name: &[u8]) -> u64
         ensures { result ≡ length_in self.now.entries.items name.now }
     {
-        match place_of(&self.entries, name) {
+        match self.place(name) {
             None => 0,
             Some(place) => match &self.entries[place].content {
                 Content::Whole(cord) => cord.len(),
@@ -95,7 +186,7 @@ impl Store {
     fn number_of(&self, name: &[u8]) -> i64
         ensures { result ≡ number_in self.now.entries.items name.now }
     {
-        match place_of(&self.entries, name) {
+        match self.place(name) {
             None => 0,
             Some(place) => self.entries[place].number,
         }
@@ -110,7 +201,7 @@ impl Store {
     ) -> Result<(), AllocError>
         ensures { IfOk result (λ _. HasContent name.now content self.old.entries.items self.new.entries.items) }
     {
-        let place = place_for(alloc, &mut self.entries, name)?;
+        let place = place_for(alloc, &mut self.entries, &mut self.guesses, name)?;
         set_content(&mut self.entries, name, place, content);
         Ok(())
     }
@@ -124,7 +215,7 @@ impl Store {
     ) -> Result<(), AllocError>
         ensures { IfOk result (λ _. HasNumber name.now number self.old.entries.items self.new.entries.items) }
     {
-        let place = place_for(alloc, &mut self.entries, name)?;
+        let place = place_for(alloc, &mut self.entries, &mut self.guesses, name)?;
         set_number(&mut self.entries, name, place, number);
         Ok(())
     }
@@ -138,7 +229,7 @@ impl Store {
     ) -> Result<(), AllocError>
         ensures { IfOk result (λ _. HasExtensible name.now (Some extensible) self.old.entries.items self.new.entries.items) }
     {
-        let place = place_for(alloc, &mut self.entries, name)?;
+        let place = place_for(alloc, &mut self.entries, &mut self.guesses, name)?;
         let _ = set_extensible(&mut self.entries, name, place, Some(extensible));
         Ok(())
     }
@@ -148,7 +239,7 @@ impl Store {
         ensures taken { result ≡ extensible_in self.old.entries.items name.now }
         ensures left { HasExtensible name.now None self.old.entries.items self.new.entries.items }
     {
-        match place_of(&self.entries, name) {
+        match self.place(name) {
             None => None,
             Some(place) => set_extensible(&mut self.entries, name, place, None),
         }
@@ -159,7 +250,8 @@ impl Store {
 fn set_content(entries: &mut [Entry], name: &[u8], place: usize, content: Content)
     requires within { place < length entries.old }
     requires place { IsEntryAt entries.old name.now place }
-    ensures { HasContent name.now content entries.old entries.new }
+    ensures set { HasContent name.now content entries.old entries.new }
+    ensures distinct { are_distinct (names_in entries.old) ≡ true → are_distinct (names_in entries.new) ≡ true }
 {
     let _ = name;
     let entry = &mut entries[place];
@@ -170,7 +262,8 @@ fn set_content(entries: &mut [Entry], name: &[u8], place: usize, content: Conten
 fn set_number(entries: &mut [Entry], name: &[u8], place: usize, number: i64)
     requires within { place < length entries.old }
     requires place { IsEntryAt entries.old name.now place }
-    ensures { HasNumber name.now number entries.old entries.new }
+    ensures set { HasNumber name.now number entries.old entries.new }
+    ensures distinct { are_distinct (names_in entries.old) ≡ true → are_distinct (names_in entries.new) ≡ true }
 {
     let _ = name;
     let entry = &mut entries[place];
@@ -188,6 +281,7 @@ fn set_extensible(
     requires place { IsEntryAt entries.old name.now place }
     ensures before { result ≡ extensible_in entries.old name.now }
     ensures set { HasExtensible name.now extensible entries.old entries.new }
+    ensures distinct { are_distinct (names_in entries.old) ≡ true → are_distinct (names_in entries.new) ≡ true }
 {
     let _ = name;
     let entry = &mut entries[place];
@@ -195,14 +289,24 @@ fn set_extensible(
 }
 
 // The place of a name, which gets an entry where it has none.
-fn place_for(alloc: Global, entries: &mut Vec<Entry>, name: &[u8]) -> Result<usize, AllocError>
+fn place_for(
+    alloc: Global,
+    entries: &mut Vec<Entry>,
+    guesses: &mut Vec<usize>,
+    name: &[u8],
+) -> Result<usize, AllocError>
+    requires distinct { are_distinct (names_in entries.old.items) ≡ true }
     ensures within { IfOk result (λ place. place < length entries.new.items) }
     ensures place { IfOk result (IsEntryAt entries.new.items name.now) }
     ensures same { IfOk result (λ _. SameEntries entries.old.items entries.new.items) }
+    ensures distinct { are_distinct (names_in entries.new.items) ≡ true }
 {
-    match place_of(entries, name) {
+    match place_by(entries, guesses, name) {
         Some(place) => Ok(place),
         None => {
+            if entries.len() >= FEW {
+                guess_place(alloc, guesses, name, entries.len())?;
+            }
             let name = Vec::from_slice(alloc, name)?;
             add(entries, name)
         }
@@ -211,10 +315,12 @@ fn place_for(alloc: Global, entries: &mut Vec<Entry>, name: &[u8]) -> Result<usi
 
 // Adds an entry, of nothing yet, for a name that has none.
 fn add(entries: &mut Vec<Entry>, name: Vec<u8>) -> Result<usize, AllocError>
-    requires { HasNoEntry entries.old.items name.items }
+    requires absent { HasNoEntry entries.old.items name.items }
+    requires distinct { are_distinct (names_in entries.old.items) ≡ true }
     ensures within { IfOk result (λ place. place < length entries.new.items) }
     ensures place { IfOk result (IsEntryAt entries.new.items name.items) }
     ensures same { IfOk result (λ _. SameEntries entries.old.items entries.new.items) }
+    ensures distinct { are_distinct (names_in entries.new.items) ≡ true }
 {
     let place = entries.len();
     entries.push(Entry {

@@ -107,6 +107,20 @@ fn names_at_the_limit(rt: HostRuntime) {
     expect_end(&rt, "names-at-the-limit", &names(&rt, 256), End::Done, b"");
 }
 
+// Of two names behind the first few that share a slot each keeps its own number: 97 * 31 + 80 is 98 * 31 + 49.
+#[test]
+fn names_of_one_slot(rt: HostRuntime) {
+    let few =
+        "set n1 1 ; set n2 2 ; set n3 3 ; set n4 4 ; set n5 5 ; set n6 6 ; set n7 7 ; set n8 8";
+    let more =
+        "set aP 10 ; set b1 20 ; set n9 9 ; add aP aP 1 ; sprintf z \"%d %d %d %d\" aP b1 n1 n9 ; put z";
+    let mut script = lines(&rt, few);
+    script
+        .extend_from_slice(lines(&rt, more).as_slice())
+        .expect(&rt, "no memory");
+    expect_end(&rt, "names-of-one-slot", &script, End::Done, b"11 20 1 9");
+}
+
 // Runs a script over a sink that passes `k` calls of at most 3 bytes, both ways.
 fn expect_fused(rt: &(impl AllocGlobal + Abort), script: &[u8], k: u64, end: End, written: &[u8]) {
     let alloc = rt.alloc();

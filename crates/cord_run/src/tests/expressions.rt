@@ -35,9 +35,7 @@ fn part_of_both(
 // A store in which `a` is `abc` and `b` is `def`.
 fn two_names(rt: &(impl AllocGlobal + Abort)) -> Store {
     let alloc = rt.alloc();
-    let mut store = Store {
-        entries: Vec::new(alloc),
-    };
+    let mut store = Store::empty(alloc);
     let left = Cord::from_bytes(alloc, b"abc").expect(rt, "no memory");
     let right = Cord::from_bytes(alloc, b"def").expect(rt, "no memory");
     store

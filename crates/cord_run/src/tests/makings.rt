@@ -2,7 +2,7 @@
 use super::numbered;
 use crate::making::Halt;
 use crate::makings::{build_target, measure_target};
-use crate::store::{Content, Entry, Store};
+use crate::store::Store;
 use cord_core::Cord;
 use cord_ec::ExtCord;
 use cord_file::Sources;
@@ -53,9 +53,7 @@ fn length_of<F: Files + Drop>(
     let Ok(mut sources) = Sources::new(alloc, files) else {
         panic!(rt; "no memory");
     };
-    let mut store = Store {
-        entries: Vec::new(alloc),
-    };
+    let mut store = Store::empty(alloc);
     build_target(
         alloc,
         &mut store,
@@ -107,16 +105,10 @@ fn extensible_cord_stays(rt: HostRuntime) {
         panic!(&rt; "no memory");
     };
     assert_eq!(&rt; gathered.append_bytes(alloc, b"ab"), Ok(()));
-    let mut store = Store {
-        entries: Vec::new(alloc),
-    };
-    let begun = Entry {
-        name: Vec::from_slice(alloc, b"e").expect(&rt, "no memory"),
-        content: Content::Whole(Cord::empty()),
-        number: 0,
-        extensible: Some(gathered),
-    };
-    store.entries.push(begun).expect(&rt, "no memory");
+    let mut store = Store::empty(alloc);
+    store
+        .assign_extensible(alloc, b"e", gathered)
+        .expect(&rt, "no memory");
     for _ in 0..2 {
         assert_eq!(&rt; store.extended_length(b"e"), 2);
         match store.extended(alloc, b"e") {

@@ -1,6 +1,13 @@
-use Rattle.std.proofs.Common.{refl}
-use Rattle.cord_run.proofs.Entries.{content_set, name_at_place}
+use Rattle.std.proofs.Common.{refl, get_or}
+use Rattle.cord_run.specs.declared.store.Entry.{Entry}
+use Rattle.cord_run.proofs.Entries.{content_set, distinct_set, name_at_place}
 use Rattle.cord_run.proofs.store.set_content.Goals as goal
 
-pub returns : goal.returns
-returns c = content_set c.args.name.now c.index-entries-place.result _ c.args.entries.now c.args.place c.requires.place (name_at_place c.args.entries.now c.args.name.now c.args.place c.index-entries-place.result c.requires.place) refl refl
+pub returns-clause-set : goal.returns-clause-set
+returns-clause-set c = content_set c.args.name.now c.index-entries-place.result _ c.args.entries.now c.args.place c.requires.place (name_at_place c.args.entries.now c.args.name.now c.args.place c.index-entries-place.result c.requires.place) refl refl
+
+pub returns-clause-distinct : goal.returns-clause-distinct
+returns-clause-distinct c = λ distinct.
+    let from : Entry = get_or c.args.entries.now c.args.place c.index-entries-place.result in
+    let to : Entry = record { name = from.name; content = c.args.content; number = from.number; extensible = from.extensible } in
+    distinct_set c.args.entries.now c.args.place c.index-entries-place.result to refl distinct

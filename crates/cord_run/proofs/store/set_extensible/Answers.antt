@@ -3,7 +3,7 @@ use Rattle.std.specs.Prelude.{Option}
 use Rattle.cord_node.specs.Tree.{Cell}
 use Rattle.cord_run.specs.declared.store.Entry.{Entry}
 use Rattle.cord_run.specs.Held.{HasExtensible}
-use Rattle.cord_run.proofs.Entries.{extensible_set, name_at_place, value_at_place}
+use Rattle.cord_run.proofs.Entries.{distinct_set, extensible_set, name_at_place, value_at_place}
 use Rattle.cord_run.proofs.store.set_extensible.Goals as goal
 
 pub returns-clause-before : goal.returns-clause-before
@@ -16,3 +16,9 @@ returns-clause-set c =
     let to : Entry = record { name = from.name; content = from.content; number = from.number; extensible = c.replace.new.dest } in
     subst (λ (e : Option (List Cell)). HasExtensible c.args.name.now e entries (slice_set entries c.args.place to)) c.replace.ensures.after
     (extensible_set c.args.name.now c.index-entries-place.result to entries c.args.place c.requires.place (name_at_place entries c.args.name.now c.args.place c.index-entries-place.result c.requires.place) refl refl)
+
+pub returns-clause-distinct : goal.returns-clause-distinct
+returns-clause-distinct c = λ distinct.
+    let from : Entry = get_or c.args.entries.now c.args.place c.index-entries-place.result in
+    let to : Entry = record { name = from.name; content = from.content; number = from.number; extensible = c.replace.new.dest } in
+    distinct_set c.args.entries.now c.args.place c.index-entries-place.result to refl distinct
