@@ -22,14 +22,10 @@ mod plans;
 mod readings;
 mod recent;
 mod rows;
-#[cfg(test)]
-mod samples;
 mod shown;
 mod staying;
 mod successors;
 mod table;
-#[cfg(test)]
-mod tests;
 
 pub use expression_laws::{
     flattened_cats_mean_the_nested, measures_are_lengths, own_expressions_mean_their_lines,

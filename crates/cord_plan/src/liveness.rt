@@ -220,6 +220,3 @@ impl Later {
         }
     }
 }
-
-#[cfg(test)]
-mod tests;

@@ -153,6 +153,3 @@ fn function_word(named: Function) -> &'static [u8]
         Function::Bytes => b"bytes",
     }
 }
-
-#[cfg(test)]
-mod tests;

@@ -22,8 +22,6 @@ mod searches;
 mod serving;
 mod steering;
 mod store;
-#[cfg(test)]
-mod tests;
 mod writing;
 
 pub use cord_meaning::{End, FaultKind};

@@ -21,8 +21,6 @@ mod saying;
 mod statements;
 mod table;
 mod taking;
-#[cfg(test)]
-mod tests;
 mod words;
 
 pub use laws::{

@@ -1,7 +1,7 @@
 //! Runs of `repeat`, `if`, `else` and `end` alone.
-use crate::{End, FaultKind, run};
 use cord_io::{MemFiles, MemSink};
 use cord_plan::Plan;
+use cord_run::{End, FaultKind, run};
 use cord_script::{Number, Relation, Script, Statement};
 use std::process::Abort;
 

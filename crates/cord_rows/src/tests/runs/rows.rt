@@ -1,9 +1,9 @@
 //! Rows of scripts over no files: how each ends, and what it writes, planned and unplanned.
 use super::{expect_end, lines};
-use crate::End;
 use cord_meaning::FaultKind::{
     BadByte, Negative, NoFile, OutOfRange, Overflow, TooLong, TooManyTurns,
 };
+use cord_run::End;
 use std::process::Abort;
 
 // A name, a script with ` ; ` between its lines, how it ends, and what it writes.

@@ -1,7 +1,7 @@
 //! Rows of scripts over files: whole ones, ones that fail after some calls, and ones that give no byte behind a place.
 use super::{lines, numbered};
-use crate::{End, FaultKind, run_text, run_unplanned};
 use cord_io::{CutFiles, Files, FuseFiles, MemFiles, MemSink};
+use cord_run::{End, FaultKind, run_text, run_unplanned};
 use std::process::Abort;
 
 // Which run a row is about.

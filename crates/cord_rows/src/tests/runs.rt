@@ -1,6 +1,5 @@
 //! Rows of scripts through `run_text` and `run_unplanned`: the end, and what is written.
 mod blocks;
-mod expressions;
 mod files;
 mod hostile;
 mod makings;
@@ -9,8 +8,8 @@ mod plans;
 mod refusals;
 mod rows;
 
-use crate::{End, FaultKind, run_text, run_unplanned};
 use cord_io::{FuseSink, MemFiles, MemSink, Sink};
+use cord_run::{End, FaultKind, run_text, run_unplanned};
 use cord_script::{Refusal, RefusalKind};
 use std::process::Abort;
 
@@ -64,13 +63,10 @@ fn expect_refused(
     assert!(rt; result == Err(refusal), "{name} unplanned");
     assert!(rt; sink.failures() == 0, "{name}");
 }
-// So many copies of a byte behind a text.
+
+// A text, and so many copies of a byte after it.
 fn filled(rt: &(impl AllocGlobal + Abort), text: &[u8], byte: u8, count: usize) -> Vec<u8> {
-    let mut bytes = Vec::from_slice(rt.alloc(), text).expect(rt, "no memory");
-    for _ in 0..count {
-        bytes.push(byte).expect(rt, "no memory");
-    }
-    bytes
+    crate::filled(rt.alloc(), text, byte, count).expect(rt, "no memory")
 }
 
 // So many bytes, each of which is its place modulo 251, so that neighbouring blocks differ.

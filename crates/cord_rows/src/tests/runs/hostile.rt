@@ -1,7 +1,7 @@
 //! Devices that fail at each call: every end is honest.
 use super::{lines, numbered};
-use crate::{End, run_text, run_unplanned};
 use cord_io::{Files, FuseFiles, FuseSink, MemFiles, MemSink, Sink};
+use cord_run::{End, run_text, run_unplanned};
 use std::process::Abort;
 
 // What a line puts: a text, and then so many bytes of the file "f".

@@ -1,10 +1,13 @@
 // Plans of worked scripts, as they are shown, against texts that were written by hand.
-use crate::samples::{
+mod samples;
+mod shown;
+
+use cord_io::MemSink;
+use cord_plan::{Plan, plan};
+use cord_script::Script;
+use samples::{
     assigned_between, both_assign, eager_unread, hello, next_turn, one_keeps, seam, too_long,
 };
-use crate::{Plan, plan};
-use cord_io::MemSink;
-use cord_script::Script;
 use std::alloc::Global;
 use std::test::Fail;
 

@@ -1,8 +1,8 @@
 //! The row of a script that is parsed, planned, shown and run, call by call.
 use super::HELLO;
-use crate::{End, run};
 use cord_io::{MemFiles, MemSink};
 use cord_plan::{Plan, plan};
+use cord_run::{End, run};
 use cord_script::parse;
 use std::process::Abort;
 

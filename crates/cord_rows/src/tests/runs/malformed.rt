@@ -4,8 +4,8 @@ ghost use Rattle.std.specs.Prelude.{◌≡◌, ◌<◌, length};
 use super::refusals::REFUSALS;
 use super::rows::{BLOCKS, CORDS, EC_GOES_ON, FAULTS, SEARCHES};
 use super::{lines, numbered, substrings};
-use crate::{End, run_text};
 use cord_io::{FuseSink, MemFiles, MemSink, Sink};
+use cord_run::{End, run_text};
 use std::process::Abort;
 
 // The files "p" of one line and "big" of these bytes.

@@ -1,5 +1,5 @@
 // The worked rows that the reader meets, and each public call once.
-use crate::*;
+use cord_script::*;
 use std::alloc::{AllocError, Global};
 use std::process::Abort;
 use std::test::Fail;

@@ -1,0 +1,4 @@
+//! What is read, planned and run, row by row.
+mod plans;
+mod runs;
+mod scripts;
