@@ -52,12 +52,26 @@ fn add(alloc: Global, members: &mut Vec<Expr>, choice: &Choice) -> Result<(), Co
     Ok(())
 }
 
-// The members that these expressions give to a `cat`.
-fn joined(alloc: Global, choices: &[Choice]) -> Result<Vec<Expr>, CordError>
+// How many members these expressions give to a `cat`: so much room is taken at once.
+fn room_for(choices: &[Choice]) -> usize {
+    let mut room: usize = 0;
+    for choice in choices {
+        let more = match choice {
+            Choice::Replaced(_, Expr::Cat(members)) => members.as_slice().len(),
+            _ => 1,
+        };
+        room = room.saturating_add(more);
+    }
+    room
+}
+
+// The members that these expressions give to a `cat`, with room for so many more.
+fn joined(alloc: Global, choices: &[Choice], more: usize) -> Result<Vec<Expr>, CordError>
     ensures made { IfOk result (λ ms. members_of (map expr_view ms.items) ≡ members (map expr_of (map choice_view choices.now))) }
     ensures refused { IsOkUnless result CordError.NoMemory }
 {
-    let mut members = Vec::new(alloc);
+    let room = room_for(choices).saturating_add(more);
+    let mut members = Vec::with_capacity(alloc, room)?;
     'choices: for choice in choices {
         add(alloc, &mut members, choice)?;
     }
@@ -69,7 +83,7 @@ fn joined_all(alloc: Global, choices: &[Choice]) -> Result<Expr, CordError>
     ensures made { IfOk result (λ e. expr_view e ≡ plain.cat (members (map expr_of (map choice_view choices.now)))) }
     ensures refused { IsOkUnless result CordError.NoMemory }
 {
-    Ok(cat(joined(alloc, choices)?))
+    Ok(cat(joined(alloc, choices, 0)?))
 }
 
 // `cat` of these expressions and one byte.
@@ -77,7 +91,7 @@ fn joined_with(alloc: Global, choices: &[Choice], byte: &Number) -> Result<Expr,
     ensures made { IfOk result (λ e. expr_view e ≡ plain.cat (members (map expr_of (map choice_view choices.now) ++ plain.run byte.now (Numeral (pos 1)) ∷ []))) }
     ensures refused { IsOkUnless result CordError.NoMemory }
 {
-    let mut members = joined(alloc, choices)?;
+    let mut members = joined(alloc, choices, 1)?;
     let last = run(byte.clone()?, Number::Numeral(1));
     members.push(last)?;
     Ok(cat(members))

@@ -75,7 +75,7 @@ pub(crate) fn copy_all(alloc: Global, members: &[Expr]) -> Result<Vec<Expr>, Cor
     ensures made { IfOk result (λ es. map expr_view es.items ≡ map expr_view members.now) }
     ensures refused { IsOkUnless result CordError.NoMemory }
 {
-    let mut copies = Vec::new(alloc);
+    let mut copies = Vec::with_capacity(alloc, members.len())?;
     for member in members {
         copies.push(copy(alloc, member)?)?;
     }
