@@ -1,6 +1,8 @@
 // The bytes of an expression from a place on, as cords: one for each part that has some of them. A `sub` over a `cat` is
 // resolved by the lengths of the members: each gets its own start and count, and one that gets none isn't touched.
-ghost use Rattle.std.specs.Prelude.{◌≡◌, ◌+◌, ◌-◌, ◌<◌, ◌≤◌, ◌^◌, min, IfOk, IsOk, IsOkUnless};
+ghost use Rattle.std.specs.Prelude.{◌≡◌, ◌+◌, ◌-◌, ◌<◌, ◌≤◌, ◌^◌, min, replicate, IfOk, IsOk, IsOkUnless};
+ghost use Rattle.cord_core.specs.Cord.{text_len};
+ghost use Rattle.cord_core.specs.Equations.{HasText};
 ghost use Rattle.cord_meaning.specs.State as meant;
 ghost use Rattle.cord_plan.specs.Views.{expr_view};
 ghost use Rattle.cord_run.specs.Extents.{extent_in, members_extent, members_seen};
@@ -14,6 +16,9 @@ use cord_core::Cord;
 use cord_io::{CordError, MAX_LEN};
 use cord_plan::Expr;
 use std::alloc::Global;
+
+/// So many copies of a byte are a leaf: a join makes one leaf of two that are no longer together.
+const FEW: u64 = 64;
 
 /// Adds cords of so many bytes of an expression from a place on, none of them behind its end. Refused with `NoMemory` alone.
 #[cycle(add_range)]
@@ -136,7 +141,23 @@ fn add_copies(alloc: Global, byte: i64, count: u64, pieces: &mut Vec<Cord>) -> R
         Ok(byte) => byte,
         Err(_) => unreachable!(),
     };
-    let copies = Cord::chars(alloc, byte, count)?;
+    let copies = copies_of(alloc, byte, count)?;
     pieces.push(copies)?;
     Ok(())
+}
+
+// So many copies of a byte: one leaf of a few, which joins a short leaf beside it, and one run of more.
+fn copies_of(alloc: Global, byte: u8, count: u64) -> Result<Cord, CordError>
+    requires short { count ≤ MAX_LEN }
+    ensures over { IfOk result (HasText (replicate count byte)) }
+    ensures len { IfOk result (λ cord. text_len cord ≡ count) }
+    ensures refused { IsOkUnless result CordError.NoMemory }
+{
+    if count > FEW {
+        let run = Cord::chars(alloc, byte, count)?;
+        return Ok(run);
+    }
+    let few = [byte; FEW as usize];
+    let leaf = Cord::from_bytes(alloc, &few[..count as usize])?;
+    Ok(leaf)
 }
