@@ -1,7 +1,7 @@
 //! Each kind of making, built and only measured: its length, or why there is none. A name that `len` alone reads is
 //! measured by the plan and built without one.
 use super::{expect_end, lines, numbered};
-use cord_io::{CutFiles, Files, MemFiles, MemSink};
+use cord_io::{CutFiles, MemFiles, MemSink};
 use cord_run::{End, FaultKind, run_text, run_unplanned};
 use std::process::Abort;
 
@@ -65,14 +65,24 @@ fn parts_of_two_texts(rt: HostRuntime) {
     expect_end(&rt, "substr-behind-both", &none, End::Done, b"");
 }
 
-// What came of a script over these files, by its plan or without one.
-fn ended<F: Files + Drop>(
+// A file of so many bytes at the path `p`.
+fn file_of(rt: &(impl AllocGlobal + Abort), len: usize) -> MemFiles {
+    let mut files = MemFiles::new(rt.alloc());
+    let bytes = numbered(rt, len);
+    assert_eq!(rt; files.add(rt.alloc(), "p", &bytes), Ok(()));
+    files
+}
+
+// What came of a script over such a file, which ends for reads after the first `seen` bytes, by its plan or without one.
+fn ended(
     rt: &(impl AllocGlobal + Abort),
-    files: F,
+    len: usize,
+    seen: u64,
     script: &[u8],
     is_planned: bool,
 ) -> (End, MemSink) {
     let alloc = rt.alloc();
+    let files = CutFiles::new(file_of(rt, len), seen);
     let mut sink = MemSink::new(alloc);
     let answer = if is_planned {
         run_text(alloc, script, files, &mut sink).0
@@ -85,21 +95,13 @@ fn ended<F: Files + Drop>(
     }
 }
 
-// A file of this length at the path `p`.
-fn file_of(rt: &(impl AllocGlobal + Abort), len: usize) -> MemFiles {
-    let mut files = MemFiles::new(rt.alloc());
-    let bytes = numbered(rt, len);
-    assert_eq!(rt; files.add(rt.alloc(), "p", &bytes), Ok(()));
-    files
-}
-
 #[test]
 fn files_by_path(rt: HostRuntime) {
     for verb in ["file", "eager", "lazy"] {
         let line = format!(in rt.alloc(); "{verb} z \"p\"").expect(&rt, "no memory");
         let script = measuring(&rt, line.as_str());
         for is_planned in [true, false] {
-            let (end, sink) = ended(&rt, file_of(&rt, 5), &script, is_planned);
+            let (end, sink) = ended(&rt, 5, 5, &script, is_planned);
             assert!(&rt; end == End::Done);
             assert_eq!(&rt; sink.bytes(), b"5".as_slice());
         }
@@ -113,26 +115,16 @@ fn files_by_path(rt: HostRuntime) {
 #[test]
 fn files_that_fail_where_they_are_read(rt: HostRuntime) {
     let eager = measuring(&rt, "eager z \"p\"");
-    let (end, _) = ended(&rt, CutFiles::new(file_of(&rt, 5), 2), &eager, false);
+    let (end, _) = ended(&rt, 5, 2, &eager, false);
     assert!(&rt; end == End::ReadFailed(2));
     let lazy = measuring(&rt, "lazy z \"p\"");
-    let (end, _) = ended(&rt, CutFiles::new(file_of(&rt, 5), 2), &lazy, false);
+    let (end, _) = ended(&rt, 5, 2, &lazy, false);
     assert!(&rt; end == End::Done);
     let file = measuring(&rt, "file z \"p\"");
-    let (end, _) = ended(
-        &rt,
-        CutFiles::new(file_of(&rt, 131_072), 131_071),
-        &file,
-        true,
-    );
+    let (end, _) = ended(&rt, 131_072, 131_071, &file, true);
     assert!(&rt; end == End::Done);
-    let (end, _) = ended(
-        &rt,
-        CutFiles::new(file_of(&rt, 131_072), 131_071),
-        &file,
-        false,
-    );
+    let (end, _) = ended(&rt, 131_072, 131_071, &file, false);
     assert!(&rt; end == End::ReadFailed(2));
-    let (end, _) = ended(&rt, CutFiles::new(file_of(&rt, 131_073), 0), &file, false);
+    let (end, _) = ended(&rt, 131_073, 0, &file, false);
     assert!(&rt; end == End::Done);
 }
