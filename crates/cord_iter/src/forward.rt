@@ -112,7 +112,7 @@ fn walk_run<V: Visitor>(byte: u8, len: u64, visitor: &mut V) -> bool
     let buffer = [byte; PIECE_LEN];
     let mut done = 0;
     while done < len {
-        let count = piece_len(len - done);
+        let count = piece_len(len - done, PIECE_LEN);
         if visitor.bytes(&buffer[..count]) {
             return true;
         }
@@ -140,7 +140,7 @@ fn walk_func<S: Source, V: Visitor>(
 {
     let mut done = 0;
     while done < len {
-        let count = piece_len(len - done);
+        let count = piece_len(len - done, PIECE_LEN);
         if walk_piece(id, start + done, count, src, visitor)? {
             return Ok(true);
         }

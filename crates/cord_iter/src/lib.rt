@@ -16,8 +16,11 @@ pub use output::put;
 pub use pieces::put_all;
 pub use visitor::Visitor;
 
-/// The most bytes of a run or of a function part that are handed over at once.
+/// The most bytes of a short run or of a function part that are handed over at once.
 pub(crate) const PIECE_LEN: usize = 512;
+
+/// The most bytes of a long run that are put at once: a buffer that has room for no more is passed over.
+pub(crate) const BLOCK_LEN: usize = 65_536;
 
 #[cfg(test)]
 mod tests;

@@ -13,7 +13,8 @@ use cord_core::{Cord, Node};
 use cord_io::{CordError, MAX_LEN, Sink, Source, SourceId};
 
 /// Hands a sink the text of a cord over a source, after `CORD_put` of `cord.h`: each leaf's slice is offered whole, after a short
-/// `put` the rest, a run or a function part in pieces of at most 512 bytes. Each function part lies inside an entry of `src`.
+/// `put` the rest, a function part or a run in pieces of at most 512 bytes, a run of 65,536 bytes or more in blocks of that length.
+/// Each function part lies inside an entry of `src`.
 /// Refused with `ReadFailed` where a read failed and with `WriteFailed` where a `put` failed: then the sink has taken a front part
 /// of the text. The text is that over the table of each folder that `src` keeps after the call, and as many bytes are taken
 /// whatever it keeps. It doesn't finish the sink.
@@ -90,7 +91,7 @@ fn put_func<S: Source, W: Sink>(
 {
     let mut done = 0;
     while done < len {
-        let count = piece_len(len - done);
+        let count = piece_len(len - done, PIECE_LEN);
         put_piece(id, start + done, count, src, sink)?;
         done += count as u64;
     }

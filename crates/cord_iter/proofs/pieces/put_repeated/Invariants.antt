@@ -1,6 +1,6 @@
 use Rattle.std.proofs.Common.{◌-◌, ◌≡◌, ◌≤◌, ◌++◌}
 use Rattle.std.specs.Prelude.{replicate}
-use Rattle.cord_iter.proofs.pieces.put_run.Given as goal
+use Rattle.cord_iter.proofs.pieces.put_repeated.Given as goal
 
 abbrev pub invariant-loop-done : goal.invariant-loop-done
 invariant-loop-done g l = record {
