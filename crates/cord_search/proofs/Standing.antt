@@ -11,12 +11,15 @@ use Rattle.std.proofs.lemmas.Bool.{cases_lt}
 use Rattle.std.proofs.lemmas.Slice.{take-put_mid}
 use Rattle.std.proofs.lemmas.List.{get_or-drop, get_or_append_left, take_rest, take-take, take-append-le, drop-drop, length-take, length-take-le, take_all, take_at, take-append-drop}
 use Rattle.memchr.specs.Find.{Nowhere, NoneBefore, OccursAt, FindsNeedle}
-use Rattle.cord_io.specs.Table.{Table}
+use Rattle.cord_io.specs.Table.{Table, Lengths, HasLengths}
 use Rattle.cord_node.specs.declared.Node.{Node}
-use Rattle.cord_core.specs.Cord.{text_len, bytes_of}
+use Rattle.cord_core.specs.Cord.{text_len, bytes_of, IsCord, CordFitsIn}
 use Rattle.cord_core.specs.Texts.{StandsAt, first}
 use Rattle.cord_iter.proofs.Walks.{range_rest}
 use Rattle.cord_search.specs.Pieces.{IsPieceOf, IsFilled, IsOrderOf, IsStanding, StandsNot}
+use Rattle.cord_search.specs.Stretches.{stretch_len, stretch_bytes, IsStretchOf, IsMisfit, DoesNotFit}
+use Rattle.cord_search.specs.declared.stretches.Stretch.{Stretch}
+use Rattle.cord_search.proofs.Ranges.{cord_told, cord_len}
 use Rattle.cord_search.proofs.Finding.{range_at, first_only}
 use Rattle.cord_search.proofs.Comparing.{cmp_same, cmp_equal, piece_front}
 
@@ -103,6 +106,23 @@ window_some t x s start place k window head r is h e f none =
     let here : NoneBefore (OccursAt window head) 0 (length window + 1) k × OccursAt window head k = rw is at h in
     let fits : k + length head ≤ length window = here.1.fits in
     window_on t x s start place (place + k) k window head here.0.before (omega arith) (omega arith) e f none
+
+-- it stands at none of the places that do not fit
+pub misfit_on : (ls : Lengths) (t : Table) (x s : Option Node) (start place n : ℕ) (stretch : Stretch) (head : List ℕ) → HasLengths ls t → IsCord x → CordFitsIn ls x → IsStretchOf x place stretch → IsMisfit stretch head n → IsPieceOf t s 0 head → StandsNot t x s start place → StandsNot t x s start (place + n)
+misfit_on ls t x s start place n stretch head told sound fits h misfit f none =
+    λ q low to at. ⊎_elim (λ (lt : q < place). none q low lt at) (λ (le : place ≤ q). differ q at le (misfit t (q - place) (omega arith))) (cases_lt q place)
+  where
+    differ : (q : ℕ) → StandsAt (bytes_of t x) (bytes_of t s) q → place ≤ q → DoesNotFit t stretch head (q - place) → ⊥
+    differ q at le d =
+        let xs = bytes_of t x in
+        let ss = bytes_of t s in
+        let text = h.text t (cord_told ls t x told fits) in
+        let long : length (stretch_bytes t stretch) ≡ stretch_len stretch = ap (λ (ys : List ℕ). length ys) text ∙ length-take-le (stretch_len stretch) (drop place xs) (omega (arith, h.inside, cord_len ls t x told sound fits, length-drop place xs)) in
+        let range : stretch_bytes t stretch ≡ take (length (stretch_bytes t stretch)) (drop place xs) = text ∙ ap (λ (k : ℕ). take k (drop place xs)) (sym long) in
+        let here : place + (q - place + d.at) ≡ q + d.at = omega (arith, le) in
+        let there : 0 + d.at ≡ d.at = omega arith in
+        let short : length head ≤ length ss = omega (arith, ap (λ (ys : List ℕ). length ys) f, length-take (length head) ss) in
+        d.differs (range_at xs (stretch_bytes t stretch) place (q - place + d.at) range (omega (arith, long, d.within)) ∙ ap (λ (k : ℕ). get_or xs k 0) here ∙ stands_get xs ss q d.at at (omega (arith, short, d.inside)) ∙ sym (range_at ss head 0 d.at f d.inside ∙ ap (λ (k : ℕ). get_or ss k 0) there))
 
 -- a place where it doesn't stand
 pub stands_on : (t : Table) (x s : Option Node) (start place : ℕ) → IsStanding t x place s false → StandsNot t x s start place → StandsNot t x s start (place + 1)

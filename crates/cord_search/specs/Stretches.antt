@@ -1,5 +1,5 @@
 -- Stretches: texts that lie in one part of a node.
-use Rattle.std.specs.Prelude.{◌≡◌, ◌≢◌, ℕ, ◌+◌, ◌<◌, ◌≤◌, List, length, take, drop, replicate, slice_get, Bool, false, not, ◌==◌, Option, Some, ⊤}
+use Rattle.std.specs.Prelude.{◌≡◌, ◌≢◌, ℕ, ◌+◌, ◌<◌, ◌≤◌, List, length, take, drop, replicate, slice_get, slice_index, Bool, false, not, ◌==◌, Option, Some, ⊤}
 use Rattle.cord_io.specs.Table.{Table, Lengths, length_at}
 use Rattle.cord_io.specs.declared.TheConstants.{MAX_LEN}
 use Rattle.cord_node.specs.declared.Node.{Node}
@@ -58,3 +58,14 @@ pub record IsFrontOf (s : Stretch) (n : ℕ) (front : Stretch) : Type 0 where
   pub len : stretch_len front ≡ n
   pub fits : (lengths : Lengths) → StretchFitsIn lengths s → StretchFitsIn lengths front
   pub text : (t : Table) → stretch_bytes t front ≡ take n (stretch_bytes t s)
+
+-- a text that begins with these bytes has another byte somewhere than the stretch, if it stands at this place of it
+pub record DoesNotFit (t : Table) (s : Stretch) (front : List ℕ) (place : ℕ) : Type 0 where
+  pub at : ℕ
+  pub inside : at < length front
+  pub within : place + at < stretch_len s
+  pub differs : slice_index (stretch_bytes t s) (place + at) ≢ slice_index front at
+
+-- no text that begins with these bytes stands at one of the first n places of the stretch
+abbrev pub IsMisfit : Stretch → List ℕ → ℕ → Type 0
+IsMisfit s front n = (t : Table) → (place : ℕ) → place < n → DoesNotFit t s front place

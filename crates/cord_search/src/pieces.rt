@@ -3,7 +3,7 @@ ghost use Rattle.std.specs.Prelude.{◌≡◌, ◌+◌, ◌-◌, ◌<◌, ◌≤
 ghost use Rattle.cord_io.specs.Device.{Folder, count_after};
 ghost use Rattle.cord_core.specs.Cord.{text_len, IsCord, CordFitsIn};
 ghost use Rattle.cord_search.specs.Pieces.{IsPieceOf};
-ghost use Rattle.cord_search.specs.Stretches.{stretch_len, StretchFitsIn, IsPartOf};
+ghost use Rattle.cord_search.specs.Stretches.{stretch_len, StretchFitsIn, IsStretchOf, IsPartOf};
 
 use crate::PIECE_LEN;
 use crate::stretches::{Stretch, cord_stretch_at};
@@ -28,20 +28,44 @@ pub(crate) fn cord_piece_at<'a, S: Source>(
     ensures table { S.table src.new ≡ S.table src.old }
     ensures earlier { (folder : Folder) → S.keeps src.new folder → S.keeps src.old folder }
 {
-    let piece = first_piece(cord_stretch_at(cord, place), buffer, src)?;
+    piece_of(cord, place, cord_stretch_at(cord, place), buffer, src)
+}
+
+// The same, where this stretch begins at the place.
+fn piece_of<'a, S: Source>(
+    cord: &Cord,
+    place: u64,
+    stretch: Stretch<'a>,
+    buffer: &'a mut [u8; PIECE_LEN],
+    src: &mut S,
+) -> Result<&'a [u8], ReadFault>
+    requires stretch { IsStretchOf cord.now place stretch }
+    requires fits { CordFitsIn (S.lengths src.old) cord.now }
+    ensures some { IfOk result (λ piece. 0 < length piece.now) }
+    ensures inside { IfOk result (λ piece. place + length piece.now ≤ text_len cord.now) }
+    ensures text { (folder : Folder) → S.keeps src.new folder →
+        IfOk result (λ piece. IsPieceOf (S.table src.old folder) cord.now place piece.now) }
+    ensures count { S.failures src.new ≡ count_after (is_err result) (S.failures src.old) }
+    ensures lengths { S.lengths src.new ≡ S.lengths src.old }
+    ensures table { S.table src.new ≡ S.table src.old }
+    ensures earlier { (folder : Folder) → S.keeps src.new folder → S.keeps src.old folder }
+{
+    let piece = first_piece(stretch, buffer, src)?;
     Ok(piece)
 }
 
-// At least `count` bytes of a cord's text from a place on, which it has: the rest of a leaf where that is enough,
-// else what is left of the part and the next bytes, copied.
+// At least `count` bytes of a cord's text from a place on, which it has, where this stretch begins: the rest of a leaf where
+// that is enough, else what is left of the part and the next bytes, copied.
 pub(crate) fn window_at<'a, S: Source>(
-    cord: &'a Cord,
+    cord: &Cord,
     place: u64,
+    stretch: Stretch<'a>,
     count: usize,
     buffer: &'a mut [u8; PIECE_LEN],
     seam: &'a mut [u8; 2 * PIECE_LEN],
     src: &mut S,
 ) -> Result<&'a [u8], ReadFault>
+    requires stretch { IsStretchOf cord.now place stretch }
     requires some { 0 < count }
     requires most { count ≤ PIECE_LEN }
     requires inside { place + count ≤ text_len cord.now }
@@ -55,7 +79,7 @@ pub(crate) fn window_at<'a, S: Source>(
     ensures table { S.table src.new ≡ S.table src.old }
     ensures earlier { (folder : Folder) → S.keeps src.new folder → S.keeps src.old folder }
 {
-    let piece = cord_piece_at(cord, place, buffer, src)?;
+    let piece = piece_of(cord, place, stretch, buffer, src)?;
     if count <= piece.len() {
         return Ok(piece);
     }

@@ -1,8 +1,8 @@
 // Stretches of a node's text: what lies in one part, from a place on or up to a place.
-ghost use Rattle.std.specs.Prelude.{◌≡◌, ◌-◌, ◌<◌, ◌≤◌, true, is_some, IfSome};
+ghost use Rattle.std.specs.Prelude.{◌≡◌, ◌≢◌, ◌-◌, ◌<◌, ◌≤◌, length, slice_index, true, is_some, IfSome};
 ghost use Rattle.cord_core.specs.Cord.{text_len};
 ghost use Rattle.cord_node.specs.Tree.{len_of, IsSound};
-ghost use Rattle.cord_search.specs.Stretches.{stretch_len, is_other_run, IsStretchOf, IsStretchAt, IsWithout, BeginAlike, IsFrontOf};
+ghost use Rattle.cord_search.specs.Stretches.{stretch_len, is_other_run, IsStretchOf, IsStretchAt, IsWithout, IsMisfit, BeginAlike, IsFrontOf};
 
 use cord_core::{Cord, Node};
 use cord_io::SourceId;
@@ -25,6 +25,21 @@ impl<'a> Stretch<'a> {
         match self {
             Stretch::Run { byte, len } if byte != wanted => Some(len),
             _ => None,
+        }
+    }
+
+    /// At how many places from its first one on no text that begins with these bytes can stand, for this is a run that still
+    /// goes on where they have another byte.
+    pub(crate) fn misfits(self, front: &[u8]) -> u64
+        ensures inside { result ≤ stretch_len self.entry }
+        ensures misfit { IsMisfit self.entry front.now result }
+    {
+        match self {
+            Stretch::Run { byte, len } => match other_in(front, byte) {
+                Some(place) => len.saturating_sub(place as u64),
+                None => 0,
+            },
+            _ => 0,
         }
     }
 
@@ -72,6 +87,19 @@ impl<'a> Stretch<'a> {
             },
         }
     }
+}
+
+// The first place at which these bytes have another one than this.
+fn other_in(bytes: &[u8], byte: u8) -> Option<usize>
+    ensures inside { IfSome result (λ place. place < length bytes.now) }
+    ensures other { IfSome result (λ place. slice_index bytes.now place ≢ byte) }
+{
+    for place in 0..bytes.len() {
+        if bytes[place] != byte {
+            return Some(place);
+        }
+    }
+    None
 }
 
 /// What is left of a part of a cord's text from a place on.

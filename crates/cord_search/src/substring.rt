@@ -8,6 +8,7 @@ ghost use Rattle.cord_search.specs.Pieces.{IsStanding};
 use crate::PIECE_LEN;
 use crate::order::compare;
 use crate::pieces::{gather, piece_len, window_at};
+use crate::stretches::cord_stretch_at;
 use cord_core::Cord;
 use cord_io::{CordError, ReadFault, Source};
 use memchr::memmem::Finder;
@@ -75,7 +76,13 @@ fn first_place<S: Source>(
     let (mut buffer, mut seam) = ([0; PIECE_LEN], [0; 2 * PIECE_LEN]);
     let mut place = start;
     while place <= last {
-        let window = window_at(x, place, head.len(), &mut buffer, &mut seam, src)?;
+        let stretch = cord_stretch_at(x, place);
+        let misfits = stretch.misfits(head);
+        if 0 < misfits {
+            place += misfits;
+            continue;
+        }
+        let window = window_at(x, place, stretch, head.len(), &mut buffer, &mut seam, src)?;
         match finder.find(window) {
             Some(found) => place += found as u64,
             None => {

@@ -1,9 +1,28 @@
-use Rattle.std.proofs.Common.{◌+◌, ◌-◌, ◌≤◌, ◌∙◌, true, false, length, arith}
+use Rattle.std.proofs.Common.{◌+◌, ◌-◌, ◌≤◌, ◌∙◌, sym, subst, true, false, length, arith}
 use Rattle.memchr.specs.Find.{FindsNeedle}
+use Rattle.cord_io.specs.Device.{Folder}
+use Rattle.cord_io.specs.Table.{Table, HasLengths}
 use Rattle.cord_search.proofs.Ranges.{cord_len}
 use Rattle.cord_search.specs.Pieces.{IsPieceOf, IsStanding, StandsNot}
-use Rattle.cord_search.proofs.Standing.{window_none, window_some, stands_on, stands_first, stands_none}
+use Rattle.cord_search.proofs.Standing.{misfit_on, window_none, window_some, stands_on, stands_first, stands_none}
 use Rattle.cord_search.proofs.substring.first_place.Goals as goal
+
+pub loop-place-preserved-then-misfits-gt0 : goal.loop-place-preserved-then-misfits-gt0
+loop-place-preserved-then-misfits-gt0 g c = record {
+  low = omega (arith, c.loop-place.invariant.low);
+  none = λ folder kept.
+      let t = g.S.Source.table c.gather.new.src folder in
+      let lengths = g.S.Source.lengths c.args.src.now in
+      let head = c.gather.new.out in
+      let gathered = c.loop-place.invariant.earlier folder kept in
+      let told : HasLengths lengths t = subst (λ (u : Folder → Table). HasLengths lengths (u folder)) (sym c.gather.ensures.table) (g.met.S.Source.lengths_of_table c.args.src.now folder (c.in_ok-gather.ensures.earlier folder gathered)) in
+      let front : IsPieceOf t c.args.s.now 0 head = rw (← c.gather.ensures.table) at c.in_ok-gather.ensures.text folder gathered in
+      misfit_on lengths t c.args.x.now c.args.s.now c.args.start c.loop-place.place c.misfits-misfits.result c.cord_stretch_at-stretch.result head told c.requires.sound c.requires.fits c.cord_stretch_at-stretch.ensures c.misfits-misfits.ensures.misfit front (c.loop-place.invariant.none folder kept);
+  reads = c.loop-place.invariant.reads;
+  lengths = c.loop-place.invariant.lengths;
+  table = c.loop-place.invariant.table;
+  earlier = c.loop-place.invariant.earlier;
+}
 
 pub loop-place-preserved-in-None : goal.loop-place-preserved-in-None
 loop-place-preserved-in-None g c = record {
