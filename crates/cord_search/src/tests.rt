@@ -108,11 +108,11 @@ fn joined(alloc: Global) -> Result<Cord, CordError>
     Ok(cord)
 }
 
-// The text "aaab": a run of two bytes, and a leaf.
-fn run_and_leaf(alloc: Global) -> Result<Cord, CordError>
+// So many times the byte "a" as a run, and the text "ab" as a leaf.
+fn run_and_leaf(alloc: Global, len: u64) -> Result<Cord, CordError>
     ensures { IfOk result (λ c. (lengths : Lengths) → CordFitsIn lengths c) }
 {
-    let run = run_of(alloc, 2)?;
+    let run = run_of(alloc, len)?;
     let back = leaf(alloc, b"ab")?;
     let cord = Cord::cat(alloc, &run, &back)?;
     Ok(cord)
@@ -175,9 +175,33 @@ fn rows_of_str(rt: HostRuntime) -> Result<(), Fail> {
     let empty = Cord::empty();
     assert_eq!(rt; str(&cord, 5, &empty, &mut nothing()), Ok(Some(5)));
     assert_eq!(rt; str(&cord, 6, &empty, &mut nothing()), Ok(None));
-    let seam = run_and_leaf(alloc)?;
+    let seam = run_and_leaf(alloc, 2)?;
     let pattern = leaf(alloc, b"aab")?;
     assert_eq!(rt; str(&seam, 0, &pattern, &mut nothing()), Ok(Some(1)));
+    Ok(())
+}
+
+#[test]
+fn str_passes_over_the_longest_run(rt: HostRuntime) -> Result<(), Fail> {
+    let alloc = rt.alloc();
+    let cord = run_and_leaf(alloc, MAX_LEN - 2)?;
+    let pattern = leaf(alloc, b"aab")?;
+    assert_eq!(rt;
+        str(&cord, 0, &pattern, &mut nothing()),
+        Ok(Some(MAX_LEN - 3))
+    );
+    let absent = leaf(alloc, b"ba")?;
+    assert_eq!(rt; str(&cord, 0, &absent, &mut nothing()), Ok(None));
+    Ok(())
+}
+
+#[test]
+fn str_finds_the_byte_of_a_run(rt: HostRuntime) -> Result<(), Fail> {
+    let alloc = rt.alloc();
+    let cord = run_and_leaf(alloc, MAX_LEN - 2)?;
+    let alike = leaf(alloc, b"aaa")?;
+    assert_eq!(rt; str(&cord, 5, &alike, &mut nothing()), Ok(Some(5)));
+    assert_eq!(rt; str(&cord, MAX_LEN - 3, &alike, &mut nothing()), Ok(None));
     Ok(())
 }
 
