@@ -7,6 +7,7 @@ pub mod Lines
 pub mod Magnitudes
 pub mod Readings
 pub mod Samples
+pub mod Same
 pub mod Single
 pub mod Spelled
 pub mod Stated

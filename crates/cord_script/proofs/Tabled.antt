@@ -90,7 +90,11 @@ form_is verbs.If = refl
 form_is verbs.Else = refl
 form_is verbs.End = refl
 
+-- the form of a word that is a verb's
+pub found_verb : (w : List ℕ) (v : Verb) → w ≡ verb_word v → (w ≡ verb_word v) × (form_in whole w ≡ Some (verb_form v))
+found_verb w v h = (h, ap form_of h ∙ form_is v)
+
 -- the form of the word that a verb was looked for
 pub found : (w : List ℕ) (r : Option Verb) → r ≡ find_verb VERBS w → IfSome r (λ v. w ≡ verb_word v) → MatchOption r (form_in whole w ≡ None) (λ v. (w ≡ verb_word v) × (form_in whole w ≡ Some (verb_form v)))
 found w None e h = sym (form_found w) ∙ ap form_at (sym e)
-found w (Some v) e h = (h, ap form_of h ∙ form_is v)
+found w (Some v) e h = found_verb w v h

@@ -5,6 +5,7 @@ ghost use Rattle.cord_script.specs.Script.{whole};
 ghost use Rattle.cord_script.specs.Verbal.{verb_word, verb_wants, verb_form, find_verb};
 
 use crate::kinds::{Kind, Want};
+use crate::words::{is_same, uncons};
 
 /// What a statement's word asks for.
 #[derive(Clone, Copy)]
@@ -81,24 +82,81 @@ const VERBS: [Verb; 33] = [
     Verb::End,
 ];
 
+const FROM_C: [Verb; 6] = [
+    Verb::Cat,
+    Verb::Catc,
+    Verb::Catn,
+    Verb::Chars,
+    Verb::Cmp,
+    Verb::Chr,
+];
+
+const FROM_E: [Verb; 8] = [
+    Verb::End,
+    Verb::Else,
+    Verb::EcPut,
+    Verb::EcStr,
+    Verb::EcCat,
+    Verb::EcInit,
+    Verb::EcToCord,
+    Verb::Eager,
+];
+
+const FROM_S: [Verb; 5] = [
+    Verb::Substr,
+    Verb::Sprintf,
+    Verb::Str,
+    Verb::Assign,
+    Verb::Sub,
+];
+
 // The first of these verbs that has the word.
 fn find_verb(verbs: &[Verb], word: &[u8]) -> Option<Verb>
     ensures verb { result ≡ find_verb verbs.now word.now }
     ensures word { IfSome result (λ verb. word.now ≡ verb_word verb) }
 {
     for verb in verbs {
-        if word == word_of(*verb) {
+        if is_same(word, word_of(*verb)) {
             return Some(*verb);
         }
     }
     None
 }
 
+// The verbs whose words begin with a byte.
+fn verbs_from(first: u8) -> &'static [Verb] {
+    match first {
+        b'a' => &[Verb::Add],
+        b'b' => &[Verb::Balance],
+        b'c' => &FROM_C,
+        b'e' => &FROM_E,
+        b'f' => &[Verb::File, Verb::FromFn, Verb::Fetch],
+        b'i' => &[Verb::If],
+        b'l' => &[Verb::Let, Verb::Len, Verb::Lazy],
+        b'n' => &[Verb::Nul, Verb::Ncmp],
+        b'p' => &[Verb::Put],
+        b'r' => &[Verb::Repeat, Verb::Rchr],
+        b's' => &FROM_S,
+        _ => &[],
+    }
+}
+
+// The verb of a word among those of its first byte.
+fn likely_verb(word: &[u8]) -> Option<Verb>
+    ensures { IfSome result (λ verb. word.now ≡ verb_word verb) }
+{
+    let (first, _) = uncons(word)?;
+    find_verb(verbs_from(first), word)
+}
+
 /// The verb of a word, if it is a statement's word.
 pub fn verb_of(word: &[u8]) -> Option<Verb>
     ensures { MatchOption result (form_in whole word.now ≡ None) (λ verb. (word.now ≡ verb_word verb) × (form_in whole word.now ≡ Some (verb_form verb))) }
 {
-    find_verb(&VERBS, word)
+    match likely_verb(word) {
+        Some(verb) => Some(verb),
+        None => find_verb(&VERBS, word),
+    }
 }
 
 // The word of a verb.

@@ -3,12 +3,16 @@ ghost use Rattle.std.specs.Prelude.{◌≡◌, ◌<◌, [], ◌∷◌, ◌++◌,
 ghost use Rattle.cord_script.specs.Script.{kind_of, with_name};
 
 use crate::kinds::Kind;
+use crate::words::is_same;
 use crate::{Name, RefusalKind};
 use std::alloc::{AllocError, Global};
 use std::marker::Model;
 
 /// The number of slots that guess the place of a name.
 const SLOTS: usize = 1_024;
+
+/// What spreads names that differ in their last byte over the slots: the odd number next to 2^64 over the golden ratio.
+const SPREAD: usize = 0x9E37_79B9_7F4A_7C15;
 
 /// How many slots are looked at, from the name's own on.
 const PROBES: usize = 8;
@@ -51,7 +55,7 @@ fn slot_of(name: &[u8]) -> usize
     for byte in name {
         hash = hash.wrapping_mul(31).wrapping_add(*byte as usize);
     }
-    hash % SLOTS
+    (hash.wrapping_mul(SPREAD) >> 54) % SLOTS
 }
 
 // The first of these with the name.
@@ -59,7 +63,7 @@ fn search<'a>(known: &'a [Known], name: &[u8]) -> Option<&'a Known>
     ensures { MatchOption result (kind_of known.now name.now ≡ None) (λ found. (found.now.name ≡ name.now) × (kind_of known.now name.now ≡ Some found.now.kind)) }
 {
     for entry in known {
-        if entry.name.as_slice() == name {
+        if is_same(entry.name.as_slice(), name) {
             return Some(entry);
         }
     }
@@ -89,7 +93,7 @@ impl Table {
         ensures { IfSome result (λ found. (found.now.name ≡ name.now) × (kind_of self.now name.now ≡ Some found.now.kind)) }
     {
         match self.known.get(place) {
-            Some(entry) if entry.name.as_slice() == name => Some(entry),
+            Some(entry) if is_same(entry.name.as_slice(), name) => Some(entry),
             _ => None,
         }
     }

@@ -1,6 +1,7 @@
 // The words of a line.
 ghost use Rattle.std.specs.Prelude.{◌≡◌, ◌≢◌, ◌<◌, ◌≤◌, ℕ, List, [], ◌∷◌, ◌++◌, length, take, drop, All, IfOk, IfErr, IfSome, MatchOption, option_map, IsTrue, false};
 ghost use Rattle.cord_script.specs.Words.{IsBlank, IsPlain, EndsPlain, StartsNoBlank, Spells, IsBadText, HasNext, BeginsBadText, HasWords, HasBadBytes};
+ghost use Rattle.std.specs.Str.{bytes_eq};
 ghost use Rattle.cord_script.specs.Reading.{digit_of, hex_of, escape_of, unit_of};
 
 use crate::{MAX_TEXT, RefusalKind, Text};
@@ -104,6 +105,21 @@ pub fn uncons(bytes: &[u8]) -> Option<(u8, &[u8])>
     }
 }
 
+/// Whether two words have the same bytes: a loop of its own, since most words are of a few bytes.
+pub fn is_same(left: &[u8], right: &[u8]) -> bool
+    ensures { result ≡ bytes_eq left.now right.now }
+{
+    if left.len() != right.len() {
+        return false;
+    }
+    for i in 0..left.len() {
+        if left[i] != right[i] {
+            return false;
+        }
+    }
+    true
+}
+
 // The value of a hexadecimal digit.
 fn digit(c: u8) -> Option<u8>
     ensures value { result ≡ digit_of c }
@@ -196,12 +212,15 @@ fn next_word(alloc: Global, line: &[u8]) -> Result<Option<(Word<'_>, &[u8])>, Re
     Ok(Some((word, tail(rest, len))))
 }
 
+// As many words as most lines have at the most.
+const USUAL: usize = 8;
+
 /// The words of a line, in order.
 pub fn words_of(alloc: Global, line: &[u8]) -> Result<Vec<Word<'_>>, RefusalKind>
     ensures words { IfOk result (λ ws. HasWords line.now ws.items) }
     ensures flaw { IfErr result (λ kind. kind ≢ RefusalKind.NoMemory → HasBadBytes line.now kind) }
 {
-    let mut words = Vec::new(alloc);
+    let mut words = Vec::with_capacity(alloc, USUAL)?;
     let mut rest = line;
     'words: loop {
         match next_word(alloc, rest)? {
