@@ -15,8 +15,6 @@ use std::rc::Rc;
 
 mod forest;
 mod limits;
-#[cfg(test)]
-mod tests;
 
 use forest::{gather, insert_once};
 

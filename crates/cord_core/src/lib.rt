@@ -18,8 +18,6 @@ mod join;
 mod laws;
 mod make;
 mod part;
-#[cfg(test)]
-mod tests;
 
 /// An immutable text of at most `MAX_LEN` bytes: nothing, or a tree of nodes, at most `MAX_DEPTH` deep.
 #[derive(Drop)]

@@ -5,6 +5,3 @@
 mod ext;
 
 pub use ext::ExtCord;
-
-#[cfg(test)]
-mod tests;

@@ -10,8 +10,6 @@ mod limits;
 mod opening;
 mod reading;
 mod sources;
-#[cfg(test)]
-mod tests;
 
 pub use faults::FileError;
 pub use limits::limits_are;

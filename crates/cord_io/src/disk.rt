@@ -184,6 +184,3 @@ impl<R: rt::Files> Files for DiskFiles<R> {
         }
     }
 }
-
-#[cfg(test)]
-mod tests;

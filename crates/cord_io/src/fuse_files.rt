@@ -125,6 +125,3 @@ impl<F: Files> Files for FuseFiles<F> {
         }
     }
 }
-
-#[cfg(test)]
-mod tests;

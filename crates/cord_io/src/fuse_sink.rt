@@ -123,6 +123,3 @@ impl<S: Sink> Sink for FuseSink<S> {
         }
     }
 }
-
-#[cfg(test)]
-mod tests;

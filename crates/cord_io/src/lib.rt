@@ -15,8 +15,6 @@ mod reading;
 mod sources;
 mod standard;
 mod tally;
-#[cfg(test)]
-mod testing;
 mod trace;
 mod writing;
 

@@ -114,6 +114,3 @@ impl Files for MemFiles {
         Ok(copy_from(bytes, start as usize, out))
     }
 }
-
-#[cfg(test)]
-mod tests;

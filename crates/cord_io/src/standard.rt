@@ -94,6 +94,3 @@ impl<W: Write> Sink for StdSink<W> {
         }
     }
 }
-
-#[cfg(test)]
-mod tests;

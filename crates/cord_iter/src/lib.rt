@@ -21,6 +21,3 @@ pub(crate) const PIECE_LEN: usize = 512;
 
 /// The most bytes of a long run that are put at once: a buffer that has room for no more is passed over.
 pub(crate) const BLOCK_LEN: usize = 65_536;
-
-#[cfg(test)]
-mod tests;

@@ -3,7 +3,5 @@
 #![tactic(auto)]
 
 mod mark;
-#[cfg(test)]
-mod tests;
 
 pub use mark::Mark;

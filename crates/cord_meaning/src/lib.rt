@@ -19,24 +19,3 @@ pub use rows::{
 
 /// The greatest number of turns that all loops of a run begin together.
 pub const MAX_TURNS: u64 = 1_000_000;
-
-#[cfg(test)]
-mod tests {
-    use super::*;
-
-    #[test]
-    fn texts_of_faults(rt: HostRuntime) {
-        let texts = [
-            (FaultKind::Negative, "negative number"),
-            (FaultKind::BadByte, "byte out of range"),
-            (FaultKind::OutOfRange, "index out of range"),
-            (FaultKind::NoFile, "no such file"),
-            (FaultKind::TooLong, "too long"),
-            (FaultKind::Overflow, "overflow"),
-            (FaultKind::TooManyTurns, "too many turns"),
-        ];
-        for (kind, text) in texts {
-            assert_eq!(rt; kind.text(), text);
-        }
-    }
-}

@@ -119,8 +119,6 @@ impl Node {
 mod limits;
 mod make;
 mod range;
-#[cfg(test)]
-mod tests;
 
 pub use limits::limits_are;
 pub use make::{func, join, leaf, run};

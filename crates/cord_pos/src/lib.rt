@@ -115,6 +115,3 @@ impl<'a> Position<'a> {
         self.spot = Some(Spot { index, part });
     }
 }
-
-#[cfg(test)]
-mod tests;

@@ -12,8 +12,6 @@ mod pieces;
 mod print;
 mod reading;
 mod shown;
-#[cfg(test)]
-mod tests;
 
 pub use arguments::Arg;
 pub use errors::{FormatError, PrintError};

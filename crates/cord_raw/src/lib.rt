@@ -9,6 +9,3 @@ mod raw;
 mod text;
 
 pub use buffer::RawBuf;
-
-#[cfg(test)]
-mod tests;

@@ -1,4 +1,5 @@
 //! What is read, planned and run, row by row.
+mod faults;
 mod plans;
 mod runs;
 mod scripts;

@@ -15,6 +15,3 @@ pub use substring::str;
 
 /// The most bytes of a run or of a function part that are looked at together.
 pub(crate) const PIECE_LEN: usize = 512;
-
-#[cfg(test)]
-mod tests;

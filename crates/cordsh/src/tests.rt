@@ -86,15 +86,15 @@ fn expect_driven(
     told: &[u8],
 ) {
     let come = drive_over(rt, words, files_with(rt, script));
-    assert_eq!(rt; come.status, status);
-    assert_eq!(rt; come.out.bytes(), written);
-    assert_eq!(rt; come.err.bytes(), told);
+    assert!(rt; come.status == status);
+    assert!(rt; come.out.bytes() == written);
+    assert!(rt; come.err.bytes() == told);
 }
 
 // Compares a run whose files failed: what is written is a front part of a file, of at most so many bytes.
 fn expect_failed(rt: &impl Abort, come: &Driven, told: &[u8], file: &[u8], most: usize) {
-    assert_eq!(rt; come.status, 4);
-    assert_eq!(rt; come.err.bytes(), told);
+    assert!(rt; come.status == 4);
+    assert!(rt; come.err.bytes() == told);
     assert!(rt; come.out.bytes().len() <= most);
     assert!(rt; file.starts_with(come.out.bytes()));
 }
@@ -276,9 +276,9 @@ fn script_unreadable(rt: HostRuntime) {
         let mut err = MemSink::new(alloc);
         let files = FuseFiles::new(files_with(&rt, HELLO), k);
         let (status, _) = drive(alloc, &words, files, &mut out, &mut err);
-        assert_eq!(rt; status, 4);
-        assert_eq!(rt; out.bytes(), b"".as_slice());
-        assert_eq!(rt; err.bytes(), b"cordsh: line 0: read failed\n".as_slice());
+        assert!(rt; status == 4);
+        assert!(rt; out.bytes() == b"".as_slice());
+        assert!(rt; err.bytes() == b"cordsh: line 0: read failed\n".as_slice());
     }
 }
 
@@ -313,7 +313,7 @@ fn unplanned_reads_what_is_unread(rt: HostRuntime) {
         // Passes the opening and the reading of the script, and the opening of the line's file.
         let files = FuseFiles::new(files_with(&rt, script), 3);
         let (answered, _) = drive(alloc, &words, files, &mut out, &mut err);
-        assert_eq!(rt; answered, status);
+        assert!(rt; answered == status);
     }
 }
 
@@ -331,9 +331,9 @@ fn expect_fused(
     let mut out = FuseSink::new(MemSink::new(alloc), k, 3);
     let mut err = MemSink::new(alloc);
     let (answered, _) = drive(alloc, &words, files_with(rt, script), &mut out, &mut err);
-    assert_eq!(rt; answered, status);
-    assert_eq!(rt; out.inner().bytes(), written);
-    assert_eq!(rt; err.bytes(), told);
+    assert!(rt; answered == status);
+    assert!(rt; out.inner().bytes() == written);
+    assert!(rt; err.bytes() == told);
 }
 
 #[test]
@@ -360,7 +360,7 @@ fn messages_fail(rt: HostRuntime) {
     let mut out = MemSink::new(alloc);
     let mut err = FuseSink::new(MemSink::new(alloc), 2, 5);
     let (status, _) = drive(alloc, &words, MemFiles::new(alloc), &mut out, &mut err);
-    assert_eq!(rt; status, 2);
-    assert_eq!(rt; err.inner().bytes(), b"cordsh: li".as_slice());
-    assert_eq!(rt; err.failures(), 1);
+    assert!(rt; status == 2);
+    assert!(rt; err.inner().bytes() == b"cordsh: li".as_slice());
+    assert!(rt; err.failures() == 1);
 }

@@ -107,7 +107,7 @@ fn refused_cat_that_balances(rt: HostRuntime) {
     let (front, last) = text.split_at(61 * 65);
     let left = deep(&rt, rt.alloc(), front);
     let right = cord_of(&rt, rt.alloc(), last);
-    assert_eq!(rt; left.depth(), 60);
+    assert!(rt; left.depth() == 60);
     let whole = refused!(
         &rt,
         Cord::cat(rt.alloc(), &left, &right),
@@ -239,7 +239,7 @@ fn refused_share(rt: HostRuntime) {
 fn refused_balance(rt: HostRuntime) {
     let text = pattern(&rt, rt.alloc(), 30 * 65);
     let cord = deep(&rt, rt.alloc(), &text);
-    assert_eq!(rt; cord.depth(), 29);
+    assert!(rt; cord.depth() == 29);
     let balanced = refused!(
         &rt,
         cord.balance(rt.alloc()),

@@ -32,7 +32,7 @@ fn refused_leaf(rt: HostRuntime) {
         shared.as_slice() == b"ab".as_slice()
     );
     assert!(rt; spells(&node, b"ab"));
-    assert_eq!(rt; node.depth(), 0);
+    assert!(rt; node.depth() == 0);
 }
 
 #[test]
@@ -45,8 +45,8 @@ fn refused_run(rt: HostRuntime) {
 fn refused_func(rt: HostRuntime) {
     let id = SourceId(0);
     let node = refused!(&rt, func(rt.alloc(), id, 8, 3), id == SourceId(0));
-    assert_eq!(rt; node.len(), 3);
-    assert_eq!(rt; node.depth(), 0);
+    assert!(rt; node.len() == 3);
+    assert!(rt; node.depth() == 0);
     assert!(rt;
         matches!(
             node.as_ref(),
@@ -69,8 +69,8 @@ fn refused_join_to_one_leaf(rt: HostRuntime) {
         spells(&left, b"ab") && spells(&right, b"cd")
     );
     assert!(rt; spells(&node, b"abcd"));
-    assert_eq!(rt; node.len(), 4);
-    assert_eq!(rt; node.depth(), 0);
+    assert!(rt; node.len() == 4);
+    assert!(rt; node.depth() == 0);
 }
 
 #[test]
@@ -83,8 +83,8 @@ fn refused_join_of_a_run(rt: HostRuntime) {
         spells(&left, b"\0") && spells(&right, b"ab")
     );
     assert!(rt; spells(&node, b"\0ab"));
-    assert_eq!(rt; node.len(), 3);
-    assert_eq!(rt; node.depth(), 1);
+    assert!(rt; node.len() == 3);
+    assert!(rt; node.depth() == 1);
 }
 
 #[test]
@@ -99,7 +99,7 @@ fn refused_sub_node_over_a_seam(rt: HostRuntime) {
         spells(&both, b"abcdefgh...") && spells(&letters, b"abcdefgh") && spells(&points, b"...")
     );
     assert!(rt; spells(&seam, b"gh.."));
-    assert_eq!(rt; seam.depth(), 1);
+    assert!(rt; seam.depth() == 1);
 }
 
 // The two ends become one leaf.
@@ -115,7 +115,7 @@ fn refused_sub_node_over_a_seam_of_leaves(rt: HostRuntime) {
         spells(&left, &[1; 40]) && spells(&right, &[2; 40]) && both.len() == 80
     );
     assert!(rt; spells(&seam, &[1, 1, 2, 2]));
-    assert_eq!(rt; seam.depth(), 0);
+    assert!(rt; seam.depth() == 0);
 }
 
 #[test]
@@ -130,7 +130,7 @@ fn refused_balance_parts(rt: HostRuntime) {
         balance_parts(rt.alloc(), &ropes),
         spells(&ropes[0], &[1; 100]) && spells(&ropes[1], &[2; 100]) && spells(&ropes[2], &[3; 100])
     );
-    assert_eq!(rt; node.len(), 300);
+    assert!(rt; node.len() == 300);
     assert!(rt; node.depth() <= 13);
     for (place, byte) in [(0, 1), (100, 2), (200, 3)] {
         assert!(rt; place <= 200 && node.len() == 300);

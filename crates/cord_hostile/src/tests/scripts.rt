@@ -8,13 +8,13 @@ pub fn read(rt: &impl Abort, alloc: Global, script: &str, lines: usize) -> Scrip
     let read = match parse(alloc, script.as_bytes()) {
         Ok(read) => read,
         Err(refusal) => {
-            assert_eq!(rt; refusal.kind, RefusalKind::NoMemory);
-            assert_eq!(rt; refusal.kind.code(), 16);
+            assert!(rt; refusal.kind == RefusalKind::NoMemory);
+            assert!(rt; refusal.kind.code() == 16);
             assert!(rt; refusal.line >= 1 && refusal.line as usize <= lines);
             parse(alloc, script.as_bytes()).expect(rt, "memory")
         }
     };
-    assert_eq!(rt; read.statements().len(), lines);
+    assert!(rt; read.statements().len() == lines);
     read
 }
 

@@ -31,7 +31,7 @@ pub fn table(rt: &impl Abort, alloc: Global, files: MemFiles) -> Sources<MemFile
 fn table_of_two(rt: &impl Abort, alloc: Global) -> Sources<MemFiles> {
     let mut sources = table(rt, alloc, two_files(rt, alloc));
     let opened = again!(rt, sources.open(alloc, "q"));
-    assert_eq!(rt; opened, (SourceId(2), 5));
+    assert!(rt; opened == (SourceId(2), 5));
     sources
 }
 
@@ -85,7 +85,7 @@ fn refused_new(rt: HostRuntime) {
     let mut sources = match Sources::new(alloc, two_files(&rt, alloc)) {
         Ok(sources) => sources,
         Err((error, mut files)) => {
-            assert_eq!(rt; error, CordError::NoMemory);
+            assert!(rt; error == CordError::NoMemory);
             assert!(rt; holds(&mut files, "p", Some(b"hello")));
             assert!(rt; holds(&mut files, "q", Some(b"other")));
             table(&rt, alloc, files)
@@ -93,7 +93,7 @@ fn refused_new(rt: HostRuntime) {
     };
     assert!(rt; sources.entry_len(SourceId(2)).is_none());
     let opened = again!(&rt, sources.open(alloc, "p"));
-    assert_eq!(rt; opened, (SourceId(2), 5));
+    assert!(rt; opened == (SourceId(2), 5));
     assert!(rt; reads(&mut sources, 2, b"hello"));
 }
 
@@ -107,7 +107,7 @@ fn refused_open(rt: HostRuntime) {
         FileError::NoMemory,
         is_one(&mut sources)
     );
-    assert_eq!(rt; opened, (SourceId(3), 5));
+    assert!(rt; opened == (SourceId(3), 5));
     assert!(rt; is_two(&mut sources));
 }
 
@@ -173,10 +173,10 @@ fn expect_put(rt: &impl Abort, alloc: Global, sources: &mut Sources<MemFiles>, b
         assert!(rt; is_unmade || sink.failures() == 1);
         assert!(rt; bytes.starts_with(sink.bytes()));
         sink = MemSink::new(alloc);
-        assert_eq!(rt; put_file(alloc, sources, &mut sink), Ok(()));
+        assert!(rt; put_file(alloc, sources, &mut sink) == Ok(()));
     }
-    assert_eq!(rt; sink.bytes(), bytes);
-    assert_eq!(rt; sources.failures(), 0);
+    assert!(rt; sink.bytes() == bytes);
+    assert!(rt; sources.failures() == 0);
 }
 
 #[test]

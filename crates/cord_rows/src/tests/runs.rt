@@ -123,11 +123,11 @@ fn expect_fused(rt: &(impl AllocGlobal + Abort), script: &[u8], k: u64, end: End
     let mut planned = FuseSink::new(MemSink::new(alloc), k, 3);
     let (result, _) = run_text(alloc, script, MemFiles::new(alloc), &mut planned);
     assert!(rt; result == Ok(end));
-    assert_eq!(rt; planned.inner().bytes(), written);
+    assert!(rt; planned.inner().bytes() == written);
     let mut unplanned = FuseSink::new(MemSink::new(alloc), k, 3);
     let (result, _) = run_unplanned(alloc, script, MemFiles::new(alloc), &mut unplanned);
     assert!(rt; result == Ok(end));
-    assert_eq!(rt; unplanned.inner().bytes(), written);
+    assert!(rt; unplanned.inner().bytes() == written);
 }
 
 #[test]
@@ -161,7 +161,7 @@ fn write_failed_is_not_finished(rt: HostRuntime) {
     let mut sink = FuseSink::new(MemSink::new(alloc), 0, 3);
     let (result, _) = run_text(alloc, HELLO, MemFiles::new(alloc), &mut sink);
     assert!(rt; result == Ok(End::WriteFailed(2)));
-    assert_eq!(rt; sink.failures(), 1);
+    assert!(rt; sink.failures() == 1);
 }
 
 // A text of two gigabytes, 200 substrings of it, and the first byte of each.

@@ -75,7 +75,7 @@ fn says(rt: &impl Abort, alloc: Global, script: &[u8], wanted: &[u8]) {
     match parse(alloc, script) {
         Err(_) => assert!(rt; false),
         Ok(script) => match script.statements() {
-            [Statement::Let { text, .. }] => assert_eq!(rt; text.as_slice(), wanted),
+            [Statement::Let { text, .. }] => assert!(rt; text.as_slice() == wanted),
             _ => assert!(rt; false),
         },
     }
@@ -83,7 +83,7 @@ fn says(rt: &impl Abort, alloc: Global, script: &[u8], wanted: &[u8]) {
 
 #[test]
 fn empty_script(rt: HostRuntime) {
-    assert_eq!(rt; count(rt.alloc(), b""), Some(0));
+    assert!(rt; count(rt.alloc(), b"") == Some(0));
 }
 
 #[test]
@@ -98,11 +98,11 @@ fn hello(rt: HostRuntime) {
                     operand,
                 },
             ] => {
-                assert_eq!(rt; *line, 1);
-                assert_eq!(rt; target.as_slice(), b"x".as_slice());
-                assert_eq!(rt; text.as_slice(), b"hello".as_slice());
-                assert_eq!(rt; *second, 2);
-                assert_eq!(rt; operand.as_slice(), b"x".as_slice());
+                assert!(rt; *line == 1);
+                assert!(rt; target.as_slice() == b"x".as_slice());
+                assert!(rt; text.as_slice() == b"hello".as_slice());
+                assert!(rt; *second == 2);
+                assert!(rt; operand.as_slice() == b"x".as_slice());
             }
             _ => assert!(rt; false),
         },
@@ -127,60 +127,60 @@ fn escapes(rt: HostRuntime) {
 #[test]
 fn quotes_part_words(rt: HostRuntime) {
     says(&rt, rt.alloc(), b"\tlet x\"a b\"\r", b"a b");
-    assert_eq!(rt; refusal(rt.alloc(), b"let x \"a\"\"b\""), Some((1, 5)));
-    assert_eq!(rt; refusal(rt.alloc(), b"\"let\" x \"a\""), Some((1, 4)));
+    assert!(rt; refusal(rt.alloc(), b"let x \"a\"\"b\"") == Some((1, 5)));
+    assert!(rt; refusal(rt.alloc(), b"\"let\" x \"a\"") == Some((1, 4)));
 }
 
 #[test]
 fn idle_lines(rt: HostRuntime) {
-    assert_eq!(rt; count(rt.alloc(), b"\n \t\r\n # \"\\q\n#\n"), Some(0));
-    assert_eq!(rt; refusal(rt.alloc(), b"\n # \"\n\nput y\n"), Some((4, 8)));
+    assert!(rt; count(rt.alloc(), b"\n \t\r\n # \"\\q\n#\n") == Some(0));
+    assert!(rt; refusal(rt.alloc(), b"\n # \"\n\nput y\n") == Some((4, 8)));
 }
 
 #[test]
 fn unknown_name(rt: HostRuntime) {
-    assert_eq!(rt; refusal(rt.alloc(), b"put x"), Some((1, 8)));
-    assert_eq!(rt; refusal(rt.alloc(), b"put x\nlet x \"a\""), Some((1, 8)));
+    assert!(rt; refusal(rt.alloc(), b"put x") == Some((1, 8)));
+    assert!(rt; refusal(rt.alloc(), b"put x\nlet x \"a\"") == Some((1, 8)));
 }
 
 #[test]
 fn let_quote_open(rt: HostRuntime) {
-    assert_eq!(rt; refusal(rt.alloc(), b"let x \"a"), Some((1, 2)));
+    assert!(rt; refusal(rt.alloc(), b"let x \"a") == Some((1, 2)));
 }
 
 #[test]
 fn cat_quote_open(rt: HostRuntime) {
-    assert_eq!(rt; refusal(rt.alloc(), b"cat z \""), Some((1, 2)));
+    assert!(rt; refusal(rt.alloc(), b"cat z \"") == Some((1, 2)));
 }
 
 #[test]
 fn let_bad_escape(rt: HostRuntime) {
-    assert_eq!(rt; refusal(rt.alloc(), b"let x \"\\q\""), Some((1, 3)));
-    assert_eq!(rt; refusal(rt.alloc(), b"let x \"\\x4"), Some((1, 3)));
-    assert_eq!(rt; refusal(rt.alloc(), b"let x \"\\x4g\""), Some((1, 3)));
-    assert_eq!(rt; refusal(rt.alloc(), b"let x \"\\"), Some((1, 3)));
+    assert!(rt; refusal(rt.alloc(), b"let x \"\\q\"") == Some((1, 3)));
+    assert!(rt; refusal(rt.alloc(), b"let x \"\\x4") == Some((1, 3)));
+    assert!(rt; refusal(rt.alloc(), b"let x \"\\x4g\"") == Some((1, 3)));
+    assert!(rt; refusal(rt.alloc(), b"let x \"\\") == Some((1, 3)));
 }
 
 #[test]
 fn script_too_big(rt: HostRuntime) -> Result<(), Fail> {
     let mut script = copies(rt.alloc(), 32, 1_048_577)?;
-    assert_eq!(rt; refusal(rt.alloc(), &script), Some((0, 1)));
+    assert!(rt; refusal(rt.alloc(), &script) == Some((0, 1)));
     script.truncate(1_048_576);
-    assert_eq!(rt; count(rt.alloc(), &script), Some(0));
+    assert!(rt; count(rt.alloc(), &script) == Some(0));
     Ok(())
 }
 
 #[test]
 fn too_many_lines(rt: HostRuntime) -> Result<(), Fail> {
     let script = copies(rt.alloc(), 10, 65_537)?;
-    assert_eq!(rt; refusal(rt.alloc(), &script), Some((65_537, 1)));
+    assert!(rt; refusal(rt.alloc(), &script) == Some((65_537, 1)));
     Ok(())
 }
 
 #[test]
 fn lines_at_the_limit(rt: HostRuntime) -> Result<(), Fail> {
     let script = copies(rt.alloc(), 10, 65_536)?;
-    assert_eq!(rt; count(rt.alloc(), &script), Some(0));
+    assert!(rt; count(rt.alloc(), &script) == Some(0));
     Ok(())
 }
 
@@ -189,58 +189,52 @@ fn literal_too_long(rt: HostRuntime) -> Result<(), Fail> {
     let mut script = Vec::from_slice(rt.alloc(), b"let x \"")?;
     script.extend_from_slice(&copies(rt.alloc(), 97, 65_535)?)?;
     script.push(34)?;
-    assert_eq!(rt; count(rt.alloc(), &script), Some(1));
+    assert!(rt; count(rt.alloc(), &script) == Some(1));
     script.pop();
     script.push(97)?;
-    assert_eq!(rt; refusal(rt.alloc(), &script), Some((1, 15)));
+    assert!(rt; refusal(rt.alloc(), &script) == Some((1, 15)));
     Ok(())
 }
 
 #[test]
 fn put_two_words(rt: HostRuntime) {
-    assert_eq!(rt; refusal(rt.alloc(), b"put x y"), Some((1, 5)));
+    assert!(rt; refusal(rt.alloc(), b"put x y") == Some((1, 5)));
 }
 
 #[test]
 fn let_digit_name(rt: HostRuntime) {
-    assert_eq!(rt; refusal(rt.alloc(), b"let 9x \"a\""), Some((1, 6)));
+    assert!(rt; refusal(rt.alloc(), b"let 9x \"a\"") == Some((1, 6)));
 }
 
 #[test]
 fn let_long_name(rt: HostRuntime) {
-    assert_eq!(rt;
-        count(rt.alloc(), b"let _234567890123456789012345678901Z \"\""),
-        Some(1)
-    );
-    assert_eq!(rt;
-        refusal(rt.alloc(), b"let _234567890123456789012345678901Z3 \"\""),
-        Some((1, 6))
-    );
+    assert!(rt; count(rt.alloc(), b"let _234567890123456789012345678901Z \"\"") == Some(1));
+    assert!(rt; refusal(rt.alloc(), b"let _234567890123456789012345678901Z3 \"\"") == Some((1, 6)));
 }
 
 #[test]
 fn put_quoted_word(rt: HostRuntime) {
-    assert_eq!(rt; refusal(rt.alloc(), b"put \"x\""), Some((1, 6)));
+    assert!(rt; refusal(rt.alloc(), b"put \"x\"") == Some((1, 6)));
 }
 
 #[test]
 fn let_plain_word(rt: HostRuntime) {
-    assert_eq!(rt; refusal(rt.alloc(), b"let x a"), Some((1, 9)));
-    assert_eq!(rt; refusal(rt.alloc(), b"let 9 a"), Some((1, 6)));
+    assert!(rt; refusal(rt.alloc(), b"let x a") == Some((1, 9)));
+    assert!(rt; refusal(rt.alloc(), b"let 9 a") == Some((1, 6)));
 }
 
 #[test]
 fn names_one_too_many(rt: HostRuntime) -> Result<(), Fail> {
     let script = lets(rt.alloc(), 257)?;
-    assert_eq!(rt; refusal(rt.alloc(), script.as_bytes()), Some((257, 14)));
+    assert!(rt; refusal(rt.alloc(), script.as_bytes()) == Some((257, 14)));
     let script = lets(rt.alloc(), 256)?;
-    assert_eq!(rt; count(rt.alloc(), script.as_bytes()), Some(256));
+    assert!(rt; count(rt.alloc(), script.as_bytes()) == Some(256));
     Ok(())
 }
 
 #[test]
 fn statement_words_are_names(rt: HostRuntime) {
-    assert_eq!(rt; count(rt.alloc(), b"let let \"a\"\nput let"), Some(2));
+    assert!(rt; count(rt.alloc(), b"let let \"a\"\nput let") == Some(2));
 }
 
 #[test]
@@ -370,51 +364,51 @@ fn words_are_refused_in_order(rt: HostRuntime) {
 #[test]
 fn counts_at_their_limits(rt: HostRuntime) -> Result<(), Fail> {
     let script = joined(rt.alloc(), 16)?;
-    assert_eq!(rt; count(rt.alloc(), script.as_bytes()), Some(2));
+    assert!(rt; count(rt.alloc(), script.as_bytes()) == Some(2));
     let script = joined(rt.alloc(), 17)?;
-    assert_eq!(rt; refusal(rt.alloc(), script.as_bytes()), Some((2, 5)));
+    assert!(rt; refusal(rt.alloc(), script.as_bytes()) == Some((2, 5)));
     let script = nested(rt.alloc(), 8)?;
-    assert_eq!(rt; count(rt.alloc(), script.as_bytes()), Some(16));
+    assert!(rt; count(rt.alloc(), script.as_bytes()) == Some(16));
     let script = nested(rt.alloc(), 9)?;
-    assert_eq!(rt; refusal(rt.alloc(), script.as_bytes()), Some((9, 11)));
+    assert!(rt; refusal(rt.alloc(), script.as_bytes()) == Some((9, 11)));
     let script = lazies(rt.alloc(), 64)?;
-    assert_eq!(rt; count(rt.alloc(), script.as_bytes()), Some(64));
+    assert!(rt; count(rt.alloc(), script.as_bytes()) == Some(64));
     let script = lazies(rt.alloc(), 65)?;
-    assert_eq!(rt; refusal(rt.alloc(), script.as_bytes()), Some((65, 14)));
+    assert!(rt; refusal(rt.alloc(), script.as_bytes()) == Some((65, 14)));
     Ok(())
 }
 
 #[test]
 fn kinds_have_codes_and_texts(rt: HostRuntime) {
-    assert_eq!(rt; RefusalKind::NoMemory.code(), 16);
-    assert_eq!(rt; RefusalKind::MissingIfEnd.code(), 18);
-    assert_eq!(rt; RefusalKind::WrongCount.text(), "wrong number of words");
-    assert_eq!(rt; RefusalKind::ElseAlone.text(), "else without if");
+    assert!(rt; RefusalKind::NoMemory.code() == 16);
+    assert!(rt; RefusalKind::MissingIfEnd.code() == 18);
+    assert!(rt; RefusalKind::WrongCount.text() == "wrong number of words");
+    assert!(rt; RefusalKind::ElseAlone.text() == "else without if");
 }
 
 #[test]
 fn small_types_give_their_parts_back(rt: HostRuntime) -> Result<(), Fail> {
     let name = Name::of(rt.alloc(), b"x")?;
-    assert_eq!(rt; name.as_slice(), b"x".as_slice());
+    assert!(rt; name.as_slice() == b"x".as_slice());
     let mut list = Vec::new(rt.alloc());
     list.push(name)?;
     let names = Names::of(list);
-    assert_eq!(rt; names.as_slice().len(), 1);
+    assert!(rt; names.as_slice().len() == 1);
     for name in names.into_vec() {
-        assert_eq!(rt; name.as_slice(), b"x".as_slice());
+        assert!(rt; name.as_slice() == b"x".as_slice());
     }
     let text = Text::of(Vec::from_slice(rt.alloc(), b"t")?);
-    assert_eq!(rt; text.into_vec().as_slice(), b"t".as_slice());
+    assert!(rt; text.into_vec().as_slice() == b"t".as_slice());
     let path = Path::of(String::from_str(rt.alloc(), "a/b")?);
-    assert_eq!(rt; path.as_str(), "a/b");
-    assert_eq!(rt; path.into_string().as_str(), "a/b");
+    assert!(rt; path.as_str() == "a/b");
+    assert!(rt; path.into_string().as_str() == "a/b");
     let mut list = Vec::new(rt.alloc());
     list.push(Argument::Number(Number::Numeral(-3)))?;
     let arguments = Arguments::of(list);
-    assert_eq!(rt; arguments.as_slice().len(), 1);
-    assert_eq!(rt; arguments.into_vec().len(), 1);
+    assert!(rt; arguments.as_slice().len() == 1);
+    assert!(rt; arguments.into_vec().len() == 1);
     let script = Script::of(Vec::new(rt.alloc()));
-    assert_eq!(rt; script.statements().len(), 0);
+    assert!(rt; script.statements().len() == 0);
     Ok(())
 }
 

@@ -147,10 +147,10 @@ fn run_fused(
 
 // Compares a run in which no device failed.
 fn expect_done(rt: &(impl AllocGlobal + Abort), hostile: &Hostile<'_>, run: &Fused) {
-    assert_eq!(rt; run.status, 0);
-    assert_eq!(rt; run.err.bytes(), b"".as_slice());
+    assert!(rt; run.status == 0);
+    assert!(rt; run.err.bytes() == b"".as_slice());
     assert!(rt; run.out.inner().bytes() == whole(rt, hostile).as_slice());
-    assert_eq!(rt; (run.files_failed, run.out.failures()), (0, 0));
+    assert!(rt; (run.files_failed, run.out.failures()) == (0, 0));
 }
 
 // Lets the files fail at each call until the run is done. The first two calls open and read the script.
@@ -162,7 +162,7 @@ fn fuse_files(rt: &(impl AllocGlobal + Abort), hostile: &Hostile<'_>, words: &[&
             assert!(rt; k >= 2);
             return;
         }
-        assert_eq!(rt; run.status, 4);
+        assert!(rt; run.status == 4);
         let line = expect_stopped(
             rt,
             hostile,
@@ -170,8 +170,8 @@ fn fuse_files(rt: &(impl AllocGlobal + Abort), hostile: &Hostile<'_>, words: &[&
             run.out.inner().bytes(),
             run.err.bytes(),
         );
-        assert_eq!(rt; line == 0, k < 2);
-        assert_eq!(rt; (run.files_failed, run.out.failures()), (1, 0));
+        assert!(rt; (line == 0) == (k < 2));
+        assert!(rt; (run.files_failed, run.out.failures()) == (1, 0));
     }
     panic!(rt; "not done");
 }
@@ -190,12 +190,12 @@ fn fuse_out(rt: &(impl AllocGlobal + Abort), hostile: &Hostile<'_>, words: &[&st
             expect_done(rt, hostile, &run);
             return;
         }
-        assert_eq!(rt; run.status, 5);
+        assert!(rt; run.status == 5);
         let out = run.out.inner().bytes();
         let line = expect_stopped(rt, hostile, run.status, out, run.err.bytes());
-        assert_eq!(rt; line == 0, out.len() == all.len());
+        assert!(rt; (line == 0) == (out.len() == all.len()));
         assert!(rt; is_taken_by(k, most, out.len(), all.len()));
-        assert_eq!(rt; (run.files_failed, run.out.failures()), (0, 1));
+        assert!(rt; (run.files_failed, run.out.failures()) == (0, 1));
     }
     panic!(rt; "not done");
 }

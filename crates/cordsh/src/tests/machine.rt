@@ -55,10 +55,10 @@ fn expect_run<R: rt::Files + Drop>(
     let mut out: Vec<u8> = Vec::new(rt.alloc());
     let mut err: Vec<u8> = Vec::new(rt.alloc());
     let ran = run_on_machine(runtime, rt.alloc(), &words, &mut out, &mut err);
-    assert_eq!(rt; ran.status, status);
+    assert!(rt; ran.status == status);
     drop(ran);
-    assert_eq!(rt; out.as_slice(), written);
-    assert_eq!(rt; err.as_slice(), told);
+    assert!(rt; out.as_slice() == written);
+    assert!(rt; err.as_slice() == told);
 }
 
 #[test]
@@ -117,10 +117,10 @@ fn file_cut_while_it_is_read(rt: HostRuntime) -> Result<(), Fail> {
     let ran = run_on_machine(rt.clone()?, rt.alloc(), &words, &mut out, &mut err);
     fs::remove_file(&rt, path)?;
     fs::remove_file(&rt, "cordsh_test_emptying")?;
-    assert_eq!(rt; ran.status, 4);
+    assert!(rt; ran.status == 4);
     drop(ran);
-    assert_eq!(rt; err.as_slice(), b"cordsh: line 2: read failed\n".as_slice());
-    assert_eq!(rt; out.taken.len(), 512);
+    assert!(rt; err.as_slice() == b"cordsh: line 2: read failed\n".as_slice());
+    assert!(rt; out.taken.len() == 512);
     assert!(rt; file.as_slice().starts_with(out.taken.as_slice()));
     Ok(())
 }
@@ -138,12 +138,9 @@ fn fault_into_a_sink_that_cannot_finish(rt: HostRuntime) -> Result<(), Fail> {
     let mut err: Vec<u8> = Vec::new(rt.alloc());
     let ran = run_on_machine(rt.clone()?, rt.alloc(), &words, &mut out, &mut err);
     fs::remove_file(&rt, path)?;
-    assert_eq!(rt; ran.status, 5);
+    assert!(rt; ran.status == 5);
     drop(ran);
-    assert_eq!(rt;
-        err.as_slice(),
-        b"cordsh: line 0: write failed\n".as_slice()
-    );
-    assert_eq!(rt; out.taken.as_slice(), b"ab".as_slice());
+    assert!(rt; err.as_slice() == b"cordsh: line 0: write failed\n".as_slice());
+    assert!(rt; out.taken.as_slice() == b"ab".as_slice());
     Ok(())
 }

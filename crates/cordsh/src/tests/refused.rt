@@ -45,11 +45,11 @@ fn expect_refusable(
         let come = drive_over(rt, words, files_of(rt, hostile));
         if !is_served(rt, hostile, &come, status, told) {
             assert!(rt; come.status == 3 || come.status == 5);
-            assert_eq!(rt; come.out.failures() == 1, come.status == 5);
+            assert!(rt; (come.out.failures() == 1) == (come.status == 5));
             let _ = expect_stopped(rt, hostile, come.status, come.out.bytes(), come.err.bytes());
             let next = drive_over(rt, words, files_of(rt, hostile));
             assert!(rt; is_served(rt, hostile, &next, status, told));
-            assert_eq!(rt; next.err.failures(), 0);
+            assert!(rt; next.err.failures() == 0);
         }
     }
 }

@@ -153,8 +153,8 @@ fn written(rt: &(impl AllocGlobal + Abort), words: &[&str]) -> MemSink {
     let mut out = MemSink::new(alloc);
     let mut err = MemSink::new(alloc);
     let (status, _) = drive(alloc, &words, files_with(rt, HELLO), &mut out, &mut err);
-    assert_eq!(rt; status, 0);
-    assert_eq!(rt; err.bytes(), b"".as_slice());
+    assert!(rt; status == 0);
+    assert!(rt; err.bytes() == b"".as_slice());
     out
 }
 
@@ -189,12 +189,12 @@ fn expect_cut(rt: &(impl AllocGlobal + Abort), words: &[&str]) {
         if status == 0 {
             break;
         }
-        assert_eq!(rt; status, 5);
-        assert_eq!(rt; err.bytes(), b"cordsh: line 0: write failed\n".as_slice());
+        assert!(rt; status == 5);
+        assert!(rt; err.bytes() == b"cordsh: line 0: write failed\n".as_slice());
         held = taken.len();
     }
     // The last fault was that of the end.
-    assert_eq!(rt; held, whole.bytes().len());
+    assert!(rt; held == whole.bytes().len());
 }
 
 #[test]

@@ -11,14 +11,11 @@ fn expect_hello(rt: &(impl AllocGlobal + Abort), plan: &Plan) {
     let alloc = rt.alloc();
     let mut shown = MemSink::new(alloc);
     assert!(rt; plan.show(&mut shown).is_ok());
-    assert_eq!(rt;
-        shown.bytes(),
-        b"1 build x literal(5)\n2 write x\n".as_slice()
-    );
+    assert!(rt; shown.bytes() == b"1 build x literal(5)\n2 write x\n".as_slice());
     let mut written = MemSink::new(alloc);
     let (end, _) = run(alloc, plan, MemFiles::new(alloc), &mut written);
     assert!(rt; end == End::Done);
-    assert_eq!(rt; written.bytes(), b"hello".as_slice());
+    assert!(rt; written.bytes() == b"hello".as_slice());
 }
 
 #[test]
@@ -27,7 +24,7 @@ fn parse_plan_run(rt: HostRuntime) {
     let Ok(script) = parse(alloc, HELLO) else {
         panic!(&rt; "refused");
     };
-    assert_eq!(&rt; script.statements().len(), 2);
+    assert!(&rt; script.statements().len() == 2);
     expect_hello(&rt, &plan(alloc, &script).expect(&rt, "no memory"));
     expect_hello(&rt, &Plan::trivial(alloc, &script).expect(&rt, "no memory"));
 }

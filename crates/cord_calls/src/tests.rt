@@ -1,0 +1,15 @@
+//! What each call of the library answers, row by row.
+mod balance;
+mod cords;
+mod devices;
+mod entry;
+mod extensible;
+mod files;
+mod formats;
+mod iteration;
+mod marks;
+mod nodes;
+mod positions;
+mod raw;
+mod search;
+mod trees;

@@ -1,0 +1,380 @@
+// The machine's files, real ones and those of a machine that fails on purpose.
+ghost use Rattle.std.specs.Prelude.{◌≡◌, ◌<◌, length, take, drop, IfOk, IsErr};
+ghost use Rattle.cord_io.specs.Device.{Folder, bytes_at};
+ghost use Rattle.cord_io.specs.DiskTold.{told_by};
+ghost use Rattle.cord_io.specs.Told.{Agrees};
+
+use cord_io::{DiskFiles, Files, OpenFault, ReadFault};
+use std::alloc::Allocator;
+use std::fs::{self, Metadata, OpenFile};
+use std::io::{self, ErrorKind, Read, Seek, SeekFrom, Write};
+use std::rt;
+use std::test::Fail;
+
+const DIGITS: [u8; 10] = *b"0123456789";
+
+// How a machine fails.
+#[derive(Clone, Copy, PartialEq, Eq)]
+enum Trouble {
+    Nothing,
+    Missing,
+    Forbidden,
+    Directory,
+    NoSeek,
+    EmptyRead,
+    Interrupted,
+    InterruptedOnce,
+}
+
+// A machine that has ten digits at each path. Its files fail after so many seeks, and after so many reads.
+#[derive(Drop)]
+struct Machine {
+    trouble: Trouble,
+    seeks: u8,
+    reads: u8,
+}
+
+#[derive(Drop)]
+struct MachineFile {
+    trouble: Trouble,
+    seeks: u8,
+    reads: u8,
+    place: usize,
+}
+
+fn unsupported<T>() -> io::Result<T>
+    ensures { IsErr result }
+{
+    Err(io::Error::from(ErrorKind::Unsupported))
+}
+
+impl Read for MachineFile {
+    fn read(&mut self, buf: &mut [u8]) -> io::Result<usize> {
+        if self.reads == 0 {
+            return match self.trouble {
+                Trouble::EmptyRead => Ok(0),
+                Trouble::InterruptedOnce => {
+                    self.reads = 1;
+                    Err(io::Error::from(ErrorKind::Interrupted))
+                }
+                _ => Err(io::Error::from(ErrorKind::Interrupted)),
+            };
+        }
+        self.reads -= 1;
+        let place = self.place.min(DIGITS.len());
+        let rest = &DIGITS[place..];
+        let count = rest.len().min(buf.len());
+        buf[..count].copy_from_slice(&rest[..count]);
+        self.place = place + count;
+        Ok(count)
+    }
+}
+
+impl Write for MachineFile {
+    fn write(&mut self, _buf: &[u8]) -> io::Result<usize> {
+        unsupported()
+    }
+
+    fn flush(&mut self) -> io::Result<()> {
+        unsupported()
+    }
+}
+
+impl Seek for MachineFile {
+    fn seek(&mut self, to: SeekFrom) -> io::Result<u64> {
+        if self.seeks == 0 {
+            return unsupported();
+        }
+        self.seeks -= 1;
+        match to {
+            SeekFrom::Start(place) => {
+                self.place = place as usize;
+                Ok(place)
+            }
+            _ => {
+                self.place = 10;
+                Ok(10)
+            }
+        }
+    }
+}
+
+impl OpenFile for MachineFile {
+    fn metadata(&self) -> io::Result<Metadata> {
+        if self.trouble == Trouble::Directory {
+            return Ok(Metadata::of_dir());
+        }
+        Ok(Metadata::of_file(10))
+    }
+
+    fn set_len(&self, _size: u64) -> io::Result<()> {
+        unsupported()
+    }
+
+    fn sync_all(&self) -> io::Result<()> {
+        unsupported()
+    }
+
+    fn sync_data(&self) -> io::Result<()> {
+        unsupported()
+    }
+}
+
+impl rt::Files for Machine {
+    type File = MachineFile;
+
+    type Dir = MachineFile;
+
+    fn open_file(&self, _how: &fs::OpenOptions, _path: &str) -> io::Result<MachineFile> {
+        match self.trouble {
+            Trouble::Missing => Err(io::Error::from(ErrorKind::NotFound)),
+            Trouble::Forbidden => Err(io::Error::from(ErrorKind::PermissionDenied)),
+            trouble => Ok(MachineFile {
+                trouble,
+                seeks: self.seeks,
+                reads: self.reads,
+                place: 0,
+            }),
+        }
+    }
+
+    fn open_dir(&self, _path: &str) -> io::Result<MachineFile> {
+        unsupported()
+    }
+
+    fn metadata(&self, _path: &str) -> io::Result<Metadata> {
+        unsupported()
+    }
+
+    fn symlink_metadata(&self, _path: &str) -> io::Result<Metadata> {
+        unsupported()
+    }
+
+    fn copy(&self, _from: &str, _to: &str) -> io::Result<u64> {
+        unsupported()
+    }
+
+    fn rename(&self, _from: &str, _to: &str) -> io::Result<()> {
+        unsupported()
+    }
+
+    fn remove_file(&self, _path: &str) -> io::Result<()> {
+        unsupported()
+    }
+
+    fn create_dir(&self, _path: &str) -> io::Result<()> {
+        unsupported()
+    }
+
+    fn remove_dir(&self, _path: &str) -> io::Result<()> {
+        unsupported()
+    }
+
+    fn remove_dir_all<B: Allocator>(&self, _alloc: B, _path: &str) -> io::Result<()> {
+        unsupported()
+    }
+}
+
+// Reading on needs no seek and no call for each part: one seek to the end and one back, a read and one of the rest.
+#[test]
+fn reads_on_ahead_without_a_seek(rt: HostRuntime) {
+    let machine = Machine {
+        trouble: Trouble::Nothing,
+        seeks: 2,
+        reads: 2,
+    };
+    let mut files = DiskFiles::new(machine, rt.alloc());
+    let Ok((no, len)) = files.open("digits") else {
+        panic!(rt; "not opened");
+    };
+    assert!(rt; len == 10);
+    let mut out = [0u8; 3];
+    assert!(rt; files.read_at(no, 0, &mut out) == Ok(3));
+    assert!(rt; out.as_slice() == b"012".as_slice());
+    assert!(rt; files.read_at(no, 3, &mut out) == Ok(3));
+    assert!(rt; out.as_slice() == b"345".as_slice());
+    assert!(rt; files.read_at(no, 6, &mut out) == Ok(3));
+    assert!(rt; out.as_slice() == b"678".as_slice());
+    assert!(rt; files.read_at(no, 9, &mut out) == Ok(1));
+    assert!(rt; &out[..1] == b"9".as_slice());
+    assert!(rt; files.read_at(no, 5, &mut out) == Ok(3));
+    assert!(rt; out.as_slice() == b"567".as_slice());
+    assert!(rt; files.failures() == 0);
+}
+
+// Two files that are read on in turn are each read ahead, by two reads each.
+#[test]
+fn reads_two_files_ahead(rt: HostRuntime) {
+    let machine = Machine {
+        trouble: Trouble::Nothing,
+        seeks: 2,
+        reads: 2,
+    };
+    let mut files = DiskFiles::new(machine, rt.alloc());
+    let Ok((one, len)) = files.open("one") else {
+        panic!(rt; "not opened");
+    };
+    assert!(rt; len == 10);
+    let Ok((other, len)) = files.open("other") else {
+        panic!(rt; "not opened");
+    };
+    assert!(rt; len == 10);
+    let mut out = [0u8; 4];
+    assert!(rt; files.read_at(one, 0, &mut out) == Ok(4));
+    assert!(rt; files.read_at(other, 0, &mut out) == Ok(4));
+    assert!(rt; files.read_at(one, 4, &mut out) == Ok(4));
+    assert!(rt; files.read_at(other, 4, &mut out) == Ok(4));
+    assert!(rt; out.as_slice() == b"4567".as_slice());
+    assert!(rt; files.read_at(one, 8, &mut out) == Ok(2));
+    assert!(rt; files.read_at(other, 8, &mut out) == Ok(2));
+    assert!(rt; &out[..2] == b"89".as_slice());
+    assert!(rt; files.failures() == 0);
+}
+
+// A read elsewhere, and one of all that is left, are read as they are, in one call: where it fails they fail.
+#[test]
+fn reads_elsewhere_as_they_are(rt: HostRuntime) {
+    let machine = Machine {
+        trouble: Trouble::InterruptedOnce,
+        seeks: 3,
+        reads: 2,
+    };
+    let mut files = DiskFiles::new(machine, rt.alloc());
+    let Ok((no, len)) = files.open("digits") else {
+        panic!(rt; "not opened");
+    };
+    assert!(rt; len == 10);
+    let mut out = [0u8; 2];
+    assert!(rt; files.read_at(no, 6, &mut out) == Ok(2));
+    assert!(rt; out.as_slice() == b"67".as_slice());
+    assert!(rt; files.read_at(no, 2, &mut out) == Ok(2));
+    assert!(rt; out.as_slice() == b"23".as_slice());
+    assert!(rt; files.failures() == 0);
+    assert!(rt; files.read_at(no, 4, &mut [0; 6]) == Err(ReadFault));
+    assert!(rt; files.failures() == 1);
+}
+
+// A call that fails while it reads ahead is made again for the bytes that were asked for.
+#[test]
+fn a_fault_ahead_is_no_fault(rt: HostRuntime) {
+    let machine = Machine {
+        trouble: Trouble::InterruptedOnce,
+        seeks: 3,
+        reads: 1,
+    };
+    let mut files = DiskFiles::new(machine, rt.alloc());
+    let Ok((no, len)) = files.open("digits") else {
+        panic!(rt; "not opened");
+    };
+    assert!(rt; len == 10);
+    let mut out = [0u8; 4];
+    assert!(rt; files.read_at(no, 0, &mut out) == Ok(4));
+    assert!(rt; files.read_at(no, 4, &mut out) == Ok(4));
+    assert!(rt; out.as_slice() == b"4567".as_slice());
+    assert!(rt; files.failures() == 0);
+}
+
+// After a fault the place of the machine's file is not known, so that the next read seeks.
+#[test]
+fn faults_in_mid_stream_are_counted(rt: HostRuntime) {
+    for trouble in [Trouble::EmptyRead, Trouble::Interrupted] {
+        let machine = Machine {
+            trouble,
+            seeks: 4,
+            reads: 1,
+        };
+        let mut files = DiskFiles::new(machine, rt.alloc());
+        let Ok((no, len)) = files.open("digits") else {
+            panic!(rt; "not opened");
+        };
+        assert!(rt; len == 10);
+        let mut out = [0u8; 4];
+        assert!(rt; files.read_at(no, 2, &mut out) == Ok(4));
+        assert!(rt; out.as_slice() == b"2345".as_slice());
+        assert!(rt; files.read_at(no, 6, &mut out) == Err(ReadFault));
+        assert!(rt; files.read_at(no, 6, &mut out) == Err(ReadFault));
+        assert!(rt; files.failures() == 2);
+    }
+}
+
+#[test]
+fn only_a_missing_path_is_not_found(rt: HostRuntime) {
+    let rows = [
+        (Trouble::Missing, OpenFault::NotFound, 0),
+        (Trouble::Forbidden, OpenFault::Failed, 1),
+        (Trouble::Directory, OpenFault::Failed, 1),
+        (Trouble::NoSeek, OpenFault::Failed, 1),
+    ];
+    for (trouble, fault, failures) in rows {
+        let machine = Machine {
+            trouble,
+            seeks: 0,
+            reads: 0,
+        };
+        let mut files = DiskFiles::new(machine, rt.alloc());
+        assert!(rt; files.open("digits") == Err(fault));
+        assert!(rt; files.failures() == failures);
+    }
+}
+
+// The files of the machine that runs the test.
+#[test]
+fn real_files(rt: HostRuntime) -> Result<(), Fail> {
+    let path = "cord_calls_digits";
+    fs::write(&rt, path, DIGITS.as_slice())?;
+    let mut files = DiskFiles::new(rt.clone()?, rt.alloc());
+    let Ok((no, len)) = files.open(path) else {
+        panic!(rt; "not opened");
+    };
+    fs::remove_file(&rt, path)?;
+    assert!(rt; len == 10);
+    let mut out = [0u8; 4];
+    assert!(rt; files.read_at(no, 7, &mut out) == Ok(3));
+    assert!(rt; &out[..3] == b"789".as_slice());
+    assert!(rt; files.read_at(no, 1, &mut out) == Ok(4));
+    assert!(rt; out.as_slice() == b"1234".as_slice());
+    assert!(rt; files.open(path) == Err(OpenFault::NotFound));
+    assert!(rt; files.failures() == 0);
+    assert!(rt; files.open(".") == Err(OpenFault::Failed));
+    assert!(rt; files.open("out\0side") == Err(OpenFault::Failed));
+    assert!(rt; files.failures() == 2);
+    Ok(())
+}
+
+// Reads from a place of a file on. A folder that agrees with all that was told has these bytes there.
+fn read_told<R: rt::Files>(
+    files: &mut DiskFiles<R>,
+    path: &str,
+    start: u64,
+    out: &mut [u8],
+) -> Result<usize, ReadFault>
+    requires { 0 < length out.old }
+    ensures { (folder : Folder) → Agrees folder (told_by files.new) → IfOk result (λ k.
+        take k out.new ≡ take k (drop start (bytes_at folder path.now))) }
+{
+    let Ok((no, len)) = files.open(path) else {
+        return Err(ReadFault);
+    };
+    if len <= start {
+        return Err(ReadFault);
+    }
+    files.read_at(no, start, out)
+}
+
+// What was told of a real file agrees with what was written there.
+#[test]
+fn told_bytes_of_a_real_file(rt: HostRuntime) -> Result<(), Fail> {
+    let path = "cord_calls_told";
+    fs::write(&rt, path, DIGITS.as_slice())?;
+    let mut files = DiskFiles::new(rt.clone()?, rt.alloc());
+    let mut out = [0u8; 4];
+    assert!(rt; read_told(&mut files, path, 3, &mut out) == Ok(4));
+    assert!(rt; out.as_slice() == &DIGITS[3..7]);
+    assert!(rt; read_told(&mut files, path, 8, &mut out) == Ok(2));
+    assert!(rt; &out[..2] == &DIGITS[8..]);
+    assert!(rt; read_told(&mut files, path, 10, &mut out) == Err(ReadFault));
+    fs::remove_file(&rt, path)?;
+    assert!(rt; read_told(&mut files, path, 0, &mut out) == Err(ReadFault));
+    assert!(rt; files.failures() == 0);
+    Ok(())
+}

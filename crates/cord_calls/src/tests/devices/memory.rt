@@ -1,0 +1,73 @@
+// What files in memory answer.
+use super::digits_file;
+use cord_io::{CordError, Files, MemFiles, OpenFault};
+
+#[test]
+fn reads_what_lies_inside(rt: HostRuntime) {
+    let mut files = digits_file(&rt, rt.alloc());
+    let Ok((no, len)) = files.open("digits") else {
+        panic!(rt; "not opened");
+    };
+    assert!(rt; len == 10);
+    let mut out = [0u8; 4];
+    assert!(rt; files.read_at(no, 3, &mut out) == Ok(4));
+    assert!(rt; out.as_slice() == b"3456".as_slice());
+    assert!(rt; files.read_at(no, 8, &mut out) == Ok(2));
+    assert!(rt; &out[..2] == b"89".as_slice());
+    assert!(rt; files.failures() == 0);
+}
+
+#[test]
+fn a_missing_path_is_no_failure(rt: HostRuntime) {
+    let mut files = digits_file(&rt, rt.alloc());
+    assert!(rt; files.open("letters") == Err(OpenFault::NotFound));
+    let empty = files.open("empty");
+    assert!(rt; empty.is_ok());
+    assert!(rt; files.failures() == 0);
+}
+
+#[test]
+fn a_path_that_is_there_gets_the_new_bytes(rt: HostRuntime) {
+    let alloc = rt.alloc();
+    let mut files = MemFiles::new(alloc);
+    assert!(rt; files.add(alloc, "a", b"old") == Ok(()));
+    assert!(rt; files.add(alloc, "b", b"other") == Ok(()));
+    assert!(rt; files.add(alloc, "a", b"newer") == Ok(()));
+    let Ok((no, len)) = files.open("a") else {
+        panic!(rt; "not opened");
+    };
+    assert!(rt; len == 5);
+    let mut out = [0u8; 8];
+    assert!(rt; files.read_at(no, 0, &mut out) == Ok(5));
+    assert!(rt; &out[..5] == b"newer".as_slice());
+}
+
+#[test]
+fn the_same_path_keeps_its_number(rt: HostRuntime) {
+    let mut files = digits_file(&rt, rt.alloc());
+    let first = files.open("digits");
+    let second = files.open("digits");
+    assert!(rt; first.is_ok());
+    assert!(rt; first == second);
+}
+
+// Each file that was added is whole, also where memory was refused on the way.
+#[test]
+fn a_refused_file_leaves_the_others(rt: HostRuntime) {
+    let alloc = rt.alloc();
+    let mut files = MemFiles::new(alloc);
+    let first = files.add(alloc, "a", b"one");
+    let second = files.add(alloc, "b", b"two");
+    for (path, added) in [("a", first), ("b", second)] {
+        match added {
+            Ok(()) => {
+                let opened = files.open(path);
+                assert!(rt; opened.is_ok());
+            }
+            Err(error) => {
+                assert!(rt; error == CordError::NoMemory);
+                assert!(rt; files.open(path) == Err(OpenFault::NotFound));
+            }
+        }
+    }
+}

@@ -1,0 +1,31 @@
+// What a sink in memory takes.
+use cord_io::{MemSink, Sink, WriteFault};
+
+#[test]
+fn a_sink_takes_all(rt: HostRuntime) {
+    let mut sink = MemSink::new(rt.alloc());
+    assert!(rt; sink.put(b"hel") == Ok(3));
+    assert!(rt; sink.put(b"lo") == Ok(2));
+    assert!(rt; sink.finish() == Ok(()));
+    assert!(rt; sink.bytes() == b"hello".as_slice());
+    assert!(rt; sink.failures() == 0);
+}
+
+// A refused growth takes nothing and is counted, and the next call is no worse off.
+#[test]
+fn a_refused_growth_takes_nothing(rt: HostRuntime) {
+    let mut sink = MemSink::new(rt.alloc());
+    let mut taken = 0usize;
+    let mut failed = 0u64;
+    for _ in 0..4u8 {
+        match sink.put(b"abc") {
+            Ok(count) => {
+                assert!(rt; count == 3);
+                taken = taken.saturating_add(count);
+            }
+            Err(WriteFault) => failed = failed.saturating_add(1),
+        }
+        assert!(rt; sink.bytes().len() == taken);
+        assert!(rt; sink.failures() == failed);
+    }
+}

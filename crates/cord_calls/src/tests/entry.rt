@@ -1,0 +1,84 @@
+// A source of one entry, which reads so often and so far, and cords of leaves, which need none.
+ghost use Rattle.std.specs.Prelude.{◌≡◌, IfOk, length};
+ghost use Rattle.cord_io.specs.Table.{Lengths};
+ghost use Rattle.cord_core.specs.Cord.{text_len, CordFitsIn};
+
+use cord_core::Cord;
+use cord_io::{CordError, ReadFault, Source, SourceId};
+use std::alloc::Global;
+
+// A source whose entry 2 is these bytes: it reads so often, and then every read fails, as does one that goes past `cut`.
+#[derive(Drop)]
+pub(super) struct Entry<'a> {
+    pub(super) bytes: &'a [u8],
+    pub(super) cut: u64,
+    pub(super) reads: u64,
+    pub(super) failures: u64,
+}
+
+impl<'a> Source for Entry<'a> {
+    ghost use Rattle.std.specs.Prelude.{Some, None, ⊤, [], length, if◌then◌else◌, nat_eq};
+    ghost use Rattle.std.proofs.Common.{arith};
+    ghost use Rattle.std.proofs.lemmas.Bool.Decides.{nat_tests};
+
+    ghost lengths = { λ s id. if nat_eq id 2 then Some (length s.bytes.now) else None };
+
+    ghost keeps = { λ _ _. ⊤ };
+
+    ghost table = { λ s _ id. if nat_eq id 2 then s.bytes.now else [] };
+
+    ghost failures = { λ s. s.failures };
+
+    ghost lengths_of_table = { λ s folder kept id. Prim.grind (arith, nat_tests) };
+
+    fn failures(&self) -> u64 {
+        self.failures
+    }
+
+    fn entry_len(&self, id: SourceId) -> Option<u64> {
+        if id.0 == 2 {
+            Some(self.bytes.len() as u64)
+        } else {
+            None
+        }
+    }
+
+    fn read(&mut self, id: SourceId, start: u64, out: &mut [u8]) -> Result<(), ReadFault> {
+        if self.reads == 0 || id.0 != 2 || self.cut < start + out.len() as u64 {
+            self.failures = self.failures.saturating_add(1);
+            return Err(ReadFault);
+        }
+        self.reads -= 1;
+        let start = start as usize;
+        out.copy_from_slice(&self.bytes[start..start + out.len()]);
+        Ok(())
+    }
+}
+
+impl<'a> Entry<'a> {
+    // An entry of these bytes, which can be read so often.
+    pub(super) fn new(bytes: &'a [u8], reads: u64) -> Entry<'a>
+        ensures { result.bytes.now ≡ bytes.now }
+    {
+        Entry {
+            bytes,
+            cut: u64::MAX,
+            reads,
+            failures: 0,
+        }
+    }
+
+    // No byte, and no read that works.
+    pub(super) fn nothing() -> Entry<'static> {
+        Entry::new(b"", 0)
+    }
+}
+
+// A cord of these bytes, which needs no source.
+pub(super) fn leaf(alloc: Global, bytes: &[u8]) -> Result<Cord, CordError>
+    ensures fits { IfOk result (λ c. (lengths : Lengths) → CordFitsIn lengths c) }
+    ensures len { IfOk result (λ c. text_len c ≡ length bytes.now) }
+{
+    let cord = Cord::from_bytes(alloc, bytes)?;
+    Ok(cord)
+}

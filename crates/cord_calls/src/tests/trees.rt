@@ -1,0 +1,92 @@
+// What trees are made of, and bytes that differ from place to place.
+ghost use Rattle.std.specs.Prelude.{◌≡◌, ◌<◌, ◌≤◌, length, IfOk};
+ghost use Rattle.cord_node.specs.Tree.{len_of, depth_of, IsSound};
+
+use cord_core::Cord;
+use cord_io::SourceId;
+use cord_node::{Node, leaf};
+use std::alloc::{AllocError, Global};
+use std::rc::{Rc, RcSlice};
+
+// A leaf of these bytes.
+pub(super) fn leaf_of(alloc: Global, bytes: &[u8]) -> Result<Rc<Node>, AllocError>
+    requires not_empty { 0 < length bytes.now }
+    requires fits { length bytes.now ≤ 1000 }
+    ensures sound { IfOk result (λ node. IsSound node.value) }
+    ensures len { IfOk result (λ node. len_of node.value ≡ length bytes.now) }
+    ensures depth { IfOk result (λ node. depth_of node.value ≡ 0) }
+{
+    let node = leaf(alloc, RcSlice::from_slice(alloc, bytes)?)?;
+    Ok(node)
+}
+
+// The bytes of a cord of leaves and runs; `None` where it has a function part.
+pub(super) fn bytes_of(alloc: Global, cord: &Cord) -> Result<Option<Vec<u8>>, AllocError> {
+    let mut bytes = Vec::new(alloc);
+    let known = match cord.root() {
+        None => true,
+        Some(node) => append(&mut bytes, node)?,
+    };
+    Ok(if known { Some(bytes) } else { None })
+}
+
+// Appends the bytes of a node, and tells whether all of them are known.
+fn append(bytes: &mut Vec<u8>, node: &Rc<Node>) -> Result<bool, AllocError>
+    requires { IsSound node.now.value }
+{
+    match node.as_ref() {
+        Node::Leaf {
+            bytes: shared,
+            start,
+            len,
+            ..
+        } => {
+            bytes.extend_from_slice(&shared.as_slice()[*start as usize..(*start + *len) as usize])?;
+            Ok(true)
+        }
+        Node::Run { byte, len } => {
+            for _ in 0..*len {
+                bytes.push(*byte)?;
+            }
+            Ok(true)
+        }
+        Node::Func { .. } => Ok(false),
+        Node::Cat { left, right, .. } => {
+            let known = append(bytes, left)?;
+            Ok(append(bytes, right)? && known)
+        }
+    }
+}
+
+// The byte and the length of a cord that is one run.
+pub(super) fn run_fields(cord: &Cord) -> Option<(u8, u64)> {
+    match cord.root()?.as_ref() {
+        Node::Run { byte, len } => Some((*byte, *len)),
+        _ => None,
+    }
+}
+
+// The source, the start and the length of a cord that is one function part.
+pub(super) fn func_fields(cord: &Cord) -> Option<(SourceId, u64, u64)> {
+    match cord.root()?.as_ref() {
+        Node::Func { id, start, len } => Some((*id, *start, *len)),
+        _ => None,
+    }
+}
+
+// Whether the roots of two cords are one node.
+pub(super) fn is_one(a: &Cord, b: &Cord) -> bool {
+    match (a.root(), b.root()) {
+        (Some(a), Some(b)) => Rc::ptr_eq(a, b),
+        _ => false,
+    }
+}
+
+// So many bytes: at each place the place modulo 251, which divides no length of a block.
+pub(super) fn pattern(alloc: Global, length: u64) -> Result<Vec<u8>, AllocError> {
+    let mut text = Vec::new(alloc);
+    for place in 0..length {
+        text.push((place % 251) as u8)?;
+    }
+    Ok(text)
+}

@@ -1,4 +1,0 @@
-use Rattle.cord_iter.proofs.tests.appended.Goals as goal
-
-pub loop-k-preserved : goal.loop-k-preserved
-loop-k-preserved g c = record { fits = λ lengths. c.in_ok-cord.ensures.over.fits lengths (c.loop-k.invariant.fits lengths) }
