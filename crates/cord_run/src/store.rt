@@ -1,11 +1,10 @@
 // What the names of a run of a plan hold.
 ghost use Rattle.std.specs.Prelude.{◌≡◌, ◌<◌, ℤ, pos, true, [], length, IfOk, IfSome, IfNone, None, Some};
-ghost use Rattle.std.specs.Str.{bytes_eq};
 ghost use Rattle.cord_run.specs.Held.{are_distinct, content_in, cord_in, extensible_in, length_in, names_in, number_in, operand_in, HasContent, HasExtensible, HasNoEntry, HasNumber, IsEntryAt, SameEntries};
 
 use cord_core::Cord;
 use cord_ec::ExtCord;
-use cord_script::Number;
+use cord_script::{Number, is_same};
 use std::alloc::{AllocError, Global};
 use std::mem::replace;
 
@@ -48,21 +47,6 @@ fn slot_of(name: &[u8]) -> usize {
         slot = (slot * 31 + *byte as usize) % SLOTS;
     }
     slot
-}
-
-// Whether two names are one: a loop of its own, since most of them are of a byte or two.
-fn is_same(left: &[u8], right: &[u8]) -> bool
-    ensures { result ≡ bytes_eq left.now right.now }
-{
-    if left.len() != right.len() {
-        return false;
-    }
-    for i in 0..left.len() {
-        if left[i] != right[i] {
-            return false;
-        }
-    }
-    true
 }
 
 // Whether this is the name at a place.

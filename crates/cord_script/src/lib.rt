@@ -33,6 +33,7 @@ pub use operands::{Argument, Arguments, Function, Number, Relation};
 pub use parser::parse;
 pub use refusals::{Refusal, RefusalKind};
 pub use statements::{Script, Statement};
+pub use words::is_same;
 
 /// The greatest number of bytes of a script.
 pub const MAX_SCRIPT: usize = 1_048_576;

@@ -105,7 +105,7 @@ pub fn uncons(bytes: &[u8]) -> Option<(u8, &[u8])>
     }
 }
 
-/// Whether two words have the same bytes: a loop of its own, since most words are of a few bytes.
+/// Whether two words, or two names, have the same bytes: a loop of its own, since most of them are of a few bytes.
 pub fn is_same(left: &[u8], right: &[u8]) -> bool
     ensures { result ≡ bytes_eq left.now right.now }
 {
