@@ -4,4 +4,5 @@ pub mod Growing
 pub mod KeptBlocks
 pub mod Holding
 pub mod EntryBytes
+pub mod Periods
 pub mod Ranges

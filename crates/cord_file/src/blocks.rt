@@ -46,13 +46,32 @@ pub(crate) fn read_block<F: Files>(
     Ok(block)
 }
 
-// Copies a part of a block into `out`, where the block is kept, and answers whether it is.
+// Copies a part of a block into `out`, where the block is the one used last, and answers whether it is.
+fn copy_newest(cache: &Blocks, key: BlockKey, from: usize, out: &mut [u8]) -> bool
+    requires { from + length out.old ≤ BLOCK }
+    ensures { result ≡ true → (block : List ℕ) × Contains cache.now.entries (key, block)
+        × (out.new ≡ take (length out.new) (drop from block)) }
+{
+    match cache.peek_mru() {
+        Some((newest, block)) if *newest == key => {
+            out.copy_from_slice(&block[from..from + out.len()]);
+            true
+        }
+        _ => false,
+    }
+}
+
+// Copies a part of a block into `out`, where the block is kept, and answers whether it is. Reading mostly goes on in the
+// block used last, which is found without a look-up.
 pub(crate) fn copy_kept(cache: &mut Blocks, key: BlockKey, from: usize, out: &mut [u8]) -> bool
     requires { from + length out.old ≤ BLOCK }
     ensures kept { (e : BlockKey × List ℕ) → Contains cache.new.entries e → Contains cache.old.entries e }
     ensures copied { result ≡ true → (block : List ℕ) × Contains cache.old.entries (key, block)
         × (out.new ≡ take (length out.new) (drop from block)) }
 {
+    if copy_newest(cache, key, from, out) {
+        return true;
+    }
     match cache.get(&key) {
         Some(block) => {
             out.copy_from_slice(&block[from..from + out.len()]);

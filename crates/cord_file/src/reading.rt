@@ -5,7 +5,7 @@ ghost use Rattle.cord_file.specs.Blocks.{AreRead};
 ghost use Rattle.cord_file.specs.declared.blocks.TheConstants.{BLOCK};
 
 use crate::Sources;
-use crate::blocks::{BLOCK, BlockKey, copy_kept, keep, read_block};
+use crate::blocks::{BLOCK, BlockKey, MAX_BLOCKS, copy_kept, keep, read_block};
 use cord_io::{FileNo, Files, MAX_LEN, ReadFault};
 
 // Fills `out` with the bytes of an opened file from a place on. The range lies inside the file.
@@ -34,7 +34,8 @@ pub(crate) fn read_range<F: Files>(
 impl<F: Files> Sources<F> {
     ghost use Rattle.cord_file.specs.Sources.{device_in};
 
-    // Fills `out` with an opened file's bytes from a place on, block by block.
+    // Fills `out` with an opened file's bytes from a place on, block by block. Where they are more than all kept blocks
+    // hold, the whole blocks among them go past those that are kept, which stay.
     pub(crate) fn read_file(
         &mut self,
         place: usize,
@@ -51,12 +52,14 @@ impl<F: Files> Sources<F> {
         ensures bytes { (folder : Folder) → F.keeps (device_in self.new) folder →
             OnOk result (AreRead folder (slice_get self.old.entries.items place) start out.new) }
     {
+        let is_long = out.len() > MAX_BLOCKS * BLOCK;
         let mut done = 0;
         while done < out.len() {
             let from = start + done as u64;
             let left = BLOCK - (from % BLOCK as u64) as usize;
             let size = left.min(out.len() - done);
-            self.read_part(place, from, &mut out[done..done + size])?;
+            let is_past = is_long && size == BLOCK;
+            self.read_one(place, from, &mut out[done..done + size], is_past)?;
             done += size;
         }
         Ok(())
@@ -81,6 +84,33 @@ impl<F: Files> Sources<F> {
     {
         let file = &self.entries[place];
         read_range(&mut self.files, file.no, start, out)
+    }
+
+    // Fills `out` with bytes of one block of an opened file: past the kept blocks, or by them.
+    fn read_one(
+        &mut self,
+        place: usize,
+        start: u64,
+        out: &mut [u8],
+        is_past: bool,
+    ) -> Result<(), ReadFault>
+        requires inside { IsSomeAnd (slice_get self.old.entries.items place) (λ file.
+            start + length out.old ≤ file.len) }
+        requires some { 0 < length out.old }
+        requires part { start % BLOCK + length out.old ≤ BLOCK }
+        ensures earlier { (folder : Folder) →
+            F.keeps (device_in self.new) folder → F.keeps (device_in self.old) folder }
+        ensures entries { self.new.entries.items ≡ self.old.entries.items }
+        ensures count { F.failures (device_in self.new)
+            ≡ count_after (is_err result) (F.failures (device_in self.old)) }
+        ensures bytes { (folder : Folder) → F.keeps (device_in self.new) folder →
+            OnOk result (AreRead folder (slice_get self.old.entries.items place) start out.new) }
+    {
+        if is_past {
+            self.read_past_blocks(place, start, out)
+        } else {
+            self.read_part(place, start, out)
+        }
     }
 
     // Fills `out` with bytes of one block of an opened file: of the block that is kept, or else of one that is read

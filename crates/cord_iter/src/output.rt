@@ -7,13 +7,13 @@ ghost use Rattle.cord_node.specs.Tables.{FitsIn};
 ghost use Rattle.cord_core.specs.Cord.{text_len, bytes_of, CordFitsIn};
 ghost use Rattle.cord_iter.specs.Taking.{IsFrontOf, IsTextOver, IsPrefixOver, Takes, CountsFaults};
 
-use crate::PIECE_LEN;
 use crate::pieces::{piece_len, put_all, put_run};
+use crate::{BLOCK_LEN, PIECE_LEN};
 use cord_core::{Cord, Node};
 use cord_io::{CordError, MAX_LEN, Sink, Source, SourceId};
 
 /// Hands a sink the text of a cord over a source, after `CORD_put` of `cord.h`: each leaf's slice is offered whole, after a short
-/// `put` the rest, a function part or a run in pieces of at most 512 bytes, a run of 65,536 bytes or more in blocks of that length.
+/// `put` the rest, a function part or a run in pieces of at most 512 bytes, or of 65,536 bytes where it is that long.
 /// Each function part lies inside an entry of `src`.
 /// Refused with `ReadFailed` where a read failed and with `WriteFailed` where a `put` failed: then the sink has taken a front part
 /// of the text. The text is that over the table of each folder that `src` keeps after the call, and as many bytes are taken
@@ -71,7 +71,7 @@ fn put_node<S: Source, W: Sink>(node: &Node, src: &mut S, sink: &mut W) -> Resul
     Ok(())
 }
 
-// Hands a sink a range of an entry, in pieces.
+// Hands a sink a range of an entry: a long one in blocks, so that a sink with a buffer need not keep them.
 fn put_func<S: Source, W: Sink>(
     id: SourceId,
     start: u64,
@@ -89,36 +89,63 @@ fn put_func<S: Source, W: Sink>(
     ensures earlier { (folder : Folder) → S.keeps src.new folder → S.keeps src.old folder }
     ensures finished { W.finished sink.new ≡ W.finished sink.old }
 {
-    let mut done = 0;
-    while done < len {
-        let count = piece_len(len - done, PIECE_LEN);
-        put_piece(id, start + done, count, src, sink)?;
-        done += count as u64;
+    if len < BLOCK_LEN as u64 {
+        put_range::<PIECE_LEN, S, W>(id, start, len, src, sink)
+    } else {
+        put_range::<BLOCK_LEN, S, W>(id, start, len, src, sink)
     }
-    Ok(())
 }
 
-// Hands a sink a range of an entry that is one piece.
-fn put_piece<S: Source, W: Sink>(
+// Hands a sink a range of an entry, at most `N` bytes at once. It stands apart, so that only who calls it has room for
+// them on the stack.
+#[inline(never)]
+fn put_range<const N: usize, S: Source, W: Sink>(
     id: SourceId,
     start: u64,
-    count: usize,
+    len: u64,
     src: &mut S,
     sink: &mut W,
 ) -> Result<(), CordError>
-    requires some { 0 < count }
-    requires piece { count ≤ PIECE_LEN }
-    requires fits { start + count ≤ length_at (S.lengths src.old) id.0 }
-    ensures text { OnOk result (Takes (IsTextOver (S.keeps src.new) (S.table src.old) (Node.Func id start count)) (W.taken sink.old) (W.taken sink.new)) }
-    ensures prefix { OnErr result (Takes (IsPrefixOver (S.keeps src.new) (S.table src.old) (Node.Func id start count)) (W.taken sink.old) (W.taken sink.new)) }
+    requires some { 0 < N }
+    requires few { N ≤ BLOCK_LEN }
+    requires fits { start + len ≤ length_at (S.lengths src.old) id.0 }
+    requires limit { start + len ≤ MAX_LEN }
+    ensures text { OnOk result (Takes (IsTextOver (S.keeps src.new) (S.table src.old) (Node.Func id start len)) (W.taken sink.old) (W.taken sink.new)) }
+    ensures prefix { OnErr result (Takes (IsPrefixOver (S.keeps src.new) (S.table src.old) (Node.Func id start len)) (W.taken sink.old) (W.taken sink.new)) }
     ensures faults { CountsFaults (record { source = S.failures src.old; sink = W.failures sink.old }) (record { source = S.failures src.new; sink = W.failures sink.new }) result }
     ensures lengths { S.lengths src.new ≡ S.lengths src.old }
     ensures table { S.table src.new ≡ S.table src.old }
     ensures earlier { (folder : Folder) → S.keeps src.new folder → S.keeps src.old folder }
     ensures finished { W.finished sink.new ≡ W.finished sink.old }
 {
-    let mut buffer = [0; PIECE_LEN];
-    let piece = &mut buffer[..count];
+    let mut buffer = [0; N];
+    let mut done = 0;
+    while done < len {
+        let count = piece_len(len - done, N);
+        put_piece(id, start + done, &mut buffer[..count], src, sink)?;
+        done += count as u64;
+    }
+    Ok(())
+}
+
+// Hands a sink a range of an entry that is one piece, which is read into a slice of its length.
+fn put_piece<S: Source, W: Sink>(
+    id: SourceId,
+    start: u64,
+    piece: &mut [u8],
+    src: &mut S,
+    sink: &mut W,
+) -> Result<(), CordError>
+    requires some { 0 < length piece.old }
+    requires fits { start + length piece.old ≤ length_at (S.lengths src.old) id.0 }
+    ensures text { OnOk result (Takes (IsTextOver (S.keeps src.new) (S.table src.old) (Node.Func id start (length piece.old))) (W.taken sink.old) (W.taken sink.new)) }
+    ensures prefix { OnErr result (Takes (IsPrefixOver (S.keeps src.new) (S.table src.old) (Node.Func id start (length piece.old))) (W.taken sink.old) (W.taken sink.new)) }
+    ensures faults { CountsFaults (record { source = S.failures src.old; sink = W.failures sink.old }) (record { source = S.failures src.new; sink = W.failures sink.new }) result }
+    ensures lengths { S.lengths src.new ≡ S.lengths src.old }
+    ensures table { S.table src.new ≡ S.table src.old }
+    ensures earlier { (folder : Folder) → S.keeps src.new folder → S.keeps src.old folder }
+    ensures finished { W.finished sink.new ≡ W.finished sink.old }
+{
     src.read(id, start, piece)?;
     put_all(piece, sink)?;
     Ok(())
