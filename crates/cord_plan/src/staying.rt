@@ -11,7 +11,7 @@ use crate::Expr;
 use crate::choosing::Line;
 use crate::naming::lacks;
 use crate::readings::{assigns, reads, target_of};
-use crate::recent::{entry_of, is_before, is_block, unless_behind};
+use crate::recent::{entry_at, entry_of, is_before, is_block, unless_behind};
 use cord_script::{Number, Statement};
 
 /// So many lines are looked at faster than the numbers of names.
@@ -48,10 +48,10 @@ pub(crate) fn nearest(line: &Line, name: &[u8]) -> Option<usize>
     ensures { result ≡ nearest line.now.statements.now name.now line.now.place }
 {
     let recent = line.recent;
-    let numbering = &recent.later.numbering;
+    let number = recent.later.numbering.number_of(name);
     match (
-        entry_of(numbering, &recent.assigned, name),
-        entry_of(numbering, &recent.read, name),
+        entry_at(&recent.assigned, number),
+        entry_at(&recent.read, number),
     ) {
         (Some(source), Some(reader)) => unless_behind(source, reader, recent.block),
         _ => nearest_by_lines(line.statements, line.place, name),
