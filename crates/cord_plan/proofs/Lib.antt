@@ -37,6 +37,7 @@ pub mod MemberTexts
 pub mod PartSums
 pub mod Nearest
 pub mod Recents
+pub mod Lacking
 pub mod Lasts
 pub mod Choices
 pub mod Joined

@@ -33,24 +33,24 @@ module _ (t : Numbering) (g : ℕ) where
     module _ (k : ℕ) (mine : IsBit t g y k) where
       same_number : (x : List ℕ) → IsBit t g x k → x ≡ y
       same_number x b =
-          let one : slice_get (names_of t) (64 * g + k) ≡ Some x = number_there t x (64 * g + k) b.number in
-          let other : slice_get (names_of t) (64 * g + k) ≡ Some y = number_there t y (64 * g + k) mine.number in
+          let one : slice_get (names_of t) (128 * g + k) ≡ Some x = number_there t x (128 * g + k) b.number in
+          let other : slice_get (names_of t) (128 * g + k) ≡ Some y = number_there t y (128 * g + k) mine.number in
           cc
 
       same_bit : (x : List ℕ) (i : ℕ) → IsBit t g x i → x ≡ y → i ≡ k
       same_bit x i b same =
-          let number : number_of t x ≡ Some (64 * g + k) = rw same mine.number in
-          let is : 64 * g + i ≡ 64 * g + k = let one = b.number in cc in
+          let number : number_of t x ≡ Some (128 * g + k) = rw same mine.number in
+          let is : 128 * g + i ≡ 128 * g + k = let one = b.number in cc in
           omega arith
 
-      pub marks_one : Marks t g (λ x. bytes_eq x y) (1 * 2 ^ k % 2 ^ 64)
+      pub marks_one : Marks t g (λ x. bytes_eq x y) (1 * 2 ^ k % 2 ^ 128)
       marks_one x i b = by_bit (cases_eq i k)
         where
           other_name : (v : Bool) → bytes_eq x y ≡ v → (i ≡ k → ⊥) → false ≡ bytes_eq x y
           other_name false e differ = sym e
           other_name true e differ = absurd (differ (same_bit x i b (same_bytes x y e)))
 
-          by_bit : (i ≡ k) ⊎ (i ≡ k → ⊥) → bit (1 * 2 ^ k % 2 ^ 64) i ≡ bytes_eq x y
+          by_bit : (i ≡ k) ⊎ (i ≡ k → ⊥) → bit (1 * 2 ^ k % 2 ^ 128) i ≡ bytes_eq x y
           by_bit (inl same) =
               let mine_too : IsBit t g x k = rw (← same) b in
               rw (same, same_number x mine_too, own_bytes y) (bit_one_same k mine.within)
@@ -83,15 +83,15 @@ has_more names i y x lt is =
 
 module _ (t : Numbering) (g : ℕ) where
   -- a name by its number
-  pub marks_number : (y : List ℕ) (n : ℕ) → number_of t y ≡ Some n → n / 64 ≡ g → Marks t g (λ x. bytes_eq x y) (1 * 2 ^ (n % 64) % 2 ^ 64)
+  pub marks_number : (y : List ℕ) (n : ℕ) → number_of t y ≡ Some n → n / 128 ≡ g → Marks t g (λ x. bytes_eq x y) (1 * 2 ^ (n % 128) % 2 ^ 128)
   marks_number y n is group =
-      let whole : 64 * g + n % 64 ≡ n = rw (← group) (div-add-mod n 64) in
-      marks_one t g y (n % 64) (record { within = mod-lt n (omega arith); number = is ∙ ap Some (sym whole) })
+      let whole : 128 * g + n % 128 ≡ n = rw (← group) (div-add-mod n 128) in
+      marks_one t g y (n % 128) (record { within = mod-lt n (omega arith); number = is ∙ ap Some (sym whole) })
 
-  pub marks_apart : (y : List ℕ) (n : ℕ) → number_of t y ≡ Some n → (n / 64 ≡ g → ⊥) → Marks t g (λ x. bytes_eq x y) 0
+  pub marks_apart : (y : List ℕ) (n : ℕ) → number_of t y ≡ Some n → (n / 128 ≡ g → ⊥) → Marks t g (λ x. bytes_eq x y) 0
   marks_apart y n is other = marks_none t g y (λ i b.
-      let same : n ≡ 64 * g + i = let one = b.number in cc in
-      let small : i < 64 = b.within in
+      let same : n ≡ 128 * g + i = let one = b.number in cc in
+      let small : i < 128 = b.within in
       other (omega arith))
 
   pub marks_unknown : (y : List ℕ) → number_of t y ≡ None → Marks t g (λ x. bytes_eq x y) 0

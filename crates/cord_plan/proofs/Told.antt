@@ -20,10 +20,10 @@ use Rattle.cord_plan.proofs.Numbers.{Numbered, numbered, unnumbered}
 use Rattle.cord_plan.proofs.Sweeps.{path_in_table}
 
 -- the group and the bit of a number
-pub split_number : (n : ℕ) → 64 * (n / 64) + n % 64 ≡ n
-split_number n = div-add-mod n 64
+pub split_number : (n : ℕ) → 128 * (n / 128) + n % 128 ≡ n
+split_number n = div-add-mod n 128
 
-pub bit_within : (n : ℕ) → n % 64 < 64
+pub bit_within : (n : ℕ) → n % 128 < 128
 bit_within n = mod-lt n (omega arith)
 
 -- the live places of a name that has no number
@@ -60,10 +60,10 @@ module _ (s : List Statement) (t : Later) (behinds : AreBehind (map shape_of s) 
     live : has (names_of t.numbering) x ≡ true → IsLive s x (live_of t x)
     live known =
         let found : Numbered t.numbering x = numbered t.numbering x known in
-        let group : (group : Group) × (slice_get t.groups.items (found.number / 64) ≡ Some group) × AreLive s t.numbering (found.number / 64) group.words.items = groups found.number found.within in
-        let bit : IsBit t.numbering (found.number / 64) x (found.number % 64) = record { within = bit_within found.number; number = found.is ∙ ap Some (sym (split_number found.number)) } in
-        let there : live_of t x ≡ column group.0.words.items (found.number % 64) = rw (found.is, group.1) refl in
-        rw there (group.2 x (found.number % 64) bit)
+        let group : (group : Group) × (slice_get t.groups.items (found.number / 128) ≡ Some group) × AreLive s t.numbering (found.number / 128) group.words.items = groups found.number found.within in
+        let bit : IsBit t.numbering (found.number / 128) x (found.number % 128) = record { within = bit_within found.number; number = found.is ∙ ap Some (sym (split_number found.number)) } in
+        let there : live_of t x ≡ column group.0.words.items (found.number % 128) = rw (found.is, group.1) refl in
+        rw there (group.2 x (found.number % 128) bit)
 
     path_known : (p : ℕ) (path : List ℕ) → ReadBy s x p path → has (names_of t.numbering) x ≡ true
     path_known p (q ∷ path) r = path_known q path r.2

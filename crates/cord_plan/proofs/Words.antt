@@ -1,7 +1,7 @@
 -- Words as sets of bits.
 use Rattle.std.proofs.Common.{◌≡◌, ◌≢◌, ◌⊎◌, ℕ, zero, suc, ◌+◌, ◌-◌, ◌*◌, ◌%◌, ◌^◌, ◌<◌, ◌≤◌, ◌==◌, Bool, true, false, ◌&&◌, ◌||◌, List, [], ◌∷◌, ◌++◌, map, take, length, set, get_or, Option, Some, refl, sym, ap, ◌∙◌, subst, inl, inr, ⊎_elim, arith}
 use Rattle.std.specs.Prelude.{not, min, max, sum_by}
-use Rattle.std.specs.Int.{bit_at, bit_not, w64}
+use Rattle.std.specs.Int.{bit_at, bit_not, w128}
 use Rattle.std.specs.Int.RustNames.{bit_and, bit_or}
 use Rattle.std.proofs.lemmas.Nat.Bits.{bit_at_or, bit_at_and, bit_at_not, bit_at-lt, bit_at-zero, bit_at_set_same, bit_at_set_other, bit_at_above}
 use Rattle.std.specs.Int.Bits.{or_zero_l}
@@ -42,25 +42,25 @@ bit_or_is a b i = rw (bit_at_or a b i) (of_max (bit_at a i) (bit_at b i) (bit_at
 pub bit_and_is : (a b i : ℕ) → bit (bit_and a b) i ≡ (bit a i && bit b i)
 bit_and_is a b i = rw (bit_at_and a b i) (of_min (bit_at a i) (bit_at b i) (bit_at-lt a i) (bit_at-lt b i))
 
-pub bit_not_is : (a i : ℕ) → a < 2 ^ 64 → i < 64 → bit (bit_not w64 a) i ≡ not (bit a i)
-bit_not_is a i lt within = rw (bit_at_not w64 a i lt within) (of_not (bit_at a i) (bit_at-lt a i))
+pub bit_not_is : (a i : ℕ) → a < 2 ^ 128 → i < 128 → bit (bit_not w128 a) i ≡ not (bit a i)
+bit_not_is a i lt within = rw (bit_at_not w128 a i lt within) (of_not (bit_at a i) (bit_at-lt a i))
 
 pub bit_zero_is : (i : ℕ) → bit 0 i ≡ false
 bit_zero_is i = rw (bit_at-zero i) refl
 
-pub bit_one_same : (k : ℕ) → k < 64 → bit (1 * 2 ^ k % 2 ^ 64) k ≡ true
+pub bit_one_same : (k : ℕ) → k < 128 → bit (1 * 2 ^ k % 2 ^ 128) k ≡ true
 bit_one_same k within =
-    let there : bit_at (1 * 2 ^ k % 2 ^ 64) k ≡ 1 = rw (or_zero_l (1 * 2 ^ k % 2 ^ 64)) at (bit_at_set_same w64 0 k within) in
+    let there : bit_at (1 * 2 ^ k % 2 ^ 128) k ≡ 1 = rw (or_zero_l (1 * 2 ^ k % 2 ^ 128)) at (bit_at_set_same w128 0 k within) in
     rw there refl
 
-pub bit_one_other : (k i : ℕ) → k < 64 → i ≢ k → bit (1 * 2 ^ k % 2 ^ 64) i ≡ false
+pub bit_one_other : (k i : ℕ) → k < 128 → i ≢ k → bit (1 * 2 ^ k % 2 ^ 128) i ≡ false
 bit_one_other k i within other =
-    let there : bit_at (1 * 2 ^ k % 2 ^ 64) i ≡ 0 = rw (or_zero_l (1 * 2 ^ k % 2 ^ 64), bit_at-zero i) at (bit_at_set_other w64 0 k within i other) in
+    let there : bit_at (1 * 2 ^ k % 2 ^ 128) i ≡ 0 = rw (or_zero_l (1 * 2 ^ k % 2 ^ 128), bit_at-zero i) at (bit_at_set_other w128 0 k within i other) in
     rw there refl
 
 -- what the flow makes of a word
-pub flow_bits : (word behind assigned i : ℕ) → assigned < 2 ^ 64 → i < 64 → bit (bit_or word (bit_and behind (bit_not w64 assigned))) i ≡ flow (bit word i) (bit behind i) (bit assigned i)
-flow_bits word behind assigned i lt within = rw (bit_or_is word (bit_and behind (bit_not w64 assigned)) i, bit_and_is behind (bit_not w64 assigned) i, bit_not_is assigned i lt within) refl
+pub flow_bits : (word behind assigned i : ℕ) → assigned < 2 ^ 128 → i < 128 → bit (bit_or word (bit_and behind (bit_not w128 assigned))) i ≡ flow (bit word i) (bit behind i) (bit assigned i)
+flow_bits word behind assigned i lt within = rw (bit_or_is word (bit_and behind (bit_not w128 assigned)) i, bit_and_is behind (bit_not w128 assigned) i, bit_not_is assigned i lt within) refl
 
 -- the column of a bit
 pub column_at : (words : List ℕ) (i p : ℕ) → at (column words i) p ≡ bit (get_or words p 0) i
@@ -76,10 +76,10 @@ pub flow_same : (a b c d e f : Bool) → a ≡ d → b ≡ e → c ≡ f → flo
 flow_same a b c d e f one two three = rw (one, two, three) refl
 
 -- a greater word takes room
-pub room_less : (words : List ℕ) (p new : ℕ) → p < length words → get_or words p 0 < new → new < 2 ^ 64 → room (set words p new) < room words
-room_less words p new lt less within = less_room (room (set words p new)) (room words) (get_or words p 0) (sum_by-set (λ w. 2 ^ 64 - w) words p new 0 lt) less
+pub room_less : (words : List ℕ) (p new : ℕ) → p < length words → get_or words p 0 < new → new < 2 ^ 128 → room (set words p new) < room words
+room_less words p new lt less within = less_room (room (set words p new)) (room words) (get_or words p 0) (sum_by-set (λ w. 2 ^ 128 - w) words p new 0 lt) less
   where
-    less_room : (a b old : ℕ) → a + (2 ^ 64 - old) ≡ b + (2 ^ 64 - new) → old < new → a < b
+    less_room : (a b old : ℕ) → a + (2 ^ 128 - old) ≡ b + (2 ^ 128 - new) → old < new → a < b
     less_room a b old e more = omega arith
 
 -- columns of lists with one more

@@ -103,7 +103,7 @@ column_in (Some g) i = column g.words.items i
 
 abbrev pub column_of : List Group → Option ℕ → List Bool
 column_of groups None = []
-column_of groups (Some n) = column_in (slice_get groups (n / 64)) (n % 64)
+column_of groups (Some n) = column_in (slice_get groups (n / 128)) (n % 128)
 
 -- the live places of a name
 abbrev pub live_of : Later → List ℕ → List Bool
@@ -119,4 +119,4 @@ LiveTo s t k groups = (g : ℕ) → g < k → (group : Group) × (slice_get grou
 
 -- the group of each name is live
 abbrev pub AllLive : List Statement → Numbering → List Group → Type 0
-AllLive s t groups = (n : ℕ) → n < length (names_of t) → (group : Group) × (slice_get groups (n / 64) ≡ Some group) × AreLive s t (n / 64) group.words.items
+AllLive s t groups = (n : ℕ) → n < length (names_of t) → (group : Group) × (slice_get groups (n / 128) ≡ Some group) × AreLive s t (n / 128) group.words.items

@@ -10,8 +10,8 @@ bit w i = bit_at w i == 1
 
 -- x has this bit of the words of the group g
 pub record IsBit (t : Numbering) (g : ℕ) (x : List ℕ) (i : ℕ) : Type 0 where
-  pub within : i < 64
-  pub number : number_of t x ≡ Some (64 * g + i)
+  pub within : i < 128
+  pub number : number_of t x ≡ Some (128 * g + i)
 
 -- the word has the bits of those names of the group that it holds of
 abbrev pub Marks : Numbering → ℕ → (List ℕ → Bool) → ℕ → Type 0
@@ -23,4 +23,4 @@ column words i = map (λ w. bit w i) words
 
 -- how far the words are from their greatest
 abbrev pub room : List ℕ → ℕ
-room words = sum_by (λ w. 2 ^ 64 - w) words
+room words = sum_by (λ w. 2 ^ 128 - w) words

@@ -9,7 +9,7 @@ ghost use Rattle.cord_plan.specs.Recent.{IsRecent};
 ghost use Rattle.cord_plan.specs.Views.{expr_view};
 
 use crate::parts::room_behind;
-use crate::readings::assigns;
+use crate::readings::{assigns, is_same};
 use crate::recent::Recent;
 use crate::staying::{nearest, stays};
 use crate::{Expr, MAX_EXPR_PARTS};
@@ -57,7 +57,7 @@ fn is_named_once(operands: &[Name], name: &[u8]) -> bool
 {
     let mut times: usize = 0;
     for operand in operands {
-        if name == operand.as_slice() {
+        if is_same(name, operand.as_slice()) {
             times += 1;
         }
     }

@@ -12,6 +12,7 @@ mod lines;
 mod liveness;
 mod marks;
 mod meaning;
+mod naming;
 mod numbering;
 mod operations;
 mod own;

@@ -16,7 +16,7 @@ use std::alloc::{AllocError, Global};
 /// For each place the names of a group that a path from there reads before a line assigns them.
 #[derive(Drop)]
 struct Group {
-    words: Vec<u64>,
+    words: Vec<u128>,
 }
 
 /// For each name and each line of a script whether some path behind the line reads the bytes of the name before a line assigns it.
@@ -36,7 +36,7 @@ struct Flow<'a> {
     group: usize,
 }
 
-fn word_at(words: &[u64], place: usize) -> u64
+fn word_at(words: &[u128], place: usize) -> u128
     ensures bits { (i : ℕ) → bit result i ≡ at (column words.now i) place }
     ensures value { result ≡ get_or words.now place 0 }
 {
@@ -47,7 +47,7 @@ fn word_at(words: &[u64], place: usize) -> u64
 }
 
 // The bits of the places that may come next.
-fn word_behind(words: &[u64], behind: Behind) -> u64
+fn word_behind(words: &[u128], behind: Behind) -> u128
     ensures { (i : ℕ) → bit result i ≡ some_of (λ q. at (column words.now i) q) (places behind) }
 {
     let first = word_at(words, behind.first);
@@ -58,17 +58,17 @@ fn word_behind(words: &[u64], behind: Behind) -> u64
 }
 
 // What the backwards flow over a line makes of its word: what the places behind it have, but for what the line assigns, is added.
-fn flowed(word: u64, behind: u64, assigned: u64) -> u64
-    ensures bits { (i : ℕ) → i < 64 → bit result i ≡ flow (bit word i) (bit behind i) (bit assigned i) }
+fn flowed(word: u128, behind: u128, assigned: u128) -> u128
+    ensures bits { (i : ℕ) → i < 128 → bit result i ≡ flow (bit word i) (bit behind i) (bit assigned i) }
     ensures grows { word ≤ result }
-    ensures fits { result < 2 ^ 64 }
+    ensures fits { result < 2 ^ 128 }
 {
     word | (behind & !assigned)
 }
 
 impl Flow<'_> {
     // For each line the word of the names that it reads.
-    fn words_read(&self, alloc: Global) -> Result<Vec<u64>, AllocError>
+    fn words_read(&self, alloc: Global) -> Result<Vec<u128>, AllocError>
         ensures { IfOk result (λ v. ArePartly self.now.statements.now self.now.numbering.now self.now.group v.items) }
     {
         let mut words = Vec::new(alloc);
@@ -79,7 +79,7 @@ impl Flow<'_> {
     }
 
     // For each line the word of the name that it assigns.
-    fn words_assigned(&self, alloc: Global) -> Result<Vec<u64>, AllocError>
+    fn words_assigned(&self, alloc: Global) -> Result<Vec<u128>, AllocError>
         ensures { IfOk result (λ v. AreAssigned self.now.statements.now self.now.numbering.now self.now.group v.items) }
     {
         let mut words = Vec::new(alloc);
@@ -90,7 +90,7 @@ impl Flow<'_> {
     }
 
     // The bits of the places that may come next after a place.
-    fn word_behind_at(&self, words: &[u64], place: usize) -> u64
+    fn word_behind_at(&self, words: &[u128], place: usize) -> u128
         ensures { (i : ℕ) → bit result i ≡ some_of (λ q. at (column words.now i) q) (places_at self.now.behinds.now place) }
     {
         match self.behinds.get(place) {
@@ -100,12 +100,12 @@ impl Flow<'_> {
     }
 
     // What the flow back over the line at a place makes of its word.
-    fn flow_at(&self, assigned: &[u64], words: &[u64], place: usize) -> u64
+    fn flow_at(&self, assigned: &[u128], words: &[u128], place: usize) -> u128
         requires behinds { AreBehind (map shape_of self.now.statements.now) self.now.behinds.now }
         requires assigned { AreAssigned self.now.statements.now self.now.numbering.now self.now.group assigned.now }
         ensures bits { (x : List ℕ) (i : ℕ) → IsBit self.now.numbering.now self.now.group x i → bit result i ≡ flow (at (column words.now i) place) (some_of (λ q. at (column words.now i) q) (behind (map shape_of self.now.statements.now) place)) (assigns_at (slice_get self.now.statements.now place) x) }
         ensures grows { get_or words.now place 0 ≤ result }
-        ensures fits { result < 2 ^ 64 }
+        ensures fits { result < 2 ^ 128 }
     {
         let here = word_at(words, place);
         let behind = self.word_behind_at(words, place);
@@ -114,7 +114,7 @@ impl Flow<'_> {
     }
 
     // One pass of the backwards flow over the lines, and whether it has found another place.
-    fn sweep(&self, assigned: &[u64], words: &mut [u64]) -> bool
+    fn sweep(&self, assigned: &[u128], words: &mut [u128]) -> bool
         requires behinds { AreBehind (map shape_of self.now.statements.now) self.now.behinds.now }
         requires assigned { AreAssigned self.now.statements.now self.now.numbering.now self.now.group assigned.now }
         requires partly { ArePartly self.now.statements.now self.now.numbering.now self.now.group words.old }
@@ -135,7 +135,7 @@ impl Flow<'_> {
     }
 
     // For each place the names of the group that a path from there reads before a line assigns them.
-    fn live_words(&self, alloc: Global) -> Result<Vec<u64>, AllocError>
+    fn live_words(&self, alloc: Global) -> Result<Vec<u128>, AllocError>
         requires { AreBehind (map shape_of self.now.statements.now) self.now.behinds.now }
         ensures { IfOk result (λ v. AreLive self.now.statements.now self.now.numbering.now self.now.group v.items) }
     {
@@ -172,7 +172,7 @@ fn groups_of(
 
 // How many groups hold the names.
 fn group_count(numbering: &Numbering) -> usize
-    ensures { (n : ℕ) → n < length (names_of numbering.now) → n / 64 < result }
+    ensures { (n : ℕ) → n < length (names_of numbering.now) → n / 128 < result }
 {
     let whole = numbering.count() / GROUP;
     if numbering.count() % GROUP == 0 {

@@ -1,4 +1,4 @@
-// Sets of names by words: bit i of a word of a group stands for the name whose number is 64 times the group and i.
+// Sets of names by words: bit i of a word of a group stands for the name whose number is 128 times the group and i.
 ghost use Rattle.std.specs.Prelude.{◌≡◌, ◌<◌, ◌||◌};
 ghost use Rattle.cord_plan.specs.Marks.{bit, Marks};
 ghost use Rattle.cord_plan.specs.Operands.{has, cord_arguments, reads, assigns};
@@ -9,18 +9,18 @@ use crate::readings::{Reading, reading_of, target_of};
 use cord_script::{Argument, Name, Statement};
 
 /// How many names a word stands for.
-pub(crate) const GROUP: usize = 64;
+pub(crate) const GROUP: usize = 128;
 
 /// Whether a word has a bit.
-pub(crate) fn has_bit(word: u64, i: usize) -> bool
-    requires { i < 64 }
+pub(crate) fn has_bit(word: u128, i: usize) -> bool
+    requires { i < 128 }
     ensures { result ≡ bit word i }
 {
     (word >> i) & 1 == 1
 }
 
 // The word of a name alone.
-fn mark(numbering: &Numbering, group: usize, name: &Name) -> u64
+fn mark(numbering: &Numbering, group: usize, name: &Name) -> u128
     ensures { Marks numbering.now group (λ x. bytes_eq x name.now) result }
 {
     match numbering.number_of(name.as_slice()) {
@@ -30,7 +30,7 @@ fn mark(numbering: &Numbering, group: usize, name: &Name) -> u64
 }
 
 // The word of a list of names.
-fn mark_all(numbering: &Numbering, group: usize, names: &[Name]) -> u64
+fn mark_all(numbering: &Numbering, group: usize, names: &[Name]) -> u128
     ensures { Marks numbering.now group (λ x. has names.now x) result }
 {
     let mut word = 0;
@@ -41,7 +41,7 @@ fn mark_all(numbering: &Numbering, group: usize, names: &[Name]) -> u64
 }
 
 // The word of the cords among the arguments of a format.
-fn mark_arguments(numbering: &Numbering, group: usize, arguments: &[Argument]) -> u64
+fn mark_arguments(numbering: &Numbering, group: usize, arguments: &[Argument]) -> u128
     ensures { Marks numbering.now group (λ x. has (cord_arguments arguments.now) x) result }
 {
     let mut word = 0;
@@ -55,14 +55,14 @@ fn mark_arguments(numbering: &Numbering, group: usize, arguments: &[Argument]) -
 }
 
 // The word of two names.
-fn mark_two(numbering: &Numbering, group: usize, left: &Name, right: &Name) -> u64
+fn mark_two(numbering: &Numbering, group: usize, left: &Name, right: &Name) -> u128
     ensures { Marks numbering.now group (λ x. bytes_eq x left.now || bytes_eq x right.now) result }
 {
     mark(numbering, group, left) | mark(numbering, group, right)
 }
 
 /// The word of the names whose bytes a line reads.
-pub(crate) fn mark_read(numbering: &Numbering, group: usize, statement: &Statement) -> u64
+pub(crate) fn mark_read(numbering: &Numbering, group: usize, statement: &Statement) -> u128
     ensures { Marks numbering.now group (λ x. reads statement.now x) result }
 {
     match reading_of(statement) {
@@ -75,7 +75,7 @@ pub(crate) fn mark_read(numbering: &Numbering, group: usize, statement: &Stateme
 }
 
 /// The word of the name that a line assigns.
-pub(crate) fn mark_assigned(numbering: &Numbering, group: usize, statement: &Statement) -> u64
+pub(crate) fn mark_assigned(numbering: &Numbering, group: usize, statement: &Statement) -> u128
     ensures { Marks numbering.now group (λ x. assigns statement.now x) result }
 {
     match target_of(statement) {

@@ -4,7 +4,7 @@ ghost use Rattle.cord_plan.specs.Operands.{cord_arguments, is_name, read_by};
 ghost use Rattle.cord_plan.specs.Readings.{read_names};
 ghost use Rattle.cord_plan.specs.Numbering.{slot_of, place_of, number_of, names_of, Adds, Covers};
 
-use crate::readings::{Reading, reading_of, target_of};
+use crate::readings::{Reading, is_same, reading_of, target_of};
 use cord_script::{Argument, Name, Statement};
 use std::alloc::{AllocError, Global};
 
@@ -48,7 +48,7 @@ fn is_at(names: &[Name], place: usize, name: &[u8]) -> bool
     ensures { result ≡ is_name (slice_get names.now place) name.now }
 {
     match names.get(place) {
-        Some(known) => name == known.as_slice(),
+        Some(known) => is_same(name, known.as_slice()),
         None => false,
     }
 }

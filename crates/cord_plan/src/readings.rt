@@ -1,5 +1,6 @@
 // The names whose bytes a line reads, and the name that it assigns.
 ghost use Rattle.std.specs.Prelude.{◌≡◌, [], ◌∷◌, option_map};
+ghost use Rattle.std.specs.Str.{bytes_eq};
 ghost use Rattle.cord_plan.specs.Operands.{has, cord_arguments, read_by, target_of, reads, assigns};
 ghost use Rattle.cord_plan.specs.Readings.{read_names};
 
@@ -43,10 +44,25 @@ pub(crate) fn reading_of(statement: &Statement) -> Reading
     }
 }
 
+/// Whether two names have the same bytes: a loop of its own, since most names are of a few bytes.
+pub(crate) fn is_same(left: &[u8], right: &[u8]) -> bool
+    ensures { result ≡ bytes_eq left.now right.now }
+{
+    if left.len() != right.len() {
+        return false;
+    }
+    for i in 0..left.len() {
+        if left[i] != right[i] {
+            return false;
+        }
+    }
+    true
+}
+
 fn is(operand: &Name, name: &[u8]) -> bool
     ensures { result ≡ has (operand.now ∷ []) name.now }
 {
-    name == operand.as_slice()
+    is_same(name, operand.as_slice())
 }
 
 fn is_either(left: &Name, right: &Name, name: &[u8]) -> bool
@@ -135,6 +151,6 @@ pub(crate) fn assigns(statement: &Statement, name: &[u8]) -> bool
 {
     match target_of(statement) {
         None => false,
-        Some(target) => name == target.as_slice(),
+        Some(target) => is_same(name, target.as_slice()),
     }
 }

@@ -5,7 +5,7 @@ ghost use Rattle.cord_script.specs.declared.statements.Statement.{Statement};
 ghost use Rattle.cord_meaning.specs.Statements.{shape_of};
 ghost use Rattle.cord_plan.specs.Forced.{is_block};
 ghost use Rattle.cord_plan.specs.Operands.{assigns, cord_arguments, has, reads};
-ghost use Rattle.cord_plan.specs.Recent.{IsRecent, Notes, entry_of, is_before, is_behind, unless_behind};
+ghost use Rattle.cord_plan.specs.Recent.{IsRecent, Notes, entry_at, entry_of, is_before, is_behind, unless_behind};
 
 use crate::liveness::Later;
 use crate::numbering::Numbering;
@@ -23,7 +23,20 @@ pub(crate) struct Recent<'a> {
     pub(crate) block: Option<usize>,
 }
 
-/// What places, by the numbers of names, have for a name: nothing where its number isn't one of theirs.
+/// What places, by the numbers of names, have for a number: nothing where it isn't one of theirs.
+pub(crate) fn entry_at(places: &[Option<usize>], number: Option<usize>) -> Option<Option<usize>>
+    ensures { result ≡ entry_at places.now number }
+{
+    match number {
+        None => None,
+        Some(number) => match places.get(number) {
+            None => None,
+            Some(place) => Some(*place),
+        },
+    }
+}
+
+/// What they have for a name.
 pub(crate) fn entry_of(
     numbering: &Numbering,
     places: &[Option<usize>],
@@ -31,13 +44,7 @@ pub(crate) fn entry_of(
 ) -> Option<Option<usize>>
     ensures { result ≡ entry_of numbering.now places.now name.now }
 {
-    match numbering.number_of(name) {
-        None => None,
-        Some(number) => match places.get(number) {
-            None => None,
-            Some(place) => Some(*place),
-        },
-    }
+    entry_at(places, numbering.number_of(name))
 }
 
 // Whether a place, where there is one, stands behind another.

@@ -1,18 +1,20 @@
 // Which line gave a name its cord last, and whether the names of its expression stay what they were.
-ghost use Rattle.std.specs.Prelude.{◌≡◌, ◌≤◌, ◌++◌, [], ◌∷◌, length, map};
+ghost use Rattle.std.specs.Prelude.{◌≡◌, ◌≤◌, ◌++◌, [], ◌∷◌, Some, length, map};
 ghost use Rattle.cord_meaning.specs.Statements.{shape_of};
 ghost use Rattle.cord_plan.specs.Exprs.{names, names_of, number_names};
+ghost use Rattle.cord_plan.specs.Forced.{keeps};
 ghost use Rattle.cord_plan.specs.Choices.{nearest};
 ghost use Rattle.cord_plan.specs.Recent.{IsRecent, stay, bars};
 ghost use Rattle.cord_plan.specs.Views.{expr_view, members_of};
 
 use crate::Expr;
 use crate::choosing::Line;
-use crate::readings::{assigns, reads};
-use crate::recent::{entry_of, is_before, is_block, unless_behind};
+use crate::naming::lacks;
+use crate::readings::{assigns, reads, target_of};
+use crate::recent::{entry_at, entry_of, is_before, is_block, unless_behind};
 use cord_script::{Number, Statement};
 
-/// So many lines are looked at faster than a name's number.
+/// So many lines are looked at faster than the numbers of names.
 const NEAR: usize = 2;
 
 // Whether no pair goes over a line for a name.
@@ -46,10 +48,10 @@ pub(crate) fn nearest(line: &Line, name: &[u8]) -> Option<usize>
     ensures { result ≡ nearest line.now.statements.now name.now line.now.place }
 {
     let recent = line.recent;
-    let numbering = &recent.later.numbering;
+    let number = recent.later.numbering.number_of(name);
     match (
-        entry_of(numbering, &recent.assigned, name),
-        entry_of(numbering, &recent.read, name),
+        entry_at(&recent.assigned, number),
+        entry_at(&recent.read, number),
     ) {
         (Some(source), Some(reader)) => unless_behind(source, reader, recent.block),
         _ => nearest_by_lines(line.statements, line.place, name),
@@ -75,9 +77,6 @@ fn name_stays(line: &Line, from: usize, name: &[u8]) -> bool
     requires recent { IsRecent line.now.statements.now line.now.place line.now.recent.now }
     ensures { result ≡ stay line.now.statements.now from line.now.place (name.now ∷ []) }
 {
-    if line.place <= from.saturating_add(NEAR) {
-        return stays_by_lines(line.statements, from, line.place, name);
-    }
     let recent = line.recent;
     match entry_of(&recent.later.numbering, &recent.assigned, name) {
         Some(last) => is_before(last, from),
@@ -104,9 +103,9 @@ fn numbers_stay(line: &Line, from: usize, first: &Number, second: &Number) -> bo
     number_stays(line, from, first) && number_stays(line, from, second)
 }
 
-/// Whether no line from a place up to a line assigns a name of an expression.
-#[cycle(stays)]
-pub(crate) fn stays(line: &Line, from: usize, expression: &Expr) -> bool
+// Whether no line from a place up to a line assigns a name of an expression, by the numbers of its names.
+#[cycle(stays_far)]
+fn stays_far(line: &Line, from: usize, expression: &Expr) -> bool
     requires place { line.now.place ≤ length line.now.statements.now }
     requires recent { IsRecent line.now.statements.now line.now.place line.now.recent.now }
     ensures { result ≡ stay line.now.statements.now from line.now.place (names (expr_view expression.now)) }
@@ -114,26 +113,64 @@ pub(crate) fn stays(line: &Line, from: usize, expression: &Expr) -> bool
     match expression {
         Expr::Name(name) => name_stays(line, from, name.as_slice()),
         Expr::Run { byte, count } => numbers_stay(line, from, byte, count),
-        Expr::Cat(members) => all_stay(line, from, members.as_slice()),
+        Expr::Cat(members) => all_stay_far(line, from, members.as_slice()),
         Expr::Sub {
             expression,
             start,
             count,
-        } => { stays(line, from, expression.as_ref()) && numbers_stay(line, from, start, count) }
+        } => {
+            stays_far(line, from, expression.as_ref()) && numbers_stay(line, from, start, count)
+        }
     }
 }
 
 // The same of all these expressions.
-#[cycle(stays)]
-fn all_stay(line: &Line, from: usize, members: &[Expr]) -> bool
+#[cycle(stays_far)]
+fn all_stay_far(line: &Line, from: usize, members: &[Expr]) -> bool
     requires place { line.now.place ≤ length line.now.statements.now }
     requires recent { IsRecent line.now.statements.now line.now.place line.now.recent.now }
     ensures { result ≡ stay line.now.statements.now from line.now.place (names_of (members_of (map expr_view members.now))) }
 {
     for member in members {
-        if !stays(line, from, member) {
+        if !stays_far(line, from, member) {
             return false;
         }
     }
     true
+}
+
+// Whether a line assigns no name of an expression.
+fn keeps(statement: &Statement, expression: &Expr) -> bool
+    ensures { result ≡ keeps (Some statement.now) (names (expr_view expression.now)) }
+{
+    match target_of(statement) {
+        None => true,
+        Some(target) => lacks(expression, target.as_slice()),
+    }
+}
+
+// Whether no line from one place up to another assigns a name of an expression, line by line.
+fn stays_near(statements: &[Statement], from: usize, to: usize, expression: &Expr) -> bool
+    requires { to ≤ length statements.now }
+    ensures { result ≡ stay statements.now from to (names (expr_view expression.now)) }
+{
+    for p in from..to {
+        if !keeps(&statements[p], expression) {
+            return false;
+        }
+    }
+    true
+}
+
+/// Whether no line from a place up to a line assigns a name of an expression.
+pub(crate) fn stays(line: &Line, from: usize, expression: &Expr) -> bool
+    requires place { line.now.place ≤ length line.now.statements.now }
+    requires recent { IsRecent line.now.statements.now line.now.place line.now.recent.now }
+    ensures { result ≡ stay line.now.statements.now from line.now.place (names (expr_view expression.now)) }
+{
+    if line.place <= from.saturating_add(NEAR) {
+        stays_near(line.statements, from, line.place, expression)
+    } else {
+        stays_far(line, from, expression)
+    }
 }

@@ -5,16 +5,16 @@ use Rattle.std.proofs.lemmas.List.{at_drop_all}
 use Rattle.cord_plan.specs.Operands.{count}
 use Rattle.cord_plan.proofs.Nearest.{count_here}
 use Rattle.cord_plan.proofs.choosing.is_named_once.Goals as goal
-use Rattle.cord_plan.proofs.choosing.is_named_once.Goals.{then-eq, else-eq}
+use Rattle.cord_plan.proofs.choosing.is_named_once.Goals.{then-is_same, else-is_same}
 
 pub loop-operand-preserved : goal.loop-operand-preserved
 loop-operand-preserved c =
     let here = count_here c.args.operands.now c.loop-operand.operand-index c.operand-item.result c.args.name.now c.loop-operand-test.true c.operand-item.is in
-    elim c.if-eq.branch [
-      | then-eq w ↦
+    elim c.if-is_same.branch [
+      | then-is_same w ↦
           let same : bytes_eq c.args.name.now c.operand-item.result ≡ true = cc in
           record { few = omega arith; counted = let more = rw same at here in omega (arith, more) }
-      | else-eq w ↦
+      | else-is_same w ↦
           let other : bytes_eq c.args.name.now c.operand-item.result ≡ false = cc in
           record { few = omega arith; counted = let more = rw other at here in omega (arith, more) }
     ]

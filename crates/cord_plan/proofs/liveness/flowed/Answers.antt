@@ -1,5 +1,5 @@
 use Rattle.std.proofs.Common.{◌<◌, ◌≤◌, ◌^◌, arith}
-use Rattle.std.specs.Int.{bit_not, w64}
+use Rattle.std.specs.Int.{bit_not, w128}
 use Rattle.std.specs.Int.RustNames.{bit_and}
 use Rattle.std.proofs.lemmas.Nat.{le_or_l, or_lt, and_le_l}
 use Rattle.cord_plan.proofs.Words.{flow_bits}
@@ -7,15 +7,15 @@ use Rattle.cord_plan.proofs.liveness.flowed.Goals as goal
 
 pub returns-clause-bits : goal.returns-clause-bits
 returns-clause-bits c =
-    let fits : c.args.assigned < 2 ^ 64 = c.ranges.assigned.fits in
+    let fits : c.args.assigned < 2 ^ 128 = c.ranges.assigned.fits in
     λ i within. flow_bits c.args.word c.args.behind c.args.assigned i fits within
 
 pub returns-clause-grows : goal.returns-clause-grows
-returns-clause-grows c = le_or_l c.args.word (bit_and c.args.behind (bit_not w64 c.args.assigned))
+returns-clause-grows c = le_or_l c.args.word (bit_and c.args.behind (bit_not w128 c.args.assigned))
 
 pub returns-clause-fits : goal.returns-clause-fits
 returns-clause-fits c =
-    let word : c.args.word < 2 ^ 64 = c.ranges.word.fits in
-    let behind : c.args.behind < 2 ^ 64 = c.ranges.behind.fits in
-    let within : bit_and c.args.behind (bit_not w64 c.args.assigned) ≤ c.args.behind = and_le_l c.args.behind (bit_not w64 c.args.assigned) in
-    or_lt 64 c.args.word (bit_and c.args.behind (bit_not w64 c.args.assigned)) word (omega arith)
+    let word : c.args.word < 2 ^ 128 = c.ranges.word.fits in
+    let behind : c.args.behind < 2 ^ 128 = c.ranges.behind.fits in
+    let within : bit_and c.args.behind (bit_not w128 c.args.assigned) ≤ c.args.behind = and_le_l c.args.behind (bit_not w128 c.args.assigned) in
+    or_lt 128 c.args.word (bit_and c.args.behind (bit_not w128 c.args.assigned)) word (omega arith)

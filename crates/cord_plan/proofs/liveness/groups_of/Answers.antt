@@ -12,4 +12,4 @@ loop-group-preserved c =
     }
 
 pub returns : goal.returns
-returns c = λ n lt. c.loop-group.invariant.live (n / 64) (let within = c.group_count-group-end.ensures n lt in omega arith)
+returns c = λ n lt. c.loop-group.invariant.live (n / 128) (let within = c.group_count-group-end.ensures n lt in omega arith)

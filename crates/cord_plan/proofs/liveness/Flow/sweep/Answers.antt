@@ -20,7 +20,7 @@ loop-p-preserved-then-word-here c =
     let value : c.word_at-here.result ≡ get_or c.loop-p.words (c.loop-p.p - 1) 0 = c.word_at-here.ensures.value in
     let grows : get_or c.loop-p.words (c.loop-p.p - 1) 0 ≤ c.flow_at-word.result = c.flow_at-word.ensures.grows in
     let less : get_or c.loop-p.words (c.loop-p.p - 1) 0 < c.flow_at-word.result = let differ = c.if-word-here.true in omega arith in
-    let fits : c.flow_at-word.result < 2 ^ 64 = c.flow_at-word.ensures.fits in
+    let fits : c.flow_at-word.result < 2 ^ 128 = c.flow_at-word.ensures.fits in
     let fewer : room (set c.loop-p.words (c.loop-p.p - 1) c.flow_at-word.result) < room c.loop-p.words = room_less c.loop-p.words (c.loop-p.p - 1) c.flow_at-word.result within less fits in
     let few : room c.loop-p.words ≤ room c.args.words.now = c.loop-p.invariant.few in
     record {

@@ -1,0 +1,40 @@
+-- Whether a name stands nowhere in a list of names, and what a line that assigns it keeps.
+use Rattle.std.proofs.Common.{◌≡◌, ℕ, ◌+◌, ◌<◌, Bool, true, false, ◌&&◌, List, [], ◌∷◌, ◌++◌, map, drop, length, get_or, Option, Some, None, refl, sym, ap, ◌∙◌}
+use Rattle.std.specs.Prelude.{not}
+use Rattle.std.specs.Str.{bytes_eq}
+use Rattle.std.proofs.lemmas.List.{at_drop_more}
+use Rattle.cord_script.specs.declared.statements.Statement.{Statement}
+use Rattle.cord_plan.specs.declared.expressions.Expr as code
+use Rattle.cord_plan.specs.Exprs.{names, names_of}
+use Rattle.cord_plan.specs.Views.{expr_view, members_of}
+use Rattle.cord_plan.specs.Operands.{is_name, target_of}
+use Rattle.cord_plan.specs.Forced.{keeps}
+use Rattle.cord_plan.specs.Recent.{lacks}
+
+module _ (x : List ℕ) where
+  pub lacks_append : (ys zs : List (List ℕ)) → lacks (ys ++ zs) x ≡ (lacks ys x && lacks zs x)
+  lacks_append [] zs = refl
+  lacks_append (y ∷ ys) zs = pick (not (bytes_eq y x)) (lacks_append ys zs)
+    where
+      pick : (v : Bool) → lacks (ys ++ zs) x ≡ (lacks ys x && lacks zs x) → (v && lacks (ys ++ zs) x) ≡ ((v && lacks ys x) && lacks zs x)
+      pick true more = more
+      pick false more = refl
+
+  -- what the names of members lack, by the first
+  pub lacks_member : (ms : List code.Expr) (k : ℕ) (m : code.Expr) → k < length ms → m ≡ get_or ms k m →
+      lacks (names_of (members_of (map expr_view (drop k ms)))) x ≡ (lacks (names (expr_view m)) x && lacks (names_of (members_of (map expr_view (drop (k + 1) ms)))) x)
+  lacks_member ms k m lt is =
+      at_drop_more (λ (es : List code.Expr). lacks (names_of (members_of (map expr_view es))) x) ms k m lt
+      ∙ (ap (λ (e : code.Expr). lacks (names_of (members_of (map expr_view (e ∷ drop (k + 1) ms)))) x) (sym is)
+      ∙ lacks_append (names (expr_view m)) (names_of (members_of (map expr_view (drop (k + 1) ms)))))
+
+module _ (l : Statement) where
+  pub keeps_all : target_of l ≡ None → (xs : List (List ℕ)) → keeps (Some l) xs ≡ true
+  keeps_all none [] = refl
+  keeps_all none (x ∷ xs) = ap (λ (o : Option (List ℕ)). not (is_name o x) && keeps (Some l) xs) none ∙ keeps_all none xs
+
+  pub keeps_lacking : (t : List ℕ) → target_of l ≡ Some t → (xs : List (List ℕ)) → keeps (Some l) xs ≡ lacks xs t
+  keeps_lacking t some [] = refl
+  keeps_lacking t some (x ∷ xs) =
+      ap (λ (o : Option (List ℕ)). not (is_name o x) && keeps (Some l) xs) some
+      ∙ ap (λ (v : Bool). not (bytes_eq x t) && v) (keeps_lacking t some xs)

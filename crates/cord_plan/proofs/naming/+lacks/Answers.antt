@@ -1,0 +1,57 @@
+use Rattle.std.proofs.Common.{◌≡◌, ◌<◌, ◌+◌, Bool, true, false, ◌&&◌, List, ◌++◌, map, drop, sym, ap, ◌∙◌, rules}
+use Rattle.std.proofs.lemmas.List.{at_drop_all}
+use Rattle.cord_plan.specs.Exprs as plain
+use Rattle.cord_plan.specs.declared.expressions.Expr.{Expr}
+use Rattle.cord_plan.specs.Exprs.{names, names_of, number_names}
+use Rattle.cord_plan.specs.Recent.{lacks}
+use Rattle.cord_plan.specs.Views.{expr_view, members_of}
+use Rattle.cord_plan.proofs.ExprViews.{view-Sub}
+use Rattle.cord_plan.proofs.MemberTexts.{weight, weights, member_there}
+use Rattle.cord_plan.proofs.Lacking.{lacks_append, lacks_member}
+use Rattle.cord_plan.proofs.naming.+lacks.Goals as goal
+
+pub all_lack-lacks-requires : goal.all_lack-lacks-requires
+all_lack-lacks-requires t c =
+    let below : weight (expr_view c.member-item.result) < weights (members_of (map expr_view c.args.members.now)) = member_there c.args.members.now c.loop-member.member-index c.member-item.result c.loop-member-test.true c.member-item.is in
+    search (rules, below)
+
+pub all_lack-returns-then-not-lacks : goal.all_lack-returns-then-not-lacks
+all_lack-returns-then-not-lacks t c =
+    let x = c.args.name.now in
+    let here : lacks (names (expr_view c.member-item.result)) x ≡ false = cc in
+    sym (c.loop-member.invariant ∙ (lacks_member x c.args.members.now c.loop-member.member-index c.member-item.result c.loop-member-test.true c.member-item.is
+    ∙ ap (λ (v : Bool). v && lacks (names_of (members_of (map expr_view (drop (c.loop-member.member-index + 1) c.args.members.now)))) x) here))
+
+pub all_lack-loop-member-preserved : goal.all_lack-loop-member-preserved
+all_lack-loop-member-preserved t c =
+    let x = c.args.name.now in
+    let here : lacks (names (expr_view c.member-item.result)) x ≡ true = cc in
+    c.loop-member.invariant ∙ (lacks_member x c.args.members.now c.loop-member.member-index c.member-item.result c.loop-member-test.true c.member-item.is
+    ∙ ap (λ (v : Bool). v && lacks (names_of (members_of (map expr_view (drop (c.loop-member.member-index + 1) c.args.members.now)))) x) here)
+
+pub lacks-returns-then-lacks : goal.lacks-returns-then-lacks
+lacks-returns-then-lacks t c =
+    let x = c.args.name.now in
+    let view : expr_view c.args.expression.now ≡ plain.sub (expr_view c.in-Sub.expression.value) c.in-Sub.start c.in-Sub.count = ap expr_view c.in-Sub.is ∙ view-Sub c.in-Sub.expression c.in-Sub.start c.in-Sub.count in
+    let inner : lacks (names (expr_view c.in-Sub.expression.value)) x ≡ true = ap (λ (e : Expr). lacks (names (expr_view e)) x) (sym c.as_ref.ensures) ∙ (sym c.lacks.ensures ∙ c.if-lacks.true) in
+    let whole : lacks (names (expr_view c.args.expression.now)) x ≡ lacks (number_names c.in-Sub.start ++ number_names c.in-Sub.count) x =
+    ap (λ (e : plain.Expr). lacks (names e) x) view
+    ∙ (lacks_append x (names (expr_view c.in-Sub.expression.value)) (number_names c.in-Sub.start ++ number_names c.in-Sub.count)
+    ∙ ap (λ (v : Bool). v && lacks (number_names c.in-Sub.start ++ number_names c.in-Sub.count) x) inner) in
+    c.numbers_lack-then-lacks.ensures ∙ sym whole
+
+pub lacks-returns-else-lacks : goal.lacks-returns-else-lacks
+lacks-returns-else-lacks t c =
+    let x = c.args.name.now in
+    let view : expr_view c.args.expression.now ≡ plain.sub (expr_view c.in-Sub.expression.value) c.in-Sub.start c.in-Sub.count = ap expr_view c.in-Sub.is ∙ view-Sub c.in-Sub.expression c.in-Sub.start c.in-Sub.count in
+    let inner : lacks (names (expr_view c.in-Sub.expression.value)) x ≡ false = ap (λ (e : Expr). lacks (names (expr_view e)) x) (sym c.as_ref.ensures) ∙ (sym c.lacks.ensures ∙ c.if-lacks.false) in
+    let whole : lacks (names (expr_view c.args.expression.now)) x ≡ false =
+    ap (λ (e : plain.Expr). lacks (names e) x) view
+    ∙ (lacks_append x (names (expr_view c.in-Sub.expression.value)) (number_names c.in-Sub.start ++ number_names c.in-Sub.count)
+    ∙ ap (λ (v : Bool). v && lacks (number_names c.in-Sub.start ++ number_names c.in-Sub.count) x) inner) in
+    cc
+
+pub all_lack-returns : goal.all_lack-returns
+all_lack-returns t c =
+    sym (c.loop-member.invariant
+    ∙ at_drop_all (λ (es : List Expr). lacks (names_of (members_of (map expr_view es))) c.args.name.now) c.args.members.now c.loop-member.member-index c.loop-member-test.false)

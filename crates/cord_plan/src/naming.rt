@@ -1,0 +1,60 @@
+// Whether a name stands in an expression.
+ghost use Rattle.std.specs.Prelude.{◌≡◌, ◌++◌, [], ◌∷◌, map};
+ghost use Rattle.cord_plan.specs.Exprs.{names, names_of, number_names};
+ghost use Rattle.cord_plan.specs.Recent.{lacks};
+ghost use Rattle.cord_plan.specs.Views.{expr_view, members_of};
+
+use crate::Expr;
+use crate::readings::is_same;
+use cord_script::Number;
+
+fn differs(known: &[u8], name: &[u8]) -> bool
+    ensures { result ≡ lacks (known.now ∷ []) name.now }
+{
+    !is_same(known, name)
+}
+
+fn number_lacks(number: &Number, name: &[u8]) -> bool
+    ensures { result ≡ lacks (number_names number.now) name.now }
+{
+    match number {
+        Number::Numeral(_) => true,
+        Number::Named(known) => differs(known.as_slice(), name),
+    }
+}
+
+fn numbers_lack(first: &Number, second: &Number, name: &[u8]) -> bool
+    ensures { result ≡ lacks (number_names first.now ++ number_names second.now) name.now }
+{
+    number_lacks(first, name) && number_lacks(second, name)
+}
+
+/// Whether a name stands nowhere in an expression.
+#[cycle(lacks)]
+pub(crate) fn lacks(expression: &Expr, name: &[u8]) -> bool
+    ensures { result ≡ lacks (names (expr_view expression.now)) name.now }
+{
+    match expression {
+        Expr::Name(known) => differs(known.as_slice(), name),
+        Expr::Run { byte, count } => numbers_lack(byte, count, name),
+        Expr::Cat(members) => all_lack(members.as_slice(), name),
+        Expr::Sub {
+            expression,
+            start,
+            count,
+        } => { lacks(expression.as_ref(), name) && numbers_lack(start, count, name) }
+    }
+}
+
+// The same of all these expressions.
+#[cycle(lacks)]
+fn all_lack(members: &[Expr], name: &[u8]) -> bool
+    ensures { result ≡ lacks (names_of (members_of (map expr_view members.now))) name.now }
+{
+    for member in members {
+        if !lacks(member, name) {
+            return false;
+        }
+    }
+    true
+}
