@@ -9,12 +9,12 @@ ghost use Rattle.cord_plan.specs.Recent.{IsRecent};
 ghost use Rattle.cord_plan.specs.Views.{expr_view};
 
 use crate::parts::room_behind;
-use crate::readings::{assigns, is_same};
+use crate::readings::assigns;
 use crate::recent::Recent;
 use crate::staying::{nearest, stays};
 use crate::{Expr, MAX_EXPR_PARTS};
 use cord_io::CordError;
-use cord_script::{Name, Names, Statement};
+use cord_script::{Name, Names, Statement, is_same};
 use std::alloc::{AllocError, Global};
 
 /// What stands for an operand: its name, or the expression of the line at a place.

@@ -5,8 +5,7 @@ ghost use Rattle.cord_plan.specs.Recent.{lacks};
 ghost use Rattle.cord_plan.specs.Views.{expr_view, members_of};
 
 use crate::Expr;
-use crate::readings::is_same;
-use cord_script::Number;
+use cord_script::{Number, is_same};
 
 fn differs(known: &[u8], name: &[u8]) -> bool
     ensures { result ≡ lacks (known.now ∷ []) name.now }

@@ -4,8 +4,8 @@ ghost use Rattle.cord_plan.specs.Operands.{cord_arguments, is_name, read_by};
 ghost use Rattle.cord_plan.specs.Readings.{read_names};
 ghost use Rattle.cord_plan.specs.Numbering.{slot_of, place_of, number_of, names_of, Adds, Covers};
 
-use crate::readings::{Reading, is_same, reading_of, target_of};
-use cord_script::{Argument, Name, Statement};
+use crate::readings::{Reading, reading_of, target_of};
+use cord_script::{Argument, Name, Statement, is_same};
 use std::alloc::{AllocError, Global};
 
 /// The number of slots that guess a name's number.

@@ -1,10 +1,9 @@
 // The names whose bytes a line reads, and the name that it assigns.
 ghost use Rattle.std.specs.Prelude.{◌≡◌, [], ◌∷◌, option_map};
-ghost use Rattle.std.specs.Str.{bytes_eq};
 ghost use Rattle.cord_plan.specs.Operands.{has, cord_arguments, read_by, target_of, reads, assigns};
 ghost use Rattle.cord_plan.specs.Readings.{read_names};
 
-use cord_script::{Argument, Name, Statement};
+use cord_script::{Argument, Name, Statement, is_same};
 
 /// The cords whose bytes a line reads, from left to right.
 #[derive(Clone, Copy)]
@@ -42,21 +41,6 @@ pub(crate) fn reading_of(statement: &Statement) -> Reading
         Statement::Put { operand, .. } => Reading::One(operand),
         _ => Reading::Nothing,
     }
-}
-
-/// Whether two names have the same bytes: a loop of its own, since most names are of a few bytes.
-pub(crate) fn is_same(left: &[u8], right: &[u8]) -> bool
-    ensures { result ≡ bytes_eq left.now right.now }
-{
-    if left.len() != right.len() {
-        return false;
-    }
-    for i in 0..left.len() {
-        if left[i] != right[i] {
-            return false;
-        }
-    }
-    true
 }
 
 fn is(operand: &Name, name: &[u8]) -> bool
