@@ -8,7 +8,7 @@ ghost use Rattle.cord_core.specs.Texts.{first, last};
 
 use crate::PIECE_LEN;
 use crate::pieces::{first_piece, last_piece};
-use crate::stretches::{stretch_at, stretch_before};
+use crate::stretches::{block_at, stretch_before};
 use cord_core::{Cord, Node};
 use cord_io::{CordError, ReadFault, Source};
 use cord_pos::Position;
@@ -91,7 +91,7 @@ fn first_byte<S: Source>(
     let len = node.len();
     let mut place = from;
     while place < len {
-        let stretch = stretch_at(node, place);
+        let stretch = block_at(node, place);
         if let Some(count) = stretch.run_without(byte) {
             place += count;
             continue;

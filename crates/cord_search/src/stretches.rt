@@ -4,6 +4,7 @@ ghost use Rattle.cord_core.specs.Cord.{text_len};
 ghost use Rattle.cord_node.specs.Tree.{len_of, IsSound};
 ghost use Rattle.cord_search.specs.Stretches.{stretch_len, is_other_run, IsStretchOf, IsStretchAt, IsWithout, IsMisfit, BeginAlike, IsFrontOf};
 
+use crate::PIECE_LEN;
 use cord_core::{Cord, Node};
 use cord_io::SourceId;
 
@@ -148,6 +149,22 @@ pub(crate) fn stretch_at(top: &Node, mut place: u64) -> Stretch
             len: *len - place,
         },
         Node::Cat { .. } => unreachable!(),
+    }
+}
+
+/// The same, but of a range of an entry no more than the block of `PIECE_LEN` bytes has in which it begins.
+pub(crate) fn block_at(top: &Node, place: u64) -> Stretch
+    requires sound { IsSound top.now }
+    requires inside { place < len_of top.now }
+    ensures { IsStretchAt top.now place result }
+{
+    let stretch = stretch_at(top, place);
+    match stretch {
+        Stretch::Func { start, len, .. } => {
+            let size = PIECE_LEN as u64;
+            stretch.up_to(len.min(size - start % size))
+        }
+        _ => stretch,
     }
 }
 

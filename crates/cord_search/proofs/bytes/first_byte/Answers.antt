@@ -6,18 +6,18 @@ use Rattle.cord_search.proofs.Finding.{node_len, first_on, first_past, first_fou
 use Rattle.cord_search.proofs.bytes.first_byte.Goals as goal
 
 pub first_piece-requires-clause-fits : goal.first_piece-requires-clause-fits
-first_piece-requires-clause-fits g c = rw c.loop-place.invariant.lengths (c.stretch_at-stretch.ensures.fits (g.S.Source.lengths c.args.src.now) c.requires.fits)
+first_piece-requires-clause-fits g c = rw c.loop-place.invariant.lengths (c.block_at-stretch.ensures.fits (g.S.Source.lengths c.args.src.now) c.requires.fits)
 
 pub loop-place-preserved-in-Some : goal.loop-place-preserved-in-Some
 loop-place-preserved-in-Some g c =
-    let stretch = c.stretch_at-stretch.result in
+    let stretch = c.block_at-stretch.result in
     let whole : c.in-Some.count ≡ stretch_len stretch = c.in-Some.ensures.len in
     record {
       low = omega (arith, c.loop-place.invariant.low);
-      high = omega (arith, whole, c.stretch_at-stretch.ensures.inside, c.len-len.ensures.stored);
+      high = omega (arith, whole, c.block_at-stretch.ensures.inside, c.len-len.ensures.stored);
       none = λ folder kept.
           let told = g.met.S.Source.lengths_of_table c.args.src.now folder (c.loop-place.invariant.earlier folder kept) in
-          let none = first_past (g.S.Source.lengths c.args.src.now) (g.S.Source.table c.args.src.now folder) c.args.node.now stretch c.args.byte c.args.from c.loop-place.place told c.requires.fits c.requires.sound c.stretch_at-stretch.ensures c.in-Some.ensures.without (c.loop-place.invariant.none folder kept) in
+          let none = first_past (g.S.Source.lengths c.args.src.now) (g.S.Source.table c.args.src.now folder) c.args.node.now stretch c.args.byte c.args.from c.loop-place.place told c.requires.fits c.requires.sound c.block_at-stretch.ensures c.in-Some.ensures.without (c.loop-place.invariant.none folder kept) in
           rw whole none;
       reads = c.loop-place.invariant.reads;
       lengths = c.loop-place.invariant.lengths;
@@ -33,13 +33,13 @@ returns-in-Some-memchr-clause-first g c = λ folder kept.
     let piece = c.in_ok-piece.piece.now in
     let before = c.in_ok-piece.ensures.earlier folder kept in
     let told = g.met.S.Source.lengths_of_table c.args.src.now folder (c.loop-place.invariant.earlier folder before) in
-    let text : IsPieceAt t node place piece = piece_within (g.S.Source.lengths c.args.src.now) t (Some node) place c.stretch_at-stretch.result 0 place piece told c.requires.fits c.stretch_at-stretch.ensures (omega (arith, c.in_ok-piece.ensures.inside)) (omega arith) (rw c.loop-place.invariant.table at c.in_ok-piece.ensures.text folder kept) in
+    let text : IsPieceAt t node place piece = piece_within (g.S.Source.lengths c.args.src.now) t (Some node) place c.block_at-stretch.result 0 place piece told c.requires.fits c.block_at-stretch.ensures (omega (arith, c.in_ok-piece.ensures.inside)) (omega arith) (rw c.loop-place.invariant.table at c.in_ok-piece.ensures.text folder kept) in
     first_found t node piece c.args.byte c.args.from place c.in-Some-memchr.found _ c.in-Some-memchr.is c.memchr.ensures c.loop-place.invariant.low text (c.loop-place.invariant.none folder before)
 
 pub loop-place-preserved : goal.loop-place-preserved
 loop-place-preserved g c = record {
   low = omega (arith, c.loop-place.invariant.low);
-  high = omega (arith, c.in_ok-piece.ensures.inside, c.stretch_at-stretch.ensures.inside, c.len-len.ensures.stored);
+  high = omega (arith, c.in_ok-piece.ensures.inside, c.block_at-stretch.ensures.inside, c.len-len.ensures.stored);
   none = λ folder kept.
       let t = g.S.Source.table c.args.src.now folder in
       let node = c.args.node.now in
@@ -47,7 +47,7 @@ loop-place-preserved g c = record {
       let piece = c.in_ok-piece.piece.now in
       let before = c.in_ok-piece.ensures.earlier folder kept in
       let told = g.met.S.Source.lengths_of_table c.args.src.now folder (c.loop-place.invariant.earlier folder before) in
-      let text : IsPieceAt t node place piece = piece_within (g.S.Source.lengths c.args.src.now) t (Some node) place c.stretch_at-stretch.result 0 place piece told c.requires.fits c.stretch_at-stretch.ensures (omega (arith, c.in_ok-piece.ensures.inside)) (omega arith) (rw c.loop-place.invariant.table at c.in_ok-piece.ensures.text folder kept) in
+      let text : IsPieceAt t node place piece = piece_within (g.S.Source.lengths c.args.src.now) t (Some node) place c.block_at-stretch.result 0 place piece told c.requires.fits c.block_at-stretch.ensures (omega (arith, c.in_ok-piece.ensures.inside)) (omega arith) (rw c.loop-place.invariant.table at c.in_ok-piece.ensures.text folder kept) in
       first_on t node piece c.args.byte c.args.from place _ c.in-None.is c.memchr.ensures text (c.loop-place.invariant.none folder before);
   reads = c.in_ok-piece.ensures.count ∙ c.loop-place.invariant.reads;
   lengths = c.first_piece.ensures.lengths ∙ c.loop-place.invariant.lengths;
