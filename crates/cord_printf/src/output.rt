@@ -1,5 +1,5 @@
 // What pieces show, added to a text that grows. Each addition fits, so it is refused for want of memory alone.
-ghost use Rattle.std.specs.Prelude.{◌≡◌, ◌+◌, ◌≤◌, [], ◌++◌, IfOk, IfSome, IsOkUnless, length, option_to_list, map, replicate, take};
+ghost use Rattle.std.specs.Prelude.{◌≡◌, ◌+◌, ◌≤◌, [], ◌++◌, IfOk, IsOkUnless, length, option_to_list, map, replicate, take};
 ghost use Rattle.cord_node.specs.Tree.{known};
 ghost use Rattle.cord_core.specs.Cord.{text as text_of, IsCord};
 ghost use Rattle.cord_ec.specs.Grown.{IsCordOf};
@@ -11,14 +11,13 @@ use arrayvec::ArrayVec;
 use cord_core::Cord;
 use cord_ec::ExtCord;
 use cord_io::MAX_LEN;
-use cord_node::Node;
 use std::alloc::Global;
 use std::marker::Model;
 
 // So many bytes are gathered, at most, before they go into the extensible cord together.
 const MOST_GATHERED: usize = 256;
 
-// A longer run than this is one node, and of a longer leaf the bytes are shared.
+// A longer run than this is one node.
 const SHORT_RUN: usize = 64;
 
 /// A text that grows at its end: an extensible cord, and the bytes behind it that are gathered without memory.
@@ -155,16 +154,12 @@ impl Output {
         }
     }
 
-    // The first bytes of a cord, which shares its tree where they are more than a few.
+    // The first bytes of a cord, which shares its tree.
     fn add_start(&mut self, alloc: Global, cord: &Cord, len: u64) -> Result<(), PrintError>
         requires fits { length self.old + length (take len (text_of cord.now)) ≤ MAX_LEN }
         ensures text { IfOk result (λ _. self.new ≡ self.old ++ take len (text_of cord.now)) }
         ensures refused { IsOkUnless result PrintError.NoMemory }
     {
-        if let Some(bytes) = short_start(cord, len) {
-            self.add_bytes(alloc, bytes)?;
-            return Ok(());
-        }
         if cord.len() <= len {
             self.add_cord(alloc, cord)?;
             return Ok(());
@@ -223,26 +218,5 @@ fn put_in(
             gathered.clear();
             Ok(())
         }
-    }
-}
-
-// The first bytes of a cord, where they are few and it is one leaf.
-fn short_start(cord: &Cord, len: u64) -> Option<&[u8]>
-    ensures { IfSome result (λ bytes. map known bytes.now ≡ take len (text_of cord.now)) }
-{
-    match cord.root()?.as_ref() {
-        Node::Leaf {
-            bytes,
-            start,
-            len: held,
-            ..
-        } => {
-            let count = len.min(*held);
-            if count > SHORT_RUN as u64 {
-                return None;
-            }
-            Some(&bytes.as_slice()[*start as usize..(*start + count) as usize])
-        }
-        _ => None,
     }
 }
