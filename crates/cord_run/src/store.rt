@@ -50,8 +50,8 @@ fn slot_of(name: &[u8]) -> usize {
     slot
 }
 
-// Whether two names are one: a loop of its own, since most of them are of a byte or two.
-fn is_same(left: &[u8], right: &[u8]) -> bool
+/// Whether two names are one: a loop of its own, since most of them are of a byte or two.
+pub(crate) fn is_same(left: &[u8], right: &[u8]) -> bool
     ensures { result ≡ bytes_eq left.now right.now }
 {
     if left.len() != right.len() {
