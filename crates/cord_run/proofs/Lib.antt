@@ -27,4 +27,5 @@ pub mod Finding
 pub mod Kept
 pub mod Sourced
 pub mod Extending
+pub mod Appended
 pub mod Wrote

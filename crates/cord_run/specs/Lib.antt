@@ -13,3 +13,4 @@ pub mod Contents
 pub mod Finding
 pub mod Keeping
 pub mod Extending
+pub mod Appends

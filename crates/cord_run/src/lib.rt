@@ -1,6 +1,7 @@
 //! Runs scripts on cords.
 #![tactic(auto)]
 
+mod appending;
 mod checks;
 mod control;
 mod extensibles;

@@ -1,5 +1,4 @@
-use Rattle.std.proofs.Common.{rules, sym, ap, subst}
-use Rattle.std.specs.Prelude.{IfErr}
+use Rattle.std.proofs.Common.{rules}
 use Rattle.cord_io.specs.Device.{Folder}
 use Rattle.cord_file.specs.Files.{as_long_as_told}
 use Rattle.cord_file.specs.Sources.{device_in, opened_in}
