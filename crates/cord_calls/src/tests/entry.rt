@@ -1,11 +1,7 @@
-// A source of one entry, which reads so often and so far, and cords of leaves, which need none.
-ghost use Rattle.std.specs.Prelude.{◌≡◌, IfOk, length};
-ghost use Rattle.cord_io.specs.Table.{Lengths};
-ghost use Rattle.cord_core.specs.Cord.{text_len, CordFitsIn};
+// A source of one entry, which reads so often and so far.
+ghost use Rattle.std.specs.Prelude.{◌≡◌};
 
-use cord_core::Cord;
-use cord_io::{CordError, ReadFault, Source, SourceId};
-use std::alloc::Global;
+use cord_io::{ReadFault, Source, SourceId};
 
 // A source whose entry 2 is these bytes: it reads so often, and then every read fails, as does one that goes past `cut`.
 #[derive(Drop)]
@@ -72,13 +68,4 @@ impl<'a> Entry<'a> {
     pub(super) fn nothing() -> Entry<'static> {
         Entry::new(b"", 0)
     }
-}
-
-// A cord of these bytes, which needs no source.
-pub(super) fn leaf(alloc: Global, bytes: &[u8]) -> Result<Cord, CordError>
-    ensures fits { IfOk result (λ c. (lengths : Lengths) → CordFitsIn lengths c) }
-    ensures len { IfOk result (λ c. text_len c ≡ length bytes.now) }
-{
-    let cord = Cord::from_bytes(alloc, bytes)?;
-    Ok(cord)
 }

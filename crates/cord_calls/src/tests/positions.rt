@@ -3,7 +3,8 @@ ghost use Rattle.std.specs.Prelude.{◌≡◌, ◌<◌, IfOk};
 ghost use Rattle.cord_io.specs.Table.{Lengths, length_at};
 ghost use Rattle.cord_core.specs.Cord.{CordFitsIn};
 
-use super::entry::{Entry, leaf};
+use super::entry::Entry;
+use crate::leaf;
 use cord_core::Cord;
 use cord_io::{CordError, Source, SourceId};
 use cord_pos::Position;
