@@ -4,7 +4,6 @@ ghost use Rattle.cord_io.specs.Table.{Lengths, length_at};
 ghost use Rattle.cord_core.specs.Cord.{CordFitsIn};
 
 use super::entry::Entry;
-use crate::leaf;
 use cord_core::Cord;
 use cord_io::{CordError, MAX_LEN, Source, SourceId};
 use cord_search::{chr, cmp, fetch, ncmp, rchr, str};
@@ -26,6 +25,14 @@ fn cut_at(cut: u64) -> Entry<'static>
         cut,
         ..six_hundred(u64::MAX)
     }
+}
+
+// A cord of these bytes, which needs no source. One clause alone, so that what the calls ask is found in it at once.
+fn leaf(alloc: Global, bytes: &[u8]) -> Result<Cord, CordError>
+    ensures { IfOk result (λ c. (lengths : Lengths) → CordFitsIn lengths c) }
+{
+    let cord = Cord::from_bytes(alloc, bytes)?;
+    Ok(cord)
 }
 
 // The text "ababc" of three parts.
