@@ -4,7 +4,7 @@ ghost use Rattle.std.specs.String.{string_bytes};
 ghost use Rattle.std.specs.IoError.{error_kind};
 ghost use Rattle.cord_io.specs.Device.{Folder, file_at, bytes_at, count_after, open_failed, HandsOut};
 
-use crate::faults::raise;
+use crate::failures::Failures;
 use crate::opened::OpenedFile;
 use crate::trace::{Answer, Trace};
 use crate::{FileNo, Files, OpenFault, ReadFault};
@@ -24,7 +24,7 @@ pub struct DiskFiles<R: rt::Files> {
     alloc: Global,
     opened: Vec<OpenedFile<R::File>>,
     trace: Trace,
-    failures: u64,
+    failures: Failures,
 }
 
 // Why a file wasn't opened: only the machine's "no such file" is `NotFound`.
@@ -59,7 +59,7 @@ impl<R: rt::Files> DiskFiles<R> {
             alloc,
             opened: Vec::new(alloc),
             trace: Trace::new(),
-            failures: 0,
+            failures: Failures::none(),
         }
     }
 
@@ -105,7 +105,7 @@ impl<R: rt::Files> Files for DiskFiles<R> {
     ghost failures = { λ s. s.failures };
 
     fn failures(&self) -> u64 {
-        self.failures
+        self.failures.count()
     }
 
     fn open(&mut self, path: &str) -> Result<(FileNo, u64), OpenFault>
@@ -143,7 +143,7 @@ impl<R: rt::Files> Files for DiskFiles<R> {
                 }
             }
         }
-        raise(&mut self.failures);
+        self.failures.raise();
         Err(OpenFault::Failed)
     }
 
@@ -178,7 +178,7 @@ impl<R: rt::Files> Files for DiskFiles<R> {
                 Ok(count)
             }
             Err(_) => {
-                raise(&mut self.failures);
+                self.failures.raise();
                 Err(ReadFault)
             }
         }

@@ -2,7 +2,7 @@
 ghost use Rattle.std.specs.Prelude.{◌≡◌, ◌-◌, ◌<◌, ◌≤◌, ℕ, length, take, drop, is_err, IfOk, OnErr, IsErr, IsErrOf, IsSomeAnd};
 ghost use Rattle.cord_io.specs.Device.{Folder, file_at, bytes_at, count_after, open_failed, HandsOut};
 
-use crate::faults::raise;
+use crate::failures::Failures;
 use crate::{FileNo, Files, OpenFault, ReadFault};
 
 /// Files that pass `k` calls of `open` and `read_at` to the files inside, and then fail each. Until then they are the files
@@ -11,7 +11,7 @@ use crate::{FileNo, Files, OpenFault, ReadFault};
 pub struct FuseFiles<F> {
     inner: F,
     passes: u64,
-    failures: u64,
+    failures: Failures,
 }
 
 impl<F: Files> FuseFiles<F> {
@@ -29,7 +29,7 @@ impl<F: Files> FuseFiles<F> {
         FuseFiles {
             inner,
             passes: k,
-            failures: 0,
+            failures: Failures::none(),
         }
     }
 
@@ -54,7 +54,7 @@ impl<F: Files> Files for FuseFiles<F> {
     ghost failures = { λ s. s.failures };
 
     fn failures(&self) -> u64 {
-        self.failures
+        self.failures.count()
     }
 
     fn open(&mut self, path: &str) -> Result<(FileNo, u64), OpenFault>
@@ -78,7 +78,7 @@ impl<F: Files> Files for FuseFiles<F> {
         ensures kept { passes_left self.old ≡ 0 → files_inside self.new ≡ files_inside self.old }
     {
         if self.passes == 0 {
-            raise(&mut self.failures);
+            self.failures.raise();
             return Err(OpenFault::Failed);
         }
         self.passes -= 1;
@@ -86,7 +86,7 @@ impl<F: Files> Files for FuseFiles<F> {
             Ok(opened) => Ok(opened),
             Err(OpenFault::NotFound) => Err(OpenFault::NotFound),
             Err(OpenFault::Failed) => {
-                raise(&mut self.failures);
+                self.failures.raise();
                 Err(OpenFault::Failed)
             }
         }
@@ -112,14 +112,14 @@ impl<F: Files> Files for FuseFiles<F> {
         ensures kept { passes_left self.old ≡ 0 → files_inside self.new ≡ files_inside self.old }
     {
         if self.passes == 0 {
-            raise(&mut self.failures);
+            self.failures.raise();
             return Err(ReadFault);
         }
         self.passes -= 1;
         match self.inner.read_at(no, start, out) {
             Ok(count) => Ok(count),
             Err(ReadFault) => {
-                raise(&mut self.failures);
+                self.failures.raise();
                 Err(ReadFault)
             }
         }

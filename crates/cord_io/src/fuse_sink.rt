@@ -2,7 +2,7 @@
 ghost use Rattle.std.specs.Prelude.{◌≡◌, ◌-◌, ◌<◌, ◌≤◌, ◌++◌, length, take, is_err, is_ok, IfOk, IsErr, OnErr};
 ghost use Rattle.cord_io.specs.Device.{count_after, finished_after};
 
-use crate::faults::raise;
+use crate::failures::Failures;
 use crate::{Sink, WriteFault};
 
 /// A sink that passes `k` calls of `put` and `finish` to the sink inside, offers it at most `most` bytes in each `put`, and then
@@ -12,7 +12,7 @@ pub struct FuseSink<S> {
     inner: S,
     passes: u64,
     most: u64,
-    failures: u64,
+    failures: Failures,
     ghost some: { 1 ≤ most },
 }
 
@@ -33,7 +33,7 @@ impl<S: Sink> FuseSink<S> {
             inner,
             passes: k,
             most,
-            failures: 0,
+            failures: Failures::none(),
         }
     }
 
@@ -57,7 +57,7 @@ impl<S: Sink> Sink for FuseSink<S> {
     ghost failures = { λ s. s.failures };
 
     fn failures(&self) -> u64 {
-        self.failures
+        self.failures.count()
     }
 
     fn put(&mut self, bytes: &[u8]) -> Result<usize, WriteFault>
@@ -80,7 +80,7 @@ impl<S: Sink> Sink for FuseSink<S> {
         ensures kept { passes_left self.old ≡ 0 → sink_inside self.new ≡ sink_inside self.old }
     {
         if self.passes == 0 {
-            raise(&mut self.failures);
+            self.failures.raise();
             return Err(WriteFault);
         }
         self.passes -= 1;
@@ -88,7 +88,7 @@ impl<S: Sink> Sink for FuseSink<S> {
         match self.inner.put(&bytes[..offered]) {
             Ok(count) => Ok(count),
             Err(WriteFault) => {
-                raise(&mut self.failures);
+                self.failures.raise();
                 Err(WriteFault)
             }
         }
@@ -110,14 +110,14 @@ impl<S: Sink> Sink for FuseSink<S> {
         ensures kept { passes_left self.old ≡ 0 → sink_inside self.new ≡ sink_inside self.old }
     {
         if self.passes == 0 {
-            raise(&mut self.failures);
+            self.failures.raise();
             return Err(WriteFault);
         }
         self.passes -= 1;
         match self.inner.finish() {
             Ok(()) => Ok(()),
             Err(WriteFault) => {
-                raise(&mut self.failures);
+                self.failures.raise();
                 Err(WriteFault)
             }
         }

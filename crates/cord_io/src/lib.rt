@@ -3,6 +3,7 @@
 
 mod cut;
 mod disk;
+mod failures;
 mod faults;
 mod fuse_files;
 mod fuse_sink;

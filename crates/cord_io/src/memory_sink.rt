@@ -2,7 +2,7 @@
 ghost use Rattle.std.specs.Prelude.{◌≡◌, ◌<◌, ◌+◌, ◌++◌, [], length, take, is_err, IsOk, IfOk, OnErr};
 ghost use Rattle.cord_io.specs.Device.{count_after};
 
-use crate::faults::raise;
+use crate::failures::Failures;
 use crate::tally::{Taking, Tally};
 use crate::{Sink, WriteFault};
 use std::alloc::Global;
@@ -12,7 +12,7 @@ use std::alloc::Global;
 pub struct MemSink {
     bytes: Vec<u8>,
     tally: Tally,
-    failures: u64,
+    failures: Failures,
 }
 
 impl MemSink {
@@ -25,7 +25,7 @@ impl MemSink {
         MemSink {
             bytes: Vec::new(alloc),
             tally: Tally::new(),
-            failures: 0,
+            failures: Failures::none(),
         }
     }
 
@@ -45,7 +45,7 @@ impl Sink for MemSink {
     ghost failures = { λ s. s.failures };
 
     fn failures(&self) -> u64 {
-        self.failures
+        self.failures.count()
     }
 
     fn put(&mut self, bytes: &[u8]) -> Result<usize, WriteFault>
@@ -58,7 +58,7 @@ impl Sink for MemSink {
             ≡ count_after (is_err result) (⟦<MemSink as Sink>⟧.failures self.old) }
     {
         if self.bytes.extend_from_slice(bytes).is_err() {
-            raise(&mut self.failures);
+            self.failures.raise();
             return Err(WriteFault);
         }
         Ok(bytes.len())

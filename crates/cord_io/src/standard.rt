@@ -3,7 +3,7 @@ ghost use Rattle.std.specs.Prelude.{◌≡◌, ◌<◌, ◌≤◌, ◌++◌, [],
 ghost use Rattle.std.specs.Io.KnownBytes.{WriteAppends, Keeps};
 ghost use Rattle.cord_io.specs.Device.{count_after, finished_after};
 
-use crate::faults::raise;
+use crate::failures::Failures;
 use crate::tally::{Taking, Tally};
 use crate::{Sink, WriteFault};
 use std::io::Write;
@@ -14,7 +14,7 @@ use std::io::Write;
 pub struct StdSink<W> {
     writer: W,
     tally: Tally,
-    failures: u64,
+    failures: Failures,
 }
 
 impl<W: Write> StdSink<W> {
@@ -30,7 +30,7 @@ impl<W: Write> StdSink<W> {
         StdSink {
             writer,
             tally: Tally::new(),
-            failures: 0,
+            failures: Failures::none(),
         }
     }
 }
@@ -46,7 +46,7 @@ impl<W: Write> Sink for StdSink<W> {
     ghost failures = { λ s. s.failures };
 
     fn failures(&self) -> u64 {
-        self.failures
+        self.failures.count()
     }
 
     fn put(&mut self, bytes: &[u8]) -> Result<usize, WriteFault>
@@ -68,7 +68,7 @@ impl<W: Write> Sink for StdSink<W> {
                 Ok(count)
             }
             _ => {
-                raise(&mut self.failures);
+                self.failures.raise();
                 Err(WriteFault)
             }
         }
@@ -88,7 +88,7 @@ impl<W: Write> Sink for StdSink<W> {
                 Ok(())
             }
             Err(_) => {
-                raise(&mut self.failures);
+                self.failures.raise();
                 Err(WriteFault)
             }
         }

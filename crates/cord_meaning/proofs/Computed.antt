@@ -1,7 +1,7 @@
 -- A run that is computed for as many steps as it takes.
 use Rattle.std.proofs.Common.{◌≡◌, ℕ, List, Some, ap, ◌∙◌}
 use Rattle.cord_io.specs.Device.{Folder}
-use Rattle.cord_script.specs.declared.statements.Statement.{Statement}
+use Rattle.cord_syntax.specs.declared.statements.Statement.{Statement}
 use Rattle.cord_meaning.specs.declared.ends.End.{End}
 use Rattle.cord_meaning.specs.Machine.{Moment, output}
 use Rattle.cord_meaning.specs.State.{State, start_state}

@@ -2,8 +2,8 @@
 use Rattle.std.proofs.Common.{◌≡◌, ◌≢◌, ◌<◌, ◌+◌, ℕ, Bool, true, false, List, [], ◌∷◌, map, refl, sym, subst, inl, inr, arith}
 use Rattle.std.specs.Prelude.{All}
 use Rattle.std.proofs.lemmas.List.Elements.{All-nil, All-cons}
-use Rattle.cord_script.specs.declared.statements.Statement.{Statement}
-use Rattle.cord_script.specs.declared.statements.Statement.TheVariants.{Repeat, If, Else, End}
+use Rattle.cord_syntax.specs.declared.statements.Statement.{Statement}
+use Rattle.cord_syntax.specs.declared.statements.Statement.TheVariants.{Repeat, If, Else, End}
 use Rattle.cord_script.specs.Forms.{Grammar, effect_of}
 use Rattle.cord_script.specs.Script as scripts
 use Rattle.cord_script.specs.Script.{Before, LinesSay, ReadsBy, FitsBlocks, blocks_after, after_all}

@@ -4,8 +4,8 @@ use Rattle.cord_printf.specs.declared.errors.PrintError.{PrintError}
 use Rattle.cord_printf.specs.declared.errors.PrintError.TheVariants as refusals
 use Rattle.cord_printf.specs.declared.pieces.Piece.{Piece}
 use Rattle.cord_printf.specs.PieceText.{PieceArgument, number, text, printed, first_refusal}
-use Rattle.cord_script.specs.declared.operands.Argument.{Argument}
-use Rattle.cord_script.specs.declared.operands.Argument.TheVariants as arguments
+use Rattle.cord_operands.specs.declared.operands.Argument.{Argument}
+use Rattle.cord_operands.specs.declared.operands.Argument.TheVariants as arguments
 use Rattle.cord_meaning.specs.declared.ends.FaultKind.{FaultKind}
 use Rattle.cord_meaning.specs.declared.ends.FaultKind.TheVariants.{Negative, BadByte, TooLong}
 use Rattle.cord_meaning.specs.State.{State, number_value}

@@ -5,12 +5,12 @@ use Rattle.cord_printf.specs.declared.pieces.Flags.{Flags}
 use Rattle.cord_printf.specs.declared.pieces.Radix.TheVariants.{Octal, LowerHex, UpperHex}
 use Rattle.cord_printf.specs.declared.pieces.Piece.{Piece}
 use Rattle.cord_printf.specs.declared.pieces.Piece.TheVariants.{Text, Signed, Unsigned, Byte, Cord, Percent}
-use Rattle.cord_script.specs.declared.statements.Statement.{Statement}
-use Rattle.cord_script.specs.declared.statements.Statement.TheVariants.{Let, File, Chars, Cat, Catn, Catc, Substr, Balance, EcToCord, Sprintf, Len, Fetch, Cmp, Ncmp, Str, Chr, Rchr, Assign, Add, EcInit, EcPut, EcStr, Put, Repeat, If, Else, End}
-use Rattle.cord_script.specs.declared.operands.Number.{Number}
-use Rattle.cord_script.specs.declared.operands.Number.TheVariants.{Numeral, Named}
-use Rattle.cord_script.specs.declared.operands.Argument.TheVariants as arguments
-use Rattle.cord_script.specs.declared.operands.Relation.TheVariants.{Equal, Greater}
+use Rattle.cord_syntax.specs.declared.statements.Statement.{Statement}
+use Rattle.cord_syntax.specs.declared.statements.Statement.TheVariants.{Let, File, Chars, Cat, Catn, Catc, Substr, Balance, EcToCord, Sprintf, Len, Fetch, Cmp, Ncmp, Str, Chr, Rchr, Assign, Add, EcInit, EcPut, EcStr, Put, Repeat, If, Else, End}
+use Rattle.cord_operands.specs.declared.operands.Number.{Number}
+use Rattle.cord_operands.specs.declared.operands.Number.TheVariants.{Numeral, Named}
+use Rattle.cord_operands.specs.declared.operands.Argument.TheVariants as arguments
+use Rattle.cord_operands.specs.declared.operands.Relation.TheVariants.{Equal, Greater}
 use Rattle.cord_meaning.specs.Ends.{Counts}
 
 -- a numeral of at least 0

@@ -3,8 +3,8 @@ ghost use Rattle.std.specs.Prelude.{◌≡◌, ◌≢◌, ◌≤◌, ◌<◌, �
 ghost use Rattle.cord_io.specs.Device.{Folder};
 ghost use Rattle.cord_io.specs.Entries.{digits, byte_values};
 ghost use Rattle.cord_script.specs.Script.{Reads};
-ghost use Rattle.cord_script.specs.declared.statements.Statement.{Statement};
-ghost use Rattle.cord_script.specs.declared.operands.Function.TheVariants.{Digits, Bytes};
+ghost use Rattle.cord_syntax.specs.declared.statements.Statement.{Statement};
+ghost use Rattle.cord_operands.specs.declared.operands.Function.TheVariants.{Digits, Bytes};
 ghost use Rattle.cord_meaning.specs.Blocks.{IsNested};
 ghost use Rattle.cord_meaning.specs.Paths.{Next};
 ghost use Rattle.cord_meaning.specs.Machine.{Begins, enough};

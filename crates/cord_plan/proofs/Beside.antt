@@ -2,7 +2,7 @@
 use Rattle.std.proofs.Common.{◌≡◌, ◌<◌, ℕ, zero, suc, ◌+◌, List, [], ◌∷◌, map, Option, Some, None, refl, sym, subst, arith}
 use Rattle.std.specs.Prelude.{slice_get, IsSome}
 use Rattle.cord_io.specs.Device.{Folder}
-use Rattle.cord_script.specs.declared.statements.Statement.{Statement}
+use Rattle.cord_syntax.specs.declared.statements.Statement.{Statement}
 use Rattle.cord_meaning.specs.Blocks.{Shape, Simple}
 use Rattle.cord_meaning.specs.Paths.{Next}
 use Rattle.cord_meaning.specs.State.{State, start_state}

@@ -2,7 +2,7 @@
 use Rattle.std.proofs.Common.{◌≡◌, ◌⊎◌, ℕ, zero, suc, ◌+◌, ◌<◌, Bool, true, false, ◌&&◌, List, [], ◌∷◌, ◌++◌, map, length, Option, Some, None, refl, sym, ap, ◌∙◌, subst, inl, inr, arith, append_assoc, append-nil, length-append}
 use Rattle.std.specs.Prelude.{slice_get, if◌then◌else◌}
 use Rattle.std.proofs.lemmas.List.{map-append}
-use Rattle.cord_script.specs.declared.statements.Statement.{Statement}
+use Rattle.cord_syntax.specs.declared.statements.Statement.{Statement}
 use Rattle.cord_plan.specs.Exprs.{Expr, name}
 use Rattle.cord_plan.specs.Operands.{assigns_at}
 use Rattle.cord_plan.specs.Forced.{Table, Choice, kept, replaced, expr_of, expr_with, first_of, own, setter, fits, is_small, chosen_from, chosen_of, choices, operands_chosen, grown, exprs}

@@ -1,7 +1,7 @@
 -- What an operation is to control, beside its statement.
 use Rattle.std.proofs.Common.{◌≡◌, ℕ, pos, Bool, true, false, ◌||◌, List, Some, refl, sym}
-use Rattle.cord_script.specs.declared.statements.Statement.{Statement}
-use Rattle.cord_script.specs.declared.statements.Statement.TheVariants.{Let, File, Eager, Lazy, Chars, Nul, FromFn, Cat, Catn, Catc, Substr, Balance, EcToCord, Sprintf, Repeat, If}
+use Rattle.cord_syntax.specs.declared.statements.Statement.{Statement}
+use Rattle.cord_syntax.specs.declared.statements.Statement.TheVariants.{Let, File, Eager, Lazy, Chars, Nul, FromFn, Cat, Catn, Catc, Substr, Balance, EcToCord, Sprintf, Repeat, If}
 use Rattle.cord_meaning.specs.Blocks.{Simple}
 use Rattle.cord_meaning.specs.State.{State}
 use Rattle.cord_meaning.specs.Statements.{shape_of, line_of, count_of, holds_of, compares}

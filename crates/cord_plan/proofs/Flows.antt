@@ -2,7 +2,7 @@
 use Rattle.std.proofs.Common.{◌≡◌, ◌⊎◌, ℕ, zero, suc, ◌+◌, Bool, true, false, ◌||◌, ◌&&◌, List, [], ◌∷◌, map, Option, Some, None, refl, sym, ap, ◌∙◌, inl, inr}
 use Rattle.std.specs.Prelude.{slice_get, not}
 use Rattle.std.proofs.lemmas.Bool.{or_left, or_right}
-use Rattle.cord_script.specs.declared.statements.Statement.{Statement}
+use Rattle.cord_syntax.specs.declared.statements.Statement.{Statement}
 use Rattle.cord_meaning.specs.Blocks.{Shape, Simple, Loop, Branch, Otherwise, Close, jump}
 use Rattle.cord_meaning.specs.Paths.{Next, NextOf, NextOfClose, open_at}
 use Rattle.cord_meaning.specs.Statements.{shape_of}

@@ -1,7 +1,7 @@
 -- The members of a `cat`, one operand after the other.
 use Rattle.std.proofs.Common.{◌≡◌, ℕ, ◌+◌, ◌<◌, List, [], ◌∷◌, ◌++◌, map, take, length, get_or, refl, sym, ap, ◌∙◌}
 use Rattle.std.proofs.lemmas.List.{map-append, take_more}
-use Rattle.cord_script.specs.declared.operands.Number.{Number}
+use Rattle.cord_operands.specs.declared.operands.Number.{Number}
 use Rattle.cord_plan.specs.Exprs.{Expr, Exprs, name, run, cat, sub, nothing, member, append, in_front, members}
 use Rattle.cord_plan.specs.Views.{expr_view, members_of}
 use Rattle.cord_plan.specs.declared.expressions.Expr as code
@@ -68,3 +68,7 @@ joined_more es ms new last c n made items is = ap cat (
     ∙ (ap (λ (xs : Exprs). append xs (member (expr_view last) nothing)) made
     ∙ (ap (λ (e : Expr). append (members es) (member e nothing)) is
     ∙ sym (members_more es (run c n))))))
+
+-- a name more
+pub added_name : (old new : List code.Expr) (copy : code.Expr) (v : Expr) (x : List ℕ) → new ≡ old ++ copy ∷ [] → expr_view copy ≡ name x → v ≡ name x → members_of (map expr_view new) ≡ append (members_of (map expr_view old)) (in_front v nothing)
+added_name old new copy v x items made same = added_one old new copy v (name x) items (made ∙ sym same) same refl

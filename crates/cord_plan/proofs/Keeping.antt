@@ -6,8 +6,8 @@ use Rattle.std.specs.Option.{option_map}
 use Rattle.std.specs.Str.{bytes_eq}
 use Rattle.std.proofs.lemmas.Option.{slice_get-map, slice_get_within}
 use Rattle.std.proofs.lemmas.Slice.Eq.{bytes_eq-Decides}
-use Rattle.cord_script.specs.declared.statements.Statement.{Statement}
-use Rattle.cord_script.specs.declared.statements.Statement.TheVariants.{Chars, Nul, Cat, Catn, Catc, Substr, Put, Repeat, If, Else, End}
+use Rattle.cord_syntax.specs.declared.statements.Statement.{Statement}
+use Rattle.cord_syntax.specs.declared.statements.Statement.TheVariants.{Chars, Nul, Cat, Catn, Catc, Substr, Put, Repeat, If, Else, End}
 use Rattle.cord_meaning.specs.Blocks.{Shape, Simple, Loop, Branch, Otherwise, Close}
 use Rattle.cord_meaning.specs.Paths.{NextOf, Next}
 use Rattle.cord_meaning.specs.State.{State, with_value}

@@ -46,3 +46,4 @@ pub mod ExprViews
 pub mod Marked
 pub mod PlannedLines
 pub mod OnlyKept
+pub mod Pushed

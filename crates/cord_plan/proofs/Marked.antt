@@ -8,7 +8,7 @@ use Rattle.std.proofs.lemmas.Bool.Decides.{eqb_tells}
 use Rattle.std.proofs.lemmas.Grind.{get_or-set_at}
 use Rattle.std.proofs.lemmas.List.{at_drop_more, at_drop_all, take_more, map-append, get_or-replicate, get_or-set_other}
 use Rattle.std.proofs.lemmas.List.Recursion.{or_push}
-use Rattle.cord_script.specs.declared.statements.Statement.{Statement}
+use Rattle.cord_syntax.specs.declared.statements.Statement.{Statement}
 use Rattle.cord_plan.specs.Exprs.{Expr}
 use Rattle.cord_plan.specs.Forced.{Table, Choice, kept, replaced, own, operands_chosen, grown, exprs, expr_with, expr_of}
 use Rattle.cord_plan.specs.Choices as code

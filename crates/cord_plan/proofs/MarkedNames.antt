@@ -8,10 +8,10 @@ use Rattle.std.proofs.Math.Nat.{div-add-mod, mod-lt}
 use Rattle.std.proofs.lemmas.Bool.{cases_eq}
 use Rattle.std.proofs.lemmas.List.{take_more}
 use Rattle.cord_plan.specs.declared.numbering.Numbering.{Numbering}
-use Rattle.cord_script.specs.declared.statements.Statement.{Statement}
-use Rattle.cord_script.specs.declared.operands.Number as numbers
-use Rattle.cord_script.specs.declared.operands.Argument.{Argument}
-use Rattle.cord_script.specs.declared.operands.Argument.TheVariants.{Number, Cord}
+use Rattle.cord_syntax.specs.declared.statements.Statement.{Statement}
+use Rattle.cord_operands.specs.declared.operands.Number as numbers
+use Rattle.cord_operands.specs.declared.operands.Argument.{Argument}
+use Rattle.cord_operands.specs.declared.operands.Argument.TheVariants.{Number, Cord}
 use Rattle.cord_plan.specs.Operands.{has, cord_arguments, read_by, target_of, reads, assigns}
 use Rattle.cord_plan.specs.Numbering.{names_of, number_of}
 use Rattle.cord_plan.specs.Marks.{bit, IsBit, Marks}

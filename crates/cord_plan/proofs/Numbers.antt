@@ -8,9 +8,9 @@ use Rattle.std.proofs.Math.Nat.{eq-or-lt_of_le}
 use Rattle.std.proofs.lemmas.Bool.{or_left, or_right}
 use Rattle.std.proofs.lemmas.List.{take_more}
 use Rattle.std.proofs.lemmas.Option.{slice_get-get_or, slice_get_within}
-use Rattle.cord_script.specs.declared.statements.Statement.{Statement}
-use Rattle.cord_script.specs.declared.operands.Argument.{Argument}
-use Rattle.cord_script.specs.declared.operands.Argument.TheVariants.{Number, Cord}
+use Rattle.cord_syntax.specs.declared.statements.Statement.{Statement}
+use Rattle.cord_operands.specs.declared.operands.Argument.{Argument}
+use Rattle.cord_operands.specs.declared.operands.Argument.TheVariants.{Number, Cord}
 use Rattle.cord_plan.specs.declared.numbering.Numbering.{Numbering}
 use Rattle.cord_plan.specs.Operands.{has, is_name, cord_arguments, read_by, reads_at}
 use Rattle.cord_plan.specs.Numbering.{slot_of, place_of, names_of, number_by, number_of, Adds, CoversTo}

@@ -4,8 +4,8 @@ use Rattle.std.specs.Prelude.{nat_le, replicate, flat_map, if◌then◌else◌}
 use Rattle.std.proofs.lemmas.Bool.{leb-false, lt-leb}
 use Rattle.std.proofs.lemmas.List.{length-replicate}
 use Rattle.cord_io.specs.Device.{Folder}
-use Rattle.cord_script.specs.declared.statements.Statement.{Statement}
-use Rattle.cord_script.specs.declared.statements.Statement.TheVariants.{Chars, Nul, Cat, Catn, Catc, Substr, Put}
+use Rattle.cord_syntax.specs.declared.statements.Statement.{Statement}
+use Rattle.cord_syntax.specs.declared.statements.Statement.TheVariants.{Chars, Nul, Cat, Catn, Catc, Substr, Put}
 use Rattle.cord_meaning.specs.declared.ends.FaultKind.{FaultKind}
 use Rattle.cord_meaning.specs.declared.ends.FaultKind.TheVariants.{TooLong}
 use Rattle.cord_meaning.specs.State.{State, number_value, and_then, as_index, as_byte, as_length, sets_text, with_value}

@@ -5,7 +5,7 @@ use Rattle.std.specs.Str.{bytes_eq}
 use Rattle.std.proofs.lemmas.Bool.{leb-true, leb-false, eqb-true}
 use Rattle.cord_script.specs.Forms.{Grammar}
 use Rattle.cord_script.specs.Script.{ReadsBy}
-use Rattle.cord_script.specs.declared.statements.Statement.{Statement}
+use Rattle.cord_syntax.specs.declared.statements.Statement.{Statement}
 use Rattle.cord_plan.specs.declared.TheConstants.{MAX_EXPR_PARTS}
 use Rattle.cord_plan.specs.Exprs.{Expr, parts, names}
 use Rattle.cord_plan.specs.Operands.{count, has, read_by, reads_at, assigns, assigns_at}

@@ -6,11 +6,11 @@ use Rattle.std.proofs.lemmas.Slice.Eq.{bytes_eq-Decides}
 use Rattle.cord_script.specs.declared.TheConstants.{MAX_NAMES}
 use Rattle.cord_script.specs.declared.kinds.Kind.{Kind}
 use Rattle.cord_script.specs.declared.kinds.Kind.TheVariants as kinds
-use Rattle.cord_script.specs.declared.operands.Argument.{Argument}
-use Rattle.cord_script.specs.declared.operands.Argument.TheVariants as arguments
+use Rattle.cord_operands.specs.declared.operands.Argument.{Argument}
+use Rattle.cord_operands.specs.declared.operands.Argument.TheVariants as arguments
 use Rattle.cord_script.specs.declared.table.Known.{Known}
-use Rattle.cord_script.specs.declared.statements.Statement.{Statement}
-use Rattle.cord_script.specs.declared.statements.Statement.TheVariants.{Cat, Catn, Catc, Substr, Balance, Sprintf, Len, Fetch, Cmp, Ncmp, Str, Chr, Rchr, Assign, Add, Sub, EcInit, EcCat, Put}
+use Rattle.cord_syntax.specs.declared.statements.Statement.{Statement}
+use Rattle.cord_syntax.specs.declared.statements.Statement.TheVariants.{Cat, Catn, Catc, Substr, Balance, Sprintf, Len, Fetch, Cmp, Ncmp, Str, Chr, Rchr, Assign, Add, Sub, EcInit, EcCat, Put}
 use Rattle.cord_script.specs.Forms.{Grammar, terms_of, argument_term}
 use Rattle.cord_script.specs.Forms.Term.{Operand}
 use Rattle.cord_script.specs.Script.{Before, kind_of, with_name, names_after, after_all, AreAllowed, ReadsBy, start}

@@ -5,10 +5,10 @@ use Rattle.std.specs.Str.{bytes_eq}
 use Rattle.std.proofs.Math.Bool.{or-false}
 use Rattle.std.proofs.lemmas.Bool.{cases_eq}
 use Rattle.std.proofs.lemmas.Option.{slice_get-get_or, slice_get_past}
-use Rattle.cord_script.specs.declared.statements.Statement.{Statement}
-use Rattle.cord_script.specs.declared.operands.Number as numbers
-use Rattle.cord_script.specs.declared.operands.Argument.{Argument}
-use Rattle.cord_script.specs.declared.operands.Argument.TheVariants.{Number, Cord}
+use Rattle.cord_syntax.specs.declared.statements.Statement.{Statement}
+use Rattle.cord_operands.specs.declared.operands.Number as numbers
+use Rattle.cord_operands.specs.declared.operands.Argument.{Argument}
+use Rattle.cord_operands.specs.declared.operands.Argument.TheVariants.{Number, Cord}
 use Rattle.cord_plan.specs.Operands.{has, cord_arguments}
 use Rattle.cord_plan.specs.Numbering.{names_of, number_of}
 use Rattle.cord_plan.specs.Recent.{Notes, entry_at, entry_of, noted}

@@ -4,7 +4,7 @@ use Rattle.std.specs.Prelude.{min, nat_le, nat_lt, ◌&&◌, if◌then◌else◌
 use Rattle.std.proofs.Math.Seq.{take-append-add, drop-append-add, take-nil, drop-nil}
 use Rattle.std.proofs.lemmas.Bool.{leb-true, leb-false, ltb-false}
 use Rattle.std.proofs.lemmas.List.{length-take, length-drop, take-append-le, drop-append-le, drop_all, take_all, take_min}
-use Rattle.cord_script.specs.declared.operands.Number.TheVariants.{Numeral}
+use Rattle.cord_operands.specs.declared.operands.Number.TheVariants.{Numeral}
 use Rattle.cord_meaning.specs.declared.ends.FaultKind.{FaultKind}
 use Rattle.cord_meaning.specs.State.{State, number_value, and_then}
 use Rattle.cord_plan.specs.Exprs.{Expr, cat, sub, Exprs, nothing, member}

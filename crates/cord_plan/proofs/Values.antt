@@ -3,7 +3,7 @@ use Rattle.std.proofs.Common.{◌≡◌, ℕ, ℤ, ◌+◌, ◌-◌, ◌≤◌, 
 use Rattle.std.specs.Prelude.{min, nat_le, replicate, if◌then◌else◌}
 use Rattle.std.proofs.lemmas.Bool.{leb-true, le-leb}
 use Rattle.std.proofs.lemmas.List.{length-take, length-drop, length-replicate}
-use Rattle.cord_script.specs.declared.operands.Number.{Number}
+use Rattle.cord_operands.specs.declared.operands.Number.{Number}
 use Rattle.cord_meaning.specs.declared.ends.FaultKind.{FaultKind}
 use Rattle.cord_meaning.specs.declared.ends.FaultKind.TheVariants.{TooLong}
 use Rattle.cord_meaning.specs.State.{State, number_value, and_then, as_index, as_byte, as_length}

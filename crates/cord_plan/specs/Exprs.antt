@@ -1,7 +1,7 @@
 -- Expressions: what a line makes of names of cords and of runs of a byte.
 use Rattle.std.specs.Prelude.{ℕ, ◌+◌, List, [], ◌∷◌, ◌++◌}
-use Rattle.cord_script.specs.declared.operands.Number.{Number}
-use Rattle.cord_script.specs.declared.operands.Number.TheVariants.{Numeral, Named}
+use Rattle.cord_operands.specs.declared.operands.Number.{Number}
+use Rattle.cord_operands.specs.declared.operands.Number.TheVariants.{Numeral, Named}
 
 -- an expression is a name, `run(c n)`, `cat(E1 E2 ..)` or `sub(E i n)`
 mutual

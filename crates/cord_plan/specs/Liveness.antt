@@ -1,7 +1,7 @@
 -- What the code that finds what is read later goes by.
 use Rattle.std.specs.Prelude.{◌≡◌, ℕ, zero, suc, ◌<◌, ◌/◌, ◌%◌, Bool, true, false, not, ◌&&◌, ◌||◌, List, [], ◌∷◌, map, length, get_or, Option, Some, None, slice_get}
 use Rattle.std.specs.Option.{option_to_list}
-use Rattle.cord_script.specs.declared.statements.Statement.{Statement}
+use Rattle.cord_syntax.specs.declared.statements.Statement.{Statement}
 use Rattle.cord_meaning.specs.Blocks as blocks
 use Rattle.cord_meaning.specs.Statements.{shape_of}
 use Rattle.cord_plan.specs.Operands.{reads_at, assigns_at}

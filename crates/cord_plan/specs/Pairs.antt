@@ -1,7 +1,7 @@
 -- Forced pairs of a plan: an earlier line whose expression stands for an operand of a later one.
 use Rattle.std.specs.Prelude.{◌≡◌, ℕ, Bool, false, List, [], ◌++◌, Option, Some, None, slice_get}
-use Rattle.cord_script.specs.declared.statements.Statement.{Statement}
-use Rattle.cord_script.specs.declared.statements.Statement.TheVariants.{Chars, Nul, Catc, Substr}
+use Rattle.cord_syntax.specs.declared.statements.Statement.{Statement}
+use Rattle.cord_syntax.specs.declared.statements.Statement.TheVariants.{Chars, Nul, Catc, Substr}
 use Rattle.cord_plan.specs.Exprs.{Expr, number_names}
 use Rattle.cord_plan.specs.Operands.{has, read_by}
 use Rattle.cord_plan.specs.Forced.{Choice, replaced, exprs}

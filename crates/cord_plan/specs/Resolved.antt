@@ -1,6 +1,6 @@
 -- A `sub` over a `cat`, resolved by the lengths of the members: each member gets its own start and count.
 use Rattle.std.specs.Prelude.{◌≡◌, ℕ, pos, ◌-◌, min, nat_lt, ◌&&◌, if◌then◌else◌, List, [], ◌∷◌, Ok}
-use Rattle.cord_script.specs.declared.operands.Number.TheVariants.{Numeral}
+use Rattle.cord_operands.specs.declared.operands.Number.TheVariants.{Numeral}
 use Rattle.cord_meaning.specs.State.{State}
 use Rattle.cord_plan.specs.Exprs.{Expr, sub, Exprs, nothing, member}
 use Rattle.cord_plan.specs.Values.{length_in}

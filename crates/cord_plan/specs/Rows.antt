@@ -1,7 +1,7 @@
 -- Scripts whose plans are computed, beside those whose runs are.
 use Rattle.std.specs.Prelude.{ℕ, List, [], ◌∷◌, ◌++◌, Option, Some, codes}
-use Rattle.cord_script.specs.declared.statements.Statement.{Statement}
-use Rattle.cord_script.specs.declared.statements.Statement.TheVariants.{Let, File, Chars, Cat, Substr, Len, Put}
+use Rattle.cord_syntax.specs.declared.statements.Statement.{Statement}
+use Rattle.cord_syntax.specs.declared.statements.Statement.TheVariants.{Let, File, Chars, Cat, Substr, Len, Put}
 use Rattle.cord_io.specs.Device.{Folder}
 use Rattle.cord_io.specs.declared.TheConstants.{MAX_LEN}
 use Rattle.cord_meaning.specs.declared.TheConstants.{MAX_TURNS}

@@ -2,16 +2,16 @@
 use Rattle.std.specs.Prelude.{ℕ, ℤ, pos, negsuc, ◌+◌, ◌/◌, ◌%◌, ◌||◌, ◌==◌, nat_lt, if◌then◌else◌, None, List, [], ◌∷◌, ◌++◌, length, codes, flat_map}
 use Rattle.cord_printf.specs.declared.pieces.Radix.TheVariants as radices
 use Rattle.cord_printf.specs.PieceText.{digits_in}
-use Rattle.cord_script.specs.declared.operands.Number.{Number}
-use Rattle.cord_script.specs.declared.operands.Number.TheVariants.{Numeral, Named}
-use Rattle.cord_script.specs.declared.operands.Function.{Function}
-use Rattle.cord_script.specs.declared.operands.Function.TheVariants.{Digits, Bytes}
-use Rattle.cord_script.specs.declared.operands.Relation.{Relation}
-use Rattle.cord_script.specs.declared.operands.Relation.TheVariants.{Less, Equal, Greater}
-use Rattle.cord_script.specs.declared.operands.Argument.{Argument}
-use Rattle.cord_script.specs.declared.operands.Argument.TheVariants as arguments
-use Rattle.cord_script.specs.declared.statements.Statement.{Statement}
-use Rattle.cord_script.specs.declared.statements.Statement.TheVariants.{Len, Fetch, Cmp, Ncmp, Str, Chr, Rchr, Assign, Add, Sub, EcInit, EcPut, EcCat, EcStr, Repeat, If, Else, End}
+use Rattle.cord_operands.specs.declared.operands.Number.{Number}
+use Rattle.cord_operands.specs.declared.operands.Number.TheVariants.{Numeral, Named}
+use Rattle.cord_operands.specs.declared.operands.Function.{Function}
+use Rattle.cord_operands.specs.declared.operands.Function.TheVariants.{Digits, Bytes}
+use Rattle.cord_operands.specs.declared.operands.Relation.{Relation}
+use Rattle.cord_operands.specs.declared.operands.Relation.TheVariants.{Less, Equal, Greater}
+use Rattle.cord_operands.specs.declared.operands.Argument.{Argument}
+use Rattle.cord_operands.specs.declared.operands.Argument.TheVariants as arguments
+use Rattle.cord_syntax.specs.declared.statements.Statement.{Statement}
+use Rattle.cord_syntax.specs.declared.statements.Statement.TheVariants.{Len, Fetch, Cmp, Ncmp, Str, Chr, Rchr, Assign, Add, Sub, EcInit, EcPut, EcCat, EcStr, Repeat, If, Else, End}
 use Rattle.cord_meaning.specs.Statements.{line_of}
 use Rattle.cord_plan.specs.Exprs.{Expr, name, run, cat, sub, Exprs, nothing, member}
 use Rattle.cord_plan.specs.Planned.{Made, Joined, Literal, OfFile, OfEager, OfLazy, OfFunction, Balanced, OfExtensible, Printed, Operation, Build, Measure, Write, Keep}

@@ -1,7 +1,7 @@
 -- What the code goes by that plans all lines of a script.
 use Rattle.std.specs.Prelude.{◌≡◌, ℕ, ◌<◌, Bool, ◌||◌, List, map, drop, length, Option}
 use Rattle.std.specs.Prelude.{option_map}
-use Rattle.cord_script.specs.declared.statements.Statement.{Statement}
+use Rattle.cord_syntax.specs.declared.statements.Statement.{Statement}
 use Rattle.cord_plan.specs.Exprs.{Expr}
 use Rattle.cord_plan.specs.Forced as plain
 use Rattle.cord_plan.specs.Choices.{Has}

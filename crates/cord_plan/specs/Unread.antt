@@ -1,6 +1,6 @@
 -- Which names are read on a path behind a line before they are assigned again.
 use Rattle.std.specs.Prelude.{◌≡◌, ℕ, zero, suc, ◌+◌, Bool, true, false, not, ◌&&◌, ◌||◌, List, [], ◌∷◌, map, Option, Some, None, slice_get}
-use Rattle.cord_script.specs.declared.statements.Statement.{Statement}
+use Rattle.cord_syntax.specs.declared.statements.Statement.{Statement}
 use Rattle.cord_meaning.specs.Blocks.{Shape, Simple, Loop, Branch, Otherwise, Close, jump}
 use Rattle.cord_meaning.specs.Paths.{Next, open_at}
 use Rattle.cord_meaning.specs.Statements.{shape_of}

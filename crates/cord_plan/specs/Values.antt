@@ -1,7 +1,7 @@
 -- What an expression means: its text or its fault, given what names hold; and its length or its fault, where only the
 -- lengths of the names' texts are known. Every check is made, also of what stands inside, from left to right.
 use Rattle.std.specs.Prelude.{ℕ, ℤ, ◌+◌, ◌-◌, min, List, [], ◌++◌, length, take, drop, replicate, Result, Ok, Err}
-use Rattle.cord_script.specs.declared.operands.Number.{Number}
+use Rattle.cord_operands.specs.declared.operands.Number.{Number}
 use Rattle.cord_meaning.specs.declared.ends.FaultKind.{FaultKind}
 use Rattle.cord_meaning.specs.State.{State, Outcome, number_value, and_then, as_index, as_byte, as_length, with_value}
 use Rattle.cord_plan.specs.Exprs.{Expr, name, run, cat, sub, Exprs, nothing, member}

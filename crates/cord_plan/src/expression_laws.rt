@@ -1,8 +1,8 @@
 // Laws of expressions: each is a function that does nothing, whose contract is the law.
 ghost use Rattle.std.specs.Prelude.{◌≡◌, ℕ, List, [], ◌∷◌, map, pos, codes, Some, None, Ok};
 ghost use Rattle.cord_io.specs.Device.{Folder};
-ghost use Rattle.cord_script.specs.declared.operands.Number.TheVariants.{Numeral};
-ghost use Rattle.cord_script.specs.declared.statements.Statement.{Statement};
+ghost use Rattle.cord_operands.specs.declared.operands.Number.TheVariants.{Numeral};
+ghost use Rattle.cord_syntax.specs.declared.statements.Statement.{Statement};
 ghost use Rattle.cord_meaning.specs.State.{State};
 ghost use Rattle.cord_meaning.specs.Statements.{act};
 ghost use Rattle.cord_plan.specs.Exprs.{Expr, name, cat, sub, Exprs, nothing, member, members};

@@ -2,14 +2,14 @@
 ghost use Rattle.std.specs.Prelude.{◌≡◌, ◌++◌, ◌∷◌, [], pos, IfOk, IsOkUnless, OnOk, map, option_map};
 ghost use Rattle.cord_plan.specs.Exprs as plain;
 ghost use Rattle.cord_plan.specs.Exprs.{append, in_front, members, nothing};
-ghost use Rattle.cord_script.specs.declared.operands.Number.TheVariants.{Numeral};
+ghost use Rattle.cord_operands.specs.declared.operands.Number.TheVariants.{Numeral};
 ghost use Rattle.cord_plan.specs.Forced.{expr_of, expr_with};
 ghost use Rattle.cord_plan.specs.Choices.{choice_view};
 ghost use Rattle.cord_plan.specs.Views.{expr_view, members_of};
 
 use crate::Expr;
 use crate::choosing::Choice;
-use crate::own::{cat, named, run};
+use crate::own::{cat, named, run, run_of, sub_of};
 use crate::parts::{copy, copy_all};
 use cord_io::CordError;
 use cord_script::{Number, Statement};
@@ -46,7 +46,7 @@ fn add(alloc: Global, members: &mut Vec<Expr>, choice: &Choice) -> Result<(), Co
     ensures refused { IsOkUnless result CordError.NoMemory }
 {
     match choice {
-        Choice::Kept(name) => add_copy(alloc, members, &named(name)?)?,
+        Choice::Kept(name) => members.push(named(name)?)?,
         Choice::Replaced(_, expression) => add_copy(alloc, members, expression)?,
     }
     Ok(())
@@ -102,11 +102,7 @@ fn part(alloc: Global, choice: &Choice, start: &Number, count: &Number) -> Resul
     ensures made { IfOk result (λ e. expr_view e ≡ plain.sub (expr_of (choice_view choice.now)) start.now count.now) }
     ensures refused { IsOkUnless result CordError.NoMemory }
 {
-    Ok(Expr::Sub {
-        expression: Box::new(alloc, expression_of(alloc, choice)?)?,
-        start: start.clone()?,
-        count: count.clone()?,
-    })
+    sub_of(alloc, expression_of(alloc, choice)?, start, count)
 }
 
 /// The expression of a simple line, where these stand for its operands; of any other line there is none.
@@ -119,10 +115,9 @@ pub(crate) fn expression_with(
     ensures refused { IsOkUnless result CordError.NoMemory }
 {
     match statement {
-        Statement::Cat { .. } => Ok(Some(joined_all(alloc, choices)?)),
-        Statement::Catn { .. } => Ok(Some(joined_all(alloc, choices)?)),
+        Statement::Cat { .. } | Statement::Catn { .. } => Ok(Some(joined_all(alloc, choices)?)),
         Statement::Catc { byte, .. } => Ok(Some(joined_with(alloc, choices, byte)?)),
-        Statement::Chars { byte, count, .. } => Ok(Some(run(byte.clone()?, count.clone()?))),
+        Statement::Chars { byte, count, .. } => Ok(Some(run_of(byte, count)?)),
         Statement::Nul { count, .. } => Ok(Some(run(Number::Numeral(0), count.clone()?))),
         Statement::Substr { start, count, .. } => match choices {
             [] => Ok(None),

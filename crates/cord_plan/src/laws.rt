@@ -1,6 +1,6 @@
 // Laws of plans: each is a function that does nothing, whose contract is the law.
 ghost use Rattle.std.specs.Prelude.{◌≡◌, ℕ, List, Bool, true, false, Some, slice_get};
-ghost use Rattle.cord_script.specs.declared.statements.Statement.{Statement};
+ghost use Rattle.cord_syntax.specs.declared.statements.Statement.{Statement};
 ghost use Rattle.cord_plan.specs.Unread.{ReadBy, ReadLater, IsLater, IsFixed, live, later_within};
 ghost use Rattle.cord_plan.specs.Planned.{Made, Operation, Build, planned};
 ghost use Rattle.cord_plan.specs.Flat.{IsFlatOperation};

@@ -5,9 +5,11 @@ ghost use Rattle.cord_plan.specs.Forced.{own};
 ghost use Rattle.cord_plan.specs.Planned as plan;
 ghost use Rattle.cord_plan.specs.Views.{expr_view, made_view, operation_view};
 
-use crate::{Expr, Made, Members, Operation};
+use crate::own::cat;
+use crate::{Expr, Made, Operation};
 use cord_io::CordError;
-use cord_script::{Name, Statement};
+use cord_printf::Format;
+use cord_script::{Arguments, Name, Statement, Text};
 use std::alloc::Global;
 
 /// The operation of a line whose expression is this one.
@@ -47,40 +49,57 @@ fn operation_without(statement: &Statement, dead: bool) -> Result<Operation, Cor
     ensures made { IfOk result (λ o. (e : plain.Expr) (paired : Bool) → operation_view o ≡ plan.operation statement.now e dead paired) }
     ensures refused { IsOkUnless result CordError.NoMemory }
 {
-    let (line, target, made) = match statement {
-        Statement::Let { line, target, text } => (line, target, Made::Literal(text.clone()?)),
-        Statement::File { line, target, path } => (line, target, Made::OfFile(path.clone()?)),
-        Statement::Eager { line, target, path } => (line, target, Made::OfEager(path.clone()?)),
-        Statement::Lazy { line, target, path } => (line, target, Made::OfLazy(path.clone()?)),
+    match statement {
+        Statement::Let { line, target, text } => {
+            gives(dead, *line, target, Made::Literal(text.clone()?))
+        }
+        Statement::File { line, target, path } => {
+            gives(dead, *line, target, Made::OfFile(path.clone()?))
+        }
+        Statement::Eager { line, target, path } => {
+            gives(dead, *line, target, Made::OfEager(path.clone()?))
+        }
+        Statement::Lazy { line, target, path } => {
+            gives(dead, *line, target, Made::OfLazy(path.clone()?))
+        }
         Statement::FromFn {
             line,
             target,
             function,
             count,
-        } => (line, target, Made::OfFunction(*function, count.clone()?)),
+        } => gives(
+            dead,
+            *line,
+            target,
+            Made::OfFunction(*function, count.clone()?),
+        ),
         Statement::Balance {
             line,
             target,
             operand,
-        } => (line, target, Made::Balanced(operand.clone()?)),
+        } => gives(dead, *line, target, Made::Balanced(operand.clone()?)),
         Statement::EcToCord {
             line,
             target,
             extensible,
-        } => (line, target, Made::OfExtensible(extensible.clone()?)),
+        } => gives(dead, *line, target, Made::OfExtensible(extensible.clone()?)),
         Statement::Sprintf {
             line,
             target,
             text,
             format,
             arguments,
-        } => {
-            let made = Made::Printed(text.clone()?, format.clone()?, arguments.clone()?);
-            (line, target, made)
-        }
-        _ => return Ok(Operation::Keep(statement.clone()?)),
-    };
-    gives(dead, *line, target, made)
+        } => gives(dead, *line, target, printed(text, format, arguments)?),
+        _ => Ok(Operation::Keep(statement.clone()?)),
+    }
+}
+
+// The text of a print.
+fn printed(text: &Text, format: &Format, arguments: &Arguments) -> Result<Made, CordError>
+    ensures made { IfOk result (λ m. made_view m ≡ plan.Printed text.now format.now arguments.now) }
+    ensures refused { IsOkUnless result CordError.NoMemory }
+{
+    Ok(Made::Printed(text.clone()?, format.clone()?, arguments.clone()?))
 }
 
 // The operation that gives a name what it is made of, or only measures that.
@@ -102,6 +121,6 @@ fn or_nothing(alloc: Global, expression: Option<Expr>) -> Expr
 {
     match expression {
         Some(expression) => expression,
-        None => Expr::Cat(Members::of(Vec::new(alloc))),
+        None => cat(Vec::new(alloc)),
     }
 }

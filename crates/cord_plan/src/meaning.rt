@@ -1,7 +1,7 @@
 // Plans keep the meaning of their scripts: each is a function that does nothing, whose contract is the law.
 ghost use Rattle.std.specs.Prelude.{◌≡◌, ℕ, Bool, false, None, List, [], map};
 ghost use Rattle.cord_io.specs.Device.{Folder};
-ghost use Rattle.cord_script.specs.declared.statements.Statement.{Statement};
+ghost use Rattle.cord_syntax.specs.declared.statements.Statement.{Statement};
 ghost use Rattle.cord_script.specs.Forms.{Grammar};
 ghost use Rattle.cord_script.specs.Script.{ReadsBy};
 ghost use Rattle.cord_meaning.specs.Blocks.{IsNested};

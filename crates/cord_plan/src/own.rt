@@ -1,5 +1,6 @@
 // The own expression of a statement.
-ghost use Rattle.std.specs.Prelude.{◌≡◌, IfOk, IsOkUnless, map, option_map};
+ghost use Rattle.std.specs.Prelude.{◌≡◌, [], ◌∷◌, pos, IfOk, IsOkUnless, map, option_map};
+ghost use Rattle.cord_operands.specs.declared.operands.Number.TheVariants.{Numeral};
 ghost use Rattle.cord_plan.specs.Exprs as plain;
 ghost use Rattle.cord_plan.specs.Forced.{own};
 ghost use Rattle.cord_plan.specs.Views.{expr_view, members_of};
@@ -20,34 +21,42 @@ pub(crate) fn own_expression(
     ensures refused { IsOkUnless result CordError.NoMemory }
 {
     match statement {
-        Statement::Cat { left, right, .. } => {
-            let operands = vec![in alloc; named(left)?, named(right)?]?;
-            Ok(Some(cat(operands)))
-        }
+        Statement::Cat { left, right, .. } => Ok(Some(pair(alloc, left, right)?)),
         Statement::Catn { parts, .. } => {
             let operands = all_named(alloc, parts.as_slice())?;
             Ok(Some(cat(operands)))
         }
-        Statement::Catc { operand, byte, .. } => {
-            let last = run(byte.clone()?, Number::Numeral(1));
-            let operands = vec![in alloc; named(operand)?, last]?;
-            Ok(Some(cat(operands)))
-        }
-        Statement::Chars { byte, count, .. } => Ok(Some(run(byte.clone()?, count.clone()?))),
+        Statement::Catc { operand, byte, .. } => Ok(Some(with_byte(alloc, operand, byte)?)),
+        Statement::Chars { byte, count, .. } => Ok(Some(run_of(byte, count)?)),
         Statement::Nul { count, .. } => Ok(Some(run(Number::Numeral(0), count.clone()?))),
         Statement::Substr {
             operand,
             start,
             count,
             ..
-        } => Ok(Some(Expr::Sub {
-            expression: Box::new(alloc, named(operand)?)?,
-            start: start.clone()?,
-            count: count.clone()?,
-        })),
+        } => Ok(Some(sub_of(alloc, named(operand)?, start, count)?)),
         Statement::Put { operand, .. } => Ok(Some(named(operand)?)),
         _ => Ok(None),
     }
+}
+
+// `cat` of two names.
+fn pair(alloc: Global, left: &Name, right: &Name) -> Result<Expr, CordError>
+    ensures made { IfOk result (λ e. expr_view e ≡ plain.cat (members_of (plain.name left.now ∷ plain.name right.now ∷ []))) }
+    ensures refused { IsOkUnless result CordError.NoMemory }
+{
+    let operands = vec![in alloc; named(left)?, named(right)?]?;
+    Ok(cat(operands))
+}
+
+// `cat` of a name and one byte.
+fn with_byte(alloc: Global, operand: &Name, byte: &Number) -> Result<Expr, CordError>
+    ensures made { IfOk result (λ e. expr_view e ≡ plain.cat (members_of (plain.name operand.now ∷ plain.run byte.now (Numeral (pos 1)) ∷ []))) }
+    ensures refused { IsOkUnless result CordError.NoMemory }
+{
+    let byte = byte.clone()?;
+    let operands = vec![in alloc; named(operand)?, run(byte, Number::Numeral(1))]?;
+    Ok(cat(operands))
 }
 
 /// `cat` of these members.
@@ -62,6 +71,31 @@ pub(crate) fn run(byte: Number, count: Number) -> Expr
     ensures { expr_view result ≡ plain.run byte count }
 {
     Expr::Run { byte, count }
+}
+
+/// `run(byte count)` of copies of these.
+pub(crate) fn run_of(byte: &Number, count: &Number) -> Result<Expr, CordError>
+    ensures made { IfOk result (λ e. expr_view e ≡ plain.run byte.now count.now) }
+    ensures refused { IsOkUnless result CordError.NoMemory }
+{
+    Ok(run(byte.clone()?, count.clone()?))
+}
+
+/// `sub(expression start count)`.
+pub(crate) fn sub_of(
+    alloc: Global,
+    expression: Expr,
+    start: &Number,
+    count: &Number,
+) -> Result<Expr, CordError>
+    ensures made { IfOk result (λ e. expr_view e ≡ plain.sub (expr_view expression) start.now count.now) }
+    ensures refused { IsOkUnless result CordError.NoMemory }
+{
+    Ok(Expr::Sub {
+        expression: Box::new(alloc, expression)?,
+        start: start.clone()?,
+        count: count.clone()?,
+    })
 }
 
 /// A name as an expression.

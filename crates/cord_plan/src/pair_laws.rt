@@ -1,6 +1,6 @@
 // Laws of forced pairs: each is a function that does nothing, whose contract is the law.
 ghost use Rattle.std.specs.Prelude.{◌≡◌, ◌≤◌, ℕ, List, Bool, false, Some, codes, slice_get};
-ghost use Rattle.cord_script.specs.declared.statements.Statement.{Statement};
+ghost use Rattle.cord_syntax.specs.declared.statements.Statement.{Statement};
 ghost use Rattle.cord_script.specs.Forms.{Grammar};
 ghost use Rattle.cord_script.specs.Script.{ReadsBy};
 ghost use Rattle.cord_plan.specs.declared.TheConstants.{MAX_EXPR_PARTS};

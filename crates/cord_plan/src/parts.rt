@@ -4,7 +4,8 @@ ghost use Rattle.cord_plan.specs.Exprs.{parts, parts_of};
 ghost use Rattle.cord_plan.specs.Choices.{room_left};
 ghost use Rattle.cord_plan.specs.Views.{expr_view, members_of};
 
-use crate::{Expr, Members};
+use crate::Expr;
+use crate::own::{cat, named, run_of, sub_of};
 use cord_io::CordError;
 use std::alloc::Global;
 
@@ -45,14 +46,11 @@ pub(crate) fn copy(alloc: Global, expression: &Expr) -> Result<Expr, CordError>
     ensures refused { IsOkUnless result CordError.NoMemory }
 {
     match expression {
-        Expr::Name(name) => Ok(Expr::Name(name.clone()?)),
-        Expr::Run { byte, count } => Ok(Expr::Run {
-            byte: byte.clone()?,
-            count: count.clone()?,
-        }),
+        Expr::Name(name) => named(name),
+        Expr::Run { byte, count } => run_of(byte, count),
         Expr::Cat(members) => {
             let copies = copy_all(alloc, members.as_slice())?;
-            Ok(Expr::Cat(Members::of(copies)))
+            Ok(cat(copies))
         }
         Expr::Sub {
             expression,
@@ -60,11 +58,7 @@ pub(crate) fn copy(alloc: Global, expression: &Expr) -> Result<Expr, CordError>
             count,
         } => {
             let inner = copy(alloc, expression.as_ref())?;
-            Ok(Expr::Sub {
-                expression: Box::new(alloc, inner)?,
-                start: start.clone()?,
-                count: count.clone()?,
-            })
+            sub_of(alloc, inner, start, count)
         }
     }
 }

@@ -8,12 +8,12 @@ ghost use Rattle.cord_io.specs.Device.{raised};
 ghost use Rattle.cord_meaning.specs.Statements.{line_of};
 ghost use Rattle.cord_iter.specs.Taking.{IsFrontOf, Takes};
 ghost use Rattle.cord_plan.specs.Shown.{decimal, expr, function, spaced, statement, made as made_text, operation as operation_text, shown};
-ghost use Rattle.cord_plan.specs.Showing.{Writes};
+ghost use Rattle.cord_plan.specs.Showing.{Writes, fragment_text};
 ghost use Rattle.cord_plan.specs.Views.{expr_view, made_view, operation_view};
 
 use self::expressions::put_expression;
 use self::fragments::Fragment::{Arguments, Count, Name, Number, Path, Plain};
-use self::fragments::{put_fragments, put_text};
+use self::fragments::{Fragment, put_fragments, put_text};
 use self::statements::put_statement;
 use crate::{Expr, Made, Operation};
 use cord_io::{CordError, Sink, WriteFault};
@@ -102,17 +102,12 @@ fn put_made<W: Sink>(made: &Made, sink: &mut W) -> Result<(), WriteFault>
 {
     match made {
         Made::Joined(expression) => put_expression(expression, sink),
-        Made::Literal(text) => put_fragments(
-            &[
-                Plain(b"literal("),
-                Count(text.as_slice().len() as u64),
-                Plain(b")"),
-            ],
-            sink,
-        ),
-        Made::OfFile(path) => put_fragments(&[Plain(b"file("), Path(path), Plain(b")")], sink),
-        Made::OfEager(path) => put_fragments(&[Plain(b"eager("), Path(path), Plain(b")")], sink),
-        Made::OfLazy(path) => put_fragments(&[Plain(b"lazy("), Path(path), Plain(b")")], sink),
+        Made::Literal(text) => {
+            put_called(b"literal(", Count(text.as_slice().len() as u64), sink)
+        }
+        Made::OfFile(path) => put_called(b"file(", Path(path), sink),
+        Made::OfEager(path) => put_called(b"eager(", Path(path), sink),
+        Made::OfLazy(path) => put_called(b"lazy(", Path(path), sink),
         Made::OfFunction(function, count) => {
             put_fragments(
                 &[
@@ -125,11 +120,8 @@ fn put_made<W: Sink>(made: &Made, sink: &mut W) -> Result<(), WriteFault>
                 sink,
             )
         }
-        Made::Balanced(name) => put_fragments(&[Plain(b"balance("), Name(name), Plain(b")")], sink),
-        Made::OfExtensible(name) => put_fragments(
-            &[Plain(b"ectocord("), Name(name), Plain(b")")],
-            sink,
-        ),
+        Made::Balanced(name) => put_called(b"balance(", Name(name), sink),
+        Made::OfExtensible(name) => put_called(b"ectocord(", Name(name), sink),
         Made::Printed(text, _, arguments) => {
             put_fragments(
                 &[
@@ -142,6 +134,17 @@ fn put_made<W: Sink>(made: &Made, sink: &mut W) -> Result<(), WriteFault>
             )
         }
     }
+}
+
+// A fragment between a word with its bracket and the other bracket.
+fn put_called<'a, W: Sink>(
+    opened: &'a [u8],
+    inside: Fragment<'a>,
+    sink: &mut W,
+) -> Result<(), WriteFault>
+    ensures { Writes (opened.now ++ fragment_text inside.entry ++ 41 ∷ []) (W.taken sink.old) (W.taken sink.new) (W.failures sink.old) (W.failures sink.new) (W.finished sink.old) (W.finished sink.new) result }
+{
+    put_fragments(&[Plain(opened), inside, Plain(b")")], sink)
 }
 
 // The word for a function.

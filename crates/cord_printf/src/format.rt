@@ -7,11 +7,11 @@ ghost use Rattle.cord_printf.specs.declared.pieces.Piece.{Piece};
 use crate::conversions::conversion;
 use crate::reading::{Class, span, uncons};
 use crate::{FormatError, Literal, Piece};
-use std::alloc::{AllocError, Global};
+use std::alloc::Global;
 use std::marker::Model;
 
 /// A format: its pieces, from left to right.
-#[derive(Drop)]
+#[derive(Clone, Drop)]
 pub struct Format {
     pieces: Vec<Piece>,
 }
@@ -23,16 +23,6 @@ impl Model for Format {
     ghost Value = { List Piece };
 
     ghost view = { λ f. f.pieces.items };
-}
-
-impl Clone for Format {
-    ghost is_clone = { λ it copy. copy ≡ it };
-
-    fn clone(&self) -> Result<Format, AllocError> {
-        Ok(Format {
-            pieces: self.pieces.clone()?,
-        })
-    }
 }
 
 impl Format {

@@ -1,11 +1,10 @@
 // The pieces of a format.
 ghost use Rattle.std.specs.Prelude.{◌≡◌, List, ℕ};
 
-use std::alloc::AllocError;
 use std::marker::Model;
 
 /// The bytes of a format that stand for themselves.
-#[derive(Drop)]
+#[derive(Clone, Drop)]
 pub struct Literal {
     bytes: Vec<u8>,
 }
@@ -14,16 +13,6 @@ impl Model for Literal {
     ghost Value = { List ℕ };
 
     ghost view = { λ l. l.bytes.items };
-}
-
-impl Clone for Literal {
-    ghost is_clone = { λ it copy. copy ≡ it };
-
-    fn clone(&self) -> Result<Literal, AllocError> {
-        Ok(Literal {
-            bytes: self.bytes.clone()?,
-        })
-    }
 }
 
 impl Literal {

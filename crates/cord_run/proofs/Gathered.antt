@@ -11,8 +11,8 @@ use Rattle.cord_core.specs.Cord.{IsCord}
 use Rattle.cord_core.specs.Equations.{IsEntryRange}
 use Rattle.cord_ec.specs.Grown.{bytes_over, IsCordOf, IsGrownBy}
 use Rattle.cord_file.specs.Entries.{lengths_in, table_in}
-use Rattle.cord_script.specs.declared.operands.Function.{Function}
-use Rattle.cord_script.specs.declared.operands.Function.TheVariants.{Digits, Bytes}
+use Rattle.cord_operands.specs.declared.operands.Function.{Function}
+use Rattle.cord_operands.specs.declared.operands.Function.TheVariants.{Digits, Bytes}
 use Rattle.cord_run.specs.Contents.{IsStartOf, IsTextOf, entry_of}
 
 -- an extensible cord of no bytes that has grown by a text

@@ -18,8 +18,8 @@ use Rattle.cord_printf.specs.Over.{ArgumentsFitIn, IsPrintOf, argument_over}
 use Rattle.cord_printf.specs.PieceText.{PieceArgument, number, text, map_argument, first_refusal, printed}
 use Rattle.cord_printf.specs.Printing.{IsPrintable, IsRefusedFor, arguments_of}
 use Rattle.cord_printf.proofs.Natural.{first_refusal-map, map-printed}
-use Rattle.cord_script.specs.declared.operands.Argument.{Argument}
-use Rattle.cord_script.specs.declared.operands.Argument.TheVariants as arguments
+use Rattle.cord_operands.specs.declared.operands.Argument.{Argument}
+use Rattle.cord_operands.specs.declared.operands.Argument.TheVariants as arguments
 use Rattle.cord_meaning.specs.declared.ends.FaultKind.{FaultKind}
 use Rattle.cord_meaning.specs.Formats.{fault_of, format_text, given, unless_refused}
 use Rattle.cord_meaning.specs.State.{and_then}

@@ -9,7 +9,7 @@ use Rattle.cord_node.specs.Tables.{lengths_of}
 use Rattle.cord_node.proofs.Ranges.{range_of_range}
 use Rattle.cord_core.specs.Cord.{text_len, bytes_of, CordFitsIn, all_bytes, all_len, AllFitIn}
 use Rattle.cord_core.specs.Equations.{IsSubstring, HasText}
-use Rattle.cord_script.specs.declared.operands.Number.{Number}
+use Rattle.cord_operands.specs.declared.operands.Number.{Number}
 use Rattle.cord_meaning.specs.declared.ends.FaultKind.{FaultKind}
 use Rattle.cord_meaning.specs.State.{number_value, and_then, as_index, as_byte, as_length}
 use Rattle.cord_plan.specs.Exprs.{Expr, name, run, cat, sub, Exprs}

@@ -9,8 +9,8 @@ use Rattle.cord_node.specs.Tables.{lengths_of}
 use Rattle.cord_node.proofs.TreeLemmas.{len_limit}
 use Rattle.cord_core.specs.Cord.{bytes_of, CordFitsIn}
 use Rattle.cord_core.proofs.OverLemmas.{length-bytes}
-use Rattle.cord_script.specs.declared.operands.Number.{Number}
-use Rattle.cord_script.specs.declared.operands.Number.TheVariants.{Numeral, Named}
+use Rattle.cord_operands.specs.declared.operands.Number.{Number}
+use Rattle.cord_operands.specs.declared.operands.Number.TheVariants.{Numeral, Named}
 use Rattle.cord_meaning.specs.declared.ends.FaultKind.{FaultKind}
 use Rattle.cord_meaning.specs.declared.ends.FaultKind.TheVariants.{TooLong}
 use Rattle.cord_meaning.specs.State.{State, number_value, and_then, as_index, as_byte, as_length}

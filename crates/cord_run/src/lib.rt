@@ -4,6 +4,7 @@
 mod appending;
 mod checks;
 mod control;
+mod ending;
 mod extensibles;
 mod files;
 mod halts;

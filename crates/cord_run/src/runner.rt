@@ -11,9 +11,9 @@ ghost use Rattle.cord_run.specs.Steps.{HonestPlan};
 ghost use Rattle.cord_script.specs.Flaws.{Flaw};
 ghost use Rattle.cord_script.specs.Forms.{Grammar};
 ghost use Rattle.cord_script.specs.Script.{ReadsBy};
-ghost use Rattle.cord_script.specs.declared.statements.Statement.{Statement};
+ghost use Rattle.cord_syntax.specs.declared.statements.Statement.{Statement};
 
-use crate::making::Halt;
+use crate::ending::{close_output, end_of_run};
 use crate::running::run_plan;
 use cord_file::Sources;
 use cord_io::{Files, Sink};
@@ -37,27 +37,8 @@ fn run_over<F: Files, S: Sink>(
     ensures cause { NamesCause
         (record { files_before = F.failures (device_in sources.old); files_after = F.failures (device_in sources.new); sink_before = S.failures sink.old; sink_after = S.failures sink.new; finished_before = S.finished sink.old; finished_after = S.finished sink.new }) result }
 {
-    match run_plan(alloc, plan, sources, sink) {
-        Ok(()) => match sink.finish() {
-            Ok(()) => End::Done,
-            Err(_) => End::WriteFailed(0),
-        },
-        Err(stopped) => match stopped.halt {
-            Halt::WriteFailed => End::WriteFailed(stopped.line),
-            Halt::ReadFailed => {
-                let _ = sink.finish();
-                End::ReadFailed(stopped.line)
-            }
-            Halt::NoMemory => {
-                let _ = sink.finish();
-                End::NoMemory(stopped.line)
-            }
-            Halt::Fault(kind) => match sink.finish() {
-                Ok(()) => End::Fault(stopped.line, kind),
-                Err(_) => End::WriteFailed(0),
-            },
-        },
-    }
+    let own = end_of_run(run_plan(alloc, plan, sources, sink));
+    close_output(own, sink)
 }
 
 /// Runs a plan over files, ends the output with one `finish`, unless writing failed, and hands the files back. Where a script is

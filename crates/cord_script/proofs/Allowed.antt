@@ -6,7 +6,7 @@ use Rattle.cord_script.specs.declared.TheConstants.{MAX_PATHS, MAX_BLOCKS}
 use Rattle.cord_script.specs.declared.kinds.Kind.TheVariants as kinds
 use Rattle.cord_script.specs.declared.kinds.Want.{Want}
 use Rattle.cord_script.specs.declared.kinds.Want.TheVariants as wants
-use Rattle.cord_script.specs.declared.operands.Number.TheVariants.{Numeral, Named}
+use Rattle.cord_operands.specs.declared.operands.Number.TheVariants.{Numeral, Named}
 use Rattle.cord_script.specs.declared.table.Known.{Known}
 use Rattle.cord_script.specs.declared.words.Word.{Word}
 use Rattle.cord_script.specs.declared.refusals.RefusalKind.{RefusalKind}

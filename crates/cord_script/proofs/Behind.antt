@@ -7,8 +7,9 @@ use Rattle.cord_script.specs.declared.parts.Part.{Part}
 use Rattle.cord_script.specs.declared.words.Word.{Word}
 use Rattle.cord_script.specs.declared.words.Word.TheVariants.{Plain}
 use Rattle.cord_script.specs.declared.refusals.RefusalKind.{RefusalKind}
-use Rattle.cord_script.specs.declared.statements.Statement.{Statement}
-use Rattle.cord_script.specs.Forms.{Term, form_of, line_of, word_of, terms_of, effect_of}
+use Rattle.cord_syntax.specs.declared.statements.Statement.{Statement}
+use Rattle.cord_syntax.specs.Lines.{line_of}
+use Rattle.cord_script.specs.Forms.{Term, form_of, word_of, terms_of, effect_of}
 use Rattle.cord_script.specs.Script.{Before, AreTerms, AreAllowed, FitsBlocks, Suits, whole, after, names_after, paths_after, blocks_after}
 use Rattle.cord_script.specs.Flaws.{HasFormFlaw, HasBadWords}
 use Rattle.cord_script.specs.Parted.{term_of, IsChecked}

@@ -4,11 +4,12 @@ use Rattle.std.specs.Prelude.{All, ◌==◌}
 use Rattle.std.proofs.lemmas.Bool.{eqb-false}
 use Rattle.cord_script.specs.declared.TheConstants.{MAX_SCRIPT, MAX_LINES}
 use Rattle.cord_script.specs.declared.words.Word.{Word}
-use Rattle.cord_script.specs.declared.statements.Statement.{Statement}
+use Rattle.cord_syntax.specs.declared.statements.Statement.{Statement}
 use Rattle.cord_script.specs.declared.refusals.RefusalKind.{RefusalKind}
 use Rattle.cord_script.specs.declared.refusals.RefusalKind.TheVariants.{TooBig, NoMemory}
 use Rattle.cord_script.specs.Words.{IsSplit, IsIdle, HasWords}
-use Rattle.cord_script.specs.Forms.{Grammar, line_of}
+use Rattle.cord_syntax.specs.Lines.{line_of}
+use Rattle.cord_script.specs.Forms.{Grammar}
 use Rattle.cord_script.specs.Script.{Before, Block, ReadsBy, ReadsUpTo, Says, LinesSay, whole, start, after, after_all}
 use Rattle.cord_script.specs.Script.Block.{InRepeat, InIf, InElse}
 use Rattle.cord_script.specs.Flaws.{FlawBy, HasBadLine}

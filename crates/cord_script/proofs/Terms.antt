@@ -7,12 +7,12 @@ use Rattle.cord_script.specs.declared.kinds.Kind.{Kind}
 use Rattle.cord_script.specs.declared.kinds.Kind.TheVariants as kinds
 use Rattle.cord_script.specs.declared.kinds.Want.{Want}
 use Rattle.cord_script.specs.declared.kinds.Want.TheVariants as wants
-use Rattle.cord_script.specs.declared.operands.Number.{Number}
-use Rattle.cord_script.specs.declared.operands.Number.TheVariants.{Numeral, Named}
-use Rattle.cord_script.specs.declared.operands.Function.{Function}
-use Rattle.cord_script.specs.declared.operands.Function.TheVariants.{Digits, Bytes}
-use Rattle.cord_script.specs.declared.operands.Relation.{Relation}
-use Rattle.cord_script.specs.declared.operands.Relation.TheVariants.{Less, Equal, Greater}
+use Rattle.cord_operands.specs.declared.operands.Number.{Number}
+use Rattle.cord_operands.specs.declared.operands.Number.TheVariants.{Numeral, Named}
+use Rattle.cord_operands.specs.declared.operands.Function.{Function}
+use Rattle.cord_operands.specs.declared.operands.Function.TheVariants.{Digits, Bytes}
+use Rattle.cord_operands.specs.declared.operands.Relation.{Relation}
+use Rattle.cord_operands.specs.declared.operands.Relation.TheVariants.{Less, Equal, Greater}
 use Rattle.cord_script.specs.declared.table.Known.{Known}
 use Rattle.cord_script.specs.declared.words.Word.{Word}
 use Rattle.cord_script.specs.declared.words.Word.TheVariants.{Plain}

@@ -5,11 +5,11 @@ use Rattle.cord_script.specs.declared.TheConstants.{MAX_SCRIPT, MAX_LINES, MAX_B
 use Rattle.cord_printf.specs.Pieces.{Conversion, HasWidth, flags_of}
 use Rattle.cord_printf.specs.declared.pieces.Piece.TheVariants.{Signed}
 use Rattle.cord_script.specs.declared.kinds.Want.TheVariants as wants
-use Rattle.cord_script.specs.declared.operands.Number.TheVariants.{Numeral}
-use Rattle.cord_script.specs.declared.operands.Relation.TheVariants.{Equal}
+use Rattle.cord_operands.specs.declared.operands.Number.TheVariants.{Numeral}
+use Rattle.cord_operands.specs.declared.operands.Relation.TheVariants.{Equal}
 use Rattle.cord_script.specs.declared.words.Word.TheVariants.{Plain, Quoted}
-use Rattle.cord_script.specs.declared.statements.Statement.{Statement}
-use Rattle.cord_script.specs.declared.statements.Statement.TheVariants.{Let, Put, Repeat, If, Else, End}
+use Rattle.cord_syntax.specs.declared.statements.Statement.{Statement}
+use Rattle.cord_syntax.specs.declared.statements.Statement.TheVariants.{Let, Put, Repeat, If, Else, End}
 use Rattle.cord_script.specs.declared.refusals.RefusalKind.{RefusalKind}
 use Rattle.cord_script.specs.declared.refusals.RefusalKind.TheVariants.{Unterminated, BadEscape, WrongCount, BadName, BadNumber, UnknownName, WrongKind, EndAlone, MissingEnd, ElseAlone, MissingIfEnd}
 use Rattle.cord_script.specs.Words.{IsSplit, IsIdle, Stands, IsBadText}

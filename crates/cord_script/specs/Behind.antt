@@ -3,7 +3,7 @@ use Rattle.std.specs.Prelude.{◌≡◌, ℕ, List, map}
 use Rattle.cord_script.specs.declared.grammar.Verb.{Verb}
 use Rattle.cord_script.specs.declared.parts.Part.{Part}
 use Rattle.cord_script.specs.declared.words.Word.{Word}
-use Rattle.cord_script.specs.declared.statements.Statement.{Statement}
+use Rattle.cord_syntax.specs.declared.statements.Statement.{Statement}
 use Rattle.cord_script.specs.Script.{Before, Says, whole, after, names_after, paths_after, blocks_after}
 use Rattle.cord_script.specs.Parted.{term_of}
 use Rattle.cord_script.specs.Verbal.{verb_effect}

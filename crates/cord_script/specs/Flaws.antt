@@ -9,7 +9,7 @@ use Rattle.cord_script.specs.declared.kinds.Want.TheVariants as wants
 use Rattle.cord_script.specs.declared.table.Known.{Known}
 use Rattle.cord_script.specs.declared.words.Word.{Word}
 use Rattle.cord_script.specs.declared.words.Word.TheVariants.{Plain, Quoted}
-use Rattle.cord_script.specs.declared.statements.Statement.{Statement}
+use Rattle.cord_syntax.specs.declared.statements.Statement.{Statement}
 use Rattle.cord_script.specs.declared.refusals.RefusalKind.{RefusalKind}
 use Rattle.cord_script.specs.declared.refusals.RefusalKind.TheVariants.{TooBig, UnknownStatement, WrongCount, BadName, BadNumber, UnknownName, WrongKind, BadFormat, TooDeep, EndAlone, MissingEnd, TooMany, ElseAlone, MissingIfEnd}
 use Rattle.cord_script.specs.Words.{IsSplit, IsIdle, HasWords, HasBadBytes}

@@ -1,7 +1,7 @@
 -- Laws of scripts: what is read, and what is wrong, is one thing at most.
 use Rattle.std.specs.Prelude.{◌≡◌, ℕ, List}
 use Rattle.cord_script.specs.declared.refusals.RefusalKind.{RefusalKind}
-use Rattle.cord_script.specs.declared.statements.Statement.{Statement}
+use Rattle.cord_syntax.specs.declared.statements.Statement.{Statement}
 use Rattle.cord_script.specs.Forms.{Grammar}
 use Rattle.cord_script.specs.Script.{ReadsBy, whole, without_branches}
 use Rattle.cord_script.specs.Flaws.{FlawBy}

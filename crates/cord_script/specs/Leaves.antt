@@ -2,7 +2,7 @@
 use Rattle.std.specs.Prelude.{ℕ, List, [], ◌∷◌, map, length, ◌||◌, nat_lt, Option, None}
 use Rattle.cord_script.specs.declared.TheConstants.{MAX_PATHS}
 use Rattle.cord_script.specs.declared.kinds.Kind.TheVariants as kinds
-use Rattle.cord_script.specs.declared.operands.Number.TheVariants as numbers
+use Rattle.cord_operands.specs.declared.operands.Number.TheVariants as numbers
 use Rattle.cord_script.specs.declared.table.Known.{Known}
 use Rattle.cord_script.specs.declared.blocks.Open.{Open}
 use Rattle.cord_script.specs.declared.blocks.Open.TheVariants as blocks

@@ -15,4 +15,3 @@ pub mod Tables
 pub mod Tests
 pub mod Verbal
 pub mod Words
-pub mod Families

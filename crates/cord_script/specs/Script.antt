@@ -5,16 +5,17 @@ use Rattle.cord_printf.specs.Format.{IsFormat}
 use Rattle.cord_script.specs.declared.TheConstants.{MAX_SCRIPT, MAX_LINES, MAX_NAMES, MAX_PATHS, MAX_BLOCKS, MIN_PARTS, MAX_PARTS}
 use Rattle.cord_script.specs.declared.kinds.Kind.{Kind}
 use Rattle.cord_script.specs.declared.kinds.Kind.TheVariants as kinds
-use Rattle.cord_script.specs.declared.operands.Number.TheVariants as numbers
+use Rattle.cord_operands.specs.declared.operands.Number.TheVariants as numbers
 use Rattle.cord_script.specs.declared.table.Known.{Known}
 use Rattle.cord_script.specs.declared.words.Word.{Word}
 use Rattle.cord_script.specs.declared.words.Word.TheVariants.{Plain, Quoted}
-use Rattle.cord_script.specs.declared.statements.Statement.{Statement}
-use Rattle.cord_script.specs.declared.statements.Statement.TheVariants.{Catn, Sprintf}
+use Rattle.cord_syntax.specs.declared.statements.Statement.{Statement}
+use Rattle.cord_syntax.specs.declared.statements.Statement.TheVariants.{Catn, Sprintf}
 use Rattle.cord_script.specs.Words.{IsSplit, IsIdle, HasWords}
 use Rattle.cord_script.specs.Tests.{is_name, numeral_of, is_path, function_word, relation_word}
 use Rattle.cord_script.specs.Formats.{wants_of_pieces}
-use Rattle.cord_script.specs.Forms.{Grammar, Effect, Term, line_of, word_of, terms_of, effect_of, argument_want, is_branch}
+use Rattle.cord_syntax.specs.Lines.{line_of}
+use Rattle.cord_script.specs.Forms.{Grammar, Effect, Term, word_of, terms_of, effect_of, argument_want, is_branch}
 use Rattle.cord_script.specs.Forms.Effect.{Stays, OpensRepeat, OpensIf, Turns, Closes}
 use Rattle.cord_script.specs.Forms.Term.{Target, Operand, Value, Literal, FilePath, Applies, Compares, Formats}
 

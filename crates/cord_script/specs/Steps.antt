@@ -1,7 +1,7 @@
 -- What the parser's steps tell of a line.
 use Rattle.std.specs.Prelude.{◌≡◌, ◌+◌, ℕ, ◌⊎◌, List, ◌++◌, length, Option, Some, None, option_to_list}
 use Rattle.cord_script.specs.declared.words.Word.{Word}
-use Rattle.cord_script.specs.declared.statements.Statement.{Statement}
+use Rattle.cord_syntax.specs.declared.statements.Statement.{Statement}
 use Rattle.cord_script.specs.declared.refusals.RefusalKind.{RefusalKind}
 use Rattle.cord_script.specs.Words.{IsIdle, IsSplit, HasWords, HasBadBytes}
 use Rattle.cord_script.specs.Script.{Before, LinesSay, whole, start, after_all}

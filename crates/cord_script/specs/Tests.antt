@@ -2,10 +2,10 @@
 use Rattle.std.specs.Prelude.{ℕ, ◌+◌, ◌*◌, ◌-◌, ◌^◌, List, [], ◌∷◌, length, Bool, true, false, ◌&&◌, ◌||◌, not, ◌==◌, nat_le, nat_lt, Option, Some, None, ℤ, pos, neg_ℤ, if◌then◌else◌, codes}
 use Rattle.std.specs.Str.{is_utf8}
 use Rattle.cord_script.specs.declared.TheConstants.{MAX_NAME, MAX_PATH}
-use Rattle.cord_script.specs.declared.operands.Function.{Function}
-use Rattle.cord_script.specs.declared.operands.Function.TheVariants.{Digits, Bytes}
-use Rattle.cord_script.specs.declared.operands.Relation.{Relation}
-use Rattle.cord_script.specs.declared.operands.Relation.TheVariants.{Less, Equal, Greater}
+use Rattle.cord_operands.specs.declared.operands.Function.{Function}
+use Rattle.cord_operands.specs.declared.operands.Function.TheVariants.{Digits, Bytes}
+use Rattle.cord_operands.specs.declared.operands.Relation.{Relation}
+use Rattle.cord_operands.specs.declared.operands.Relation.TheVariants.{Less, Equal, Greater}
 
 -- each byte passes the test
 abbrev pub each : (ℕ → Bool) → List ℕ → Bool

@@ -1,6 +1,7 @@
 // Statements of their parts, family by family.
 ghost use Rattle.std.specs.Prelude.{◌≡◌, map, true, IfOk, IfErr};
-ghost use Rattle.cord_script.specs.Forms.{line_of, word_of, terms_of};
+ghost use Rattle.cord_syntax.specs.Lines.{line_of};
+ghost use Rattle.cord_script.specs.Forms.{word_of, terms_of};
 ghost use Rattle.cord_script.specs.Script.{Suits};
 ghost use Rattle.cord_script.specs.Parted.{want_of};
 ghost use Rattle.cord_script.specs.Verbal.{verb_word, verb_wants, is_source, is_simple, is_growth, is_look, is_search, is_count, is_control};

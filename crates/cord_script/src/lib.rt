@@ -5,34 +5,29 @@ mod before;
 mod blocks;
 mod builds;
 mod checks;
-mod copies;
 mod cursor;
 mod grammar;
 mod kinds;
 mod laws;
 mod limits;
-mod names;
 mod numerals;
-mod operands;
 mod parser;
 mod parts;
 mod refusals;
 mod saying;
-mod statements;
 mod table;
 mod taking;
 mod words;
 
+pub use cord_operands::{Argument, Arguments, Function, Name, Names, Number, Path, Relation, Text};
+pub use cord_syntax::{Script, Statement};
 pub use laws::{
     branches_change_no_script, bytes_are_one_script, bytes_have_one_flaw,
     read_scripts_have_no_flaw, worked_rows_hold,
 };
 pub use limits::limits_are;
-pub use names::{Name, Names, Path, Text};
-pub use operands::{Argument, Arguments, Function, Number, Relation};
 pub use parser::parse;
 pub use refusals::{Refusal, RefusalKind};
-pub use statements::{Script, Statement};
 pub use words::is_same;
 
 /// The greatest number of bytes of a script.

@@ -1,7 +1,7 @@
 // The parser.
 ghost use Rattle.std.specs.Prelude.{◌≡◌, ◌≢◌, ◌≤◌, ◌<◌, [], ◌∷◌, ◌++◌, List, ℕ, All, IfOk, IfErr, OnOk, MatchBool, length};
 ghost use Rattle.cord_script.specs.Words.{IsIdle, IsSplit};
-ghost use Rattle.cord_script.specs.Forms.{line_of};
+ghost use Rattle.cord_syntax.specs.Lines.{line_of};
 ghost use Rattle.cord_script.specs.Script.{Reads, ReadsUpTo};
 ghost use Rattle.cord_script.specs.Flaws.{Flaw};
 ghost use Rattle.cord_script.specs.Leaves.{before_of};

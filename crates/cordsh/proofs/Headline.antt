@@ -16,7 +16,7 @@ use Rattle.cord_script.specs.Script.{Reads, whole}
 use Rattle.cord_script.specs.declared.refusals.Refusal.{Refusal}
 use Rattle.cord_script.specs.declared.refusals.RefusalKind.{RefusalKind}
 use Rattle.cord_script.specs.declared.refusals.RefusalKind.TheVariants.{TooBig, Unterminated, BadEscape, UnknownStatement, WrongCount, BadName, BadNumber, UnknownName, WrongKind, BadFormat, TooDeep, EndAlone, MissingEnd, TooMany, LiteralTooLong, NoMemory, ElseAlone, MissingIfEnd}
-use Rattle.cord_script.specs.declared.statements.Statement.{Statement}
+use Rattle.cord_syntax.specs.declared.statements.Statement.{Statement}
 use Rattle.cord_script.specs.Refusals.{text_of}
 use Rattle.cordsh.specs.CommandLine.{AsksFor, command}
 use Rattle.cordsh.specs.Drives.{ComesTo, IsPlan, IsPlanText, IsWrong, Serves}

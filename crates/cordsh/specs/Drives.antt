@@ -5,7 +5,7 @@ use Rattle.cord_script.specs.Flaws.{Flaw}
 use Rattle.cord_script.specs.Script.{Reads}
 use Rattle.cord_script.specs.declared.refusals.Refusal.{Refusal}
 use Rattle.cord_script.specs.declared.refusals.RefusalKind.TheVariants.{NoMemory}
-use Rattle.cord_script.specs.declared.statements.Statement.{Statement}
+use Rattle.cord_syntax.specs.declared.statements.Statement.{Statement}
 use Rattle.cord_meaning.specs.Ends.{Counts, FilesKept, NamesCause}
 use Rattle.cord_plan.specs.Planned.{Operation, planned, trivial}
 use Rattle.cord_plan.specs.Shown.{shown}

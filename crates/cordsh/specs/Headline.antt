@@ -11,7 +11,7 @@ use Rattle.cord_plan.specs.Planned.{Operation}
 use Rattle.cord_plan.specs.Shown.{shown}
 use Rattle.cord_script.specs.Refusals.{text_of}
 use Rattle.cord_script.specs.declared.refusals.Refusal.{Refusal}
-use Rattle.cord_script.specs.declared.statements.Statement.{Statement}
+use Rattle.cord_syntax.specs.declared.statements.Statement.{Statement}
 use Rattle.cordsh.specs.Drives.{IsPlan, IsQuiet, IsWrong}
 use Rattle.cordsh.specs.Outcomes.{line_text, message_of_end, status_of_end, status_of_refusal}
 use Rattle.cordsh.specs.Tells.{SinkCounts, IsCut, IsUntouched, IsWritten, Tells, sink_of}

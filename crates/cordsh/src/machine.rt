@@ -5,7 +5,7 @@ ghost use Rattle.cord_io.specs.Device.{Folder, file_at};
 ghost use Rattle.cord_io.specs.DiskTold.{told_by};
 ghost use Rattle.cord_io.specs.Told.{Agrees};
 ghost use Rattle.cord_script.specs.Script.{Reads};
-ghost use Rattle.cord_script.specs.declared.statements.Statement.{Statement};
+ghost use Rattle.cord_syntax.specs.declared.statements.Statement.{Statement};
 ghost use Rattle.cordsh.specs.CommandLine.{AsksFor};
 ghost use Rattle.cordsh.specs.Headline.{Answer, MissesOver, RefusesOver, RunsOver, ShowsOver, stream};
 

@@ -1,6 +1,6 @@
 //! What a script came to, and what the program tells of it.
 ghost use Rattle.std.specs.Prelude.{◌≡◌, ◌≤◌, ◌∷◌, ◌++◌, [], codes, decimal, length, OnOk, OnErr};
-ghost use Rattle.cordsh.specs.Outcomes.{line_text, message_of, message_of_end, outcome_of, status_of_outcome};
+ghost use Rattle.cordsh.specs.Outcomes.{line_text, message_of, message_of_end, outcome_of, status_of_end, status_of_outcome};
 ghost use Rattle.cordsh.specs.Tells.{SinkCounts, IsCut, IsWritten, Says, Tells};
 
 use arrayvec::ArrayString;
@@ -51,11 +51,7 @@ impl Outcome {
         ensures { result ≡ status_of_outcome self.now }
     {
         match self {
-            Outcome::Ended(End::Done) => 0,
-            Outcome::Ended(End::Fault(_, _)) => 1,
-            Outcome::Ended(End::NoMemory(_)) => 3,
-            Outcome::Ended(End::ReadFailed(_)) => 4,
-            Outcome::Ended(End::WriteFailed(_)) => 5,
+            Outcome::Ended(end) => status_of_end(*end),
             Outcome::Refused(refusal) => match refusal.kind {
                 RefusalKind::NoMemory => 3,
                 _ => 2,
@@ -67,6 +63,19 @@ impl Outcome {
             Outcome::PlanUnwritten | Outcome::HelpUnwritten => 5,
             Outcome::BadCommandLine => 2,
         }
+    }
+}
+
+// The status of a run's end.
+fn status_of_end(end: End) -> u8
+    ensures { result ≡ status_of_end end }
+{
+    match end {
+        End::Done => 0,
+        End::Fault(_, _) => 1,
+        End::NoMemory(_) => 3,
+        End::ReadFailed(_) => 4,
+        End::WriteFailed(_) => 5,
     }
 }
 

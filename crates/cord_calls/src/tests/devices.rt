@@ -9,7 +9,9 @@ mod memory_sink;
 mod sources;
 mod standard;
 
-use cord_io::MemFiles;
+ghost use Rattle.std.specs.Prelude.{◌≡◌, ◌<◌, ℕ, length, IsSomeAnd};
+
+use cord_io::{FileNo, Files, MemFiles, ReadFault};
 use std::alloc::Global;
 use std::process::Abort;
 
@@ -21,4 +23,31 @@ fn digits_file(rt: &impl Abort, alloc: Global) -> MemFiles {
         .expect(rt, "memory");
     files.add(alloc, "empty", b"").expect(rt, "memory");
     files
+}
+
+// Reads an opened file from a place on: these bytes come, which may be fewer than there is room for.
+fn expect_read<F: Files>(
+    rt: &impl Abort,
+    files: &mut F,
+    no: FileNo,
+    start: u64,
+    room: &mut [u8],
+    bytes: &[u8],
+)
+    requires inside { IsSomeAnd (F.opened files.old no.0) (λ told. start < told.1) }
+    requires room { 0 < length room.old }
+    ensures { (n : ℕ) → F.opened files.new n ≡ F.opened files.old n }
+{
+    let count = files.read_at(no, start, room);
+    assert!(rt; count == Ok(bytes.len()), "from {start}");
+    assert!(rt; room.starts_with(bytes), "from {start}");
+}
+
+// Reads an opened file from a place on, which fails.
+fn expect_fault<F: Files>(rt: &impl Abort, files: &mut F, no: FileNo, start: u64)
+    requires { IsSomeAnd (F.opened files.old no.0) (λ told. start < told.1) }
+    ensures { (n : ℕ) → F.opened files.new n ≡ F.opened files.old n }
+{
+    let count = files.read_at(no, start, &mut [0; 6]);
+    assert!(rt; count == Err(ReadFault), "from {start}");
 }

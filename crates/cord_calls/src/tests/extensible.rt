@@ -1,118 +1,130 @@
 // Rows of worked examples, and what sharing shows.
-use super::trees::{bytes_of, is_one, pattern, run_fields};
+use super::trees::{cord_of, expect_text, is_one, part_of, pattern, run_fields, run_of};
 use cord_core::Cord;
 use cord_ec::ExtCord;
 use cord_io::{CordError, MAX_LEN};
 use std::alloc::Global;
+use std::process::Abort;
 use std::rt::HostRuntime;
-use std::test::Fail;
 
-#[test]
-fn ext_cord_calls(rt: HostRuntime) -> Result<(), Fail> {
-    let alloc = rt.alloc();
-    let mut ext = ExtCord::new(alloc)?;
-    assert!(rt; ext.len() == 0);
-    ext.append(alloc, 97)?;
-    ext.append_bytes(alloc, b"bc")?;
-    ext.append_cord(alloc, &Cord::from_bytes(alloc, b"de")?)?;
-    let cord = ext.to_cord(alloc)?;
-    assert!(rt; bytes_of(alloc, &cord)?.as_deref() == Some(b"abcde".as_slice()));
-    assert!(rt; ext.len() == 5);
-    ext.append(alloc, 102)?;
-    let longer = ext.to_cord(alloc)?;
-    assert!(rt; bytes_of(alloc, &longer)?.as_deref() == Some(b"abcdef".as_slice()));
-    assert!(rt; bytes_of(alloc, &cord)?.as_deref() == Some(b"abcde".as_slice()));
-    Ok(())
+fn empty_ext(rt: &impl Abort, alloc: Global) -> ExtCord {
+    ExtCord::new(alloc).expect(rt, "no memory")
+}
+
+fn add_byte(rt: &impl Abort, alloc: Global, ext: &mut ExtCord, byte: u8) {
+    ext.append(alloc, byte).expect(rt, "no memory");
+}
+
+fn add_bytes(rt: &impl Abort, alloc: Global, ext: &mut ExtCord, bytes: &[u8]) {
+    ext.append_bytes(alloc, bytes).expect(rt, "no memory");
+}
+
+fn add_cord(rt: &impl Abort, alloc: Global, ext: &mut ExtCord, cord: &Cord) {
+    ext.append_cord(alloc, cord).expect(rt, "no memory");
+}
+
+fn cord_in(rt: &impl Abort, alloc: Global, ext: &mut ExtCord) -> Cord {
+    ext.to_cord(alloc).expect(rt, "no memory")
+}
+
+// That an extensible cord has this text, and its length.
+fn expect_ext(rt: &impl Abort, alloc: Global, ext: &mut ExtCord, text: &[u8]) {
+    assert!(rt; ext.len() == text.len() as u64);
+    expect_text(rt, alloc, &cord_in(rt, alloc, ext), text);
+}
+
+// So many times the byte "A", one by one.
+fn ext_of(rt: &impl Abort, alloc: Global, count: usize) -> ExtCord {
+    let mut ext = empty_ext(rt, alloc);
+    for _ in 0..count {
+        add_byte(rt, alloc, &mut ext, 65);
+    }
+    ext
 }
 
 #[test]
-fn ext_cord_129_appends(rt: HostRuntime) -> Result<(), Fail> {
+fn ext_cord_calls(rt: HostRuntime) {
     let alloc = rt.alloc();
-    let mut ext = ExtCord::new(alloc)?;
-    for _ in 0..129 {
-        ext.append(alloc, 65)?;
-    }
-    let many = Vec::from_elem(alloc, 65, 130)?;
-    let cord = ext.to_cord(alloc)?;
-    assert!(rt; bytes_of(alloc, &cord)?.as_deref() == many.get(..129));
-    assert!(rt; ext.len() == 129);
-    ext.append(alloc, 65)?;
-    let cord = ext.to_cord(alloc)?;
-    assert!(rt; bytes_of(alloc, &cord)?.as_deref() == Some(many.as_slice()));
-    assert!(rt; ext.len() == 130);
-    Ok(())
+    let mut ext = empty_ext(&rt, alloc);
+    expect_ext(&rt, alloc, &mut ext, b"");
+    add_byte(&rt, alloc, &mut ext, 97);
+    add_bytes(&rt, alloc, &mut ext, b"bc");
+    add_cord(&rt, alloc, &mut ext, &cord_of(&rt, alloc, b"de"));
+    expect_ext(&rt, alloc, &mut ext, b"abcde");
 }
 
 #[test]
-fn ext_cord_leaf_size(rt: HostRuntime) -> Result<(), Fail> {
+fn a_cord_stays_while_more_is_added(rt: HostRuntime) {
     let alloc = rt.alloc();
-    let mut ext = ExtCord::new(alloc)?;
-    for _ in 0..4096 {
-        ext.append(alloc, 65)?;
-    }
-    let cord = ext.to_cord(alloc)?;
-    assert!(rt; cord.depth() == 0);
-    assert!(rt; cord.len() == 4096);
-    let mut ext = ExtCord::new(alloc)?;
-    for _ in 0..4097 {
-        ext.append(alloc, 65)?;
-    }
-    let cord = ext.to_cord(alloc)?;
-    assert!(rt; cord.depth() == 1);
-    assert!(rt; cord.len() == 4097);
-    Ok(())
+    let mut ext = ext_of(&rt, alloc, 5);
+    let cord = cord_in(&rt, alloc, &mut ext);
+    add_byte(&rt, alloc, &mut ext, 66);
+    expect_ext(&rt, alloc, &mut ext, b"AAAAAB");
+    expect_text(&rt, alloc, &cord, b"AAAAA");
 }
 
 #[test]
-fn too_long_unchanged(rt: HostRuntime) -> Result<(), Fail> {
+fn ext_cord_129_appends(rt: HostRuntime) {
     let alloc = rt.alloc();
-    let longest = Cord::chars(alloc, 0, MAX_LEN)?;
-    let mut ext = ExtCord::new(alloc)?;
-    ext.append_cord(alloc, &longest)?;
+    let mut ext = ext_of(&rt, alloc, 129);
+    expect_ext(&rt, alloc, &mut ext, &[65; 129]);
+    add_byte(&rt, alloc, &mut ext, 65);
+    expect_ext(&rt, alloc, &mut ext, &[65; 130]);
+}
+
+#[test]
+fn ext_cord_leaf_size(rt: HostRuntime) {
+    let alloc = rt.alloc();
+    for (count, depth) in [(4096, 0), (4097, 1)] {
+        let cord = cord_in(&rt, alloc, &mut ext_of(&rt, alloc, count));
+        assert!(rt; cord.depth() == depth, "of {count} bytes");
+        assert!(rt; cord.len() == count as u64, "of {count} bytes");
+    }
+}
+
+#[test]
+fn too_long_unchanged(rt: HostRuntime) {
+    let alloc = rt.alloc();
+    let longest = run_of(&rt, alloc, 0, MAX_LEN);
+    let mut ext = empty_ext(&rt, alloc);
+    add_cord(&rt, alloc, &mut ext, &longest);
     assert!(rt; ext.append(alloc, 1) == Err(CordError::TooLong));
     assert!(rt; ext.append_bytes(alloc, b"ab") == Err(CordError::TooLong));
     assert!(rt; ext.append_cord(alloc, &longest) == Err(CordError::TooLong));
     assert!(rt; ext.len() == MAX_LEN);
-    assert!(rt; run_fields(&ext.to_cord(alloc)?) == Some((0, MAX_LEN)));
-    Ok(())
+    assert!(rt; run_fields(&cord_in(&rt, alloc, &mut ext)) == Some((0, MAX_LEN)));
 }
 
 #[test]
-fn cord_calls(rt: HostRuntime) -> Result<(), Fail> {
+fn cord_calls(rt: HostRuntime) {
     let alloc = rt.alloc();
-    let part = Cord::chars(alloc, 0, MAX_LEN)?.substr(alloc, 5, 1000)?;
-    assert!(rt; run_fields(&part) == Some((0, 1000)));
-    let mut ext = ExtCord::new(alloc)?;
-    ext.append_cord(alloc, &part)?;
-    let cord = ext.to_cord(alloc)?;
+    let part = part_of(&rt, alloc, &run_of(&rt, alloc, 0, MAX_LEN), 5, 1000);
+    let mut ext = empty_ext(&rt, alloc);
+    add_cord(&rt, alloc, &mut ext, &part);
+    let cord = cord_in(&rt, alloc, &mut ext);
     assert!(rt; run_fields(&cord) == Some((0, 1000)));
     assert!(rt; is_one(&part, &cord));
-    Ok(())
 }
 
 #[test]
-fn second_cord_is_the_first_where_nothing_was_added(rt: HostRuntime) -> Result<(), Fail> {
+fn second_cord_is_the_first_where_nothing_was_added(rt: HostRuntime) {
     let alloc = rt.alloc();
-    let mut ext = ExtCord::new(alloc)?;
-    ext.append_bytes(alloc, &pattern(alloc, 5000)?)?;
-    ext.append(alloc, 7)?;
-    let first = ext.to_cord(alloc)?;
-    let second = ext.to_cord(alloc)?;
-    assert!(rt; is_one(&first, &second));
-    Ok(())
+    let mut ext = empty_ext(&rt, alloc);
+    add_bytes(&rt, alloc, &mut ext, &[7; 5000]);
+    add_byte(&rt, alloc, &mut ext, 8);
+    let first = cord_in(&rt, alloc, &mut ext);
+    assert!(rt; is_one(&first, &cord_in(&rt, alloc, &mut ext)));
 }
 
 #[test]
-fn many_bytes_follow_a_few(rt: HostRuntime) -> Result<(), Fail> {
+fn many_bytes_follow_a_few(rt: HostRuntime) {
     let alloc = rt.alloc();
-    let text = pattern(alloc, 10_100)?;
-    let mut ext = ExtCord::new(alloc)?;
-    if let Some((few, many)) = text.split_at_checked(100) {
-        ext.append_bytes(alloc, few)?;
-        ext.append_bytes(alloc, many)?;
-    }
-    assert!(rt; ext.len() == 10_100);
-    let cord = ext.to_cord(alloc)?;
-    assert!(rt; bytes_of(alloc, &cord)?.as_deref() == Some(text.as_slice()));
-    Ok(())
+    let text = pattern(alloc, 10_100).expect(&rt, "no memory");
+    let Some((few, many)) = text.split_at_checked(100) else {
+        panic!(rt; "too short");
+    };
+    let mut ext = empty_ext(&rt, alloc);
+    add_bytes(&rt, alloc, &mut ext, few);
+    add_bytes(&rt, alloc, &mut ext, many);
+    expect_ext(&rt, alloc, &mut ext, &text);
 }

@@ -55,6 +55,15 @@ fn sources_open(rt: HostRuntime) {
     assert!(rt; sources.entry_len(SourceId(2)) == Some(5));
     assert!(rt; sources.entry_len(SourceId(3)) == None);
     assert!(rt; sources.open(alloc, "q") == Err(FileError::NoFile));
+    assert!(rt; sources.failures() == 0);
+}
+
+#[test]
+fn sources_give_cords(rt: HostRuntime) {
+    let alloc = rt.alloc();
+    let Ok(mut sources) = Sources::new(alloc, one_file(&rt, alloc, "p", b"hello")) else {
+        panic!(rt; "no memory");
+    };
     let Ok(eager) = sources.eager(alloc, "p") else {
         panic!(rt; "not read");
     };
@@ -63,14 +72,22 @@ fn sources_open(rt: HostRuntime) {
         panic!(rt; "not opened");
     };
     assert!(rt; func_fields(&lazy) == Some((SourceId(2), 0, 5)));
-    let mut sink = MemSink::new(alloc);
-    assert!(rt; put_part(alloc, &mut sources, "p", (0, 5), &mut sink) == Ok(()));
-    assert!(rt; sink.bytes() == b"hello".as_slice());
     let Ok(short) = sources.from_file(alloc, "p") else {
         panic!(rt; "not read");
     };
     assert!(rt; is_leaf_of(&short, b"hello"));
     assert!(rt; sources.failures() == 0);
+}
+
+#[test]
+fn sources_are_put_and_closed(rt: HostRuntime) {
+    let alloc = rt.alloc();
+    let Ok(mut sources) = Sources::new(alloc, one_file(&rt, alloc, "p", b"hello")) else {
+        panic!(rt; "no memory");
+    };
+    let mut sink = MemSink::new(alloc);
+    assert!(rt; put_part(alloc, &mut sources, "p", (0, 5), &mut sink) == Ok(()));
+    assert!(rt; sink.bytes() == b"hello".as_slice());
     let files = sources.close();
     assert!(rt; files.failures() == 0);
 }

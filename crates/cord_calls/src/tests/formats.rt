@@ -1,17 +1,17 @@
 // Rows of worked examples, and a table of what C's printf writes.
-use super::trees::bytes_of;
-use cord_core::{Cord, Node};
+use super::trees::{bytes_of, cord_of, joined, run_of};
+use cord_core::Cord;
 use cord_io::MAX_LEN;
 use cord_printf::{
     Arg, ArgKind, Flags, Format, FormatError, Literal, Piece, PrintError, Radix, sprintf,
     sprintf_len,
 };
-use std::alloc::{AllocError, Global};
-use std::rc::Rc;
+use std::alloc::Global;
+use std::process::Abort;
 use std::test::Fail;
 
 // What C's printf writes of a number, the conversions being those of its `long long`.
-const NUMBERS: [(&[u8], i64, &[u8]); 79] = [
+const NUMBERS: &[(&[u8], i64, &[u8])] = &[
     (b"%d", 0, b"0"),
     (b"%d", 7, b"7"),
     (b"%d", -7, b"-7"),
@@ -94,7 +94,7 @@ const NUMBERS: [(&[u8], i64, &[u8]); 79] = [
 ];
 
 // What C's printf writes of a text.
-const TEXTS: [(&[u8], &[u8], &[u8]); 13] = [
+const TEXTS: &[(&[u8], &[u8], &[u8])] = &[
     (b"%s", b"hello", b"hello"),
     (b"%s", b"", b""),
     (b"%8s", b"hello", b"   hello"),
@@ -110,128 +110,129 @@ const TEXTS: [(&[u8], &[u8], &[u8]); 13] = [
     (b"%-12.12s", b"hello", b"hello       "),
 ];
 
+fn format_of(rt: &impl Abort, alloc: Global, format: &[u8]) -> Format {
+    Format::parse(alloc, format).expect(rt, "no format")
+}
+
 // The text of a format with its arguments, where its length is told alike.
-fn printed(alloc: Global, format: &[u8], args: &[Arg]) -> Result<Option<Vec<u8>>, Fail> {
-    let format = Format::parse(alloc, format)?;
-    let cord = sprintf(alloc, &format, args)?;
-    if sprintf_len(&format, args)? != cord.len() {
-        return Ok(None);
+fn printed(rt: &impl Abort, alloc: Global, format: &[u8], args: &[Arg]) -> Option<Vec<u8>> {
+    let format = format_of(rt, alloc, format);
+    let cord = sprintf(alloc, &format, args).expect(rt, "no print");
+    if sprintf_len(&format, args) != Ok(cord.len()) {
+        return None;
     }
-    Ok(bytes_of(alloc, &cord)?)
+    bytes_of(alloc, &cord).expect(rt, "no memory")
 }
 
-fn refused(alloc: Global, format: &[u8], args: &[Arg]) -> Result<Option<PrintError>, Fail> {
-    let format = Format::parse(alloc, format)?;
-    let told = sprintf_len(&format, args).err();
-    Ok(if sprintf(alloc, &format, args).err() == told {
-        told
-    } else {
-        None
-    })
+// That a format prints this text of its arguments.
+fn expect_printed(rt: &impl Abort, alloc: Global, format: &[u8], args: &[Arg], want: &[u8]) {
+    let shown = printed(rt, alloc, format, args);
+    assert!(rt;
+        shown.as_deref() == Some(want),
+        "{format:?} is not {want:?}"
+    );
 }
 
-fn text(alloc: Global, bytes: &[u8]) -> Result<Arg, Fail> {
-    Ok(Arg::Cord(Cord::from_bytes(alloc, bytes)?))
+// That the print of a format is refused for this.
+fn expect_refused(rt: &impl Abort, alloc: Global, format: &[u8], args: &[Arg], error: PrintError) {
+    let parsed = format_of(rt, alloc, format);
+    assert!(rt; sprintf_len(&parsed, args) == Err(error), "{format:?}");
+    assert!(rt;
+        sprintf(alloc, &parsed, args).err() == Some(error),
+        "{format:?}"
+    );
+}
+
+// That a text is no format, from this place on.
+fn expect_bad(rt: &impl Abort, alloc: Global, format: &[u8], place: usize) {
+    let error = Format::parse(alloc, format).err();
+    assert!(rt; error == Some(FormatError::BadFormat(place)), "{format:?}");
+}
+
+// That a format prints a text of this length, with these ends.
+fn expect_ends(
+    rt: &impl Abort,
+    alloc: Global,
+    format: &[u8],
+    arg: Arg,
+    length: usize,
+    (start, end): (&[u8], &[u8]),
+) {
+    let shown = printed(rt, alloc, format, &[arg]).expect(rt, "no text");
+    assert!(rt; shown.len() == length, "{format:?}");
+    assert!(rt;
+        shown.starts_with(start) && shown.ends_with(end),
+        "{format:?}"
+    );
+}
+
+fn text(rt: &impl Abort, alloc: Global, bytes: &[u8]) -> Arg {
+    Arg::Cord(cord_of(rt, alloc, bytes))
 }
 
 #[test]
-fn numbers_print_as_in_c(rt: HostRuntime) -> Result<(), Fail> {
-    for (format, number, want) in NUMBERS {
-        let shown = printed(rt.alloc(), format, &[Arg::Num(number)])?;
-        assert!(rt; shown.as_deref() == Some(want), "{format:?} of {number}");
+fn numbers_print_as_in_c(rt: HostRuntime) {
+    for &(format, number, want) in NUMBERS {
+        expect_printed(&rt, rt.alloc(), format, &[Arg::Num(number)], want);
     }
-    Ok(())
 }
 
 #[test]
-fn texts_print_as_in_c(rt: HostRuntime) -> Result<(), Fail> {
+fn texts_print_as_in_c(rt: HostRuntime) {
+    for &(format, argument, want) in TEXTS {
+        let args = [text(&rt, rt.alloc(), argument)];
+        expect_printed(&rt, rt.alloc(), format, &args, want);
+    }
+}
+
+#[test]
+fn wide_numbers_print_as_in_c(rt: HostRuntime) {
     let alloc = rt.alloc();
-    for (format, argument, want) in TEXTS {
-        let shown = printed(alloc, format, &[text(alloc, argument)?])?;
-        assert!(rt;
-            shown.as_deref() == Some(want),
-            "{format:?} of {argument:?}"
-        );
-    }
-    Ok(())
+    expect_ends(&rt, alloc, b"%04000d", Arg::Num(-5), 4000, (b"-0", b"05"));
+    expect_ends(&rt, alloc, b"%.9999x", Arg::Num(10), 9999, (b"00", b"0a"));
 }
 
 #[test]
-fn wide_conversions_print_as_in_c(rt: HostRuntime) -> Result<(), Fail> {
+fn wide_texts_print_as_in_c(rt: HostRuntime) {
     let alloc = rt.alloc();
-    let Some(zeros) = printed(alloc, b"%04000d", &[Arg::Num(-5)])? else {
-        panic!(rt; "no text");
-    };
-    assert!(rt; zeros.len() == 4000 && zeros.starts_with(b"-0") && zeros.ends_with(b"05"));
-    let Some(digits) = printed(alloc, b"%.9999x", &[Arg::Num(10)])? else {
-        panic!(rt; "no text");
-    };
-    assert!(rt; digits.len() == 9999 && digits.starts_with(b"00") && digits.ends_with(b"0a"));
-    let Some(right) = printed(alloc, b"%9999s|", &[text(alloc, b"ab")?])? else {
-        panic!(rt; "no text");
-    };
-    assert!(rt; right.len() == 10_000 && right.starts_with(b"  ") && right.ends_with(b" ab|"));
-    let Some(left) = printed(alloc, b"%-300s|", &[text(alloc, b"ab")?])? else {
-        panic!(rt; "no text");
-    };
-    assert!(rt; left.len() == 301 && left.starts_with(b"ab ") && left.ends_with(b" |"));
-    Ok(())
+    let right = text(&rt, alloc, b"ab");
+    expect_ends(&rt, alloc, b"%9999s|", right, 10_000, (b"  ", b" ab|"));
+    let left = text(&rt, alloc, b"ab");
+    expect_ends(&rt, alloc, b"%-300s|", left, 301, (b"ab ", b" |"));
 }
 
 #[test]
-fn every_byte_is_printed(rt: HostRuntime) -> Result<(), Fail> {
+fn every_byte_is_printed(rt: HostRuntime) {
     let alloc = rt.alloc();
     for byte in 0..=255u8 {
-        let shown = printed(alloc, b"%c", &[Arg::Num(i64::from(byte))])?;
-        assert!(rt; shown.as_deref() == Some([byte].as_slice()));
+        expect_printed(&rt, alloc, b"%c", &[Arg::Num(i64::from(byte))], &[byte]);
     }
-    assert!(rt; refused(alloc, b"%c", &[Arg::Num(256)])? == Some(PrintError::BadByte(0)));
-    assert!(rt; refused(alloc, b"%c", &[Arg::Num(-1)])? == Some(PrintError::BadByte(0)));
-    Ok(())
+    expect_refused(&rt, alloc, b"%c", &[Arg::Num(256)], PrintError::BadByte(0));
+    expect_refused(&rt, alloc, b"%c", &[Arg::Num(-1)], PrintError::BadByte(0));
 }
 
 #[test]
-fn format_calls(rt: HostRuntime) -> Result<(), Fail> {
+fn format_calls(rt: HostRuntime) {
     let alloc = rt.alloc();
-    assert!(rt; Format::parse(alloc, b"a%q").err() == Some(FormatError::BadFormat(1)));
-    let five = Format::parse(alloc, b"%5d")?;
-    let args = [Arg::Num(7)];
-    let cord = sprintf(alloc, &five, &args)?;
-    assert!(rt; bytes_of(alloc, &cord)?.as_deref() == Some(b"    7".as_slice()));
-    assert!(rt; sprintf_len(&five, &args) == Ok(5));
-    assert!(rt; refused(alloc, b"%5d", &[])? == Some(PrintError::WrongArgs));
+    expect_bad(&rt, alloc, b"a%q", 1);
+    expect_printed(&rt, alloc, b"%5d", &[Arg::Num(7)], b"    7");
+    let length = sprintf_len(&format_of(&rt, alloc, b"%5d"), &[Arg::Num(7)]);
+    assert!(rt; length == Ok(5));
+    expect_refused(&rt, alloc, b"%5d", &[], PrintError::WrongArgs);
     let args = [Arg::Num(1), Arg::Num(-1), Arg::Num(300)];
-    assert!(rt; refused(alloc, b"%d%u%c", &args)? == Some(PrintError::Negative(1)));
-    Ok(())
+    expect_refused(&rt, alloc, b"%d%u%c", &args, PrintError::Negative(1));
 }
 
 #[test]
-fn format_rows(rt: HostRuntime) -> Result<(), Fail> {
-    let alloc = rt.alloc();
-    for (format, number, want) in [
-        ("%+05d", 7, "+0007"),
-        ("%-05d", 7, "7    "),
-        ("%05.3d", 7, "  007"),
-        ("%.3d", -5, "-005"),
-        ("%5c", 65, "    A"),
-        ("%lu", 3, "3"),
-    ] {
-        let shown = printed(alloc, format.as_bytes(), &[Arg::Num(number)])?;
-        assert!(rt;
-            shown.as_deref() == Some(want.as_bytes()),
-            "{format} of {number}"
-        );
-    }
-    for format in ["%05s", "%+u", "%.1c", "%lc", "%5%", "%", "%10000d"] {
-        let answer = Format::parse(alloc, format.as_bytes()).err();
-        assert!(rt; answer == Some(FormatError::BadFormat(0)), "{format}");
-    }
-    Ok(())
-}
-
-#[test]
-fn more_bad_formats(rt: HostRuntime) -> Result<(), Fail> {
-    for (format, offset) in [
+fn bad_formats(rt: HostRuntime) {
+    for (format, place) in [
+        ("%05s", 0),
+        ("%+u", 0),
+        ("%.1c", 0),
+        ("%lc", 0),
+        ("%5%", 0),
+        ("%", 0),
+        ("%10000d", 0),
         ("%lld%llld", 4),
         ("100%", 3),
         ("%%%%%", 4),
@@ -248,28 +249,30 @@ fn more_bad_formats(rt: HostRuntime) -> Result<(), Fail> {
         ("%+o", 0),
         ("%5.l", 0),
     ] {
-        let answer = Format::parse(rt.alloc(), format.as_bytes()).err();
-        assert!(rt; answer == Some(FormatError::BadFormat(offset)), "{format}");
+        expect_bad(&rt, rt.alloc(), format.as_bytes(), place);
     }
-    Ok(())
 }
 
 #[test]
-fn sprintf_pads(rt: HostRuntime) -> Result<(), Fail> {
+fn sprintf_pads(rt: HostRuntime) {
     let alloc = rt.alloc();
     let args = [
-        text(alloc, b"hello")?,
+        text(&rt, alloc, b"hello"),
         Arg::Num(7),
         Arg::Num(-7),
         Arg::Num(0),
     ];
-    let shown = printed(alloc, b"%5.2r|%-4d|%05d|%.0d|%%", &args)?;
-    assert!(rt; shown.as_deref() == Some(b"   he|7   |-0007||%".as_slice()));
-    Ok(())
+    expect_printed(
+        &rt,
+        alloc,
+        b"%5.2r|%-4d|%05d|%.0d|%%",
+        &args,
+        b"   he|7   |-0007||%",
+    );
 }
 
 #[test]
-fn sprintf_numbers(rt: HostRuntime) -> Result<(), Fail> {
+fn sprintf_numbers(rt: HostRuntime) {
     let args = [
         Arg::Num(255),
         Arg::Num(5),
@@ -277,93 +280,113 @@ fn sprintf_numbers(rt: HostRuntime) -> Result<(), Fail> {
         Arg::Num(255),
         Arg::Num(65),
     ];
-    let shown = printed(rt.alloc(), b"%08x|%+d|%o|%X|%c", &args)?;
-    assert!(rt; shown.as_deref() == Some(b"000000ff|+5|10|FF|A".as_slice()));
-    Ok(())
+    expect_printed(
+        &rt,
+        rt.alloc(),
+        b"%08x|%+d|%o|%X|%c",
+        &args,
+        b"000000ff|+5|10|FF|A",
+    );
 }
 
 #[test]
-fn sprintf_negative_hex(rt: HostRuntime) -> Result<(), Fail> {
-    let answer = refused(rt.alloc(), b"%x", &[Arg::Num(-1)])?;
-    assert!(rt; answer == Some(PrintError::Negative(0)));
-    Ok(())
+fn sprintf_negative_hex(rt: HostRuntime) {
+    expect_refused(
+        &rt,
+        rt.alloc(),
+        b"%x",
+        &[Arg::Num(-1)],
+        PrintError::Negative(0),
+    );
 }
 
 #[test]
-fn sprintf_too_long(rt: HostRuntime) -> Result<(), Fail> {
+fn sprintf_too_long(rt: HostRuntime) {
     let alloc = rt.alloc();
-    let longest = [Arg::Cord(Cord::chars(alloc, 65, MAX_LEN)?)];
-    assert!(rt; refused(alloc, b"%s!", &longest)? == Some(PrintError::TooLong));
-    let format = Format::parse(alloc, b"%s")?;
-    assert!(rt; sprintf(alloc, &format, &longest)?.len() == MAX_LEN);
-    Ok(())
+    let longest = [Arg::Cord(run_of(&rt, alloc, 65, MAX_LEN))];
+    expect_refused(&rt, alloc, b"%s!", &longest, PrintError::TooLong);
+    let cord = sprintf(alloc, &format_of(&rt, alloc, b"%s"), &longest).expect(&rt, "no memory");
+    assert!(rt; cord.len() == MAX_LEN);
 }
 
 #[test]
-fn sprintf_bad_format(rt: HostRuntime) -> Result<(), Fail> {
-    let answer = Format::parse(rt.alloc(), b"%5%").err();
-    assert!(rt; answer == Some(FormatError::BadFormat(0)));
-    Ok(())
-}
-
-#[test]
-fn refusals_in_order(rt: HostRuntime) -> Result<(), Fail> {
+fn refusals_in_order(rt: HostRuntime) {
     let alloc = rt.alloc();
-    let longest = Cord::chars(alloc, 65, MAX_LEN)?;
+    let longest = run_of(&rt, alloc, 65, MAX_LEN);
     let args = [Arg::Cord(longest), Arg::Num(-1), Arg::Num(300)];
-    assert!(rt; refused(alloc, b"!%s%u%c", &args)? == Some(PrintError::Negative(1)));
-    assert!(rt; refused(alloc, b"!%s%d%c", &args)? == Some(PrintError::BadByte(2)));
-    assert!(rt; refused(alloc, b"!%s%d%d", &args)? == Some(PrintError::TooLong));
-    assert!(rt; refused(alloc, b"!%s%u", &args)? == Some(PrintError::WrongArgs));
-    assert!(rt; refused(alloc, b"!%s%u%s", &args)? == Some(PrintError::WrongArgs));
-    assert!(rt; refused(alloc, b"%d%u%c", &args)? == Some(PrintError::WrongArgs));
-    assert!(rt; refused(alloc, b"!", &args)? == Some(PrintError::WrongArgs));
-    Ok(())
+    expect_refused(&rt, alloc, b"!%s%u%c", &args, PrintError::Negative(1));
+    expect_refused(&rt, alloc, b"!%s%d%c", &args, PrintError::BadByte(2));
+    expect_refused(&rt, alloc, b"!%s%d%d", &args, PrintError::TooLong);
+    for format in ["!%s%u", "!%s%u%s", "%d%u%c", "!"] {
+        expect_refused(&rt, alloc, format.as_bytes(), &args, PrintError::WrongArgs);
+    }
+}
+
+// A cord before a comma and a padded byte.
+fn wrapped(rt: &impl Abort, alloc: Global, format: &Format, cord: Cord) -> Cord {
+    let args = [Arg::Cord(cord), text(rt, alloc, b"x")];
+    sprintf(alloc, format, &args).expect(rt, "no memory")
 }
 
 // Flat texts would take 300 gigabytes.
 #[test]
-fn prints_share_their_cords(rt: HostRuntime) -> Result<(), Fail> {
+fn prints_share_their_cords(rt: HostRuntime) {
     let alloc = rt.alloc();
-    let format = Format::parse(alloc, b"%s,%-3s")?;
-    let mut cord = Cord::cat_bytes(alloc, &Cord::chars(alloc, 65, 1 << 30)?, b"end")?;
+    let format = format_of(&rt, alloc, b"%s,%-3s");
+    let run = run_of(&rt, alloc, 65, 1 << 30);
+    let mut cord = joined(&rt, alloc, &run, &cord_of(&rt, alloc, b"end"));
     for _ in 0..300 {
-        let args = [Arg::Cord(cord.share(alloc)?), text(alloc, b"x")?];
-        cord = sprintf(alloc, &format, &args)?;
+        cord = wrapped(&rt, alloc, &format, cord);
     }
     assert!(rt; cord.len() == (1 << 30) + 3 + 300 * 4);
-    let start = sprintf(
-        alloc,
-        &Format::parse(alloc, b"%.9999s")?,
-        &[Arg::Cord(cord)],
-    )?;
+    let first = format_of(&rt, alloc, b"%.9999s");
+    let start = sprintf(alloc, &first, &[Arg::Cord(cord)]).expect(&rt, "no memory");
     assert!(rt; start.len() == 9999);
-    Ok(())
+}
+
+// So many times a text.
+fn repeated(rt: &impl Abort, alloc: Global, text: &[u8], count: usize) -> Vec<u8> {
+    let mut bytes = Vec::new(alloc);
+    for _ in 0..count {
+        bytes.extend_from_slice(text).expect(rt, "no memory");
+    }
+    bytes
+}
+
+// So many times the number -7.
+fn sevens(rt: &impl Abort, alloc: Global, count: usize) -> Vec<Arg> {
+    let mut args = Vec::new(alloc);
+    for _ in 0..count {
+        args.push(Arg::Num(-7)).expect(rt, "no memory");
+    }
+    args
+}
+
+// A text, so many times the byte "a", and another text.
+fn around(rt: &impl Abort, alloc: Global, front: &[u8], count: usize, back: &[u8]) -> Vec<u8> {
+    let mut bytes = Vec::from_slice(alloc, front).expect(rt, "no memory");
+    for _ in 0..count {
+        bytes.push(b'a').expect(rt, "no memory");
+    }
+    bytes.extend_from_slice(back).expect(rt, "no memory");
+    bytes
 }
 
 // Bytes are gathered up to 256: the places around that number, and a text that is longer by itself.
 #[test]
-fn long_lines_print_as_in_c(rt: HostRuntime) -> Result<(), Fail> {
+fn long_lines_print_as_in_c(rt: HostRuntime) {
     let alloc = rt.alloc();
-    let mut format = Vec::new(alloc);
-    let mut args = Vec::new(alloc);
-    let mut want = Vec::new(alloc);
-    for _ in 0..30 {
-        format.extend_from_slice(b"%20d|")?;
-        args.push(Arg::Num(-7))?;
-        want.extend_from_slice(b"                  -7|")?;
-    }
-    assert!(rt; printed(alloc, &format, &args)?.as_deref() == Some(want.as_slice()));
-    let text = Vec::from_elem(alloc, 97, 300)?;
-    let mut format = Vec::from_slice(alloc, b"%05d")?;
-    format.extend_from_slice(&text)?;
-    format.extend_from_slice(b"%x")?;
-    let mut want = Vec::from_slice(alloc, b"00042")?;
-    want.extend_from_slice(&text)?;
-    want.extend_from_slice(b"2a")?;
-    let shown = printed(alloc, &format, &[Arg::Num(42), Arg::Num(42)])?;
-    assert!(rt; shown.as_deref() == Some(want.as_slice()));
-    Ok(())
+    let format = repeated(&rt, alloc, b"%20d|", 30);
+    let want = repeated(&rt, alloc, b"                  -7|", 30);
+    expect_printed(&rt, alloc, &format, &sevens(&rt, alloc, 30), &want);
+}
+
+#[test]
+fn long_texts_of_formats_print_as_in_c(rt: HostRuntime) {
+    let alloc = rt.alloc();
+    let format = around(&rt, alloc, b"%05d", 300, b"%x");
+    let want = around(&rt, alloc, b"00042", 300, b"2a");
+    expect_printed(&rt, alloc, &format, &[Arg::Num(42), Arg::Num(42)], &want);
 }
 
 #[test]

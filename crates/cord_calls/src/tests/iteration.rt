@@ -75,14 +75,11 @@ impl Visitor for Latest {
 }
 
 #[test]
-fn to_vec_and_put(rt: HostRuntime) -> Result<(), Fail> {
+fn to_vec_gives_the_text(rt: HostRuntime) -> Result<(), Fail> {
     let alloc = rt.alloc();
     let cord = leaf(alloc, b"abccd")?;
-    let mut source = Entry::nothing();
-    assert!(rt; to_vec(alloc, &cord, &mut source)?.as_slice() == b"abccd".as_slice());
-    let mut sink = MemSink::new(alloc);
-    assert!(rt; put(&cord, &mut source, &mut sink) == Ok(()));
-    assert!(rt; sink.bytes() == b"abccd".as_slice());
+    let text = to_vec(alloc, &cord, &mut Entry::nothing())?;
+    assert!(rt; text.as_slice() == b"abccd".as_slice());
     Ok(())
 }
 
@@ -99,20 +96,40 @@ fn depth_after_many_appends(rt: HostRuntime) -> Result<(), Fail> {
     Ok(())
 }
 
+// That a cord without function parts is put so far into a sink that passes so many calls of at most so many bytes.
+fn expect_put(
+    rt: &impl Abort,
+    alloc: Global,
+    cord: &Cord,
+    passes: (u64, u64),
+    answer: Result<(), CordError>,
+    taken: &[u8],
+)
+    requires { (lengths : Lengths) → CordFitsIn lengths cord.now }
+{
+    let (calls, most) = passes;
+    assert!(rt; most >= 1);
+    let mut sink = FuseSink::new(MemSink::new(alloc), calls, most);
+    let end = put(cord, &mut Entry::nothing(), &mut sink);
+    assert!(rt; end == answer, "{calls} calls of {most}");
+    assert!(rt; sink.inner().bytes() == taken, "{calls} calls of {most}");
+}
+
 #[test]
 fn put_offers_the_rest(rt: HostRuntime) -> Result<(), Fail> {
     let alloc = rt.alloc();
     let cord = leaf(alloc, b"abccd")?;
-    let mut source = Entry::nothing();
-    let mut sink = FuseSink::new(MemSink::new(alloc), 5, 1);
-    assert!(rt; put(&cord, &mut source, &mut sink) == Ok(()));
-    assert!(rt; sink.inner().bytes() == b"abccd".as_slice());
-    let mut sink = FuseSink::new(MemSink::new(alloc), 2, 3);
-    assert!(rt; put(&cord, &mut source, &mut sink) == Ok(()));
-    assert!(rt; sink.inner().bytes() == b"abccd".as_slice());
-    let mut sink = FuseSink::new(MemSink::new(alloc), 1, 3);
-    assert!(rt; put(&cord, &mut source, &mut sink) == Err(CordError::WriteFailed));
-    assert!(rt; sink.inner().bytes() == b"abc".as_slice());
+    expect_put(&rt, alloc, &cord, (u64::MAX, 4096), Ok(()), b"abccd");
+    expect_put(&rt, alloc, &cord, (5, 1), Ok(()), b"abccd");
+    expect_put(&rt, alloc, &cord, (2, 3), Ok(()), b"abccd");
+    expect_put(
+        &rt,
+        alloc,
+        &cord,
+        (1, 3),
+        Err(CordError::WriteFailed),
+        b"abc",
+    );
     Ok(())
 }
 
@@ -128,35 +145,61 @@ fn a_read_fails_in_the_middle(rt: HostRuntime) -> Result<(), Fail> {
     Ok(())
 }
 
+// What an iteration answers, and the last four bytes that it saw.
+fn expect_seen(
+    rt: &impl Abort,
+    answer: Result<bool, CordError>,
+    seen: &Latest,
+    stopped: bool,
+    bytes: (u8, u8, u8, u8),
+) {
+    assert!(rt; answer == Ok(stopped));
+    assert!(rt; seen.bytes == bytes);
+}
+
 #[test]
-fn iter_calls(rt: HostRuntime) -> Result<(), Fail> {
+fn iterations_from_a_place(rt: HostRuntime) -> Result<(), Fail> {
     let cord = leaf(rt.alloc(), b"abcd")?;
     let mut source = Entry::nothing();
     let mut seen = until(b'c');
-    assert!(rt; iter5(&cord, 1, &mut source, &mut seen) == Ok(true));
-    assert!(rt; seen.bytes == (0, 0, b'b', b'c'));
+    let answer = iter5(&cord, 1, &mut source, &mut seen);
+    expect_seen(&rt, answer, &seen, true, (0, 0, b'b', b'c'));
     let mut seen = until(0);
-    assert!(rt; riter4(&cord, 2, &mut source, &mut seen) == Ok(false));
-    assert!(rt; seen.bytes == (0, b'c', b'b', b'a'));
-    let mut seen = until(b'c');
-    assert!(rt; iter(&cord, &mut source, &mut seen) == Ok(true));
-    assert!(rt; seen.bytes == (0, b'a', b'b', b'c'));
-    let mut seen = until(b'c');
-    assert!(rt; riter(&cord, &mut source, &mut seen) == Ok(true));
-    assert!(rt; seen.bytes == (0, 0, b'd', b'c'));
+    let answer = riter4(&cord, 2, &mut source, &mut seen);
+    expect_seen(&rt, answer, &seen, false, (0, b'c', b'b', b'a'));
     Ok(())
 }
 
 #[test]
-fn iter_empty_and_tail(rt: HostRuntime) -> Result<(), Fail> {
+fn whole_iterations(rt: HostRuntime) -> Result<(), Fail> {
+    let cord = leaf(rt.alloc(), b"abcd")?;
+    let mut source = Entry::nothing();
+    let mut seen = until(b'c');
+    let answer = iter(&cord, &mut source, &mut seen);
+    expect_seen(&rt, answer, &seen, true, (0, b'a', b'b', b'c'));
+    let mut seen = until(b'c');
+    let answer = riter(&cord, &mut source, &mut seen);
+    expect_seen(&rt, answer, &seen, true, (0, 0, b'd', b'c'));
+    Ok(())
+}
+
+#[test]
+fn iterations_of_nothing(rt: HostRuntime) {
     let empty = Cord::empty();
     let mut source = Entry::nothing();
     let mut seen = until(0);
-    assert!(rt; iter(&empty, &mut source, &mut seen) == Ok(false));
-    assert!(rt; riter(&empty, &mut source, &mut seen) == Ok(false));
-    assert!(rt; seen.bytes == (0, 0, 0, 0));
+    let answer = iter(&empty, &mut source, &mut seen);
+    expect_seen(&rt, answer, &seen, false, (0, 0, 0, 0));
+    let answer = riter(&empty, &mut source, &mut seen);
+    expect_seen(&rt, answer, &seen, false, (0, 0, 0, 0));
+}
+
+#[test]
+fn iteration_of_a_tail(rt: HostRuntime) -> Result<(), Fail> {
     let cord = run_and_leaf(rt.alloc())?;
-    assert!(rt; iter5(&cord, 999, &mut source, &mut seen) == Ok(false));
-    assert!(rt; seen.bytes == (0, 0, b'a', b'b'));
+    let mut source = Entry::nothing();
+    let mut seen = until(0);
+    let answer = iter5(&cord, 999, &mut source, &mut seen);
+    expect_seen(&rt, answer, &seen, false, (0, 0, b'a', b'b'));
     Ok(())
 }

@@ -30,12 +30,21 @@ fn node_joins(rt: HostRuntime) -> Result<(), Fail> {
     assert!(rt; abcd.len() == 4);
     assert!(rt; abcd.depth() == 0);
     assert!(rt; fields(abcd.as_ref()) == Some((b"abcd", 0, 4)));
+    Ok(())
+}
 
-    let mixed = join(alloc, &run(alloc, 0, 1)?, &ab)?;
+#[test]
+fn a_run_joins_a_leaf(rt: HostRuntime) -> Result<(), Fail> {
+    let alloc = rt.alloc();
+    let mixed = join(alloc, &run(alloc, 0, 1)?, &leaf_of(alloc, b"ab")?)?;
     assert!(rt; mixed.len() == 3);
     assert!(rt; mixed.depth() == 1);
+    Ok(())
+}
 
-    let part = func(alloc, SourceId(0), 8, 3)?;
+#[test]
+fn a_function_part(rt: HostRuntime) -> Result<(), Fail> {
+    let part = func(rt.alloc(), SourceId(0), 8, 3)?;
     assert!(rt; part.len() == 3);
     assert!(rt; part.depth() == 0);
     Ok(())
@@ -59,7 +68,13 @@ fn ranges_share(rt: HostRuntime) -> Result<(), Fail> {
     let letters = leaf_of(alloc, b"abcdefgh")?;
     let part = sub_node(alloc, &letters, 2, 3)?;
     assert!(rt; fields(part.as_ref()) == Some((b"abcdefgh", 2, 3)));
+    Ok(())
+}
 
+#[test]
+fn ranges_over_a_seam(rt: HostRuntime) -> Result<(), Fail> {
+    let alloc = rt.alloc();
+    let letters = leaf_of(alloc, b"abcdefgh")?;
     let both = join(alloc, &letters, &run(alloc, 46, MAX_LEN - 8)?)?;
     assert!(rt; both.len() == MAX_LEN);
     let seam = sub_node(alloc, &both, 6, 5)?;
@@ -79,14 +94,20 @@ fn is_its_clone(node: &Rc<Node>) -> Result<bool, AllocError>
 }
 
 #[test]
-fn one_node_is_the_same_and_two_are_not(rt: HostRuntime) -> Result<(), Fail> {
+fn one_node_is_the_same(rt: HostRuntime) -> Result<(), Fail> {
+    let alloc = rt.alloc();
+    assert!(rt; is_its_clone(&leaf_of(alloc, b"ab")?)?);
+    assert!(rt; is_its_clone(&run(alloc, 0, 1000)?)?);
+    assert!(rt; is_its_clone(&func(alloc, SourceId(1), 2, 3)?)?);
+    Ok(())
+}
+
+#[test]
+fn two_nodes_are_not_the_same(rt: HostRuntime) -> Result<(), Fail> {
     let alloc = rt.alloc();
     let part = leaf_of(alloc, b"ab")?;
     let one = join(alloc, &part, &run(alloc, 0, 1000)?)?;
-    assert!(rt; is_its_clone(&part)?);
     assert!(rt; is_its_clone(&one)?);
-    assert!(rt; is_its_clone(&run(alloc, 0, 1000)?)?);
-    assert!(rt; is_its_clone(&func(alloc, SourceId(1), 2, 3)?)?);
     let equal = join(alloc, &part, &run(alloc, 0, 1000)?)?;
     assert!(rt; !one.same(&equal));
     assert!(rt; !equal.same(&one));

@@ -6,6 +6,7 @@ use cord_core::Cord;
 use cord_io::SourceId;
 use cord_node::{Node, leaf};
 use std::alloc::{AllocError, Global};
+use std::process::Abort;
 use std::rc::{Rc, RcSlice};
 
 // A leaf of these bytes.
@@ -18,6 +19,32 @@ pub(super) fn leaf_of(alloc: Global, bytes: &[u8]) -> Result<Rc<Node>, AllocErro
 {
     let node = leaf(alloc, RcSlice::from_slice(alloc, bytes)?)?;
     Ok(node)
+}
+
+// A cord of these bytes. Like what follows it promises nothing of the cord, so that tests have little to prove.
+pub(super) fn cord_of(rt: &impl Abort, alloc: Global, bytes: &[u8]) -> Cord {
+    Cord::from_bytes(alloc, bytes).expect(rt, "no memory")
+}
+
+// A cord of so many times a byte.
+pub(super) fn run_of(rt: &impl Abort, alloc: Global, byte: u8, len: u64) -> Cord {
+    Cord::chars(alloc, byte, len).expect(rt, "no memory")
+}
+
+// Two cords, one behind the other.
+pub(super) fn joined(rt: &impl Abort, alloc: Global, left: &Cord, right: &Cord) -> Cord {
+    Cord::cat(alloc, left, right).expect(rt, "no memory")
+}
+
+// So many bytes of a cord from a place on.
+pub(super) fn part_of(rt: &impl Abort, alloc: Global, cord: &Cord, start: u64, count: u64) -> Cord {
+    cord.substr(alloc, start, count).expect(rt, "no memory")
+}
+
+// That a cord of leaves and runs has this text.
+pub(super) fn expect_text(rt: &impl Abort, alloc: Global, cord: &Cord, text: &[u8]) {
+    let bytes = bytes_of(alloc, cord).expect(rt, "no memory");
+    assert!(rt; bytes.as_deref() == Some(text), "the text is not {text:?}");
 }
 
 // The bytes of a cord of leaves and runs; `None` where it has a function part.

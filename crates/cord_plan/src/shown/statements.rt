@@ -1,6 +1,6 @@
 // The text of statements that are kept.
 ghost use Rattle.std.specs.Prelude.{◌≡◌, map};
-ghost use Rattle.cord_script.specs.Families.{IsGrowth, IsLook, IsSearch, IsCount, IsControl};
+ghost use Rattle.cord_syntax.specs.Families.{IsGrowth, IsLook, IsSearch, IsCount, IsControl};
 ghost use Rattle.cord_plan.specs.Shown.{called, counted, grows, relation, statement};
 ghost use Rattle.cord_plan.specs.Showing.{Writes, fragment_text};
 

@@ -1,8 +1,7 @@
 // The worked rows that the reader meets, and each public call once.
 use cord_script::*;
-use std::alloc::{AllocError, Global};
+use std::alloc::Global;
 use std::process::Abort;
-use std::test::Fail;
 
 // The line and the code of a refusal; none where the script is read.
 fn refusal(alloc: Global, script: &[u8]) -> Option<(u32, u8)> {
@@ -21,53 +20,65 @@ fn count(alloc: Global, script: &[u8]) -> Option<usize> {
 }
 
 // So many lines, each a `lazy` of another path.
-fn lazies(alloc: Global, n: u32) -> Result<String, AllocError> {
+fn lazies(rt: &impl Abort, alloc: Global, n: u32) -> String {
     let mut script = String::new(alloc);
     for i in 0..n {
-        let line = format!(in alloc; "lazy x \"p{i}\"\n")?;
-        script.push_str(line.as_str())?;
+        let line = format!(in alloc; "lazy x \"p{i}\"\n").expect(rt, "no memory");
+        script.push_str(line.as_str()).expect(rt, "no memory");
     }
-    Ok(script)
+    script
+}
+
+// A text so many times.
+fn repeated(rt: &impl Abort, alloc: Global, text: &str, n: u32) -> String {
+    let mut all = String::new(alloc);
+    for _ in 0..n {
+        all.push_str(text).expect(rt, "no memory");
+    }
+    all
 }
 
 // So many lines that open a block, and as many that close it.
-fn nested(alloc: Global, n: u32) -> Result<String, AllocError> {
-    let mut script = String::new(alloc);
-    for _ in 0..n {
-        script.push_str("repeat 1\n")?;
-    }
-    for _ in 0..n {
-        script.push_str("end\n")?;
-    }
-    Ok(script)
+fn nested(rt: &impl Abort, alloc: Global, n: u32) -> String {
+    let mut script = repeated(rt, alloc, "repeat 1\n", n);
+    let ends = repeated(rt, alloc, "end\n", n);
+    script.push_str(ends.as_str()).expect(rt, "no memory");
+    script
 }
 
 // A `catn` of so many cords, behind the line that makes them.
-fn joined(alloc: Global, n: u32) -> Result<String, AllocError> {
-    let mut script = String::from_str(alloc, "let x \"a\"\ncatn z")?;
-    for _ in 0..n {
-        script.push_str(" x")?;
-    }
-    Ok(script)
+fn joined(rt: &impl Abort, alloc: Global, n: u32) -> String {
+    let operands = repeated(rt, alloc, " x", n);
+    format!(in alloc; "let x \"a\"\ncatn z{operands}").expect(rt, "no memory")
 }
 
-// So many times a byte.
-fn copies(alloc: Global, byte: u8, n: usize) -> Result<Vec<u8>, AllocError> {
-    let mut bytes = Vec::new(alloc);
-    for _ in 0..n {
-        bytes.push(byte)?;
-    }
-    Ok(bytes)
+// A text, and so many times a byte.
+fn filled(rt: &impl Abort, alloc: Global, text: &[u8], byte: u8, n: usize) -> Vec<u8> {
+    crate::filled(alloc, text, byte, n).expect(rt, "no memory")
 }
 
 // So many lines, each a `let` of another name.
-fn lets(alloc: Global, n: u32) -> Result<String, AllocError> {
+fn lets(rt: &impl Abort, alloc: Global, n: u32) -> String {
     let mut script = String::new(alloc);
     for i in 0..n {
-        let line = format!(in alloc; "let n{i} \"\"\n")?;
-        script.push_str(line.as_str())?;
+        let line = format!(in alloc; "let n{i} \"\"\n").expect(rt, "no memory");
+        script.push_str(line.as_str()).expect(rt, "no memory");
     }
-    Ok(script)
+    script
+}
+
+// That a script is read and has so many statements.
+fn expect_count(rt: &(impl AllocGlobal + Abort), script: &[u8], statements: usize) {
+    assert!(rt;
+        count(rt.alloc(), script) == Some(statements),
+        "not {statements} statements"
+    );
+}
+
+// That a script is refused at this line with this code.
+fn expect_refusal(rt: &(impl AllocGlobal + Abort), script: &[u8], line: u32, code: u8) {
+    let told = refusal(rt.alloc(), script);
+    assert!(rt; told == Some((line, code)), "not line {line}, code {code}");
 }
 
 // That the text of the one `let` of a script is this.
@@ -83,7 +94,7 @@ fn says(rt: &impl Abort, alloc: Global, script: &[u8], wanted: &[u8]) {
 
 #[test]
 fn empty_script(rt: HostRuntime) {
-    assert!(rt; count(rt.alloc(), b"") == Some(0));
+    expect_count(&rt, b"", 0);
 }
 
 #[test]
@@ -127,114 +138,105 @@ fn escapes(rt: HostRuntime) {
 #[test]
 fn quotes_part_words(rt: HostRuntime) {
     says(&rt, rt.alloc(), b"\tlet x\"a b\"\r", b"a b");
-    assert!(rt; refusal(rt.alloc(), b"let x \"a\"\"b\"") == Some((1, 5)));
-    assert!(rt; refusal(rt.alloc(), b"\"let\" x \"a\"") == Some((1, 4)));
+    expect_refusal(&rt, b"let x \"a\"\"b\"", 1, 5);
+    expect_refusal(&rt, b"\"let\" x \"a\"", 1, 4);
 }
 
 #[test]
 fn idle_lines(rt: HostRuntime) {
-    assert!(rt; count(rt.alloc(), b"\n \t\r\n # \"\\q\n#\n") == Some(0));
-    assert!(rt; refusal(rt.alloc(), b"\n # \"\n\nput y\n") == Some((4, 8)));
+    expect_count(&rt, b"\n \t\r\n # \"\\q\n#\n", 0);
+    expect_refusal(&rt, b"\n # \"\n\nput y\n", 4, 8);
 }
 
 #[test]
 fn unknown_name(rt: HostRuntime) {
-    assert!(rt; refusal(rt.alloc(), b"put x") == Some((1, 8)));
-    assert!(rt; refusal(rt.alloc(), b"put x\nlet x \"a\"") == Some((1, 8)));
+    expect_refusal(&rt, b"put x", 1, 8);
+    expect_refusal(&rt, b"put x\nlet x \"a\"", 1, 8);
 }
 
 #[test]
 fn let_quote_open(rt: HostRuntime) {
-    assert!(rt; refusal(rt.alloc(), b"let x \"a") == Some((1, 2)));
+    expect_refusal(&rt, b"let x \"a", 1, 2);
 }
 
 #[test]
 fn cat_quote_open(rt: HostRuntime) {
-    assert!(rt; refusal(rt.alloc(), b"cat z \"") == Some((1, 2)));
+    expect_refusal(&rt, b"cat z \"", 1, 2);
 }
 
 #[test]
 fn let_bad_escape(rt: HostRuntime) {
-    assert!(rt; refusal(rt.alloc(), b"let x \"\\q\"") == Some((1, 3)));
-    assert!(rt; refusal(rt.alloc(), b"let x \"\\x4") == Some((1, 3)));
-    assert!(rt; refusal(rt.alloc(), b"let x \"\\x4g\"") == Some((1, 3)));
-    assert!(rt; refusal(rt.alloc(), b"let x \"\\") == Some((1, 3)));
+    expect_refusal(&rt, b"let x \"\\q\"", 1, 3);
+    expect_refusal(&rt, b"let x \"\\x4", 1, 3);
+    expect_refusal(&rt, b"let x \"\\x4g\"", 1, 3);
+    expect_refusal(&rt, b"let x \"\\", 1, 3);
 }
 
 #[test]
-fn script_too_big(rt: HostRuntime) -> Result<(), Fail> {
-    let mut script = copies(rt.alloc(), 32, 1_048_577)?;
-    assert!(rt; refusal(rt.alloc(), &script) == Some((0, 1)));
-    script.truncate(1_048_576);
-    assert!(rt; count(rt.alloc(), &script) == Some(0));
-    Ok(())
+fn script_too_big(rt: HostRuntime) {
+    expect_refusal(&rt, &filled(&rt, rt.alloc(), b"", 32, 1_048_577), 0, 1);
+    expect_count(&rt, &filled(&rt, rt.alloc(), b"", 32, 1_048_576), 0);
 }
 
 #[test]
-fn too_many_lines(rt: HostRuntime) -> Result<(), Fail> {
-    let script = copies(rt.alloc(), 10, 65_537)?;
-    assert!(rt; refusal(rt.alloc(), &script) == Some((65_537, 1)));
-    Ok(())
+fn too_many_lines(rt: HostRuntime) {
+    expect_refusal(&rt, &filled(&rt, rt.alloc(), b"", 10, 65_537), 65_537, 1);
 }
 
 #[test]
-fn lines_at_the_limit(rt: HostRuntime) -> Result<(), Fail> {
-    let script = copies(rt.alloc(), 10, 65_536)?;
-    assert!(rt; count(rt.alloc(), &script) == Some(0));
-    Ok(())
+fn lines_at_the_limit(rt: HostRuntime) {
+    expect_count(&rt, &filled(&rt, rt.alloc(), b"", 10, 65_536), 0);
 }
 
 #[test]
-fn literal_too_long(rt: HostRuntime) -> Result<(), Fail> {
-    let mut script = Vec::from_slice(rt.alloc(), b"let x \"")?;
-    script.extend_from_slice(&copies(rt.alloc(), 97, 65_535)?)?;
-    script.push(34)?;
-    assert!(rt; count(rt.alloc(), &script) == Some(1));
-    script.pop();
-    script.push(97)?;
-    assert!(rt; refusal(rt.alloc(), &script) == Some((1, 15)));
-    Ok(())
+fn literal_too_long(rt: HostRuntime) {
+    let mut script = filled(&rt, rt.alloc(), b"let x \"", 97, 65_535);
+    script.push(34).expect(&rt, "no memory");
+    expect_count(&rt, &script, 1);
+    expect_refusal(
+        &rt,
+        &filled(&rt, rt.alloc(), b"let x \"", 97, 65_536),
+        1,
+        15,
+    );
 }
 
 #[test]
 fn put_two_words(rt: HostRuntime) {
-    assert!(rt; refusal(rt.alloc(), b"put x y") == Some((1, 5)));
+    expect_refusal(&rt, b"put x y", 1, 5);
 }
 
 #[test]
 fn let_digit_name(rt: HostRuntime) {
-    assert!(rt; refusal(rt.alloc(), b"let 9x \"a\"") == Some((1, 6)));
+    expect_refusal(&rt, b"let 9x \"a\"", 1, 6);
 }
 
 #[test]
 fn let_long_name(rt: HostRuntime) {
-    assert!(rt; count(rt.alloc(), b"let _234567890123456789012345678901Z \"\"") == Some(1));
-    assert!(rt; refusal(rt.alloc(), b"let _234567890123456789012345678901Z3 \"\"") == Some((1, 6)));
+    expect_count(&rt, b"let _234567890123456789012345678901Z \"\"", 1);
+    expect_refusal(&rt, b"let _234567890123456789012345678901Z3 \"\"", 1, 6);
 }
 
 #[test]
 fn put_quoted_word(rt: HostRuntime) {
-    assert!(rt; refusal(rt.alloc(), b"put \"x\"") == Some((1, 6)));
+    expect_refusal(&rt, b"put \"x\"", 1, 6);
 }
 
 #[test]
 fn let_plain_word(rt: HostRuntime) {
-    assert!(rt; refusal(rt.alloc(), b"let x a") == Some((1, 9)));
-    assert!(rt; refusal(rt.alloc(), b"let 9 a") == Some((1, 6)));
+    expect_refusal(&rt, b"let x a", 1, 9);
+    expect_refusal(&rt, b"let 9 a", 1, 6);
 }
 
 #[test]
-fn names_one_too_many(rt: HostRuntime) -> Result<(), Fail> {
-    let script = lets(rt.alloc(), 257)?;
-    assert!(rt; refusal(rt.alloc(), script.as_bytes()) == Some((257, 14)));
-    let script = lets(rt.alloc(), 256)?;
-    assert!(rt; count(rt.alloc(), script.as_bytes()) == Some(256));
-    Ok(())
+fn names_one_too_many(rt: HostRuntime) {
+    expect_refusal(&rt, lets(&rt, rt.alloc(), 257).as_bytes(), 257, 14);
+    expect_count(&rt, lets(&rt, rt.alloc(), 256).as_bytes(), 256);
 }
 
 #[test]
 fn statement_words_are_names(rt: HostRuntime) {
-    assert!(rt; count(rt.alloc(), b"let let \"a\"\nput let") == Some(2));
+    expect_count(&rt, b"let let \"a\"\nput let", 2);
 }
 
 #[test]
@@ -362,20 +364,21 @@ fn words_are_refused_in_order(rt: HostRuntime) {
 }
 
 #[test]
-fn counts_at_their_limits(rt: HostRuntime) -> Result<(), Fail> {
-    let script = joined(rt.alloc(), 16)?;
-    assert!(rt; count(rt.alloc(), script.as_bytes()) == Some(2));
-    let script = joined(rt.alloc(), 17)?;
-    assert!(rt; refusal(rt.alloc(), script.as_bytes()) == Some((2, 5)));
-    let script = nested(rt.alloc(), 8)?;
-    assert!(rt; count(rt.alloc(), script.as_bytes()) == Some(16));
-    let script = nested(rt.alloc(), 9)?;
-    assert!(rt; refusal(rt.alloc(), script.as_bytes()) == Some((9, 11)));
-    let script = lazies(rt.alloc(), 64)?;
-    assert!(rt; count(rt.alloc(), script.as_bytes()) == Some(64));
-    let script = lazies(rt.alloc(), 65)?;
-    assert!(rt; refusal(rt.alloc(), script.as_bytes()) == Some((65, 14)));
-    Ok(())
+fn operands_at_their_limit(rt: HostRuntime) {
+    expect_count(&rt, joined(&rt, rt.alloc(), 16).as_bytes(), 2);
+    expect_refusal(&rt, joined(&rt, rt.alloc(), 17).as_bytes(), 2, 5);
+}
+
+#[test]
+fn blocks_at_their_limit(rt: HostRuntime) {
+    expect_count(&rt, nested(&rt, rt.alloc(), 8).as_bytes(), 16);
+    expect_refusal(&rt, nested(&rt, rt.alloc(), 9).as_bytes(), 9, 11);
+}
+
+#[test]
+fn paths_at_their_limit(rt: HostRuntime) {
+    expect_count(&rt, lazies(&rt, rt.alloc(), 64).as_bytes(), 64);
+    expect_refusal(&rt, lazies(&rt, rt.alloc(), 65).as_bytes(), 65, 14);
 }
 
 #[test]
@@ -387,29 +390,37 @@ fn kinds_have_codes_and_texts(rt: HostRuntime) {
 }
 
 #[test]
-fn small_types_give_their_parts_back(rt: HostRuntime) -> Result<(), Fail> {
-    let name = Name::of(rt.alloc(), b"x")?;
+fn names_give_their_parts_back(rt: HostRuntime) {
+    let name = Name::of(rt.alloc(), b"x").expect(&rt, "no memory");
     assert!(rt; name.as_slice() == b"x".as_slice());
     let mut list = Vec::new(rt.alloc());
-    list.push(name)?;
+    list.push(name).expect(&rt, "no memory");
     let names = Names::of(list);
     assert!(rt; names.as_slice().len() == 1);
     for name in names.into_vec() {
         assert!(rt; name.as_slice() == b"x".as_slice());
     }
-    let text = Text::of(Vec::from_slice(rt.alloc(), b"t")?);
-    assert!(rt; text.into_vec().as_slice() == b"t".as_slice());
-    let path = Path::of(String::from_str(rt.alloc(), "a/b")?);
+}
+
+#[test]
+fn texts_and_paths_give_their_parts_back(rt: HostRuntime) {
+    let bytes = Vec::from_slice(rt.alloc(), b"t").expect(&rt, "no memory");
+    assert!(rt; Text::of(bytes).into_vec().as_slice() == b"t".as_slice());
+    let path = Path::of(String::from_str(rt.alloc(), "a/b").expect(&rt, "no memory"));
     assert!(rt; path.as_str() == "a/b");
     assert!(rt; path.into_string().as_str() == "a/b");
+}
+
+#[test]
+fn arguments_and_scripts_give_their_parts_back(rt: HostRuntime) {
     let mut list = Vec::new(rt.alloc());
-    list.push(Argument::Number(Number::Numeral(-3)))?;
+    let number = Argument::Number(Number::Numeral(-3));
+    list.push(number).expect(&rt, "no memory");
     let arguments = Arguments::of(list);
     assert!(rt; arguments.as_slice().len() == 1);
     assert!(rt; arguments.into_vec().len() == 1);
     let script = Script::of(Vec::new(rt.alloc()));
     assert!(rt; script.statements().len() == 0);
-    Ok(())
 }
 
 #[test]

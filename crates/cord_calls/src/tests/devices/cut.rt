@@ -1,6 +1,6 @@
 // What can be read of files that are cut.
-use super::digits_file;
-use cord_io::{CutFiles, Files, FuseFiles, OpenFault, ReadFault};
+use super::{digits_file, expect_fault, expect_read};
+use cord_io::{CutFiles, Files, FuseFiles, OpenFault};
 
 #[test]
 fn reads_up_to_the_cut(rt: HostRuntime) {
@@ -10,17 +10,13 @@ fn reads_up_to_the_cut(rt: HostRuntime) {
         panic!(rt; "not opened");
     };
     assert!(rt; len == 10);
-    let mut out = [0u8; 4];
-    assert!(rt; files.read_at(no, 0, &mut out) == Ok(4));
-    assert!(rt; out.as_slice() == b"0123".as_slice());
-    assert!(rt; files.read_at(no, 4, &mut out) == Ok(2));
-    assert!(rt; &out[..2] == b"45".as_slice());
+    expect_read(&rt, &mut files, no, 0, &mut [0; 4], b"0123");
+    expect_read(&rt, &mut files, no, 4, &mut [0; 4], b"45");
     assert!(rt; files.failures() == 0);
-    assert!(rt; files.read_at(no, 6, &mut out) == Err(ReadFault));
-    assert!(rt; files.read_at(no, 9, &mut out) == Err(ReadFault));
+    expect_fault(&rt, &mut files, no, 6);
+    expect_fault(&rt, &mut files, no, 9);
     assert!(rt; files.failures() == 2);
-    assert!(rt; files.read_at(no, 5, &mut out) == Ok(1));
-    assert!(rt; &out[..1] == b"5".as_slice());
+    expect_read(&rt, &mut files, no, 5, &mut [0; 4], b"5");
     assert!(rt; files.failures() == 2);
 }
 
@@ -31,8 +27,7 @@ fn failures_of_the_whole_files_are_counted(rt: HostRuntime) {
         panic!(rt; "not opened");
     };
     assert!(rt; len == 10);
-    let mut out = [0u8; 4];
-    assert!(rt; files.read_at(no, 0, &mut out) == Err(ReadFault));
+    expect_fault(&rt, &mut files, no, 0);
     assert!(rt; files.open("digits") == Err(OpenFault::Failed));
     assert!(rt; files.failures() == 2);
 }

@@ -4,10 +4,12 @@ ghost use Rattle.cord_io.specs.Device.{Folder, bytes_at};
 ghost use Rattle.cord_io.specs.DiskTold.{told_by};
 ghost use Rattle.cord_io.specs.Told.{Agrees};
 
+use super::{expect_fault, expect_read};
 use cord_io::{DiskFiles, Files, OpenFault, ReadFault};
 use std::alloc::Allocator;
 use std::fs::{self, Metadata, OpenFile};
 use std::io::{self, ErrorKind, Read, Seek, SeekFrom, Write};
+use std::process::Abort;
 use std::rt;
 use std::test::Fail;
 
@@ -188,17 +190,11 @@ fn reads_on_ahead_without_a_seek(rt: HostRuntime) {
         panic!(rt; "not opened");
     };
     assert!(rt; len == 10);
-    let mut out = [0u8; 3];
-    assert!(rt; files.read_at(no, 0, &mut out) == Ok(3));
-    assert!(rt; out.as_slice() == b"012".as_slice());
-    assert!(rt; files.read_at(no, 3, &mut out) == Ok(3));
-    assert!(rt; out.as_slice() == b"345".as_slice());
-    assert!(rt; files.read_at(no, 6, &mut out) == Ok(3));
-    assert!(rt; out.as_slice() == b"678".as_slice());
-    assert!(rt; files.read_at(no, 9, &mut out) == Ok(1));
-    assert!(rt; &out[..1] == b"9".as_slice());
-    assert!(rt; files.read_at(no, 5, &mut out) == Ok(3));
-    assert!(rt; out.as_slice() == b"567".as_slice());
+    expect_read(&rt, &mut files, no, 0, &mut [0; 3], b"012");
+    expect_read(&rt, &mut files, no, 3, &mut [0; 3], b"345");
+    expect_read(&rt, &mut files, no, 6, &mut [0; 3], b"678");
+    expect_read(&rt, &mut files, no, 9, &mut [0; 3], b"9");
+    expect_read(&rt, &mut files, no, 5, &mut [0; 3], b"567");
     assert!(rt; files.failures() == 0);
 }
 
@@ -219,15 +215,12 @@ fn reads_two_files_ahead(rt: HostRuntime) {
         panic!(rt; "not opened");
     };
     assert!(rt; len == 10);
-    let mut out = [0u8; 4];
-    assert!(rt; files.read_at(one, 0, &mut out) == Ok(4));
-    assert!(rt; files.read_at(other, 0, &mut out) == Ok(4));
-    assert!(rt; files.read_at(one, 4, &mut out) == Ok(4));
-    assert!(rt; files.read_at(other, 4, &mut out) == Ok(4));
-    assert!(rt; out.as_slice() == b"4567".as_slice());
-    assert!(rt; files.read_at(one, 8, &mut out) == Ok(2));
-    assert!(rt; files.read_at(other, 8, &mut out) == Ok(2));
-    assert!(rt; &out[..2] == b"89".as_slice());
+    expect_read(&rt, &mut files, one, 0, &mut [0; 4], b"0123");
+    expect_read(&rt, &mut files, other, 0, &mut [0; 4], b"0123");
+    expect_read(&rt, &mut files, one, 4, &mut [0; 4], b"4567");
+    expect_read(&rt, &mut files, other, 4, &mut [0; 4], b"4567");
+    expect_read(&rt, &mut files, one, 8, &mut [0; 4], b"89");
+    expect_read(&rt, &mut files, other, 8, &mut [0; 4], b"89");
     assert!(rt; files.failures() == 0);
 }
 
@@ -244,13 +237,10 @@ fn reads_elsewhere_as_they_are(rt: HostRuntime) {
         panic!(rt; "not opened");
     };
     assert!(rt; len == 10);
-    let mut out = [0u8; 2];
-    assert!(rt; files.read_at(no, 6, &mut out) == Ok(2));
-    assert!(rt; out.as_slice() == b"67".as_slice());
-    assert!(rt; files.read_at(no, 2, &mut out) == Ok(2));
-    assert!(rt; out.as_slice() == b"23".as_slice());
+    expect_read(&rt, &mut files, no, 6, &mut [0; 2], b"67");
+    expect_read(&rt, &mut files, no, 2, &mut [0; 2], b"23");
     assert!(rt; files.failures() == 0);
-    assert!(rt; files.read_at(no, 4, &mut [0; 6]) == Err(ReadFault));
+    expect_fault(&rt, &mut files, no, 4);
     assert!(rt; files.failures() == 1);
 }
 
@@ -267,10 +257,8 @@ fn a_fault_ahead_is_no_fault(rt: HostRuntime) {
         panic!(rt; "not opened");
     };
     assert!(rt; len == 10);
-    let mut out = [0u8; 4];
-    assert!(rt; files.read_at(no, 0, &mut out) == Ok(4));
-    assert!(rt; files.read_at(no, 4, &mut out) == Ok(4));
-    assert!(rt; out.as_slice() == b"4567".as_slice());
+    expect_read(&rt, &mut files, no, 0, &mut [0; 4], b"0123");
+    expect_read(&rt, &mut files, no, 4, &mut [0; 4], b"4567");
     assert!(rt; files.failures() == 0);
 }
 
@@ -288,11 +276,9 @@ fn faults_in_mid_stream_are_counted(rt: HostRuntime) {
             panic!(rt; "not opened");
         };
         assert!(rt; len == 10);
-        let mut out = [0u8; 4];
-        assert!(rt; files.read_at(no, 2, &mut out) == Ok(4));
-        assert!(rt; out.as_slice() == b"2345".as_slice());
-        assert!(rt; files.read_at(no, 6, &mut out) == Err(ReadFault));
-        assert!(rt; files.read_at(no, 6, &mut out) == Err(ReadFault));
+        expect_read(&rt, &mut files, no, 2, &mut [0; 4], b"2345");
+        expect_fault(&rt, &mut files, no, 6);
+        expect_fault(&rt, &mut files, no, 6);
         assert!(rt; files.failures() == 2);
     }
 }
@@ -317,24 +303,36 @@ fn only_a_missing_path_is_not_found(rt: HostRuntime) {
     }
 }
 
+// Writes the ten digits to a file of the machine that runs the test.
+fn write_digits(rt: &(impl rt::Files + Abort), path: &str) {
+    fs::write(rt, path, DIGITS.as_slice()).expect(rt, "not written");
+}
+
+fn remove(rt: &(impl rt::Files + Abort), path: &str) {
+    fs::remove_file(rt, path).expect(rt, "not removed");
+}
+
 // The files of the machine that runs the test.
 #[test]
 fn real_files(rt: HostRuntime) -> Result<(), Fail> {
     let path = "cord_calls_digits";
-    fs::write(&rt, path, DIGITS.as_slice())?;
+    write_digits(&rt, path);
     let mut files = DiskFiles::new(rt.clone()?, rt.alloc());
     let Ok((no, len)) = files.open(path) else {
         panic!(rt; "not opened");
     };
-    fs::remove_file(&rt, path)?;
+    remove(&rt, path);
     assert!(rt; len == 10);
-    let mut out = [0u8; 4];
-    assert!(rt; files.read_at(no, 7, &mut out) == Ok(3));
-    assert!(rt; &out[..3] == b"789".as_slice());
-    assert!(rt; files.read_at(no, 1, &mut out) == Ok(4));
-    assert!(rt; out.as_slice() == b"1234".as_slice());
+    expect_read(&rt, &mut files, no, 7, &mut [0; 4], b"789");
+    expect_read(&rt, &mut files, no, 1, &mut [0; 4], b"1234");
     assert!(rt; files.open(path) == Err(OpenFault::NotFound));
     assert!(rt; files.failures() == 0);
+    Ok(())
+}
+
+#[test]
+fn directories_and_bad_paths_are_no_files(rt: HostRuntime) -> Result<(), Fail> {
+    let mut files = DiskFiles::new(rt.clone()?, rt.alloc());
     assert!(rt; files.open(".") == Err(OpenFault::Failed));
     assert!(rt; files.open("out\0side") == Err(OpenFault::Failed));
     assert!(rt; files.failures() == 2);
@@ -361,19 +359,30 @@ fn read_told<R: rt::Files>(
     files.read_at(no, start, out)
 }
 
+// What is read of a path from a place on, where there is something.
+fn expect_told<R: rt::Files>(
+    rt: &impl Abort,
+    files: &mut DiskFiles<R>,
+    path: &str,
+    start: u64,
+    bytes: &[u8],
+) {
+    let mut out = [0u8; 4];
+    assert!(rt; read_told(files, path, start, &mut out) == Ok(bytes.len()));
+    assert!(rt; out.starts_with(bytes), "from {start}");
+}
+
 // What was told of a real file agrees with what was written there.
 #[test]
 fn told_bytes_of_a_real_file(rt: HostRuntime) -> Result<(), Fail> {
     let path = "cord_calls_told";
-    fs::write(&rt, path, DIGITS.as_slice())?;
+    write_digits(&rt, path);
     let mut files = DiskFiles::new(rt.clone()?, rt.alloc());
+    expect_told(&rt, &mut files, path, 3, &DIGITS[3..7]);
+    expect_told(&rt, &mut files, path, 8, &DIGITS[8..]);
     let mut out = [0u8; 4];
-    assert!(rt; read_told(&mut files, path, 3, &mut out) == Ok(4));
-    assert!(rt; out.as_slice() == &DIGITS[3..7]);
-    assert!(rt; read_told(&mut files, path, 8, &mut out) == Ok(2));
-    assert!(rt; &out[..2] == &DIGITS[8..]);
     assert!(rt; read_told(&mut files, path, 10, &mut out) == Err(ReadFault));
-    fs::remove_file(&rt, path)?;
+    remove(&rt, path);
     assert!(rt; read_told(&mut files, path, 0, &mut out) == Err(ReadFault));
     assert!(rt; files.failures() == 0);
     Ok(())

@@ -1,6 +1,6 @@
 // What files with a fuse pass, and what they answer when it is spent.
-use super::digits_file;
-use cord_io::{CutFiles, Files, FuseFiles, OpenFault, ReadFault};
+use super::{digits_file, expect_fault, expect_read};
+use cord_io::{CutFiles, Files, FuseFiles, OpenFault};
 
 #[test]
 fn files_pass_so_many_calls(rt: HostRuntime) {
@@ -11,11 +11,9 @@ fn files_pass_so_many_calls(rt: HostRuntime) {
         panic!(rt; "not opened");
     };
     assert!(rt; len == 10);
-    let mut out = [0u8; 4];
-    assert!(rt; files.read_at(no, 2, &mut out) == Ok(4));
-    assert!(rt; out.as_slice() == b"2345".as_slice());
+    expect_read(&rt, &mut files, no, 2, &mut [0; 4], b"2345");
     assert!(rt; files.failures() == 0);
-    assert!(rt; files.read_at(no, 6, &mut out) == Err(ReadFault));
+    expect_fault(&rt, &mut files, no, 6);
     assert!(rt; files.open("digits") == Err(OpenFault::Failed));
     assert!(rt; files.open("letters") == Err(OpenFault::Failed));
     assert!(rt; files.failures() == 3);
@@ -29,11 +27,9 @@ fn failures_of_the_files_inside_are_counted(rt: HostRuntime) {
         panic!(rt; "not opened");
     };
     assert!(rt; len == 10);
-    let mut out = [0u8; 8];
-    assert!(rt; files.read_at(no, 4, &mut out) == Err(ReadFault));
+    expect_fault(&rt, &mut files, no, 4);
     assert!(rt; files.failures() == 1);
-    assert!(rt; files.read_at(no, 1, &mut out) == Ok(3));
-    assert!(rt; &out[..3] == b"123".as_slice());
+    expect_read(&rt, &mut files, no, 1, &mut [0; 8], b"123");
     assert!(rt; files.failures() == 1);
     assert!(rt; files.inner().failures() == 1);
 }

@@ -1,5 +1,5 @@
 // What files in memory answer.
-use super::digits_file;
+use super::{digits_file, expect_read};
 use cord_io::{CordError, Files, MemFiles, OpenFault};
 
 #[test]
@@ -9,11 +9,8 @@ fn reads_what_lies_inside(rt: HostRuntime) {
         panic!(rt; "not opened");
     };
     assert!(rt; len == 10);
-    let mut out = [0u8; 4];
-    assert!(rt; files.read_at(no, 3, &mut out) == Ok(4));
-    assert!(rt; out.as_slice() == b"3456".as_slice());
-    assert!(rt; files.read_at(no, 8, &mut out) == Ok(2));
-    assert!(rt; &out[..2] == b"89".as_slice());
+    expect_read(&rt, &mut files, no, 3, &mut [0; 4], b"3456");
+    expect_read(&rt, &mut files, no, 8, &mut [0; 4], b"89");
     assert!(rt; files.failures() == 0);
 }
 
@@ -37,9 +34,7 @@ fn a_path_that_is_there_gets_the_new_bytes(rt: HostRuntime) {
         panic!(rt; "not opened");
     };
     assert!(rt; len == 5);
-    let mut out = [0u8; 8];
-    assert!(rt; files.read_at(no, 0, &mut out) == Ok(5));
-    assert!(rt; &out[..5] == b"newer".as_slice());
+    expect_read(&rt, &mut files, no, 0, &mut [0; 8], b"newer");
 }
 
 #[test]

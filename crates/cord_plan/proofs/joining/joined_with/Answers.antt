@@ -1,5 +1,5 @@
 use Rattle.std.proofs.Common.{◌≡◌, map, pos, rules, ◌∙◌}
-use Rattle.cord_script.specs.declared.operands.Number.TheVariants.{Numeral}
+use Rattle.cord_operands.specs.declared.operands.Number.TheVariants.{Numeral}
 use Rattle.cord_plan.specs.Exprs as plain
 use Rattle.cord_plan.specs.Forced.{expr_of}
 use Rattle.cord_plan.specs.Views.{expr_view}

@@ -11,6 +11,6 @@ names_stay (x ∷ xs) = ap (member (name x)) (names_stay xs)
 -- src/own.rt:15:1
 pub returns-in_ok-operands-in-Catn-clause-made : goal.returns-in_ok-operands-in-Catn-clause-made
 returns-in_ok-operands-in-Catn-clause-made c =
-    let made : expr_view c.cat-in-Catn.result ≡ cat (members (map (λ x. name x) c.as_slice.result.now))
-    = c.cat-in-Catn.ensures ∙ ap cat (ap members_of c.in_ok-operands-in-Catn.ensures.made ∙ names_stay c.as_slice.result.now)
+    let made : expr_view c.cat.result ≡ cat (members (map (λ x. name x) c.as_slice.result.now))
+    = c.cat.ensures ∙ ap cat (ap members_of c.in_ok-operands-in-Catn.ensures.made ∙ names_stay c.as_slice.result.now)
     in search (rules, made)

@@ -1,6 +1,6 @@
 use Rattle.std.proofs.Common.{[], ◌∷◌, refl}
 use Rattle.std.specs.Prelude.{codes}
-use Rattle.cord_script.specs.declared.statements.Statement.TheVariants.{Substr}
+use Rattle.cord_syntax.specs.declared.statements.Statement.TheVariants.{Substr}
 use Rattle.cord_meaning.specs.Rows.{numeral}
 use Rattle.cord_plan.specs.Forced.{replaced}
 use Rattle.cord_plan.specs.Rows.{joined_over_seam}

@@ -1,5 +1,5 @@
 use Rattle.std.proofs.Common.{sym, ap, ◌∙◌}
-use Rattle.cord_script.specs.declared.operands.Number.{Number}
+use Rattle.cord_operands.specs.declared.operands.Number.{Number}
 use Rattle.cord_plan.specs.Exprs.{number_names}
 use Rattle.cord_plan.specs.Recent.{stay}
 use Rattle.cord_plan.proofs.Lasts.{stay_nothing}

@@ -76,7 +76,7 @@ pub(super) const REFUSALS: [Row; 32] = [
 
 #[test]
 fn refusals(rt: HostRuntime) {
-    for (name, script, line, kind) in REFUSALS {
+    for &(name, script, line, kind) in &REFUSALS {
         expect_refused(&rt, name, &lines(&rt, script), line, kind);
     }
 }

@@ -1,6 +1,6 @@
 use Rattle.std.proofs.Common.{List, ℕ, ap, sym, ◌∙◌, FitsSigned, w64, to_z, of_z, rules}
 use Rattle.std.proofs.lemmas.Int.{to_z-of_z}
-use Rattle.cord_script.specs.declared.operands.Argument.{Argument}
+use Rattle.cord_operands.specs.declared.operands.Argument.{Argument}
 use Rattle.cord_plan.specs.Planned as plan
 use Rattle.cord_plan.specs.Views.{expr_view, made_view}
 use Rattle.cord_run.proofs.Made.{balanced_told, joined_told, joined_untold, printed_told, printed_untold, start_measured}

@@ -1,6 +1,6 @@
 use Rattle.std.proofs.Common.{◌≡◌, ℤ, pos, Ok, sym, subst, ap, ◌∙◌, FitsSigned, to_z, of_z, w64, rules}
 use Rattle.std.proofs.lemmas.Int.{to_z-of_z}
-use Rattle.cord_script.specs.declared.statements.Statement.{Statement}
+use Rattle.cord_syntax.specs.declared.statements.Statement.{Statement}
 use Rattle.cord_run.specs.Finding.{FindsOver}
 use Rattle.cord_run.specs.Held.{length_in}
 use Rattle.cord_run.proofs.Kept.{len_finds}

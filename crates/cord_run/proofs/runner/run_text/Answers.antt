@@ -1,4 +1,4 @@
-use Rattle.std.proofs.Common.{sym, subst}
+use Rattle.std.proofs.Common.{refl, sym, subst}
 use Rattle.cord_script.specs.Script.{whole}
 use Rattle.cord_run.specs.Failing.{FailsNowhereElse}
 use Rattle.cord_run.proofs.Alike.{planned_alike}
@@ -12,3 +12,9 @@ returns-in-Ok-plan-clause-run g c =
     let alike = subst (FailsNowhereElse s) (sym made.2) (planned_alike s made.0) in
     let reads = c.in-Ok.ensures.reads in
     (s, reads, (λ folder kept. c.run-end.ensures.honest s means alike whole c.args.script.now reads folder kept), c.run-end.ensures.fails s alike)
+
+pub returns-in-Err-clause-flaw : goal.returns-in-Err-clause-flaw
+returns-in-Err-clause-flaw g c = c.in-Err.ensures.flaw
+
+pub returns-in-Err-clause-unasked : goal.returns-in-Err-clause-unasked
+returns-in-Err-clause-unasked g c = (refl, refl, refl)

@@ -12,3 +12,6 @@ returns-in-Ok-trivial-clause-run g c =
     let alike = subst (FailsNowhereElse s) (sym made) (trivial_alike s) in
     let reads = c.in-Ok.ensures.reads in
     (s, reads, (λ folder kept. c.run-end.ensures.honest s means alike whole c.args.script.now reads folder kept), c.run-end.ensures.fails s alike)
+
+pub returns-in-Err-clause-flaw : goal.returns-in-Err-clause-flaw
+returns-in-Err-clause-flaw g c = c.in-Err.ensures.flaw

@@ -5,7 +5,7 @@ use Rattle.std.proofs.lemmas.List.{map-append}
 use Rattle.cord_plan.specs.Liveness.{tells}
 use Rattle.cord_plan.specs.Tables.{IsNext}
 use Rattle.cord_plan.specs.Views.{expr_view}
-use Rattle.cord_plan.proofs.Marked.{grown_none, grown_then, written_back}
+use Rattle.cord_plan.proofs.Marked.{all_grown, grown_none, grown_then, written_back}
 use Rattle.cord_plan.proofs.table.Table.of.Goals as goal
 
 pub loop-place-preserved : goal.loop-place-preserved
@@ -39,3 +39,7 @@ loop-place-init c =
       later = c.in_ok-recent.ensures.later;
       recent = c.in_ok-recent.ensures.recent s;
     }
+
+pub returns-clause-made : goal.returns-clause-made
+returns-clause-made c =
+    all_grown c.args.statements.now (tells c.args.later.now) c.loop-place.place (map (option_map expr_view) c.loop-place.expressions.items) c.loop-place.firsts.items c.loop-place-test.false c.loop-place.invariant.grown

@@ -1,0 +1,10 @@
+//! The words of a statement behind its first: names, texts, paths, numbers and arguments of formats.
+#![tactic(auto)]
+
+mod names;
+mod operands;
+mod sequences;
+
+pub use names::{Name, Names, Path, Text};
+pub use operands::{Argument, Arguments, Function, Number, Relation};
+pub use sequences::Sequence;

@@ -1,0 +1,57 @@
+use Rattle.std.proofs.Common.{ℕ, List, map, subst, sym}
+use Rattle.cord_file.specs.Sources.{device_in}
+use Rattle.cord_io.specs.declared.TheConstants.{MAX_LEN}
+use Rattle.cord_meaning.specs.declared.TheConstants.{MAX_TURNS}
+use Rattle.cord_meaning.specs.declared.ends.End.{End}
+use Rattle.cord_meaning.specs.Ends.{HonestOutput}
+use Rattle.cord_plan.specs.Meaning.{plan_end, plan_moments}
+use Rattle.cord_plan.specs.Planned.{Operation}
+use Rattle.cord_plan.specs.Views.{operation_view}
+use Rattle.cord_run.specs.Ending.{Closes, SinkCounts}
+use Rattle.cord_run.specs.Steps.{end_of_run}
+use Rattle.cord_run.proofs.Ended.{closed_cause, closed_fails, closed_honest, run_fails}
+use Rattle.cord_run.proofs.runner.run_over.Goals as goal
+
+pub returns-clause-honest : goal.returns-clause-honest
+returns-clause-honest g c = λ folder kept fit.
+    let operations : List Operation = map operation_view c.args.plan.now in
+    let before : List ℕ = g.S.Sink.taken c.args.sink.now in
+    let told : End = c.close_output.result in
+    let n : SinkCounts = record {
+      failed_before = g.S.Sink.failures c.run_plan.new.sink;
+      failed_after = g.S.Sink.failures c.close_output.new.sink;
+      finished_before = g.S.Sink.finished c.run_plan.new.sink;
+      finished_after = g.S.Sink.finished c.close_output.new.sink;
+    } in
+    let closes = subst (λ (e : End). Closes n e told) c.end_of_run-own.ensures c.close_output.ensures.closes in
+    let ms = plan_moments MAX_LEN MAX_TURNS operations folder in
+    let meant = plan_end MAX_LEN MAX_TURNS operations folder in
+    subst (λ (after : List ℕ). HonestOutput ms meant before after told) (sym c.close_output.ensures.taken)
+    (closed_honest ms meant before (g.S.Sink.taken c.run_plan.new.sink) n (end_of_run c.run_plan.result) told closes (c.run_plan.ensures.honest folder kept fit))
+
+pub returns-clause-fails : goal.returns-clause-fails
+returns-clause-fails g c =
+    let operations : List Operation = map operation_view c.args.plan.now in
+    let told : End = c.close_output.result in
+    let n : SinkCounts = record {
+      failed_before = g.S.Sink.failures c.run_plan.new.sink;
+      failed_after = g.S.Sink.failures c.close_output.new.sink;
+      finished_before = g.S.Sink.finished c.run_plan.new.sink;
+      finished_after = g.S.Sink.finished c.close_output.new.sink;
+    } in
+    let closes = subst (λ (e : End). Closes n e told) c.end_of_run-own.ensures c.close_output.ensures.closes in
+    closed_fails operations n (end_of_run c.run_plan.result) told closes (run_fails operations c.run_plan.result c.run_plan.ensures.fails)
+
+pub returns-clause-cause : goal.returns-clause-cause
+returns-clause-cause g c =
+    let told : End = c.close_output.result in
+    let n : SinkCounts = record {
+      failed_before = g.S.Sink.failures c.run_plan.new.sink;
+      failed_after = g.S.Sink.failures c.close_output.new.sink;
+      finished_before = g.S.Sink.finished c.run_plan.new.sink;
+      finished_after = g.S.Sink.finished c.close_output.new.sink;
+    } in
+    let closes = subst (λ (e : End). Closes n e told) c.end_of_run-own.ensures c.close_output.ensures.closes in
+    closed_cause (g.F.Files.failures (device_in c.args.sources.now)) (g.F.Files.failures (device_in c.run_plan.new.sources)) (g.S.Sink.failures c.args.sink.now)
+    (g.S.Sink.failures c.run_plan.new.sink) (g.S.Sink.failures c.close_output.new.sink) (g.S.Sink.finished c.args.sink.now) (g.S.Sink.finished c.run_plan.new.sink) (g.S.Sink.finished c.close_output.new.sink)
+    c.requires.files_count c.requires.sink_count c.run_plan.ensures.finished c.run_plan.result c.run_plan.ensures.counts told closes
