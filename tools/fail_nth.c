@@ -1,6 +1,7 @@
 /* Refuses one allocation of a program: preloaded, the call of malloc, calloc, realloc or aligned_alloc that has the
    number FAIL_NTH (from 1) answers null, and all others are served. With FAIL_COUNT the number of calls is
-   written to that file when the program ends. Calls before main, as those of the loader, aren't counted.
+   written to that file when the program ends. Calls before main, as those of the loader, aren't counted. With
+   FAIL_PROGRAM only the program of that name counts, and not one that starts it, as valgrind does.
 
    cc -shared -fPIC -O2 -o fail_nth.so fail_nth.c -ldl */
 #define _GNU_SOURCE
@@ -24,13 +25,13 @@ static int (*next_memalign)(void **, size_t, size_t);
 static int is_refused(void) { return counting && ++asked == refused; }
 
 static void begin(void) {
-    const char *nth = getenv("FAIL_NTH");
+    const char *nth = getenv("FAIL_NTH"), *name = getenv("FAIL_PROGRAM");
     refused = nth ? strtoul(nth, NULL, 10) : 0;
-    counting = 1;
+    counting = name == NULL || strcmp(name, program_invocation_short_name) == 0;
 }
 
 static void told(void) {
-    const char *path = getenv("FAIL_COUNT");
+    const char *path = counting ? getenv("FAIL_COUNT") : NULL;
     counting = 0;
     if (path != NULL) {
         char text[32];
