@@ -52,15 +52,19 @@ fn add(alloc: Global, members: &mut Vec<Expr>, choice: &Choice) -> Result<(), Co
     Ok(())
 }
 
+// How many members what stands for an operand gives to a `cat`.
+fn member_count(choice: &Choice) -> usize {
+    match choice {
+        Choice::Replaced(_, Expr::Cat(members)) => members.as_slice().len(),
+        _ => 1,
+    }
+}
+
 // How many members these expressions give to a `cat`: so much room is taken at once.
 fn room_for(choices: &[Choice]) -> usize {
     let mut room: usize = 0;
     for choice in choices {
-        let more = match choice {
-            Choice::Replaced(_, Expr::Cat(members)) => members.as_slice().len(),
-            _ => 1,
-        };
-        room = room.saturating_add(more);
+        room = room.saturating_add(member_count(choice));
     }
     room
 }

@@ -1,5 +1,6 @@
 // The operation of a line.
 ghost use Rattle.std.specs.Prelude.{◌≡◌, Bool, None, IfOk, IsOkUnless, option_map};
+ghost use Rattle.cord_syntax.specs.Families.{IsPrint};
 ghost use Rattle.cord_plan.specs.Exprs as plain;
 ghost use Rattle.cord_plan.specs.Forced.{own};
 ghost use Rattle.cord_plan.specs.Planned as plan;
@@ -60,20 +61,16 @@ fn operation_without(statement: &Statement, dead: bool) -> Result<Operation, Cor
 {
     match statement {
         Statement::Let { line, target, text } => {
-            let (target, text) = (target.clone()?, text.clone()?);
-            Ok(gives(dead, *line, target, Made::Literal(text)))
+            Ok(gives(dead, *line, target.clone()?, Made::Literal(text.clone()?)))
         }
         Statement::File { line, target, path } => {
-            let (target, path) = (target.clone()?, path.clone()?);
-            Ok(gives(dead, *line, target, Made::OfFile(path)))
+            Ok(gives(dead, *line, target.clone()?, Made::OfFile(path.clone()?)))
         }
         Statement::Eager { line, target, path } => {
-            let (target, path) = (target.clone()?, path.clone()?);
-            Ok(gives(dead, *line, target, Made::OfEager(path)))
+            Ok(gives(dead, *line, target.clone()?, Made::OfEager(path.clone()?)))
         }
         Statement::Lazy { line, target, path } => {
-            let (target, path) = (target.clone()?, path.clone()?);
-            Ok(gives(dead, *line, target, Made::OfLazy(path)))
+            Ok(gives(dead, *line, target.clone()?, Made::OfLazy(path.clone()?)))
         }
         Statement::FromFn {
             line,
@@ -84,6 +81,19 @@ fn operation_without(statement: &Statement, dead: bool) -> Result<Operation, Cor
             let (target, count) = (target.clone()?, count.clone()?);
             Ok(gives(dead, *line, target, Made::OfFunction(*function, count)))
         }
+        Statement::Balance { .. } | Statement::EcToCord { .. } | Statement::Sprintf { .. } =>
+            operation_of_print(statement, dead),
+        _ => Ok(Operation::Keep(statement.clone()?)),
+    }
+}
+
+// The operation of a line that makes a cord anew of one cord, an extensible cord or a print.
+fn operation_of_print(statement: &Statement, dead: bool) -> Result<Operation, CordError>
+    requires { IsPrint statement.now }
+    ensures made { IfOk result (λ o. (e : plain.Expr) (paired : Bool) → operation_view o ≡ plan.operation statement.now e dead paired) }
+    ensures refused { IsOkUnless result CordError.NoMemory }
+{
+    match statement {
         Statement::Balance {
             line,
             target,
@@ -110,7 +120,7 @@ fn operation_without(statement: &Statement, dead: bool) -> Result<Operation, Cor
             let target = target.clone()?;
             Ok(gives(dead, *line, target, printed(text, format, arguments)?))
         }
-        _ => Ok(Operation::Keep(statement.clone()?)),
+        _ => unreachable!(),
     }
 }
 

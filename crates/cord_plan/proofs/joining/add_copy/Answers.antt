@@ -1,6 +1,6 @@
 use Rattle.std.proofs.Common.{refl, sym, ap, ◌∙◌}
 use Rattle.cord_plan.specs.Exprs as plain
-use Rattle.cord_plan.specs.Views.{expr_view, members_of, members_view}
+use Rattle.cord_plan.specs.Views.{expr_view, members_view}
 use Rattle.cord_plan.proofs.ExprViews.{view-Name, view-Run, view-Cat, view-Sub}
 use Rattle.cord_plan.proofs.Joined.{added_one, added_all}
 use Rattle.cord_plan.proofs.joining.add_copy.Goals as goal
