@@ -54,10 +54,10 @@ added_one old new copy v w items made same front =
     ∙ ap (λ (ms : Exprs). append (members_of (map expr_view old)) ms) (ap (λ (e : Expr). member e nothing) (made ∙ same) ∙ (sym front ∙ ap (λ (e : Expr). in_front e nothing) (sym same))))
 
 -- members more, for a `cat`
-pub added_all : (old new copies : List code.Expr) (v : Expr) (inner : Exprs) → new ≡ old ++ copies → members_of (map expr_view copies) ≡ inner → v ≡ cat inner → members_of (map expr_view new) ≡ append (members_of (map expr_view old)) (in_front v nothing)
-added_all old new copies v inner items made same =
-    ap (λ (es : List code.Expr). members_of (map expr_view es)) items
-    ∙ (views_both old copies
+pub added_all : (old new : List code.Expr) (v : Expr) (more : List code.Expr) (inner : Exprs) → map expr_view new ≡ map expr_view old ++ map expr_view more → members_of (map expr_view more) ≡ inner → v ≡ cat inner → members_of (map expr_view new) ≡ append (members_of (map expr_view old)) (in_front v nothing)
+added_all old new v more inner items made same =
+    ap members_of items
+    ∙ (members_of_both (map expr_view old) (map expr_view more)
     ∙ ap (λ (ms : Exprs). append (members_of (map expr_view old)) ms) (made ∙ (sym (append_nothing inner) ∙ ap (λ (e : Expr). in_front e nothing) (sym same))))
 
 -- a `cat` of expressions and a run behind them

@@ -1,13 +1,15 @@
 -- The parts and the names of expressions, summed over members and operands.
-use Rattle.std.proofs.Common.{◌≡◌, ℕ, ◌+◌, ◌-◌, ◌<◌, ◌≤◌, Bool, true, false, ◌&&◌, List, [], ◌∷◌, ◌++◌, map, drop, length, pos, Option, Some, None, refl, sym, ap, ◌∙◌, arith, length-append, length-drop}
+use Rattle.std.proofs.Common.{◌≡◌, ℕ, ◌+◌, ◌-◌, ◌<◌, ◌≤◌, Bool, true, false, ◌&&◌, List, [], ◌∷◌, ◌++◌, map, drop, length, get_or, pos, Option, Some, None, refl, sym, ap, ◌∙◌, arith, length-append, length-drop}
 use Rattle.std.specs.Prelude.{nat_le, not, sum_by, if◌then◌else◌}
 use Rattle.std.proofs.lemmas.Bool.{leb-false, leb-true, lt-leb, le-leb}
-use Rattle.std.proofs.lemmas.List.{length-map}
+use Rattle.std.proofs.lemmas.List.{at_drop_more, length-map}
 use Rattle.std.proofs.lemmas.List.Sums.{sum_by-cons}
 use Rattle.cord_operands.specs.declared.operands.Number.TheVariants.{Numeral}
 use Rattle.cord_syntax.specs.declared.statements.Statement.{Statement}
 use Rattle.cord_syntax.specs.declared.statements.Statement.TheVariants.{Chars, Nul, Cat, Catn, Catc, Substr, Put}
-use Rattle.cord_plan.specs.Exprs.{Expr, Exprs, name, run, cat, sub, nothing, member, parts, parts_of, names, append, in_front, members}
+use Rattle.cord_plan.specs.Exprs.{Expr, Exprs, name, run, cat, sub, nothing, member, parts, parts_of, append, in_front, members}
+use Rattle.cord_plan.specs.declared.expressions.Expr as code
+use Rattle.cord_plan.specs.Views.{expr_view, members_of}
 use Rattle.cord_plan.specs.Operands.{assigns_at}
 use Rattle.cord_plan.specs.Forced.{Choice, expr_of, keeps, is_small, expr_with}
 use Rattle.cord_plan.specs.Choices.{room_left, room_left_by, simple_operands, parts_beside}
@@ -37,6 +39,31 @@ some_left n m room left e = first (nat_le n room) refl e
         let le : n ≤ room = leb-true n room f in
         second (nat_le m (room - n)) refl le ∙ ap (λ (k : ℕ). nat_le m k) same
     first false f h = let bad : ⊥ = cc in absurd bad
+
+-- so it has none for more where it has none for the first, and else what the first leaves
+pub none_for_more : (n m room : ℕ) → None ≡ room_left n room → None ≡ room_left (n + m) room
+none_for_more n m room e = ap (λ (v : Bool). if v then Some (room - (n + m)) else None) (sym (over_more n m room (none_left n room e)))
+
+left_is : (n room left : ℕ) → Some left ≡ room_left n room → left ≡ room - n
+left_is n room left e = pick (nat_le n room) e
+  where
+    pick : (v : Bool) → Some left ≡ (if v then Some (room - n) else None) → left ≡ room - n
+    pick true h = cc
+    pick false h = let bad : ⊥ = cc in absurd bad
+
+pub room_for_more : (n m room left : ℕ) → Some left ≡ room_left n room → room_left (n + m) room ≡ room_left m left
+room_for_more n m room left e =
+    let same : left ≡ room - n = left_is n room left e in
+    let rest : room - (n + m) ≡ left - m = omega arith in
+    ap (λ (v : Bool). if v then Some (room - (n + m)) else None) (some_left n m room left e)
+    ∙ ap (λ (k : ℕ). if nat_le m left then Some k else None) rest
+
+-- the parts of members, by the first
+pub parts_member : (ms : List code.Expr) (k : ℕ) (m : code.Expr) → k < length ms → m ≡ get_or ms k m →
+    parts_of (members_of (map expr_view (drop k ms))) ≡ parts (expr_view m) + parts_of (members_of (map expr_view (drop (k + 1) ms)))
+parts_member ms k m lt is =
+    at_drop_more (λ (es : List code.Expr). parts_of (members_of (map expr_view es))) ms k m lt
+    ∙ ap (λ (e : code.Expr). parts_of (members_of (map expr_view (e ∷ drop (k + 1) ms)))) (sym is)
 
 -- what keeps the names of two lists
 pub keeps_append : (l : Option Statement) (xs ys : List (List ℕ)) → keeps l (xs ++ ys) ≡ keeps l xs && keeps l ys

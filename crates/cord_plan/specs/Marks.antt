@@ -1,5 +1,5 @@
 -- Sets of names by words.
-use Rattle.std.specs.Prelude.{◌≡◌, ℕ, ◌+◌, ◌*◌, ◌-◌, ◌^◌, ◌<◌, ◌==◌, Bool, List, [], ◌∷◌, map, length, Some, sum_by}
+use Rattle.std.specs.Prelude.{◌≡◌, ℕ, ◌+◌, ◌*◌, ◌-◌, ◌^◌, ◌<◌, ◌==◌, Bool, List, map, Some, sum_by}
 use Rattle.std.specs.Int.{bit_at}
 use Rattle.cord_plan.specs.Numbering.{number_of}
 use Rattle.cord_plan.specs.declared.numbering.Numbering.{Numbering}

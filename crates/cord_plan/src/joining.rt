@@ -10,7 +10,7 @@ ghost use Rattle.cord_plan.specs.Views.{expr_view, members_of};
 use crate::Expr;
 use crate::choosing::Choice;
 use crate::own::{cat, named, run, run_of, sub_of};
-use crate::parts::{copy, copy_all};
+use crate::parts::{copy, copy_onto};
 use cord_io::CordError;
 use cord_script::{Number, Statement};
 use std::alloc::Global;
@@ -32,7 +32,7 @@ fn add_copy(alloc: Global, members: &mut Vec<Expr>, expression: &Expr) -> Result
     ensures refused { IsOkUnless result CordError.NoMemory }
 {
     match expression {
-        Expr::Cat(inner) => members.append(&mut copy_all(alloc, inner.as_slice())?)?,
+        Expr::Cat(inner) => copy_onto(alloc, inner.as_slice(), members)?,
         Expr::Name(_) => members.push(copy(alloc, expression)?)?,
         Expr::Run { .. } => members.push(copy(alloc, expression)?)?,
         Expr::Sub { .. } => members.push(copy(alloc, expression)?)?,
@@ -52,15 +52,19 @@ fn add(alloc: Global, members: &mut Vec<Expr>, choice: &Choice) -> Result<(), Co
     Ok(())
 }
 
+// How many members what stands for an operand gives to a `cat`.
+fn member_count(choice: &Choice) -> usize {
+    match choice {
+        Choice::Replaced(_, Expr::Cat(members)) => members.as_slice().len(),
+        _ => 1,
+    }
+}
+
 // How many members these expressions give to a `cat`: so much room is taken at once.
 fn room_for(choices: &[Choice]) -> usize {
     let mut room: usize = 0;
     for choice in choices {
-        let more = match choice {
-            Choice::Replaced(_, Expr::Cat(members)) => members.as_slice().len(),
-            _ => 1,
-        };
-        room = room.saturating_add(more);
+        room = room.saturating_add(member_count(choice));
     }
     room
 }

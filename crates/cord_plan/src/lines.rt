@@ -1,5 +1,6 @@
 // The operation of a line.
 ghost use Rattle.std.specs.Prelude.{◌≡◌, Bool, None, IfOk, IsOkUnless, option_map};
+ghost use Rattle.cord_syntax.specs.Families.{IsPrint};
 ghost use Rattle.cord_plan.specs.Exprs as plain;
 ghost use Rattle.cord_plan.specs.Forced.{own};
 ghost use Rattle.cord_plan.specs.Planned as plan;
@@ -25,21 +26,30 @@ pub(crate) fn operation_of(
     ensures made { IfOk result (λ o. operation_view o ≡ plan.operation statement.now (plan.or_nothing (option_map expr_view expression)) dead paired) }
     ensures refused { IsOkUnless result CordError.NoMemory }
 {
-    let expression = or_nothing(alloc, expression);
     match statement {
         Statement::Cat { line, target, .. }
         | Statement::Catn { line, target, .. }
         | Statement::Catc { line, target, .. }
         | Statement::Chars { line, target, .. }
         | Statement::Nul { line, target, .. }
-        | Statement::Substr { line, target, .. } => {
-            gives(dead || paired, *line, target, Made::Joined(expression))
-        }
+        | Statement::Substr { line, target, .. } => match target.clone() {
+            Ok(target) => {
+                let expression = or_nothing(alloc, expression);
+                Ok(gives(dead || paired, *line, target, Made::Joined(expression)))
+            }
+            Err(error) => {
+                drop(expression);
+                Err(error.into())
+            }
+        },
         Statement::Put { line, .. } => Ok(Operation::Write {
             line: *line,
-            expression,
+            expression: or_nothing(alloc, expression),
         }),
-        _ => operation_without(statement, dead),
+        _ => {
+            drop(expression);
+            operation_without(statement, dead)
+        }
     }
 }
 
@@ -51,46 +61,66 @@ fn operation_without(statement: &Statement, dead: bool) -> Result<Operation, Cor
 {
     match statement {
         Statement::Let { line, target, text } => {
-            gives(dead, *line, target, Made::Literal(text.clone()?))
+            Ok(gives(dead, *line, target.clone()?, Made::Literal(text.clone()?)))
         }
         Statement::File { line, target, path } => {
-            gives(dead, *line, target, Made::OfFile(path.clone()?))
+            Ok(gives(dead, *line, target.clone()?, Made::OfFile(path.clone()?)))
         }
         Statement::Eager { line, target, path } => {
-            gives(dead, *line, target, Made::OfEager(path.clone()?))
+            Ok(gives(dead, *line, target.clone()?, Made::OfEager(path.clone()?)))
         }
         Statement::Lazy { line, target, path } => {
-            gives(dead, *line, target, Made::OfLazy(path.clone()?))
+            Ok(gives(dead, *line, target.clone()?, Made::OfLazy(path.clone()?)))
         }
         Statement::FromFn {
             line,
             target,
             function,
             count,
-        } => gives(
-            dead,
-            *line,
-            target,
-            Made::OfFunction(*function, count.clone()?),
-        ),
+        } => {
+            let (target, count) = (target.clone()?, count.clone()?);
+            Ok(gives(dead, *line, target, Made::OfFunction(*function, count)))
+        }
+        Statement::Balance { .. } | Statement::EcToCord { .. } | Statement::Sprintf { .. } =>
+            operation_of_print(statement, dead),
+        _ => Ok(Operation::Keep(statement.clone()?)),
+    }
+}
+
+// The operation of a line that makes a cord anew of one cord, an extensible cord or a print.
+fn operation_of_print(statement: &Statement, dead: bool) -> Result<Operation, CordError>
+    requires { IsPrint statement.now }
+    ensures made { IfOk result (λ o. (e : plain.Expr) (paired : Bool) → operation_view o ≡ plan.operation statement.now e dead paired) }
+    ensures refused { IsOkUnless result CordError.NoMemory }
+{
+    match statement {
         Statement::Balance {
             line,
             target,
             operand,
-        } => gives(dead, *line, target, Made::Balanced(operand.clone()?)),
+        } => {
+            let (target, operand) = (target.clone()?, operand.clone()?);
+            Ok(gives(dead, *line, target, Made::Balanced(operand)))
+        }
         Statement::EcToCord {
             line,
             target,
             extensible,
-        } => gives(dead, *line, target, Made::OfExtensible(extensible.clone()?)),
+        } => {
+            let (target, extensible) = (target.clone()?, extensible.clone()?);
+            Ok(gives(dead, *line, target, Made::OfExtensible(extensible)))
+        }
         Statement::Sprintf {
             line,
             target,
             text,
             format,
             arguments,
-        } => gives(dead, *line, target, printed(text, format, arguments)?),
-        _ => Ok(Operation::Keep(statement.clone()?)),
+        } => {
+            let target = target.clone()?;
+            Ok(gives(dead, *line, target, printed(text, format, arguments)?))
+        }
+        _ => unreachable!(),
     }
 }
 
@@ -99,19 +129,18 @@ fn printed(text: &Text, format: &Format, arguments: &Arguments) -> Result<Made, 
     ensures made { IfOk result (λ m. made_view m ≡ plan.Printed text.now format.now arguments.now) }
     ensures refused { IsOkUnless result CordError.NoMemory }
 {
-    Ok(Made::Printed(text.clone()?, format.clone()?, arguments.clone()?))
+    let (text, arguments) = (text.clone()?, arguments.clone()?);
+    Ok(Made::Printed(text, format.clone()?, arguments))
 }
 
 // The operation that gives a name what it is made of, or only measures that.
-fn gives(measures: bool, line: u32, target: &Name, made: Made) -> Result<Operation, CordError>
-    ensures made { IfOk result (λ o. operation_view o ≡ plan.gives measures line target.now (made_view made)) }
-    ensures refused { IsOkUnless result CordError.NoMemory }
+fn gives(measures: bool, line: u32, target: Name, made: Made) -> Operation
+    ensures { operation_view result ≡ plan.gives measures line target (made_view made) }
 {
-    let target = target.clone()?;
     if measures {
-        Ok(Operation::Measure { line, target, made })
+        Operation::Measure { line, target, made }
     } else {
-        Ok(Operation::Build { line, target, made })
+        Operation::Build { line, target, made }
     }
 }
 

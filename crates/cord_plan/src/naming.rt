@@ -51,7 +51,11 @@ fn all_lack(members: &[Expr], name: &[u8]) -> bool
     ensures { result ≡ lacks (names_of (members_of (map expr_view members.now))) name.now }
 {
     for member in members {
-        if !lacks(member, name) {
+        let lacking = match member {
+            Expr::Name(known) => differs(known.as_slice(), name),
+            _ => lacks(member, name),
+        };
+        if !lacking {
             return false;
         }
     }

@@ -45,7 +45,8 @@ fn pair(alloc: Global, left: &Name, right: &Name) -> Result<Expr, CordError>
     ensures made { IfOk result (λ e. expr_view e ≡ plain.cat (members_of (plain.name left.now ∷ plain.name right.now ∷ []))) }
     ensures refused { IsOkUnless result CordError.NoMemory }
 {
-    let operands = vec![in alloc; named(left)?, named(right)?]?;
+    let (left, right) = (left.clone()?, right.clone()?);
+    let operands = vec![in alloc; Expr::Name(left), Expr::Name(right)]?;
     Ok(cat(operands))
 }
 
@@ -54,8 +55,8 @@ fn with_byte(alloc: Global, operand: &Name, byte: &Number) -> Result<Expr, CordE
     ensures made { IfOk result (λ e. expr_view e ≡ plain.cat (members_of (plain.name operand.now ∷ plain.run byte.now (Numeral (pos 1)) ∷ []))) }
     ensures refused { IsOkUnless result CordError.NoMemory }
 {
-    let byte = byte.clone()?;
-    let operands = vec![in alloc; named(operand)?, run(byte, Number::Numeral(1))]?;
+    let (operand, byte) = (operand.clone()?, byte.clone()?);
+    let operands = vec![in alloc; Expr::Name(operand), run(byte, Number::Numeral(1))]?;
     Ok(cat(operands))
 }
 

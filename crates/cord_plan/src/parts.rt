@@ -1,5 +1,5 @@
 // Walks over expressions: their parts, copies of them.
-ghost use Rattle.std.specs.Prelude.{◌≡◌, IfOk, IsOkUnless, map};
+ghost use Rattle.std.specs.Prelude.{◌≡◌, ◌++◌, IfOk, IsOkUnless, OnOk, map};
 ghost use Rattle.cord_plan.specs.Exprs.{parts, parts_of};
 ghost use Rattle.cord_plan.specs.Choices.{room_left};
 ghost use Rattle.cord_plan.specs.Views.{expr_view, members_of};
@@ -31,7 +31,11 @@ pub(crate) fn room_behind_all(members: &[Expr], room: u32) -> Option<u32>
 {
     let mut left = room;
     for member in members {
-        match room_behind(member, left) {
+        let behind = match member {
+            Expr::Name(_) => left.checked_sub(1),
+            _ => room_behind(member, left),
+        };
+        match behind {
             Some(less) => left = less,
             None => return None,
         }
@@ -49,7 +53,8 @@ pub(crate) fn copy(alloc: Global, expression: &Expr) -> Result<Expr, CordError>
         Expr::Name(name) => named(name),
         Expr::Run { byte, count } => run_of(byte, count),
         Expr::Cat(members) => {
-            let copies = copy_all(alloc, members.as_slice())?;
+            let mut copies = Vec::with_capacity(alloc, members.as_slice().len())?;
+            copy_onto(alloc, members.as_slice(), &mut copies)?;
             Ok(cat(copies))
         }
         Expr::Sub {
@@ -63,15 +68,21 @@ pub(crate) fn copy(alloc: Global, expression: &Expr) -> Result<Expr, CordError>
     }
 }
 
-/// Copies of these expressions.
+/// Puts copies of these expressions behind others: most are names, which are copied without a call. Refused only with `NoMemory`.
 #[cycle(copy)]
-pub(crate) fn copy_all(alloc: Global, members: &[Expr]) -> Result<Vec<Expr>, CordError>
-    ensures made { IfOk result (λ es. map expr_view es.items ≡ map expr_view members.now) }
+pub(crate) fn copy_onto(
+    alloc: Global,
+    members: &[Expr],
+    copies: &mut Vec<Expr>,
+) -> Result<(), CordError>
+    ensures made { OnOk result (map expr_view copies.new.items ≡ map expr_view copies.old.items ++ map expr_view members.now) }
     ensures refused { IsOkUnless result CordError.NoMemory }
 {
-    let mut copies = Vec::with_capacity(alloc, members.len())?;
     for member in members {
-        copies.push(copy(alloc, member)?)?;
+        match member {
+            Expr::Name(name) => copies.push(Expr::Name(name.clone()?))?,
+            _ => copies.push(copy(alloc, member)?)?,
+        }
     }
-    Ok(copies)
+    Ok(())
 }

@@ -1,14 +1,14 @@
 use Rattle.std.proofs.Common.{refl, sym, ap, ◌∙◌}
 use Rattle.cord_plan.specs.Exprs as plain
-use Rattle.cord_plan.specs.Views.{expr_view, members_of, members_view}
+use Rattle.cord_plan.specs.Views.{expr_view, members_view}
 use Rattle.cord_plan.proofs.ExprViews.{view-Name, view-Run, view-Cat, view-Sub}
 use Rattle.cord_plan.proofs.Joined.{added_one, added_all}
 use Rattle.cord_plan.proofs.joining.add_copy.Goals as goal
 
-pub returns-in_ok-append-in-Cat-clause-added : goal.returns-in_ok-append-in-Cat-clause-added
-returns-in_ok-append-in-Cat-clause-added c =
-    added_all c.args.members.now.items c.append.new.self.items c.in_ok-copy_all-in-Cat.field-0.items (expr_view c.args.expression.now) (members_view c.in-Cat.inner) c.in_ok-append-in-Cat.ensures.items
-    (ap members_of c.in_ok-copy_all-in-Cat.ensures.made ∙ sym c.as_slice.ensures)
+pub returns-in_ok-copy_onto-in-Cat-clause-added : goal.returns-in_ok-copy_onto-in-Cat-clause-added
+returns-in_ok-copy_onto-in-Cat-clause-added c =
+    added_all c.args.members.now.items c.copy_onto.new.copies.items (expr_view c.args.expression.now) c.as_slice.result.now (members_view c.in-Cat.inner) c.in_ok-copy_onto-in-Cat.ensures.made
+    (sym c.as_slice.ensures)
     (ap expr_view c.in-Cat.is ∙ view-Cat c.in-Cat.inner)
 
 pub returns-in_ok-push-in-Name-clause-added : goal.returns-in_ok-push-in-Name-clause-added

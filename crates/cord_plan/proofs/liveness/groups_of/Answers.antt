@@ -1,4 +1,4 @@
-use Rattle.std.proofs.Common.{◌≡◌, ◌<◌, ◌+◌, ◌/◌, List, ℕ, arith}
+use Rattle.std.proofs.Common.{◌/◌, arith}
 use Rattle.cord_plan.specs.declared.liveness.Group.{Group}
 use Rattle.cord_plan.proofs.Told.{live_more, groups_more}
 use Rattle.cord_plan.proofs.liveness.groups_of.Goals as goal

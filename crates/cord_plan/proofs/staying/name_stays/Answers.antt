@@ -1,4 +1,4 @@
-use Rattle.std.proofs.Common.{◌≡◌, List, ℕ, Option, Some, sym, ap, ◌∙◌}
+use Rattle.std.proofs.Common.{◌≡◌, List, ℕ, Option, sym, ap, ◌∙◌}
 use Rattle.cord_plan.specs.Forced.{setter}
 use Rattle.cord_plan.specs.Recent.{entry_of, is_before}
 use Rattle.cord_plan.proofs.Lasts.{stay_by_last}

@@ -1,4 +1,4 @@
-use Rattle.std.proofs.Common.{◌≡◌, Bool, ◌&&◌, sym, ap, ◌∙◌}
+use Rattle.std.proofs.Common.{Bool, ◌&&◌, sym, ap, ◌∙◌}
 use Rattle.cord_plan.specs.Exprs.{number_names}
 use Rattle.cord_plan.specs.Recent.{stay}
 use Rattle.cord_plan.proofs.Lasts.{stay_append}

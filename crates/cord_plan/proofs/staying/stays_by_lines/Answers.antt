@@ -1,6 +1,5 @@
 use Rattle.std.proofs.Common.{◌≡◌, ℕ, ◌+◌, ◌-◌, Bool, ◌&&◌, [], ◌∷◌, sym, ap, ◌∙◌, Some, arith}
 use Rattle.std.specs.Prelude.{slice_get, not}
-use Rattle.cord_plan.specs.Operands.{assigns}
 use Rattle.cord_plan.specs.Forced.{each_from, keeps}
 use Rattle.cord_plan.specs.Recent.{stay}
 use Rattle.cord_plan.proofs.Nearest.{keep_here}

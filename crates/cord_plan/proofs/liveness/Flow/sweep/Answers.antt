@@ -1,5 +1,5 @@
-use Rattle.std.proofs.Common.{◌≡◌, ℕ, ◌≤◌, ◌<◌, ◌+◌, ◌-◌, ◌^◌, length, true, false, set, sym, ap, ◌∙◌, length-set, get_or, arith}
-use Rattle.std.proofs.lemmas.List.{map-set, length-map}
+use Rattle.std.proofs.Common.{◌≡◌, ℕ, ◌≤◌, ◌<◌, ◌-◌, ◌^◌, length, false, set, sym, ap, ◌∙◌, length-set, get_or, arith}
+use Rattle.std.proofs.lemmas.List.{map-set}
 use Rattle.cord_plan.specs.Liveness.{finds}
 use Rattle.cord_plan.specs.Marks.{bit, column, room}
 use Rattle.cord_plan.proofs.Words.{room_less}

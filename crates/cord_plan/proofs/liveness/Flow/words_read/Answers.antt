@@ -1,8 +1,7 @@
-use Rattle.std.proofs.Common.{◌≡◌, ◌≤◌, List, ℕ, [], ◌∷◌, ◌++◌, length, map, refl, ap, sym, ◌∙◌, arith}
+use Rattle.std.proofs.Common.{◌≤◌, List, length, map, ap, ◌∙◌, arith}
 use Rattle.std.proofs.lemmas.List.{take_all}
 use Rattle.cord_syntax.specs.declared.statements.Statement.{Statement}
 use Rattle.cord_plan.specs.Operands.{reads}
-use Rattle.cord_plan.specs.Liveness.{at}
 use Rattle.cord_plan.specs.Marks.{column}
 use Rattle.cord_plan.proofs.Words.{told_more, size_more}
 use Rattle.cord_plan.proofs.Sweeps.{readers_partly}
