@@ -100,7 +100,7 @@ fn message_at(line: u32, text: &str) -> Message
     message
 }
 
-/// Hands a text over, and ends it. After a fault the sink has taken a front part.
+/// Hands a text over, and ends it. After a fault the sink has taken a prefix.
 pub fn write_text<S: Sink>(text: &str, sink: &mut S) -> Result<(), WriteFault>
     ensures ok { OnOk result (IsWritten text.now (S.taken sink.old) (S.taken sink.new)
         (record {

@@ -91,7 +91,7 @@ fn expect_driven(
     assert!(rt; come.err.bytes() == told);
 }
 
-// Compares a run whose files failed: what is written is a front part of a file, of at most so many bytes.
+// Compares a run whose files failed: what is written is a prefix of a file, of at most so many bytes.
 fn expect_failed(rt: &impl Abort, come: &Driven, told: &[u8], file: &[u8], most: usize) {
     assert!(rt; come.status == 4);
     assert!(rt; come.err.bytes() == told);

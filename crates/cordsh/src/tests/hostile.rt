@@ -58,7 +58,7 @@ pub(super) fn whole(rt: &(impl AllocGlobal + Abort), hostile: &Hostile<'_>) -> V
     put_below(rt, hostile, 10)
 }
 
-// Whether a run may have stopped at a line with these bytes: all that the lines before it put, and a front part of what it puts.
+// Whether a run may have stopped at a line with these bytes: all that the lines before it put, and a prefix of what it puts.
 // At line 0 nothing is put.
 fn stops_at(rt: &(impl AllocGlobal + Abort), hostile: &Hostile<'_>, line: u32, out: &[u8]) -> bool {
     let before = put_below(rt, hostile, line);

@@ -174,7 +174,7 @@ fn help_asked(rt: HostRuntime) {
     }
 }
 
-// Where the output fails, a front part of the text stands on it, until all of it and the end were taken.
+// Where the output fails, a prefix of the text stands on it, until all of it and the end were taken.
 fn expect_cut(rt: &(impl AllocGlobal + Abort), words: &[&str]) {
     let alloc = rt.alloc();
     let whole = written(rt, words);
