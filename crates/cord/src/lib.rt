@@ -2,6 +2,7 @@
 //! users need of the crates below.
 #![tactic(auto)]
 
+mod builder;
 mod edit;
 mod join;
 mod make;
@@ -13,6 +14,7 @@ mod search;
 mod tests;
 mod text;
 
+pub use builder::TextBuilder;
 pub use cord_core::{Cord, Node};
 pub use cord_ec::ExtCord;
 pub use cord_file::{FileError, Sources};

@@ -1,5 +1,5 @@
 // Worked rows, by the names of this crate alone.
-use crate::{CordError, FuseSink, MAX_LEN, MemSink, Sink, Text};
+use crate::{CordError, MAX_LEN, MemSink, Sink, Text, TextBuilder};
 use std::alloc::Global;
 use std::process::Abort;
 use std::test::Fail;
@@ -21,8 +21,17 @@ fn texts_are_joined(rt: HostRuntime) -> Result<(), Fail> {
     let alloc = rt.alloc();
     let text = hello(alloc)?;
     expect_bytes(&rt, alloc, &text, b"hello world");
-    let three = [text.share(alloc)?, Text::repeat(alloc, b'-', 3)?, text.append_bytes(alloc, b"!")?];
-    expect_bytes(&rt, alloc, &Text::catn(alloc, &three)?, b"hello world---hello world!");
+    let three = [
+        text.share(alloc)?,
+        Text::repeat(alloc, b'-', 3)?,
+        text.append_bytes(alloc, b"!")?,
+    ];
+    expect_bytes(
+        &rt,
+        alloc,
+        &Text::catn(alloc, &three)?,
+        b"hello world---hello world!",
+    );
     assert!(rt; text.len() == 11 && !text.is_empty() && Text::empty().is_empty());
     Ok(())
 }
@@ -32,9 +41,19 @@ fn edits_leave_the_old_text(rt: HostRuntime) -> Result<(), Fail> {
     let alloc = rt.alloc();
     let text = hello(alloc)?;
     let new = Text::from_bytes(alloc, b", new")?;
-    expect_bytes(&rt, alloc, &text.insert(alloc, 5, &new)?, b"hello, new world");
+    expect_bytes(
+        &rt,
+        alloc,
+        &text.insert(alloc, 5, &new)?,
+        b"hello, new world",
+    );
     expect_bytes(&rt, alloc, &text.remove(alloc, 4, 6)?, b"helld");
-    expect_bytes(&rt, alloc, &text.replace_range(alloc, 0, 5, &new)?, b", new world");
+    expect_bytes(
+        &rt,
+        alloc,
+        &text.replace_range(alloc, 0, 5, &new)?,
+        b", new world",
+    );
     expect_bytes(&rt, alloc, &text, b"hello world");
     Ok(())
 }
@@ -46,9 +65,19 @@ fn edits_past_the_end(rt: HostRuntime) -> Result<(), Fail> {
     let new = Text::from_bytes(alloc, b"s")?;
     expect_bytes(&rt, alloc, &text.insert(alloc, 12, &new)?, b"hello worlds");
     expect_bytes(&rt, alloc, &text.remove(alloc, 5, u64::MAX)?, b"hello");
-    expect_bytes(&rt, alloc, &text.substr(alloc, 6, 99)?.balance(alloc)?, b"world");
+    expect_bytes(
+        &rt,
+        alloc,
+        &text.substr(alloc, 6, 99)?.balance(alloc)?,
+        b"world",
+    );
     let (front, back) = text.split_at(alloc, 2)?;
-    expect_bytes(&rt, alloc, &Text::cat(alloc, &back, &front)?, b"llo worldhe");
+    expect_bytes(
+        &rt,
+        alloc,
+        &Text::cat(alloc, &back, &front)?,
+        b"llo worldhe",
+    );
     Ok(())
 }
 
@@ -92,5 +121,19 @@ fn output(rt: HostRuntime) -> Result<(), Fail> {
     let mut sink = MemSink::new(alloc);
     text.put(&mut sink)?;
     assert!(rt; sink.bytes() == b"hello world".as_slice());
+    Ok(())
+}
+
+#[test]
+fn builder(rt: HostRuntime) -> Result<(), Fail> {
+    let alloc = rt.alloc();
+    let mut builder = TextBuilder::new(alloc)?;
+    builder.push_bytes(alloc, b"ab")?;
+    builder.push(alloc, b'c')?;
+    let front = builder.to_text(alloc)?;
+    builder.push_text(alloc, &front)?;
+    expect_bytes(&rt, alloc, &front, b"abc");
+    expect_bytes(&rt, alloc, &builder.to_text(alloc)?, b"abcabc");
+    assert!(rt; builder.len() == 6 && !builder.is_empty());
     Ok(())
 }
