@@ -1,4 +1,4 @@
-use Rattle.std.proofs.Common.{◌≡◌, ℕ, ◌-◌, ◌<◌, List, [], length, ◌∙◌, sym, ap, arith}
+use Rattle.std.proofs.Common.{None, ◌≡◌, ℕ, ◌-◌, ◌<◌, List, [], length, ◌∙◌, sym, ap, arith}
 use Rattle.std.specs.Prelude.{min}
 use Rattle.std.proofs.lemmas.Grind.{common_steps}
 use Rattle.cord_core.specs.Texts.{last}
@@ -12,7 +12,7 @@ returns-then-end-eq0-clause-last c =
     sym (ap (λ (n : ℕ). last_before c.args.self.now n c.args.byte) none) ∙ last_clipped c.args.self.now c.args.byte c.args.end
 
 pub rchr-requires-clause-fits : goal.rchr-requires-clause-fits
-rchr-requires-clause-fits c = c.self.invariant.over.fits _
+rchr-requires-clause-fits c = c.self.invariant.over.fits (λ _. None)
 
 pub returns-clause-last : goal.returns-clause-last
 returns-clause-last c =
