@@ -1,0 +1,45 @@
+-- What is made of texts over no files is one.
+use Rattle.std.proofs.Common.{ℕ, List, ◌++◌, take, drop, refl, ◌∙◌, sym}
+use Rattle.std.specs.Prelude.{Option}
+use Rattle.cord_node.specs.declared.Node.{Node}
+use Rattle.cord_node.specs.Tables.{lengths_of}
+use Rattle.cord_core.specs.Cord.{IsCord}
+use Rattle.cord_core.specs.Equations.{HasText, IsSameText, IsCatOf, IsAppended, IsSubstring}
+use Rattle.cord_core.proofs.OverLemmas.{length-bytes}
+use Rattle.cord.specs.Plain.{no_table, plain_bytes, IsPlain}
+
+-- what has the same bytes over every table
+pub plain_of : (b : List ℕ) (c : Option Node) → IsCord c → HasText b c → IsPlain c
+plain_of b c s h = record {
+  sound = s;
+  len = length-bytes no_table c s (h.fits (lengths_of no_table));
+  over = record { fits = h.fits; bytes = λ t. h.bytes t ∙ sym (h.bytes no_table) };
+}
+
+-- one text and then another
+pub cat_has : (x y c : Option Node) → IsPlain x → IsPlain y → IsCatOf x y c → HasText (plain_bytes x ++ plain_bytes y) c
+cat_has x y c p q k = record {
+  fits = λ ls. k.fits ls (p.over.fits ls) (q.over.fits ls);
+  bytes = λ t. k.bytes t (p.over.fits (lengths_of t)) (q.over.fits (lengths_of t)) ∙ (rw (p.over.bytes t, q.over.bytes t) refl);
+}
+
+-- a text and then some bytes
+pub appended_has : (x : Option Node) (b : List ℕ) (c : Option Node) → IsPlain x → IsAppended x b c → HasText (plain_bytes x ++ b) c
+appended_has x b c p k = record {
+  fits = λ ls. k.fits ls (p.over.fits ls);
+  bytes = λ t. k.bytes t (p.over.fits (lengths_of t)) ∙ (rw (p.over.bytes t) refl);
+}
+
+-- a range of a text
+pub substring_has : (i n : ℕ) (x c : Option Node) → IsPlain x → IsSubstring i n x c → HasText (take n (drop i (plain_bytes x))) c
+substring_has i n x c p k = record {
+  fits = λ ls. k.fits ls (p.over.fits ls);
+  bytes = λ t. k.bytes t (p.over.fits (lengths_of t)) ∙ (rw (p.over.bytes t) refl);
+}
+
+-- the same text
+pub same_has : (x c : Option Node) → IsPlain x → IsSameText x c → HasText (plain_bytes x) c
+same_has x c p k = record {
+  fits = λ ls. k.fits ls (p.over.fits ls);
+  bytes = λ t. k.bytes t (p.over.fits (lengths_of t)) ∙ p.over.bytes t;
+}

@@ -1,0 +1,103 @@
+// Texts that grow at their end.
+ghost use Rattle.std.specs.Prelude.{◌≡◌, ◌↔◌, ◌+◌, ◌<◌, ◌≤◌, [], ◌∷◌, ◌++◌, IfOk, OnOk, IfErr, IsErr, IsOkUnless, IsTrue, Err, length};
+ghost use Rattle.cord_core.specs.Refusals.{IsRefusal};
+
+use crate::Text;
+use cord_ec::ExtCord;
+use cord_io::{CordError, MAX_LEN};
+use std::alloc::Global;
+use std::marker::Model;
+
+/// A text of at most `MAX_LEN` bytes that grows at its end, made of many small pieces: they are gathered to leaves of up
+/// to 4,096 bytes. After a refusal its bytes are as before.
+#[derive(Drop)]
+pub struct TextBuilder {
+    grown: ExtCord,
+}
+
+impl Model for TextBuilder {
+    ghost use Rattle.std.specs.Prelude.{List, ℕ};
+    ghost use Rattle.cord.specs.Plain.{grown_bytes, IsPlainGrowth};
+
+    ghost Value = { List ℕ };
+
+    ghost view = { λ b. grown_bytes b.grown };
+
+    ghost invariant = { λ b. IsPlainGrowth b.grown };
+}
+
+impl TextBuilder {
+    /// The builder of no bytes. Refused for want of memory alone.
+    pub fn new(alloc: Global) -> Result<TextBuilder, CordError>
+        ensures text { IfOk result (λ made. made ≡ []) }
+        ensures refused { IsOkUnless result CordError.NoMemory }
+    {
+        let grown = ExtCord::new(alloc)?;
+        Ok(TextBuilder { grown })
+    }
+
+    /// The number of bytes.
+    pub fn len(&self) -> u64
+        ensures value { result ≡ length self.now }
+        ensures limit { result ≤ MAX_LEN }
+    {
+        self.grown.len()
+    }
+
+    /// Whether it has no bytes.
+    pub fn is_empty(&self) -> bool
+        ensures { IsTrue result ↔ (self.now ≡ []) }
+    {
+        self.len() == 0
+    }
+
+    /// Adds a byte at the end.
+    /// `TooLong` where the bytes would be more than `MAX_LEN`, `NoMemory` where memory was refused.
+    pub fn push(&mut self, alloc: Global, byte: u8) -> Result<(), CordError>
+        ensures text { OnOk result (self.new ≡ self.old ++ byte ∷ []) }
+        ensures unchanged { IsErr result → self.new ≡ self.old }
+        ensures too_long { result ≡ Err CordError.TooLong → MAX_LEN < length self.old + 1 }
+        ensures fits { OnOk result (length self.old + 1 ≤ MAX_LEN) }
+        ensures refused { IfErr result IsRefusal }
+    {
+        self.grown.append(alloc, byte)?;
+        Ok(())
+    }
+
+    /// Adds bytes at the end, of which it takes a copy.
+    /// `TooLong` where the bytes would be more than `MAX_LEN`, `NoMemory` where memory was refused.
+    pub fn push_bytes(&mut self, alloc: Global, bytes: &[u8]) -> Result<(), CordError>
+        ensures text { OnOk result (self.new ≡ self.old ++ bytes.now) }
+        ensures unchanged { IsErr result → self.new ≡ self.old }
+        ensures too_long { result ≡ Err CordError.TooLong → MAX_LEN < length self.old + length bytes.now }
+        ensures fits { OnOk result (length self.old + length bytes.now ≤ MAX_LEN) }
+        ensures refused { IfErr result IsRefusal }
+    {
+        self.grown.append_bytes(alloc, bytes)?;
+        Ok(())
+    }
+
+    /// Adds the bytes of a text at the end, whose tree is shared.
+    /// `TooLong` where the bytes would be more than `MAX_LEN`, `NoMemory` where memory was refused.
+    pub fn push_text(&mut self, alloc: Global, text: &Text) -> Result<(), CordError>
+        ensures text { OnOk result (self.new ≡ self.old ++ text.now) }
+        ensures unchanged { IsErr result → self.new ≡ self.old }
+        ensures too_long { result ≡ Err CordError.TooLong → MAX_LEN < length self.old + length text.now }
+        ensures fits { OnOk result (length self.old + length text.now ≤ MAX_LEN) }
+        ensures refused { IfErr result IsRefusal }
+    {
+        self.grown.append_cord(alloc, text.as_cord())?;
+        Ok(())
+    }
+
+    /// Its bytes as a text, which shares its tree with the builder. The builder stays, and can grow further. Refused for
+    /// want of memory alone.
+    pub fn to_text(&mut self, alloc: Global) -> Result<Text, CordError>
+        ensures text { IfOk result (λ t. t ≡ self.old) }
+        ensures same { self.new ≡ self.old }
+        ensures refused { IsOkUnless result CordError.NoMemory }
+    {
+        let cord = self.grown.to_cord(alloc)?;
+        Ok(Text { cord })
+    }
+}

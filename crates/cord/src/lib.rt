@@ -1,0 +1,30 @@
+//! The library of cords under one roof: `Text`, a cord over no files that is seen as its bytes alone, and the names that
+//! users need of the crates below.
+#![tactic(auto)]
+
+mod builder;
+mod edit;
+mod join;
+mod make;
+mod no_source;
+mod order;
+mod output;
+mod search;
+#[cfg(test)]
+mod tests;
+mod text;
+
+pub use builder::TextBuilder;
+pub use cord_core::{Cord, Node};
+pub use cord_ec::ExtCord;
+pub use cord_file::{FileError, Sources};
+pub use cord_io::{
+    CordError, CutFiles, DiskFiles, Files, FuseFiles, FuseSink, MAX_DEPTH, MAX_LEN, MemFiles,
+    MemSink, OpenFault, ReadFault, Sink, Source, SourceId, StdSink, WriteFault,
+};
+pub use cord_iter::{Visitor, iter, iter5, put, riter, riter4, to_vec};
+pub use cord_pos::Position;
+pub use cord_printf::{Arg, Format, FormatError, PrintError, sprintf, sprintf_len};
+pub use cord_search::{chr, cmp, fetch, ncmp, rchr, str};
+pub use no_source::NoSource;
+pub use text::Text;

@@ -1,0 +1,34 @@
+// The source of no files.
+use cord_io::{ReadFault, Source, SourceId};
+
+/// A source that has no entry: what a cord over no files is read beside.
+#[derive(Clone, Copy)]
+pub struct NoSource;
+
+impl Source for NoSource {
+    ghost use Rattle.std.specs.Prelude.{None, ⊤};
+    ghost use Rattle.std.proofs.Common.{refl};
+    ghost use Rattle.cord.specs.Plain.{no_table};
+
+    ghost lengths = { λ _ _. None };
+
+    ghost keeps = { λ _ _. ⊤ };
+
+    ghost table = { λ _ _. no_table };
+
+    ghost failures = { λ _. 0 };
+
+    ghost lengths_of_table = { λ _ _ _ _. refl };
+
+    fn failures(&self) -> u64 {
+        0
+    }
+
+    fn entry_len(&self, _id: SourceId) -> Option<u64> {
+        None
+    }
+
+    fn read(&mut self, _id: SourceId, _start: u64, _out: &mut [u8]) -> Result<(), ReadFault> {
+        unreachable!()
+    }
+}

@@ -1,0 +1,33 @@
+// The bytes of a text in a vector, and in a sink.
+ghost use Rattle.std.specs.Prelude.{◌≡◌, ◌<◌, ◌++◌, OnOk, OnErr, IfOk, IfErr, IsOk, IsOkUnless, is_err};
+ghost use Rattle.cord_io.specs.Device.{count_after};
+ghost use Rattle.cord_iter.specs.Taking.{IsFrontOf, Takes};
+
+use crate::{NoSource, Text};
+use cord_io::{CordError, Sink};
+use std::alloc::Global;
+
+impl Text {
+    /// Its bytes in a vector of that length. Refused for want of memory alone.
+    pub fn to_vec(&self, alloc: Global) -> Result<Vec<u8>, CordError>
+        ensures text { IfOk result (λ v. v.items ≡ self.now) }
+        ensures refused { IsOkUnless result CordError.NoMemory }
+    {
+        let bytes = cord_iter::to_vec(alloc, &self.cord, &mut NoSource)?;
+        Ok(bytes)
+    }
+
+    /// Hands a sink its bytes, each leaf's slice whole. It takes no memory, and doesn't finish the sink.
+    /// `WriteFailed` where the sink failed: then it has taken a front part of the bytes.
+    pub fn put<W: Sink>(&self, sink: &mut W) -> Result<(), CordError>
+        ensures text { OnOk result (W.taken sink.new ≡ W.taken sink.old ++ self.now) }
+        ensures prefix { OnErr result (Takes (IsFrontOf self.now) (W.taken sink.old) (W.taken sink.new)) }
+        ensures refused { IfErr result (λ e. e ≡ CordError.WriteFailed) }
+        ensures count { W.failures sink.new ≡ count_after (is_err result) (W.failures sink.old) }
+        ensures steady { W.failures sink.old < u64.MAX → W.failures sink.new ≡ W.failures sink.old → IsOk result }
+        ensures finished { W.finished sink.new ≡ W.finished sink.old }
+    {
+        cord_iter::put(&self.cord, &mut NoSource, sink)?;
+        Ok(())
+    }
+}

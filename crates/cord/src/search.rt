@@ -1,0 +1,120 @@
+// What stands where in a text.
+ghost use Rattle.std.specs.Prelude.{◌≡◌, ◌↔◌, ◌+◌, ◌<◌, ◌≤◌, [], ◌∷◌, IfOk, IfSome, IsOkUnless, IsTrue, Some, length, drop, slice_get};
+ghost use Rattle.cord_core.specs.Texts.{first};
+ghost use Rattle.cord.specs.Places.{last_before, BeginsWith, EndsWith};
+
+use crate::{NoSource, Text};
+use cord_io::{CordError, MAX_LEN};
+use cord_search::{chr, fetch, rchr, str};
+use std::alloc::Global;
+
+impl Text {
+    /// The byte at `place`, none at or past the end.
+    pub fn get(&self, place: u64) -> Option<u8>
+        ensures { result ≡ slice_get self.now place }
+    {
+        if place >= self.len() {
+            return None;
+        }
+        let Ok(byte) = fetch(&self.cord, place, &mut NoSource) else {
+            unreachable!()
+        };
+        Some(byte)
+    }
+
+    /// The first place from `start` on where the bytes of `pattern` stand. No bytes stand at each place up to the end.
+    pub fn find_text(&self, pattern: &Text, start: u64) -> Option<u64>
+        ensures first { result ≡ first self.now start pattern.now }
+        ensures from { IfSome result (λ place. start ≤ place) }
+        ensures inside { IfSome result (λ place. place + length pattern.now ≤ length self.now) }
+    {
+        let Ok(place) = str(&self.cord, start, &pattern.cord, &mut NoSource) else {
+            unreachable!()
+        };
+        place
+    }
+
+    /// The first place from `start` on where `pattern` stands. No bytes stand at each place up to the end. It takes a copy
+    /// of a pattern that isn't longer than this text, and is refused for want of memory alone.
+    pub fn find(&self, alloc: Global, pattern: &[u8], start: u64) -> Result<Option<u64>, CordError>
+        ensures first { IfOk result (λ found. found ≡ first self.now start pattern.now) }
+        ensures from { IfOk result (λ found. IfSome found (λ place. start ≤ place)) }
+        ensures inside { IfOk result (λ found. IfSome found (λ place. place + length pattern.now ≤ length self.now)) }
+        ensures refused { IsOkUnless result CordError.NoMemory }
+    {
+        if pattern.len() as u64 > self.len() {
+            return Ok(None);
+        }
+        let pattern = Text::from_bytes(alloc, pattern)?;
+        Ok(self.find_text(&pattern, start))
+    }
+
+    /// The first place from `start` on that has this byte.
+    pub fn find_byte(&self, byte: u8, start: u64) -> Option<u64>
+        ensures first { result ≡ first self.now start (byte ∷ []) }
+        ensures from { IfSome result (λ place. start ≤ place) }
+        ensures inside { IfSome result (λ place. place < length self.now) }
+    {
+        if start >= self.len() {
+            return None;
+        }
+        let Ok(place) = chr(&self.cord, start, byte, &mut NoSource) else {
+            unreachable!()
+        };
+        place
+    }
+
+    /// The last place before `end` that has this byte.
+    pub fn rfind_byte(&self, byte: u8, end: u64) -> Option<u64>
+        ensures last { result ≡ last_before self.now end byte }
+        ensures before { IfSome result (λ place. place < end) }
+        ensures inside { IfSome result (λ place. place < length self.now) }
+    {
+        let end = end.min(self.len());
+        if end == 0 {
+            return None;
+        }
+        let Ok(place) = rchr(&self.cord, end - 1, byte, &mut NoSource) else {
+            unreachable!()
+        };
+        place
+    }
+
+    /// Whether it begins with these bytes.
+    pub fn starts_with(&self, bytes: &[u8]) -> bool
+        ensures { IsTrue result ↔ BeginsWith self.now bytes.now }
+    {
+        self.stands_at(0, bytes)
+    }
+
+    /// Whether it ends with these bytes.
+    pub fn ends_with(&self, bytes: &[u8]) -> bool
+        ensures { IsTrue result ↔ EndsWith self.now bytes.now }
+    {
+        let count = bytes.len() as u64;
+        count <= self.len() && self.stands_at(self.len() - count, bytes)
+    }
+
+    // Whether these bytes stand at a place.
+    fn stands_at(&self, place: u64, bytes: &[u8]) -> bool
+        requires { place ≤ MAX_LEN }
+        ensures { IsTrue result ↔ BeginsWith (drop place self.now) bytes.now }
+    {
+        for offset in 0..bytes.len() {
+            if !self.has(place + offset as u64, bytes[offset]) {
+                return false;
+            }
+        }
+        true
+    }
+
+    // Whether the byte at a place is this one.
+    fn has(&self, place: u64, byte: u8) -> bool
+        ensures { IsTrue result ↔ (slice_get self.now place ≡ Some byte) }
+    {
+        match self.get(place) {
+            Some(own) => own == byte,
+            None => false,
+        }
+    }
+}
