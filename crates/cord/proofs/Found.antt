@@ -1,5 +1,5 @@
 -- Where a place lies that is found.
-use Rattle.std.proofs.Common.{◌≡◌, ◌≢◌, ◌⊎◌, ℕ, zero, suc, ◌+◌, ◌<◌, ◌≤◌, List, [], ◌∷◌, ◌++◌, length, drop, Option, Some, None, refl, ◌∙◌, sym, ap, subst, ⊎_elim, arith, length-append, length-drop}
+use Rattle.std.proofs.Common.{◌≡◌, ◌⊎◌, ℕ, zero, suc, ◌+◌, ◌-◌, ◌<◌, ◌≤◌, List, [], ◌∷◌, ◌++◌, length, drop, Option, Some, None, refl, ◌∙◌, sym, ap, subst, ⊎_elim, arith, length-append, length-drop}
 use Rattle.std.specs.Prelude.{min, slice_get, IfSome}
 use Rattle.std.proofs.lemmas.Option.{slice_get_past, slice_get_within}
 use Rattle.cord_core.specs.Texts.{first, StandsAt, IsFirst, here_or, last, IsLast}
@@ -40,7 +40,26 @@ module _ (x s : List ℕ) where
       apart : (p : ℕ) → IsFirst x i s (Some p) → ⊥
       apart p f = omega (arith, lt, f.0, stands_inside p f.1)
 
+-- an answer that is that of `first`
+pub found_from : (x s : List ℕ) (i : ℕ) (o : Option ℕ) → o ≡ first x i s → IfSome o (λ p. i ≤ p)
+found_from x s i o e = subst (λ (r : Option ℕ). IfSome r (λ p. i ≤ p)) (sym e) (first_from x s i)
+
+pub found_inside : (x s : List ℕ) (i : ℕ) (o : Option ℕ) → o ≡ first x i s → IfSome o (λ p. p + length s ≤ length x)
+found_inside x s i o e = subst (λ (r : Option ℕ). IfSome r (λ p. p + length s ≤ length x)) (sym e) (first_inside x s i)
+
+byte_within : (x : List ℕ) (c : ℕ) (o : Option ℕ) → IfSome o (λ p. p + length (c ∷ []) ≤ length x) → IfSome o (λ p. p < length x)
+byte_within x c (Some p) h = omega (arith, h)
+byte_within x c None h = tt
+
+pub found_byte_inside : (x : List ℕ) (c i : ℕ) (o : Option ℕ) → o ≡ first x i (c ∷ []) → IfSome o (λ p. p < length x)
+found_byte_inside x c i o e = byte_within x c o (found_inside x (c ∷ []) i o e)
+
 module _ (x : List ℕ) (c : ℕ) where
+  -- the places up to one are those before the next
+  pub last_up_to : (m : ℕ) → 0 < m → last x (m - 1) c ≡ last_before x m c
+  last_up_to zero lt = absurd (omega (arith, lt))
+  last_up_to (suc i) lt = let e : suc i - 1 ≡ i = omega arith in ap (λ (n : ℕ). last x n c) e
+
   -- one place more, past the end
   last_one_more : (e : ℕ) → length x ≤ e → last_before x (suc e) c ≡ last_before x e c
   last_one_more zero le = rw (slice_get_past x 0 le) refl
@@ -66,11 +85,25 @@ module _ (x : List ℕ) (c : ℕ) where
       outside : length x ≤ e → last_before x (min e (length x)) c ≡ last_before x e c
       outside h = let same : min e (length x) ≡ length x = omega (arith, h) in ap (λ (n : ℕ). last_before x n c) same ∙ sym (last_past e h)
 
-  last_within : (i : ℕ) (o : Option ℕ) → IsLast x i c o → IfSome o (λ p. (p < suc i) × (p < length x))
-  last_within i (Some p) f = (omega (arith, f.0), slice_get_within x p c f.1)
-  last_within i None f = tt
+  up_to : (i : ℕ) (o : Option ℕ) → IsLast x i c o → IfSome o (λ p. p < suc i)
+  up_to i (Some p) f = omega (arith, f.0)
+  up_to i None f = tt
 
-  -- it lies before the end that was given, and inside the text
-  pub last_inside : (e : ℕ) → IfSome (last_before x e c) (λ p. (p < e) × (p < length x))
-  last_inside zero = tt
-  last_inside (suc i) = last_within i (last x i c) (last_is_greatest x c i)
+  last_is_before : (e : ℕ) → IfSome (last_before x e c) (λ p. p < e)
+  last_is_before zero = tt
+  last_is_before (suc i) = up_to i (last x i c) (last_is_greatest x c i)
+
+  within : (i : ℕ) (o : Option ℕ) → IsLast x i c o → IfSome o (λ p. p < length x)
+  within i (Some p) f = slice_get_within x p c f.1
+  within i None f = tt
+
+  last_is_inside : (e : ℕ) → IfSome (last_before x e c) (λ p. p < length x)
+  last_is_inside zero = tt
+  last_is_inside (suc i) = within i (last x i c) (last_is_greatest x c i)
+
+  -- an answer that is that of `last_before`
+  pub found_before : (e : ℕ) (o : Option ℕ) → o ≡ last_before x e c → IfSome o (λ p. p < e)
+  found_before e o h = subst (λ (r : Option ℕ). IfSome r (λ p. p < e)) (sym h) (last_is_before e)
+
+  pub last_found_inside : (e : ℕ) (o : Option ℕ) → o ≡ last_before x e c → IfSome o (λ p. p < length x)
+  last_found_inside e o h = subst (λ (r : Option ℕ). IfSome r (λ p. p < length x)) (sym h) (last_is_inside e)

@@ -1,14 +1,12 @@
 -- What grows by texts over no files has no byte in a file.
-use Rattle.std.proofs.Common.{◌≡◌, ℕ, List, [], ◌++◌, length, refl, ◌∙◌, sym}
+use Rattle.std.proofs.Common.{◌≡◌, ℕ, List, [], ◌++◌, refl, ◌∙◌, sym}
 use Rattle.std.specs.Prelude.{Option}
-use Rattle.std.proofs.lemmas.List.{length-map}
 use Rattle.cord_node.specs.declared.Node.{Node}
 use Rattle.cord_node.specs.Tree.{Cell}
-use Rattle.cord_node.specs.Tables.{lengths_of, byte_at}
-use Rattle.cord_core.specs.Cord.{IsCord}
+use Rattle.cord_node.specs.Tables.{lengths_of}
 use Rattle.cord_core.specs.Equations.{HasText}
 use Rattle.cord_ec.specs.Grown.{IsGrownBy, IsGrownByCord, IsCordOf}
-use Rattle.cord.specs.Plain.{no_table, plain_bytes, IsPlain, grown_bytes, IsPlainGrowth}
+use Rattle.cord.specs.Plain.{no_table, grown_bytes, IsPlainGrowth}
 
 -- nothing yet
 pub growth_of_nothing : (xs : List Cell) → xs ≡ [] → IsPlainGrowth xs
@@ -33,10 +31,6 @@ growth_by_text old new b c p h g = record {
 
 pub bytes_by_text : (old new : List Cell) (b : List ℕ) (c : Option Node) → IsPlainGrowth old → HasText b c → IsGrownByCord old new c → grown_bytes new ≡ grown_bytes old ++ b
 bytes_by_text old new b c p h g = g.bytes no_table (p.fits (lengths_of no_table)) (h.fits (lengths_of no_table)) ∙ (rw (h.bytes no_table) refl)
-
--- as many bytes as cells
-pub grown_len : (xs : List Cell) → length (grown_bytes xs) ≡ length xs
-grown_len xs = length-map (byte_at no_table) xs
 
 -- the cord of a growing text
 pub cord_has : (xs : List Cell) (c : Option Node) → IsPlainGrowth xs → IsCordOf xs c → HasText (grown_bytes xs) c

@@ -24,3 +24,7 @@ module _ {X : Type 0} where
   -- the lengths of the parts that a cut leaves
   pub split_len : (xs : List X) (i : ℕ) → length (take i xs) + length (drop i xs) ≡ length xs
   split_len xs i = sym (length-append (take i xs) (drop i xs)) ∙ ap (λ (ys : List X). length ys) (take-append-drop i xs)
+
+  -- what is left around a range that is taken out is no longer than the whole
+  pub left_len : (xs : List X) (i j : ℕ) → i ≤ j → length (take i xs) + length (drop j xs) ≤ length xs
+  left_len xs i j le = omega (arith, split_len xs i, length-drop i xs, length-drop j xs, le)

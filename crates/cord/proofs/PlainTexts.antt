@@ -1,20 +1,20 @@
 -- What is made of texts over no files is one.
-use Rattle.std.proofs.Common.{◌≡◌, ℕ, List, ◌++◌, length, take, drop, refl, ◌∙◌, sym, ap}
+use Rattle.std.proofs.Common.{◌≡◌, ℕ, List, ◌++◌, take, drop, refl, ◌∙◌, sym}
 use Rattle.std.specs.Prelude.{Option}
 use Rattle.cord_node.specs.declared.Node.{Node}
 use Rattle.cord_node.specs.Tables.{lengths_of}
-use Rattle.cord_core.specs.Cord.{text_len, IsCord}
+use Rattle.cord_core.specs.Cord.{IsCord}
 use Rattle.cord_core.specs.Equations.{HasText, IsSameText, IsCatOf, IsAppended, IsSubstring}
 use Rattle.cord_core.proofs.OverLemmas.{length-bytes}
 use Rattle.cord.specs.Plain.{no_table, plain_bytes, IsPlain}
 
 -- what has the same bytes over every table
 pub plain_of : (b : List ℕ) (c : Option Node) → IsCord c → HasText b c → IsPlain c
-plain_of b c s h = record { sound = s; over = record { fits = h.fits; bytes = λ t. h.bytes t ∙ sym (h.bytes no_table) } }
-
--- the cord of a text stores as many bytes as it has
-pub plain_len : (c : Option Node) → IsPlain c → text_len c ≡ length (plain_bytes c)
-plain_len c p = length-bytes no_table c p.sound (p.over.fits (lengths_of no_table))
+plain_of b c s h = record {
+  sound = s;
+  len = length-bytes no_table c s (h.fits (lengths_of no_table));
+  over = record { fits = h.fits; bytes = λ t. h.bytes t ∙ sym (h.bytes no_table) };
+}
 
 -- one text and then another
 pub cat_has : (x y c : Option Node) → IsPlain x → IsPlain y → IsCatOf x y c → HasText (plain_bytes x ++ plain_bytes y) c

@@ -1,10 +1,10 @@
 -- Texts over no files: their bytes are the same over every source.
-use Rattle.std.specs.Prelude.{◌≡◌, ℕ, List, [], Option}
+use Rattle.std.specs.Prelude.{◌≡◌, ℕ, List, [], length, Option}
 use Rattle.cord_io.specs.Table.{Table, Lengths}
 use Rattle.cord_node.specs.declared.Node.{Node}
 use Rattle.cord_node.specs.Tree.{Cell}
 use Rattle.cord_node.specs.Tables.{AreHeldIn}
-use Rattle.cord_core.specs.Cord.{IsCord, bytes_of}
+use Rattle.cord_core.specs.Cord.{text_len, IsCord, bytes_of}
 use Rattle.cord_core.specs.Equations.{HasText}
 use Rattle.cord_ec.specs.Grown.{bytes_over}
 
@@ -16,9 +16,10 @@ no_table id = []
 abbrev pub plain_bytes : Option Node → List ℕ
 plain_bytes c = bytes_of no_table c
 
--- it fits every table, and has the same bytes over each
+-- it fits every table, and has the same bytes over each, as many as it stores
 pub record IsPlain (c : Option Node) : Type 0 where
   pub sound : IsCord c
+  pub len : text_len c ≡ length (plain_bytes c)
   pub over : HasText (plain_bytes c) c
 
 -- the bytes of a growing text over no files

@@ -1,11 +1,10 @@
 // What stands where in a text.
-ghost use Rattle.std.specs.Prelude.{◌≡◌, ◌↔◌, ◌+◌, ◌<◌, ◌≤◌, [], ◌∷◌, IfOk, IfSome, IsOkUnless, IsTrue, length, slice_get};
+ghost use Rattle.std.specs.Prelude.{◌≡◌, ◌↔◌, ◌+◌, ◌<◌, ◌≤◌, [], ◌∷◌, IfOk, IfSome, IsOkUnless, IsTrue, Some, length, drop, slice_get};
 ghost use Rattle.cord_core.specs.Texts.{first};
 ghost use Rattle.cord.specs.Places.{last_before, BeginsWith, EndsWith};
 
 use crate::{NoSource, Text};
-use cord_io::CordError;
-use cord_pos::Position;
+use cord_io::{CordError, MAX_LEN};
 use cord_search::{chr, fetch, rchr, str};
 use std::alloc::Global;
 
@@ -17,7 +16,10 @@ impl Text {
         if place >= self.len() {
             return None;
         }
-        fetch(&self.cord, place, &mut NoSource).ok()
+        let Ok(byte) = fetch(&self.cord, place, &mut NoSource) else {
+            unreachable!()
+        };
+        Some(byte)
     }
 
     /// The first place from `start` on where the bytes of `pattern` stand. No bytes stand at each place up to the end.
@@ -94,20 +96,25 @@ impl Text {
     }
 
     // Whether these bytes stand at a place.
-    fn stands_at(&self, place: u64, bytes: &[u8]) -> bool {
-        let mut position = Position::set(&self.cord, place);
-        for byte in bytes {
-            if !position.is_valid() {
+    fn stands_at(&self, place: u64, bytes: &[u8]) -> bool
+        requires { place ≤ MAX_LEN }
+        ensures { IsTrue result ↔ BeginsWith (drop place self.now) bytes.now }
+    {
+        for offset in 0..bytes.len() {
+            if !self.has(place + offset as u64, bytes[offset]) {
                 return false;
             }
-            let Ok(own) = position.fetch(&mut NoSource) else {
-                unreachable!()
-            };
-            if own != *byte {
-                return false;
-            }
-            position.next();
         }
         true
+    }
+
+    // Whether the byte at a place is this one.
+    fn has(&self, place: u64, byte: u8) -> bool
+        ensures { IsTrue result ↔ (slice_get self.now place ≡ Some byte) }
+    {
+        match self.get(place) {
+            Some(own) => own == byte,
+            None => false,
+        }
     }
 }

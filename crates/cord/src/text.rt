@@ -1,6 +1,6 @@
 // Texts over no files.
 ghost use Rattle.std.specs.Prelude.{◌≡◌, ◌↔◌, ◌≤◌, [], IfOk, IsOkUnless, IsTrue, length};
-ghost use Rattle.cord_core.specs.Cord.{IsCord};
+ghost use Rattle.cord_core.specs.Cord.{text_len, IsCord};
 ghost use Rattle.cord_core.specs.Equations.{HasText};
 
 use cord_core::Cord;
@@ -64,6 +64,7 @@ impl Text {
     /// The cord of this text, to be used with the calls of the other crates: it fits every source.
     pub fn as_cord(&self) -> &Cord
         ensures text { HasText self.now result.now }
+        ensures len { text_len result.now ≡ length self.now }
         ensures sound { IsCord result.now }
     {
         &self.cord
@@ -72,6 +73,7 @@ impl Text {
     /// The cord of this text, to be joined with cords over files: it fits every source.
     pub fn into_cord(self) -> Cord
         ensures text { HasText self result }
+        ensures len { text_len result ≡ length self }
         ensures sound { IsCord result }
     {
         self.cord

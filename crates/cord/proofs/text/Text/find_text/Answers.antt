@@ -1,0 +1,23 @@
+use Rattle.std.proofs.Common.{None, ℕ, List, [], ◌∙◌, ap}
+use Rattle.cord_core.specs.Texts.{first}
+use Rattle.cord.specs.Plain.{plain_bytes}
+use Rattle.cord.proofs.Found.{found_from, found_inside}
+use Rattle.cord.proofs.text.Text.find_text.Goals as goal
+
+pub str-requires-clause-fits : goal.str-requires-clause-fits
+str-requires-clause-fits c = c.self.invariant.over.fits (λ _. None)
+
+pub str-requires-clause-pattern_fits : goal.str-requires-clause-pattern_fits
+str-requires-clause-pattern_fits c = c.pattern.invariant.over.fits (λ _. None)
+
+pub returns-clause-first : goal.returns-clause-first
+returns-clause-first c =
+    c.in-Ok.ensures.first [] tt
+    ∙ ap (λ (x : List ℕ). first x c.args.start (plain_bytes c.pattern.inside.cord)) c.self.view_is
+    ∙ ap (λ (s : List ℕ). first c.args.self.now c.args.start s) c.pattern.view_is
+
+pub returns-clause-from : goal.returns-clause-from
+returns-clause-from c = found_from c.args.self.now c.args.pattern.now c.args.start c.in-Ok.place (returns-clause-first c)
+
+pub returns-clause-inside : goal.returns-clause-inside
+returns-clause-inside c = found_inside c.args.self.now c.args.pattern.now c.args.start c.in-Ok.place (returns-clause-first c)

@@ -1,0 +1,16 @@
+use Rattle.std.proofs.Common.{None, ℕ, List, [], ◌++◌, ◌∙◌, ap, subst}
+use Rattle.cord_iter.specs.Taking.{IsFrontOf, Takes}
+use Rattle.cord.proofs.Results.{on_err}
+use Rattle.cord.proofs.text.Text.put.Goals as goal
+
+pub put-requires : goal.put-requires
+put-requires g c = record { fits = c.self.invariant.over.fits (λ _. None) }
+
+pub returns-in_err-put-clause-prefix : goal.returns-in_err-put-clause-prefix
+returns-in_err-put-clause-prefix g c =
+    let old = g.W.Sink.taken c.args.sink.now in
+    let new = g.W.Sink.taken c.put.new.sink in
+    on_err _ c.from_residual.result (subst (λ (x : List ℕ). Takes (IsFrontOf x) old new) c.self.view_is (c.in_err-put.ensures.prefix [] tt))
+
+pub returns-clause-text : goal.returns-clause-text
+returns-clause-text g c = c.in_ok-put.ensures.text [] tt ∙ ap (λ (x : List ℕ). g.W.Sink.taken c.args.sink.now ++ x) c.self.view_is

@@ -1,0 +1,8 @@
+use Rattle.std.proofs.Common.{None, [], ◌∙◌}
+use Rattle.cord.proofs.text.Text.to_vec.Goals as goal
+
+pub to_vec-requires : goal.to_vec-requires
+to_vec-requires c = record { fits = c.self.invariant.over.fits (λ _. None) }
+
+pub returns-clause-text : goal.returns-clause-text
+returns-clause-text c = c.in_ok-bytes.ensures.text [] tt ∙ c.self.view_is
