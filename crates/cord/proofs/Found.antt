@@ -1,8 +1,8 @@
 -- Where a place lies that is found.
 use Rattle.std.proofs.Common.{◌≡◌, ◌⊎◌, ℕ, zero, suc, ◌+◌, ◌-◌, ◌<◌, ◌≤◌, List, [], ◌∷◌, ◌++◌, length, drop, Option, Some, None, refl, ◌∙◌, sym, ap, subst, ⊎_elim, arith, length-append, length-drop}
-use Rattle.std.specs.Prelude.{min, slice_get, IfSome}
+use Rattle.std.specs.Prelude.{min, IfSome}
 use Rattle.std.proofs.lemmas.Option.{slice_get_past, slice_get_within}
-use Rattle.cord_core.specs.Texts.{first, StandsAt, IsFirst, here_or, last, IsLast}
+use Rattle.cord_core.specs.Texts.{first, StandsAt, IsFirst, last, IsLast}
 use Rattle.cord_core.proofs.Searches.{first_is_least, last_is_greatest}
 use Rattle.cord.specs.Places.{last_before}
 

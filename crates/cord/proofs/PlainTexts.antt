@@ -1,5 +1,5 @@
 -- What is made of texts over no files is one.
-use Rattle.std.proofs.Common.{◌≡◌, ℕ, List, ◌++◌, take, drop, refl, ◌∙◌, sym}
+use Rattle.std.proofs.Common.{ℕ, List, ◌++◌, take, drop, refl, ◌∙◌, sym}
 use Rattle.std.specs.Prelude.{Option}
 use Rattle.cord_node.specs.declared.Node.{Node}
 use Rattle.cord_node.specs.Tables.{lengths_of}

@@ -1,9 +1,9 @@
 -- Bytes that stand at a place of a text.
-use Rattle.std.proofs.Common.{◌≡◌, ◌≢◌, ◌⊎◌, ◌↔◌, ℕ, zero, suc, ◌+◌, ◌-◌, ◌<◌, ◌≤◌, List, [], ◌∷◌, ◌++◌, length, take, drop, Option, Some, None, refl, ◌∙◌, sym, ap, arith, append-nil, length-append, length-drop}
-use Rattle.std.specs.Prelude.{slice_get, IsTrue}
+use Rattle.std.proofs.Common.{◌≡◌, ℕ, suc, ◌+◌, ◌-◌, ◌<◌, ◌≤◌, List, [], ◌∷◌, ◌++◌, length, take, drop, Some, refl, ◌∙◌, sym, ap, arith, append-nil, length-append, length-drop}
+use Rattle.std.specs.Prelude.{slice_get}
 use Rattle.std.proofs.lemmas.List.{drop_more, take-append-drop}
 use Rattle.std.proofs.lemmas.Option.{slice_get_within, get_or_from_slice_get}
-use Rattle.cord_core.proofs.Places.{at_here, next_here, behind}
+use Rattle.cord_core.proofs.Places.{behind}
 use Rattle.cord.specs.Places.{BeginsWith, EndsWith}
 
 -- a byte at a place, and what is behind it
@@ -19,15 +19,7 @@ stand_by_each x (b ∷ s) p each =
     let more = stand_by_each x s (p + 1) (λ k lt. let e : (p + 1) + k ≡ p + suc k = omega arith in ap (λ (n : ℕ). slice_get x n) e ∙ each (suc k) (omega (arith, lt))) in
     (more.0, from_byte x p b first ∙ ap (λ (y : List ℕ). b ∷ y) more.1)
 
--- and only there
-pub each_stands : (x s rest : List ℕ) (p : ℕ) → drop p x ≡ s ++ rest → (k : ℕ) → k < length s → slice_get x (p + k) ≡ slice_get s k
-each_stands x [] rest p e k lt = absurd (omega (arith, lt))
-each_stands x (b ∷ s) rest p e zero lt = let here : p + 0 ≡ p = omega arith in ap (λ (n : ℕ). slice_get x n) here ∙ at_here x p b (s ++ rest) e
-each_stands x (b ∷ s) rest p e (suc k) lt =
-    let there : p + suc k ≡ (p + 1) + k = omega arith in
-    ap (λ (n : ℕ). slice_get x n) there ∙ each_stands x s rest (p + 1) (next_here x p b (s ++ rest) e) k (omega (arith, lt))
-
--- what stands so far before the end is the end
+-- what stands as far before the end as it is long is the end
 pub ends_there : (x s : List ℕ) → length s ≤ length x → BeginsWith (drop (length x - length s) x) s → EndsWith x s
 ends_there x s le (rest, e) = (take (length x - length s) x, sym (take-append-drop (length x - length s) x) ∙ ap (λ (y : List ℕ). take (length x - length s) x ++ y) whole)
   where
@@ -41,9 +33,7 @@ ends_there x s le (rest, e) = (take (length x - length s) x, sym (take-append-dr
     whole : drop (length x - length s) x ≡ s
     whole = e ∙ ap (λ (y : List ℕ). s ++ y) none ∙ append-nil s
 
-pub end_length : (x s : List ℕ) → EndsWith x s → length s ≤ length x
-end_length x s (front, e) = let l : length x ≡ length (front ++ s) = ap (λ (y : List ℕ). length y) e in omega (arith, l, length-append front s)
-
+-- and the end stands there
 pub end_stands : (x s : List ℕ) → EndsWith x s → BeginsWith (drop (length x - length s) x) s
 end_stands x s (front, e) = ([], at ∙ sym (append-nil s))
   where

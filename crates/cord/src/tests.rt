@@ -1,10 +1,10 @@
 // Worked rows, by the names of this crate alone.
-use crate::{CordError, MAX_LEN, MemSink, Sink, Text, TextBuilder};
+use crate::{CordError, MAX_LEN, MemSink, Text, TextBuilder};
 use std::alloc::Global;
 use std::process::Abort;
 use std::test::Fail;
 
-// The text "hello world" of two leaves that are too long to become one together with what stands between.
+// The text "hello world", joined of two.
 fn hello(alloc: Global) -> Result<Text, CordError> {
     let front = Text::from_bytes(alloc, b"hello")?;
     let back = Text::from_str(alloc, " world")?;

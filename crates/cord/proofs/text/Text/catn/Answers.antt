@@ -1,7 +1,6 @@
-use Rattle.std.proofs.Common.{◌≡◌, ◌∷◌, ◌+◌, ◌≤◌, [], length, drop, arith, ap, Err, List, ℕ}
+use Rattle.std.proofs.Common.{◌≡◌, ◌∷◌, ◌+◌, [], length, drop, arith, ap, Err, List, ℕ}
 use Rattle.std.proofs.lemmas.List.{drop_more, drop_all}
 use Rattle.std.specs.List.{concat}
-use Rattle.cord_io.specs.declared.TheConstants.{MAX_LEN}
 use Rattle.cord_io.specs.declared.CordError.{CordError}
 use Rattle.cord_io.specs.declared.CordError.TheVariants.{TooLong}
 use Rattle.cord.proofs.Results.{handed_on}

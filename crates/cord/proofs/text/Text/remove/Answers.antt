@@ -1,5 +1,4 @@
-use Rattle.std.proofs.Common.{◌≡◌, ℕ, ◌+◌, ◌≤◌, List, length, take, drop, ap, arith}
-use Rattle.cord_io.specs.declared.TheConstants.{MAX_LEN}
+use Rattle.std.proofs.Common.{◌≡◌, ℕ, ◌+◌, List, length, take, drop, ap, arith}
 use Rattle.cord.proofs.Pieces.{left_len}
 use Rattle.cord.proofs.text.Text.remove.Goals as goal
 
