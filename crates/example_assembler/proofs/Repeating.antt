@@ -3,7 +3,6 @@ use Rattle.std.proofs.Common.{◌≡◌, ℕ, zero, suc, ◌+◌, List, ◌++◌
 use Rattle.std.specs.List.{repeat}
 use Rattle.cord_node.specs.declared.Node.{Node}
 use Rattle.cord_node.specs.Tables.{lengths_of}
-use Rattle.cord_core.specs.Cord.{bytes_of}
 use Rattle.cord_core.specs.Equations.{IsCatOf}
 use Rattle.example_assembler.specs.Meaning.{IsRepeated}
 
