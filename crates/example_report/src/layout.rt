@@ -20,6 +20,7 @@ pub struct Layout {
 }
 
 impl Layout {
+    /// Reads the formats. Refused for want of memory alone.
     pub fn new(alloc: Global) -> Result<Layout> {
         Ok(Layout {
             head: Format::parse(alloc, b"%-36s page %2u of %2u\n")?,

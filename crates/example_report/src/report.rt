@@ -29,6 +29,7 @@ pub struct Report {
 }
 
 impl Report {
+    /// The report of no records. Refused for want of memory alone.
     pub fn new(alloc: Global) -> Result<Report> {
         let rule = Text::repeat(alloc, b'-', COLUMNS.len() as u64 - 1)?;
         Ok(Report {
