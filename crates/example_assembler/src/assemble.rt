@@ -1,0 +1,78 @@
+//! The text of a template, as a cord.
+ghost use Rattle.std.specs.Prelude.{◌≡◌, ◌++◌, take, drop, IfOk, OnOk};
+ghost use Rattle.cord_io.specs.Device.{Folder};
+ghost use Rattle.example_assembler.specs.Meaning.{meaning, part_bytes, IsRepeated, Means};
+
+use crate::template::Part;
+use cord::{Cord, CordError, MAX_LEN, Sink, Source, SourceId, put};
+use std::alloc::Global;
+
+/// Writes at most `count` bytes of the text of a template, from byte `from` on.
+pub fn write_range<S: Source, W: Sink>(
+    alloc: Global,
+    src: &mut S,
+    parts: &[Part<'_>],
+    from: u64,
+    count: u64,
+    out: &mut W,
+) -> Result<(), CordError>
+    ensures { (folder : Folder) → S.keeps src.new folder → OnOk result
+        (W.taken out.new ≡ W.taken out.old ++ take count (drop from (meaning (S.table src.old folder) parts.now))) }
+{
+    let text = assemble(alloc, src, parts)?;
+    let range = text.substr(alloc, from, count)?;
+    put(&range, src, out)
+}
+
+/// The text of a template over its files. No byte of them is read.
+fn assemble<S: Source>(alloc: Global, src: &S, parts: &[Part<'_>]) -> Result<Cord, CordError>
+    ensures { IfOk result (Means (S.lengths src.now) (λ t. meaning t parts.now)) }
+{
+    let mut text = Cord::empty();
+    for part in parts {
+        let next = cord_of(alloc, src, part)?;
+        text = Cord::cat(alloc, &text, &next)?;
+    }
+    Ok(text)
+}
+
+/// The text of a part.
+fn cord_of<S: Source>(alloc: Global, src: &S, part: &Part<'_>) -> Result<Cord, CordError>
+    ensures { IfOk result (Means (S.lengths src.now) (λ t. part_bytes t part.now)) }
+{
+    match *part {
+        Part::Text(text) => Cord::from_bytes(alloc, text.as_bytes()),
+        Part::File(id, times) => {
+            let file = entry(alloc, src, id)?;
+            repeated(alloc, &file, times)
+        }
+    }
+}
+
+/// The whole of an entry.
+fn entry<S: Source>(alloc: Global, src: &S, id: SourceId) -> Result<Cord, CordError>
+    ensures { IfOk result (Means (S.lengths src.now) (λ t. t id.0)) }
+{
+    let len = src.entry_len(id).unwrap_or(0);
+    if len > MAX_LEN {
+        return Err(CordError::TooLong);
+    }
+    let cord = Cord::from_fn(alloc, id, 0, len)?;
+    Ok(cord)
+}
+
+/// A text so many times, made by doubling.
+fn repeated(alloc: Global, cord: &Cord, times: u64) -> Result<Cord, CordError>
+    ensures { IfOk result (IsRepeated times cord.now) }
+{
+    if times == 0 {
+        return Ok(Cord::empty());
+    }
+    let half = repeated(alloc, cord, times / 2)?;
+    let twice = Cord::cat(alloc, &half, &half)?;
+    if times % 2 == 0 {
+        return Ok(twice);
+    }
+    let odd = Cord::cat(alloc, &twice, cord)?;
+    Ok(odd)
+}

@@ -1,0 +1,56 @@
+//! A text assembler: it puts a text together from a template, files and values, and writes a part of it.
+//!
+//! `example_assembler TEMPLATE FROM COUNT [NAME=VALUE]..` writes COUNT bytes of the text, from byte FROM on. The template
+//! is a text in which braces stand for something else:
+//!
+//! | in the template | in the text |
+//! |---|---|
+//! | `{NAME}` | the value that is given for NAME |
+//! | `{include PATH}` | the file at PATH |
+//! | `{repeat TIMES PATH}` | the file at PATH, so many times |
+//!
+//! The folder `data` has a template whose text is 560 gigabytes long, and the words in the file `args` ask for the last
+//! lines of it. `rt ci` runs that; by hand it is
+//!
+//! ```text
+//! rt try --data letter.txt=data/letter.txt --data line.txt=data/line.txt --data foot.txt=data/foot.txt \
+//!     -- letter.txt 0 200 name=Ada station=7 count=10000000000
+//! ```
+//!
+//! What it shows of the library, and how it scales:
+//!
+//! - `Sources` gives files as entries by number, of which nothing is read before it is wanted. A cord over an entry is
+//!   one node, whatever the length of the file.
+//! - A text that stands n times is made by doubling and shares itself: at most two nodes for each bit of n. So the text of
+//!   560 gigabytes is about fifty nodes.
+//! - A range of it is cut by going down from the root once, and `put` writes it in pieces of at most 64 KiB, so memory
+//!   stays the same whether a line is written or all.
+//! - The contract of `write_range` says what is written, over any files: that range of the meaning of the template's parts.
+#![tactic(auto)]
+
+mod assemble;
+mod template;
+
+use anyhow::{Result, bail};
+use assemble::write_range;
+use cord::{DiskFiles, Sources, StdSink};
+use std::{env, fs};
+use template::parse;
+
+fn main(rt: HostRuntime) -> Result<()> {
+    let alloc = rt.alloc();
+    let words: Vec<String> = env::args(&rt)?.collect(alloc)?;
+    let [_, path, from, count, values @ ..] = words.as_slice() else {
+        bail!("usage: example_assembler TEMPLATE FROM COUNT [NAME=VALUE]..");
+    };
+    let Ok(mut sources) = Sources::new(alloc, DiskFiles::new(rt.clone()?, alloc)) else {
+        bail!("no memory");
+    };
+    let template = fs::read_to_string(&rt, path.as_str())?;
+    let parts = parse(alloc, template.as_str(), values, &mut sources)?;
+    let from = from.parse::<u64>()?;
+    let count = count.parse::<u64>()?;
+    let mut out = StdSink::new(rt.stdout());
+    write_range(alloc, &mut sources, &parts, from, count, &mut out)?;
+    Ok(())
+}

@@ -1,0 +1,60 @@
+//! Templates.
+use anyhow::{Context, Result, bail};
+use cord::{Files, SourceId, Sources};
+use std::alloc::{AllocError, Global};
+
+/// A part of a template.
+#[derive(Clone, Copy)]
+pub enum Part<'a> {
+    /// A text of the template, or a value.
+    Text(&'a str),
+    /// A file, by its entry, so many times.
+    File(SourceId, u64),
+}
+
+/// Reads a template, and opens the files that it names.
+pub fn parse<'a, F: Files>(
+    alloc: Global,
+    template: &'a str,
+    values: &'a [String],
+    sources: &mut Sources<F>,
+) -> Result<Vec<Part<'a>>> {
+    let mut parts = Vec::new(alloc);
+    let mut pieces = template.split('{');
+    if let Some(text) = pieces.next() {
+        parts.push(Part::Text(text)).map_err(AllocError::from)?;
+    }
+    for piece in pieces {
+        let (words, text) = piece.split_once('}').context("a brace isn't closed")?;
+        let part = part_of(alloc, words, values, sources)?;
+        parts.push(part).map_err(AllocError::from)?;
+        parts.push(Part::Text(text)).map_err(AllocError::from)?;
+    }
+    Ok(parts)
+}
+
+/// What the words in braces stand for.
+fn part_of<'a, F: Files>(
+    alloc: Global,
+    words: &'a str,
+    values: &'a [String],
+    sources: &mut Sources<F>,
+) -> Result<Part<'a>> {
+    if let Some(path) = words.strip_prefix("include ") {
+        let (id, _) = sources.open(alloc, path)?;
+        return Ok(Part::File(id, 1));
+    }
+    if let Some(rest) = words.strip_prefix("repeat ") {
+        let (times, path) = rest.split_once(' ').context("TIMES PATH is wanted")?;
+        let (id, _) = sources.open(alloc, path)?;
+        return Ok(Part::File(id, times.parse::<u64>()?));
+    }
+    for value in values {
+        if let Some((name, text)) = value.as_str().split_once('=')
+            && name == words
+        {
+            return Ok(Part::Text(text));
+        }
+    }
+    bail!("no value is given for {words}")
+}

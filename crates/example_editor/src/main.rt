@@ -1,0 +1,97 @@
+//! An editor's buffer with unlimited undo, in which each version of the text is a `Text` of its own.
+//!
+//! It reads commands from standard input, one a line, and answers on standard output:
+//!
+//! | command | does |
+//! |---|---|
+//! | `append LINE` | adds a line at the end |
+//! | `insert PLACE TEXT` | puts TEXT in front of the byte at PLACE |
+//! | `delete PLACE COUNT` | takes COUNT bytes out, from PLACE on |
+//! | `replace OLD/NEW` | puts NEW in the place of the first OLD |
+//! | `find TEXT` | tells the first place of TEXT |
+//! | `print` | writes the text |
+//! | `undo`, `redo` | goes one version back, or on again |
+//! | `quit` | ends the program |
+//!
+//! Places and counts are in bytes, and the first byte has place 0. A command that can't be done is refused by a line of
+//! output, and the text stays as it was. `rt try` runs the program on the commands in the file `stdin`, unproved, and
+//! `rt run` proves it first.
+//!
+//! What it shows of the library:
+//!
+//! - An edit makes a new text of the old one, which stands. The two share all that the edit leaves alone, so a version
+//!   costs a few nodes and its new bytes, however long the text is, and going back costs nothing.
+//! - Want of memory is an answer like any other.
+//! - Contracts speak of a `Text` as of the list of its bytes. `edited` ensures what each edit means, `undo` and `redo`
+//!   that they lead to the version before and to the one after, and nothing here needed a line of proof.
+#![tactic(auto)]
+
+mod buffer;
+mod command;
+mod edit;
+mod refusal;
+
+use anyhow::Result;
+use buffer::Buffer;
+use command::Command;
+use cord::{CordError, StdSink, Text};
+use edit::edited;
+use refusal::Refusal;
+use std::alloc::Global;
+use std::io::ErrorKind;
+
+/// Does what a command says, and answers the text that is to be written, if any.
+fn obey(
+    alloc: Global,
+    buffer: &mut Buffer,
+    command: &Command<'_>,
+) -> Result<Option<Text>, Refusal> {
+    match command {
+        Command::Edit(edit) => {
+            let text = edited(alloc, buffer.text(), edit)?;
+            buffer.keep(text)?;
+        }
+        Command::Undo => buffer.undo()?,
+        Command::Redo => buffer.redo()?,
+        Command::Find(wanted) => {
+            let found = buffer.text().find(alloc, wanted.as_bytes(), 0)?;
+            let place = found.ok_or(Refusal::NotFound)?;
+            return Ok(Some(line_of(alloc, place)?));
+        }
+        Command::Print => return Ok(Some(buffer.text().share(alloc)?)),
+        Command::Quit => {}
+    }
+    Ok(None)
+}
+
+/// A number on a line of its own.
+fn line_of(alloc: Global, number: u64) -> Result<Text, CordError> {
+    let line = format!(in alloc; "{number}\n")?;
+    Text::from_str(alloc, line.as_str())
+}
+
+fn main(rt: HostRuntime) -> Result<()> {
+    let alloc = rt.alloc();
+    let mut out = StdSink::new(rt.stdout());
+    let mut buffer = Buffer::new(alloc)?;
+    for line in rt.lines(alloc) {
+        let line = match line {
+            Err(error) if error.kind() == ErrorKind::InvalidData => {
+                println!(rt; "a line that isn't UTF-8")?;
+                continue;
+            }
+            line => line?,
+        };
+        let answer = match Command::parse(line.as_str()) {
+            Ok(Command::Quit) => break,
+            Ok(command) => obey(alloc, &mut buffer, &command),
+            Err(refusal) => Err(refusal),
+        };
+        match answer {
+            Ok(Some(text)) => text.put(&mut out)?,
+            Ok(None) => {}
+            Err(refusal) => println!(rt; "{line}: {refusal}")?,
+        }
+    }
+    Ok(())
+}

@@ -1,0 +1,24 @@
+//! Why a command isn't done.
+use cord::CordError;
+use thiserror::Error;
+
+/// Why a command isn't done. The text stays as it was.
+#[derive(Clone, Copy, Debug, PartialEq, Eq, Error)]
+pub enum Refusal {
+    #[error("no such command")]
+    NoSuchCommand,
+    #[error("a number is wanted")]
+    NoNumber,
+    #[error("OLD/NEW is wanted")]
+    NoSlash,
+    #[error("past the end")]
+    PastEnd,
+    #[error("not found")]
+    NotFound,
+    #[error("nothing to undo")]
+    NothingToUndo,
+    #[error("nothing to redo")]
+    NothingToRedo,
+    #[error(transparent)]
+    Library(#[from] CordError),
+}

@@ -1,0 +1,45 @@
+//! A report: records from standard input as an aligned table, in pages, with a total.
+//!
+//! A record is a line `NAME,COUNT,PRICE`, the price in cents:
+//!
+//! ```text
+//! apples,120,35
+//! ```
+//!
+//! The report has five rows a page. Each page has a head with its number and that of all pages, and ends with the sum so
+//! far; the last one ends with the total, and after it come the lines that are no records, each with what is wrong.
+//! `rt try` runs the program on the records in the file `stdin`, unproved, and `rt run` proves it first.
+//!
+//! What it shows of the library:
+//!
+//! - A `Format` is read once and printed as often as there are rows. `%-19.19s` cuts and fills a text, so columns stand
+//!   in line whatever the names are.
+//! - A `TextBuilder` gathers many small pieces, at about a byte of memory for a byte.
+//! - The head of the first page has the number of all pages, which is known at the end alone. That is no trouble for a
+//!   text of shared parts: the pages are joined to their heads then, and no row is copied.
+//! - Contracts say what a row is: `Layout::row` ensures that it is the text of its format with the record's values, and
+//!   `Report::add` that the total grows by the record's amount.
+#![tactic(auto)]
+
+mod layout;
+mod record;
+mod report;
+
+use anyhow::Result;
+use cord::StdSink;
+use record::Record;
+use report::Report;
+
+fn main(rt: HostRuntime) -> Result<()> {
+    let alloc = rt.alloc();
+    let mut report = Report::new(alloc)?;
+    for line in rt.lines(alloc) {
+        let line = line?;
+        match Record::parse(line.as_str()) {
+            Ok(record) => report.add(alloc, &record)?,
+            Err(flaw) => report.note(alloc, line.as_str(), &flaw)?,
+        }
+    }
+    report.finish(alloc)?.put(&mut StdSink::new(rt.stdout()))?;
+    Ok(())
+}
