@@ -11,30 +11,6 @@ macro_rules! again {
     };
 }
 
-// The value of a call. Where it was refused memory, its arguments are compared with what they were, and it is made again.
-// The error is named where the call has several.
-macro_rules! refused {
-    ($rt:expr, $call:expr, $unchanged:expr) => {
-        match $call {
-            Ok(value) => value,
-            Err(_) => {
-                assert!($rt; $unchanged, "an argument has changed");
-                $call.expect($rt, "memory")
-            }
-        }
-    };
-    ($rt:expr, $call:expr, $error:pat, $unchanged:expr) => {
-        match $call {
-            Ok(value) => value,
-            Err($error) => {
-                assert!($rt; $unchanged, "an argument has changed");
-                $call.expect($rt, "memory")
-            }
-            Err(_) => panic!($rt; "another error"),
-        }
-    };
-}
-
 mod cords;
 mod extensible;
 mod files;

@@ -1,50 +1,116 @@
 //! Nodes: parts, joins, ranges, and the balance of several.
-ghost use Rattle.std.specs.Prelude.{◌≡◌, ◌<◌, ◌≤◌, length};
-ghost use Rattle.cord_node.specs.Tree.{len_of, depth_of, IsSound};
+ghost use Rattle.std.specs.Prelude.{◌≡◌, ◌<◌, ◌≤◌, length, IfOk};
+ghost use Rattle.cord_node.specs.Tree.{len_of, IsSound};
 
-use super::texts::spells;
+use super::texts::{expect_bytes, shared_of, spells};
 use cord_balance::balance_parts;
 use cord_core::Node;
 use cord_io::SourceId;
 use cord_node::{func, join, leaf, run, sub_node};
-use std::alloc::Global;
+use std::alloc::{AllocError, Global};
 use std::process::Abort;
 use std::rc::{Rc, RcSlice};
 
-fn leaf_of(rt: &impl Abort, alloc: Global, bytes: &[u8]) -> Rc<Node>
-    requires not_empty { 0 < length bytes.now }
-    requires fits { length bytes.now ≤ 1000 }
-    ensures sound { IsSound result.value }
-    ensures len { len_of result.value ≡ length bytes.now }
-    ensures depth { depth_of result.value ≡ 0 }
+// The node that one of two equal calls made: at most one of them was refused memory.
+fn made(
+    rt: &impl Abort,
+    first: Result<Rc<Node>, AllocError>,
+    second: Result<Rc<Node>, AllocError>,
+) -> Rc<Node>
+    requires first_sound { IfOk first (λ node. IsSound node.value) }
+    requires second_sound { IfOk second (λ node. IsSound node.value) }
+    ensures { IsSound result.value }
 {
-    let shared = again!(rt, RcSlice::from_slice(alloc, bytes));
-    again!(rt, leaf(alloc, again!(rt, shared.clone())))
+    match first {
+        Ok(node) => node,
+        Err(_) => second.expect(rt, "memory"),
+    }
+}
+
+// A leaf of a slice, which is shared on.
+fn leaf_over(rt: &impl Abort, alloc: Global, shared: &RcSlice<u8>) -> Result<Rc<Node>, AllocError>
+    ensures { IfOk result (λ node. IsSound node.value) }
+{
+    let bytes = again!(rt, shared.clone());
+    assert!(rt; bytes.len() > 0 && bytes.len() <= 1_000);
+    leaf(alloc, bytes)
+}
+
+fn leaf_of(rt: &impl Abort, alloc: Global, bytes: &[u8]) -> Rc<Node>
+    ensures { IsSound result.value }
+{
+    let shared = shared_of(rt, alloc, bytes);
+    let first = leaf_over(rt, alloc, &shared);
+    made(rt, first, leaf_over(rt, alloc, &shared))
+}
+
+// A byte so many times, at least once.
+fn run_of(rt: &impl Abort, alloc: Global, byte: u8, len: u64) -> Rc<Node>
+    ensures { IsSound result.value }
+{
+    assert!(rt; len > 0 && len <= 1_000);
+    let first = run(alloc, byte, len);
+    made(rt, first, run(alloc, byte, len))
+}
+
+// Two nodes, one behind the other, both short and shallow.
+fn joined(
+    rt: &impl Abort,
+    alloc: Global,
+    left: &Rc<Node>,
+    right: &Rc<Node>,
+) -> Result<Rc<Node>, AllocError>
+    requires left_sound { IsSound left.now.value }
+    requires right_sound { IsSound right.now.value }
+    ensures { IfOk result (λ node. IsSound node.value) }
+{
+    assert!(rt; left.len() <= 1_000 && right.len() <= 1_000);
+    assert!(rt; left.depth() <= 10 && right.depth() <= 10);
+    join(alloc, left, right)
+}
+
+// So many bytes of a node from a place on, at least one, where it is so long.
+fn range_of(
+    rt: &impl Abort,
+    alloc: Global,
+    node: &Rc<Node>,
+    from: u64,
+    count: u64,
+) -> Result<Rc<Node>, AllocError>
+    requires { IsSound node.now.value }
+    ensures { IfOk result (λ node. IsSound node.value) }
+{
+    assert!(rt; count > 0 && from <= node.len() && count <= node.len() - from);
+    sub_node(alloc, node, from, count)
+}
+
+// That a node has this text.
+fn expect_node(rt: &impl Abort, node: &Rc<Node>, text: &[u8])
+    requires { IsSound node.now.value }
+{
+    assert!(rt; spells(node, text), "the text is not {text:?}");
 }
 
 #[test]
 fn refused_leaf(rt: HostRuntime) {
-    let shared = again!(&rt, RcSlice::from_slice(rt.alloc(), b"ab"));
-    assert!(rt; shared.as_slice() == b"ab".as_slice());
-    let node = refused!(
-        &rt,
-        leaf(rt.alloc(), again!(&rt, shared.clone())),
-        shared.as_slice() == b"ab".as_slice()
-    );
-    assert!(rt; spells(&node, b"ab"));
+    let shared = shared_of(&rt, rt.alloc(), b"ab");
+    let first = leaf_over(&rt, rt.alloc(), &shared);
+    expect_bytes(&rt, shared.as_slice(), b"ab");
+    let node = made(&rt, first, leaf_over(&rt, rt.alloc(), &shared));
+    expect_node(&rt, &node, b"ab");
     assert!(rt; node.depth() == 0);
 }
 
 #[test]
 fn refused_run(rt: HostRuntime) {
-    let node = refused!(&rt, run(rt.alloc(), 97, 3), true);
+    let node = run_of(&rt, rt.alloc(), 97, 3);
     assert!(rt; matches!(node.as_ref(), Node::Run { byte: 97, len: 3 }));
 }
 
 #[test]
 fn refused_func(rt: HostRuntime) {
-    let id = SourceId(0);
-    let node = refused!(&rt, func(rt.alloc(), id, 8, 3), id == SourceId(0));
+    let first = func(rt.alloc(), SourceId(0), 8, 3);
+    let node = made(&rt, first, func(rt.alloc(), SourceId(0), 8, 3));
     assert!(rt; node.len() == 3);
     assert!(rt; node.depth() == 0);
     assert!(rt;
@@ -61,44 +127,45 @@ fn refused_func(rt: HostRuntime) {
 
 #[test]
 fn refused_join_to_one_leaf(rt: HostRuntime) {
-    let left = leaf_of(&rt, rt.alloc(), b"ab");
-    let right = leaf_of(&rt, rt.alloc(), b"cd");
-    let node = refused!(
-        &rt,
-        join(rt.alloc(), &left, &right),
-        spells(&left, b"ab") && spells(&right, b"cd")
-    );
-    assert!(rt; spells(&node, b"abcd"));
+    let alloc = rt.alloc();
+    let left = leaf_of(&rt, alloc, b"ab");
+    let right = leaf_of(&rt, alloc, b"cd");
+    let first = joined(&rt, alloc, &left, &right);
+    expect_node(&rt, &left, b"ab");
+    expect_node(&rt, &right, b"cd");
+    let node = made(&rt, first, joined(&rt, alloc, &left, &right));
+    expect_node(&rt, &node, b"abcd");
     assert!(rt; node.len() == 4);
     assert!(rt; node.depth() == 0);
 }
 
 #[test]
 fn refused_join_of_a_run(rt: HostRuntime) {
-    let left = again!(&rt, run(rt.alloc(), 0, 1));
-    let right = leaf_of(&rt, rt.alloc(), b"ab");
-    let node = refused!(
-        &rt,
-        join(rt.alloc(), &left, &right),
-        spells(&left, b"\0") && spells(&right, b"ab")
-    );
-    assert!(rt; spells(&node, b"\0ab"));
+    let alloc = rt.alloc();
+    let left = run_of(&rt, alloc, 0, 1);
+    let right = leaf_of(&rt, alloc, b"ab");
+    let first = joined(&rt, alloc, &left, &right);
+    expect_node(&rt, &left, b"\0");
+    expect_node(&rt, &right, b"ab");
+    let node = made(&rt, first, joined(&rt, alloc, &left, &right));
+    expect_node(&rt, &node, b"\0ab");
     assert!(rt; node.len() == 3);
     assert!(rt; node.depth() == 1);
 }
 
+// The leaf "abcdefgh" and a run of three points, joined, and the four bytes around their seam.
 #[test]
 fn refused_sub_node_over_a_seam(rt: HostRuntime) {
     let alloc = rt.alloc();
-    let letters = leaf_of(&rt, rt.alloc(), b"abcdefgh");
-    let points = again!(&rt, run(alloc, 46, 3));
-    let both = again!(&rt, join(alloc, &letters, &points));
-    let seam = refused!(
-        &rt,
-        sub_node(alloc, &both, 6, 4),
-        spells(&both, b"abcdefgh...") && spells(&letters, b"abcdefgh") && spells(&points, b"...")
-    );
-    assert!(rt; spells(&seam, b"gh.."));
+    let letters = leaf_of(&rt, alloc, b"abcdefgh");
+    let points = run_of(&rt, alloc, 46, 3);
+    let both = again!(&rt, joined(&rt, alloc, &letters, &points));
+    let first = range_of(&rt, alloc, &both, 6, 4);
+    expect_node(&rt, &both, b"abcdefgh...");
+    expect_node(&rt, &letters, b"abcdefgh");
+    expect_node(&rt, &points, b"...");
+    let seam = made(&rt, first, range_of(&rt, alloc, &both, 6, 4));
+    expect_node(&rt, &seam, b"gh..");
     assert!(rt; seam.depth() == 1);
 }
 
@@ -106,35 +173,53 @@ fn refused_sub_node_over_a_seam(rt: HostRuntime) {
 #[test]
 fn refused_sub_node_over_a_seam_of_leaves(rt: HostRuntime) {
     let alloc = rt.alloc();
-    let left = leaf_of(&rt, rt.alloc(), &[1; 40]);
-    let right = leaf_of(&rt, rt.alloc(), &[2; 40]);
-    let both = again!(&rt, join(alloc, &left, &right));
-    let seam = refused!(
-        &rt,
-        sub_node(alloc, &both, 38, 4),
-        spells(&left, &[1; 40]) && spells(&right, &[2; 40]) && both.len() == 80
-    );
-    assert!(rt; spells(&seam, &[1, 1, 2, 2]));
+    let left = leaf_of(&rt, alloc, &[1; 40]);
+    let right = leaf_of(&rt, alloc, &[2; 40]);
+    let both = again!(&rt, joined(&rt, alloc, &left, &right));
+    let first = range_of(&rt, alloc, &both, 38, 4);
+    expect_node(&rt, &left, &[1; 40]);
+    expect_node(&rt, &right, &[2; 40]);
+    assert!(rt; both.len() == 80);
+    let seam = made(&rt, first, range_of(&rt, alloc, &both, 38, 4));
+    expect_node(&rt, &seam, &[1, 1, 2, 2]);
     assert!(rt; seam.depth() == 0);
+}
+
+// A leaf of a hundred times a byte.
+fn hundred(rt: &impl Abort, alloc: Global, byte: u8) -> Rc<Node>
+    ensures sound { IsSound result.value }
+    ensures short { len_of result.value ≤ 1000 }
+{
+    let node = leaf_of(rt, alloc, &[byte; 100]);
+    assert!(rt; node.len() <= 1_000);
+    node
+}
+
+// That the hundred bytes from a place on are this one.
+fn expect_hundred(rt: &impl Abort, alloc: Global, node: &Rc<Node>, from: u64, byte: u8)
+    requires { IsSound node.now.value }
+{
+    let first = range_of(rt, alloc, node, from, 100);
+    let part = made(rt, first, range_of(rt, alloc, node, from, 100));
+    expect_node(rt, &part, &[byte; 100]);
 }
 
 #[test]
 fn refused_balance_parts(rt: HostRuntime) {
+    let alloc = rt.alloc();
     let ropes = [
-        leaf_of(&rt, rt.alloc(), &[1; 100]),
-        leaf_of(&rt, rt.alloc(), &[2; 100]),
-        leaf_of(&rt, rt.alloc(), &[3; 100]),
+        hundred(&rt, alloc, 1),
+        hundred(&rt, alloc, 2),
+        hundred(&rt, alloc, 3),
     ];
-    let node = refused!(
-        &rt,
-        balance_parts(rt.alloc(), &ropes),
-        spells(&ropes[0], &[1; 100]) && spells(&ropes[1], &[2; 100]) && spells(&ropes[2], &[3; 100])
-    );
+    let first = balance_parts(alloc, &ropes);
+    expect_node(&rt, &ropes[0], &[1; 100]);
+    expect_node(&rt, &ropes[1], &[2; 100]);
+    expect_node(&rt, &ropes[2], &[3; 100]);
+    let node = made(&rt, first, balance_parts(alloc, &ropes));
     assert!(rt; node.len() == 300);
     assert!(rt; node.depth() <= 13);
-    for (place, byte) in [(0, 1), (100, 2), (200, 3)] {
-        assert!(rt; place <= 200 && node.len() == 300);
-        let part = again!(&rt, sub_node(rt.alloc(), &node, place, 100));
-        assert!(rt; spells(&part, &[byte; 100]), "from {place}");
-    }
+    expect_hundred(&rt, alloc, &node, 0, 1);
+    expect_hundred(&rt, alloc, &node, 100, 2);
+    expect_hundred(&rt, alloc, &node, 200, 3);
 }

@@ -1,7 +1,9 @@
 //! Plans: made, shown, and their jumps.
 use super::scripts::read;
+use super::texts::{expect_bytes, expect_no_memory};
 use cord_io::{CordError, MemSink, Sink};
 use cord_plan::{Plan, plan};
+use cord_script::Script;
 use std::alloc::Global;
 use std::process::Abort;
 
@@ -35,41 +37,64 @@ const BOTH_ASSIGN: Planned = Planned {
     unplanned: "1 build x literal(1)\n2 number n len(x)\n3 if n eq 1\n4 build x literal(1)\n5 else\n6 build x literal(1)\n7 end\n8 write x\n",
 };
 
-// Whether a plan shows a text. A sink that found no memory has taken a front part of it, and another one takes all.
-fn shows(rt: &impl Abort, alloc: Global, plan: &Plan, text: &str) -> bool {
+// That a plan shows a text to a new sink.
+fn expect_shown(rt: &impl Abort, alloc: Global, plan: &Plan, text: &str) {
     let mut sink = MemSink::new(alloc);
-    if let Err(error) = plan.show(&mut sink) {
-        assert!(rt; error == CordError::WriteFailed);
-        assert!(rt; sink.failures() == 1);
-        assert!(rt; text.as_bytes().starts_with(sink.bytes()));
-        sink = MemSink::new(alloc);
-        assert!(rt; plan.show(&mut sink) == Ok(()));
+    assert!(rt; plan.show(&mut sink) == Ok(()));
+    expect_bytes(rt, sink.bytes(), text.as_bytes());
+}
+
+// That a sink which found no memory has taken a front part of a text.
+fn expect_part(rt: &impl Abort, sink: &MemSink, error: CordError, text: &str) {
+    assert!(rt; error == CordError::WriteFailed);
+    assert!(rt; sink.failures() == 1);
+    assert!(rt; text.as_bytes().starts_with(sink.bytes()));
+}
+
+// That a plan shows a text, to another sink where the first one found no memory.
+fn expect_shows(rt: &impl Abort, alloc: Global, plan: &Plan, text: &str) {
+    let mut sink = MemSink::new(alloc);
+    match plan.show(&mut sink) {
+        Ok(()) => expect_bytes(rt, sink.bytes(), text.as_bytes()),
+        Err(error) => {
+            expect_part(rt, &sink, error, text);
+            expect_shown(rt, alloc, plan, text);
+        }
     }
-    sink.bytes() == text.as_bytes()
+}
+
+// The plan that one of two equal calls made: at most one of them was refused, and that for want of memory.
+fn made(rt: &impl Abort, first: Result<Plan, CordError>, second: Result<Plan, CordError>) -> Plan {
+    match first {
+        Ok(plan) => plan,
+        Err(error) => {
+            expect_no_memory(rt, error);
+            second.expect(rt, "memory")
+        }
+    }
+}
+
+// That a script still has its statements.
+fn expect_statements(rt: &impl Abort, script: &Script, lines: usize) {
+    assert!(rt; script.statements().len() == lines);
 }
 
 // Makes the plan of a script.
 fn make(rt: &impl Abort, alloc: Global, row: &Planned) {
     let script = read(rt, alloc, row.script, row.lines);
-    let made = refused!(
-        rt,
-        plan(alloc, &script),
-        CordError::NoMemory,
-        script.statements().len() == row.lines
-    );
-    assert!(rt; shows(rt, alloc, &made, row.planned), "{}", row.script);
+    let first = plan(alloc, &script);
+    expect_statements(rt, &script, row.lines);
+    let planned = made(rt, first, plan(alloc, &script));
+    expect_shows(rt, alloc, &planned, row.planned);
 }
 
 // Makes the trivial plan of a script.
 fn make_trivial(rt: &impl Abort, alloc: Global, row: &Planned) {
     let script = read(rt, alloc, row.script, row.lines);
-    let made = refused!(
-        rt,
-        Plan::trivial(alloc, &script),
-        CordError::NoMemory,
-        script.statements().len() == row.lines
-    );
-    assert!(rt; shows(rt, alloc, &made, row.unplanned), "{}", row.script);
+    let first = Plan::trivial(alloc, &script);
+    expect_statements(rt, &script, row.lines);
+    let unplanned = made(rt, first, Plan::trivial(alloc, &script));
+    expect_shows(rt, alloc, &unplanned, row.unplanned);
 }
 
 #[test]
@@ -94,6 +119,18 @@ fn refused_trivial_plans(rt: HostRuntime) {
     }
 }
 
+// The jumps of a plan of so many operations.
+fn jumps_of(rt: &impl Abort, alloc: Global, made: &Plan, count: usize) -> Vec<usize> {
+    match made.jumps(alloc) {
+        Ok(jumps) => jumps,
+        Err(error) => {
+            expect_no_memory(rt, error);
+            assert!(rt; made.operations().len() == count);
+            made.jumps(alloc).expect(rt, "memory")
+        }
+    }
+}
+
 // A `repeat` leads behind its `end`, an `if` behind its `else` or to its `end`, an `else` to its `end`, and any other to the next
 // place.
 #[test]
@@ -106,12 +143,7 @@ fn refused_jumps(rt: HostRuntime) {
         13,
     );
     let made = again!(&rt, Plan::trivial(alloc, &script));
-    let jumps = refused!(
-        &rt,
-        made.jumps(alloc),
-        CordError::NoMemory,
-        made.operations().len() == 13
-    );
+    let jumps = jumps_of(&rt, alloc, &made, 13);
     let expected: [usize; 13] = [1, 12, 3, 6, 5, 7, 7, 8, 10, 10, 11, 12, 13];
     assert!(rt; jumps.as_slice() == expected.as_slice());
 }

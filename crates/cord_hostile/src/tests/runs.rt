@@ -55,31 +55,59 @@ fn is_honest(run: &Run, end: &Result<End, Refusal>, sink: &MemSink) -> bool {
     }
 }
 
-// Runs a script by its plan or line by line, and tells whether it was done. The sink fails only where the end says so.
+// Runs a text by its plan or line by line.
+fn run_one_way(
+    rt: &impl Abort,
+    alloc: Global,
+    text: &[u8],
+    files: MemFiles,
+    sink: &mut MemSink,
+    is_planned: bool,
+) -> (Result<End, Refusal>, MemFiles) {
+    assert!(rt; sink.failures() == 0);
+    if is_planned {
+        run_text(alloc, text, files, sink)
+    } else {
+        run_unplanned(alloc, text, files, sink)
+    }
+}
+
+// That an end is honest, and the sink failed only where the end says so.
+fn expect_honest(rt: &impl Abort, run: &Run, end: &Result<End, Refusal>, sink: &MemSink) {
+    assert!(rt; is_honest(run, end, sink), "{end:?} of {}", run.script);
+    let failed = matches!(end, Ok(End::WriteFailed(_)));
+    assert!(rt; sink.failures() == u64::from(failed));
+}
+
+// Runs a script by its plan or line by line, and tells whether it was done.
 fn is_done(rt: &impl Abort, alloc: Global, run: &Run, is_planned: bool) -> bool {
-    let script = run.script.as_bytes();
     let files = two_files(rt, alloc, run.long);
     assert!(rt; files.failures() == 0);
     let mut sink = MemSink::new(alloc);
-    let (end, mut files) = if is_planned {
-        run_text(alloc, script, files, &mut sink)
-    } else {
-        run_unplanned(alloc, script, files, &mut sink)
-    };
-    assert!(rt; is_honest(run, &end, &sink), "{end:?} of {}", run.script);
-    let failed = matches!(end, Ok(End::WriteFailed(_)));
-    assert!(rt; sink.failures() == u64::from(failed));
+    let (end, mut files) = run_one_way(
+        rt,
+        alloc,
+        run.script.as_bytes(),
+        files,
+        &mut sink,
+        is_planned,
+    );
+    expect_honest(rt, run, &end, &sink);
     assert!(rt; holds(&mut files, "p", Some(b"line\n")));
     end == Ok(End::Done)
 }
 
-// Runs a script both ways: a run that was refused memory is done when it is made again.
-fn run_both(rt: &impl Abort, alloc: Global, run: &Run) {
-    for is_planned in [true, false] {
-        if !is_done(rt, alloc, run, is_planned) {
-            assert!(rt; is_done(rt, alloc, run, is_planned), "{}", run.script);
-        }
+// Runs a script one way: a run that was refused memory is done when it is made again.
+fn run_it(rt: &impl Abort, alloc: Global, run: &Run, is_planned: bool) {
+    if !is_done(rt, alloc, run, is_planned) {
+        assert!(rt; is_done(rt, alloc, run, is_planned), "{}", run.script);
     }
+}
+
+// Runs a script both ways.
+fn run_both(rt: &impl Abort, alloc: Global, run: &Run) {
+    run_it(rt, alloc, run, true);
+    run_it(rt, alloc, run, false);
 }
 
 #[test]

@@ -1,19 +1,29 @@
 //! Scripts: each is read whole, or refused at a line of it.
-use cord_script::{RefusalKind, Script, parse};
+use cord_script::{Refusal, RefusalKind, Script, parse};
 use std::alloc::Global;
 use std::process::Abort;
 
-/// What a script says that has so many lines, each a statement.
-pub fn read(rt: &impl Abort, alloc: Global, script: &str, lines: usize) -> Script {
-    let read = match parse(alloc, script.as_bytes()) {
+// That a script of so many lines was refused for want of memory, at one of them.
+fn expect_refused(rt: &impl Abort, refusal: &Refusal, lines: usize) {
+    assert!(rt; refusal.kind == RefusalKind::NoMemory);
+    assert!(rt; refusal.kind.code() == 16);
+    assert!(rt; refusal.line >= 1 && refusal.line as usize <= lines);
+}
+
+// What a script says.
+fn parsed(rt: &impl Abort, alloc: Global, script: &[u8], lines: usize) -> Script {
+    match parse(alloc, script) {
         Ok(read) => read,
         Err(refusal) => {
-            assert!(rt; refusal.kind == RefusalKind::NoMemory);
-            assert!(rt; refusal.kind.code() == 16);
-            assert!(rt; refusal.line >= 1 && refusal.line as usize <= lines);
-            parse(alloc, script.as_bytes()).expect(rt, "memory")
+            expect_refused(rt, &refusal, lines);
+            parse(alloc, script).expect(rt, "memory")
         }
-    };
+    }
+}
+
+/// What a script says that has so many lines, each a statement.
+pub fn read(rt: &impl Abort, alloc: Global, script: &str, lines: usize) -> Script {
+    let read = parsed(rt, alloc, script.as_bytes(), lines);
     assert!(rt; read.statements().len() == lines);
     read
 }

@@ -1,6 +1,6 @@
 //! Tables of files: made, paths opened, and files read.
 use super::files::holds;
-use super::texts::{is, pattern};
+use super::texts::{expect_bytes, expect_text, pattern};
 use cord_core::{Cord, Node};
 use cord_file::{FileError, Sources};
 use cord_io::{CordError, Files, MemFiles, MemSink, Sink, Source, SourceId};
@@ -51,11 +51,6 @@ fn is_one(sources: &mut Sources<MemFiles>) -> bool {
         && sources.failures() == 0
 }
 
-// Whether "q" is entry 2 and at most "p" follows, as entry 3.
-fn is_one_or_two(sources: &mut Sources<MemFiles>) -> bool {
-    is_one(sources) || is_two(sources)
-}
-
 // Whether "q" is entry 2 and "p" entry 3, and none follows.
 fn is_two(sources: &mut Sources<MemFiles>) -> bool {
     reads(sources, 2, b"other")
@@ -64,93 +59,110 @@ fn is_two(sources: &mut Sources<MemFiles>) -> bool {
         && sources.failures() == 0
 }
 
-// Whether a cord is all of entry 3, of which nothing was read.
-fn is_entry(cord: &Cord) -> bool {
-    match cord.root() {
-        Some(node) => matches!(
-            node.as_ref(),
-            Node::Func {
-                id: SourceId(3),
-                start: 0,
-                len: 5
-            }
-        ),
-        None => false,
+// The source, the start and the length of a cord that is one function part.
+fn func_fields(cord: &Cord) -> Option<(SourceId, u64, u64)> {
+    match cord.root()?.as_ref() {
+        Node::Func { id, start, len } => Some((*id, *start, *len)),
+        _ => None,
     }
 }
 
-#[test]
-fn refused_new(rt: HostRuntime) {
-    let alloc = rt.alloc();
-    let mut sources = match Sources::new(alloc, two_files(&rt, alloc)) {
+// That "p" was opened, as entry 3.
+fn expect_two(rt: &impl Abort, sources: &mut Sources<MemFiles>) {
+    assert!(rt; is_two(sources));
+}
+
+// That a cord of "p" was refused for want of memory, when "p" was open or not.
+fn expect_refused(rt: &impl Abort, sources: &mut Sources<MemFiles>, error: FileError) {
+    assert!(rt; error == FileError::NoMemory, "another error");
+    assert!(rt; is_one(sources) || is_two(sources), "another entry");
+}
+
+// Makes a table over the two files, which come back where that is refused.
+fn table_over_two(rt: &impl Abort, alloc: Global) -> Sources<MemFiles> {
+    match Sources::new(alloc, two_files(rt, alloc)) {
         Ok(sources) => sources,
         Err((error, mut files)) => {
             assert!(rt; error == CordError::NoMemory);
             assert!(rt; holds(&mut files, "p", Some(b"hello")));
             assert!(rt; holds(&mut files, "q", Some(b"other")));
-            table(&rt, alloc, files)
+            table(rt, alloc, files)
         }
-    };
+    }
+}
+
+#[test]
+fn refused_new(rt: HostRuntime) {
+    let mut sources = table_over_two(&rt, rt.alloc());
     assert!(rt; sources.entry_len(SourceId(2)).is_none());
-    let opened = again!(&rt, sources.open(alloc, "p"));
+    let opened = again!(&rt, sources.open(rt.alloc(), "p"));
     assert!(rt; opened == (SourceId(2), 5));
     assert!(rt; reads(&mut sources, 2, b"hello"));
 }
 
+// Opens "p" where "q" alone is open.
+fn open_second(rt: &impl Abort, alloc: Global, sources: &mut Sources<MemFiles>) -> (SourceId, u64) {
+    match sources.open(alloc, "p") {
+        Ok(opened) => opened,
+        Err(error) => {
+            assert!(rt; error == FileError::NoMemory);
+            assert!(rt; is_one(sources), "an entry has changed");
+            sources.open(alloc, "p").expect(rt, "memory")
+        }
+    }
+}
+
 #[test]
 fn refused_open(rt: HostRuntime) {
-    let alloc = rt.alloc();
-    let mut sources = table_of_two(&rt, alloc);
-    let opened = refused!(
-        &rt,
-        sources.open(alloc, "p"),
-        FileError::NoMemory,
-        is_one(&mut sources)
-    );
+    let mut sources = table_of_two(&rt, rt.alloc());
+    let opened = open_second(&rt, rt.alloc(), &mut sources);
     assert!(rt; opened == (SourceId(3), 5));
-    assert!(rt; is_two(&mut sources));
+    expect_two(&rt, &mut sources);
 }
 
 #[test]
 fn refused_eager(rt: HostRuntime) {
     let alloc = rt.alloc();
     let mut sources = table_of_two(&rt, alloc);
-    let cord = refused!(
-        &rt,
-        sources.eager(alloc, "p"),
-        FileError::NoMemory,
-        is_one_or_two(&mut sources)
-    );
-    assert!(rt; is(&cord, b"hello"));
-    assert!(rt; is_two(&mut sources));
+    let cord = match sources.eager(alloc, "p") {
+        Ok(cord) => cord,
+        Err(error) => {
+            expect_refused(&rt, &mut sources, error);
+            sources.eager(alloc, "p").expect(&rt, "memory")
+        }
+    };
+    expect_text(&rt, &cord, b"hello");
+    expect_two(&rt, &mut sources);
 }
 
 #[test]
 fn refused_lazy(rt: HostRuntime) {
     let alloc = rt.alloc();
     let mut sources = table_of_two(&rt, alloc);
-    let cord = refused!(
-        &rt,
-        sources.lazy(alloc, "p"),
-        FileError::NoMemory,
-        is_one_or_two(&mut sources)
-    );
-    assert!(rt; is_entry(&cord));
-    assert!(rt; is_two(&mut sources));
+    let cord = match sources.lazy(alloc, "p") {
+        Ok(cord) => cord,
+        Err(error) => {
+            expect_refused(&rt, &mut sources, error);
+            sources.lazy(alloc, "p").expect(&rt, "memory")
+        }
+    };
+    assert!(rt; func_fields(&cord) == Some((SourceId(3), 0, 5)));
+    expect_two(&rt, &mut sources);
 }
 
 #[test]
 fn refused_from_file(rt: HostRuntime) {
     let alloc = rt.alloc();
     let mut sources = table_of_two(&rt, alloc);
-    let cord = refused!(
-        &rt,
-        sources.from_file(alloc, "p"),
-        FileError::NoMemory,
-        is_one_or_two(&mut sources)
-    );
-    assert!(rt; is(&cord, b"hello"));
-    assert!(rt; is_two(&mut sources));
+    let cord = match sources.from_file(alloc, "p") {
+        Ok(cord) => cord,
+        Err(error) => {
+            expect_refused(&rt, &mut sources, error);
+            sources.from_file(alloc, "p").expect(&rt, "memory")
+        }
+    };
+    expect_text(&rt, &cord, b"hello");
+    expect_two(&rt, &mut sources);
 }
 
 // Puts the file "f", of which a read keeps each block for which it finds memory.
@@ -164,28 +176,45 @@ fn put_file(
     Ok(())
 }
 
+// That a put of the file "f" failed, since no memory was found to make its cord, or to take more than a front part of it.
+fn expect_part(rt: &impl Abort, sink: &MemSink, error: FileError, bytes: &[u8]) {
+    let is_unmade = error == FileError::NoMemory && sink.bytes().is_empty();
+    assert!(rt; is_unmade || sink.failures() == 1);
+    assert!(rt; bytes.starts_with(sink.bytes()));
+}
+
+// Puts all of the file "f".
+fn put_all(rt: &impl Abort, alloc: Global, sources: &mut Sources<MemFiles>, bytes: &[u8]) {
+    let mut sink = MemSink::new(alloc);
+    assert!(rt; put_file(alloc, sources, &mut sink) == Ok(()));
+    expect_bytes(rt, sink.bytes(), bytes);
+}
+
 // Puts the file "f" of these bytes. No read is refused; a sink that found no memory has taken a front part, and another one takes
 // all.
 fn expect_put(rt: &impl Abort, alloc: Global, sources: &mut Sources<MemFiles>, bytes: &[u8]) {
     let mut sink = MemSink::new(alloc);
-    if let Err(error) = put_file(alloc, sources, &mut sink) {
-        let is_unmade = error == FileError::NoMemory && sink.bytes().is_empty();
-        assert!(rt; is_unmade || sink.failures() == 1);
-        assert!(rt; bytes.starts_with(sink.bytes()));
-        sink = MemSink::new(alloc);
-        assert!(rt; put_file(alloc, sources, &mut sink) == Ok(()));
+    match put_file(alloc, sources, &mut sink) {
+        Ok(()) => expect_bytes(rt, sink.bytes(), bytes),
+        Err(error) => {
+            expect_part(rt, &sink, error, bytes);
+            put_all(rt, alloc, sources, bytes);
+        }
     }
-    assert!(rt; sink.bytes() == bytes);
     assert!(rt; sources.failures() == 0);
+}
+
+// A table over the file "f" of these bytes.
+fn table_of(rt: &impl Abort, alloc: Global, bytes: &[u8]) -> Sources<MemFiles> {
+    let mut files = MemFiles::new(alloc);
+    again!(rt, files.add(alloc, "f", bytes));
+    table(rt, alloc, files)
 }
 
 #[test]
 fn refused_blocks(rt: HostRuntime) {
-    let alloc = rt.alloc();
-    let bytes = pattern(&rt, alloc, 1_500);
-    let mut files = MemFiles::new(alloc);
-    again!(&rt, files.add(alloc, "f", &bytes));
-    let mut sources = table(&rt, alloc, files);
-    expect_put(&rt, alloc, &mut sources, &bytes);
-    expect_put(&rt, alloc, &mut sources, &bytes);
+    let bytes = pattern(&rt, rt.alloc(), 1_500);
+    let mut sources = table_of(&rt, rt.alloc(), &bytes);
+    expect_put(&rt, rt.alloc(), &mut sources, &bytes);
+    expect_put(&rt, rt.alloc(), &mut sources, &bytes);
 }

@@ -3,15 +3,72 @@ ghost use Rattle.std.specs.Prelude.{◌≡◌, length};
 ghost use Rattle.cord_node.specs.Tree.{IsSound};
 
 use cord_core::{Cord, Node};
+use cord_io::CordError;
 use std::alloc::Global;
 use std::process::Abort;
-use std::rc::Rc;
+use std::rc::{Rc, RcSlice};
 
 /// So many bytes of the pattern.
 pub fn pattern(rt: &impl Abort, alloc: Global, count: usize) -> Vec<u8>
     ensures { length result.items ≡ count }
 {
     again!(rt, crate::pattern(alloc, count))
+}
+
+/// A shared slice of these bytes.
+pub fn shared_of(rt: &impl Abort, alloc: Global, bytes: &[u8]) -> RcSlice<u8> {
+    again!(rt, RcSlice::from_slice(alloc, bytes))
+}
+
+/// A cord of one leaf. Like what follows it promises nothing of the cord, so that tests have little to prove.
+pub fn cord_of(rt: &impl Abort, alloc: Global, text: &[u8]) -> Cord {
+    again!(rt, Cord::from_bytes(alloc, text))
+}
+
+/// A cord of so many times a byte.
+pub fn run_of(rt: &impl Abort, alloc: Global, byte: u8, len: u64) -> Cord {
+    again!(rt, Cord::chars(alloc, byte, len))
+}
+
+/// The cord that one of two equal calls made: at most one of them was refused, and that for want of memory.
+pub fn made(
+    rt: &impl Abort,
+    first: Result<Cord, CordError>,
+    second: Result<Cord, CordError>,
+) -> Cord {
+    match first {
+        Ok(cord) => cord,
+        Err(error) => {
+            expect_no_memory(rt, error);
+            second.expect(rt, "memory")
+        }
+    }
+}
+
+/// Whether a call was refused, which it was for want of memory alone.
+pub fn is_refused(rt: &impl Abort, answer: Result<(), CordError>) -> bool {
+    match answer {
+        Ok(()) => false,
+        Err(error) => {
+            expect_no_memory(rt, error);
+            true
+        }
+    }
+}
+
+/// That a call was refused for want of memory.
+pub fn expect_no_memory(rt: &impl Abort, error: CordError) {
+    assert!(rt; error == CordError::NoMemory, "another error");
+}
+
+/// That bytes are these.
+pub fn expect_bytes(rt: &impl Abort, bytes: &[u8], text: &[u8]) {
+    assert!(rt; bytes == text, "the bytes are not {text:?}");
+}
+
+/// That a cord of leaves and runs has this text.
+pub fn expect_text(rt: &impl Abort, cord: &Cord, text: &[u8]) {
+    assert!(rt; is(cord, text), "the text is not {text:?}");
 }
 
 /// Whether a cord of leaves and runs has this text.
