@@ -1,5 +1,5 @@
 -- Texts over no files: their bytes are the same over every source.
-use Rattle.std.specs.Prelude.{◌≡◌, ℕ, List, [], length, Option}
+use Rattle.std.specs.Prelude.{◌≡◌, ℕ, List, [], length, Option, Some}
 use Rattle.cord_io.specs.Table.{Table, Lengths}
 use Rattle.cord_node.specs.declared.Node.{Node}
 use Rattle.cord_node.specs.Tree.{Cell}
@@ -8,9 +8,13 @@ use Rattle.cord_core.specs.Cord.{text_len, IsCord, bytes_of}
 use Rattle.cord_core.specs.Equations.{HasText}
 use Rattle.cord_ec.specs.Grown.{bytes_over}
 
--- the table of no entries
+-- a table whose entries are all empty
 abbrev pub no_table : Table
 no_table id = []
+
+-- the lengths of its entries
+abbrev pub no_lengths : Lengths
+no_lengths id = Some 0
 
 -- the bytes of a cord over no files
 abbrev pub plain_bytes : Option Node → List ℕ

@@ -1,16 +1,16 @@
-// The source of no files.
+// The source of texts over no files.
 use cord_io::{ReadFault, Source, SourceId};
 
-/// A source that has no entry: what a cord over no files is read beside.
+/// A source whose entries are all empty: what a cord over no files is read beside.
 #[derive(Clone, Copy)]
 pub struct NoSource;
 
 impl Source for NoSource {
-    ghost use Rattle.std.specs.Prelude.{None, ⊤};
+    ghost use Rattle.std.specs.Prelude.{⊤};
     ghost use Rattle.std.proofs.Common.{refl};
-    ghost use Rattle.cord.specs.Plain.{no_table};
+    ghost use Rattle.cord.specs.Plain.{no_lengths, no_table};
 
-    ghost lengths = { λ _ _. None };
+    ghost lengths = { λ _. no_lengths };
 
     ghost keeps = { λ _ _. ⊤ };
 
@@ -25,10 +25,10 @@ impl Source for NoSource {
     }
 
     fn entry_len(&self, _id: SourceId) -> Option<u64> {
-        None
+        Some(0)
     }
 
     fn read(&mut self, _id: SourceId, _start: u64, _out: &mut [u8]) -> Result<(), ReadFault> {
-        unreachable!()
+        Ok(())
     }
 }

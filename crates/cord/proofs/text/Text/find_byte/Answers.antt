@@ -1,10 +1,11 @@
-use Rattle.std.proofs.Common.{None, ℕ, List, [], ◌∷◌, ◌∙◌, ap}
+use Rattle.std.proofs.Common.{ℕ, List, [], ◌∷◌, ◌∙◌, ap}
 use Rattle.cord_core.specs.Texts.{first}
+use Rattle.cord.specs.Plain.{no_lengths}
 use Rattle.cord.proofs.Found.{found_from, found_byte_inside}
 use Rattle.cord.proofs.text.Text.find_byte.Goals as goal
 
 pub chr-requires-clause-fits : goal.chr-requires-clause-fits
-chr-requires-clause-fits c = c.self.invariant.over.fits (λ _. None)
+chr-requires-clause-fits c = c.self.invariant.over.fits no_lengths
 
 pub returns-clause-first : goal.returns-clause-first
 returns-clause-first c = c.in-Ok.ensures.first [] tt ∙ ap (λ (x : List ℕ). first x c.args.start (c.args.byte ∷ [])) c.self.view_is

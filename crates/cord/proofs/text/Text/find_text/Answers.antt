@@ -1,14 +1,14 @@
-use Rattle.std.proofs.Common.{None, ℕ, List, [], ◌∙◌, ap}
+use Rattle.std.proofs.Common.{ℕ, List, [], ◌∙◌, ap}
 use Rattle.cord_core.specs.Texts.{first}
-use Rattle.cord.specs.Plain.{plain_bytes}
+use Rattle.cord.specs.Plain.{no_lengths, plain_bytes}
 use Rattle.cord.proofs.Found.{found_from, found_inside}
 use Rattle.cord.proofs.text.Text.find_text.Goals as goal
 
 pub str-requires-clause-fits : goal.str-requires-clause-fits
-str-requires-clause-fits c = c.self.invariant.over.fits (λ _. None)
+str-requires-clause-fits c = c.self.invariant.over.fits no_lengths
 
 pub str-requires-clause-pattern_fits : goal.str-requires-clause-pattern_fits
-str-requires-clause-pattern_fits c = c.pattern.invariant.over.fits (λ _. None)
+str-requires-clause-pattern_fits c = c.pattern.invariant.over.fits no_lengths
 
 pub returns-clause-first : goal.returns-clause-first
 returns-clause-first c =

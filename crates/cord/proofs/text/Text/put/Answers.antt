@@ -1,10 +1,11 @@
-use Rattle.std.proofs.Common.{None, ℕ, List, [], ◌++◌, ◌∙◌, ap, subst}
+use Rattle.std.proofs.Common.{ℕ, List, [], ◌++◌, ◌∙◌, ap, subst}
 use Rattle.cord_iter.specs.Taking.{IsFrontOf, Takes}
+use Rattle.cord.specs.Plain.{no_lengths}
 use Rattle.cord.proofs.Results.{on_err}
 use Rattle.cord.proofs.text.Text.put.Goals as goal
 
 pub put-requires : goal.put-requires
-put-requires g c = record { fits = c.self.invariant.over.fits (λ _. None) }
+put-requires g c = record { fits = c.self.invariant.over.fits no_lengths }
 
 pub returns-in_err-put-clause-prefix : goal.returns-in_err-put-clause-prefix
 returns-in_err-put-clause-prefix g c =

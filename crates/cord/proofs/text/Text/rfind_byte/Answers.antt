@@ -1,8 +1,9 @@
-use Rattle.std.proofs.Common.{None, ◌≡◌, ℕ, ◌-◌, ◌<◌, List, [], length, ◌∙◌, sym, ap, arith}
+use Rattle.std.proofs.Common.{◌≡◌, ℕ, ◌-◌, ◌<◌, List, [], length, ◌∙◌, sym, ap, arith}
 use Rattle.std.specs.Prelude.{min}
 use Rattle.std.proofs.lemmas.Grind.{common_steps}
 use Rattle.cord_core.specs.Texts.{last}
 use Rattle.cord.specs.Places.{last_before}
+use Rattle.cord.specs.Plain.{no_lengths}
 use Rattle.cord.proofs.Found.{last_clipped, last_up_to, found_before, last_found_inside}
 use Rattle.cord.proofs.text.Text.rfind_byte.Goals as goal
 
@@ -12,7 +13,7 @@ returns-then-end-eq0-clause-last c =
     sym (ap (λ (n : ℕ). last_before c.args.self.now n c.args.byte) none) ∙ last_clipped c.args.self.now c.args.byte c.args.end
 
 pub rchr-requires-clause-fits : goal.rchr-requires-clause-fits
-rchr-requires-clause-fits c = c.self.invariant.over.fits (λ _. None)
+rchr-requires-clause-fits c = c.self.invariant.over.fits no_lengths
 
 pub returns-clause-last : goal.returns-clause-last
 returns-clause-last c =
