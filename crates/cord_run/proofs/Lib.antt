@@ -29,3 +29,4 @@ pub mod Sourced
 pub mod Extending
 pub mod Appended
 pub mod Wrote
+pub mod Standing

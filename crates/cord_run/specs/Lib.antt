@@ -15,3 +15,5 @@ pub mod Finding
 pub mod Keeping
 pub mod Extending
 pub mod Appends
+pub mod Places
+pub mod Counting

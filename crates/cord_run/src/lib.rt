@@ -4,6 +4,8 @@
 mod appending;
 mod checks;
 mod control;
+mod counted;
+mod counting;
 mod ending;
 mod extensibles;
 mod files;

@@ -194,8 +194,8 @@ fn told_length(store: &Store, name: &[u8]) -> i64
     store.length_of(name) as i64
 }
 
-// A sum that an i64 can be.
-fn sum(left: i64, right: i64) -> Result<i64, FaultKind>
+/// A sum that an i64 can be.
+pub(crate) fn sum(left: i64, right: i64) -> Result<i64, FaultKind>
     ensures { result ≡ in_i64 (left +ℤ right) }
 {
     match left.checked_add(right) {
@@ -204,8 +204,8 @@ fn sum(left: i64, right: i64) -> Result<i64, FaultKind>
     }
 }
 
-// A difference that an i64 can be.
-fn difference(left: i64, right: i64) -> Result<i64, FaultKind>
+/// A difference that an i64 can be.
+pub(crate) fn difference(left: i64, right: i64) -> Result<i64, FaultKind>
     ensures { result ≡ in_i64 (left -ℤ right) }
 {
     match left.checked_sub(right) {

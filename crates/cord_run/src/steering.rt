@@ -62,8 +62,8 @@ pub(crate) fn steer(
     }
 }
 
-// Whether a relation holds of two numbers.
-fn compares(relation: Relation, left: i64, right: i64) -> bool
+/// Whether a relation holds of two numbers.
+pub(crate) fn compares(relation: Relation, left: i64, right: i64) -> bool
     ensures { result ≡ compares relation left right }
 {
     match relation {

@@ -1,10 +1,11 @@
 // What the names of a run of a plan hold.
-ghost use Rattle.std.specs.Prelude.{◌≡◌, ◌<◌, ℤ, pos, true, [], length, IfOk, IfSome, IfNone, None, Some};
+ghost use Rattle.std.specs.Prelude.{◌≡◌, ◌<◌, ℕ, ℤ, List, pos, true, [], length, IfOk, IfSome, IfNone, None, Some};
 ghost use Rattle.cord_run.specs.Held.{are_distinct, content_in, cord_in, extensible_in, length_in, names_in, number_in, operand_in, HasContent, HasExtensible, HasNoEntry, HasNumber, IsEntryAt, SameEntries};
+ghost use Rattle.cord_run.specs.Places.{Begin};
 
 use cord_core::Cord;
 use cord_ec::ExtCord;
-use cord_script::{Number, is_same};
+use cord_script::{Name, Number, is_same};
 use std::alloc::{AllocError, Global};
 use std::mem::replace;
 
@@ -109,6 +110,21 @@ fn place_of(entries: &[Entry], name: &[u8]) -> Option<usize>
     None
 }
 
+// Whether the first entries are those of these names, in this order.
+fn begin(entries: &[Entry], names: &[Name]) -> bool
+    ensures { result ≡ true → Begin names.now (names_in entries.now) }
+{
+    if entries.len() < names.len() {
+        return false;
+    }
+    for (place, name) in names.iter().enumerate() {
+        if !is_same(name.as_slice(), entries[place].name.as_slice()) {
+            return false;
+        }
+    }
+    true
+}
+
 impl Store {
     /// No name has been assigned.
     pub(crate) fn empty(alloc: Global) -> Self
@@ -176,6 +192,30 @@ impl Store {
         }
     }
 
+    /// Whether the first entries are those of these names, in this order.
+    pub(crate) fn begins(&self, names: &[Name]) -> bool
+        ensures { result ≡ true → Begin names.now (names_in self.now.entries.items) }
+    {
+        begin(self.entries.as_slice(), names)
+    }
+
+    /// The number of the entry at a place.
+    pub(crate) fn number_at(&self, place: usize) -> i64
+        requires { place < length self.now.entries.items }
+        ensures { (name : List ℕ) → IsEntryAt self.now.entries.items name place → result ≡ number_in self.now.entries.items name }
+    {
+        self.entries[place].number
+    }
+
+    /// Gives the name of the entry at a place a number.
+    pub(crate) fn set_number_at(&mut self, place: usize, number: i64)
+        requires { place < length self.old.entries.items }
+        ensures set { (name : List ℕ) → IsEntryAt self.old.entries.items name place → HasNumber name number self.old.entries.items self.new.entries.items }
+        ensures names { names_in self.new.entries.items ≡ names_in self.old.entries.items }
+    {
+        set_number(&mut self.entries, place, number);
+    }
+
     /// Gives a name of a cord its cord, or a length alone.
     pub(crate) fn assign(
         &mut self,
@@ -200,7 +240,7 @@ impl Store {
         ensures { IfOk result (λ _. HasNumber name.now number self.old.entries.items self.new.entries.items) }
     {
         let place = place_for(alloc, &mut self.entries, &mut self.guesses, name)?;
-        set_number(&mut self.entries, name, place, number);
+        set_number(&mut self.entries, place, number);
         Ok(())
     }
 
@@ -242,14 +282,13 @@ fn set_content(entries: &mut [Entry], name: &[u8], place: usize, content: Conten
     entry.content = content;
 }
 
-// Puts another number into the entry of a name.
-fn set_number(entries: &mut [Entry], name: &[u8], place: usize, number: i64)
-    requires within { place < length entries.old }
-    requires place { IsEntryAt entries.old name.now place }
-    ensures set { HasNumber name.now number entries.old entries.new }
+// Puts another number into the entry at a place.
+fn set_number(entries: &mut [Entry], place: usize, number: i64)
+    requires { place < length entries.old }
+    ensures set { (name : List ℕ) → IsEntryAt entries.old name place → HasNumber name number entries.old entries.new }
+    ensures names { names_in entries.new ≡ names_in entries.old }
     ensures distinct { are_distinct (names_in entries.old) ≡ true → are_distinct (names_in entries.new) ≡ true }
 {
-    let _ = name;
     let entry = &mut entries[place];
     entry.number = number;
 }

@@ -155,7 +155,7 @@ pub(super) const SEARCHES: [Row; 12] = [
     ),
 ];
 
-pub(super) const BLOCKS: [Row; 8] = [
+pub(super) const BLOCKS: [Row; 10] = [
     (
         "doubled-thirty-times",
         r#"let x "ab" ; repeat 30 ; cat x x x ; end ; len n x ; fetch c x 2147483647 ; sprintf z "%d %c" n c ; put z"#,
@@ -193,6 +193,18 @@ pub(super) const BLOCKS: [Row; 8] = [
         b"a",
     ),
     (
+        "numbers-turn-by-turn",
+        r#"set a 0 ; repeat 3 ; add a a 2 ; if a gt 3 ; sub a a 5 ; else ; add a a 1 ; end ; end ; sprintf t "%d" a ; put t"#,
+        End::Done,
+        b"3",
+    ),
+    (
+        "numerals-of-64-bits",
+        r#"set a 9223372036854775807 ; repeat 2 ; sub a a 4294967296 ; end ; sprintf t "%d" a ; put t"#,
+        End::Done,
+        b"9223372028264841215",
+    ),
+    (
         "turns-one-too-many",
         "repeat 1000001 ; end",
         End::Fault(1, TooManyTurns),
@@ -201,7 +213,19 @@ pub(super) const BLOCKS: [Row; 8] = [
     ("turns-at-the-limit", "repeat 1000000 ; end", End::Done, b""),
 ];
 
-pub(super) const FAULTS: [Row; 15] = [
+pub(super) const FAULTS: [Row; 17] = [
+    (
+        "sum-that-overflows-in-a-turn",
+        r#"let x "b" ; put x ; set a 9223372036854775800 ; repeat 9 ; add a a 1 ; end"#,
+        End::Fault(5, Overflow),
+        b"b",
+    ),
+    (
+        "negative-count-in-a-turn",
+        "set n 2 ; repeat 3 ; repeat n ; end ; sub n n 2 ; end",
+        End::Fault(3, Negative),
+        b"",
+    ),
     (
         "fetch-past-end",
         r#"let x "ab" ; put x ; fetch n x 2"#,
