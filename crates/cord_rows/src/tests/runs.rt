@@ -19,12 +19,38 @@ const HELLO: &[u8] = b"let x \"hello\"\nput x\n";
 fn lines(rt: &(impl AllocGlobal + Abort), shown: &str) -> Vec<u8> {
     let mut script = Vec::new(rt.alloc());
     for line in shown.split(" ; ") {
-        script
-            .extend_from_slice(line.as_bytes())
-            .expect(rt, "no memory");
-        script.push(b'\n').expect(rt, "no memory");
+        add(rt, &mut script, line.as_bytes());
+        add(rt, &mut script, b"\n");
     }
     script
+}
+
+// Runs a script by its plan, and compares the end and what is written.
+fn expect_planned(
+    rt: &(impl AllocGlobal + Abort),
+    name: &str,
+    script: &[u8],
+    end: End,
+    written: &[u8],
+) {
+    let mut sink = MemSink::new(rt.alloc());
+    let result = run_text(rt.alloc(), script, MemFiles::new(rt.alloc()), &mut sink).0;
+    assert!(rt; result == Ok(end), "{name} planned");
+    assert!(rt; sink.bytes() == written, "{name} planned");
+}
+
+// Runs a script without a plan, and compares the end and what is written.
+fn expect_unplanned(
+    rt: &(impl AllocGlobal + Abort),
+    name: &str,
+    script: &[u8],
+    end: End,
+    written: &[u8],
+) {
+    let mut sink = MemSink::new(rt.alloc());
+    let result = run_unplanned(rt.alloc(), script, MemFiles::new(rt.alloc()), &mut sink).0;
+    assert!(rt; result == Ok(end), "{name} unplanned");
+    assert!(rt; sink.bytes() == written, "{name} unplanned");
 }
 
 // Runs a script both ways, and compares the end and what is written.
@@ -35,18 +61,30 @@ fn expect_end(
     end: End,
     written: &[u8],
 ) {
-    let alloc = rt.alloc();
-    let mut planned = MemSink::new(alloc);
-    let (result, _) = run_text(alloc, script, MemFiles::new(alloc), &mut planned);
-    assert!(rt; result == Ok(end), "{name} planned");
-    assert!(rt; planned.bytes() == written, "{name} planned");
-    let mut unplanned = MemSink::new(alloc);
-    let (result, _) = run_unplanned(alloc, script, MemFiles::new(alloc), &mut unplanned);
-    assert!(rt; result == Ok(end), "{name} unplanned");
-    assert!(rt; unplanned.bytes() == written, "{name} unplanned");
+    expect_planned(rt, name, script, end, written);
+    expect_unplanned(rt, name, script, end, written);
 }
 
-// Runs a script that is refused, both ways; nothing is written or finished.
+// Runs a script that is refused, by its plan or without one; nothing is written or finished.
+fn expect_refusal(
+    rt: &(impl AllocGlobal + Abort),
+    name: &str,
+    script: &[u8],
+    refusal: Refusal,
+    is_planned: bool,
+) {
+    let files = MemFiles::new(rt.alloc());
+    let mut sink = FuseSink::new(MemSink::new(rt.alloc()), 0, 1);
+    let result = if is_planned {
+        run_text(rt.alloc(), script, files, &mut sink).0
+    } else {
+        run_unplanned(rt.alloc(), script, files, &mut sink).0
+    };
+    assert!(rt; result == Err(refusal), "{name}");
+    assert!(rt; sink.failures() == 0, "{name}");
+}
+
+// Runs a script that is refused, both ways.
 fn expect_refused(
     rt: &(impl AllocGlobal + Abort),
     name: &str,
@@ -54,14 +92,8 @@ fn expect_refused(
     line: u32,
     kind: RefusalKind,
 ) {
-    let alloc = rt.alloc();
-    let refusal = Refusal { line, kind };
-    let mut sink = FuseSink::new(MemSink::new(alloc), 0, 1);
-    let (result, _) = run_text(alloc, script, MemFiles::new(alloc), &mut sink);
-    assert!(rt; result == Err(refusal), "{name} planned");
-    let (result, _) = run_unplanned(alloc, script, MemFiles::new(alloc), &mut sink);
-    assert!(rt; result == Err(refusal), "{name} unplanned");
-    assert!(rt; sink.failures() == 0, "{name}");
+    expect_refusal(rt, name, script, Refusal { line, kind }, true);
+    expect_refusal(rt, name, script, Refusal { line, kind }, false);
 }
 
 // A text, and so many copies of a byte after it.
@@ -78,16 +110,19 @@ fn numbered(rt: &(impl AllocGlobal + Abort), count: usize) -> Vec<u8> {
     bytes
 }
 
+// Appends a text.
+fn add(rt: &impl Abort, script: &mut Vec<u8>, text: &[u8]) {
+    script.extend_from_slice(text).expect(rt, "no memory");
+}
+
 // A line `let` for each of so many names of two letters.
 fn names(rt: &(impl AllocGlobal + Abort), count: u16) -> Vec<u8> {
     let mut script = Vec::new(rt.alloc());
     for n in 0..count {
         let name = [b'a' + (n / 16 % 26) as u8, b'a' + (n % 16) as u8];
-        script.extend_from_slice(b"let ").expect(rt, "no memory");
-        script.extend_from_slice(&name).expect(rt, "no memory");
-        script
-            .extend_from_slice(b" \"a\"\n")
-            .expect(rt, "no memory");
+        add(rt, &mut script, b"let ");
+        add(rt, &mut script, &name);
+        add(rt, &mut script, b" \"a\"\n");
     }
     script
 }
@@ -111,23 +146,40 @@ fn names_of_one_slot(rt: HostRuntime) {
     let more =
         "set aP 10 ; set b1 20 ; set n9 9 ; add aP aP 1 ; sprintf z \"%d %d %d %d\" aP b1 n1 n9 ; put z";
     let mut script = lines(&rt, few);
-    script
-        .extend_from_slice(lines(&rt, more).as_slice())
-        .expect(&rt, "no memory");
+    add(&rt, &mut script, &lines(&rt, more));
     expect_end(&rt, "names-of-one-slot", &script, End::Done, b"11 20 1 9");
 }
 
-// Runs a script over a sink that passes `k` calls of at most 3 bytes, both ways.
-fn expect_fused(rt: &(impl AllocGlobal + Abort), script: &[u8], k: u64, end: End, written: &[u8]) {
-    let alloc = rt.alloc();
-    let mut planned = FuseSink::new(MemSink::new(alloc), k, 3);
-    let (result, _) = run_text(alloc, script, MemFiles::new(alloc), &mut planned);
+// Runs a script over a sink that passes so many calls of at most 3 bytes, by its plan or without one.
+fn expect_fused_way(
+    rt: &(impl AllocGlobal + Abort),
+    script: &[u8],
+    passes: u64,
+    is_planned: bool,
+    end: End,
+    written: &[u8],
+) {
+    let files = MemFiles::new(rt.alloc());
+    let mut sink = FuseSink::new(MemSink::new(rt.alloc()), passes, 3);
+    let result = if is_planned {
+        run_text(rt.alloc(), script, files, &mut sink).0
+    } else {
+        run_unplanned(rt.alloc(), script, files, &mut sink).0
+    };
     assert!(rt; result == Ok(end));
-    assert!(rt; planned.inner().bytes() == written);
-    let mut unplanned = FuseSink::new(MemSink::new(alloc), k, 3);
-    let (result, _) = run_unplanned(alloc, script, MemFiles::new(alloc), &mut unplanned);
-    assert!(rt; result == Ok(end));
-    assert!(rt; unplanned.inner().bytes() == written);
+    assert!(rt; sink.inner().bytes() == written);
+}
+
+// The same both ways.
+fn expect_fused(
+    rt: &(impl AllocGlobal + Abort),
+    script: &[u8],
+    passes: u64,
+    end: End,
+    written: &[u8],
+) {
+    expect_fused_way(rt, script, passes, true, end, written);
+    expect_fused_way(rt, script, passes, false, end, written);
 }
 
 #[test]
@@ -157,31 +209,35 @@ fn fuse_sink_fault_and_finish_fails(rt: HostRuntime) {
 // Where writing failed there is no finish.
 #[test]
 fn write_failed_is_not_finished(rt: HostRuntime) {
-    let alloc = rt.alloc();
-    let mut sink = FuseSink::new(MemSink::new(alloc), 0, 3);
-    let (result, _) = run_text(alloc, HELLO, MemFiles::new(alloc), &mut sink);
+    let files = MemFiles::new(rt.alloc());
+    let mut sink = FuseSink::new(MemSink::new(rt.alloc()), 0, 3);
+    let result = run_text(rt.alloc(), HELLO, files, &mut sink).0;
     assert!(rt; result == Ok(End::WriteFailed(2)));
     assert!(rt; sink.failures() == 1);
+}
+
+// Appends 200 lines, which make substrings of a text of two gigabytes.
+fn add_substrings(rt: &(impl AllocGlobal + Abort), script: &mut Vec<u8>) {
+    for k in 1..=200 {
+        let line = format!(in rt.alloc(); "substr y{k} x {k} 2147483000\n").expect(rt, "no memory");
+        add(rt, script, line.as_bytes());
+    }
+}
+
+// Appends 200 lines, which fetch the first byte of each.
+fn add_fetches(rt: &(impl AllocGlobal + Abort), script: &mut Vec<u8>) {
+    for k in 1..=200 {
+        let line = format!(in rt.alloc(); "fetch n y{k} 0\n").expect(rt, "no memory");
+        add(rt, script, line.as_bytes());
+    }
 }
 
 // A text of two gigabytes, 200 substrings of it, and the first byte of each.
 fn substrings(rt: &(impl AllocGlobal + Abort)) -> Vec<u8> {
     let mut script = lines(rt, "let x \"ab\" ; repeat 30 ; cat x x x ; end");
-    for k in 1..=200 {
-        let line = format!(in rt.alloc(); "substr y{k} x {k} 2147483000\n").expect(rt, "no memory");
-        script
-            .extend_from_slice(line.as_bytes())
-            .expect(rt, "no memory");
-    }
-    for k in 1..=200 {
-        let line = format!(in rt.alloc(); "fetch n y{k} 0\n").expect(rt, "no memory");
-        script
-            .extend_from_slice(line.as_bytes())
-            .expect(rt, "no memory");
-    }
-    script
-        .extend_from_slice(b"sprintf z \"%d\" n\nput z\n")
-        .expect(rt, "no memory");
+    add_substrings(rt, &mut script);
+    add_fetches(rt, &mut script);
+    add(rt, &mut script, b"sprintf z \"%d\" n\nput z\n");
     script
 }
 

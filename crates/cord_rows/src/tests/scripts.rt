@@ -97,27 +97,40 @@ fn empty_script(rt: HostRuntime) {
     expect_count(&rt, b"", 0);
 }
 
+// The script of these bytes.
+fn read(rt: &(impl AllocGlobal + Abort), script: &[u8]) -> Script {
+    match parse(rt.alloc(), script) {
+        Ok(script) => script,
+        Err(_) => panic!(rt; "refused"),
+    }
+}
+
+// Whether a statement is line 1, which lets `x` be the text `hello`.
+fn is_let(statement: &Statement) -> bool {
+    match statement {
+        Statement::Let { line, target, text } => {
+            *line == 1
+                && target.as_slice() == b"x".as_slice()
+                && text.as_slice() == b"hello".as_slice()
+        }
+        _ => false,
+    }
+}
+
+// Whether a statement is line 2, which puts `x`.
+fn is_put(statement: &Statement) -> bool {
+    match statement {
+        Statement::Put { line, operand } => *line == 2 && operand.as_slice() == b"x".as_slice(),
+        _ => false,
+    }
+}
+
 #[test]
 fn hello(rt: HostRuntime) {
-    match parse(rt.alloc(), b"let x \"hello\"\nput x") {
-        Err(_) => assert!(rt; false),
-        Ok(script) => match script.statements() {
-            [
-                Statement::Let { line, target, text },
-                Statement::Put {
-                    line: second,
-                    operand,
-                },
-            ] => {
-                assert!(rt; *line == 1);
-                assert!(rt; target.as_slice() == b"x".as_slice());
-                assert!(rt; text.as_slice() == b"hello".as_slice());
-                assert!(rt; *second == 2);
-                assert!(rt; operand.as_slice() == b"x".as_slice());
-            }
-            _ => assert!(rt; false),
-        },
-    }
+    let script = read(&rt, b"let x \"hello\"\nput x");
+    assert!(rt; script.statements().len() == 2);
+    assert!(rt; script.statements().first().is_some_and(is_let));
+    assert!(rt; script.statements().last().is_some_and(is_put));
 }
 
 #[test]
@@ -389,17 +402,30 @@ fn kinds_have_codes_and_texts(rt: HostRuntime) {
     assert!(rt; RefusalKind::ElseAlone.text() == "else without if");
 }
 
+fn name_of(rt: &impl Abort, alloc: Global, text: &[u8]) -> Name {
+    Name::of(alloc, text).expect(rt, "no memory")
+}
+
+// That a name is `x`.
+fn expect_x(rt: &impl Abort, name: &Name) {
+    assert!(rt; name.as_slice() == b"x".as_slice());
+}
+
+// The names of one that is `x`.
+fn one_name(rt: &impl Abort, alloc: Global) -> Names {
+    let mut list = Vec::new(alloc);
+    list.push(name_of(rt, alloc, b"x")).expect(rt, "no memory");
+    Names::of(list)
+}
+
 #[test]
 fn names_give_their_parts_back(rt: HostRuntime) {
-    let name = Name::of(rt.alloc(), b"x").expect(&rt, "no memory");
-    assert!(rt; name.as_slice() == b"x".as_slice());
-    let mut list = Vec::new(rt.alloc());
-    list.push(name).expect(&rt, "no memory");
-    let names = Names::of(list);
+    expect_x(&rt, &name_of(&rt, rt.alloc(), b"x"));
+    let names = one_name(&rt, rt.alloc());
     assert!(rt; names.as_slice().len() == 1);
-    for name in names.into_vec() {
-        assert!(rt; name.as_slice() == b"x".as_slice());
-    }
+    let list = names.into_vec();
+    assert!(rt; list.len() == 1);
+    expect_x(&rt, &list[0]);
 }
 
 #[test]
@@ -411,12 +437,17 @@ fn texts_and_paths_give_their_parts_back(rt: HostRuntime) {
     assert!(rt; path.into_string().as_str() == "a/b");
 }
 
+// The arguments of one that is the number -3.
+fn one_argument(rt: &impl Abort, alloc: Global) -> Arguments {
+    let mut list = Vec::new(alloc);
+    let number = Argument::Number(Number::Numeral(-3));
+    list.push(number).expect(rt, "no memory");
+    Arguments::of(list)
+}
+
 #[test]
 fn arguments_and_scripts_give_their_parts_back(rt: HostRuntime) {
-    let mut list = Vec::new(rt.alloc());
-    let number = Argument::Number(Number::Numeral(-3));
-    list.push(number).expect(&rt, "no memory");
-    let arguments = Arguments::of(list);
+    let arguments = one_argument(&rt, rt.alloc());
     assert!(rt; arguments.as_slice().len() == 1);
     assert!(rt; arguments.into_vec().len() == 1);
     let script = Script::of(Vec::new(rt.alloc()));

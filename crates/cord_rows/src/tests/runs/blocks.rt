@@ -21,12 +21,15 @@ fn choose(line: u32, left: i64, relation: Relation, right: i64) -> Statement {
     }
 }
 
+fn trivial_plan(rt: &(impl AllocGlobal + Abort), script: &Script) -> Plan {
+    Plan::trivial(rt.alloc(), script).expect(rt, "no memory")
+}
+
 // Runs the trivial plan of statements, and compares the end.
 fn expect_end(rt: &(impl AllocGlobal + Abort), statements: Vec<Statement>, end: End) {
-    let alloc = rt.alloc();
-    let plan = Plan::trivial(alloc, &Script::of(statements)).expect(rt, "no memory");
-    let mut sink = MemSink::new(alloc);
-    let (result, _) = run(alloc, &plan, MemFiles::new(alloc), &mut sink);
+    let plan = trivial_plan(rt, &Script::of(statements));
+    let mut sink = MemSink::new(rt.alloc());
+    let result = run(rt.alloc(), &plan, MemFiles::new(rt.alloc()), &mut sink).0;
     assert!(rt; result == end);
     assert!(rt; sink.bytes().is_empty());
 }

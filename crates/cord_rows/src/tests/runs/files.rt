@@ -1,35 +1,80 @@
 //! Rows of scripts over files: whole ones, ones that fail after some calls, and ones that give no byte behind a place.
 use super::{lines, numbered};
-use cord_io::{CutFiles, Files, FuseFiles, MemFiles, MemSink};
+use cord_io::{CutFiles, Files, FuseFiles, MemFiles, MemSink, Sink};
 use cord_run::{End, FaultKind, run_text, run_unplanned};
+use cord_script::Refusal;
 use std::process::Abort;
 
-// Which run a row is about.
-#[derive(Clone, Copy)]
-enum Way {
-    Planned,
-    Unplanned,
-}
-
-// Runs a script over files: how it ended, and what it wrote.
-fn ran<F: Files + Drop>(
+// How a script over files ended, by its plan or without one.
+fn ended<F: Files + Drop>(
     rt: &(impl AllocGlobal + Abort),
-    way: Way,
     script: &str,
     files: F,
-) -> (End, MemSink) {
-    let alloc = rt.alloc();
+    sink: &mut MemSink,
+    is_planned: bool,
+) -> Result<End, Refusal> {
     let script = lines(rt, script);
-    assert!(rt; files.failures() < u64::MAX);
-    let mut sink = MemSink::new(alloc);
-    let (result, _) = match way {
-        Way::Planned => run_text(alloc, &script, files, &mut sink),
-        Way::Unplanned => run_unplanned(alloc, &script, files, &mut sink),
-    };
-    match result {
-        Ok(end) => (end, sink),
-        Err(_) => panic!(rt; "refused"),
+    assert!(rt; files.failures() < u64::MAX && sink.failures() == 0);
+    if is_planned {
+        run_text(rt.alloc(), &script, files, sink).0
+    } else {
+        run_unplanned(rt.alloc(), &script, files, sink).0
     }
+}
+
+// That a script over files ends so, and writes this: by its plan or without one.
+fn expect_way<F: Files + Drop>(
+    rt: &(impl AllocGlobal + Abort),
+    script: &str,
+    files: F,
+    is_planned: bool,
+    end: End,
+    written: &[u8],
+) {
+    let mut sink = MemSink::new(rt.alloc());
+    let answer = ended(rt, script, files, &mut sink, is_planned);
+    assert!(rt; answer == Ok(end));
+    assert!(rt; sink.bytes() == written);
+}
+
+// That a script ends so, and writes this, by its plan over the first files and without one over the second.
+fn expect_both<F: Files + Drop>(
+    rt: &(impl AllocGlobal + Abort),
+    script: &str,
+    planned: F,
+    unplanned: F,
+    end: End,
+    written: &[u8],
+) {
+    expect_way(rt, script, planned, true, end, written);
+    expect_way(rt, script, unplanned, false, end, written);
+}
+
+// That a read for line 2 of a script fails, when at most so many numbered bytes were written: by its plan or without one.
+fn expect_cut_off<F: Files + Drop>(
+    rt: &(impl AllocGlobal + Abort),
+    script: &str,
+    files: F,
+    is_planned: bool,
+    most: usize,
+) {
+    let mut sink = MemSink::new(rt.alloc());
+    let answer = ended(rt, script, files, &mut sink, is_planned);
+    assert!(rt; answer == Ok(End::ReadFailed(2)));
+    assert!(rt; sink.bytes().len() <= most);
+    assert!(rt; numbered(rt, most).starts_with(sink.bytes()));
+}
+
+// The same by its plan over the first files and without one over the second.
+fn expect_both_cut_off<F: Files + Drop>(
+    rt: &(impl AllocGlobal + Abort),
+    script: &str,
+    planned: F,
+    unplanned: F,
+    most: usize,
+) {
+    expect_cut_off(rt, script, planned, true, most);
+    expect_cut_off(rt, script, unplanned, false, most);
 }
 
 // A file of so many numbered bytes.
@@ -61,117 +106,117 @@ fn one_line(rt: &(impl AllocGlobal + Abort)) -> MemFiles {
     files
 }
 
+// The file "f" of so many numbered bytes, which passes so many calls.
+fn fused(rt: &(impl AllocGlobal + Abort), count: usize, passes: u64) -> FuseFiles<MemFiles> {
+    FuseFiles::new(file_of(rt, "f", count), passes)
+}
+
+// The file "p" of one line, which passes one call.
+fn fused_line(rt: &(impl AllocGlobal + Abort)) -> FuseFiles<MemFiles> {
+    FuseFiles::new(one_line(rt), 1)
+}
+
+// The file "p" of 1,000 numbered bytes, which gives the first 600 alone.
+fn cut(rt: &(impl AllocGlobal + Abort)) -> CutFiles<MemFiles> {
+    CutFiles::new(file_of(rt, "p", 1_000), 600)
+}
+
+const TWO_PUTS: &str = r#"lazy x "f" ; put x ; put x"#;
+
 #[test]
 fn file_twice(rt: HostRuntime) {
-    for way in [Way::Planned, Way::Unplanned] {
-        let (end, sink) = ran(&rt, way, r#"file x "p" ; put x ; put x"#, one_line(&rt));
-        assert!(rt; end == End::Done);
-        assert!(rt; sink.bytes() == b"line\nline\n".as_slice());
-    }
+    let script = r#"file x "p" ; put x ; put x"#;
+    let written = b"line\nline\n";
+    expect_both(
+        &rt,
+        script,
+        one_line(&rt),
+        one_line(&rt),
+        End::Done,
+        written,
+    );
 }
 
 #[test]
 fn eager_unread_planned(rt: HostRuntime) {
     let script = r#"eager x "p" ; let y "a" ; put y"#;
-    let files = FuseFiles::new(one_line(&rt), 1);
-    let (end, sink) = ran(&rt, Way::Planned, script, files);
-    assert!(rt; end == End::Done);
-    assert!(rt; sink.bytes() == b"a".as_slice());
+    expect_way(&rt, script, fused_line(&rt), true, End::Done, b"a");
 }
 
 #[test]
 fn eager_unread_unplanned(rt: HostRuntime) {
     let script = r#"eager x "p" ; let y "a" ; put y"#;
-    let files = FuseFiles::new(one_line(&rt), 1);
-    let (end, sink) = ran(&rt, Way::Unplanned, script, files);
-    assert!(rt; end == End::ReadFailed(1));
-    assert!(rt; sink.bytes() == b"".as_slice());
+    expect_way(&rt, script, fused_line(&rt), false, End::ReadFailed(1), b"");
 }
 
 #[test]
 fn lazy_block_fails(rt: HostRuntime) {
-    for way in [Way::Planned, Way::Unplanned] {
-        let files = FuseFiles::new(file_of(&rt, "big", 200_000), 2);
-        let (end, sink) = ran(&rt, way, r#"lazy x "big" ; put x"#, files);
-        assert!(rt; end == End::ReadFailed(2));
-        assert!(rt; sink.bytes().len() <= 512);
-        assert!(rt; numbered(&rt, 512).starts_with(sink.bytes()));
-    }
+    let script = r#"lazy x "f" ; put x"#;
+    let planned = fused(&rt, 200_000, 2);
+    expect_both_cut_off(&rt, script, planned, fused(&rt, 200_000, 2), 512);
+}
+
+// The file's 10,000 bytes, twice.
+fn twice_numbered(rt: &(impl AllocGlobal + Abort)) -> Vec<u8> {
+    let mut bytes = numbered(rt, 10_000);
+    bytes
+        .extend_from_slice(&numbered(rt, 10_000))
+        .expect(rt, "no memory");
+    bytes
 }
 
 #[test]
 fn lazy_twice(rt: HostRuntime) {
-    for way in [Way::Planned, Way::Unplanned] {
-        let files = FuseFiles::new(file_of(&rt, "f", 10_000), 21);
-        let (end, sink) = ran(&rt, way, r#"lazy x "f" ; put x ; put x"#, files);
-        assert!(rt; end == End::Done);
-        assert!(rt; sink.bytes().len() == 20_000);
-        let (first, second) = sink.bytes().split_at(10_000);
-        assert!(rt; first == numbered(&rt, 10_000).as_slice());
-        assert!(rt; second == numbered(&rt, 10_000).as_slice());
-    }
+    let written = twice_numbered(&rt);
+    let planned = fused(&rt, 10_000, 21);
+    let unplanned = fused(&rt, 10_000, 21);
+    expect_both(&rt, TWO_PUTS, planned, unplanned, End::Done, &written);
 }
 
 #[test]
 fn lazy_last_block_fails(rt: HostRuntime) {
-    for way in [Way::Planned, Way::Unplanned] {
-        let files = FuseFiles::new(file_of(&rt, "f", 10_000), 20);
-        let (end, sink) = ran(&rt, way, r#"lazy x "f" ; put x ; put x"#, files);
-        assert!(rt; end == End::ReadFailed(2));
-        assert!(rt; sink.bytes().len() <= 9_728);
-        assert!(rt; numbered(&rt, 9_728).starts_with(sink.bytes()));
-    }
+    let planned = fused(&rt, 10_000, 20);
+    expect_both_cut_off(&rt, TWO_PUTS, planned, fused(&rt, 10_000, 20), 9_728);
 }
 
 #[test]
 fn blocks_by_entry(rt: HostRuntime) {
     let script =
         r#"lazy x "a" ; lazy y "b" ; substr u x 550 10 ; substr v y 550 10 ; put u ; put v"#;
-    for way in [Way::Planned, Way::Unplanned] {
-        let files = two_long_files(&rt);
-        let (end, sink) = ran(&rt, way, script, files);
-        assert!(rt; end == End::Done);
-        assert!(rt; sink.bytes() == b"aaaaaaaaaabbbbbbbbbb".as_slice());
-    }
+    let planned = two_long_files(&rt);
+    let written = b"aaaaaaaaaabbbbbbbbbb";
+    expect_both(
+        &rt,
+        script,
+        planned,
+        two_long_files(&rt),
+        End::Done,
+        written,
+    );
 }
 
 #[test]
 fn cut_lazy_whole(rt: HostRuntime) {
-    for way in [Way::Planned, Way::Unplanned] {
-        let files = CutFiles::new(file_of(&rt, "p", 1_000), 600);
-        let (end, sink) = ran(&rt, way, r#"lazy x "p" ; put x"#, files);
-        assert!(rt; end == End::ReadFailed(2));
-        assert!(rt; sink.bytes().len() <= 512);
-        assert!(rt; numbered(&rt, 512).starts_with(sink.bytes()));
-    }
+    let script = r#"lazy x "p" ; put x"#;
+    expect_both_cut_off(&rt, script, cut(&rt), cut(&rt), 512);
 }
 
 #[test]
 fn cut_lazy_first_block(rt: HostRuntime) {
     let script = r#"lazy x "p" ; substr y x 0 512 ; put y"#;
-    for way in [Way::Planned, Way::Unplanned] {
-        let files = CutFiles::new(file_of(&rt, "p", 1_000), 600);
-        let (end, sink) = ran(&rt, way, script, files);
-        assert!(rt; end == End::Done);
-        assert!(rt; sink.bytes() == numbered(&rt, 512).as_slice());
-    }
+    let written = numbered(&rt, 512);
+    expect_both(&rt, script, cut(&rt), cut(&rt), End::Done, &written);
 }
 
 #[test]
 fn cut_eager(rt: HostRuntime) {
-    for way in [Way::Planned, Way::Unplanned] {
-        let files = CutFiles::new(file_of(&rt, "p", 1_000), 600);
-        let (end, sink) = ran(&rt, way, r#"eager x "p" ; put x"#, files);
-        assert!(rt; end == End::ReadFailed(1));
-        assert!(rt; sink.bytes() == b"".as_slice());
-    }
+    let script = r#"eager x "p" ; put x"#;
+    expect_both(&rt, script, cut(&rt), cut(&rt), End::ReadFailed(1), b"");
 }
 
 #[test]
 fn missing_file_is_a_fault(rt: HostRuntime) {
-    for way in [Way::Planned, Way::Unplanned] {
-        let (end, sink) = ran(&rt, way, r#"eager x "q" ; put x"#, one_line(&rt));
-        assert!(rt; end == End::Fault(1, FaultKind::NoFile));
-        assert!(rt; sink.bytes() == b"".as_slice());
-    }
+    let script = r#"eager x "q" ; put x"#;
+    let end = End::Fault(1, FaultKind::NoFile);
+    expect_both(&rt, script, one_line(&rt), one_line(&rt), end, b"");
 }

@@ -2,6 +2,7 @@
 use super::{lines, numbered};
 use cord_io::{Files, FuseFiles, FuseSink, MemFiles, MemSink, Sink};
 use cord_run::{End, run_text, run_unplanned};
+use cord_script::Refusal;
 use std::process::Abort;
 
 // What a line puts: a text, and then so many bytes of the file "f".
@@ -132,6 +133,23 @@ fn is_honest(
     }
 }
 
+// How a run of a text over such files ends, by its plan or without one, and how often the files failed.
+fn ended(
+    rt: &(impl AllocGlobal + Abort),
+    script: &[u8],
+    files: FuseFiles<MemFiles>,
+    sink: &mut FuseSink<MemSink>,
+    planned: bool,
+) -> (Result<End, Refusal>, u64) {
+    assert!(rt; files.failures() == 0 && sink.failures() == 0);
+    let (result, files) = if planned {
+        run_text(rt.alloc(), script, files, sink)
+    } else {
+        run_unplanned(rt.alloc(), script, files, sink)
+    };
+    (result, files.failures())
+}
+
 // Runs a script over files that pass so many calls and a sink that passes so many of at most so many bytes; whether it was done.
 fn run_fused(
     rt: &(impl AllocGlobal + Abort),
@@ -140,20 +158,15 @@ fn run_fused(
     passes: (u64, u64),
     most: u64,
 ) -> bool {
-    let alloc = rt.alloc();
     let script = lines(rt, hostile.script);
     assert!(rt; most >= 1);
     let files = FuseFiles::new(two_files(rt), passes.0);
-    let mut sink = FuseSink::new(MemSink::new(alloc), passes.1, most);
-    let (result, files) = if planned {
-        run_text(alloc, &script, files, &mut sink)
-    } else {
-        run_unplanned(alloc, &script, files, &mut sink)
-    };
+    let mut sink = FuseSink::new(MemSink::new(rt.alloc()), passes.1, most);
+    let (result, failures) = ended(rt, &script, files, &mut sink, planned);
     let Ok(end) = result else {
         panic!(rt; "refused");
     };
-    let failed = (files.failures(), sink.failures());
+    let failed = (failures, sink.failures());
     let honest = is_honest(rt, hostile, end, sink.inner().bytes(), failed);
     assert!(rt;
         honest,

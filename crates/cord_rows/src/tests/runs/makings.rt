@@ -1,8 +1,9 @@
 //! Each kind of making, built and only measured: its length, or why there is none. A name that `len` alone reads is
 //! measured by the plan and built without one.
 use super::{expect_end, lines, numbered};
-use cord_io::{CutFiles, MemFiles, MemSink};
+use cord_io::{CutFiles, MemFiles, MemSink, Sink};
 use cord_run::{End, FaultKind, run_text, run_unplanned};
+use cord_script::Refusal;
 use std::process::Abort;
 
 // The line that makes `z` is the second one, and its length is written.
@@ -45,24 +46,21 @@ fn prints(rt: HostRuntime) {
     expect_fault(&rt, "sprintf z \"%c\" 256", FaultKind::BadByte);
 }
 
+// That a part of the texts "abc" and "def", one after the other, is put so.
+fn expect_part(rt: &(impl AllocGlobal + Abort), part: &str, written: &[u8]) {
+    let shown = format!(in rt.alloc();
+        "let a \"abc\" ; let b \"def\" ; cat t a b ; substr z t {part} ; put z"
+    );
+    let script = lines(rt, shown.expect(rt, "no memory").as_str());
+    expect_end(rt, part, &script, End::Done, written);
+}
+
 // Some bytes of two texts, one after the other: each gets its own start and count, and one that gets no byte isn't touched.
 #[test]
 fn parts_of_two_texts(rt: HostRuntime) {
-    let seam = lines(
-        &rt,
-        "let a \"abc\" ; let b \"def\" ; cat t a b ; substr z t 2 3 ; put z",
-    );
-    expect_end(&rt, "substr-over-seam", &seam, End::Done, b"cde");
-    let second = lines(
-        &rt,
-        "let a \"abc\" ; let b \"def\" ; cat t a b ; substr z t 3 9 ; put z",
-    );
-    expect_end(&rt, "substr-of-the-second", &second, End::Done, b"def");
-    let none = lines(
-        &rt,
-        "let a \"abc\" ; let b \"def\" ; cat t a b ; substr z t 6 9 ; put z",
-    );
-    expect_end(&rt, "substr-behind-both", &none, End::Done, b"");
+    expect_part(&rt, "2 3", b"cde");
+    expect_part(&rt, "3 9", b"def");
+    expect_part(&rt, "6 9", b"");
 }
 
 // A file of so many bytes at the path `p`.
@@ -73,58 +71,74 @@ fn file_of(rt: &(impl AllocGlobal + Abort), len: usize) -> MemFiles {
     files
 }
 
-// What came of a script over such a file, which ends for reads after the first `seen` bytes, by its plan or without one.
+// How a script ends over such a file, which ends for reads after the first `seen` bytes, by its plan or without one.
 fn ended(
     rt: &(impl AllocGlobal + Abort),
     len: usize,
     seen: u64,
     script: &[u8],
     is_planned: bool,
-) -> (End, MemSink) {
-    let alloc = rt.alloc();
+    sink: &mut MemSink,
+) -> Result<End, Refusal> {
     let files = CutFiles::new(file_of(rt, len), seen);
-    let mut sink = MemSink::new(alloc);
-    let answer = if is_planned {
-        run_text(alloc, script, files, &mut sink).0
+    assert!(rt; sink.failures() == 0);
+    if is_planned {
+        run_text(rt.alloc(), script, files, sink).0
     } else {
-        run_unplanned(alloc, script, files, &mut sink).0
-    };
-    match answer {
-        Ok(end) => (end, sink),
-        Err(_) => panic!(rt; "the script is refused"),
+        run_unplanned(rt.alloc(), script, files, sink).0
     }
+}
+
+// That the length of a file of 5 bytes is written, by the plan of a script or without one.
+fn expect_five(rt: &(impl AllocGlobal + Abort), script: &[u8], is_planned: bool) {
+    let mut sink = MemSink::new(rt.alloc());
+    let answer = ended(rt, 5, 5, script, is_planned, &mut sink);
+    assert!(rt; answer == Ok(End::Done));
+    assert!(rt; sink.bytes() == b"5".as_slice());
+}
+
+// A line that makes `z` of the file at this path.
+fn line_of(rt: &(impl AllocGlobal + Abort), verb: &str, path: &str) -> String {
+    format!(in rt.alloc(); "{verb} z \"{path}\"").expect(rt, "no memory")
+}
+
+// That a statement finds the file "p" of 5 bytes, and no file "q".
+fn expect_found(rt: &(impl AllocGlobal + Abort), verb: &str) {
+    let script = measuring(rt, line_of(rt, verb, "p").as_str());
+    expect_five(rt, &script, true);
+    expect_five(rt, &script, false);
+    expect_fault(rt, line_of(rt, verb, "q").as_str(), FaultKind::NoFile);
 }
 
 #[test]
 fn files_by_path(rt: HostRuntime) {
-    for verb in ["file", "eager", "lazy"] {
-        let line = format!(in rt.alloc(); "{verb} z \"p\"").expect(&rt, "no memory");
-        let script = measuring(&rt, line.as_str());
-        for is_planned in [true, false] {
-            let (end, sink) = ended(&rt, 5, 5, &script, is_planned);
-            assert!(&rt; end == End::Done);
-            assert!(&rt; sink.bytes() == b"5".as_slice());
-        }
-        let line = format!(in rt.alloc(); "{verb} z \"q\"").expect(&rt, "no memory");
-        expect_fault(&rt, line.as_str(), FaultKind::NoFile);
-    }
+    expect_found(&rt, "file");
+    expect_found(&rt, "eager");
+    expect_found(&rt, "lazy");
+}
+
+// How a run ends that makes `z` of a file of so many bytes, of which so many can be read.
+fn expect_cut(
+    rt: &(impl AllocGlobal + Abort),
+    line: &str,
+    (len, seen): (usize, u64),
+    is_planned: bool,
+    end: End,
+) {
+    let mut sink = MemSink::new(rt.alloc());
+    let answer = ended(rt, len, seen, &measuring(rt, line), is_planned, &mut sink);
+    assert!(rt; answer == Ok(end), "{line}");
 }
 
 // A file that is only measured isn't read, whatever it is; one that is built is read at once where it is eager, or has at
 // most 131,072 bytes.
 #[test]
 fn files_that_fail_where_they_are_read(rt: HostRuntime) {
-    let eager = measuring(&rt, "eager z \"p\"");
-    let (end, _) = ended(&rt, 5, 2, &eager, false);
-    assert!(&rt; end == End::ReadFailed(2));
-    let lazy = measuring(&rt, "lazy z \"p\"");
-    let (end, _) = ended(&rt, 5, 2, &lazy, false);
-    assert!(&rt; end == End::Done);
-    let file = measuring(&rt, "file z \"p\"");
-    let (end, _) = ended(&rt, 131_072, 131_071, &file, true);
-    assert!(&rt; end == End::Done);
-    let (end, _) = ended(&rt, 131_072, 131_071, &file, false);
-    assert!(&rt; end == End::ReadFailed(2));
-    let (end, _) = ended(&rt, 131_073, 0, &file, false);
-    assert!(&rt; end == End::Done);
+    let file = "file z \"p\"";
+    let failed = End::ReadFailed(2);
+    expect_cut(&rt, "eager z \"p\"", (5, 2), false, failed);
+    expect_cut(&rt, "lazy z \"p\"", (5, 2), false, End::Done);
+    expect_cut(&rt, file, (131_072, 131_071), true, End::Done);
+    expect_cut(&rt, file, (131_072, 131_071), false, failed);
+    expect_cut(&rt, file, (131_073, 0), false, End::Done);
 }

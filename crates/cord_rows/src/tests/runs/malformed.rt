@@ -17,18 +17,21 @@ fn two_files(rt: &(impl AllocGlobal + Abort), big: &[u8]) -> MemFiles {
     files
 }
 
+// Runs a script that is refused, over a sink that fails at each call: no finish is called.
+fn run_refused(rt: &(impl AllocGlobal + Abort), script: &[u8], big: &[u8]) {
+    let mut failing = FuseSink::new(MemSink::new(rt.alloc()), 0, 1);
+    let (_, _) = run_text(rt.alloc(), script, two_files(rt, big), &mut failing);
+    assert!(rt; failing.failures() == 0);
+}
+
 // Runs a script; where it is refused nothing is written and no finish is called, and else it is done or has a fault.
 fn run_any(rt: &(impl AllocGlobal + Abort), script: &[u8], big: &[u8]) {
-    let alloc = rt.alloc();
-    let mut sink = MemSink::new(alloc);
-    let (result, _) = run_text(alloc, script, two_files(rt, big), &mut sink);
-    match result {
+    let mut sink = MemSink::new(rt.alloc());
+    match run_text(rt.alloc(), script, two_files(rt, big), &mut sink).0 {
         Ok(end) => assert!(rt; matches!(end, End::Done | End::Fault(..))),
         Err(_) => {
             assert!(rt; sink.bytes().is_empty());
-            let mut failing = FuseSink::new(MemSink::new(alloc), 0, 1);
-            let (_, _) = run_text(alloc, script, two_files(rt, big), &mut failing);
-            assert!(rt; failing.failures() == 0);
+            run_refused(rt, script, big);
         }
     }
 }
