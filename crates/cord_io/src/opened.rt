@@ -10,11 +10,14 @@ use crate::reader::Reader;
 use std::alloc::Global;
 use std::io::{self, Read, Seek};
 
-// How many bytes the machine is asked for at most where a file is read on.
-const AHEAD: usize = 65_536;
+// How many bytes the machine is asked for where a file is read on: first these, and then twice as many each time, up to
+// the greatest count. So the rest of a short range costs no long read.
+const FIRST_AHEAD: usize = 4_096;
+
+const MAX_AHEAD: usize = 65_536;
 
 // A file of the machine that was opened, with its length. The first `count` of `bytes` are those that the machine gave
-// of it ahead, from `start` on.
+// of it ahead, from `start` on. The next time it is asked for `next_ahead` of them.
 #[derive(Drop)]
 pub(crate) struct OpenedFile<F> {
     pub(crate) reader: Reader<F>,
@@ -22,6 +25,7 @@ pub(crate) struct OpenedFile<F> {
     bytes: Vec<u8>,
     start: u64,
     count: usize,
+    next_ahead: usize,
     ghost ahead: { IsAhead reader.given.told (string_bytes reader.path) start count bytes.items },
 }
 
@@ -38,6 +42,7 @@ impl<F: Read + Seek> OpenedFile<F> {
             bytes: Vec::new(alloc),
             start: 0,
             count: 0,
+            next_ahead: FIRST_AHEAD,
         }
     }
 
@@ -73,11 +78,16 @@ impl<F: Read + Seek> OpenedFile<F> {
         if let Some(count) = self.copy_ahead(start, out) {
             return Some(count);
         }
-        let left = self.len.saturating_sub(start).min(AHEAD as u64) as usize;
-        if left <= out.len() || !self.reader.stands_at(start) {
+        if !self.reader.stands_at(start) {
+            self.next_ahead = FIRST_AHEAD;
             return None;
         }
-        self.read_ahead(alloc, start, left);
+        let wanted = self.len.saturating_sub(start).min(self.next_ahead as u64) as usize;
+        if wanted <= out.len() {
+            return None;
+        }
+        self.next_ahead = self.next_ahead.saturating_mul(2).min(MAX_AHEAD);
+        self.read_ahead(alloc, start, wanted);
         self.copy_ahead(start, out)
     }
 
@@ -95,23 +105,23 @@ impl<F: Read + Seek> OpenedFile<F> {
         Some(copy_from(&self.bytes[..self.count], skipped as usize, out))
     }
 
-    // Reads ahead from a place on, as many bytes as the machine gives of those that are left. Where memory is refused, or
-    // the machine fails, nothing is read ahead: what fails is met when its bytes are asked for.
-    fn read_ahead(&mut self, alloc: Global, start: u64, left: usize)
+    // Reads ahead from a place on, as many bytes as the machine gives of those that are wanted. Where memory is refused,
+    // or the machine fails, nothing is read ahead: what fails is met when its bytes are asked for.
+    fn read_ahead(&mut self, alloc: Global, start: u64, wanted: usize)
         ensures path { self.new.reader.path ≡ self.old.reader.path }
         ensures len { self.new.len ≡ self.old.len }
         ensures earlier { (folder : Folder) →
             Agrees folder self.new.reader.given.told → Agrees folder self.old.reader.given.told }
     {
         self.count = 0;
-        if self.bytes.len() < left {
-            match vec![in alloc; 0; left] {
+        if self.bytes.len() < wanted {
+            match vec![in alloc; 0; wanted] {
                 Ok(bytes) => self.bytes = bytes,
                 Err(_) => return,
             }
         }
         self.start = start;
-        if let Ok(count) = self.reader.ask(start, &mut self.bytes) {
+        if let Ok(count) = self.reader.ask_front(start, wanted, &mut self.bytes) {
             self.count = count;
         }
     }

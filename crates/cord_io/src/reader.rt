@@ -54,6 +54,24 @@ impl<F: Read + Seek> Reader<F> {
         Ok(count)
     }
 
+    // Asks the machine for at most so many bytes from a place on, into the front of a buffer.
+    pub(crate) fn ask_front(
+        &mut self,
+        start: u64,
+        wanted: usize,
+        out: &mut [u8],
+    ) -> io::Result<usize>
+        requires room { wanted ≤ length out.old }
+        ensures some { IfOk result (λ k. (0 < k) × (k ≤ length out.new)) }
+        ensures path { self.new.path ≡ self.old.path }
+        ensures earlier { (folder : Folder) → Agrees folder self.new.given.told → Agrees folder self.old.given.told }
+        ensures given { self.new.given.told
+            ≡ after_asking (string_bytes self.old.path) start out.new result self.old.given.told }
+        ensures len { length out.new ≡ length out.old }
+    {
+        self.ask(start, &mut out[..wanted])
+    }
+
     // The machine's own answer. It seeks only where the last read ended elsewhere: reading on is one system call.
     fn read_some(&mut self, start: u64, out: &mut [u8]) -> io::Result<usize>
         ensures some { IfOk result (λ k. (0 < k) × (k ≤ length out.new)) }
