@@ -9,9 +9,9 @@ mod memory_sink;
 mod sources;
 mod standard;
 
-ghost use Rattle.std.specs.Prelude.{◌≡◌, ◌<◌, ℕ, length, IsSomeAnd};
+ghost use Rattle.std.specs.Prelude.{◌≡◌, ◌<◌, ◌≤◌, ℕ, length, IsSomeAnd};
 
-use cord_io::{FileNo, Files, MemFiles, ReadFault};
+use cord_io::{FileNo, Files, MemFiles, OpenFault, ReadFault};
 use std::alloc::Global;
 use std::process::Abort;
 
@@ -23,6 +23,73 @@ fn digits_file(rt: &impl Abort, alloc: Global) -> MemFiles {
         .expect(rt, "memory");
     files.add(alloc, "empty", b"").expect(rt, "memory");
     files
+}
+
+// What is asked of files of which one of ten bytes is opened, and what they answer.
+#[derive(Clone, Copy)]
+enum Ask {
+    // A path that can't be opened.
+    Open(&'static str, OpenFault),
+    // At most so many bytes of the opened file from a place on: these come.
+    Read(u64, usize, &'static [u8]),
+    // A read from a place on, which fails.
+    Fault(u64),
+    // How often a call has failed.
+    Failures(u64),
+}
+
+// Opens a file of ten bytes.
+fn opened<F: Files>(rt: &impl Abort, files: &mut F, path: &str) -> FileNo
+    ensures { IsSomeAnd (F.opened files.new result.0) (λ told. 10 ≤ told.1) }
+{
+    let Ok((no, len)) = files.open(path) else {
+        panic!(rt; "{path} is not opened");
+    };
+    assert!(rt; len == 10, "{path}");
+    no
+}
+
+fn expect_no_file<F: Files>(rt: &impl Abort, files: &mut F, path: &str, fault: OpenFault)
+    ensures { (n : ℕ) → F.opened files.new n ≡ F.opened files.old n }
+{
+    match files.open(path) {
+        Ok(_) => panic!(rt; "{path} is opened"),
+        Err(error) => assert!(rt; error == fault, "{path}"),
+    }
+}
+
+fn expect_answer<F: Files>(rt: &impl Abort, files: &mut F, no: FileNo, ask: Ask)
+    requires { IsSomeAnd (F.opened files.old no.0) (λ told. 10 ≤ told.1) }
+    ensures { (n : ℕ) → F.opened files.new n ≡ F.opened files.old n }
+{
+    match ask {
+        Ask::Open(path, fault) => expect_no_file(rt, files, path, fault),
+        Ask::Read(start, count, bytes) => {
+            let mut room = [0; 8];
+            assert!(rt; start < 10 && 0 < count && count <= 8, "from {start}");
+            expect_read(rt, files, no, start, &mut room[..count], bytes);
+        }
+        Ask::Fault(start) => {
+            assert!(rt; start < 10, "from {start}");
+            expect_fault(rt, files, no, start);
+        }
+        Ask::Failures(count) => assert!(rt; files.failures() == count, "not {count} failures"),
+    }
+}
+
+// Asks one after another.
+fn expect_answers<F: Files>(rt: &impl Abort, files: &mut F, no: FileNo, asks: &[Ask])
+    requires { IsSomeAnd (F.opened files.old no.0) (λ told. 10 ≤ told.1) }
+{
+    for ask in asks {
+        expect_answer(rt, files, no, *ask);
+    }
+}
+
+// Opens a file of ten bytes, and asks then.
+fn expect_all<F: Files>(rt: &impl Abort, files: &mut F, path: &str, asks: &[Ask]) {
+    let no = opened(rt, files, path);
+    expect_answers(rt, files, no, asks);
 }
 
 // Reads an opened file from a place on: these bytes come, which may be fewer than there is room for.

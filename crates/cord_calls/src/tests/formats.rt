@@ -8,10 +8,25 @@ use cord_printf::{
 };
 use std::alloc::Global;
 use std::process::Abort;
-use std::test::Fail;
 
-// What C's printf writes of a number, the conversions being those of its `long long`.
-const NUMBERS: &[(&[u8], i64, &[u8])] = &[
+// An argument of a row: a number, a cord of these bytes, or a run of the longest length.
+#[derive(Clone, Copy)]
+enum Given {
+    Num(i64),
+    Text(&'static [u8]),
+    Longest,
+}
+
+use Given::{Longest, Num, Text};
+
+// A format, its arguments, and the text that it prints of them.
+type Print = (&'static [u8], &'static [Given], &'static [u8]);
+
+// A conversion of a number, the number, and what C's printf writes of it; the conversions are those of its `long long`.
+type Number = (&'static [u8], i64, &'static [u8]);
+
+// Decimals with flags and widths.
+const DECIMALS: &[Number] = &[
     (b"%d", 0, b"0"),
     (b"%d", 7, b"7"),
     (b"%d", -7, b"-7"),
@@ -35,6 +50,13 @@ const NUMBERS: &[(&[u8], i64, &[u8])] = &[
     (b"%-05d", 7, b"7    "),
     (b"%0-5d", -7, b"-7   "),
     (b"%++05d", 7, b"+0007"),
+    (b"%1d", 12345, b"12345"),
+    (b"%020d", i64::MIN, b"-9223372036854775808"),
+    (b"%30d", i64::MIN, b"          -9223372036854775808"),
+];
+
+// Decimals with a precision.
+const PRECISE: &[Number] = &[
     (b"%.0d", 0, b""),
     (b"%.0d", 1, b"1"),
     (b"%.d", 0, b""),
@@ -50,10 +72,11 @@ const NUMBERS: &[(&[u8], i64, &[u8])] = &[
     (b"%08.5d", -123, b"  -00123"),
     (b"%+08.5d", 123, b"  +00123"),
     (b"%-8.5d", 123, b"00123   "),
-    (b"%1d", 12345, b"12345"),
-    (b"%020d", i64::MIN, b"-9223372036854775808"),
     (b"%.25d", -1, b"-0000000000000000000000001"),
-    (b"%30d", i64::MIN, b"          -9223372036854775808"),
+];
+
+// Decimals without a sign.
+const UNSIGNED: &[Number] = &[
     (b"%u", 0, b"0"),
     (b"%u", 3000000000, b"3000000000"),
     (b"%lu", 3, b"3"),
@@ -64,6 +87,10 @@ const NUMBERS: &[(&[u8], i64, &[u8])] = &[
     (b"%.0u", 0, b""),
     (b"%.4u", 77, b"0077"),
     (b"%6.4u", 77, b"  0077"),
+];
+
+// Octals.
+const OCTALS: &[Number] = &[
     (b"%o", 0, b"0"),
     (b"%o", 8, b"10"),
     (b"%o", i64::MAX, b"777777777777777777777"),
@@ -71,6 +98,11 @@ const NUMBERS: &[(&[u8], i64, &[u8])] = &[
     (b"%06o", 511, b"000777"),
     (b"%-6o", 511, b"777   "),
     (b"%.6o", 511, b"000777"),
+    (b"%024o", 1, b"000000000000000000000001"),
+];
+
+// Hexadecimals.
+const HEXADECIMALS: &[Number] = &[
     (b"%x", 0, b"0"),
     (b"%x", 255, b"ff"),
     (b"%X", 255, b"FF"),
@@ -84,13 +116,16 @@ const NUMBERS: &[(&[u8], i64, &[u8])] = &[
     (b"%.4x", 10, b"000a"),
     (b"%8.4X", 10, b"    000A"),
     (b"%08.4x", 10, b"    000a"),
+    (b"%12.0x", 0, b"            "),
+    (b"%-012x", 4096, b"1000        "),
+];
+
+// Bytes.
+const BYTES: &[Number] = &[
     (b"%c", 65, b"A"),
     (b"%5c", 65, b"    A"),
     (b"%-5c", 65, b"A    "),
     (b"%-c", 97, b"a"),
-    (b"%12.0x", 0, b"            "),
-    (b"%-012x", 4096, b"1000        "),
-    (b"%024o", 1, b"000000000000000000000001"),
 ];
 
 // What C's printf writes of a text.
@@ -110,222 +145,307 @@ const TEXTS: &[(&[u8], &[u8], &[u8])] = &[
     (b"%-12.12s", b"hello", b"hello       "),
 ];
 
+// Prints of several arguments, by their names.
+const SEVERAL: &[(&str, Print)] = &[
+    ("format_calls", (b"%5d", &[Num(7)], b"    7")),
+    (
+        "sprintf_pads",
+        (
+            b"%5.2r|%-4d|%05d|%.0d|%%",
+            &[Text(b"hello"), Num(7), Num(-7), Num(0)],
+            b"   he|7   |-0007||%",
+        ),
+    ),
+    (
+        "sprintf_numbers",
+        (
+            b"%08x|%+d|%o|%X|%c",
+            &[Num(255), Num(5), Num(8), Num(255), Num(65)],
+            b"000000ff|+5|10|FF|A",
+        ),
+    ),
+];
+
+// The length of a print.
+const LENGTHS: &[(&str, &[u8], &[Given], u64)] = &[
+    ("format_calls", b"%5d", &[Num(7)], 5),
+    ("sprintf_too_long", b"%s", &[Longest], MAX_LEN),
+];
+
+// The length of a wide print, and the bytes at its two ends.
+const WIDE: &[(&[u8], &[Given], usize, &[u8], &[u8])] = &[
+    (b"%04000d", &[Num(-5)], 4000, b"-0", b"05"),
+    (b"%.9999x", &[Num(10)], 9999, b"00", b"0a"),
+    (b"%9999s|", &[Text(b"ab")], 10_000, b"  ", b" ab|"),
+    (b"%-300s|", &[Text(b"ab")], 301, b"ab ", b" |"),
+];
+
+// Why a print is refused.
+const REFUSALS: &[(&str, &[u8], &[Given], PrintError)] = &[
+    ("every_byte", b"%c", &[Num(256)], PrintError::BadByte(0)),
+    ("every_byte", b"%c", &[Num(-1)], PrintError::BadByte(0)),
+    ("format_calls", b"%5d", &[], PrintError::WrongArgs),
+    (
+        "format_calls",
+        b"%d%u%c",
+        &[Num(1), Num(-1), Num(300)],
+        PrintError::Negative(1),
+    ),
+    (
+        "sprintf_negative_hex",
+        b"%x",
+        &[Num(-1)],
+        PrintError::Negative(0),
+    ),
+    ("sprintf_too_long", b"%s!", &[Longest], PrintError::TooLong),
+];
+
+// Why formats with a run of the longest length, -1 and 300 are refused: the first reason counts.
+const REFUSALS_IN_ORDER: &[(&[u8], PrintError)] = &[
+    (b"!%s%u%c", PrintError::Negative(1)),
+    (b"!%s%d%c", PrintError::BadByte(2)),
+    (b"!%s%d%d", PrintError::TooLong),
+    (b"!%s%u", PrintError::WrongArgs),
+    (b"!%s%u%s", PrintError::WrongArgs),
+    (b"%d%u%c", PrintError::WrongArgs),
+    (b"!", PrintError::WrongArgs),
+];
+
+// The place from which on a text is no format.
+const BAD_FORMATS: &[(&str, usize)] = &[
+    ("a%q", 1),
+    ("%05s", 0),
+    ("%+u", 0),
+    ("%.1c", 0),
+    ("%lc", 0),
+    ("%5%", 0),
+    ("%", 0),
+    ("%10000d", 0),
+    ("%lld%llld", 4),
+    ("100%", 3),
+    ("%%%%%", 4),
+    ("%.10000d", 0),
+    ("ab%-+ d", 2),
+    ("%*d", 0),
+    ("%#x", 0),
+    ("%hd", 0),
+    ("%f", 0),
+    ("%d%s%n", 4),
+    ("%ls", 0),
+    ("%-%", 0),
+    ("%0c", 0),
+    ("%+o", 0),
+    ("%5.l", 0),
+];
+
+// A text of pieces, each so many times.
+type Pieces = &'static [(&'static [u8], usize)];
+
+// Bytes are gathered up to 256: prints around that number, and a text that is longer by itself.
+const LONG: &[(&str, Pieces, &[Given], Pieces)] = &[
+    (
+        "long_lines_print_as_in_c",
+        &[(b"%20d|", 30)],
+        &[Num(-7); 30],
+        &[(b"                  -7|", 30)],
+    ),
+    (
+        "long_texts_of_formats_print_as_in_c",
+        &[(b"%05d", 1), (b"a", 300), (b"%x", 1)],
+        &[Num(42), Num(42)],
+        &[(b"00042", 1), (b"a", 300), (b"2a", 1)],
+    ),
+];
+
 fn format_of(rt: &impl Abort, alloc: Global, format: &[u8]) -> Format {
     Format::parse(alloc, format).expect(rt, "no format")
 }
 
-// The text of a format with its arguments, where its length is told alike.
-fn printed(rt: &impl Abort, alloc: Global, format: &[u8], args: &[Arg]) -> Option<Vec<u8>> {
-    let format = format_of(rt, alloc, format);
-    let cord = sprintf(alloc, &format, args).expect(rt, "no print");
-    if sprintf_len(&format, args) != Ok(cord.len()) {
-        return None;
+fn arg_of(rt: &impl Abort, alloc: Global, given: Given) -> Arg {
+    match given {
+        Num(number) => Arg::Num(number),
+        Text(bytes) => Arg::Cord(cord_of(rt, alloc, bytes)),
+        Longest => Arg::Cord(run_of(rt, alloc, 65, MAX_LEN)),
     }
-    bytes_of(alloc, &cord).expect(rt, "no memory")
+}
+
+fn args_of(rt: &impl Abort, alloc: Global, given: &[Given]) -> Vec<Arg> {
+    let mut args = Vec::new(alloc);
+    for it in given {
+        args.push(arg_of(rt, alloc, *it)).expect(rt, "no memory");
+    }
+    args
+}
+
+fn print_of(rt: &impl Abort, alloc: Global, format: &Format, args: &[Arg]) -> Cord {
+    sprintf(alloc, format, args).expect(rt, "no print")
+}
+
+// The print of a format with its arguments, whose length is told alike.
+fn printed(rt: &impl Abort, alloc: Global, format: &[u8], given: &[Given]) -> Cord {
+    let parsed = format_of(rt, alloc, format);
+    let args = args_of(rt, alloc, given);
+    let cord = print_of(rt, alloc, &parsed, &args);
+    let told = sprintf_len(&parsed, &args);
+    assert!(rt; told == Ok(cord.len()), "the length of {format:?}");
+    cord
+}
+
+// The bytes of the print of a format with its arguments.
+fn print_bytes(rt: &impl Abort, alloc: Global, format: &[u8], given: &[Given]) -> Vec<u8> {
+    let bytes = bytes_of(alloc, &printed(rt, alloc, format, given)).expect(rt, "no memory");
+    bytes.expect(rt, "no text")
 }
 
 // That a format prints this text of its arguments.
-fn expect_printed(rt: &impl Abort, alloc: Global, format: &[u8], args: &[Arg], want: &[u8]) {
-    let shown = printed(rt, alloc, format, args);
+fn expect_printed(
+    rt: &impl Abort,
+    alloc: Global,
+    name: &str,
+    (format, given, want): (&[u8], &[Given], &[u8]),
+) {
+    let shown = print_bytes(rt, alloc, format, given);
     assert!(rt;
-        shown.as_deref() == Some(want),
-        "{format:?} is not {want:?}"
+        shown.as_slice() == want,
+        "{name}: {format:?} is not {want:?}"
     );
 }
 
 // That the print of a format is refused for this.
-fn expect_refused(rt: &impl Abort, alloc: Global, format: &[u8], args: &[Arg], error: PrintError) {
-    let parsed = format_of(rt, alloc, format);
-    assert!(rt; sprintf_len(&parsed, args) == Err(error), "{format:?}");
-    assert!(rt;
-        sprintf(alloc, &parsed, args).err() == Some(error),
-        "{format:?}"
-    );
-}
-
-// That a text is no format, from this place on.
-fn expect_bad(rt: &impl Abort, alloc: Global, format: &[u8], place: usize) {
-    let error = Format::parse(alloc, format).err();
-    assert!(rt; error == Some(FormatError::BadFormat(place)), "{format:?}");
-}
-
-// That a format prints a text of this length, with these ends.
-fn expect_ends(
+fn expect_refused(
     rt: &impl Abort,
     alloc: Global,
-    format: &[u8],
-    arg: Arg,
-    length: usize,
-    (start, end): (&[u8], &[u8]),
+    name: &str,
+    (format, given, error): (&[u8], &[Given], PrintError),
 ) {
-    let shown = printed(rt, alloc, format, &[arg]).expect(rt, "no text");
-    assert!(rt; shown.len() == length, "{format:?}");
-    assert!(rt;
-        shown.starts_with(start) && shown.ends_with(end),
-        "{format:?}"
-    );
+    let parsed = format_of(rt, alloc, format);
+    let args = args_of(rt, alloc, given);
+    let told = sprintf_len(&parsed, &args);
+    assert!(rt; told == Err(error), "{name}: {format:?}");
+    let refused = sprintf(alloc, &parsed, &args).err();
+    assert!(rt; refused == Some(error), "{name}: {format:?}");
 }
 
-fn text(rt: &impl Abort, alloc: Global, bytes: &[u8]) -> Arg {
-    Arg::Cord(cord_of(rt, alloc, bytes))
+// That numbers print as in C.
+fn expect_numbers(rt: &impl Abort, alloc: Global, numbers: &[Number]) {
+    for &(format, number, want) in numbers {
+        expect_printed(
+            rt,
+            alloc,
+            "numbers_print_as_in_c",
+            (format, &[Num(number)], want),
+        );
+    }
 }
 
 #[test]
-fn numbers_print_as_in_c(rt: HostRuntime) {
-    for &(format, number, want) in NUMBERS {
-        expect_printed(&rt, rt.alloc(), format, &[Arg::Num(number)], want);
-    }
+fn decimals_print_as_in_c(rt: HostRuntime) {
+    expect_numbers(&rt, rt.alloc(), DECIMALS);
+}
+
+#[test]
+fn precise_decimals_print_as_in_c(rt: HostRuntime) {
+    expect_numbers(&rt, rt.alloc(), PRECISE);
+}
+
+#[test]
+fn unsigned_decimals_print_as_in_c(rt: HostRuntime) {
+    expect_numbers(&rt, rt.alloc(), UNSIGNED);
+}
+
+#[test]
+fn octals_print_as_in_c(rt: HostRuntime) {
+    expect_numbers(&rt, rt.alloc(), OCTALS);
+}
+
+#[test]
+fn hexadecimals_print_as_in_c(rt: HostRuntime) {
+    expect_numbers(&rt, rt.alloc(), HEXADECIMALS);
+}
+
+#[test]
+fn bytes_print_as_in_c(rt: HostRuntime) {
+    expect_numbers(&rt, rt.alloc(), BYTES);
 }
 
 #[test]
 fn texts_print_as_in_c(rt: HostRuntime) {
-    for &(format, argument, want) in TEXTS {
-        let args = [text(&rt, rt.alloc(), argument)];
-        expect_printed(&rt, rt.alloc(), format, &args, want);
+    for &(format, text, want) in TEXTS {
+        let given = [Text(text)];
+        expect_printed(
+            &rt,
+            rt.alloc(),
+            "texts_print_as_in_c",
+            (format, &given, want),
+        );
     }
 }
 
 #[test]
-fn wide_numbers_print_as_in_c(rt: HostRuntime) {
-    let alloc = rt.alloc();
-    expect_ends(&rt, alloc, b"%04000d", Arg::Num(-5), 4000, (b"-0", b"05"));
-    expect_ends(&rt, alloc, b"%.9999x", Arg::Num(10), 9999, (b"00", b"0a"));
-}
-
-#[test]
-fn wide_texts_print_as_in_c(rt: HostRuntime) {
-    let alloc = rt.alloc();
-    let right = text(&rt, alloc, b"ab");
-    expect_ends(&rt, alloc, b"%9999s|", right, 10_000, (b"  ", b" ab|"));
-    let left = text(&rt, alloc, b"ab");
-    expect_ends(&rt, alloc, b"%-300s|", left, 301, (b"ab ", b" |"));
+fn prints_of_several_arguments(rt: HostRuntime) {
+    for &(name, print) in SEVERAL {
+        expect_printed(&rt, rt.alloc(), name, print);
+    }
 }
 
 #[test]
 fn every_byte_is_printed(rt: HostRuntime) {
-    let alloc = rt.alloc();
     for byte in 0..=255u8 {
-        expect_printed(&rt, alloc, b"%c", &[Arg::Num(i64::from(byte))], &[byte]);
-    }
-    expect_refused(&rt, alloc, b"%c", &[Arg::Num(256)], PrintError::BadByte(0));
-    expect_refused(&rt, alloc, b"%c", &[Arg::Num(-1)], PrintError::BadByte(0));
-}
-
-#[test]
-fn format_calls(rt: HostRuntime) {
-    let alloc = rt.alloc();
-    expect_bad(&rt, alloc, b"a%q", 1);
-    expect_printed(&rt, alloc, b"%5d", &[Arg::Num(7)], b"    7");
-    let length = sprintf_len(&format_of(&rt, alloc, b"%5d"), &[Arg::Num(7)]);
-    assert!(rt; length == Ok(5));
-    expect_refused(&rt, alloc, b"%5d", &[], PrintError::WrongArgs);
-    let args = [Arg::Num(1), Arg::Num(-1), Arg::Num(300)];
-    expect_refused(&rt, alloc, b"%d%u%c", &args, PrintError::Negative(1));
-}
-
-#[test]
-fn bad_formats(rt: HostRuntime) {
-    for (format, place) in [
-        ("%05s", 0),
-        ("%+u", 0),
-        ("%.1c", 0),
-        ("%lc", 0),
-        ("%5%", 0),
-        ("%", 0),
-        ("%10000d", 0),
-        ("%lld%llld", 4),
-        ("100%", 3),
-        ("%%%%%", 4),
-        ("%.10000d", 0),
-        ("ab%-+ d", 2),
-        ("%*d", 0),
-        ("%#x", 0),
-        ("%hd", 0),
-        ("%f", 0),
-        ("%d%s%n", 4),
-        ("%ls", 0),
-        ("%-%", 0),
-        ("%0c", 0),
-        ("%+o", 0),
-        ("%5.l", 0),
-    ] {
-        expect_bad(&rt, rt.alloc(), format.as_bytes(), place);
+        let given = [Num(i64::from(byte))];
+        expect_printed(&rt, rt.alloc(), "every_byte", (b"%c", &given, &[byte]));
     }
 }
 
 #[test]
-fn sprintf_pads(rt: HostRuntime) {
-    let alloc = rt.alloc();
-    let args = [
-        text(&rt, alloc, b"hello"),
-        Arg::Num(7),
-        Arg::Num(-7),
-        Arg::Num(0),
-    ];
-    expect_printed(
-        &rt,
-        alloc,
-        b"%5.2r|%-4d|%05d|%.0d|%%",
-        &args,
-        b"   he|7   |-0007||%",
-    );
+fn prints_of_some_length(rt: HostRuntime) {
+    for &(name, format, given, length) in LENGTHS {
+        let cord = printed(&rt, rt.alloc(), format, given);
+        assert!(rt; cord.len() == length, "{name}: {format:?}");
+    }
 }
 
 #[test]
-fn sprintf_numbers(rt: HostRuntime) {
-    let args = [
-        Arg::Num(255),
-        Arg::Num(5),
-        Arg::Num(8),
-        Arg::Num(255),
-        Arg::Num(65),
-    ];
-    expect_printed(
-        &rt,
-        rt.alloc(),
-        b"%08x|%+d|%o|%X|%c",
-        &args,
-        b"000000ff|+5|10|FF|A",
-    );
+fn wide_numbers_and_texts_print_as_in_c(rt: HostRuntime) {
+    for &(format, given, length, start, end) in WIDE {
+        let shown = print_bytes(&rt, rt.alloc(), format, given);
+        assert!(rt; shown.len() == length, "{format:?}");
+        assert!(rt; shown.starts_with(start), "{format:?}");
+        assert!(rt; shown.ends_with(end), "{format:?}");
+    }
 }
 
 #[test]
-fn sprintf_negative_hex(rt: HostRuntime) {
-    expect_refused(
-        &rt,
-        rt.alloc(),
-        b"%x",
-        &[Arg::Num(-1)],
-        PrintError::Negative(0),
-    );
-}
-
-#[test]
-fn sprintf_too_long(rt: HostRuntime) {
-    let alloc = rt.alloc();
-    let longest = [Arg::Cord(run_of(&rt, alloc, 65, MAX_LEN))];
-    expect_refused(&rt, alloc, b"%s!", &longest, PrintError::TooLong);
-    let cord = sprintf(alloc, &format_of(&rt, alloc, b"%s"), &longest).expect(&rt, "no memory");
-    assert!(rt; cord.len() == MAX_LEN);
+fn refused_for_one_reason(rt: HostRuntime) {
+    for &(name, format, given, error) in REFUSALS {
+        expect_refused(&rt, rt.alloc(), name, (format, given, error));
+    }
 }
 
 #[test]
 fn refusals_in_order(rt: HostRuntime) {
-    let alloc = rt.alloc();
-    let longest = run_of(&rt, alloc, 65, MAX_LEN);
-    let args = [Arg::Cord(longest), Arg::Num(-1), Arg::Num(300)];
-    expect_refused(&rt, alloc, b"!%s%u%c", &args, PrintError::Negative(1));
-    expect_refused(&rt, alloc, b"!%s%d%c", &args, PrintError::BadByte(2));
-    expect_refused(&rt, alloc, b"!%s%d%d", &args, PrintError::TooLong);
-    for format in ["!%s%u", "!%s%u%s", "%d%u%c", "!"] {
-        expect_refused(&rt, alloc, format.as_bytes(), &args, PrintError::WrongArgs);
+    let given = [Longest, Num(-1), Num(300)];
+    for &(format, error) in REFUSALS_IN_ORDER {
+        expect_refused(
+            &rt,
+            rt.alloc(),
+            "refusals_in_order",
+            (format, &given, error),
+        );
+    }
+}
+
+#[test]
+fn bad_formats(rt: HostRuntime) {
+    for &(format, place) in BAD_FORMATS {
+        let error = Format::parse(rt.alloc(), format.as_bytes()).err();
+        assert!(rt; error == Some(FormatError::BadFormat(place)), "{format}");
     }
 }
 
 // A cord before a comma and a padded byte.
 fn wrapped(rt: &impl Abort, alloc: Global, format: &Format, cord: Cord) -> Cord {
-    let args = [Arg::Cord(cord), text(rt, alloc, b"x")];
-    sprintf(alloc, format, &args).expect(rt, "no memory")
+    let args = [Arg::Cord(cord), arg_of(rt, alloc, Text(b"x"))];
+    print_of(rt, alloc, format, &args)
 }
 
 // Flat texts would take 300 gigabytes.
@@ -340,72 +460,54 @@ fn prints_share_their_cords(rt: HostRuntime) {
     }
     assert!(rt; cord.len() == (1 << 30) + 3 + 300 * 4);
     let first = format_of(&rt, alloc, b"%.9999s");
-    let start = sprintf(alloc, &first, &[Arg::Cord(cord)]).expect(&rt, "no memory");
+    let start = print_of(&rt, alloc, &first, &[Arg::Cord(cord)]);
     assert!(rt; start.len() == 9999);
 }
 
-// So many times a text.
-fn repeated(rt: &impl Abort, alloc: Global, text: &[u8], count: usize) -> Vec<u8> {
-    let mut bytes = Vec::new(alloc);
+// Appends so many times a text.
+fn repeat(rt: &impl Abort, bytes: &mut Vec<u8>, text: &[u8], count: usize) {
     for _ in 0..count {
         bytes.extend_from_slice(text).expect(rt, "no memory");
     }
+}
+
+fn assembled(rt: &impl Abort, alloc: Global, pieces: Pieces) -> Vec<u8> {
+    let mut bytes = Vec::new(alloc);
+    for &(text, count) in pieces {
+        repeat(rt, &mut bytes, text, count);
+    }
     bytes
 }
 
-// So many times the number -7.
-fn sevens(rt: &impl Abort, alloc: Global, count: usize) -> Vec<Arg> {
-    let mut args = Vec::new(alloc);
-    for _ in 0..count {
-        args.push(Arg::Num(-7)).expect(rt, "no memory");
+#[test]
+fn long_prints_are_as_in_c(rt: HostRuntime) {
+    let alloc = rt.alloc();
+    for &(name, format, given, want) in LONG {
+        let format = assembled(&rt, alloc, format);
+        let want = assembled(&rt, alloc, want);
+        expect_printed(&rt, alloc, name, (&format, given, &want));
     }
-    args
-}
-
-// A text, so many times the byte "a", and another text.
-fn around(rt: &impl Abort, alloc: Global, front: &[u8], count: usize, back: &[u8]) -> Vec<u8> {
-    let mut bytes = Vec::from_slice(alloc, front).expect(rt, "no memory");
-    for _ in 0..count {
-        bytes.push(b'a').expect(rt, "no memory");
-    }
-    bytes.extend_from_slice(back).expect(rt, "no memory");
-    bytes
-}
-
-// Bytes are gathered up to 256: the places around that number, and a text that is longer by itself.
-#[test]
-fn long_lines_print_as_in_c(rt: HostRuntime) {
-    let alloc = rt.alloc();
-    let format = repeated(&rt, alloc, b"%20d|", 30);
-    let want = repeated(&rt, alloc, b"                  -7|", 30);
-    expect_printed(&rt, alloc, &format, &sevens(&rt, alloc, 30), &want);
 }
 
 #[test]
-fn long_texts_of_formats_print_as_in_c(rt: HostRuntime) {
-    let alloc = rt.alloc();
-    let format = around(&rt, alloc, b"%05d", 300, b"%x");
-    let want = around(&rt, alloc, b"00042", 300, b"2a");
-    expect_printed(&rt, alloc, &format, &[Arg::Num(42), Arg::Num(42)], &want);
-}
-
-#[test]
-fn texts_of_a_format(rt: HostRuntime) -> Result<(), Fail> {
-    let alloc = rt.alloc();
-    let format = Format::parse(alloc, b"ab%%c")?;
+fn texts_of_a_format(rt: HostRuntime) {
+    let format = format_of(&rt, rt.alloc(), b"ab%%c");
     let [Piece::Text(first), Piece::Percent, Piece::Text(second)] = format.pieces() else {
         panic!(rt; "other pieces");
     };
     assert!(rt; first.as_slice() == b"ab".as_slice());
     assert!(rt; second.as_slice() == b"c".as_slice());
-    let literal = Literal::of(Vec::from_slice(alloc, b"kept")?);
-    assert!(rt; literal.into_vec().as_slice() == b"kept".as_slice());
-    Ok(())
 }
 
 #[test]
-fn conversions_of_a_format(rt: HostRuntime) -> Result<(), Fail> {
-    let format = Format::parse(rt.alloc(), b"%-07.3lld%X%5c%.s")?;
+fn a_literal_gives_its_bytes_back(rt: HostRuntime) {
+    let kept = Vec::from_slice(rt.alloc(), b"kept").expect(&rt, "no memory");
+    assert!(rt; Literal::of(kept).into_vec().as_slice() == b"kept".as_slice());
+}
+
+#[test]
+fn conversions_of_a_format(rt: HostRuntime) {
+    let format = format_of(&rt, rt.alloc(), b"%-07.3lld%X%5c%.s");
     let [signed, hex, byte, cord] = format.pieces() else {
         panic!(rt; "other pieces");
     };
@@ -438,5 +540,4 @@ fn conversions_of_a_format(rt: HostRuntime) -> Result<(), Fail> {
         )
     );
     assert!(rt; signed.wants() == Some(ArgKind::Number) && cord.wants() == Some(ArgKind::Cord));
-    Ok(())
 }

@@ -4,9 +4,10 @@ ghost use Rattle.cord_io.specs.Device.{Folder, bytes_at};
 ghost use Rattle.cord_io.specs.DiskTold.{told_by};
 ghost use Rattle.cord_io.specs.Told.{Agrees};
 
-use super::{expect_fault, expect_read};
+use super::Ask::{self, Failures, Fault, Read as Reads};
+use super::{expect_all, expect_read};
 use cord_io::{DiskFiles, Files, OpenFault, ReadFault};
-use std::alloc::Allocator;
+use std::alloc::{Allocator, Global};
 use std::fs::{self, Metadata, OpenFile};
 use std::io::{self, ErrorKind, Read, Seek, SeekFrom, Write};
 use std::process::Abort;
@@ -177,6 +178,11 @@ impl rt::Files for Machine {
     }
 }
 
+// Asks a file of a machine.
+fn expect_asked(rt: &impl Abort, alloc: Global, machine: Machine, asks: &[Ask]) {
+    expect_all(rt, &mut DiskFiles::new(machine, alloc), "digits", asks);
+}
+
 // Reading on needs no seek and no call for each part: one seek to the end and one back, a read and one of the rest.
 #[test]
 fn reads_on_ahead_without_a_seek(rt: HostRuntime) {
@@ -185,17 +191,15 @@ fn reads_on_ahead_without_a_seek(rt: HostRuntime) {
         seeks: 2,
         reads: 2,
     };
-    let mut files = DiskFiles::new(machine, rt.alloc());
-    let Ok((no, len)) = files.open("digits") else {
-        panic!(rt; "not opened");
-    };
-    assert!(rt; len == 10);
-    expect_read(&rt, &mut files, no, 0, &mut [0; 3], b"012");
-    expect_read(&rt, &mut files, no, 3, &mut [0; 3], b"345");
-    expect_read(&rt, &mut files, no, 6, &mut [0; 3], b"678");
-    expect_read(&rt, &mut files, no, 9, &mut [0; 3], b"9");
-    expect_read(&rt, &mut files, no, 5, &mut [0; 3], b"567");
-    assert!(rt; files.failures() == 0);
+    let asks = [
+        Reads(0, 3, b"012"),
+        Reads(3, 3, b"345"),
+        Reads(6, 3, b"678"),
+        Reads(9, 3, b"9"),
+        Reads(5, 3, b"567"),
+        Failures(0),
+    ];
+    expect_asked(&rt, rt.alloc(), machine, &asks);
 }
 
 // Two files that are read on in turn are each read ahead, by two reads each.
@@ -232,16 +236,14 @@ fn reads_elsewhere_as_they_are(rt: HostRuntime) {
         seeks: 3,
         reads: 2,
     };
-    let mut files = DiskFiles::new(machine, rt.alloc());
-    let Ok((no, len)) = files.open("digits") else {
-        panic!(rt; "not opened");
-    };
-    assert!(rt; len == 10);
-    expect_read(&rt, &mut files, no, 6, &mut [0; 2], b"67");
-    expect_read(&rt, &mut files, no, 2, &mut [0; 2], b"23");
-    assert!(rt; files.failures() == 0);
-    expect_fault(&rt, &mut files, no, 4);
-    assert!(rt; files.failures() == 1);
+    let asks = [
+        Reads(6, 2, b"67"),
+        Reads(2, 2, b"23"),
+        Failures(0),
+        Fault(4),
+        Failures(1),
+    ];
+    expect_asked(&rt, rt.alloc(), machine, &asks);
 }
 
 // A call that fails while it reads ahead is made again for the bytes that were asked for.
@@ -252,14 +254,8 @@ fn a_fault_ahead_is_no_fault(rt: HostRuntime) {
         seeks: 3,
         reads: 1,
     };
-    let mut files = DiskFiles::new(machine, rt.alloc());
-    let Ok((no, len)) = files.open("digits") else {
-        panic!(rt; "not opened");
-    };
-    assert!(rt; len == 10);
-    expect_read(&rt, &mut files, no, 0, &mut [0; 4], b"0123");
-    expect_read(&rt, &mut files, no, 4, &mut [0; 4], b"4567");
-    assert!(rt; files.failures() == 0);
+    let asks = [Reads(0, 4, b"0123"), Reads(4, 4, b"4567"), Failures(0)];
+    expect_asked(&rt, rt.alloc(), machine, &asks);
 }
 
 // After a fault the place of the machine's file is not known, so that the next read seeks.
@@ -271,15 +267,8 @@ fn faults_in_mid_stream_are_counted(rt: HostRuntime) {
             seeks: 4,
             reads: 1,
         };
-        let mut files = DiskFiles::new(machine, rt.alloc());
-        let Ok((no, len)) = files.open("digits") else {
-            panic!(rt; "not opened");
-        };
-        assert!(rt; len == 10);
-        expect_read(&rt, &mut files, no, 2, &mut [0; 4], b"2345");
-        expect_fault(&rt, &mut files, no, 6);
-        expect_fault(&rt, &mut files, no, 6);
-        assert!(rt; files.failures() == 2);
+        let asks = [Reads(2, 4, b"2345"), Fault(6), Fault(6), Failures(2)];
+        expect_asked(&rt, rt.alloc(), machine, &asks);
     }
 }
 

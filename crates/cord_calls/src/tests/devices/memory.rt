@@ -1,17 +1,13 @@
 // What files in memory answer.
-use super::{digits_file, expect_read};
+use super::Ask::{Failures, Read};
+use super::{digits_file, expect_all, expect_read};
 use cord_io::{CordError, Files, MemFiles, OpenFault};
 
 #[test]
 fn reads_what_lies_inside(rt: HostRuntime) {
     let mut files = digits_file(&rt, rt.alloc());
-    let Ok((no, len)) = files.open("digits") else {
-        panic!(rt; "not opened");
-    };
-    assert!(rt; len == 10);
-    expect_read(&rt, &mut files, no, 3, &mut [0; 4], b"3456");
-    expect_read(&rt, &mut files, no, 8, &mut [0; 4], b"89");
-    assert!(rt; files.failures() == 0);
+    let asks = [Read(3, 4, b"3456"), Read(8, 4, b"89"), Failures(0)];
+    expect_all(&rt, &mut files, "digits", &asks);
 }
 
 #[test]
