@@ -7,6 +7,7 @@ mod extensible;
 mod files;
 mod formats;
 mod iteration;
+mod made;
 mod marks;
 mod nodes;
 mod positions;

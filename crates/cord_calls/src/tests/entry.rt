@@ -1,5 +1,5 @@
 // A source of one entry, which reads so often and so far.
-ghost use Rattle.std.specs.Prelude.{◌≡◌};
+ghost use Rattle.std.specs.Prelude.{◌≡◌, ◌≤◌, length};
 
 use cord_io::{ReadFault, Source, SourceId};
 
@@ -63,9 +63,15 @@ impl<'a> Entry<'a> {
             failures: 0,
         }
     }
+}
 
-    // No byte, and no read that works.
-    pub(super) fn nothing() -> Entry<'static> {
-        Entry::new(b"", 0)
+// Six hundred bytes, which can be read so often, and those before a place alone.
+pub(super) fn six_hundred(given: (u64, u64)) -> Entry<'static>
+    ensures { 600 ≤ length result.bytes.now }
+{
+    let (reads, cut) = given;
+    Entry {
+        cut,
+        ..Entry::new(&[120; 600], reads)
     }
 }

@@ -1,132 +1,226 @@
 // Rows of worked examples, over a source of one entry.
-ghost use Rattle.std.specs.Prelude.{◌≡◌, ◌<◌, IfOk};
+ghost use Rattle.std.specs.Prelude.{◌≡◌, ◌≤◌};
 ghost use Rattle.cord_io.specs.Table.{Lengths, length_at};
 ghost use Rattle.cord_core.specs.Cord.{CordFitsIn};
 
 use super::entry::Entry;
-use super::trees::{cord_of, joined, run_of};
-use crate::leaf;
+use super::made::{Part, Parts, made};
+use super::trees::{cord_of, joined};
+use Part::{Func, Leaf, Run, Twice};
+use Step::{At, Fetched, Gone, Len, Nexts, Prev};
 use cord_core::Cord;
-use cord_io::{CordError, Source, SourceId};
+use cord_io::{CordError, Source};
 use cord_pos::Position;
 use std::alloc::Global;
 use std::process::Abort;
-use std::test::Fail;
 
-// The first byte of entry 2.
-fn entry_cord(alloc: Global) -> Result<Cord, CordError>
-    ensures { IfOk result (λ c. (lengths : Lengths) → 0 < length_at lengths 2 → CordFitsIn lengths c) }
-{
-    let cord = Cord::from_fn(alloc, SourceId(2), 0, 1)?;
-    Ok(cord)
+// What is done with a position, or has to hold of it.
+#[derive(Clone, Copy)]
+enum Step {
+    // So many steps on.
+    Nexts(u32),
+    // A step back.
+    Prev,
+    // It is at this index, where it is inside, after so many visits.
+    At(Option<u64>, u64),
+    // It is outside.
+    Gone,
+    // Its byte is this over a source of so many reads, whose entry 2 has 600 times a byte.
+    Fetched(u8, u64, Result<u8, CordError>),
+    // It is in a cord of this length.
+    Len(u64),
 }
 
-// The byte at a position in a cord of leaves, over a source that has nothing.
-fn fetched(position: &mut Position) -> Option<Result<u8, CordError>>
-    requires { (lengths : Lengths) → CordFitsIn lengths position.old.cord }
-    ensures { position.new ≡ position.old }
-{
-    let mut source = Entry::nothing();
-    if position.is_valid() {
-        Some(position.fetch(&mut source))
-    } else {
-        None
-    }
-}
+const ABC: Parts = &[Leaf(b"abc")];
 
-// Whether a position is valid, its index and its visits.
-fn expect_at(rt: &impl Abort, position: &Position, index: Option<u64>, visits: u64) {
-    assert!(rt; position.is_valid() == index.is_some(), "at {index:?}");
-    assert!(rt; position.index() == index, "at {index:?}");
-    assert!(rt; position.visits() == visits, "the visits at {index:?}");
-}
-
-#[test]
-fn position_calls(rt: HostRuntime) -> Result<(), Fail> {
-    let cord = leaf(rt.alloc(), b"abc")?;
-    let mut position = Position::set(&cord, 1);
-    assert!(rt; fetched(&mut position) == Some(Ok(98)));
-    position.next();
-    assert!(rt; fetched(&mut position) == Some(Ok(99)));
-    expect_at(&rt, &position, Some(2), 1);
-    assert!(rt; position.cord().len() == 3);
-    Ok(())
-}
-
-#[test]
-fn positions_end_on_both_sides(rt: HostRuntime) {
-    let cord = cord_of(&rt, rt.alloc(), b"abc");
-    let mut position = Position::set(&cord, 2);
-    position.next();
-    assert!(rt; position.index() == None && !position.is_valid());
-    position.prev();
-    assert!(rt; !position.is_valid());
-    let mut position = Position::set(&cord, 0);
-    position.prev();
-    assert!(rt; !position.is_valid());
-    assert!(rt; !Position::set(&cord, 3).is_valid());
-}
-
-// Two leaves of 100 bytes.
-fn two_leaves(rt: &impl Abort, alloc: Global) -> Cord {
-    let left = cord_of(rt, alloc, &[120; 100]);
-    joined(rt, alloc, &left, &cord_of(rt, alloc, &[121; 100]))
-}
-
-#[test]
-fn visits_counted(rt: HostRuntime) {
-    let cord = two_leaves(&rt, rt.alloc());
-    let mut position = Position::set(&cord, 0);
-    expect_at(&rt, &position, Some(0), 2);
-    for _step in 0..99 {
-        position.next();
-    }
-    expect_at(&rt, &position, Some(99), 2);
-    position.next();
-    expect_at(&rt, &position, Some(100), 3);
-    position.prev();
-    expect_at(&rt, &position, Some(99), 4);
-}
+const TWO_LEAVES: Parts = &[Leaf(&[120; 100]), Leaf(&[121; 100])];
 
 // Two leaves of 100 bytes, twice.
-fn four_leaves(rt: &impl Abort, alloc: Global) -> Cord {
-    let half = two_leaves(rt, alloc);
-    joined(rt, alloc, &half, &half)
+const FOUR_LEAVES: Parts = &[Leaf(&[120; 100]), Leaf(&[121; 100]), Twice(1)];
+
+// The first byte of entry 2.
+const ENTRY: Parts = &[Func(0, 1)];
+
+// From a place on.
+const WALKS: &[(&str, Parts, u64, &[Step])] = &[
+    (
+        "position_calls",
+        ABC,
+        1,
+        &[
+            Fetched(0, 0, Ok(98)),
+            Nexts(1),
+            Fetched(0, 0, Ok(99)),
+            At(Some(2), 1),
+            Len(3),
+        ],
+    ),
+    (
+        "positions_end_on_both_sides",
+        ABC,
+        2,
+        &[Nexts(1), Gone, Prev, Gone],
+    ),
+    ("positions_end_on_both_sides", ABC, 0, &[Prev, Gone]),
+    ("positions_end_on_both_sides", ABC, 3, &[Gone]),
+    (
+        "visits_counted",
+        TWO_LEAVES,
+        0,
+        &[
+            At(Some(0), 2),
+            Nexts(99),
+            At(Some(99), 2),
+            Nexts(1),
+            At(Some(100), 3),
+            Prev,
+            At(Some(99), 4),
+        ],
+    ),
+    (
+        "visits_counted_at_each_place",
+        FOUR_LEAVES,
+        0,
+        &[
+            Len(400),
+            At(Some(0), 3),
+            Nexts(199),
+            At(Some(199), 4),
+            Nexts(1),
+            At(Some(200), 6),
+            Nexts(199),
+            At(Some(399), 7),
+            Nexts(1),
+            Gone,
+        ],
+    ),
+    (
+        "visits_of_whole_walks",
+        FOUR_LEAVES,
+        400,
+        &[Len(400), At(None, 0)],
+    ),
+    (
+        "position_keeps_no_bytes",
+        ENTRY,
+        0,
+        &[Fetched(97, 1, Ok(97)), Fetched(98, 1, Ok(98))],
+    ),
+    (
+        "a_fault_leaves_the_position",
+        ENTRY,
+        0,
+        &[
+            Fetched(97, 0, Err(CordError::ReadFailed)),
+            At(Some(0), 1),
+            Fetched(97, 1, Ok(97)),
+        ],
+    ),
+    ("a_run_has_its_byte", &[Run(46, 3)], 2, &[At(Some(2), 1)]),
+];
+
+fn walk_on(position: &mut Position, steps: u32)
+    requires { (lengths : Lengths) → 600 ≤ length_at lengths 2 → CordFitsIn lengths position.old.cord }
+    ensures { (lengths : Lengths) → 600 ≤ length_at lengths 2 → CordFitsIn lengths position.new.cord }
+{
+    for _step in 0..steps {
+        position.next();
+    }
+}
+
+fn expect_fetched(
+    rt: &impl Abort,
+    name: &str,
+    position: &mut Position,
+    byte: u8,
+    reads: u64,
+    answer: Result<u8, CordError>,
+)
+    requires { (lengths : Lengths) → 600 ≤ length_at lengths 2 → CordFitsIn lengths position.old.cord }
+    ensures { position.new.cord ≡ position.old.cord }
+{
+    let bytes = [byte; 600];
+    let mut source = Entry::new(&bytes, reads);
+    assert!(rt; position.is_valid(), "{name}");
+    let fetched = position.fetch(&mut source);
+    assert!(rt; fetched == answer, "{name}: {byte}");
+    assert!(rt; source.failures() == u64::from(answer.is_err()), "{name}");
+}
+
+fn expect_at(rt: &impl Abort, name: &str, position: &Position, index: Option<u64>, visits: u64) {
+    assert!(rt;
+        position.is_valid() == index.is_some(),
+        "{name}: at {index:?}"
+    );
+    assert!(rt; position.index() == index, "{name}: at {index:?}");
+    assert!(rt;
+        position.visits() == visits,
+        "{name}: the visits at {index:?}"
+    );
+}
+
+fn expect_gone(rt: &impl Abort, name: &str, position: &Position) {
+    assert!(rt; !position.is_valid(), "{name}");
+    assert!(rt; position.index() == None, "{name}");
+}
+
+fn expect_len(rt: &impl Abort, name: &str, position: &Position, len: u64) {
+    assert!(rt; position.cord().len() == len, "{name}");
+}
+
+fn take_step(rt: &impl Abort, name: &str, position: &mut Position, step: Step)
+    requires { (lengths : Lengths) → 600 ≤ length_at lengths 2 → CordFitsIn lengths position.old.cord }
+    ensures { (lengths : Lengths) → 600 ≤ length_at lengths 2 → CordFitsIn lengths position.new.cord }
+{
+    match step {
+        Nexts(steps) => walk_on(position, steps),
+        Prev => position.prev(),
+        At(index, visits) => expect_at(rt, name, position, index, visits),
+        Gone => expect_gone(rt, name, position),
+        Fetched(byte, reads, answer) => expect_fetched(rt, name, position, byte, reads, answer),
+        Len(len) => expect_len(rt, name, position, len),
+    }
+}
+
+fn walk(rt: &impl Abort, name: &str, position: &mut Position, steps: &[Step])
+    requires { (lengths : Lengths) → 600 ≤ length_at lengths 2 → CordFitsIn lengths position.old.cord }
+{
+    for step in steps {
+        take_step(rt, name, position, *step);
+    }
+}
+
+fn expect_walk(
+    rt: &impl Abort,
+    alloc: Global,
+    name: &str,
+    parts: Parts,
+    start: u64,
+    steps: &[Step],
+) {
+    let cord = made(rt, alloc, parts);
+    walk(rt, name, &mut Position::set(&cord, start), steps);
 }
 
 #[test]
-fn visits_counted_at_each_place(rt: HostRuntime) {
-    let cord = four_leaves(&rt, rt.alloc());
-    assert!(rt; cord.len() == 400);
-    let mut position = Position::set(&cord, 0);
-    let mut visits = [0; 400];
-    for place in &mut visits {
-        *place = position.visits();
-        position.next();
+fn rows_of_walks(rt: HostRuntime) {
+    for &(name, parts, start, steps) in WALKS {
+        expect_walk(&rt, rt.alloc(), name, parts, start, steps);
     }
-    assert!(rt; !position.is_valid());
-    assert!(rt; (visits[0], visits[199], visits[200], visits[399]) == (3, 4, 6, 7));
 }
 
 #[test]
 fn visits_of_whole_walks(rt: HostRuntime) {
-    let cord = four_leaves(&rt, rt.alloc());
+    let cord = made(&rt, rt.alloc(), FOUR_LEAVES);
     assert!(rt; cord.len() == 400);
-    expect_at(&rt, &Position::set(&cord, 400), None, 0);
     assert!(rt; Position::walk_to(&cord, 200).visits() == 6);
     assert!(rt; Position::walk_through(&cord).visits() == 7);
 }
 
 #[test]
-fn position_keeps_no_bytes(rt: HostRuntime) -> Result<(), Fail> {
-    let cord = entry_cord(rt.alloc())?;
-    let mut position = Position::set(&cord, 0);
-    assert!(rt; position.is_valid());
-    let mut source = Entry::new(b"a", 1);
-    assert!(rt; position.fetch(&mut source) == Ok(97));
-    let mut source = Entry::new(b"b", 1);
-    assert!(rt; position.fetch(&mut source) == Ok(98));
-    Ok(())
+fn nothing_is_walked_through(rt: HostRuntime) {
+    let empty = Cord::empty();
+    assert!(rt; !Position::walk_through(&empty).is_valid());
 }
 
 #[test]
@@ -139,26 +233,4 @@ fn depth_fifty(rt: HostRuntime) {
     }
     assert!(rt; cord.depth() == 50);
     assert!(rt; Position::set(&cord, 0).visits() == 51);
-}
-
-#[test]
-fn a_fault_leaves_the_position(rt: HostRuntime) -> Result<(), Fail> {
-    let cord = entry_cord(rt.alloc())?;
-    let mut position = Position::set(&cord, 0);
-    assert!(rt; position.is_valid());
-    let mut source = Entry::new(b"a", 0);
-    assert!(rt; position.fetch(&mut source) == Err(CordError::ReadFailed));
-    assert!(rt; source.failures() == 1);
-    expect_at(&rt, &position, Some(0), 1);
-    let mut source = Entry::new(b"a", 1);
-    assert!(rt; position.fetch(&mut source) == Ok(97));
-    Ok(())
-}
-
-#[test]
-fn a_run_has_its_byte(rt: HostRuntime) {
-    let empty = Cord::empty();
-    assert!(rt; !Position::walk_through(&empty).is_valid());
-    let run = run_of(&rt, rt.alloc(), 46, 3);
-    expect_at(&rt, &Position::set(&run, 2), Some(2), 1);
 }

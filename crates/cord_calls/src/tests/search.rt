@@ -1,377 +1,459 @@
 // Rows of worked examples, and a read that fails.
-ghost use Rattle.std.specs.Prelude.{◌+◌, ◌≤◌, IfOk, length};
-ghost use Rattle.cord_io.specs.Table.{Lengths, length_at};
-ghost use Rattle.cord_core.specs.Cord.{CordFitsIn};
-
-use super::entry::Entry;
-use cord_core::Cord;
-use cord_io::{CordError, MAX_LEN, Source, SourceId};
+use super::entry::six_hundred;
+use super::made::{Part, Parts, longer, made};
+use Part::{Func, Leaf, Run, Twice};
+use cord_io::{CordError, MAX_LEN, Source};
 use cord_search::{chr, cmp, fetch, ncmp, rchr, str};
 use std::alloc::Global;
 use std::process::Abort;
-use std::test::Fail;
 
-// Six hundred bytes, which can be read so often.
-fn six_hundred(reads: u64) -> Entry<'static>
-    ensures { 600 ≤ length result.bytes.now }
-{
-    Entry::new(&[120; 600], reads)
-}
+// What a source gives: how many reads, and only bytes before this place.
+type Reads = (u64, u64);
 
-// Six hundred bytes, of which those before `cut` can be read.
-fn cut_at(cut: u64) -> Entry<'static>
-    ensures { 600 ≤ length result.bytes.now }
-{
-    Entry {
-        cut,
-        ..six_hundred(u64::MAX)
-    }
-}
+// No read, for cords that need none.
+const NONE: Reads = (0, u64::MAX);
 
-// A cord of these bytes, which needs no source. One clause alone, so that what the calls ask is found in it at once.
-fn leaf(alloc: Global, bytes: &[u8]) -> Result<Cord, CordError>
-    ensures { IfOk result (λ c. (lengths : Lengths) → CordFitsIn lengths c) }
-{
-    let cord = Cord::from_bytes(alloc, bytes)?;
-    Ok(cord)
-}
+// What a call over a source of one entry answers.
+type Answer<T> = Result<T, CordError>;
 
-// The text "ababc" of three parts.
-fn joined(alloc: Global) -> Result<Cord, CordError>
-    ensures { IfOk result (λ c. (lengths : Lengths) → CordFitsIn lengths c) }
-{
-    let front = leaf(alloc, b"ab")?;
-    let twice = Cord::cat(alloc, &front, &front)?;
-    let back = leaf(alloc, b"c")?;
-    let cord = Cord::cat(alloc, &twice, &back)?;
-    Ok(cord)
-}
-
-// So many times the byte "a" as a run, and the text "ab" as a leaf.
-fn run_and_leaf(alloc: Global, len: u64) -> Result<Cord, CordError>
-    ensures { IfOk result (λ c. (lengths : Lengths) → CordFitsIn lengths c) }
-{
-    let run = run_of(alloc, len)?;
-    let back = leaf(alloc, b"ab")?;
-    let cord = Cord::cat(alloc, &run, &back)?;
-    Ok(cord)
-}
-
-// So many times the byte "a".
-fn run_of(alloc: Global, len: u64) -> Result<Cord, CordError>
-    ensures { IfOk result (λ c. (lengths : Lengths) → CordFitsIn lengths c) }
-{
-    let cord = Cord::chars(alloc, b'a', len)?;
-    Ok(cord)
-}
-
-// A cord and itself, one behind the other, so often: a leaf of 64 bytes, 2^turns times.
-fn doubled(alloc: Global, turns: u32) -> Result<Cord, CordError>
-    ensures { IfOk result (λ c. (lengths : Lengths) → CordFitsIn lengths c) }
-{
-    let mut cord = leaf(alloc, &[b'a'; 64])?;
-    for _turn in 0..turns {
-        cord = Cord::cat(alloc, &cord, &cord)?;
-    }
-    Ok(cord)
-}
-
-// The cord twice, and then this byte: a concatenation of its own each time.
-fn twice_and(alloc: Global, cord: &Cord, end: u8) -> Result<Cord, CordError>
-    requires { (lengths : Lengths) → CordFitsIn lengths cord.now }
-    ensures { IfOk result (λ c. (lengths : Lengths) → CordFitsIn lengths c) }
-{
-    let both = Cord::cat(alloc, cord, cord)?;
-    let end = leaf(alloc, &[end])?;
-    let cord = Cord::cat(alloc, &both, &end)?;
-    Ok(cord)
-}
+const FAILED: CordError = CordError::ReadFailed;
 
 // The first 600 bytes of entry 2.
-fn entry_cord(alloc: Global) -> Result<Cord, CordError>
-    ensures { IfOk result (λ c. (lengths : Lengths) → 600 ≤ length_at lengths 2 → CordFitsIn lengths c) }
-{
-    let cord = entry_range(alloc, 0, 600)?;
-    Ok(cord)
+const ENTRY: Parts = &[Func(0, 600)];
+
+// Where a pattern begins in a cord, from a place on.
+const STR: &[(&str, Parts, u64, &[u8], u64, Answer<Option<u64>>)] = &[
+    ("rows_of_str", ABABC, 0, b"abc", 0, Ok(Some(2))),
+    ("rows_of_str", ABABC, 3, b"abc", 0, Ok(None)),
+    ("rows_of_str", ABABC, 5, b"", 0, Ok(Some(5))),
+    ("rows_of_str", ABABC, 6, b"", 0, Ok(None)),
+    (
+        "str_over_a_seam",
+        &[Run(b'a', 2), Leaf(b"ab")],
+        0,
+        b"aab",
+        0,
+        Ok(Some(1)),
+    ),
+    (
+        "str_passes_over_the_longest_run",
+        RUN_AND_LEAF,
+        0,
+        b"aab",
+        0,
+        Ok(Some(MAX_LEN - 3)),
+    ),
+    (
+        "str_passes_over_the_longest_run",
+        RUN_AND_LEAF,
+        0,
+        b"ba",
+        0,
+        Ok(None),
+    ),
+    (
+        "str_finds_the_byte_of_a_run",
+        RUN_AND_LEAF,
+        5,
+        b"aaa",
+        0,
+        Ok(Some(5)),
+    ),
+    (
+        "str_finds_the_byte_of_a_run",
+        RUN_AND_LEAF,
+        MAX_LEN - 3,
+        b"aaa",
+        0,
+        Ok(None),
+    ),
+    (
+        "a_read_fails_in_the_middle",
+        ENTRY,
+        0,
+        b"xy",
+        1,
+        Err(FAILED),
+    ),
+];
+
+// The text "ababc" of three parts.
+const ABABC: Parts = &[Leaf(b"ab"), Twice(1), Leaf(b"c")];
+
+const RUN_AND_LEAF: Parts = &[Run(b'a', MAX_LEN - 2), Leaf(b"ab")];
+
+// A leaf of 64 bytes, 2^32 times.
+const DOUBLED: Parts = &[Leaf(&[b'a'; 64]), Twice(32)];
+
+const DOUBLED_LEN: u64 = 64 << 32;
+
+// Twice what stands before, and then a byte: a concatenation of its own each time.
+const THEN_X: Parts = &[Twice(1), Leaf(b"x")];
+
+const THEN_Y: Parts = &[Twice(1), Leaf(b"y")];
+
+const LONGEST_RUN: Parts = &[Run(b'a', MAX_LEN)];
+
+const SHORTER_RUN: Parts = &[Run(b'a', MAX_LEN - 1)];
+
+// What two cords share, and what each of them has behind it: with nothing both are one cord.
+type Pair = (Parts, Parts, Parts);
+
+// Which of two cords is greater.
+const CMP: &[(&str, Pair, Reads, Answer<i8>)] = &[
+    (
+        "rows_of_cmp",
+        (&[], &[Leaf(b"\x80")], &[Leaf(b"a")]),
+        NONE,
+        Ok(1),
+    ),
+    (
+        "rows_of_cmp",
+        (&[], &[Leaf(b"ab")], &[Leaf(b"abc")]),
+        NONE,
+        Ok(-1),
+    ),
+    (
+        "a_run_of_the_longest_length_is_compared_at_once",
+        (LONGEST_RUN, &[], &[]),
+        NONE,
+        Ok(0),
+    ),
+    (
+        "a_run_of_the_longest_length_is_compared_at_once",
+        (&[], SHORTER_RUN, LONGEST_RUN),
+        NONE,
+        Ok(-1),
+    ),
+    (
+        "a_run_of_the_longest_length_is_compared_at_once",
+        (&[], LONGEST_RUN, SHORTER_RUN),
+        NONE,
+        Ok(1),
+    ),
+    (
+        "a_read_of_two_ranges_fails_in_the_middle",
+        (&[], &[Func(0, 590)], &[Func(10, 590)]),
+        (2, u64::MAX),
+        Err(FAILED),
+    ),
+    (
+        "a_read_of_two_ranges_fails_in_the_middle",
+        (&[], &[Func(0, 590)], &[Func(10, 590)]),
+        (4, u64::MAX),
+        Ok(0),
+    ),
+    (
+        "what_both_share_is_passed_over",
+        (DOUBLED, THEN_X, THEN_Y),
+        NONE,
+        Ok(-1),
+    ),
+    (
+        "what_both_share_is_passed_over",
+        (DOUBLED, THEN_Y, THEN_X),
+        NONE,
+        Ok(1),
+    ),
+    (
+        "what_both_share_is_passed_over",
+        (&[Leaf(&[b'a'; 64]), Twice(33), Leaf(b"x")], &[], &[]),
+        NONE,
+        Ok(0),
+    ),
+    (
+        "equal_ranges_of_an_entry_need_no_read",
+        (&[], &[Func(7, 500)], &[Func(7, 500)]),
+        NONE,
+        Ok(0),
+    ),
+    (
+        "equal_ranges_of_an_entry_need_no_read",
+        (&[], &[Func(7, 499)], &[Func(7, 500)]),
+        NONE,
+        Ok(-1),
+    ),
+    (
+        "nothing_is_read_past_a_prefix",
+        (&[], ENTRY, &[Leaf(b"xxy")]),
+        (u64::MAX, 3),
+        Ok(-1),
+    ),
+    (
+        "nothing_is_read_past_a_prefix",
+        (&[], &[Leaf(b"xxy")], ENTRY),
+        (u64::MAX, 3),
+        Ok(1),
+    ),
+];
+
+// Which is greater of so many bytes of two cords, from a place of each on.
+const NCMP: &[(&str, Pair, (u64, u64, u64), Reads, Answer<i8>)] = &[
+    (
+        "rows_of_ncmp",
+        (&[], &[Leaf(b"abcx")], &[Leaf(b"zabcy")]),
+        (0, 1, 3),
+        NONE,
+        Ok(0),
+    ),
+    (
+        "rows_of_ncmp",
+        (&[], &[Leaf(b"abcx")], &[Leaf(b"zabcy")]),
+        (0, 1, 4),
+        NONE,
+        Ok(-1),
+    ),
+    (
+        "what_both_share_is_passed_over",
+        (DOUBLED, THEN_X, THEN_Y),
+        (0, 0, DOUBLED_LEN),
+        NONE,
+        Ok(0),
+    ),
+    (
+        "what_both_share_is_passed_over",
+        (DOUBLED, THEN_X, THEN_Y),
+        (5, DOUBLED_LEN + 5, MAX_LEN),
+        NONE,
+        Ok(-1),
+    ),
+    (
+        "unequal_places_of_a_shared_node_differ",
+        (ABABC, &[], &[]),
+        (0, 1, 2),
+        NONE,
+        Ok(-1),
+    ),
+    (
+        "unequal_places_of_a_shared_node_differ",
+        (ABABC, &[], &[]),
+        (2, 0, 3),
+        NONE,
+        Ok(1),
+    ),
+    (
+        "unequal_places_of_a_shared_node_differ",
+        (ABABC, &[], &[]),
+        (2, 0, 2),
+        NONE,
+        Ok(0),
+    ),
+    (
+        "equal_ranges_of_an_entry_need_no_read",
+        (&[], &[Func(7, 500)], &[Func(7, 499)]),
+        (3, 3, MAX_LEN),
+        NONE,
+        Ok(1),
+    ),
+    (
+        "nothing_is_read_past_what_is_compared",
+        (ENTRY, &[], &[]),
+        (300, 0, 5),
+        (u64::MAX, 305),
+        Ok(0),
+    ),
+    (
+        "nothing_is_read_past_what_is_compared",
+        (ENTRY, &[], &[]),
+        (300, 0, 5),
+        (u64::MAX, 304),
+        Err(FAILED),
+    ),
+];
+
+// A row about a byte of a cord: the parts, the place, the byte, the reads that the source gives, and the answer.
+type ByteRow = (&'static str, Parts, u64, u8, u64, Answer<Option<u64>>);
+
+// The first place of a byte, from a place on.
+const CHR: &[ByteRow] = &[
+    ("rows_of_chr", &[Leaf(b"hello")], 0, 108, 0, Ok(Some(2))),
+    ("rows_of_chr", &[Leaf(b"hello")], 0, 122, 0, Ok(None)),
+    (
+        "a_run_of_the_longest_length_answers_at_once",
+        LONGEST_RUN,
+        0,
+        b'b',
+        0,
+        Ok(None),
+    ),
+    (
+        "a_run_of_the_longest_length_answers_at_once",
+        LONGEST_RUN,
+        7,
+        b'a',
+        0,
+        Ok(Some(7)),
+    ),
+    ("a_read_for_a_byte_fails", ENTRY, 0, 121, 2, Ok(None)),
+];
+
+// The last place of a byte, from a place back.
+const RCHR: &[ByteRow] = &[
+    ("rows_of_chr", &[Leaf(b"hello")], 4, 108, 0, Ok(Some(3))),
+    ("rows_of_chr", &[Leaf(b"hello")], 4, 122, 0, Ok(None)),
+    (
+        "a_run_of_the_longest_length_answers_at_once",
+        LONGEST_RUN,
+        MAX_LEN - 1,
+        b'b',
+        0,
+        Ok(None),
+    ),
+    (
+        "a_run_of_the_longest_length_answers_at_once",
+        LONGEST_RUN,
+        7,
+        b'a',
+        0,
+        Ok(Some(7)),
+    ),
+    ("a_read_for_a_byte_fails", ENTRY, 599, 121, 1, Err(FAILED)),
+];
+
+// The byte at a place.
+const FETCH: &[(&str, Parts, u64, Answer<u8>)] = &[
+    ("rows_of_chr", &[Leaf(b"hello")], 4, Ok(111)),
+    ("a_read_at_a_place_fails", ENTRY, 599, Err(FAILED)),
+];
+
+// The lengths of cords of the other rows.
+const LENGTHS: &[(&str, Parts, u64)] = &[
+    ("rows_of_chr", &[Leaf(b"hello")], 5),
+    ("a_read_for_a_byte_fails", ENTRY, 600),
+    ("a_read_at_a_place_fails", ENTRY, 600),
+    (
+        "what_both_share_is_passed_over",
+        &[Leaf(&[b'a'; 64]), Twice(33), Leaf(b"x")],
+        549_755_813_889,
+    ),
+];
+
+#[test]
+fn lengths(rt: HostRuntime) {
+    for &(name, parts, len) in LENGTHS {
+        let cord = made(&rt, rt.alloc(), parts);
+        assert!(rt; cord.len() == len, "{name}");
+    }
 }
 
-// A range of the first 600 bytes of entry 2.
-fn entry_range(alloc: Global, start: u64, count: u64) -> Result<Cord, CordError>
-    requires { start + count ≤ 600 }
-    ensures { IfOk result (λ c. (lengths : Lengths) → 600 ≤ length_at lengths 2 → CordFitsIn lengths c) }
-{
-    let cord = Cord::from_fn(alloc, SourceId(2), start, count)?;
-    Ok(cord)
-}
-
-// Each call is made in a function of its own, which compares its answer and promises nothing: so a test has little to prove.
-
-// Where a text begins in a cord without function parts, from a place on.
 fn expect_str(
     rt: &impl Abort,
     alloc: Global,
-    cord: &Cord,
-    from: u64,
-    text: &[u8],
-    place: Option<u64>,
-)
-    requires { (lengths : Lengths) → CordFitsIn lengths cord.now }
-{
-    let Ok(pattern) = leaf(alloc, text) else {
-        panic!(rt; "no memory");
-    };
-    let found = str(cord, from, &pattern, &mut Entry::nothing());
-    assert!(rt; found == Ok(place), "{text:?} from {from}");
+    name: &str,
+    (parts, from, pattern): (Parts, u64, &'static [u8]),
+    reads: u64,
+    answer: Answer<Option<u64>>,
+) {
+    let cord = made(rt, alloc, parts);
+    let pattern = made(rt, alloc, &[Leaf(pattern)]);
+    let mut source = six_hundred((reads, u64::MAX));
+    let found = str(&cord, from, &pattern, &mut source);
+    assert!(rt; found == answer, "{name}: from {from}");
+    assert!(rt; source.failures() == u64::from(answer.is_err()), "{name}");
 }
 
-// Which of two cords without function parts is greater.
-fn expect_cmp(rt: &impl Abort, left: &Cord, right: &Cord, sign: i8)
-    requires left { (lengths : Lengths) → CordFitsIn lengths left.now }
-    requires right { (lengths : Lengths) → CordFitsIn lengths right.now }
-{
-    let compared = cmp(left, right, &mut Entry::nothing());
-    assert!(rt; compared == Ok(sign), "a sign that is not {sign}");
+#[test]
+fn rows_of_str(rt: HostRuntime) {
+    for &(name, parts, from, pattern, reads, answer) in STR {
+        expect_str(&rt, rt.alloc(), name, (parts, from, pattern), reads, answer);
+    }
 }
 
-// Which of two texts is greater.
-fn expect_order(rt: &impl Abort, alloc: Global, left: &[u8], right: &[u8], sign: i8) {
-    let (Ok(left), Ok(right)) = (leaf(alloc, left), leaf(alloc, right)) else {
-        panic!(rt; "no memory");
-    };
-    expect_cmp(rt, &left, &right, sign);
-}
-
-// Which is greater of so many bytes of two cords without function parts, from a place of each on.
-fn expect_ncmp(rt: &impl Abort, left: &Cord, i: u64, right: &Cord, j: u64, count: u64, sign: i8)
-    requires left { (lengths : Lengths) → CordFitsIn lengths left.now }
-    requires right { (lengths : Lengths) → CordFitsIn lengths right.now }
-{
-    let compared = ncmp(left, i, right, j, count, &mut Entry::nothing());
-    assert!(rt; compared == Ok(sign), "{count} bytes from {i} and {j}");
-}
-
-// The first and the last place of a byte in a cord without function parts, each from a place of its own.
-fn expect_bytes(
+fn expect_cmp(
     rt: &impl Abort,
-    cord: &Cord,
-    byte: u8,
-    front: (u64, Option<u64>),
-    behind: (u64, Option<u64>),
-)
-    requires { (lengths : Lengths) → CordFitsIn lengths cord.now }
-{
-    let (from, first) = front;
-    let (back, last) = behind;
-    assert!(rt; from < cord.len());
-    assert!(rt; back < cord.len());
-    let found = chr(cord, from, byte, &mut Entry::nothing());
-    assert!(rt; found == Ok(first), "{byte} from {from}");
-    let found = rchr(cord, back, byte, &mut Entry::nothing());
-    assert!(rt; found == Ok(last), "{byte} from {back} back");
-}
-
-// The order of two cords over such a source.
-fn cmp_over(left: &Cord, right: &Cord, mut source: Entry<'static>) -> Result<i8, CordError>
-    requires left { (lengths : Lengths) → 600 ≤ length_at lengths 2 → CordFitsIn lengths left.now }
-    requires right { (lengths : Lengths) → 600 ≤ length_at lengths 2 → CordFitsIn lengths right.now }
-    requires long { 600 ≤ length source.bytes.now }
-{
-    cmp(left, right, &mut source)
-}
-
-// The order of so many bytes of two cords over such a source.
-fn ncmp_over(
-    left: &Cord,
-    i: u64,
-    right: &Cord,
-    j: u64,
-    count: u64,
-    mut source: Entry<'static>,
-) -> Result<i8, CordError>
-    requires left { (lengths : Lengths) → 600 ≤ length_at lengths 2 → CordFitsIn lengths left.now }
-    requires right { (lengths : Lengths) → 600 ≤ length_at lengths 2 → CordFitsIn lengths right.now }
-    requires long { 600 ≤ length source.bytes.now }
-{
-    ncmp(left, i, right, j, count, &mut source)
-}
-
-#[test]
-fn rows_of_str(rt: HostRuntime) -> Result<(), Fail> {
-    let alloc = rt.alloc();
-    let cord = joined(alloc)?;
-    expect_str(&rt, alloc, &cord, 0, b"abc", Some(2));
-    expect_str(&rt, alloc, &cord, 3, b"abc", None);
-    expect_str(&rt, alloc, &cord, 5, b"", Some(5));
-    expect_str(&rt, alloc, &cord, 6, b"", None);
-    Ok(())
-}
-
-#[test]
-fn str_over_a_seam(rt: HostRuntime) -> Result<(), Fail> {
-    let alloc = rt.alloc();
-    let seam = run_and_leaf(alloc, 2)?;
-    expect_str(&rt, alloc, &seam, 0, b"aab", Some(1));
-    Ok(())
-}
-
-#[test]
-fn str_passes_over_the_longest_run(rt: HostRuntime) -> Result<(), Fail> {
-    let alloc = rt.alloc();
-    let cord = run_and_leaf(alloc, MAX_LEN - 2)?;
-    expect_str(&rt, alloc, &cord, 0, b"aab", Some(MAX_LEN - 3));
-    expect_str(&rt, alloc, &cord, 0, b"ba", None);
-    Ok(())
-}
-
-#[test]
-fn str_finds_the_byte_of_a_run(rt: HostRuntime) -> Result<(), Fail> {
-    let alloc = rt.alloc();
-    let cord = run_and_leaf(alloc, MAX_LEN - 2)?;
-    expect_str(&rt, alloc, &cord, 5, b"aaa", Some(5));
-    expect_str(&rt, alloc, &cord, MAX_LEN - 3, b"aaa", None);
-    Ok(())
+    alloc: Global,
+    name: &str,
+    (shared, left, right): Pair,
+    reads: Reads,
+    answer: Answer<i8>,
+) {
+    let shared = made(rt, alloc, shared);
+    let left = longer(rt, alloc, &shared, left);
+    let right = longer(rt, alloc, &shared, right);
+    let compared = cmp(&left, &right, &mut six_hundred(reads));
+    assert!(rt; compared == answer, "{name}: not {answer:?}");
 }
 
 #[test]
 fn rows_of_cmp(rt: HostRuntime) {
-    let alloc = rt.alloc();
-    expect_order(&rt, alloc, b"\x80", b"a", 1);
-    expect_order(&rt, alloc, b"ab", b"abc", -1);
+    for &(name, pair, reads, answer) in CMP {
+        expect_cmp(&rt, rt.alloc(), name, pair, reads, answer);
+    }
+}
+
+fn expect_ncmp(
+    rt: &impl Abort,
+    alloc: Global,
+    name: &str,
+    (shared, left, right): Pair,
+    (i, j, count): (u64, u64, u64),
+    reads: Reads,
+    answer: Answer<i8>,
+) {
+    let shared = made(rt, alloc, shared);
+    let left = longer(rt, alloc, &shared, left);
+    let right = longer(rt, alloc, &shared, right);
+    let compared = ncmp(&left, i, &right, j, count, &mut six_hundred(reads));
+    assert!(rt;
+        compared == answer,
+        "{name}: {count} bytes from {i} and {j}"
+    );
 }
 
 #[test]
-fn rows_of_ncmp(rt: HostRuntime) -> Result<(), Fail> {
-    let alloc = rt.alloc();
-    let left = leaf(alloc, b"abcx")?;
-    let right = leaf(alloc, b"zabcy")?;
-    expect_ncmp(&rt, &left, 0, &right, 1, 3, 0);
-    expect_ncmp(&rt, &left, 0, &right, 1, 4, -1);
-    Ok(())
+fn rows_of_ncmp(rt: HostRuntime) {
+    for &(name, pair, places, reads, answer) in NCMP {
+        expect_ncmp(&rt, rt.alloc(), name, pair, places, reads, answer);
+    }
+}
+
+fn expect_chr(rt: &impl Abort, alloc: Global, (name, parts, from, byte, reads, answer): ByteRow) {
+    let cord = made(rt, alloc, parts);
+    assert!(rt; from < cord.len());
+    let found = chr(&cord, from, byte, &mut six_hundred((reads, u64::MAX)));
+    assert!(rt; found == answer, "{name}: {byte} from {from}");
 }
 
 #[test]
-fn rows_of_chr(rt: HostRuntime) -> Result<(), Fail> {
-    let cord = leaf(rt.alloc(), b"hello")?;
-    expect_bytes(&rt, &cord, 108, (0, Some(2)), (4, Some(3)));
-    expect_bytes(&rt, &cord, 122, (0, None), (4, None));
-    assert!(rt; cord.len() == 5);
-    assert!(rt; fetch(&cord, 4, &mut Entry::nothing()) == Ok(111));
-    Ok(())
+fn rows_of_chr(rt: HostRuntime) {
+    for row in CHR {
+        expect_chr(&rt, rt.alloc(), *row);
+    }
+}
+
+fn expect_rchr(rt: &impl Abort, alloc: Global, (name, parts, from, byte, reads, answer): ByteRow) {
+    let cord = made(rt, alloc, parts);
+    assert!(rt; from < cord.len());
+    let found = rchr(&cord, from, byte, &mut six_hundred((reads, u64::MAX)));
+    assert!(rt; found == answer, "{name}: {byte} from {from} back");
 }
 
 #[test]
-fn a_run_of_the_longest_length_is_compared_at_once(rt: HostRuntime) -> Result<(), Fail> {
-    let alloc = rt.alloc();
-    let run = run_of(alloc, MAX_LEN)?;
-    let shorter = run_of(alloc, MAX_LEN - 1)?;
-    expect_cmp(&rt, &run, &run, 0);
-    expect_cmp(&rt, &shorter, &run, -1);
-    expect_cmp(&rt, &run, &shorter, 1);
-    Ok(())
+fn rows_of_rchr(rt: HostRuntime) {
+    for row in RCHR {
+        expect_rchr(&rt, rt.alloc(), *row);
+    }
+}
+
+fn expect_fetch(
+    rt: &impl Abort,
+    alloc: Global,
+    name: &str,
+    parts: Parts,
+    place: u64,
+    answer: Answer<u8>,
+) {
+    let cord = made(rt, alloc, parts);
+    assert!(rt; place < cord.len());
+    let mut source = six_hundred((0, u64::MAX));
+    let fetched = fetch(&cord, place, &mut source);
+    assert!(rt; fetched == answer, "{name}: at {place}");
+    assert!(rt; source.failures() == u64::from(answer.is_err()), "{name}");
 }
 
 #[test]
-fn a_run_of_the_longest_length_answers_at_once(rt: HostRuntime) -> Result<(), Fail> {
-    let run = run_of(rt.alloc(), MAX_LEN)?;
-    expect_bytes(&rt, &run, b'b', (0, None), (MAX_LEN - 1, None));
-    expect_bytes(&rt, &run, b'a', (7, Some(7)), (7, Some(7)));
-    Ok(())
-}
-
-#[test]
-fn a_read_fails_in_the_middle(rt: HostRuntime) -> Result<(), Fail> {
-    let alloc = rt.alloc();
-    let cord = entry_cord(alloc)?;
-    let pattern = leaf(alloc, b"xy")?;
-    let mut source = six_hundred(1);
-    assert!(rt; str(&cord, 0, &pattern, &mut source) == Err(CordError::ReadFailed));
-    assert!(rt; source.failures() == 1);
-    Ok(())
-}
-
-#[test]
-fn a_read_of_two_ranges_fails_in_the_middle(rt: HostRuntime) -> Result<(), Fail> {
-    let alloc = rt.alloc();
-    let front = entry_range(alloc, 0, 590)?;
-    let back = entry_range(alloc, 10, 590)?;
-    assert!(rt; cmp_over(&front, &back, six_hundred(2)) == Err(CordError::ReadFailed));
-    assert!(rt; cmp_over(&front, &back, six_hundred(4)) == Ok(0));
-    Ok(())
-}
-
-#[test]
-fn a_read_for_a_byte_fails(rt: HostRuntime) -> Result<(), Fail> {
-    let cord = entry_cord(rt.alloc())?;
-    assert!(rt; cord.len() == 600);
-    let mut source = six_hundred(2);
-    assert!(rt; chr(&cord, 0, 121, &mut source) == Ok(None));
-    let mut source = six_hundred(1);
-    assert!(rt; rchr(&cord, 599, 121, &mut source) == Err(CordError::ReadFailed));
-    Ok(())
-}
-
-#[test]
-fn a_read_at_a_place_fails(rt: HostRuntime) -> Result<(), Fail> {
-    let cord = entry_cord(rt.alloc())?;
-    assert!(rt; cord.len() == 600);
-    let mut source = six_hundred(0);
-    assert!(rt; fetch(&cord, 599, &mut source) == Err(CordError::ReadFailed));
-    assert!(rt; source.failures() == 1);
-    Ok(())
-}
-
-#[test]
-fn what_both_share_is_passed_over(rt: HostRuntime) -> Result<(), Fail> {
-    let alloc = rt.alloc();
-    let half = doubled(alloc, 32)?;
-    let left = twice_and(alloc, &half, b'x')?;
-    let right = twice_and(alloc, &half, b'y')?;
-    assert!(rt; left.len() == 549_755_813_889);
-    expect_cmp(&rt, &left, &right, -1);
-    expect_cmp(&rt, &right, &left, 1);
-    expect_cmp(&rt, &left, &left, 0);
-    let count = half.len();
-    expect_ncmp(&rt, &left, 0, &right, 0, count, 0);
-    expect_ncmp(&rt, &left, 5, &right, count + 5, MAX_LEN, -1);
-    Ok(())
-}
-
-#[test]
-fn unequal_places_of_a_shared_node_differ(rt: HostRuntime) -> Result<(), Fail> {
-    let cord = joined(rt.alloc())?;
-    expect_ncmp(&rt, &cord, 0, &cord, 1, 2, -1);
-    expect_ncmp(&rt, &cord, 2, &cord, 0, 3, 1);
-    expect_ncmp(&rt, &cord, 2, &cord, 0, 2, 0);
-    Ok(())
-}
-
-#[test]
-fn equal_ranges_of_an_entry_need_no_read(rt: HostRuntime) -> Result<(), Fail> {
-    let alloc = rt.alloc();
-    let whole = entry_range(alloc, 7, 500)?;
-    let again = entry_range(alloc, 7, 500)?;
-    let shorter = entry_range(alloc, 7, 499)?;
-    assert!(rt; cmp_over(&whole, &again, six_hundred(0)) == Ok(0));
-    assert!(rt; cmp_over(&shorter, &whole, six_hundred(0)) == Ok(-1));
-    assert!(rt; ncmp_over(&whole, 3, &shorter, 3, MAX_LEN, six_hundred(0)) == Ok(1));
-    Ok(())
-}
-
-#[test]
-fn nothing_is_read_past_what_is_compared(rt: HostRuntime) -> Result<(), Fail> {
-    let cord = entry_cord(rt.alloc())?;
-    assert!(rt; ncmp_over(&cord, 300, &cord, 0, 5, cut_at(305)) == Ok(0));
-    let cut = ncmp_over(&cord, 300, &cord, 0, 5, cut_at(304));
-    assert!(rt; cut == Err(CordError::ReadFailed));
-    Ok(())
-}
-
-#[test]
-fn nothing_is_read_past_a_prefix(rt: HostRuntime) -> Result<(), Fail> {
-    let alloc = rt.alloc();
-    let cord = entry_cord(alloc)?;
-    let prefix = leaf(alloc, b"xxy")?;
-    assert!(rt; cmp(&cord, &prefix, &mut cut_at(3)) == Ok(-1));
-    assert!(rt; cmp(&prefix, &cord, &mut cut_at(3)) == Ok(1));
-    Ok(())
+fn rows_of_fetch(rt: HostRuntime) {
+    for &(name, parts, place, answer) in FETCH {
+        expect_fetch(&rt, rt.alloc(), name, parts, place, answer);
+    }
 }

@@ -1,4 +1,4 @@
 use Rattle.cord_calls.proofs.tests.iteration.appended.Goals as goal
 
 pub loop-k-preserved : goal.loop-k-preserved
-loop-k-preserved g c = record { fits = λ lengths. c.in_ok-cord.ensures.over.fits lengths (c.loop-k.invariant.fits lengths) }
+loop-k-preserved g c = λ lengths long. c.in_ok-cord.ensures.over.fits lengths (c.loop-k.invariant lengths long)
