@@ -6,3 +6,5 @@ pub mod Found
 pub mod Standing
 pub mod Orders
 pub mod Results
+pub mod Printing
+pub mod Lining

@@ -1,2 +1,4 @@
 pub mod Plain
 pub mod Places
+pub mod Prints
+pub mod Lines

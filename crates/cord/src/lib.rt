@@ -5,13 +5,13 @@
 mod builder;
 mod edit;
 mod join;
+mod lines;
 mod make;
 mod no_source;
 mod order;
 mod output;
+mod print;
 mod search;
-#[cfg(test)]
-mod tests;
 mod text;
 
 pub use builder::TextBuilder;
@@ -26,5 +26,7 @@ pub use cord_iter::{Visitor, iter, iter5, put, riter, riter4, to_vec};
 pub use cord_pos::Position;
 pub use cord_printf::{Arg, Format, FormatError, PrintError, sprintf, sprintf_len};
 pub use cord_search::{chr, cmp, fetch, ncmp, rchr, str};
+pub use lines::Lines;
 pub use no_source::NoSource;
+pub use print::TextArg;
 pub use text::Text;

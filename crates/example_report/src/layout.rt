@@ -1,14 +1,11 @@
 //! The lines of a report, by their formats.
 ghost use Rattle.std.specs.Prelude.{◌≡◌, IfOk};
-ghost use Rattle.cord.specs.Plain.{plain_bytes};
-ghost use Rattle.cord_core.specs.Cord.{CordFitsIn};
-ghost use Rattle.cord_io.specs.Table.{Lengths};
 ghost use Rattle.cord_printf.specs.PieceText.{printed};
 ghost use Rattle.example_report.specs.Records.{row_arguments};
 
 use crate::record::Record;
 use anyhow::Result;
-use cord::{Arg, Cord, CordError, Format, NoSource, Text, sprintf, to_vec};
+use cord::{Format, Text, TextArg};
 use std::alloc::Global;
 
 /// The formats of the lines, each of 50 bytes. An amount is printed as its whole part and its hundredths.
@@ -31,51 +28,40 @@ impl Layout {
 
     /// The head of a page, and of how many.
     pub fn head(&self, alloc: Global, title: &str, page: u32, pages: u32) -> Result<Text> {
+        let title = Text::from_str(alloc, title)?;
         let args = [
-            Arg::Cord(Cord::from_bytes(alloc, title.as_bytes())?),
-            Arg::Num(page.into()),
-            Arg::Num(pages.into()),
+            TextArg::Text(&title),
+            TextArg::Num(page.into()),
+            TextArg::Num(pages.into()),
         ];
-        let head = sprintf(alloc, &self.head, &args)?;
-        Ok(text_of(alloc, &head)?)
+        Ok(Text::print(alloc, &self.head, &args)?)
     }
 
     /// The row of a record.
     pub fn row(&self, alloc: Global, entry: &Record<'_>) -> Result<Text>
         ensures { IfOk result (λ t. t ≡ printed (λ b. b) self.now.row (row_arguments entry.now)) }
     {
-        let amount = entry.amount();
+        let name = Text::from_str(alloc, entry.name)?;
         let args = [
-            Arg::Cord(Cord::from_bytes(alloc, entry.name.as_bytes())?),
-            Arg::Num(entry.count.into()),
-            Arg::Num((entry.price / 100).into()),
-            Arg::Num((entry.price % 100).into()),
-            Arg::Num((amount / 100) as i64),
-            Arg::Num((amount % 100) as i64),
+            TextArg::Text(&name),
+            TextArg::Num(entry.count.into()),
+            TextArg::Num((entry.price / 100).into()),
+            TextArg::Num((entry.price % 100).into()),
+            TextArg::Num((entry.amount() / 100) as i64),
+            TextArg::Num((entry.amount() % 100) as i64),
         ];
-        let row = sprintf(alloc, &self.row, &args)?;
-        let text = text_of(alloc, &row)?;
-        Ok(text)
+        let row = Text::print(alloc, &self.row, &args)?;
+        Ok(row)
     }
 
     /// A sum of cents.
     pub fn sum(&self, alloc: Global, label: &str, cents: u64) -> Result<Text> {
+        let label = Text::from_str(alloc, label)?;
         let args = [
-            Arg::Cord(Cord::from_bytes(alloc, label.as_bytes())?),
-            Arg::Num((cents / 100) as i64),
-            Arg::Num((cents % 100) as i64),
+            TextArg::Text(&label),
+            TextArg::Num((cents / 100) as i64),
+            TextArg::Num((cents % 100) as i64),
         ];
-        let sum = sprintf(alloc, &self.sum, &args)?;
-        Ok(text_of(alloc, &sum)?)
+        Ok(Text::print(alloc, &self.sum, &args)?)
     }
-}
-
-/// The text of a cord over no files.
-fn text_of(alloc: Global, cord: &Cord) -> Result<Text, CordError>
-    requires { (lengths : Lengths) → CordFitsIn lengths cord.now }
-    ensures { IfOk result (λ t. t ≡ plain_bytes cord.now) }
-{
-    let bytes = to_vec(alloc, cord, &mut NoSource)?;
-    let text = Text::from_bytes(alloc, &bytes)?;
-    Ok(text)
 }

@@ -1,0 +1,65 @@
+// Texts by formats.
+ghost use Rattle.std.specs.Prelude.{◌≡◌, IfOk, IfErr, IsOkUnless, None};
+ghost use Rattle.cord_printf.specs.PieceText.{first_refusal};
+ghost use Rattle.cord.specs.Prints.{given, print_of, AreWanted, IsRefusedFor, IsArgumentFor, AreArgumentsFor};
+
+use crate::Text;
+use cord_io::MAX_LEN;
+use cord_printf::{Arg, Format, PrintError, sprintf};
+use std::alloc::Global;
+
+/// What a conversion of a format is given.
+#[derive(Clone, Copy)]
+pub enum TextArg<'a> {
+    /// A number.
+    Num(i64),
+    /// A text, whose tree a print shares.
+    Text(&'a Text),
+}
+
+impl Text {
+    /// The text of a format with its arguments, which shares the trees of theirs.
+    ///
+    /// Refused with `WrongArgs` where the arguments aren't those that the format wants; then, from left to right, with
+    /// `Negative` where an unsigned conversion has a negative number and `BadByte` where `%c` has no byte; then with
+    /// `TooLong` where the text would be longer than `MAX_LEN`. `NoMemory` may come in the place of any answer.
+    pub fn print(alloc: Global, format: &Format, args: &[TextArg<'_>]) -> Result<Text, PrintError>
+        ensures text { IfOk result (λ t. t ≡ print_of format.now args.now) }
+        ensures wanted { IfOk result (λ _. AreWanted format.now args.now) }
+        ensures taken { IfOk result (λ _. first_refusal 0 format.now (given args.now) ≡ None) }
+        ensures refused { IfErr result (IsRefusedFor MAX_LEN format.now args.now) }
+    {
+        let args = cords_of(alloc, args)?;
+        let cord = sprintf(alloc, format, &args)?;
+        Ok(Text { cord })
+    }
+}
+
+// The arguments as `sprintf` takes them.
+fn cords_of(alloc: Global, args: &[TextArg<'_>]) -> Result<Vec<Arg>, PrintError>
+    ensures made { IfOk result (λ made. AreArgumentsFor args.now made.items) }
+    ensures refused { IsOkUnless result PrintError.NoMemory }
+{
+    let mut made = Vec::new(alloc);
+    for arg in args {
+        let arg = cord_of(alloc, arg)?;
+        if made.push(arg).is_err() {
+            return Err(PrintError::NoMemory);
+        }
+    }
+    Ok(made)
+}
+
+// An argument as `sprintf` takes it.
+fn cord_of(alloc: Global, arg: &TextArg<'_>) -> Result<Arg, PrintError>
+    ensures made { IfOk result (IsArgumentFor arg.now) }
+    ensures refused { IsOkUnless result PrintError.NoMemory }
+{
+    match arg {
+        TextArg::Num(number) => Ok(Arg::Num(*number)),
+        TextArg::Text(text) => match text.as_cord().share(alloc) {
+            Ok(cord) => Ok(Arg::Cord(cord)),
+            Err(_) => Err(PrintError::NoMemory),
+        },
+    }
+}

@@ -1,0 +1,282 @@
+// Worked rows. The functions that make texts and look at them promise nothing, so that tests have little to prove.
+use cord::{CordError, Format, MAX_LEN, MemSink, PrintError, Text, TextArg, TextBuilder};
+use std::alloc::Global;
+use std::cmp::Ordering;
+use std::process::Abort;
+
+// A text of these bytes.
+fn text_of(rt: &impl Abort, alloc: Global, bytes: &[u8]) -> Text {
+    Text::from_bytes(alloc, bytes).expect(rt, "no memory")
+}
+
+// A text of these bytes, as two texts that are joined.
+fn joined(rt: &impl Abort, alloc: Global, left: &[u8], right: &str) -> Text {
+    let left = text_of(rt, alloc, left);
+    let right = Text::from_str(alloc, right).expect(rt, "no memory");
+    Text::cat(alloc, &left, &right).expect(rt, "no memory")
+}
+
+// The text of most tests.
+fn hello(rt: &impl Abort, alloc: Global) -> Text {
+    joined(rt, alloc, b"hello", " world")
+}
+
+fn expect_bytes(rt: &impl Abort, alloc: Global, text: &Text, wanted: &[u8]) {
+    let bytes = text.to_vec(alloc).expect(rt, "no memory");
+    assert!(rt; bytes.as_slice() == wanted, "the text is not {wanted:?}");
+}
+
+fn expect_made(rt: &impl Abort, alloc: Global, made: Result<Text, CordError>, wanted: &[u8]) {
+    expect_bytes(rt, alloc, &made.expect(rt, "no memory"), wanted);
+}
+
+// Three texts in a row: one, a run, and the first one with more bytes.
+fn three(rt: &impl Abort, alloc: Global, text: &Text) -> [Text; 3] {
+    [
+        text.share(alloc).expect(rt, "no memory"),
+        Text::repeat(alloc, b'-', 3).expect(rt, "no memory"),
+        text.append_bytes(alloc, b"!").expect(rt, "no memory"),
+    ]
+}
+
+#[test]
+fn texts_are_joined(rt: HostRuntime) {
+    let alloc = rt.alloc();
+    let text = hello(&rt, alloc);
+    expect_bytes(&rt, alloc, &text, b"hello world");
+    let three = three(&rt, alloc, &text);
+    expect_made(
+        &rt,
+        alloc,
+        Text::catn(alloc, &three),
+        b"hello world---hello world!",
+    );
+    assert!(rt; text.len() == 11 && !text.is_empty());
+    assert!(rt; Text::empty().is_empty());
+}
+
+// What edits at a place make of "hello world", with ", new" as the new text.
+struct Edit {
+    start: u64,
+    count: u64,
+    part: &'static [u8],
+    inserted: &'static [u8],
+    removed: &'static [u8],
+    replaced: &'static [u8],
+}
+
+const EDITS: [Edit; 3] = [
+    Edit {
+        start: 5,
+        count: 3,
+        part: b" wo",
+        inserted: b"hello, new world",
+        removed: b"hellorld",
+        replaced: b"hello, newrld",
+    },
+    Edit {
+        start: 6,
+        count: u64::MAX,
+        part: b"world",
+        inserted: b"hello , newworld",
+        removed: b"hello ",
+        replaced: b"hello , new",
+    },
+    Edit {
+        start: 12,
+        count: 1,
+        part: b"",
+        inserted: b"hello world, new",
+        removed: b"hello world",
+        replaced: b"hello world, new",
+    },
+];
+
+fn expect_edit(rt: &impl Abort, alloc: Global, text: &Text, new: &Text, edit: &Edit) {
+    let (start, count) = (edit.start, edit.count);
+    expect_made(rt, alloc, text.substr(alloc, start, count), edit.part);
+    expect_made(rt, alloc, text.insert(alloc, start, new), edit.inserted);
+    expect_made(rt, alloc, text.remove(alloc, start, count), edit.removed);
+    expect_made(
+        rt,
+        alloc,
+        text.replace_range(alloc, start, count, new),
+        edit.replaced,
+    );
+}
+
+#[test]
+fn edits_leave_the_old_text(rt: HostRuntime) {
+    let alloc = rt.alloc();
+    let text = hello(&rt, alloc);
+    let new = text_of(&rt, alloc, b", new");
+    for edit in &EDITS {
+        expect_edit(&rt, alloc, &text, &new, edit);
+    }
+    expect_bytes(&rt, alloc, &text, b"hello world");
+}
+
+// The two parts of a text, the second one first and balanced.
+fn turned(rt: &impl Abort, alloc: Global, text: &Text, at: u64) -> Text {
+    let (front, back) = text.split_at(alloc, at).expect(rt, "no memory");
+    let turned = Text::cat(alloc, &back, &front).expect(rt, "no memory");
+    turned.balance(alloc).expect(rt, "no memory")
+}
+
+#[test]
+fn texts_are_split(rt: HostRuntime) {
+    let alloc = rt.alloc();
+    let text = hello(&rt, alloc);
+    expect_bytes(&rt, alloc, &turned(&rt, alloc, &text, 2), b"llo worldhe");
+    expect_bytes(&rt, alloc, &turned(&rt, alloc, &text, 12), b"hello world");
+}
+
+// Where bytes are first found from a place on.
+fn found(rt: &impl Abort, alloc: Global, text: &Text, pattern: &[u8], start: u64) -> Option<u64> {
+    text.find(alloc, pattern, start).expect(rt, "no memory")
+}
+
+#[test]
+fn places(rt: HostRuntime) {
+    let alloc = rt.alloc();
+    let text = hello(&rt, alloc);
+    assert!(rt; text.get(4) == Some(b'o') && text.get(11).is_none());
+    assert!(rt; found(&rt, alloc, &text, b"o w", 0) == Some(4));
+    assert!(rt; found(&rt, alloc, &text, b"o", 5) == Some(7));
+    assert!(rt; text.find_byte(b'l', 4) == Some(9) && text.find_byte(b'l', 11).is_none());
+    assert!(rt; text.rfind_byte(b'o', 7) == Some(4) && text.rfind_byte(b'o', 99) == Some(7));
+}
+
+#[test]
+fn ends(rt: HostRuntime) {
+    let alloc = rt.alloc();
+    let text = hello(&rt, alloc);
+    assert!(rt; text.starts_with(b"hello ") && !text.starts_with(b"hello world!"));
+    assert!(rt; text.ends_with(b"o world") && !text.ends_with(b"word"));
+}
+
+fn expect_order(rt: &impl Abort, alloc: Global, text: &Text, other: &[u8], order: Ordering) {
+    let other = text_of(rt, alloc, other);
+    assert!(rt; text.compare(&other) == order && text.cmp(&other) == order);
+    assert!(rt; (*text == other) == order.is_eq() && (*text < other) == order.is_lt());
+}
+
+#[test]
+fn orders(rt: HostRuntime) {
+    let alloc = rt.alloc();
+    let text = hello(&rt, alloc);
+    expect_order(&rt, alloc, &text, b"hello world", Ordering::Equal);
+    expect_order(&rt, alloc, &text, b"hello", Ordering::Greater);
+    expect_order(&rt, alloc, &text, b"hello\x80", Ordering::Less);
+}
+
+#[test]
+fn too_long(rt: HostRuntime) {
+    let alloc = rt.alloc();
+    let text = hello(&rt, alloc);
+    let long = Text::repeat(alloc, 0, MAX_LEN - 10).expect(&rt, "no memory");
+    assert!(rt; matches!(Text::cat(alloc, &text, &long), Err(CordError::TooLong)));
+    let longest = long
+        .replace_range(alloc, 7, 1, &text)
+        .expect(&rt, "no memory");
+    assert!(rt; longest.len() == MAX_LEN);
+}
+
+#[test]
+fn output(rt: HostRuntime) {
+    let alloc = rt.alloc();
+    let mut sink = MemSink::new(alloc);
+    assert!(rt; hello(&rt, alloc).put(&mut sink).is_ok());
+    assert!(rt; sink.bytes() == b"hello world".as_slice());
+}
+
+// A builder of three bytes, and what they are as a text.
+fn built(rt: &impl Abort, alloc: Global) -> (TextBuilder, Text) {
+    let mut builder = TextBuilder::new(alloc).expect(rt, "no memory");
+    builder.push_bytes(alloc, b"ab").expect(rt, "no memory");
+    builder.push(alloc, b'c').expect(rt, "no memory");
+    let text = builder.to_text(alloc).expect(rt, "no memory");
+    (builder, text)
+}
+
+#[test]
+fn builder(rt: HostRuntime) {
+    let alloc = rt.alloc();
+    let (mut builder, front) = built(&rt, alloc);
+    expect_bytes(&rt, alloc, &front, b"abc");
+    assert!(rt; builder.push_text(alloc, &front).is_ok());
+    assert!(rt; builder.len() == 6 && !builder.is_empty());
+    expect_made(&rt, alloc, builder.to_text(alloc), b"abcabc");
+}
+
+fn expect_line(
+    rt: &impl Abort,
+    alloc: Global,
+    line: Option<Result<Text, CordError>>,
+    wanted: &[u8],
+) {
+    let Some(line) = line else {
+        panic!(rt; "no line");
+    };
+    expect_made(rt, alloc, line, wanted);
+}
+
+#[test]
+fn lines(rt: HostRuntime) {
+    let alloc = rt.alloc();
+    let text = text_of(&rt, alloc, b"one\n\ntwo");
+    let mut lines = text.lines(alloc);
+    expect_line(&rt, alloc, lines.next(), b"one");
+    expect_line(&rt, alloc, lines.next(), b"");
+    expect_line(&rt, alloc, lines.next(), b"two");
+    assert!(rt; lines.next().is_none());
+}
+
+#[test]
+fn lines_with_ends(rt: HostRuntime) {
+    let alloc = rt.alloc();
+    let text = text_of(&rt, alloc, b"one\n\n");
+    let mut lines = text.lines_with_ends(alloc);
+    expect_line(&rt, alloc, lines.next(), b"one\n");
+    expect_line(&rt, alloc, lines.next(), b"\n");
+    assert!(rt; lines.next().is_none());
+}
+
+fn format_of(rt: &impl Abort, alloc: Global, format: &[u8]) -> Format {
+    let Ok(format) = Format::parse(alloc, format) else {
+        panic!(rt; "no format");
+    };
+    format
+}
+
+#[test]
+fn prints(rt: HostRuntime) {
+    let alloc = rt.alloc();
+    let text = hello(&rt, alloc);
+    let format = format_of(&rt, alloc, b"%-6.5s|%03d|%c\n");
+    let args = [TextArg::Text(&text), TextArg::Num(-7), TextArg::Num(65)];
+    let Ok(row) = Text::print(alloc, &format, &args) else {
+        panic!(rt; "not printed");
+    };
+    expect_bytes(&rt, alloc, &row, b"hello |-07|A\n");
+}
+
+fn expect_refused(rt: &impl Abort, alloc: Global, args: &[TextArg<'_>], wanted: PrintError) {
+    let format = format_of(rt, alloc, b"%s%u%c");
+    match Text::print(alloc, &format, args) {
+        Ok(_) => panic!(rt; "printed"),
+        Err(error) => assert!(rt; error == wanted),
+    }
+}
+
+#[test]
+fn refused_prints(rt: HostRuntime) {
+    let alloc = rt.alloc();
+    let text = hello(&rt, alloc);
+    let text = TextArg::Text(&text);
+    expect_refused(&rt, alloc, &[text], PrintError::WrongArgs);
+    let args = [text, TextArg::Num(-1), TextArg::Num(256)];
+    expect_refused(&rt, alloc, &args, PrintError::Negative(1));
+    let args = [text, TextArg::Num(1), TextArg::Num(256)];
+    expect_refused(&rt, alloc, &args, PrintError::BadByte(2));
+}
