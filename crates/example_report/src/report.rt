@@ -31,15 +31,14 @@ pub struct Report {
 impl Report {
     /// The report of no records. Refused for want of memory alone.
     pub fn new(alloc: Global) -> Result<Report> {
-        let rule = Text::repeat(alloc, b'-', COLUMNS.len() as u64 - 1)?;
         Ok(Report {
-            layout: Layout::new(alloc)?,
-            rule: rule.append_bytes(alloc, b"\n")?,
             pages: Vec::new(alloc),
             page: TextBuilder::new(alloc)?,
             rows: 0,
             total: 0,
             notes: TextBuilder::new(alloc)?,
+            rule: rule(alloc)?,
+            layout: Layout::new(alloc)?,
         })
     }
 
@@ -81,19 +80,38 @@ impl Report {
     }
 
     /// The whole report: each page under its head, and then the notes.
-    pub fn finish(mut self, alloc: Global) -> Result<Text> {
+    pub fn finish(&mut self, alloc: Global) -> Result<Text> {
         self.turn(alloc, "Total")?;
         let pages = u32::try_from(self.pages.len())?;
         let mut report = TextBuilder::new(alloc)?;
         for (page, number) in self.pages.iter().zip(1..=pages) {
-            let head = self.layout.head(alloc, TITLE, number, pages)?;
-            report.push_text(alloc, &head)?;
-            report.push_bytes(alloc, COLUMNS.as_bytes())?;
-            report.push_text(alloc, &self.rule)?;
-            report.push_text(alloc, page)?;
-            report.push_bytes(alloc, b"\n")?;
+            self.put_page(alloc, &mut report, page, number, pages)?;
         }
         report.push_text(alloc, &self.notes.to_text(alloc)?)?;
         Ok(report.to_text(alloc)?)
     }
+
+    /// Adds a page under its head to a report.
+    fn put_page(
+        &self,
+        alloc: Global,
+        report: &mut TextBuilder,
+        page: &Text,
+        number: u32,
+        pages: u32,
+    ) -> Result<()> {
+        let head = self.layout.head(alloc, TITLE, number, pages)?;
+        report.push_text(alloc, &head)?;
+        report.push_bytes(alloc, COLUMNS.as_bytes())?;
+        report.push_text(alloc, &self.rule)?;
+        report.push_text(alloc, page)?;
+        report.push_bytes(alloc, b"\n")?;
+        Ok(())
+    }
+}
+
+/// The line under the heads of the columns.
+fn rule(alloc: Global) -> Result<Text> {
+    let rule = Text::repeat(alloc, b'-', COLUMNS.len() as u64 - 1)?;
+    Ok(rule.append_bytes(alloc, b"\n")?)
 }
