@@ -131,20 +131,39 @@ fn texts_are_split(rt: HostRuntime) {
     expect_bytes(&rt, alloc, &turned(&rt, alloc, &text, 12), b"hello world");
 }
 
-// Where bytes are first found from a place on.
 fn found(rt: &impl Abort, alloc: Global, text: &Text, pattern: &[u8], start: u64) -> Option<u64> {
     text.find(alloc, pattern, start).expect(rt, "no memory")
+}
+
+fn byte_at(text: &Text, place: u64) -> Option<u8> {
+    text.get(place)
+}
+
+fn first_byte(text: &Text, byte: u8, start: u64) -> Option<u64> {
+    text.find_byte(byte, start)
+}
+
+fn last_byte(text: &Text, byte: u8, end: u64) -> Option<u64> {
+    text.rfind_byte(byte, end)
 }
 
 #[test]
 fn places(rt: HostRuntime) {
     let alloc = rt.alloc();
     let text = hello(&rt, alloc);
-    assert!(rt; text.get(4) == Some(b'o') && text.get(11).is_none());
+    assert!(rt; byte_at(&text, 4) == Some(b'o'));
+    assert!(rt; byte_at(&text, 11).is_none());
     assert!(rt; found(&rt, alloc, &text, b"o w", 0) == Some(4));
     assert!(rt; found(&rt, alloc, &text, b"o", 5) == Some(7));
-    assert!(rt; text.find_byte(b'l', 4) == Some(9) && text.find_byte(b'l', 11).is_none());
-    assert!(rt; text.rfind_byte(b'o', 7) == Some(4) && text.rfind_byte(b'o', 99) == Some(7));
+}
+
+#[test]
+fn places_of_bytes(rt: HostRuntime) {
+    let text = hello(&rt, rt.alloc());
+    assert!(rt; first_byte(&text, b'l', 4) == Some(9));
+    assert!(rt; first_byte(&text, b'l', 11).is_none());
+    assert!(rt; last_byte(&text, b'o', 7) == Some(4));
+    assert!(rt; last_byte(&text, b'o', 99) == Some(7));
 }
 
 #[test]
