@@ -6,7 +6,7 @@ ghost use Rattle.example_report.specs.declared.report.TheConstants.{ROWS_PER_PAG
 use crate::layout::Layout;
 use crate::record::{Flaw, Record};
 use anyhow::{Context, Result};
-use cord::{Text, TextBuilder};
+use cord::{CordError, Text, TextBuilder};
 use std::alloc::{AllocError, Global};
 
 const TITLE: &str = "Fruit sold";
@@ -70,9 +70,7 @@ impl Report {
         ensures rows { OnOk result (self.new.rows ≡ 0) }
     {
         let sum = self.layout.sum(alloc, label, self.total)?;
-        self.page.push_text(alloc, &self.rule)?;
-        self.page.push_text(alloc, &sum)?;
-        let page = self.page.to_text(alloc)?;
+        let page = ended(alloc, &mut self.page, &self.rule, &sum)?;
         self.pages.push(page).map_err(AllocError::from)?;
         self.page = TextBuilder::new(alloc)?;
         self.rows = 0;
@@ -101,13 +99,36 @@ impl Report {
         pages: u32,
     ) -> Result<()> {
         let head = self.layout.head(alloc, TITLE, number, pages)?;
-        report.push_text(alloc, &head)?;
+        self.put_under(alloc, report, &head, page)?;
+        Ok(())
+    }
+
+    /// Adds a page under this head to a report.
+    fn put_under(
+        &self,
+        alloc: Global,
+        report: &mut TextBuilder,
+        head: &Text,
+        page: &Text,
+    ) -> Result<(), CordError> {
+        report.push_text(alloc, head)?;
         report.push_bytes(alloc, COLUMNS.as_bytes())?;
         report.push_text(alloc, &self.rule)?;
         report.push_text(alloc, page)?;
-        report.push_bytes(alloc, b"\n")?;
-        Ok(())
+        report.push_bytes(alloc, b"\n")
     }
+}
+
+/// The text of a page, which ends with a sum under a rule.
+fn ended(
+    alloc: Global,
+    page: &mut TextBuilder,
+    rule: &Text,
+    sum: &Text,
+) -> Result<Text, CordError> {
+    page.push_text(alloc, rule)?;
+    page.push_text(alloc, sum)?;
+    page.to_text(alloc)
 }
 
 /// The line under the heads of the columns.
