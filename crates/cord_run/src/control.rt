@@ -1,5 +1,5 @@
 // Where a run stands among the operations of its plan.
-ghost use Rattle.std.specs.Prelude.{◌≡◌, ◌+◌, ◌-◌, ◌^◌, ◌<◌, ◌∷◌, [], Ok, IfOk, IfErr};
+ghost use Rattle.std.specs.Prelude.{map, reverse, ◌≡◌, ◌+◌, ◌-◌, ◌^◌, ◌<◌, ◌∷◌, [], Ok, IfOk, IfErr};
 ghost use Rattle.cord_meaning.specs.declared.TheConstants.{MAX_TURNS};
 ghost use Rattle.cord_run.specs.Controls.{Goes, IsTurnAt, begun, block_view, chosen, closed, repeated, where_of};
 
@@ -23,8 +23,10 @@ pub(crate) struct Control {
     pub(crate) place: usize,
     /// The turns begun.
     pub(crate) turns: u64,
-    /// The open blocks, the innermost last.
-    pub(crate) blocks: Vec<Open>,
+    /// The innermost open block.
+    pub(crate) inner: Option<Open>,
+    /// The open blocks that it stands in, the innermost last.
+    pub(crate) outer: Vec<Open>,
 }
 
 /// Why control can't go on.
@@ -55,7 +57,8 @@ impl Control {
         Control {
             place: 0,
             turns: 0,
-            blocks: Vec::new(alloc),
+            inner: None,
+            outer: Vec::new(alloc),
         }
     }
 
@@ -71,10 +74,15 @@ impl Control {
         ensures opened { IfOk result (λ _. where_of self.new ≡ record (where_of self.old) { blocks = block_view block ∷ (where_of self.old).blocks }) }
         ensures refused { IfErr result (λ e. e ≡ Barred.NoMemory line) }
     {
-        match self.blocks.push(block) {
-            Ok(()) => Ok(()),
-            Err(_) => Err(Barred::NoMemory(line)),
+        match self.inner {
+            None => self.outer.clear(),
+            Some(outer) => match self.outer.push(outer) {
+                Ok(()) => {}
+                Err(_) => return Err(Barred::NoMemory(line)),
+            },
         }
+        self.inner = Some(block);
+        Ok(())
     }
 
     // Begins a turn of the `repeat` at a place, if the loops of the run may begin one more.
@@ -120,14 +128,41 @@ impl Control {
         requires { (where_of self.old).place < 2 ^ 64 - 1 }
         ensures { Goes (closed MAX_TURNS (where_of self.old) (where_of self.old).blocks) (IsTurnAt (where_of self.old).blocks) (where_of self.new) result }
     {
-        match self.blocks.pop() {
+        match self.inner {
             Some(Open::Turns { place, line, left }) if left > 0 => {
-                self.begin(place, line, left - 1)
+                self.begin_next(place, line, left - 1)
             }
-            _ => {
+            Some(_) => {
+                self.leave();
+                Ok(())
+            }
+            None => {
                 self.place += 1;
                 Ok(())
             }
         }
+    }
+
+    // Begins the next turn of the innermost block, the `repeat` at a place.
+    fn begin_next(&mut self, place: usize, line: u32, left: u64) -> Result<(), Barred>
+        ensures { Goes (begun MAX_TURNS (where_of self.old) place line left (map block_view (reverse self.old.outer.items))) (λ l. l ≡ line) (where_of self.new) result }
+    {
+        if self.turns >= MAX_TURNS {
+            return Err(Barred::Fault(line, FaultKind::TooManyTurns));
+        }
+        let first = next(line, place)?;
+        self.inner = Some(Open::Turns { place, line, left });
+        self.turns += 1;
+        self.place = first;
+        Ok(())
+    }
+
+    // Goes on behind the innermost block.
+    fn leave(&mut self)
+        requires { self.old.place < 2 ^ 64 - 1 }
+        ensures { where_of self.new ≡ record { place = self.old.place + 1; turns = self.old.turns; blocks = map block_view (reverse self.old.outer.items) } }
+    {
+        self.inner = self.outer.pop();
+        self.place += 1;
     }
 }
