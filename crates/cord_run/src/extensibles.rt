@@ -81,9 +81,8 @@ fn grow_by_byte(alloc: Global, store: &mut Store, name: &[u8], byte: u8) -> Resu
     ensures over { StaysOver store.old.entries.items store.new.entries.items result }
     ensures becomes { Becomes name.now (longer_text store.old.entries.items name.now (byte ∷ [])) store.old.entries.items store.new.entries.items result }
 {
-    let mut extensible = taken(alloc, store, name)?;
-    match extensible.append(alloc, byte) {
-        Ok(()) => give(alloc, store, name, extensible),
+    match store.append(alloc, name, &[byte]) {
+        Ok(()) => Ok(()),
         Err(error) => Err(refusal(error)),
     }
 }
@@ -93,9 +92,8 @@ fn grow_by_bytes(alloc: Global, store: &mut Store, name: &[u8], bytes: &[u8]) ->
     ensures over { StaysOver store.old.entries.items store.new.entries.items result }
     ensures becomes { Becomes name.now (longer_text store.old.entries.items name.now bytes.now) store.old.entries.items store.new.entries.items result }
 {
-    let mut extensible = taken(alloc, store, name)?;
-    match extensible.append_bytes(alloc, bytes) {
-        Ok(()) => give(alloc, store, name, extensible),
+    match store.append(alloc, name, bytes) {
+        Ok(()) => Ok(()),
         Err(error) => Err(refusal(error)),
     }
 }

@@ -50,7 +50,7 @@ fn given(alloc: Global, store: &Store, arguments: &[Argument]) -> Result<Vec<Arg
     ensures given { IfOk result (λ args. args.items ≡ map (λ argument. argument_in store.now.entries.items argument) arguments.now) }
     ensures refused { IsOkUnless result CordError.NoMemory }
 {
-    let mut args = Vec::new(alloc);
+    let mut args = Vec::with_capacity(alloc, arguments.len())?;
     for argument in arguments {
         args.push(given_argument(alloc, store, argument)?)?;
     }

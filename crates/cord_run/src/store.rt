@@ -1,10 +1,13 @@
 // What the names of a run of a plan hold.
-ghost use Rattle.std.specs.Prelude.{◌≡◌, ◌<◌, ℕ, ℤ, List, pos, true, [], length, IfOk, IfSome, IfNone, None, Some};
+ghost use Rattle.std.specs.Prelude.{◌≡◌, ◌+◌, ◌<◌, ◌≤◌, ◌∷◌, ℕ, ℤ, List, pos, true, [], length, IfOk, IfSome, IfNone, OnOk, Err, None, Some};
+ghost use Rattle.cord_ec.specs.Grown.{IsGrownBy};
+ghost use Rattle.cord_run.specs.Extending.{cells_of, Grew, GrewTo};
 ghost use Rattle.cord_run.specs.Held.{are_distinct, content_in, cord_in, extensible_in, length_in, names_in, number_in, operand_in, HasContent, HasExtensible, HasNoEntry, HasNumber, IsEntryAt, SameEntries};
 ghost use Rattle.cord_run.specs.Places.{Begin};
 
 use cord_core::Cord;
 use cord_ec::ExtCord;
+use cord_io::{CordError, MAX_LEN};
 use cord_script::{Name, Number, is_same};
 use std::alloc::{AllocError, Global};
 use std::mem::replace;
@@ -25,29 +28,32 @@ pub(crate) struct Entry {
     pub(crate) extensible: Option<ExtCord>,
 }
 
-/// So many entries are looked through without a guess.
-const FEW: usize = 8;
+/// So many entries have few slots.
+const FEW: usize = 64;
 
-/// The number of slots that guess the place of a name.
+/// The number of slots that guess the place of a name where the entries are few: a power of two.
+const FEW_SLOTS: usize = 256;
+
+/// The same where they are many.
 const SLOTS: usize = 4_096;
 
 /// What the names hold: a name that was not assigned is empty or 0. No two entries have one name.
 #[derive(Drop)]
 pub(crate) struct Store {
     pub(crate) entries: Vec<Entry>,
-    // For each slot the place of a name of that slot, of those behind the first few: where it is another name's, the name is
-    // looked for. Empty before there are more than a few.
+    // For each slot the place of a name of that slot: where it is another name's, the name is looked for. Empty before there is
+    // an entry.
     guesses: Vec<usize>,
     ghost distinct: { are_distinct (names_in entries.items) ≡ true },
 }
 
-// The slot of a name.
-fn slot_of(name: &[u8]) -> usize {
+// The slot of a name, of so many.
+fn slot_of(name: &[u8], slots: usize) -> usize {
     let mut slot: usize = 0;
     for byte in name {
-        slot = (slot * 31 + *byte as usize) % SLOTS;
+        slot = slot.wrapping_mul(31).wrapping_add(*byte as usize);
     }
-    slot
+    slot & slots.wrapping_sub(1)
 }
 
 // Whether this is the name at a place.
@@ -63,40 +69,83 @@ fn is_at(entries: &[Entry], place: usize, name: &[u8]) -> bool
     is_same(name, entry.name.as_slice())
 }
 
-// The place of a name: the one that is guessed, where it is right.
+// Whether this byte alone is the name at a place.
+fn is_byte_at(entries: &[Entry], place: usize, byte: u8) -> bool
+    requires { are_distinct (names_in entries.now) ≡ true }
+    ensures within { result ≡ true → place < length entries.now }
+    ensures place { result ≡ true → IsEntryAt entries.now (byte ∷ []) place }
+{
+    if place >= entries.len() {
+        return false;
+    }
+    let entry = &entries[place];
+    match entry.name.as_slice() {
+        [other] => *other == byte,
+        _ => false,
+    }
+}
+
+// The place of a name: the one that is guessed, where it is right. The slot of a name of one byte is that byte.
+#[inline(always)]
 fn place_by(entries: &[Entry], guesses: &[usize], name: &[u8]) -> Option<usize>
     requires distinct { are_distinct (names_in entries.now) ≡ true }
     ensures within { IfSome result (λ place. place < length entries.now) }
     ensures some { IfSome result (IsEntryAt entries.now name.now) }
     ensures none { IfNone result (HasNoEntry entries.now name.now) }
 {
-    if entries.len() <= FEW {
-        return place_of(entries, name);
+    match name {
+        [byte] => match guesses.get(*byte as usize) {
+            Some(guess) if is_byte_at(entries, *guess, *byte) => Some(*guess),
+            _ => place_of(entries, name),
+        },
+        _ => place_of_long(entries, guesses, name),
     }
-    match guesses.get(slot_of(name)) {
+}
+
+// The same of a name of more bytes.
+#[inline(never)]
+fn place_of_long(entries: &[Entry], guesses: &[usize], name: &[u8]) -> Option<usize>
+    requires distinct { are_distinct (names_in entries.now) ≡ true }
+    ensures within { IfSome result (λ place. place < length entries.now) }
+    ensures some { IfSome result (IsEntryAt entries.now name.now) }
+    ensures none { IfNone result (HasNoEntry entries.now name.now) }
+{
+    match guesses.get(slot_of(name, guesses.len())) {
         Some(guess) if is_at(entries, *guess, name) => Some(*guess),
         _ => place_of(entries, name),
     }
 }
 
-// Guesses this place for the names of a name's slot. The first call makes the slots.
+// Guesses this place for the names of a name's slot. The first call makes few slots, that of many entries makes more.
 fn guess_place(
     alloc: Global,
+    entries: &[Entry],
     guesses: &mut Vec<usize>,
     name: &[u8],
     place: usize,
 ) -> Result<(), AllocError> {
-    if guesses.is_empty() {
-        *guesses = vec![in alloc; 0; SLOTS]?;
+    let slots = if place < FEW { FEW_SLOTS } else { SLOTS };
+    if guesses.len() < slots {
+        *guesses = vec![in alloc; 0; slots]?;
+        for (place, entry) in entries.iter().enumerate() {
+            set_guess(guesses, entry.name.as_slice(), place);
+        }
     }
-    let slot = slot_of(name);
-    if slot < guesses.len() {
-        guesses[slot] = place;
-    }
+    set_guess(guesses, name, place);
     Ok(())
 }
 
+// Puts a place into the slot of a name.
+fn set_guess(guesses: &mut [usize], name: &[u8], place: usize) {
+    let slot = slot_of(name, guesses.len());
+    if slot < guesses.len() {
+        guesses[slot] = place;
+    }
+}
+
 // The place of a name, which is looked for.
+#[cold]
+#[inline(never)]
 fn place_of(entries: &[Entry], name: &[u8]) -> Option<usize>
     ensures within { IfSome result (λ place. place < length entries.now) }
     ensures some { IfSome result (IsEntryAt entries.now name.now) }
@@ -258,6 +307,21 @@ impl Store {
         Ok(())
     }
 
+    /// Lets the extensible cord of a name grow by bytes; one that was not begun is begun.
+    pub(crate) fn append(
+        &mut self,
+        alloc: Global,
+        name: &[u8],
+        bytes: &[u8],
+    ) -> Result<(), CordError>
+        ensures grown { IfOk result (λ _. Grew name.now bytes.now self.old.entries.items self.new.entries.items) }
+        ensures fits { OnOk result (length (cells_of (extensible_in self.old.entries.items name.now)) + length bytes.now ≤ MAX_LEN) }
+        ensures too_long { result ≡ Err CordError.TooLong → MAX_LEN < length (cells_of (extensible_in self.old.entries.items name.now)) + length bytes.now }
+    {
+        let place = place_for(alloc, &mut self.entries, &mut self.guesses, name)?;
+        append_at(alloc, &mut self.entries, name, place, bytes)
+    }
+
     /// Takes the extensible cord of a name out, which then has none.
     pub(crate) fn take_extensible(&mut self, name: &[u8]) -> Option<ExtCord>
         ensures taken { result ≡ extensible_in self.old.entries.items name.now }
@@ -311,6 +375,55 @@ fn set_extensible(
     replace(&mut entry.extensible, extensible)
 }
 
+// Lets the extensible cord in the entry of a name grow by bytes.
+fn append_at(
+    alloc: Global,
+    entries: &mut [Entry],
+    name: &[u8],
+    place: usize,
+    bytes: &[u8],
+) -> Result<(), CordError>
+    requires within { place < length entries.old }
+    requires place { IsEntryAt entries.old name.now place }
+    ensures grown { IfOk result (λ _. Grew name.now bytes.now entries.old entries.new) }
+    ensures fits { OnOk result (length (cells_of (extensible_in entries.old name.now)) + length bytes.now ≤ MAX_LEN) }
+    ensures too_long { result ≡ Err CordError.TooLong → MAX_LEN < length (cells_of (extensible_in entries.old name.now)) + length bytes.now }
+    ensures distinct { are_distinct (names_in entries.old) ≡ true → are_distinct (names_in entries.new) ≡ true }
+{
+    let _ = name;
+    let entry = &mut entries[place];
+    append_to(alloc, &mut entry.extensible, bytes)
+}
+
+// Lets an extensible cord grow by bytes; where there is none, one is begun.
+fn append_to(alloc: Global, extensible: &mut Option<ExtCord>, bytes: &[u8]) -> Result<(), CordError>
+    ensures grown { IfOk result (λ _. GrewTo bytes.now extensible.old extensible.new) }
+    ensures fits { OnOk result (length (cells_of extensible.old) + length bytes.now ≤ MAX_LEN) }
+    ensures too_long { result ≡ Err CordError.TooLong → MAX_LEN < length (cells_of extensible.old) + length bytes.now }
+{
+    match extensible {
+        Some(grown) => append(alloc, grown, bytes),
+        None => {
+            let mut begun = ExtCord::new(alloc)?;
+            append(alloc, &mut begun, bytes)?;
+            *extensible = Some(begun);
+            Ok(())
+        }
+    }
+}
+
+// Appends bytes: one alone costs less.
+fn append(alloc: Global, grown: &mut ExtCord, bytes: &[u8]) -> Result<(), CordError>
+    ensures over { IfOk result (λ _. IsGrownBy grown.old grown.new bytes.now) }
+    ensures fits { OnOk result (length grown.old + length bytes.now ≤ MAX_LEN) }
+    ensures too_long { result ≡ Err CordError.TooLong → MAX_LEN < length grown.old + length bytes.now }
+{
+    match bytes {
+        [byte] => grown.append(alloc, *byte),
+        _ => grown.append_bytes(alloc, bytes),
+    }
+}
+
 // The place of a name, which gets an entry where it has none.
 fn place_for(
     alloc: Global,
@@ -327,9 +440,7 @@ fn place_for(
     match place_by(entries, guesses, name) {
         Some(place) => Ok(place),
         None => {
-            if entries.len() >= FEW {
-                guess_place(alloc, guesses, name, entries.len())?;
-            }
+            guess_place(alloc, entries, guesses, name, entries.len())?;
             let name = Vec::from_slice(alloc, name)?;
             add(entries, name)
         }
