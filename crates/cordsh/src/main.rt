@@ -1,17 +1,14 @@
 //! Runs scripts of cord statements: `cordsh [--unplanned] [--show-plan] SCRIPT`.
 #![tactic(auto)]
 
-mod machine;
-mod outcome;
-mod program;
-mod reader;
+ghost use Rattle.std.specs.Prelude.{◌≡◌, ◌⊎◌, IfErr};
+ghost use Rattle.cord_shell.specs.declared.outcome.Outcome.TheVariants.{BadCommandLine, NoMemory};
+
 #[cfg(test)]
 mod tests;
-mod words;
 
 use cord_io::StdSink;
-use machine::run_on_machine;
-use outcome::{Outcome, report};
+use cord_shell::{Outcome, report, run_on_machine};
 use std::env;
 use std::io::{BufWriter, ErrorKind};
 use std::process::ExitCode;
@@ -20,7 +17,9 @@ use std::process::ExitCode;
 const OUTPUT_BUFFER: usize = 65_536;
 
 // The words after the program's name.
-fn words_of(rt: &HostRuntime) -> Result<Vec<String>, Outcome> {
+fn words_of(rt: &HostRuntime) -> Result<Vec<String>, Outcome>
+    ensures refused { IfErr result (λ outcome. (outcome ≡ BadCommandLine) ⊎ (outcome ≡ NoMemory)) }
+{
     let mut words = match env::args(rt) {
         Ok(words) => words,
         Err(error) => {

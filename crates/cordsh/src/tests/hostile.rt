@@ -1,8 +1,7 @@
 //! Devices that fail after some calls, under `drive`: the status, the line that is told, and what is written until then.
-use super::rows::lines;
-use super::{WAYS, files_and, files_with, numbered, words_of};
-use crate::program::drive;
+use super::{WAYS, add, files_and, files_with, lines, numbered, words_of};
 use cord_io::{Files, FuseFiles, FuseSink, MemFiles, MemSink, Sink};
+use cord_shell::drive;
 use std::process::Abort;
 
 /// A script of less than ten lines, the file beside it, and what each line puts.
@@ -47,7 +46,7 @@ fn put_below(rt: &(impl AllocGlobal + Abort), hostile: &Hostile<'_>, end: u32) -
     let mut bytes = Vec::new(rt.alloc());
     for (line, text) in hostile.puts {
         if *line < end {
-            again!(rt, bytes.extend_from_slice(text));
+            add(rt, &mut bytes, text);
         }
     }
     bytes

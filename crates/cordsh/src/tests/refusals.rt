@@ -1,7 +1,7 @@
 //! Rows of scripts that are refused, with the plan and without: nothing is written.
-use super::rows::{Row, expect_row};
+use super::rows::Row;
 
-const REFUSALS: [Row; 19] = [
+pub(super) const REFUSALS: [Row; 19] = [
     (
         "cat-one-operand",
         "cat z x",
@@ -136,10 +136,3 @@ const REFUSALS: [Row; 19] = [
         b"cordsh: line 1: if without end\n",
     ),
 ];
-
-#[test]
-fn refusals(rt: HostRuntime) {
-    for row in &REFUSALS {
-        expect_row(&rt, row);
-    }
-}

@@ -17,8 +17,8 @@ const PAST_END: Hostile<'static> = Hostile {
     puts: &[(2, b"ab")],
 };
 
-// Whether a run has come to its end: the status, the whole output and the message. Where the growth of `err` was refused a front
-// part of the message stands there, and nothing else is changed.
+// Whether a run has come to its end: the status, the whole output and the message. Where the growth of `err` was refused a
+// prefix of the message stands there, and nothing else is changed.
 fn is_served(
     rt: &(impl AllocGlobal + Abort),
     hostile: &Hostile<'_>,
@@ -54,18 +54,10 @@ fn expect_refusable(
     }
 }
 
+// Of the three the last one tells something where nothing is refused.
 #[test]
-fn refused_substr_over_seam(rt: HostRuntime) {
+fn refused_scripts(rt: HostRuntime) {
     expect_refusable(&rt, &SEAM, 0, b"");
-}
-
-#[test]
-fn refused_file_twice(rt: HostRuntime) {
     expect_refusable(&rt, &FILE_TWICE, 0, b"");
-}
-
-// Of the three this one tells something where nothing is refused.
-#[test]
-fn refused_fetch_past_end(rt: HostRuntime) {
     expect_refusable(&rt, &PAST_END, 1, b"cordsh: line 3: index out of range\n");
 }

@@ -1,5 +1,6 @@
 //! Rows of scripts through `drive`, with the plan and without: the status, what is written and what is told.
-use super::{WAYS, drive_over, files_with, filled};
+use super::refusals::REFUSALS;
+use super::{expect_both, lines};
 use std::process::Abort;
 
 // A name, a script with ` ; ` between its lines, the status, what is written and what is told.
@@ -312,95 +313,20 @@ const TURNS: [Row; 2] = [
     ),
 ];
 
-// The bytes of a script that is shown with ` ; ` between its lines.
-pub(super) fn lines(rt: &(impl AllocGlobal + Abort), shown: &str) -> Vec<u8> {
-    let mut script = Vec::new(rt.alloc());
-    for line in shown.split(" ; ") {
-        again!(rt, script.extend_from_slice(line.as_bytes()));
-        again!(rt, script.push(b'\n'));
-    }
-    script
-}
-
-// Drives a script at "s" both ways, and compares what comes of it.
-fn expect_both(
-    rt: &(impl AllocGlobal + Abort),
-    name: &str,
-    script: &[u8],
-    status: u8,
-    written: &[u8],
-    told: &[u8],
-) {
-    for words in WAYS {
-        let come = drive_over(rt, words, files_with(rt, script));
-        assert!(rt; come.status == status, "{name}: the status");
-        assert!(rt; come.out.bytes() == written, "{name}: what is written");
-        assert!(rt; come.err.bytes() == told, "{name}: what is told");
-    }
-}
-
-pub(super) fn expect_row(rt: &(impl AllocGlobal + Abort), row: &Row) {
-    let (name, shown, status, written, told) = row;
-    expect_both(rt, name, &lines(rt, shown), *status, written, told);
-}
-
 fn expect_rows(rt: &(impl AllocGlobal + Abort), rows: &[Row]) {
-    for row in rows {
-        expect_row(rt, row);
+    for &(name, shown, status, written, told) in rows {
+        expect_both(rt, name, &lines(rt, shown), status, written, told);
     }
 }
 
 #[test]
-fn cords(rt: HostRuntime) {
-    expect_rows(&rt, &CORDS);
-}
-
-#[test]
-fn searches(rt: HostRuntime) {
-    expect_rows(&rt, &SEARCHES);
-}
-
-#[test]
-fn faults(rt: HostRuntime) {
-    expect_rows(&rt, &FAULTS);
+fn rows(rt: HostRuntime) {
+    for rows in [CORDS.as_slice(), &SEARCHES, &FAULTS, &REFUSALS] {
+        expect_rows(&rt, rows);
+    }
 }
 
 #[test]
 fn turns(rt: HostRuntime) {
     expect_rows(&rt, &TURNS);
-}
-
-#[test]
-fn ec_goes_on_after_tocord(rt: HostRuntime) {
-    let script = lines(
-        &rt,
-        r#"ecinit e ; repeat 129 ; ecput e 65 ; end ; ectocord z e ; ecput e 66 ; put z ; ectocord y e ; len n y ; sprintf t "%d" n ; put t"#,
-    );
-    let mut out = filled(&rt, b"", b'A', 129);
-    out.extend_from_slice(b"130").expect(&rt, "no memory");
-    expect_both(&rt, "ec-goes-on-after-tocord", &script, 0, &out, b"");
-}
-
-// Substrings of a text of two gigabytes share it.
-#[test]
-fn substrings_share(rt: HostRuntime) {
-    let mut script = lines(&rt, r#"let x "ab" ; repeat 30 ; cat x x x ; end"#);
-    for k in 1..=200 {
-        let line = format!(in rt.alloc(); "substr y{k} x {k} 2147483000\n").expect(
-            &rt,
-            "no memory",
-        );
-        script
-            .extend_from_slice(line.as_bytes())
-            .expect(&rt, "no memory");
-    }
-    for k in 1..=200 {
-        let line = format!(in rt.alloc(); "fetch n y{k} 0\n").expect(&rt, "no memory");
-        script
-            .extend_from_slice(line.as_bytes())
-            .expect(&rt, "no memory");
-    }
-    let last = lines(&rt, r#"sprintf z "%d" n ; put z"#);
-    script.extend_from_slice(&last).expect(&rt, "no memory");
-    expect_both(&rt, "substrings-share", &script, 0, b"97", b"");
 }

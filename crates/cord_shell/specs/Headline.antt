@@ -1,0 +1,93 @@
+-- What the program answers over the machine's devices, by all that they told.
+use Rattle.std.specs.Prelude.{◌≡◌, ◌⊎◌, ℕ, List, [], Bool}
+use Rattle.cord_io.specs.Device.{Folder, raised}
+use Rattle.cord_io.specs.declared.writing.Sink.{Ghosts}
+use Rattle.cord_meaning.specs.Ends.{Counts, EndsHonestly}
+use Rattle.cord_meaning.specs.Faults.{text_of as fault_text}
+use Rattle.cord_meaning.specs.declared.ends.End.{End}
+use Rattle.cord_meaning.specs.declared.ends.End.TheVariants.{Done, Fault, NoMemory, ReadFailed, WriteFailed}
+use Rattle.cord_meaning.specs.declared.ends.FaultKind.TheVariants.{NoFile}
+use Rattle.cord_plan.specs.Planned.{Operation}
+use Rattle.cord_plan.specs.Shown.{shown}
+use Rattle.cord_script.specs.Refusals.{text_of}
+use Rattle.cord_script.specs.declared.refusals.Refusal.{Refusal}
+use Rattle.cord_syntax.specs.declared.statements.Statement.{Statement}
+use Rattle.cord_shell.specs.Drives.{IsPlan, IsQuiet, IsWrong}
+use Rattle.cord_shell.specs.Outcomes.{line_text, message_of_end, status_of_end, status_of_refusal}
+use Rattle.cord_shell.specs.Tells.{SinkCounts, IsCut, IsUntouched, IsWritten, Tells, sink_of}
+
+-- what a stream told: the bytes that it took, and how often it failed and ended
+pub record Stream : Type 0 where
+  pub taken : List ℕ
+  pub failures : ℕ
+  pub ends : ℕ
+
+abbrev pub stream : {S : Type 0} → Ghosts S → S → Stream
+stream sink s = record { taken = sink.taken s; failures = sink.failures s; ends = sink.finished s }
+
+-- the exit status, how often the files failed, standard output and standard error
+pub record Answer : Type 0 where
+  pub status : ℕ
+  pub files_failed : ℕ
+  pub out : Stream
+  pub err : Stream
+
+-- the counts, of devices that began with none
+abbrev pub counts_of : Answer → Counts
+counts_of a = record {
+  files_before = 0;
+  files_after = a.files_failed;
+  sink_before = 0;
+  sink_after = a.out.failures;
+  finished_before = 0;
+  finished_after = a.out.ends;
+}
+
+abbrev pub err_counts_of : Answer → SinkCounts
+err_counts_of a = record { failed_before = 0; failed_after = a.err.failures; ended_before = 0; ended_after = a.err.ends }
+
+-- the status, and the line on standard error: those of this end
+abbrev pub AnswersEnd : Answer → End → Type 0
+AnswersEnd a told = (a.status ≡ status_of_end told) × Tells [] a.err.taken (err_counts_of a) (message_of_end told)
+
+-- nothing was run and nothing is out: memory was refused, or the script can't be opened or read, whose count rose
+abbrev pub StopsBefore : Answer → End → Type 0
+StopsBefore a (NoMemory line) = IsQuiet [] a.out.taken (counts_of a)
+StopsBefore a (ReadFailed line) =
+    (line ≡ 0) × IsUntouched [] a.out.taken (sink_of (counts_of a)) × ((counts_of a).files_after ≡ raised (counts_of a).files_before)
+StopsBefore a _ = ⊥
+
+abbrev pub IsStopped : Answer → Type 0
+IsStopped a = (told : End) × AnswersEnd a told × StopsBefore a told
+
+-- the script was run, and its end, which status and line tell, is honest: all that it puts over the folder is out and the end is
+-- the script's own, or a front part of it is out and the end is the cause that came; or it was stopped before
+pub record RunsOver (statements : List Statement) (folder : Folder) (a : Answer) : Type 0 where
+  pub told : End
+  pub answers : AnswersEnd a told
+  pub honest : EndsHonestly statements folder [] a.out.taken (counts_of a) told ⊎ StopsBefore a told
+
+-- the text of a plan is out, or a front part of it where standard output failed
+abbrev pub IsOut : List ℕ → Answer → End → Type 0
+IsOut text a Done = IsWritten text [] a.out.taken (sink_of (counts_of a))
+IsOut text a (WriteFailed line) = (line ≡ 0) × IsCut text [] a.out.taken (sink_of (counts_of a))
+IsOut text a _ = ⊥
+
+-- the plan of the script was shown and nothing was run; or it was stopped before
+pub record ShowsOver (unplanned : Bool) (statements : List Statement) (a : Answer) : Type 0 where
+  pub told : End
+  pub answers : AnswersEnd a told
+  pub shows : ((operations : List Operation) × IsPlan unplanned statements operations × IsOut (shown operations) a told) ⊎ StopsBefore a told
+
+-- nothing is out, and status and line tell what is wrong with the bytes first, or want of memory; or it was stopped before
+abbrev pub RefusesOver : List ℕ → Answer → Type 0
+RefusesOver b a =
+    ((refusal : Refusal) × IsWrong b refusal × (a.status ≡ status_of_refusal refusal.kind)
+    × Tells [] a.err.taken (err_counts_of a) (line_text refusal.line (text_of refusal.kind)) × IsQuiet [] a.out.taken (counts_of a))
+    ⊎ IsStopped a
+
+-- nothing is out, and status and line tell that there is no such file; or it was stopped before
+abbrev pub MissesOver : Answer → Type 0
+MissesOver a =
+    ((a.status ≡ 2) × Tells [] a.err.taken (err_counts_of a) (line_text 0 (fault_text NoFile)) × IsQuiet [] a.out.taken (counts_of a))
+    ⊎ IsStopped a

@@ -1,0 +1,101 @@
+//! The program over the machine's devices.
+ghost use Rattle.std.specs.Prelude.{◌≡◌, ℕ, List, Bool, true, false, Some, None, map};
+ghost use Rattle.std.specs.String.{string_bytes};
+ghost use Rattle.cord_io.specs.Device.{Folder, file_at};
+ghost use Rattle.cord_io.specs.DiskTold.{told_by};
+ghost use Rattle.cord_io.specs.Told.{Agrees};
+ghost use Rattle.cord_script.specs.Script.{Reads};
+ghost use Rattle.cord_syntax.specs.declared.statements.Statement.{Statement};
+ghost use Rattle.cord_shell.specs.CommandLine.{AsksFor};
+ghost use Rattle.cord_shell.specs.Headline.{Answer, MissesOver, RefusesOver, RunsOver, ShowsOver, stream};
+
+use crate::program::drive;
+use cord_io::{DiskFiles, Files, Sink, StdSink};
+use cord_script::{bytes_are_one_script, read_scripts_have_no_flaw};
+use std::alloc::Global;
+use std::io::Write;
+use std::rt;
+
+/// What came of the program: its exit status, and the machine's devices, which have told all that they were asked.
+#[derive(Drop)]
+pub struct Ran<R: rt::Files, O, E> {
+    /// The exit status.
+    pub status: u8,
+    /// The machine's files.
+    pub files: DiskFiles<R>,
+    /// Standard output.
+    pub out: StdSink<O>,
+    /// Standard error.
+    pub err: StdSink<E>,
+}
+
+/// The program over the machine's files and its two streams, by the words after its name:
+/// `[--unplanned] [--show-plan] SCRIPT`, as clap reads them. It is judged by what the machine told: by each folder with
+/// which all answers of the machine's files agree, and by the bytes that the streams told they took.
+///
+/// `run`: where the bytes at SCRIPT are read as a script, the script is run. Standard output took exactly the bytes that
+/// the script puts over the folder, and the status and the line on standard error are those of the script's end. Or it
+/// took a prefix of those bytes, and they are those of the cause that came: a failed read, a failed write, or want
+/// of memory.
+/// `shown`: with `--show-plan` standard output took the text of its plan, or a prefix where it failed, and nothing
+/// was run.
+/// `refused`: bytes that no script has are refused for their first flaw, and nothing is written.
+/// `missing`: a SCRIPT that isn't in the folder is named as missing, and nothing is written.
+pub fn run_on_machine<R: rt::Files, O: Write, E: Write>(
+    runtime: R,
+    alloc: Global,
+    words: &[String],
+    stdout: O,
+    stderr: E,
+) -> Ran<R, O, E>
+    ensures run { (folder : Folder) → Agrees folder (told_by result.files) →
+        (path b : List ℕ) (unplanned : Bool) (statements : List Statement) →
+        AsksFor (map string_bytes words.now) path unplanned false → file_at folder path ≡ Some b → Reads b statements →
+        RunsOver statements folder (record {
+          status = result.status;
+          files_failed = ⟦<DiskFiles<R> as Files>⟧.failures result.files;
+          out = stream ⟦<StdSink<O> as Sink>⟧ result.out;
+          err = stream ⟦<StdSink<E> as Sink>⟧ result.err;
+        }) }
+    ensures shown { (folder : Folder) → Agrees folder (told_by result.files) →
+        (path b : List ℕ) (unplanned : Bool) (statements : List Statement) →
+        AsksFor (map string_bytes words.now) path unplanned true → file_at folder path ≡ Some b → Reads b statements →
+        ShowsOver unplanned statements (record {
+          status = result.status;
+          files_failed = ⟦<DiskFiles<R> as Files>⟧.failures result.files;
+          out = stream ⟦<StdSink<O> as Sink>⟧ result.out;
+          err = stream ⟦<StdSink<E> as Sink>⟧ result.err;
+        }) }
+    ensures refused { (folder : Folder) → Agrees folder (told_by result.files) →
+        (path b : List ℕ) (unplanned show_plan : Bool) →
+        AsksFor (map string_bytes words.now) path unplanned show_plan → file_at folder path ≡ Some b →
+        ((statements : List Statement) → Reads b statements → ⊥) →
+        RefusesOver b (record {
+          status = result.status;
+          files_failed = ⟦<DiskFiles<R> as Files>⟧.failures result.files;
+          out = stream ⟦<StdSink<O> as Sink>⟧ result.out;
+          err = stream ⟦<StdSink<E> as Sink>⟧ result.err;
+        }) }
+    ensures missing { (folder : Folder) → Agrees folder (told_by result.files) →
+        (path : List ℕ) (unplanned show_plan : Bool) →
+        AsksFor (map string_bytes words.now) path unplanned show_plan → file_at folder path ≡ None →
+        MissesOver (record {
+          status = result.status;
+          files_failed = ⟦<DiskFiles<R> as Files>⟧.failures result.files;
+          out = stream ⟦<StdSink<O> as Sink>⟧ result.out;
+          err = stream ⟦<StdSink<E> as Sink>⟧ result.err;
+        }) }
+{
+    bytes_are_one_script();
+    read_scripts_have_no_flaw();
+    let files = DiskFiles::new(runtime, alloc);
+    let mut out = StdSink::new(stdout);
+    let mut err = StdSink::new(stderr);
+    let (status, files) = drive(alloc, words, files, &mut out, &mut err);
+    Ran {
+        status,
+        files,
+        out,
+        err,
+    }
+}

@@ -1,0 +1,231 @@
+//! The program over any devices.
+ghost use Rattle.std.specs.Prelude.{◌≡◌, ◌<◌, ◌-◌, ◌^◌, false, true, map, IfOk, IsOkUnless, OnOk, OnErr};
+ghost use Rattle.std.specs.String.{string_bytes};
+ghost use Rattle.cord_io.specs.Device.{Folder};
+ghost use Rattle.cord_meaning.specs.Ends.{Counts};
+ghost use Rattle.cord_plan.specs.Shown.{shown};
+ghost use Rattle.cord_plan.specs.Views.{operation_view};
+ghost use Rattle.cord_shell.specs.Drives.{ComesTo, IsHelp, IsPlan, IsRun, IsShown, Serves};
+ghost use Rattle.cord_shell.specs.Outcomes.{message_of, status_of_outcome};
+ghost use Rattle.cord_shell.specs.Tells.{SinkCounts, IsCut, IsWritten, Tells};
+ghost use Rattle.cord_shell.specs.declared.outcome.Outcome.{Outcome};
+
+use crate::outcome::{Outcome, report, write_text};
+use crate::reader::{Unread, read_whole};
+use crate::words::{NoRequest, Request, read_words};
+use cord_io::{CordError, Files, Sink, WriteFault};
+use cord_plan::{Plan, plan};
+use cord_run::{run_text, run_unplanned};
+use cord_script::{MAX_SCRIPT, Refusal, RefusalKind, Script, parse};
+use std::alloc::Global;
+
+// Runs a script.
+fn run_script<F: Files, S: Sink>(
+    alloc: Global,
+    unplanned: bool,
+    script: &[u8],
+    files: F,
+    out: &mut S,
+) -> (Outcome, F)
+    requires files_count { F.failures files < 2 ^ 64 - 1 }
+    requires out_count { S.failures out.old < 2 ^ 64 - 1 }
+    ensures run { IsRun (F.keeps result.1) script.now (S.taken out.old) (S.taken out.new)
+        (record {
+          files_before = F.failures files;
+          files_after = F.failures result.1;
+          sink_before = S.failures out.old;
+          sink_after = S.failures out.new;
+          finished_before = S.finished out.old;
+          finished_after = S.finished out.new;
+        })
+        result.0 }
+    ensures earlier { (folder : Folder) → F.keeps result.1 folder → F.keeps files folder }
+{
+    if unplanned {
+        let (answer, files) = run_unplanned(alloc, script, files, out);
+        (Outcome::of_run(answer), files)
+    } else {
+        let (answer, files) = run_text(alloc, script, files, out);
+        (Outcome::of_run(answer), files)
+    }
+}
+
+// The plan that is asked for. Refused only with `NoMemory`.
+fn plan_of(alloc: Global, unplanned: bool, script: &Script) -> Result<Plan, CordError>
+    ensures made { IfOk result (λ p. IsPlan unplanned script.now (map operation_view p)) }
+    ensures refused { IsOkUnless result CordError.NoMemory }
+{
+    if unplanned {
+        Plan::trivial(alloc, script)
+    } else {
+        plan(alloc, script)
+    }
+}
+
+// Writes the plan's text, and ends it.
+fn write_plan<S: Sink>(plan: &Plan, out: &mut S) -> Result<(), WriteFault>
+    ensures ok { OnOk result (IsWritten (shown (map operation_view plan.now)) (S.taken out.old) (S.taken out.new)
+        (record {
+          failed_before = S.failures out.old;
+          failed_after = S.failures out.new;
+          ended_before = S.finished out.old;
+          ended_after = S.finished out.new;
+        })) }
+    ensures err { OnErr result (IsCut (shown (map operation_view plan.now)) (S.taken out.old) (S.taken out.new)
+        (record {
+          failed_before = S.failures out.old;
+          failed_after = S.failures out.new;
+          ended_before = S.finished out.old;
+          ended_after = S.finished out.new;
+        })) }
+{
+    match plan.show(out) {
+        Ok(()) => out.finish(),
+        Err(_) => Err(WriteFault),
+    }
+}
+
+// Shows the plan of a script.
+fn show_script<S: Sink>(alloc: Global, unplanned: bool, script: &[u8], out: &mut S) -> Outcome
+    requires out_count { S.failures out.old < 2 ^ 64 - 1 }
+    ensures { IsShown unplanned script.now (S.taken out.old) (S.taken out.new)
+        (record {
+          failed_before = S.failures out.old;
+          failed_after = S.failures out.new;
+          ended_before = S.finished out.old;
+          ended_after = S.finished out.new;
+        }) result }
+{
+    let read = match parse(alloc, script) {
+        Ok(read) => read,
+        Err(refusal) => return Outcome::Refused(refusal),
+    };
+    let Ok(plan) = plan_of(alloc, unplanned, &read) else {
+        return Outcome::NoMemory;
+    };
+    match write_plan(&plan, out) {
+        Ok(()) => Outcome::PlanShown,
+        Err(_) => Outcome::PlanUnwritten,
+    }
+}
+
+// Reads the script of a request, and runs it or shows its plan.
+fn serve<F: Files, S: Sink>(
+    alloc: Global,
+    request: &Request<'_>,
+    mut files: F,
+    out: &mut S,
+) -> (Outcome, F)
+    requires files_count { F.failures files < 2 ^ 64 - 1 }
+    requires out_count { S.failures out.old < 2 ^ 64 - 1 }
+    ensures run { Serves (F.keeps result.1) request.now.script.now request.now.unplanned request.now.show_plan (S.taken out.old) (S.taken out.new)
+        (record {
+          files_before = F.failures files;
+          files_after = F.failures result.1;
+          sink_before = S.failures out.old;
+          sink_after = S.failures out.new;
+          finished_before = S.finished out.old;
+          finished_after = S.finished out.new;
+        })
+        result.0 }
+    ensures earlier { (folder : Folder) → F.keeps result.1 folder → F.keeps files folder }
+{
+    match read_whole(alloc, &mut files, request.script, MAX_SCRIPT as u64) {
+        Err(Unread::NotFound) => (Outcome::NoScript, files),
+        Err(Unread::TooBig) => {
+            let refusal = Refusal {
+                line: 0,
+                kind: RefusalKind::TooBig,
+            };
+            (Outcome::Refused(refusal), files)
+        }
+        Err(Unread::NoMemory) => (Outcome::NoMemory, files),
+        Err(Unread::Failed) => (Outcome::Unreadable, files),
+        Ok(script) => {
+            if request.show_plan {
+                (show_script(alloc, request.unplanned, &script, out), files)
+            } else {
+                run_script(alloc, request.unplanned, &script, files, out)
+            }
+        }
+    }
+}
+
+// Writes the help.
+fn show_help<S: Sink>(text: &str, out: &mut S) -> Outcome
+    requires out_count { S.failures out.old < 2 ^ 64 - 1 }
+    ensures { IsHelp (S.taken out.old) (S.taken out.new)
+        (record {
+          failed_before = S.failures out.old;
+          failed_after = S.failures out.new;
+          ended_before = S.finished out.old;
+          ended_after = S.finished out.new;
+        }) result }
+{
+    match write_text(text, out) {
+        Ok(()) => Outcome::HelpShown,
+        Err(_) => Outcome::HelpUnwritten,
+    }
+}
+
+// Does what the words ask for.
+fn answer<F: Files, S: Sink>(alloc: Global, words: &[String], files: F, out: &mut S) -> (Outcome, F)
+    requires files_count { F.failures files < 2 ^ 64 - 1 }
+    requires out_count { S.failures out.old < 2 ^ 64 - 1 }
+    ensures run { ComesTo (F.keeps result.1) (map string_bytes words.now) (S.taken out.old) (S.taken out.new)
+        (record {
+          files_before = F.failures files;
+          files_after = F.failures result.1;
+          sink_before = S.failures out.old;
+          sink_after = S.failures out.new;
+          finished_before = S.finished out.old;
+          finished_after = S.finished out.new;
+        })
+        result.0 }
+    ensures earlier { (folder : Folder) → F.keeps result.1 folder → F.keeps files folder }
+{
+    match read_words(alloc, words) {
+        Ok(request) => serve(alloc, &request, files, out),
+        Err(NoRequest::Help(text)) => (show_help(text.as_str(), out), files),
+        Err(NoRequest::Refused) => (Outcome::BadCommandLine, files),
+        Err(NoRequest::NoMemory) => (Outcome::NoMemory, files),
+    }
+}
+
+/// Does what the words after the program's name ask for: `[--unplanned] [--show-plan] SCRIPT`, as clap reads them.
+/// It runs the script, or shows its plan, or the help, on `out`.
+/// It answers the exit status, tells on `err` what went wrong, and hands back the files.
+pub fn drive<F: Files, S: Sink, T: Sink>(
+    alloc: Global,
+    words: &[String],
+    files: F,
+    out: &mut S,
+    err: &mut T,
+) -> (u8, F)
+    requires files_count { F.failures files < 2 ^ 64 - 1 }
+    requires out_count { S.failures out.old < 2 ^ 64 - 1 }
+    ensures drives { (outcome : Outcome)
+        × ComesTo (F.keeps result.1) (map string_bytes words.now) (S.taken out.old) (S.taken out.new)
+        (record {
+          files_before = F.failures files;
+          files_after = F.failures result.1;
+          sink_before = S.failures out.old;
+          sink_after = S.failures out.new;
+          finished_before = S.finished out.old;
+          finished_after = S.finished out.new;
+        })
+        outcome
+        × (result.0 ≡ status_of_outcome outcome)
+        × Tells (T.taken err.old) (T.taken err.new)
+        (record {
+          failed_before = T.failures err.old;
+          failed_after = T.failures err.new;
+          ended_before = T.finished err.old;
+          ended_after = T.finished err.new;
+        }) (message_of outcome) }
+    ensures earlier { (folder : Folder) → F.keeps result.1 folder → F.keeps files folder }
+{
+    let (outcome, files) = answer(alloc, words, files, out);
+    report(&outcome, err);
+    (outcome.status(), files)
+}

@@ -1,6 +1,0 @@
-use Rattle.std.proofs.Common.{ap, sym}
-use Rattle.cordsh.specs.Outcomes.{outcome_of}
-use Rattle.cordsh.proofs.outcome.Outcome.of_run.Goals as goal
-
-pub returns-in-Ok : goal.returns-in-Ok
-returns-in-Ok c = ap outcome_of (sym c.in-Ok.is)
