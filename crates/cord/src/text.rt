@@ -76,6 +76,7 @@ impl Text {
         ensures len { text_len result ≡ length self }
         ensures sound { IsCord result }
     {
-        self.cord
+        let Text { cord } = self;
+        cord
     }
 }
