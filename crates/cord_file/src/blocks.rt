@@ -13,9 +13,6 @@ pub(crate) const BLOCK: usize = 512;
 // The greatest number of blocks that are kept.
 pub(crate) const MAX_BLOCKS: usize = 32;
 
-// The least number of bytes of a read whose whole blocks aren't kept: the machine keeps its pages.
-pub(crate) const PAGE: usize = 4_096;
-
 // Which block of which file: the place of the file among those opened, and the number of the block in it.
 #[derive(Clone, Copy, PartialEq, Eq, Hash)]
 pub(crate) struct BlockKey {

@@ -5,7 +5,7 @@ ghost use Rattle.cord_file.specs.Blocks.{AreRead};
 ghost use Rattle.cord_file.specs.declared.blocks.TheConstants.{BLOCK};
 
 use crate::Sources;
-use crate::blocks::{BLOCK, BlockKey, PAGE, copy_kept, keep, read_block};
+use crate::blocks::{BLOCK, BlockKey, MAX_BLOCKS, copy_kept, keep, read_block};
 use cord_io::{FileNo, Files, MAX_LEN, ReadFault};
 
 // Fills `out` with the bytes of an opened file from a place on. The range lies inside the file.
@@ -34,8 +34,8 @@ pub(crate) fn read_range<F: Files>(
 impl<F: Files> Sources<F> {
     ghost use Rattle.cord_file.specs.Sources.{device_in};
 
-    // Fills `out` with an opened file's bytes from a place on, block by block. Where they are a page or more, the whole
-    // blocks among them go past those that are kept, which stay.
+    // Fills `out` with an opened file's bytes from a place on, block by block. Where they are more than all kept blocks
+    // hold, the whole blocks among them go past those that are kept, which stay.
     pub(crate) fn read_file(
         &mut self,
         place: usize,
@@ -52,7 +52,7 @@ impl<F: Files> Sources<F> {
         ensures bytes { (folder : Folder) → F.keeps (device_in self.new) folder →
             OnOk result (AreRead folder (slice_get self.old.entries.items place) start out.new) }
     {
-        let is_long = out.len() >= PAGE;
+        let is_long = out.len() > MAX_BLOCKS * BLOCK;
         let mut done = 0;
         while done < out.len() {
             let from = start + done as u64;

@@ -15,7 +15,7 @@ use std::num::NonZeroUsize;
 /// Entries of bytes by id: 0 is the function `digits` (byte `48 + i mod 10` at place i) and 1 the function `bytes`
 /// (`i mod 256`), both `MAX_LEN` long, and from 2 on stand the files that were opened, at most `MAX_FILES` of them.
 /// Files are read by blocks of 512 bytes, of which the 32 used last are kept, but `eager` reads past them, and so do the
-/// whole blocks of a read of 4,096 bytes or more. No read is refused for want of memory: a block for which
+/// whole blocks of a read of more bytes than all of them hold. No read is refused for want of memory: a block for which
 /// none is found isn't kept.
 #[derive(Drop)]
 pub struct Sources<F: Files> {

@@ -8,13 +8,12 @@ ghost use Rattle.cord_core.specs.Cord.{text_len, bytes_of, CordFitsIn};
 ghost use Rattle.cord_iter.specs.Taking.{IsFrontOf, IsTextOver, IsPrefixOver, Takes, CountsFaults};
 
 use crate::pieces::{piece_len, put_all, put_run};
-use crate::{BLOCK_LEN, PAGE_LEN, PIECE_LEN};
+use crate::{BLOCK_LEN, PIECE_LEN};
 use cord_core::{Cord, Node};
 use cord_io::{CordError, MAX_LEN, Sink, Source, SourceId};
 
 /// Hands a sink the text of a cord over a source, after `CORD_put` of `cord.h`: each leaf's slice is offered whole, after a short
-/// `put` the rest, a function part or a run in pieces of at most 512 bytes, or of 65,536 bytes where it is that long; a
-/// function part between them in pieces of 4,096 bytes.
+/// `put` the rest, a function part or a run in pieces of at most 512 bytes, or of 65,536 bytes where it is that long.
 /// Each function part lies inside an entry of `src`.
 /// Refused with `ReadFailed` where a read failed and with `WriteFailed` where a `put` failed: then the sink has taken a front part
 /// of the text. The text is that over the table of each folder that `src` keeps after the call, and as many bytes are taken
@@ -90,10 +89,8 @@ fn put_func<S: Source, W: Sink>(
     ensures earlier { (folder : Folder) → S.keeps src.new folder → S.keeps src.old folder }
     ensures finished { W.finished sink.new ≡ W.finished sink.old }
 {
-    if len < PAGE_LEN as u64 {
+    if len < BLOCK_LEN as u64 {
         put_range::<PIECE_LEN, S, W>(id, start, len, src, sink)
-    } else if len < BLOCK_LEN as u64 {
-        put_range::<PAGE_LEN, S, W>(id, start, len, src, sink)
     } else {
         put_range::<BLOCK_LEN, S, W>(id, start, len, src, sink)
     }
