@@ -8,7 +8,7 @@ use Rattle.cord_io.specs.Device.{Folder, bytes_at}
 use Rattle.cord_file.specs.declared.blocks.TheConstants.{BLOCK}
 use Rattle.cord_file.specs.declared.blocks.BlockKey.{BlockKey}
 use Rattle.cord_file.specs.declared.files.OpenFile.{OpenFile}
-use Rattle.cord_file.specs.Blocks.{block_size, IsBlock, IsKept, AreKept, AreRead}
+use Rattle.cord_file.specs.Blocks.{HeapBlock, Entry, block_size, IsBlock, IsKept, AreKept, AreRead}
 use Rattle.cord_file.specs.Files.{told_of}
 use Rattle.cord_file.specs.Soundness.{IsSound}
 use Rattle.cord_file.proofs.Growing.{place_inside}
@@ -25,28 +25,36 @@ part_of_block len number from count text block inside within is =
     let fits : from + count ≤ block_size len number = omega arith in
     same_part (block_size len number) from count block (drop (number * BLOCK) text) fits is ∙ ap (take count) (drop-drop from (number * BLOCK) text)
 
--- a block that was read of an opened file can be kept
-pub kept_of_read : (keeps : Folder → Type 0) (told : Option (List ℕ × ℕ)) (files : List OpenFile) (key : BlockKey) (file : OpenFile) (block : List ℕ) → slice_get files key.place ≡ Some file → told ≡ Some (told_of file) → ((folder : Folder) → keeps folder → IsSomeAnd told (λ t. IsBlock file.len (bytes_at folder t.0) key.number block)) → IsKept keeps files (key, block)
-kept_of_read keeps told files key file block here same read = record {
-  opened = slice_get_within files key.place file here;
-  block = λ f e folder kept. subst (λ x. IsBlock x.len (bytes_at folder (string_bytes x.path)) key.number block) (one_file file f (sym here ∙ e)) (subst (λ o. IsSomeAnd o (λ t. IsBlock file.len (bytes_at folder t.0) key.number block)) same (read folder kept));
-} where
+-- what was read as a block of an opened file is a block of it
+pub block_of_read : (told : Option (List ℕ × ℕ)) (files : List OpenFile) (place number : ℕ) (file f : OpenFile) (block : List ℕ) (folder : Folder) → slice_get files place ≡ Some file → told ≡ Some (told_of file) → IsSomeAnd told (λ t. IsBlock file.len (bytes_at folder t.0) number block) → slice_get files place ≡ Some f → IsBlock f.len (bytes_at folder (string_bytes f.path)) number block
+block_of_read told files place number file f block folder here same read there = subst (λ x. IsBlock x.len (bytes_at folder (string_bytes x.path)) number block) (one_file file f (sym here ∙ there)) (subst (λ o. IsSomeAnd o (λ t. IsBlock file.len (bytes_at folder t.0) number block)) same read) where
   one_file : (f g : OpenFile) → Some f ≡ Some g → f ≡ g
   one_file f g e = cc
 
--- what is copied of a kept block is the file's
-pub read_of_kept : (keeps : Folder → Type 0) (files : List OpenFile) (key : BlockKey) (block out : List ℕ) (start : ℕ) → IsKept keeps files (key, block) → key.number ≡ start / BLOCK → IsSomeAnd (slice_get files key.place) (λ file. start + length out ≤ file.len) → start % BLOCK + length out ≤ BLOCK → out ≡ take (length out) (drop (start % BLOCK) block) → (folder : Folder) → keeps folder → AreRead folder (slice_get files key.place) start out
-read_of_kept keeps files key block out start kept number inside part copied folder is = at (slice_get files key.place) refl inside where
-  at : (o : Option OpenFile) → slice_get files key.place ≡ o → IsSomeAnd o (λ file. start + length out ≤ file.len) → IsSomeAnd o (λ file. out ≡ take (length out) (drop start (bytes_at folder (string_bytes file.path))))
+-- a block that was read of an opened file can be kept
+pub kept_of_read : (keeps : Folder → Type 0) (told : Option (List ℕ × ℕ)) (files : List OpenFile) (key : BlockKey) (file : OpenFile) (block : HeapBlock) → slice_get files key.place ≡ Some file → told ≡ Some (told_of file) → ((folder : Folder) → keeps folder → IsSomeAnd told (λ t. IsBlock file.len (bytes_at folder t.0) key.number block.value)) → IsKept keeps files (key, block)
+kept_of_read keeps told files key file block here same read = record {
+  opened = slice_get_within files key.place file here;
+  block = λ f e folder kept. block_of_read told files key.place key.number file f block.value folder here same (read folder kept) e;
+}
+
+-- what is copied of a block is the file's
+pub read_of_block : (files : List OpenFile) (place number : ℕ) (block out : List ℕ) (start : ℕ) (folder : Folder) → ((file : OpenFile) → slice_get files place ≡ Some file → IsBlock file.len (bytes_at folder (string_bytes file.path)) number block) → number ≡ start / BLOCK → IsSomeAnd (slice_get files place) (λ file. start + length out ≤ file.len) → start % BLOCK + length out ≤ BLOCK → out ≡ take (length out) (drop (start % BLOCK) block) → AreRead folder (slice_get files place) start out
+read_of_block files place number block out start folder is same inside part copied = at (slice_get files place) refl inside where
+  at : (o : Option OpenFile) → slice_get files place ≡ o → IsSomeAnd o (λ file. start + length out ≤ file.len) → IsSomeAnd o (λ file. out ≡ take (length out) (drop start (bytes_at folder (string_bytes file.path))))
   at None e h = absurd h
   at (Some file) e within =
-      let place : key.number * BLOCK + start % BLOCK ≡ start = omega (arith, number) in
-      let range : key.number * BLOCK + start % BLOCK + length out ≤ file.len = omega (arith, place, within) in
+      let place : number * BLOCK + start % BLOCK ≡ start = omega (arith, same) in
+      let range : number * BLOCK + start % BLOCK + length out ≤ file.len = omega (arith, place, within) in
       let text : List ℕ = bytes_at folder (string_bytes file.path) in
-      copied ∙ part_of_block file.len key.number (start % BLOCK) (length out) text block part range (kept.block file e folder is) ∙ ap (λ n. take (length out) (drop n text)) place
+      copied ∙ part_of_block file.len number (start % BLOCK) (length out) text block part range (is file e) ∙ ap (λ n. take (length out) (drop n text)) place
+
+-- what is copied of a kept block is the file's
+pub read_of_kept : (keeps : Folder → Type 0) (files : List OpenFile) (key : BlockKey) (block : HeapBlock) (out : List ℕ) (start : ℕ) → IsKept keeps files (key, block) → key.number ≡ start / BLOCK → IsSomeAnd (slice_get files key.place) (λ file. start + length out ≤ file.len) → start % BLOCK + length out ≤ BLOCK → out ≡ take (length out) (drop (start % BLOCK) block.value) → (folder : Folder) → keeps folder → AreRead folder (slice_get files key.place) start out
+read_of_kept keeps files key block out start kept number inside part copied folder is = read_of_block files key.place key.number block.value out start folder (λ file e. kept.block file e folder is) number inside part copied
 
 -- one more block is kept
-pub kept_with : (keeps : Folder → Type 0) (files : List OpenFile) (old new : List (BlockKey × List ℕ)) (entry : BlockKey × List ℕ) → AreKept keeps files old → IsKept keeps files entry → ((e : BlockKey × List ℕ) → Contains new e → Contains old e ⊎ (e ≡ entry)) → AreKept keeps files new
+pub kept_with : (keeps : Folder → Type 0) (files : List OpenFile) (old new : List Entry) (entry : Entry) → AreKept keeps files old → IsKept keeps files entry → ((e : Entry) → Contains new e → Contains old e ⊎ (e ≡ entry)) → AreKept keeps files new
 kept_with keeps files old new entry all one among e h = elim (among e h) [
   | inl was ↦ all e was
   | inr same ↦ subst (IsKept keeps files) (sym same) one
@@ -64,10 +72,10 @@ pub of_slot : (P : OpenFile → Type 0) {o : Option OpenFile} {file : OpenFile} 
 of_slot P e h = subst (λ o. IsSomeAnd o P) e h
 
 -- kept blocks stay so where one more file is opened, and memory was found for it
-pub kept_behind : (keeps : Folder → Type 0) (files new : List OpenFile) (file : OpenFile) (b : Bool) (entries : List (BlockKey × List ℕ)) → new ≡ (if b then files ++ file ∷ [] else files) → AreKept keeps files entries → AreKept keeps new entries
+pub kept_behind : (keeps : Folder → Type 0) (files new : List OpenFile) (file : OpenFile) (b : Bool) (entries : List Entry) → new ≡ (if b then files ++ file ∷ [] else files) → AreKept keeps files entries → AreKept keeps new entries
 kept_behind keeps files new file false entries same all = subst (λ xs. AreKept keeps xs entries) (sym same) all
 kept_behind keeps files new file true entries same all = subst (λ xs. AreKept keeps xs entries) (sym same) (λ e h. more e (all e h)) where
-  more : (e : BlockKey × List ℕ) → IsKept keeps files e → IsKept keeps (files ++ file ∷ []) e
+  more : (e : Entry) → IsKept keeps files e → IsKept keeps (files ++ file ∷ []) e
   more e kept = record {
     opened = omega (arith, kept.opened, length-append files (file ∷ []));
     block = λ f here. kept.block f (sym (place_inside files (file ∷ []) e.0.place kept.opened) ∙ here);
@@ -78,13 +86,13 @@ pub kept_none : (keeps : Folder → Type 0) (files : List OpenFile) → AreKept 
 kept_none keeps files e h = absurd (omega (arith, h.1))
 
 -- kept blocks stay so where no other folder is kept
-pub kept_earlier : (old new : Folder → Type 0) (files : List OpenFile) (entries : List (BlockKey × List ℕ)) → ((folder : Folder) → new folder → old folder) → AreKept old files entries → AreKept new files entries
+pub kept_earlier : (old new : Folder → Type 0) (files : List OpenFile) (entries : List Entry) → ((folder : Folder) → new folder → old folder) → AreKept old files entries → AreKept new files entries
 kept_earlier old new files entries earlier all e h =
     let was = all e h in
     record { opened = was.opened; block = λ f here folder kept. was.block f here folder (earlier folder kept) }
 
 -- the table stays sound where no other folder is kept, and the numbers that were handed out stay
-pub sound_moved : (old new : Folder → Type 0) (before after : ℕ → Option (List ℕ × ℕ)) (files : List OpenFile) (blocks : List (BlockKey × List ℕ)) → ((folder : Folder) → new folder → old folder) → ((n : ℕ) → IsSome (before n) → after n ≡ before n) → IsSound old before files blocks → IsSound new after files blocks
+pub sound_moved : (old new : Folder → Type 0) (before after : ℕ → Option (List ℕ × ℕ)) (files : List OpenFile) (blocks : List Entry) → ((folder : Folder) → new folder → old folder) → ((n : ℕ) → IsSome (before n) → after n ≡ before n) → IsSound old before files blocks → IsSound new after files blocks
 sound_moved old new before after files blocks earlier stays sound = record {
   handed_out = λ k f h. let was = sound.handed_out k f h in stays f.no.0 (ap is_some was) ∙ was;
   short_enough = sound.short_enough;
@@ -94,7 +102,7 @@ sound_moved old new before after files blocks earlier stays sound = record {
 }
 
 -- and where other blocks are kept
-pub sound_keeping : (keeps : Folder → Type 0) (told : ℕ → Option (List ℕ × ℕ)) (files : List OpenFile) (old new : List (BlockKey × List ℕ)) → AreKept keeps files new → IsSound keeps told files old → IsSound keeps told files new
+pub sound_keeping : (keeps : Folder → Type 0) (told : ℕ → Option (List ℕ × ℕ)) (files : List OpenFile) (old new : List Entry) → AreKept keeps files new → IsSound keeps told files old → IsSound keeps told files new
 sound_keeping keeps told files old new kept sound = record {
   handed_out = sound.handed_out;
   short_enough = sound.short_enough;

@@ -1,5 +1,6 @@
 -- Blocks of files.
 use Rattle.std.specs.Prelude.{◌≡◌, ℕ, ◌-◌, ◌*◌, ◌<◌, List, length, take, drop, min, slice_get, Some, Contains, IsSomeAnd}
+use Rattle.std.specs.Global.{Box}
 use Rattle.std.specs.declared.option.Option.{Option}
 use Rattle.std.specs.String.{string_bytes}
 use Rattle.cord_io.specs.Device.{Folder, bytes_at}
@@ -15,14 +16,22 @@ block_size len number = min (len - number * BLOCK) BLOCK
 abbrev pub IsBlock : ℕ → List ℕ → ℕ → List ℕ → Type 0
 IsBlock len text number block = take (block_size len number) block ≡ take (block_size len number) (drop (number * BLOCK) text)
 
+-- a block on the heap
+abbrev pub HeapBlock : Type 0
+HeapBlock = Box (List ℕ)
+
+-- a block that is kept, under its key
+abbrev pub Entry : Type 0
+Entry = BlockKey × HeapBlock
+
 -- a kept block is one of a file that was opened, in each folder that is kept
-pub record IsKept (keeps : Folder → Type 0) (files : List OpenFile) (entry : BlockKey × List ℕ) : Type 0 where
+pub record IsKept (keeps : Folder → Type 0) (files : List OpenFile) (entry : Entry) : Type 0 where
   pub opened : entry.0.place < length files
-  pub block : (file : OpenFile) → slice_get files entry.0.place ≡ Some file → (folder : Folder) → keeps folder → IsBlock file.len (bytes_at folder (string_bytes file.path)) entry.0.number entry.1
+  pub block : (file : OpenFile) → slice_get files entry.0.place ≡ Some file → (folder : Folder) → keeps folder → IsBlock file.len (bytes_at folder (string_bytes file.path)) entry.0.number entry.1.value
 
 -- the same of each kept block
-abbrev pub AreKept : (Folder → Type 0) → List OpenFile → List (BlockKey × List ℕ) → Type 0
-AreKept keeps files entries = (entry : BlockKey × List ℕ) → Contains entries entry → IsKept keeps files entry
+abbrev pub AreKept : (Folder → Type 0) → List OpenFile → List Entry → Type 0
+AreKept keeps files entries = (entry : Entry) → Contains entries entry → IsKept keeps files entry
 
 -- the bytes are those of a file from a place on
 abbrev pub AreRead : Folder → Option OpenFile → ℕ → List ℕ → Type 0

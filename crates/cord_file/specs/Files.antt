@@ -1,6 +1,5 @@
 -- The opened files of a table, as the device told them.
 use Rattle.std.specs.Prelude.{◌≡◌, ℕ, zero, suc, ◌≤◌, List, [], ◌∷◌, length, map, slice_get, Some, refl}
-use Rattle.std.specs.Option.{option_map}
 use Rattle.std.specs.String.{string_bytes}
 use Rattle.std.specs.declared.option.Option.{Option}
 use Rattle.cord_io.specs.declared.TheConstants.{MAX_LEN}

@@ -1,6 +1,5 @@
 -- What opening a path does to a table of files, and when it is refused.
 use Rattle.std.specs.Prelude.{◌≡◌, ℕ, ◌<◌, ◌≤◌, List, [], ◌∷◌, ◌++◌, length, Some, None, ⊤, IsSome, IsSomeAnd}
-use Rattle.std.specs.declared.option.Option.{Option}
 use Rattle.cord_io.specs.declared.TheConstants.{MAX_LEN}
 use Rattle.cord_io.specs.Device.{Folder, file_at}
 use Rattle.cord_file.specs.declared.TheConstants.{MAX_FILES}

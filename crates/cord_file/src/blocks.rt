@@ -1,7 +1,7 @@
 // Blocks of files, and those that are kept.
-ghost use Rattle.std.specs.Prelude.{◌≡◌, ◌+◌, ◌*◌, ◌<◌, ◌≤◌, ℕ, List, length, take, drop, true, is_err, Contains, IfOk, IsSomeAnd, ◌⊎◌};
+ghost use Rattle.std.specs.Prelude.{◌≡◌, ◌+◌, ◌*◌, ◌<◌, ◌≤◌, ℕ, List, length, take, drop, true, is_err, Contains, OnOk, IsSomeAnd, ◌⊎◌};
 ghost use Rattle.cord_io.specs.Device.{Folder, bytes_at, count_after};
-ghost use Rattle.cord_file.specs.Blocks.{IsBlock};
+ghost use Rattle.cord_file.specs.Blocks.{HeapBlock, Entry, IsBlock};
 
 use crate::reading::read_range;
 use cord_io::{FileNo, Files, MAX_LEN, ReadFault};
@@ -20,37 +20,53 @@ pub(crate) struct BlockKey {
     pub(crate) number: u64,
 }
 
-// Kept blocks. A new one takes the place of the one used least recently.
-pub(crate) type Blocks = LruCache<BlockKey, [u8; BLOCK]>;
+// A block on the heap, so that it isn't copied where the cache moves it.
+pub(crate) type Block = Box<[u8; BLOCK]>;
 
-// Reads one block of an opened file. The bytes behind its last one are 0.
+// Kept blocks. A new one takes the place of the one used least recently.
+pub(crate) type Blocks = LruCache<BlockKey, Block>;
+
+// Reads one block of an opened file into the room for one, whose bytes behind the last one are left as they are.
 pub(crate) fn read_block<F: Files>(
     files: &mut F,
     no: FileNo,
     len: u64,
     number: u64,
-) -> Result<[u8; BLOCK], ReadFault>
+    block: &mut [u8; BLOCK],
+) -> Result<(), ReadFault>
     requires told { IsSomeAnd (F.opened files.old no.0) (λ told. len ≡ told.1) }
     requires inside { number * BLOCK < len }
     requires limit { len ≤ MAX_LEN }
     ensures earlier { (folder : Folder) → F.keeps files.new folder → F.keeps files.old folder }
     ensures opened { (n : ℕ) → F.opened files.new n ≡ F.opened files.old n }
     ensures count { F.failures files.new ≡ count_after (is_err result) (F.failures files.old) }
-    ensures block { (folder : Folder) → F.keeps files.new folder → IfOk result (λ block.
-        IsSomeAnd (F.opened files.old no.0) (λ told. IsBlock len (bytes_at folder told.0) number block)) }
+    ensures block { (folder : Folder) → F.keeps files.new folder → OnOk result
+        (IsSomeAnd (F.opened files.old no.0) (λ told. IsBlock len (bytes_at folder told.0) number block.new)) }
 {
     let start = number * BLOCK as u64;
     let size = (len - start).min(BLOCK as u64) as usize;
-    let mut block = [0; BLOCK];
-    read_range(files, no, start, &mut block[..size])?;
-    Ok(block)
+    read_range(files, no, start, &mut block[..size])
+}
+
+// Room for one more block: that of the block used least recently where as many are kept as may be, and else a new one.
+// None where no memory is found for it.
+pub(crate) fn room_in(cache: &mut Blocks) -> Option<Block>
+    ensures { (e : Entry) → Contains cache.new.entries e → Contains cache.old.entries e }
+{
+    if cache.len() < MAX_BLOCKS {
+        return Box::new(*cache.allocator(), [0; BLOCK]).ok();
+    }
+    match cache.pop_lru() {
+        Some((_, block)) => Some(block),
+        None => None,
+    }
 }
 
 // Copies a part of a block into `out`, where the block is the one used last, and answers whether it is.
 fn copy_newest(cache: &Blocks, key: BlockKey, from: usize, out: &mut [u8]) -> bool
     requires { from + length out.old ≤ BLOCK }
-    ensures { result ≡ true → (block : List ℕ) × Contains cache.now.entries (key, block)
-        × (out.new ≡ take (length out.new) (drop from block)) }
+    ensures { result ≡ true → (block : HeapBlock) × Contains cache.now.entries (key, block)
+        × (out.new ≡ take (length out.new) (drop from block.value)) }
 {
     match cache.peek_mru() {
         Some((newest, block)) if *newest == key => {
@@ -65,9 +81,9 @@ fn copy_newest(cache: &Blocks, key: BlockKey, from: usize, out: &mut [u8]) -> bo
 // block used last, which is found without a look-up.
 pub(crate) fn copy_kept(cache: &mut Blocks, key: BlockKey, from: usize, out: &mut [u8]) -> bool
     requires { from + length out.old ≤ BLOCK }
-    ensures kept { (e : BlockKey × List ℕ) → Contains cache.new.entries e → Contains cache.old.entries e }
-    ensures copied { result ≡ true → (block : List ℕ) × Contains cache.old.entries (key, block)
-        × (out.new ≡ take (length out.new) (drop from block)) }
+    ensures kept { (e : Entry) → Contains cache.new.entries e → Contains cache.old.entries e }
+    ensures copied { result ≡ true → (block : HeapBlock) × Contains cache.old.entries (key, block)
+        × (out.new ≡ take (length out.new) (drop from block.value)) }
 {
     if copy_newest(cache, key, from, out) {
         return true;
@@ -82,8 +98,8 @@ pub(crate) fn copy_kept(cache: &mut Blocks, key: BlockKey, from: usize, out: &mu
 }
 
 // Keeps a block, where memory is found for it.
-pub(crate) fn keep(cache: &mut Blocks, key: BlockKey, block: [u8; BLOCK])
-    ensures { (e : BlockKey × List ℕ) → Contains cache.new.entries e →
+pub(crate) fn keep(cache: &mut Blocks, key: BlockKey, block: Block)
+    ensures { (e : Entry) → Contains cache.new.entries e →
         Contains cache.old.entries e ⊎ (e ≡ (key, block)) }
 {
     let _ = cache.put(key, block);

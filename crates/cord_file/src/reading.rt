@@ -5,7 +5,7 @@ ghost use Rattle.cord_file.specs.Blocks.{AreRead};
 ghost use Rattle.cord_file.specs.declared.blocks.TheConstants.{BLOCK};
 
 use crate::Sources;
-use crate::blocks::{BLOCK, BlockKey, MAX_BLOCKS, copy_kept, keep, read_block};
+use crate::blocks::{BLOCK, BlockKey, MAX_BLOCKS, copy_kept, keep, read_block, room_in};
 use cord_io::{FileNo, Files, MAX_LEN, ReadFault};
 
 // Fills `out` with the bytes of an opened file from a place on. The range lies inside the file.
@@ -134,10 +134,36 @@ impl<F: Files> Sources<F> {
         if copy_kept(&mut self.cache, key, from, out) {
             return Ok(());
         }
+        let Some(mut block) = room_in(&mut self.cache) else {
+            return self.read_unkept(place, start, out);
+        };
         let file = &self.entries[place];
-        let block = read_block(&mut self.files, file.no, file.len, number)?;
+        read_block(&mut self.files, file.no, file.len, number, &mut block)?;
         out.copy_from_slice(&block[from..from + out.len()]);
         keep(&mut self.cache, key, block);
+        Ok(())
+    }
+
+    // Fills `out` with bytes of one block of an opened file, which is read and not kept.
+    fn read_unkept(&mut self, place: usize, start: u64, out: &mut [u8]) -> Result<(), ReadFault>
+        requires inside { IsSomeAnd (slice_get self.old.entries.items place) (λ file.
+            start + length out.old ≤ file.len) }
+        requires some { 0 < length out.old }
+        requires part { start % BLOCK + length out.old ≤ BLOCK }
+        ensures earlier { (folder : Folder) →
+            F.keeps (device_in self.new) folder → F.keeps (device_in self.old) folder }
+        ensures entries { self.new.entries.items ≡ self.old.entries.items }
+        ensures count { F.failures (device_in self.new)
+            ≡ count_after (is_err result) (F.failures (device_in self.old)) }
+        ensures bytes { (folder : Folder) → F.keeps (device_in self.new) folder →
+            OnOk result (AreRead folder (slice_get self.old.entries.items place) start out.new) }
+    {
+        let number = start / BLOCK as u64;
+        let from = (start % BLOCK as u64) as usize;
+        let file = &self.entries[place];
+        let mut block = [0; BLOCK];
+        read_block(&mut self.files, file.no, file.len, number, &mut block)?;
+        out.copy_from_slice(&block[from..from + out.len()]);
         Ok(())
     }
 }

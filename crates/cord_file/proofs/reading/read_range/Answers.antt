@@ -1,4 +1,4 @@
-use Rattle.std.proofs.Common.{◌≡◌, ℕ, ◌+◌, ◌≤◌, List, ◌∙◌, length, take, drop, subst, rules}
+use Rattle.std.proofs.Common.{◌≡◌, ℕ, ◌+◌, List, ◌∙◌, take, drop, subst, rules}
 use Rattle.std.specs.Prelude.{IsSomeAnd, Option}
 use Rattle.cord_io.specs.Device.{bytes_at}
 use Rattle.cord_file.proofs.Ranges.{more_read}
