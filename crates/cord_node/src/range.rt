@@ -27,36 +27,25 @@ pub fn sub_node(
     ensures kept { IfOk result (λ part. Kept (parts node.now.value) (parts part.value)) }
 {
     if count == node.len() {
-        let part = node.clone()?;
-        return Ok(part);
+        return node.clone();
     }
     match node.as_ref() {
         Node::Leaf { bytes, start, .. } => {
             let bytes = bytes.clone()?;
-            let part = leaf_range(alloc, bytes, *start + from, count)?;
-            Ok(part)
+            leaf_range(alloc, bytes, *start + from, count)
         }
-        Node::Run { byte, .. } => {
-            let part = run(alloc, *byte, count)?;
-            Ok(part)
-        }
-        Node::Func { id, start, .. } => {
-            let part = func(alloc, *id, *start + from, count)?;
-            Ok(part)
-        }
+        Node::Run { byte, .. } => run(alloc, *byte, count),
+        Node::Func { id, start, .. } => func(alloc, *id, *start + from, count),
         Node::Cat { left, right, .. } => {
             let middle = left.len();
             if from + count <= middle {
-                let part = sub_node(alloc, left, from, count)?;
-                Ok(part)
+                sub_node(alloc, left, from, count)
             } else if middle <= from {
-                let part = sub_node(alloc, right, from - middle, count)?;
-                Ok(part)
+                sub_node(alloc, right, from - middle, count)
             } else {
                 let left = sub_node(alloc, left, from, middle - from)?;
                 let right = sub_node(alloc, right, 0, from + count - middle)?;
-                let part = join(alloc, &left, &right)?;
-                Ok(part)
+                join(alloc, &left, &right)
             }
         }
     }
