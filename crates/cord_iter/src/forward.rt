@@ -80,29 +80,29 @@ fn walk_node<S: Source, V: Visitor>(
     ensures table { S.table src.new ≡ S.table src.old }
     ensures earlier { (folder : Folder) → S.keeps src.new folder → S.keeps src.old folder }
 {
-    let stopped = match node {
+    match node {
         Node::Leaf {
             bytes,
             start,
             len,
             ..
         } => {
-            visitor.bytes(&bytes.as_slice()[(*start + from) as usize..(*start + *len) as usize])
+            let slice = &bytes.as_slice()[(*start + from) as usize..(*start + *len) as usize];
+            Ok(visitor.bytes(slice))
         }
-        Node::Run { byte, len } => walk_run(*byte, *len - from, visitor),
-        Node::Func { id, start, len } => walk_func(*id, *start + from, *len - from, src, visitor)?,
+        Node::Run { byte, len } => Ok(walk_run(*byte, *len - from, visitor)),
+        Node::Func { id, start, len } => walk_func(*id, *start + from, *len - from, src, visitor),
         Node::Cat { left, right, .. } => {
             let seam = left.len();
             if seam <= from {
-                walk_node(right.as_ref(), from - seam, src, visitor)?
+                walk_node(right.as_ref(), from - seam, src, visitor)
             } else if walk_node(left.as_ref(), from, src, visitor)? {
-                true
+                Ok(true)
             } else {
-                walk_node(right.as_ref(), 0, src, visitor)?
+                walk_node(right.as_ref(), 0, src, visitor)
             }
         }
-    };
-    Ok(stopped)
+    }
 }
 
 // Walks over `len` times the byte, in pieces.

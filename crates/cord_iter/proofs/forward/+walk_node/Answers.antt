@@ -1,37 +1,16 @@
 use Rattle.std.proofs.Common.{◌≡◌, ℕ, List, ◌+◌, ◌-◌, ◌≤◌, ◌∙◌, take, drop, sym, ap, subst, arith}
 use Rattle.std.specs.Prelude.{replicate}
+use Rattle.std.specs.Result.{IfOk, OnErr}
+use Rattle.std.proofs.lemmas.Result.{IfOk-weaker, on_err_weaker}
 use Rattle.std.proofs.lemmas.List.{drop-replicate}
 use Rattle.cord_node.specs.declared.Node.{Node}
 use Rattle.cord_node.specs.Tree.{len_of}
 use Rattle.cord_node.specs.Tables.{bytes_over}
-use Rattle.cord_iter.specs.Walk.{WalkedFront}
+use Rattle.cord_iter.specs.Walk.{walk, WalkedFront}
 use Rattle.cord_iter.proofs.Takings.{on_err}
 use Rattle.cord_iter.proofs.Walks.{same_walk, range_rest}
-use Rattle.cord_iter.proofs.Cuts.{IsCut, cut_of, cut_stop, cut_on, cut_front, cut_on_front, cut_past, cut_past_walk}
+use Rattle.cord_iter.proofs.Cuts.{IsCut, cut_of, cut_stop, cut_on, cut_front, cut_on_front, cut_past}
 use Rattle.cord_iter.proofs.forward.+walk_node.Goals as goal
-
-pub returns-in_err-stopped-in-Func-clause-prefix : goal.returns-in_err-stopped-in-Func-clause-prefix
-returns-in_err-stopped-in-Func-clause-prefix g t c folder kept =
-    let step = g.V.Visitor.step in
-    let state = g.V.Visitor.state in
-    let text = g.S.Source.table c.args.src.now folder in
-    let node = c.args.node.now in
-    let inside : c.args.from ≤ c.in-Func.len = rw c.in-Func.is at c.requires.inside in
-    on_err c.from_residual.result (subst (WalkedFront step (state c.args.visitor.now) (state c.walk_func.new.visitor)) (range_rest (text c.in-Func.id.0) c.in-Func.start c.in-Func.len c.args.from inside ∙ ap (λ (n : Node). drop c.args.from (bytes_over text n)) (sym c.in-Func.is)) (c.in_err-stopped-in-Func.ensures.prefix folder kept))
-
-pub returns-in_err-stopped-in-Cat-clause-prefix : goal.returns-in_err-stopped-in-Cat-clause-prefix
-returns-in_err-stopped-in-Cat-clause-prefix g t c folder kept =
-    let step = g.V.Visitor.step in
-    let state = g.V.Visitor.state in
-    let text = g.S.Source.table c.args.src.now folder in
-    let node = c.args.node.now in
-    let left = c.in-Cat.left.value in
-    let right = c.in-Cat.right.value in
-    let told = g.met.S.Source.lengths_of_table c.args.src.now folder (c.walk_node.ensures.earlier folder kept) in
-    let cut : IsCut text left right node = cut_of (g.S.Source.lengths c.args.src.now) text _ left _ right _ _ _ node c.in-Cat.is c.requires.sound c.requires.fits told in
-    let seam : c.len-seam.result ≡ len_of left = c.len-seam.ensures.stored ∙ ap len_of c.deref.ensures in
-    let inside : len_of left ≤ c.args.from = subst (λ k. k ≤ c.args.from) seam c.if-seam-from.true in
-    on_err c.from_residual-in_err-stopped-in-Cat.result (cut_past (λ xs. WalkedFront step (state c.args.visitor.now) (state c.walk_node.new.visitor) xs) text left right node c.args.from cut inside (rw (c.as_ref.ensures, seam) at c.in_err-stopped-in-Cat.ensures.prefix folder kept))
 
 pub returns-in_err-walk_node-in-Cat-clause-prefix : goal.returns-in_err-walk_node-in-Cat-clause-prefix
 returns-in_err-walk_node-in-Cat-clause-prefix g t c folder kept =
@@ -45,21 +24,7 @@ returns-in_err-walk_node-in-Cat-clause-prefix g t c folder kept =
     let cut : IsCut text left right node = cut_of (g.S.Source.lengths c.args.src.now) text _ left _ right _ _ _ node c.in-Cat.is c.requires.sound c.requires.fits told in
     let seam : c.len-seam.result ≡ len_of left = c.len-seam.ensures.stored ∙ ap len_of c.deref.ensures in
     let inside : c.args.from ≤ len_of left = omega (arith, seam, c.if-seam-from.false) in
-    on_err c.from_residual-in_err-walk_node-in-Cat.result (cut_front step (state c.args.visitor.now) (state c.walk_node-else-seam-from.new.visitor) text left right node c.args.from cut inside (rw c.as_ref-else-seam-from.ensures at c.in_err-walk_node-in-Cat.ensures.prefix folder kept))
-
-pub returns-in_err-stopped-in-Cat-2-clause-prefix : goal.returns-in_err-stopped-in-Cat-2-clause-prefix
-returns-in_err-stopped-in-Cat-2-clause-prefix g t c folder kept =
-    let step = g.V.Visitor.step in
-    let state = g.V.Visitor.state in
-    let text = g.S.Source.table c.args.src.now folder in
-    let node = c.args.node.now in
-    let left = c.in-Cat.left.value in
-    let right = c.in-Cat.right.value in
-    let told = g.met.S.Source.lengths_of_table c.args.src.now folder (c.walk_node-else-seam-from.ensures.earlier folder (c.walk_node-else-branch.ensures.earlier folder kept)) in
-    let cut : IsCut text left right node = cut_of (g.S.Source.lengths c.args.src.now) text _ left _ right _ _ _ node c.in-Cat.is c.requires.sound c.requires.fits told in
-    let seam : c.len-seam.result ≡ len_of left = c.len-seam.ensures.stored ∙ ap len_of c.deref.ensures in
-    let inside : c.args.from ≤ len_of left = omega (arith, seam, c.if-seam-from.false) in
-    on_err c.from_residual-in_err-stopped-in-Cat-2.result (cut_on_front step (state c.args.visitor.now) (state c.walk_node-else-seam-from.new.visitor) (state c.walk_node-else-branch.new.visitor) text left right node c.args.from cut inside (rw (c.as_ref-else-seam-from.ensures, c.if-branch.false) at c.in_ok-walk_node-in-Cat.ensures.walked folder (c.walk_node-else-branch.ensures.earlier folder kept)) (rw (c.as_ref-else-branch.ensures, c.walk_node-else-seam-from.ensures.table) at c.in_err-stopped-in-Cat-2.ensures.prefix folder kept))
+    on_err c.from_residual.result (cut_front step (state c.args.visitor.now) (state c.walk_node-else-seam-from.new.visitor) text left right node c.args.from cut inside (rw c.as_ref-else-seam-from.ensures at c.in_err-walk_node-in-Cat.ensures.prefix folder kept))
 
 pub returns-in-Leaf-clause-walked : goal.returns-in-Leaf-clause-walked
 returns-in-Leaf-clause-walked g t c folder kept =
@@ -75,7 +40,7 @@ returns-in-Leaf-clause-walked g t c folder kept =
     let count : (start + len) - (start + from) ≡ len - from = omega arith in
     same_walk step (state c.args.visitor.now) _ (take ((start + len) - (start + from)) (drop (start + from) slice)) (drop from (bytes_over text node))
     (ap (λ (k : ℕ). take k (drop (start + from) slice)) count ∙ range_rest slice start len from inside ∙ ap (λ (xs : List ℕ). drop from (take len (drop start xs))) c.as_slice.ensures.value ∙ ap (λ (n : Node). drop from (bytes_over text n)) (sym c.in-Leaf.is))
-    (sym c.bytes-stopped.ensures)
+    (sym c.bytes.ensures)
 
 pub returns-in-Run-clause-walked : goal.returns-in-Run-clause-walked
 returns-in-Run-clause-walked g t c folder kept =
@@ -86,30 +51,7 @@ returns-in-Run-clause-walked g t c folder kept =
     let from = c.args.from in
     same_walk step (state c.args.visitor.now) _ (replicate (c.in-Run.len - from) c.in-Run.byte) (drop from (bytes_over text node))
     (sym (drop-replicate from c.in-Run.len c.in-Run.byte) ∙ ap (λ (n : Node). drop from (bytes_over text n)) (sym c.in-Run.is))
-    c.walk_run-stopped.ensures
-
-pub returns-in_ok-stopped-in-Func-clause-walked : goal.returns-in_ok-stopped-in-Func-clause-walked
-returns-in_ok-stopped-in-Func-clause-walked g t c folder kept =
-    let step = g.V.Visitor.step in
-    let state = g.V.Visitor.state in
-    let text = g.S.Source.table c.args.src.now folder in
-    let node = c.args.node.now in
-    let inside : c.args.from ≤ c.in-Func.len = rw c.in-Func.is at c.requires.inside in
-    same_walk step (state c.args.visitor.now) _ (take (c.in-Func.len - c.args.from) (drop (c.in-Func.start + c.args.from) (text c.in-Func.id.0))) (drop c.args.from (bytes_over text node)) (range_rest (text c.in-Func.id.0) c.in-Func.start c.in-Func.len c.args.from inside ∙ ap (λ (n : Node). drop c.args.from (bytes_over text n)) (sym c.in-Func.is)) (c.in_ok-stopped-in-Func.ensures.walked folder kept)
-
-pub returns-in_ok-stopped-in-Cat-clause-walked : goal.returns-in_ok-stopped-in-Cat-clause-walked
-returns-in_ok-stopped-in-Cat-clause-walked g t c folder kept =
-    let step = g.V.Visitor.step in
-    let state = g.V.Visitor.state in
-    let text = g.S.Source.table c.args.src.now folder in
-    let node = c.args.node.now in
-    let left = c.in-Cat.left.value in
-    let right = c.in-Cat.right.value in
-    let told = g.met.S.Source.lengths_of_table c.args.src.now folder (c.walk_node.ensures.earlier folder kept) in
-    let cut : IsCut text left right node = cut_of (g.S.Source.lengths c.args.src.now) text _ left _ right _ _ _ node c.in-Cat.is c.requires.sound c.requires.fits told in
-    let seam : c.len-seam.result ≡ len_of left = c.len-seam.ensures.stored ∙ ap len_of c.deref.ensures in
-    let inside : len_of left ≤ c.args.from = subst (λ k. k ≤ c.args.from) seam c.if-seam-from.true in
-    cut_past_walk step (state c.args.visitor.now) _ text left right node c.args.from cut inside (rw (c.as_ref.ensures, seam) at c.in_ok-stopped-in-Cat.ensures.walked folder kept)
+    c.walk_run.ensures
 
 pub returns-then-branch-clause-walked : goal.returns-then-branch-clause-walked
 returns-then-branch-clause-walked g t c folder kept =
@@ -125,8 +67,56 @@ returns-then-branch-clause-walked g t c folder kept =
     let inside : c.args.from ≤ len_of left = omega (arith, seam, c.if-seam-from.false) in
     cut_stop step (state c.args.visitor.now) (state c.walk_node-else-seam-from.new.visitor) text left right node c.args.from cut inside (rw (c.as_ref-else-seam-from.ensures, c.if-branch.true) at c.in_ok-walk_node-in-Cat.ensures.walked folder kept)
 
-pub returns-in_ok-stopped-in-Cat-2-clause-walked : goal.returns-in_ok-stopped-in-Cat-2-clause-walked
-returns-in_ok-stopped-in-Cat-2-clause-walked g t c folder kept =
+pub returns-in-Func-clause-walked : goal.returns-in-Func-clause-walked
+returns-in-Func-clause-walked g t c folder kept =
+    let step = g.V.Visitor.step in
+    let state = g.V.Visitor.state in
+    let text = g.S.Source.table c.args.src.now folder in
+    let node = c.args.node.now in
+    let inside : c.args.from ≤ c.in-Func.len = rw c.in-Func.is at c.requires.inside in
+    let rest = range_rest (text c.in-Func.id.0) c.in-Func.start c.in-Func.len c.args.from inside ∙ ap (λ (n : Node). drop c.args.from (bytes_over text n)) (sym c.in-Func.is) in
+    subst (λ xs. IfOk c.walk_func.result (λ stopped. walk step (state c.args.visitor.now) xs ≡ (state c.walk_func.new.visitor, stopped))) rest (c.walk_func.ensures.walked folder kept)
+
+pub returns-in-Func-clause-prefix : goal.returns-in-Func-clause-prefix
+returns-in-Func-clause-prefix g t c folder kept =
+    let step = g.V.Visitor.step in
+    let state = g.V.Visitor.state in
+    let text = g.S.Source.table c.args.src.now folder in
+    let node = c.args.node.now in
+    let inside : c.args.from ≤ c.in-Func.len = rw c.in-Func.is at c.requires.inside in
+    let rest = range_rest (text c.in-Func.id.0) c.in-Func.start c.in-Func.len c.args.from inside ∙ ap (λ (n : Node). drop c.args.from (bytes_over text n)) (sym c.in-Func.is) in
+    subst (λ xs. OnErr c.walk_func.result (WalkedFront step (state c.args.visitor.now) (state c.walk_func.new.visitor) xs)) rest (c.walk_func.ensures.prefix folder kept)
+
+pub returns-then-seam-from-clause-walked : goal.returns-then-seam-from-clause-walked
+returns-then-seam-from-clause-walked g t c folder kept =
+    let step = g.V.Visitor.step in
+    let state = g.V.Visitor.state in
+    let text = g.S.Source.table c.args.src.now folder in
+    let node = c.args.node.now in
+    let left = c.in-Cat.left.value in
+    let right = c.in-Cat.right.value in
+    let told = g.met.S.Source.lengths_of_table c.args.src.now folder (c.walk_node.ensures.earlier folder kept) in
+    let cut : IsCut text left right node = cut_of (g.S.Source.lengths c.args.src.now) text _ left _ right _ _ _ node c.in-Cat.is c.requires.sound c.requires.fits told in
+    let seam : c.len-seam.result ≡ len_of left = c.len-seam.ensures.stored ∙ ap len_of c.deref.ensures in
+    let inside : len_of left ≤ c.args.from = subst (λ k. k ≤ c.args.from) seam c.if-seam-from.true in
+    cut_past (λ xs. IfOk c.walk_node.result (λ stopped. walk step (state c.args.visitor.now) xs ≡ (state c.walk_node.new.visitor, stopped))) text left right node c.args.from cut inside (rw (c.as_ref.ensures, seam) at c.walk_node.ensures.walked folder kept)
+
+pub returns-then-seam-from-clause-prefix : goal.returns-then-seam-from-clause-prefix
+returns-then-seam-from-clause-prefix g t c folder kept =
+    let step = g.V.Visitor.step in
+    let state = g.V.Visitor.state in
+    let text = g.S.Source.table c.args.src.now folder in
+    let node = c.args.node.now in
+    let left = c.in-Cat.left.value in
+    let right = c.in-Cat.right.value in
+    let told = g.met.S.Source.lengths_of_table c.args.src.now folder (c.walk_node.ensures.earlier folder kept) in
+    let cut : IsCut text left right node = cut_of (g.S.Source.lengths c.args.src.now) text _ left _ right _ _ _ node c.in-Cat.is c.requires.sound c.requires.fits told in
+    let seam : c.len-seam.result ≡ len_of left = c.len-seam.ensures.stored ∙ ap len_of c.deref.ensures in
+    let inside : len_of left ≤ c.args.from = subst (λ k. k ≤ c.args.from) seam c.if-seam-from.true in
+    cut_past (λ xs. OnErr c.walk_node.result (WalkedFront step (state c.args.visitor.now) (state c.walk_node.new.visitor) xs)) text left right node c.args.from cut inside (rw (c.as_ref.ensures, seam) at c.walk_node.ensures.prefix folder kept)
+
+pub returns-else-branch-clause-walked : goal.returns-else-branch-clause-walked
+returns-else-branch-clause-walked g t c folder kept =
     let step = g.V.Visitor.step in
     let state = g.V.Visitor.state in
     let text = g.S.Source.table c.args.src.now folder in
@@ -138,4 +128,21 @@ returns-in_ok-stopped-in-Cat-2-clause-walked g t c folder kept =
     let cut : IsCut text left right node = cut_of (g.S.Source.lengths c.args.src.now) text _ left _ right _ _ _ node c.in-Cat.is c.requires.sound c.requires.fits told in
     let seam : c.len-seam.result ≡ len_of left = c.len-seam.ensures.stored ∙ ap len_of c.deref.ensures in
     let inside : c.args.from ≤ len_of left = omega (arith, seam, c.if-seam-from.false) in
-    cut_on step (state c.args.visitor.now) (state c.walk_node-else-seam-from.new.visitor) _ text left right node c.args.from cut inside (rw (c.as_ref-else-seam-from.ensures, c.if-branch.false) at c.in_ok-walk_node-in-Cat.ensures.walked folder before) (rw (c.as_ref-else-branch.ensures, c.walk_node-else-seam-from.ensures.table) at c.in_ok-stopped-in-Cat-2.ensures.walked folder kept)
+    let stays = rw (c.as_ref-else-seam-from.ensures, c.if-branch.false) at c.in_ok-walk_node-in-Cat.ensures.walked folder before in
+    IfOk-weaker c.walk_node-else-branch.result _ _ (λ stopped on. cut_on step (state c.args.visitor.now) (state c.walk_node-else-seam-from.new.visitor) _ text left right node c.args.from cut inside stays on) (rw (c.as_ref-else-branch.ensures, c.walk_node-else-seam-from.ensures.table) at c.walk_node-else-branch.ensures.walked folder kept)
+
+pub returns-else-branch-clause-prefix : goal.returns-else-branch-clause-prefix
+returns-else-branch-clause-prefix g t c folder kept =
+    let step = g.V.Visitor.step in
+    let state = g.V.Visitor.state in
+    let text = g.S.Source.table c.args.src.now folder in
+    let node = c.args.node.now in
+    let left = c.in-Cat.left.value in
+    let right = c.in-Cat.right.value in
+    let before = c.walk_node-else-branch.ensures.earlier folder kept in
+    let told = g.met.S.Source.lengths_of_table c.args.src.now folder (c.walk_node-else-seam-from.ensures.earlier folder before) in
+    let cut : IsCut text left right node = cut_of (g.S.Source.lengths c.args.src.now) text _ left _ right _ _ _ node c.in-Cat.is c.requires.sound c.requires.fits told in
+    let seam : c.len-seam.result ≡ len_of left = c.len-seam.ensures.stored ∙ ap len_of c.deref.ensures in
+    let inside : c.args.from ≤ len_of left = omega (arith, seam, c.if-seam-from.false) in
+    let stays = rw (c.as_ref-else-seam-from.ensures, c.if-branch.false) at c.in_ok-walk_node-in-Cat.ensures.walked folder before in
+    on_err_weaker c.walk_node-else-branch.result (λ front. cut_on_front step (state c.args.visitor.now) (state c.walk_node-else-seam-from.new.visitor) (state c.walk_node-else-branch.new.visitor) text left right node c.args.from cut inside stays front) (rw (c.as_ref-else-branch.ensures, c.walk_node-else-seam-from.ensures.table) at c.walk_node-else-branch.ensures.prefix folder kept)
