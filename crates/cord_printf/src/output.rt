@@ -63,8 +63,7 @@ impl Output {
     {
         self.add_front(alloc, shown.layout)?;
         self.add_body(alloc, &shown.body)?;
-        self.add_run(alloc, b' ', shown.layout.after)?;
-        Ok(())
+        self.add_run(alloc, b' ', shown.layout.after)
     }
 
     /// The text as a cord.
@@ -90,8 +89,7 @@ impl Output {
     {
         self.add_run(alloc, b' ', layout.before)?;
         self.add_sign(alloc, layout.sign)?;
-        self.add_run(alloc, b'0', layout.zeros)?;
-        Ok(())
+        self.add_run(alloc, b'0', layout.zeros)
     }
 
     fn add_sign(&mut self, alloc: Global, sign: Option<u8>) -> Result<(), PrintError>
@@ -102,8 +100,7 @@ impl Output {
         let Some(sign) = sign else {
             return Ok(());
         };
-        self.add_bytes(alloc, &[sign])?;
-        Ok(())
+        self.add_bytes(alloc, &[sign])
     }
 
     fn add_body(&mut self, alloc: Global, body: &Body<'_>) -> Result<(), PrintError>
@@ -112,12 +109,11 @@ impl Output {
         ensures refused { IsOkUnless result PrintError.NoMemory }
     {
         match body {
-            Body::Bytes(bytes) => self.add_bytes(alloc, bytes)?,
-            Body::Byte(byte) => self.add_bytes(alloc, &[*byte])?,
-            Body::Digits(digits) => self.add_bytes(alloc, digits.text().as_slice())?,
-            Body::Start(cord, len) => self.add_start(alloc, cord, *len)?,
+            Body::Bytes(bytes) => self.add_bytes(alloc, bytes),
+            Body::Byte(byte) => self.add_bytes(alloc, &[*byte]),
+            Body::Digits(digits) => self.add_bytes(alloc, digits.text().as_slice()),
+            Body::Start(cord, len) => self.add_start(alloc, cord, *len),
         }
-        Ok(())
     }
 
     // So many copies of a byte, mostly none.
@@ -128,9 +124,10 @@ impl Output {
         ensures refused { IsOkUnless result PrintError.NoMemory }
     {
         if count > 0 {
-            self.add_copies(alloc, byte, count)?;
+            self.add_copies(alloc, byte, count)
+        } else {
+            Ok(())
         }
-        Ok(())
     }
 
     // A long run is shared, not written out.
@@ -142,15 +139,11 @@ impl Output {
         if count as usize <= SHORT_RUN {
             let run = [byte; SHORT_RUN];
             let (bytes, _) = run.split_at(count as usize);
-            self.add_bytes(alloc, bytes)?;
-            return Ok(());
+            return self.add_bytes(alloc, bytes);
         }
         match Cord::chars(alloc, byte, u64::from(count)) {
             Err(_) => Err(PrintError::NoMemory),
-            Ok(run) => {
-                self.add_cord(alloc, &run)?;
-                Ok(())
-            }
+            Ok(run) => self.add_cord(alloc, &run),
         }
     }
 
@@ -161,15 +154,11 @@ impl Output {
         ensures refused { IsOkUnless result PrintError.NoMemory }
     {
         if cord.len() <= len {
-            self.add_cord(alloc, cord)?;
-            return Ok(());
+            return self.add_cord(alloc, cord);
         }
         match cord.substr(alloc, 0, len) {
             Err(_) => Err(PrintError::NoMemory),
-            Ok(start) => {
-                self.add_cord(alloc, &start)?;
-                Ok(())
-            }
+            Ok(start) => self.add_cord(alloc, &start),
         }
     }
 
