@@ -152,6 +152,5 @@ pub fn insert(alloc: Global, forest: &mut Vec<Piece>, node: Rc<Node>) -> Result<
     let slot = slot_of(node.len());
     let small = gather(alloc, forest, slot)?;
     let joined = put_right(alloc, small, node)?;
-    merge(alloc, forest, joined)?;
-    Ok(())
+    merge(alloc, forest, joined)
 }

@@ -43,14 +43,12 @@ pub fn insert_tree(
 {
     if is_balanced(node) {
         let whole = node.clone()?;
-        insert(alloc, forest, whole)?;
-        return Ok(());
+        return insert(alloc, forest, whole);
     }
     match node.as_ref() {
         Node::Cat { left, right, .. } => {
             insert_tree(alloc, forest, left)?;
-            insert_tree(alloc, forest, right)?;
-            Ok(())
+            insert_tree(alloc, forest, right)
         }
         Node::Leaf { .. } => unreachable!(),
         Node::Run { .. } => unreachable!(),
@@ -80,17 +78,14 @@ pub fn insert_once(
     ensures kept { OnOk result (Kept (forest_parts forest.old.items ++ parts node.now.value) (forest_parts forest.new.items)) }
 {
     let Node::Cat { left, right, .. } = node.as_ref() else {
-        insert_tree(alloc, forest, node)?;
-        return Ok(());
+        return insert_tree(alloc, forest, node);
     };
     if is_balanced(node) {
-        insert_tree(alloc, forest, node)?;
-        return Ok(());
+        return insert_tree(alloc, forest, node);
     }
     if Rc::strong_count(node) <= alone {
         insert_once(alloc, forest, known, left, 1)?;
-        insert_once(alloc, forest, known, right, 1)?;
-        return Ok(());
+        return insert_once(alloc, forest, known, right, 1);
     }
     if let Some(form) = find(known.as_slice(), node.as_ref()) {
         insert_tree(alloc, forest, form)?;

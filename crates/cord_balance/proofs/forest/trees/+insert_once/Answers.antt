@@ -1,5 +1,6 @@
 use Rattle.std.proofs.Common.{◌≡◌, ◌<◌, ◌∙◌, List, sym, subst, arith}
 use Rattle.std.specs.List.{All}
+use Rattle.std.proofs.lemmas.Result.{on_ok_weaker}
 use Rattle.std.proofs.lemmas.List.Elements.{All-push}
 use Rattle.cord_node.specs.declared.Node.{Node}
 use Rattle.cord_node.specs.Tree.{len_of, IsSound}
@@ -11,7 +12,7 @@ use Rattle.cord_balance.proofs.Forms.{IsPut, form_put, cat_put, form_of_put, rig
 use Rattle.cord_balance.proofs.forest.trees.+insert_once.Goals as goal
 
 pub returns-then-strong_count-alone-clause-kept : goal.returns-then-strong_count-alone-clause-kept
-returns-then-strong_count-alone-clause-kept t c = rw (← c.as_ref.ensures, c.in-Cat.is) (kept_two (forest_parts c.args.forest.now.items) (parts c.in-Cat.left.value) (parts c.in-Cat.right.value) (forest_parts c.insert_once.new.forest.items) (forest_parts c.insert_once-then-strong_count-alone.new.forest.items) c.in_ok-insert_once.ensures.kept c.in_ok-insert_once-2.ensures.kept)
+returns-then-strong_count-alone-clause-kept t c = rw (← c.as_ref.ensures, c.in-Cat.is) (on_ok_weaker c.insert_once-then-strong_count-alone.result (λ k. kept_two (forest_parts c.args.forest.now.items) (parts c.in-Cat.left.value) (parts c.in-Cat.right.value) (forest_parts c.insert_once.new.forest.items) (forest_parts c.insert_once-then-strong_count-alone.new.forest.items) c.in_ok-insert_once.ensures.kept k) c.insert_once-then-strong_count-alone.ensures.kept)
 
 pub returns-in-Some-clause-kept : goal.returns-in-Some-clause-kept
 returns-in-Some-clause-kept t c =
@@ -21,16 +22,16 @@ returns-in-Some-clause-kept t c =
     let form = c.in-Some.form.now.value in
     let is : IsForm n form = subst (λ (m : Node). IsForm m form) c.as_ref-2.ensures c.in-Some.ensures in
     let put : IsPut old new form = record {
-      text = c.in_ok-insert_tree-3.ensures.text;
-      len = c.in_ok-insert_tree-3.ensures.len;
-      kept = c.in_ok-insert_tree-3.ensures.kept;
+      text = c.in_ok-insert_tree.ensures.text;
+      len = c.in_ok-insert_tree.ensures.len;
+      kept = c.in_ok-insert_tree.ensures.kept;
     } in
     (form_put old new n form is put).kept
 
 pub gather_all-requires-clause-some : goal.gather_all-requires-clause-some
 gather_all-requires-clause-some t c =
     let some : 0 < len_of c.in-Cat.right.value = right_some c.args.node.now.value _ c.in-Cat.left.value _ c.in-Cat.right.value _ _ _ (sym c.as_ref.ensures ∙ c.in-Cat.is) c.requires.sound in
-    omega (arith, some, c.in_ok-insert_once-4.ensures.len)
+    omega (arith, some, c.in_ok-insert_once-3.ensures.len)
 
 pub returns-clause-known : goal.returns-clause-known
 returns-clause-known t c =
@@ -40,20 +41,20 @@ returns-clause-known t c =
     let all = c.insert_once-3.new.forest.items in
     let form = c.in_ok-form.form.value in
     let one : IsPut own mid c.in-Cat.left.value = record {
+      text = c.in_ok-insert_once-2.ensures.text;
+      len = c.in_ok-insert_once-2.ensures.len;
+      kept = c.in_ok-insert_once-2.ensures.kept;
+    } in
+    let two : IsPut mid all c.in-Cat.right.value = record {
       text = c.in_ok-insert_once-3.ensures.text;
       len = c.in_ok-insert_once-3.ensures.len;
       kept = c.in_ok-insert_once-3.ensures.kept;
-    } in
-    let two : IsPut mid all c.in-Cat.right.value = record {
-      text = c.in_ok-insert_once-4.ensures.text;
-      len = c.in_ok-insert_once-4.ensures.len;
-      kept = c.in_ok-insert_once-4.ensures.kept;
     } in
     let both : IsPut own all n = cat_put own mid all n _ c.in-Cat.left.value _ c.in-Cat.right.value _ _ _ (sym c.as_ref.ensures ∙ c.in-Cat.is) c.requires.sound one two in
     let is : IsForm n form = form_of_put own all n form c.new-own.ensures.items both c.in_ok-form.ensures.sound c.in_ok-form.ensures.text c.in_ok-form.ensures.len c.in_ok-form.ensures.kept in
     let same : c.in_ok-node.node.value ≡ n = c.in_ok-node.ensures.cases in
     let pair : IsSound c.in_ok-node.node.value × IsForm c.in_ok-node.node.value form = subst (λ (m : Node). IsSound m × IsForm m form) (sym same) (c.requires.sound, is) in
-    subst (λ (ks : List Known). All IsKnown ks) (sym c.in_ok-push.ensures.items) (All-push IsKnown c.insert_once-3.new.known.items _ c.in_ok-insert_once-4.ensures.known pair)
+    subst (λ (ks : List Known). All IsKnown ks) (sym c.in_ok-push.ensures.items) (All-push IsKnown c.insert_once-3.new.known.items _ c.in_ok-insert_once-3.ensures.known pair)
 
 pub returns-clause-kept : goal.returns-clause-kept
 returns-clause-kept t c =
@@ -63,22 +64,22 @@ returns-clause-kept t c =
     let all = c.insert_once-3.new.forest.items in
     let form = c.in_ok-form.form.value in
     let one : IsPut own mid c.in-Cat.left.value = record {
+      text = c.in_ok-insert_once-2.ensures.text;
+      len = c.in_ok-insert_once-2.ensures.len;
+      kept = c.in_ok-insert_once-2.ensures.kept;
+    } in
+    let two : IsPut mid all c.in-Cat.right.value = record {
       text = c.in_ok-insert_once-3.ensures.text;
       len = c.in_ok-insert_once-3.ensures.len;
       kept = c.in_ok-insert_once-3.ensures.kept;
-    } in
-    let two : IsPut mid all c.in-Cat.right.value = record {
-      text = c.in_ok-insert_once-4.ensures.text;
-      len = c.in_ok-insert_once-4.ensures.len;
-      kept = c.in_ok-insert_once-4.ensures.kept;
     } in
     let both : IsPut own all n = cat_put own mid all n _ c.in-Cat.left.value _ c.in-Cat.right.value _ _ _ (sym c.as_ref.ensures ∙ c.in-Cat.is) c.requires.sound one two in
     let is : IsForm n form = form_of_put own all n form c.new-own.ensures.items both c.in_ok-form.ensures.sound c.in_ok-form.ensures.text c.in_ok-form.ensures.len c.in_ok-form.ensures.kept in
     let old = c.args.forest.now.items in
     let new = c.insert_tree-2.new.forest.items in
     let put : IsPut old new form = record {
-      text = c.in_ok-insert_tree-4.ensures.text;
-      len = c.in_ok-insert_tree-4.ensures.len;
-      kept = c.in_ok-insert_tree-4.ensures.kept;
+      text = c.in_ok-insert_tree-2.ensures.text;
+      len = c.in_ok-insert_tree-2.ensures.len;
+      kept = c.in_ok-insert_tree-2.ensures.kept;
     } in
     (form_put old new n form is put).kept
