@@ -95,8 +95,7 @@ pub(crate) fn compare<S: Source>(
                 let count = piece.len().min(other.len());
                 match piece[..count].cmp(&other[..count]) {
                     Ordering::Equal => done += count as u64,
-                    Ordering::Less => return Ok(Ordering::Less),
-                    Ordering::Greater => return Ok(Ordering::Greater),
+                    ordering => return Ok(ordering),
                 }
             }
         }

@@ -1,6 +1,5 @@
 use Rattle.std.proofs.Common.{◌+◌, ◌≤◌, ◌<◌, ◌∙◌, sym, arith}
 use Rattle.std.specs.Prelude.{min}
-use Rattle.std.specs.declared.cmp.Ordering.TheVariants.{Less, Greater}
 use Rattle.cord_core.specs.Cord.{text_len}
 use Rattle.cord_search.specs.Pieces.{IsPieceOf}
 use Rattle.cord_search.proofs.Ranges.{cord_len, piece_within}
@@ -62,8 +61,8 @@ loop-done-preserved g c = record {
   earlier = λ folder kept. c.loop-done.invariant.earlier folder (c.in_ok-piece-in-Apart.ensures.earlier folder (c.in_ok-other-in-Apart.ensures.earlier folder kept));
 }
 
-pub returns-in-Less-clause-order : goal.returns-in-Less-clause-order
-returns-in-Less-clause-order g c = λ folder kept.
+pub returns-in_default-clause-order : goal.returns-in_default-clause-order
+returns-in_default-clause-order g c = λ folder kept.
     let t = g.S.Source.table c.args.src.now folder in
     let done = c.loop-done.done in
     let n = c.min-count.result in
@@ -77,24 +76,7 @@ returns-in-Less-clause-order g c = λ folder kept.
     let other_from = c.args.j + done in
     let text : IsPieceOf t c.args.x.now from piece = piece_within lengths t c.args.x.now from c.in-Apart.stretch 0 from piece told c.requires.left_fits c.in-Apart.ensures.0 (omega (arith, c.in_ok-piece-in-Apart.ensures.inside)) (omega arith) (rw c.loop-done.invariant.table at c.in_ok-piece-in-Apart.ensures.text folder after) in
     let other_text : IsPieceOf t c.args.y.now other_from other = piece_within lengths t c.args.y.now other_from c.in-Apart.other 0 other_from other told c.requires.right_fits c.in-Apart.ensures.1 (omega (arith, c.in_ok-other-in-Apart.ensures.inside)) (omega arith) (rw (c.first_piece.ensures.table, c.loop-done.invariant.table) at c.in_ok-other-in-Apart.ensures.text folder kept) in
-    different t c.args.x.now c.args.i c.args.left c.args.y.now c.args.j c.args.right done n piece other Less (omega (arith, c.min-count.ensures, c.in_ok-piece-in-Apart.ensures.inside, c.in-Apart.ensures.3, c.min-both.ensures, c.loop-done-test.true)) (omega (arith, c.min-count.ensures, c.in_ok-piece-in-Apart.ensures.inside, c.in-Apart.ensures.3, c.min-both.ensures, c.loop-done-test.true)) (omega (arith, c.min-count.ensures)) (omega (arith, c.min-count.ensures)) text other_text (sym c.in-Less.is ∙ c.cmp.ensures) (λ e. cc) (c.loop-done.invariant.same folder before)
-
-pub returns-in-Greater-clause-order : goal.returns-in-Greater-clause-order
-returns-in-Greater-clause-order g c = λ folder kept.
-    let t = g.S.Source.table c.args.src.now folder in
-    let done = c.loop-done.done in
-    let n = c.min-count.result in
-    let piece = c.in_ok-piece-in-Apart.piece.now in
-    let other = c.in_ok-other-in-Apart.other.now in
-    let lengths = g.S.Source.lengths c.args.src.now in
-    let after = c.in_ok-other-in-Apart.ensures.earlier folder kept in
-    let before = c.in_ok-piece-in-Apart.ensures.earlier folder after in
-    let told = g.met.S.Source.lengths_of_table c.args.src.now folder (c.loop-done.invariant.earlier folder before) in
-    let from = c.args.i + done in
-    let other_from = c.args.j + done in
-    let text : IsPieceOf t c.args.x.now from piece = piece_within lengths t c.args.x.now from c.in-Apart.stretch 0 from piece told c.requires.left_fits c.in-Apart.ensures.0 (omega (arith, c.in_ok-piece-in-Apart.ensures.inside)) (omega arith) (rw c.loop-done.invariant.table at c.in_ok-piece-in-Apart.ensures.text folder after) in
-    let other_text : IsPieceOf t c.args.y.now other_from other = piece_within lengths t c.args.y.now other_from c.in-Apart.other 0 other_from other told c.requires.right_fits c.in-Apart.ensures.1 (omega (arith, c.in_ok-other-in-Apart.ensures.inside)) (omega arith) (rw (c.first_piece.ensures.table, c.loop-done.invariant.table) at c.in_ok-other-in-Apart.ensures.text folder kept) in
-    different t c.args.x.now c.args.i c.args.left c.args.y.now c.args.j c.args.right done n piece other Greater (omega (arith, c.min-count.ensures, c.in_ok-piece-in-Apart.ensures.inside, c.in-Apart.ensures.3, c.min-both.ensures, c.loop-done-test.true)) (omega (arith, c.min-count.ensures, c.in_ok-piece-in-Apart.ensures.inside, c.in-Apart.ensures.3, c.min-both.ensures, c.loop-done-test.true)) (omega (arith, c.min-count.ensures)) (omega (arith, c.min-count.ensures)) text other_text (sym c.in-Greater.is ∙ c.cmp.ensures) (λ e. cc) (c.loop-done.invariant.same folder before)
+    different t c.args.x.now c.args.i c.args.left c.args.y.now c.args.j c.args.right done n piece other c.cmp.result (omega (arith, c.min-count.ensures, c.in_ok-piece-in-Apart.ensures.inside, c.in-Apart.ensures.3, c.min-both.ensures, c.loop-done-test.true)) (omega (arith, c.min-count.ensures, c.in_ok-piece-in-Apart.ensures.inside, c.in-Apart.ensures.3, c.min-both.ensures, c.loop-done-test.true)) (omega (arith, c.min-count.ensures)) (omega (arith, c.min-count.ensures)) text other_text c.cmp.ensures c.in_default.not-Equal (c.loop-done.invariant.same folder before)
 
 pub returns-clause-order : goal.returns-clause-order
 returns-clause-order g c = λ folder kept.
