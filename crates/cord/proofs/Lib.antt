@@ -8,3 +8,4 @@ pub mod Orders
 pub mod Results
 pub mod Printing
 pub mod Lining
+pub mod Chunking

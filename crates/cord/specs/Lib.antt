@@ -2,3 +2,4 @@ pub mod Plain
 pub mod Places
 pub mod Prints
 pub mod Lines
+pub mod Chunks

@@ -3,6 +3,7 @@
 #![tactic(auto)]
 
 mod builder;
+mod chunks;
 mod edit;
 mod join;
 mod lines;
@@ -15,6 +16,7 @@ mod search;
 mod text;
 
 pub use builder::TextBuilder;
+pub use chunks::{Chunk, Chunks};
 pub use cord_core::{Cord, Node};
 pub use cord_ec::ExtCord;
 pub use cord_file::{FileError, Sources};

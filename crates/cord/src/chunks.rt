@@ -1,0 +1,122 @@
+// The chunks of a text.
+ghost use Rattle.std.specs.Prelude.{◌≡◌, ◌<◌, length};
+ghost use Rattle.cord_node.specs.Tree.{len_of, IsSound};
+ghost use Rattle.cord_node.specs.Tables.{bytes_over, FitsIn};
+ghost use Rattle.cord.specs.Chunks.{chunk_bytes, IsChunkAt, JoinTo};
+ghost use Rattle.cord.specs.Plain.{no_lengths, no_table};
+
+use crate::Text;
+use cord_core::Node;
+use std::marker::Model;
+
+/// At least one byte that a text has in one part of its tree.
+#[derive(Clone, Copy)]
+pub enum Chunk<'a> {
+    /// Bytes of a leaf, lent by the text.
+    Bytes(&'a [u8]),
+    /// One byte, `count` times.
+    Run { byte: u8, count: u64 },
+}
+
+impl<'a> Chunk<'a> {
+    /// The number of bytes.
+    pub fn len(self) -> u64
+        ensures { result ≡ length (chunk_bytes self.entry) }
+    {
+        match self {
+            Chunk::Bytes(bytes) => bytes.len() as u64,
+            Chunk::Run { count, .. } => count,
+        }
+    }
+}
+
+/// The bytes of a text that are left, which come chunk by chunk.
+#[derive(Drop)]
+pub struct Chunks<'a> {
+    text: &'a Text,
+    start: u64,
+}
+
+impl<'a> Model for Chunks<'a> {
+    ghost use Rattle.std.specs.Prelude.{List, ℕ, ◌≤◌, drop, length};
+
+    ghost Value = { List ℕ };
+
+    ghost view = { λ c. drop c.start c.text.now };
+
+    ghost invariant = { λ c. c.start ≤ length c.text.now };
+}
+
+impl Text {
+    /// Its chunks in order: together they are the text. None is copied.
+    pub fn chunks(&self) -> Chunks<'_>
+        ensures text { result ≡ self.now }
+        ensures joined { JoinTo result self.now }
+    {
+        Chunks {
+            text: self,
+            start: 0,
+        }
+    }
+
+    // The chunk that begins at a place.
+    fn chunk_at(&self, place: u64) -> Chunk<'_>
+        requires { place < length self.now }
+        ensures { IsChunkAt self.now place result }
+    {
+        let Some(root) = self.cord.root() else {
+            unreachable!()
+        };
+        chunk_of(root.as_ref(), place)
+    }
+}
+
+// The chunk of a node's text that begins at a place.
+fn chunk_of(node: &Node, place: u64) -> Chunk<'_>
+    requires sound { IsSound node.now }
+    requires plain { FitsIn no_lengths node.now }
+    requires inside { place < len_of node.now }
+    ensures { IsChunkAt (bytes_over no_table node.now) place result }
+{
+    match node {
+        Node::Leaf {
+            bytes,
+            start,
+            len,
+            ..
+        } => Chunk::Bytes(&bytes.as_slice()[(*start + place) as usize..(*start + *len) as usize]),
+        Node::Run { byte, len } => Chunk::Run {
+            byte: *byte,
+            count: *len - place,
+        },
+        Node::Func { .. } => unreachable!(),
+        Node::Cat { left, right, .. } => {
+            let seam = left.len();
+            if place < seam {
+                chunk_of(left.as_ref(), place)
+            } else {
+                chunk_of(right.as_ref(), place - seam)
+            }
+        }
+    }
+}
+
+impl<'a> Iterator for Chunks<'a> {
+    ghost use Rattle.std.specs.Iterator.{item_count};
+    ghost use Rattle.cord.specs.Chunks.{GivesChunk};
+
+    type Item = Chunk<'a>;
+
+    ghost next_gives = { GivesChunk };
+
+    ghost remaining = { item_count (λ left. left) };
+
+    fn next(&mut self) -> Option<Chunk<'a>> {
+        if self.start == self.text.len() {
+            return None;
+        }
+        let chunk = self.text.chunk_at(self.start);
+        self.start += chunk.len();
+        Some(chunk)
+    }
+}
