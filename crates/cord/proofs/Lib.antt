@@ -9,3 +9,4 @@ pub mod Results
 pub mod Printing
 pub mod Lining
 pub mod Chunking
+pub mod Repeating

@@ -3,3 +3,4 @@ pub mod Places
 pub mod Prints
 pub mod Lines
 pub mod Chunks
+pub mod Repeats

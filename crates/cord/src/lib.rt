@@ -4,6 +4,7 @@
 
 mod builder;
 mod chunks;
+mod doubling;
 mod edit;
 mod join;
 mod lines;
@@ -28,6 +29,7 @@ pub use cord_iter::{Visitor, iter, iter5, put, riter, riter4, to_vec};
 pub use cord_pos::Position;
 pub use cord_printf::{Arg, Format, FormatError, PrintError, sprintf, sprintf_len};
 pub use cord_search::{chr, cmp, fetch, ncmp, rchr, str};
+pub use doubling::repeated;
 pub use lines::Lines;
 pub use no_source::NoSource;
 pub use print::TextArg;

@@ -1,0 +1,63 @@
+use Rattle.std.proofs.Common.{◌≡◌, ◌+◌, ◌/◌, ◌≤◌, ap, refl, arith, Err}
+use Rattle.cord_io.specs.declared.CordError.{CordError}
+use Rattle.cord_io.specs.declared.CordError.TheVariants.{TooLong}
+use Rattle.cord_core.specs.Cord.{text_len}
+use Rattle.cord.proofs.Results.{handed_on}
+use Rattle.cord.proofs.Repeating.{twice, once_more, even_len, odd_len, most_len}
+use Rattle.cord.proofs.doubling.+repeated.Goals as goal
+
+pub returns-in_err-twice-clause-too_long : goal.returns-in_err-twice-clause-too_long
+returns-in_err-twice-clause-too_long t c = handed_on _ TooLong c.in_err-twice.field-0.0 c.from_residual-in_err-twice.result c.from_residual-in_err-twice.ensures.1 (λ h.
+    let half = c.args.times / 2 in
+    let le : half + half ≤ c.args.times = omega arith in
+    omega (arith, c.in_err-twice.ensures.too_long (ap (λ (y : CordError). Err y) h), c.in_ok-half.ensures.len, most_len c.args.times half (text_len c.args.cord.now) le))
+
+pub returns-then-times-eq0-2-clause-over : goal.returns-then-times-eq0-2-clause-over
+returns-then-times-eq0-2-clause-over t c =
+    let even = c.if-times-eq0-2.true in
+    let half = c.args.times / 2 in
+    let e : c.args.times ≡ half + half = omega (arith, even) in
+    twice c.args.times half c.args.cord.now c.in_ok-half.half c.in_ok-twice.twice e c.in_ok-half.ensures.over c.in_ok-twice.ensures.over
+
+pub returns-then-times-eq0-2-clause-len : goal.returns-then-times-eq0-2-clause-len
+returns-then-times-eq0-2-clause-len t c =
+    let even = c.if-times-eq0-2.true in
+    let half = c.args.times / 2 in
+    let e : c.args.times ≡ half + half = omega (arith, even) in
+    omega (arith, c.in_ok-twice.ensures.len, c.in_ok-half.ensures.len, even_len c.args.times half (text_len c.args.cord.now) e)
+
+pub returns-then-times-eq0-2-clause-fits : goal.returns-then-times-eq0-2-clause-fits
+returns-then-times-eq0-2-clause-fits t c =
+    let even = c.if-times-eq0-2.true in
+    let half = c.args.times / 2 in
+    let e : c.args.times ≡ half + half = omega (arith, even) in
+    omega (arith, c.in_ok-twice.ensures.fits, c.in_ok-half.ensures.len, even_len c.args.times half (text_len c.args.cord.now) e)
+
+pub returns-in_err-odd-clause-too_long : goal.returns-in_err-odd-clause-too_long
+returns-in_err-odd-clause-too_long t c = handed_on _ TooLong c.in_err-odd.field-0.0 c.from_residual-in_err-odd.result c.from_residual-in_err-odd.ensures.1 (λ h.
+    let odd = c.if-times-eq0-2.false in
+    let half = c.args.times / 2 in
+    let e : c.args.times ≡ half + half + 1 = omega (arith, odd) in
+    omega (arith, c.in_err-odd.ensures.too_long (ap (λ (y : CordError). Err y) h), c.in_ok-twice.ensures.len, c.in_ok-half.ensures.len, odd_len c.args.times half (text_len c.args.cord.now) e))
+
+pub returns-clause-over : goal.returns-clause-over
+returns-clause-over t c =
+    let odd = c.if-times-eq0-2.false in
+    let half = c.args.times / 2 in
+    let e : c.args.times ≡ half + half + 1 = omega (arith, odd) in
+    let even = twice (half + half) half c.args.cord.now c.in_ok-half.half c.in_ok-twice.twice refl c.in_ok-half.ensures.over c.in_ok-twice.ensures.over in
+    once_more c.args.times (half + half) c.args.cord.now c.in_ok-twice.twice c.in_ok-odd.odd e even c.in_ok-odd.ensures.over
+
+pub returns-clause-len : goal.returns-clause-len
+returns-clause-len t c =
+    let odd = c.if-times-eq0-2.false in
+    let half = c.args.times / 2 in
+    let e : c.args.times ≡ half + half + 1 = omega (arith, odd) in
+    omega (arith, c.in_ok-odd.ensures.len, c.in_ok-twice.ensures.len, c.in_ok-half.ensures.len, odd_len c.args.times half (text_len c.args.cord.now) e)
+
+pub returns-clause-fits : goal.returns-clause-fits
+returns-clause-fits t c =
+    let odd = c.if-times-eq0-2.false in
+    let half = c.args.times / 2 in
+    let e : c.args.times ≡ half + half + 1 = omega (arith, odd) in
+    omega (arith, c.in_ok-odd.ensures.fits, c.in_ok-twice.ensures.len, c.in_ok-half.ensures.len, odd_len c.args.times half (text_len c.args.cord.now) e)
