@@ -10,7 +10,7 @@ use cord_core::Node;
 use std::marker::Model;
 
 /// At least one byte that a text has in one part of its tree.
-#[derive(Clone, Copy)]
+#[derive(Clone, Copy, Debug)]
 pub enum Chunk<'a> {
     /// Bytes of a leaf, lent by the text.
     Bytes(&'a [u8]),
@@ -60,7 +60,7 @@ impl Text {
     }
 
     // The chunk that begins at a place.
-    fn chunk_at(&self, place: u64) -> Chunk<'_>
+    pub(crate) fn chunk_at(&self, place: u64) -> Chunk<'_>
         requires { place < length self.now }
         ensures { IsChunkAt self.now place result }
     {

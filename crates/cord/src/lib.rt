@@ -14,6 +14,7 @@ mod order;
 mod output;
 mod print;
 mod search;
+mod show;
 mod text;
 
 pub use builder::TextBuilder;
