@@ -10,3 +10,4 @@ pub mod Printing
 pub mod Lining
 pub mod Chunking
 pub mod Repeating
+pub mod Meanings

@@ -4,3 +4,4 @@ pub mod Prints
 pub mod Lines
 pub mod Chunks
 pub mod Repeats
+pub mod Means

@@ -1,2 +1,0 @@
-mod Repeating
-mod Assembling

@@ -1,10 +1,11 @@
 //! The text of a template, as a cord.
 ghost use Rattle.std.specs.Prelude.{◌≡◌, ◌++◌, take, drop, IfOk, OnOk};
 ghost use Rattle.cord_io.specs.Device.{Folder};
-ghost use Rattle.example_assembler.specs.Meaning.{meaning, part_bytes, IsRepeated, Means};
+ghost use Rattle.cord.specs.Means.{Means};
+ghost use Rattle.example_assembler.specs.Meaning.{meaning, part_bytes};
 
 use crate::template::Part;
-use cord::{Cord, CordError, MAX_LEN, Sink, Source, SourceId, put};
+use cord::{Cord, CordError, MAX_LEN, Sink, Source, SourceId, put, repeated};
 use std::alloc::Global;
 
 /// Writes at most `count` bytes of the text of a template, from byte `from` on.
@@ -44,7 +45,8 @@ fn cord_of<S: Source>(alloc: Global, src: &S, part: &Part<'_>) -> Result<Cord, C
         Part::Text(text) => Cord::from_bytes(alloc, text.as_bytes()),
         Part::File(id, times) => {
             let file = entry(alloc, src, id)?;
-            repeated(alloc, &file, times)
+            let text = repeated(alloc, &file, times)?;
+            Ok(text)
         }
     }
 }
@@ -59,20 +61,4 @@ fn entry<S: Source>(alloc: Global, src: &S, id: SourceId) -> Result<Cord, CordEr
     }
     let cord = Cord::from_fn(alloc, id, 0, len)?;
     Ok(cord)
-}
-
-/// A text so many times, made by doubling.
-fn repeated(alloc: Global, cord: &Cord, times: u64) -> Result<Cord, CordError>
-    ensures { IfOk result (IsRepeated times cord.now) }
-{
-    if times == 0 {
-        return Ok(Cord::empty());
-    }
-    let half = repeated(alloc, cord, times / 2)?;
-    let twice = Cord::cat(alloc, &half, &half)?;
-    if times % 2 == 0 {
-        return Ok(twice);
-    }
-    let odd = Cord::cat(alloc, &twice, cord)?;
-    Ok(odd)
 }

@@ -1,4 +1,0 @@
-use Rattle.example_assembler.proofs.assemble.+repeated.Given as goal
-
-abbrev pub decreases-repeated : goal.decreases-repeated
-decreases-repeated l = l.times
