@@ -30,3 +30,4 @@ pub mod Extending
 pub mod Appended
 pub mod Wrote
 pub mod Standing
+pub mod Sliced

@@ -17,3 +17,4 @@ pub mod Extending
 pub mod Appends
 pub mod Places
 pub mod Counting
+pub mod Slices

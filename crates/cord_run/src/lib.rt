@@ -24,6 +24,7 @@ mod runner;
 mod running;
 mod searches;
 mod serving;
+mod slices;
 mod steering;
 mod store;
 mod writing;

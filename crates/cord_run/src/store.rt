@@ -425,6 +425,7 @@ fn append(alloc: Global, grown: &mut ExtCord, bytes: &[u8]) -> Result<(), CordEr
 }
 
 // The place of a name, which gets an entry where it has none.
+#[inline(always)]
 fn place_for(
     alloc: Global,
     entries: &mut Vec<Entry>,
@@ -439,12 +440,29 @@ fn place_for(
 {
     match place_by(entries, guesses, name) {
         Some(place) => Ok(place),
-        None => {
-            guess_place(alloc, entries, guesses, name, entries.len())?;
-            let name = Vec::from_slice(alloc, name)?;
-            add(entries, name)
-        }
+        None => new_place(alloc, entries, guesses, name),
     }
+}
+
+// The place of a new entry, for a name that has none.
+#[cold]
+#[inline(never)]
+fn new_place(
+    alloc: Global,
+    entries: &mut Vec<Entry>,
+    guesses: &mut Vec<usize>,
+    name: &[u8],
+) -> Result<usize, AllocError>
+    requires absent { HasNoEntry entries.old.items name.now }
+    requires distinct { are_distinct (names_in entries.old.items) ≡ true }
+    ensures within { IfOk result (λ place. place < length entries.new.items) }
+    ensures place { IfOk result (IsEntryAt entries.new.items name.now) }
+    ensures same { IfOk result (λ _. SameEntries entries.old.items entries.new.items) }
+    ensures distinct { are_distinct (names_in entries.new.items) ≡ true }
+{
+    guess_place(alloc, entries, guesses, name, entries.len())?;
+    let name = Vec::from_slice(alloc, name)?;
+    add(entries, name)
 }
 
 // Adds an entry, of nothing yet, for a name that has none.

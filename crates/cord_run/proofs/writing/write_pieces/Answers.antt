@@ -10,7 +10,7 @@ use Rattle.cord_run.specs.declared.making.Halt.{Halt}
 use Rattle.cord_run.specs.Holdings.{plain_of}
 use Rattle.cord_run.specs.Putting.{Wrote, CountsHalts}
 use Rattle.cord_run.proofs.Handed.{wrote_nothing, wrote_whole, wrote_part, halt_counts, unbuilt_counts}
-use Rattle.cord_run.proofs.writing.write.Goals as goal
+use Rattle.cord_run.proofs.writing.write_pieces.Goals as goal
 
 pub returns-in-Err-clause-wrote : goal.returns-in-Err-clause-wrote
 returns-in-Err-clause-wrote g c = λ folder kept there.
