@@ -1,14 +1,19 @@
 // Rows of worked examples.
-ghost use Rattle.std.specs.Prelude.{◌≡◌, ◌<◌, ◌≤◌, length, IfOk};
-ghost use Rattle.cord_node.specs.Tree.{len_of, IsSound};
-
 use super::trees::leaf_of;
 use cord_balance::{balance_parts, fib, slot_of};
 use cord_io::MAX_LEN;
 use cord_node::{Node, run};
-use std::alloc::{AllocError, Global};
-use std::rc::{Rc, RcSlice};
-use std::test::Fail;
+use std::alloc::Global;
+use std::process::Abort;
+use std::rc::Rc;
+
+// The byte and the length of a node that is a run.
+fn run_of(node: &Node) -> Option<(u8, u64)> {
+    match node {
+        Node::Run { byte, len } => Some((*byte, *len)),
+        _ => None,
+    }
+}
 
 #[test]
 fn slots(rt: HostRuntime) {
@@ -36,33 +41,31 @@ fn fibonacci_numbers(rt: HostRuntime) {
     }
 }
 
-#[test]
-fn slots_and_balance(rt: HostRuntime) -> Result<(), Fail> {
-    let alloc = rt.alloc();
-    let bytes = [5; 100];
+// Three leaves of these bytes, balanced.
+fn balanced_leaves(rt: &impl Abort, alloc: Global, bytes: &[u8]) -> Rc<Node> {
     let ropes = [
-        leaf_of(alloc, &bytes)?,
-        leaf_of(alloc, &bytes)?,
-        leaf_of(alloc, &bytes)?,
+        leaf_of(rt, alloc, bytes),
+        leaf_of(rt, alloc, bytes),
+        leaf_of(rt, alloc, bytes),
     ];
-    let rope = balance_parts(alloc, &ropes)?;
-    assert!(rt; rope.len() == 300);
-    assert!(rt; rope.depth() <= 13);
-    Ok(())
+    balance_parts(alloc, &ropes).expect(rt, "no memory")
 }
 
 #[test]
-fn one_part_stays(rt: HostRuntime) -> Result<(), Fail> {
-    let alloc = rt.alloc();
-    let rope = balance_parts(alloc, &[run(alloc, 9, MAX_LEN)?])?;
-    assert!(rt;
-        matches!(
-            rope.as_ref(),
-            Node::Run {
-                byte: 9,
-                len: MAX_LEN
-            }
-        )
-    );
-    Ok(())
+fn slots_and_balance(rt: HostRuntime) {
+    let rope = balanced_leaves(&rt, rt.alloc(), &[5; 100]);
+    assert!(rt; rope.len() == 300);
+    assert!(rt; rope.depth() <= 13);
+}
+
+// The longest run of a byte, balanced.
+fn balanced_run(rt: &impl Abort, alloc: Global, byte: u8) -> Rc<Node> {
+    let ropes = [run(alloc, byte, MAX_LEN).expect(rt, "no memory")];
+    balance_parts(alloc, &ropes).expect(rt, "no memory")
+}
+
+#[test]
+fn one_part_stays(rt: HostRuntime) {
+    let rope = balanced_run(&rt, rt.alloc(), 9);
+    assert!(rt; run_of(&rope) == Some((9, MAX_LEN)));
 }

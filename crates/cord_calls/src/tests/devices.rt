@@ -9,9 +9,9 @@ mod memory_sink;
 mod sources;
 mod standard;
 
-ghost use Rattle.std.specs.Prelude.{◌≡◌, ◌<◌, ◌≤◌, ℕ, length, IsSomeAnd};
+ghost use Rattle.std.specs.Prelude.{◌≡◌, ◌<◌, ◌≤◌, ℕ, length, IsSome, IsSomeAnd};
 
-use cord_io::{FileNo, Files, MemFiles, OpenFault, ReadFault};
+use cord_io::{FileNo, Files, MemFiles, OpenFault, ReadFault, Sink, WriteFault};
 use std::alloc::Global;
 use std::process::Abort;
 
@@ -40,7 +40,8 @@ enum Ask {
 
 // Opens a file of ten bytes.
 fn opened<F: Files>(rt: &impl Abort, files: &mut F, path: &str) -> FileNo
-    ensures { IsSomeAnd (F.opened files.new result.0) (λ told. 10 ≤ told.1) }
+    ensures long { IsSomeAnd (F.opened files.new result.0) (λ told. 10 ≤ told.1) }
+    ensures grows { (n : ℕ) → IsSome (F.opened files.old n) → F.opened files.new n ≡ F.opened files.old n }
 {
     let Ok((no, len)) = files.open(path) else {
         panic!(rt; "{path} is not opened");
@@ -117,4 +118,45 @@ fn expect_fault<F: Files>(rt: &impl Abort, files: &mut F, no: FileNo, start: u64
 {
     let count = files.read_at(no, start, &mut [0; 6]);
     assert!(rt; count == Err(ReadFault), "from {start}");
+}
+
+// What is asked of a sink, and what it answers.
+#[derive(Clone, Copy)]
+enum Offer {
+    // Of these bytes it takes so many.
+    Taken(&'static [u8], usize),
+    // Of these it takes none.
+    Refused(&'static [u8]),
+    Finished,
+    Unfinished,
+    // How often a call has failed.
+    Failed(u64),
+}
+
+fn expect_put<S: Sink>(
+    rt: &impl Abort,
+    sink: &mut S,
+    bytes: &[u8],
+    answer: Result<usize, WriteFault>,
+) {
+    assert!(rt; !bytes.is_empty());
+    let taken = sink.put(bytes);
+    assert!(rt; taken == answer, "{} bytes", bytes.len());
+}
+
+fn expect_offer<S: Sink>(rt: &impl Abort, sink: &mut S, offer: Offer) {
+    match offer {
+        Offer::Taken(bytes, count) => expect_put(rt, sink, bytes, Ok(count)),
+        Offer::Refused(bytes) => expect_put(rt, sink, bytes, Err(WriteFault)),
+        Offer::Finished => assert!(rt; sink.finish() == Ok(())),
+        Offer::Unfinished => assert!(rt; sink.finish() == Err(WriteFault)),
+        Offer::Failed(count) => assert!(rt; sink.failures() == count, "not {count} failures"),
+    }
+}
+
+// Offers one after another.
+fn expect_offers<S: Sink>(rt: &impl Abort, sink: &mut S, offers: &[Offer]) {
+    for offer in offers {
+        expect_offer(rt, sink, *offer);
+    }
 }

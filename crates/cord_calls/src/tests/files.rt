@@ -8,7 +8,7 @@ use super::trees::func_fields;
 use cord_core::{Cord, Node};
 use cord_file::{FileError, Sources};
 use cord_io::{CutFiles, Files, MemFiles, MemSink, Source, SourceId};
-use reading::put_part;
+use reading::expect_put;
 use std::alloc::Global;
 use std::process::Abort;
 
@@ -20,6 +20,41 @@ fn one_file(rt: &impl Abort, alloc: Global, path: &str, bytes: &[u8]) -> MemFile
     let mut files = MemFiles::new(alloc);
     assert!(rt; files.add(alloc, path, bytes) == Ok(()));
     files
+}
+
+// A table over files.
+fn table<F: Files + Drop>(rt: &impl Abort, alloc: Global, files: F) -> Sources<F> {
+    match Sources::new(alloc, files) {
+        Ok(sources) => sources,
+        Err(_) => panic!(rt; "no memory"),
+    }
+}
+
+// A table over the file "p" of `hello`.
+fn hello_table(rt: &impl Abort, alloc: Global) -> Sources<MemFiles> {
+    table(rt, alloc, one_file(rt, alloc, "p", b"hello"))
+}
+
+// That opening a path answers so.
+fn expect_open<F: Files>(
+    rt: &impl Abort,
+    alloc: Global,
+    sources: &mut Sources<F>,
+    path: &str,
+    answer: Result<(SourceId, u64), FileError>,
+) {
+    let opened = sources.open(alloc, path);
+    assert!(rt; opened == answer, "{path}");
+}
+
+// That an entry is so long, or that there is none.
+fn expect_len<F: Files>(rt: &impl Abort, sources: &Sources<F>, id: u32, len: Option<u64>) {
+    assert!(rt; sources.entry_len(SourceId(id)) == len, "{id}");
+}
+
+// That so many calls of the files failed.
+fn expect_failures<F: Files>(rt: &impl Abort, sources: &Sources<F>, count: u64) {
+    assert!(rt; sources.failures() == count);
 }
 
 // 65 files in memory of one byte each, at the paths "0" to "64".
@@ -46,93 +81,93 @@ fn is_leaf_of(cord: &Cord, expected: &[u8]) -> bool {
 #[test]
 fn sources_open(rt: HostRuntime) {
     let alloc = rt.alloc();
-    let Ok(mut sources) = Sources::new(alloc, one_file(&rt, alloc, "p", b"hello")) else {
-        panic!(rt; "no memory");
-    };
-    assert!(rt; sources.entry_len(SourceId(2)) == None);
-    assert!(rt; sources.open(alloc, "p") == Ok((SourceId(2), 5)));
-    assert!(rt; sources.open(alloc, "p") == Ok((SourceId(2), 5)));
-    assert!(rt; sources.entry_len(SourceId(2)) == Some(5));
-    assert!(rt; sources.entry_len(SourceId(3)) == None);
-    assert!(rt; sources.open(alloc, "q") == Err(FileError::NoFile));
-    assert!(rt; sources.failures() == 0);
+    let mut sources = hello_table(&rt, alloc);
+    expect_len(&rt, &sources, 2, None);
+    expect_open(&rt, alloc, &mut sources, "p", Ok((SourceId(2), 5)));
+    expect_open(&rt, alloc, &mut sources, "p", Ok((SourceId(2), 5)));
+    expect_len(&rt, &sources, 2, Some(5));
+    expect_len(&rt, &sources, 3, None);
+    expect_open(&rt, alloc, &mut sources, "q", Err(FileError::NoFile));
+    expect_failures(&rt, &sources, 0);
+}
+
+// That a cord of a path's bytes is this leaf.
+fn expect_leaf(rt: &impl Abort, cord: Result<Cord, FileError>, bytes: &[u8]) {
+    let cord = cord.expect(rt, "not read");
+    assert!(rt; is_leaf_of(&cord, bytes));
 }
 
 #[test]
 fn sources_give_cords(rt: HostRuntime) {
     let alloc = rt.alloc();
-    let Ok(mut sources) = Sources::new(alloc, one_file(&rt, alloc, "p", b"hello")) else {
-        panic!(rt; "no memory");
-    };
-    let Ok(eager) = sources.eager(alloc, "p") else {
-        panic!(rt; "not read");
-    };
-    assert!(rt; is_leaf_of(&eager, b"hello"));
-    let Ok(lazy) = sources.lazy(alloc, "p") else {
-        panic!(rt; "not opened");
-    };
+    let mut sources = hello_table(&rt, alloc);
+    expect_leaf(&rt, sources.eager(alloc, "p"), b"hello");
+    let lazy = sources.lazy(alloc, "p").expect(&rt, "not opened");
     assert!(rt; func_fields(&lazy) == Some((SourceId(2), 0, 5)));
-    let Ok(short) = sources.from_file(alloc, "p") else {
-        panic!(rt; "not read");
-    };
-    assert!(rt; is_leaf_of(&short, b"hello"));
-    assert!(rt; sources.failures() == 0);
+    expect_leaf(&rt, sources.from_file(alloc, "p"), b"hello");
+    expect_failures(&rt, &sources, 0);
 }
 
 #[test]
 fn sources_are_put_and_closed(rt: HostRuntime) {
     let alloc = rt.alloc();
-    let Ok(mut sources) = Sources::new(alloc, one_file(&rt, alloc, "p", b"hello")) else {
-        panic!(rt; "no memory");
-    };
+    let mut sources = hello_table(&rt, alloc);
     let mut sink = MemSink::new(alloc);
-    assert!(rt; put_part(alloc, &mut sources, "p", (0, 5), &mut sink) == Ok(()));
+    expect_put(&rt, alloc, &mut sources, ("p", 0, 5), &mut sink);
     assert!(rt; sink.bytes() == b"hello".as_slice());
     let files = sources.close();
     assert!(rt; files.failures() == 0);
 }
 
+// Opens a path of a number, which answers so.
+fn expect_number(
+    rt: &impl Abort,
+    alloc: Global,
+    sources: &mut Sources<MemFiles>,
+    number: u8,
+    answer: Result<(SourceId, u64), FileError>,
+) {
+    let path = format!(in alloc; "{number}").expect(rt, "memory");
+    expect_open(rt, alloc, sources, &path, answer);
+}
+
 #[test]
 fn sixty_five_paths(rt: HostRuntime) {
     let alloc = rt.alloc();
-    let Ok(mut sources) = Sources::new(alloc, numbered_files(&rt, alloc)) else {
-        panic!(rt; "no memory");
-    };
+    let mut sources = table(&rt, alloc, numbered_files(&rt, alloc));
     for i in 0..64u8 {
-        let path = format!(in alloc; "{i}").expect(&rt, "memory");
-        assert!(rt; sources.open(alloc, &path) == Ok((SourceId(u32::from(i) + 2), 1)));
+        let id = SourceId(u32::from(i) + 2);
+        expect_number(&rt, alloc, &mut sources, i, Ok((id, 1)));
     }
-    assert!(rt; sources.open(alloc, "64") == Err(FileError::TooManyFiles));
-    assert!(rt; sources.open(alloc, "none") == Err(FileError::TooManyFiles));
-    assert!(rt; sources.open(alloc, "63") == Ok((SourceId(65), 1)));
-    assert!(rt; sources.failures() == 0);
+    let too_many = Err(FileError::TooManyFiles);
+    expect_number(&rt, alloc, &mut sources, 64, too_many);
+    expect_open(&rt, alloc, &mut sources, "none", too_many);
+    expect_number(&rt, alloc, &mut sources, 63, Ok((SourceId(65), 1)));
+    expect_failures(&rt, &sources, 0);
 }
 
 #[test]
 fn functions_are_read(rt: HostRuntime) {
-    let alloc = rt.alloc();
-    let Ok(mut sources) = Sources::new(alloc, MemFiles::new(alloc)) else {
-        panic!(rt; "no memory");
-    };
-    assert!(rt; sources.entry_len(SourceId(0)) == Some(1_099_511_627_775));
-    assert!(rt; sources.entry_len(SourceId(1)) == Some(1_099_511_627_775));
+    let mut sources = table(&rt, rt.alloc(), MemFiles::new(rt.alloc()));
+    expect_len(&rt, &sources, 0, Some(1_099_511_627_775));
+    expect_len(&rt, &sources, 1, Some(1_099_511_627_775));
     let mut out = [0u8; 3];
     assert!(rt; sources.read(SourceId(0), 8, &mut out) == Ok(()));
     assert!(rt; out.as_slice() == b"890".as_slice());
 }
 
+// A thousand bytes in the file "p", of which the first 600 alone are read.
+fn cut_table(rt: &impl Abort, alloc: Global) -> Sources<CutFiles<MemFiles>> {
+    let files = one_file(rt, alloc, "p", &[112; 1000]);
+    table(rt, alloc, CutFiles::new(files, 600))
+}
+
 #[test]
 fn cut_eager(rt: HostRuntime) {
     let alloc = rt.alloc();
-    let files = CutFiles::new(one_file(&rt, alloc, "p", &[112; 1000]), 600);
-    let Ok(mut sources) = Sources::new(alloc, files) else {
-        panic!(rt; "no memory");
-    };
-    let refused = match sources.eager(alloc, "p") {
-        Ok(_) => None,
-        Err(error) => Some(error),
-    };
+    let mut sources = cut_table(&rt, alloc);
+    let refused = sources.eager(alloc, "p").err();
     assert!(rt; refused == Some(FileError::ReadFailed));
-    assert!(rt; sources.failures() == 1);
-    assert!(rt; sources.open(alloc, "p") == Ok((SourceId(2), 1000)));
+    expect_failures(&rt, &sources, 1);
+    expect_open(&rt, alloc, &mut sources, "p", Ok((SourceId(2), 1000)));
 }

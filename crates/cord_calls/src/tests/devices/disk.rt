@@ -1,18 +1,17 @@
 // The machine's files, real ones and those of a machine that fails on purpose.
-ghost use Rattle.std.specs.Prelude.{◌≡◌, ◌<◌, length, take, drop, IfOk, IsErr};
+ghost use Rattle.std.specs.Prelude.{◌≡◌, ◌<◌, ◌≤◌, ℕ, length, take, drop, IfOk, IsErr, IsSomeAnd};
 ghost use Rattle.cord_io.specs.Device.{Folder, bytes_at};
 ghost use Rattle.cord_io.specs.DiskTold.{told_by};
 ghost use Rattle.cord_io.specs.Told.{Agrees};
 
-use super::Ask::{self, Failures, Fault, Read as Reads};
-use super::{expect_all, expect_read};
-use cord_io::{DiskFiles, Files, OpenFault, ReadFault};
+use super::Ask::{self, Failures, Fault, Open, Read as Reads};
+use super::{expect_all, expect_answer, expect_answers, expect_no_file, opened};
+use cord_io::{DiskFiles, FileNo, Files, OpenFault, ReadFault};
 use std::alloc::{Allocator, Global};
 use std::fs::{self, Metadata, OpenFile};
 use std::io::{self, ErrorKind, Read, Seek, SeekFrom, Write};
 use std::process::Abort;
 use std::rt;
-use std::test::Fail;
 
 const DIGITS: [u8; 10] = *b"0123456789";
 
@@ -202,6 +201,34 @@ fn reads_on_ahead_without_a_seek(rt: HostRuntime) {
     expect_asked(&rt, rt.alloc(), machine, &asks);
 }
 
+// Opens two files of ten bytes.
+fn opened_both<F: Files>(rt: &impl Abort, files: &mut F, one: &str, other: &str) -> (FileNo, FileNo)
+    ensures one { IsSomeAnd (F.opened files.new result.0.0) (λ told. 10 ≤ told.1) }
+    ensures other { IsSomeAnd (F.opened files.new result.1.0) (λ told. 10 ≤ told.1) }
+{
+    let first = opened(rt, files, one);
+    let second = opened(rt, files, other);
+    (first, second)
+}
+
+// Asks both of two opened files the same.
+fn expect_both<F: Files>(rt: &impl Abort, files: &mut F, one: FileNo, other: FileNo, ask: Ask)
+    requires one { IsSomeAnd (F.opened files.old one.0) (λ told. 10 ≤ told.1) }
+    requires other { IsSomeAnd (F.opened files.old other.0) (λ told. 10 ≤ told.1) }
+    ensures { (n : ℕ) → F.opened files.new n ≡ F.opened files.old n }
+{
+    expect_answer(rt, files, one, ask);
+    expect_answer(rt, files, other, ask);
+}
+
+fn read_in_turn<F: Files>(rt: &impl Abort, files: &mut F) {
+    let (one, other) = opened_both(rt, files, "one", "other");
+    expect_both(rt, files, one, other, Reads(0, 4, b"0123"));
+    expect_both(rt, files, one, other, Reads(4, 4, b"4567"));
+    expect_both(rt, files, one, other, Reads(8, 4, b"89"));
+    assert!(rt; files.failures() == 0);
+}
+
 // Two files that are read on in turn are each read ahead, by two reads each.
 #[test]
 fn reads_two_files_ahead(rt: HostRuntime) {
@@ -210,22 +237,7 @@ fn reads_two_files_ahead(rt: HostRuntime) {
         seeks: 2,
         reads: 2,
     };
-    let mut files = DiskFiles::new(machine, rt.alloc());
-    let Ok((one, len)) = files.open("one") else {
-        panic!(rt; "not opened");
-    };
-    assert!(rt; len == 10);
-    let Ok((other, len)) = files.open("other") else {
-        panic!(rt; "not opened");
-    };
-    assert!(rt; len == 10);
-    expect_read(&rt, &mut files, one, 0, &mut [0; 4], b"0123");
-    expect_read(&rt, &mut files, other, 0, &mut [0; 4], b"0123");
-    expect_read(&rt, &mut files, one, 4, &mut [0; 4], b"4567");
-    expect_read(&rt, &mut files, other, 4, &mut [0; 4], b"4567");
-    expect_read(&rt, &mut files, one, 8, &mut [0; 4], b"89");
-    expect_read(&rt, &mut files, other, 8, &mut [0; 4], b"89");
-    assert!(rt; files.failures() == 0);
+    read_in_turn(&rt, &mut DiskFiles::new(machine, rt.alloc()));
 }
 
 // A read elsewhere, and one of all that is left, are read as they are, in one call: where it fails they fail.
@@ -302,30 +314,35 @@ fn remove(rt: &(impl rt::Files + Abort), path: &str) {
 }
 
 // The files of the machine that runs the test.
+fn real<R: rt::Files + AllocGlobal + Abort + Clone>(rt: &R) -> DiskFiles<R> {
+    DiskFiles::new(rt.clone().expect(rt, "no runtime"), rt.alloc())
+}
+
+const REAL_PATH: &str = "cord_calls_digits";
+
+// What is asked of the opened file when the machine has none there any more.
+const REMOVED: &[Ask] = &[
+    Reads(7, 4, b"789"),
+    Reads(1, 4, b"1234"),
+    Open(REAL_PATH, OpenFault::NotFound),
+    Failures(0),
+];
+
 #[test]
-fn real_files(rt: HostRuntime) -> Result<(), Fail> {
-    let path = "cord_calls_digits";
-    write_digits(&rt, path);
-    let mut files = DiskFiles::new(rt.clone()?, rt.alloc());
-    let Ok((no, len)) = files.open(path) else {
-        panic!(rt; "not opened");
-    };
-    remove(&rt, path);
-    assert!(rt; len == 10);
-    expect_read(&rt, &mut files, no, 7, &mut [0; 4], b"789");
-    expect_read(&rt, &mut files, no, 1, &mut [0; 4], b"1234");
-    assert!(rt; files.open(path) == Err(OpenFault::NotFound));
-    assert!(rt; files.failures() == 0);
-    Ok(())
+fn real_files(rt: HostRuntime) {
+    write_digits(&rt, REAL_PATH);
+    let mut files = real(&rt);
+    let no = opened(&rt, &mut files, REAL_PATH);
+    remove(&rt, REAL_PATH);
+    expect_answers(&rt, &mut files, no, REMOVED);
 }
 
 #[test]
-fn directories_and_bad_paths_are_no_files(rt: HostRuntime) -> Result<(), Fail> {
-    let mut files = DiskFiles::new(rt.clone()?, rt.alloc());
-    assert!(rt; files.open(".") == Err(OpenFault::Failed));
-    assert!(rt; files.open("out\0side") == Err(OpenFault::Failed));
+fn directories_and_bad_paths_are_no_files(rt: HostRuntime) {
+    let mut files = real(&rt);
+    expect_no_file(&rt, &mut files, ".", OpenFault::Failed);
+    expect_no_file(&rt, &mut files, "out\0side", OpenFault::Failed);
     assert!(rt; files.failures() == 2);
-    Ok(())
 }
 
 // Reads from a place of a file on. A folder that agrees with all that was told has these bytes there.
@@ -361,18 +378,25 @@ fn expect_told<R: rt::Files>(
     assert!(rt; out.starts_with(bytes), "from {start}");
 }
 
+// That nothing is read of a path from a place on.
+fn expect_untold<R: rt::Files>(rt: &impl Abort, files: &mut DiskFiles<R>, path: &str, start: u64) {
+    let mut out = [0u8; 4];
+    assert!(rt;
+        read_told(files, path, start, &mut out) == Err(ReadFault),
+        "from {start}"
+    );
+}
+
 // What was told of a real file agrees with what was written there.
 #[test]
-fn told_bytes_of_a_real_file(rt: HostRuntime) -> Result<(), Fail> {
+fn told_bytes_of_a_real_file(rt: HostRuntime) {
     let path = "cord_calls_told";
     write_digits(&rt, path);
-    let mut files = DiskFiles::new(rt.clone()?, rt.alloc());
-    expect_told(&rt, &mut files, path, 3, &DIGITS[3..7]);
-    expect_told(&rt, &mut files, path, 8, &DIGITS[8..]);
-    let mut out = [0u8; 4];
-    assert!(rt; read_told(&mut files, path, 10, &mut out) == Err(ReadFault));
+    let mut files = real(&rt);
+    expect_told(&rt, &mut files, path, 3, b"3456");
+    expect_told(&rt, &mut files, path, 8, b"89");
+    expect_untold(&rt, &mut files, path, 10);
     remove(&rt, path);
-    assert!(rt; read_told(&mut files, path, 0, &mut out) == Err(ReadFault));
+    expect_untold(&rt, &mut files, path, 0);
     assert!(rt; files.failures() == 0);
-    Ok(())
 }

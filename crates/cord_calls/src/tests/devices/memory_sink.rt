@@ -1,12 +1,14 @@
 // What a sink in memory takes.
+use super::Offer::{self, Finished, Taken};
+use super::expect_offers;
 use cord_io::{MemSink, Sink, WriteFault};
+
+const HELLO: &[Offer] = &[Taken(b"hel", 3), Taken(b"lo", 2), Finished];
 
 #[test]
 fn a_sink_takes_all(rt: HostRuntime) {
     let mut sink = MemSink::new(rt.alloc());
-    assert!(rt; sink.put(b"hel") == Ok(3));
-    assert!(rt; sink.put(b"lo") == Ok(2));
-    assert!(rt; sink.finish() == Ok(()));
+    expect_offers(&rt, &mut sink, HELLO);
     assert!(rt; sink.bytes() == b"hello".as_slice());
     assert!(rt; sink.failures() == 0);
 }

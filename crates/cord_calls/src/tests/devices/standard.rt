@@ -1,6 +1,9 @@
 // What a sink over a writer takes.
-use cord_io::{Sink, StdSink, WriteFault};
+use super::Offer::{self, Failed, Finished, Refused, Taken, Unfinished};
+use super::expect_offers;
+use cord_io::StdSink;
 use std::io::{self, Write};
+use std::process::Abort;
 
 // A writer that takes at most two bytes a call for so many calls, and then answers its last word.
 #[derive(Drop)]
@@ -37,28 +40,39 @@ impl Write for Narrow {
     }
 }
 
+const HELLO: &[Offer] = &[Taken(b"hel", 3), Taken(b"lo", 2), Finished, Failed(0)];
+
+// That a sink over a writer answers so.
+fn expect_all<W: Write + Drop>(rt: &impl Abort, writer: W, offers: &[Offer]) {
+    expect_offers(rt, &mut StdSink::new(writer), offers);
+}
+
 #[test]
 fn takes_all_bytes(rt: HostRuntime) {
     let mut bytes: Vec<u8> = Vec::new(rt.alloc());
-    let mut sink = StdSink::new(&mut bytes);
-    assert!(rt; sink.put(b"hel") == Ok(3));
-    assert!(rt; sink.put(b"lo") == Ok(2));
-    assert!(rt; sink.finish() == Ok(()));
-    assert!(rt; sink.failures() == 0);
-    drop(sink);
+    expect_all(&rt, &mut bytes, HELLO);
     assert!(rt; bytes.as_slice() == b"hello".as_slice());
+}
+
+// Over a writer that takes one part.
+const ONE_PART: &[Offer] = &[
+    Finished,
+    Taken(b"hello", 2),
+    Failed(0),
+    Refused(b"llo"),
+    Refused(b"llo"),
+    Unfinished,
+    Failed(3),
+];
+
+// A writer that takes one part, and then answers its last word.
+fn one_part(last: Last) -> Narrow {
+    Narrow { calls: 1, last }
 }
 
 #[test]
 fn each_way_to_fail_is_counted(rt: HostRuntime) {
-    for last in [Last::TakesNothing, Last::Interrupted, Last::Full] {
-        let mut sink = StdSink::new(Narrow { calls: 1, last });
-        assert!(rt; sink.finish() == Ok(()));
-        assert!(rt; sink.put(b"hello") == Ok(2));
-        assert!(rt; sink.failures() == 0);
-        assert!(rt; sink.put(b"llo") == Err(WriteFault));
-        assert!(rt; sink.put(b"llo") == Err(WriteFault));
-        assert!(rt; sink.finish() == Err(WriteFault));
-        assert!(rt; sink.failures() == 3);
-    }
+    expect_all(&rt, one_part(Last::TakesNothing), ONE_PART);
+    expect_all(&rt, one_part(Last::Interrupted), ONE_PART);
+    expect_all(&rt, one_part(Last::Full), ONE_PART);
 }
