@@ -24,7 +24,7 @@ use cord_shell::drive;
 use std::process::Abort;
 
 // The words that run the script at "s": by its plan, and as its statements stand.
-const WAYS: [&[&str]; 2] = [&["s"], &["--unplanned", "s"]];
+const WAYS: &[&[&str]] = &[&["s"], &["--unplanned", "s"]];
 
 const HELLO: &[u8] = b"let x \"hello\"\nput x\n";
 
@@ -108,7 +108,7 @@ fn expect_both(
     written: &[u8],
     told: &[u8],
 ) {
-    for words in WAYS {
+    for &words in WAYS {
         let come = drive_over(rt, words, files_with(rt, script));
         expect_come(rt, name, &come, status, written, told);
     }
@@ -133,10 +133,7 @@ fn numbered(rt: &(impl AllocGlobal + Abort), count: usize) -> Vec<u8> {
 
 // The bytes of a script that is shown with ` ; ` between its lines.
 fn lines(rt: &(impl AllocGlobal + Abort), shown: &str) -> Vec<u8> {
-    let mut script = Vec::new(rt.alloc());
-    for line in shown.split(" ; ") {
-        add(rt, &mut script, line.as_bytes());
-        add(rt, &mut script, b"\n");
-    }
+    let mut script = again!(rt, shown.replace(rt.alloc(), " ; ", "\n")).into_bytes();
+    add(rt, &mut script, b"\n");
     script
 }

@@ -19,7 +19,7 @@ const FIRST_FAILED: &[u8] = b"cordsh: line 1: read failed\n";
 const SECOND_FAILED: &[u8] = b"cordsh: line 2: read failed\n";
 
 // The first two calls open and read the script.
-const FAILING: [Failing; 8] = [
+const FAILING: &[Failing] = &[
     (
         "script-not-opened",
         r#"let x "hello" ; put x"#,
@@ -96,7 +96,7 @@ fn drive_fused(
 fn expect_fused(rt: &(impl AllocGlobal + Abort), row: &Failing) {
     let &(name, shown, count, passes, told, most) = row;
     let file = numbered(rt, count);
-    for words in WAYS {
+    for &words in WAYS {
         let come = drive_fused(rt, words, shown, &file, passes);
         expect_failed(rt, name, &come, told, &file, most);
     }
@@ -104,7 +104,7 @@ fn expect_fused(rt: &(impl AllocGlobal + Abort), row: &Failing) {
 
 #[test]
 fn files_fail(rt: HostRuntime) {
-    for row in &FAILING {
+    for row in FAILING {
         expect_fused(&rt, row);
     }
 }
@@ -115,7 +115,7 @@ fn lazy_twice(rt: HostRuntime) {
     let file = numbered(&rt, 10_000);
     let mut twice = numbered(&rt, 10_000);
     add(&rt, &mut twice, &file);
-    for words in WAYS {
+    for &words in WAYS {
         let come = drive_fused(&rt, words, LAZY_TWICE, &file, 23);
         expect_come(&rt, "lazy-twice", &come, 0, &twice, b"");
     }
@@ -130,7 +130,7 @@ fn drive_cut(rt: &(impl AllocGlobal + Abort), words: &[&str], shown: &str) -> Dr
 #[test]
 fn cut_files(rt: HostRuntime) {
     let file = numbered(&rt, 1_000);
-    for words in WAYS {
+    for &words in WAYS {
         let come = drive_cut(&rt, words, r#"lazy x "p" ; put x"#);
         expect_failed(&rt, "cut-lazy-whole", &come, SECOND_FAILED, &file, 512);
         let come = drive_cut(&rt, words, r#"eager x "p" ; put x"#);
@@ -167,7 +167,7 @@ fn drive_two(rt: &(impl AllocGlobal + Abort), words: &[&str], shown: &str) -> Dr
 fn blocks_by_entry(rt: HostRuntime) {
     let shown =
         r#"lazy x "a" ; lazy y "b" ; substr u x 550 10 ; substr v y 550 10 ; put u ; put v"#;
-    for words in WAYS {
+    for &words in WAYS {
         let come = drive_two(&rt, words, shown);
         expect_come(
             &rt,

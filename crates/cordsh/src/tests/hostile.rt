@@ -18,7 +18,7 @@ pub(super) const FILE_TWICE: Hostile<'static> = Hostile {
     puts: &[(2, b"line\n"), (3, b"line\n")],
 };
 
-const SHORT: [Hostile<'static>; 3] = [
+const SHORT: &[Hostile<'static>] = &[
     Hostile {
         script: r#"let h "hello" ; sprintf z "%5.2r|%-4d|%05d|%.0d|%%" h 7 -7 0 ; put z"#,
         file: None,
@@ -200,7 +200,7 @@ fn fuse_out(rt: &(impl AllocGlobal + Abort), hostile: &Hostile<'_>, words: &[&st
 }
 
 fn fuse_each(rt: &(impl AllocGlobal + Abort), hostile: &Hostile<'_>, most: u64) {
-    for words in WAYS {
+    for &words in WAYS {
         fuse_files(rt, hostile, words, most);
         fuse_out(rt, hostile, words, most);
     }
@@ -208,7 +208,7 @@ fn fuse_each(rt: &(impl AllocGlobal + Abort), hostile: &Hostile<'_>, most: u64) 
 
 #[test]
 fn fuses_at_each_call(rt: HostRuntime) {
-    for hostile in &SHORT {
+    for hostile in SHORT {
         for most in [1, 3, 4_096] {
             fuse_each(&rt, hostile, most);
         }

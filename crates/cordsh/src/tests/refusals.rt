@@ -1,7 +1,7 @@
 //! Rows of scripts that are refused, with the plan and without: nothing is written.
 use super::rows::Row;
 
-pub(super) const REFUSALS: [Row; 19] = [
+pub(super) const REFUSALS: &[Row] = &[
     (
         "cat-one-operand",
         "cat z x",

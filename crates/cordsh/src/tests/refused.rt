@@ -41,7 +41,7 @@ fn expect_refusable(
     status: u8,
     told: &[u8],
 ) {
-    for words in WAYS {
+    for &words in WAYS {
         let come = drive_over(rt, words, files_of(rt, hostile));
         if !is_served(rt, hostile, &come, status, told) {
             assert!(rt; come.status == 3 || come.status == 5);

@@ -6,7 +6,7 @@ use std::process::Abort;
 // A name, a script with ` ; ` between its lines, the status, what is written and what is told.
 pub(super) type Row = (&'static str, &'static str, u8, &'static [u8], &'static [u8]);
 
-const CORDS: [Row; 13] = [
+const CORDS: &[Row] = &[
     (
         "substr-past-end",
         r#"let x "abcdef" ; substr y x 4 10 ; put y ; substr y x 6 1 ; put y"#,
@@ -100,7 +100,7 @@ const CORDS: [Row; 13] = [
     ),
 ];
 
-const SEARCHES: [Row; 14] = [
+const SEARCHES: &[Row] = &[
     (
         "str-at-later-place",
         r#"let p "ab" ; let q "c" ; catn x p p q ; let s "abc" ; str n x 0 s ; sprintf t "%d" n ; put t"#,
@@ -201,7 +201,7 @@ const SEARCHES: [Row; 14] = [
     ),
 ];
 
-const FAULTS: [Row; 14] = [
+const FAULTS: &[Row] = &[
     (
         "fetch-past-end",
         r#"let x "ab" ; put x ; fetch n x 2"#,
@@ -302,7 +302,7 @@ const FAULTS: [Row; 14] = [
     ),
 ];
 
-const TURNS: [Row; 2] = [
+const TURNS: &[Row] = &[
     ("turns-at-the-limit", "repeat 1000000 ; end", 0, b"", b""),
     (
         "turns-one-too-many",
@@ -321,12 +321,13 @@ fn expect_rows(rt: &(impl AllocGlobal + Abort), rows: &[Row]) {
 
 #[test]
 fn rows(rt: HostRuntime) {
-    for rows in [CORDS.as_slice(), &SEARCHES, &FAULTS, &REFUSALS] {
-        expect_rows(&rt, rows);
-    }
+    expect_rows(&rt, CORDS);
+    expect_rows(&rt, SEARCHES);
+    expect_rows(&rt, FAULTS);
+    expect_rows(&rt, REFUSALS);
 }
 
 #[test]
 fn turns(rt: HostRuntime) {
-    expect_rows(&rt, &TURNS);
+    expect_rows(&rt, TURNS);
 }

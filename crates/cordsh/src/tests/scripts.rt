@@ -11,7 +11,7 @@ type Script = (
     &'static [u8],
 );
 
-const SCRIPTS: [Script; 10] = [
+const SCRIPTS: &[Script] = &[
     ("hello", HELLO, 0, b"hello", b""),
     ("empty-script", b"", 0, b"", b""),
     (
@@ -74,7 +74,7 @@ const SCRIPTS: [Script; 10] = [
 
 #[test]
 fn scripts(rt: HostRuntime) {
-    for &(name, script, status, written, told) in &SCRIPTS {
+    for &(name, script, status, written, told) in SCRIPTS {
         expect_both(&rt, name, script, status, written, told);
     }
 }
@@ -82,7 +82,7 @@ fn scripts(rt: HostRuntime) {
 // A name, a text and so many copies of a byte after it, which are the script, the status and what is told.
 type Size = (&'static str, &'static [u8], u8, usize, u8, &'static [u8]);
 
-const SIZES: [Size; 5] = [
+const SIZES: &[Size] = &[
     (
         "script-too-big",
         b"",
@@ -113,7 +113,7 @@ const SIZES: [Size; 5] = [
 
 #[test]
 fn sizes(rt: HostRuntime) {
-    for &(name, text, byte, count, status, told) in &SIZES {
+    for &(name, text, byte, count, status, told) in SIZES {
         expect_both(
             &rt,
             name,

@@ -39,7 +39,7 @@ type Row = (
     &'static [u8],
 );
 
-const REFUSALS: [Row; 12] = [
+const REFUSALS: &[Row] = &[
     ("no-words", &[], HELLO, 2, b"", REFUSED),
     ("two-scripts", &["s", "t"], HELLO, 2, b"", REFUSED),
     ("unknown-flag", &["--nope", "s"], HELLO, 2, b"", REFUSED),
@@ -76,7 +76,7 @@ const REFUSALS: [Row; 12] = [
     ("dashes-alone", &["--"], HELLO, 2, b"", REFUSED),
 ];
 
-const SERVED: [Row; 18] = [
+const SERVED: &[Row] = &[
     ("unplanned", &["--unplanned", "s"], HELLO, 0, b"hello", b""),
     (
         "unplanned-last",
@@ -192,8 +192,8 @@ fn expect_rows(rt: &(impl AllocGlobal + Abort), rows: &[Row]) {
 
 #[test]
 fn words(rt: HostRuntime) {
-    expect_rows(&rt, &REFUSALS);
-    expect_rows(&rt, &SERVED);
+    expect_rows(&rt, REFUSALS);
+    expect_rows(&rt, SERVED);
 }
 
 // What the words write to an output in memory, with status 0 and nothing told.
@@ -204,7 +204,7 @@ fn written(rt: &(impl AllocGlobal + Abort), words: &[&str]) -> MemSink {
     come.out
 }
 
-const HELPS: [&[&str]; 4] = [
+const HELPS: &[&[&str]] = &[
     &["--help"],
     &["-h"],
     &["--help", "s"],
@@ -225,7 +225,7 @@ fn expect_help(rt: &(impl AllocGlobal + Abort), words: &[&str]) {
 
 #[test]
 fn help_asked(rt: HostRuntime) {
-    for words in HELPS {
+    for &words in HELPS {
         expect_help(&rt, words);
     }
 }
@@ -283,7 +283,7 @@ type Fused = (
     &'static [u8],
 );
 
-const FUSED: [Fused; 3] = [
+const FUSED: &[Fused] = &[
     (
         "short-put",
         HELLO,
@@ -305,7 +305,7 @@ const FUSED: [Fused; 3] = [
 
 #[test]
 fn output_fails(rt: HostRuntime) {
-    for &(name, script, passes, status, written, told) in &FUSED {
+    for &(name, script, passes, status, written, told) in FUSED {
         let cut = drive_cut(&rt, &["s"], script, passes);
         assert!(rt; cut.status == status, "{name}");
         assert!(rt; cut.out.inner().bytes() == written, "{name}");
