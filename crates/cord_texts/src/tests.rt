@@ -1,6 +1,6 @@
 // Worked rows. The functions that make texts and look at them promise nothing, so that tests have little to prove.
-use cord::{CordError, Format, MAX_LEN, MemSink, PrintError, Text, TextArg, TextBuilder};
-use std::alloc::Global;
+use cord::{Chunk, CordError, Format, MAX_LEN, MemSink, PrintError, Text, TextArg, TextBuilder};
+use std::alloc::{AllocError, Global};
 use std::cmp::Ordering;
 use std::process::Abort;
 
@@ -298,4 +298,94 @@ fn refused_prints(rt: HostRuntime) {
     expect_refused(&rt, alloc, &args, PrintError::Negative(1));
     let args = [text, TextArg::Num(1), TextArg::Num(256)];
     expect_refused(&rt, alloc, &args, PrintError::BadByte(2));
+}
+
+fn expect_leaf(rt: &impl Abort, chunk: Option<Chunk<'_>>, wanted: &[u8]) {
+    let Some(Chunk::Bytes(bytes)) = chunk else {
+        panic!(rt; "no bytes of a leaf");
+    };
+    assert!(rt; bytes == wanted, "the bytes are not {wanted:?}");
+}
+
+fn expect_run(rt: &impl Abort, chunk: Option<Chunk<'_>>, wanted: u8, times: u64) {
+    let Some(Chunk::Run { byte, count }) = chunk else {
+        panic!(rt; "no run");
+    };
+    assert!(rt;
+        byte == wanted && count == times,
+        "not {times} times {wanted}"
+    );
+}
+
+// "hello world", three dashes, "hello world!".
+fn greeting(rt: &impl Abort, alloc: Global) -> Text {
+    let three = three(rt, alloc, &hello(rt, alloc));
+    Text::catn(alloc, &three).expect(rt, "no memory")
+}
+
+#[test]
+fn chunks(rt: HostRuntime) {
+    let text = greeting(&rt, rt.alloc());
+    let mut chunks = text.chunks();
+    expect_leaf(&rt, chunks.next(), b"hello world");
+    expect_run(&rt, chunks.next(), b'-', 3);
+    expect_leaf(&rt, chunks.next(), b"hello world!");
+    assert!(rt; chunks.next().is_none());
+    assert!(rt; Text::empty().chunks().next().is_none());
+}
+
+#[test]
+fn texts_are_repeated(rt: HostRuntime) {
+    let alloc = rt.alloc();
+    let text = text_of(&rt, alloc, b"ab");
+    expect_made(&rt, alloc, text.repeated(alloc, 5), b"ababababab");
+    expect_made(&rt, alloc, text.repeated(alloc, 0), b"");
+    let refused = text.repeated(alloc, MAX_LEN);
+    assert!(rt; matches!(refused, Err(CordError::TooLong)));
+}
+
+fn expect_shown(rt: &impl Abort, shown: Result<String, AllocError>, wanted: &str) {
+    let shown = shown.expect(rt, "no memory");
+    assert!(rt; shown.as_str() == wanted, "{shown} is not {wanted}");
+}
+
+#[test]
+fn texts_are_shown(rt: HostRuntime) {
+    let alloc = rt.alloc();
+    let text = greeting(&rt, alloc);
+    expect_shown(&rt, text.to_string(alloc), "hello world---hello world!");
+    let shown = format!(in alloc; "{text:?}");
+    expect_shown(&rt, shown, "Text(26, b\"hello world---hello world!\")");
+}
+
+#[test]
+fn long_texts_are_shown_by_their_beginning(rt: HostRuntime) {
+    let alloc = rt.alloc();
+    let text = Text::repeat(alloc, b'\n', 33).expect(&rt, "no memory");
+    let shown = format!(in alloc; "{text:?}");
+    let front = r"\n\n\n\n\n\n\n\n\n\n\n\n\n\n\n\n\n\n\n\n\n\n\n\n\n\n\n\n\n\n\n\n";
+    let wanted = format!(in alloc; "Text(33, b\"{front}\"..)").expect(&rt, "no memory");
+    expect_shown(&rt, shown, wanted.as_str());
+}
+
+// A euro sign, of which each byte stands in a part of its own, and then other bytes.
+fn cut_euro(rt: &impl Abort, alloc: Global, rest: &[u8]) -> Text {
+    let begun = text_of(rt, alloc, b"\xE2");
+    let middle = Text::repeat(alloc, 0x82, 1).expect(rt, "no memory");
+    let cut = Text::cat(alloc, &begun, &middle).expect(rt, "no memory");
+    cut.append_bytes(alloc, rest).expect(rt, "no memory")
+}
+
+#[test]
+fn characters_may_lie_in_several_parts(rt: HostRuntime) {
+    let alloc = rt.alloc();
+    let whole = cut_euro(&rt, alloc, b"\xAC and so on");
+    expect_shown(&rt, whole.to_string(alloc), "\u{20AC} and so on");
+}
+
+#[test]
+fn what_is_no_character_is_replaced(rt: HostRuntime) {
+    let alloc = rt.alloc();
+    let cut = cut_euro(&rt, alloc, b"a\xFFb\xC3");
+    expect_shown(&rt, cut.to_string(alloc), "\u{FFFD}a\u{FFFD}b\u{FFFD}");
 }
