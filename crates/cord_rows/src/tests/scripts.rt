@@ -252,57 +252,60 @@ fn statement_words_are_names(rt: HostRuntime) {
     expect_count(&rt, b"let let \"a\"\nput let", 2);
 }
 
+// A script, and how many statements it has.
+const READ: &[(&str, usize)] = &[
+    (
+        "let x \"ab\"\nrepeat 30\ncat x x x\nend\nlen n x\nfetch c x 2147483647\nsprintf z \"%d %c\" n c\nput z",
+        8,
+    ),
+    (
+        "let a \"abc\"\nlet b \"def\"\ncat t a b\nsubstr z t 2 3\nput z",
+        5,
+    ),
+    (
+        "let p \"ab\"\nlet q \"c\"\ncatn x p p q\nlet s \"abc\"\nstr n x 0 s\nsprintf t \"%d\" n\nput t",
+        7,
+    ),
+    (
+        "let h \"hello\"\nsprintf z \"%5.2r|%-4d|%05d|%.0d|%%\" h 7 -7 0\nput z",
+        3,
+    ),
+    ("fn d digits 12\nsubstr z d 8 3\nput z", 3),
+    (
+        "let x \"abcx\"\nlet y \"zabcy\"\nncmp n x 0 y 1 3\nsprintf t \"%d\" n\nput t",
+        5,
+    ),
+    (
+        "let x \"\\x80\"\nlet y \"a\"\ncmp n x y\nsprintf z \"%d\" n\nput z",
+        5,
+    ),
+    ("set n 9223372036854775807\nadd n n 1", 2),
+    ("let x \"hello\"\nrchr n x 4 108\nchr n x 0 108", 3),
+    ("file x \"p\"\nput x\nput x", 3),
+    ("eager x \"p\"\nlet y \"a\"\nput y", 3),
+    ("lazy x \"big\"\nput x", 2),
+    (
+        "let a \"a\"\nlet b \"b\"\ncatn z a b a\ncatc z z 33\nbalance y z\nput y",
+        6,
+    ),
+    (
+        "ecinit e\necstr e \"ab\"\necput e 67\nectocord z e\neccat e z\nput z",
+        6,
+    ),
+    ("set n 2\nrepeat n\nset n 5\nlet x \"a\"\nput x\nend", 6),
+    (
+        "let x \"a\"\nlen n x\nif n eq 1\nlet x \"b\"\nelse\nlet x \"c\"\nend\nput x",
+        8,
+    ),
+    (
+        "chars a 65 3\nnul b 2\nsub n -9223372036854775808 1\nif n gt 1\nend",
+        5,
+    ),
+];
+
 #[test]
 fn scripts_of_rows_are_read(rt: HostRuntime) {
-    for (script, statements) in [
-        (
-            "let x \"ab\"\nrepeat 30\ncat x x x\nend\nlen n x\nfetch c x 2147483647\nsprintf z \"%d %c\" n c\nput z",
-            8,
-        ),
-        (
-            "let a \"abc\"\nlet b \"def\"\ncat t a b\nsubstr z t 2 3\nput z",
-            5,
-        ),
-        (
-            "let p \"ab\"\nlet q \"c\"\ncatn x p p q\nlet s \"abc\"\nstr n x 0 s\nsprintf t \"%d\" n\nput t",
-            7,
-        ),
-        (
-            "let h \"hello\"\nsprintf z \"%5.2r|%-4d|%05d|%.0d|%%\" h 7 -7 0\nput z",
-            3,
-        ),
-        ("fn d digits 12\nsubstr z d 8 3\nput z", 3),
-        (
-            "let x \"abcx\"\nlet y \"zabcy\"\nncmp n x 0 y 1 3\nsprintf t \"%d\" n\nput t",
-            5,
-        ),
-        (
-            "let x \"\\x80\"\nlet y \"a\"\ncmp n x y\nsprintf z \"%d\" n\nput z",
-            5,
-        ),
-        ("set n 9223372036854775807\nadd n n 1", 2),
-        ("let x \"hello\"\nrchr n x 4 108\nchr n x 0 108", 3),
-        ("file x \"p\"\nput x\nput x", 3),
-        ("eager x \"p\"\nlet y \"a\"\nput y", 3),
-        ("lazy x \"big\"\nput x", 2),
-        (
-            "let a \"a\"\nlet b \"b\"\ncatn z a b a\ncatc z z 33\nbalance y z\nput y",
-            6,
-        ),
-        (
-            "ecinit e\necstr e \"ab\"\necput e 67\nectocord z e\neccat e z\nput z",
-            6,
-        ),
-        ("set n 2\nrepeat n\nset n 5\nlet x \"a\"\nput x\nend", 6),
-        (
-            "let x \"a\"\nlen n x\nif n eq 1\nlet x \"b\"\nelse\nlet x \"c\"\nend\nput x",
-            8,
-        ),
-        (
-            "chars a 65 3\nnul b 2\nsub n -9223372036854775808 1\nif n gt 1\nend",
-            5,
-        ),
-    ] {
+    for &(script, statements) in READ {
         assert!(rt;
             count(rt.alloc(), script.as_bytes()) == Some(statements),
             "{script}"
@@ -310,27 +313,66 @@ fn scripts_of_rows_are_read(rt: HostRuntime) {
     }
 }
 
-#[test]
-fn scripts_of_rows_are_refused(rt: HostRuntime) {
-    for (script, line, code) in [
-        ("cat z x", 1, 5),
-        ("repeat 2", 1, 13),
-        ("end", 1, 12),
-        ("sprintf z \"%5%\"", 1, 10),
-        ("let x \"a\"\nfetch x x 0", 2, 9),
-        ("sprintf z \"%d\"", 1, 5),
-        ("file x \"\"", 1, 6),
-        ("chars a 0 99999999999999999999", 1, 7),
-        ("let x \"a\"\nlen x x", 2, 9),
-        ("cat x x x", 1, 8),
-        ("repeat 1\nrepeat 1\nend", 1, 13),
-        ("else", 1, 17),
-        ("if 1 eq 1\nelse\nelse\nend", 3, 17),
-        ("repeat 1\nelse\nend", 2, 17),
-        ("if 1 ne 1\nend", 1, 6),
-        ("repeat 2\nif 1 eq 1", 2, 18),
-        ("if 1 eq 1\nrepeat 2\nend", 1, 18),
-    ] {
+// A script, the line and the code of its refusal.
+type Refused = (&'static str, u32, u8);
+
+const REFUSED: &[Refused] = &[
+    ("cat z x", 1, 5),
+    ("repeat 2", 1, 13),
+    ("end", 1, 12),
+    ("sprintf z \"%5%\"", 1, 10),
+    ("let x \"a\"\nfetch x x 0", 2, 9),
+    ("sprintf z \"%d\"", 1, 5),
+    ("file x \"\"", 1, 6),
+    ("chars a 0 99999999999999999999", 1, 7),
+    ("let x \"a\"\nlen x x", 2, 9),
+    ("cat x x x", 1, 8),
+    ("repeat 1\nrepeat 1\nend", 1, 13),
+    ("else", 1, 17),
+    ("if 1 eq 1\nelse\nelse\nend", 3, 17),
+    ("repeat 1\nelse\nend", 2, 17),
+    ("if 1 ne 1\nend", 1, 6),
+    ("repeat 2\nif 1 eq 1", 2, 18),
+    ("if 1 eq 1\nrepeat 2\nend", 1, 18),
+];
+
+// Words that are wrong in statements that join or print.
+const WORDS_OF_PRINTS: &[Refused] = &[
+    ("catn z x", 1, 5),
+    ("let x \"a\"\ncatn z x 5", 2, 6),
+    ("let x \"a\"\ncatn z x y 5", 2, 6),
+    ("let x \"a\"\ncatn z x y", 2, 8),
+    ("let x \"a\"\nset n 1\ncatn z x n", 3, 9),
+    ("sprintf z", 1, 5),
+    ("sprintf 9 x", 1, 6),
+    ("sprintf 9 \"%q\"", 1, 6),
+    ("sprintf z x", 1, 9),
+    ("sprintf z \"%q\" 1", 1, 10),
+    ("sprintf z \"%d\" 1 2", 1, 5),
+    ("sprintf z \"%d%s\" 9x", 1, 5),
+    ("sprintf z \"%d\" \"a\"", 1, 7),
+    ("sprintf z \"%d%s\" 9x 5", 1, 7),
+    ("sprintf z \"%s\" 5", 1, 6),
+    ("sprintf z \"%s\" y", 1, 8),
+    ("set n 1\nsprintf z \"%s\" n", 2, 9),
+    ("set n 1\nsprintf n \"%d\" 1", 2, 9),
+];
+
+// Words that are wrong in other statements.
+const WORDS: &[Refused] = &[
+    ("fn x letters 9x", 1, 6),
+    ("file x p", 1, 9),
+    ("file x \"a\\x00\"", 1, 6),
+    ("file x \"\\x80\"", 1, 6),
+    ("set n 9223372036854775808", 1, 7),
+    ("set n -", 1, 7),
+    ("set n +1", 1, 6),
+    ("end 1", 1, 5),
+    ("ecput e 1", 1, 8),
+];
+
+fn expect_refused(rt: &(impl AllocGlobal + Abort), rows: &[Refused]) {
+    for &(script, line, code) in rows {
         assert!(rt;
             refusal(rt.alloc(), script.as_bytes()) == Some((line, code)),
             "{script}"
@@ -339,41 +381,14 @@ fn scripts_of_rows_are_refused(rt: HostRuntime) {
 }
 
 #[test]
+fn scripts_of_rows_are_refused(rt: HostRuntime) {
+    expect_refused(&rt, REFUSED);
+}
+
+#[test]
 fn words_are_refused_in_order(rt: HostRuntime) {
-    for (script, line, code) in [
-        ("catn z x", 1, 5),
-        ("let x \"a\"\ncatn z x 5", 2, 6),
-        ("let x \"a\"\ncatn z x y 5", 2, 6),
-        ("let x \"a\"\ncatn z x y", 2, 8),
-        ("let x \"a\"\nset n 1\ncatn z x n", 3, 9),
-        ("sprintf z", 1, 5),
-        ("sprintf 9 x", 1, 6),
-        ("sprintf 9 \"%q\"", 1, 6),
-        ("sprintf z x", 1, 9),
-        ("sprintf z \"%q\" 1", 1, 10),
-        ("sprintf z \"%d\" 1 2", 1, 5),
-        ("sprintf z \"%d%s\" 9x", 1, 5),
-        ("sprintf z \"%d\" \"a\"", 1, 7),
-        ("sprintf z \"%d%s\" 9x 5", 1, 7),
-        ("sprintf z \"%s\" 5", 1, 6),
-        ("sprintf z \"%s\" y", 1, 8),
-        ("set n 1\nsprintf z \"%s\" n", 2, 9),
-        ("set n 1\nsprintf n \"%d\" 1", 2, 9),
-        ("fn x letters 9x", 1, 6),
-        ("file x p", 1, 9),
-        ("file x \"a\\x00\"", 1, 6),
-        ("file x \"\\x80\"", 1, 6),
-        ("set n 9223372036854775808", 1, 7),
-        ("set n -", 1, 7),
-        ("set n +1", 1, 6),
-        ("end 1", 1, 5),
-        ("ecput e 1", 1, 8),
-    ] {
-        assert!(rt;
-            refusal(rt.alloc(), script.as_bytes()) == Some((line, code)),
-            "{script}"
-        );
-    }
+    expect_refused(&rt, WORDS_OF_PRINTS);
+    expect_refused(&rt, WORDS);
 }
 
 #[test]

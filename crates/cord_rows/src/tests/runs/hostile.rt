@@ -19,7 +19,7 @@ struct Hostile {
     puts: &'static [Put],
 }
 
-const SHORT: [Hostile; 3] = [
+const SHORT: &[Hostile] = &[
     Hostile {
         script: r#"let h "hello" ; sprintf z "%5.2r|%-4d|%05d|%.0d|%%" h 7 -7 0 ; put z"#,
         lines: 3,
@@ -205,7 +205,7 @@ fn fuse_each(rt: &(impl AllocGlobal + Abort), hostile: &Hostile, most: u64) {
 
 #[test]
 fn fuses_at_each_call(rt: HostRuntime) {
-    for hostile in &SHORT {
+    for hostile in SHORT {
         for most in [1, 3, 4_096] {
             fuse_each(&rt, hostile, most);
         }

@@ -62,14 +62,14 @@ fn run_malformed(rt: &(impl AllocGlobal + Abort), whole: Vec<u8>, big: &[u8]) {
 
 #[test]
 fn rows_over_no_files(rt: HostRuntime) {
-    for (_, script, _, _) in CORDS.iter().chain(&SEARCHES).chain(&FAULTS) {
+    for (_, script, _, _) in CORDS.iter().chain(SEARCHES).chain(FAULTS) {
         run_malformed(&rt, lines(&rt, script), b"");
     }
 }
 
 #[test]
 fn rows_with_blocks(rt: HostRuntime) {
-    for (name, script, _, _) in &BLOCKS {
+    for (name, script, _, _) in BLOCKS {
         if !name.starts_with("turns") {
             run_malformed(&rt, lines(&rt, script), b"");
         }
@@ -79,7 +79,7 @@ fn rows_with_blocks(rt: HostRuntime) {
 
 #[test]
 fn rows_with_all_turns(rt: HostRuntime) {
-    for (name, script, _, _) in &BLOCKS {
+    for (name, script, _, _) in BLOCKS {
         if name.starts_with("turns") {
             run_malformed(&rt, lines(&rt, script), b"");
         }
@@ -88,7 +88,7 @@ fn rows_with_all_turns(rt: HostRuntime) {
 
 #[test]
 fn rows_that_are_refused(rt: HostRuntime) {
-    for (_, script, _, _) in &REFUSALS {
+    for (_, script, _, _) in REFUSALS {
         run_malformed(&rt, lines(&rt, script), b"");
     }
 }

@@ -9,7 +9,7 @@ use cord_script::RefusalKind::{
 // A name, a script with ` ; ` between its lines, the line and the kind of its refusal.
 pub(super) type Row = (&'static str, &'static str, u32, RefusalKind);
 
-pub(super) const REFUSALS: [Row; 32] = [
+pub(super) const REFUSALS: &[Row] = &[
     ("unknown-name", "put x", 1, UnknownName),
     ("cat-one-operand", "cat z x", 1, WrongCount),
     ("let-quote-open", r#"let x "a"#, 1, Unterminated),
@@ -76,7 +76,7 @@ pub(super) const REFUSALS: [Row; 32] = [
 
 #[test]
 fn refusals(rt: HostRuntime) {
-    for &(name, script, line, kind) in &REFUSALS {
+    for &(name, script, line, kind) in REFUSALS {
         expect_refused(&rt, name, &lines(&rt, script), line, kind);
     }
 }

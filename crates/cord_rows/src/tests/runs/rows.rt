@@ -9,7 +9,7 @@ use std::process::Abort;
 // A name, a script with ` ; ` between its lines, how it ends, and what it writes.
 pub(super) type Row = (&'static str, &'static str, End, &'static [u8]);
 
-pub(super) const CORDS: [Row; 13] = [
+pub(super) const CORDS: &[Row] = &[
     ("empty-line", "", End::Done, b""),
     ("hello", r#"let x "hello" ; put x"#, End::Done, b"hello"),
     (
@@ -80,7 +80,7 @@ pub(super) const CORDS: [Row; 13] = [
     ),
 ];
 
-pub(super) const SEARCHES: [Row; 12] = [
+pub(super) const SEARCHES: &[Row] = &[
     (
         "str-at-later-place",
         r#"let p "ab" ; let q "c" ; catn x p p q ; let s "abc" ; str n x 0 s ; sprintf t "%d" n ; put t"#,
@@ -155,7 +155,7 @@ pub(super) const SEARCHES: [Row; 12] = [
     ),
 ];
 
-pub(super) const BLOCKS: [Row; 10] = [
+pub(super) const BLOCKS: &[Row] = &[
     (
         "doubled-thirty-times",
         r#"let x "ab" ; repeat 30 ; cat x x x ; end ; len n x ; fetch c x 2147483647 ; sprintf z "%d %c" n c ; put z"#,
@@ -213,7 +213,7 @@ pub(super) const BLOCKS: [Row; 10] = [
     ("turns-at-the-limit", "repeat 1000000 ; end", End::Done, b""),
 ];
 
-pub(super) const FAULTS: [Row; 17] = [
+pub(super) const FAULTS: &[Row] = &[
     (
         "sum-that-overflows-in-a-turn",
         r#"let x "b" ; put x ; set a 9223372036854775800 ; repeat 9 ; add a a 1 ; end"#,
@@ -334,22 +334,22 @@ fn empty_script(rt: HostRuntime) {
 
 #[test]
 fn cords(rt: HostRuntime) {
-    expect_rows(&rt, &CORDS);
+    expect_rows(&rt, CORDS);
 }
 
 #[test]
 fn searches(rt: HostRuntime) {
-    expect_rows(&rt, &SEARCHES);
+    expect_rows(&rt, SEARCHES);
 }
 
 #[test]
 fn blocks(rt: HostRuntime) {
-    expect_rows(&rt, &BLOCKS);
+    expect_rows(&rt, BLOCKS);
 }
 
 #[test]
 fn faults(rt: HostRuntime) {
-    expect_rows(&rt, &FAULTS);
+    expect_rows(&rt, FAULTS);
 }
 
 #[test]
