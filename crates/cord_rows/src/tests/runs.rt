@@ -8,7 +8,7 @@ mod plans;
 mod refusals;
 mod rows;
 
-use cord_io::{FuseSink, MemFiles, MemSink, Sink};
+use cord_io::{Files, FuseSink, MemFiles, MemSink, Sink};
 use cord_run::{End, FaultKind, run_text, run_unplanned};
 use cord_script::{Refusal, RefusalKind};
 use std::process::Abort;
@@ -17,40 +17,50 @@ const HELLO: &[u8] = b"let x \"hello\"\nput x\n";
 
 // The bytes of a script that is shown with ` ; ` between its lines.
 fn lines(rt: &(impl AllocGlobal + Abort), shown: &str) -> Vec<u8> {
-    let mut script = Vec::new(rt.alloc());
-    for line in shown.split(" ; ") {
-        add(rt, &mut script, line.as_bytes());
-        add(rt, &mut script, b"\n");
-    }
+    let text = shown.replace(rt.alloc(), " ; ", "\n");
+    let mut script = text.expect(rt, "no memory").into_bytes();
+    add(rt, &mut script, b"\n");
     script
 }
 
-// Runs a script by its plan, and compares the end and what is written.
-fn expect_planned(
-    rt: &(impl AllocGlobal + Abort),
-    name: &str,
-    script: &[u8],
-    end: End,
-    written: &[u8],
-) {
-    let mut sink = MemSink::new(rt.alloc());
-    let result = run_text(rt.alloc(), script, MemFiles::new(rt.alloc()), &mut sink).0;
-    assert!(rt; result == Ok(end), "{name} planned");
-    assert!(rt; sink.bytes() == written, "{name} planned");
+// The file "p" of the text `line` and byte 10, and one other file.
+fn line_and(rt: &(impl AllocGlobal + Abort), path: &str, bytes: &[u8]) -> MemFiles {
+    let alloc = rt.alloc();
+    let mut files = MemFiles::new(alloc);
+    files.add(alloc, "p", b"line\n").expect(rt, "no memory");
+    files.add(alloc, path, bytes).expect(rt, "no memory");
+    files
 }
 
-// Runs a script without a plan, and compares the end and what is written.
-fn expect_unplanned(
+// Runs a script by its plan or without one. It promises nothing, so that what calls it has little to prove.
+fn run_way<F: Files, S: Sink>(
+    rt: &(impl AllocGlobal + Abort),
+    script: &[u8],
+    files: F,
+    sink: &mut S,
+    is_planned: bool,
+) -> (Result<End, Refusal>, F) {
+    assert!(rt; files.failures() < u64::MAX && sink.failures() < u64::MAX);
+    if is_planned {
+        run_text(rt.alloc(), script, files, sink)
+    } else {
+        run_unplanned(rt.alloc(), script, files, sink)
+    }
+}
+
+// Runs a script over no files, by its plan or without one, and compares the end and what is written.
+fn expect_end_of(
     rt: &(impl AllocGlobal + Abort),
     name: &str,
     script: &[u8],
+    is_planned: bool,
     end: End,
     written: &[u8],
 ) {
     let mut sink = MemSink::new(rt.alloc());
-    let result = run_unplanned(rt.alloc(), script, MemFiles::new(rt.alloc()), &mut sink).0;
-    assert!(rt; result == Ok(end), "{name} unplanned");
-    assert!(rt; sink.bytes() == written, "{name} unplanned");
+    let result = run_way(rt, script, MemFiles::new(rt.alloc()), &mut sink, is_planned).0;
+    assert!(rt; result == Ok(end), "{name}");
+    assert!(rt; sink.bytes() == written, "{name}");
 }
 
 // Runs a script both ways, and compares the end and what is written.
@@ -61,8 +71,8 @@ fn expect_end(
     end: End,
     written: &[u8],
 ) {
-    expect_planned(rt, name, script, end, written);
-    expect_unplanned(rt, name, script, end, written);
+    expect_end_of(rt, name, script, true, end, written);
+    expect_end_of(rt, name, script, false, end, written);
 }
 
 // Runs a script that is refused, by its plan or without one; nothing is written or finished.
@@ -75,11 +85,7 @@ fn expect_refusal(
 ) {
     let files = MemFiles::new(rt.alloc());
     let mut sink = FuseSink::new(MemSink::new(rt.alloc()), 0, 1);
-    let result = if is_planned {
-        run_text(rt.alloc(), script, files, &mut sink).0
-    } else {
-        run_unplanned(rt.alloc(), script, files, &mut sink).0
-    };
+    let result = run_way(rt, script, files, &mut sink, is_planned).0;
     assert!(rt; result == Err(refusal), "{name}");
     assert!(rt; sink.failures() == 0, "{name}");
 }
@@ -161,11 +167,7 @@ fn expect_fused_way(
 ) {
     let files = MemFiles::new(rt.alloc());
     let mut sink = FuseSink::new(MemSink::new(rt.alloc()), passes, 3);
-    let result = if is_planned {
-        run_text(rt.alloc(), script, files, &mut sink).0
-    } else {
-        run_unplanned(rt.alloc(), script, files, &mut sink).0
-    };
+    let result = run_way(rt, script, files, &mut sink, is_planned).0;
     assert!(rt; result == Ok(end));
     assert!(rt; sink.inner().bytes() == written);
 }
@@ -211,7 +213,7 @@ fn fuse_sink_fault_and_finish_fails(rt: HostRuntime) {
 fn write_failed_is_not_finished(rt: HostRuntime) {
     let files = MemFiles::new(rt.alloc());
     let mut sink = FuseSink::new(MemSink::new(rt.alloc()), 0, 3);
-    let result = run_text(rt.alloc(), HELLO, files, &mut sink).0;
+    let result = run_way(&rt, HELLO, files, &mut sink, true).0;
     assert!(rt; result == Ok(End::WriteFailed(2)));
     assert!(rt; sink.failures() == 1);
 }

@@ -1,7 +1,7 @@
 //! Rows of scripts over files: whole ones, ones that fail after some calls, and ones that give no byte behind a place.
-use super::{lines, numbered};
-use cord_io::{CutFiles, Files, FuseFiles, MemFiles, MemSink, Sink};
-use cord_run::{End, FaultKind, run_text, run_unplanned};
+use super::{lines, numbered, run_way};
+use cord_io::{CutFiles, Files, FuseFiles, MemFiles, MemSink};
+use cord_run::{End, FaultKind};
 use cord_script::Refusal;
 use std::process::Abort;
 
@@ -13,13 +13,7 @@ fn ended<F: Files + Drop>(
     sink: &mut MemSink,
     is_planned: bool,
 ) -> Result<End, Refusal> {
-    let script = lines(rt, script);
-    assert!(rt; files.failures() < u64::MAX && sink.failures() == 0);
-    if is_planned {
-        run_text(rt.alloc(), &script, files, sink).0
-    } else {
-        run_unplanned(rt.alloc(), &script, files, sink).0
-    }
+    run_way(rt, &lines(rt, script), files, sink, is_planned).0
 }
 
 // That a script over files ends so, and writes this: by its plan or without one.

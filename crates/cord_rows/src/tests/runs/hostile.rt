@@ -1,7 +1,7 @@
 //! Devices that fail at each call: every end is honest.
-use super::{lines, numbered};
+use super::{add, line_and, lines, numbered, run_way};
 use cord_io::{Files, FuseFiles, FuseSink, MemFiles, MemSink, Sink};
-use cord_run::{End, run_text, run_unplanned};
+use cord_run::End;
 use cord_script::Refusal;
 use std::process::Abort;
 
@@ -80,25 +80,13 @@ const LAZY_TWICE: Hostile = Hostile {
     ],
 };
 
-// The files "p" of one line and "f" of 10,000 bytes.
-fn two_files(rt: &(impl AllocGlobal + Abort)) -> MemFiles {
-    let alloc = rt.alloc();
-    let mut files = MemFiles::new(alloc);
-    files.add(alloc, "p", b"line\n").expect(rt, "no memory");
-    files
-        .add(alloc, "f", &numbered(rt, 10_000))
-        .expect(rt, "no memory");
-    files
-}
-
 // All that the lines of a script up to one put.
 fn put_up_to(rt: &(impl AllocGlobal + Abort), hostile: &Hostile, line: u32) -> Vec<u8> {
     let mut out = Vec::new(rt.alloc());
     for put in hostile.puts {
         if put.line <= line {
-            out.extend_from_slice(put.text).expect(rt, "no memory");
-            out.extend_from_slice(&numbered(rt, put.count))
-                .expect(rt, "no memory");
+            add(rt, &mut out, put.text);
+            add(rt, &mut out, &numbered(rt, put.count));
         }
     }
     out
@@ -141,12 +129,7 @@ fn ended(
     sink: &mut FuseSink<MemSink>,
     planned: bool,
 ) -> (Result<End, Refusal>, u64) {
-    assert!(rt; files.failures() == 0 && sink.failures() == 0);
-    let (result, files) = if planned {
-        run_text(rt.alloc(), script, files, sink)
-    } else {
-        run_unplanned(rt.alloc(), script, files, sink)
-    };
+    let (result, files) = run_way(rt, script, files, sink, planned);
     (result, files.failures())
 }
 
@@ -160,7 +143,7 @@ fn run_fused(
 ) -> bool {
     let script = lines(rt, hostile.script);
     assert!(rt; most >= 1);
-    let files = FuseFiles::new(two_files(rt), passes.0);
+    let files = FuseFiles::new(line_and(rt, "f", &numbered(rt, 10_000)), passes.0);
     let mut sink = FuseSink::new(MemSink::new(rt.alloc()), passes.1, most);
     let (result, failures) = ended(rt, &script, files, &mut sink, planned);
     let Ok(end) = result else {

@@ -1,8 +1,8 @@
 //! Each kind of making, built and only measured: its length, or why there is none. A name that `len` alone reads is
 //! measured by the plan and built without one.
-use super::{expect_end, lines, numbered};
-use cord_io::{CutFiles, MemFiles, MemSink, Sink};
-use cord_run::{End, FaultKind, run_text, run_unplanned};
+use super::{expect_end, lines, numbered, run_way};
+use cord_io::{CutFiles, MemFiles, MemSink};
+use cord_run::{End, FaultKind};
 use cord_script::Refusal;
 use std::process::Abort;
 
@@ -81,12 +81,7 @@ fn ended(
     sink: &mut MemSink,
 ) -> Result<End, Refusal> {
     let files = CutFiles::new(file_of(rt, len), seen);
-    assert!(rt; sink.failures() == 0);
-    if is_planned {
-        run_text(rt.alloc(), script, files, sink).0
-    } else {
-        run_unplanned(rt.alloc(), script, files, sink).0
-    }
+    run_way(rt, script, files, sink, is_planned).0
 }
 
 // That the length of a file of 5 bytes is written, by the plan of a script or without one.

@@ -3,31 +3,22 @@ ghost use Rattle.std.specs.Prelude.{◌≡◌, ◌<◌, length};
 
 use super::refusals::REFUSALS;
 use super::rows::{BLOCKS, CORDS, EC_GOES_ON, FAULTS, SEARCHES};
-use super::{lines, numbered, substrings};
-use cord_io::{FuseSink, MemFiles, MemSink, Sink};
-use cord_run::{End, run_text};
+use super::{line_and, lines, numbered, run_way, substrings};
+use cord_io::{FuseSink, MemSink, Sink};
+use cord_run::End;
 use std::process::Abort;
-
-// The files "p" of one line and "big" of these bytes.
-fn two_files(rt: &(impl AllocGlobal + Abort), big: &[u8]) -> MemFiles {
-    let alloc = rt.alloc();
-    let mut files = MemFiles::new(alloc);
-    files.add(alloc, "p", b"line\n").expect(rt, "no memory");
-    files.add(alloc, "big", big).expect(rt, "no memory");
-    files
-}
 
 // Runs a script that is refused, over a sink that fails at each call: no finish is called.
 fn run_refused(rt: &(impl AllocGlobal + Abort), script: &[u8], big: &[u8]) {
     let mut failing = FuseSink::new(MemSink::new(rt.alloc()), 0, 1);
-    let (_, _) = run_text(rt.alloc(), script, two_files(rt, big), &mut failing);
+    let (_, _) = run_way(rt, script, line_and(rt, "big", big), &mut failing, true);
     assert!(rt; failing.failures() == 0);
 }
 
 // Runs a script; where it is refused nothing is written and no finish is called, and else it is done or has a fault.
 fn run_any(rt: &(impl AllocGlobal + Abort), script: &[u8], big: &[u8]) {
     let mut sink = MemSink::new(rt.alloc());
-    match run_text(rt.alloc(), script, two_files(rt, big), &mut sink).0 {
+    match run_way(rt, script, line_and(rt, "big", big), &mut sink, true).0 {
         Ok(end) => assert!(rt; matches!(end, End::Done | End::Fault(..))),
         Err(_) => {
             assert!(rt; sink.bytes().is_empty());
