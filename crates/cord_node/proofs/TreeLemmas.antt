@@ -10,8 +10,7 @@ use Rattle.cord_node.specs.declared.Node.TheVariants.{Leaf, Run, Func, Cat'}
 use Rattle.cord_io.specs.declared.TheConstants.{MAX_LEN}
 use Rattle.cord_node.specs.Tree.{Cell, known, held_by, cells, len_of, depth_of, true_len, true_depth, IsSound}
 use Rattle.cord_node.specs.Kept.{Part, leaf_part, run_part, func_part, parts}
-use Rattle.cord_node.proofs.KeptLemmas.{Kept_same}
-use Rattle.cord_node.proofs.Ranges.{range_whole, range_of_range, drop-range_with_len, take-range_with_len, range_left, range_right, range_both}
+use Rattle.cord_node.proofs.Ranges.{range_of_range, drop-range_with_len, take-range_with_len}
 
 -- a node stores the length of its text
 pub length-cells : (n : Node) → IsSound n → length (cells n) ≡ len_of n
@@ -35,9 +34,6 @@ pub range_of_func : (f : ℕ → Cell) (start len from count : ℕ) → from + c
 range_of_func f start len from count h =
     let k : count ≤ len - from = omega arith in
     sym (rw (drop-map, take-map, drop-range_with_len start len from, take-range_with_len (start + from) (len - from) count k) refl)
-
--- for a cut: where the text of a range of a node comes from
-pub ruleset ranges = (range_whole, range_of_leaf, range_of_run, range_of_func, range_left, range_right, range_both, length-cells, Kept_same)
 
 -- what a node stores is within the limits
 pub len_limit : (n : Node) → IsSound n → len_of n ≤ MAX_LEN

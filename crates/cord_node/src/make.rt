@@ -23,8 +23,7 @@ pub fn leaf_range(
     requires fits { len ≤ MAX_LEN }
     ensures form { IfOk result (λ node. node.value ≡ Node.Leaf bytes start len (leaf_part (rc_slice_items bytes) start len ∷ [])) }
 {
-    let range = (start, len);
-    let mark = Mark::new(&bytes, &range);
+    let mark = Mark::new(&bytes, &(start, len));
     let node = Rc::new(
         alloc,
         Node::Leaf {

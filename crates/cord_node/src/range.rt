@@ -10,7 +10,6 @@ use std::rc::Rc;
 
 /// The `count` bytes from `from` on, at least one: whole sides and the bytes of leaves are shared, and
 /// a new concatenation is made only where the range goes over the seam of one. Refused where memory was refused.
-#[tactic(auto, using(crate::proofs::TreeLemmas::ranges))]
 pub fn sub_node(
     alloc: Global,
     node: &Rc<Node>,
