@@ -14,6 +14,7 @@ mod opened;
 mod reader;
 mod reading;
 mod sources;
+mod span;
 mod standard;
 mod tally;
 mod trace;

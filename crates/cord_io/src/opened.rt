@@ -7,17 +7,12 @@ ghost use Rattle.cord_io.specs.Given.{IsAhead};
 
 use crate::memory::copy_from;
 use crate::reader::Reader;
+use crate::span::Span;
 use std::alloc::Global;
 use std::io::{self, Read, Seek};
 
-// How many bytes the machine is asked for where a file is read on: first these, and then twice as many each time, up to
-// the greatest count. So the rest of a short range costs no long read.
-const FIRST_AHEAD: usize = 4_096;
-
-const MAX_AHEAD: usize = 65_536;
-
-// A file of the machine that was opened, with its length. The first `count` of `bytes` are those that the machine gave
-// of it ahead, from `start` on. The next time it is asked for `next_ahead` of them.
+// A file of the machine that was opened, with its length, and the span of it that is read. The first `count` of `bytes`
+// are those that the machine gave of it ahead, from `start` on.
 #[derive(Drop)]
 pub(crate) struct OpenedFile<F> {
     pub(crate) reader: Reader<F>,
@@ -25,7 +20,7 @@ pub(crate) struct OpenedFile<F> {
     bytes: Vec<u8>,
     start: u64,
     count: usize,
-    next_ahead: usize,
+    span: Span,
     ghost ahead: { IsAhead reader.given.told (string_bytes reader.path) start count bytes.items },
 }
 
@@ -42,7 +37,7 @@ impl<F: Read + Seek> OpenedFile<F> {
             bytes: Vec::new(alloc),
             start: 0,
             count: 0,
-            next_ahead: FIRST_AHEAD,
+            span: Span::new(),
         }
     }
 
@@ -57,14 +52,18 @@ impl<F: Read + Seek> OpenedFile<F> {
         ensures bytes { (folder : Folder) → Agrees folder self.new.reader.given.told → IfOk result (λ k.
             take k out.new ≡ take k (drop start (bytes_at folder (string_bytes self.old.reader.path)))) }
     {
-        match self.take_ahead(alloc, start, out) {
-            Some(count) => Ok(count),
-            None => self.reader.ask(start, out),
+        self.span.turn_to(start);
+        if let Some(count) = self.take_ahead(alloc, start, out) {
+            self.span.grow(count);
+            return Ok(count);
         }
+        let count = self.reader.ask(start, out)?;
+        self.span.grow(count);
+        Ok(count)
     }
 
-    // Gives bytes that were read ahead, from a place on. Where there are none, and reading goes on there from where the
-    // machine's last read ended, it reads ahead.
+    // Gives bytes that were read ahead, from a place on. Where there are none, and more are worth asking for than are
+    // asked for, it reads ahead.
     fn take_ahead(&mut self, alloc: Global, start: u64, out: &mut [u8]) -> Option<usize>
         requires room { 0 < length out.old }
         ensures some { IfSome result (λ k. (0 < k) × (k ≤ length out.new)) }
@@ -78,15 +77,14 @@ impl<F: Read + Seek> OpenedFile<F> {
         if let Some(count) = self.copy_ahead(start, out) {
             return Some(count);
         }
-        if !self.reader.stands_at(start) {
-            self.next_ahead = FIRST_AHEAD;
-            return None;
-        }
-        let wanted = self.len.saturating_sub(start).min(self.next_ahead as u64) as usize;
+        let wanted = self
+            .len
+            .saturating_sub(start)
+            .min(self.span.wanted() as u64) as usize;
         if wanted <= out.len() {
             return None;
         }
-        self.next_ahead = self.next_ahead.saturating_mul(2).min(MAX_AHEAD);
+        self.span.ask();
         self.read_ahead(alloc, start, wanted);
         self.copy_ahead(start, out)
     }

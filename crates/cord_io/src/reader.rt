@@ -32,11 +32,6 @@ impl<F: Read + Seek> Reader<F> {
         }
     }
 
-    // Whether a read from a place on needs no seek.
-    pub(crate) fn stands_at(&self, place: u64) -> bool {
-        self.place == Some(place)
-    }
-
     // Asks the machine for bytes from a place on, of which it gives at least one.
     pub(crate) fn ask(&mut self, start: u64, out: &mut [u8]) -> io::Result<usize>
         ensures some { IfOk result (λ k. (0 < k) × (k ≤ length out.new)) }

@@ -240,7 +240,8 @@ fn reads_two_files_ahead(rt: HostRuntime) {
     read_in_turn(&rt, &mut DiskFiles::new(machine, rt.alloc()));
 }
 
-// A read elsewhere, and one of all that is left, are read as they are, in one call: where it fails they fail.
+// A read elsewhere, no shorter than what was read in order before, and one of all that is left are read as they are, in
+// one call: where it fails they fail.
 #[test]
 fn reads_elsewhere_as_they_are(rt: HostRuntime) {
     let machine = Machine {
@@ -254,6 +255,23 @@ fn reads_elsewhere_as_they_are(rt: HostRuntime) {
         Failures(0),
         Fault(4),
         Failures(1),
+    ];
+    expect_asked(&rt, rt.alloc(), machine, &asks);
+}
+
+// A read elsewhere asks for as many bytes as were read in order before, so what follows there takes no call.
+#[test]
+fn reads_a_range_elsewhere_in_one_call(rt: HostRuntime) {
+    let machine = Machine {
+        trouble: Trouble::Nothing,
+        seeks: 3,
+        reads: 2,
+    };
+    let asks = [
+        Reads(0, 5, b"01234"),
+        Reads(6, 2, b"67"),
+        Reads(8, 2, b"89"),
+        Failures(0),
     ];
     expect_asked(&rt, rt.alloc(), machine, &asks);
 }
