@@ -24,8 +24,8 @@ impl Span {
         }
     }
 
-    // Reading goes on at a place. Where the span doesn't end there, another one begins, of which as many bytes are asked
-    // for at first as were read of the last one: so ranges of one length are read by one call each.
+    // Reading goes on at a place. Where the span doesn't end there, another one begins, of which as many bytes are
+    // asked for at first as were read of the last one: so ranges of one length are read by one call each.
     pub(crate) fn turn_to(&mut self, place: u64) {
         if self.to != place {
             self.ahead = self.to.saturating_sub(self.from).min(MAX_AHEAD as u64) as usize;
