@@ -6,6 +6,7 @@ ghost use Rattle.cord_file.specs.Blocks.{HeapBlock, Entry, IsBlock};
 use crate::reading::read_range;
 use cord_io::{FileNo, Files, MAX_LEN, ReadFault};
 use lru::LruCache;
+use std::alloc::{AllocFailed, Global};
 
 // The length of a block in bytes, but for the last one of a file, which may be shorter.
 pub(crate) const BLOCK: usize = 512;
@@ -22,6 +23,9 @@ pub(crate) struct BlockKey {
 
 // A block on the heap, so that it isn't copied where the cache moves it.
 pub(crate) type Block = Box<[u8; BLOCK]>;
+
+// A kept block and its key.
+type KeptBlock = (BlockKey, Block);
 
 // Kept blocks. A new one takes the place of the one used least recently.
 pub(crate) type Blocks = LruCache<BlockKey, Block>;
@@ -48,17 +52,11 @@ pub(crate) fn read_block<F: Files>(
     read_range(files, no, start, &mut block[..size])
 }
 
-// Room for one more block: that of the block used least recently where as many are kept as may be, and else a new one.
-// None where no memory is found for it.
-pub(crate) fn room_in(cache: &mut Blocks) -> Option<Block>
-    ensures { (e : Entry) → Contains cache.new.entries e → Contains cache.old.entries e }
-{
-    if cache.len() < MAX_BLOCKS {
-        return Box::new(*cache.allocator(), [0; BLOCK]).ok();
-    }
-    match cache.pop_lru() {
-        Some((_, block)) => Some(block),
-        None => None,
+// Room for one more block: that of the one that is spare, and else a new one. None where no memory is found for it.
+pub(crate) fn room_for(spare: &mut Option<Block>, alloc: Global) -> Option<Block> {
+    match spare.take() {
+        Some(block) => Some(block),
+        None => Box::new(alloc, [0; BLOCK]).ok(),
     }
 }
 
@@ -97,10 +95,22 @@ pub(crate) fn copy_kept(cache: &mut Blocks, key: BlockKey, from: usize, out: &mu
     }
 }
 
-// Keeps a block, where memory is found for it.
-pub(crate) fn keep(cache: &mut Blocks, key: BlockKey, block: Block)
+// Which block isn't kept after one was put among them: the one that it took the place of, or itself.
+fn spare_after(put: Result<Option<KeptBlock>, AllocFailed<KeptBlock>>) -> Option<Block> {
+    match put {
+        Ok(None) => None,
+        Ok(Some((_, block))) => Some(block),
+        Err(refused) => {
+            let (_, block) = refused.value;
+            Some(block)
+        }
+    }
+}
+
+// Keeps a block, where memory is found for it, and gives back the one that isn't kept any more.
+pub(crate) fn keep(cache: &mut Blocks, key: BlockKey, block: Block) -> Option<Block>
     ensures { (e : Entry) → Contains cache.new.entries e →
         Contains cache.old.entries e ⊎ (e ≡ (key, block)) }
 {
-    let _ = cache.put(key, block);
+    spare_after(cache.push(key, block))
 }

@@ -5,7 +5,7 @@ ghost use Rattle.cord_file.specs.Blocks.{AreRead};
 ghost use Rattle.cord_file.specs.declared.blocks.TheConstants.{BLOCK};
 
 use crate::Sources;
-use crate::blocks::{BLOCK, BlockKey, MAX_BLOCKS, copy_kept, keep, read_block, room_in};
+use crate::blocks::{BLOCK, BlockKey, MAX_BLOCKS, copy_kept, keep, read_block, room_for};
 use cord_io::{FileNo, Files, MAX_LEN, ReadFault};
 
 // Fills `out` with the bytes of an opened file from a place on. The range lies inside the file.
@@ -134,13 +134,13 @@ impl<F: Files> Sources<F> {
         if copy_kept(&mut self.cache, key, from, out) {
             return Ok(());
         }
-        let Some(mut block) = room_in(&mut self.cache) else {
+        let Some(mut block) = room_for(&mut self.spare, *self.cache.allocator()) else {
             return self.read_unkept(place, start, out);
         };
         let file = &self.entries[place];
         read_block(&mut self.files, file.no, file.len, number, &mut block)?;
         out.copy_from_slice(&block[from..from + out.len()]);
-        keep(&mut self.cache, key, block);
+        self.spare = keep(&mut self.cache, key, block);
         Ok(())
     }
 

@@ -4,7 +4,7 @@ ghost use Rattle.cord_io.specs.Device.{Folder, count_after};
 ghost use Rattle.cord_file.specs.declared.TheConstants.{MAX_FILES};
 ghost use Rattle.cord_file.specs.Soundness.{IsSound};
 
-use crate::blocks::{Blocks, MAX_BLOCKS};
+use crate::blocks::{Block, Blocks, MAX_BLOCKS};
 use crate::files::OpenFile;
 use crate::functions::fill;
 use cord_io::{CordError, Files, MAX_LEN, ReadFault, Source, SourceId};
@@ -22,6 +22,7 @@ pub struct Sources<F: Files> {
     pub(crate) files: F,
     pub(crate) entries: Vec<OpenFile>,
     pub(crate) cache: Blocks,
+    pub(crate) spare: Option<Block>,
     ghost few: { vec_len entries ≤ MAX_FILES },
     ghost sound: { IsSound (F.keeps files) (F.opened files) entries.items cache.entries },
 }
@@ -45,6 +46,7 @@ impl<F: Files> Sources<F> {
             files,
             entries,
             cache,
+            spare: None,
         })
     }
 
@@ -56,6 +58,7 @@ impl<F: Files> Sources<F> {
             files,
             entries: _,
             cache: _,
+            spare: _,
         } = self;
         files
     }

@@ -62,10 +62,10 @@ pub invariant_of-self-in-Break-1 : goal.invariant_of-self-in-Break-1
 invariant_of-self-in-Break-1 g c =
     let self = c.args.self.now in
     let files = self.entries.items in
-    let sound : IsSound (g.F.Files.keeps self.files) (g.F.Files.opened self.files) files c.room_in.new.cache.entries = sound_keeping (g.F.Files.keeps self.files) (g.F.Files.opened self.files) files self.cache.entries c.room_in.new.cache.entries (λ e h. self.sound.kept e (c.copy_kept.ensures.kept e (c.room_in.ensures e h))) self.sound in
+    let sound : IsSound (g.F.Files.keeps self.files) (g.F.Files.opened self.files) files c.copy_kept.new.cache.entries = sound_keeping (g.F.Files.keeps self.files) (g.F.Files.opened self.files) files self.cache.entries c.copy_kept.new.cache.entries (λ e h. self.sound.kept e (c.copy_kept.ensures.kept e h)) self.sound in
     record {
       few = self.few;
-      sound = sound_moved (g.F.Files.keeps self.files) (g.F.Files.keeps c.read_block.new.files) (g.F.Files.opened self.files) (g.F.Files.opened c.read_block.new.files) files c.room_in.new.cache.entries c.read_block.ensures.earlier (λ n h. c.read_block.ensures.opened n) sound;
+      sound = sound_moved (g.F.Files.keeps self.files) (g.F.Files.keeps c.read_block.new.files) (g.F.Files.opened self.files) (g.F.Files.opened c.read_block.new.files) files c.copy_kept.new.cache.entries c.read_block.ensures.earlier (λ n h. c.read_block.ensures.opened n) sound;
     }
 
 pub invariant_of-self-2-clause-sound : goal.invariant_of-self-2-clause-sound
@@ -78,8 +78,8 @@ invariant_of-self-2-clause-sound g c =
     let key : BlockKey = record { place = c.args.place; number = c.args.start / BLOCK } in
     let block : HeapBlock = with_value c.in-Some.block c.read_block.new.block in
     let kept : IsKept (g.F.Files.keeps c.read_block.new.files) files (key, block) = kept_of_read (g.F.Files.keeps c.read_block.new.files) (g.F.Files.opened self.files file.no.0) files key file block here (self.sound.handed_out c.args.place file here) c.in_ok-read_block.ensures.block in
-    let before : AreKept (g.F.Files.keeps c.read_block.new.files) files c.room_in.new.cache.entries = kept_earlier (g.F.Files.keeps self.files) (g.F.Files.keeps c.read_block.new.files) files c.room_in.new.cache.entries c.read_block.ensures.earlier (λ e h. self.sound.kept e (c.copy_kept.ensures.kept e (c.room_in.ensures e h))) in
-    let all : AreKept (g.F.Files.keeps c.read_block.new.files) files c.keep.new.cache.entries = kept_with (g.F.Files.keeps c.read_block.new.files) files c.room_in.new.cache.entries c.keep.new.cache.entries (key, block) before kept c.keep.ensures in
+    let before : AreKept (g.F.Files.keeps c.read_block.new.files) files c.copy_kept.new.cache.entries = kept_earlier (g.F.Files.keeps self.files) (g.F.Files.keeps c.read_block.new.files) files c.copy_kept.new.cache.entries c.read_block.ensures.earlier (λ e h. self.sound.kept e (c.copy_kept.ensures.kept e h)) in
+    let all : AreKept (g.F.Files.keeps c.read_block.new.files) files c.keep.new.cache.entries = kept_with (g.F.Files.keeps c.read_block.new.files) files c.copy_kept.new.cache.entries c.keep.new.cache.entries (key, block) before kept c.keep.ensures in
     sound_keeping (g.F.Files.keeps c.read_block.new.files) (g.F.Files.opened c.read_block.new.files) files self.cache.entries c.keep.new.cache.entries all
     (sound_moved (g.F.Files.keeps self.files) (g.F.Files.keeps c.read_block.new.files) (g.F.Files.opened self.files) (g.F.Files.opened c.read_block.new.files) files self.cache.entries c.read_block.ensures.earlier (λ n h. c.read_block.ensures.opened n) self.sound)
 
@@ -103,4 +103,4 @@ returns-clause-bytes g c = λ folder is.
 pub invariant_of-self-in_default-clause-sound : goal.invariant_of-self-in_default-clause-sound
 invariant_of-self-in_default-clause-sound g c =
     let self = c.args.self.now in
-    sound_keeping (g.F.Files.keeps self.files) (g.F.Files.opened self.files) self.entries.items self.cache.entries c.room_in.new.cache.entries (λ e h. self.sound.kept e (c.copy_kept.ensures.kept e (c.room_in.ensures e h))) self.sound
+    sound_keeping (g.F.Files.keeps self.files) (g.F.Files.opened self.files) self.entries.items self.cache.entries c.copy_kept.new.cache.entries (λ e h. self.sound.kept e (c.copy_kept.ensures.kept e h)) self.sound
