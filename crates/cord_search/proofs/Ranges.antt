@@ -165,6 +165,10 @@ pub func_part : (t : Table) (s : Stretch) (xs : List ℕ) (id start len from i :
 func_part t s xs id start len from i e f h is =
     is ∙ ap (λ (m : ℕ). take (length xs) (drop m (t id))) f ∙ sym (range_of_range (t id) i (length xs) start len h) ∙ ap (λ (ys : List ℕ). take (length xs) (drop i ys)) (sym (e t))
 
+-- the first bytes of a leaf
+pub leaf_part : (t : Table) (s : Stretch) (xs ys : List ℕ) (n : ℕ) → ((t : Table) → stretch_bytes t s ≡ ys) → xs ≡ take n ys → IsPartOf t s 0 xs
+leaf_part t s xs ys n e is = own_range xs (stretch_bytes t s) n (is ∙ ap (λ (zs : List ℕ). take n zs) (sym (e t)))
+
 -- the whole of a stretch
 pub whole_part : (t : Table) (s : Stretch) (xs : List ℕ) (i : ℕ) → ((t : Table) → stretch_bytes t s ≡ xs) → i ≡ 0 → IsPartOf t s i xs
 whole_part t s xs i e z = sym (take_all (length xs) xs (omega arith)) ∙ ap (λ (j : ℕ). take (length xs) (drop j xs)) (sym z) ∙ ap (λ (ys : List ℕ). take (length xs) (drop i ys)) (sym (e t))

@@ -1,39 +1,39 @@
 -- Places of a text in another, by windows.
-use Rattle.std.proofs.Common.{◌≡◌, ◌≢◌, ℕ, ◌+◌, ◌-◌, ◌<◌, ◌≤◌, Bool, true, false, List, [], ◌∷◌, ◌++◌, length, take, drop, get_or, None, Some, refl, sym, ◌∙◌, ap, subst, arith, ⊎_elim, eq-eqb, length-drop, length-append}
-use Rattle.std.specs.Prelude.{Option, nat_eq, ◌&&◌}
+use Rattle.std.proofs.Common.{◌≡◌, ℕ, ◌+◌, ◌-◌, ◌<◌, ◌≤◌, true, false, List, [], ◌∷◌, ◌++◌, length, take, drop, get_or, None, Some, refl, sym, ◌∙◌, ap, subst, arith, ⊎_elim, append_assoc, length-drop, length-append}
+use Rattle.std.specs.Prelude.{Option}
 use Rattle.std.specs.Ordering.{nat_cmp}
-use Rattle.std.specs.Cmp.Lexicographic.{slice_cmp, pointwise}
+use Rattle.std.specs.Cmp.Lexicographic.{slice_cmp}
 use Rattle.std.specs.declared.cmp.Ordering.{Ordering}
 use Rattle.std.specs.declared.cmp.Ordering.TheVariants.{Equal}
 use Rattle.std.proofs.Math.Seq.{take-add}
 use borrow.Rule.Slice.PartMut.{put_mid, post_of}
 use Rattle.std.proofs.lemmas.Bool.{cases_lt}
 use Rattle.std.proofs.lemmas.Slice.{take-put_mid}
-use Rattle.std.proofs.lemmas.List.{get_or-drop, get_or_append_left, take_rest, take-take, take-append-le, drop-drop, length-take, length-take-le, take_all, take_at, take-append-drop}
+use Rattle.std.proofs.lemmas.List.{get_or-drop, get_or_append_left, length-take-le, take_all, take_at, take-append-drop}
 use Rattle.memchr.specs.Find.{Nowhere, NoneBefore, OccursAt, FindsNeedle}
+use Rattle.memchr.proofs.lemmas.MatchLemmas.{OccursAt-split}
 use Rattle.cord_io.specs.Table.{Table, Lengths, HasLengths}
 use Rattle.cord_node.specs.declared.Node.{Node}
 use Rattle.cord_core.specs.Cord.{text_len, bytes_of, IsCord, CordFitsIn}
-use Rattle.cord_core.specs.Texts.{StandsAt, first}
-use Rattle.cord_iter.proofs.Walks.{range_rest}
+use Rattle.cord_core.specs.Texts.{StandsAt, first, IsFirst}
+use Rattle.cord_core.proofs.Searches.{first_is_least}
 use Rattle.cord_search.specs.Pieces.{IsPieceOf, IsFilled, IsOrderOf, IsStanding, StandsNot}
 use Rattle.cord_search.specs.Stretches.{stretch_len, stretch_bytes, IsStretchOf, IsMisfit, DoesNotFit}
 use Rattle.cord_search.specs.declared.stretches.Stretch.{Stretch}
 use Rattle.cord_search.proofs.Ranges.{cord_told, cord_len}
-use Rattle.cord_search.proofs.Finding.{range_at, first_only}
+use Rattle.cord_search.proofs.Finding.{range_at, range_inside, first_only}
 use Rattle.cord_search.proofs.Comparing.{cmp_same, cmp_equal, piece_front}
 
--- a piece was copied behind what was filled
-pub filled_on : (t : Table) (c : Option Node) (place done k n : ℕ) (out piece part : List ℕ) → IsFilled t c place done out → IsPieceOf t c (place + done) piece → n ≤ length piece → done ≤ length out → part ≡ take n piece → IsFilled t c place (done + n) (put_mid done k out part)
-filled_on t c place done k n out piece part h e p q is =
+-- bytes were copied behind what was filled
+pub filled_on : (t : Table) (c : Option Node) (place done k n : ℕ) (out part : List ℕ) → IsFilled t c place done out → IsPieceOf t c (place + done) part → length part ≡ n → done ≤ length out → IsFilled t c place (done + n) (put_mid done k out part)
+filled_on t c place done k n out part h e long q =
     let x = drop place (bytes_of t c) in
-    let long : length part ≡ n = ap (λ (ys : List ℕ). length ys) is ∙ length-take-le n piece p in
-    take-put_mid done k out part (done + n) (omega (arith, long)) q ∙ ap (λ (ys : List ℕ). ys ++ part) h ∙ ap (λ (ys : List ℕ). take done x ++ ys) (is ∙ piece_front (bytes_of t c) piece place done n e p) ∙ sym (take-add done n x)
+    let next : part ≡ take n (drop done x) = sym (take_all n part (omega (arith, long))) ∙ piece_front (bytes_of t c) part place done n e (omega (arith, long)) in
+    take-put_mid done k out part (done + n) (omega (arith, long)) q ∙ ap (λ (ys : List ℕ). ys ++ part) h ∙ ap (λ (ys : List ℕ). take done x ++ ys) next ∙ sym (take-add done n x)
 
--- and lies inside
-pub filled_inside : (done k n : ℕ) (out piece part : List ℕ) → n ≤ length piece → done ≤ length out → part ≡ take n piece → done + n ≤ length (put_mid done k out part)
-filled_inside done k n out piece part p q is =
-    let long : length part ≡ n = ap (λ (ys : List ℕ). length ys) is ∙ length-take-le n piece p in
+-- and lie inside
+pub filled_inside : (done k n : ℕ) (out part : List ℕ) → length part ≡ n → done ≤ length out → done + n ≤ length (put_mid done k out part)
+filled_inside done k n out part long q =
     let front : length (take done out) ≡ done = length-take-le done out q in
     omega (arith, long, front, length-append (take done out) (part ++ post_of done k out), length-append part (post_of done k out))
 
@@ -45,101 +45,104 @@ stands_inside x s q at = omega (arith, ap (λ (ys : List ℕ). length ys) at.her
 stands_get : (x s : List ℕ) (q j : ℕ) → StandsAt x s q → j < length s → get_or x (q + j) 0 ≡ get_or s j 0
 stands_get x s q j at lt = sym (get_or-drop q x j 0) ∙ ap (λ (ys : List ℕ). get_or ys j 0) at.here ∙ get_or_append_left s at.rest 0 j lt
 
--- the front of a text that stands in another occurs in a window that holds it
-occurs : (x s window head : List ℕ) (place q : ℕ) → window ≡ take (length window) (drop place x) → head ≡ take (length head) (drop 0 s) → place ≤ q → q + length head ≤ place + length window → StandsAt x s q → OccursAt window head (q - place)
-occurs x s window head place q e f from to at =
-    let short : length head ≤ length s = omega (arith, ap (λ (ys : List ℕ). length ys) f, length-take (length head) s) in
+-- a text that stands in another occurs in a window that holds it
+occurs : (x window head : List ℕ) (place q : ℕ) → window ≡ take (length window) (drop place x) → place ≤ q → q + length head ≤ place + length window → StandsAt x head q → OccursAt window head (q - place)
+occurs x window head place q e from to at =
     record {
       fits = omega arith;
       reads = λ j lt.
           let here : place + (q - place + j) ≡ q + j = omega arith in
-          let there : 0 + j ≡ j = omega arith in
-          range_at x window place (q - place + j) e (omega arith) ∙ ap (λ (k : ℕ). get_or x k 0) here ∙ stands_get x s q j at (omega arith) ∙ sym (range_at s head 0 j f lt ∙ ap (λ (k : ℕ). get_or s k 0) there);
+          range_at x window place (q - place + j) e (omega arith) ∙ ap (λ (k : ℕ). get_or x k 0) here ∙ stands_get x head q j at lt;
     }
 
-window_on : (t : Table) (x s : Option Node) (start place next m : ℕ) (window head : List ℕ) → Nowhere (OccursAt window head) 0 m → next ≤ place + m → next + length head ≤ place + length window + 1 → IsPieceOf t x place window → IsPieceOf t s 0 head → StandsNot t x s start place → StandsNot t x s start next
-window_on t x s start place next m window head h p q e f none =
-    λ k low to at. ⊎_elim (λ (lt : k < place). none k low lt at) (λ (le : place ≤ k). h (k - place) (omega arith) (omega arith) (occurs (bytes_of t x) (bytes_of t s) window head place k e f le (omega arith) at)) (cases_lt k place)
+-- and stands where it occurs in a window
+occurred : (x window head : List ℕ) (place k : ℕ) → 0 < length head → window ≡ take (length window) (drop place x) → OccursAt window head k → StandsAt x head (place + k)
+occurred x window head place k some e h =
+    let inside : place + length window ≤ length x = range_inside x window place e (omega (arith, some, h.fits)) in
+    let there : OccursAt x head (place + k) = record {
+      fits = omega (arith, inside, h.fits);
+      reads = λ j lt.
+          let here : place + k + j ≡ place + (k + j) = omega arith in
+          ap (λ (m : ℕ). get_or x m 0) here ∙ sym (range_at x window place (k + j) e (omega (arith, h.fits, lt))) ∙ h.reads j lt;
+    } in
+    record { within = omega (arith, there.fits); rest = drop (place + k + length head) x; here = OccursAt-split x head (place + k) there }
 
--- behind what was searched, a place where the bytes of a window are no front part of `head`
-no_overlap : (x s window head : List ℕ) (place searched q : ℕ) → window ≡ take (length window) (drop place x) → head ≡ take (length head) (drop 0 s) → searched + length head ≡ length window + 1 → place + searched ≤ q → q < place + length window → StandsAt x s q → drop (q - (place + searched)) (take (length window - searched) (drop searched window)) ≡ take (length (take (length window - searched) (drop searched window)) - (q - (place + searched))) head
-no_overlap x s window head place searched q e f long from to at =
-    let k = q - (place + searched) in
-    let m = length window - (searched + k) in
-    let whole : take (length window - searched) (drop searched window) ≡ drop searched window = take_rest window searched in
-    let left : length (take (length window - searched) (drop searched window)) - k ≡ m = omega (arith, ap (λ (ys : List ℕ). length ys) whole, length-drop searched window) in
-    let here : place + (searched + k) ≡ q = omega arith in
-    let short : length head ≤ length s = omega (arith, ap (λ (ys : List ℕ). length ys) f, length-take (length head) s) in
-    let bytes : drop (searched + k) window ≡ take m (drop (place + (searched + k)) x) = ap (λ (ys : List ℕ). drop (searched + k) ys) e ∙ sym (range_rest x place (length window) (searched + k) (omega arith)) in
-    let text : take m (drop q x) ≡ take m s = ap (λ (ys : List ℕ). take m ys) at.here ∙ take-append-le m s at.rest (omega (arith, short)) in
-    let front : take m head ≡ take m s = ap (λ (ys : List ℕ). take m ys) f ∙ take-take m (length head) s (omega arith) in
-    ap (λ (ys : List ℕ). drop k ys) whole ∙ drop-drop k searched window ∙ bytes ∙ ap (λ (n : ℕ). take m (drop n x)) here ∙ text ∙ sym front ∙ ap (λ (n : ℕ). take n head) (sym left)
+window_on : (t : Table) (x : Option Node) (start place next m : ℕ) (window head : List ℕ) → Nowhere (OccursAt window head) 0 m → next ≤ place + m → next + length head ≤ place + length window + 1 → IsPieceOf t x place window → StandsNot t x head start place → StandsNot t x head start next
+window_on t x start place next m window head h p q e none =
+    λ k low to at. ⊎_elim (λ (lt : k < place). none k low lt at) (λ (le : place ≤ k). h (k - place) (omega arith) (omega arith) (occurs (bytes_of t x) window head place k e le (omega arith) at)) (cases_lt k place)
 
--- one more place from which the bytes are no front part of `head`
-same_bytes : (xs : List ℕ) → pointwise nat_eq xs xs ≡ true
-same_bytes [] = refl
-same_bytes (b ∷ xs) = ap (λ (v : Bool). v && pointwise nat_eq xs xs) (eq-eqb b b refl) ∙ same_bytes xs
-
-pub overlap_on : (tail head : List ℕ) (p : ℕ) (r : Bool) → r ≡ pointwise nat_eq (take (length tail - p) (drop p tail)) (take (length tail - p) head) → r ≡ false → ((k : ℕ) → k < p → drop k tail ≢ take (length tail - k) head) → (k : ℕ) → k < p + 1 → drop k tail ≢ take (length tail - k) head
-overlap_on tail head p r is not h k lt same = ⊎_elim (λ (below : k < p). h k below same) (λ (at : p ≤ k). here (omega arith)) (cases_lt k p)
-  where
-    differ : false ≡ true → ⊥
-    differ e = cc
-
-    here : k ≡ p → ⊥
-    here e =
-        let there : drop p tail ≡ take (length tail - p) head = subst (λ (n : ℕ). drop n tail ≡ take (length tail - n) head) e same in
-        let whole : take (length tail - p) (drop p tail) ≡ take (length tail - p) head = take_rest tail p ∙ there in
-        differ (sym not ∙ is ∙ ap (λ (ys : List ℕ). pointwise nat_eq ys (take (length tail - p) head)) whole ∙ same_bytes (take (length tail - p) head))
-
--- the front doesn't occur in a window, and no front part of it from some place on to the end
-pub window_none : (t : Table) (x s : Option Node) (start place searched k : ℕ) (window head : List ℕ) (r : Option ℕ) → r ≡ None → FindsNeedle window head 0 r → searched + length head ≡ length window + 1 → k ≤ length (take (length window - searched) (drop searched window)) → ((j : ℕ) → j < k → drop j (take (length window - searched) (drop searched window)) ≢ take (length (take (length window - searched) (drop searched window)) - j) head) → IsPieceOf t x place window → IsPieceOf t s 0 head → StandsNot t x s start place → StandsNot t x s start (place + (searched + k))
-window_none t x s start place searched k window head r is h long inside over e f none =
+-- bytes that don't occur in a window stand at none of its places at which they would lie inside
+pub window_none : (t : Table) (x : Option Node) (start place : ℕ) (window head : List ℕ) (r : Option ℕ) → r ≡ None → FindsNeedle window head 0 r → length head ≤ length window → IsPieceOf t x place window → StandsNot t x head start place → StandsNot t x head start (place + (length window - length head + 1))
+window_none t x start place window head r is h enough e none =
     let nowhere : Nowhere (OccursAt window head) 0 (length window + 1) = rw is at h in
-    let rest : length (take (length window - searched) (drop searched window)) ≡ length window - searched = ap (λ (ys : List ℕ). length ys) (take_rest window searched) ∙ length-drop searched window in
-    let before : StandsNot t x s start (place + searched) = window_on t x s start place (place + searched) (length window + 1) window head nowhere (omega arith) (omega arith) e f none in
-    λ q low to at. ⊎_elim (λ (lt : q < place + searched). before q low lt at) (λ (le : place + searched ≤ q). over (q - (place + searched)) (omega arith) (no_overlap (bytes_of t x) (bytes_of t s) window head place searched q e f long le (omega (arith, rest, inside)) at)) (cases_lt q (place + searched))
+    window_on t x start place (place + (length window - length head + 1)) (length window + 1) window head nowhere (omega arith) (omega (arith, enough)) e none
 
--- or occurs first at a place of it
-pub window_some : (t : Table) (x s : Option Node) (start place k : ℕ) (window head : List ℕ) (r : Option ℕ) → r ≡ Some k → FindsNeedle window head 0 r → IsPieceOf t x place window → IsPieceOf t s 0 head → StandsNot t x s start place → StandsNot t x s start (place + k)
-window_some t x s start place k window head r is h e f none =
+-- or stand first where they occur first in it
+pub window_some : (t : Table) (x : Option Node) (start place k : ℕ) (window head : List ℕ) (r : Option ℕ) → r ≡ Some k → 0 < length head → FindsNeedle window head 0 r → start ≤ place → IsPieceOf t x place window → StandsNot t x head start place → Some (place + k) ≡ first (bytes_of t x) start head
+window_some t x start place k window head r is some h low e none =
     let here : NoneBefore (OccursAt window head) 0 (length window + 1) k × OccursAt window head k = rw is at h in
     let fits : k + length head ≤ length window = here.1.fits in
-    window_on t x s start place (place + k) k window head here.0.before (omega arith) (omega arith) e f none
+    let before = window_on t x start place (place + k) k window head here.0.before (omega arith) (omega arith) e none in
+    first_only (bytes_of t x) head start (Some (place + k)) (omega (arith, low), occurred (bytes_of t x) window head place k some e here.1, before)
 
--- it stands at none of the places that do not fit
-pub misfit_on : (ls : Lengths) (t : Table) (x s : Option Node) (start place n : ℕ) (stretch : Stretch) (head : List ℕ) → HasLengths ls t → IsCord x → CordFitsIn ls x → IsStretchOf x place stretch → IsMisfit stretch head n → IsPieceOf t s 0 head → StandsNot t x s start place → StandsNot t x s start (place + n)
-misfit_on ls t x s start place n stretch head told sound fits h misfit f none =
+-- they stand at none of the places that do not fit
+pub misfit_on : (ls : Lengths) (t : Table) (x : Option Node) (start place n : ℕ) (stretch : Stretch) (head : List ℕ) → HasLengths ls t → IsCord x → CordFitsIn ls x → IsStretchOf x place stretch → IsMisfit stretch head n → StandsNot t x head start place → StandsNot t x head start (place + n)
+misfit_on ls t x start place n stretch head told sound fits h misfit none =
     λ q low to at. ⊎_elim (λ (lt : q < place). none q low lt at) (λ (le : place ≤ q). differ q at le (misfit t (q - place) (omega arith))) (cases_lt q place)
   where
-    differ : (q : ℕ) → StandsAt (bytes_of t x) (bytes_of t s) q → place ≤ q → DoesNotFit t stretch head (q - place) → ⊥
+    differ : (q : ℕ) → StandsAt (bytes_of t x) head q → place ≤ q → DoesNotFit t stretch head (q - place) → ⊥
     differ q at le d =
         let xs = bytes_of t x in
-        let ss = bytes_of t s in
         let text = h.text t (cord_told ls t x told fits) in
         let long : length (stretch_bytes t stretch) ≡ stretch_len stretch = ap (λ (ys : List ℕ). length ys) text ∙ length-take-le (stretch_len stretch) (drop place xs) (omega (arith, h.inside, cord_len ls t x told sound fits, length-drop place xs)) in
         let range : stretch_bytes t stretch ≡ take (length (stretch_bytes t stretch)) (drop place xs) = text ∙ ap (λ (k : ℕ). take k (drop place xs)) (sym long) in
         let here : place + (q - place + d.at) ≡ q + d.at = omega (arith, le) in
-        let there : 0 + d.at ≡ d.at = omega arith in
-        let short : length head ≤ length ss = omega (arith, ap (λ (ys : List ℕ). length ys) f, length-take (length head) ss) in
-        d.differs (range_at xs (stretch_bytes t stretch) place (q - place + d.at) range (omega (arith, long, d.within)) ∙ ap (λ (k : ℕ). get_or xs k 0) here ∙ stands_get xs ss q d.at at (omega (arith, short, d.inside)) ∙ sym (range_at ss head 0 d.at f d.inside ∙ ap (λ (k : ℕ). get_or ss k 0) there))
+        d.differs (range_at xs (stretch_bytes t stretch) place (q - place + d.at) range (omega (arith, long, d.within)) ∙ ap (λ (k : ℕ). get_or xs k 0) here ∙ stands_get xs head q d.at at d.inside)
 
--- a place where it doesn't stand
-pub stands_on : (t : Table) (x s : Option Node) (start place : ℕ) → IsStanding t x place s false → StandsNot t x s start place → StandsNot t x s start (place + 1)
+-- a place where they don't stand
+pub stands_on : (t : Table) (x s : Option Node) (start place : ℕ) → IsStanding t x place s false → StandsNot t x (bytes_of t s) start place → StandsNot t x (bytes_of t s) start (place + 1)
 stands_on t x s start place h none =
     λ k low to at. ⊎_elim (λ (lt : k < place). none k low lt at) (λ (le : place ≤ k). let same : k ≡ place = omega arith in h (subst (λ (n : ℕ). StandsAt (bytes_of t x) (bytes_of t s) n) same at)) (cases_lt k place)
 
 -- the first place
-pub stands_first : (t : Table) (x s : Option Node) (start place : ℕ) → start ≤ place → IsStanding t x place s true → StandsNot t x s start place → Some place ≡ first (bytes_of t x) start (bytes_of t s)
+pub stands_first : (t : Table) (x s : Option Node) (start place : ℕ) → start ≤ place → IsStanding t x place s true → StandsNot t x (bytes_of t s) start place → Some place ≡ first (bytes_of t x) start (bytes_of t s)
 stands_first t x s start place low h none = first_only (bytes_of t x) (bytes_of t s) start (Some place) (low, h, none)
 
 -- no place is left
-pub stands_none : (t : Table) (x s : Option Node) (start place : ℕ) → text_len x < place + text_len s → length (bytes_of t x) ≡ text_len x → length (bytes_of t s) ≡ text_len s → StandsNot t x s start place → None ≡ first (bytes_of t x) start (bytes_of t s)
-stands_none t x s start place past p q none =
-    first_only (bytes_of t x) (bytes_of t s) start None (λ k low at. ⊎_elim (λ (lt : k < place). none k low lt at) (λ (le : place ≤ k). omega (arith, past, p, q, stands_inside (bytes_of t x) (bytes_of t s) k at)) (cases_lt k place))
+pub stands_none : (t : Table) (x : Option Node) (s : List ℕ) (start place : ℕ) → text_len x < place + length s → length (bytes_of t x) ≡ text_len x → StandsNot t x s start place → None ≡ first (bytes_of t x) start s
+stands_none t x s start place past p none =
+    first_only (bytes_of t x) s start None (λ k low at. ⊎_elim (λ (lt : k < place). none k low lt at) (λ (le : place ≤ k). omega (arith, past, p, stands_inside (bytes_of t x) s k at)) (cases_lt k place))
+
+-- the front of a text stands where the text stands
+front_stands : (x s head : List ℕ) (q : ℕ) → head ≡ take (length head) s → StandsAt x s q → StandsAt x head q
+front_stands x s head q f at = record {
+  within = at.within;
+  rest = drop (length head) s ++ at.rest;
+  here = at.here ∙ ap (λ (ys : List ℕ). ys ++ at.rest) (sym (take-append-drop (length head) s)) ∙ append_assoc (take (length head) s) (drop (length head) s) at.rest ∙ ap (λ (ys : List ℕ). ys ++ (drop (length head) s ++ at.rest)) (sym f);
+}
+
+-- a text stands at no place at which its front doesn't
+pub front_on : (t : Table) (x s : Option Node) (start place q : ℕ) (head : List ℕ) → Some q ≡ first (bytes_of t x) place head → IsPieceOf t s 0 head → StandsNot t x (bytes_of t s) start place → StandsNot t x (bytes_of t s) start q
+front_on t x s start place q head is f none =
+    let least : IsFirst (bytes_of t x) place head (Some q) = subst (λ (r : Option ℕ). IsFirst (bytes_of t x) place head r) (sym is) (first_is_least (bytes_of t x) head place) in
+    λ k low to at. ⊎_elim (λ (lt : k < place). none k low lt at) (λ (le : place ≤ k). least.2 k le to (front_stands (bytes_of t x) (bytes_of t s) head k f at)) (cases_lt k place)
+
+pub front_none : (t : Table) (x s : Option Node) (start place : ℕ) (head : List ℕ) → None ≡ first (bytes_of t x) place head → IsPieceOf t s 0 head → StandsNot t x (bytes_of t s) start place → None ≡ first (bytes_of t x) start (bytes_of t s)
+front_none t x s start place head is f none =
+    let least : IsFirst (bytes_of t x) place head None = subst (λ (r : Option ℕ). IsFirst (bytes_of t x) place head r) (sym is) (first_is_least (bytes_of t x) head place) in
+    first_only (bytes_of t x) (bytes_of t s) start None (λ k low at. ⊎_elim (λ (lt : k < place). none k low lt at) (λ (le : place ≤ k). least k le (front_stands (bytes_of t x) (bytes_of t s) head k f at)) (cases_lt k place))
+
+pub front_low : (x : List ℕ) (place q : ℕ) (head : List ℕ) → Some q ≡ first x place head → place ≤ q
+front_low x place q head is =
+    let least : IsFirst x place head (Some q) = subst (λ (r : Option ℕ). IsFirst x place head r) (sym is) (first_is_least x head place) in
+    least.0
+
+-- a text that was copied whole
+pub whole_text : (t : Table) (s : Option Node) (xs : List ℕ) → IsPieceOf t s 0 xs → length xs ≡ text_len s → length (bytes_of t s) ≡ text_len s → xs ≡ bytes_of t s
+whole_text t s xs e long len = e ∙ take_all (length xs) (bytes_of t s) (omega (arith, long, len))
 
 -- nothing was searched yet
-pub stands_start : (t : Table) (x s : Option Node) (start : ℕ) → StandsNot t x s start start
+pub stands_start : (t : Table) (x : Option Node) (s : List ℕ) (start : ℕ) → StandsNot t x s start start
 stands_start t x s start = λ k low to at. omega arith
 
 -- nothing stands at each place up to the end

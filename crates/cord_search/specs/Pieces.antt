@@ -27,9 +27,9 @@ abbrev pub IsStanding : Table → Option Node → ℕ → Option Node → Bool �
 IsStanding t x place s true = StandsAt (bytes_of t x) (bytes_of t s) place
 IsStanding t x place s false = StandsAt (bytes_of t x) (bytes_of t s) place → ⊥
 
--- the text of s stands in that of x at no place from i on and below j
-abbrev pub StandsNot : Table → Option Node → Option Node → ℕ → ℕ → Type 0
-StandsNot t x s i j = (q : ℕ) → i ≤ q → q < j → StandsAt (bytes_of t x) (bytes_of t s) q → ⊥
+-- the bytes stand in the text of x at no place from i on and below j
+abbrev pub StandsNot : Table → Option Node → List ℕ → ℕ → ℕ → Type 0
+StandsNot t x s i j = (q : ℕ) → i ≤ q → q < j → StandsAt (bytes_of t x) s q → ⊥
 
 -- the first n bytes from two places are the same
 abbrev pub AreSame : Table → Option Node → ℕ → Option Node → ℕ → ℕ → Type 0

@@ -13,5 +13,5 @@ pub use bytes::{chr, fetch, rchr};
 pub use order::{cmp, ncmp};
 pub use substring::str;
 
-/// The most bytes of a run or of a function part that are looked at together.
+/// The most bytes of a run or of a function part that are looked at together, but for the windows of `str`.
 pub(crate) const PIECE_LEN: usize = 512;

@@ -10,64 +10,19 @@ use crate::stretches::{Stretch, cord_stretch_at};
 use cord_core::Cord;
 use cord_io::{ReadFault, Source};
 
-// A piece of a cord's text that begins at a place: the rest of a leaf, or at most `PIECE_LEN` bytes of another part.
-pub(crate) fn cord_piece_at<'a, S: Source>(
-    cord: &'a Cord,
-    place: u64,
-    buffer: &'a mut [u8; PIECE_LEN],
-    src: &mut S,
-) -> Result<&'a [u8], ReadFault>
-    requires inside { place < text_len cord.now }
-    requires fits { CordFitsIn (S.lengths src.old) cord.now }
-    ensures some { IfOk result (λ piece. 0 < length piece.now) }
-    ensures inside { IfOk result (λ piece. place + length piece.now ≤ text_len cord.now) }
-    ensures text { (folder : Folder) → S.keeps src.new folder →
-        IfOk result (λ piece. IsPieceOf (S.table src.old folder) cord.now place piece.now) }
-    ensures count { S.failures src.new ≡ count_after (is_err result) (S.failures src.old) }
-    ensures lengths { S.lengths src.new ≡ S.lengths src.old }
-    ensures table { S.table src.new ≡ S.table src.old }
-    ensures earlier { (folder : Folder) → S.keeps src.new folder → S.keeps src.old folder }
-{
-    piece_of(cord, place, cord_stretch_at(cord, place), buffer, src)
-}
-
-// The same, where this stretch begins at the place.
-fn piece_of<'a, S: Source>(
-    cord: &Cord,
-    place: u64,
-    stretch: Stretch<'a>,
-    buffer: &'a mut [u8; PIECE_LEN],
-    src: &mut S,
-) -> Result<&'a [u8], ReadFault>
-    requires stretch { IsStretchOf cord.now place stretch }
-    requires fits { CordFitsIn (S.lengths src.old) cord.now }
-    ensures some { IfOk result (λ piece. 0 < length piece.now) }
-    ensures inside { IfOk result (λ piece. place + length piece.now ≤ text_len cord.now) }
-    ensures text { (folder : Folder) → S.keeps src.new folder →
-        IfOk result (λ piece. IsPieceOf (S.table src.old folder) cord.now place piece.now) }
-    ensures count { S.failures src.new ≡ count_after (is_err result) (S.failures src.old) }
-    ensures lengths { S.lengths src.new ≡ S.lengths src.old }
-    ensures table { S.table src.new ≡ S.table src.old }
-    ensures earlier { (folder : Folder) → S.keeps src.new folder → S.keeps src.old folder }
-{
-    let piece = first_piece(stretch, buffer, src)?;
-    Ok(piece)
-}
-
 // At least `count` bytes of a cord's text from a place on, which it has, where this stretch begins: the rest of a leaf where
-// that is enough, else what is left of the part and the next bytes, copied.
+// that is enough. Else they are copied, some times as many where there are, so that a search which goes on behind them
+// copies no byte often.
 pub(crate) fn window_at<'a, S: Source>(
     cord: &Cord,
     place: u64,
     stretch: Stretch<'a>,
     count: usize,
-    buffer: &'a mut [u8; PIECE_LEN],
-    seam: &'a mut [u8; 2 * PIECE_LEN],
+    room: &'a mut [u8],
     src: &mut S,
 ) -> Result<&'a [u8], ReadFault>
     requires stretch { IsStretchOf cord.now place stretch }
-    requires some { 0 < count }
-    requires most { count ≤ PIECE_LEN }
+    requires most { count ≤ length room.old }
     requires inside { place + count ≤ text_len cord.now }
     requires fits { CordFitsIn (S.lengths src.old) cord.now }
     ensures enough { IfOk result (λ window. count ≤ length window.now) }
@@ -79,12 +34,14 @@ pub(crate) fn window_at<'a, S: Source>(
     ensures table { S.table src.new ≡ S.table src.old }
     ensures earlier { (folder : Folder) → S.keeps src.new folder → S.keeps src.old folder }
 {
-    let piece = piece_of(cord, place, stretch, buffer, src)?;
-    if count <= piece.len() {
-        return Ok(piece);
+    if let Stretch::Bytes(bytes) = stretch {
+        if count <= bytes.len() {
+            return Ok(bytes);
+        }
     }
-    let left = cord.len() - place;
-    let window = &mut seam[..((piece.len() + count - 1) as u64).min(left) as usize];
+    let most = count.saturating_mul(4).max(PIECE_LEN).min(room.len());
+    let len = (most as u64).min(cord.len() - place);
+    let window = &mut room[..len as usize];
     gather(cord, place, window, src)?;
     Ok(window)
 }
@@ -106,15 +63,40 @@ pub(crate) fn gather<S: Source>(
     ensures table { S.table src.new ≡ S.table src.old }
     ensures earlier { (folder : Folder) → S.keeps src.new folder → S.keeps src.old folder }
 {
-    let mut buffer = [0; PIECE_LEN];
     let mut done = 0;
     while done < out.len() {
-        let piece = cord_piece_at(cord, place + done as u64, &mut buffer, src)?;
-        let count = piece.len().min(out.len() - done);
-        out[done..done + count].copy_from_slice(&piece[..count]);
+        let stretch = cord_stretch_at(cord, place + done as u64);
+        let count = stretch.len().min((out.len() - done) as u64) as usize;
+        copy_front(stretch, &mut out[done..done + count], src)?;
         done += count;
     }
     Ok(())
+}
+
+// Copies the first bytes of a stretch, which has as many.
+fn copy_front<S: Source>(stretch: Stretch, out: &mut [u8], src: &mut S) -> Result<(), ReadFault>
+    requires some { 0 < length out.old }
+    requires inside { length out.old ≤ stretch_len stretch }
+    requires fits { StretchFitsIn (S.lengths src.old) stretch }
+    ensures text { (folder : Folder) → S.keeps src.new folder →
+        OnOk result (IsPartOf (S.table src.old folder) stretch.entry 0 out.new) }
+    ensures count { S.failures src.new ≡ count_after (is_err result) (S.failures src.old) }
+    ensures lengths { S.lengths src.new ≡ S.lengths src.old }
+    ensures table { S.table src.new ≡ S.table src.old }
+    ensures earlier { (folder : Folder) → S.keeps src.new folder → S.keeps src.old folder }
+{
+    match stretch {
+        Stretch::Bytes(bytes) => {
+            let count = out.len();
+            out.copy_from_slice(&bytes[..count]);
+            Ok(())
+        }
+        Stretch::Run { byte, .. } => {
+            out.fill(byte);
+            Ok(())
+        }
+        Stretch::Func { id, start, .. } => src.read(id, start, out),
+    }
 }
 
 // The first bytes of a stretch: all of a leaf's, or at most `PIECE_LEN` of another part's.

@@ -1,18 +1,26 @@
 // The places of a text in another.
-ghost use Rattle.std.specs.Prelude.{◌≡◌, ◌≢◌, ℕ, ◌+◌, ◌-◌, ◌<◌, ◌≤◌, length, take, drop, true, false, is_err, IsOk, IfOk, IfErr};
+ghost use Rattle.std.specs.Prelude.{◌≡◌, ◌+◌, ◌<◌, ◌≤◌, length, true, false, is_err, IsOk, IfOk, IfErr, IfSome};
 ghost use Rattle.cord_io.specs.Device.{Folder, count_after};
 ghost use Rattle.cord_core.specs.Cord.{text_len, bytes_of, IsCord, CordFitsIn};
 ghost use Rattle.cord_core.specs.Texts.{first};
-ghost use Rattle.cord_search.specs.Pieces.{IsStanding};
+ghost use Rattle.cord_search.specs.Pieces.{IsPieceOf, IsStanding};
 
 use crate::PIECE_LEN;
 use crate::order::compare;
-use crate::pieces::{gather, piece_len, window_at};
+use crate::pieces::{gather, window_at};
 use crate::stretches::cord_stretch_at;
 use cord_core::Cord;
 use cord_io::{CordError, ReadFault, Source};
 use memchr::memmem::Finder;
 use std::cmp::Ordering;
+
+// Room for the windows in which a text of at most `PIECE_LEN` bytes is looked for.
+const ROOM_LEN: usize = 4 * PIECE_LEN;
+
+// A longer text is looked for by at most so many bytes, its first ones, in windows of `WINDOW_LEN`.
+const FRONT_LEN: usize = 16_384;
+
+const WINDOW_LEN: usize = 4 * FRONT_LEN;
 
 /// The first place of `x` at `start` or later where `s` stands, after `CORD_str` of `cord.h`. An empty `s` stands at
 /// each place up to the length of `x`. Each function part lies inside an entry of `src`. Refused with `ReadFailed`
@@ -68,53 +76,156 @@ fn first_place<S: Source>(
     ensures table { S.table src.new ≡ S.table src.old }
     ensures earlier { (folder : Folder) → S.keeps src.new folder → S.keeps src.old folder }
 {
+    let len = s.len();
+    if len <= PIECE_LEN as u64 {
+        place_of_short::<PIECE_LEN, ROOM_LEN, S>(x, start, s, src)
+    } else if len <= FRONT_LEN as u64 {
+        place_of_short::<FRONT_LEN, WINDOW_LEN, S>(x, start, s, src)
+    } else {
+        place_of_long(x, start, s, src)
+    }
+}
+
+// The same where the text that is looked for has at most `N` bytes. It stands apart, so that only who calls it has room for
+// them and for windows of `M` bytes on the stack.
+#[inline(never)]
+fn place_of_short<const N: usize, const M: usize, S: Source>(
+    x: &Cord,
+    start: u64,
+    s: &Cord,
+    src: &mut S,
+) -> Result<Option<u64>, ReadFault>
+    requires sound { IsCord x.now }
+    requires pattern_sound { IsCord s.now }
+    requires some { 0 < text_len s.now }
+    requires short { text_len s.now ≤ N }
+    requires room { N ≤ M }
+    requires few { M ≤ WINDOW_LEN }
+    requires fits { CordFitsIn (S.lengths src.old) x.now }
+    requires pattern_fits { CordFitsIn (S.lengths src.old) s.now }
+    ensures first { (folder : Folder) → S.keeps src.new folder → IfOk result (λ place.
+        place ≡ first (bytes_of (S.table src.old folder) x.now) start (bytes_of (S.table src.old folder) s.now)) }
+    ensures count { S.failures src.new ≡ count_after (is_err result) (S.failures src.old) }
+    ensures lengths { S.lengths src.new ≡ S.lengths src.old }
+    ensures table { S.table src.new ≡ S.table src.old }
+    ensures earlier { (folder : Folder) → S.keeps src.new folder → S.keeps src.old folder }
+{
+    let mut front = [0; N];
+    let pattern = &mut front[..s.len() as usize];
+    gather(s, 0, pattern, src)?;
+    let finder = Finder::new(pattern);
+    let mut room = [0; M];
+    let place = first_of(x, start, &finder, &mut room, src)?;
+    Ok(place)
+}
+
+// The same where it has more than `FRONT_LEN` bytes.
+#[inline(never)]
+fn place_of_long<S: Source>(
+    x: &Cord,
+    start: u64,
+    s: &Cord,
+    src: &mut S,
+) -> Result<Option<u64>, ReadFault>
+    requires sound { IsCord x.now }
+    requires pattern_sound { IsCord s.now }
+    requires long { FRONT_LEN ≤ text_len s.now }
+    requires inside { start + text_len s.now ≤ text_len x.now }
+    requires fits { CordFitsIn (S.lengths src.old) x.now }
+    requires pattern_fits { CordFitsIn (S.lengths src.old) s.now }
+    ensures first { (folder : Folder) → S.keeps src.new folder → IfOk result (λ place.
+        place ≡ first (bytes_of (S.table src.old folder) x.now) start (bytes_of (S.table src.old folder) s.now)) }
+    ensures count { S.failures src.new ≡ count_after (is_err result) (S.failures src.old) }
+    ensures lengths { S.lengths src.new ≡ S.lengths src.old }
+    ensures table { S.table src.new ≡ S.table src.old }
+    ensures earlier { (folder : Folder) → S.keeps src.new folder → S.keeps src.old folder }
+{
+    let mut front = [0; FRONT_LEN];
+    gather(s, 0, &mut front, src)?;
+    let finder = Finder::new(&front);
+    let mut room = [0; WINDOW_LEN];
+    let place = first_confirmed(x, start, s, &finder, &mut room, src)?;
+    Ok(place)
+}
+
+// The same, by the places of the text's front.
+fn first_confirmed<S: Source>(
+    x: &Cord,
+    start: u64,
+    s: &Cord,
+    front: &Finder,
+    room: &mut [u8],
+    src: &mut S,
+) -> Result<Option<u64>, ReadFault>
+    requires sound { IsCord x.now }
+    requires pattern_sound { IsCord s.now }
+    requires inside { start + text_len s.now ≤ text_len x.now }
+    requires some { 0 < length front.now }
+    requires room { length front.now ≤ length room.old }
+    requires front { (folder : Folder) → S.keeps src.old folder → IsPieceOf (S.table src.old folder) s.now 0 front.now }
+    requires fits { CordFitsIn (S.lengths src.old) x.now }
+    requires pattern_fits { CordFitsIn (S.lengths src.old) s.now }
+    ensures first { (folder : Folder) → S.keeps src.new folder → IfOk result (λ place.
+        place ≡ first (bytes_of (S.table src.old folder) x.now) start (bytes_of (S.table src.old folder) s.now)) }
+    ensures count { S.failures src.new ≡ count_after (is_err result) (S.failures src.old) }
+    ensures lengths { S.lengths src.new ≡ S.lengths src.old }
+    ensures table { S.table src.new ≡ S.table src.old }
+    ensures earlier { (folder : Folder) → S.keeps src.new folder → S.keeps src.old folder }
+{
     let last = x.len() - s.len();
-    let mut front = [0; PIECE_LEN];
-    let head = &mut front[..piece_len(s.len())];
-    gather(s, 0, head, src)?;
-    let finder = Finder::new(head);
-    let (mut buffer, mut seam) = ([0; PIECE_LEN], [0; 2 * PIECE_LEN]);
     let mut place = start;
     while place <= last {
+        let Some(found) = first_of(x, place, front, room, src)? else {
+            return Ok(None);
+        };
+        if last < found {
+            return Ok(None);
+        }
+        if stands_at(x, found, s, src)? {
+            return Ok(Some(found));
+        }
+        place = found + 1;
+    }
+    Ok(None)
+}
+
+// The first place of some bytes in a text, from a place on. A leaf is searched where it lies, as far as it goes on for their
+// length, and else a window of some times that length: so it takes linear time, whatever the parts are.
+fn first_of<S: Source>(
+    x: &Cord,
+    start: u64,
+    finder: &Finder,
+    room: &mut [u8],
+    src: &mut S,
+) -> Result<Option<u64>, ReadFault>
+    requires sound { IsCord x.now }
+    requires some { 0 < length finder.now }
+    requires room { length finder.now ≤ length room.old }
+    requires fits { CordFitsIn (S.lengths src.old) x.now }
+    ensures first { (folder : Folder) → S.keeps src.new folder → IfOk result (λ place.
+        place ≡ first (bytes_of (S.table src.old folder) x.now) start finder.now) }
+    ensures low { IfOk result (λ place. IfSome place (λ found. start ≤ found)) }
+    ensures count { S.failures src.new ≡ count_after (is_err result) (S.failures src.old) }
+    ensures lengths { S.lengths src.new ≡ S.lengths src.old }
+    ensures table { S.table src.new ≡ S.table src.old }
+    ensures earlier { (folder : Folder) → S.keeps src.new folder → S.keeps src.old folder }
+{
+    let head = finder.needle();
+    let mut place = start;
+    while lies_inside(place, head.len() as u64, x.len()) {
         let stretch = cord_stretch_at(x, place);
         let misfits = stretch.misfits(head);
         if 0 < misfits {
             place += misfits;
             continue;
         }
-        let window = window_at(x, place, stretch, head.len(), &mut buffer, &mut seam, src)?;
+        let window = window_at(x, place, stretch, head.len(), room, src)?;
         match finder.find(window) {
-            Some(found) => place += found as u64,
-            None => {
-                let searched = window.len() - head.len() + 1;
-                place += (searched + overlap(&window[searched..], head)) as u64;
-                continue;
-            }
+            Some(found) => return Ok(Some(place + found as u64)),
+            None => place += (window.len() - head.len() + 1) as u64,
         }
-        if last < place {
-            return Ok(None);
-        }
-        if stands_at(x, place, s, src)? {
-            return Ok(Some(place));
-        }
-        place += 1;
     }
     Ok(None)
-}
-
-// The first place of `tail` from which its bytes are the first ones of `head`, which is longer: the length of `tail`
-// where there is none.
-fn overlap(tail: &[u8], head: &[u8]) -> usize
-    requires { length tail.now < length head.now }
-    ensures inside { result ≤ length tail.now }
-    ensures none { (k : ℕ) → k < result → drop k tail.now ≢ take (length tail.now - k) head.now }
-{
-    for place in 0..tail.len() {
-        if tail[place..] == head[..tail.len() - place] {
-            return place;
-        }
-    }
-    tail.len()
 }
 
 // Whether a text stands in another at a place.

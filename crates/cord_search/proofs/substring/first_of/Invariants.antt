@@ -1,18 +1,19 @@
 use Rattle.std.proofs.Common.{◌≡◌, ◌+◌, ◌-◌, ◌≤◌}
 use Rattle.cord_io.specs.Device.{Folder}
+use Rattle.cord_core.specs.Cord.{text_len}
 use Rattle.cord_search.specs.Pieces.{StandsNot}
-use Rattle.cord_search.proofs.substring.first_place.Given as goal
+use Rattle.cord_search.proofs.substring.first_of.Given as goal
 
--- the text stands at no place before, and no read has failed
-abbrev pub invariant-loop-place : goal.invariant-loop-place
-invariant-loop-place g l = record {
+-- the bytes stand at no place before, and no read has failed
+abbrev pub invariant-loop-head : goal.invariant-loop-head
+invariant-loop-head g l = record {
   low : l.start ≤ l.place;
-  none : (folder : Folder) → g.S.Source.keeps l.src folder → StandsNot (g.S.Source.table l.initial.src folder) l.x l.s l.start l.place;
+  none : (folder : Folder) → g.S.Source.keeps l.src folder → StandsNot (g.S.Source.table l.initial.src folder) l.x l.finder l.start l.place;
   reads : g.S.Source.failures l.src ≡ g.S.Source.failures l.initial.src;
   lengths : g.S.Source.lengths l.src ≡ g.S.Source.lengths l.initial.src;
   table : g.S.Source.table l.src ≡ g.S.Source.table l.initial.src;
   earlier : (folder : Folder) → g.S.Source.keeps l.src folder → g.S.Source.keeps l.initial.src folder;
 }
 
-abbrev pub decreases-loop-place : goal.decreases-loop-place
-decreases-loop-place g l = l.last + 1 - l.place
+abbrev pub decreases-loop-head : goal.decreases-loop-head
+decreases-loop-head g l = text_len l.x + 1 - l.place
