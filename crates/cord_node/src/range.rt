@@ -1,12 +1,34 @@
 // A range of a node.
-ghost use Rattle.std.specs.Prelude.{◌≡◌, ◌+◌, ◌<◌, ◌≤◌, IfOk, take, drop};
-ghost use Rattle.cord_node.specs.Tree.{cells, len_of, depth_of, IsSound};
-ghost use Rattle.cord_node.specs.Kept.{parts, Kept};
+ghost use Rattle.std.specs.Prelude.{◌≡◌, ◌+◌, ◌<◌, ◌≤◌, [], ◌∷◌, IfOk, length, map, take, drop};
+ghost use Rattle.std.specs.Rc.{rc_slice_items};
+ghost use Rattle.cord_node.specs.Tree.{cells, known, len_of, depth_of, IsSound};
+ghost use Rattle.cord_node.specs.Kept.{parts, leaf_part, Kept};
 
 use crate::make::leaf_range;
 use crate::{Node, func, join, run};
+use cord_io::MAX_LEN;
 use std::alloc::{AllocError, Global};
-use std::rc::Rc;
+use std::rc::{Rc, RcSlice};
+
+// A part that is `len` of these bytes, from `start` on, which are shared.
+fn shared_range(
+    alloc: Global,
+    bytes: &RcSlice<u8>,
+    start: u64,
+    len: u64,
+) -> Result<Rc<Node>, AllocError>
+    requires not_empty { 0 < len }
+    requires inside { start + len ≤ length (rc_slice_items bytes.now) }
+    requires fits { len ≤ MAX_LEN }
+    ensures sound { IfOk result (λ node. IsSound node.value) }
+    ensures text { IfOk result (λ node. cells node.value ≡ map known (take len (drop start (rc_slice_items bytes.now)))) }
+    ensures part { IfOk result (λ node. parts node.value ≡ leaf_part (rc_slice_items bytes.now) start len ∷ []) }
+    ensures len { IfOk result (λ node. len_of node.value ≡ len) }
+    ensures depth { IfOk result (λ node. depth_of node.value ≡ 0) }
+{
+    let bytes = bytes.clone()?;
+    leaf_range(alloc, bytes, start, len)
+}
 
 /// The `count` bytes from `from` on, at least one: whole sides and the bytes of leaves are shared, and
 /// a new concatenation is made only where the range goes over the seam of one. Refused where memory was refused.
@@ -29,10 +51,7 @@ pub fn sub_node(
         return node.clone();
     }
     match node.as_ref() {
-        Node::Leaf { bytes, start, .. } => {
-            let bytes = bytes.clone()?;
-            leaf_range(alloc, bytes, *start + from, count)
-        }
+        Node::Leaf { bytes, start, .. } => shared_range(alloc, bytes, *start + from, count),
         Node::Run { byte, .. } => run(alloc, *byte, count),
         Node::Func { id, start, .. } => func(alloc, *id, *start + from, count),
         Node::Cat { left, right, .. } => {

@@ -15,3 +15,9 @@ returns-in_ok-node-in_default-clause-over c = join_over c.args.left.now.value c.
 
 pub returns-in_ok-node-in_default-clause-kept : goal.returns-in_ok-node-in_default-clause-kept
 returns-in_ok-node-in_default-clause-kept c = Kept_same _ _ c.in_ok-node-in_default.ensures.parts
+
+pub returns-in_ok-node-in-Some-Some-clause-form : goal.returns-in_ok-node-in-Some-Some-clause-form
+returns-in_ok-node-in-Some-Some-clause-form c = grind (arith, common_steps)
+
+pub returns-in_ok-node-in-Some-Some-clause-depth : goal.returns-in_ok-node-in-Some-Some-clause-depth
+returns-in_ok-node-in-Some-Some-clause-depth c = grind (arith, common_steps)

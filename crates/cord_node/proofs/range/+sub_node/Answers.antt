@@ -18,8 +18,8 @@ returns-in_ok-right-in-Cat-clause-kept t c = rw (← c.as_ref.ensures, c.in-Cat.
 pub returns-then-count-len-clause-text : goal.returns-then-count-len-clause-text
 returns-then-count-len-clause-text t c = grind (arith, common_steps, range_whole, length-cells)
 
-pub returns-in_ok-bytes-in-Leaf-clause-text : goal.returns-in_ok-bytes-in-Leaf-clause-text
-returns-in_ok-bytes-in-Leaf-clause-text t c = grind (arith, common_steps, range_of_leaf)
+pub returns-in-Leaf-clause-text : goal.returns-in-Leaf-clause-text
+returns-in-Leaf-clause-text t c = grind (arith, common_steps, range_of_leaf)
 
 pub returns-in-Run-clause-text : goal.returns-in-Run-clause-text
 returns-in-Run-clause-text t c = grind (arith, common_steps, range_of_run)
