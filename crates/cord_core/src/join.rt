@@ -1,7 +1,7 @@
 // Cords one after another.
-ghost use Rattle.std.specs.Prelude.{◌≡◌, ℕ, ◌+◌, ◌<◌, ◌≤◌, [], ◌∷◌, ◌++◌, IfOk, OnOk, IfErr, Err, length, map};
-ghost use Rattle.cord_node.specs.Tree.{known};
-ghost use Rattle.cord_node.specs.Kept.{Kept};
+ghost use Rattle.std.specs.Prelude.{◌≡◌, ℕ, ◌+◌, ◌<◌, ◌≤◌, [], ◌∷◌, ◌++◌, IfOk, OnOk, IfErr, Err, Some, length, map};
+ghost use Rattle.cord_node.specs.Tree.{cells, known, len_of, IsSound};
+ghost use Rattle.cord_node.specs.Kept.{parts, Kept};
 ghost use Rattle.cord_core.specs.Cord.{text, text_len, parts_of, IsCord, all_text, all_len, all_parts};
 ghost use Rattle.cord_core.specs.Depths.{HasCatDepth, IsCatWithBytes};
 ghost use Rattle.cord_core.specs.Equations.{IsCatOf, IsAppended, IsAllOf};
@@ -10,8 +10,28 @@ ghost use Rattle.cord_core.specs.Refusals.{IsRefusal};
 use crate::Cord;
 use cord_balance::balance_parts;
 use cord_io::{CordError, MAX_DEPTH, MAX_LEN};
-use cord_node::join;
-use std::alloc::Global;
+use cord_node::{Node, join};
+use std::alloc::{AllocError, Global};
+use std::rc::Rc;
+
+// Two trees joined, and balanced where the join would be deeper than `MAX_DEPTH`.
+fn joined(alloc: Global, left: &Rc<Node>, right: &Rc<Node>) -> Result<Rc<Node>, AllocError>
+    requires left_sound { IsSound left.now.value }
+    requires right_sound { IsSound right.now.value }
+    requires fits { len_of left.now.value + len_of right.now.value ≤ MAX_LEN }
+    ensures sound { IfOk result (λ node. IsSound node.value) }
+    ensures text { IfOk result (λ node. cells node.value ≡ cells left.now.value ++ cells right.now.value) }
+    ensures len { IfOk result (λ node. len_of node.value ≡ len_of left.now.value + len_of right.now.value) }
+    ensures depth { IfOk result (λ node. HasCatDepth (Some left.now.value) (Some right.now.value) (Some node.value)) }
+    ensures kept { IfOk result (λ node. Kept (parts left.now.value ++ parts right.now.value) (parts node.value)) }
+{
+    if left.depth().max(right.depth()) < MAX_DEPTH {
+        join(alloc, left, right)
+    } else {
+        let ropes = [left.clone()?, right.clone()?];
+        balance_parts(alloc, &ropes)
+    }
+}
 
 impl Cord {
     /// The text of `left` and then that of `right`, which share their trees with the result. It is the join
@@ -40,12 +60,7 @@ impl Cord {
         if a.len() + b.len() > MAX_LEN {
             return Err(CordError::TooLong);
         }
-        let node = if a.depth().max(b.depth()) < MAX_DEPTH {
-            join(alloc, a, b)?
-        } else {
-            let ropes = [a.clone()?, b.clone()?];
-            balance_parts(alloc, &ropes)?
-        };
+        let node = joined(alloc, a, b)?;
         Ok(Cord { root: Some(node) })
     }
 

@@ -1,9 +1,8 @@
 use Rattle.std.proofs.Common.{arith, ◌≡◌, ◌++◌}
 use Rattle.std.specs.Prelude.{Some}
 use Rattle.std.proofs.lemmas.Grind.{common_steps}
-use Rattle.cord_node.specs.Tree.{cells, IsSound}
 use Rattle.cord_node.proofs.KeptLemmas.{Kept_same}
-use Rattle.cord_core.specs.Cord.{text, parts_of}
+use Rattle.cord_core.specs.Cord.{parts_of}
 use Rattle.cord_core.proofs.OverLemmas.{cat_over}
 use Rattle.cord_core.proofs.Cord.cat.Goals as goal
 
@@ -11,7 +10,4 @@ pub returns-in_default-clause-kept : goal.returns-in_default-clause-kept
 returns-in_default-clause-kept c = let e : parts_of c.if-is_some.cord ≡ parts_of c.args.left.now ++ parts_of c.args.right.now = grind (arith, common_steps) in Kept_same _ _ e
 
 pub returns-clause-over : goal.returns-clause-over
-returns-clause-over c =
-    let e : cells c.if-max-lt-MAX_DEPTH.node.value ≡ text c.args.left.now ++ text c.args.right.now = grind (arith, common_steps) in
-    let s : IsSound c.if-max-lt-MAX_DEPTH.node.value = grind (arith, common_steps) in
-    cat_over c.args.left.now c.args.right.now (Some c.if-max-lt-MAX_DEPTH.node.value) s e
+returns-clause-over c = cat_over c.args.left.now c.args.right.now (Some c.in_ok-node.node.value) c.in_ok-node.ensures.sound (grind (arith, common_steps))
