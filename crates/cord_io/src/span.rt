@@ -6,6 +6,9 @@ const FIRST_AHEAD: usize = 4_096;
 
 const MAX_AHEAD: usize = 65_536;
 
+// How many bytes may be passed over where reading goes on: as many more cost less than another call.
+const MAX_GAP: u64 = 4_096;
+
 // What was read in order, from a place to a place, and how many bytes are next worth asking for.
 #[derive(Drop)]
 pub(crate) struct Span {
@@ -15,23 +18,31 @@ pub(crate) struct Span {
 }
 
 impl Span {
-    // Nothing was read.
+    // Nothing was read: no place is behind its end.
     pub(crate) fn new() -> Span {
         Span {
-            from: 0,
-            to: 0,
+            from: u64::MAX,
+            to: u64::MAX,
             ahead: 0,
         }
     }
 
-    // Reading goes on at a place. Where the span doesn't end there, another one begins, of which as many bytes are
-    // asked for at first as were read of the last one: so ranges of one length are read by one call each.
+    // Whether a read from a place on goes on here, with at most a short gap.
+    fn reaches(&self, place: u64) -> bool {
+        match place.checked_sub(self.to) {
+            Some(gap) => gap <= MAX_GAP,
+            None => false,
+        }
+    }
+
+    // Reading goes on at a place. Where that is elsewhere, another span begins, of which as many bytes are asked for at
+    // first as the last one has: so ranges of one length are read by one call each.
     pub(crate) fn turn_to(&mut self, place: u64) {
-        if self.to != place {
+        if !self.reaches(place) {
             self.ahead = self.to.saturating_sub(self.from).min(MAX_AHEAD as u64) as usize;
             self.from = place;
-            self.to = place;
         }
+        self.to = place;
     }
 
     // How many bytes are worth asking for at its end.

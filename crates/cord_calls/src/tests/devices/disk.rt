@@ -268,8 +268,25 @@ fn reads_a_range_elsewhere_in_one_call(rt: HostRuntime) {
         reads: 2,
     };
     let asks = [
-        Reads(0, 5, b"01234"),
-        Reads(6, 2, b"67"),
+        Reads(5, 5, b"56789"),
+        Reads(0, 2, b"01"),
+        Reads(2, 2, b"23"),
+        Failures(0),
+    ];
+    expect_asked(&rt, rt.alloc(), machine, &asks);
+}
+
+// A file that is read with short gaps is read ahead, as one that is read in order.
+#[test]
+fn reads_ahead_over_gaps(rt: HostRuntime) {
+    let machine = Machine {
+        trouble: Trouble::Nothing,
+        seeks: 3,
+        reads: 2,
+    };
+    let asks = [
+        Reads(0, 2, b"01"),
+        Reads(4, 2, b"45"),
         Reads(8, 2, b"89"),
         Failures(0),
     ];
