@@ -1,5 +1,5 @@
 // Cords and lengths of files.
-ghost use Rattle.std.specs.Prelude.{◌≡◌, IfErr, IfOk};
+ghost use Rattle.std.specs.Prelude.{◌≡◌, IfErr, IfOk, OnErr};
 ghost use Rattle.cord_io.specs.Device.{Folder, count_after};
 ghost use Rattle.cord_file.specs.Opening.{Grows};
 ghost use Rattle.cord_file.specs.Sources.{device_in, opened_in};
@@ -60,7 +60,8 @@ pub(crate) fn lazy<F: Files>(
     Ok(cord)
 }
 
-/// The length of the file at a path, which is opened. Refused as `whole_or_lazy` is.
+/// The length of the file at a path, which is opened, and not read: after a refusal no file more is open. Refused as
+/// `whole_or_lazy` is.
 pub(crate) fn opened_length<F: Files>(
     alloc: Global,
     sources: &mut Sources<F>,
@@ -71,6 +72,7 @@ pub(crate) fn opened_length<F: Files>(
     ensures earlier { (folder : Folder) → F.keeps (device_in sources.new) folder → F.keeps (device_in sources.old) folder }
     ensures grows { Grows (opened_in sources.old) (opened_in sources.new) }
     ensures counts { F.failures (device_in sources.new) ≡ count_after (has_failed result) (F.failures (device_in sources.old)) }
+    ensures unopened { OnErr result (opened_in sources.new ≡ opened_in sources.old) }
 {
     let (_, len) = sources.open(alloc, path.as_str())?;
     Ok(len)

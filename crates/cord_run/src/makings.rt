@@ -1,5 +1,5 @@
 // Names that get what a plan makes for them: a cord, or a length alone.
-ghost use Rattle.std.specs.Prelude.{◌≡◌, IfErr, IfOk};
+ghost use Rattle.std.specs.Prelude.{◌≡◌, ◌≢◌, Err, IfErr, IfOk, OnErr};
 ghost use Rattle.cord_io.specs.declared.TheConstants.{MAX_LEN};
 ghost use Rattle.cord_io.specs.Device.{Folder, count_after};
 ghost use Rattle.cord_file.specs.Entries.{lengths_in, table_in};
@@ -8,7 +8,7 @@ ghost use Rattle.cord_file.specs.Sources.{device_in, opened_in};
 ghost use Rattle.cord_plan.specs.Meaning.{does};
 ghost use Rattle.cord_plan.specs.Planned as plan;
 ghost use Rattle.cord_plan.specs.Views.{made_view};
-ghost use Rattle.cord_run.specs.Contents.{IsLength, IsLengthOfNames, IsMade, IsMadeOfNames, IsUnmade, IsUnmadeOfNames, IsUnmeasured, IsUnmeasuredOfNames, NeedsNoFile, has_failed, halting};
+ghost use Rattle.cord_run.specs.Contents.{IsLength, IsLengthOfNames, IsMade, IsMadeOfNames, IsUnmade, IsUnmadeOfNames, IsUnmeasured, IsUnmeasuredOfNames, NeedsNoFile, TakesNoMemory, has_failed, halting};
 ghost use Rattle.cord_run.specs.Failing.{FailsBy, FailsIn, IsFileMade};
 ghost use Rattle.cord_run.specs.Held.{HasContent, IsOver, SameEntries};
 ghost use Rattle.cord_run.specs.Holdings.{holding_of};
@@ -132,7 +132,8 @@ fn make_of_names(alloc: Global, store: &mut Store, made: &Made) -> Result<Cord, 
     }
 }
 
-// Tells the length for a name: no cord is made, but a file is opened.
+// Tells the length for a name. No cord is made: memory is wanted for what is printed alone. A file is opened and not read: after
+// a refusal no file more is open.
 fn measure<F: Files>(
     alloc: Global,
     store: &Store,
@@ -146,6 +147,8 @@ fn measure<F: Files>(
     ensures grows { Grows (opened_in sources.old) (opened_in sources.new) }
     ensures fails { IfErr result (FailsBy (IsFileMade (made_view made.now)) ⊥) }
     ensures counts { F.failures (device_in sources.new) ≡ count_after (has_failed result) (F.failures (device_in sources.old)) }
+    ensures unread { OnErr result (opened_in sources.new ≡ opened_in sources.old) }
+    ensures unbuilt { TakesNoMemory (made_view made.now) → result ≢ Err Halt.NoMemory }
 {
     match made {
         Made::OfFile(path) | Made::OfEager(path) | Made::OfLazy(path) => {
@@ -160,6 +163,7 @@ fn measure_of_names(alloc: Global, store: &Store, made: &Made) -> Result<u64, Ha
     requires { NeedsNoFile (made_view made.now) }
     ensures told { IfOk result (IsLengthOfNames store.now.entries.items (made_view made.now)) }
     ensures refused { IfErr result (IsUnmeasuredOfNames store.now.entries.items (made_view made.now)) }
+    ensures unbuilt { TakesNoMemory (made_view made.now) → result ≢ Err Halt.NoMemory }
 {
     match made {
         Made::Joined(expression) => halted(length_of(expression, store)),
@@ -176,7 +180,8 @@ fn measure_of_names(alloc: Global, store: &Store, made: &Made) -> Result<u64, Ha
 
 // A length or a fault, as a run has it.
 fn halted(length: Result<u64, FaultKind>) -> Result<u64, Halt>
-    ensures { result ≡ halting length }
+    ensures halts { result ≡ halting length }
+    ensures unbuilt { result ≢ Err Halt.NoMemory }
 {
     match length {
         Ok(len) => Ok(len),

@@ -19,4 +19,6 @@ returns-in_default g c =
       grows = search rules;
       fails = never_fails _ _ _ c.measure_of_names.result c.measure_of_names.ensures.refused;
       counts = no_device _ (g.F.Files.failures (device_in s)) c.measure_of_names.result c.measure_of_names.ensures.refused;
+      unread = search rules;
+      unbuilt = c.measure_of_names.ensures.unbuilt;
     }
