@@ -31,3 +31,4 @@ pub mod Appended
 pub mod Wrote
 pub mod Standing
 pub mod Sliced
+pub mod FewFiles

@@ -11,6 +11,7 @@ mod extensibles;
 mod files;
 mod halts;
 mod keeping;
+mod limits;
 mod lines;
 mod literals;
 mod making;
@@ -30,4 +31,5 @@ mod store;
 mod writing;
 
 pub use cord_meaning::{End, FaultKind};
+pub use limits::runs_have_few_files;
 pub use runner::{run, run_text, run_unplanned};

@@ -1,5 +1,5 @@
 //! Rows of scripts over files: whole ones, ones that fail after some calls, and ones that give no byte behind a place.
-use super::{lines, numbered, run_way};
+use super::{add, lines, numbered, run_way};
 use cord_io::{CutFiles, Files, FuseFiles, MemFiles, MemSink};
 use cord_run::{End, FaultKind};
 use cord_script::Refusal;
@@ -213,4 +213,43 @@ fn missing_file_is_a_fault(rt: HostRuntime) {
     let script = r#"eager x "q" ; put x"#;
     let end = End::Fault(1, FaultKind::NoFile);
     expect_both(&rt, script, one_line(&rt), one_line(&rt), end, b"");
+}
+
+// The files "p0", "p1" and so on, each of one byte: its number.
+fn numbered_files(rt: &(impl AllocGlobal + Abort), count: u8) -> MemFiles {
+    let alloc = rt.alloc();
+    let mut files = MemFiles::new(alloc);
+    for n in 0..count {
+        let path = format!(in alloc; "p{n}").expect(rt, "no memory");
+        files
+            .add(alloc, path.as_str(), &[n])
+            .expect(rt, "no memory");
+    }
+    files
+}
+
+// A script that puts so many of them.
+fn puts_of_files(rt: &(impl AllocGlobal + Abort), count: u8) -> Vec<u8> {
+    let alloc = rt.alloc();
+    let mut script = Vec::new(alloc);
+    for n in 0..count {
+        let line = format!(in alloc; "file x \"p{n}\"\nput x\n").expect(rt, "no memory");
+        add(rt, &mut script, line.as_bytes());
+    }
+    script
+}
+
+// That 64 files are put, by the plan or without one.
+fn expect_all_put(rt: &(impl AllocGlobal + Abort), is_planned: bool) {
+    let script = puts_of_files(rt, 64);
+    let mut sink = MemSink::new(rt.alloc());
+    let answer = run_way(rt, &script, numbered_files(rt, 64), &mut sink, is_planned).0;
+    assert!(rt; answer == Ok(End::Done));
+    assert!(rt; sink.bytes() == numbered(rt, 64).as_slice());
+}
+
+#[test]
+fn files_at_the_limit(rt: HostRuntime) {
+    expect_all_put(&rt, true);
+    expect_all_put(&rt, false);
 }

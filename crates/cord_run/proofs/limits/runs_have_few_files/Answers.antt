@@ -1,0 +1,5 @@
+use Rattle.cord_run.proofs.FewFiles.{few_read}
+use Rattle.cord_run.proofs.limits.runs_have_few_files.Goals as goal
+
+pub returns-clause-paths : goal.returns-clause-paths
+returns-clause-paths c = few_read
