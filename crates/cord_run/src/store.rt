@@ -1,5 +1,5 @@
 // What the names of a run of a plan hold.
-ghost use Rattle.std.specs.Prelude.{◌≡◌, ◌+◌, ◌<◌, ◌≤◌, ◌∷◌, ℕ, ℤ, List, pos, true, false, [], length, IfOk, IfSome, IfNone, OnOk, Err, None, Some};
+ghost use Rattle.std.specs.Prelude.{◌≡◌, ◌+◌, ◌<◌, ◌≤◌, ◌∷◌, ℕ, ℤ, List, pos, true, false, [], length, IfOk, IfSome, IfNone, IsErr, OnOk, Err, None, Some};
 ghost use Rattle.cord_ec.specs.Grown.{IsGrownBy};
 ghost use Rattle.cord_run.specs.Extending.{cells_of, Grew, GrewTo};
 ghost use Rattle.cord_run.specs.Held.{are_distinct, content_in, cord_in, extensible_in, length_in, names_in, number_in, operand_in, HasContent, HasExtensible, HasNoEntry, HasNumber, IsEntryAt, SameEntries};
@@ -322,15 +322,15 @@ impl Store {
         append_at(alloc, &mut self.entries, name, place, bytes)
     }
 
-    /// Lets the extensible cord of the name of the entry at a place grow by a byte. Answers whether it did: else nothing has changed.
-    pub(crate) fn append_at(&mut self, alloc: Global, place: usize, byte: u8) -> bool
+    /// Lets the extensible cord of the name of the entry at a place grow by bytes. Answers whether it did: else nothing has changed.
+    pub(crate) fn append_at(&mut self, alloc: Global, place: usize, bytes: &[u8]) -> bool
         requires { place < length self.old.entries.items }
-        ensures grown { result ≡ true → (name : List ℕ) → IsEntryAt self.old.entries.items name place → Grew name (byte ∷ []) self.old.entries.items self.new.entries.items }
-        ensures fits { result ≡ true → (name : List ℕ) → IsEntryAt self.old.entries.items name place → length (cells_of (extensible_in self.old.entries.items name)) + 1 ≤ MAX_LEN }
+        ensures grown { result ≡ true → (name : List ℕ) → IsEntryAt self.old.entries.items name place → Grew name bytes.now self.old.entries.items self.new.entries.items }
+        ensures fits { result ≡ true → (name : List ℕ) → IsEntryAt self.old.entries.items name place → length (cells_of (extensible_in self.old.entries.items name)) + length bytes.now ≤ MAX_LEN }
         ensures left { result ≡ false → self.new.entries.items ≡ self.old.entries.items }
         ensures names { names_in self.new.entries.items ≡ names_in self.old.entries.items }
     {
-        append_byte(alloc, &mut self.entries, place, byte)
+        append_bytes(alloc, &mut self.entries, place, bytes)
     }
 
     /// Takes the extensible cord of a name out, which then has none.
@@ -386,27 +386,27 @@ fn set_extensible(
     replace(&mut entry.extensible, extensible)
 }
 
-// Lets the extensible cord in the entry at a place grow by a byte. Answers whether it did.
-fn append_byte(alloc: Global, entries: &mut [Entry], place: usize, byte: u8) -> bool
+// Lets the extensible cord in the entry at a place grow by bytes. Answers whether it did.
+fn append_bytes(alloc: Global, entries: &mut [Entry], place: usize, bytes: &[u8]) -> bool
     requires { place < length entries.old }
-    ensures grown { result ≡ true → (name : List ℕ) → IsEntryAt entries.old name place → Grew name (byte ∷ []) entries.old entries.new }
-    ensures fits { result ≡ true → (name : List ℕ) → IsEntryAt entries.old name place → length (cells_of (extensible_in entries.old name)) + 1 ≤ MAX_LEN }
+    ensures grown { result ≡ true → (name : List ℕ) → IsEntryAt entries.old name place → Grew name bytes.now entries.old entries.new }
+    ensures fits { result ≡ true → (name : List ℕ) → IsEntryAt entries.old name place → length (cells_of (extensible_in entries.old name)) + length bytes.now ≤ MAX_LEN }
     ensures left { result ≡ false → entries.new ≡ entries.old }
     ensures names { names_in entries.new ≡ names_in entries.old }
     ensures distinct { are_distinct (names_in entries.old) ≡ true → are_distinct (names_in entries.new) ≡ true }
 {
     let entry = &mut entries[place];
-    append_one(alloc, &mut entry.extensible, byte)
+    append_begun(alloc, &mut entry.extensible, bytes)
 }
 
-// Lets an extensible cord that was begun grow by a byte. Answers whether it did.
-fn append_one(alloc: Global, extensible: &mut Option<ExtCord>, byte: u8) -> bool
-    ensures grown { result ≡ true → GrewTo (byte ∷ []) extensible.old extensible.new }
-    ensures fits { result ≡ true → length (cells_of extensible.old) + 1 ≤ MAX_LEN }
+// Lets an extensible cord that was begun grow by bytes. Answers whether it did.
+fn append_begun(alloc: Global, extensible: &mut Option<ExtCord>, bytes: &[u8]) -> bool
+    ensures grown { result ≡ true → GrewTo bytes.now extensible.old extensible.new }
+    ensures fits { result ≡ true → length (cells_of extensible.old) + length bytes.now ≤ MAX_LEN }
     ensures left { result ≡ false → extensible.new ≡ extensible.old }
 {
     match extensible {
-        Some(grown) => match grown.append(alloc, byte) {
+        Some(grown) => match append(alloc, grown, bytes) {
             Ok(()) => true,
             Err(_) => false,
         },
@@ -452,8 +452,10 @@ fn append_to(alloc: Global, extensible: &mut Option<ExtCord>, bytes: &[u8]) -> R
 }
 
 // Appends bytes: one alone costs less.
+#[inline(always)]
 fn append(alloc: Global, grown: &mut ExtCord, bytes: &[u8]) -> Result<(), CordError>
     ensures over { IfOk result (λ _. IsGrownBy grown.old grown.new bytes.now) }
+    ensures unchanged { IsErr result → grown.new ≡ grown.old }
     ensures fits { OnOk result (length grown.old + length bytes.now ≤ MAX_LEN) }
     ensures too_long { result ≡ Err CordError.TooLong → MAX_LEN < length grown.old + length bytes.now }
 {
