@@ -1,5 +1,5 @@
 -- What a piece shows: blanks, a sign, zeros, its body, blanks.
-use Rattle.std.specs.Prelude.{unwrap_or, ◌≡◌, ℕ, ◌-◌, Option, List, [], ◌∷◌, ◌++◌, length, map, replicate, take, option_to_list}
+use Rattle.std.specs.Prelude.{unwrap_or, ◌≡◌, ℕ, ◌-◌, Option, Some, None, List, [], ◌∷◌, ◌++◌, length, map, replicate, take, option_to_list}
 use Rattle.cord_node.specs.Tree.{Cell, known}
 use Rattle.cord_core.specs.Cord.{text}
 use Rattle.cord_printf.specs.declared.pieces.Flags.{Flags}
@@ -31,3 +31,8 @@ body_text (Start c len) = take len (text c.now)
 -- the cells that are shown
 abbrev pub shown_text : Shown → List Cell
 shown_text s = map known (front_of s.layout) ++ body_text s.body ++ map known (replicate s.layout.after 32)
+
+-- the cells of a text that may not have begun
+abbrev pub cells_of : Option (List Cell) → List Cell
+cells_of None = []
+cells_of (Some cells) = cells

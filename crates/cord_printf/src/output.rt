@@ -1,9 +1,9 @@
 // What pieces show, added to a text that grows. Each addition fits, so it is refused for want of memory alone.
-ghost use Rattle.std.specs.Prelude.{◌≡◌, ◌+◌, ◌≤◌, [], ◌++◌, IfOk, IsOkUnless, length, option_to_list, map, replicate, take};
+ghost use Rattle.std.specs.Prelude.{◌≡◌, ◌+◌, ◌≤◌, [], ◌++◌, IfOk, IfSome, IsOkUnless, length, option_to_list, map, replicate, take};
 ghost use Rattle.cord_node.specs.Tree.{known};
 ghost use Rattle.cord_core.specs.Cord.{text as text_of, IsCord};
 ghost use Rattle.cord_ec.specs.Grown.{IsCordOf};
-ghost use Rattle.cord_printf.specs.Shown.{body_text, front_of, shown_text};
+ghost use Rattle.cord_printf.specs.Shown.{body_text, cells_of, front_of, shown_text};
 
 use crate::PrintError;
 use crate::shown::{Body, Layout, Shown};
@@ -11,19 +11,24 @@ use arrayvec::ArrayVec;
 use cord_core::Cord;
 use cord_ec::ExtCord;
 use cord_io::MAX_LEN;
+use cord_node::Node;
 use std::alloc::Global;
 use std::marker::Model;
 
-// So many bytes are gathered, at most, before they go into the extensible cord together.
+// So many bytes are gathered, at most, before they go into an extensible cord together.
 const MOST_GATHERED: usize = 256;
 
 // A longer run than this is one node.
 const SHORT_RUN: usize = 64;
 
-/// A text that grows at its end: an extensible cord, and the bytes behind it that are gathered without memory.
+// A join makes one leaf of two that are no longer than this together.
+const MOST_JOINED: usize = 64;
+
+/// A text that grows at its end: an extensible cord, which is made once it is wanted, and the bytes behind it that are gathered
+/// without memory.
 #[derive(Drop)]
 pub struct Output {
-    grown: ExtCord,
+    grown: Option<ExtCord>,
     gathered: ArrayVec<u8, MOST_GATHERED>,
 }
 
@@ -32,26 +37,23 @@ impl Model for Output {
     ghost use Rattle.std.specs.Coded.{coded_list};
     ghost use Rattle.cord_node.specs.Tree.{Cell, known};
     ghost use Rattle.cord_ec.specs.Cells.{coded_cell};
+    ghost use Rattle.cord_printf.specs.Shown.{cells_of};
 
     ghost Value = { List Cell };
 
     ghost coded = { coded_list coded_cell };
 
-    ghost view = { λ o. o.grown ++ map known o.gathered.items };
+    ghost view = { λ o. cells_of o.grown ++ map known o.gathered.items };
 }
 
 impl Output {
     /// The text of no bytes.
-    pub fn new(alloc: Global) -> Result<Output, PrintError>
-        ensures text { IfOk result (λ made. made ≡ []) }
-        ensures refused { IsOkUnless result PrintError.NoMemory }
+    pub fn new() -> Output
+        ensures { result ≡ [] }
     {
-        match ExtCord::new(alloc) {
-            Err(_) => Err(PrintError::NoMemory),
-            Ok(grown) => Ok(Output {
-                grown,
-                gathered: ArrayVec::new(),
-            }),
+        Output {
+            grown: None,
+            gathered: ArrayVec::new(),
         }
     }
 
@@ -74,11 +76,11 @@ impl Output {
         ensures sound { IfOk result IsCord }
         ensures refused { IsOkUnless result PrintError.NoMemory }
     {
-        put_in(alloc, &mut self.grown, &mut self.gathered)?;
-        match self.grown.to_cord(alloc) {
-            Ok(cord) => Ok(cord),
-            Err(_) => Err(PrintError::NoMemory),
+        if self.grown.is_none() {
+            return leaf_of(alloc, self.gathered.as_slice());
         }
+        put_in(alloc, &mut self.grown, &mut self.gathered)?;
+        cord_of(alloc, &mut self.grown)
     }
 
     // The blanks, the sign and the zeros in front of a body.
@@ -171,41 +173,165 @@ impl Output {
             return Ok(());
         }
         put_in(alloc, &mut self.grown, &mut self.gathered)?;
-        match self.grown.append_bytes(alloc, bytes) {
-            Ok(()) => Ok(()),
-            Err(_) => Err(PrintError::NoMemory),
-        }
+        grow(alloc, &mut self.grown, bytes)
     }
 
+    // A leaf that a join would copy is gathered.
     fn add_cord(&mut self, alloc: Global, cord: &Cord) -> Result<(), PrintError>
         requires fits { length self.old + length (text_of cord.now) ≤ MAX_LEN }
         ensures text { IfOk result (λ _. self.new ≡ self.old ++ text_of cord.now) }
         ensures refused { IsOkUnless result PrintError.NoMemory }
     {
-        put_in(alloc, &mut self.grown, &mut self.gathered)?;
-        match self.grown.append_cord(alloc, cord) {
-            Ok(()) => Ok(()),
-            Err(_) => Err(PrintError::NoMemory),
+        if let Some(leaf) = joined_leaf(self.gathered.len(), cord) {
+            return self.add_bytes(alloc, leaf);
         }
+        put_in(alloc, &mut self.grown, &mut self.gathered)?;
+        grow_by_cord(alloc, &mut self.grown, cord)
+    }
+}
+
+// The bytes of a cord that is a leaf, where a join would copy them behind so many bytes.
+fn joined_leaf(before: usize, cord: &Cord) -> Option<&[u8]>
+    ensures { IfSome result (λ leaf. text_of cord.now ≡ map known leaf.now) }
+{
+    if before == 0 || before > MOST_JOINED {
+        return None;
+    }
+    match leaf_slice(cord) {
+        Some(leaf) if leaf.len() <= MOST_JOINED - before => Some(leaf),
+        _ => None,
+    }
+}
+
+// The bytes of a cord that is a leaf.
+fn leaf_slice(cord: &Cord) -> Option<&[u8]>
+    ensures { IfSome result (λ leaf. text_of cord.now ≡ map known leaf.now) }
+{
+    let Some(root) = cord.root() else {
+        return None;
+    };
+    match root.as_ref() {
+        Node::Leaf {
+            bytes,
+            start,
+            len,
+            ..
+        } => Some(&bytes.as_slice()[*start as usize..(*start + *len) as usize]),
+        _ => None,
+    }
+}
+
+// These bytes as one leaf.
+fn leaf_of(alloc: Global, bytes: &[u8]) -> Result<Cord, PrintError>
+    requires fits { length bytes.now ≤ MAX_LEN }
+    ensures text { IfOk result (λ c. text_of c ≡ map known bytes.now) }
+    ensures over { IfOk result (IsCordOf (map known bytes.now)) }
+    ensures sound { IfOk result IsCord }
+    ensures refused { IsOkUnless result PrintError.NoMemory }
+{
+    match Cord::from_bytes(alloc, bytes) {
+        Ok(cord) => Ok(cord),
+        Err(_) => Err(PrintError::NoMemory),
+    }
+}
+
+// The text of an extensible cord as a cord.
+fn cord_of(alloc: Global, grown: &mut Option<ExtCord>) -> Result<Cord, PrintError>
+    ensures text { IfOk result (λ c. text_of c ≡ cells_of grown.old) }
+    ensures over { IfOk result (IsCordOf (cells_of grown.old)) }
+    ensures sound { IfOk result IsCord }
+    ensures refused { IsOkUnless result PrintError.NoMemory }
+{
+    match grown {
+        None => leaf_of(alloc, b""),
+        Some(grown) => match grown.to_cord(alloc) {
+            Ok(cord) => Ok(cord),
+            Err(_) => Err(PrintError::NoMemory),
+        },
     }
 }
 
 // Puts the gathered bytes into the extensible cord.
 fn put_in(
     alloc: Global,
-    grown: &mut ExtCord,
+    grown: &mut Option<ExtCord>,
     gathered: &mut ArrayVec<u8, MOST_GATHERED>,
 ) -> Result<(), PrintError>
-    requires fits { length grown.old + length gathered.old.items ≤ MAX_LEN }
-    ensures text { IfOk result (λ _. grown.new ≡ grown.old ++ map known gathered.old.items) }
+    requires fits { length (cells_of grown.old) + length gathered.old.items ≤ MAX_LEN }
+    ensures text { IfOk result (λ _. cells_of grown.new ≡ cells_of grown.old ++ map known gathered.old.items) }
     ensures emptied { IfOk result (λ _. gathered.new.items ≡ []) }
     ensures refused { IsOkUnless result PrintError.NoMemory }
 {
-    match grown.append_bytes(alloc, gathered.as_slice()) {
-        Err(_) => Err(PrintError::NoMemory),
-        Ok(()) => {
-            gathered.clear();
+    grow(alloc, grown, gathered.as_slice())?;
+    gathered.clear();
+    Ok(())
+}
+
+// Lets an extensible cord grow by bytes; where there is none, one is begun.
+fn grow(alloc: Global, grown: &mut Option<ExtCord>, bytes: &[u8]) -> Result<(), PrintError>
+    requires fits { length (cells_of grown.old) + length bytes.now ≤ MAX_LEN }
+    ensures text { IfOk result (λ _. cells_of grown.new ≡ cells_of grown.old ++ map known bytes.now) }
+    ensures refused { IsOkUnless result PrintError.NoMemory }
+{
+    match grown {
+        Some(grown) => append(alloc, grown, bytes),
+        None => {
+            let mut begun = begin(alloc)?;
+            append(alloc, &mut begun, bytes)?;
+            *grown = Some(begun);
             Ok(())
         }
+    }
+}
+
+// The same by a cord.
+fn grow_by_cord(alloc: Global, grown: &mut Option<ExtCord>, cord: &Cord) -> Result<(), PrintError>
+    requires fits { length (cells_of grown.old) + length (text_of cord.now) ≤ MAX_LEN }
+    ensures text { IfOk result (λ _. cells_of grown.new ≡ cells_of grown.old ++ text_of cord.now) }
+    ensures refused { IsOkUnless result PrintError.NoMemory }
+{
+    match grown {
+        Some(grown) => append_cord(alloc, grown, cord),
+        None => {
+            let mut begun = begin(alloc)?;
+            append_cord(alloc, &mut begun, cord)?;
+            *grown = Some(begun);
+            Ok(())
+        }
+    }
+}
+
+// An extensible cord of no bytes.
+fn begin(alloc: Global) -> Result<ExtCord, PrintError>
+    ensures text { IfOk result (λ made. made ≡ []) }
+    ensures refused { IsOkUnless result PrintError.NoMemory }
+{
+    match ExtCord::new(alloc) {
+        Ok(begun) => Ok(begun),
+        Err(_) => Err(PrintError::NoMemory),
+    }
+}
+
+// Appends bytes that fit.
+fn append(alloc: Global, grown: &mut ExtCord, bytes: &[u8]) -> Result<(), PrintError>
+    requires fits { length grown.old + length bytes.now ≤ MAX_LEN }
+    ensures text { IfOk result (λ _. grown.new ≡ grown.old ++ map known bytes.now) }
+    ensures refused { IsOkUnless result PrintError.NoMemory }
+{
+    match grown.append_bytes(alloc, bytes) {
+        Ok(()) => Ok(()),
+        Err(_) => Err(PrintError::NoMemory),
+    }
+}
+
+// Appends a cord that fits.
+fn append_cord(alloc: Global, grown: &mut ExtCord, cord: &Cord) -> Result<(), PrintError>
+    requires fits { length grown.old + length (text_of cord.now) ≤ MAX_LEN }
+    ensures text { IfOk result (λ _. grown.new ≡ grown.old ++ text_of cord.now) }
+    ensures refused { IsOkUnless result PrintError.NoMemory }
+{
+    match grown.append_cord(alloc, cord) {
+        Ok(()) => Ok(()),
+        Err(_) => Err(PrintError::NoMemory),
     }
 }

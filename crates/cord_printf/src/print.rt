@@ -55,7 +55,7 @@ pub fn sprintf(alloc: Global, format: &Format, args: &[Arg]) -> Result<Cord, Pri
     ensures refused { IfErr result (λ e. e ≢ PrintError.NoMemory → IsRefusedFor MAX_LEN format.now (arguments_of args.now) e) }
 {
     sprintf_len(format, args)?;
-    let mut output = Output::new(alloc)?;
+    let mut output = Output::new();
     let mut rest = args;
     for piece in format.pieces() {
         let place = (args.len() - rest.len()) as u64;
