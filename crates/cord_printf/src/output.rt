@@ -176,14 +176,16 @@ impl Output {
         grow(alloc, &mut self.grown, bytes)
     }
 
-    // A leaf that a join would copy is gathered.
+    // A leaf that the join with the text in front of it would copy is gathered.
     fn add_cord(&mut self, alloc: Global, cord: &Cord) -> Result<(), PrintError>
         requires fits { length self.old + length (text_of cord.now) ≤ MAX_LEN }
         ensures text { IfOk result (λ _. self.new ≡ self.old ++ text_of cord.now) }
         ensures refused { IsOkUnless result PrintError.NoMemory }
     {
-        if let Some(leaf) = joined_leaf(self.gathered.len(), cord) {
-            return self.add_bytes(alloc, leaf);
+        if self.grown.is_none() {
+            if let Some(leaf) = joined_leaf(self.gathered.len(), cord) {
+                return self.add_bytes(alloc, leaf);
+            }
         }
         put_in(alloc, &mut self.grown, &mut self.gathered)?;
         grow_by_cord(alloc, &mut self.grown, cord)
