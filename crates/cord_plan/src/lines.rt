@@ -83,7 +83,7 @@ fn operation_without(statement: &Statement, dead: bool) -> Result<Operation, Cor
         }
         Statement::Balance { .. } | Statement::EcToCord { .. } | Statement::Sprintf { .. } =>
             operation_of_print(statement, dead),
-        _ => Ok(Operation::Keep(statement.clone()?)),
+        _ => Ok(Operation::Keep(statement.copied()?)),
     }
 }
 

@@ -1,26 +1,9 @@
 -- Families of statements.
 use Rattle.std.specs.Prelude.{⊤}
+use Rattle.cord_syntax.specs.declared.copies.Family.{Family}
+use Rattle.cord_syntax.specs.declared.copies.Family.TheVariants.{Growth, Look, Search, Count, Control, Other}
 use Rattle.cord_syntax.specs.declared.statements.Statement.{Statement}
-use Rattle.cord_syntax.specs.declared.statements.Statement.TheVariants.{Let, File, Eager, Lazy, Chars, Nul, FromFn, Cat, Catn, Catc, Substr, Balance, EcToCord, Sprintf, Len, Fetch, Cmp, Ncmp, Str, Chr, Rchr, Assign, Add, Sub, EcInit, EcPut, EcCat, EcStr, Put, Repeat, If, Else, End}
-
--- a statement that makes a cord from outside the script or of its words
-abbrev pub IsSource : Statement → Type 0
-IsSource (Let line target text) = ⊤
-IsSource (File line target path) = ⊤
-IsSource (Eager line target path) = ⊤
-IsSource (Lazy line target path) = ⊤
-IsSource (FromFn line target function count) = ⊤
-IsSource _ = ⊥
-
--- a statement that makes a cord of cords, or of copies of a byte
-abbrev pub IsSimple : Statement → Type 0
-IsSimple (Chars line target byte count) = ⊤
-IsSimple (Nul line target count) = ⊤
-IsSimple (Cat line target left right) = ⊤
-IsSimple (Catn line target parts) = ⊤
-IsSimple (Catc line target operand byte) = ⊤
-IsSimple (Substr line target operand start count) = ⊤
-IsSimple _ = ⊥
+use Rattle.cord_syntax.specs.declared.statements.Statement.TheVariants.{Balance, EcToCord, Sprintf, Len, Fetch, Cmp, Ncmp, Str, Chr, Rchr, Assign, Add, Sub, EcInit, EcPut, EcCat, EcStr, Put, Repeat, If, Else, End}
 
 -- a statement that balances or prints a cord, or takes it from an extensible one
 abbrev pub IsPrint : Statement → Type 0
@@ -67,3 +50,33 @@ IsControl (If line left relation right) = ⊤
 IsControl (Else line) = ⊤
 IsControl (End line) = ⊤
 IsControl _ = ⊥
+
+-- what a statement is about
+abbrev pub family_of : Statement → Family
+family_of (EcInit line target) = Growth
+family_of (EcPut line extensible byte) = Growth
+family_of (EcCat line extensible operand) = Growth
+family_of (EcStr line extensible text) = Growth
+family_of (Len line target operand) = Look
+family_of (Fetch line target operand index) = Look
+family_of (Cmp line target left right) = Look
+family_of (Ncmp line target left left_start right right_start count) = Look
+family_of (Str line target operand start pattern) = Search
+family_of (Chr line target operand start byte) = Search
+family_of (Rchr line target operand start byte) = Search
+family_of (Assign line target value) = Count
+family_of (Add line target left right) = Count
+family_of (Sub line target left right) = Count
+family_of (Repeat line count) = Control
+family_of (If line left relation right) = Control
+family_of (Else line) = Control
+family_of (End line) = Control
+family_of _ = Other
+
+-- a statement that makes no cord and puts nothing
+abbrev pub IsNoOther : Family → Type 0
+IsNoOther Other = ⊥
+IsNoOther _ = ⊤
+
+abbrev pub MakesNoCord : Statement → Type 0
+MakesNoCord l = IsNoOther (family_of l)

@@ -1,9 +1,26 @@
 // Copies of statements, family by family.
 ghost use Rattle.std.specs.Prelude.{◌≡◌, IfOk};
-ghost use Rattle.cord_syntax.specs.Families.{IsSource, IsSimple, IsPrint, IsGrowth, IsLook, IsSearch, IsCount, IsControl};
+ghost use Rattle.cord_syntax.specs.Families.{MakesNoCord, family_of};
 
 use crate::Statement;
 use std::alloc::AllocError;
+
+/// What a statement that makes no cord and puts nothing is about.
+#[derive(Clone, Copy)]
+pub(crate) enum Family {
+    /// It changes an extensible cord.
+    Growth,
+    /// It measures, looks into or compares cords.
+    Look,
+    /// It searches a cord.
+    Search,
+    /// It reckons with numbers.
+    Count,
+    /// It leads the run.
+    Control,
+    /// It makes a cord or puts one.
+    Other,
+}
 
 // A copy of a statement that is one of these members, each with its fields behind the line.
 macro_rules! copied {
@@ -18,90 +35,49 @@ macro_rules! copied {
     };
 }
 
-impl Clone for Statement {
-    ghost is_clone = { λ it copy. copy ≡ it };
+// What a statement is about.
+fn family_of(statement: &Statement) -> Family
+    ensures { result ≡ family_of statement.now }
+{
+    match statement {
+        Statement::EcInit { .. }
+        | Statement::EcPut { .. }
+        | Statement::EcCat { .. }
+        | Statement::EcStr { .. } => Family::Growth,
+        Statement::Len { .. }
+        | Statement::Fetch { .. }
+        | Statement::Cmp { .. }
+        | Statement::Ncmp { .. } => Family::Look,
+        Statement::Str { .. } | Statement::Chr { .. } | Statement::Rchr { .. } => Family::Search,
+        Statement::Assign { .. } | Statement::Add { .. } | Statement::Sub { .. } => Family::Count,
+        Statement::Repeat { .. }
+        | Statement::If { .. }
+        | Statement::Else { .. }
+        | Statement::End { .. } => Family::Control,
+        _ => Family::Other,
+    }
+}
 
-    fn clone(&self) -> Result<Statement, AllocError> {
-        match self {
-            Statement::Let { .. }
-            | Statement::File { .. }
-            | Statement::Eager { .. }
-            | Statement::Lazy { .. }
-            | Statement::FromFn { .. } => copied_source(self),
-            Statement::Chars { .. }
-            | Statement::Nul { .. }
-            | Statement::Cat { .. }
-            | Statement::Catn { .. }
-            | Statement::Catc { .. }
-            | Statement::Substr { .. } => copied_simple(self),
-            Statement::Balance { .. } | Statement::EcToCord { .. } | Statement::Sprintf { .. } =>
-                copied_print(self),
-            Statement::EcInit { .. }
-            | Statement::EcPut { .. }
-            | Statement::EcCat { .. }
-            | Statement::EcStr { .. } => copied_growth(self),
-            Statement::Len { .. }
-            | Statement::Fetch { .. }
-            | Statement::Cmp { .. }
-            | Statement::Ncmp { .. } => copied_look(self),
-            Statement::Str { .. } | Statement::Chr { .. } | Statement::Rchr { .. } => copied_search(
-                self,
-            ),
-            Statement::Assign { .. } | Statement::Add { .. } | Statement::Sub { .. } =>
-                copied_count(self),
-            Statement::Put { .. }
-            | Statement::Repeat { .. }
-            | Statement::If { .. }
-            | Statement::Else { .. }
-            | Statement::End { .. } => copied_control(self),
+impl Statement {
+    /// A copy of a statement that makes no cord and puts nothing.
+    pub fn copied(&self) -> Result<Statement, AllocError>
+        requires { MakesNoCord self.now }
+        ensures { IfOk result (λ copy. copy ≡ self.now) }
+    {
+        match family_of(self) {
+            Family::Growth => copied_growth(self),
+            Family::Look => copied_look(self),
+            Family::Search => copied_search(self),
+            Family::Count => copied_count(self),
+            Family::Control => copied_control(self),
+            Family::Other => unreachable!(),
         }
     }
 }
 
-// A copy of a statement that makes a cord from outside the script or of its words.
-fn copied_source(statement: &Statement) -> Result<Statement, AllocError>
-    requires { IsSource statement.now }
-    ensures { IfOk result (λ copy. copy ≡ statement.now) }
-{
-    copied!(statement;
-        Let(target, text),
-        File(target, path),
-        Eager(target, path),
-        Lazy(target, path),
-        FromFn(target, function, count)
-    )
-}
-
-// A copy of a statement that makes a cord of cords, or of copies of a byte.
-fn copied_simple(statement: &Statement) -> Result<Statement, AllocError>
-    requires { IsSimple statement.now }
-    ensures { IfOk result (λ copy. copy ≡ statement.now) }
-{
-    copied!(statement;
-        Chars(target, byte, count),
-        Nul(target, count),
-        Cat(target, left, right),
-        Catn(target, parts),
-        Catc(target, operand, byte),
-        Substr(target, operand, start, count)
-    )
-}
-
-// A copy of a statement that balances or prints a cord, or takes it from an extensible one.
-fn copied_print(statement: &Statement) -> Result<Statement, AllocError>
-    requires { IsPrint statement.now }
-    ensures { IfOk result (λ copy. copy ≡ statement.now) }
-{
-    copied!(statement;
-        Balance(target, operand),
-        EcToCord(target, extensible),
-        Sprintf(target, text, format, arguments)
-    )
-}
-
 // A copy of a statement that changes an extensible cord.
 fn copied_growth(statement: &Statement) -> Result<Statement, AllocError>
-    requires { IsGrowth statement.now }
+    requires { family_of statement.now ≡ Family.Growth }
     ensures { IfOk result (λ copy. copy ≡ statement.now) }
 {
     copied!(statement;
@@ -114,7 +90,7 @@ fn copied_growth(statement: &Statement) -> Result<Statement, AllocError>
 
 // A copy of a statement that measures, looks into or compares cords.
 fn copied_look(statement: &Statement) -> Result<Statement, AllocError>
-    requires { IsLook statement.now }
+    requires { family_of statement.now ≡ Family.Look }
     ensures { IfOk result (λ copy. copy ≡ statement.now) }
 {
     copied!(statement;
@@ -127,7 +103,7 @@ fn copied_look(statement: &Statement) -> Result<Statement, AllocError>
 
 // A copy of a statement that searches a cord.
 fn copied_search(statement: &Statement) -> Result<Statement, AllocError>
-    requires { IsSearch statement.now }
+    requires { family_of statement.now ≡ Family.Search }
     ensures { IfOk result (λ copy. copy ≡ statement.now) }
 {
     copied!(statement;
@@ -139,7 +115,7 @@ fn copied_search(statement: &Statement) -> Result<Statement, AllocError>
 
 // A copy of a statement that reckons with numbers.
 fn copied_count(statement: &Statement) -> Result<Statement, AllocError>
-    requires { IsCount statement.now }
+    requires { family_of statement.now ≡ Family.Count }
     ensures { IfOk result (λ copy. copy ≡ statement.now) }
 {
     copied!(statement;
@@ -149,13 +125,12 @@ fn copied_count(statement: &Statement) -> Result<Statement, AllocError>
     )
 }
 
-// A copy of a statement that puts a cord or leads the run.
+// A copy of a statement that leads the run.
 fn copied_control(statement: &Statement) -> Result<Statement, AllocError>
-    requires { IsControl statement.now }
+    requires { family_of statement.now ≡ Family.Control }
     ensures { IfOk result (λ copy. copy ≡ statement.now) }
 {
     copied!(statement;
-        Put(operand),
         Repeat(count),
         If(left, relation, right),
         Else(),
