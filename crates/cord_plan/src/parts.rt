@@ -68,7 +68,8 @@ pub(crate) fn copy(alloc: Global, expression: &Expr) -> Result<Expr, CordError>
     }
 }
 
-/// Puts copies of these expressions behind others: most are names, which are copied without a call. Refused only with `NoMemory`.
+/// Puts copies of these expressions behind others, for which room is made at once: most are names, which are copied without a call.
+/// Refused only with `NoMemory`.
 #[cycle(copy)]
 pub(crate) fn copy_onto(
     alloc: Global,
@@ -78,10 +79,11 @@ pub(crate) fn copy_onto(
     ensures made { OnOk result (map expr_view copies.new.items ≡ map expr_view copies.old.items ++ map expr_view members.now) }
     ensures refused { IsOkUnless result CordError.NoMemory }
 {
+    copies.reserve(members.len())?;
     for member in members {
         match member {
-            Expr::Name(name) => copies.push(Expr::Name(name.clone()?))?,
-            _ => copies.push(copy(alloc, member)?)?,
+            Expr::Name(name) => copies.push_reserved(Expr::Name(name.clone()?)),
+            _ => copies.push_reserved(copy(alloc, member)?),
         }
     }
     Ok(())
