@@ -35,7 +35,7 @@ pub use expression_laws::{
 pub use expressions::{Expr, Members};
 pub use laws::{
     dead_targets_are_not_built, fixed_points_tell_what_is_read, no_cat_stands_in_a_cat,
-    what_is_read_later_is_one,
+    plans_are_one, what_is_read_later_is_one,
 };
 pub use limits::limits_are;
 pub use meaning::{

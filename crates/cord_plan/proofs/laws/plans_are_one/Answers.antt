@@ -1,0 +1,8 @@
+use Rattle.std.proofs.Common.{ap}
+use Rattle.std.proofs.Math.Path.{fun_ext}
+use Rattle.cord_plan.specs.Planned.{planned}
+use Rattle.cord_plan.proofs.Flows.{one_oracle}
+use Rattle.cord_plan.proofs.laws.plans_are_one.Goals as goal
+
+pub returns : goal.returns
+returns c = λ s one other told same. ap (planned s) (fun_ext (λ x. fun_ext (λ p. one_oracle s one other told same x p)))
