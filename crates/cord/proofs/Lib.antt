@@ -9,5 +9,7 @@ pub mod Results
 pub mod Printing
 pub mod Lining
 pub mod Chunking
+pub mod Counting
+pub mod LineNumbers
 pub mod Repeating
 pub mod Meanings

@@ -1,5 +1,5 @@
 // The chunks of a text.
-ghost use Rattle.std.specs.Prelude.{◌≡◌, ◌<◌, length};
+ghost use Rattle.std.specs.Prelude.{◌≡◌, ◌<◌, length, min, take};
 ghost use Rattle.cord_node.specs.Tree.{len_of, IsSound};
 ghost use Rattle.cord_node.specs.Tables.{bytes_over, FitsIn};
 ghost use Rattle.cord.specs.Chunks.{chunk_bytes, IsChunkAt, JoinTo};
@@ -7,6 +7,8 @@ ghost use Rattle.cord.specs.Plain.{no_lengths, no_table};
 
 use crate::Text;
 use cord_core::Node;
+use std::io;
+use std::io::Read;
 use std::marker::Model;
 
 /// At least one byte that a text has in one part of its tree.
@@ -30,7 +32,7 @@ impl<'a> Chunk<'a> {
     }
 }
 
-/// The bytes of a text that are left, which come chunk by chunk.
+/// The bytes of a text that are left, which come chunk by chunk, or are read.
 #[derive(Drop)]
 pub struct Chunks<'a> {
     text: &'a Text,
@@ -118,5 +120,41 @@ impl<'a> Iterator for Chunks<'a> {
         let chunk = self.text.chunk_at(self.start);
         self.start += chunk.len();
         Some(chunk)
+    }
+}
+
+/// No read fails, and one gives bytes of one chunk.
+impl<'a> Read for Chunks<'a> {
+    ghost use Rattle.std.specs.Prelude.{Some};
+
+    ghost remaining = { λ left. Some left };
+
+    fn read(&mut self, buf: &mut [u8]) -> io::Result<usize> {
+        if self.start == self.text.len() {
+            return Ok(0);
+        }
+        let count = copy_front(self.text.chunk_at(self.start), buf);
+        self.start += count as u64;
+        Ok(count)
+    }
+}
+
+// Copies what a chunk begins with into a buffer, as many bytes as there are in both.
+fn copy_front(chunk: Chunk<'_>, buf: &mut [u8]) -> usize
+    ensures count { result ≡ min (length (chunk_bytes chunk.entry)) (length buf.old) }
+    ensures len { length buf.new ≡ length buf.old }
+    ensures copied { take result buf.new ≡ take result (chunk_bytes chunk.entry) }
+{
+    match chunk {
+        Chunk::Bytes(bytes) => {
+            let count = bytes.len().min(buf.len());
+            buf[..count].copy_from_slice(&bytes[..count]);
+            count
+        }
+        Chunk::Run { byte, count } => {
+            let count = count.min(buf.len() as u64) as usize;
+            buf[..count].fill(byte);
+            count
+        }
     }
 }

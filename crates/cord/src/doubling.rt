@@ -1,8 +1,10 @@
 // Texts that stand many times.
-ghost use Rattle.std.specs.Prelude.{◌≡◌, ◌*◌, ◌<◌, ◌≤◌, IfOk, OnOk, IfErr, Err, length};
+ghost use Rattle.std.specs.Prelude.{◌≡◌, ◌*◌, ◌<◌, ◌≤◌, ℕ, List, IfOk, OnOk, IfErr, Err, length};
 ghost use Rattle.std.specs.List.{repeat};
+ghost use Rattle.cord_io.specs.Table.{Table, Lengths};
 ghost use Rattle.cord_core.specs.Cord.{text_len, IsCord};
 ghost use Rattle.cord_core.specs.Refusals.{IsRefusal};
+ghost use Rattle.cord.specs.Means.{Means};
 ghost use Rattle.cord.specs.Repeats.{IsRepeated};
 
 use crate::Text;
@@ -15,6 +17,8 @@ use std::alloc::Global;
 /// `TooLong` where that is more than `MAX_LEN` bytes, `NoMemory` where memory was refused.
 pub fn repeated(alloc: Global, cord: &Cord, times: u64) -> Result<Cord, CordError>
     ensures over { IfOk result (IsRepeated times cord.now) }
+    ensures means { (lengths : Lengths) (bytes copies : Table → List ℕ) → Means lengths bytes cord.now →
+        ((t : Table) → copies t ≡ repeat times (bytes t)) → IfOk result (Means lengths copies) }
     ensures len { IfOk result (λ c. text_len c ≡ times * text_len cord.now) }
     ensures sound { IfOk result IsCord }
     ensures too_long { result ≡ Err CordError.TooLong → MAX_LEN < times * text_len cord.now }

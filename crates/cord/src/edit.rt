@@ -50,7 +50,7 @@ impl Text {
         ensures refused { IsOkUnless result CordError.NoMemory }
     {
         let front = self.substr(alloc, 0, start)?;
-        let back = self.behind(alloc, start, count)?;
+        let back = self.after(alloc, start, count)?;
         let edited = Text::joined(alloc, &front, &back)?;
         Ok(edited)
     }
@@ -72,7 +72,7 @@ impl Text {
         ensures refused { IfErr result IsRefusal }
     {
         let front = self.substr(alloc, 0, start)?;
-        let back = self.behind(alloc, start, count)?;
+        let back = self.after(alloc, start, count)?;
         let front = Text::cat(alloc, &front, text)?;
         let edited = Text::cat(alloc, &front, &back)?;
         Ok(edited)
@@ -88,8 +88,8 @@ impl Text {
         Ok(Text { cord })
     }
 
-    // The bytes behind `count` bytes from `start` on: none where that is at or past the end.
-    fn behind(&self, alloc: Global, start: u64, count: u64) -> Result<Text, CordError>
+    // The bytes after `count` bytes from `start` on: none where that is at or past the end.
+    fn after(&self, alloc: Global, start: u64, count: u64) -> Result<Text, CordError>
         ensures text { IfOk result (λ t. t ≡ drop (start + count) self.now) }
         ensures limit { length self.now ≤ MAX_LEN }
         ensures refused { IsOkUnless result CordError.NoMemory }

@@ -1,5 +1,5 @@
 // The lines of a text.
-ghost use Rattle.std.specs.Prelude.{◌≡◌, ◌-◌, ◌<◌, ◌≤◌, ◌∷◌, length, take, drop};
+ghost use Rattle.std.specs.Prelude.{◌≡◌, ◌-◌, ◌<◌, ◌≤◌, ◌∷◌, IfOk, IsOkUnless, length, take, drop, slice_get};
 ghost use Rattle.cord.specs.Lines.{lines, bare_lines, lines_as};
 
 use crate::Text;
@@ -33,24 +33,56 @@ impl Text {
     pub fn lines(&self, alloc: Global) -> Lines<'_>
         ensures { result ≡ bare_lines self.now }
     {
-        Lines {
-            text: self,
-            alloc,
-            start: 0,
-            with_ends: false,
-        }
+        self.all_lines(alloc, false)
     }
 
     /// Its lines with their ends: together they are the text.
     pub fn lines_with_ends(&self, alloc: Global) -> Lines<'_>
         ensures { result ≡ lines self.now }
     {
+        self.all_lines(alloc, true)
+    }
+
+    // Its lines with their ends or without.
+    fn all_lines(&self, alloc: Global, with_ends: bool) -> Lines<'_>
+        ensures { result ≡ lines_as with_ends self.now }
+    {
         Lines {
             text: self,
             alloc,
             start: 0,
-            with_ends: true,
+            with_ends,
         }
+    }
+
+    /// Line `n`, from 0, without its end: none where there are no more than `n` lines. Those before it aren't made. Refused
+    /// for want of memory alone.
+    pub fn nth_line(&self, alloc: Global, n: u64) -> Result<Option<Text>, CordError>
+        ensures line { IfOk result (λ line. line ≡ slice_get (bare_lines self.now) n) }
+        ensures refused { IsOkUnless result CordError.NoMemory }
+    {
+        let start = self.line_start(n);
+        if start == self.len() {
+            return Ok(None);
+        }
+        let (end, _) = self.line_end(start, false);
+        let line = self.substr(alloc, start, end - start)?;
+        Ok(Some(line))
+    }
+
+    // Where line `n` begins: at the end where there are no more than `n` lines.
+    fn line_start(&self, n: u64) -> u64
+        ensures line { bare_lines (drop result self.now) ≡ drop n (bare_lines self.now) }
+        ensures inside { result ≤ length self.now }
+    {
+        let mut start = 0;
+        for _line in 0..n {
+            if start == self.len() {
+                return start;
+            }
+            start = self.line_end(start, false).1;
+        }
+        start
     }
 
     // Where the line that begins at a place ends, with its end or without it, and where the next one begins.

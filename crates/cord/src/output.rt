@@ -18,7 +18,7 @@ impl Text {
     }
 
     /// Hands a sink its bytes, each leaf's slice whole. It takes no memory, and doesn't finish the sink.
-    /// `WriteFailed` where the sink failed: then it has taken a front part of the bytes.
+    /// `WriteFailed` where the sink failed: then it has taken a prefix of the bytes.
     pub fn put<W: Sink>(&self, sink: &mut W) -> Result<(), CordError>
         ensures text { OnOk result (W.taken sink.new ≡ W.taken sink.old ++ self.now) }
         ensures prefix { OnErr result (Takes (IsFrontOf self.now) (W.taken sink.old) (W.taken sink.new)) }

@@ -2,6 +2,7 @@
 use cord::{Chunk, CordError, Format, MAX_LEN, MemSink, PrintError, Text, TextArg, TextBuilder};
 use std::alloc::{AllocError, Global};
 use std::cmp::Ordering;
+use std::io::Read;
 use std::process::Abort;
 
 // A text of these bytes.
@@ -388,4 +389,46 @@ fn what_is_no_character_is_replaced(rt: HostRuntime) {
     let alloc = rt.alloc();
     let cut = cut_euro(&rt, alloc, b"a\xFFb\xC3");
     expect_shown(&rt, cut.to_string(alloc), "\u{FFFD}a\u{FFFD}b\u{FFFD}");
+}
+
+#[test]
+fn counts(rt: HostRuntime) {
+    let text = greeting(&rt, rt.alloc());
+    assert!(rt; text.count_of(b'l') == 6 && text.count_of(b'-') == 3);
+    assert!(rt; text.count_of(b'?') == 0 && Text::empty().count_of(0) == 0);
+}
+
+fn expect_nth_line(rt: &impl Abort, alloc: Global, text: &Text, n: u64, wanted: Option<&[u8]>) {
+    match (text.nth_line(alloc, n).expect(rt, "no memory"), wanted) {
+        (Some(line), Some(wanted)) => expect_bytes(rt, alloc, &line, wanted),
+        (line, wanted) => assert!(rt; line.is_none() && wanted.is_none(), "line {n}"),
+    }
+}
+
+#[test]
+fn lines_by_number(rt: HostRuntime) {
+    let alloc = rt.alloc();
+    let text = text_of(&rt, alloc, b"one\n\ntwo\n");
+    expect_nth_line(&rt, alloc, &text, 0, Some(b"one"));
+    expect_nth_line(&rt, alloc, &text, 1, Some(b""));
+    expect_nth_line(&rt, alloc, &text, 2, Some(b"two"));
+    expect_nth_line(&rt, alloc, &text, 3, None);
+}
+
+#[test]
+fn texts_are_read(rt: HostRuntime) {
+    let alloc = rt.alloc();
+    let text = greeting(&rt, alloc);
+    let mut read = String::new(alloc);
+    assert!(rt; text.chunks().read_to_string(&mut read).is_ok());
+    assert!(rt; read.as_str() == "hello world---hello world!");
+}
+
+#[test]
+fn trees_are_shown(rt: HostRuntime) {
+    let alloc = rt.alloc();
+    let long = Text::repeat(alloc, b'a', 100).expect(&rt, "no memory");
+    let text = long.append_bytes(alloc, b"!").expect(&rt, "no memory");
+    let tree = "Text(101)\n  join of 101, depth 1\n    run of 100, byte 97\n    leaf of 1";
+    expect_shown(&rt, format!(in alloc; "{text:#?}"), tree);
 }

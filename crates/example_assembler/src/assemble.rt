@@ -1,5 +1,6 @@
 //! The text of a template, as a cord.
 ghost use Rattle.std.specs.Prelude.{◌≡◌, ◌++◌, take, drop, IfOk, OnOk};
+ghost use Rattle.std.specs.List.{repeat};
 ghost use Rattle.cord_io.specs.Device.{Folder};
 ghost use Rattle.cord.specs.Means.{Means};
 ghost use Rattle.example_assembler.specs.Meaning.{meaning, part_bytes};
@@ -8,7 +9,7 @@ use crate::template::Part;
 use cord::{Cord, CordError, MAX_LEN, Sink, Source, SourceId, put, repeated};
 use std::alloc::Global;
 
-/// Writes at most `count` bytes of the text of a template, from byte `from` on.
+/// Writes at most `count` bytes of the text of a template, from byte `from` on. No byte of its files is read before.
 pub fn write_range<S: Source, W: Sink>(
     alloc: Global,
     src: &mut S,
@@ -20,21 +21,13 @@ pub fn write_range<S: Source, W: Sink>(
     ensures { (folder : Folder) → S.keeps src.new folder → OnOk result
         (W.taken out.new ≡ W.taken out.old ++ take count (drop from (meaning (S.table src.old folder) parts.now))) }
 {
-    let text = assemble(alloc, src, parts)?;
-    let range = text.substr(alloc, from, count)?;
-    put(&range, src, out)
-}
-
-/// The text of a template over its files. No byte of them is read.
-fn assemble<S: Source>(alloc: Global, src: &S, parts: &[Part<'_>]) -> Result<Cord, CordError>
-    ensures { IfOk result (Means (S.lengths src.now) (λ t. meaning t parts.now)) }
-{
     let mut text = Cord::empty();
     for part in parts {
         let next = cord_of(alloc, src, part)?;
         text = Cord::cat(alloc, &text, &next)?;
     }
-    Ok(text)
+    let range = text.substr(alloc, from, count)?;
+    put(&range, src, out)
 }
 
 /// The text of a part.
@@ -43,12 +36,17 @@ fn cord_of<S: Source>(alloc: Global, src: &S, part: &Part<'_>) -> Result<Cord, C
 {
     match *part {
         Part::Text(text) => Cord::from_bytes(alloc, text.as_bytes()),
-        Part::File(id, times) => {
-            let file = entry(alloc, src, id)?;
-            let text = repeated(alloc, &file, times)?;
-            Ok(text)
-        }
+        Part::File(id, times) => copies(alloc, src, id, times),
     }
+}
+
+/// The whole of an entry, so many times.
+fn copies<S: Source>(alloc: Global, src: &S, id: SourceId, times: u64) -> Result<Cord, CordError>
+    ensures { IfOk result (Means (S.lengths src.now) (λ t. repeat times (t id.0))) }
+{
+    let file = entry(alloc, src, id)?;
+    let text = repeated(alloc, &file, times)?;
+    Ok(text)
 }
 
 /// The whole of an entry.

@@ -3,6 +3,7 @@ use Rattle.cord_io.specs.declared.CordError.{CordError}
 use Rattle.cord_io.specs.declared.CordError.TheVariants.{TooLong}
 use Rattle.cord_core.specs.Cord.{text_len}
 use Rattle.cord.proofs.Results.{handed_on}
+use Rattle.cord.proofs.Meanings.{means_repeated}
 use Rattle.cord.proofs.Repeating.{twice, once_more, even_len, odd_len, most_len}
 use Rattle.cord.proofs.doubling.+repeated.Goals as goal
 
@@ -18,6 +19,9 @@ returns-then-times-eq0-2-clause-over t c =
     let half = c.args.times / 2 in
     let e : c.args.times ≡ half + half = omega (arith, even) in
     twice c.args.times half c.args.cord.now c.in_ok-half.half c.in_ok-twice.twice e c.in_ok-half.ensures.over c.in_ok-twice.ensures.over
+
+pub returns-then-times-eq0-2-clause-means : goal.returns-then-times-eq0-2-clause-means
+returns-then-times-eq0-2-clause-means t c = λ ls bytes copies m e. means_repeated ls bytes copies c.args.times c.args.cord.now c.in_ok-twice.twice m e (returns-then-times-eq0-2-clause-over t c)
 
 pub returns-then-times-eq0-2-clause-len : goal.returns-then-times-eq0-2-clause-len
 returns-then-times-eq0-2-clause-len t c =
@@ -47,6 +51,9 @@ returns-clause-over t c =
     let e : c.args.times ≡ half + half + 1 = omega (arith, odd) in
     let even = twice (half + half) half c.args.cord.now c.in_ok-half.half c.in_ok-twice.twice refl c.in_ok-half.ensures.over c.in_ok-twice.ensures.over in
     once_more c.args.times (half + half) c.args.cord.now c.in_ok-twice.twice c.in_ok-odd.odd e even c.in_ok-odd.ensures.over
+
+pub returns-clause-means : goal.returns-clause-means
+returns-clause-means t c = λ ls bytes copies m e. means_repeated ls bytes copies c.args.times c.args.cord.now c.in_ok-odd.odd m e (returns-clause-over t c)
 
 pub returns-clause-len : goal.returns-clause-len
 returns-clause-len t c =

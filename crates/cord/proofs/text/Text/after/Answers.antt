@@ -1,7 +1,7 @@
 use Rattle.std.proofs.Common.{◌≡◌, ℕ, ◌+◌, ◌≤◌, length, drop, ◌∙◌, ap, arith}
 use Rattle.std.specs.Prelude.{min}
 use Rattle.cord.proofs.Pieces.{rest_whole, rest_clipped}
-use Rattle.cord.proofs.text.Text.behind.Goals as goal
+use Rattle.cord.proofs.text.Text.after.Goals as goal
 
 pub returns-clause-text : goal.returns-clause-text
 returns-clause-text c =

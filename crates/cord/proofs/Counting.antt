@@ -1,0 +1,44 @@
+-- How often a byte stands in a text that is counted chunk by chunk.
+use Rattle.std.proofs.Common.{◌≡◌, ℕ, zero, suc, ◌+◌, ◌-◌, ◌≤◌, Bool, true, false, cond, List, length, drop, ap, ◌∙◌, refl, arith}
+use Rattle.std.specs.Prelude.{slice_index}
+use Rattle.std.specs.List.{count_by}
+use Rattle.std.proofs.lemmas.List.Sums.{count_by-le-length, sum_by-append, sum_by-drop_more}
+use Rattle.std.proofs.lemmas.List.{drop_all}
+use Rattle.memchr.specs.Find.{places_from, places}
+use Rattle.cord.specs.declared.chunks.Chunk.{Chunk}
+use Rattle.cord.specs.Chunks.{chunk_bytes, IsChunkAt}
+
+-- the bytes before a place are counted
+pub record IsCounted (p : ℕ → Bool) (x : List ℕ) (place count : ℕ) : Type 0 where
+  pub inside : place ≤ length x
+  pub sum : count + count_by p (drop place x) ≡ count_by p x
+
+module _ (p : ℕ → Bool) (x : List ℕ) (place count : ℕ) (i : IsCounted p x place count) where
+  module _ (chunk : Chunk) (k : IsChunkAt x place chunk) where
+    rest : count_by p (drop place x) ≡ count_by p (chunk_bytes chunk) + count_by p (drop (place + length (chunk_bytes chunk)) x)
+    rest = ap (λ (y : List ℕ). count_by p y) k.text ∙ sum_by-append (λ (b : ℕ). cond (p b) 1 0) (chunk_bytes chunk) (drop (place + length (chunk_bytes chunk)) x)
+
+    pub counted_next : IsCounted p x (place + length (chunk_bytes chunk)) (count + count_by p (chunk_bytes chunk))
+    counted_next = record { inside = k.inside; sum = omega (arith, rest, i.sum) }
+
+    pub counted_fits : count + count_by p (chunk_bytes chunk) ≤ length x
+    counted_fits = omega (arith, rest, i.sum, count_by-le-length p x)
+
+  pub counted_all : length x ≤ place → count ≡ count_by p x
+  counted_all le = let none : count_by p (drop place x) ≡ 0 = ap (λ (y : List ℕ). count_by p y) (drop_all place x le) in omega (arith, none, i.sum)
+
+-- as many places as bytes pass a test
+count_places : (p : ℕ → Bool) (hay : List ℕ) (i n : ℕ) → i + n ≡ length hay → length (places_from p hay i n) ≡ count_by p (drop i hay)
+unfolding places_from
+count_places p hay i zero e = rw (drop_all i hay (omega (arith, e))) refl
+count_places p hay i (suc n) e = step (p (slice_index hay i)) refl (count_places p hay (i + 1) n (omega (arith, e)))
+  where
+    all : count_by p (drop i hay) ≡ cond (p (slice_index hay i)) 1 0 + count_by p (drop (i + 1) hay)
+    all = sum_by-drop_more (λ (b : ℕ). cond (p b) 1 0) hay i 0 (omega (arith, e))
+
+    step : (is : Bool) → p (slice_index hay i) ≡ is → length (places_from p hay (i + 1) n) ≡ count_by p (drop (i + 1) hay) → length (places_from p hay i (suc n)) ≡ count_by p (drop i hay)
+    step true h later = rw (h, all, h) (omega (arith, later))
+    step false h later = rw (h, all, h) (omega (arith, later))
+
+pub counted_places : (p : ℕ → Bool) (hay : List ℕ) → length (places p hay) ≡ count_by p hay
+counted_places p hay = let all : length hay - 0 ≡ length hay = omega arith in ap (λ (n : ℕ). length (places_from p hay 0 n)) all ∙ count_places p hay 0 (length hay) (omega arith)
