@@ -1,0 +1,117 @@
+-- The rows and machine values of handles, as the walks meet them.
+use Rattle.std.proofs.Common.{◌≡◌, ℕ, List, [], ◌∷◌, refl, Global}
+use lib.Dec.{T as Yes}
+use mir.Raw.{raw as bare}
+use mir.Val.{Val, vunit, vstruct, vcons, vnil, has_ty, WT}
+use seplogic.Ra.Ura.{Ura}
+use base.Fml.{Lft, Incl, feq}
+use base.Fraction.{full_share}
+use base.Logic.{ent, sep, via, fst∗, snd∗, never, never_e, guard, guard_i, id⊢}
+use contract.Monad.{fact_use}
+use types.Logic.{Logic, sem}
+use types.Kit.{Item, Goal, Seq, Step, step, ‵, ◌$◌, move, drop, fsplit, fjoin}
+use denote.Laws.{Is, shows}
+use denote.Memory.{lone}
+use denote.RattleType.{RattleType, RowLaws}
+use denote.RawPtr.{Ptr, block_ptr, null_ptr, ptr_val, lies_at, Testable}
+use denote.Shadow.{pure_i, Pure}
+use denote.Steps.{peeks}
+use denote.Struct.Laws.{RawPtr-plain, lawfuls}
+use denote.Struct.Owning.{Owning, shape, to}
+use denote.Struct.OwningLaws.{Laws as OwningLaws}
+use denote.Struct.Struct.{Struct, Struct-Pure, Struct-Lawful, layout}
+use Rattle.std.proofs.GlobalToken.{dealloc_token-Testable}
+use Rattle.std.proofs.alloc.Global.TheLaws as heap_laws
+use Rattle.std.specs.Box.Ownership.{box_owns}
+use Rattle.std.specs.contracts.alloc.Global as heap
+use Rattle.std.specs.contracts.impls.GlobalAllocator.TheImpl.{ghosts}
+use Rattle.cord.proofs.text.Text.TheLaws as text_laws
+use Rattle.cord.specs.contracts.text.Text as text
+use Rattle.cord_c.proofs.Values.{loose_in}
+use Rattle.cord_c.specs.Handles.{the_heap, frees, handle_owns}
+use Rattle.cord_c.specs.contracts.handle.Handle as handle
+use Rattle.cord_c.specs.contracts.loose.Loose as loose
+use Rattle.cord_c.specs.declared.loose.Loose.{Loose}
+use Rattle.cord_c.proofs.loose.Loose.TheLaws as loose_laws
+use Rattle.cord_c.specs.declared.handle.Handle.{Handle}
+use Rattle.cord_c.proofs.handle.Handle.TheLaws as handle_laws
+
+-- the allocator's handle is one value
+abbrev pub heap_val : Val
+heap_val = vstruct (vcons (vstruct (vcons vunit vnil)) vnil)
+
+pub heap_is : (a : Global) → Is heap.the_row a (heap_val ∷ [])
+heap_is a = ((vstruct (vcons vunit vnil) ∷ [], tt), (refl, (((vunit ∷ [], tt), (refl, (refl, tt))), tt)))
+
+-- and owns nothing
+pub heap_plain : (a : Global) (vs : List Val) → Pure (heap.the_row.own_val a vs)
+heap_plain a vs = heap_laws.the_field_plain (heap.the_type.to a) vs
+
+pub heap_typed : Yes (has_ty (lone heap.the_row.mir) heap_val) × WT heap_val
+heap_typed = (tt, ((tt, tt), tt))
+
+-- a text on the heap by its pointer
+abbrev pub LooseText : RattleType
+LooseText = loose.the_row text.the_row heap.the_row ghosts
+
+abbrev pub loose_val : Loose (List ℕ) Global → Val
+loose_val r = vstruct (vcons (ptr_val r.at) (vcons heap_val vnil))
+
+abbrev loose_type : Owning
+loose_type = loose.the_type text.the_row heap.the_row ghosts
+
+abbrev loose_owning : OwningLaws loose_type
+loose_owning = loose_laws.the_laws text.the_row heap.the_row ghosts text_laws.the_row_laws heap_laws.the_row_laws heap_laws.the_told
+
+loose_are : (r : Loose (List ℕ) Global) → Is (Struct (shape loose_type)) (to loose_type r) (loose_val r ∷ [])
+loose_are r = ((ptr_val r.at ∷ [], (heap_val ∷ [], tt)), (refl, (refl, (heap_is r.alloc, tt))))
+
+pub loose_tells : (r : Loose (List ℕ) Global) (vs : List Val) → Is LooseText r vs → vs ≡ loose_val r ∷ []
+loose_tells = (loose_laws.lowers text.the_row heap.the_row ghosts text_laws.the_row_laws heap_laws.the_row_laws heap_laws.the_told).val_is
+
+-- the two fields of a handle alone
+abbrev pub Fields : RattleType
+Fields = Struct (shape handle.the_type)
+
+abbrev pub fields_of : Handle → Fields.Denot
+fields_of = to handle.the_type
+
+abbrev pub handle_val : Handle → Val
+handle_val h = vstruct (vcons (ptr_val h.at) (vcons heap_val vnil))
+
+pub fields_are : (h : Handle) → Is Fields (fields_of h) (handle_val h ∷ [])
+fields_are h = ((ptr_val h.at ∷ [], (heap_val ∷ [], tt)), (refl, (refl, (heap_is h.alloc, tt))))
+
+fields_pure : (h : Handle) (vs : List Val) → Pure (Fields.own_val (fields_of h) vs)
+fields_pure h vs = Struct-Pure (shape handle.the_type) (RawPtr-plain, (heap_laws.the_field_plain, tt)) (fields_of h) vs
+
+module _ {M : Type 1} {𝓤 : Ura M} (𝓛 : Logic 𝓤) where
+  pub loose_typed : (r : Loose (List ℕ) Global) → Yes (has_ty (lone LooseText.mir) (loose_val r)) × WT (loose_val r)
+  loose_typed r = ((Struct-Lawful 𝓛 (shape loose_type) (lawfuls 𝓛 loose_type.parts loose_owning)).typed (to loose_type r) (loose_val r ∷ []) (loose_are r)).0
+
+  pub handle_typed : (h : Handle) → Yes (has_ty (layout (shape handle.the_type)) (handle_val h)) × WT (handle_val h)
+  handle_typed h = ((Struct-Lawful 𝓛 (shape handle.the_type) (lawfuls 𝓛 handle.struct.parts handle_laws.the_laws)).typed (fields_of h) (handle_val h ∷ []) (fields_are h)).0
+
+  -- a text on the heap is a handle's
+  pub held : (p : Ptr) (c : List ℕ) → ent 𝓤 (sem 𝓛 (box_owns frees text.the_row p c)) (sem 𝓛 (handle_owns p c))
+  held (block_ptr b o) c = id⊢ 𝓤 _
+  held null_ptr c = via 𝓤 (never 𝓤) (fst∗ 𝓤 (never 𝓤) (sem 𝓛 (frees (bare (lone text.the_row.mir)) null_ptr))) (never_e 𝓤 (sem 𝓛 (handle_owns null_ptr c)))
+
+  -- and lies where a pointer may be compared with null
+  pub tested : (p : Ptr) (c : List ℕ) → ent 𝓤 (sem 𝓛 (box_owns frees text.the_row p c)) (guard 𝓤 (Testable p) (sem 𝓛 (box_owns frees text.the_row p c)))
+  tested p c = fact_use 𝓤 (Testable p) (via 𝓤 (sem 𝓛 (frees (bare (lone text.the_row.mir)) p)) (snd∗ 𝓤 (sem 𝓛 (lies_at text.the_row full_share p c)) (sem 𝓛 (frees (bare (lone text.the_row.mir)) p))) (dealloc_token-Testable 𝓛 the_heap (bare (lone text.the_row.mir)) p)) (guard_i 𝓤 (Testable p) (sem 𝓛 (box_owns frees text.the_row p c)))
+
+module _ {M : Type 1} {𝓤 : Ura M} {𝓛 : Logic 𝓤} {X : Type 0} {Γ : List (Item 𝓤)} {G : Goal 𝓤 𝓛.H} where
+  -- a handle is made of what it owns
+  pub packs : X → (h : Handle) → Step X 𝓛 (‵ (handle.the_row.own_val h (handle_val h ∷ [])) ∷ Γ) G (‵ (handle_owns h.at h.text) ∷ Γ) G
+  packs t h = step (λ s. pure_i t (Fields.own_val (fields_of h) (handle_val h ∷ [])) (fields_pure h (handle_val h ∷ [])) (fields_are h) $ fjoin t $ s)
+
+  -- a text on the heap is made of it
+  pub packs_loose : X → (b o : ℕ) (a : Global) (c : List ℕ)
+      → Step X 𝓛 (‵ (LooseText.own_val (record { at = block_ptr b o; alloc = a; value = c }) (loose_val (record { at = block_ptr b o; alloc = a; value = c }) ∷ [])) ∷ Γ) G (‵ (box_owns frees text.the_row (block_ptr b o) c) ∷ Γ) G
+  packs_loose t b o a c = step (λ s. pure_i t (heap.the_row.own_val a (heap_val ∷ [])) (heap_plain a (heap_val ∷ [])) (heap_is a) $ move t (1 ∷ 0 ∷ []) $
+      loose_in text.the_row heap.the_row heap_laws.the_row_laws ghosts t b o heap_val a c $ s)
+
+  -- and taken apart to it
+  pub unpacks : X → (h : Handle) (vs : List Val) → (vs ≡ handle_val h ∷ [] → Seq X 𝓛 (‵ (handle_owns h.at h.text) ∷ Γ) G) → Seq X 𝓛 (‵ (handle.the_row.own_val h vs) ∷ Γ) G
+  unpacks t h vs rest = peeks t handle.the_row (Is handle.the_row) (shows 𝓛 handle.the_row) h vs (λ is. fsplit t $ drop t $ rest (handle_laws.lowers.val_is h vs is))

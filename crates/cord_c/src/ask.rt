@@ -1,0 +1,202 @@
+// What a text has.
+ghost use Rattle.std.specs.Prelude.{◌≡◌, ◌⊎◌, ◌-◌, ◌<◌, ◌≤◌, [], ◌∷◌, length, take, drop, Some, None, slice_get};
+ghost use Rattle.std.specs.Ordering.{nat_cmp};
+ghost use Rattle.std.specs.Cmp.Lexicographic.{slice_cmp};
+ghost use Rattle.cord_core.specs.Texts.{first};
+ghost use Rattle.cord.specs.Places.{last_before};
+ghost use Rattle.cord_c.specs.Codes.{IsKeeping};
+ghost use Rattle.cord_c.specs.Answers.{place_or_none, sign_of};
+ghost use denote.RawPtr.{Testable};
+ghost use Rattle.core.specs.Ptr.{as_mut_ptr};
+
+use crate::Handle;
+use crate::code::{BAD_ARGUMENT, NO_MEMORY, NOT_FOUND, OK};
+use crate::pointer::missing;
+use cord::{MAX_DEPTH, Text};
+use std::alloc::Global;
+use std::cmp::Ordering;
+
+/// The number of bytes.
+#[unsafe(no_mangle)]
+pub extern "C" fn zc_len(alloc: Global, x: &mut Handle) -> u64
+    requires places { Testable (as_mut_ptr x) }
+    ensures len { result ≡ length x.old.text }
+    ensures x { x.new.text ≡ x.old.text }
+{
+    if missing(x) {
+        return 0;
+    }
+    let Some(text) = x.lift(alloc) else {
+        return 0;
+    };
+    let answer = text.len();
+    x.lower(text);
+    answer
+}
+
+/// The depth of the tree: 0 for one part and for no bytes.
+#[unsafe(no_mangle)]
+pub extern "C" fn zc_depth(alloc: Global, x: &mut Handle) -> u32
+    requires places { Testable (as_mut_ptr x) }
+    ensures limit { result ≤ MAX_DEPTH }
+    ensures x { x.new.text ≡ x.old.text }
+{
+    if missing(x) {
+        return 0;
+    }
+    let Some(text) = x.lift(alloc) else {
+        return 0;
+    };
+    let answer = text.as_cord().depth();
+    x.lower(text);
+    answer
+}
+
+/// Writes the byte of `x` at `place` to `byte`: `BAD_ARGUMENT` at or past the end, and `byte` stays.
+#[unsafe(no_mangle)]
+pub extern "C" fn zc_fetch(alloc: Global, x: &mut Handle, place: u64, byte: &mut u8) -> i32
+    requires places { Testable (as_mut_ptr x) × Testable (as_mut_ptr byte) }
+    ensures byte { result ≡ OK → slice_get x.old.text place ≡ Some byte.new }
+    ensures past { result ≡ BAD_ARGUMENT → slice_get x.old.text place ≡ None }
+    ensures kept { (result ≡ OK) ⊎ (byte.new ≡ byte.old) }
+    ensures code { (result ≡ OK) ⊎ (result ≡ BAD_ARGUMENT) }
+    ensures x { x.new.text ≡ x.old.text }
+{
+    if missing(x) || missing(byte) {
+        return BAD_ARGUMENT;
+    }
+    let Some(text) = x.lift(alloc) else {
+        return BAD_ARGUMENT;
+    };
+    let found = text.get(place);
+    x.lower(text);
+    let Some(found) = found else {
+        return BAD_ARGUMENT;
+    };
+    *byte = found;
+    OK
+}
+
+/// The first place of `x` from `start` on that has this byte.
+#[unsafe(no_mangle)]
+pub extern "C" fn zc_chr(alloc: Global, x: &mut Handle, start: u64, byte: u8) -> u64
+    requires places { Testable (as_mut_ptr x) }
+    ensures first { result ≡ place_or_none (first x.old.text start (byte ∷ [])) }
+    ensures x { x.new.text ≡ x.old.text }
+{
+    if missing(x) {
+        return NOT_FOUND;
+    }
+    let Some(text) = x.lift(alloc) else {
+        return NOT_FOUND;
+    };
+    let answer = text.find_byte(byte, start).unwrap_or(NOT_FOUND);
+    x.lower(text);
+    answer
+}
+
+/// The last place of `x` before `end` that has this byte.
+#[unsafe(no_mangle)]
+pub extern "C" fn zc_rchr(alloc: Global, x: &mut Handle, end: u64, byte: u8) -> u64
+    requires places { Testable (as_mut_ptr x) }
+    ensures last { result ≡ place_or_none (last_before x.old.text end byte) }
+    ensures x { x.new.text ≡ x.old.text }
+{
+    if missing(x) {
+        return NOT_FOUND;
+    }
+    let Some(text) = x.lift(alloc) else {
+        return Text::empty().rfind_byte(byte, end).unwrap_or(NOT_FOUND);
+    };
+    let answer = text.rfind_byte(byte, end).unwrap_or(NOT_FOUND);
+    x.lower(text);
+    answer
+}
+
+/// Writes the first place of `x` from `start` on where the bytes of `y` stand to `place`. No bytes stand at each place
+/// up to the end.
+#[unsafe(no_mangle)]
+pub extern "C" fn zc_str(
+    alloc: Global,
+    x: &mut Handle,
+    start: u64,
+    y: &mut Handle,
+    place: &mut u64,
+) -> i32
+    requires places { Testable (as_mut_ptr x) × Testable (as_mut_ptr y) × Testable (as_mut_ptr place) }
+    ensures first { result ≡ OK → place.new ≡ place_or_none (first x.old.text start y.old.text) }
+    ensures kept { (result ≡ OK) ⊎ (place.new ≡ place.old) }
+    ensures code { IsKeeping result }
+    ensures x { x.new.text ≡ x.old.text }
+    ensures y { y.new.text ≡ y.old.text }
+{
+    if missing(x) || missing(y) || missing(place) {
+        return BAD_ARGUMENT;
+    }
+    let Ok(left) = x.read(alloc) else {
+        return NO_MEMORY;
+    };
+    let Ok(right) = y.read(alloc) else {
+        return NO_MEMORY;
+    };
+    *place = left.find_text(&right, start).unwrap_or(NOT_FOUND);
+    OK
+}
+
+/// Writes the order of the two lists of bytes to `order`: -1 where `x` comes first, 0 where they are equal, 1 where `y`
+/// comes first.
+#[unsafe(no_mangle)]
+pub extern "C" fn zc_cmp(alloc: Global, x: &mut Handle, y: &mut Handle, order: &mut i32) -> i32
+    requires places { Testable (as_mut_ptr x) × Testable (as_mut_ptr y) × Testable (as_mut_ptr order) }
+    ensures order { result ≡ OK → order.new ≡ sign_of (slice_cmp nat_cmp x.old.text y.old.text) }
+    ensures kept { (result ≡ OK) ⊎ (order.new ≡ order.old) }
+    ensures code { IsKeeping result }
+    ensures x { x.new.text ≡ x.old.text }
+    ensures y { y.new.text ≡ y.old.text }
+{
+    if missing(x) || missing(y) || missing(order) {
+        return BAD_ARGUMENT;
+    }
+    let Ok(left) = x.read(alloc) else {
+        return NO_MEMORY;
+    };
+    let Ok(right) = y.read(alloc) else {
+        return NO_MEMORY;
+    };
+    *order = match left.compare(&right) {
+        Ordering::Less => -1,
+        Ordering::Equal => 0,
+        Ordering::Greater => 1,
+    };
+    OK
+}
+
+/// Copies as many bytes of `x` from `start` on as `bytes` has: `BAD_ARGUMENT` where there are fewer, `NO_MEMORY` where
+/// memory was refused, and then `bytes` stays.
+#[unsafe(no_mangle)]
+pub extern "C" fn zc_to_bytes(alloc: Global, x: &mut Handle, start: u64, bytes: &mut [u8]) -> i32
+    requires places { Testable (as_mut_ptr x) }
+    ensures bytes { result ≡ OK → bytes.new ≡ take (length bytes.old) (drop start x.old.text) }
+    ensures few { result ≡ BAD_ARGUMENT → length x.old.text - start < length bytes.old }
+    ensures kept { (result ≡ OK) ⊎ (bytes.new ≡ bytes.old) }
+    ensures code { (result ≡ OK) ⊎ (result ≡ NO_MEMORY) ⊎ (result ≡ BAD_ARGUMENT) }
+    ensures x { x.new.text ≡ x.old.text }
+{
+    if missing(x) {
+        return BAD_ARGUMENT;
+    }
+    let Ok(old) = x.read(alloc) else {
+        return NO_MEMORY;
+    };
+    let Ok(part) = old.substr(alloc, start, bytes.len() as u64) else {
+        return NO_MEMORY;
+    };
+    if part.len() < bytes.len() as u64 {
+        return BAD_ARGUMENT;
+    }
+    let Ok(copy) = part.to_vec(alloc) else {
+        return NO_MEMORY;
+    };
+    bytes.copy_from_slice(&copy);
+    OK
+}

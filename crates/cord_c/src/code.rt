@@ -1,0 +1,32 @@
+//! The codes that calls give, which the header names too.
+ghost use Rattle.std.specs.Prelude.{◌≡◌, ◌⊎◌, ◌↔◌};
+ghost use Rattle.cord_core.specs.Refusals.{IsRefusal};
+
+use cord::CordError;
+
+/// The call did what it says.
+pub const OK: i32 = 0;
+
+/// The text would be longer than the longest that there is.
+pub const TOO_LONG: i32 = 1;
+
+/// Memory was refused.
+pub const NO_MEMORY: i32 = 2;
+
+/// A pointer was null, or there is no such place.
+pub const BAD_ARGUMENT: i32 = 5;
+
+/// The place that a search gives where it found none.
+pub const NOT_FOUND: u64 = u64::MAX;
+
+/// The code of a call that was refused as too long or for want of memory.
+pub(crate) fn code_of(refusal: CordError) -> i32
+    requires { IsRefusal refusal }
+    ensures code { (result ≡ TOO_LONG) ⊎ (result ≡ NO_MEMORY) }
+    ensures cause { (result ≡ TOO_LONG) ↔ (refusal ≡ CordError.TooLong) }
+{
+    match refusal {
+        CordError::TooLong => TOO_LONG,
+        _ => NO_MEMORY,
+    }
+}

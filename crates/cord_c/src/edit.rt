@@ -1,0 +1,119 @@
+// Parts of a text, and texts with a part put in or taken out.
+ghost use Rattle.std.specs.Prelude.{◌≡◌, ◌⊎◌, ◌+◌, ◌<◌, ◌≤◌, ◌++◌, length, take, drop};
+ghost use Rattle.cord_c.specs.Codes.{IsMaking, IsKeeping};
+ghost use denote.RawPtr.{Testable};
+ghost use Rattle.core.specs.Ptr.{as_mut_ptr};
+
+use crate::Handle;
+use crate::code::{BAD_ARGUMENT, NO_MEMORY, OK, TOO_LONG, code_of};
+use crate::pointer::missing;
+use cord::{MAX_LEN, Text};
+use std::alloc::Global;
+
+/// The bytes of `x` from `start` on, at most `count` of them.
+#[unsafe(no_mangle)]
+pub extern "C" fn zc_substr(
+    alloc: Global,
+    x: &mut Handle,
+    start: u64,
+    count: u64,
+    out: &mut Handle,
+) -> i32
+    requires places { Testable (as_mut_ptr x) × Testable (as_mut_ptr out) }
+    ensures text { result ≡ OK → out.new.text ≡ take count (drop start x.old.text) }
+    ensures kept { (result ≡ OK) ⊎ (out.new.text ≡ out.old.text) }
+    ensures code { IsKeeping result }
+    ensures x { x.new.text ≡ x.old.text }
+{
+    if missing(x) || missing(out) {
+        return BAD_ARGUMENT;
+    }
+    let Ok(old) = x.read(alloc) else {
+        return NO_MEMORY;
+    };
+    match old.substr(alloc, start, count) {
+        Ok(text) => out.hold(alloc, text),
+        Err(_) => NO_MEMORY,
+    }
+}
+
+/// The bytes of `x` in a tree that is not deep.
+#[unsafe(no_mangle)]
+pub extern "C" fn zc_balance(alloc: Global, x: &mut Handle, out: &mut Handle) -> i32
+    requires places { Testable (as_mut_ptr x) × Testable (as_mut_ptr out) }
+    ensures text { result ≡ OK → out.new.text ≡ x.old.text }
+    ensures kept { (result ≡ OK) ⊎ (out.new.text ≡ out.old.text) }
+    ensures code { IsKeeping result }
+    ensures x { x.new.text ≡ x.old.text }
+{
+    if missing(x) || missing(out) {
+        return BAD_ARGUMENT;
+    }
+    let Ok(old) = x.read(alloc) else {
+        return NO_MEMORY;
+    };
+    match old.balance(alloc) {
+        Ok(text) => out.hold(alloc, text),
+        Err(_) => NO_MEMORY,
+    }
+}
+
+/// `x` with the bytes of `y` in front of its byte `start`: at its end where it has no such byte.
+#[unsafe(no_mangle)]
+pub extern "C" fn zc_insert(
+    alloc: Global,
+    x: &mut Handle,
+    start: u64,
+    y: &mut Handle,
+    out: &mut Handle,
+) -> i32
+    requires places { Testable (as_mut_ptr x) × Testable (as_mut_ptr y) × Testable (as_mut_ptr out) }
+    ensures text { result ≡ OK → out.new.text ≡ take start x.old.text ++ y.old.text ++ drop start x.old.text }
+    ensures kept { (result ≡ OK) ⊎ (out.new.text ≡ out.old.text) }
+    ensures too_long { result ≡ TOO_LONG → MAX_LEN < length x.old.text + length y.old.text }
+    ensures fits { result ≡ OK → length x.old.text + length y.old.text ≤ MAX_LEN }
+    ensures code { IsMaking result }
+    ensures x { x.new.text ≡ x.old.text }
+    ensures y { y.new.text ≡ y.old.text }
+{
+    if missing(x) || missing(y) || missing(out) {
+        return BAD_ARGUMENT;
+    }
+    let Ok(left) = x.read(alloc) else {
+        return NO_MEMORY;
+    };
+    let Ok(right) = y.read(alloc) else {
+        return NO_MEMORY;
+    };
+    match left.insert(alloc, start, &right) {
+        Ok(text) => out.hold(alloc, text),
+        Err(refusal) => code_of(refusal),
+    }
+}
+
+/// `x` without at most `count` of its bytes from `start` on.
+#[unsafe(no_mangle)]
+pub extern "C" fn zc_remove(
+    alloc: Global,
+    x: &mut Handle,
+    start: u64,
+    count: u64,
+    out: &mut Handle,
+) -> i32
+    requires places { Testable (as_mut_ptr x) × Testable (as_mut_ptr out) }
+    ensures text { result ≡ OK → out.new.text ≡ take start x.old.text ++ drop (start + count) x.old.text }
+    ensures kept { (result ≡ OK) ⊎ (out.new.text ≡ out.old.text) }
+    ensures code { IsKeeping result }
+    ensures x { x.new.text ≡ x.old.text }
+{
+    if missing(x) || missing(out) {
+        return BAD_ARGUMENT;
+    }
+    let Ok(old) = x.read(alloc) else {
+        return NO_MEMORY;
+    };
+    match old.remove(alloc, start, count) {
+        Ok(text) => out.hold(alloc, text),
+        Err(_) => NO_MEMORY,
+    }
+}

@@ -1,0 +1,116 @@
+//! What a `zc_cord` of C is: a pointer to a text on the heap, or null for the text of no bytes.
+ghost use Rattle.std.specs.Prelude.{◌≡◌, ◌⊎◌, ℕ, List, [], IfOk, IsOkUnless, MatchOption};
+ghost use denote.RawPtr.{Testable};
+ghost use Rattle.cord_c.specs.Codes.{IsKeeping};
+ghost use Rattle.cord_c.specs.Handles.{handle_owns};
+
+use crate::code::{NO_MEMORY, OK};
+use crate::loose::Loose;
+use cord::{CordError, Text};
+use std::alloc::Global;
+use std::marker::Model;
+use std::mem::replace;
+
+/// Owns the text at the pointer, where it isn't null. In C it is a struct of one pointer, which doesn't say to what.
+#[repr(C)]
+pub struct Handle {
+    at: *mut u8,
+    alloc: Global,
+    pub ghost text: { List ℕ },
+    ghost testable: { Testable at },
+}
+
+impl Model for Handle {
+    ghost also_owns = { λ h. handle_owns h.at h.text };
+}
+
+impl Drop for Handle {
+    fn drop(self) {
+        if let Some(text) = self.into_loose() {
+            drop(text.into_box());
+        }
+    }
+}
+
+impl Handle {
+    /// The handle of the text of no bytes: null.
+    pub(crate) fn empty(alloc: Global) -> Handle
+        ensures { result.text ≡ [] }
+    {
+        Handle {
+            at: std::ptr::null_mut(),
+            alloc,
+        }
+    }
+
+    /// The handle of a text on the heap.
+    pub(crate) fn of(text: Loose<Text, Global>) -> Handle
+        ensures { result.text ≡ text.value }
+    {
+        let Loose { at, alloc } = text;
+        Handle {
+            at: at as *mut u8,
+            alloc,
+        }
+    }
+
+    /// The text on the heap, nothing where the pointer is null.
+    pub(crate) fn into_loose(self) -> Option<Loose<Text, Global>>
+        ensures { MatchOption result (self.text ≡ []) (λ l. l.value ≡ self.text) }
+    {
+        let Handle { at, alloc } = self;
+        if at.is_null() {
+            return None;
+        }
+        Some(Loose {
+            at: at as *mut Text,
+            alloc,
+        })
+    }
+
+    /// Takes the text away, and leaves none of the bytes; nothing where the pointer is null.
+    pub(crate) fn lift(&mut self, alloc: Global) -> Option<Box<Text, Global>>
+        ensures text { MatchOption result (self.old.text ≡ []) (λ b. b.value ≡ self.old.text) }
+        ensures left { self.new.text ≡ [] }
+    {
+        let held = replace(self, Handle::empty(alloc));
+        match held.into_loose() {
+            None => None,
+            Some(text) => Some(text.into_box()),
+        }
+    }
+
+    /// Holds this text on the heap from now on.
+    pub(crate) fn lower(&mut self, text: Box<Text, Global>)
+        ensures { self.new.text ≡ text.value }
+    {
+        *self = Handle::of(Loose::of(text));
+    }
+
+    /// The text once more, which shares its tree. Refused for want of memory alone.
+    pub(crate) fn read(&mut self, alloc: Global) -> Result<Text, CordError>
+        ensures text { IfOk result (λ t. t ≡ self.old.text) }
+        ensures same { self.new.text ≡ self.old.text }
+        ensures refused { IsOkUnless result CordError.NoMemory }
+    {
+        let Some(text) = self.lift(alloc) else {
+            return Ok(Text::empty());
+        };
+        let shared = text.share(alloc);
+        self.lower(text);
+        shared
+    }
+
+    /// Holds this text from now on, and frees the one that it held. Refused for want of memory alone: then it stays.
+    pub(crate) fn hold(&mut self, alloc: Global, text: Text) -> i32
+        ensures held { result ≡ OK → self.new.text ≡ text }
+        ensures kept { (result ≡ OK) ⊎ (self.new.text ≡ self.old.text) }
+        ensures code { IsKeeping result }
+    {
+        let Ok(text) = Box::new(alloc, text) else {
+            return NO_MEMORY;
+        };
+        self.lower(text);
+        OK
+    }
+}

@@ -1,0 +1,13 @@
+//! Cords for programs in C: each exported function is one call of the library. The header is `include/zomtsje.h`.
+#![tactic(auto)]
+
+mod ask;
+mod code;
+mod edit;
+mod handle;
+mod loose;
+mod make;
+mod pointer;
+
+pub use code::{BAD_ARGUMENT, NO_MEMORY, NOT_FOUND, OK, TOO_LONG};
+pub use handle::Handle;

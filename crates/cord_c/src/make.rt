@@ -1,0 +1,152 @@
+// Texts made and freed.
+ghost use Rattle.std.specs.Prelude.{◌≡◌, ◌⊎◌, ◌+◌, ◌<◌, ◌≤◌, [], ◌∷◌, ◌++◌, length, replicate};
+ghost use Rattle.cord_c.specs.Codes.{IsMaking, IsKeeping};
+ghost use denote.RawPtr.{Testable};
+ghost use Rattle.core.specs.Ptr.{as_mut_ptr};
+
+use crate::Handle;
+use crate::code::{BAD_ARGUMENT, NO_MEMORY, OK, TOO_LONG, code_of};
+use crate::pointer::missing;
+use cord::{MAX_LEN, Text};
+use std::alloc::Global;
+
+/// These bytes, of which it takes a copy.
+#[unsafe(no_mangle)]
+pub extern "C" fn zc_from_bytes(alloc: Global, bytes: &[u8], out: &mut Handle) -> i32
+    requires places { Testable (as_mut_ptr out) }
+    ensures text { result ≡ OK → out.new.text ≡ bytes.now }
+    ensures kept { (result ≡ OK) ⊎ (out.new.text ≡ out.old.text) }
+    ensures too_long { result ≡ TOO_LONG → MAX_LEN < length bytes.now }
+    ensures fits { result ≡ OK → length bytes.now ≤ MAX_LEN }
+    ensures code { IsMaking result }
+{
+    if missing(out) {
+        return BAD_ARGUMENT;
+    }
+    match Text::from_bytes(alloc, bytes) {
+        Ok(text) => out.hold(alloc, text),
+        Err(refusal) => code_of(refusal),
+    }
+}
+
+/// `count` times the byte `byte`.
+#[unsafe(no_mangle)]
+pub extern "C" fn zc_chars(alloc: Global, byte: u8, count: u64, out: &mut Handle) -> i32
+    requires places { Testable (as_mut_ptr out) }
+    ensures text { result ≡ OK → out.new.text ≡ replicate count byte }
+    ensures kept { (result ≡ OK) ⊎ (out.new.text ≡ out.old.text) }
+    ensures too_long { result ≡ TOO_LONG → MAX_LEN < count }
+    ensures fits { result ≡ OK → count ≤ MAX_LEN }
+    ensures code { IsMaking result }
+{
+    if missing(out) {
+        return BAD_ARGUMENT;
+    }
+    match Text::repeat(alloc, byte, count) {
+        Ok(text) => out.hold(alloc, text),
+        Err(refusal) => code_of(refusal),
+    }
+}
+
+/// The bytes of `x` and then those of `y`.
+#[unsafe(no_mangle)]
+pub extern "C" fn zc_cat(alloc: Global, x: &mut Handle, y: &mut Handle, out: &mut Handle) -> i32
+    requires places { Testable (as_mut_ptr x) × Testable (as_mut_ptr y) × Testable (as_mut_ptr out) }
+    ensures text { result ≡ OK → out.new.text ≡ x.old.text ++ y.old.text }
+    ensures kept { (result ≡ OK) ⊎ (out.new.text ≡ out.old.text) }
+    ensures too_long { result ≡ TOO_LONG → MAX_LEN < length x.old.text + length y.old.text }
+    ensures fits { result ≡ OK → length x.old.text + length y.old.text ≤ MAX_LEN }
+    ensures code { IsMaking result }
+    ensures x { x.new.text ≡ x.old.text }
+    ensures y { y.new.text ≡ y.old.text }
+{
+    if missing(x) || missing(y) || missing(out) {
+        return BAD_ARGUMENT;
+    }
+    let Ok(left) = x.read(alloc) else {
+        return NO_MEMORY;
+    };
+    let Ok(right) = y.read(alloc) else {
+        return NO_MEMORY;
+    };
+    match Text::cat(alloc, &left, &right) {
+        Ok(text) => out.hold(alloc, text),
+        Err(refusal) => code_of(refusal),
+    }
+}
+
+/// The bytes of `x` and then these, of which it takes a copy.
+#[unsafe(no_mangle)]
+pub extern "C" fn zc_cat_bytes(alloc: Global, x: &mut Handle, bytes: &[u8], out: &mut Handle) -> i32
+    requires places { Testable (as_mut_ptr x) × Testable (as_mut_ptr out) }
+    ensures text { result ≡ OK → out.new.text ≡ x.old.text ++ bytes.now }
+    ensures kept { (result ≡ OK) ⊎ (out.new.text ≡ out.old.text) }
+    ensures too_long { result ≡ TOO_LONG → MAX_LEN < length x.old.text + length bytes.now }
+    ensures fits { result ≡ OK → length x.old.text + length bytes.now ≤ MAX_LEN }
+    ensures code { IsMaking result }
+    ensures x { x.new.text ≡ x.old.text }
+{
+    if missing(x) || missing(out) {
+        return BAD_ARGUMENT;
+    }
+    let Ok(old) = x.read(alloc) else {
+        return NO_MEMORY;
+    };
+    match old.append_bytes(alloc, bytes) {
+        Ok(text) => out.hold(alloc, text),
+        Err(refusal) => code_of(refusal),
+    }
+}
+
+/// The bytes of `x` and then the byte `byte`.
+#[unsafe(no_mangle)]
+pub extern "C" fn zc_cat_char(alloc: Global, x: &mut Handle, byte: u8, out: &mut Handle) -> i32
+    requires places { Testable (as_mut_ptr x) × Testable (as_mut_ptr out) }
+    ensures text { result ≡ OK → out.new.text ≡ x.old.text ++ byte ∷ [] }
+    ensures kept { (result ≡ OK) ⊎ (out.new.text ≡ out.old.text) }
+    ensures too_long { result ≡ TOO_LONG → MAX_LEN < length x.old.text + 1 }
+    ensures fits { result ≡ OK → length x.old.text + 1 ≤ MAX_LEN }
+    ensures code { IsMaking result }
+    ensures x { x.new.text ≡ x.old.text }
+{
+    if missing(x) || missing(out) {
+        return BAD_ARGUMENT;
+    }
+    let Ok(old) = x.read(alloc) else {
+        return NO_MEMORY;
+    };
+    match old.append_bytes(alloc, &[byte]) {
+        Ok(text) => out.hold(alloc, text),
+        Err(refusal) => code_of(refusal),
+    }
+}
+
+/// The same text once more, which shares its tree.
+#[unsafe(no_mangle)]
+pub extern "C" fn zc_share(alloc: Global, x: &mut Handle, out: &mut Handle) -> i32
+    requires places { Testable (as_mut_ptr x) × Testable (as_mut_ptr out) }
+    ensures text { result ≡ OK → out.new.text ≡ x.old.text }
+    ensures kept { (result ≡ OK) ⊎ (out.new.text ≡ out.old.text) }
+    ensures code { IsKeeping result }
+    ensures x { x.new.text ≡ x.old.text }
+{
+    if missing(x) || missing(out) {
+        return BAD_ARGUMENT;
+    }
+    match x.read(alloc) {
+        Ok(text) => out.hold(alloc, text),
+        Err(_) => NO_MEMORY,
+    }
+}
+
+/// Frees the text of `x`, which then has no bytes.
+#[unsafe(no_mangle)]
+pub extern "C" fn zc_free(alloc: Global, x: &mut Handle)
+    requires places { Testable (as_mut_ptr x) }
+    ensures text { x.new.text ≡ [] }
+{
+    if missing(x) {
+        return;
+    }
+    *x = Handle::empty(alloc);
+}
