@@ -1,0 +1,280 @@
+/* Tests of the library through its header. Each row says what it expects; the first that fails ends the program with
+   status 1. With an argument, want of memory is no failure: a call that is refused has to say so, leave its result as
+   it was, and work when it is made again, since one request alone is refused. */
+#include "zomtsje.h"
+#include <stdio.h>
+#include <stdlib.h>
+#include <string.h>
+
+static int may_want = 0;
+static unsigned long rows = 0, wants = 0;
+
+static void expect(int holds, const char *what, int line) {
+    rows++;
+    if (!holds) {
+        fprintf(stderr, "line %d: %s\n", line, what);
+        exit(1);
+    }
+}
+#define EXPECT(holds) expect((holds), #holds, __LINE__)
+
+/* A call that has to end with ZC_OK, once memory is there. */
+#define DO(call)                                                                                                       \
+    do {                                                                                                               \
+        int code = (call);                                                                                             \
+        if (code == ZC_NO_MEMORY && may_want) {                                                                        \
+            wants++;                                                                                                   \
+            code = (call);                                                                                             \
+        }                                                                                                              \
+        EXPECT(code == ZC_OK);                                                                                         \
+    } while (0)
+
+static void expect_text(zc_cord *x, const char *bytes, size_t count, int line) {
+    char *copy = malloc(count + 1);
+    if (copy == NULL && may_want) copy = malloc(count + 1);
+    expect(copy != NULL, "memory for a copy", line);
+    expect(zc_len(x) == count, "the length", line);
+    DO(zc_to_bytes(x, 0, copy, count));
+    expect(memcmp(copy, bytes, count) == 0, "the bytes", line);
+    for (size_t i = 0; i < count; i++) {
+        unsigned char byte = 0;
+        expect(zc_fetch(x, i, &byte) == ZC_OK && byte == (unsigned char)bytes[i], "a byte", line);
+    }
+    free(copy);
+}
+#define EXPECT_TEXT(x, text) expect_text((x), (text), sizeof(text) - 1, __LINE__)
+
+static uint64_t place_of(zc_cord *x, uint64_t start, zc_cord *y) {
+    uint64_t place = 12345;
+    DO(zc_str(x, start, y, &place));
+    return place;
+}
+
+static int32_t order_of(zc_cord *x, zc_cord *y) {
+    int32_t order = 12345;
+    DO(zc_cmp(x, y, &order));
+    return order;
+}
+
+static void makes(void) {
+    zc_cord a = ZC_EMPTY, b = ZC_EMPTY, c = ZC_EMPTY;
+    EXPECT_TEXT(&a, "");
+    EXPECT(zc_depth(&a) == 0);
+    DO(zc_from_bytes("", 0, &a));
+    EXPECT_TEXT(&a, "");
+    DO(zc_from_bytes(NULL, 0, &a));
+    EXPECT_TEXT(&a, "");
+    DO(zc_from_bytes("a\0b", 3, &a));
+    EXPECT_TEXT(&a, "a\0b");
+    DO(zc_chars('x', 5, &b));
+    EXPECT_TEXT(&b, "xxxxx");
+    DO(zc_chars('x', 0, &c));
+    EXPECT_TEXT(&c, "");
+    DO(zc_cat(&a, &b, &c));
+    EXPECT_TEXT(&c, "a\0bxxxxx");
+    DO(zc_cat(&b, &c, &a)); /* the old text of a goes */
+    EXPECT_TEXT(&a, "xxxxxa\0bxxxxx");
+    EXPECT_TEXT(&b, "xxxxx");
+    EXPECT_TEXT(&c, "a\0bxxxxx");
+    DO(zc_cat_bytes(&b, "yz", 2, &a));
+    EXPECT_TEXT(&a, "xxxxxyz");
+    DO(zc_cat_bytes(&b, NULL, 0, &a));
+    EXPECT_TEXT(&a, "xxxxx");
+    DO(zc_cat_char(&b, 0, &a));
+    EXPECT_TEXT(&a, "xxxxx\0");
+    DO(zc_cat_char(&b, 255, &a));
+    EXPECT_TEXT(&a, "xxxxx\377");
+    DO(zc_share(&a, &c));
+    zc_free(&a);
+    EXPECT_TEXT(&c, "xxxxx\377");
+    EXPECT_TEXT(&a, "");
+    zc_free(&a);
+    zc_free(&b);
+    zc_free(&c);
+}
+
+static void cuts(void) {
+    zc_cord a = ZC_EMPTY, b = ZC_EMPTY, c = ZC_EMPTY;
+    DO(zc_from_bytes("the quick brown fox", 19, &a));
+    DO(zc_substr(&a, 4, 5, &b));
+    EXPECT_TEXT(&b, "quick");
+    DO(zc_substr(&a, 16, 100, &b));
+    EXPECT_TEXT(&b, "fox");
+    DO(zc_substr(&a, 19, 1, &b));
+    EXPECT_TEXT(&b, "");
+    DO(zc_substr(&a, UINT64_MAX, UINT64_MAX, &b));
+    EXPECT_TEXT(&b, "");
+    DO(zc_from_bytes("very ", 5, &b));
+    DO(zc_insert(&a, 4, &b, &c));
+    EXPECT_TEXT(&c, "the very quick brown fox");
+    DO(zc_insert(&a, 99, &b, &c));
+    EXPECT_TEXT(&c, "the quick brown foxvery ");
+    DO(zc_remove(&a, 3, 6, &c));
+    EXPECT_TEXT(&c, "the brown fox");
+    DO(zc_remove(&a, 3, UINT64_MAX, &c));
+    EXPECT_TEXT(&c, "the");
+    DO(zc_remove(&a, 19, 1, &c));
+    EXPECT_TEXT(&c, "the quick brown fox");
+    zc_free(&a);
+    zc_free(&b);
+    zc_free(&c);
+}
+
+static void limits(void) {
+    zc_cord most = ZC_EMPTY, one = ZC_EMPTY, out = ZC_EMPTY;
+    unsigned char byte = 7;
+    DO(zc_chars('m', ZC_MAX_LEN, &most));
+    DO(zc_from_bytes("1", 1, &one));
+    DO(zc_from_bytes("old", 3, &out));
+    EXPECT(zc_len(&most) == ZC_MAX_LEN);
+    EXPECT(zc_chars('m', ZC_MAX_LEN + 1, &out) == ZC_TOO_LONG);
+    EXPECT(zc_cat(&most, &one, &out) == ZC_TOO_LONG);
+    EXPECT(zc_cat_char(&most, 'x', &out) == ZC_TOO_LONG || may_want);
+    EXPECT(zc_insert(&most, 5, &one, &out) == ZC_TOO_LONG || may_want);
+    EXPECT_TEXT(&out, "old");
+    EXPECT(zc_fetch(&most, ZC_MAX_LEN, &byte) == ZC_BAD_ARGUMENT);
+    EXPECT(byte == 7);
+    EXPECT(zc_fetch(&most, ZC_MAX_LEN - 1, &byte) == ZC_OK);
+    EXPECT(byte == 'm');
+    zc_free(&most);
+    zc_free(&one);
+    zc_free(&out);
+}
+
+static void trees(void) {
+    zc_cord grown = ZC_EMPTY, longer = ZC_EMPTY, flat = ZC_EMPTY;
+    for (int i = 0; i < 3000; i++) {
+        unsigned char byte;
+        DO(zc_cat_char(&grown, (unsigned char)i, &longer));
+        EXPECT(zc_depth(&longer) <= ZC_MAX_DEPTH);
+        zc_cord kept = grown;
+        grown = longer, longer = kept; /* the two handles change places */
+        EXPECT(zc_fetch(&grown, (uint64_t)i, &byte) == ZC_OK);
+        EXPECT(byte == (unsigned char)i);
+    }
+    EXPECT(zc_len(&grown) == 3000);
+    DO(zc_balance(&grown, &flat));
+    EXPECT(zc_depth(&flat) <= 18);
+    EXPECT(order_of(&grown, &flat) == 0);
+    zc_free(&grown);
+    zc_free(&longer);
+    zc_free(&flat);
+}
+
+static void searches(void) {
+    zc_cord a = ZC_EMPTY, b = ZC_EMPTY;
+    DO(zc_from_bytes("abcabcabd", 9, &a));
+    EXPECT(zc_chr(&a, 0, 'c') == 2);
+    EXPECT(zc_chr(&a, 3, 'c') == 5);
+    EXPECT(zc_chr(&a, 6, 'c') == ZC_NOT_FOUND);
+    EXPECT(zc_chr(&a, 99, 'c') == ZC_NOT_FOUND);
+    EXPECT(zc_rchr(&a, 9, 'c') == 5);
+    EXPECT(zc_rchr(&a, 5, 'c') == 2);
+    EXPECT(zc_rchr(&a, 2, 'c') == ZC_NOT_FOUND);
+    EXPECT(zc_rchr(&a, UINT64_MAX, 'd') == 8);
+    EXPECT(place_of(&a, 0, &b) == 0);
+    EXPECT(place_of(&a, 9, &b) == 9);
+    EXPECT(place_of(&a, 10, &b) == ZC_NOT_FOUND);
+    DO(zc_from_bytes("abd", 3, &b));
+    EXPECT(place_of(&a, 0, &b) == 6);
+    EXPECT(place_of(&a, 7, &b) == ZC_NOT_FOUND);
+    EXPECT(order_of(&a, &b) == -1);
+    EXPECT(order_of(&b, &a) == 1);
+    DO(zc_from_bytes("abcabcabdx", 10, &b));
+    EXPECT(order_of(&a, &b) == -1);
+    EXPECT(order_of(&b, &a) == 1);
+    zc_free(&a);
+    zc_free(&b);
+    EXPECT(order_of(&a, &b) == 0);
+}
+
+static void copies(void) {
+    zc_cord a = ZC_EMPTY;
+    char bytes[4] = "...";
+    DO(zc_from_bytes("abcdef", 6, &a));
+    DO(zc_to_bytes(&a, 2, bytes, 3));
+    EXPECT(memcmp(bytes, "cde", 4) == 0);
+    DO(zc_to_bytes(&a, 3, bytes, 3));
+    EXPECT(memcmp(bytes, "def", 4) == 0);
+    if (!may_want) {
+        EXPECT(zc_to_bytes(&a, 4, bytes, 3) == ZC_BAD_ARGUMENT);
+        EXPECT(zc_to_bytes(&a, UINT64_MAX, bytes, 3) == ZC_BAD_ARGUMENT);
+    }
+    EXPECT(memcmp(bytes, "def", 4) == 0);
+    DO(zc_to_bytes(&a, 99, NULL, 0));
+    zc_free(&a);
+}
+
+/* The pointers are volatile, so that this compiler knows nothing of them. */
+static void nulls(void) {
+    zc_cord *volatile none = NULL;
+    unsigned char *volatile no_byte = NULL, byte = 7;
+    uint64_t *volatile no_place = NULL, place = 7;
+    int32_t *volatile no_order = NULL, order = 7;
+    zc_cord a = ZC_EMPTY, b = ZC_EMPTY, c = ZC_EMPTY;
+    DO(zc_from_bytes("abc", 3, &a));
+    EXPECT(zc_from_bytes("abc", 3, none) == ZC_BAD_ARGUMENT);
+    EXPECT(zc_chars('a', 3, none) == ZC_BAD_ARGUMENT);
+    EXPECT(zc_cat(none, &a, &b) == ZC_BAD_ARGUMENT);
+    EXPECT(zc_cat(&a, none, &b) == ZC_BAD_ARGUMENT);
+    EXPECT(zc_cat(&a, &c, none) == ZC_BAD_ARGUMENT);
+    EXPECT(zc_cat_bytes(none, "abc", 3, &b) == ZC_BAD_ARGUMENT);
+    EXPECT(zc_cat_bytes(&a, "abc", 3, none) == ZC_BAD_ARGUMENT);
+    EXPECT(zc_cat_char(none, 'a', &b) == ZC_BAD_ARGUMENT);
+    EXPECT(zc_cat_char(&a, 'a', none) == ZC_BAD_ARGUMENT);
+    EXPECT(zc_substr(none, 0, 1, &b) == ZC_BAD_ARGUMENT);
+    EXPECT(zc_substr(&a, 0, 1, none) == ZC_BAD_ARGUMENT);
+    EXPECT(zc_insert(none, 0, &a, &b) == ZC_BAD_ARGUMENT);
+    EXPECT(zc_insert(&a, 0, none, &b) == ZC_BAD_ARGUMENT);
+    EXPECT(zc_insert(&a, 0, &c, none) == ZC_BAD_ARGUMENT);
+    EXPECT(zc_remove(none, 0, 1, &b) == ZC_BAD_ARGUMENT);
+    EXPECT(zc_remove(&a, 0, 1, none) == ZC_BAD_ARGUMENT);
+    EXPECT(zc_balance(none, &b) == ZC_BAD_ARGUMENT);
+    EXPECT(zc_balance(&a, none) == ZC_BAD_ARGUMENT);
+    EXPECT(zc_share(none, &b) == ZC_BAD_ARGUMENT);
+    EXPECT(zc_share(&a, none) == ZC_BAD_ARGUMENT);
+    EXPECT(zc_fetch(none, 0, &byte) == ZC_BAD_ARGUMENT);
+    EXPECT(zc_fetch(&a, 0, no_byte) == ZC_BAD_ARGUMENT);
+    EXPECT(zc_to_bytes(none, 0, &b, 0) == ZC_BAD_ARGUMENT);
+    EXPECT(zc_len(none) == 0);
+    EXPECT(zc_depth(none) == 0);
+    EXPECT(zc_chr(none, 0, 'a') == ZC_NOT_FOUND);
+    EXPECT(zc_rchr(none, 9, 'a') == ZC_NOT_FOUND);
+    EXPECT(zc_str(none, 0, &a, &place) == ZC_BAD_ARGUMENT);
+    EXPECT(zc_str(&a, 0, none, &place) == ZC_BAD_ARGUMENT);
+    EXPECT(zc_str(&a, 0, &b, no_place) == ZC_BAD_ARGUMENT);
+    EXPECT(zc_cmp(none, &a, &order) == ZC_BAD_ARGUMENT);
+    EXPECT(zc_cmp(&a, none, &order) == ZC_BAD_ARGUMENT);
+    EXPECT(zc_cmp(&a, &b, no_order) == ZC_BAD_ARGUMENT);
+    EXPECT(place == 7);
+    EXPECT(order == 7);
+    zc_free(none);
+    EXPECT(byte == 7);
+    EXPECT(zc_len(&b) == 0);
+    zc_free(&a);
+}
+
+static void messages(void) {
+    EXPECT(strcmp(zc_message(ZC_OK), "done") == 0);
+    EXPECT(strcmp(zc_message(ZC_TOO_LONG), "too long") == 0);
+    EXPECT(strcmp(zc_message(ZC_NO_MEMORY), "no memory") == 0);
+    EXPECT(strcmp(zc_message(ZC_READ_FAILED), "read failed") == 0);
+    EXPECT(strcmp(zc_message(ZC_WRITE_FAILED), "write failed") == 0);
+    EXPECT(strcmp(zc_message(ZC_BAD_ARGUMENT), "bad argument") == 0);
+    EXPECT(strcmp(zc_message(-1), "unknown code") == 0);
+}
+
+int main(int count, char **words) {
+    (void)words;
+    may_want = count > 1;
+    makes();
+    cuts();
+    limits();
+    searches();
+    copies();
+    nulls();
+    messages();
+    if (!may_want) trees();
+    printf("%lu rows, %lu refused\n", rows, wants);
+    return 0;
+}

@@ -1,0 +1,147 @@
+/* zomtsje.h: cords, immutable byte strings that share their parts.
+ *
+ * A cord is a tree of parts. Joining two cords, or taking a part of one, makes a few new nodes and copies no text, so
+ * texts of any size are edited in almost no time, and old versions stay. A cord never changes; its parts are counted,
+ * and freed with the last cord that has them.
+ *
+ * A zc_cord is a handle: a struct of one pointer that owns a cord. Begin with ZC_EMPTY, the cord of no bytes:
+ *
+ *     zc_cord hello = ZC_EMPTY, both = ZC_EMPTY;
+ *     if (zc_from_bytes("hello ", 6, &hello) == ZC_OK && zc_cat_bytes(&hello, "world", 5, &both) == ZC_OK)
+ *         printf("%llu bytes\n", (unsigned long long)zc_len(&both));
+ *     zc_free(&hello);
+ *     zc_free(&both);
+ *
+ * Handles are owned one by one: never copy the struct, share the cord by zc_share. The handles of one call are different
+ * ones: to join a cord with itself, share it first. A call changes the handles that it reads while it runs, so they
+ * aren't const; they hold the same cord when it returns.
+ *
+ * Calls that make a cord write it to *out, a handle that was begun. What it held is freed; where the call gives another
+ * code than ZC_OK, it holds what it held. A null pointer to a handle or to a result is answered by ZC_BAD_ARGUMENT, or
+ * by what is said at the call; a null pointer to bytes is fine where their number is 0. Any other pointer to what isn't
+ * there is the caller's fault, as is a handle that was copied.
+ *
+ * Use by one thread at a time: cords that have parts in common count them together, so they all stay on one thread.
+ * Memory comes from malloc and realloc, and goes to free. No call ends the program where memory is refused.
+ *
+ * In costs, n is the length of a cord in bytes and d its depth, which is never more than 60.
+ */
+#ifndef ZOMTSJE_H
+#define ZOMTSJE_H
+
+#include <stddef.h>
+#include <stdint.h>
+
+#ifdef __cplusplus
+extern "C" {
+#endif
+
+typedef struct zc_cord {
+    void *tree; /* for the library alone; null for no bytes */
+} zc_cord;
+
+#define ZC_EMPTY {0}
+
+/* A text has at most so many bytes, and a tree at most so many levels below its root. */
+#define ZC_MAX_LEN UINT64_C(1099511627775)
+#define ZC_MAX_DEPTH 60
+
+/* What searches answer where they find nothing. */
+#define ZC_NOT_FOUND UINT64_MAX
+
+/* The codes that calls give. */
+enum {
+    ZC_OK = 0,           /* done */
+    ZC_TOO_LONG = 1,     /* the text would be longer than ZC_MAX_LEN */
+    ZC_NO_MEMORY = 2,    /* memory was refused */
+    ZC_READ_FAILED = 3,  /* kept for cords over files; no call gives it yet */
+    ZC_WRITE_FAILED = 4, /* kept for output; no call gives it yet */
+    ZC_BAD_ARGUMENT = 5  /* a null pointer, or a place that isn't there */
+};
+
+/* A code in words. */
+static inline const char *zc_message(int code) {
+    switch (code) {
+    case ZC_OK: return "done";
+    case ZC_TOO_LONG: return "too long";
+    case ZC_NO_MEMORY: return "no memory";
+    case ZC_READ_FAILED: return "read failed";
+    case ZC_WRITE_FAILED: return "write failed";
+    case ZC_BAD_ARGUMENT: return "bad argument";
+    default: return "unknown code";
+    }
+}
+
+/* ---- making cords ---- */
+
+/* These bytes, of which it takes a copy, any bytes and 0 among them. ZC_TOO_LONG, ZC_NO_MEMORY. O(count). */
+int zc_from_bytes(const void *bytes, size_t count, zc_cord *out);
+
+/* count times the byte. It takes the same little memory whatever the count. ZC_TOO_LONG, ZC_NO_MEMORY. O(1). */
+int zc_chars(unsigned char byte, uint64_t count, zc_cord *out);
+
+/* The bytes of x and then those of y. ZC_TOO_LONG, ZC_NO_MEMORY.
+   O(1); where the tree would be deeper than ZC_MAX_DEPTH, it is balanced first. */
+int zc_cat(zc_cord *x, zc_cord *y, zc_cord *out);
+
+/* The bytes of x and then these, of which it takes a copy. ZC_TOO_LONG, ZC_NO_MEMORY. O(count), and as zc_cat. */
+int zc_cat_bytes(zc_cord *x, const void *bytes, size_t count, zc_cord *out);
+
+/* The bytes of x and then one more. ZC_TOO_LONG, ZC_NO_MEMORY. As zc_cat. */
+int zc_cat_char(zc_cord *x, unsigned char byte, zc_cord *out);
+
+/* The bytes of x from start on, at most count of them: none where start is at or past the end. ZC_NO_MEMORY. O(d). */
+int zc_substr(zc_cord *x, uint64_t start, uint64_t count, zc_cord *out);
+
+/* x with the bytes of y in front of its byte start: at its end where it has no such byte. ZC_TOO_LONG, ZC_NO_MEMORY.
+   O(d). */
+int zc_insert(zc_cord *x, uint64_t start, zc_cord *y, zc_cord *out);
+
+/* x without at most count of its bytes from start on. ZC_NO_MEMORY. O(d). */
+int zc_remove(zc_cord *x, uint64_t start, uint64_t count, zc_cord *out);
+
+/* The bytes of x in a tree no deeper than about 1.44 times the binary logarithm of their number. ZC_NO_MEMORY.
+   As many steps as x has parts that differ. */
+int zc_balance(zc_cord *x, zc_cord *out);
+
+/* The same cord once more. ZC_NO_MEMORY. O(1). */
+int zc_share(zc_cord *x, zc_cord *out);
+
+/* Frees what x owns; x is then ZC_EMPTY, and may be used or freed again. Null is fine. */
+void zc_free(zc_cord *x);
+
+/* ---- asking cords ---- */
+
+/* The number of bytes; 0 of null. O(1). */
+uint64_t zc_len(zc_cord *x);
+
+/* The depth of the tree: 0 for one part and for no bytes, and of null. O(1). */
+uint32_t zc_depth(zc_cord *x);
+
+/* Writes the byte at place to *byte. ZC_BAD_ARGUMENT at or past the end: *byte stays. O(d). */
+int zc_fetch(zc_cord *x, uint64_t place, unsigned char *byte);
+
+/* The first place from start on that has the byte, or ZC_NOT_FOUND, also of null. O(n). */
+uint64_t zc_chr(zc_cord *x, uint64_t start, unsigned char byte);
+
+/* The last place before end that has the byte, or ZC_NOT_FOUND, also of null. O(n). */
+uint64_t zc_rchr(zc_cord *x, uint64_t end, unsigned char byte);
+
+/* Writes the first place of x from start on where the bytes of y stand to *place, or ZC_NOT_FOUND. No bytes stand at
+   each place up to the end. ZC_NO_MEMORY: *place stays. O(n) for most texts. */
+int zc_str(zc_cord *x, uint64_t start, zc_cord *y, uint64_t *place);
+
+/* Writes the order of x and y to *order: -1 where x comes first, 0 where both have the same bytes, 1 where y comes first:
+   by the first bytes that differ, and a text that another one begins with comes first. ZC_NO_MEMORY: *order stays.
+   O(n) at most; parts in common are passed. */
+int zc_cmp(zc_cord *x, zc_cord *y, int32_t *order);
+
+/* Copies count bytes of x from start on to bytes. ZC_BAD_ARGUMENT where x has fewer, ZC_NO_MEMORY; then bytes stays.
+   O(count + d). */
+int zc_to_bytes(zc_cord *x, uint64_t start, void *bytes, size_t count);
+
+#ifdef __cplusplus
+}
+#endif
+
+#endif
