@@ -12,9 +12,9 @@
  *     zc_free(&hello);
  *     zc_free(&both);
  *
- * Handles are owned one by one: never copy the struct, share the cord by zc_share. The handles of one call are different
- * ones: to join a cord with itself, share it first. A call changes the handles that it reads while it runs, so they
- * aren't const; they hold the same cord when it returns.
+ * Handles are owned one by one: never copy the struct, share the cord by zc_share. The handles of one call are
+ * different ones: to join a cord with itself, share it first. A call changes the handles that it reads while it runs,
+ * so they aren't const; they hold the same cord when it returns.
  *
  * Calls that make a cord write it to *out, a handle that was begun. What it held is freed; where the call gives another
  * code than ZC_OK, it holds what it held. A null pointer to a handle or to a result is answered by ZC_BAD_ARGUMENT, or
@@ -131,9 +131,9 @@ uint64_t zc_rchr(zc_cord *x, uint64_t end, unsigned char byte);
    each place up to the end. ZC_NO_MEMORY: *place stays. O(n) for most texts. */
 int zc_str(zc_cord *x, uint64_t start, zc_cord *y, uint64_t *place);
 
-/* Writes the order of x and y to *order: -1 where x comes first, 0 where both have the same bytes, 1 where y comes first:
-   by the first bytes that differ, and a text that another one begins with comes first. ZC_NO_MEMORY: *order stays.
-   O(n) at most; parts in common are passed. */
+/* Writes the order of x and y to *order: -1 where x comes first, 0 where both have the same bytes, 1 where y comes
+   first: by the first bytes that differ, and a text that another one begins with comes first. ZC_NO_MEMORY: *order
+   stays. O(n) at most; parts in common are passed. */
 int zc_cmp(zc_cord *x, zc_cord *y, int32_t *order);
 
 /* Copies count bytes of x from start on to bytes. ZC_BAD_ARGUMENT where x has fewer, ZC_NO_MEMORY; then bytes stays.
