@@ -3,3 +3,4 @@ pub mod Sharing
 pub mod Finding
 pub mod Comparing
 pub mod Standing
+pub mod Repeating

@@ -38,11 +38,11 @@ filled_inside done k n out part long q =
     omega (arith, long, front, length-append (take done out) (part ++ post_of done k out), length-append part (post_of done k out))
 
 -- a text that stands in another ends inside
-stands_inside : (x s : List ℕ) (q : ℕ) → StandsAt x s q → q + length s ≤ length x
+pub stands_inside : (x s : List ℕ) (q : ℕ) → StandsAt x s q → q + length s ≤ length x
 stands_inside x s q at = omega (arith, ap (λ (ys : List ℕ). length ys) at.here, length-drop q x, length-append s at.rest, at.within)
 
 -- the bytes of a text that stands in another
-stands_get : (x s : List ℕ) (q j : ℕ) → StandsAt x s q → j < length s → get_or x (q + j) 0 ≡ get_or s j 0
+pub stands_get : (x s : List ℕ) (q j : ℕ) → StandsAt x s q → j < length s → get_or x (q + j) 0 ≡ get_or s j 0
 stands_get x s q j at lt = sym (get_or-drop q x j 0) ∙ ap (λ (ys : List ℕ). get_or ys j 0) at.here ∙ get_or_append_left s at.rest 0 j lt
 
 -- a text that stands in another occurs in a window that holds it

@@ -5,6 +5,7 @@
 mod ahead;
 mod bytes;
 mod order;
+mod periods;
 mod pieces;
 mod stretches;
 mod substring;

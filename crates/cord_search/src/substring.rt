@@ -4,9 +4,11 @@ ghost use Rattle.cord_io.specs.Device.{Folder, count_after};
 ghost use Rattle.cord_core.specs.Cord.{text_len, bytes_of, IsCord, CordFitsIn};
 ghost use Rattle.cord_core.specs.Texts.{first};
 ghost use Rattle.cord_search.specs.Pieces.{IsPieceOf, IsStanding};
+ghost use Rattle.cord_search.specs.Periods.{IsRepeated};
 
 use crate::PIECE_LEN;
 use crate::order::compare;
+use crate::periods::{Repeats, passed, repeats_of};
 use crate::pieces::{gather, window_at};
 use crate::stretches::cord_stretch_at;
 use cord_core::Cord;
@@ -142,18 +144,21 @@ fn place_of_long<S: Source>(
 {
     let mut front = [0; FRONT_LEN];
     gather(s, 0, &mut front, src)?;
+    let repeats = repeats_of(s, &front, src)?;
     let finder = Finder::new(&front);
     let mut room = [0; WINDOW_LEN];
-    let place = first_confirmed(x, start, s, &finder, &mut room, src)?;
+    let place = first_confirmed(x, start, s, &finder, repeats, &mut room, src)?;
     Ok(place)
 }
 
-// The same, by the places of the text's front.
+// The same, by the places of the text's front. Behind one at which the text doesn't stand, the search goes on by how far the
+// text repeats itself.
 fn first_confirmed<S: Source>(
     x: &Cord,
     start: u64,
     s: &Cord,
     front: &Finder,
+    repeats: Option<Repeats>,
     room: &mut [u8],
     src: &mut S,
 ) -> Result<Option<u64>, ReadFault>
@@ -163,6 +168,8 @@ fn first_confirmed<S: Source>(
     requires some { 0 < length front.now }
     requires room { length front.now ≤ length room.old }
     requires front { (folder : Folder) → S.keeps src.old folder → IsPieceOf (S.table src.old folder) s.now 0 front.now }
+    requires period { IfSome repeats (λ r. r.period ≤ text_len s.now) }
+    requires repeats { (folder : Folder) → S.keeps src.old folder → IfSome repeats (IsRepeated (S.table src.old folder) s.now) }
     requires fits { CordFitsIn (S.lengths src.old) x.now }
     requires pattern_fits { CordFitsIn (S.lengths src.old) s.now }
     ensures first { (folder : Folder) → S.keeps src.new folder → IfOk result (λ place.
@@ -184,7 +191,8 @@ fn first_confirmed<S: Source>(
         if stands_at(x, found, s, src)? {
             return Ok(Some(found));
         }
-        place = found + 1;
+        let count = passed(x, found, s, repeats, src)?;
+        place = found + count;
     }
     Ok(None)
 }

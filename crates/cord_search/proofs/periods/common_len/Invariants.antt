@@ -1,0 +1,18 @@
+use Rattle.std.proofs.Common.{◌≡◌, ◌-◌, ◌≤◌}
+use Rattle.cord_io.specs.Device.{Folder}
+use Rattle.cord_search.specs.Pieces.{AreSame}
+use Rattle.cord_search.proofs.periods.common_len.Given as goal
+
+-- the first `done` bytes are the same, and no read has failed
+abbrev pub invariant-loop-done : goal.invariant-loop-done
+invariant-loop-done g l = record {
+  in_range : l.done ≤ l.most;
+  same : (folder : Folder) → g.S.Source.keeps l.src folder → AreSame (g.S.Source.table l.initial.src folder) l.x l.i l.y l.j l.done;
+  reads : g.S.Source.failures l.src ≡ g.S.Source.failures l.initial.src;
+  lengths : g.S.Source.lengths l.src ≡ g.S.Source.lengths l.initial.src;
+  table : g.S.Source.table l.src ≡ g.S.Source.table l.initial.src;
+  earlier : (folder : Folder) → g.S.Source.keeps l.src folder → g.S.Source.keeps l.initial.src folder;
+}
+
+abbrev pub decreases-loop-done : goal.decreases-loop-done
+decreases-loop-done g l = l.most - l.done
