@@ -77,6 +77,57 @@ const STR: &[(&str, Parts, u64, &[u8], u64, Answer<Option<u64>>)] = &[
     ),
 ];
 
+// Where a pattern of some length, told by its parts, begins in a cord.
+const LONG_STR: &[(&str, Parts, Parts, Option<u64>)] = &[
+    (
+        "str_of_601_bytes_over_seams",
+        &[
+            Run(b'b', 65),
+            Leaf(&[b'a'; 300]),
+            Run(b'a', 300),
+            Leaf(b"c"),
+        ],
+        &[Run(b'a', 600), Leaf(b"c")],
+        Some(65),
+    ),
+    (
+        "str_of_more_than_its_front",
+        &[Run(b'a', 19_998), Leaf(b"b"), Run(b'a', 40_000), Leaf(b"b")],
+        &[Run(b'a', 19_999), Leaf(b"b")],
+        Some(40_000),
+    ),
+    (
+        "str_of_more_than_its_front",
+        &[Run(b'a', 19_998), Leaf(b"b"), Twice(1)],
+        &[Run(b'a', 19_999), Leaf(b"b")],
+        None,
+    ),
+    (
+        "str_of_one_byte_many_times",
+        &[Run(b'a', 19_999), Leaf(b"b"), Run(b'a', 20_000)],
+        &[Run(b'a', 20_000)],
+        Some(20_000),
+    ),
+    (
+        "str_of_two_bytes_many_times",
+        &[Leaf(b"ab"), Twice(15), Leaf(b"c")],
+        &[Leaf(b"ab"), Twice(14), Leaf(b"c")],
+        Some(32_768),
+    ),
+    (
+        "str_passes_over_runs_in_runs",
+        RUN_AND_LEAF,
+        &[Run(b'a', 1 << 39), Leaf(b"b")],
+        Some(MAX_LEN - 1 - (1 << 39)),
+    ),
+    (
+        "str_passes_over_runs_in_runs",
+        RUN_AND_LEAF,
+        &[Run(b'a', 1 << 39), Leaf(b"c")],
+        None,
+    ),
+];
+
 // The text "ababc" of three parts.
 const ABABC: Parts = &[Leaf(b"ab"), Twice(1), Leaf(b"c")];
 
@@ -356,6 +407,26 @@ fn expect_str(
 fn rows_of_str(rt: HostRuntime) {
     for &(name, parts, from, pattern, reads, answer) in STR {
         expect_str(&rt, rt.alloc(), name, (parts, from, pattern), reads, answer);
+    }
+}
+
+fn expect_long_str(
+    rt: &impl Abort,
+    alloc: Global,
+    name: &str,
+    (parts, pattern): (Parts, Parts),
+    answer: Option<u64>,
+) {
+    let cord = made(rt, alloc, parts);
+    let pattern = made(rt, alloc, pattern);
+    let found = str(&cord, 0, &pattern, &mut six_hundred(NONE));
+    assert!(rt; found == Ok(answer), "{name}");
+}
+
+#[test]
+fn rows_of_long_str(rt: HostRuntime) {
+    for &(name, parts, pattern, answer) in LONG_STR {
+        expect_long_str(&rt, rt.alloc(), name, (parts, pattern), answer);
     }
 }
 
