@@ -32,6 +32,12 @@ pub enum NoRequest {
     NoMemory,
 }
 
+// What the help ends with.
+const AFTER_HELP: &str = "\
+Status: 0 the script ran to its end, 1 a fault, 2 the script or the command line is refused,
+        3 no memory, 4 a file can't be read, 5 the output can't be written.
+Manual: man cordsh, and share/doc/zomtsje/docs/SCRIPTS.md where it was installed.";
+
 // A flag, with a text on what it does.
 fn flag<'a>(alloc: Global, name: &'a str, help: &'a str) -> Arg<'a>
     ensures rule { rule_of result ≡ flag_rule name.now }
@@ -66,7 +72,9 @@ fn program_command<'a>(alloc: Global) -> Result<Command<'a>, AllocError>
     let unplanned = flag(alloc, "unplanned", "Run the statements as they stand");
     let show_plan = flag(alloc, "show-plan", "Write the plan, and run nothing");
     let script = script_word(alloc);
-    let bare = Command::new(alloc, "cordsh").no_binary_name(true);
+    let bare = Command::new(alloc, "cordsh")
+        .no_binary_name(true)
+        .after_help(AFTER_HELP);
     bare.arg(unplanned)?.arg(show_plan)?.arg(script)
 }
 
