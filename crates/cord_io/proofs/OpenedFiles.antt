@@ -1,14 +1,15 @@
 -- Files of the machine of which one is read.
-use Rattle.std.proofs.Common.{take, drop, get_or, inl, inr, ◌≡◌, ℕ, ◌<◌, List, Option, None, Some, refl, sym, ◌∙◌, ap, subst}
-use Rattle.std.specs.Prelude.{IsSomeAnd, slice_get, slice_set, length}
+use Rattle.std.proofs.Common.{take, drop, get_or, inl, inr, ◌≡◌, ◌≢◌, ℕ, zero, suc, ◌<◌, ◌≤◌, List, [], ◌∷◌, ◌++◌, Option, None, Some, refl, sym, ◌∙◌, ap, subst}
+use Rattle.std.specs.Prelude.{IsSome, IsSomeAnd, slice_get, slice_set, length}
 use Rattle.std.specs.Option.{option_map}
 use Rattle.std.specs.String.{string_bytes}
 use Rattle.std.proofs.lemmas.Bool.{cases_eq}
+use Rattle.std.proofs.lemmas.List.{length-take-le}
 use Rattle.std.proofs.lemmas.Option.{slice_get_read, slice_get_within}
-use Rattle.cord_io.specs.Device.{Folder, bytes_at}
+use Rattle.cord_io.specs.Device.{Folder, bytes_at, HandsOut}
 use Rattle.cord_io.specs.Disk.{told_of, opened_of}
 use Rattle.cord_io.specs.DiskTold.{AgreesWithGiven}
-use Rattle.cord_io.specs.Told.{Agrees}
+use Rattle.cord_io.specs.Told.{Told, has_bytes, Agrees}
 use Rattle.cord_io.specs.declared.opened.OpenedFile.{OpenedFile}
 use Rattle.cord_io.proofs.Folders.{get_set_same, get_set_other}
 
@@ -43,3 +44,48 @@ pub given_read : {F : Type 0} (folder : Folder) (files : List (OpenedFile F)) (n
 given_read folder files n old new k start out here read all =
     let text : Option (OpenedFile _) → Type 0 = λ o. IsSomeAnd (option_map told_of o) (λ told. take k out ≡ take k (drop start (bytes_at folder told.0))) in
     subst text (sym here) (read (all n new (get_set_same files n old new here)))
+
+-- bytes that were told are those of the file
+pub told_read : {F : Type 0} (folder : Folder) (files : List (OpenedFile F)) (n : ℕ) (old : OpenedFile F) (k start : ℕ) (out : List ℕ) (before : List Told) → slice_get files n ≡ Some old → k ≤ length out → Agrees folder (has_bytes (string_bytes old.reader.path) start (take k out) ∷ before) → IsSomeAnd (opened_of files n) (λ told. take k out ≡ take k (drop start (bytes_at folder told.0)))
+told_read folder files n old k start out before here fits agrees =
+    let text : Option (OpenedFile _) → Type 0 = λ o. IsSomeAnd (option_map told_of o) (λ told. take k out ≡ take k (drop start (bytes_at folder told.0))) in
+    let path : List ℕ = string_bytes old.reader.path in
+    subst text (sym here) (agrees.0 ∙ ap (λ m. take m (drop start (bytes_at folder path))) (length-take-le k out fits))
+
+get_pushed : {F : Type 0} (files : List (OpenedFile F)) (file : OpenedFile F) → slice_get (files ++ file ∷ []) (length files) ≡ Some file
+get_pushed [] file = refl
+get_pushed (first ∷ rest) file = get_pushed rest file
+
+get_beside : {F : Type 0} (files : List (OpenedFile F)) (file : OpenedFile F) (n : ℕ) → n ≢ length files → slice_get (files ++ file ∷ []) n ≡ slice_get files n
+get_beside [] file zero differs = absurd (differs refl)
+get_beside [] file (suc n) differs = refl
+get_beside (first ∷ rest) file zero differs = refl
+get_beside (first ∷ rest) file (suc n) differs = get_beside rest file n (λ same. differs (ap suc same))
+
+get_kept : {F : Type 0} (files : List (OpenedFile F)) (file : OpenedFile F) (n : ℕ) → IsSome (slice_get files n) → slice_get (files ++ file ∷ []) n ≡ slice_get files n
+get_kept [] file n there = cc
+get_kept (first ∷ rest) file zero there = refl
+get_kept (first ∷ rest) file (suc n) there = get_kept rest file n there
+
+is_there : {F : Type 0} (o : Option (OpenedFile F)) → IsSome (option_map told_of o) → IsSome o
+is_there None there = cc
+is_there (Some file) there = there
+
+handed_last : {F : Type 0} (files : List (OpenedFile F)) (file : OpenedFile F) → HandsOut (opened_of files) (opened_of (files ++ file ∷ [])) (length files) (string_bytes file.reader.path) file.len
+handed_last files file = record {
+  told = ap (option_map told_of) (get_pushed files file);
+  others = λ n differs. ap (option_map told_of) (get_beside files file n differs);
+  kept = λ n there. ap (option_map told_of) (get_kept files file n (is_there (slice_get files n) there));
+}
+
+-- the next number was handed out
+pub handed_out : {F : Type 0} (files more : List (OpenedFile F)) (file : OpenedFile F) (n : ℕ) (path : List ℕ) → more ≡ files ++ file ∷ [] → n ≡ length files → string_bytes file.reader.path ≡ path → HandsOut (opened_of files) (opened_of more) n path file.len
+handed_out files more file n path is last same =
+    let by_path = subst (λ p. HandsOut (opened_of files) (opened_of (files ++ file ∷ [])) (length files) p file.len) same (handed_last files file) in
+    let by_number = subst (λ k. HandsOut (opened_of files) (opened_of (files ++ file ∷ [])) k path file.len) (sym last) by_path in
+    subst (λ fs. HandsOut (opened_of files) (opened_of fs) n path file.len) (sym is) by_number
+
+-- what the machine gave of the others stays where one more file is open
+pub given_beside : {F : Type 0} (folder : Folder) (files more : List (OpenedFile F)) (file : OpenedFile F) → more ≡ files ++ file ∷ [] → AgreesWithGiven folder more → AgreesWithGiven folder files
+given_beside folder files more file is all n other at =
+    all n other (ap (λ fs. slice_get fs n) is ∙ get_kept files file n (subst IsSome (sym at) refl) ∙ at)

@@ -1,8 +1,32 @@
-use Rattle.std.proofs.Common.{◌≡◌, Some, rules}
-use Rattle.std.specs.Prelude.{slice_get}
+use Rattle.std.proofs.Common.{◌≡◌, ◌∷◌, take, Some, sym, subst, rules}
+use Rattle.std.specs.Prelude.{slice_get, Ok}
+use Rattle.std.specs.Option.{option_map}
+use Rattle.std.specs.String.{string_bytes}
 use Rattle.cord_io.specs.Disk.{told_of}
-use Rattle.cord_io.proofs.OpenedFiles.{has_number, told_after, given_before, given_read}
+use Rattle.cord_io.specs.DiskTold.{after_reading}
+use Rattle.cord_io.specs.Told.{has_bytes, Agrees}
+use Rattle.cord_io.specs.declared.faults.ReadFault.{ReadFault}
+use Rattle.cord_io.proofs.OpenedFiles.{has_number, told_after, told_read, given_before, given_read}
 use Rattle.cord_io.proofs.disk.DiskFilesFiles.read_at.Goals as goal
+
+-- the answer that is told of this read
+pub returns-in-Ok-clause-told : goal.returns-in-Ok-clause-told
+returns-in-Ok-clause-told g c =
+    let files = c.args.self.now.opened.items in
+    let old = c.index_mut-opened.result.now in
+    let before = c.args.self.now.trace.told in
+    let here : slice_get files c.args.no.0 ≡ Some old = has_number files c.args.no.0 old _ c.requires.inside c.index_mut-opened.ensures.value in
+    let told : c.then-self.result.told ≡ has_bytes (string_bytes old.reader.path) c.args.start (take c.in-Ok.count c.read.new.out) ∷ before = search rules in
+    subst (λ o. c.then-self.result.told ≡ after_reading {E = ReadFault} (option_map told_of o) c.args.start c.read.new.out (Ok c.in-Ok.count) before) (sym here) told
+
+pub returns-in-Ok-clause-bytes : goal.returns-in-Ok-clause-bytes
+returns-in-Ok-clause-bytes g c = λ folder agrees.
+    let files = c.args.self.now.opened.items in
+    let old = c.index_mut-opened.result.now in
+    let before = c.args.self.now.trace.told in
+    let here : slice_get files c.args.no.0 ≡ Some old = has_number files c.args.no.0 old _ c.requires.inside c.index_mut-opened.ensures.value in
+    let told : c.then-self.result.told ≡ has_bytes (string_bytes old.reader.path) c.args.start (take c.in-Ok.count c.read.new.out) ∷ before = search rules in
+    told_read folder files c.args.no.0 old c.in-Ok.count c.args.start c.read.new.out before here c.in-Ok.ensures.some.1 (subst (Agrees folder) told agrees)
 
 pub returns-in-Ok-clause-given_earlier : goal.returns-in-Ok-clause-given_earlier
 returns-in-Ok-clause-given_earlier g c = λ folder.

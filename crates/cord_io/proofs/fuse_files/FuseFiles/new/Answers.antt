@@ -1,0 +1,5 @@
+use Rattle.std.proofs.Common.{refl}
+use Rattle.cord_io.proofs.fuse_files.FuseFiles.new.Goals as goal
+
+pub returns-clause-passes : goal.returns-clause-passes
+returns-clause-passes g c = refl

@@ -1,0 +1,4 @@
+use Rattle.cord_io.proofs.fuse_sink.FuseSinkSink.finish.Goals as goal
+
+pub returns-in-Ok-clause-taken : goal.returns-in-Ok-clause-taken
+returns-in-Ok-clause-taken g c = c.in-Ok.ensures.taken
