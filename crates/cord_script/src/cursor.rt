@@ -46,10 +46,13 @@ impl Parts {
         ensures { self.old ≡ Target kind result ∷ self.new }
     {
         let _kind = kind;
-        let Some(Part::Target(_, name)) = self.rest.pop_front() else {
-            unreachable!()
-        };
-        name
+        match self.rest.pop_front() {
+            Some(Part::Target(_, name)) => name,
+            other => {
+                drop(other);
+                unreachable!()
+            }
+        }
     }
 
     /// A name that is used, of this kind.
@@ -58,10 +61,13 @@ impl Parts {
         ensures { self.old ≡ Operand kind result ∷ self.new }
     {
         let _kind = kind;
-        let Some(Part::Operand(_, name)) = self.rest.pop_front() else {
-            unreachable!()
-        };
-        name
+        match self.rest.pop_front() {
+            Some(Part::Operand(_, name)) => name,
+            other => {
+                drop(other);
+                unreachable!()
+            }
+        }
     }
 
     /// A number operand.
@@ -69,10 +75,13 @@ impl Parts {
         requires { next_want (map want_of self.old) ≡ Some Want.Number }
         ensures { self.old ≡ Value result ∷ self.new }
     {
-        let Some(Part::Value(number)) = self.rest.pop_front() else {
-            unreachable!()
-        };
-        number
+        match self.rest.pop_front() {
+            Some(Part::Value(number)) => number,
+            other => {
+                drop(other);
+                unreachable!()
+            }
+        }
     }
 
     /// A text.
@@ -80,10 +89,13 @@ impl Parts {
         requires { next_want (map want_of self.old) ≡ Some Want.Text }
         ensures { self.old ≡ Literal result ∷ self.new }
     {
-        let Some(Part::Literal(text)) = self.rest.pop_front() else {
-            unreachable!()
-        };
-        text
+        match self.rest.pop_front() {
+            Some(Part::Literal(text)) => text,
+            other => {
+                drop(other);
+                unreachable!()
+            }
+        }
     }
 
     /// A path.
@@ -91,10 +103,13 @@ impl Parts {
         requires { next_want (map want_of self.old) ≡ Some Want.Path }
         ensures { self.old ≡ FilePath result ∷ self.new }
     {
-        let Some(Part::FilePath(path)) = self.rest.pop_front() else {
-            unreachable!()
-        };
-        path
+        match self.rest.pop_front() {
+            Some(Part::FilePath(path)) => path,
+            other => {
+                drop(other);
+                unreachable!()
+            }
+        }
     }
 
     /// A function.
@@ -102,10 +117,13 @@ impl Parts {
         requires { next_want (map want_of self.old) ≡ Some Want.Function }
         ensures { self.old ≡ Applies result ∷ self.new }
     {
-        let Some(Part::Applies(function)) = self.rest.pop_front() else {
-            unreachable!()
-        };
-        function
+        match self.rest.pop_front() {
+            Some(Part::Applies(function)) => function,
+            other => {
+                drop(other);
+                unreachable!()
+            }
+        }
     }
 
     /// A relation.
@@ -113,10 +131,13 @@ impl Parts {
         requires { next_want (map want_of self.old) ≡ Some Want.Relation }
         ensures { self.old ≡ Compares result ∷ self.new }
     {
-        let Some(Part::Compares(relation)) = self.rest.pop_front() else {
-            unreachable!()
-        };
-        relation
+        match self.rest.pop_front() {
+            Some(Part::Compares(relation)) => relation,
+            other => {
+                drop(other);
+                unreachable!()
+            }
+        }
     }
 
     /// The text of a format.
@@ -124,10 +145,13 @@ impl Parts {
         requires { next_want (map want_of self.old) ≡ Some Want.Format }
         ensures { self.old ≡ Formats result ∷ self.new }
     {
-        let Some(Part::Formats(text)) = self.rest.pop_front() else {
-            unreachable!()
-        };
-        text
+        match self.rest.pop_front() {
+            Some(Part::Formats(text)) => text,
+            other => {
+                drop(other);
+                unreachable!()
+            }
+        }
     }
 
     // Whether all parts are taken.

@@ -104,7 +104,7 @@ impl From<AllocError> for RefusalKind {
     ghost from_gives = { λ _ kind. kind ≡ NoMemory };
 
     fn from(_error: AllocError) -> RefusalKind {
-        RefusalKind::NoMemory
+        Self::NoMemory
     }
 }
 
