@@ -117,8 +117,12 @@ impl Parts {
         requires { next_want (map want_of self.old) ≡ Some Want.Function }
         ensures { self.old ≡ Applies result ∷ self.new }
     {
-        match self.rest.pop_front() {
-            Some(Part::Applies(function)) => function,
+        let part = self.rest.pop_front();
+        match part {
+            Some(Part::Applies(function)) => {
+                drop(part);
+                function
+            }
             other => {
                 drop(other);
                 unreachable!()
@@ -131,8 +135,12 @@ impl Parts {
         requires { next_want (map want_of self.old) ≡ Some Want.Relation }
         ensures { self.old ≡ Compares result ∷ self.new }
     {
-        match self.rest.pop_front() {
-            Some(Part::Compares(relation)) => relation,
+        let part = self.rest.pop_front();
+        match part {
+            Some(Part::Compares(relation)) => {
+                drop(part);
+                relation
+            }
             other => {
                 drop(other);
                 unreachable!()

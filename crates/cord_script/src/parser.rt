@@ -97,7 +97,8 @@ pub fn parse(alloc: Global, script: &[u8]) -> Result<Script, Refusal>
     // Lines are numbered from 1.
     ensures numbered { IfOk result (λ s. All (λ statement. 1 ≤ line_of statement) s) }
 {
-    if script.len() > MAX_SCRIPT {
+    let size = script.len();
+    if size > MAX_SCRIPT {
         return Err(Refusal {
             line: 0,
             kind: RefusalKind::TooBig,

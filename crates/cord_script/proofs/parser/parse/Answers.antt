@@ -1,8 +1,11 @@
-use Rattle.std.proofs.Common.{length, arith, sym, subst, eqb-true}
+use Rattle.std.proofs.Common.{length, arith, inl, refl, sym, subst, eqb-true}
 use Rattle.cord_script.specs.Script.{Reads}
 use Rattle.cord_script.specs.Leaves.{before_of}
 use Rattle.cord_script.proofs.Readings.{reads_line, stops, too_many, is_wrong, read_whole, leaves_open, no_bytes, some_bytes, numbered_line, reached, left_found}
 use Rattle.cord_script.proofs.parser.parse.Goals as goal
+
+pub returns-then-size-gt-MAX_SCRIPT-clause-flaw : goal.returns-then-size-gt-MAX_SCRIPT-clause-flaw
+returns-then-size-gt-MAX_SCRIPT-clause-flaw c = λ n. inl (record { size = omega arith; line = refl; is = refl })
 
 pub returns-then-number-gt-MAX_LINES-clause-flaw : goal.returns-then-number-gt-MAX_LINES-clause-flaw
 returns-then-number-gt-MAX_LINES-clause-flaw c = λ n.
