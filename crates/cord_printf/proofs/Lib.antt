@@ -5,6 +5,7 @@ pub mod Lettered
 pub mod Begins
 pub mod Whole
 pub mod Unique
+pub mod Either
 pub mod Figures
 pub mod Layouts
 pub mod Prints

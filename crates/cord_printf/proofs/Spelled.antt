@@ -80,7 +80,7 @@ not_mark b h (inl e) = not_small b h (omega arith) (omega arith)
 not_mark b h (inr (inl e)) = not_small b h (omega arith) (omega arith)
 not_mark b h (inr (inr e)) = not_small b h (omega arith) (omega arith)
 
-not_mark_of : (b : ℕ) → b ≢ 45 → b ≢ 48 → b ≢ 43 → ¬ IsMark b
+pub not_mark_of : (b : ℕ) → b ≢ 45 → b ≢ 48 → b ≢ 43 → ¬ IsMark b
 not_mark_of b x y z (inl e) = x e
 not_mark_of b x y z (inr (inl e)) = y e
 not_mark_of b x y z (inr (inr e)) = z e

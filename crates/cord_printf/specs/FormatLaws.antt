@@ -1,5 +1,5 @@
 -- Laws of formats.
-use Rattle.std.specs.Prelude.{◌≡◌, ◌<◌, ℕ, List, slice_index_or}
+use Rattle.std.specs.Prelude.{◌≡◌, ◌<◌, ◌⊎◌, ℕ, List, slice_index_or}
 use Rattle.std.specs.Int.Digits.{digits_of, number_from_digits, AllBelowBase}
 use Rattle.cord_printf.specs.declared.pieces.Radix.{Radix}
 use Rattle.cord_printf.specs.PieceText.{base_of}
@@ -16,6 +16,10 @@ BadIsNoFormat = (b : List ℕ) (offset : ℕ) → IsBadAt b offset → (ps : Lis
 
 abbrev pub OneBadOffset : Type 0
 OneBadOffset = (b : List ℕ) (m n : ℕ) → IsBadAt b m → IsBadAt b n → m ≡ n
+
+-- bytes are a format, or a bad conversion stands in them
+abbrev pub FormatOrBad : Type 0
+FormatOrBad = (b : List ℕ) → ((ps : List Piece) × IsFormat b ps) ⊎ ((offset : ℕ) × IsBadAt b offset)
 
 -- the digits of a number write it in their base, each is below the base, and the first isn't 0: 0 has none
 pub record IsNumeral (base n : ℕ) (digits : List ℕ) : Type 0 where

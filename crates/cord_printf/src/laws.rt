@@ -5,6 +5,7 @@ ghost use Rattle.cord_printf.specs.FormatLaws.{
   OneFormat,
   BadIsNoFormat,
   OneBadOffset,
+  FormatOrBad,
   DigitsWriteNumbers,
 };
 
@@ -17,6 +18,11 @@ pub fn formats_have_one_reading()
 pub fn refused_formats_are_none()
     ensures none { BadIsNoFormat }
     ensures one { OneBadOffset }
+{}
+
+/// All bytes are a format or have a bad conversion.
+pub fn bytes_are_format_or_bad()
+    ensures { FormatOrBad }
 {}
 
 /// The digits that conversions show write their number: the most significant first, none of them 0 in front.

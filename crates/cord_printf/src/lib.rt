@@ -17,7 +17,8 @@ pub use arguments::Arg;
 pub use errors::{FormatError, PrintError};
 pub use format::Format;
 pub use laws::{
-    digits_write_their_number, formats_have_one_reading, limits_are, refused_formats_are_none,
+    bytes_are_format_or_bad, digits_write_their_number, formats_have_one_reading, limits_are,
+    refused_formats_are_none,
 };
 pub use pieces::{ArgKind, Flags, Literal, Piece, Radix};
 pub use print::{sprintf, sprintf_len};
