@@ -1,5 +1,5 @@
 // The byte at a place, and the places of a byte.
-ghost use Rattle.std.specs.Prelude.{◌≡◌, ◌+◌, ◌<◌, ◌≤◌, [], ◌∷◌, Some, slice_get, is_err, IsOk, IfOk, IfErr};
+ghost use Rattle.std.specs.Prelude.{◌≡◌, ◌+◌, ◌<◌, ◌≤◌, [], ◌∷◌, Some, slice_get, is_err, IsOk, IfOk, IfErr, IfSome};
 ghost use Rattle.cord_io.specs.Device.{Folder, count_after};
 ghost use Rattle.cord_node.specs.Tree.{len_of, IsSound};
 ghost use Rattle.cord_node.specs.Tables.{bytes_over, FitsIn};
@@ -33,12 +33,15 @@ pub fn fetch<S: Source>(x: &Cord, i: u64, src: &mut S) -> Result<u8, CordError>
 }
 
 /// The first place of the byte `c` at `i` or later, after `CORD_chr` of `cord.h`. The place `i` is below the length,
-/// and each function part lies inside an entry of `src`. Refused with `ReadFailed` where a read failed.
+/// and each function part lies inside an entry of `src`. A place that is found lies inside `x`, whatever `src` keeps.
+/// Refused with `ReadFailed` where a read failed.
 pub fn chr<S: Source>(x: &Cord, i: u64, c: u8, src: &mut S) -> Result<Option<u64>, CordError>
     requires inside { i < text_len x.now }
     requires fits { CordFitsIn (S.lengths src.old) x.now }
     ensures first { (folder : Folder) → S.keeps src.new folder →
         IfOk result (λ place. place ≡ first (bytes_of (S.table src.old folder) x.now) i (c ∷ [])) }
+    ensures from { IfOk result (λ found. IfSome found (λ place. i ≤ place)) }
+    ensures within { IfOk result (λ found. IfSome found (λ place. place < text_len x.now)) }
     ensures refused { IfErr result (λ e. e ≡ CordError.ReadFailed) }
     ensures count { S.failures src.new ≡ count_after (is_err result) (S.failures src.old) }
     ensures steady { S.failures src.old < u64.MAX → S.failures src.new ≡ S.failures src.old → IsOk result }
@@ -52,12 +55,15 @@ pub fn chr<S: Source>(x: &Cord, i: u64, c: u8, src: &mut S) -> Result<Option<u64
 }
 
 /// The last place of the byte `c` at `i` or earlier, after `CORD_rchr` of `cord.h`. The place `i` is below the
-/// length, and each function part lies inside an entry of `src`. Refused with `ReadFailed` where a read failed.
+/// length, and each function part lies inside an entry of `src`. A place that is found lies inside `x`, whatever `src`
+/// keeps. Refused with `ReadFailed` where a read failed.
 pub fn rchr<S: Source>(x: &Cord, i: u64, c: u8, src: &mut S) -> Result<Option<u64>, CordError>
     requires inside { i < text_len x.now }
     requires fits { CordFitsIn (S.lengths src.old) x.now }
     ensures last { (folder : Folder) → S.keeps src.new folder →
         IfOk result (λ place. place ≡ last (bytes_of (S.table src.old folder) x.now) i c) }
+    ensures up_to { IfOk result (λ found. IfSome found (λ place. place ≤ i)) }
+    ensures within { IfOk result (λ found. IfSome found (λ place. place < text_len x.now)) }
     ensures refused { IfErr result (λ e. e ≡ CordError.ReadFailed) }
     ensures count { S.failures src.new ≡ count_after (is_err result) (S.failures src.old) }
     ensures steady { S.failures src.old < u64.MAX → S.failures src.new ≡ S.failures src.old → IsOk result }
@@ -82,6 +88,8 @@ fn first_byte<S: Source>(
     requires fits { FitsIn (S.lengths src.old) node.now }
     ensures first { (folder : Folder) → S.keeps src.new folder →
         IfOk result (λ place. place ≡ first (bytes_over (S.table src.old folder) node.now) from (byte ∷ [])) }
+    ensures from { IfOk result (λ found. IfSome found (λ place. from ≤ place)) }
+    ensures within { IfOk result (λ found. IfSome found (λ place. place < len_of node.now)) }
     ensures count { S.failures src.new ≡ count_after (is_err result) (S.failures src.old) }
     ensures lengths { S.lengths src.new ≡ S.lengths src.old }
     ensures table { S.table src.new ≡ S.table src.old }
@@ -117,6 +125,7 @@ fn last_byte<S: Source>(
     requires fits { FitsIn (S.lengths src.old) node.now }
     ensures last { (folder : Folder) → S.keeps src.new folder →
         IfOk result (λ place. place ≡ last (bytes_over (S.table src.old folder) node.now) at byte) }
+    ensures up_to { IfOk result (λ found. IfSome found (λ place. place ≤ at)) }
     ensures count { S.failures src.new ≡ count_after (is_err result) (S.failures src.old) }
     ensures lengths { S.lengths src.new ≡ S.lengths src.old }
     ensures table { S.table src.new ≡ S.table src.old }

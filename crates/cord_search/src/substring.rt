@@ -25,13 +25,37 @@ const FRONT_LEN: usize = 16_384;
 const WINDOW_LEN: usize = 4 * FRONT_LEN;
 
 /// The first place of `x` at `start` or later where `s` stands, after `CORD_str` of `cord.h`. An empty `s` stands at
-/// each place up to the length of `x`. Each function part lies inside an entry of `src`. Refused with `ReadFailed`
-/// where a read failed.
+/// each place up to the length of `x`. Refused with `ReadFailed` where a read failed.
+///
+/// Each function part lies inside an entry of `src`: so it is with every cord over no files, with those that `src` made
+/// where it is a `Sources`, and with what `cat`, `substr` and the others make of them.
+///
+/// Where `s` is found, all of it lies inside `x`, whatever `src` keeps. So a sum as here is at most the length of `x`:
+///
+/// ```rust second_place
+/// use cord_core::Cord;
+/// use cord_io::{CordError, Source};
+/// use cord_search::str;
+///
+/// /// Where `word` stands once more, behind the first place at which it stands.
+/// pub fn second_place<S: Source>(
+///     text: &Cord,
+///     word: &Cord,
+///     src: &mut S,
+/// ) -> Result<Option<u64>, CordError> {
+///     let Some(place) = str(text, 0, word, src)? else {
+///         return Ok(None);
+///     };
+///     str(text, place + word.len(), word, src)
+/// }
+/// ```
 pub fn str<S: Source>(x: &Cord, start: u64, s: &Cord, src: &mut S) -> Result<Option<u64>, CordError>
     requires fits { CordFitsIn (S.lengths src.old) x.now }
     requires pattern_fits { CordFitsIn (S.lengths src.old) s.now }
     ensures first { (folder : Folder) → S.keeps src.new folder → IfOk result (λ place.
         place ≡ first (bytes_of (S.table src.old folder) x.now) start (bytes_of (S.table src.old folder) s.now)) }
+    ensures from { IfOk result (λ found. IfSome found (λ place. start ≤ place)) }
+    ensures within { IfOk result (λ found. IfSome found (λ place. place + text_len s.now ≤ text_len x.now)) }
     ensures refused { IfErr result (λ e. e ≡ CordError.ReadFailed) }
     ensures count { S.failures src.new ≡ count_after (is_err result) (S.failures src.old) }
     ensures steady { S.failures src.old < u64.MAX → S.failures src.new ≡ S.failures src.old → IsOk result }
@@ -73,6 +97,8 @@ fn first_place<S: Source>(
     requires pattern_fits { CordFitsIn (S.lengths src.old) s.now }
     ensures first { (folder : Folder) → S.keeps src.new folder → IfOk result (λ place.
         place ≡ first (bytes_of (S.table src.old folder) x.now) start (bytes_of (S.table src.old folder) s.now)) }
+    ensures from { IfOk result (λ found. IfSome found (λ place. start ≤ place)) }
+    ensures within { IfOk result (λ found. IfSome found (λ place. place + text_len s.now ≤ text_len x.now)) }
     ensures count { S.failures src.new ≡ count_after (is_err result) (S.failures src.old) }
     ensures lengths { S.lengths src.new ≡ S.lengths src.old }
     ensures table { S.table src.new ≡ S.table src.old }
@@ -107,6 +133,8 @@ fn place_of_short<const N: usize, const M: usize, S: Source>(
     requires pattern_fits { CordFitsIn (S.lengths src.old) s.now }
     ensures first { (folder : Folder) → S.keeps src.new folder → IfOk result (λ place.
         place ≡ first (bytes_of (S.table src.old folder) x.now) start (bytes_of (S.table src.old folder) s.now)) }
+    ensures from { IfOk result (λ found. IfSome found (λ place. start ≤ place)) }
+    ensures within { IfOk result (λ found. IfSome found (λ place. place + text_len s.now ≤ text_len x.now)) }
     ensures count { S.failures src.new ≡ count_after (is_err result) (S.failures src.old) }
     ensures lengths { S.lengths src.new ≡ S.lengths src.old }
     ensures table { S.table src.new ≡ S.table src.old }
@@ -137,6 +165,8 @@ fn place_of_long<S: Source>(
     requires pattern_fits { CordFitsIn (S.lengths src.old) s.now }
     ensures first { (folder : Folder) → S.keeps src.new folder → IfOk result (λ place.
         place ≡ first (bytes_of (S.table src.old folder) x.now) start (bytes_of (S.table src.old folder) s.now)) }
+    ensures from { IfOk result (λ found. IfSome found (λ place. start ≤ place)) }
+    ensures within { IfOk result (λ found. IfSome found (λ place. place + text_len s.now ≤ text_len x.now)) }
     ensures count { S.failures src.new ≡ count_after (is_err result) (S.failures src.old) }
     ensures lengths { S.lengths src.new ≡ S.lengths src.old }
     ensures table { S.table src.new ≡ S.table src.old }
@@ -174,6 +204,8 @@ fn first_confirmed<S: Source>(
     requires pattern_fits { CordFitsIn (S.lengths src.old) s.now }
     ensures first { (folder : Folder) → S.keeps src.new folder → IfOk result (λ place.
         place ≡ first (bytes_of (S.table src.old folder) x.now) start (bytes_of (S.table src.old folder) s.now)) }
+    ensures from { IfOk result (λ found. IfSome found (λ place. start ≤ place)) }
+    ensures within { IfOk result (λ found. IfSome found (λ place. place + text_len s.now ≤ text_len x.now)) }
     ensures count { S.failures src.new ≡ count_after (is_err result) (S.failures src.old) }
     ensures lengths { S.lengths src.new ≡ S.lengths src.old }
     ensures table { S.table src.new ≡ S.table src.old }
@@ -212,7 +244,8 @@ fn first_of<S: Source>(
     requires fits { CordFitsIn (S.lengths src.old) x.now }
     ensures first { (folder : Folder) → S.keeps src.new folder → IfOk result (λ place.
         place ≡ first (bytes_of (S.table src.old folder) x.now) start finder.now) }
-    ensures low { IfOk result (λ place. IfSome place (λ found. start ≤ found)) }
+    ensures from { IfOk result (λ found. IfSome found (λ place. start ≤ place)) }
+    ensures within { IfOk result (λ found. IfSome found (λ place. place + length finder.now ≤ text_len x.now)) }
     ensures count { S.failures src.new ≡ count_after (is_err result) (S.failures src.old) }
     ensures lengths { S.lengths src.new ≡ S.lengths src.old }
     ensures table { S.table src.new ≡ S.table src.old }
