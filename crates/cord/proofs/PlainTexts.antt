@@ -1,9 +1,9 @@
 -- What is made of texts over no files is one.
-use Rattle.std.proofs.Common.{ℕ, List, ◌++◌, take, drop, refl, ◌∙◌, sym}
+use Rattle.std.proofs.Common.{◌≡◌, ℕ, List, ◌++◌, length, take, drop, refl, ◌∙◌, sym, ap}
 use Rattle.std.specs.Prelude.{Option}
 use Rattle.cord_node.specs.declared.Node.{Node}
 use Rattle.cord_node.specs.Tables.{lengths_of}
-use Rattle.cord_core.specs.Cord.{IsCord}
+use Rattle.cord_core.specs.Cord.{text_len, IsCord}
 use Rattle.cord_core.specs.Equations.{HasText, IsSameText, IsCatOf, IsAppended, IsSubstring}
 use Rattle.cord_core.proofs.OverLemmas.{length-bytes}
 use Rattle.cord.specs.Plain.{no_table, plain_bytes, IsPlain}
@@ -15,6 +15,10 @@ plain_of b c s h = record {
   len = length-bytes no_table c s (h.fits (lengths_of no_table));
   over = record { fits = h.fits; bytes = λ t. h.bytes t ∙ sym (h.bytes no_table) };
 }
+
+-- it stores its length
+pub plain_len : (c : Option Node) (x : List ℕ) → IsPlain c → plain_bytes c ≡ x → text_len c ≡ length x
+plain_len c x p is = p.len ∙ ap (λ (y : List ℕ). length y) is
 
 -- one text and then another
 pub cat_has : (x y c : Option Node) → IsPlain x → IsPlain y → IsCatOf x y c → HasText (plain_bytes x ++ plain_bytes y) c

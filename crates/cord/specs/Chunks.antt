@@ -1,5 +1,5 @@
 -- Chunks: what a text has in one part of its tree, of which none is empty.
-use Rattle.std.specs.Prelude.{◌≡◌, ◌+◌, ◌<◌, ◌≤◌, ℕ, List, [], ◌++◌, length, map, drop, replicate, Option, MatchOption, true}
+use Rattle.std.specs.Prelude.{◌≡◌, ◌+◌, ◌-◌, ◌<◌, ◌≤◌, ℕ, List, [], ◌++◌, length, map, take, drop, reverse, replicate, Option, MatchOption, true}
 use Rattle.std.specs.List.{concat}
 use Rattle.std.specs.Iterator.Runs.{EachRunFrom}
 use Rattle.cord.specs.declared.chunks.Chunk.{Chunk}
@@ -23,3 +23,17 @@ GivesChunk old answer new = MatchOption answer ((old ≡ []) × (new ≡ [])) (�
 -- the chunks that come up to the end are the bytes, one after another
 abbrev pub JoinTo : List ℕ → List ℕ → Type 0
 JoinTo left x = EachRunFrom GivesChunk left (λ p. p.whole ≡ true → concat (map chunk_bytes p.items) ≡ x)
+
+-- it is what x has up to a place
+pub record IsChunkBefore (x : List ℕ) (end : ℕ) (chunk : Chunk) : Type 0 where
+  pub some : 0 < length (chunk_bytes chunk)
+  pub inside : length (chunk_bytes chunk) ≤ end
+  pub text : take end x ≡ take (end - length (chunk_bytes chunk)) x ++ chunk_bytes chunk
+
+-- a call that gave a chunk with which the bytes that were left end, or nothing where none was left
+abbrev pub GivesChunkBefore : List ℕ → Option Chunk → List ℕ → Type 0
+GivesChunkBefore old answer new = MatchOption answer ((old ≡ []) × (new ≡ [])) (λ chunk. (0 < length (chunk_bytes chunk)) × (old ≡ new ++ chunk_bytes chunk))
+
+-- the chunks that come up to the end are the bytes, the last one first
+abbrev pub JoinBackTo : List ℕ → List ℕ → Type 0
+JoinBackTo left x = EachRunFrom GivesChunkBefore left (λ p. p.whole ≡ true → concat (reverse (map chunk_bytes p.items)) ≡ x)

@@ -53,6 +53,7 @@
 
 mod builder;
 mod chunks;
+mod chunks_back;
 mod count;
 mod doubling;
 mod edit;
@@ -65,11 +66,13 @@ mod output;
 mod print;
 mod search;
 mod show;
+mod sink;
 mod text;
 mod tree;
 
 pub use builder::TextBuilder;
 pub use chunks::{Chunk, Chunks};
+pub use chunks_back::ChunksBack;
 pub use cord_core::{Cord, Node};
 pub use cord_ec::ExtCord;
 pub use cord_file::{FileError, Sources};
@@ -85,4 +88,5 @@ pub use doubling::repeated;
 pub use lines::Lines;
 pub use no_source::NoSource;
 pub use print::TextArg;
+pub use sink::TextSink;
 pub use text::Text;

@@ -1,7 +1,7 @@
 use Rattle.std.proofs.Common.{ℕ, List, [], ◌∙◌, ap}
 use Rattle.cord_core.specs.Texts.{first}
 use Rattle.cord.specs.Plain.{no_lengths, plain_bytes}
-use Rattle.cord.proofs.Found.{found_from, found_inside}
+use Rattle.cord.proofs.PlainTexts.{plain_len}
 use Rattle.cord.proofs.text.Text.find_text.Goals as goal
 
 pub str-requires-clause-fits : goal.str-requires-clause-fits
@@ -16,8 +16,5 @@ returns-clause-first c =
     ∙ ap (λ (x : List ℕ). first x c.args.start (plain_bytes c.pattern.inside.cord)) c.self.view_is
     ∙ ap (λ (s : List ℕ). first c.args.self.now c.args.start s) c.pattern.view_is
 
-pub returns-clause-from : goal.returns-clause-from
-returns-clause-from c = found_from c.args.self.now c.args.pattern.now c.args.start c.in-Ok.place (returns-clause-first c)
-
 pub returns-clause-inside : goal.returns-clause-inside
-returns-clause-inside c = found_inside c.args.self.now c.args.pattern.now c.args.start c.in-Ok.place (returns-clause-first c)
+returns-clause-inside c = rw (plain_len c.self.inside.cord c.args.self.now c.self.invariant c.self.view_is, plain_len c.pattern.inside.cord c.args.pattern.now c.pattern.invariant c.pattern.view_is) at c.in-Ok.ensures.within

@@ -1,10 +1,11 @@
-use Rattle.std.proofs.Common.{◌≡◌, ℕ, ◌-◌, ◌<◌, List, [], length, ◌∙◌, sym, ap, arith}
+use Rattle.std.proofs.Common.{◌≡◌, ℕ, ◌-◌, ◌<◌, ◌≤◌, List, [], length, ◌∙◌, sym, ap, arith}
 use Rattle.std.specs.Prelude.{min}
 use Rattle.std.proofs.lemmas.Grind.{common_steps}
 use Rattle.cord_core.specs.Texts.{last}
 use Rattle.cord.specs.Places.{last_before}
 use Rattle.cord.specs.Plain.{no_lengths}
-use Rattle.cord.proofs.Found.{last_clipped, last_up_to, found_before, last_found_inside}
+use Rattle.cord.proofs.Found.{last_clipped, last_up_to, below_end}
+use Rattle.cord.proofs.PlainTexts.{plain_len}
 use Rattle.cord.proofs.text.Text.rfind_byte.Goals as goal
 
 pub returns-then-end-eq0-clause-last : goal.returns-then-end-eq0-clause-last
@@ -27,7 +28,10 @@ returns-clause-last c =
     ∙ last_clipped x c.args.byte c.args.end
 
 pub returns-clause-before : goal.returns-clause-before
-returns-clause-before c = found_before c.args.self.now c.args.byte c.args.end c.in-Ok.place (returns-clause-last c)
+returns-clause-before c =
+    let some : 0 < c.min-end.result = grind (arith, common_steps) in
+    let low : c.min-end.result ≤ c.args.end = grind (arith, common_steps) in
+    below_end c.min-end.result c.args.end some low c.in-Ok.place c.in-Ok.ensures.up_to
 
 pub returns-clause-inside : goal.returns-clause-inside
-returns-clause-inside c = last_found_inside c.args.self.now c.args.byte c.args.end c.in-Ok.place (returns-clause-last c)
+returns-clause-inside c = rw (plain_len c.self.inside.cord c.args.self.now c.self.invariant c.self.view_is) at c.in-Ok.ensures.within
