@@ -1,5 +1,6 @@
 pub mod CordLemmas
 pub mod OverLemmas
+pub mod Parts
 pub mod Catting
 pub mod Places
 pub mod Searches
