@@ -33,24 +33,41 @@ mod template;
 
 use anyhow::{Result, bail};
 use assemble::write_range;
-use cord::{DiskFiles, Sources, StdSink};
+use cord::{DiskFiles, Files, Sources, StdSink};
 use std::{env, fs};
 use template::parse;
 
-fn main(rt: HostRuntime) -> Result<()> {
+/// Writes COUNT bytes of the text of a template, from byte FROM on.
+fn write_part<F: Files>(
+    rt: &HostRuntime,
+    sources: &mut Sources<F>,
+    path: &str,
+    values: &[String],
+    from: u64,
+    count: u64,
+) -> Result<()> {
     let alloc = rt.alloc();
-    let words: Vec<String> = env::args(&rt)?.collect(alloc)?;
-    let [_, path, from, count, values @ ..] = words.as_slice() else {
+    let template = fs::read_to_string(rt, path)?;
+    let parts = parse(alloc, template.as_str(), values, sources)?;
+    let mut out = StdSink::new(rt.stdout());
+    write_range(alloc, sources, &parts, from, count, &mut out)?;
+    Ok(())
+}
+
+/// Does what the words of the command line say.
+fn run(rt: &HostRuntime, words: &[String]) -> Result<()> {
+    let [_, path, from, count, values @ ..] = words else {
         bail!("usage: example_assembler TEMPLATE FROM COUNT [NAME=VALUE]..");
     };
-    let Ok(mut sources) = Sources::new(alloc, DiskFiles::new(rt.clone()?, alloc)) else {
+    let (from, count) = (from.parse::<u64>()?, count.parse::<u64>()?);
+    let files = DiskFiles::new(rt.clone()?, rt.alloc());
+    let Ok(mut sources) = Sources::new(rt.alloc(), files) else {
         bail!("no memory");
     };
-    let template = fs::read_to_string(&rt, path.as_str())?;
-    let parts = parse(alloc, template.as_str(), values, &mut sources)?;
-    let from = from.parse::<u64>()?;
-    let count = count.parse::<u64>()?;
-    let mut out = StdSink::new(rt.stdout());
-    write_range(alloc, &mut sources, &parts, from, count, &mut out)?;
-    Ok(())
+    write_part(rt, &mut sources, path.as_str(), values, from, count)
+}
+
+fn main(rt: HostRuntime) -> Result<()> {
+    let words: Vec<String> = env::args(&rt)?.collect(rt.alloc())?;
+    run(&rt, &words)
 }

@@ -22,15 +22,20 @@ pub fn parse<'a, F: Files>(
     let mut parts = Vec::new(alloc);
     let mut pieces = template.split('{');
     if let Some(text) = pieces.next() {
-        parts.push(Part::Text(text)).map_err(AllocError::from)?;
+        add(&mut parts, Part::Text(text))?;
     }
     for piece in pieces {
         let (words, text) = piece.split_once('}').context("a brace isn't closed")?;
-        let part = part_of(alloc, words, values, sources)?;
-        parts.push(part).map_err(AllocError::from)?;
-        parts.push(Part::Text(text)).map_err(AllocError::from)?;
+        add(&mut parts, part_of(alloc, words, values, sources)?)?;
+        add(&mut parts, Part::Text(text))?;
     }
     Ok(parts)
+}
+
+/// Adds a part behind the others.
+fn add<'a>(parts: &mut Vec<Part<'a>>, part: Part<'a>) -> Result<(), AllocError> {
+    parts.push(part)?;
+    Ok(())
 }
 
 /// What the words in braces stand for.
@@ -49,12 +54,17 @@ fn part_of<'a, F: Files>(
         let (id, _) = sources.open(alloc, path)?;
         return Ok(Part::File(id, times.parse::<u64>()?));
     }
+    value_of(words, values)
+}
+
+/// The value that is given for a name.
+fn value_of<'a>(wanted: &str, values: &'a [String]) -> Result<Part<'a>> {
     for value in values {
         if let Some((name, text)) = value.as_str().split_once('=')
-            && name == words
+            && name == wanted
         {
             return Ok(Part::Text(text));
         }
     }
-    bail!("no value is given for {words}")
+    bail!("no value is given for {wanted}")
 }
