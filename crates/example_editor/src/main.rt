@@ -53,15 +53,18 @@ fn obey(
         }
         Command::Undo => buffer.undo()?,
         Command::Redo => buffer.redo()?,
-        Command::Find(wanted) => {
-            let found = buffer.text().find(alloc, wanted.as_bytes(), 0)?;
-            let place = found.ok_or(Refusal::NotFound)?;
-            return Ok(Some(line_of(alloc, place)?));
-        }
+        Command::Find(wanted) => return Ok(Some(place_of(alloc, buffer.text(), wanted)?)),
         Command::Print => return Ok(Some(buffer.text().share(alloc)?)),
         Command::Quit => {}
     }
     Ok(None)
+}
+
+/// The first place of a text, on a line of its own.
+fn place_of(alloc: Global, text: &Text, wanted: &str) -> Result<Text, Refusal> {
+    let found = text.find(alloc, wanted.as_bytes(), 0)?;
+    let place = found.ok_or(Refusal::NotFound)?;
+    Ok(line_of(alloc, place)?)
 }
 
 /// A number on a line of its own.
@@ -70,28 +73,40 @@ fn line_of(alloc: Global, number: u64) -> Result<Text, CordError> {
     Text::from_str(alloc, line.as_str())
 }
 
-fn main(rt: HostRuntime) -> Result<()> {
-    let alloc = rt.alloc();
-    let mut out = StdSink::new(rt.stdout());
-    let mut buffer = Buffer::new(alloc)?;
-    for line in rt.lines(alloc) {
-        let line = match line {
+/// Obeys a line, and writes what comes of it. Answers whether the program goes on.
+fn take(rt: &HostRuntime, buffer: &mut Buffer, line: &str) -> Result<bool> {
+    let answer = match Command::parse(line) {
+        Ok(Command::Quit) => return Ok(false),
+        Ok(command) => obey(rt.alloc(), buffer, &command),
+        Err(refusal) => Err(refusal),
+    };
+    match answer {
+        Ok(Some(text)) => text.put(&mut StdSink::new(rt.stdout()))?,
+        Ok(None) => {}
+        Err(refusal) => println!(rt; "{line}: {refusal}")?,
+    }
+    Ok(true)
+}
+
+/// Takes the lines of standard input, up to one that ends the program.
+fn take_input(rt: &HostRuntime, buffer: &mut Buffer) -> Result<()> {
+    for line in rt.lines(rt.alloc()) {
+        match line {
+            Ok(line) => {
+                if !take(rt, buffer, line.as_str())? {
+                    break;
+                }
+            }
             Err(error) if error.kind() == ErrorKind::InvalidData => {
                 println!(rt; "a line that isn't UTF-8")?;
-                continue;
             }
-            line => line?,
-        };
-        let answer = match Command::parse(line.as_str()) {
-            Ok(Command::Quit) => break,
-            Ok(command) => obey(alloc, &mut buffer, &command),
-            Err(refusal) => Err(refusal),
-        };
-        match answer {
-            Ok(Some(text)) => text.put(&mut out)?,
-            Ok(None) => {}
-            Err(refusal) => println!(rt; "{line}: {refusal}")?,
+            Err(error) => return Err(error.into()),
         }
     }
     Ok(())
+}
+
+fn main(rt: HostRuntime) -> Result<()> {
+    let mut buffer = Buffer::new(rt.alloc())?;
+    take_input(&rt, &mut buffer)
 }

@@ -3,7 +3,7 @@ use cord::CordError;
 use thiserror::Error;
 
 /// Why a command isn't done. The text stays as it was.
-#[derive(Clone, Copy, Debug, PartialEq, Eq, Error)]
+#[derive(Clone, Copy, Debug, Error)]
 pub enum Refusal {
     #[error("no such command")]
     NoSuchCommand,
