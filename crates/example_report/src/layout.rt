@@ -5,7 +5,7 @@ ghost use Rattle.example_report.specs.Records.{row_arguments};
 
 use crate::record::Record;
 use anyhow::Result;
-use cord::{Format, Text, TextArg};
+use cord::{Format, FormatError, Text, TextArg};
 use std::alloc::Global;
 
 /// The formats of the lines, each of 50 bytes. An amount is printed as its whole part and its hundredths.
@@ -18,7 +18,7 @@ pub struct Layout {
 
 impl Layout {
     /// Reads the formats. Refused for want of memory alone.
-    pub fn new(alloc: Global) -> Result<Layout> {
+    pub fn new(alloc: Global) -> Result<Layout, FormatError> {
         Ok(Layout {
             head: Format::parse(alloc, b"%-36s page %2u of %2u\n")?,
             row: Format::parse(alloc, b"%-19.19s %6u %7u.%02u %9u.%02u\n")?,

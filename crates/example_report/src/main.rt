@@ -27,19 +27,22 @@ mod report;
 
 use anyhow::Result;
 use cord::StdSink;
-use record::Record;
 use report::Report;
 
-fn main(rt: HostRuntime) -> Result<()> {
+/// Takes all lines of standard input.
+fn take_input(rt: &HostRuntime, report: &mut Report) -> Result<()> {
     let alloc = rt.alloc();
-    let mut report = Report::new(alloc)?;
     for line in rt.lines(alloc) {
         let line = line?;
-        match Record::parse(line.as_str()) {
-            Ok(record) => report.add(alloc, &record)?,
-            Err(flaw) => report.note(alloc, line.as_str(), &flaw)?,
-        }
+        report.take(alloc, line.as_str())?;
     }
-    report.finish(alloc)?.put(&mut StdSink::new(rt.stdout()))?;
+    Ok(())
+}
+
+fn main(rt: HostRuntime) -> Result<()> {
+    let mut report = Report::new(rt.alloc())?;
+    take_input(&rt, &mut report)?;
+    let text = report.finish(rt.alloc())?;
+    text.put(&mut StdSink::new(rt.stdout()))?;
     Ok(())
 }

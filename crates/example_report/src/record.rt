@@ -13,7 +13,7 @@ pub struct Record<'a> {
 }
 
 /// What is wrong with a line that is no record.
-#[derive(Clone, Copy, Debug, PartialEq, Eq, Error)]
+#[derive(Clone, Copy, Debug, Error)]
 pub enum Flaw {
     #[error("NAME,COUNT,PRICE is wanted")]
     Fields,

@@ -7,11 +7,13 @@ use crate::layout::Layout;
 use crate::record::{Flaw, Record};
 use anyhow::{Context, Result};
 use cord::{CordError, Text, TextBuilder};
-use std::alloc::{AllocError, Global};
+use std::alloc::Global;
 
 const TITLE: &str = "Fruit sold";
 
 const COLUMNS: &str = "Name                 Count      Price       Amount\n";
+
+const RULE: &str = "--------------------------------------------------\n";
 
 const ROWS_PER_PAGE: u32 = 5;
 
@@ -19,7 +21,6 @@ const ROWS_PER_PAGE: u32 = 5;
 #[derive(Drop)]
 pub struct Report {
     layout: Layout,
-    rule: Text,
     pages: Vec<Text>,
     page: TextBuilder,
     rows: u32,
@@ -37,13 +38,21 @@ impl Report {
             rows: 0,
             total: 0,
             notes: TextBuilder::new(alloc)?,
-            rule: rule(alloc)?,
             layout: Layout::new(alloc)?,
         })
     }
 
+    /// Takes a line: a record becomes a row, and any other line is kept, to be told at the end.
+    pub fn take(&mut self, alloc: Global, line: &str) -> Result<()> {
+        match Record::parse(line) {
+            Ok(record) => self.add(alloc, &record)?,
+            Err(flaw) => self.note(alloc, line, &flaw)?,
+        }
+        Ok(())
+    }
+
     /// Adds a row, on a new page where this one is full.
-    pub fn add(&mut self, alloc: Global, entry: &Record<'_>) -> Result<()>
+    fn add(&mut self, alloc: Global, entry: &Record<'_>) -> Result<()>
         ensures { OnOk result (self.new.total ≡ self.old.total + amount_of entry.now) }
     {
         if self.rows == ROWS_PER_PAGE {
@@ -57,11 +66,10 @@ impl Report {
         Ok(())
     }
 
-    /// Keeps a line that is no record, to be told at the end.
-    pub fn note(&mut self, alloc: Global, line: &str, flaw: &Flaw) -> Result<()> {
+    /// Keeps a line that is no record.
+    fn note(&mut self, alloc: Global, line: &str, flaw: &Flaw) -> Result<(), CordError> {
         let note = format!(in alloc; "{line}: {flaw}\n")?;
-        self.notes.push_bytes(alloc, note.as_bytes())?;
-        Ok(())
+        self.notes.push_bytes(alloc, note.as_bytes())
     }
 
     /// Ends the page with the sum so far, and begins another one.
@@ -70,8 +78,18 @@ impl Report {
         ensures rows { OnOk result (self.new.rows ≡ 0) }
     {
         let sum = self.layout.sum(alloc, label, self.total)?;
-        let page = ended(alloc, &mut self.page, &self.rule, &sum)?;
-        self.pages.push(page).map_err(AllocError::from)?;
+        self.end_page(alloc, &sum)?;
+        Ok(())
+    }
+
+    /// Ends the page with a sum under a rule, and begins another one.
+    fn end_page(&mut self, alloc: Global, sum: &Text) -> Result<(), CordError>
+        ensures total { self.new.total ≡ self.old.total }
+        ensures rows { OnOk result (self.new.rows ≡ 0) }
+    {
+        self.page.push_bytes(alloc, RULE.as_bytes())?;
+        self.page.push_text(alloc, sum)?;
+        self.pages.push(self.page.to_text(alloc)?)?;
         self.page = TextBuilder::new(alloc)?;
         self.rows = 0;
         Ok(())
@@ -80,59 +98,33 @@ impl Report {
     /// The whole report: each page under its head, and then the notes.
     pub fn finish(&mut self, alloc: Global) -> Result<Text> {
         self.turn(alloc, "Total")?;
-        let pages = u32::try_from(self.pages.len())?;
         let mut report = TextBuilder::new(alloc)?;
-        for (page, number) in self.pages.iter().zip(1..=pages) {
-            self.put_page(alloc, &mut report, page, number, pages)?;
-        }
+        self.put_pages(alloc, &mut report)?;
         report.push_text(alloc, &self.notes.to_text(alloc)?)?;
         Ok(report.to_text(alloc)?)
     }
 
-    /// Adds a page under its head to a report.
-    fn put_page(
-        &self,
-        alloc: Global,
-        report: &mut TextBuilder,
-        page: &Text,
-        number: u32,
-        pages: u32,
-    ) -> Result<()> {
-        let head = self.layout.head(alloc, TITLE, number, pages)?;
-        self.put_under(alloc, report, &head, page)?;
+    /// Adds each page under its head to a report.
+    fn put_pages(&self, alloc: Global, report: &mut TextBuilder) -> Result<()> {
+        let pages = u32::try_from(self.pages.len())?;
+        for (page, number) in self.pages.iter().zip(1..=pages) {
+            let head = self.layout.head(alloc, TITLE, number, pages)?;
+            put_page(alloc, report, &head, page)?;
+        }
         Ok(())
     }
-
-    /// Adds a page under this head to a report.
-    fn put_under(
-        &self,
-        alloc: Global,
-        report: &mut TextBuilder,
-        head: &Text,
-        page: &Text,
-    ) -> Result<(), CordError> {
-        report.push_text(alloc, head)?;
-        report.push_bytes(alloc, COLUMNS.as_bytes())?;
-        report.push_text(alloc, &self.rule)?;
-        report.push_text(alloc, page)?;
-        report.push_bytes(alloc, b"\n")
-    }
 }
 
-/// The text of a page, which ends with a sum under a rule.
-fn ended(
+/// Adds a page under this head to a report.
+fn put_page(
     alloc: Global,
-    page: &mut TextBuilder,
-    rule: &Text,
-    sum: &Text,
-) -> Result<Text, CordError> {
-    page.push_text(alloc, rule)?;
-    page.push_text(alloc, sum)?;
-    page.to_text(alloc)
-}
-
-/// The line under the heads of the columns.
-fn rule(alloc: Global) -> Result<Text> {
-    let rule = Text::repeat(alloc, b'-', COLUMNS.len() as u64 - 1)?;
-    Ok(rule.append_bytes(alloc, b"\n")?)
+    report: &mut TextBuilder,
+    head: &Text,
+    page: &Text,
+) -> Result<(), CordError> {
+    report.push_text(alloc, head)?;
+    report.push_bytes(alloc, COLUMNS.as_bytes())?;
+    report.push_bytes(alloc, RULE.as_bytes())?;
+    report.push_text(alloc, page)?;
+    report.push_bytes(alloc, b"\n")
 }
