@@ -122,7 +122,10 @@ pub(crate) fn expression_with(
         Statement::Cat { .. } | Statement::Catn { .. } => Ok(Some(joined_all(alloc, choices)?)),
         Statement::Catc { byte, .. } => Ok(Some(joined_with(alloc, choices, byte)?)),
         Statement::Chars { byte, count, .. } => Ok(Some(run_of(byte, count)?)),
-        Statement::Nul { count, .. } => Ok(Some(run(Number::Numeral(0), count.clone()?))),
+        Statement::Nul { count, .. } => {
+            let count = count.clone()?;
+            Ok(Some(run(Number::Numeral(0), count)))
+        }
         Statement::Substr { start, count, .. } => match choices {
             [] => Ok(None),
             [choice, ..] => Ok(Some(part(alloc, choice, start, count)?)),

@@ -32,16 +32,10 @@ pub(crate) fn operation_of(
         | Statement::Catc { line, target, .. }
         | Statement::Chars { line, target, .. }
         | Statement::Nul { line, target, .. }
-        | Statement::Substr { line, target, .. } => match target.clone() {
-            Ok(target) => {
-                let expression = or_nothing(alloc, expression);
-                Ok(gives(dead || paired, *line, target, Made::Joined(expression)))
-            }
-            Err(error) => {
-                drop(expression);
-                Err(error.into())
-            }
-        },
+        | Statement::Substr { line, target, .. } => {
+            let expression = or_nothing(alloc, expression);
+            given(dead || paired, *line, target, Made::Joined(expression))
+        }
         Statement::Put { line, .. } => Ok(Operation::Write {
             line: *line,
             expression: or_nothing(alloc, expression),
@@ -61,26 +55,28 @@ fn operation_without(statement: &Statement, dead: bool) -> Result<Operation, Cor
 {
     match statement {
         Statement::Let { line, target, text } => {
-            Ok(gives(dead, *line, target.clone()?, Made::Literal(text.clone()?)))
+            given(dead, *line, target, Made::Literal(text.clone()?))
         }
         Statement::File { line, target, path } => {
-            Ok(gives(dead, *line, target.clone()?, Made::OfFile(path.clone()?)))
+            given(dead, *line, target, Made::OfFile(path.clone()?))
         }
         Statement::Eager { line, target, path } => {
-            Ok(gives(dead, *line, target.clone()?, Made::OfEager(path.clone()?)))
+            given(dead, *line, target, Made::OfEager(path.clone()?))
         }
         Statement::Lazy { line, target, path } => {
-            Ok(gives(dead, *line, target.clone()?, Made::OfLazy(path.clone()?)))
+            given(dead, *line, target, Made::OfLazy(path.clone()?))
         }
         Statement::FromFn {
             line,
             target,
             function,
             count,
-        } => {
-            let (target, count) = (target.clone()?, count.clone()?);
-            Ok(gives(dead, *line, target, Made::OfFunction(*function, count)))
-        }
+        } => given(
+            dead,
+            *line,
+            target,
+            Made::OfFunction(*function, count.clone()?),
+        ),
         Statement::Balance { .. } | Statement::EcToCord { .. } | Statement::Sprintf { .. } =>
             operation_of_print(statement, dead),
         _ => Ok(Operation::Keep(statement.copied()?)),
@@ -98,28 +94,19 @@ fn operation_of_print(statement: &Statement, dead: bool) -> Result<Operation, Co
             line,
             target,
             operand,
-        } => {
-            let (target, operand) = (target.clone()?, operand.clone()?);
-            Ok(gives(dead, *line, target, Made::Balanced(operand)))
-        }
+        } => given(dead, *line, target, Made::Balanced(operand.clone()?)),
         Statement::EcToCord {
             line,
             target,
             extensible,
-        } => {
-            let (target, extensible) = (target.clone()?, extensible.clone()?);
-            Ok(gives(dead, *line, target, Made::OfExtensible(extensible)))
-        }
+        } => given(dead, *line, target, Made::OfExtensible(extensible.clone()?)),
         Statement::Sprintf {
             line,
             target,
             text,
             format,
             arguments,
-        } => {
-            let target = target.clone()?;
-            Ok(gives(dead, *line, target, printed(text, format, arguments)?))
-        }
+        } => given(dead, *line, target, printed(text, format, arguments)?),
         _ => unreachable!(),
     }
 }
@@ -131,6 +118,20 @@ fn printed(text: &Text, format: &Format, arguments: &Arguments) -> Result<Made, 
 {
     let (text, arguments) = (text.clone()?, arguments.clone()?);
     Ok(Made::Printed(text, format.clone()?, arguments))
+}
+
+// The operation that gives a copy of a name what it is made of, or only measures that.
+fn given(measures: bool, line: u32, target: &Name, made: Made) -> Result<Operation, CordError>
+    ensures made { IfOk result (λ o. operation_view o ≡ plan.gives measures line target.now (made_view made)) }
+    ensures refused { IsOkUnless result CordError.NoMemory }
+{
+    match target.clone() {
+        Ok(target) => Ok(gives(measures, line, target, made)),
+        Err(error) => {
+            drop(made);
+            Err(error.into())
+        }
+    }
 }
 
 // The operation that gives a name what it is made of, or only measures that.

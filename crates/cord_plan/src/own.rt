@@ -28,7 +28,10 @@ pub(crate) fn own_expression(
         }
         Statement::Catc { operand, byte, .. } => Ok(Some(with_byte(alloc, operand, byte)?)),
         Statement::Chars { byte, count, .. } => Ok(Some(run_of(byte, count)?)),
-        Statement::Nul { count, .. } => Ok(Some(run(Number::Numeral(0), count.clone()?))),
+        Statement::Nul { count, .. } => {
+            let count = count.clone()?;
+            Ok(Some(run(Number::Numeral(0), count)))
+        }
         Statement::Substr {
             operand,
             start,
