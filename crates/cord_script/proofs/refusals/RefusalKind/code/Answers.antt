@@ -1,5 +1,6 @@
-use Rattle.std.proofs.Common.{rules}
+use Rattle.std.proofs.Common.{sym, ap}
+use Rattle.cord_script.specs.Refusals.{code_of}
 use Rattle.cord_script.proofs.refusals.RefusalKind.code.Goals as goal
 
 pub returns-in-ElseAlone : goal.returns-in-ElseAlone
-returns-in-ElseAlone c = search rules
+returns-in-ElseAlone c = ap code_of (sym c.in-ElseAlone.is)
