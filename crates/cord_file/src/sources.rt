@@ -31,7 +31,27 @@ impl<F: Files> Sources<F> {
     ghost use Rattle.cord_file.specs.Sources.{device_in, opened_in};
 
     /// The functions alone, over files of which none is open here. Refused with `NoMemory` alone, and then the files
-    /// are given back.
+    /// are given back. It has no condition, and the cords that these sources make can be read over them as long as they live.
+    ///
+    /// ```rust both_files
+    /// use cord_core::Cord;
+    /// use cord_file::{FileError, Sources};
+    /// use cord_io::MemFiles;
+    /// use cord_iter::to_vec;
+    /// use std::alloc::Global;
+    ///
+    /// /// Two files, one after the other. Nothing of them is read before the last line.
+    /// pub fn both_files(alloc: Global, files: MemFiles) -> Result<Vec<u8>, FileError> {
+    ///     let Ok(mut sources) = Sources::new(alloc, files) else {
+    ///         return Err(FileError::NoMemory);
+    ///     };
+    ///     let first = sources.lazy(alloc, "first.txt")?;
+    ///     let second = sources.lazy(alloc, "second.txt")?;
+    ///     let both = Cord::cat(alloc, &first, &second)?;
+    ///     let bytes = to_vec(alloc, &both, &mut sources)?;
+    ///     Ok(bytes)
+    /// }
+    /// ```
     pub fn new(alloc: Global, files: F) -> Result<Sources<F>, (CordError, F)>
         ensures made { MatchResult result
             (λ sources. (device_in sources ≡ files) × (opened_in sources ≡ []))

@@ -9,9 +9,30 @@ use cord_core::Cord;
 use cord_io::{CordError, Sink, Source, WriteFault};
 use std::alloc::Global;
 
-/// The text of a cord over a source, in a vector of that length. Each function part lies inside an entry of `src`. Refused with
-/// `ReadFailed` where a read failed, and with `NoMemory` where the vector was refused memory. The text is that over the table of
-/// each folder that `src` keeps after the call, and as many bytes are there whatever it keeps.
+/// The text of a cord over a source, in a vector of that length. Refused with `ReadFailed` where a read failed, and with
+/// `NoMemory` where the vector was refused memory. The text is that over the table of each folder that `src` keeps after the
+/// call, and as many bytes are there whatever it keeps.
+///
+/// Each function part lies inside an entry of `src`: so it is with every cord over no files, with those that `src` made
+/// where it is a `Sources`, and with what `cat`, `substr` and the others make of them.
+///
+/// ```rust head
+/// use cord_core::Cord;
+/// use cord_io::{CordError, Source};
+/// use cord_iter::to_vec;
+/// use std::alloc::Global;
+///
+/// /// The first bytes of a text, at most so many.
+/// pub fn head<S: Source>(
+///     alloc: Global,
+///     text: &Cord,
+///     count: u64,
+///     src: &mut S,
+/// ) -> Result<Vec<u8>, CordError> {
+///     let head = text.substr(alloc, 0, count)?;
+///     to_vec(alloc, &head, src)
+/// }
+/// ```
 pub fn to_vec<S: Source>(alloc: Global, cord: &Cord, src: &mut S) -> Result<Vec<u8>, CordError>
     requires fits { CordFitsIn (S.lengths src.old) cord.now }
     ensures text { (folder : Folder) → S.keeps src.new folder → IfOk result (λ v. v.items ≡ bytes_of (S.table src.old folder) cord.now) }

@@ -14,10 +14,32 @@ use cord_io::{CordError, MAX_LEN, Sink, Source, SourceId};
 
 /// Hands a sink the text of a cord over a source, after `CORD_put` of `cord.h`: each leaf's slice is offered whole, after a short
 /// `put` the rest, a function part or a run in pieces of at most 512 bytes, or of 65,536 bytes where it is that long.
-/// Each function part lies inside an entry of `src`.
 /// Refused with `ReadFailed` where a read failed and with `WriteFailed` where a `put` failed: then the sink has taken a front part
 /// of the text. The text is that over the table of each folder that `src` keeps after the call, and as many bytes are taken
 /// whatever it keeps. It doesn't finish the sink.
+///
+/// Each function part lies inside an entry of `src`: so it is with every cord over no files, with those that `src` made
+/// where it is a `Sources`, and with what `cat`, `substr` and the others make of them.
+///
+/// ```rust put_line
+/// use cord_core::Cord;
+/// use cord_io::{CordError, Sink, Source};
+/// use cord_iter::put;
+/// use std::alloc::Global;
+///
+/// /// Writes a text and the end of a line, and nothing after it.
+/// pub fn put_line<S: Source, W: Sink>(
+///     alloc: Global,
+///     text: &Cord,
+///     src: &mut S,
+///     sink: &mut W,
+/// ) -> Result<(), CordError> {
+///     let line = Cord::cat_char(alloc, text, b'\n')?;
+///     put(&line, src, sink)?;
+///     sink.finish()?;
+///     Ok(())
+/// }
+/// ```
 pub fn put<S: Source, W: Sink>(cord: &Cord, src: &mut S, sink: &mut W) -> Result<(), CordError>
     requires fits { CordFitsIn (S.lengths src.old) cord.now }
     ensures text { (folder : Folder) → S.keeps src.new folder → OnOk result (W.taken sink.new ≡ W.taken sink.old ++ bytes_of (S.table src.old folder) cord.now) }

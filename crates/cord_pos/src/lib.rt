@@ -25,6 +25,29 @@ struct Spot<'a> {
 }
 
 /// A cord with an index below its length, or with none, as past the end or before the beginning.
+///
+/// `fetch` asks for a valid position, which `is_valid` tells, and for function parts that lie inside entries of the source: so
+/// it is with every cord over no files, with those that the source made where it is a `Sources`, and with what `cat`, `substr`
+/// and the others make of them.
+///
+/// ```rust end_of_word
+/// use cord_core::Cord;
+/// use cord_io::{CordError, Source};
+/// use cord_pos::Position;
+///
+/// /// The place of the first space from `start` on, or the end.
+/// pub fn end_of_word<S: Source>(
+///     text: &Cord,
+///     start: u64,
+///     src: &mut S,
+/// ) -> Result<u64, CordError> {
+///     let mut position = Position::set(text, start);
+///     while position.is_valid() && position.fetch(src)? != b' ' {
+///         position.next();
+///     }
+///     Ok(position.index().unwrap_or(text.len()))
+/// }
+/// ```
 #[derive(Drop)]
 pub struct Position<'a> {
     cord: &'a Cord,
