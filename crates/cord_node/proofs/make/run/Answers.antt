@@ -1,0 +1,5 @@
+use Rattle.std.proofs.Common.{rules}
+use Rattle.cord_node.proofs.make.run.Goals as goal
+
+pub returns-clause-form : goal.returns-clause-form
+returns-clause-form c = search rules
