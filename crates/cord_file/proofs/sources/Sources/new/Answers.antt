@@ -1,4 +1,4 @@
-use Rattle.std.proofs.Common.{rules, sym, subst, []}
+use Rattle.std.proofs.Common.{rules, refl, sym, subst, []}
 use Rattle.cord_file.proofs.sources.Sources.new.Goals as goal
 use Rattle.cord_file.specs.Blocks.{AreKept}
 use Rattle.cord_file.specs.Files.{Each}
@@ -20,3 +20,6 @@ invariant_of-result g c = record {
     kept = subst (λ b. AreKept (g.F.Files.keeps c.args.files) c.new-entries.result.items b.entries) (sym c.in-Ok.ensures) (kept_none (g.F.Files.keeps c.args.files) c.new-entries.result.items);
   };
 }
+
+pub returns-in_default : goal.returns-in_default
+returns-in_default g c = record { made = (refl, refl) }
