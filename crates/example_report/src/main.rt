@@ -29,20 +29,19 @@ use anyhow::Result;
 use cord::StdSink;
 use report::Report;
 
-/// Takes all lines of standard input.
-fn take_input(rt: &HostRuntime, report: &mut Report) -> Result<()> {
+/// Takes all lines of standard input, and writes their report.
+fn run(rt: &HostRuntime, report: &mut Report) -> Result<()> {
     let alloc = rt.alloc();
     for line in rt.lines(alloc) {
         let line = line?;
         report.take(alloc, line.as_str())?;
     }
+    let text = report.finish(alloc)?;
+    text.put(&mut StdSink::new(rt.stdout()))?;
     Ok(())
 }
 
 fn main(rt: HostRuntime) -> Result<()> {
     let mut report = Report::new(rt.alloc())?;
-    take_input(&rt, &mut report)?;
-    let text = report.finish(rt.alloc())?;
-    text.put(&mut StdSink::new(rt.stdout()))?;
-    Ok(())
+    run(&rt, &mut report)
 }

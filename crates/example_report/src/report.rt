@@ -13,6 +13,7 @@ const TITLE: &str = "Fruit sold";
 
 const COLUMNS: &str = "Name                 Count      Price       Amount\n";
 
+/// The line under the heads of the columns, and over a sum.
 const RULE: &str = "--------------------------------------------------\n";
 
 const ROWS_PER_PAGE: u32 = 5;
@@ -99,18 +100,19 @@ impl Report {
     pub fn finish(&mut self, alloc: Global) -> Result<Text> {
         self.turn(alloc, "Total")?;
         let mut report = TextBuilder::new(alloc)?;
-        self.put_pages(alloc, &mut report)?;
-        report.push_text(alloc, &self.notes.to_text(alloc)?)?;
+        self.put_all(alloc, &mut report)?;
         Ok(report.to_text(alloc)?)
     }
 
-    /// Adds each page under its head to a report.
-    fn put_pages(&self, alloc: Global, report: &mut TextBuilder) -> Result<()> {
+    /// Adds each page under its head, and then the notes, to a report.
+    fn put_all(&mut self, alloc: Global, report: &mut TextBuilder) -> Result<()> {
         let pages = u32::try_from(self.pages.len())?;
         for (page, number) in self.pages.iter().zip(1..=pages) {
             let head = self.layout.head(alloc, TITLE, number, pages)?;
             put_page(alloc, report, &head, page)?;
         }
+        let notes = self.notes.to_text(alloc)?;
+        report.push_text(alloc, &notes)?;
         Ok(())
     }
 }
