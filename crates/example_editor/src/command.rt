@@ -18,28 +18,36 @@ impl<'a> Command<'a> {
     pub fn parse(line: &'a str) -> Result<Command<'a>, Refusal> {
         let (name, rest) = line.split_once(' ').unwrap_or((line, ""));
         let command = match name {
-            "append" => Command::Edit(Edit::Append(rest)),
-            "insert" => {
-                let (place, text) = split_number(rest)?;
-                Command::Edit(Edit::Insert(place, text))
-            }
-            "delete" => {
-                let (place, count) = split_number(rest)?;
-                Command::Edit(Edit::Delete(place, number(count)?))
-            }
-            "replace" => {
-                let (old, new) = rest.split_once('/').ok_or(Refusal::NoSlash)?;
-                Command::Edit(Edit::Replace(old, new))
-            }
             "find" => Command::Find(rest),
             "print" => Command::Print,
             "undo" => Command::Undo,
             "redo" => Command::Redo,
             "quit" => Command::Quit,
-            _ => return Err(Refusal::NoSuchCommand),
+            _ => Command::Edit(edit_of(name, rest)?),
         };
         Ok(command)
     }
+}
+
+/// Reads what follows the name of an edit.
+fn edit_of<'a>(name: &str, rest: &'a str) -> Result<Edit<'a>, Refusal> {
+    let edit = match name {
+        "append" => Edit::Append(rest),
+        "insert" => {
+            let (place, text) = split_number(rest)?;
+            Edit::Insert(place, text)
+        }
+        "delete" => {
+            let (place, count) = split_number(rest)?;
+            Edit::Delete(place, number(count)?)
+        }
+        "replace" => {
+            let (old, new) = rest.split_once('/').ok_or(Refusal::NoSlash)?;
+            Edit::Replace(old, new)
+        }
+        _ => return Err(Refusal::NoSuchCommand),
+    };
+    Ok(edit)
 }
 
 /// The number that a text begins with, and what follows the space after it.

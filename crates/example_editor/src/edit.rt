@@ -1,6 +1,7 @@
 //! Edits, each of which makes a new text of an old one.
 ghost use Rattle.std.specs.Prelude.{IfOk};
 ghost use Rattle.example_editor.specs.Edits.{IsEdited};
+ghost use Rattle.example_editor.specs.declared.edit.Edit.TheVariants.{Append, Insert, Delete, Replace};
 
 use crate::refusal::Refusal;
 use cord::Text;
@@ -24,28 +25,44 @@ pub fn edited(alloc: Global, text: &Text, edit: &Edit<'_>) -> Result<Text, Refus
     ensures { IfOk result (IsEdited edit.now text.now) }
 {
     match *edit {
-        Edit::Append(line) => {
-            let front = text.append_bytes(alloc, line.as_bytes())?;
-            Ok(front.append_bytes(alloc, b"\n")?)
-        }
-        Edit::Insert(place, added) => {
-            if place > text.len() {
-                return Err(Refusal::PastEnd);
-            }
-            let added = Text::from_str(alloc, added)?;
-            Ok(text.insert(alloc, place, &added)?)
-        }
-        Edit::Delete(place, count) => {
-            if place > text.len() || count > text.len() - place {
-                return Err(Refusal::PastEnd);
-            }
-            Ok(text.remove(alloc, place, count)?)
-        }
-        Edit::Replace(old, new) => {
-            let found = text.find(alloc, old.as_bytes(), 0)?;
-            let place = found.ok_or(Refusal::NotFound)?;
-            let new = Text::from_str(alloc, new)?;
-            Ok(text.replace_range(alloc, place, old.len() as u64, &new)?)
-        }
+        Edit::Append(line) => with_line(alloc, text, line),
+        Edit::Insert(place, added) => inserted(alloc, text, place, added),
+        Edit::Delete(place, count) => deleted(alloc, text, place, count),
+        Edit::Replace(old, new) => replaced(alloc, text, old, new),
     }
+}
+
+fn with_line(alloc: Global, text: &Text, line: &str) -> Result<Text, Refusal>
+    ensures { IfOk result (IsEdited (Append line.entry) text.now) }
+{
+    let front = text.append_bytes(alloc, line.as_bytes())?;
+    Ok(front.append_bytes(alloc, b"\n")?)
+}
+
+fn inserted(alloc: Global, text: &Text, place: u64, added: &str) -> Result<Text, Refusal>
+    ensures { IfOk result (IsEdited (Insert place added.entry) text.now) }
+{
+    if place > text.len() {
+        return Err(Refusal::PastEnd);
+    }
+    let added = Text::from_str(alloc, added)?;
+    Ok(text.insert(alloc, place, &added)?)
+}
+
+fn deleted(alloc: Global, text: &Text, place: u64, count: u64) -> Result<Text, Refusal>
+    ensures { IfOk result (IsEdited (Delete place count) text.now) }
+{
+    if place > text.len() || count > text.len() - place {
+        return Err(Refusal::PastEnd);
+    }
+    Ok(text.remove(alloc, place, count)?)
+}
+
+fn replaced(alloc: Global, text: &Text, old: &str, new: &str) -> Result<Text, Refusal>
+    ensures { IfOk result (IsEdited (Replace old.entry new.entry) text.now) }
+{
+    let found = text.find(alloc, old.as_bytes(), 0)?;
+    let place = found.ok_or(Refusal::NotFound)?;
+    let new = Text::from_str(alloc, new)?;
+    Ok(text.replace_range(alloc, place, old.len() as u64, &new)?)
 }
