@@ -1,5 +1,5 @@
 -- All bytes are a format, or have a bad conversion.
-use Rattle.std.proofs.Common.{◌≡◌, ◌≢◌, ◌≤◌, ◌<◌, ◌+◌, ℕ, zero, suc, List, [], ◌∷◌, ◌++◌, Option, Some, None, Bool, true, false, length, refl, sym, ap, ◌∙◌, subst, inl, inr, ◌⊎◌, append_assoc, length-append, arith}
+use Rattle.std.proofs.Common.{◌≡◌, ◌≢◌, ◌≤◌, ◌<◌, ℕ, zero, suc, List, [], ◌∷◌, ◌++◌, Option, Some, None, Bool, true, false, length, refl, sym, ap, ◌∙◌, subst, inl, inr, ◌⊎◌, append_assoc, length-append, arith}
 use Rattle.std.specs.Prelude.{All}
 use Rattle.std.proofs.lemmas.Bool.{cases_eq, cases_lt}
 use Rattle.std.proofs.lemmas.List.Elements.{All-nil, All-cons}
@@ -10,7 +10,7 @@ use Rattle.cord_printf.specs.declared.pieces.Piece.{Piece}
 use Rattle.cord_printf.specs.declared.pieces.Piece.TheVariants.{Text, Signed, Unsigned, Byte, Cord, Percent}
 use Rattle.cord_printf.specs.Pieces.{IsMark, IsDigit, StartsNo, IsPoint, IsPiece, spelling, number_of, flags_of}
 use Rattle.cord_printf.specs.Reading.{AreParts, IsDotted, IsPointed, IsLettered, IsNoLetter, IsAllowed}
-use Rattle.cord_printf.specs.Format.{HasPieces, IsFormat, Converts, BeginsConversion, IsBadAt}
+use Rattle.cord_printf.specs.Format.{IsFormat, BeginsConversion, IsBadAt}
 use Rattle.cord_printf.specs.FormatLaws.{FormatOrBad}
 use Rattle.cord_printf.proofs.Spelled.{not_mark_of}
 use Rattle.cord_printf.proofs.Begins.{no_letter, no_width, no_precision, no_piece, not_allowed, converts}
