@@ -19,7 +19,7 @@ use Rattle.cord_script.proofs.Stated.{right_form}
 use Rattle.cord_script.proofs.Tabled.{form_is}
 
 -- a statement does to the blocks what its verb does
-same_effect : (v : Verb) (others : List Word) (s : Statement) → word_of s ≡ verb_word v → AreTerms others (terms_of s) → Suits s → effect_of s ≡ verb_effect v
+pub same_effect : (v : Verb) (others : List Word) (s : Statement) → word_of s ≡ verb_word v → AreTerms others (terms_of s) → Suits s → effect_of s ≡ verb_effect v
 same_effect v others s word terms suits =
     let r = right_form others s terms suits in
     let found : Some r.form ≡ Some (verb_form v) = sym r.is ∙ ap form_of word ∙ form_is v in

@@ -2,7 +2,10 @@ pub mod Allowed
 pub mod Behind
 pub mod Built
 pub mod Checked
+pub mod Either
+pub mod Filled
 pub mod Firsts
+pub mod Found
 pub mod Lines
 pub mod Magnitudes
 pub mod Readings

@@ -15,7 +15,7 @@ chosen_form true v o f rest p q = p
 chosen_form false v o f rest p q = q
 
 -- the verb of a word has its form
-form_found : (w : List ℕ) → form_at (find_verb VERBS w) ≡ form_of w
+pub form_found : (w : List ℕ) → form_at (find_verb VERBS w) ≡ form_of w
 unfolding form_of
 form_found w =
     chosen_form (bytes_eq w (codes "let")) verbs.Let _ _ _ refl (

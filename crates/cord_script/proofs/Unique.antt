@@ -187,12 +187,12 @@ pub record Begins (line : List ℕ) (c : ℕ) (rest : List ℕ) : Type 0 where
 quote_shows : ¬ IsBlank 34
 quote_shows = λ h. elim h [ inl e ↦ omega arith | inr k ↦ elim k [ inl e ↦ omega arith | inr e ↦ omega arith ] ]
 
-one_beginning : (line rest rest' : List ℕ) (c c' : ℕ) → Begins line c rest → Begins line c' rest' → (c ≡ c') × (rest ≡ rest')
+pub one_beginning : (line rest rest' : List ℕ) (c c' : ℕ) → Begins line c rest → Begins line c' rest' → (c ≡ c') × (rest ≡ rest')
 one_beginning line rest rest' c c' b b' =
     let r = one_front b.front b'.front c c' rest rest' b.blank b.shows b'.blank b'.shows (sym b.whole ∙ b'.whole) in
     (r.1, r.2)
 
-no_beginning : (line rest : List ℕ) (c : ℕ) → Begins line c rest → All IsBlank line → ⊥
+pub no_beginning : (line rest : List ℕ) (c : ℕ) → Begins line c rest → All IsBlank line → ⊥
 no_beginning line rest c b all = not_all_blank b.front rest c (subst (All IsBlank) b.whole all) b.shows
 
 -- how a plain word begins

@@ -1,5 +1,5 @@
--- Laws of scripts: what is read, and what is wrong, is one thing at most.
-use Rattle.std.specs.Prelude.{◌≡◌, ℕ, List}
+-- Laws of scripts: each text is read or wrong, and what is read, and what is wrong, is one thing at most.
+use Rattle.std.specs.Prelude.{◌≡◌, ◌⊎◌, ℕ, List}
 use Rattle.cord_script.specs.declared.refusals.RefusalKind.{RefusalKind}
 use Rattle.cord_syntax.specs.declared.statements.Statement.{Statement}
 use Rattle.cord_script.specs.Forms.{Grammar}
@@ -9,6 +9,10 @@ use Rattle.cord_script.specs.Flaws.{FlawBy}
 -- A script that is read has no flaw.
 abbrev pub ReadHasNoFlaw : Type 0
 ReadHasNoFlaw = (g : Grammar) (b : List ℕ) (ss : List Statement) (n : ℕ) (kind : RefusalKind) → ReadsBy g b ss → FlawBy g b n kind → ⊥
+
+-- All bytes are read as a script or have a flaw.
+abbrev pub ReadOrFlawed : Type 0
+ReadOrFlawed = (g : Grammar) (b : List ℕ) → ((ss : List Statement) × ReadsBy g b ss) ⊎ ((n : ℕ) × (kind : RefusalKind) × FlawBy g b n kind)
 
 -- At most one script is read from given bytes.
 abbrev pub OneScript : Type 0

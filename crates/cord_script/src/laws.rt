@@ -1,8 +1,8 @@
 // Laws of scripts: each function's contract is the law.
-ghost use Rattle.cord_script.specs.Laws.{ReadHasNoFlaw, OneScript, OneFlaw, BranchesKeep};
+ghost use Rattle.cord_script.specs.Laws.{ReadHasNoFlaw, ReadOrFlawed, OneScript, OneFlaw, BranchesKeep};
 ghost use Rattle.cord_script.specs.Rows.{Rows};
 
-use cord_printf::{formats_have_one_reading, refused_formats_are_none};
+use cord_printf::{bytes_are_format_or_bad, formats_have_one_reading, refused_formats_are_none};
 
 /// A script that is read has no flaw.
 pub fn read_scripts_have_no_flaw()
@@ -10,6 +10,13 @@ pub fn read_scripts_have_no_flaw()
 {
     formats_have_one_reading();
     refused_formats_are_none();
+}
+
+/// All bytes are read as a script or have a flaw.
+pub fn bytes_are_read_or_flawed()
+    ensures { ReadOrFlawed }
+{
+    bytes_are_format_or_bad();
 }
 
 /// At most one script is read from given bytes.

@@ -22,7 +22,7 @@ mod words;
 pub use cord_operands::{Argument, Arguments, Function, Name, Names, Number, Path, Relation, Text};
 pub use cord_syntax::{Script, Statement};
 pub use laws::{
-    branches_change_no_script, bytes_are_one_script, bytes_have_one_flaw,
+    branches_change_no_script, bytes_are_one_script, bytes_are_read_or_flawed, bytes_have_one_flaw,
     read_scripts_have_no_flaw, worked_rows_hold,
 };
 pub use limits::limits_are;

@@ -1,0 +1,370 @@
+-- The words of a line say a statement, or have a first flaw.
+use Rattle.std.proofs.Common.{inl, inr, Some, None, ◌≡◌, ◌≢◌, ◌+◌, ◌⊎◌, ℕ, List, [], ◌∷◌, Bool, true, false, refl, sym, ◌∙◌, ap, subst, map, length, arith, eqb-true}
+use Rattle.std.specs.Prelude.{Option, ◌==◌, ◌||◌, nat_le, is_some, codes, ℤ, if◌then◌else◌}
+use Rattle.std.specs.Str.{bytes_eq}
+use Rattle.std.proofs.lemmas.Bool.{leb-true}
+use Rattle.std.proofs.lemmas.Option.{same_Some}
+use Rattle.cord_printf.specs.declared.pieces.ArgKind.{ArgKind}
+use Rattle.cord_printf.specs.declared.pieces.ArgKind.TheVariants as printed
+use Rattle.cord_printf.specs.Pieces.{wanted}
+use Rattle.cord_printf.specs.FormatLaws.{FormatOrBad}
+use Rattle.cord_script.specs.declared.TheConstants.{MIN_PARTS, MAX_PARTS}
+use Rattle.cord_script.specs.declared.grammar.Verb.{Verb}
+use Rattle.cord_script.specs.declared.grammar.Verb.TheVariants as verbs
+use Rattle.cord_script.specs.declared.grammar.TheConstants.{VERBS}
+use Rattle.cord_script.specs.declared.kinds.Kind.TheVariants as kinds
+use Rattle.cord_script.specs.declared.kinds.Want.{Want}
+use Rattle.cord_script.specs.declared.kinds.Want.TheVariants as wants
+use Rattle.cord_operands.specs.declared.operands.Number.{Number}
+use Rattle.cord_operands.specs.declared.operands.Number.TheVariants.{Numeral, Named}
+use Rattle.cord_operands.specs.declared.operands.Function.{Function}
+use Rattle.cord_operands.specs.declared.operands.Function.TheVariants.{Digits, Bytes}
+use Rattle.cord_operands.specs.declared.operands.Relation.{Relation}
+use Rattle.cord_operands.specs.declared.operands.Relation.TheVariants.{Less, Equal, Greater}
+use Rattle.cord_operands.specs.declared.operands.Argument.{Argument}
+use Rattle.cord_operands.specs.declared.operands.Argument.TheVariants as arguments
+use Rattle.cord_script.specs.declared.words.Word.{Word}
+use Rattle.cord_script.specs.declared.words.Word.TheVariants.{Plain, Quoted}
+use Rattle.cord_script.specs.declared.refusals.RefusalKind.{RefusalKind}
+use Rattle.cord_script.specs.declared.refusals.RefusalKind.TheVariants.{UnknownStatement, WrongCount, BadName, BadNumber, BadFormat}
+use Rattle.cord_syntax.specs.declared.statements.Statement.{Statement}
+use Rattle.cord_syntax.specs.declared.statements.Statement.TheVariants.{Let, File, Eager, Lazy, Chars, Nul, FromFn, Cat, Catn, Catc, Substr, Balance, EcToCord, Sprintf, Len, Fetch, Cmp, Ncmp, Str, Chr, Rchr, Assign, Add, Sub, EcInit, EcPut, EcCat, EcStr, Put, Repeat, If, Else, End}
+use Rattle.cord_syntax.specs.Lines.{line_of}
+use Rattle.cord_script.specs.Tests.{is_name, begins_numeral, numeral_of, is_path}
+use Rattle.cord_script.specs.Formats.{Converts, want_of_kind, wants_of_pieces}
+use Rattle.cord_script.specs.Forms.{Grammar, Shape, Form, Term, form_of, form_in, word_of, terms_of, argument_term, argument_want}
+use Rattle.cord_script.specs.Forms.Shape.{Words, Joined, Printed}
+use Rattle.cord_script.specs.Forms.Term.{Target, Operand, Value, Literal, FilePath, Applies, Compares, Formats}
+use Rattle.cord_script.specs.Script.{Before, Says, Suits, IsTerm, AreTerms, FitsBlocks}
+use Rattle.cord_script.specs.Flaws.{first_of, unless, misfit, first_pair, first_misfit, name_misfit, is_count, cords, joined, format_wants, arguments_flaw, words_flaw, wants_of, names_flaw, block_flaw, form_flaw, HasFormat, HasFormFlaw, HasBadWords}
+use Rattle.cord_script.specs.Parted.{want_of}
+use Rattle.cord_script.specs.Leaves.{terms_flaw}
+use Rattle.cord_script.specs.Verbal.{verb_word, verb_shape, verb_effect, verb_form, find_verb, form_at}
+use Rattle.cord_script.proofs.Spelled.{both, chosen}
+use Rattle.cord_script.proofs.Checked.{neither, holds}
+use Rattle.cord_script.proofs.Firsts.{same_bytes}
+use Rattle.cord_script.proofs.Terms.{either}
+use Rattle.cord_script.proofs.Tabled.{form_found, form_is}
+use Rattle.cord_script.proofs.Allowed.{names_same, all_allowed, block_right}
+use Rattle.cord_script.proofs.Behind.{same_effect}
+
+-- what a word says where this is wanted
+abbrev Said : Want → Type 0
+Said (wants.Target kind) = List ℕ
+Said (wants.Operand kind) = List ℕ
+Said wants.Number = Number
+Said wants.Text = List ℕ
+Said wants.Path = List ℕ
+Said wants.Function = Function
+Said wants.Relation = Relation
+Said wants.Format = List ℕ
+
+abbrev term : (x : Want) → Said x → Term
+term (wants.Target kind) name = Target kind name
+term (wants.Operand kind) name = Operand kind name
+term wants.Number number = Value number
+term wants.Text text = Literal text
+term wants.Path path = FilePath path
+term wants.Function function = Applies function
+term wants.Relation relation = Compares relation
+term wants.Format text = Formats text
+
+abbrev AllSaid : List Want → Type 0
+AllSaid [] = Unit {0}
+AllSaid (x ∷ xs) = Said x × AllSaid xs
+
+abbrev terms : (xs : List Want) → AllSaid xs → List Term
+terms [] h = []
+terms (x ∷ xs) h = term x h.0 ∷ terms xs h.1
+
+term_wants : (x : Want) (v : Said x) → want_of (term x v) ≡ x
+term_wants (wants.Target kind) v = refl
+term_wants (wants.Operand kind) v = refl
+term_wants wants.Number v = refl
+term_wants wants.Text v = refl
+term_wants wants.Path v = refl
+term_wants wants.Function v = refl
+term_wants wants.Relation v = refl
+term_wants wants.Format v = refl
+
+terms_want : (xs : List Want) (h : AllSaid xs) → map want_of (terms xs h) ≡ xs
+terms_want [] h = refl
+terms_want (x ∷ xs) h = ap (λ k. k ∷ map want_of (terms xs h.1)) (term_wants x h.0) ∙ ap (λ k. x ∷ k) (terms_want xs h.1)
+
+a_name : (w : Word) → name_misfit w ≡ None → (name : List ℕ) × ((w ≡ Plain name) × (is_name name ≡ true))
+a_name (Plain p) h = (p, (refl, holds (is_name p) BadName h))
+a_name (Quoted text) h = cc
+
+a_value : (o : Option ℤ) → is_some o ≡ true → (v : ℤ) × (o ≡ Some v)
+a_value None h = cc
+a_value (Some v) h = (v, refl)
+
+a_number : (p : List ℕ) → misfit wants.Number (Plain p) ≡ None → (n : Number) × IsTerm (Plain p) (Value n)
+a_number p h = elim (chosen (begins_numeral p) (unless (is_some (numeral_of p)) BadNumber) (unless (is_name p) BadName) None h) [
+  | inl x ↦ let v = a_value (numeral_of p) (holds (is_some (numeral_of p)) BadNumber x.1) in
+      (Numeral v.0, (p, refl, v.1))
+  | inr x ↦ (Named p, (refl, holds (is_name p) BadName x.1))
+]
+
+a_function : (p : List ℕ) → misfit wants.Function (Plain p) ≡ None → (f : Function) × IsTerm (Plain p) (Applies f)
+a_function p h = elim (either (bytes_eq p (codes "digits")) (bytes_eq p (codes "bytes")) (holds (bytes_eq p (codes "digits") || bytes_eq p (codes "bytes")) BadName h)) [
+  | inl e ↦ (Digits, ap Plain (same_bytes p (codes "digits") e))
+  | inr e ↦ (Bytes, ap Plain (same_bytes p (codes "bytes") e))
+]
+
+a_relation : (p : List ℕ) → misfit wants.Relation (Plain p) ≡ None → (r : Relation) × IsTerm (Plain p) (Compares r)
+a_relation p h = elim (either (bytes_eq p (codes "lt") || bytes_eq p (codes "eq")) (bytes_eq p (codes "gt")) (holds (bytes_eq p (codes "lt") || bytes_eq p (codes "eq") || bytes_eq p (codes "gt")) BadName h)) [
+  | inl x ↦ elim (either (bytes_eq p (codes "lt")) (bytes_eq p (codes "eq")) x) [
+    | inl e ↦ (Less, ap Plain (same_bytes p (codes "lt") e))
+    | inr e ↦ (Equal, ap Plain (same_bytes p (codes "eq") e))
+  ]
+  | inr e ↦ (Greater, ap Plain (same_bytes p (codes "gt") e))
+]
+
+-- a word without a misfit says something
+word_says : (x : Want) (w : Word) → misfit x w ≡ None → (v : Said x) × IsTerm w (term x v)
+word_says (wants.Target kind) w h = a_name w h
+word_says (wants.Operand kind) w h = a_name w h
+word_says wants.Number (Plain p) h = a_number p h
+word_says wants.Number (Quoted text) h = cc
+word_says wants.Text (Plain p) h = cc
+word_says wants.Text (Quoted text) h = (text, refl)
+word_says wants.Path (Plain p) h = cc
+word_says wants.Path (Quoted path) h = (path, (refl, holds (is_path path) BadName h))
+word_says wants.Function (Plain p) h = a_function p h
+word_says wants.Function (Quoted text) h = cc
+word_says wants.Relation (Plain p) h = a_relation p h
+word_says wants.Relation (Quoted text) h = cc
+word_says wants.Format (Plain p) h = cc
+word_says wants.Format (Quoted text) h = (text, refl)
+
+-- as many words as are wanted, without a misfit
+words_say : (xs : List Want) (ws : List Word) → length ws ≡ length xs → first_misfit xs ws ≡ None → (h : AllSaid xs) × AreTerms ws (terms xs h)
+words_say [] [] e h = (tt, tt)
+words_say [] (w ∷ ws) e h = absurd (omega (arith, e))
+words_say (x ∷ xs) [] e h = absurd (omega (arith, e))
+words_say (x ∷ xs) (w ∷ ws) e h =
+    let r = neither (misfit x w) (first_pair misfit xs ws) h in
+    let first = word_says x w r.0 in
+    let others = words_say xs ws (omega (arith, e)) r.1 in
+    ((first.0, others.0), (first.1, others.1))
+
+-- a statement with this word and these terms
+record Made (word : List ℕ) (n : ℕ) (ts : List Term) : Type 0 where
+  pub statement : Statement
+  pub named : word_of statement ≡ word
+  pub line : line_of statement ≡ n
+  pub says : terms_of statement ≡ ts
+  pub suits : Suits statement
+
+-- a statement with this word that the words behind it say
+record IsFilled (word : List ℕ) (shape : Shape) (n : ℕ) (ws : List Word) (formats : Option (List Want)) : Type 0 where
+  pub statement : Statement
+  pub named : word_of statement ≡ word
+  pub line : line_of statement ≡ n
+  pub terms : AreTerms ws (terms_of statement)
+  pub wanted : wants_of shape formats ws ≡ map want_of (terms_of statement)
+  pub suits : Suits statement
+
+-- words of a fixed number
+fixed : {word : List ℕ} {xs : List Want} (n : ℕ) (ws : List Word) (formats : Option (List Want)) → (length ws == length xs) ≡ true → first_misfit xs ws ≡ None → ((h : AllSaid xs) → Made word n (terms xs h)) → IsFilled word (Words xs) n ws formats
+fixed {word = word} {xs = xs} n ws formats count fit make =
+    let said = words_say xs ws (eqb-true (length ws) (length xs) count) fit in
+    let made = make said.0 in
+    record {
+      statement = made.statement;
+      named = made.named;
+      line = made.line;
+      terms = subst (AreTerms ws) (sym made.says) said.1;
+      wanted = sym (ap (map want_of) made.says ∙ terms_want xs said.0);
+      suits = made.suits;
+    }
+
+made : {word : List ℕ} {n : ℕ} {ts : List Term} (s : Statement) → word_of s ≡ word → line_of s ≡ n → terms_of s ≡ ts → Suits s → Made word n ts
+made s named line says suits = record { statement = s; named = named; line = line; says = says; suits = suits }
+
+-- the names of cords
+cord_names : (ws : List Word) (h : AllSaid (cords ws)) → (names : List (List ℕ)) × (terms (cords ws) h ≡ map (Operand kinds.Cord) names) × (length names ≡ length ws)
+cord_names [] h = ([], refl, refl)
+cord_names (w ∷ ws) h =
+    let r = cord_names ws h.1 in
+    (h.0 ∷ r.0, ap (λ k. Operand kinds.Cord h.0 ∷ k) r.1, omega (arith, r.2))
+
+cords_count : (ws : List Word) → length ws ≡ length (cords ws)
+cords_count [] = refl
+cords_count (w ∷ ws) = omega (arith, cords_count ws)
+
+-- a target and 2 to 16 cords
+joined_filled : (n : ℕ) (ws : List Word) (formats : Option (List Want)) → is_count Joined (length ws) ≡ true → first_misfit (joined ws) ws ≡ None → IsFilled (codes "catn") Joined n ws formats
+joined_filled n [] formats count fit = cc
+joined_filled n (w ∷ ws) formats count fit =
+    let r = neither (name_misfit w) (first_pair misfit (cords ws) ws) fit in
+    let target = a_name w r.0 in
+    let said = words_say (cords ws) ws (cords_count ws) r.1 in
+    let names = cord_names ws said.0 in
+    let bounds = both (nat_le (1 + MIN_PARTS) (length (w ∷ ws))) (nat_le (length (w ∷ ws)) (1 + MAX_PARTS)) count in
+    let low = leb-true (1 + MIN_PARTS) (length (w ∷ ws)) bounds.0 in
+    let high = leb-true (length (w ∷ ws)) (1 + MAX_PARTS) bounds.1 in
+    record {
+      statement = Catn n target.0 names.0;
+      named = refl;
+      line = refl;
+      terms = (target.1, subst (AreTerms ws) names.1 said.1);
+      wanted = ap (λ k. wants.Target kinds.Cord ∷ k) (sym (ap (map want_of) (sym names.1) ∙ terms_want (cords ws) said.0));
+      suits = (omega (arith, low, names.2), omega (arith, high, names.2));
+    }
+
+-- the arguments of conversions
+arguments_said : (ks : List ArgKind) (h : AllSaid (map want_of_kind ks)) → (args : List Argument) × (terms (map want_of_kind ks) h ≡ map argument_term args) × (map argument_want args ≡ map want_of_kind ks)
+arguments_said [] h = ([], refl, refl)
+arguments_said (printed.Number ∷ ks) h =
+    let r = arguments_said ks h.1 in
+    (arguments.Number h.0 ∷ r.0, ap (λ k. Value h.0 ∷ k) r.1, ap (λ k. wants.Number ∷ k) r.2)
+arguments_said (printed.Cord ∷ ks) h =
+    let r = arguments_said ks h.1 in
+    (arguments.Cord h.0 ∷ r.0, ap (λ k. Operand kinds.Cord h.0 ∷ k) r.1, ap (λ k. wants.Operand kinds.Cord ∷ k) r.2)
+
+no_format : (o : Option RefusalKind) (ws : List Word) → first_of o (arguments_flaw None ws) ≡ None → ⊥
+no_format o ws h = let wrong = (neither o (Some BadFormat) h).1 in cc
+
+-- a target, a format and what its conversions want
+printed_filled : (n : ℕ) (ws : List Word) (formats : Option (List Want)) → HasFormat Printed ws formats → is_count Printed (length ws) ≡ true → words_flaw Printed formats ws ≡ None → IsFilled (codes "sprintf") Printed n ws formats
+printed_filled n [] formats has count fit = cc
+printed_filled n (w ∷ []) formats has count fit = cc
+printed_filled n (w ∷ x ∷ ws) None has count fit = absurd (no_format (first_misfit format_wants (w ∷ x ∷ ws)) ws fit)
+printed_filled n (w ∷ Plain p ∷ ws) (Some xs) has count fit = cc
+printed_filled n (w ∷ Quoted text ∷ ws) (Some xs) has count fit =
+    let ks = wanted has.0 in
+    let r = neither (first_misfit format_wants (w ∷ Quoted text ∷ ws)) (arguments_flaw (Some xs) ws) fit in
+    let target = a_name w (neither (name_misfit w) (first_pair misfit (wants.Format ∷ []) (Quoted text ∷ ws)) r.0).0 in
+    let q = neither (unless (length ws == length xs) WrongCount) (first_misfit xs ws) r.1 in
+    let number = eqb-true (length ws) (length xs) (holds (length ws == length xs) WrongCount q.0) in
+    let said = words_say (map want_of_kind ks) ws (number ∙ ap length has.2) (ap (λ k. first_misfit k ws) (sym has.2) ∙ q.1) in
+    let args = arguments_said ks said.0 in
+    let others : xs ≡ map want_of (map argument_term args.0) = has.2 ∙ sym (terms_want (map want_of_kind ks) said.0) ∙ ap (map want_of) args.1 in
+    record {
+      statement = Sprintf n target.0 text has.0 args.0;
+      named = refl;
+      line = refl;
+      terms = (target.1, (refl, subst (AreTerms ws) args.1 said.1));
+      wanted = ap (λ k. wants.Target kinds.Cord ∷ wants.Format ∷ k) others;
+      suits = (has.1, args.2);
+    }
+
+-- words behind a statement's word, of the right number and without a misfit, say a statement
+filled : (v : Verb) (n : ℕ) (ws : List Word) (formats : Option (List Want)) → HasFormat (verb_shape v) ws formats → is_count (verb_shape v) (length ws) ≡ true → words_flaw (verb_shape v) formats ws ≡ None → IsFilled (verb_word v) (verb_shape v) n ws formats
+filled verbs.Let n ws formats has count fit = fixed n ws formats count fit (λ h. made (Let n h.0 h.1.0) refl refl refl tt)
+filled verbs.File n ws formats has count fit = fixed n ws formats count fit (λ h. made (File n h.0 h.1.0) refl refl refl tt)
+filled verbs.Eager n ws formats has count fit = fixed n ws formats count fit (λ h. made (Eager n h.0 h.1.0) refl refl refl tt)
+filled verbs.Lazy n ws formats has count fit = fixed n ws formats count fit (λ h. made (Lazy n h.0 h.1.0) refl refl refl tt)
+filled verbs.Chars n ws formats has count fit = fixed n ws formats count fit (λ h. made (Chars n h.0 h.1.0 h.1.1.0) refl refl refl tt)
+filled verbs.Nul n ws formats has count fit = fixed n ws formats count fit (λ h. made (Nul n h.0 h.1.0) refl refl refl tt)
+filled verbs.FromFn n ws formats has count fit = fixed n ws formats count fit (λ h. made (FromFn n h.0 h.1.0 h.1.1.0) refl refl refl tt)
+filled verbs.Cat n ws formats has count fit = fixed n ws formats count fit (λ h. made (Cat n h.0 h.1.0 h.1.1.0) refl refl refl tt)
+filled verbs.Catn n ws formats has count fit = joined_filled n ws formats count fit
+filled verbs.Catc n ws formats has count fit = fixed n ws formats count fit (λ h. made (Catc n h.0 h.1.0 h.1.1.0) refl refl refl tt)
+filled verbs.Substr n ws formats has count fit = fixed n ws formats count fit (λ h. made (Substr n h.0 h.1.0 h.1.1.0 h.1.1.1.0) refl refl refl tt)
+filled verbs.Balance n ws formats has count fit = fixed n ws formats count fit (λ h. made (Balance n h.0 h.1.0) refl refl refl tt)
+filled verbs.EcToCord n ws formats has count fit = fixed n ws formats count fit (λ h. made (EcToCord n h.0 h.1.0) refl refl refl tt)
+filled verbs.Sprintf n ws formats has count fit = printed_filled n ws formats has count fit
+filled verbs.Len n ws formats has count fit = fixed n ws formats count fit (λ h. made (Len n h.0 h.1.0) refl refl refl tt)
+filled verbs.Fetch n ws formats has count fit = fixed n ws formats count fit (λ h. made (Fetch n h.0 h.1.0 h.1.1.0) refl refl refl tt)
+filled verbs.Cmp n ws formats has count fit = fixed n ws formats count fit (λ h. made (Cmp n h.0 h.1.0 h.1.1.0) refl refl refl tt)
+filled verbs.Ncmp n ws formats has count fit = fixed n ws formats count fit (λ h. made (Ncmp n h.0 h.1.0 h.1.1.0 h.1.1.1.0 h.1.1.1.1.0 h.1.1.1.1.1.0) refl refl refl tt)
+filled verbs.Str n ws formats has count fit = fixed n ws formats count fit (λ h. made (Str n h.0 h.1.0 h.1.1.0 h.1.1.1.0) refl refl refl tt)
+filled verbs.Chr n ws formats has count fit = fixed n ws formats count fit (λ h. made (Chr n h.0 h.1.0 h.1.1.0 h.1.1.1.0) refl refl refl tt)
+filled verbs.Rchr n ws formats has count fit = fixed n ws formats count fit (λ h. made (Rchr n h.0 h.1.0 h.1.1.0 h.1.1.1.0) refl refl refl tt)
+filled verbs.Assign n ws formats has count fit = fixed n ws formats count fit (λ h. made (Assign n h.0 h.1.0) refl refl refl tt)
+filled verbs.Add n ws formats has count fit = fixed n ws formats count fit (λ h. made (Add n h.0 h.1.0 h.1.1.0) refl refl refl tt)
+filled verbs.Sub n ws formats has count fit = fixed n ws formats count fit (λ h. made (Sub n h.0 h.1.0 h.1.1.0) refl refl refl tt)
+filled verbs.EcInit n ws formats has count fit = fixed n ws formats count fit (λ h. made (EcInit n h.0) refl refl refl tt)
+filled verbs.EcPut n ws formats has count fit = fixed n ws formats count fit (λ h. made (EcPut n h.0 h.1.0) refl refl refl tt)
+filled verbs.EcCat n ws formats has count fit = fixed n ws formats count fit (λ h. made (EcCat n h.0 h.1.0) refl refl refl tt)
+filled verbs.EcStr n ws formats has count fit = fixed n ws formats count fit (λ h. made (EcStr n h.0 h.1.0) refl refl refl tt)
+filled verbs.Put n ws formats has count fit = fixed n ws formats count fit (λ h. made (Put n h.0) refl refl refl tt)
+filled verbs.Repeat n ws formats has count fit = fixed n ws formats count fit (λ h. made (Repeat n h.0) refl refl refl tt)
+filled verbs.If n ws formats has count fit = fixed n ws formats count fit (λ h. made (If n h.0 h.1.0 h.1.1.0) refl refl refl tt)
+filled verbs.Else n ws formats has count fit = fixed n ws formats count fit (λ h. made (Else n) refl refl refl tt)
+filled verbs.End n ws formats has count fit = fixed n ws formats count fit (λ h. made (End n) refl refl refl tt)
+
+-- what the conversions of the format want
+converts_of : FormatOrBad → (text : List ℕ) → (formats : Option (List Want)) × Converts text formats
+converts_of law text = elim (law text) [
+  | inl h ↦ (Some (wants_of_pieces h.0), (h.0, h.1, refl))
+  | inr h ↦ (None, h)
+]
+
+formats_of : FormatOrBad → (shape : Shape) (ws : List Word) → (formats : Option (List Want)) × HasFormat shape ws formats
+formats_of law (Words xs) ws = (None, refl)
+formats_of law Joined ws = (None, refl)
+formats_of law Printed [] = (None, refl)
+formats_of law Printed (t ∷ []) = (None, refl)
+formats_of law Printed (t ∷ Plain p ∷ ws) = (None, refl)
+formats_of law Printed (t ∷ Quoted text ∷ ws) = converts_of law text
+
+abbrev SaysOrBad : Grammar → ℕ → Before → List Word → Type 0
+SaysOrBad g n before words = ((s : Statement) × Says g n before words s) ⊎ ((kind : RefusalKind) × HasBadWords g before words kind)
+
+-- the words behind a verb have no flaw
+well_said : (g : Grammar) (n : ℕ) (before : Before) (p : List ℕ) (ws : List Word) (v : Verb) (formats : Option (List Want)) → g.has p ≡ true → p ≡ verb_word v → HasFormat (verb_shape v) ws formats → form_flaw (verb_form v) before formats ws ≡ None → (s : Statement) × Says g n before (Plain p ∷ ws) s
+well_said g n before p ws v formats has spelled format fine =
+    let shape = verb_shape v in
+    let names = names_flaw before (wants_of shape formats ws) ws in
+    let blocks = block_flaw (verb_effect v) before.blocks in
+    let a = neither (unless (is_count shape (length ws)) WrongCount) (first_of (words_flaw shape formats ws) (first_of names blocks)) fine in
+    let b = neither (words_flaw shape formats ws) (first_of names blocks) a.1 in
+    let c = neither names blocks b.1 in
+    let f = filled v n ws formats format (holds (is_count shape (length ws)) WrongCount a.0) b.0 in
+    let ts = terms_of f.statement in
+    let known : terms_flaw before ts ≡ None = sym (names_same before ws ts f.terms) ∙ ap (λ k. names_flaw before k ws) (sym f.wanted) ∙ c.0 in
+    let effect = same_effect v ws f.statement f.named f.terms f.suits in (
+      f.statement,
+      record {
+        has = ap g.has (f.named ∙ sym spelled) ∙ has;
+        line = f.line;
+        others = ws;
+        word = ap (λ k. Plain k ∷ ws) (spelled ∙ sym f.named);
+        terms = f.terms;
+        suits = f.suits;
+        allowed = all_allowed before ts known;
+        blocks = subst (λ k. FitsBlocks k before.blocks) (sym effect) (block_right (verb_effect v) before.blocks c.1);
+      },
+    )
+
+bad_form : (g : Grammar) (before : Before) (p : List ℕ) (ws : List Word) (form : Option Form) (kind : RefusalKind) → form_in g p ≡ form → HasFormFlaw before form ws kind → HasBadWords g before (Plain p ∷ ws) kind
+bad_form g before p ws form kind e h = subst (λ k. HasFormFlaw before k ws kind) (sym e) h
+
+verb_by : (g : Grammar) (n : ℕ) (before : Before) (p : List ℕ) (ws : List Word) (v : Verb) (formats : Option (List Want)) (flaw : Option RefusalKind) → g.has p ≡ true → p ≡ verb_word v → form_in g p ≡ Some (verb_form v) → HasFormat (verb_shape v) ws formats → form_flaw (verb_form v) before formats ws ≡ flaw → SaysOrBad g n before (Plain p ∷ ws)
+verb_by g n before p ws v formats None has spelled form format e = inl (well_said g n before p ws v formats has spelled format e)
+verb_by g n before p ws v formats (Some kind) has spelled form format e = inr (kind, bad_form g before p ws (Some (verb_form v)) kind form (formats, format, e))
+
+-- the words behind a verb say a statement, or have a flaw
+verb_says : FormatOrBad → (g : Grammar) (n : ℕ) (before : Before) (p : List ℕ) (ws : List Word) (v : Verb) → g.has p ≡ true → p ≡ verb_word v → form_in g p ≡ Some (verb_form v) → SaysOrBad g n before (Plain p ∷ ws)
+verb_says law g n before p ws v has spelled form =
+    let formats = formats_of law (verb_shape v) ws in
+    verb_by g n before p ws v formats.0 (form_flaw (verb_form v) before formats.0 ws) has spelled form formats.1 refl
+
+-- a verb that is found has the word
+spelled_so : (vs : List Verb) (p : List ℕ) (v : Verb) → find_verb vs p ≡ Some v → p ≡ verb_word v
+spelled_so [] p v h = cc
+spelled_so (x ∷ xs) p v h = elim (chosen (bytes_eq p (verb_word x)) (Some x) (find_verb xs p) (Some v) h) [
+  | inl y ↦ same_bytes p (verb_word x) y.0 ∙ ap verb_word (same_Some x v y.1)
+  | inr y ↦ spelled_so xs p v y.1
+]
+
+allowed_says : FormatOrBad → (g : Grammar) (n : ℕ) (before : Before) (p : List ℕ) (ws : List Word) (found : Option Verb) → g.has p ≡ true → find_verb VERBS p ≡ found → form_in g p ≡ form_of p → SaysOrBad g n before (Plain p ∷ ws)
+allowed_says law g n before p ws None has e form =
+    inr (UnknownStatement, bad_form g before p ws None UnknownStatement (form ∙ sym (form_found p) ∙ ap form_at e) refl)
+allowed_says law g n before p ws (Some v) has e form =
+    let spelled = spelled_so VERBS p v e in
+    verb_says law g n before p ws v has spelled (form ∙ ap form_of spelled ∙ form_is v)
+
+word_by : FormatOrBad → (g : Grammar) (n : ℕ) (before : Before) (p : List ℕ) (ws : List Word) (x : Bool) → g.has p ≡ x → SaysOrBad g n before (Plain p ∷ ws)
+word_by law g n before p ws true has = allowed_says law g n before p ws (find_verb VERBS p) has refl (ap (λ b. if b then form_of p else None) has)
+word_by law g n before p ws false has = inr (UnknownStatement, bad_form g before p ws None UnknownStatement (ap (λ b. if b then form_of p else None) has) refl)
+
+-- words say a statement, or have a flaw
+pub says_or_bad : FormatOrBad → (g : Grammar) (n : ℕ) (before : Before) (words : List Word) → words ≢ [] → SaysOrBad g n before words
+says_or_bad law g n before [] some = absurd (some refl)
+says_or_bad law g n before (Quoted text ∷ ws) some = inr (UnknownStatement, refl)
+says_or_bad law g n before (Plain p ∷ ws) some = word_by law g n before p ws (g.has p) refl
