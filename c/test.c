@@ -120,6 +120,25 @@ static void cuts(void) {
     zc_free(&c);
 }
 
+static void lines(void) {
+    zc_cord a = ZC_EMPTY, line = ZC_EMPTY;
+    DO(zc_from_bytes("one\n\nthree", 10, &a));
+    DO(zc_nth_line(&a, 0, &line));
+    EXPECT_TEXT(&line, "one");
+    DO(zc_nth_line(&a, 1, &line));
+    EXPECT_TEXT(&line, "");
+    DO(zc_nth_line(&a, 2, &line));
+    EXPECT_TEXT(&line, "three");
+    if (!may_want) {
+        EXPECT(zc_nth_line(&a, 3, &line) == ZC_BAD_ARGUMENT);
+        EXPECT(zc_nth_line(&a, UINT64_MAX, &line) == ZC_BAD_ARGUMENT);
+    }
+    EXPECT_TEXT(&line, "three");
+    zc_free(&a);
+    EXPECT(zc_nth_line(&a, 0, &line) == ZC_BAD_ARGUMENT);
+    zc_free(&line);
+}
+
 static void limits(void) {
     zc_cord most = ZC_EMPTY, one = ZC_EMPTY, out = ZC_EMPTY;
     unsigned char byte = 7;
@@ -188,6 +207,51 @@ static void searches(void) {
     EXPECT(order_of(&a, &b) == 0);
 }
 
+static int32_t order_within(zc_cord *x, uint64_t i, zc_cord *y, uint64_t j, uint64_t count) {
+    int32_t order = 12345;
+    DO(zc_ncmp(x, i, y, j, count, &order));
+    return order;
+}
+
+static void parts_in_order(void) {
+    zc_cord a = ZC_EMPTY, b = ZC_EMPTY;
+    DO(zc_from_bytes("abcabd", 6, &a));
+    DO(zc_share(&a, &b));
+    EXPECT(order_within(&a, 0, &b, 3, 2) == 0);
+    EXPECT(order_within(&a, 0, &b, 3, 3) == -1);
+    EXPECT(order_within(&a, 3, &b, 0, 3) == 1);
+    EXPECT(order_within(&a, 3, &b, 0, UINT64_MAX) == 1);
+    EXPECT(order_within(&a, 6, &b, 0, 1) == -1);
+    EXPECT(order_within(&a, 6, &b, UINT64_MAX, 9) == 0);
+    EXPECT(order_within(&a, 0, &b, 5, 0) == 0);
+    EXPECT(zc_count(&a, 'a') == 2);
+    EXPECT(zc_count(&a, 'c') == 1);
+    EXPECT(zc_count(&a, 'x') == 0);
+    DO(zc_chars('x', ZC_MAX_LEN, &a));
+    EXPECT(zc_count(&a, 'x') == ZC_MAX_LEN);
+    zc_free(&a);
+    EXPECT(zc_count(&a, 'x') == 0);
+    zc_free(&b);
+}
+
+static void reads(void) {
+    zc_cord a = ZC_EMPTY;
+    char bytes[5] = "....";
+    size_t got = 9;
+    DO(zc_from_bytes("abcdef", 6, &a));
+    DO(zc_read(&a, 1, bytes, 3, &got));
+    EXPECT(got == 3 && memcmp(bytes, "bcd.", 5) == 0);
+    DO(zc_read(&a, 4, bytes, 4, &got));
+    EXPECT(got == 2 && memcmp(bytes, "efd.", 5) == 0);
+    DO(zc_read(&a, 6, bytes, 4, &got));
+    EXPECT(got == 0 && memcmp(bytes, "efd.", 5) == 0);
+    DO(zc_read(&a, UINT64_MAX, bytes, 4, &got));
+    EXPECT(got == 0);
+    DO(zc_read(&a, 2, NULL, 0, &got));
+    EXPECT(got == 0);
+    zc_free(&a);
+}
+
 static void copies(void) {
     zc_cord a = ZC_EMPTY;
     char bytes[4] = "...";
@@ -203,6 +267,24 @@ static void copies(void) {
     EXPECT(memcmp(bytes, "def", 4) == 0);
     DO(zc_to_bytes(&a, 99, NULL, 0));
     zc_free(&a);
+}
+
+static void nulls_of_others(zc_cord *a) {
+    zc_cord *volatile none = NULL;
+    unsigned char byte = 7;
+    size_t *volatile no_number = NULL, got = 7;
+    int32_t *volatile no_order = NULL, order = 7;
+    zc_cord b = ZC_EMPTY;
+    EXPECT(zc_nth_line(none, 0, &b) == ZC_BAD_ARGUMENT);
+    EXPECT(zc_nth_line(a, 0, none) == ZC_BAD_ARGUMENT);
+    EXPECT(zc_ncmp(none, 0, a, 0, 1, &order) == ZC_BAD_ARGUMENT);
+    EXPECT(zc_ncmp(a, 0, none, 0, 1, &order) == ZC_BAD_ARGUMENT);
+    EXPECT(zc_ncmp(a, 0, &b, 0, 1, no_order) == ZC_BAD_ARGUMENT);
+    EXPECT(zc_count(none, 'a') == 0);
+    EXPECT(zc_read(none, 0, &byte, 1, &got) == ZC_BAD_ARGUMENT);
+    EXPECT(zc_read(a, 0, &byte, 1, no_number) == ZC_BAD_ARGUMENT);
+    EXPECT(byte == 7 && got == 7 && order == 7);
+    EXPECT(zc_len(&b) == 0);
 }
 
 /* The pointers are volatile, so that this compiler knows nothing of them. */
@@ -249,6 +331,7 @@ static void nulls(void) {
     EXPECT(place == 7);
     EXPECT(order == 7);
     zc_free(none);
+    nulls_of_others(&a);
     EXPECT(byte == 7);
     EXPECT(zc_len(&b) == 0);
     zc_free(&a);
@@ -269,9 +352,12 @@ int main(int count, char **words) {
     may_want = count > 1;
     makes();
     cuts();
+    lines();
     limits();
     searches();
+    parts_in_order();
     copies();
+    reads();
     nulls();
     messages();
     if (!may_want) trees();

@@ -100,6 +100,10 @@ int zc_insert(zc_cord *x, uint64_t start, zc_cord *y, zc_cord *out);
 /* x without at most count of its bytes from start on. ZC_NO_MEMORY. O(d). */
 int zc_remove(zc_cord *x, uint64_t start, uint64_t count, zc_cord *out);
 
+/* Line number of x, from 0, without its end. A line ends with the byte 10, which the last one may lack.
+   ZC_BAD_ARGUMENT where x has no more lines than that, ZC_NO_MEMORY. O(n), and O(d) for each line before it. */
+int zc_nth_line(zc_cord *x, uint64_t number, zc_cord *out);
+
 /* The bytes of x in a tree no deeper than about 1.44 times the binary logarithm of their number. ZC_NO_MEMORY.
    As many steps as x has parts that differ. */
 int zc_balance(zc_cord *x, zc_cord *out);
@@ -136,9 +140,20 @@ int zc_str(zc_cord *x, uint64_t start, zc_cord *y, uint64_t *place);
    stays. O(n) at most; parts in common are passed. */
 int zc_cmp(zc_cord *x, zc_cord *y, int32_t *order);
 
+/* As zc_cmp, of at most count bytes of x from i on and of y from j on: none where i or j is at or past the end.
+   ZC_NO_MEMORY: *order stays. O(count + d) at most. */
+int zc_ncmp(zc_cord *x, uint64_t i, zc_cord *y, uint64_t j, uint64_t count, int32_t *order);
+
+/* How many bytes of x are this one; 0 of null. O(n), and O(d) for each part. */
+uint64_t zc_count(zc_cord *x, unsigned char byte);
+
 /* Copies count bytes of x from start on to bytes. ZC_BAD_ARGUMENT where x has fewer, ZC_NO_MEMORY; then bytes stays.
    O(count + d). */
 int zc_to_bytes(zc_cord *x, uint64_t start, void *bytes, size_t count);
+
+/* Copies bytes of x from start on to bytes, as many as there are and at most count, and writes their number to *got:
+   0 at or past the end. The rest of bytes stays. ZC_NO_MEMORY: all of bytes and *got stay. O(count + d). */
+int zc_read(zc_cord *x, uint64_t start, void *bytes, size_t count, size_t *got);
 
 #ifdef __cplusplus
 }

@@ -1,5 +1,7 @@
 // What a text has.
-ghost use Rattle.std.specs.Prelude.{◌≡◌, ◌⊎◌, ◌-◌, ◌<◌, ◌≤◌, [], ◌∷◌, length, take, drop, Some, None, slice_get};
+ghost use Rattle.std.specs.Prelude.{◌≡◌, ◌⊎◌, ◌-◌, ◌<◌, ◌≤◌, ◌==◌, [], ◌∷◌, length, take, drop, min, Some};
+ghost use Rattle.std.specs.Prelude.{None, slice_get};
+ghost use Rattle.std.specs.List.{count_by};
 ghost use Rattle.std.specs.Ordering.{nat_cmp};
 ghost use Rattle.std.specs.Cmp.Lexicographic.{slice_cmp};
 ghost use Rattle.cord_core.specs.Texts.{first};
@@ -163,12 +165,69 @@ pub extern "C" fn zc_cmp(alloc: Global, x: &mut Handle, y: &mut Handle, order: &
     let Ok(right) = y.read(alloc) else {
         return NO_MEMORY;
     };
-    *order = match left.compare(&right) {
+    *order = sign(left.compare(&right));
+    OK
+}
+
+/// As `zc_cmp`, of at most `count` bytes of `x` from `i` on and of `y` from `j` on.
+#[unsafe(no_mangle)]
+pub extern "C" fn zc_ncmp(
+    alloc: Global,
+    x: &mut Handle,
+    i: u64,
+    y: &mut Handle,
+    j: u64,
+    count: u64,
+    order: &mut i32,
+) -> i32
+    requires places { Testable (as_mut_ptr x) × Testable (as_mut_ptr y) × Testable (as_mut_ptr order) }
+    ensures order { result ≡ OK →
+        order.new ≡ sign_of (slice_cmp nat_cmp (take count (drop i x.old.text)) (take count (drop j y.old.text))) }
+    ensures kept { (result ≡ OK) ⊎ (order.new ≡ order.old) }
+    ensures code { IsKeeping result }
+    ensures x { x.new.text ≡ x.old.text }
+    ensures y { y.new.text ≡ y.old.text }
+{
+    if missing(x) || missing(y) || missing(order) {
+        return BAD_ARGUMENT;
+    }
+    let Ok(here) = x.part(alloc, i, count) else {
+        return NO_MEMORY;
+    };
+    let Ok(there) = y.part(alloc, j, count) else {
+        return NO_MEMORY;
+    };
+    *order = sign(here.compare(&there));
+    OK
+}
+
+// An order as C is told it.
+fn sign(ordering: Ordering) -> i32
+    ensures { result ≡ sign_of ordering }
+{
+    match ordering {
         Ordering::Less => -1,
         Ordering::Equal => 0,
         Ordering::Greater => 1,
+    }
+}
+
+/// How many bytes of `x` are this one.
+#[unsafe(no_mangle)]
+pub extern "C" fn zc_count(alloc: Global, x: &mut Handle, byte: u8) -> u64
+    requires places { Testable (as_mut_ptr x) }
+    ensures count { result ≡ count_by (λ own. own == byte) x.old.text }
+    ensures x { x.new.text ≡ x.old.text }
+{
+    if missing(x) {
+        return 0;
+    }
+    let Some(text) = x.lift(alloc) else {
+        return 0;
     };
-    OK
+    let answer = text.count_of(byte);
+    x.lower(text);
+    answer
 }
 
 /// Copies as many bytes of `x` from `start` on as `bytes` has: `BAD_ARGUMENT` where there are fewer, `NO_MEMORY` where
@@ -185,10 +244,7 @@ pub extern "C" fn zc_to_bytes(alloc: Global, x: &mut Handle, start: u64, bytes: 
     if missing(x) {
         return BAD_ARGUMENT;
     }
-    let Ok(old) = x.read(alloc) else {
-        return NO_MEMORY;
-    };
-    let Ok(part) = old.substr(alloc, start, bytes.len() as u64) else {
+    let Ok(part) = x.part(alloc, start, bytes.len() as u64) else {
         return NO_MEMORY;
     };
     if part.len() < bytes.len() as u64 {
@@ -198,5 +254,38 @@ pub extern "C" fn zc_to_bytes(alloc: Global, x: &mut Handle, start: u64, bytes: 
         return NO_MEMORY;
     };
     bytes.copy_from_slice(&copy);
+    OK
+}
+
+/// Copies bytes of `x` from `start` on, as many as there are and `bytes` has room for, and writes how many to `got`.
+#[unsafe(no_mangle)]
+pub extern "C" fn zc_read(
+    alloc: Global,
+    x: &mut Handle,
+    start: u64,
+    bytes: &mut [u8],
+    got: &mut usize,
+) -> i32
+    requires places { Testable (as_mut_ptr x) × Testable (as_mut_ptr got) }
+    ensures got { result ≡ OK → got.new ≡ min (length bytes.old) (length x.old.text - start) }
+    ensures bytes { result ≡ OK → take got.new bytes.new ≡ take (length bytes.old) (drop start x.old.text) }
+    ensures rest { result ≡ OK → drop got.new bytes.new ≡ drop got.new bytes.old }
+    ensures kept { (result ≡ OK) ⊎ ((got.new ≡ got.old) × (bytes.new ≡ bytes.old)) }
+    ensures code { IsKeeping result }
+    ensures x { x.new.text ≡ x.old.text }
+{
+    if missing(x) || missing(got) {
+        return BAD_ARGUMENT;
+    }
+    let room = bytes.len() as u64;
+    let Ok(part) = x.part(alloc, start, room) else {
+        return NO_MEMORY;
+    };
+    let Ok(copy) = part.to_vec(alloc) else {
+        return NO_MEMORY;
+    };
+    let count = copy.len();
+    bytes[..count].copy_from_slice(&copy);
+    *got = count;
     OK
 }

@@ -1,5 +1,6 @@
 // Parts of a text, and texts with a part put in or taken out.
-ghost use Rattle.std.specs.Prelude.{◌≡◌, ◌⊎◌, ◌+◌, ◌<◌, ◌≤◌, ◌++◌, length, take, drop};
+ghost use Rattle.std.specs.Prelude.{◌≡◌, ◌⊎◌, ◌+◌, ◌<◌, ◌≤◌, ◌++◌, length, take, drop, slice_get, Some, None};
+ghost use Rattle.cord.specs.Lines.{bare_lines};
 ghost use Rattle.cord_c.specs.Codes.{IsMaking, IsKeeping};
 ghost use denote.RawPtr.{Testable};
 ghost use Rattle.core.specs.Ptr.{as_mut_ptr};
@@ -28,10 +29,7 @@ pub extern "C" fn zc_substr(
     if missing(x) || missing(out) {
         return BAD_ARGUMENT;
     }
-    let Ok(old) = x.read(alloc) else {
-        return NO_MEMORY;
-    };
-    match old.substr(alloc, start, count) {
+    match x.part(alloc, start, count) {
         Ok(text) => out.hold(alloc, text),
         Err(_) => NO_MEMORY,
     }
@@ -114,6 +112,30 @@ pub extern "C" fn zc_remove(
     };
     match old.remove(alloc, start, count) {
         Ok(text) => out.hold(alloc, text),
+        Err(_) => NO_MEMORY,
+    }
+}
+
+/// Line `number` of `x`, from 0, without its end: `BAD_ARGUMENT` where it has no more lines than that. A line ends with
+/// the byte 10, which the last one may lack.
+#[unsafe(no_mangle)]
+pub extern "C" fn zc_nth_line(alloc: Global, x: &mut Handle, number: u64, out: &mut Handle) -> i32
+    requires places { Testable (as_mut_ptr x) × Testable (as_mut_ptr out) }
+    ensures line { result ≡ OK → slice_get (bare_lines x.old.text) number ≡ Some out.new.text }
+    ensures past { result ≡ BAD_ARGUMENT → slice_get (bare_lines x.old.text) number ≡ None }
+    ensures kept { (result ≡ OK) ⊎ (out.new.text ≡ out.old.text) }
+    ensures code { (result ≡ OK) ⊎ (result ≡ NO_MEMORY) ⊎ (result ≡ BAD_ARGUMENT) }
+    ensures x { x.new.text ≡ x.old.text }
+{
+    if missing(x) || missing(out) {
+        return BAD_ARGUMENT;
+    }
+    let Ok(old) = x.read(alloc) else {
+        return NO_MEMORY;
+    };
+    match old.nth_line(alloc, number) {
+        Ok(Some(line)) => out.hold(alloc, line),
+        Ok(None) => BAD_ARGUMENT,
         Err(_) => NO_MEMORY,
     }
 }

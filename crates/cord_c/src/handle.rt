@@ -1,5 +1,5 @@
 //! What a `zc_cord` of C is: a pointer to a text on the heap, or null for the text of no bytes.
-ghost use Rattle.std.specs.Prelude.{◌≡◌, ◌⊎◌, ℕ, List, [], IfOk, IsOkUnless, MatchOption};
+ghost use Rattle.std.specs.Prelude.{◌≡◌, ◌⊎◌, ℕ, List, [], take, drop, IfOk, IsOkUnless, MatchOption};
 ghost use denote.RawPtr.{Testable};
 ghost use Rattle.cord_c.specs.Codes.{IsKeeping};
 ghost use Rattle.cord_c.specs.Handles.{handle_owns};
@@ -78,6 +78,17 @@ impl Handle {
             None => None,
             Some(text) => Some(text.into_box()),
         }
+    }
+
+    /// At most `count` of its bytes from `start` on, as a text that shares its tree. Refused for want of memory alone.
+    pub(crate) fn part(&mut self, alloc: Global, start: u64, count: u64) -> Result<Text, CordError>
+        ensures text { IfOk result (λ t. t ≡ take count (drop start self.old.text)) }
+        ensures same { self.new.text ≡ self.old.text }
+        ensures refused { IsOkUnless result CordError.NoMemory }
+    {
+        let whole = self.read(alloc)?;
+        let part = whole.substr(alloc, start, count)?;
+        Ok(part)
     }
 
     /// Holds this text on the heap from now on.
