@@ -57,7 +57,7 @@ impl TextBuilder {
         ensures text { OnOk result (self.new ≡ self.old ++ byte ∷ []) }
         ensures unchanged { IsErr result → self.new ≡ self.old }
         ensures too_long { result ≡ Err CordError.TooLong → MAX_LEN < length self.old + 1 }
-        ensures fits { OnOk result (length self.old + 1 ≤ MAX_LEN) }
+        ensures within_limit { OnOk result (length self.old + 1 ≤ MAX_LEN) }
         ensures refused { IfErr result IsRefusal }
     {
         self.grown.append(alloc, byte)?;
@@ -70,7 +70,7 @@ impl TextBuilder {
         ensures text { OnOk result (self.new ≡ self.old ++ bytes.now) }
         ensures unchanged { IsErr result → self.new ≡ self.old }
         ensures too_long { result ≡ Err CordError.TooLong → MAX_LEN < length self.old + length bytes.now }
-        ensures fits { OnOk result (length self.old + length bytes.now ≤ MAX_LEN) }
+        ensures within_limit { OnOk result (length self.old + length bytes.now ≤ MAX_LEN) }
         ensures refused { IfErr result IsRefusal }
     {
         self.grown.append_bytes(alloc, bytes)?;
@@ -83,7 +83,7 @@ impl TextBuilder {
         ensures text { OnOk result (self.new ≡ self.old ++ text.now) }
         ensures unchanged { IsErr result → self.new ≡ self.old }
         ensures too_long { result ≡ Err CordError.TooLong → MAX_LEN < length self.old + length text.now }
-        ensures fits { OnOk result (length self.old + length text.now ≤ MAX_LEN) }
+        ensures within_limit { OnOk result (length self.old + length text.now ≤ MAX_LEN) }
         ensures refused { IfErr result IsRefusal }
     {
         self.grown.append_cord(alloc, text.as_cord())?;

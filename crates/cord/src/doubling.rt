@@ -22,7 +22,7 @@ pub fn repeated(alloc: Global, cord: &Cord, times: u64) -> Result<Cord, CordErro
     ensures len { IfOk result (λ c. text_len c ≡ times * text_len cord.now) }
     ensures sound { IfOk result IsCord }
     ensures too_long { result ≡ Err CordError.TooLong → MAX_LEN < times * text_len cord.now }
-    ensures fits { OnOk result (times * text_len cord.now ≤ MAX_LEN) }
+    ensures within_limit { OnOk result (times * text_len cord.now ≤ MAX_LEN) }
     ensures refused { IfErr result IsRefusal }
 {
     if times == 0 {
@@ -44,7 +44,7 @@ impl Text {
     pub fn repeated(&self, alloc: Global, times: u64) -> Result<Text, CordError>
         ensures text { IfOk result (λ t. t ≡ repeat times self.now) }
         ensures too_long { result ≡ Err CordError.TooLong → MAX_LEN < times * length self.now }
-        ensures fits { OnOk result (times * length self.now ≤ MAX_LEN) }
+        ensures within_limit { OnOk result (times * length self.now ≤ MAX_LEN) }
         ensures refused { IfErr result IsRefusal }
     {
         let cord = repeated(alloc, &self.cord, times)?;

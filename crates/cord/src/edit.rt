@@ -34,7 +34,7 @@ impl Text {
     pub fn insert(&self, alloc: Global, at: u64, text: &Text) -> Result<Text, CordError>
         ensures text { IfOk result (λ t. t ≡ take at self.now ++ text.now ++ drop at self.now) }
         ensures too_long { result ≡ Err CordError.TooLong → MAX_LEN < length self.now + length text.now }
-        ensures fits { OnOk result (length self.now + length text.now ≤ MAX_LEN) }
+        ensures within_limit { OnOk result (length self.now + length text.now ≤ MAX_LEN) }
         ensures refused { IfErr result IsRefusal }
     {
         let (front, back) = self.split_at(alloc, at)?;
@@ -68,7 +68,7 @@ impl Text {
         ensures text { IfOk result (λ t. t ≡ take start self.now ++ text.now ++ drop (start + count) self.now) }
         ensures too_long { result ≡ Err CordError.TooLong →
             MAX_LEN < length (take start self.now ++ text.now ++ drop (start + count) self.now) }
-        ensures fits { OnOk result (length (take start self.now ++ text.now ++ drop (start + count) self.now) ≤ MAX_LEN) }
+        ensures within_limit { OnOk result (length (take start self.now ++ text.now ++ drop (start + count) self.now) ≤ MAX_LEN) }
         ensures refused { IfErr result IsRefusal }
     {
         let front = self.substr(alloc, 0, start)?;

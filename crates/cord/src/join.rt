@@ -14,7 +14,7 @@ impl Text {
     pub fn cat(alloc: Global, left: &Text, right: &Text) -> Result<Text, CordError>
         ensures text { IfOk result (λ t. t ≡ left.now ++ right.now) }
         ensures too_long { result ≡ Err CordError.TooLong → MAX_LEN < length left.now + length right.now }
-        ensures fits { OnOk result (length left.now + length right.now ≤ MAX_LEN) }
+        ensures within_limit { OnOk result (length left.now + length right.now ≤ MAX_LEN) }
         ensures refused { IfErr result IsRefusal }
     {
         let cord = Cord::cat(alloc, &left.cord, &right.cord)?;
@@ -26,7 +26,7 @@ impl Text {
     pub fn catn(alloc: Global, texts: &[Text]) -> Result<Text, CordError>
         ensures text { IfOk result (λ t. t ≡ concat texts.now) }
         ensures too_long { result ≡ Err CordError.TooLong → MAX_LEN < length (concat texts.now) }
-        ensures fits { OnOk result (length (concat texts.now) ≤ MAX_LEN) }
+        ensures within_limit { OnOk result (length (concat texts.now) ≤ MAX_LEN) }
         ensures refused { IfErr result IsRefusal }
     {
         let mut all = Text::empty();
@@ -41,7 +41,7 @@ impl Text {
     pub fn append_bytes(&self, alloc: Global, bytes: &[u8]) -> Result<Text, CordError>
         ensures text { IfOk result (λ t. t ≡ self.now ++ bytes.now) }
         ensures too_long { result ≡ Err CordError.TooLong → MAX_LEN < length self.now + length bytes.now }
-        ensures fits { OnOk result (length self.now + length bytes.now ≤ MAX_LEN) }
+        ensures within_limit { OnOk result (length self.now + length bytes.now ≤ MAX_LEN) }
         ensures refused { IfErr result IsRefusal }
     {
         let cord = Cord::cat_bytes(alloc, &self.cord, bytes)?;

@@ -13,7 +13,7 @@ impl Text {
     pub fn from_bytes(alloc: Global, bytes: &[u8]) -> Result<Text, CordError>
         ensures text { IfOk result (λ t. t ≡ bytes.now) }
         ensures too_long { result ≡ Err CordError.TooLong → MAX_LEN < length bytes.now }
-        ensures fits { OnOk result (length bytes.now ≤ MAX_LEN) }
+        ensures within_limit { OnOk result (length bytes.now ≤ MAX_LEN) }
         ensures refused { IfErr result IsRefusal }
     {
         let cord = Cord::from_bytes(alloc, bytes)?;
@@ -25,7 +25,7 @@ impl Text {
     pub fn from_str(alloc: Global, string: &str) -> Result<Text, CordError>
         ensures text { IfOk result (λ t. t ≡ string.now) }
         ensures too_long { result ≡ Err CordError.TooLong → MAX_LEN < length string.now }
-        ensures fits { OnOk result (length string.now ≤ MAX_LEN) }
+        ensures within_limit { OnOk result (length string.now ≤ MAX_LEN) }
         ensures refused { IfErr result IsRefusal }
     {
         let text = Text::from_bytes(alloc, string.as_bytes())?;
@@ -37,7 +37,7 @@ impl Text {
     pub fn repeat(alloc: Global, byte: u8, count: u64) -> Result<Text, CordError>
         ensures text { IfOk result (λ t. t ≡ replicate count byte) }
         ensures too_long { result ≡ Err CordError.TooLong → MAX_LEN < count }
-        ensures fits { OnOk result (count ≤ MAX_LEN) }
+        ensures within_limit { OnOk result (count ≤ MAX_LEN) }
         ensures refused { IfErr result IsRefusal }
     {
         let cord = Cord::chars(alloc, byte, count)?;

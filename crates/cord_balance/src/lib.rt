@@ -46,7 +46,7 @@ pub fn fib(n: u32) -> u64
 #[tactic(auto, using(crate::proofs::FibLemmas::fibs))]
 pub fn slot_of(len: u64) -> u32
     requires not_empty { 0 < len }
-    requires fits { len ≤ MAX_LEN }
+    requires within_limit { len ≤ MAX_LEN }
     ensures { IsSlotOf len result }
 {
     let mut slot = 2;
@@ -68,7 +68,7 @@ pub fn slot_of(len: u64) -> u32
 pub fn balance_parts(alloc: Global, ropes: &[Rc<Node>]) -> Result<Rc<Node>, AllocError>
     requires not_empty { 0 < length ropes.now }
     requires sound { AllSound ropes.now }
-    requires fits { total_len ropes.now ≤ MAX_LEN }
+    requires within_limit { total_len ropes.now ≤ MAX_LEN }
     ensures sound { IfOk result (λ node. IsSound node.value) }
     ensures text { IfOk result (λ node. cells node.value ≡ all_cells ropes.now) }
     ensures over { IfOk result (λ node. AreJoinedOver ropes.now node.value) }

@@ -69,7 +69,7 @@ pub extern "C" fn zc_insert(
     ensures text { result ≡ OK → out.new.text ≡ take start x.old.text ++ y.old.text ++ drop start x.old.text }
     ensures kept { (result ≡ OK) ⊎ (out.new.text ≡ out.old.text) }
     ensures too_long { result ≡ TOO_LONG → MAX_LEN < length x.old.text + length y.old.text }
-    ensures fits { result ≡ OK → length x.old.text + length y.old.text ≤ MAX_LEN }
+    ensures within_limit { result ≡ OK → length x.old.text + length y.old.text ≤ MAX_LEN }
     ensures code { IsMaking result }
     ensures x { x.new.text ≡ x.old.text }
     ensures y { y.new.text ≡ y.old.text }

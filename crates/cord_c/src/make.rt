@@ -17,7 +17,7 @@ pub extern "C" fn zc_from_bytes(alloc: Global, bytes: &[u8], out: &mut Handle) -
     ensures text { result ≡ OK → out.new.text ≡ bytes.now }
     ensures kept { (result ≡ OK) ⊎ (out.new.text ≡ out.old.text) }
     ensures too_long { result ≡ TOO_LONG → MAX_LEN < length bytes.now }
-    ensures fits { result ≡ OK → length bytes.now ≤ MAX_LEN }
+    ensures within_limit { result ≡ OK → length bytes.now ≤ MAX_LEN }
     ensures code { IsMaking result }
 {
     if missing(out) {
@@ -36,7 +36,7 @@ pub extern "C" fn zc_chars(alloc: Global, byte: u8, count: u64, out: &mut Handle
     ensures text { result ≡ OK → out.new.text ≡ replicate count byte }
     ensures kept { (result ≡ OK) ⊎ (out.new.text ≡ out.old.text) }
     ensures too_long { result ≡ TOO_LONG → MAX_LEN < count }
-    ensures fits { result ≡ OK → count ≤ MAX_LEN }
+    ensures within_limit { result ≡ OK → count ≤ MAX_LEN }
     ensures code { IsMaking result }
 {
     if missing(out) {
@@ -55,7 +55,7 @@ pub extern "C" fn zc_cat(alloc: Global, x: &mut Handle, y: &mut Handle, out: &mu
     ensures text { result ≡ OK → out.new.text ≡ x.old.text ++ y.old.text }
     ensures kept { (result ≡ OK) ⊎ (out.new.text ≡ out.old.text) }
     ensures too_long { result ≡ TOO_LONG → MAX_LEN < length x.old.text + length y.old.text }
-    ensures fits { result ≡ OK → length x.old.text + length y.old.text ≤ MAX_LEN }
+    ensures within_limit { result ≡ OK → length x.old.text + length y.old.text ≤ MAX_LEN }
     ensures code { IsMaking result }
     ensures x { x.new.text ≡ x.old.text }
     ensures y { y.new.text ≡ y.old.text }
@@ -82,7 +82,7 @@ pub extern "C" fn zc_cat_bytes(alloc: Global, x: &mut Handle, bytes: &[u8], out:
     ensures text { result ≡ OK → out.new.text ≡ x.old.text ++ bytes.now }
     ensures kept { (result ≡ OK) ⊎ (out.new.text ≡ out.old.text) }
     ensures too_long { result ≡ TOO_LONG → MAX_LEN < length x.old.text + length bytes.now }
-    ensures fits { result ≡ OK → length x.old.text + length bytes.now ≤ MAX_LEN }
+    ensures within_limit { result ≡ OK → length x.old.text + length bytes.now ≤ MAX_LEN }
     ensures code { IsMaking result }
     ensures x { x.new.text ≡ x.old.text }
 {
@@ -105,7 +105,7 @@ pub extern "C" fn zc_cat_char(alloc: Global, x: &mut Handle, byte: u8, out: &mut
     ensures text { result ≡ OK → out.new.text ≡ x.old.text ++ byte ∷ [] }
     ensures kept { (result ≡ OK) ⊎ (out.new.text ≡ out.old.text) }
     ensures too_long { result ≡ TOO_LONG → MAX_LEN < length x.old.text + 1 }
-    ensures fits { result ≡ OK → length x.old.text + 1 ≤ MAX_LEN }
+    ensures within_limit { result ≡ OK → length x.old.text + 1 ≤ MAX_LEN }
     ensures code { IsMaking result }
     ensures x { x.new.text ≡ x.old.text }
 {

@@ -18,7 +18,7 @@ use std::rc::Rc;
 fn joined(alloc: Global, left: &Rc<Node>, right: &Rc<Node>) -> Result<Rc<Node>, AllocError>
     requires left_sound { IsSound left.now.value }
     requires right_sound { IsSound right.now.value }
-    requires fits { len_of left.now.value + len_of right.now.value ≤ MAX_LEN }
+    requires within_limit { len_of left.now.value + len_of right.now.value ≤ MAX_LEN }
     ensures sound { IfOk result (λ node. IsSound node.value) }
     ensures text { IfOk result (λ node. cells node.value ≡ cells left.now.value ++ cells right.now.value) }
     ensures len { IfOk result (λ node. len_of node.value ≡ len_of left.now.value + len_of right.now.value) }
@@ -46,7 +46,7 @@ impl Cord {
         ensures kept { IfOk result (λ c. Kept (parts_of left.now ++ parts_of right.now) (parts_of c)) }
 
         ensures too_long { result ≡ Err CordError.TooLong → MAX_LEN < text_len left.now + text_len right.now }
-        ensures fits { OnOk result (text_len left.now + text_len right.now ≤ MAX_LEN) }
+        ensures within_limit { OnOk result (text_len left.now + text_len right.now ≤ MAX_LEN) }
         ensures refused { IfErr result IsRefusal }
     {
         let (Some(a), Some(b)) = (&left.root, &right.root) else {
@@ -74,7 +74,7 @@ impl Cord {
         ensures kept { IfOk result (λ c. Kept (all_parts cords.now) (parts_of c)) }
 
         ensures too_long { result ≡ Err CordError.TooLong → MAX_LEN < all_len cords.now }
-        ensures fits { OnOk result (all_len cords.now ≤ MAX_LEN) }
+        ensures within_limit { OnOk result (all_len cords.now ≤ MAX_LEN) }
         ensures refused { IfErr result IsRefusal }
     {
         let mut all = Cord::empty();
@@ -94,7 +94,7 @@ impl Cord {
         ensures cat { IfOk result (IsCatWithBytes cord.now bytes.now) }
 
         ensures too_long { result ≡ Err CordError.TooLong → MAX_LEN < text_len cord.now + length bytes.now }
-        ensures fits { OnOk result (text_len cord.now + length bytes.now ≤ MAX_LEN) }
+        ensures within_limit { OnOk result (text_len cord.now + length bytes.now ≤ MAX_LEN) }
         ensures refused { IfErr result IsRefusal }
     {
         let tail = Cord::from_bytes(alloc, bytes)?;
@@ -112,7 +112,7 @@ impl Cord {
         ensures cat { IfOk result (IsCatWithBytes cord.now (c ∷ [])) }
 
         ensures too_long { result ≡ Err CordError.TooLong → MAX_LEN < text_len cord.now + 1 }
-        ensures fits { OnOk result (text_len cord.now + 1 ≤ MAX_LEN) }
+        ensures within_limit { OnOk result (text_len cord.now + 1 ≤ MAX_LEN) }
         ensures refused { IfErr result IsRefusal }
     {
         let cord = Cord::cat_bytes(alloc, cord, &[c])?;

@@ -25,7 +25,7 @@ impl Cord {
         ensures sound { IfOk result IsCord }
 
         ensures too_long { result ≡ Err CordError.TooLong → MAX_LEN < length bytes.now }
-        ensures fits { OnOk result (length bytes.now ≤ MAX_LEN) }
+        ensures within_limit { OnOk result (length bytes.now ≤ MAX_LEN) }
         ensures refused { IfErr result IsRefusal }
     {
         if bytes.len() as u64 > MAX_LEN {
@@ -46,7 +46,7 @@ impl Cord {
         ensures sound { IfOk result IsCord }
 
         ensures too_long { result ≡ Err CordError.TooLong → MAX_LEN < length (rc_slice_items bytes) }
-        ensures fits { OnOk result (length (rc_slice_items bytes) ≤ MAX_LEN) }
+        ensures within_limit { OnOk result (length (rc_slice_items bytes) ≤ MAX_LEN) }
         ensures refused { IfErr result IsRefusal }
     {
         if bytes.len() as u64 > MAX_LEN {
@@ -69,7 +69,7 @@ impl Cord {
         ensures sound { IfOk result IsCord }
 
         ensures too_long { result ≡ Err CordError.TooLong → MAX_LEN < n }
-        ensures fits { OnOk result (n ≤ MAX_LEN) }
+        ensures within_limit { OnOk result (n ≤ MAX_LEN) }
         ensures refused { IfErr result IsRefusal }
     {
         if n > MAX_LEN {

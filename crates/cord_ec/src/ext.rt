@@ -69,7 +69,7 @@ impl ExtCord {
         ensures over { IfOk result (λ _. IsGrownBy self.old self.new (byte ∷ [])) }
         ensures unchanged { IsErr result → self.new ≡ self.old }
         ensures too_long { result ≡ Err CordError.TooLong → MAX_LEN < length self.old + 1 }
-        ensures fits { OnOk result (length self.old + 1 ≤ MAX_LEN) }
+        ensures within_limit { OnOk result (length self.old + 1 ≤ MAX_LEN) }
         ensures refused { IfErr result IsRefusal }
     {
         if len_of(&self.cord, &self.buffer) == MAX_LEN {
@@ -90,7 +90,7 @@ impl ExtCord {
         ensures over { IfOk result (λ _. IsGrownBy self.old self.new bytes.now) }
         ensures unchanged { IsErr result → self.new ≡ self.old }
         ensures too_long { result ≡ Err CordError.TooLong → MAX_LEN < length self.old + length bytes.now }
-        ensures fits { OnOk result (length self.old + length bytes.now ≤ MAX_LEN) }
+        ensures within_limit { OnOk result (length self.old + length bytes.now ≤ MAX_LEN) }
         ensures refused { IfErr result IsRefusal }
     {
         if bytes.len() as u64 > MAX_LEN - len_of(&self.cord, &self.buffer) {
@@ -115,7 +115,7 @@ impl ExtCord {
         ensures over { IfOk result (λ _. IsGrownByCord self.old self.new cord.now) }
         ensures unchanged { IsErr result → self.new ≡ self.old }
         ensures too_long { result ≡ Err CordError.TooLong → MAX_LEN < length self.old + text_len cord.now }
-        ensures fits { OnOk result (length self.old + text_len cord.now ≤ MAX_LEN) }
+        ensures within_limit { OnOk result (length self.old + text_len cord.now ≤ MAX_LEN) }
         ensures refused { IfErr result IsRefusal }
     {
         if cord.len() > MAX_LEN - len_of(&self.cord, &self.buffer) {
@@ -146,7 +146,7 @@ impl ExtCord {
 
 // The length of the text of a cord and of the buffer behind it.
 fn len_of(cord: &Cord, buffer: &RawBuf) -> u64
-    requires fits { text_len cord.now + length buffer.now ≤ MAX_LEN }
+    requires within_limit { text_len cord.now + length buffer.now ≤ MAX_LEN }
     ensures stored { result ≡ text_len cord.now + length buffer.now }
     ensures text { result ≡ length (text cord.now ++ map known buffer.now) }
 {
@@ -155,7 +155,7 @@ fn len_of(cord: &Cord, buffer: &RawBuf) -> u64
 
 // The text of a cord and of the buffer behind it, as one cord: the buffer's bytes, where it has any, are a leaf.
 fn whole(alloc: Global, cord: &Cord, buffer: &RawBuf) -> Result<Cord, CordError>
-    requires fits { text_len cord.now + length buffer.now ≤ MAX_LEN }
+    requires within_limit { text_len cord.now + length buffer.now ≤ MAX_LEN }
     ensures text { IfOk result (λ c. text c ≡ text cord.now ++ map known buffer.now) }
     ensures len { IfOk result (λ c. text_len c ≡ text_len cord.now + length buffer.now) }
     ensures sound { IfOk result IsCord }
@@ -172,7 +172,7 @@ fn whole(alloc: Global, cord: &Cord, buffer: &RawBuf) -> Result<Cord, CordError>
 
 // Puts the bytes of the buffer, where it has any, into the cord, and empties it.
 fn flush(alloc: Global, cord: &mut Cord, buffer: &mut RawBuf) -> Result<(), CordError>
-    requires fits { text_len cord.old + length buffer.old ≤ MAX_LEN }
+    requires within_limit { text_len cord.old + length buffer.old ≤ MAX_LEN }
     ensures text { IfOk result (λ _. text cord.new ≡ text cord.old ++ map known buffer.old) }
     ensures len { IfOk result (λ _. text_len cord.new ≡ text_len cord.old + length buffer.old) }
     ensures emptied { IfOk result (λ _. buffer.new ≡ []) }
@@ -188,7 +188,7 @@ fn flush(alloc: Global, cord: &mut Cord, buffer: &mut RawBuf) -> Result<(), Cord
 
 // The text of one cord and then of another, which are short enough together.
 fn cat_within(alloc: Global, left: &Cord, right: &Cord) -> Result<Cord, CordError>
-    requires fits { text_len left.now + text_len right.now ≤ MAX_LEN }
+    requires within_limit { text_len left.now + text_len right.now ≤ MAX_LEN }
     ensures text { IfOk result (λ c. text c ≡ text left.now ++ text right.now) }
     ensures len { IfOk result (λ c. text_len c ≡ text_len left.now + text_len right.now) }
     ensures sound { IfOk result IsCord }
@@ -213,7 +213,7 @@ fn leaf_of(alloc: Global, buffer: &RawBuf) -> Result<Cord, CordError>
 
 // The text of a cord and then these bytes, as leaves that are gathered in a buffer of their own.
 fn cat_leaves(alloc: Global, cord: Cord, bytes: &[u8]) -> Result<Cord, CordError>
-    requires fits { text_len cord + length bytes.now ≤ MAX_LEN }
+    requires within_limit { text_len cord + length bytes.now ≤ MAX_LEN }
     ensures text { IfOk result (λ c. text c ≡ text cord ++ map known bytes.now) }
     ensures len { IfOk result (λ c. text_len c ≡ text_len cord + length bytes.now) }
     ensures refused { IsOkUnless result CordError.NoMemory }

@@ -20,7 +20,7 @@ pub fn leaf_range(
 ) -> Result<Rc<Node>, AllocError>
     requires not_empty { 0 < len }
     requires inside { start + len ≤ length (rc_slice_items bytes) }
-    requires fits { len ≤ MAX_LEN }
+    requires within_limit { len ≤ MAX_LEN }
     ensures form { IfOk result (λ node. node.value ≡ Node.Leaf bytes start len (leaf_part (rc_slice_items bytes) start len ∷ [])) }
 {
     let mark = Mark::new(&bytes, &(start, len));
@@ -39,7 +39,7 @@ pub fn leaf_range(
 /// A part that is the whole of these bytes: 1 to `MAX_LEN` of them. Refused where memory was refused.
 pub fn leaf(alloc: Global, bytes: RcSlice<u8>) -> Result<Rc<Node>, AllocError>
     requires not_empty { 0 < length (rc_slice_items bytes) }
-    requires fits { length (rc_slice_items bytes) ≤ MAX_LEN }
+    requires within_limit { length (rc_slice_items bytes) ≤ MAX_LEN }
     ensures form { IfOk result (λ node. node.value ≡ Node.Leaf bytes 0 (length (rc_slice_items bytes)) (leaf_part (rc_slice_items bytes) 0 (length (rc_slice_items bytes)) ∷ [])) }
     ensures sound { IfOk result (λ node. IsSound node.value) }
     ensures depth { IfOk result (λ node. depth_of node.value ≡ 0) }
@@ -52,7 +52,7 @@ pub fn leaf(alloc: Global, bytes: RcSlice<u8>) -> Result<Rc<Node>, AllocError>
 /// A part that is one byte `len` times, where `len` is 1 to `MAX_LEN`. Refused where memory was refused.
 pub fn run(alloc: Global, byte: u8, len: u64) -> Result<Rc<Node>, AllocError>
     requires not_empty { 0 < len }
-    requires fits { len ≤ MAX_LEN }
+    requires within_limit { len ≤ MAX_LEN }
     ensures form { IfOk result (λ node. node.value ≡ Node.Run byte len) }
     ensures sound { IfOk result (λ node. IsSound node.value) }
     ensures depth { IfOk result (λ node. depth_of node.value ≡ 0) }
@@ -65,7 +65,7 @@ pub fn run(alloc: Global, byte: u8, len: u64) -> Result<Rc<Node>, AllocError>
 /// of them behind the first `MAX_LEN`. Refused where memory was refused.
 pub fn func(alloc: Global, id: SourceId, start: u64, len: u64) -> Result<Rc<Node>, AllocError>
     requires not_empty { 0 < len }
-    requires fits { start + len ≤ MAX_LEN }
+    requires within_limit { start + len ≤ MAX_LEN }
     ensures form { IfOk result (λ node. node.value ≡ Node.Func id start len) }
     ensures sound { IfOk result (λ node. IsSound node.value) }
     ensures depth { IfOk result (λ node. depth_of node.value ≡ 0) }
@@ -78,7 +78,7 @@ pub fn func(alloc: Global, id: SourceId, start: u64, len: u64) -> Result<Rc<Node
 fn cat(alloc: Global, left: &Rc<Node>, right: &Rc<Node>) -> Result<Rc<Node>, AllocError>
     requires left_sound { IsSound left.now.value }
     requires right_sound { IsSound right.now.value }
-    requires fits { len_of left.now.value + len_of right.now.value ≤ MAX_LEN }
+    requires within_limit { len_of left.now.value + len_of right.now.value ≤ MAX_LEN }
     requires shallow { max (depth_of left.now.value) (depth_of right.now.value) + 1 ≤ MAX_DEPTH }
     ensures sound { IfOk result (λ node. IsSound node.value) }
     ensures form { IfOk result (λ node. is_leaf node.value ≡ false) }
@@ -129,7 +129,7 @@ fn merged(alloc: Global, left: &[u8], right: &[u8]) -> Result<Rc<Node>, AllocErr
 pub fn join(alloc: Global, left: &Rc<Node>, right: &Rc<Node>) -> Result<Rc<Node>, AllocError>
     requires left_sound { IsSound left.now.value }
     requires right_sound { IsSound right.now.value }
-    requires fits { len_of left.now.value + len_of right.now.value ≤ MAX_LEN }
+    requires within_limit { len_of left.now.value + len_of right.now.value ≤ MAX_LEN }
     requires shallow { max (depth_of left.now.value) (depth_of right.now.value) + 1 ≤ MAX_DEPTH }
     ensures sound { IfOk result (λ node. IsSound node.value) }
     ensures text { IfOk result (λ node. cells node.value ≡ cells left.now.value ++ cells right.now.value) }

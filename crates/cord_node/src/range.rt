@@ -19,7 +19,7 @@ fn shared_range(
 ) -> Result<Rc<Node>, AllocError>
     requires not_empty { 0 < len }
     requires inside { start + len ≤ length (rc_slice_items bytes.now) }
-    requires fits { len ≤ MAX_LEN }
+    requires within_limit { len ≤ MAX_LEN }
     ensures sound { IfOk result (λ node. IsSound node.value) }
     ensures text { IfOk result (λ node. cells node.value ≡ map known (take len (drop start (rc_slice_items bytes.now)))) }
     ensures part { IfOk result (λ node. parts node.value ≡ leaf_part (rc_slice_items bytes.now) start len ∷ []) }

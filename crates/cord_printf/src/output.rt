@@ -59,7 +59,7 @@ impl Output {
 
     /// Adds what a piece shows.
     pub fn add_shown(&mut self, alloc: Global, shown: &Shown<'_>) -> Result<(), PrintError>
-        requires fits { length self.old + length (shown_text shown.now) ≤ MAX_LEN }
+        requires within_limit { length self.old + length (shown_text shown.now) ≤ MAX_LEN }
         ensures text { IfOk result (λ _. self.new ≡ self.old ++ shown_text shown.now) }
         ensures refused { IsOkUnless result PrintError.NoMemory }
     {
@@ -70,7 +70,7 @@ impl Output {
 
     /// The text as a cord.
     pub fn to_cord(&mut self, alloc: Global) -> Result<Cord, PrintError>
-        requires fits { length self.old ≤ MAX_LEN }
+        requires within_limit { length self.old ≤ MAX_LEN }
         ensures text { IfOk result (λ c. text_of c ≡ self.old) }
         ensures over { IfOk result (IsCordOf self.old) }
         ensures sound { IfOk result IsCord }
@@ -85,7 +85,7 @@ impl Output {
 
     // The blanks, the sign and the zeros in front of a body.
     fn add_front(&mut self, alloc: Global, layout: Layout) -> Result<(), PrintError>
-        requires fits { length self.old + length (front_of layout) ≤ MAX_LEN }
+        requires within_limit { length self.old + length (front_of layout) ≤ MAX_LEN }
         ensures text { IfOk result (λ _. self.new ≡ self.old ++ map known (front_of layout)) }
         ensures refused { IsOkUnless result PrintError.NoMemory }
     {
@@ -95,7 +95,7 @@ impl Output {
     }
 
     fn add_sign(&mut self, alloc: Global, sign: Option<u8>) -> Result<(), PrintError>
-        requires fits { length self.old + length (option_to_list sign) ≤ MAX_LEN }
+        requires within_limit { length self.old + length (option_to_list sign) ≤ MAX_LEN }
         ensures text { IfOk result (λ _. self.new ≡ self.old ++ map known (option_to_list sign)) }
         ensures refused { IsOkUnless result PrintError.NoMemory }
     {
@@ -106,7 +106,7 @@ impl Output {
     }
 
     fn add_body(&mut self, alloc: Global, body: &Body<'_>) -> Result<(), PrintError>
-        requires fits { length self.old + length (body_text body.now) ≤ MAX_LEN }
+        requires within_limit { length self.old + length (body_text body.now) ≤ MAX_LEN }
         ensures text { IfOk result (λ _. self.new ≡ self.old ++ body_text body.now) }
         ensures refused { IsOkUnless result PrintError.NoMemory }
     {
@@ -121,7 +121,7 @@ impl Output {
     // So many copies of a byte, mostly none.
     #[inline(always)]
     fn add_run(&mut self, alloc: Global, byte: u8, count: u32) -> Result<(), PrintError>
-        requires fits { length self.old + count ≤ MAX_LEN }
+        requires within_limit { length self.old + count ≤ MAX_LEN }
         ensures text { IfOk result (λ _. self.new ≡ self.old ++ replicate count (known byte)) }
         ensures refused { IsOkUnless result PrintError.NoMemory }
     {
@@ -134,7 +134,7 @@ impl Output {
 
     // A long run is shared, not written out.
     fn add_copies(&mut self, alloc: Global, byte: u8, count: u32) -> Result<(), PrintError>
-        requires fits { length self.old + count ≤ MAX_LEN }
+        requires within_limit { length self.old + count ≤ MAX_LEN }
         ensures text { IfOk result (λ _. self.new ≡ self.old ++ replicate count (known byte)) }
         ensures refused { IsOkUnless result PrintError.NoMemory }
     {
@@ -151,7 +151,7 @@ impl Output {
 
     // The first bytes of a cord, which shares its tree.
     fn add_start(&mut self, alloc: Global, cord: &Cord, len: u64) -> Result<(), PrintError>
-        requires fits { length self.old + length (take len (text_of cord.now)) ≤ MAX_LEN }
+        requires within_limit { length self.old + length (take len (text_of cord.now)) ≤ MAX_LEN }
         ensures text { IfOk result (λ _. self.new ≡ self.old ++ take len (text_of cord.now)) }
         ensures refused { IsOkUnless result PrintError.NoMemory }
     {
@@ -165,7 +165,7 @@ impl Output {
     }
 
     fn add_bytes(&mut self, alloc: Global, bytes: &[u8]) -> Result<(), PrintError>
-        requires fits { length self.old + length bytes.now ≤ MAX_LEN }
+        requires within_limit { length self.old + length bytes.now ≤ MAX_LEN }
         ensures text { IfOk result (λ _. self.new ≡ self.old ++ map known bytes.now) }
         ensures refused { IsOkUnless result PrintError.NoMemory }
     {
@@ -178,7 +178,7 @@ impl Output {
 
     // A leaf that the join with the text in front of it would copy is gathered.
     fn add_cord(&mut self, alloc: Global, cord: &Cord) -> Result<(), PrintError>
-        requires fits { length self.old + length (text_of cord.now) ≤ MAX_LEN }
+        requires within_limit { length self.old + length (text_of cord.now) ≤ MAX_LEN }
         ensures text { IfOk result (λ _. self.new ≡ self.old ++ text_of cord.now) }
         ensures refused { IsOkUnless result PrintError.NoMemory }
     {
@@ -225,7 +225,7 @@ fn leaf_slice(cord: &Cord) -> Option<&[u8]>
 
 // These bytes as one leaf.
 fn leaf_of(alloc: Global, bytes: &[u8]) -> Result<Cord, PrintError>
-    requires fits { length bytes.now ≤ MAX_LEN }
+    requires within_limit { length bytes.now ≤ MAX_LEN }
     ensures text { IfOk result (λ c. text_of c ≡ map known bytes.now) }
     ensures over { IfOk result (IsCordOf (map known bytes.now)) }
     ensures sound { IfOk result IsCord }
@@ -259,7 +259,7 @@ fn put_in(
     grown: &mut Option<ExtCord>,
     gathered: &mut ArrayVec<u8, MOST_GATHERED>,
 ) -> Result<(), PrintError>
-    requires fits { length (cells_of grown.old) + length gathered.old.items ≤ MAX_LEN }
+    requires within_limit { length (cells_of grown.old) + length gathered.old.items ≤ MAX_LEN }
     ensures text { IfOk result (λ _. cells_of grown.new ≡ cells_of grown.old ++ map known gathered.old.items) }
     ensures emptied { IfOk result (λ _. gathered.new.items ≡ []) }
     ensures refused { IsOkUnless result PrintError.NoMemory }
@@ -271,7 +271,7 @@ fn put_in(
 
 // Lets an extensible cord grow by bytes; where there is none, one is begun.
 fn grow(alloc: Global, grown: &mut Option<ExtCord>, bytes: &[u8]) -> Result<(), PrintError>
-    requires fits { length (cells_of grown.old) + length bytes.now ≤ MAX_LEN }
+    requires within_limit { length (cells_of grown.old) + length bytes.now ≤ MAX_LEN }
     ensures text { IfOk result (λ _. cells_of grown.new ≡ cells_of grown.old ++ map known bytes.now) }
     ensures refused { IsOkUnless result PrintError.NoMemory }
 {
@@ -288,7 +288,7 @@ fn grow(alloc: Global, grown: &mut Option<ExtCord>, bytes: &[u8]) -> Result<(), 
 
 // The same by a cord.
 fn grow_by_cord(alloc: Global, grown: &mut Option<ExtCord>, cord: &Cord) -> Result<(), PrintError>
-    requires fits { length (cells_of grown.old) + length (text_of cord.now) ≤ MAX_LEN }
+    requires within_limit { length (cells_of grown.old) + length (text_of cord.now) ≤ MAX_LEN }
     ensures text { IfOk result (λ _. cells_of grown.new ≡ cells_of grown.old ++ text_of cord.now) }
     ensures refused { IsOkUnless result PrintError.NoMemory }
 {
@@ -316,7 +316,7 @@ fn begin(alloc: Global) -> Result<ExtCord, PrintError>
 
 // Appends bytes that fit.
 fn append(alloc: Global, grown: &mut ExtCord, bytes: &[u8]) -> Result<(), PrintError>
-    requires fits { length grown.old + length bytes.now ≤ MAX_LEN }
+    requires within_limit { length grown.old + length bytes.now ≤ MAX_LEN }
     ensures text { IfOk result (λ _. grown.new ≡ grown.old ++ map known bytes.now) }
     ensures refused { IsOkUnless result PrintError.NoMemory }
 {
@@ -328,7 +328,7 @@ fn append(alloc: Global, grown: &mut ExtCord, bytes: &[u8]) -> Result<(), PrintE
 
 // Appends a cord that fits.
 fn append_cord(alloc: Global, grown: &mut ExtCord, cord: &Cord) -> Result<(), PrintError>
-    requires fits { length grown.old + length (text_of cord.now) ≤ MAX_LEN }
+    requires within_limit { length grown.old + length (text_of cord.now) ≤ MAX_LEN }
     ensures text { IfOk result (λ _. grown.new ≡ grown.old ++ text_of cord.now) }
     ensures refused { IsOkUnless result PrintError.NoMemory }
 {

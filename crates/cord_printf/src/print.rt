@@ -23,7 +23,7 @@ pub fn sprintf_len(format: &Format, args: &[Arg]) -> Result<u64, PrintError>
     ensures taken { IfOk result (λ _. IsPrintable format.now (arguments_of args.now)) }
     ensures length { IfOk result (λ n. n ≡ length (printed known format.now (arguments_of args.now))) }
     ensures over { IfOk result (IsLengthOfPrint format.now args.now) }
-    ensures fits { IfOk result (λ n. n ≤ MAX_LEN) }
+    ensures within_limit { IfOk result (λ n. n ≤ MAX_LEN) }
     ensures refused { IfErr result (IsRefusedFor MAX_LEN format.now (arguments_of args.now)) }
 {
     if !are_wanted(format.pieces(), args) {

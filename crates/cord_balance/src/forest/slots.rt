@@ -39,7 +39,7 @@ fn put_left(alloc: Global, left: Rc<Node>, right: Option<Rc<Node>>) -> Result<Rc
     requires shallow { fib_of (depth_of left.value + 1) ≤ len_of left.value }
     requires right_sound { ForSome right (λ r. IsSound r.value) }
     requires right_shallow { ForSome right (λ r. fib_of (depth_of r.value + 1) ≤ len_of left.value) }
-    requires fits { len_of left.value + piece_len right ≤ MAX_LEN }
+    requires within_limit { len_of left.value + piece_len right ≤ MAX_LEN }
     ensures sound { IfOk result (λ node. IsSound node.value) }
     ensures text { IfOk result (λ node. cells node.value ≡ cells left.value ++ piece_cells right) }
     ensures len { IfOk result (λ node. len_of node.value ≡ len_of left.value + piece_len right) }
@@ -62,7 +62,7 @@ pub fn gather(
     below: u32,
 ) -> Result<Option<Rc<Node>>, AllocError>
     requires forest { IsForest forest.old.items }
-    requires fits { forest_len forest.old.items ≤ MAX_LEN }
+    requires within_limit { forest_len forest.old.items ≤ MAX_LEN }
     ensures rest { IsForest forest.new.items }
     ensures from { OnOk result (AllFrom below forest.new.items) }
     ensures text { IfOk result (λ o. forest_cells forest.old.items ≡ forest_cells forest.new.items ++ piece_cells o) }
@@ -80,7 +80,7 @@ pub fn gather(
 /// All pieces, at least one, joined.
 pub fn gather_all(alloc: Global, forest: &mut Vec<Piece>) -> Result<Rc<Node>, AllocError>
     requires forest { IsForest forest.old.items }
-    requires fits { forest_len forest.old.items ≤ MAX_LEN }
+    requires within_limit { forest_len forest.old.items ≤ MAX_LEN }
     requires some { 0 < forest_len forest.old.items }
     ensures sound { IfOk result (λ node. IsSound node.value) }
     ensures text { IfOk result (λ node. cells node.value ≡ forest_cells forest.old.items) }
@@ -99,7 +99,7 @@ pub fn merge(alloc: Global, forest: &mut Vec<Piece>, node: Rc<Node>) -> Result<(
     requires sound { IsSound node.value }
     requires shallow { fib_of (depth_of node.value + 1) ≤ len_of node.value }
     requires behind { AllFrom (depth_of node.value) forest.old.items }
-    requires fits { forest_len forest.old.items + len_of node.value ≤ MAX_LEN }
+    requires within_limit { forest_len forest.old.items + len_of node.value ≤ MAX_LEN }
     ensures rest { OnOk result (IsForest forest.new.items) }
     ensures text { OnOk result (forest_cells forest.new.items ≡ forest_cells forest.old.items ++ cells node.value) }
     ensures len { OnOk result (forest_len forest.new.items ≡ forest_len forest.old.items + len_of node.value) }
@@ -122,7 +122,7 @@ fn put_right(alloc: Global, left: Option<Rc<Node>>, right: Rc<Node>) -> Result<R
     requires left_fits { ForSome left (λ l. fib_of (depth_of l.value + 1) ≤ len_of right.value) }
     requires sound { IsSound right.value }
     requires balanced { fib_of (depth_of right.value + 2) ≤ len_of right.value }
-    requires fits { piece_len left + len_of right.value ≤ MAX_LEN }
+    requires within_limit { piece_len left + len_of right.value ≤ MAX_LEN }
     ensures sound { IfOk result (λ node. IsSound node.value) }
     ensures text { IfOk result (λ node. cells node.value ≡ piece_cells left ++ cells right.value) }
     ensures len { IfOk result (λ node. len_of node.value ≡ piece_len left + len_of right.value) }
@@ -143,7 +143,7 @@ pub fn insert(alloc: Global, forest: &mut Vec<Piece>, node: Rc<Node>) -> Result<
     requires forest { IsForest forest.old.items }
     requires sound { IsSound node.value }
     requires balanced { fib_of (depth_of node.value + 2) ≤ len_of node.value }
-    requires fits { forest_len forest.old.items + len_of node.value ≤ MAX_LEN }
+    requires within_limit { forest_len forest.old.items + len_of node.value ≤ MAX_LEN }
     ensures rest { OnOk result (IsForest forest.new.items) }
     ensures text { OnOk result (forest_cells forest.new.items ≡ forest_cells forest.old.items ++ cells node.value) }
     ensures len { OnOk result (forest_len forest.new.items ≡ forest_len forest.old.items + len_of node.value) }

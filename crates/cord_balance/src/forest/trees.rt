@@ -35,7 +35,7 @@ pub fn insert_tree(
 ) -> Result<(), AllocError>
     requires forest { IsForest forest.old.items }
     requires sound { IsSound node.now.value }
-    requires fits { forest_len forest.old.items + len_of node.now.value ≤ MAX_LEN }
+    requires within_limit { forest_len forest.old.items + len_of node.now.value ≤ MAX_LEN }
     ensures rest { OnOk result (IsForest forest.new.items) }
     ensures text { OnOk result (forest_cells forest.new.items ≡ forest_cells forest.old.items ++ cells node.now.value) }
     ensures len { OnOk result (forest_len forest.new.items ≡ forest_len forest.old.items + len_of node.now.value) }
@@ -70,7 +70,7 @@ pub fn insert_once(
     requires forest { IsForest forest.old.items }
     requires known { All IsKnown known.old.items }
     requires sound { IsSound node.now.value }
-    requires fits { forest_len forest.old.items + len_of node.now.value ≤ MAX_LEN }
+    requires within_limit { forest_len forest.old.items + len_of node.now.value ≤ MAX_LEN }
     ensures known { OnOk result (All IsKnown known.new.items) }
     ensures rest { OnOk result (IsForest forest.new.items) }
     ensures text { OnOk result (forest_cells forest.new.items ≡ forest_cells forest.old.items ++ cells node.now.value) }

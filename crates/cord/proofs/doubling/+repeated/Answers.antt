@@ -30,12 +30,12 @@ returns-then-times-eq0-2-clause-len t c =
     let e : c.args.times ≡ half + half = omega (arith, even) in
     omega (arith, c.in_ok-twice.ensures.len, c.in_ok-half.ensures.len, even_len c.args.times half (text_len c.args.cord.now) e)
 
-pub returns-then-times-eq0-2-clause-fits : goal.returns-then-times-eq0-2-clause-fits
-returns-then-times-eq0-2-clause-fits t c =
+pub returns-then-times-eq0-2-clause-within_limit : goal.returns-then-times-eq0-2-clause-within_limit
+returns-then-times-eq0-2-clause-within_limit t c =
     let even = c.if-times-eq0-2.true in
     let half = c.args.times / 2 in
     let e : c.args.times ≡ half + half = omega (arith, even) in
-    omega (arith, c.in_ok-twice.ensures.fits, c.in_ok-half.ensures.len, even_len c.args.times half (text_len c.args.cord.now) e)
+    omega (arith, c.in_ok-twice.ensures.within_limit, c.in_ok-half.ensures.len, even_len c.args.times half (text_len c.args.cord.now) e)
 
 pub returns-in_err-odd-clause-too_long : goal.returns-in_err-odd-clause-too_long
 returns-in_err-odd-clause-too_long t c = handed_on _ TooLong c.in_err-odd.field-0.0 c.from_residual-in_err-odd.result c.from_residual-in_err-odd.ensures.1 (λ h.
@@ -62,9 +62,9 @@ returns-clause-len t c =
     let e : c.args.times ≡ half + half + 1 = omega (arith, odd) in
     omega (arith, c.in_ok-odd.ensures.len, c.in_ok-twice.ensures.len, c.in_ok-half.ensures.len, odd_len c.args.times half (text_len c.args.cord.now) e)
 
-pub returns-clause-fits : goal.returns-clause-fits
-returns-clause-fits t c =
+pub returns-clause-within_limit : goal.returns-clause-within_limit
+returns-clause-within_limit t c =
     let odd = c.if-times-eq0-2.false in
     let half = c.args.times / 2 in
     let e : c.args.times ≡ half + half + 1 = omega (arith, odd) in
-    omega (arith, c.in_ok-odd.ensures.fits, c.in_ok-twice.ensures.len, c.in_ok-half.ensures.len, odd_len c.args.times half (text_len c.args.cord.now) e)
+    omega (arith, c.in_ok-odd.ensures.within_limit, c.in_ok-twice.ensures.len, c.in_ok-half.ensures.len, odd_len c.args.times half (text_len c.args.cord.now) e)

@@ -18,7 +18,7 @@ pub returns-in-Ok-clause-becomes : goal.returns-in-Ok-clause-becomes
 returns-in-Ok-clause-becomes c =
     let before = c.in_ok-extensible.extensible in
     let took = c.in_ok-extensible.ensures.taken in
-    grown_becomes c.args.name.now before c.append_cord.new.self c.args.store.now.entries.items c.taken.new.store.entries.items c.give.new.store.entries.items took c.give.result (λ t. text_over t c.args.store.now.entries.items c.args.operand.now) c.give.ensures.given c.give.ensures.refused (λ t over held. c.in-Ok.ensures.over.bytes t held (cord_inside c.args.name.now before before c.args.store.now.entries.items c.taken.new.store.entries.items c.taken.new.store.entries.items took c.args.operand.now c.cord_or.result.now c.cord_or.ensures (lengths_of t) over) ∙ ap (λ (text : List ℕ). bytes_over t before ++ text) (cord_text c.args.name.now before before c.args.store.now.entries.items c.taken.new.store.entries.items c.taken.new.store.entries.items took c.args.operand.now c.cord_or.result.now c.cord_or.ensures t)) (λ t over. subst (λ (n : ℕ). length before + n ≤ MAX_LEN) (cord_length c.args.name.now before before c.args.store.now.entries.items c.taken.new.store.entries.items c.taken.new.store.entries.items took c.args.operand.now c.cord_or.result.now c.cord_or.ensures t over) c.in-Ok.ensures.fits)
+    grown_becomes c.args.name.now before c.append_cord.new.self c.args.store.now.entries.items c.taken.new.store.entries.items c.give.new.store.entries.items took c.give.result (λ t. text_over t c.args.store.now.entries.items c.args.operand.now) c.give.ensures.given c.give.ensures.refused (λ t over held. c.in-Ok.ensures.over.bytes t held (cord_inside c.args.name.now before before c.args.store.now.entries.items c.taken.new.store.entries.items c.taken.new.store.entries.items took c.args.operand.now c.cord_or.result.now c.cord_or.ensures (lengths_of t) over) ∙ ap (λ (text : List ℕ). bytes_over t before ++ text) (cord_text c.args.name.now before before c.args.store.now.entries.items c.taken.new.store.entries.items c.taken.new.store.entries.items took c.args.operand.now c.cord_or.result.now c.cord_or.ensures t)) (λ t over. subst (λ (n : ℕ). length before + n ≤ MAX_LEN) (cord_length c.args.name.now before before c.args.store.now.entries.items c.taken.new.store.entries.items c.taken.new.store.entries.items took c.args.operand.now c.cord_or.result.now c.cord_or.ensures t over) c.in-Ok.ensures.within_limit)
 
 pub returns-clause-becomes : goal.returns-clause-becomes
 returns-clause-becomes c =

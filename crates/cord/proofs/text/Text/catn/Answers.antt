@@ -20,7 +20,7 @@ pub loop-text-preserved : goal.loop-text-preserved
 loop-text-preserved c =
     let e : drop c.loop-text.text-index c.args.texts.now ≡ c.text-item.result ∷ drop (c.loop-text.text-index + 1) c.args.texts.now = rw c.text-item.is (drop_more c.args.texts.now c.loop-text.text-index c.text-item.result (omega arith)) in
     let i : IsCatting c.args.texts.now (c.text-item.result ∷ drop (c.loop-text.text-index + 1) c.args.texts.now) c.loop-text.all = rw (← e) c.loop-text.invariant in
-    catting_step c.args.texts.now c.text-item.result (drop (c.loop-text.text-index + 1) c.args.texts.now) c.loop-text.all c.in_ok-all.all i c.in_ok-all.ensures.text c.in_ok-all.ensures.fits
+    catting_step c.args.texts.now c.text-item.result (drop (c.loop-text.text-index + 1) c.args.texts.now) c.loop-text.all c.in_ok-all.all i c.in_ok-all.ensures.text c.in_ok-all.ensures.within_limit
 
 pub returns-clause-text : goal.returns-clause-text
 returns-clause-text c =
@@ -28,8 +28,8 @@ returns-clause-text c =
     let i : IsCatting c.args.texts.now [] c.loop-text.all = rw (← e) c.loop-text.invariant in
     catting_end c.args.texts.now c.loop-text.all i
 
-pub returns-clause-fits : goal.returns-clause-fits
-returns-clause-fits c =
+pub returns-clause-within_limit : goal.returns-clause-within_limit
+returns-clause-within_limit c =
     let e : drop c.loop-text.text-index c.args.texts.now ≡ [] = drop_all c.loop-text.text-index c.args.texts.now (omega arith) in
     let i : IsCatting c.args.texts.now [] c.loop-text.all = rw (← e) c.loop-text.invariant in
     let same : length c.loop-text.all ≡ length (concat c.args.texts.now) = ap (λ (x : List ℕ). length x) (catting_end c.args.texts.now c.loop-text.all i) in

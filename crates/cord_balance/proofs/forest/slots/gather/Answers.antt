@@ -8,8 +8,8 @@ loop-piece-init c = gathering_start c.args.forest.now.items c.args.below c.requi
 pub put_left-requires-clause-right_shallow : goal.put_left-requires-clause-right_shallow
 put_left-requires-clause-right_shallow c = gathering_shallow c.args.forest.now.items c.pop_below.new.forest.items c.in-Some.piece c.loop-piece.joined c.args.below (rw (← c.in-Some.ensures.taken) c.loop-piece.invariant)
 
-pub put_left-requires-clause-fits : goal.put_left-requires-clause-fits
-put_left-requires-clause-fits c = gathering_fits c.args.forest.now.items c.pop_below.new.forest.items c.in-Some.piece c.loop-piece.joined c.args.below (rw (← c.in-Some.ensures.taken) c.loop-piece.invariant) c.requires.fits
+pub put_left-requires-clause-within_limit : goal.put_left-requires-clause-within_limit
+put_left-requires-clause-within_limit c = gathering_fits c.args.forest.now.items c.pop_below.new.forest.items c.in-Some.piece c.loop-piece.joined c.args.below (rw (← c.in-Some.ensures.taken) c.loop-piece.invariant) c.requires.within_limit
 
 pub loop-piece-preserved : goal.loop-piece-preserved
 loop-piece-preserved c =

@@ -7,14 +7,14 @@ use Rattle.cord_balance.proofs.Forms.{all_taken, some_taken}
 use Rattle.cord_balance.proofs.forest.slots.gather_all.Goals as goal
 
 pub unreachable-requires : goal.unreachable-requires
-unreachable-requires c = some_taken c.args.forest.now.items c.gather.new.forest.items c.in_ok-node.ensures.rest c.in_ok-node.ensures.from c.requires.fits c.requires.some (rw c.in-None.is at c.in_ok-node.ensures.len)
+unreachable-requires c = some_taken c.args.forest.now.items c.gather.new.forest.items c.in_ok-node.ensures.rest c.in_ok-node.ensures.from c.requires.within_limit c.requires.some (rw c.in-None.is at c.in_ok-node.ensures.len)
 
 pub returns-clause-text : goal.returns-clause-text
 returns-clause-text c =
     let n = c.in-Some.node.value in
     let rest = c.gather.new.forest.items in
     let len : forest_len c.args.forest.now.items ≡ forest_len rest + len_of n = rw c.in-Some.is at c.in_ok-node.ensures.len in
-    let none : rest ≡ [] = all_taken c.args.forest.now.items rest (len_of n) c.in_ok-node.ensures.rest c.in_ok-node.ensures.from c.requires.fits len in
+    let none : rest ≡ [] = all_taken c.args.forest.now.items rest (len_of n) c.in_ok-node.ensures.rest c.in_ok-node.ensures.from c.requires.within_limit len in
     let text : forest_cells c.args.forest.now.items ≡ forest_cells rest ++ cells n = rw c.in-Some.is at c.in_ok-node.ensures.text in
     sym (text ∙ ap (λ (ps : List Piece). forest_cells ps ++ cells n) none)
 
@@ -23,7 +23,7 @@ returns-clause-len c =
     let n = c.in-Some.node.value in
     let rest = c.gather.new.forest.items in
     let len : forest_len c.args.forest.now.items ≡ forest_len rest + len_of n = rw c.in-Some.is at c.in_ok-node.ensures.len in
-    let none : rest ≡ [] = all_taken c.args.forest.now.items rest (len_of n) c.in_ok-node.ensures.rest c.in_ok-node.ensures.from c.requires.fits len in
+    let none : rest ≡ [] = all_taken c.args.forest.now.items rest (len_of n) c.in_ok-node.ensures.rest c.in_ok-node.ensures.from c.requires.within_limit len in
     let zero : forest_len rest ≡ 0 = ap forest_len none in
     omega (arith, len, zero)
 
@@ -32,6 +32,6 @@ returns-clause-kept c =
     let n = c.in-Some.node.value in
     let rest = c.gather.new.forest.items in
     let len : forest_len c.args.forest.now.items ≡ forest_len rest + len_of n = rw c.in-Some.is at c.in_ok-node.ensures.len in
-    let none : rest ≡ [] = all_taken c.args.forest.now.items rest (len_of n) c.in_ok-node.ensures.rest c.in_ok-node.ensures.from c.requires.fits len in
+    let none : rest ≡ [] = all_taken c.args.forest.now.items rest (len_of n) c.in_ok-node.ensures.rest c.in_ok-node.ensures.from c.requires.within_limit len in
     let kept : Kept (forest_parts c.args.forest.now.items) (forest_parts rest ++ parts n) = rw c.in-Some.is at c.in_ok-node.ensures.kept in
     subst (λ (ps : List Piece). Kept (forest_parts c.args.forest.now.items) (forest_parts ps ++ parts n)) none kept

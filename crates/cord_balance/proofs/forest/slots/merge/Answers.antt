@@ -24,11 +24,11 @@ overflow_add-slot c =
     let k : c.loop-piece.slot < MAX_INDEX = fib_index c.loop-piece.slot (omega (arith, c.loop-piece.invariant.slot_is.above)) in
     omega arith
 
-pub join-requires-clause-fits : goal.join-requires-clause-fits
-join-requires-clause-fits c = merging_total c.args.forest.now.items c.pop_below.new.forest.items c.in-Some.piece c.args.node c.loop-piece.joined c.loop-piece.slot (rw (← c.in-Some.ensures.taken) c.loop-piece.invariant) c.requires.fits
+pub join-requires-clause-within_limit : goal.join-requires-clause-within_limit
+join-requires-clause-within_limit c = merging_total c.args.forest.now.items c.pop_below.new.forest.items c.in-Some.piece c.args.node c.loop-piece.joined c.loop-piece.slot (rw (← c.in-Some.ensures.taken) c.loop-piece.invariant) c.requires.within_limit
 
 pub join-requires-clause-shallow : goal.join-requires-clause-shallow
-join-requires-clause-shallow c = merging_depth c.args.forest.now.items c.pop_below.new.forest.items c.in-Some.piece c.args.node c.loop-piece.joined c.loop-piece.slot (rw (← c.in-Some.ensures.taken) c.loop-piece.invariant) c.in-Some.ensures.below c.requires.fits
+join-requires-clause-shallow c = merging_depth c.args.forest.now.items c.pop_below.new.forest.items c.in-Some.piece c.args.node c.loop-piece.joined c.loop-piece.slot (rw (← c.in-Some.ensures.taken) c.loop-piece.invariant) c.in-Some.ensures.below c.requires.within_limit
 
 pub slot_of-slot-requires-in-Some-clause-not_empty :
     goal.slot_of-slot-requires-in-Some-clause-not_empty
