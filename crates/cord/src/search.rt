@@ -5,7 +5,7 @@ ghost use Rattle.cord.specs.Places.{last_before, BeginsWith, EndsWith};
 
 use crate::{NoSource, Text};
 use cord_io::{CordError, MAX_LEN};
-use cord_search::{chr, fetch, rchr, str};
+use cord_search::{MOST_BYTES, chr, fetch, find_bytes, rchr, str};
 use std::alloc::Global;
 
 impl Text {
@@ -34,8 +34,8 @@ impl Text {
         place
     }
 
-    /// The first place from `start` on where `pattern` stands. No bytes stand at each place up to the end. It takes a copy
-    /// of a pattern that isn't longer than this text, and is refused for want of memory alone.
+    /// The first place from `start` on where `pattern` stands. No bytes stand at each place up to the end. Only a pattern of
+    /// more than `MOST_BYTES`, 16,384, that isn't longer than this text is copied, which takes memory and may be refused.
     pub fn find(&self, alloc: Global, pattern: &[u8], start: u64) -> Result<Option<u64>, CordError>
         ensures first { IfOk result (λ found. found ≡ first self.now start pattern.now) }
         ensures from { IfOk result (λ found. IfSome found (λ place. start ≤ place)) }
@@ -45,8 +45,14 @@ impl Text {
         if pattern.len() as u64 > self.len() {
             return Ok(None);
         }
-        let pattern = Text::from_bytes(alloc, pattern)?;
-        Ok(self.find_text(&pattern, start))
+        if pattern.is_empty() || MOST_BYTES < pattern.len() {
+            let pattern = Text::from_bytes(alloc, pattern)?;
+            return Ok(self.find_text(&pattern, start));
+        }
+        let Ok(place) = find_bytes(&self.cord, start, pattern, &mut NoSource) else {
+            unreachable!()
+        };
+        Ok(place)
     }
 
     /// The first place from `start` on that has this byte.

@@ -12,7 +12,7 @@ mod substring;
 
 pub use bytes::{chr, fetch, rchr};
 pub use order::{cmp, ncmp};
-pub use substring::str;
+pub use substring::{MOST_BYTES, find_bytes, str};
 
 /// The most bytes of a run or of a function part that are looked at together, but for the windows of `str`.
 pub(crate) const PIECE_LEN: usize = 512;

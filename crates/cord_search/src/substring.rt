@@ -74,6 +74,42 @@ pub fn str<S: Source>(x: &Cord, start: u64, s: &Cord, src: &mut S) -> Result<Opt
     Ok(place)
 }
 
+/// The most bytes that `find_bytes` looks for.
+pub const MOST_BYTES: usize = FRONT_LEN;
+
+/// The first place of `x` at `start` or later where these bytes stand, as `str` finds those of a cord: at least one byte and
+/// at most `MOST_BYTES`. Refused with `ReadFailed` where a read failed.
+pub fn find_bytes<S: Source>(
+    x: &Cord,
+    start: u64,
+    bytes: &[u8],
+    src: &mut S,
+) -> Result<Option<u64>, CordError>
+    requires some { 0 < length bytes.now }
+    requires few { length bytes.now ≤ MOST_BYTES }
+    requires fits { CordFitsIn (S.lengths src.old) x.now }
+    ensures first { (folder : Folder) → S.keeps src.new folder → IfOk result (λ place.
+        place ≡ first (bytes_of (S.table src.old folder) x.now) start bytes.now) }
+    ensures from { IfOk result (λ found. IfSome found (λ place. start ≤ place)) }
+    ensures within { IfOk result (λ found. IfSome found (λ place. place + length bytes.now ≤ text_len x.now)) }
+    ensures refused { IfErr result (λ e. e ≡ CordError.ReadFailed) }
+    ensures count { S.failures src.new ≡ count_after (is_err result) (S.failures src.old) }
+    ensures steady { S.failures src.old < u64.MAX → S.failures src.new ≡ S.failures src.old → IsOk result }
+    ensures lengths { S.lengths src.new ≡ S.lengths src.old }
+    ensures table { S.table src.new ≡ S.table src.old }
+    ensures earlier { (folder : Folder) → S.keeps src.new folder → S.keeps src.old folder }
+{
+    if !lies_inside(start, bytes.len() as u64, x.len()) {
+        return Ok(None);
+    }
+    let place = if bytes.len() <= PIECE_LEN {
+        place_of_bytes::<ROOM_LEN, S>(x, start, bytes, src)?
+    } else {
+        place_of_bytes::<WINDOW_LEN, S>(x, start, bytes, src)?
+    };
+    Ok(place)
+}
+
 // Whether a text has so many bytes from a place on.
 fn lies_inside(start: u64, count: u64, len: u64) -> bool
     ensures inside { result ≡ true → start + count ≤ len }
@@ -144,6 +180,34 @@ fn place_of_short<const N: usize, const M: usize, S: Source>(
     let pattern = &mut front[..s.len() as usize];
     gather(s, 0, pattern, src)?;
     let finder = Finder::new(pattern);
+    let mut room = [0; M];
+    let place = first_of(x, start, &finder, &mut room, src)?;
+    Ok(place)
+}
+
+// The first place of some bytes, which stands apart for the same reason.
+#[inline(never)]
+fn place_of_bytes<const M: usize, S: Source>(
+    x: &Cord,
+    start: u64,
+    bytes: &[u8],
+    src: &mut S,
+) -> Result<Option<u64>, ReadFault>
+    requires sound { IsCord x.now }
+    requires some { 0 < length bytes.now }
+    requires room { length bytes.now ≤ M }
+    requires few { M ≤ WINDOW_LEN }
+    requires fits { CordFitsIn (S.lengths src.old) x.now }
+    ensures first { (folder : Folder) → S.keeps src.new folder → IfOk result (λ place.
+        place ≡ first (bytes_of (S.table src.old folder) x.now) start bytes.now) }
+    ensures from { IfOk result (λ found. IfSome found (λ place. start ≤ place)) }
+    ensures within { IfOk result (λ found. IfSome found (λ place. place + length bytes.now ≤ text_len x.now)) }
+    ensures count { S.failures src.new ≡ count_after (is_err result) (S.failures src.old) }
+    ensures lengths { S.lengths src.new ≡ S.lengths src.old }
+    ensures table { S.table src.new ≡ S.table src.old }
+    ensures earlier { (folder : Folder) → S.keeps src.new folder → S.keeps src.old folder }
+{
+    let finder = Finder::new(bytes);
     let mut room = [0; M];
     let place = first_of(x, start, &finder, &mut room, src)?;
     Ok(place)

@@ -3,7 +3,7 @@ use super::entry::six_hundred;
 use super::made::{Part, Parts, longer, made};
 use Part::{Func, Leaf, Run, Twice};
 use cord_io::{CordError, MAX_LEN, Source};
-use cord_search::{chr, cmp, fetch, ncmp, rchr, str};
+use cord_search::{MOST_BYTES, chr, cmp, fetch, find_bytes, ncmp, rchr, str};
 use std::alloc::Global;
 use std::process::Abort;
 
@@ -66,6 +66,14 @@ const STR: &[(&str, Parts, u64, &[u8], u64, Answer<Option<u64>>)] = &[
         b"aaa",
         0,
         Ok(None),
+    ),
+    (
+        "str_of_520_bytes_over_a_seam",
+        &[Leaf(b"b"), Run(b'a', 300), Leaf(&[b'a'; 300])],
+        0,
+        &[b'a'; 520],
+        0,
+        Ok(Some(1)),
     ),
     (
         "a_read_fails_in_the_middle",
@@ -403,10 +411,28 @@ fn expect_str(
     assert!(rt; source.failures() == u64::from(answer.is_err()), "{name}");
 }
 
+// The same for the pattern as bytes, which are at least one.
+fn expect_bytes(
+    rt: &impl Abort,
+    alloc: Global,
+    name: &str,
+    (parts, from, bytes): (Parts, u64, &'static [u8]),
+    reads: u64,
+    answer: Answer<Option<u64>>,
+) {
+    if bytes.is_empty() || MOST_BYTES < bytes.len() {
+        return;
+    }
+    let cord = made(rt, alloc, parts);
+    let found = find_bytes(&cord, from, bytes, &mut six_hundred((reads, u64::MAX)));
+    assert!(rt; found == answer, "{name}: bytes, from {from}");
+}
+
 #[test]
 fn rows_of_str(rt: HostRuntime) {
     for &(name, parts, from, pattern, reads, answer) in STR {
         expect_str(&rt, rt.alloc(), name, (parts, from, pattern), reads, answer);
+        expect_bytes(&rt, rt.alloc(), name, (parts, from, pattern), reads, answer);
     }
 }
 
