@@ -1,4 +1,4 @@
--- The front part and the rest of a text.
+-- The prefix and the rest of a text.
 use Rattle.std.proofs.Common.{◌≡◌, ◌⊎◌, ℕ, ◌+◌, ◌≤◌, List, length, take, drop, ◌∙◌, sym, ap, ⊎_elim, arith, length-append, length-drop}
 use Rattle.std.specs.Prelude.{min}
 use Rattle.std.proofs.lemmas.List.{take_all, drop_all, take-append-drop}

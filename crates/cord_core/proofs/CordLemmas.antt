@@ -12,7 +12,7 @@ range_min xs i n m e = rw (← e, ← length-drop i xs) (take_min n (drop i xs))
 pub take_nothing : {X : Type 0} (xs : List X) (n : ℕ) → n ≡ 0 → take n xs ≡ []
 take_nothing xs n e = rw e refl
 
--- a front part of nothing
+-- a prefix of nothing
 pub take_of_nil : {X : Type 0} (xs : List X) (n : ℕ) → xs ≡ [] → take n xs ≡ []
 take_of_nil xs zero e = refl
 take_of_nil xs (suc n) e = rw e refl

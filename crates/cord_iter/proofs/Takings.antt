@@ -33,11 +33,11 @@ takes_both {P} {Q} {R} {a} {b} {c} s t h = record {
 pub takes_such : {P Q : List ℕ → Type 0} {a b : List ℕ} → Takes P a b → ((x : List ℕ) → P x → Q x) → Takes Q a b
 takes_such s h = record { out = s.out; such = h s.out s.such; taken = s.taken }
 
--- a first part, and a front part of what is behind it
+-- a first part, and a prefix of what is behind it
 pub front_join : (whole x more y : List ℕ) → whole ≡ x ++ more → IsFrontOf more y → IsFrontOf whole (x ++ y)
 front_join whole x more y h k = (k.0, h ∙ ap (λ (l : List ℕ). x ++ l) k.1 ∙ sym (append_assoc x y k.0))
 
--- a front part of a first part
+-- a prefix of a first part
 pub front_more : (whole first rest x : List ℕ) → whole ≡ first ++ rest → IsFrontOf first x → IsFrontOf whole x
 front_more whole first rest x h k = (k.0 ++ rest, h ∙ ap (λ (l : List ℕ). l ++ rest) k.1 ∙ append_assoc x k.0 rest)
 
@@ -59,7 +59,7 @@ func_text table id s a b x y earlier h k = record {
   text = λ folder kept. func_range (table folder id.0) x y s a b (h.text folder (earlier folder kept)) (k.text folder kept);
 }
 
--- a range of an entry and a front part of the range behind it
+-- a range of an entry and a prefix of the range behind it
 range_front : (xs x y : List ℕ) (s a b n : ℕ) → a + b ≤ n → x ≡ take a (drop s xs) → IsFrontOf (take b (drop (s + a) xs)) y → IsFrontOf (take n (drop s xs)) (x ++ y)
 range_front xs x y s a b n e h k =
     let m : n ≡ (a + b) + (n - (a + b)) = omega arith in
@@ -85,14 +85,14 @@ cat_text table l r n x y e earlier h k = record {
   text = λ folder kept. rw (h.text folder (earlier folder kept), k.text folder kept) (sym (e.bytes (table folder)));
 }
 
--- a front part of the left one
+-- a prefix of the left one
 pub cat_left : {keeps : Folder → Type 0} (table : Folder → Table) (l r n : Node) (x : List ℕ) → AreSides l r n → IsPrefixOver keeps table l x → IsPrefixOver keeps table n x
 cat_left table l r n x e h = record {
   len = let i : length x ≤ len_of l = h.len in let m : len_of n ≡ len_of l + len_of r = e.len in omega arith;
   front = λ folder kept. let t = table folder in front_more (bytes_over t n) (bytes_over t l) (bytes_over t r) x (e.bytes t) (h.front folder kept);
 }
 
--- the left one and a front part of the right one
+-- the left one and a prefix of the right one
 pub cat_right : {before keeps : Folder → Type 0} (table : Folder → Table) (l r n : Node) (x y : List ℕ) → AreSides l r n → ((folder : Folder) → keeps folder → before folder) → IsTextOver before table l x → IsPrefixOver keeps table r y → IsPrefixOver keeps table n (x ++ y)
 cat_right table l r n x y e earlier h k = record {
   len = rw (length-append x y) (let i : length x ≡ len_of l = h.len in let j : length y ≤ len_of r = k.len in let m : len_of n ≡ len_of l + len_of r = e.len in omega arith);
@@ -104,7 +104,7 @@ pub on_err : {T E P : Type 0} (r : Result T E) → P → OnErr r P
 on_err (Ok x) h = tt
 on_err (Err e) h = h
 
--- a front part of the next bytes of a run
+-- a prefix of the next bytes of a run
 run_front : (byte len done count : ℕ) (y : List ℕ) → done + count ≤ len → IsFrontOf (replicate count byte) y → IsFrontOf (replicate len byte) (replicate done byte ++ y)
 run_front byte len done count y h k =
     let e : done + (len - done) ≡ len = omega arith in
@@ -113,7 +113,7 @@ run_front byte len done count y h k =
     let next : replicate (len - done) byte ≡ replicate count byte ++ replicate (len - done - count) byte = sym (replicate-append-replicate count (len - done - count) byte ∙ ap (λ (n : ℕ). replicate n byte) f) in
     front_join (replicate len byte) (replicate done byte) (replicate (len - done) byte) y first (front_more (replicate (len - done) byte) (replicate count byte) (replicate (len - done - count) byte) y next k)
 
--- some of a run, and a front part of the next piece of it
+-- some of a run, and a prefix of the next piece of it
 pub run_stopped : (a b c : List ℕ) (byte len done count n : ℕ) → done + count ≤ len → count ≤ n → b ≡ a ++ replicate done byte → Takes (IsFrontOf (take count (replicate n byte))) b c → Takes (IsFrontOf (replicate len byte)) a c
 run_stopped a b c byte len done count n h k s t = record {
   out = replicate done byte ++ t.out;

@@ -47,7 +47,7 @@ walk_stop_in {S} step a d xs i h = ap (λ (l : List ℕ). walk step a l) (sym (t
 pub walk_stop_between : {S : Type 0} (step : S → ℕ → S × Bool) (a b c : S) (whole x y z : List ℕ) → whole ≡ (x ++ y) ++ z → walk step a x ≡ (b, false) → walk step b y ≡ (c, true) → walk step a whole ≡ (c, true)
 walk_stop_between step a b c whole x y z e h k = ap (λ (l : List ℕ). walk step a l) e ∙ walk_stop step a c (x ++ y) z (walk_on step a b (c, true) x y h k)
 
--- a front part of the first of two lists
+-- a prefix of the first of two lists
 pub front_first : {S : Type 0} (step : S → ℕ → S × Bool) (a b : S) (whole x y : List ℕ) → whole ≡ x ++ y → WalkedFront step a b x → WalkedFront step a b whole
 front_first step a b whole x y e h = record {
   front = h.front;
@@ -56,7 +56,7 @@ front_first step a b whole x y e h = record {
   walked = h.walked;
 }
 
--- the first list, and a front part of the second one
+-- the first list, and a prefix of the second one
 pub front_second : {S : Type 0} (step : S → ℕ → S × Bool) (a b c : S) (whole x y : List ℕ) → whole ≡ x ++ y → walk step a x ≡ (b, false) → WalkedFront step b c y → WalkedFront step a c whole
 front_second step a b c whole x y e h k = record {
   front = x ++ k.front;

@@ -18,7 +18,7 @@ pub record IsTextOver (keeps : Folder → Type 0) (table : Folder → Table) (n 
   pub len : length out ≡ len_of n
   pub text : (folder : Folder) → keeps folder → out ≡ bytes_over (table folder) n
 
--- a front part of them
+-- a prefix of them
 pub record IsPrefixOver (keeps : Folder → Type 0) (table : Folder → Table) (n : Node) (out : List ℕ) : Type 0 where
   pub len : length out ≤ len_of n
   pub front : (folder : Folder) → keeps folder → IsFrontOf (bytes_over (table folder) n) out

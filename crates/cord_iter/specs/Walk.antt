@@ -6,7 +6,7 @@ abbrev pub walk : {S : Type 0} → (S → ℕ → S × Bool) → S → List ℕ 
 walk step s [] = (s, false)
 walk step s (b ∷ bs) = if (step s b).1 then ((step s b).0, true) else walk step (step s b).0 bs
 
--- from one state to another a front part of the bytes was walked over without a stop
+-- from one state to another a prefix of the bytes was walked over without a stop
 pub record WalkedFront {S : Type 0} (step : S → ℕ → S × Bool) (old new : S) (bs : List ℕ) : Type 0 where
   pub front : List ℕ
   pub rest : List ℕ

@@ -6,7 +6,7 @@ ghost use Rattle.cord_iter.specs.Taking.{IsFrontOf, Takes};
 use crate::{BLOCK_LEN, PIECE_LEN};
 use cord_io::{Sink, WriteFault};
 
-/// Offers the bytes until the sink has taken them all: after a short `put` the rest. After a fault the sink has taken a front part.
+/// Offers the bytes until the sink has taken them all: after a short `put` the rest. After a fault the sink has taken a prefix.
 pub fn put_all<W: Sink>(bytes: &[u8], sink: &mut W) -> Result<(), WriteFault>
     ensures ok { OnOk result ((W.taken sink.new ≡ W.taken sink.old ++ bytes.now) × (W.failures sink.new ≡ W.failures sink.old)) }
     ensures err { OnErr result (Takes (IsFrontOf bytes.now) (W.taken sink.old) (W.taken sink.new) × (W.failures sink.new ≡ raised (W.failures sink.old))) }

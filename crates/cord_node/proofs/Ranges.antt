@@ -4,7 +4,7 @@ use Rattle.std.specs.List.{range_with_len}
 use Rattle.std.proofs.lemmas.List.{drop-take, take-take, drop-drop, take-append-le, drop-append-le, drop_at, take_all}
 use native.Mathlib.Numerals.{unary_clauses}
 
--- a range of a front part is a range of the whole
+-- a range of a prefix is a range of the whole
 pub range_of_take : {X : Type 0} (xs : List X) (i n m : ℕ) → i + n ≤ m → take n (drop i (take m xs)) ≡ take n (drop i xs)
 range_of_take xs i n m h =
     let e : m ≡ i + (m - i) = omega arith in
@@ -30,7 +30,7 @@ drop-append_right xs ys i h =
     sym (drop-drop (i - length xs) (length xs) (xs ++ ys)) ∙ ap (λ (zs : List _). drop (i - length xs) zs) (drop_at xs ys (length xs) refl) in
     ap (λ (k : ℕ). drop k (xs ++ ys)) e ∙ f
 
--- a front part that reaches into the second of two lists
+-- a prefix that reaches into the second of two lists
 pub take-append_right : {X : Type 0} (xs ys : List X) (n : ℕ) → length xs ≤ n → take n (xs ++ ys) ≡ xs ++ take (n - length xs) ys
 take-append_right [] ys n h = grind arith
 take-append_right (x ∷ xs) ys zero h = absurd (omega arith)

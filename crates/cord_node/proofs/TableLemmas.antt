@@ -88,13 +88,13 @@ FitsIn-cells ls (Run byte len) s h = tt
 FitsIn-cells ls (Func id start len) s h = fits_from_held ls id.0 start len s.0 h
 FitsIn-cells ls (Cat' p left q right len depth mark) s h = (FitsIn-cells ls left s.0 (AreHeldIn-left ls (cells left) (cells right) h), FitsIn-cells ls right s.1 (AreHeldIn-right ls (cells left) (cells right) h))
 
--- a front part of held cells
+-- a prefix of held cells
 pub AreHeldIn-take : (ls : Lengths) (n : ℕ) (xs : List Cell) → AreHeldIn ls xs → AreHeldIn ls (take n xs)
 AreHeldIn-take ls zero xs h = tt
 AreHeldIn-take ls (suc n) [] h = tt
 AreHeldIn-take ls (suc n) (x ∷ xs) h = (h.0, AreHeldIn-take ls n xs h.1)
 
--- what is behind a front part of held cells
+-- what is behind a prefix of held cells
 pub AreHeldIn-drop : (ls : Lengths) (n : ℕ) (xs : List Cell) → AreHeldIn ls xs → AreHeldIn ls (drop n xs)
 AreHeldIn-drop ls zero xs h = h
 AreHeldIn-drop ls (suc n) [] h = tt

@@ -9,7 +9,7 @@ use Rattle.cord_plan.specs.Shown.{decimal, number, quoted, argument_words}
 use Rattle.cord_plan.specs.declared.shown.fragments.Fragment.{Fragment}
 use Rattle.cord_plan.specs.declared.shown.fragments.Fragment.TheVariants.{Plain, Name, Count, Number, Path, Arguments}
 
--- at Ok a sink took exactly this text and didn't fail; at Err it took a front part of it and failed once; it wasn't ended
+-- at Ok a sink took exactly this text and didn't fail; at Err it took a prefix of it and failed once; it wasn't ended
 pub record Writes (text old new : List ℕ) (before after ends_before ends_after : ℕ) (r : Result (Unit {0}) WriteFault) : Type 0 where
   pub ok : OnOk r ((new ≡ old ++ text) × (after ≡ before))
   pub err : OnErr r (Takes (IsFrontOf text) old new × (after ≡ raised before))

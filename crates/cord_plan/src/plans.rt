@@ -97,7 +97,7 @@ impl Plan {
     }
 
     /// Hands a sink the text of the plan: one line an operation, ended by byte 10. Refused with `WriteFailed` where the sink
-    /// failed: then it took a front part of the text.
+    /// failed: then it took a prefix of the text.
     pub fn show<W: Sink>(&self, sink: &mut W) -> Result<(), CordError>
         ensures ok { OnOk result ((W.taken sink.new ≡ W.taken sink.old ++ shown (map operation_view self.now)) × (W.failures sink.new ≡ W.failures sink.old)) }
         ensures err { OnErr result (Takes (IsFrontOf (shown (map operation_view self.now))) (W.taken sink.old) (W.taken sink.new) × (W.failures sink.new ≡ raised (W.failures sink.old))) }

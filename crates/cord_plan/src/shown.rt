@@ -20,7 +20,7 @@ use cord_io::{CordError, Sink, WriteFault};
 use cord_script::{Function, Statement};
 
 /// Hands a sink the text of operations: one line each, ended by byte 10. Refused with `WriteFailed` where the sink failed: then it took
-/// a front part of the text.
+/// a prefix of the text.
 pub(crate) fn show_operations<W: Sink>(
     operations: &[Operation],
     sink: &mut W,

@@ -8,12 +8,12 @@ use Rattle.cord_meaning.specs.declared.ends.FaultKind.{FaultKind}
 use Rattle.cord_run.specs.declared.making.Halt.{Halt}
 use Rattle.cord_run.specs.declared.making.Halt.TheVariants as halts
 
--- a sink took this text, after a fault a front part of it
+-- a sink took this text, after a fault a prefix of it
 abbrev pub Puts : List ℕ → List ℕ → List ℕ → Result (Unit {0}) CordError → Type 0
 Puts text old new (Ok x) = new ≡ old ++ text
 Puts text old new (Err e) = Takes (IsFrontOf text) old new
 
--- a sink took the text that is meant; after a fault of the text, or where memory was refused, nothing; after a failure of a device a front part of the text
+-- a sink took the text that is meant; after a fault of the text, or where memory was refused, nothing; after a failure of a device a prefix of the text
 abbrev pub Wrote : Result (List ℕ) FaultKind → List ℕ → List ℕ → Result (Unit {0}) Halt → Type 0
 Wrote meant old new (Ok x) = (text : List ℕ) × (meant ≡ Ok text) × (new ≡ old ++ text)
 Wrote meant old new (Err (halts.Fault kind)) = (meant ≡ Err kind) × (new ≡ old)

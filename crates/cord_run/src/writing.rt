@@ -21,7 +21,7 @@ use cord_plan::Expr;
 use std::alloc::Global;
 
 /// Hands a sink the text of an expression, part by part: no cord is made of the whole. Where all its names hold texts, the sink
-/// took the text, or the expression's fault is answered and nothing was put, or after a failure of a device a front part.
+/// took the text, or the expression's fault is answered and nothing was put, or after a failure of a device a prefix.
 pub(crate) fn write<R: Source, S: Sink>(
     alloc: Global,
     expression: &Expr,

@@ -65,7 +65,7 @@ cmp_equal (b ∷ u) (c ∷ v) h = pick (nat_cmp b c) refl h (λ (k : slice_cmp n
     pick Equal is h ih = let one : b ≡ c = ranked b c Equal is in let two : u ≡ v = ih h in cc (one, two)
     pick Greater is h ih = cc
 
--- one text is a front part of the other: their lengths decide
+-- one text is a prefix of the other: their lengths decide
 cmp_lengths : (xs ys : List ℕ) (m : ℕ) → min (length xs) (length ys) ≤ m → take m xs ≡ take m ys → nat_cmp (length xs) (length ys) ≡ slice_cmp nat_cmp xs ys
 cmp_lengths [] [] m h e = refl
 cmp_lengths [] (c ∷ ys) m h e = sym (nat_cmp_is 0 (suc (length ys)) Less (omega arith))

@@ -61,13 +61,13 @@ abbrev pub IsStopped : Answer → Type 0
 IsStopped a = (told : End) × AnswersEnd a told × StopsBefore a told
 
 -- the script was run, and its end, which status and line tell, is honest: all that it puts over the folder is out and the end is
--- the script's own, or a front part of it is out and the end is the cause that came; or it was stopped before
+-- the script's own, or a prefix of it is out and the end is the cause that came; or it was stopped before
 pub record RunsOver (statements : List Statement) (folder : Folder) (a : Answer) : Type 0 where
   pub told : End
   pub answers : AnswersEnd a told
   pub honest : EndsHonestly statements folder [] a.out.taken (counts_of a) told ⊎ StopsBefore a told
 
--- the text of a plan is out, or a front part of it where standard output failed
+-- the text of a plan is out, or a prefix of it where standard output failed
 abbrev pub IsOut : List ℕ → Answer → End → Type 0
 IsOut text a Done = IsWritten text [] a.out.taken (sink_of (counts_of a))
 IsOut text a (WriteFailed line) = (line ≡ 0) × IsCut text [] a.out.taken (sink_of (counts_of a))

@@ -28,7 +28,7 @@ IsUntouched before after n = (after ≡ before) × (n.failed_after ≡ n.failed_
 abbrev pub IsWritten : List ℕ → List ℕ → List ℕ → SinkCounts → Type 0
 IsWritten text before after n = (after ≡ before ++ text) × (n.failed_after ≡ n.failed_before) × (n.ended_after ≡ n.ended_before + 1)
 
--- it took a front part of the text and failed, and wasn't ended
+-- it took a prefix of the text and failed, and wasn't ended
 abbrev pub IsCut : List ℕ → List ℕ → List ℕ → SinkCounts → Type 0
 IsCut text before after n =
     Takes (IsFrontOf text) before after × (n.failed_after ≡ raised n.failed_before) × (n.ended_after ≡ n.ended_before)

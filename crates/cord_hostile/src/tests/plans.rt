@@ -44,7 +44,7 @@ fn expect_shown(rt: &impl Abort, alloc: Global, plan: &Plan, text: &str) {
     expect_bytes(rt, sink.bytes(), text.as_bytes());
 }
 
-// That a sink which found no memory has taken a front part of a text.
+// That a sink which found no memory has taken a prefix of a text.
 fn expect_part(rt: &impl Abort, sink: &MemSink, error: CordError, text: &str) {
     assert!(rt; error == CordError::WriteFailed);
     assert!(rt; sink.failures() == 1);

@@ -1,4 +1,4 @@
-//! Runs of scripts: each is refused, ends for want of memory behind a front part of its output, or is done with all of it.
+//! Runs of scripts: each is refused, ends for want of memory after a prefix of its output, or is done with all of it.
 use super::files::holds;
 use super::texts::pattern;
 use cord_io::{Files, MemFiles, MemSink, Sink};
@@ -24,7 +24,7 @@ fn two_files(rt: &impl Abort, alloc: Global, long: &[u8]) -> MemFiles {
     files
 }
 
-// Whether bytes are what the lines before this one put, and then a front part of what it puts itself.
+// Whether bytes are what the lines before this one put, and then a prefix of what it puts itself.
 fn are_put(run: &Run, line: u32, bytes: &[u8]) -> bool {
     let mut rest = bytes;
     for (at, text) in run.puts {

@@ -176,7 +176,7 @@ fn put_file(
     Ok(())
 }
 
-// That a put of the file "f" failed, since no memory was found to make its cord, or to take more than a front part of it.
+// That a put of the file "f" failed, since no memory was found to make its cord, or to take more than a prefix of it.
 fn expect_part(rt: &impl Abort, sink: &MemSink, error: FileError, bytes: &[u8]) {
     let is_unmade = error == FileError::NoMemory && sink.bytes().is_empty();
     assert!(rt; is_unmade || sink.failures() == 1);
@@ -190,7 +190,7 @@ fn put_all(rt: &impl Abort, alloc: Global, sources: &mut Sources<MemFiles>, byte
     expect_bytes(rt, sink.bytes(), bytes);
 }
 
-// Puts the file "f" of these bytes. No read is refused; a sink that found no memory has taken a front part, and another one takes
+// Puts the file "f" of these bytes. No read is refused; a sink that found no memory has taken a prefix, and another one takes
 // all.
 fn expect_put(rt: &impl Abort, alloc: Global, sources: &mut Sources<MemFiles>, bytes: &[u8]) {
     let mut sink = MemSink::new(alloc);

@@ -92,7 +92,7 @@ fn put_up_to(rt: &(impl AllocGlobal + Abort), hostile: &Hostile, line: u32) -> V
     out
 }
 
-// Whether a run stopped in a line of a script: what the lines before it put is written, and then a front part of what it puts.
+// Whether a run stopped in a line of a script: what the lines before it put is written, and then a prefix of what it puts.
 fn is_stopped(rt: &(impl AllocGlobal + Abort), hostile: &Hostile, line: u32, out: &[u8]) -> bool {
     if line == 0 || line > hostile.lines {
         return false;
