@@ -50,6 +50,12 @@ static uint64_t place_of(zc_cord *x, uint64_t start, zc_cord *y) {
     return place;
 }
 
+static uint64_t place_of_bytes(zc_cord *x, uint64_t start, const char *bytes) {
+    uint64_t place = 12345;
+    DO(zc_find(x, start, bytes, strlen(bytes), &place));
+    return place;
+}
+
 static int32_t order_of(zc_cord *x, zc_cord *y) {
     int32_t order = 12345;
     DO(zc_cmp(x, y, &order));
@@ -115,6 +121,10 @@ static void cuts(void) {
     EXPECT_TEXT(&c, "the");
     DO(zc_remove(&a, 19, 1, &c));
     EXPECT_TEXT(&c, "the quick brown fox");
+    DO(zc_replace(&a, 4, 5, &b, &c));
+    EXPECT_TEXT(&c, "the very  brown fox");
+    DO(zc_replace(&a, 99, UINT64_MAX, &b, &c));
+    EXPECT_TEXT(&c, "the quick brown foxvery ");
     zc_free(&a);
     zc_free(&b);
     zc_free(&c);
@@ -197,6 +207,11 @@ static void searches(void) {
     DO(zc_from_bytes("abd", 3, &b));
     EXPECT(place_of(&a, 0, &b) == 6);
     EXPECT(place_of(&a, 7, &b) == ZC_NOT_FOUND);
+    EXPECT(place_of_bytes(&a, 0, "abd") == 6);
+    EXPECT(place_of_bytes(&a, 2, "bca") == 4);
+    EXPECT(place_of_bytes(&a, 7, "abd") == ZC_NOT_FOUND);
+    EXPECT(place_of_bytes(&a, 9, "") == 9);
+    EXPECT(place_of_bytes(&a, 10, "") == ZC_NOT_FOUND);
     EXPECT(order_of(&a, &b) == -1);
     EXPECT(order_of(&b, &a) == 1);
     DO(zc_from_bytes("abcabcabdx", 10, &b));
@@ -311,6 +326,9 @@ static void nulls(void) {
     EXPECT(zc_insert(&a, 0, &c, none) == ZC_BAD_ARGUMENT);
     EXPECT(zc_remove(none, 0, 1, &b) == ZC_BAD_ARGUMENT);
     EXPECT(zc_remove(&a, 0, 1, none) == ZC_BAD_ARGUMENT);
+    EXPECT(zc_replace(none, 0, 1, &a, &b) == ZC_BAD_ARGUMENT);
+    EXPECT(zc_replace(&a, 0, 1, none, &b) == ZC_BAD_ARGUMENT);
+    EXPECT(zc_replace(&a, 0, 1, &c, none) == ZC_BAD_ARGUMENT);
     EXPECT(zc_balance(none, &b) == ZC_BAD_ARGUMENT);
     EXPECT(zc_balance(&a, none) == ZC_BAD_ARGUMENT);
     EXPECT(zc_share(none, &b) == ZC_BAD_ARGUMENT);
@@ -325,6 +343,8 @@ static void nulls(void) {
     EXPECT(zc_str(none, 0, &a, &place) == ZC_BAD_ARGUMENT);
     EXPECT(zc_str(&a, 0, none, &place) == ZC_BAD_ARGUMENT);
     EXPECT(zc_str(&a, 0, &b, no_place) == ZC_BAD_ARGUMENT);
+    EXPECT(zc_find(none, 0, "a", 1, &place) == ZC_BAD_ARGUMENT);
+    EXPECT(zc_find(&a, 0, "a", 1, no_place) == ZC_BAD_ARGUMENT);
     EXPECT(zc_cmp(none, &a, &order) == ZC_BAD_ARGUMENT);
     EXPECT(zc_cmp(&a, none, &order) == ZC_BAD_ARGUMENT);
     EXPECT(zc_cmp(&a, &b, no_order) == ZC_BAD_ARGUMENT);

@@ -100,6 +100,9 @@ int zc_insert(zc_cord *x, uint64_t start, zc_cord *y, zc_cord *out);
 /* x without at most count of its bytes from start on. ZC_NO_MEMORY. O(d). */
 int zc_remove(zc_cord *x, uint64_t start, uint64_t count, zc_cord *out);
 
+/* x with the bytes of y in place of at most count of its bytes from start on. ZC_TOO_LONG, ZC_NO_MEMORY. O(d). */
+int zc_replace(zc_cord *x, uint64_t start, uint64_t count, zc_cord *y, zc_cord *out);
+
 /* Line number of x, from 0, without its end. A line ends with the byte 10, which the last one may lack.
    ZC_BAD_ARGUMENT where x has no more lines than that, ZC_NO_MEMORY. O(n), and O(d) for each line before it. */
 int zc_nth_line(zc_cord *x, uint64_t number, zc_cord *out);
@@ -134,6 +137,9 @@ uint64_t zc_rchr(zc_cord *x, uint64_t end, unsigned char byte);
 /* Writes the first place of x from start on where the bytes of y stand to *place, or ZC_NOT_FOUND. No bytes stand at
    each place up to the end. ZC_NO_MEMORY: *place stays. O(n) for most texts. */
 int zc_str(zc_cord *x, uint64_t start, zc_cord *y, uint64_t *place);
+
+/* As zc_str, of these bytes. Up to 16,384 of them take no memory. */
+int zc_find(zc_cord *x, uint64_t start, const void *bytes, size_t count, uint64_t *place);
 
 /* Writes the order of x and y to *order: -1 where x comes first, 0 where both have the same bytes, 1 where y comes
    first: by the first bytes that differ, and a text that another one begins with comes first. ZC_NO_MEMORY: *order

@@ -145,6 +145,35 @@ pub extern "C" fn zc_str(
     OK
 }
 
+/// Writes the first place of `x` from `start` on where these bytes stand to `place`. No bytes stand at each place up to
+/// the end.
+#[unsafe(no_mangle)]
+pub extern "C" fn zc_find(
+    alloc: Global,
+    x: &mut Handle,
+    start: u64,
+    bytes: &[u8],
+    place: &mut u64,
+) -> i32
+    requires places { Testable (as_mut_ptr x) × Testable (as_mut_ptr place) }
+    ensures first { result ≡ OK → place.new ≡ place_or_none (first x.old.text start bytes.now) }
+    ensures kept { (result ≡ OK) ⊎ (place.new ≡ place.old) }
+    ensures code { IsKeeping result }
+    ensures x { x.new.text ≡ x.old.text }
+{
+    if missing(x) || missing(place) {
+        return BAD_ARGUMENT;
+    }
+    let Ok(text) = x.read(alloc) else {
+        return NO_MEMORY;
+    };
+    let Ok(found) = text.find(alloc, bytes, start) else {
+        return NO_MEMORY;
+    };
+    *place = found.unwrap_or(NOT_FOUND);
+    OK
+}
+
 /// Writes the order of the two lists of bytes to `order`: -1 where `x` comes first, 0 where they are equal, 1 where `y`
 /// comes first.
 #[unsafe(no_mangle)]

@@ -116,6 +116,43 @@ pub extern "C" fn zc_remove(
     }
 }
 
+/// `x` with the bytes of `y` in place of at most `count` of its bytes from `start` on.
+#[unsafe(no_mangle)]
+pub extern "C" fn zc_replace(
+    alloc: Global,
+    x: &mut Handle,
+    start: u64,
+    count: u64,
+    y: &mut Handle,
+    out: &mut Handle,
+) -> i32
+    requires places { Testable (as_mut_ptr x) × Testable (as_mut_ptr y) × Testable (as_mut_ptr out) }
+    ensures text { result ≡ OK →
+        out.new.text ≡ take start x.old.text ++ y.old.text ++ drop (start + count) x.old.text }
+    ensures kept { (result ≡ OK) ⊎ (out.new.text ≡ out.old.text) }
+    ensures too_long { result ≡ TOO_LONG →
+        MAX_LEN < length (take start x.old.text ++ y.old.text ++ drop (start + count) x.old.text) }
+    ensures within_limit { result ≡ OK →
+        length (take start x.old.text ++ y.old.text ++ drop (start + count) x.old.text) ≤ MAX_LEN }
+    ensures code { IsMaking result }
+    ensures x { x.new.text ≡ x.old.text }
+    ensures y { y.new.text ≡ y.old.text }
+{
+    if missing(x) || missing(y) || missing(out) {
+        return BAD_ARGUMENT;
+    }
+    let Ok(old) = x.read(alloc) else {
+        return NO_MEMORY;
+    };
+    let Ok(new) = y.read(alloc) else {
+        return NO_MEMORY;
+    };
+    match old.replace_range(alloc, start, count, &new) {
+        Ok(text) => out.hold(alloc, text),
+        Err(refusal) => code_of(refusal),
+    }
+}
+
 /// Line `number` of `x`, from 0, without its end: `BAD_ARGUMENT` where it has no more lines than that. A line ends with
 /// the byte 10, which the last one may lack.
 #[unsafe(no_mangle)]
