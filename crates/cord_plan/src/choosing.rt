@@ -3,7 +3,7 @@ ghost use Rattle.std.specs.Prelude.{◌≡◌, ◌==◌, ◌+◌, ◌<◌, ◌�
 ghost use Rattle.cord_plan.specs.Exprs.{names, name};
 ghost use Rattle.cord_plan.specs.Operands.{assigns, count};
 ghost use Rattle.cord_plan.specs.Forced.{is_small, expr_of, expr_with};
-ghost use Rattle.cord_plan.specs.Choices.{simple_operands, parts_beside, expression_in, is_spare, room_left_by, choice_view, IsChoice, AreChoices};
+ghost use Rattle.cord_plan.specs.Choices.{simple_operands, parts_beside, expression_in, is_spare, room_left_by, choice_view, operands_view, IsChoice, AreChoices};
 ghost use Rattle.cord_plan.specs.Liveness.{tells};
 ghost use Rattle.cord_plan.specs.Recent.{IsRecent};
 ghost use Rattle.cord_plan.specs.Views.{expr_view};
@@ -14,7 +14,7 @@ use crate::recent::Recent;
 use crate::staying::{nearest, stays};
 use crate::{Expr, MAX_EXPR_PARTS};
 use cord_io::CordError;
-use cord_script::{Name, Names, Statement, is_same};
+use cord_script::{Name, Statement, is_same};
 use std::alloc::{AllocError, Global};
 
 /// What stands for an operand: its name, or the expression of the line at a place.
@@ -34,20 +34,44 @@ pub(crate) struct Line<'a> {
     pub(crate) recent: &'a Recent<'a>,
 }
 
+/// The cord operands of a simple line: those of a list where it stands, and copies of others.
+#[derive(Drop)]
+pub(crate) enum Operands<'a> {
+    Nothing,
+    One([Name; 1]),
+    Two([Name; 2]),
+    Listed(&'a [Name]),
+}
+
+impl Operands<'_> {
+    /// The operands in order.
+    pub(crate) fn as_slice(&self) -> &[Name]
+        ensures { result.now ≡ operands_view self.now }
+    {
+        match self {
+            Operands::Nothing => &[],
+            Operands::One(operand) => operand,
+            Operands::Two(operands) => operands,
+            Operands::Listed(operands) => operands,
+        }
+    }
+}
+
 /// The cord operands of a simple line; of other lines there are none.
-pub(crate) fn operands_of(alloc: Global, statement: &Statement) -> Result<Option<Names>, CordError>
-    ensures made { IfOk result (λ o. o ≡ simple_operands statement.now) }
+pub(crate) fn operands_of(statement: &Statement) -> Result<Option<Operands<'_>>, CordError>
+    ensures made { IfOk result (λ o. option_map operands_view o ≡ simple_operands statement.now) }
     ensures refused { IsOkUnless result CordError.NoMemory }
 {
     match statement {
-        Statement::Cat { left, right, .. } => {
-            Ok(Some(Names::of(vec![in alloc; left.clone()?, right.clone()?]?)))
-        }
-        Statement::Catn { parts, .. } => Ok(Some(parts.clone()?)),
+        Statement::Cat { left, right, .. } => Ok(Some(Operands::Two([
+            left.clone()?,
+            right.clone()?,
+        ]))),
+        Statement::Catn { parts, .. } => Ok(Some(Operands::Listed(parts.as_slice()))),
         Statement::Catc { operand, .. }
         | Statement::Substr { operand, .. }
-        | Statement::Put { operand, .. } => Ok(Some(Names::of(vec![in alloc; operand.clone()?]?))),
-        Statement::Chars { .. } | Statement::Nul { .. } => Ok(Some(Names::of(Vec::new(alloc)))),
+        | Statement::Put { operand, .. } => Ok(Some(Operands::One([operand.clone()?]))),
+        Statement::Chars { .. } | Statement::Nul { .. } => Ok(Some(Operands::Nothing)),
         _ => Ok(None),
     }
 }
@@ -175,7 +199,7 @@ pub(crate) fn choose_all<'a>(
     requires operands { simple_operands line.now.statement.now ≡ Some line.now.operands.now }
     ensures { IfOk result (λ cs. AreChoices line.now.statements.now (tells line.now.recent.now.later.now) line.now.place line.now.statement.now (map (option_map expr_view) table.now) (map choice_view cs.items)) }
 {
-    let mut chosen = Vec::new(alloc);
+    let mut chosen = Vec::with_capacity(alloc, line.operands.len())?;
     for operand in line.operands {
         let choice = choose(line, operand, table, &chosen);
         chosen.push(choice)?;

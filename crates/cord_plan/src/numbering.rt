@@ -32,6 +32,8 @@ fn slot_of(name: &[u8]) -> usize
 }
 
 // The first place of a name among others.
+#[cold]
+#[inline(never)]
 fn place_of(names: &[Name], name: &[u8]) -> Option<usize>
     ensures { result ≡ place_of names.now name.now }
 {
@@ -98,7 +100,7 @@ impl Numbering {
     fn add_new(&mut self, alloc: Global, name: &Name) -> Result<(), AllocError>
         ensures { OnOk result (Adds (name.now ∷ []) (names_of self.old) (names_of self.new)) }
     {
-        let copy = Name::of(alloc, name.as_slice())?;
+        let copy = name.clone()?;
         set_guess(
             &mut self.guesses,
             slot_of(name.as_slice()),

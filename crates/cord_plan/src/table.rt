@@ -41,12 +41,12 @@ fn mark(firsts: &mut [bool], choices: &[Choice])
 }
 
 // The expression of the next line behind those that have these; the lines that it takes are marked.
-fn next_expression(
+fn next_expression<'a>(
     alloc: Global,
-    statements: &[Statement],
+    statements: &'a [Statement],
     place: usize,
-    statement: &Statement,
-    recent: &Recent,
+    statement: &'a Statement,
+    recent: &'a Recent<'a>,
     expressions: &[Option<Expr>],
     firsts: &mut [bool],
 ) -> Result<Option<Expr>, CordError>
@@ -55,7 +55,7 @@ fn next_expression(
     ensures made { IfOk result (λ e. IsNext statements.now (tells recent.now.later.now) place statement.now (map (option_map expr_view) expressions.now) firsts.old firsts.new (option_map expr_view e)) }
     ensures refused { IsOkUnless result CordError.NoMemory }
 {
-    let Some(operands) = operands_of(alloc, statement)? else {
+    let Some(operands) = operands_of(statement)? else {
         return Ok(None);
     };
     let line = Line {

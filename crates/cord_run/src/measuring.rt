@@ -40,9 +40,12 @@ fn length_of_all(members: &[Expr], store: &Store) -> Result<u64, FaultKind>
 {
     let mut total: u64 = 0;
     for member in members {
-        match length_of(member, store) {
-            Ok(len) => total = total.saturating_add(len),
-            Err(kind) => return Err(kind),
+        match member {
+            Expr::Name(name) => total = total.saturating_add(store.length_of(name.as_slice())),
+            _ => match length_of(member, store) {
+                Ok(len) => total = total.saturating_add(len),
+                Err(kind) => return Err(kind),
+            },
         }
     }
     Ok(total)

@@ -209,6 +209,7 @@ impl Store {
     }
 
     /// The length that is told of the name of a cord.
+    #[inline(always)]
     pub(crate) fn length_of(&self, name: &[u8]) -> u64
         ensures { result ≡ length_in self.now.entries.items name.now }
     {

@@ -59,6 +59,8 @@ fn slot_of(name: &[u8]) -> usize
 }
 
 // The first of these with the name.
+#[cold]
+#[inline(never)]
 fn search<'a>(known: &'a [Known], name: &[u8]) -> Option<&'a Known>
     ensures { MatchOption result (kind_of known.now name.now ≡ None) (λ found. (found.now.name ≡ name.now) × (kind_of known.now name.now ≡ Some found.now.kind)) }
 {

@@ -84,7 +84,7 @@ fn plain_parts(
     ensures parts { IfOk result (λ worded. IsParted (Words wants.now) words.entry.items worded.parts.items worded.format) }
     ensures flaw { IfErr result (λ kind. kind ≢ RefusalKind.NoMemory → HasPartFlaw (Words wants.now) words.entry.items kind) }
 {
-    let mut parts = Vec::new(alloc);
+    let mut parts = Vec::with_capacity(alloc, wants.len())?;
     take_all(alloc, names, wants, &mut words, &mut parts)?;
     Ok(Worded {
         parts,
@@ -105,7 +105,7 @@ fn joined_parts(
     if count < 1 + MIN_PARTS || count > 1 + MAX_PARTS {
         return Err(RefusalKind::WrongCount);
     }
-    let mut parts = Vec::new(alloc);
+    let mut parts = Vec::with_capacity(alloc, count)?;
     take_parts(alloc, names, &TARGET, &mut words, &mut parts)?;
     take_parts(alloc, names, &CORDS[..count - 1], &mut words, &mut parts)?;
     Ok(Worded {

@@ -14,22 +14,14 @@ length_of-returns-in-Ok t c =
     ∙ counted_length c.in-Ok.len (members_extent c.args.store.now.entries.items es) c.in-Ok.ensures
     ∙ ap (λ (e : plain.Expr). extent_in c.args.store.now.entries.items e) (sym view)
 
-pub length_of_all-length_of-requires : goal.length_of_all-length_of-requires
-length_of_all-length_of-requires t c =
+pub length_of_all-length_of-requires-in_default : goal.length_of_all-length_of-requires-in_default
+length_of_all-length_of-requires-in_default t c =
     let below : weight (expr_view c.member-item.result) < weights (members_seen c.args.members.now) = member_smaller c.args.members.now c.loop-member.member-index c.member-item.result c.loop-member-test.true c.member-item.is in
     search (rules, below)
 
 pub length_of_all-returns-in-Err : goal.length_of_all-returns-in-Err
 length_of_all-returns-in-Err t c =
     sym (c.loop-member.invariant.extent ∙ member_faulty c.args.store.now.entries.items c.args.members.now c.loop-member.member-index c.member-item.result c.loop-member-test.true c.member-item.is c.loop-member.total c.in-Err.kind (sym c.in-Err.ensures))
-
-pub length_of_all-loop-member-preserved : goal.length_of_all-loop-member-preserved
-length_of_all-loop-member-preserved t c = record {
-  extent = c.loop-member.invariant.extent
-      ∙ member_counted c.args.store.now.entries.items c.args.members.now c.loop-member.member-index c.member-item.result c.loop-member-test.true c.member-item.is c.loop-member.total c.in-Ok.len (sym c.in-Ok.ensures)
-      ∙ ap (λ (n : ℕ). counted n (members_extent c.args.store.now.entries.items (members_seen (drop (c.loop-member.member-index + 1) c.args.members.now)))) (sym c.saturating_add-total.ensures);
-  small = omega (arith, c.saturating_add-total.ensures);
-}
 
 pub length_of_all-returns : goal.length_of_all-returns
 length_of_all-returns t c =
