@@ -138,6 +138,23 @@ class Scripts:
         self.assigned |= {rope.decode(), part.decode()}
         return [*lines, b"put " + self.random.choice([rope, part])]
 
+    def moving_window(self):
+        """A loop that lets a text grow at its end and keeps a range of it, now and then with a line of any kind."""
+        seen, more = (name.encode() for name in self.random.sample(CORDS, 2))
+        most = self.random.choice([20, 120, 40000])
+        changes = [b"catc %b %b %d" % (seen, seen, self.random.randint(0, 255)), b"cat %b %b %b" % (seen, seen, more)]
+        for first, last in [(3, 12), (most // 40, most), (0, most)]:
+            start, count = self.random.randint(0, first), self.random.randint(last // 2, last)
+            changes.append(b"substr %b %b %d %d" % (seen, seen, start, count))
+        body = self.random.choices(changes, k=self.random.randint(1, 5))
+        if self.chance(0.2):
+            body.append(b"substr %b %b %b %b" % (seen, seen, self.number(3), self.number(120)))
+        if self.chance(0.3):
+            body.insert(self.random.randrange(len(body) + 1), self.line())
+        lines = [b"let " + more + b" " + self.quoted(self.text()), b"chars %b 97 %d" % (seen, self.random.randint(0, most))]
+        self.assigned |= {seen.decode(), more.decode()}
+        return [*lines, b"repeat %d" % self.random.randint(1, 150), *body, b"end", b"put " + seen]
+
     def changed(self, script):
         """The script with a byte, a word or a line put elsewhere, changed or left out."""
         place, way = self.random.randrange(len(script)), self.random.choice(["byte", "more", "less", "lines", "words"])
@@ -160,6 +177,8 @@ class Scripts:
             lines.append(self.line("set"))
         if self.chance(0.1):
             lines += self.deep_rope()
+        if self.chance(0.1):
+            lines += self.moving_window()
         script = b"\n".join(lines + self.lines(self.random.choice([3, 10, 20, 40]), 0) + [b""])
         for _ in range(self.random.randint(1, 3) if self.careless else 0):
             script = self.changed(script)

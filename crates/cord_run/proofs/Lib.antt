@@ -27,6 +27,7 @@ pub mod Finding
 pub mod Kept
 pub mod Sourced
 pub mod Extending
+pub mod Windows
 pub mod Appended
 pub mod Wrote
 pub mod Standing

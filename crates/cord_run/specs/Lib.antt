@@ -18,3 +18,4 @@ pub mod Appends
 pub mod Places
 pub mod Counting
 pub mod Slices
+pub mod Between

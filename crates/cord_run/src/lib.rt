@@ -28,6 +28,7 @@ mod serving;
 mod slices;
 mod steering;
 mod store;
+mod window;
 mod writing;
 
 pub use cord_meaning::{End, FaultKind};

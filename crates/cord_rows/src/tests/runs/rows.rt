@@ -169,6 +169,18 @@ pub(super) const BLOCKS: &[Row] = &[
         b"AAA",
     ),
     (
+        "window-moves",
+        r#"let x "abcd" ; repeat 6 ; catc x x 101 ; substr x x 1 4 ; end ; put x"#,
+        End::Done,
+        b"eeee",
+    ),
+    (
+        "window-grows-behind-a-cut-end",
+        r#"let x "abcdef" ; let w "xy" ; repeat 3 ; substr x x 1 4 ; cat x x w ; end ; put x"#,
+        End::Done,
+        b"dexxxy",
+    ),
+    (
         "repeat-zero",
         r#"repeat 0 ; let x "a" ; end ; put x"#,
         End::Done,
