@@ -8,7 +8,7 @@ ghost use Rattle.cord_core.specs.Cord.{text_len, bytes_of, CordFitsIn};
 ghost use Rattle.cord_iter.specs.Taking.{IsFrontOf, IsTextOver, IsPrefixOver, Takes, CountsFaults};
 
 use crate::pieces::{piece_len, put_all, put_run};
-use crate::{BLOCK_LEN, PIECE_LEN};
+use crate::{BLOCK_LEN, PAGE_LEN, PIECE_LEN};
 use cord_core::{Cord, Node};
 use cord_io::{CordError, MAX_LEN, Sink, Source, SourceId};
 
@@ -111,8 +111,10 @@ fn put_func<S: Source, W: Sink>(
     ensures earlier { (folder : Folder) → S.keeps src.new folder → S.keeps src.old folder }
     ensures finished { W.finished sink.new ≡ W.finished sink.old }
 {
-    if len < BLOCK_LEN as u64 {
+    if len <= PIECE_LEN as u64 {
         put_range::<PIECE_LEN, S, W>(id, start, len, src, sink)
+    } else if len < BLOCK_LEN as u64 {
+        put_range::<PAGE_LEN, S, W>(id, start, len, src, sink)
     } else {
         put_range::<BLOCK_LEN, S, W>(id, start, len, src, sink)
     }
