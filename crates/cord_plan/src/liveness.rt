@@ -71,7 +71,7 @@ impl Flow<'_> {
     fn words_read(&self, alloc: Global) -> Result<Vec<u128>, AllocError>
         ensures { IfOk result (λ v. ArePartly self.now.statements.now self.now.numbering.now self.now.group v.items) }
     {
-        let mut words = Vec::new(alloc);
+        let mut words = Vec::with_capacity(alloc, self.statements.len())?;
         for statement in self.statements {
             words.push(mark_read(self.numbering, self.group, statement))?;
         }
@@ -82,7 +82,7 @@ impl Flow<'_> {
     fn words_assigned(&self, alloc: Global) -> Result<Vec<u128>, AllocError>
         ensures { IfOk result (λ v. AreAssigned self.now.statements.now self.now.numbering.now self.now.group v.items) }
     {
-        let mut words = Vec::new(alloc);
+        let mut words = Vec::with_capacity(alloc, self.statements.len())?;
         for statement in self.statements {
             words.push(mark_assigned(self.numbering, self.group, statement))?;
         }

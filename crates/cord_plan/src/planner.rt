@@ -48,7 +48,7 @@ fn operations_of(
     ensures made { IfOk result (λ os. map operation_view os.items ≡ plan.planned statements.now (tells later.now)) }
     ensures refused { IsOkUnless result CordError.NoMemory }
 {
-    let mut operations = Vec::new(alloc);
+    let mut operations = Vec::with_capacity(alloc, statements.len())?;
     let Table {
         mut expressions,
         firsts,

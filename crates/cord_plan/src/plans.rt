@@ -50,7 +50,7 @@ fn trivial_operations(alloc: Global, statements: &[Statement]) -> Result<Vec<Ope
     ensures made { IfOk result (λ os. map operation_view os.items ≡ plan.trivial statements.now) }
     ensures refused { IsOkUnless result CordError.NoMemory }
 {
-    let mut operations = Vec::new(alloc);
+    let mut operations = Vec::with_capacity(alloc, statements.len())?;
     'lines: for statement in statements {
         let expression = own_expression(alloc, statement)?;
         operations.push(operation_of(alloc, statement, expression, false, false)?)?;

@@ -186,7 +186,7 @@ fn behinds(alloc: Global, shapes: &[Shape]) -> Result<Vec<Behind>, AllocError>
     ensures { IfOk result (λ v. AreBehind (map shape_view shapes.now) v.items) }
 {
     let mut blocks = Vec::new(alloc);
-    let mut found = Vec::new(alloc);
+    let mut found = Vec::with_capacity(alloc, shapes.len())?;
     for (p, shape) in shapes.iter().enumerate() {
         let block = innermost(&blocks);
         found.push(places_behind(shapes, p, block))?;
@@ -198,7 +198,7 @@ fn behinds(alloc: Global, shapes: &[Shape]) -> Result<Vec<Behind>, AllocError>
 fn shapes_of(alloc: Global, statements: &[Statement]) -> Result<Vec<Shape>, AllocError>
     ensures { IfOk result (λ v. map shape_view v.items ≡ map shape_of statements.now) }
 {
-    let mut shapes = Vec::new(alloc);
+    let mut shapes = Vec::with_capacity(alloc, statements.len())?;
     for statement in statements {
         shapes.push(shape_of(statement))?;
     }

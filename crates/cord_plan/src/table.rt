@@ -80,7 +80,7 @@ impl Table {
         ensures made { IfOk result (λ t. IsTableOf statements.now later.now t) }
         ensures refused { IsOkUnless result CordError.NoMemory }
     {
-        let mut expressions = Vec::new(alloc);
+        let mut expressions = Vec::with_capacity(alloc, statements.len())?;
         let mut firsts = vec![in alloc; false; statements.len()]?;
         let mut recent = Recent::of(alloc, later)?;
         for (place, statement) in statements.iter().enumerate() {

@@ -13,7 +13,7 @@ use Rattle.cord_plan.proofs.planner.operations_of.Goals as goal
 
 pub loop-place-init : goal.loop-place-init
 loop-place-init c = record {
-  so_far = rw c.new-operations.ensures.items refl;
+  so_far = rw c.in_ok-operations.ensures.items refl;
   size = sym (length-map c.args.table.expressions.items (option_map expr_view)) ∙ whole_long c.args.statements.now (tells c.args.later.now) (map (option_map expr_view) c.args.table.expressions.items) c.args.table.firsts.items c.requires;
   left = λ k le. refl;
 }

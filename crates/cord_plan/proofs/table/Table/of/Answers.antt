@@ -35,7 +35,7 @@ loop-place-init c =
     let none : firsts ≡ replicate (length s) false = search rules in
     let size : length firsts ≡ length s = search rules in
     record {
-      grown = rw c.new-expressions.ensures.items (grown_none s (tells c.args.later.now) firsts none size);
+      grown = rw c.in_ok-expressions.ensures.items (grown_none s (tells c.args.later.now) firsts none size);
       later = c.in_ok-recent.ensures.later;
       recent = c.in_ok-recent.ensures.recent s;
     }
