@@ -32,4 +32,5 @@ pub mod Appended
 pub mod Wrote
 pub mod Standing
 pub mod Sliced
+pub mod SideBySide
 pub mod FewFiles

@@ -9,6 +9,7 @@ mod counting;
 mod ending;
 mod extensibles;
 mod files;
+mod gathering;
 mod halts;
 mod keeping;
 mod limits;

@@ -11,17 +11,20 @@ ghost use Rattle.cord_run.specs.Holdings.{holding_of, plain_of};
 ghost use Rattle.cord_run.specs.Putting.{CountsHalts, Puts, Wrote, halt_of};
 ghost use Rattle.cord_io.specs.Device.{Folder};
 
+use crate::gathering::gather;
 use crate::making::{Halt, pieces_of};
 use crate::slices::slice_of;
 use crate::store::Store;
+use arrayvec::ArrayVec;
 use cord_core::Cord;
 use cord_io::{CordError, Sink, Source};
 use cord_iter::put_all;
 use cord_plan::Expr;
 use std::alloc::Global;
 
-/// Hands a sink the text of an expression, part by part: no cord is made of the whole. Where all its names hold texts, the sink
-/// took the text, or the expression's fault is answered and nothing was put, or after a failure of a device a prefix.
+/// Hands a sink the text of an expression, short parts at once and others one by one: no cord is made of the whole. Where all its
+/// names hold texts, the sink took the text, or the expression's fault is answered and nothing was put, or after a failure of a
+/// device a prefix.
 pub(crate) fn write<R: Source, S: Sink>(
     alloc: Global,
     expression: &Expr,
@@ -42,7 +45,33 @@ pub(crate) fn write<R: Source, S: Sink>(
             Ok(()) => Ok(()),
             Err(_) => Err(Halt::WriteFailed),
         },
-        None => write_pieces(alloc, expression, store, source, sink),
+        None => write_parts(alloc, expression, store, source, sink),
+    }
+}
+
+// The same of one that isn't a leaf or a range of one.
+fn write_parts<R: Source, S: Sink>(
+    alloc: Global,
+    expression: &Expr,
+    store: &Store,
+    source: &mut R,
+    sink: &mut S,
+) -> Result<(), Halt>
+    requires over { IsOver (R.lengths source.old) store.now.entries.items }
+    ensures wrote { (folder : Folder) → R.keeps source.new folder → all_texts (holding_of (R.table source.old folder) store.now.entries.items) (cords (expr_view expression.now)) ≡ true → Wrote (text_in MAX_LEN (plain_of (R.table source.old folder) store.now.entries.items) (expr_view expression.now)) (S.taken sink.old) (S.taken sink.new) result }
+    ensures counts { CountsHalts (record { source = R.failures source.old; sink = S.failures sink.old }) (record { source = R.failures source.new; sink = S.failures sink.new }) result }
+    ensures finished { S.finished sink.new ≡ S.finished sink.old }
+    ensures lengths { R.lengths source.new ≡ R.lengths source.old }
+    ensures table { R.table source.new ≡ R.table source.old }
+    ensures earlier { (folder : Folder) → R.keeps source.new folder → R.keeps source.old folder }
+{
+    let mut text = ArrayVec::new();
+    if !gather(expression, store, &mut text) {
+        return write_pieces(alloc, expression, store, source, sink);
+    }
+    match put_all(text.as_slice(), sink) {
+        Ok(()) => Ok(()),
+        Err(_) => Err(Halt::WriteFailed),
     }
 }
 
