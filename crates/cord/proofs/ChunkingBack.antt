@@ -50,7 +50,7 @@ module _ (l r : List ℕ) (end : ℕ) (chunk : Chunk) where
             ∙ ap (λ (y : List ℕ). y ++ chunk_bytes chunk) (sym (ap (λ (m : ℕ). take m (l ++ r)) front ∙ take-append-add l r (at - n)));
       }
 
--- one list more behind those that are joined
+-- one list more after those that are joined
 concat_last : (xss : List (List ℕ)) (xs : List ℕ) → concat (reverse (xs ∷ xss)) ≡ concat (reverse xss) ++ xs
 concat_last xss xs =
     ap (λ (yss : List (List ℕ)). concat yss) (reverse-append (xs ∷ []) xss)

@@ -17,7 +17,7 @@ module _ (x s : List ℕ) where
       let e : length (drop p x) ≡ length (s ++ at.rest) = ap (λ (y : List ℕ). length y) at.here in
       omega (arith, e, length-drop p x, length-append s at.rest, at.within)
 
-  -- what doesn't fit behind the start is found nowhere
+  -- what doesn't fit after the start is found nowhere
   pub first_beyond : (i : ℕ) → length x < i + length s → first x i s ≡ None
   first_beyond i lt = no_place (first x i s) (λ p e. apart p (subst (λ (o : Option ℕ). IsFirst x i s o) e (first_is_least x s i)))
     where

@@ -6,7 +6,7 @@ use Rattle.std.proofs.lemmas.Option.{slice_get_within, get_or_from_slice_get}
 use Rattle.cord_core.proofs.Places.{behind}
 use Rattle.cord.specs.Places.{BeginsWith, EndsWith}
 
--- a byte at a place, and what is behind it
+-- a byte at a place, and what is after it
 from_byte : (x : List ℕ) (p b : ℕ) → slice_get x p ≡ Some b → drop p x ≡ b ∷ drop (p + 1) x
 from_byte x p b e = drop_more x p b (slice_get_within x p b e) ∙ ap (λ (a : ℕ). a ∷ drop (p + 1) x) (get_or_from_slice_get x p b b e)
 

@@ -15,13 +15,13 @@ use Rattle.cord_balance.specs.Forest.{AllFrom, IsForest, IsForm, forest_cells, f
 use Rattle.cord_balance.proofs.ForestLemmas.{no_pieces}
 use Rattle.cord_balance.proofs.Inserting.{kept_two}
 
--- a node was put behind pieces
+-- a node was put after pieces
 pub record IsPut (old new : List Piece) (n : Node) : Type 0 where
   pub text : forest_cells new ≡ forest_cells old ++ cells n
   pub len : forest_len new ≡ forest_len old + len_of n
   pub kept : Kept (forest_parts old ++ parts n) (forest_parts new)
 
--- a form that was put behind pieces stands for its node
+-- a form that was put after pieces stands for its node
 pub form_put : (old new : List Piece) (n form : Node) → IsForm n form → IsPut old new form → IsPut old new n
 form_put old new n form f put = record {
   text = put.text ∙ ap (λ (cs : List Cell). forest_cells old ++ cs) f.text;

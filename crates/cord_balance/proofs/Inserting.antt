@@ -1,4 +1,4 @@
--- A balanced node is put behind pieces.
+-- A balanced node is put after pieces.
 use Rattle.std.proofs.Common.{◌≡◌, ℕ, ◌+◌, ◌<◌, ◌≤◌, List, ◌++◌, arith, subst, ⊎_elim, append_assoc}
 use Rattle.std.specs.Prelude.{max, Option, Some, None, IfNone, IfSome}
 use Rattle.std.proofs.lemmas.Bool.{cases_lt}

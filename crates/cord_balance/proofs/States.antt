@@ -31,7 +31,7 @@ pub record IsPutLeft (left : Shared) (right : Option Shared) (node : Shared) : T
   pub alone : IfNone right (depth_of node.value ≡ depth_of left.value)
   pub depth : IfSome right (λ r. depth_of node.value ≤ max (depth_of left.value) (depth_of r.value) + 1)
 
--- a node is put behind the pieces of old: rest is left, and the others were joined with the node
+-- a node is put after the pieces of old: rest is left, and the others were joined with the node
 pub record IsMerging (old rest : List Piece) (node joined : Shared) (slot : ℕ) : Type 0 where
   pub forest : IsForest rest
   pub sound : IsSound joined.value

@@ -1,9 +1,9 @@
--- What stands at a place of a list, and behind it.
+-- What stands at a place of a list, and after it.
 use Rattle.std.proofs.Common.{◌≡◌, ℕ, zero, suc, ◌+◌, ◌<◌, List, [], ◌∷◌, ◌++◌, length, drop, Some, None, ap, refl, ◌∙◌, arith}
 use Rattle.std.specs.Prelude.{slice_get}
 
 module _ {X : Type 0} where
-  -- what stands at a place, and behind it
+  -- what stands at a place, and after it
   pub at_here : (xs : List X) (p : ℕ) (x : X) (rest : List X) → drop p xs ≡ x ∷ rest → slice_get xs p ≡ Some x
   at_here [] zero x rest e = cc
   at_here [] (suc p) x rest e = cc

@@ -14,7 +14,7 @@ use std::marker::Model;
 
 /// A text of at most `MAX_LEN` bytes that grows at its end.
 ///
-/// It is a cord and a buffer of the bytes behind it. The buffer goes into the cord as one leaf, of up to
+/// It is a cord and a buffer of the bytes after it. The buffer goes into the cord as one leaf, of up to
 /// `RawBuf::CAP` bytes, when a byte no longer fits into it and when a cord is appended or made.
 #[derive(Drop)]
 pub struct ExtCord {
@@ -144,7 +144,7 @@ impl ExtCord {
     }
 }
 
-// The length of the text of a cord and of the buffer behind it.
+// The length of the text of a cord and of the buffer after it.
 fn len_of(cord: &Cord, buffer: &RawBuf) -> u64
     requires within_limit { text_len cord.now + length buffer.now ≤ MAX_LEN }
     ensures stored { result ≡ text_len cord.now + length buffer.now }
@@ -153,7 +153,7 @@ fn len_of(cord: &Cord, buffer: &RawBuf) -> u64
     cord.len() + buffer.len()
 }
 
-// The text of a cord and of the buffer behind it, as one cord: the buffer's bytes, where it has any, are a leaf.
+// The text of a cord and of the buffer after it, as one cord: the buffer's bytes, where it has any, are a leaf.
 fn whole(alloc: Global, cord: &Cord, buffer: &RawBuf) -> Result<Cord, CordError>
     requires within_limit { text_len cord.now + length buffer.now ≤ MAX_LEN }
     ensures text { IfOk result (λ c. text c ≡ text cord.now ++ map known buffer.now) }

@@ -10,7 +10,7 @@ use Rattle.cord_file.specs.declared.TheConstants.{MAX_FILES}
 use Rattle.cord_file.specs.Entries.{Opened, lengths_in, table_in, id_from, id_in}
 use Rattle.cord_file.specs.Opening.{Grows, Opens}
 
--- a member stays where it is behind more members
+-- a member stays where it is after more members
 pub kept_place : {X Y : Type 0} (f : X → Y) (xs ys : List X) (n : ℕ) → IsSome (option_map f (slice_get xs n)) → slice_get (xs ++ ys) n ≡ slice_get xs n
 kept_place f [] ys n h = cc
 kept_place f (x ∷ xs) ys zero h = refl
@@ -50,7 +50,7 @@ id_place m (file ∷ files) path id h =
           (suc rest.0, rest.1, omega (arith, rest.2), rest.3)
     ] refl
 
--- an entry keeps its id behind more entries
+-- an entry keeps its id after more entries
 pub id_kept : (m : ℕ) (opened more : Opened) (path : List ℕ) (id : ℕ) → id_from m opened path ≡ Some id → id_from m (opened ++ more) path ≡ Some id
 id_kept m [] more path id h = cc
 id_kept m (file ∷ files) more path id h =
@@ -59,7 +59,7 @@ id_kept m (file ∷ files) more path id h =
       | false ↦ λ e. id_kept (suc m) files more path id e
     ] h
 
--- a path that wasn't open gets the id behind all others
+-- a path that wasn't open gets the id after all others
 pub id_added : (m : ℕ) (opened : Opened) (path : List ℕ) (len : ℕ) → id_from m opened path ≡ None → id_from m (opened ++ (path, len) ∷ []) path ≡ Some (m + length opened)
 id_added m [] path len h =
     let same : bytes_eq path path ≡ true = (bytes_eq-Decides path path).1 refl in
@@ -87,7 +87,7 @@ texts_kept old more folder zero h = refl
 texts_kept old more folder (suc zero) h = refl
 texts_kept old more folder (suc (suc n)) h = ap (λ o. unwrap_or (option_map (λ file. bytes_at folder file.0) o) []) (kept_place (λ file. file.1) old more n h)
 
--- and so does one with more entries behind all
+-- and so does one with more entries after all
 pub grows_behind : (old more : Opened) → Grows old (old ++ more)
 grows_behind old more = record {
   lengths = lengths_kept old more;
@@ -113,7 +113,7 @@ opens_again opened path id len known told limit = record {
   fresh = λ none. cc;
 }
 
--- a path that isn't is added behind all entries
+-- a path that isn't is added after all entries
 pub opens_behind : (old : Opened) (path : List ℕ) (len : ℕ) → id_in old path ≡ None → length old < MAX_FILES → len ≤ MAX_LEN → Opens old (old ++ (path, len) ∷ []) path (length old + 2) len
 opens_behind old path len none room limit =
     let sum : 2 + length old ≡ length old + 2 = omega arith in
@@ -126,6 +126,6 @@ opens_behind old path len none room limit =
       fresh = λ e. (room, refl);
     }
 
--- an entry that is a file stands behind the functions
+-- an entry that is a file stands after the functions
 pub is_file : (opened : Opened) (path : List ℕ) (id : ℕ) → id_in opened path ≡ Some id → 2 ≤ id
 is_file opened path id h = let place = id_place 2 opened path id h in omega (arith, place.2)

@@ -11,7 +11,7 @@ use Rattle.cord_file.specs.Blocks.{AreRead}
 use Rattle.cord_file.specs.Files.{told_of}
 use Rattle.cord_file.specs.declared.files.OpenFile.{OpenFile}
 
--- so many bytes more, read behind those that are there
+-- so many bytes more, read after those that are there
 more_bytes : (done k room start : ℕ) (out part text : List ℕ) → done ≤ length out → k ≤ length part → take done out ≡ take done (drop start text) → take k part ≡ take k (drop (start + done) text) → take (done + k) (put_mid done room out part) ≡ take (done + k) (drop start text)
 more_bytes done k room start out part text fits inside before more =
     let rest : List ℕ = drop room (drop done out) in

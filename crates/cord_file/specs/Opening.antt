@@ -13,7 +13,7 @@ pub record Grows (old new : Opened) : Type 0 where
   pub texts : (folder : Folder) (id : ℕ) → IsSome (lengths_in old id) → table_in new folder id ≡ table_in old folder id
   pub ids : (path : List ℕ) (id : ℕ) → id_in old path ≡ Some id → id_in new path ≡ Some id
 
--- the path is open as this entry of this length: an opened one stays, another one is added behind all entries
+-- the path is open as this entry of this length: an opened one stays, another one is added after all entries
 pub record Opens (old new : Opened) (path : List ℕ) (id len : ℕ) : Type 0 where
   pub known : id_in new path ≡ Some id
   pub told : lengths_in new id ≡ Some len

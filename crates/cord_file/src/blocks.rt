@@ -30,7 +30,7 @@ type KeptBlock = (BlockKey, Block);
 // Kept blocks. A new one takes the place of the one used least recently.
 pub(crate) type Blocks = LruCache<BlockKey, Block>;
 
-// Reads one block of an opened file into the room for one, whose bytes behind the last one are left as they are.
+// Reads one block of an opened file into the room for one, whose bytes after the last one are left as they are.
 pub(crate) fn read_block<F: Files>(
     files: &mut F,
     no: FileNo,

@@ -35,7 +35,7 @@ fn fill_each(id: SourceId, start: u64, out: &mut [u8])
     }
 }
 
-// Copies the first `count` bytes to behind the first `done`.
+// Copies the first `count` bytes to after the first `done`.
 fn copy_behind(out: &mut [u8], done: usize, count: usize)
     requires few { count ≤ done }
     requires inside { done + count ≤ length out.old }

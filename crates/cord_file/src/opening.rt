@@ -14,7 +14,7 @@ impl<F: Files> Sources<F> {
     ghost use Rattle.cord_file.specs.Sources.{device_in, opened_in};
 
     /// Opens the file at a path, and answers its entry and its length: a path that is open keeps its entry, and
-    /// another one becomes the entry behind all others. Every other entry stays. Refused, by the first of these that
+    /// another one becomes the entry after all others. Every other entry stays. Refused, by the first of these that
     /// applies, with `TooManyFiles` where `MAX_FILES` other paths are open, `NoFile` where no file is there,
     /// `ReadFailed` where the device failed, and `TooLong` where the file is longer than `MAX_LEN`; `NoMemory` may
     /// come in the place of any answer. After a refusal the entries are as before, and the path may be tried again.

@@ -18,7 +18,7 @@ pub(crate) struct Span {
 }
 
 impl Span {
-    // Nothing was read: no place is behind its end.
+    // Nothing was read: no place is after its end.
     pub(crate) fn new() -> Span {
         Span {
             from: u64::MAX,

@@ -17,7 +17,7 @@ use Rattle.cord_node.specs.Tree.{len_of, IsSound}
 use Rattle.cord_node.specs.Tables.{bytes_over}
 use Rattle.cord_iter.specs.Taking.{IsFrontOf, IsTextOver, IsPrefixOver, Takes}
 
--- bytes behind bytes
+-- bytes after bytes
 pub appends_both : (a b c x y : List ℕ) → b ≡ a ++ x → c ≡ b ++ y → c ≡ a ++ (x ++ y)
 appends_both a b c x y h k = k ∙ ap (λ (l : List ℕ). l ++ y) h ∙ append_assoc a x y
 
@@ -33,7 +33,7 @@ takes_both {P} {Q} {R} {a} {b} {c} s t h = record {
 pub takes_such : {P Q : List ℕ → Type 0} {a b : List ℕ} → Takes P a b → ((x : List ℕ) → P x → Q x) → Takes Q a b
 takes_such s h = record { out = s.out; such = h s.out s.such; taken = s.taken }
 
--- a first part, and a prefix of what is behind it
+-- a first part, and a prefix of what is after it
 pub front_join : (whole x more y : List ℕ) → whole ≡ x ++ more → IsFrontOf more y → IsFrontOf whole (x ++ y)
 front_join whole x more y h k = (k.0, h ∙ ap (λ (l : List ℕ). x ++ l) k.1 ∙ sym (append_assoc x y k.0))
 
@@ -45,11 +45,11 @@ front_more whole first rest x h k = (k.0 ++ rest, h ∙ ap (λ (l : List ℕ). l
 pub front_take : (whole : List ℕ) (n : ℕ) → IsFrontOf whole (take n whole)
 front_take whole n = (drop n whole, sym (take-append-drop n whole))
 
--- a range, and the one behind it
+-- a range, and the one after it
 range_join : (xs : List ℕ) (s a b : ℕ) → take (a + b) (drop s xs) ≡ take a (drop s xs) ++ take b (drop (s + a) xs)
 range_join xs s a b = take-add a b (drop s xs) ∙ ap (λ (l : List ℕ). take a (drop s xs) ++ take b l) (drop-drop a s xs)
 
--- a range of an entry and the range behind it
+-- a range of an entry and the range after it
 func_range : (xs x y : List ℕ) (s a b : ℕ) → x ≡ take a (drop s xs) → y ≡ take b (drop (s + a) xs) → x ++ y ≡ take (a + b) (drop s xs)
 func_range xs x y s a b h k = rw (h, k) (sym (range_join xs s a b))
 
@@ -59,7 +59,7 @@ func_text table id s a b x y earlier h k = record {
   text = λ folder kept. func_range (table folder id.0) x y s a b (h.text folder (earlier folder kept)) (k.text folder kept);
 }
 
--- a range of an entry and a prefix of the range behind it
+-- a range of an entry and a prefix of the range after it
 range_front : (xs x y : List ℕ) (s a b n : ℕ) → a + b ≤ n → x ≡ take a (drop s xs) → IsFrontOf (take b (drop (s + a) xs)) y → IsFrontOf (take n (drop s xs)) (x ++ y)
 range_front xs x y s a b n e h k =
     let m : n ≡ (a + b) + (n - (a + b)) = omega arith in

@@ -104,7 +104,7 @@ func_front step a b c t id s len done inside e h =
       walked = rw e h;
     }
 
--- what is behind a place in a range
+-- what is after a place in a range
 pub range_rest : (xs : List ℕ) (s len from : ℕ) → from ≤ len → take (len - from) (drop (s + from) xs) ≡ drop from (take len (drop s xs))
 range_rest xs s len from h =
     let e : len ≡ from + (len - from) = omega arith in

@@ -121,7 +121,7 @@ module _ (shapes : List Shape) where
   end_stands (Close ∷ ls) q (suc d) [] here n lt = absurd n
   end_stands (Close ∷ ls) q (suc d) (b ∷ st) here n lt = let one : q + suc (to_end d ls) ≡ q + 1 + to_end d ls = omega arith in ap (λ (m : ℕ). slice_get shapes m) one ∙ end_stands ls (q + 1) d st (next_here shapes q Close ls here) n (omega arith)
 
-  -- behind the `else`, or up to the `end`, of an `if`
+  -- after the `else`, or up to the `end`, of an `if`
   else_comes : (ls : List Shape) (q d : ℕ) (st : List Bool) → drop q shapes ≡ ls → IsNested st ls → d < length st → Passed q ls d (to_else d ls)
   else_comes [] q d [] here n lt = absurd (omega arith)
   else_comes [] q d (b ∷ st) here n lt = absurd n
@@ -148,7 +148,7 @@ module _ (shapes : List Shape) where
   nested_one p Close rest (b ∷ st) [] n e = absurd (omega (arith, e))
   nested_one p Close rest (b ∷ st) (c ∷ blocks) n e = (st, n, omega (arith, e))
 
-  -- the blocks that are open at a place are closed behind it
+  -- the blocks that are open at a place are closed after it
   nested_at : IsNested [] shapes → (p : ℕ) → p ≤ length shapes → (st : List Bool) × IsNested st (drop p shapes) × (length st ≡ length (open_at shapes p))
   nested_at n zero le = ([], n, refl)
   nested_at n (suc p) le =
@@ -165,14 +165,14 @@ module _ (shapes : List Shape) where
     rest_here : List Shape
     rest_here = drop (p + 1) shapes
 
-    -- some block is open behind a statement that opens one
+    -- some block is open after a statement that opens one
     one_open : (x : Shape) (blocks : List (Option ℕ)) (b : Option ℕ) → slice_get shapes p ≡ Some x → opened p (open_at shapes p) (Some x) ≡ b ∷ blocks → (st : List Bool) × IsNested st (drop (p + 1) shapes) × (0 < length st)
     one_open x blocks b s e =
         let behind = nested_at nested (p + 1) (omega (arith, inside)) in
         let some : length (open_at shapes (p + 1)) ≡ length (b ∷ blocks) = ap (λ (bs : List (Option ℕ)). length bs) (open_next p (Some x) s ∙ e) in
         (behind.0, behind.1, omega (arith, some, behind.2))
 
-    -- behind the `end` of a `repeat` the same blocks are open as before it
+    -- after the `end` of a `repeat` the same blocks are open as before it
     open_behind_loop : slice_get shapes p ≡ Some Loop → open_at shapes (jump_of Loop p (drop (p + 1) shapes)) ≡ open_at shapes p
     open_behind_loop s =
         let w = one_open Loop (open_at shapes p) (Some p) s refl in

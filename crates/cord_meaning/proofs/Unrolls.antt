@@ -21,7 +21,7 @@ module _ {L S : Type 0} (rules : Rules L S) (most : ℕ) where
       (at_branch : (d : ℕ) (rest : List Shape) → count d (Branch ∷ rest) ≡ suc (count (suc d) rest))
       (at_otherwise : (d : ℕ) (rest : List Shape) → count (suc d) (Otherwise ∷ rest) ≡ suc (count (suc d) rest))
       (at_close : (d : ℕ) (rest : List Shape) → count (suc d) (Close ∷ rest) ≡ suc (count d rest)) where
-    -- all of these statements are counted, where a blocks are open before them and b behind them
+    -- all of these statements are counted, where a blocks are open before them and b after them
     abbrev Over : ℕ → ℕ → List L → Type 0
     Over a b xs = (more : List L) → count a (map rules.shape (xs ++ more)) ≡ length xs + count b (map rules.shape more)
 
@@ -55,14 +55,14 @@ module _ {L S : Type 0} (rules : Rules L S) (most : ℕ) where
         (over_both (suc d) (suc d) d (flat other) (e ∷ flat rest) (over other w.4 (suc d))
         (over_one (suc d) d d e Close w.2 (at_close d) (flat rest) (over rest w.5 d)))))
 
-  -- the `end` behind whole blocks
+  -- the `end` after whole blocks
   end_behind : (parts : Parts L) → IsWell rules.shape parts → (e : L) → rules.shape e ≡ Close → (more : List L) → to_end 0 (map rules.shape (flat parts ++ (e ∷ more))) ≡ length (flat parts)
   end_behind parts w e is more =
       let all = over to_end (λ d rest. refl) (λ d rest. refl) (λ d rest. refl) (λ d rest. refl) (λ d rest. refl) parts w 0 (e ∷ more) in
       let none : to_end 0 (rules.shape e ∷ map rules.shape more) ≡ 0 = ap (λ (x : Shape). to_end 0 (x ∷ map rules.shape more)) is in
       omega (arith, all, none)
 
-  -- the `else` behind whole blocks
+  -- the `else` after whole blocks
   else_behind : (parts : Parts L) → IsWell rules.shape parts → (m : L) → rules.shape m ≡ Otherwise → (more : List L) → to_else 0 (map rules.shape (flat parts ++ (m ∷ more))) ≡ length (flat parts) + 1
   else_behind parts w m is more =
       let all = over to_else (λ d rest. refl) (λ d rest. refl) (λ d rest. refl) (λ d rest. refl) (λ d rest. refl) parts w 0 (m ∷ more) in
@@ -77,7 +77,7 @@ module _ {L S : Type 0} (rules : Rules L S) (most : ℕ) where
       omega (arith, all, none)
 
   module _ (statements : List L) where
-    -- where a statement leads, by what stands behind it
+    -- where a statement leads, by what stands after it
     jump_here : (p : ℕ) (l : L) (rest : List L) → drop p statements ≡ l ∷ rest → jump_from rules most statements p ≡ jump_of (rules.shape l) p (map rules.shape rest)
     jump_here p l rest e =
         let here : slice_get (map rules.shape statements) p ≡ Some (rules.shape l) = at_here (map rules.shape statements) p (rules.shape l) (map rules.shape rest) (drop-map rules.shape p statements ∙ ap (λ (xs : List L). map rules.shape xs) e) in

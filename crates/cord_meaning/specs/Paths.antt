@@ -2,7 +2,7 @@
 use Rattle.std.specs.Prelude.{◌≡◌, ◌⊎◌, ℕ, zero, suc, ◌+◌, List, [], ◌∷◌, Option, Some, None, slice_get}
 use Rattle.cord_meaning.specs.Blocks.{Shape, Simple, Loop, Branch, Otherwise, Close, jump}
 
--- the open blocks, the innermost first, behind a statement at place p: the place of a `repeat`, or none for an `if`
+-- the open blocks, the innermost first, after a statement at place p: the place of a `repeat`, or none for an `if`
 abbrev pub opened : ℕ → List (Option ℕ) → Option Shape → List (Option ℕ)
 opened p blocks (Some Loop) = Some p ∷ blocks
 opened p blocks (Some Branch) = None ∷ blocks

@@ -22,7 +22,7 @@ range_left xs ys i n h =
     let b : n ≤ length (drop i xs) = rw length-drop (omega arith) in
     rw (drop-append-le i xs ys a, take-append-le n (drop i xs) ys b)
 
--- what is behind the first of two lists
+-- what is after the first of two lists
 pub drop-append_right : {X : Type 0} (xs ys : List X) (i : ℕ) → length xs ≤ i → drop i (xs ++ ys) ≡ drop (i - length xs) ys
 drop-append_right xs ys i h =
     let e : i ≡ length xs + (i - length xs) = omega arith in

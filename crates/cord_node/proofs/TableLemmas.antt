@@ -94,7 +94,7 @@ AreHeldIn-take ls zero xs h = tt
 AreHeldIn-take ls (suc n) [] h = tt
 AreHeldIn-take ls (suc n) (x ∷ xs) h = (h.0, AreHeldIn-take ls n xs h.1)
 
--- what is behind a prefix of held cells
+-- what is after a prefix of held cells
 pub AreHeldIn-drop : (ls : Lengths) (n : ℕ) (xs : List Cell) → AreHeldIn ls xs → AreHeldIn ls (drop n xs)
 AreHeldIn-drop ls zero xs h = h
 AreHeldIn-drop ls (suc n) [] h = tt

@@ -62,7 +62,7 @@ pub fn run(alloc: Global, byte: u8, len: u64) -> Result<Rc<Node>, AllocError>
 }
 
 /// A part that is `len` bytes of the source `id`, from its byte `start` on: at least one byte, none
-/// of them behind the first `MAX_LEN`. Refused where memory was refused.
+/// of them after the first `MAX_LEN`. Refused where memory was refused.
 pub fn func(alloc: Global, id: SourceId, start: u64, len: u64) -> Result<Rc<Node>, AllocError>
     requires not_empty { 0 < len }
     requires within_limit { start + len ≤ MAX_LEN }

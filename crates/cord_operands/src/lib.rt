@@ -1,4 +1,4 @@
-//! The words of a statement behind its first: names, texts, paths, numbers and arguments of formats.
+//! The words of a statement after its first: names, texts, paths, numbers and arguments of formats.
 #![tactic(auto)]
 
 mod names;

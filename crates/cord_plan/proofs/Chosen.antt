@@ -56,7 +56,7 @@ module _ (s : List Statement) (later : List ℕ → ℕ → Bool) where
     pub from : first_of (slice_get table a) ≡ Some r
     pub fit : fits s later r a b l x ≡ true
 
-  -- what stands for the operand x, where these other operands stand before and behind it
+  -- what stands for the operand x, where these other operands stand before and after it
   abbrev pub Stands : Table → ℕ → Statement → List Expr → List Expr → List ℕ → Choice → Type 0
   Stands table b l before after x (kept y) = y ≡ x
   Stands table b l before after x (replaced a r) = Taken table b l x a r × (is_small (expr_with l (before ++ r ∷ after)) ≡ true)
@@ -98,7 +98,7 @@ module _ (s : List Statement) (later : List ℕ → ℕ → Bool) where
     is_chosen before after x (kept y) h = h
     is_chosen before after x (replaced a r) h = h.0
 
-    -- the choice for the next operand, behind those that were made
+    -- the choice for the next operand, after those that were made
     abbrev next : List Choice → List ℕ → List (List ℕ) → Choice
     next done x xs = chosen_of s later table b l x (map (λ c. expr_of c) done) (map (λ y. name y) xs) (setter s x b)
 

@@ -106,7 +106,7 @@ module _ (limit : ℕ) (s t : State) where
         λ i. and_then (value_same e (λ y m. f y (in_left y (cords e) (cords_of es) m)) (λ y m. g y (in_left y (names e) (names_of es) m)) i) (λ a. and_then (values_same es (λ y m. f y (in_right y (cords e) (cords_of es) m)) (λ y m. g y (in_right y (names e) (names_of es) m)) i) (λ b. Ok (a ++ b)))
 
 -- ---- by lengths
--- the same numbers stand behind number operands
+-- the same numbers stand after number operands
 pub plain_number : (h : Holding) (s : State) → h.numbers ≡ s.numbers → (n : Number) → number_value (plain h) n ≡ number_value s n
 plain_number h s numbers (Numeral z) = refl
 plain_number h s numbers (Named x) = λ i. numbers i x

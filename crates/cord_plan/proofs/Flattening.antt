@@ -12,7 +12,7 @@ use Rattle.cord_plan.specs.Values.{within, part_of, text_in}
 use Rattle.cord_plan.specs.Flattening.{nested, HaveTexts}
 use Rattle.cord_plan.proofs.Values.{passes, joined_in, cat_joined}
 
--- one text behind another
+-- one text after another
 abbrev behind : Result (List ℕ) FaultKind → Result (List ℕ) FaultKind → Result (List ℕ) FaultKind
 behind r q = and_then r (λ text. and_then q (λ rest. Ok (text ++ rest)))
 

@@ -73,7 +73,7 @@ module _ (holds : ℕ → Bool) where
     close_held (None ∷ blocks) q n h = to_first (p + 1) q [] n h
     close_held (Some r ∷ blocks) q n h = two_held (r + 1) (p + 1) q n h
 
-    -- what holds of a place that may come next holds of one of those behind
+    -- what holds of a place that may come next holds of one of those after
     pub shape_held : (o : Option Shape) (q : ℕ) → NextOf shapes p o q → holds q ≡ true → some_of holds (behind_shape shapes p o) ≡ true
     shape_held None q n h = absurd n
     shape_held (Some Simple) q n h = to_first (p + 1) q [] n h

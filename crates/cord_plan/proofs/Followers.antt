@@ -17,7 +17,7 @@ shape_there xs p x d lt is =
     let there : slice_get xs p ≡ Some x = slice_get-get_or xs p d lt ∙ ap Some is in
     rw (slice_get-map shape_view xs p, there) refl
 
--- the shapes behind a place
+-- the shapes after a place
 pub shapes_behind : (xs : List Shape) (n : ℕ) → map shape_view (take (length xs - n) (drop n xs)) ≡ drop n (map shape_view xs)
 shapes_behind xs n = rw (take_rest xs n) (sym (drop-map shape_view n xs))
 
@@ -133,7 +133,7 @@ all_places found shapes size below p =
 pub all_behind : (found : List Behind) (shapes : List control.Shape) → length found ≡ length shapes → ((k : ℕ) → k < length shapes → places_at found k ≡ behind shapes k) → AreBehind shapes found
 all_behind found shapes size below = record { size = size; told = λ p. all_places found shapes size below p }
 
--- the open blocks behind one more place
+-- the open blocks after one more place
 pub open_more : (xs : List Shape) (p : ℕ) (d : Shape) (old new : List (Option ℕ)) → p < length xs → old ≡ open_at (map shape_view xs) p → new ≡ opened p old (Some (shape_view (get_or xs p d))) → new ≡ open_at (map shape_view xs) (p + 1)
 open_more xs p d old new lt is e =
     let there : slice_get (map shape_view xs) p ≡ Some (shape_view (get_or xs p d)) = shape_there xs p (get_or xs p d) d lt refl in

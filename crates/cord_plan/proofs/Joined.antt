@@ -60,7 +60,7 @@ added_all old new v more inner items made same =
     ∙ (members_of_both (map expr_view old) (map expr_view more)
     ∙ ap (λ (ms : Exprs). append (members_of (map expr_view old)) ms) (made ∙ (sym (append_nothing inner) ∙ ap (λ (e : Expr). in_front e nothing) (sym same))))
 
--- a `cat` of expressions and a run behind them
+-- a `cat` of expressions and a run after them
 pub joined_more : (es : List Expr) (ms new : List code.Expr) (last : code.Expr) (c n : Number) → members_of (map expr_view ms) ≡ members es → new ≡ ms ++ last ∷ [] → expr_view last ≡ run c n → cat (members_of (map expr_view new)) ≡ cat (members (es ++ run c n ∷ []))
 joined_more es ms new last c n made items is = ap cat (
     ap (λ (xs : List code.Expr). members_of (map expr_view xs)) items

@@ -46,7 +46,7 @@ module _ (s : List Statement) (x : List ℕ) where
       pick true h before = let same : b ≡ q = cc in omega arith
       pick false h before = let below : q < b = before h in omega arith
 
-  -- nothing before b stands behind it
+  -- nothing before b stands after it
   none_behind : (o : Option ℕ) (b : ℕ) → ((q : ℕ) → o ≡ Some q → q < b) → is_behind o b ≡ false
   none_behind None b below = refl
   none_behind (Some q) b below = let lt : q < b = below q refl in not_behind q b (omega arith)

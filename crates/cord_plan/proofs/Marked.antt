@@ -36,7 +36,7 @@ at_read [] p v lt is = absurd (omega (arith, lt))
 at_read (m ∷ marks) zero v lt is = is
 at_read (m ∷ marks) (suc p) v lt is = at_read marks p v (omega (arith, lt)) is
 
--- a place behind the marks is none of theirs
+-- a place after the marks is none of theirs
 not_there : (n a p : ℕ) → n ≤ a → p < n → (a == p) ≡ false
 not_there n a p le lt = ne_eqb a p (λ e. omega (arith, e))
 
@@ -140,7 +140,7 @@ module _ (s : List Statement) (later : List ℕ → ℕ → Bool) where
       marks : IsMarked en.1 old new
       marks = next.marked t so_far.has
 
-  -- behind the last line
+  -- after the last line
   pub all_grown : (b : ℕ) (table : List (Option Expr)) (marks : List Bool) → length s ≤ b → IsGrown s later b table marks → IsWhole s later table marks
   all_grown b table marks past so_far = record {
     has = ap (λ (t : Table). map (λ (entry : Option Expr × List Choice). entry.0) t) (sym all) ∙ so_far.has;

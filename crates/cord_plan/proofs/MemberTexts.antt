@@ -27,7 +27,7 @@ member_below (m ∷ ms) (suc i) d h = let below = member_below ms i d (omega (ar
 abbrev pub members_text : List Expr → List ℕ
 members_text ms = exprs (members_of (map expr_view ms))
 
--- each behind a blank
+-- each after a blank
 abbrev pub more_text : List Expr → List ℕ
 more_text ms = more_exprs (members_of (map expr_view ms))
 

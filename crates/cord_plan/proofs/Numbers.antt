@@ -24,7 +24,7 @@ module _ (names : List (List ℕ)) (i : ℕ) (y x : List ℕ) (lt : i < length n
   pub place_on : bytes_eq x y ≡ false → place_of (drop i names) x ≡ option_map suc (place_of (drop (i + 1) names) x)
   place_on e = rw (add-one, drop-cons names i y, ← is, e) refl
 
--- a place behind i elements
+-- a place after i elements
 abbrev pub moved : ℕ → Option ℕ → Option ℕ
 moved i o = option_map (λ n. n + i) o
 

@@ -43,7 +43,7 @@ module _ (limit : ℕ) (s : State) where
   part_means target text (Ok i) (Err kind) = refl
   part_means target text (Ok i) (Ok n) = sets_within target (take n (drop i text))
 
-  -- the text of an operand and of one byte behind it
+  -- the text of an operand and of one byte after it
   abbrev with_byte : List ℕ → Result (List ℕ) FaultKind → Result (List ℕ) FaultKind
   with_byte text byte = and_then (and_then (and_then byte (λ t. Ok (t ++ []))) (λ rest. Ok (text ++ rest))) (λ t. within limit t)
 

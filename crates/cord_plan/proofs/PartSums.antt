@@ -25,7 +25,7 @@ none_left n room e = pick (nat_le n room) refl e
     pick true f h = let bad : ⊥ = cc in absurd bad
     pick false f h = f
 
--- behind a count that finds room, more has what is left
+-- after a count that finds room, more has what is left
 some_left : (n m room left : ℕ) → Some left ≡ room_left n room → nat_le (n + m) room ≡ nat_le m left
 some_left n m room left e = first (nat_le n room) refl e
   where
@@ -121,7 +121,7 @@ sum_choices [] = refl
 sum_choices (c ∷ cs) = ap (λ (n : ℕ). parts (expr_of c) + n) (sum_choices cs) ∙ sym (sum_by-cons (λ c. parts (expr_of c)) c cs)
 
 module _ (l : Statement) (xs : List (List ℕ)) (done : List Choice) (e : Expr) (k : ℕ) where
-  -- the operands of a line, one of them replaced behind those that were chosen for
+  -- the operands of a line, one of them replaced after those that were chosen for
   abbrev standing : List Expr
   standing = map (λ c. expr_of c) done ++ e ∷ map (λ y. name y) (drop (length done + 1) xs)
 

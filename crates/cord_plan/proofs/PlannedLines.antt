@@ -49,7 +49,7 @@ module _ (s : List Statement) (later : List ℕ → ℕ → Bool) (expressions :
       ∙ (ap (λ (os : List plan.Operation). map operation_view before ++ os) (sym (at_drop_more (λ (ls : List Statement). decided_from d p ls) s p l lt))
       ∙ so_far))))
 
-  -- behind the last line
+  -- after the last line
   pub lines_done : (p : ℕ) (all : List Operation) → length s ≤ p → map operation_view all ++ decided_from d p (drop p s) ≡ decided d s → map operation_view all ≡ planned s later
   lines_done p all past so_far =
       sym (append-nil (map operation_view all))

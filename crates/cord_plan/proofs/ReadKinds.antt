@@ -20,7 +20,7 @@ use Rattle.cord_plan.proofs.Flows.{or_true}
 use Rattle.cord_plan.proofs.Named.{no_true}
 use Rattle.cord_plan.proofs.ReadNames.{IsSaid, line_said}
 
--- a name that stands behind others, and not among them, has its kind
+-- a name that stands after others, and not among them, has its kind
 kind_last : (names : List Known) (x : List ℕ) (k : Kind) → kind_of names x ≡ None → kind_of (names ++ record { name = x; kind = k } ∷ []) x ≡ Some k
 kind_last [] x k e = ap (λ (v : Bool). if v then Some k else None) ((bytes_eq-Decides x x).1 refl)
 kind_last (n ∷ names) x k e = pick (λ h. kind_last names x k h) (bytes_eq n.name x) e
@@ -41,7 +41,7 @@ module _ (before : Before) (x : List ℕ) where
   number_assigned : (target : List ℕ) → (kind_of before.names target ≡ Some kinds.Number) ⊎ ((kind_of before.names target ≡ None) × (length before.names < MAX_NAMES)) → bytes_eq x target ≡ true → IsOther (with_name before.names target kinds.Number) x
   number_assigned target h e = inl (ap (λ (y : List ℕ). kind_of (with_name before.names target kinds.Number) y) ((bytes_eq-Decides x target).0 e) ∙ kind_assigned before.names target kinds.Number h)
 
-  -- the target of a line that makes no cord is a number or an extensible cord behind it
+  -- the target of a line that makes no cord is a number or an extensible cord after it
   other_assigned : (l : Statement) → AreAllowed before (terms_of l) → (not (makes_cord l) && assigns l x) ≡ true → IsOther (names_after (terms_of l) before.names) x
   other_assigned (Len line target operand) h e = number_assigned target h.0 e
   other_assigned (Fetch line target operand index) h e = number_assigned target h.0 e

@@ -26,7 +26,7 @@ take_both n t u = pick (nat_le n (length t)) refl
         let sum : n ≡ length t + (n - length t) = omega arith in
         ap (λ (k : ℕ). take k (t ++ u)) sum ∙ take-append-add t u (n - length t) ∙ ap (λ (x : List ℕ). x ++ take (n - length t) u) (sym (take_all n t (omega arith)))
 
--- the bytes behind the first of two texts
+-- the bytes after the first of two texts
 drop_both : (i : ℕ) (t u : List ℕ) → drop i (t ++ u) ≡ drop i t ++ drop (i - length t) u
 drop_both i t u = pick (nat_le i (length t)) refl
   where

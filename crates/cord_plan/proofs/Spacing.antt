@@ -1,4 +1,4 @@
--- Words between blanks, with what stands behind them.
+-- Words between blanks, with what stands after them.
 use Rattle.std.proofs.Common.{◌≡◌, ◌<◌, ℕ, zero, suc, ◌+◌, List, [], ◌∷◌, ◌++◌, length, take, drop, get_or, map, refl, sym, ap, ◌∙◌, append-nil, append_assoc, arith}
 use Rattle.cord_plan.specs.Shown.{spaced}
 use Rattle.cord_plan.proofs.Writing.{AreJoined, joined_next, joined_all}
@@ -32,7 +32,7 @@ module _ {A : Type 0} (text more : List A → List ℕ) (one : A → List ℕ) (
       ap (λ k. text (take k (x ∷ xs))) e ∙ j.cons x (take (i + 1) xs) ∙ ap (λ t. one x ++ t) (joined_next more (λ y. 32 ∷ one y) xs i d j.behind (omega (arith, h)))
       ∙ sym (append_assoc (one x) (more (take i xs)) (32 ∷ one (get_or xs i d))) ∙ ap (λ (t : List ℕ). t ++ 32 ∷ one (get_or xs i d)) (sym (j.cons x (take i xs)))
 
-  -- what stands behind so many of them
+  -- what stands after so many of them
   pub rest_of : ℕ → List A → List ℕ
   rest_of i [] = []
   rest_of zero (x ∷ xs) = text (x ∷ xs)
@@ -57,6 +57,6 @@ words_cons one x (y ∷ ys) = ap (λ (t : List ℕ). one x ++ 32 ∷ t) (words_c
 pub words_spaced : {A : Type 0} (one : A → List ℕ) → AreSpaced (λ xs. spaced (map one xs)) (behind_words one) one
 words_spaced one = record { nil = refl; cons = words_cons one; behind = record { nil = refl; cons = λ x xs. refl } }
 
--- what is made of a line's head and what is behind it
+-- what is made of a line's head and what is after it
 pub given_line : (line verb target made : List ℕ) → (line ++ 32 ∷ (verb ++ 32 ∷ (target ++ 32 ∷ []))) ++ made ≡ spaced (line ∷ verb ∷ target ∷ made ∷ [])
 given_line line verb target made = three_words line verb (target ++ 32 ∷ []) made ∙ ap (λ (t : List ℕ). line ++ 32 ∷ (verb ++ 32 ∷ t)) (append_assoc target (32 ∷ []) made)

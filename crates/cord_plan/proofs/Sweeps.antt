@@ -106,7 +106,7 @@ module _ (s : List Statement) (x : List ℕ) where
   }
 
   module _ (table : List Bool) (p : ℕ) where
-    -- a place behind which there is one of the table's
+    -- a place after which there is one of the table's
     path_over : IsPartly s x table → assigns_at (slice_get s p) x ≡ false → Found (λ q. at table q) (map shape_of s) p (Next (map shape_of s) p) → (path : List ℕ) × ReadBy s x p path
     path_over partly unset found =
         let rest : (path : List ℕ) × ReadBy s x found.place path = partly.found found.place found.true_there in
@@ -140,7 +140,7 @@ module _ (s : List Statement) (x : List ℕ) where
     pub flow_resting : flow (at table p) (some_of (λ q. at table q) (behind (map shape_of s) p)) (assigns_at (slice_get s p) x) ≡ at table p → finds s x table p ≡ false
     flow_resting e = flow_rests (at table p) (some_of (λ q. at table q) (behind (map shape_of s) p)) (assigns_at (slice_get s p) x) e
 
-    -- nothing is found behind the script
+    -- nothing is found after the script
     pub rests_past : length s ≤ p → finds s x table p ≡ false
     rests_past le =
         let none : slice_get (map shape_of s) p ≡ None = slice_get_past (map shape_of s) p (simp length-map (omega arith)) in

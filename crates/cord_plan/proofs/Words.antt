@@ -68,7 +68,7 @@ column_at [] i p = sym (bit_zero_is i)
 column_at (w ∷ words) i zero = refl
 column_at (w ∷ words) i (suc p) = column_at words i p
 
--- the bits of two places behind
+-- the bits of two places after
 pub behind_bits : (words : List ℕ) (i first second : ℕ) (o : Option ℕ) (v w : ℕ) → o ≡ Some second → bit v i ≡ at (column words i) first → bit w i ≡ at (column words i) second → bit (bit_or v w) i ≡ some_of (λ q. at (column words i) q) (first ∷ option_to_list o)
 behind_bits words i first second o v w is one two = rw (is, bit_or_is v w i, one, two) (ap (λ (b : Bool). at (column words i) first || b) (sym (or-false (at (column words i) second))))
 

@@ -9,7 +9,7 @@ use Rattle.cord_io.specs.declared.faults.WriteFault.{WriteFault}
 use Rattle.cord_iter.proofs.Takings.{front_join, front_more}
 use Rattle.cord_plan.specs.Showing.{Writes}
 
--- bytes, and others behind them
+-- bytes, and others after them
 pub both_taken : (a b c x y : List ℕ) → b ≡ a ++ x → c ≡ b ++ y → c ≡ a ++ (x ++ y)
 both_taken a b c x y first second = second ∙ ap (λ (t : List ℕ). t ++ y) first ∙ append_assoc a x y
 
@@ -17,7 +17,7 @@ both_taken a b c x y first second = second ∙ ap (λ (t : List ℕ). t ++ y) fi
 pub writes_same : {x y a b : List ℕ} {n m s t : ℕ} {r : Result (Unit {0}) WriteFault} → x ≡ y → Writes x a b n m s t r → Writes y a b n m s t r
 writes_same {x} {y} {a} {b} {n} {m} {s} {t} {r} e h = subst (λ (text : List ℕ). Writes text a b n m s t r) e h
 
--- a text, and the one behind it, as far as that came
+-- a text, and the one after it, as far as that came
 pub writes_then : {x y a b c : List ℕ} {n m k s t u : ℕ} {r : Result (Unit {0}) WriteFault} → Writes x a b n m s t (Ok tt) → Writes y b c m k t u r → Writes (x ++ y) a c n k s u r
 writes_then {x} {y} {a} {b} {c} {n} {m} {k} {s} {t} {u} {r = Ok v} h g = record {
   ok = (both_taken a b c x y h.ok.0 g.ok.0, g.ok.1 ∙ h.ok.1);
@@ -37,7 +37,7 @@ writes_then {x} {y} {a} {b} {c} {n} {m} {k} {s} {t} {u} {r = Err e} h g = record
   finished = g.finished ∙ h.finished;
 }
 
--- a text that wasn't taken whole, so that nothing of what is behind it was
+-- a text that wasn't taken whole, so that nothing of what is after it was
 pub writes_stopped : {x a b : List ℕ} {n m s t : ℕ} {e : WriteFault} (y : List ℕ) → Writes x a b n m s t (Err e) → Writes (x ++ y) a b n m s t (Err e)
 writes_stopped {x} {a} {b} {n} {m} {s} {t} {e} y h = record {
   ok = tt;
@@ -54,7 +54,7 @@ pub writes_failed : {x a b : List ℕ} {n m s t : ℕ} {e : WriteFault} {r : Res
 writes_failed {x} {a} {b} {n} {m} {s} {t} {e} {r = Ok u} is h = absurd (false≢true is)
 writes_failed {x} {a} {b} {n} {m} {s} {t} {e} {r = Err f} is h = record { ok = tt; err = h.err; finished = h.finished }
 
--- texts of the members of a list, one behind the other
+-- texts of the members of a list, one after the other
 pub record AreJoined {A : Type 0} (text : List A → List ℕ) (one : A → List ℕ) : Type 0 where
   pub nil : text [] ≡ []
   pub cons : (x : A) (xs : List A) → text (x ∷ xs) ≡ one x ++ text xs

@@ -11,11 +11,11 @@ use Rattle.cord_plan.specs.declared.choosing.Choice.TheVariants.{Kept, Replaced}
 use Rattle.cord_plan.specs.declared.choosing.Operands.{Operands}
 use Rattle.cord_plan.specs.declared.choosing.Operands.TheVariants.{Nothing, One, Two, Listed}
 
--- how much of a room is left behind so many parts, where they find room
+-- how much of a room is left after so many parts, where they find room
 abbrev pub room_left : ℕ → ℕ → Option ℕ
 room_left n room = if nat_le n room then Some (room - n) else None
 
--- the last line before p that assigns x, where neither a block's line nor a line that reads x stands behind it
+-- the last line before p that assigns x, where neither a block's line nor a line that reads x stands after it
 abbrev pub nearest : List Statement → List ℕ → ℕ → Option ℕ
 nearest s x zero = None
 nearest s x (suc p) =
@@ -51,7 +51,7 @@ abbrev pub choice_view : Choice → plain.Choice
 choice_view (Kept x) = plain.kept x.now
 choice_view (Replaced a e) = plain.replaced a (expr_view e.now)
 
--- how much of a room is left behind the parts of what was chosen
+-- how much of a room is left after the parts of what was chosen
 abbrev pub room_left_by : List plain.Choice → ℕ → Option ℕ
 room_left_by cs room = room_left (sum_by (λ c. parts (plain.expr_of c)) cs) room
 
@@ -76,7 +76,7 @@ module _ (s : List Statement) (later : List ℕ → ℕ → Bool) where
   abbrev pub stands : Expr → ℕ → ℕ → Statement → List (List ℕ) → List ℕ → Bool
   stands e a b l xs x = (count x xs == 1) && ((assigns l x || not (later x b)) && plain.each_from (λ m. plain.keeps (slice_get s m) (names e)) (b - a) a)
 
-  -- what stands for the next operand x behind those that were chosen for
+  -- what stands for the next operand x after those that were chosen for
   abbrev pub IsChoice : ℕ → Statement → List (List ℕ) → List ℕ → List (Option Expr) → List plain.Choice → plain.Choice → Type 0
   IsChoice b l xs x table done c =
       (t : plain.Table) → Has table t → c ≡ plain.chosen_of s later t b l x (map (λ d. plain.expr_of d) done) (map (λ y. name y) (drop (length done + 1) xs)) (plain.setter s x b)

@@ -81,7 +81,7 @@ module _ (s : List Statement) (later : List ℕ → ℕ → Bool) where
       && ((assigns l x || not (later x b))
       && each_from (λ m. keeps (slice_get s m) (names e)) (b - a) a))
 
-  -- the same of the expression of the line at a, if it has one, and the whole expression stays small, where other operands stand before and behind it
+  -- the same of the expression of the line at a, if it has one, and the whole expression stays small, where other operands stand before and after it
   abbrev pub chosen_from : ℕ → Statement → List ℕ → List Expr → List Expr → ℕ → Option Expr → Choice
   chosen_from b l x before after a None = kept x
   chosen_from b l x before after a (Some e) =

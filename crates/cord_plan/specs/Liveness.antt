@@ -48,7 +48,7 @@ abbrev pub places_of : Option Behind → List ℕ
 places_of None = []
 places_of (Some b) = places b
 
--- the same of the place at p; behind the script there is none
+-- the same of the place at p; after the script there is none
 abbrev pub places_at : List Behind → ℕ → List ℕ
 places_at behinds p = places_of (slice_get behinds p)
 

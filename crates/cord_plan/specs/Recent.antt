@@ -31,12 +31,12 @@ abbrev pub lacks : List (List ℕ) → List ℕ → Bool
 lacks [] x = true
 lacks (y ∷ ys) x = not (bytes_eq y x) && lacks ys x
 
--- whether a place, where there is one, stands behind another
+-- whether a place, where there is one, stands after another
 abbrev pub is_behind : Option ℕ → ℕ → Bool
 is_behind None a = false
 is_behind (Some p) a = not (nat_le p a)
 
--- the last line that assigns a name, where neither of the other places stands behind it
+-- the last line that assigns a name, where neither of the other places stands after it
 abbrev pub unless_behind : Option ℕ → Option ℕ → Option ℕ → Option ℕ
 unless_behind None r k = None
 unless_behind (Some a) r k = if is_behind r a || is_behind k a then None else Some a

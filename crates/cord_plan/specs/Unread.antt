@@ -1,4 +1,4 @@
--- Which names are read on a path behind a line before they are assigned again.
+-- Which names are read on a path after a line before they are assigned again.
 use Rattle.std.specs.Prelude.{◌≡◌, ℕ, zero, suc, ◌+◌, Bool, true, false, not, ◌&&◌, ◌||◌, List, [], ◌∷◌, map, Option, Some, None, slice_get}
 use Rattle.cord_syntax.specs.declared.statements.Statement.{Statement}
 use Rattle.cord_meaning.specs.Blocks.{Shape, Simple, Loop, Branch, Otherwise, Close, jump}
@@ -61,6 +61,6 @@ abbrev pub live : List Statement → ℕ → List ℕ → ℕ → Bool
 live s zero x p = reads_at (slice_get s p) x
 live s (suc k) x p = reads_at (slice_get s p) x || (not (assigns_at (slice_get s p) x) && some_of (λ q. live s k x q) (behind (map shape_of s) p))
 
--- whether such a path begins behind a place
+-- whether such a path begins after a place
 abbrev pub later_within : List Statement → ℕ → List ℕ → ℕ → Bool
 later_within s k x p = some_of (λ q. live s k x q) (behind (map shape_of s) p)

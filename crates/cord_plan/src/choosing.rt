@@ -88,7 +88,7 @@ fn is_named_once(operands: &[Name], name: &[u8]) -> bool
     times == 1
 }
 
-// Whether no line behind a line reads the name that it has as an operand, but for what the line itself assigns.
+// Whether no line after a line reads the name that it has as an operand, but for what the line itself assigns.
 fn is_free(line: &Line, name: &[u8]) -> bool
     ensures { result ≡ (assigns line.now.statement.now name.now || not (tells line.now.recent.now.later.now name.now line.now.place)) }
 {
@@ -113,7 +113,7 @@ fn parts_beside(statement: &Statement) -> usize
     }
 }
 
-// How much of a room is left behind the parts of what was chosen.
+// How much of a room is left after the parts of what was chosen.
 fn room_behind_choices(chosen: &[Choice], room: u32) -> Option<u32>
     ensures { result ≡ room_left_by (map choice_view chosen.now) room }
 {
@@ -131,7 +131,7 @@ fn room_behind_choices(chosen: &[Choice], room: u32) -> Option<u32>
     Some(left)
 }
 
-// Whether a line's expression stays small with this one for the next operand behind those that were chosen for.
+// Whether a line's expression stays small with this one for the next operand after those that were chosen for.
 fn stays_small(line: &Line, chosen: &[Choice], expression: &Expr) -> bool
     requires operands { simple_operands line.now.statement.now ≡ Some line.now.operands.now }
     requires more { length chosen.now < length line.now.operands.now }
@@ -157,7 +157,7 @@ fn expression_at<'a>(table: &'a [Option<Expr>], place: usize) -> Option<&'a Expr
     }
 }
 
-// What stands for the next operand of a line behind those that were chosen for, where the lines before it have these expressions.
+// What stands for the next operand of a line after those that were chosen for, where the lines before it have these expressions.
 fn choose<'a>(
     line: &Line,
     operand: &'a Name,

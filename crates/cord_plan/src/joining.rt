@@ -26,7 +26,7 @@ fn expression_of(alloc: Global, choice: &Choice) -> Result<Expr, CordError>
     }
 }
 
-// Puts a copy of an expression behind the members of a `cat`; of a `cat` its members.
+// Puts a copy of an expression after the members of a `cat`; of a `cat` its members.
 fn add_copy(alloc: Global, members: &mut Vec<Expr>, expression: &Expr) -> Result<(), CordError>
     ensures added { OnOk result (members_of (map expr_view members.new.items) ≡ append (members_of (map expr_view members.old.items)) (in_front (expr_view expression.now) nothing)) }
     ensures refused { IsOkUnless result CordError.NoMemory }

@@ -23,7 +23,7 @@ pub fn plans_are_one()
     ensures { (s : List Statement) (one other : List ℕ → ℕ → Bool) → IsLater s one → IsLater s other → planned s one ≡ planned s other }
 {}
 
-/// No plan builds a dead target: where an operation builds a name, some path behind its line reads that name before it is assigned again.
+/// No plan builds a dead target: where an operation builds a name, some path after its line reads that name before it is assigned again.
 pub fn dead_targets_are_not_built()
     ensures { (s : List Statement) (later : List ℕ → ℕ → Bool) (p line : ℕ) (x : List ℕ) (made : Made) → IsLater s later → slice_get (planned s later) p ≡ Some (Build line x made) → ReadLater s x p }
 {}

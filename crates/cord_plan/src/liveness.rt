@@ -19,7 +19,7 @@ struct Group {
     words: Vec<u128>,
 }
 
-/// For each name and each line of a script whether some path behind the line reads the bytes of the name before a line assigns it.
+/// For each name and each line of a script whether some path after the line reads the bytes of the name before a line assigns it.
 #[derive(Drop)]
 pub(crate) struct Later {
     behinds: Vec<Behind>,
@@ -27,7 +27,7 @@ pub(crate) struct Later {
     groups: Vec<Group>,
 }
 
-/// The lines of a script, the places behind them, and a group of its names.
+/// The lines of a script, the places after them, and a group of its names.
 #[derive(Clone, Copy)]
 struct Flow<'a> {
     statements: &'a [Statement],
@@ -57,7 +57,7 @@ fn word_behind(words: &[u128], behind: Behind) -> u128
     }
 }
 
-// What the backwards flow over a line makes of its word: what the places behind it have, but for what the line assigns, is added.
+// What the backwards flow over a line makes of its word: what the places after it have, but for what the line assigns, is added.
 fn flowed(word: u128, behind: u128, assigned: u128) -> u128
     ensures bits { (i : ℕ) → i < 128 → bit result i ≡ flow (bit word i) (bit behind i) (bit assigned i) }
     ensures grows { word ≤ result }

@@ -9,7 +9,7 @@ use crate::own::{cat, named, run_of, sub_of};
 use cord_io::CordError;
 use std::alloc::Global;
 
-/// How much of a room is left behind the parts of an expression, where they find room.
+/// How much of a room is left after the parts of an expression, where they find room.
 #[cycle(room_behind)]
 pub(crate) fn room_behind(expression: &Expr, room: u32) -> Option<u32>
     ensures { result ≡ room_left (parts (expr_view expression.now)) room }
@@ -68,7 +68,7 @@ pub(crate) fn copy(alloc: Global, expression: &Expr) -> Result<Expr, CordError>
     }
 }
 
-/// Puts copies of these expressions behind others, for which room is made at once: most are names, which are copied without a call.
+/// Puts copies of these expressions after others, for which room is made at once: most are names, which are copied without a call.
 /// Refused only with `NoMemory`.
 #[cycle(copy)]
 pub(crate) fn copy_onto(

@@ -85,7 +85,7 @@ impl Plan {
         &self.operations
     }
 
-    /// For each operation the place that it leads to where it passes others over: a `repeat` behind its `end`, an `if` behind its
+    /// For each operation the place that it leads to where it passes others over: a `repeat` after its `end`, an `if` after its
     /// `else` or, where it has none, to its `end`, an `else` to its `end`, and any other to the next one. Refused only with
     /// `NoMemory`.
     pub fn jumps(&self, alloc: Global) -> Result<Vec<usize>, CordError>

@@ -47,7 +47,7 @@ pub(crate) fn entry_of(
     entry_at(places, numbering.number_of(name))
 }
 
-// Whether a place, where there is one, stands behind another.
+// Whether a place, where there is one, stands after another.
 fn is_behind(place: Option<usize>, other: usize) -> bool
     ensures { result ≡ is_behind place other }
 {
@@ -57,7 +57,7 @@ fn is_behind(place: Option<usize>, other: usize) -> bool
     }
 }
 
-/// The last line that assigns a name, where neither of the other places stands behind it.
+/// The last line that assigns a name, where neither of the other places stands after it.
 pub(crate) fn unless_behind(
     source: Option<usize>,
     reader: Option<usize>,

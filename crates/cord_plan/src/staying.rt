@@ -41,7 +41,7 @@ fn nearest_by_lines(statements: &[Statement], place: usize, name: &[u8]) -> Opti
     None
 }
 
-/// The last line before a line that assigns a name, where neither a block's line nor one that reads the name stands behind it.
+/// The last line before a line that assigns a name, where neither a block's line nor one that reads the name stands after it.
 pub(crate) fn nearest(line: &Line, name: &[u8]) -> Option<usize>
     requires place { line.now.place ≤ length line.now.statements.now }
     requires recent { IsRecent line.now.statements.now line.now.place line.now.recent.now }

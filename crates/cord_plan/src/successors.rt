@@ -58,7 +58,7 @@ enum Turn {
     Closed,
     /// It is an `else` of the block.
     Turned,
-    /// So many blocks are open behind it.
+    /// So many blocks are open after it.
     Inside(usize),
 }
 
@@ -131,7 +131,7 @@ fn innermost(blocks: &[Option<usize>]) -> Option<usize>
     }
 }
 
-// The open blocks behind the statement at place p.
+// The open blocks after the statement at place p.
 fn open_behind(blocks: &mut Vec<Option<usize>>, p: usize, shape: Shape) -> Result<(), AllocError>
     ensures { OnOk result (reverse blocks.new.items ≡ opened p (reverse blocks.old.items) (Some (shape_view shape))) }
 {
@@ -146,7 +146,7 @@ fn open_behind(blocks: &mut Vec<Option<usize>>, p: usize, shape: Shape) -> Resul
     Ok(())
 }
 
-/// The place that the statement at a place leads to where it passes others over: a `repeat` behind its `end`, an `if` behind its
+/// The place that the statement at a place leads to where it passes others over: a `repeat` after its `end`, an `if` after its
 /// `else` or, where it has none, to its `end`, an `else` to its `end`, and any other to the next one.
 pub(crate) fn jump(shapes: &[Shape], place: usize) -> usize
     requires { place < length shapes.now }

@@ -40,7 +40,7 @@ fn mark(firsts: &mut [bool], choices: &[Choice])
     }
 }
 
-// The expression of the next line behind those that have these; the lines that it takes are marked.
+// The expression of the next line after those that have these; the lines that it takes are marked.
 fn next_expression<'a>(
     alloc: Global,
     statements: &'a [Statement],

@@ -68,7 +68,7 @@ dotted_of (c ∷ b) = elim (cases_eq c 46) [
   | inr n ↦ ([], c ∷ b, (refl, inl (refl, n)))
 ]
 
--- the parts behind a `%`
+-- the parts after a `%`
 record Parts (b : List ℕ) : Type 0 where
   pub marks : List ℕ
   pub digits : List ℕ
@@ -220,7 +220,7 @@ begins_by b m d p l (letter ∷ rest) parts = elim (cases_lt MAX_WIDTH (number_o
   ]
 ]
 
--- a conversion begins behind a `%`, or none does
+-- a conversion begins after a `%`, or none does
 begins_or_not : (b : List ℕ) → Tells (BeginsConversion (37 ∷ b))
 begins_or_not b = let parts = parts_of b in begins_by b parts.marks parts.digits parts.point parts.modifier parts.rest parts.are
 

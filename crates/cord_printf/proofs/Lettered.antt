@@ -46,7 +46,7 @@ spells_of c precision (Byte f w) h l a = (has_width c precision f w h l.0 l.1, a
 spells_of c precision (Cord f w p) h l a = (has_width c precision f w h l.0 l.1, subst (IsPoint c.point) (sym l.2) h.point, a.2, l.3, a.0, a.1)
 spells_of c precision Percent h l a = (a.0, a.1, a.2, a.3, l)
 
--- one precision stands behind a point
+-- one precision stands after a point
 point-unique : (point : List ℕ) (p q : Option ℕ) → IsPoint point p → IsPoint point q → p ≡ q
 point-unique point None None h k = refl
 point-unique point None (Some q) h k = absurd (cc (h, k.1))

@@ -96,17 +96,17 @@ not_long b (inl h) e = omega arith
 not_long b (inr (inl h)) e = omega arith
 not_long b (inr (inr h)) e = omega arith
 
--- what stands behind the point starts with `l` or the letter
+-- what stands after the point starts with `l` or the letter
 after_point : (P : ℕ → Type 0) (m rest : List ℕ) (letter : ℕ) → All IsLong m → ¬ P 108 → ¬ P letter → StartsNo P (m ++ letter ∷ rest)
 after_point P [] rest letter all long last = last
 after_point P (b ∷ m) rest letter all long last = λ p. long (subst P (All-head IsLong b m all) p)
 
--- behind the digits it may start with `.` too
+-- after the digits it may start with `.` too
 after_digits : (P : ℕ → Type 0) (point rest : List ℕ) → IsPointed point → ¬ P 46 → StartsNo P rest → StartsNo P (point ++ rest)
 after_digits P point rest (inl e) dot h = subst (λ x. StartsNo P (x ++ rest)) (sym e) h
 after_digits P point rest (inr k) dot h = subst (λ x. StartsNo P (x ++ rest)) (sym k.1) dot
 
--- behind the marks with a digit that isn't 0
+-- after the marks with a digit that isn't 0
 after_marks : (digits rest : List ℕ) → All IsDigit digits → StartsNo (λ b. b ≡ 48) digits → StartsNo IsMark rest → StartsNo IsMark (digits ++ rest)
 after_marks [] rest all nz h = h
 after_marks (b ∷ ds) rest all nz h =

@@ -45,7 +45,7 @@ abbrev pub sign_of : Bool → ℤ → List ℕ
 sign_of plus (pos n) = if plus then 43 ∷ [] else []
 sign_of plus (negsuc n) = 45 ∷ []
 
--- blanks up to the width: behind with the flag `-`, else in front
+-- blanks up to the width: after with the flag `-`, else in front
 abbrev pub padded : {A : Type 0} → A → Bool → ℕ → List A → List A
 padded blank left width x = if left then x ++ replicate (width - length x) blank else replicate (width - length x) blank ++ x
 

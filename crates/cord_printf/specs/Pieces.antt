@@ -24,7 +24,7 @@ abbrev pub wanted : List Piece → List ArgKind
 wanted [] = []
 wanted (p ∷ ps) = option_to_list (wants p) ++ wanted ps
 
--- the parts of a conversion as it is written behind its `%`
+-- the parts of a conversion as it is written after its `%`
 pub record Conversion : Type 0 where
   pub marks : List ℕ
   pub digits : List ℕ
@@ -48,7 +48,7 @@ abbrev pub StartsNo : (ℕ → Type 0) → List ℕ → Type 0
 StartsNo P [] = Unit {0}
 StartsNo P (b ∷ bs) = ¬ P b
 
--- the number that decimal digits write behind those that write n
+-- the number that decimal digits write after those that write n
 abbrev pub number_after : ℕ → List ℕ → ℕ
 number_after n [] = n
 number_after n (b ∷ bs) = number_after (10 * n + (b - 48)) bs

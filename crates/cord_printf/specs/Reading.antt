@@ -21,7 +21,7 @@ IsDotted b point rest =
     × (((point ≡ []) × StartsNo (λ c. c ≡ 46) rest)
     ⊎ ((digits : List ℕ) × (point ≡ 46 ∷ digits) × All IsDigit digits × StartsNo IsDigit rest))
 
--- the parts behind a `%`, each as long as possible
+-- the parts after a `%`, each as long as possible
 pub record AreParts (b marks digits point modifier rest : List ℕ) : Type 0 where
   pub after_marks : List ℕ
   pub after_digits : List ℕ

@@ -24,7 +24,7 @@ const SHORT_RUN: usize = 64;
 // A join makes one leaf of two that are no longer than this together.
 const MOST_JOINED: usize = 64;
 
-/// A text that grows at its end: an extensible cord, which is made once it is wanted, and the bytes behind it that are gathered
+/// A text that grows at its end: an extensible cord, which is made once it is wanted, and the bytes after it that are gathered
 /// without memory.
 #[derive(Drop)]
 pub struct Output {
@@ -192,7 +192,7 @@ impl Output {
     }
 }
 
-// The bytes of a cord that is a leaf, where a join would copy them behind so many bytes.
+// The bytes of a cord that is a leaf, where a join would copy them after so many bytes.
 fn joined_leaf(before: usize, cord: &Cord) -> Option<&[u8]>
     ensures { IfSome result (λ leaf. text_of cord.now ≡ map known leaf.now) }
 {

@@ -17,7 +17,7 @@ pub enum Class {
     Plain,
 }
 
-/// The parts of a conversion behind its `%`, each as long as possible.
+/// The parts of a conversion after its `%`, each as long as possible.
 #[derive(Clone, Copy)]
 pub struct Parts<'a> {
     pub marks: &'a [u8],
@@ -84,7 +84,7 @@ fn point(bytes: &[u8]) -> (&[u8], &[u8])
     }
 }
 
-/// The parts of what may be a conversion, behind its `%`.
+/// The parts of what may be a conversion, after its `%`.
 pub fn split_parts(bytes: &[u8]) -> Parts<'_>
     ensures { AreParts bytes.now result.marks.now result.digits.now result.point.now result.modifier.now result.rest.now }
 {

@@ -10,7 +10,7 @@ use crate::digits::Digits;
 use crate::{Arg, Flags, Piece, PrintError, Radix};
 use cord_core::Cord;
 
-/// What stands round a body: blanks, a sign and zeros in front, blanks behind.
+/// What stands round a body: blanks, a sign and zeros in front, blanks after.
 #[derive(Clone, Copy)]
 pub struct Layout {
     pub before: u32,

@@ -24,7 +24,7 @@ use Rattle.cord_raw.specs.contracts.block.Block as block
 use Rattle.cord_raw.proofs.block.Block.TheLaws as block_laws
 use Rattle.cord_raw.proofs.Fields.{members}
 
--- the first bytes once one is written behind them
+-- the first bytes once one is written after them
 set_behind : (xs : List ℕ) (n x : ℕ) → n < length xs → take (suc n) (set xs n x) ≡ take n xs ++ x ∷ []
 set_behind [] n x low = absurd (omega arith)
 set_behind (y ∷ xs) zero x low = refl

@@ -46,7 +46,7 @@ place_append p [] ys = refl
 place_append p (x ∷ xs) ys = place_append x.next xs ys
 
 module _ {M : Type 1} {𝓤 : Ura M} (𝓛 : Logic 𝓤) where
-  -- blocks linked behind others
+  -- blocks linked after others
   pub links_append : (p : Ptr) (xs ys : List Block) → ent 𝓤 (sep 𝓤 (sem 𝓛 (links p xs)) (sem 𝓛 (links (place_after p xs) ys))) (sem 𝓛 (links p (xs ++ ys)))
   links_append p [] ys = qed 𝓛 (‵ (links p []) ∷ ‵ (links p ys) ∷ []) ∵ drop ! $ done !
   links_append p (x ∷ xs) ys = qed 𝓛 (‵ (links p (x ∷ xs)) ∷ ‵ (links (place_after p (x ∷ xs)) ys) ∷ []) ∵ fsplit ! $ move ! (1 ∷ 2 ∷ []) $

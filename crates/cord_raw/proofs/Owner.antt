@@ -1,4 +1,4 @@
--- The owner of a raw allocation, as its callers' proofs meet it: two words, and what stands behind the pointer.
+-- The owner of a raw allocation, as its callers' proofs meet it: two words, and what stands after the pointer.
 use Rattle.std.proofs.Common.{◌≡◌, ℕ, List, [], ◌∷◌, ◌++◌, refl, ap, ◌∙◌}
 use mathlib.Core.Bool.{true, ◌&&◌}
 use lib.Dec.{T as Yes}

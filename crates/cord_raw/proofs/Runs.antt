@@ -44,7 +44,7 @@ module _ {M : Type 1} {𝓤 : Ura M} (𝓛 : Logic 𝓤) (q : Share) (xs : List 
   front_long : length (take i xs) ≡ i
   front_long = length-take-le i xs (omega (arith, inside))
 
-  -- the bytes before the run and behind it
+  -- the bytes before the run and after it
   abbrev pub around : Fml
   around = fsep (row u8 q (take i xs) b o) (row u8 q (drop n (drop i xs)) b (i + o + n))
 

@@ -31,7 +31,7 @@ text_from [] i x inside = absurd (omega arith)
 text_from (b ∷ bs) zero x inside = refl
 text_from (b ∷ bs) (suc i) x inside = text_from bs i x (omega arith)
 
--- more than a block's bytes go on behind the block at i, which is full then
+-- more than a block's bytes go on after the block at i, which is full then
 goes_on : (xs : List Block) (y : Block) (i k : ℕ) → length (text_of y) ≤ ROOM → i ≤ length xs → ROOM < k → k ≤ length (text (drop i (xs ++ y ∷ []))) → i < length xs
 goes_on [] y zero k small inside much there = absurd (let alone = length-append (text_of y) [] in omega arith)
 goes_on [] y (suc i) k small inside much there = absurd (omega arith)
@@ -54,7 +54,7 @@ stands_in (x ∷ xs) y (suc i) k z full inside small there = stands_in xs y i k 
 pub range_is : (xs : List ℕ) (start n : ℕ) → slice_range xs start (start + n) ≡ take n (drop start xs)
 range_is xs start n = ap (λ k. take k (drop start xs)) (omega arith)
 
--- a range that begins behind the first text
+-- a range that begins after the first text
 range_behind : (xs ys : List ℕ) (start i n : ℕ) → start ≡ length xs + i → slice_range ys i (i + n) ≡ slice_range (xs ++ ys) start (start + n)
 range_behind xs ys start i n at = range_is ys i n ∙ sym (range_is (xs ++ ys) start n ∙ ap (λ k. take n (drop k (xs ++ ys))) at ∙ ap (take n) (drop-append-add xs ys i))
 
@@ -81,7 +81,7 @@ from_next c i j within next =
     let inside : i < length (blocks_of c) = omega (arith, length-append c.older (c.newest ∷ [])) in let onward : suc i ≡ j = omega arith in
     text_from (blocks_of c) i c.newest inside ∙ ap (λ k. text_of (block_at c i) ++ text (drop k (blocks_of c))) onward
 
--- where more than a block's bytes stand from the block at i on, it is full, and others are behind it
+-- where more than a block's bytes stand from the block at i on, it is full, and others are after it
 goes_behind : (c : Chain) (i k : ℕ) → IsFilled c → i ≤ length c.older → ROOM < k → k ≤ length (text (drop i (blocks_of c))) → (i < length c.older) × (length (text_of (block_at c i)) ≡ ROOM)
 goes_behind c i k filled within much there =
     let more = goes_on c.older c.newest i k (omega (arith, filled.1, filled.2)) within much there in (more, full_at c.older c.newest i c.newest filled.0 more)
@@ -91,7 +91,7 @@ pub left_behind : (c : Chain) (i j k : ℕ) → IsFilled c → i ≤ length c.ol
 left_behind c i j k filled within next much there =
     omega (arith, ap length (from_next c i j within next), length-append (text_of (block_at c i)) (text (drop j (blocks_of c))), (goes_behind c i k filled within much there).1, there)
 
--- nothing of a range that begins behind the block at i stands in it
+-- nothing of a range that begins after the block at i stands in it
 pub behind_block : (c : Chain) (i j start n : ℕ) → IsFilled c → i ≤ length c.older → j ≡ i + 1 → ROOM ≤ start → 0 < n → start + n ≤ length (text (drop i (blocks_of c)))
     → slice_range (text (drop j (blocks_of c))) (start - ROOM) (start - ROOM + n) ≡ slice_range (text (drop i (blocks_of c))) start (start + n)
 behind_block c i j start n filled within next over some there =
@@ -102,7 +102,7 @@ behind_block c i j start n filled within next over some there =
 pub holds_run : (c : Chain) (i k : ℕ) → IsFilled c → i ≤ length c.older → k ≤ ROOM → k ≤ length (text (drop i (blocks_of c))) → k ≤ length (text_of (block_at c i))
 holds_run c i k filled within fits there = stands_in c.older c.newest i k c.newest filled.0 within fits there
 
--- a range that begins in the block at i, of which rest bytes stand behind it
+-- a range that begins in the block at i, of which rest bytes stand after it
 pub from_block : (c : Chain) (i j start run rest : ℕ) → IsFilled c → i ≤ length c.older → j ≡ i + 1 → start + run ≤ ROOM → (0 < rest → start + run ≡ ROOM) → start + (run + rest) ≤ length (text (drop i (blocks_of c)))
     → slice_range (text_of (block_at c i)) start (start + run) ++ slice_range (text (drop j (blocks_of c))) 0 (0 + rest) ≡ slice_range (text (drop i (blocks_of c))) start (start + (run + rest))
 from_block c i j start run rest filled within next fits tight there =

@@ -79,7 +79,7 @@ impl Chain {
         self.count
     }
 
-    /// Writes a byte behind the text of the newest block.
+    /// Writes a byte after the text of the newest block.
     pub(crate) fn put(&mut self, byte: u8)
         requires { self.old.newest.len < ROOM }
         ensures { (self.new.older ≡ self.old.older) × (self.new.newest.len ≡ self.old.newest.len + 1) × (text_of self.new.newest ≡ text_of self.old.newest ++ byte ∷ []) }
@@ -91,7 +91,7 @@ impl Chain {
         }
     }
 
-    /// Copies a run of bytes behind the text of the newest block.
+    /// Copies a run of bytes after the text of the newest block.
     pub(crate) fn put_run(&mut self, run: &[u8])
         requires { self.old.newest.len + length run.now ≤ ROOM }
         ensures { (self.new.older ≡ self.old.older) × (self.new.newest.len ≡ self.old.newest.len + length run.now) × (text_of self.new.newest ≡ text_of self.old.newest ++ run.now) }
@@ -104,7 +104,7 @@ impl Chain {
         }
     }
 
-    /// Links the blocks of another chain behind the newest.
+    /// Links the blocks of another chain after the newest.
     pub(crate) fn link(&mut self, other: Chain)
         requires few { length self.old.older + length other.older + 2 ≤ MOST_BLOCKS }
         ensures { (self.new.older ≡ self.old.older ++ pointing self.old.newest other.first ∷ other.older) × (self.new.newest ≡ other.newest) }

@@ -21,7 +21,7 @@ impl Chain {
         }
     }
 
-    /// Writes a byte behind the text; the newest block has room for it.
+    /// Writes a byte after the text; the newest block has room for it.
     pub(crate) fn write(&mut self, byte: u8)
         requires filled { IsFilled self.old }
         requires room { self.old.newest.len < ROOM }
@@ -32,7 +32,7 @@ impl Chain {
         self.put(byte);
     }
 
-    /// Copies a run of bytes behind the text; the newest block has room for it.
+    /// Copies a run of bytes after the text; the newest block has room for it.
     pub(crate) fn copy_in(&mut self, run: &[u8])
         requires filled { IsFilled self.old }
         requires room { self.old.newest.len + length run.now ≤ ROOM }
@@ -44,7 +44,7 @@ impl Chain {
         self.put_run(run);
     }
 
-    /// Adds the blocks of another chain behind the newest block, which is full.
+    /// Adds the blocks of another chain after the newest block, which is full.
     pub(crate) fn append(&mut self, other: Chain)
         requires filled { IsFilled self.old }
         requires full { self.old.newest.len ≡ ROOM }

@@ -21,7 +21,7 @@ members_extent entries es = measured_members MAX_LEN (λ x. length_in entries x)
 abbrev pub members_seen : List Expr → plain.Exprs
 members_seen members = members_of (map expr_view members)
 
--- a length behind others, which stays at the greatest number
+-- a length after others, which stays at the greatest number
 abbrev pub counted : ℕ → Result ℕ FaultKind → Result ℕ FaultKind
 counted total (Ok len) = Ok (min (total + len) (2 ^ 64 - 1))
 counted total (Err kind) = Err kind

@@ -10,7 +10,7 @@ use std::alloc::Global;
 /// An open block.
 #[derive(Clone, Copy)]
 pub(crate) enum Open {
-    /// A `repeat`, with its place, its line and the turns that are left behind this one.
+    /// A `repeat`, with its place, its line and the turns that are left after this one.
     Turns { place: usize, line: u32, left: u64 },
     /// An `if`.
     Chosen,
@@ -38,7 +38,7 @@ pub(crate) enum Barred {
     NoMemory(u32),
 }
 
-// The place behind that of a block. No list is so long that there is none; then there would be no memory for it.
+// The place after that of a block. No list is so long that there is none; then there would be no memory for it.
 fn next(line: u32, place: usize) -> Result<usize, Barred>
     ensures next { IfOk result (λ n. n ≡ place + 1) }
     ensures refused { IfErr result (λ e. e ≡ Barred.NoMemory line) }
@@ -99,7 +99,7 @@ impl Control {
         Ok(())
     }
 
-    /// A `repeat` that read this number; `behind` is the place behind its `end`.
+    /// A `repeat` that read this number; `behind` is the place after its `end`.
     pub(crate) fn repeat(&mut self, line: u32, behind: usize, count: i64) -> Result<(), Barred>
         ensures { Goes (repeated MAX_TURNS (where_of self.old) line behind count) (λ l. l ≡ line) (where_of self.new) result }
     {
@@ -113,7 +113,7 @@ impl Control {
         }
     }
 
-    /// An `if`; `other` is the place behind its `else`, or of its `end`.
+    /// An `if`; `other` is the place after its `else`, or of its `end`.
     pub(crate) fn choose(&mut self, line: u32, other: usize, holds: bool) -> Result<(), Barred>
         ensures { Goes (Ok (chosen (where_of self.old) other holds)) (λ l. l ≡ line) (where_of self.new) result }
     {
@@ -157,7 +157,7 @@ impl Control {
         Ok(())
     }
 
-    // Goes on behind the innermost block.
+    // Goes on after the innermost block.
     fn leave(&mut self)
         requires { self.old.place < 2 ^ 64 - 1 }
         ensures { where_of self.new ≡ record { place = self.old.place + 1; turns = self.old.turns; blocks = map block_view (reverse self.old.outer.items) } }

@@ -20,7 +20,7 @@ use std::alloc::Global;
 /// So many copies of a byte are a leaf: a join makes one leaf of two that are no longer together.
 const FEW: u64 = 64;
 
-/// Adds cords of so many bytes of an expression from a place on, none of them behind its end. Refused with `NoMemory` alone.
+/// Adds cords of so many bytes of an expression from a place on, none of them after its end. Refused with `NoMemory` alone.
 #[cycle(add_range)]
 pub(crate) fn add_range(
     alloc: Global,
@@ -86,7 +86,7 @@ fn add_members(
     Ok(())
 }
 
-// A place behind another one, which is no index where it is below 0; it stays at the greatest number.
+// A place after another one, which is no index where it is below 0; it stays at the greatest number.
 fn place_behind(from: i64, start: u64) -> u64
     ensures { IfOk (meant.as_index from) (λ i. result ≡ min (i + start) (2 ^ 64 - 1)) }
 {

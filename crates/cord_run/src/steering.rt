@@ -32,7 +32,7 @@ pub(crate) fn control_of(operation: &Operation) -> Option<&Statement>
     }
 }
 
-/// Goes where a `repeat`, an `if`, an `else` or an `end` leads; behind is the place behind what it may pass over.
+/// Goes where a `repeat`, an `if`, an `else` or an `end` leads; behind is the place after what it may pass over.
 pub(crate) fn steer(
     statement: &Statement,
     behind: usize,

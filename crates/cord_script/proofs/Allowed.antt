@@ -156,7 +156,7 @@ format_wants_are Printed (t ∷ []) format h = none_wanted format h
 format_wants_are Printed (t ∷ Plain p ∷ ws) format h = none_wanted format h
 format_wants_are Printed (t ∷ Quoted text ∷ ws) format h = read_converts text format h
 
--- what is wrong behind right words is a flaw of the form
+-- what is wrong after right words is a flaw of the form
 later_wrong : (before : Before) (form : Form) (ws : List Word) (ps : List Part) (format : Option (List Piece)) (kind : RefusalKind) → IsParted form.shape ws ps format → first_of (terms_flaw before (map term_of ps)) (block_flaw form.effect before.blocks) ≡ Some kind → HasFormFlaw before (Some form) ws kind
 later_wrong before form ws ps format kind h wrong =
     let same = ap (λ k. names_flaw before k ws) h.wanted ∙ names_same before ws (map term_of ps) h.terms in

@@ -1,4 +1,4 @@
--- What a statement says behind the lines before it.
+-- What a statement says after the lines before it.
 use Rattle.std.proofs.Common.{Some, Ok, Err, ◌≡◌, ℕ, List, ◌∷◌, map, refl, sym, ◌∙◌, ap, subst}
 use Rattle.std.specs.Prelude.{Option, Result, IfOk}
 use Rattle.cord_printf.specs.declared.pieces.Piece.{Piece}
@@ -56,6 +56,6 @@ pub said : (v : Verb) (n : ℕ) (old new : Before) (word : List ℕ) (words othe
 said v n old new word words others ps format ts (Ok s) e spelled checked left same named line terms suits = says v n old new word words others ps format s e spelled checked left named line (terms ∙ same) suits
 said v n old new word words others ps format ts (Err kind) e spelled checked left same named line terms suits = tt
 
--- what is wrong with the words behind a verb is wrong with all words
+-- what is wrong with the words after a verb is wrong with all words
 pub bad_words : (v : Verb) (old : Before) (words others : List Word) (kind : RefusalKind) → words ≡ Plain (verb_word v) ∷ others → HasFormFlaw old (Some (verb_form v)) others kind → HasBadWords whole old words kind
 bad_words v old words others kind e h = subst (λ ws. HasBadWords whole old ws kind) (sym e) (subst (λ form. HasFormFlaw old form others kind) (sym (form_is v)) h)

@@ -37,13 +37,13 @@ kinds_are_arguments [] = refl
 kinds_are_arguments (printed.Number ∷ ks) = kinds_are_arguments ks
 kinds_are_arguments (printed.Cord ∷ ks) = kinds_are_arguments ks
 
--- the parts behind a format
+-- the parts after a format
 others_same : (pieces : List Piece) (ts us vs : List Term) (name text : List ℕ) (h : IsPrintedAs pieces ts) → ts ≡ Target kinds.Cord name ∷ us → us ≡ Formats text ∷ vs → (h.text ≡ text) × (h.others ≡ vs)
 others_same pieces ts us vs name text h e f =
     let whole : Target kinds.Cord h.target ∷ Formats h.text ∷ h.others ≡ Target kinds.Cord name ∷ Formats text ∷ vs = sym h.is ∙ e ∙ ap (λ k. Target kinds.Cord name ∷ k) f in
     (cc, cc)
 
--- what stands behind a format are arguments
+-- what stands after a format are arguments
 pub printed_arguments : (pieces : List Piece) (ts us vs : List Term) (name text : List ℕ) → IsPrintedAs pieces ts → ts ≡ Target kinds.Cord name ∷ us → us ≡ Formats text ∷ vs → are_arguments (map want_of vs) ≡ true
 printed_arguments pieces ts us vs name text h e f =
     let same = others_same pieces ts us vs name text h e f in

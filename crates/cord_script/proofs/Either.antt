@@ -71,7 +71,7 @@ stops_here g n before line lines kind wrong =
       wrong = subst (λ m. HasBadLine g m before line kind) here wrong;
     })
 
--- behind a line that says nothing
+-- after a line that says nothing
 behind_idle : (g : Grammar) (n : ℕ) (before : Before) (line : List ℕ) (lines : List (List ℕ)) → IsIdle line → GoesOrStops g (n + 1) before lines → GoesOrStops g n before (line ∷ lines)
 behind_idle g n before line lines idle (inl h) = inl (record { statements = h.statements; say = inl (idle, h.say); few = omega (arith, h.few) })
 behind_idle g n before line lines idle (inr h) =
@@ -87,7 +87,7 @@ behind_idle g n before line lines idle (inr h) =
       wrong = subst (λ m. HasBadLine g m (after_all h.statements before) h.line h.kind) number h.wrong;
     })
 
--- behind a line that says a statement
+-- after a line that says a statement
 behind_saying : (g : Grammar) (n : ℕ) (before : Before) (line : List ℕ) (lines : List (List ℕ)) → ¬ IsIdle line → (s : LineSays g n before line) → GoesOrStops g (n + 1) (after s.statement before) lines → GoesOrStops g n before (line ∷ lines)
 behind_saying g n before line lines shows s (inl h) =
     inl (record { statements = s.statement ∷ h.statements; say = inr (shows, s.statement, s.words, h.statements, refl, s.has, s.says, h.say); few = omega (arith, h.few) })

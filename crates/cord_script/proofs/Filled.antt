@@ -157,7 +157,7 @@ record Made (word : List ℕ) (n : ℕ) (ts : List Term) : Type 0 where
   pub says : terms_of statement ≡ ts
   pub suits : Suits statement
 
--- a statement with this word that the words behind it say
+-- a statement with this word that the words after it say
 record IsFilled (word : List ℕ) (shape : Shape) (n : ℕ) (ws : List Word) (formats : Option (List Want)) : Type 0 where
   pub statement : Statement
   pub named : word_of statement ≡ word
@@ -251,7 +251,7 @@ printed_filled n (w ∷ Quoted text ∷ ws) (Some xs) has count fit =
       suits = (has.1, args.2);
     }
 
--- words behind a statement's word, of the right number and without a misfit, say a statement
+-- words after a statement's word, of the right number and without a misfit, say a statement
 filled : (v : Verb) (n : ℕ) (ws : List Word) (formats : Option (List Want)) → HasFormat (verb_shape v) ws formats → is_count (verb_shape v) (length ws) ≡ true → words_flaw (verb_shape v) formats ws ≡ None → IsFilled (verb_word v) (verb_shape v) n ws formats
 filled verbs.Let n ws formats has count fit = fixed n ws formats count fit (λ h. made (Let n h.0 h.1.0) refl refl refl tt)
 filled verbs.File n ws formats has count fit = fixed n ws formats count fit (λ h. made (File n h.0 h.1.0) refl refl refl tt)
@@ -305,7 +305,7 @@ formats_of law Printed (t ∷ Quoted text ∷ ws) = converts_of law text
 abbrev SaysOrBad : Grammar → ℕ → Before → List Word → Type 0
 SaysOrBad g n before words = ((s : Statement) × Says g n before words s) ⊎ ((kind : RefusalKind) × HasBadWords g before words kind)
 
--- the words behind a verb have no flaw
+-- the words after a verb have no flaw
 well_said : (g : Grammar) (n : ℕ) (before : Before) (p : List ℕ) (ws : List Word) (v : Verb) (formats : Option (List Want)) → g.has p ≡ true → p ≡ verb_word v → HasFormat (verb_shape v) ws formats → form_flaw (verb_form v) before formats ws ≡ None → (s : Statement) × Says g n before (Plain p ∷ ws) s
 well_said g n before p ws v formats has spelled format fine =
     let shape = verb_shape v in
@@ -338,7 +338,7 @@ verb_by : (g : Grammar) (n : ℕ) (before : Before) (p : List ℕ) (ws : List Wo
 verb_by g n before p ws v formats None has spelled form format e = inl (well_said g n before p ws v formats has spelled format e)
 verb_by g n before p ws v formats (Some kind) has spelled form format e = inr (kind, bad_form g before p ws (Some (verb_form v)) kind form (formats, format, e))
 
--- the words behind a verb say a statement, or have a flaw
+-- the words after a verb say a statement, or have a flaw
 verb_says : FormatOrBad → (g : Grammar) (n : ℕ) (before : Before) (p : List ℕ) (ws : List Word) (v : Verb) → g.has p ≡ true → p ≡ verb_word v → form_in g p ≡ Some (verb_form v) → SaysOrBad g n before (Plain p ∷ ws)
 verb_says law g n before p ws v has spelled form =
     let formats = formats_of law (verb_shape v) ws in

@@ -40,7 +40,7 @@ plain_or_not c = elim (blank_or_not c) [
   ]
 ]
 
--- what stands behind the blanks at the front, if anything does
+-- what stands after the blanks at the front, if anything does
 shown : (line : List ℕ) → All IsBlank line ⊎ ((c : ℕ) × (rest : List ℕ) × Begins line c rest)
 shown [] = inl (All-nil IsBlank)
 shown (c ∷ cs) = elim (blank_or_not c) [
@@ -104,7 +104,7 @@ backslash c rest n none = elim (cases_eq c 92) [
   | inr m ↦ absurd (none_stands (c ∷ rest) none (c ∷ []) rest c refl (inl (refl, n, m)))
 ]
 
--- what stands behind the first quote of a quoted word: its text and a quote, or a flaw
+-- what stands after the first quote of a quoted word: its text and a quote, or a flaw
 abbrev Inside : List ℕ → Type 0
 Inside inner = ((w rest text : List ℕ) × (inner ≡ w ++ 34 ∷ rest) × Spells w text × (length text ≤ MAX_TEXT)) ⊎ ((kind : RefusalKind) × IsBadText inner kind)
 

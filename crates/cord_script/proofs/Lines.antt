@@ -11,7 +11,7 @@ use Rattle.cord_script.specs.Words.{IsSplit, IsBlank, IsIdle, StartsNoBlank}
 pub parts : (n : ℕ) (xs : List ℕ) → xs ≡ take n xs ++ drop n xs
 parts n xs = sym (take-append-drop n xs)
 
--- nothing is left behind all bytes
+-- nothing is left after all bytes
 pub drop_whole : (xs : List ℕ) → drop (length xs) xs ≡ []
 drop_whole [] = refl
 drop_whole (x ∷ xs) = drop_whole xs

@@ -27,6 +27,6 @@ one_too_many n d ds h =
     let great : 2 ^ 63 < number_after n (d ∷ ds) = omega arith in
     sym (neither_taken (is_digit d) (each is_digit ds) (nat_le (number_after n (d ∷ ds)) (2 ^ 63)) (number_after n (d ∷ ds)) (lt-leb (number_after n (d ∷ ds)) (2 ^ 63) great))
 
--- the digits behind a place hold one more than fits
+-- the digits after a place hold one more than fits
 pub stops_at : (xs : List ℕ) (i n : ℕ) → i < length xs → 922337203685477580 < n → magnitude_from 0 xs ≡ magnitude_from n (drop i xs) → None ≡ magnitude_from 0 xs
 stops_at xs i n lt great e = sym (e ∙ ap (magnitude_from n) (drop-cons xs i 0 lt) ∙ one_too_many n (get_or xs i 0) (drop (suc i) xs) great)

@@ -135,7 +135,7 @@ starts_well (Marked front t ∷ cs) rest h =
 pub words_well : (cs : List Chunk) → well cs ≡ true → HasWords (spelled cs) (chunk_words cs)
 words_well cs h = ([], starts_well cs [] h, λ k d lt. absurd (omega arith))
 
--- behind a blank a quoted word begins that is none
+-- after a blank a quoted word begins that is none
 pub begins_bad_text : (inner : List ℕ) (kind : RefusalKind) → IsBadText inner kind → BeginsBadText (32 ∷ 34 ∷ inner) kind
 begins_bad_text inner kind bad = (32 ∷ [], inner, all_by blank IsBlank blank_is (32 ∷ []) refl, refl, bad)
 

@@ -46,7 +46,7 @@ neither_test false false p q = refl
 neither_test false true p q = cc
 neither_test true y p q = cc
 
--- each letter stands behind the digits
+-- each letter stands after the digits
 letter_above : (c : ℕ) → is_letter c ≡ true → 57 < c
 letter_above c h = elim (either ((nat_le 97 c && nat_le c 122) || (nat_le 65 c && nat_le c 90)) (c == 95) h) [
   | inl p ↦ elim (either (nat_le 97 c && nat_le c 122) (nat_le 65 c && nat_le c 90) p) [

@@ -116,7 +116,7 @@ terms_passed [] behind (t ∷ ts) ys h = absurd h
 terms_passed (w ∷ ws) behind [] ys h = absurd h
 terms_passed (w ∷ ws) behind (t ∷ ts) ys h = ap (λ k. first_of k (first_pair misfit (map want_of ts ++ ys) (ws ++ behind))) (term_right w t h.0) ∙ terms_passed ws behind ts ys h.1
 
--- what is wrong with words stands behind those that are parts
+-- what is wrong with words stands after those that are parts
 pub behind_taken : (xs ys : List Want) (ws behind : List Word) (ps qs : List Part) → HasTaken xs ws behind ps qs → first_pair misfit (xs ++ ys) ws ≡ first_pair misfit ys behind
 behind_taken xs ys ws behind ps qs h =
     ap (λ k. first_pair misfit (k ++ ys) ws) (sym h.wanted) ∙ ap (first_pair misfit (map want_of (map term_of h.more) ++ ys)) h.words ∙ terms_passed h.front behind (map term_of h.more) ys h.terms
@@ -127,6 +127,6 @@ two_in_front (w ∷ []) behind ws h e = absurd (omega arith)
 two_in_front (w ∷ x ∷ []) behind ws h e = ap argument_words e
 two_in_front (w ∷ x ∷ y ∷ front) behind ws h e = absurd (omega arith)
 
--- the words behind a target and a format
+-- the words after a target and a format
 pub arguments_left : (ws behind : List Word) (ps qs : List Part) → HasTaken format_wants ws behind ps qs → argument_words ws ≡ behind
 arguments_left ws behind ps qs h = two_in_front h.front behind ws (front_count format_wants ws behind ps qs h) h.words

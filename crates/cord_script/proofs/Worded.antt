@@ -8,7 +8,7 @@ use Rattle.cord_script.specs.declared.words.Word.TheVariants.{Plain, Quoted}
 use Rattle.cord_script.specs.Words.{IsBlank, IsPlain, EndsPlain, StartsNoBlank, Spells, HasWord, StartsWith, IsBadText, BeginsBadText}
 use Rattle.cord_script.proofs.Lines.{parts}
 
--- a quoted word that is none, behind blanks
+-- a quoted word that is none, after blanks
 pub begins_bad : (line rest inner : List ℕ) (b first : ℕ) (kind : RefusalKind) → rest ≡ drop b line → rest ≡ first ∷ inner → first ≡ 34 → All IsBlank (take b line) → IsBadText inner kind → BeginsBadText line kind
 begins_bad line rest inner b first kind r q f blank bad =
     (take b line, inner, blank, parts b line ∙ ap (λ x. take b line ++ x) (sym r ∙ q ∙ ap (λ x. x ∷ inner) f), bad)
@@ -17,7 +17,7 @@ shorter : (line front middle rest : List ℕ) → line ≡ front ++ middle ++ re
 shorter line front [] rest e n = absurd (n refl)
 shorter line front (c ∷ cs) rest e n = omega (arith, ap length e, length-append (front ++ c ∷ cs) rest, length-append front (c ∷ cs))
 
--- a quoted word behind blanks
+-- a quoted word after blanks
 pub quoted_next : (line rest inner w after text : List ℕ) (b first : ℕ) → rest ≡ drop b line → rest ≡ first ∷ inner → first ≡ 34 → inner ≡ w ++ 34 ∷ after → All IsBlank (take b line) → Spells w text → length text ≤ MAX_TEXT → HasWord line (Quoted text) after × (length after < length line)
 quoted_next line rest inner w after text b first r q f i blank s few =
     let whole : line ≡ take b line ++ 34 ∷ w ++ 34 ∷ after = parts b line ∙ ap (λ x. take b line ++ x) (sym r ∙ q ∙ ap (λ x. x ∷ inner) f ∙ ap (λ x. 34 ∷ x) i) ∙ sym (append_assoc (take b line) (34 ∷ w) (34 ∷ after)) in
@@ -27,7 +27,7 @@ some_plain : (c : ℕ) (cs : List ℕ) (len : ℕ) → ¬ IsBlank c → c ≢ 34
 some_plain c cs zero nb nq h e = h (nb, nq)
 some_plain c cs (suc len) nb nq h e = cc
 
--- a plain word behind blanks
+-- a plain word after blanks
 pub plain_next : (line rest inner p after : List ℕ) (c b len : ℕ) → p ≡ take len rest → after ≡ drop len rest → rest ≡ drop b line → rest ≡ c ∷ inner → All IsBlank (take b line) → StartsNoBlank (drop b line) → c ≢ 34 → All IsPlain (take len rest) → EndsPlain (drop len rest) → HasWord line (Plain p) after × (length after < length line)
 plain_next line rest inner p after c b len ep ea r q blank stops nq plain ends =
     let nb : ¬ IsBlank c = subst StartsNoBlank (sym r ∙ q) stops in

@@ -25,7 +25,7 @@ use Rattle.cord_script.proofs.Samples.{Chunk, spelled_before, spelled, chunk_wor
 use Rattle.cord_script.proofs.Samples.Chunk.{Bare, Marked}
 use Rattle.cord_script.proofs.Unique.{stands_unit}
 
--- plain words behind one blank each
+-- plain words after one blank each
 abbrev behind : List (List ℕ) → List Chunk
 behind [] = []
 behind (w ∷ ws) = Bare (32 ∷ []) w ∷ behind ws
@@ -186,7 +186,7 @@ sprintf_argument_missing =
     first_bad line line [] WrongCount (lit≤ tt) (last_line line refl refl)
     (bad_line 1 start 115 (codes "printf") others WrongCount (lit≤ tt) (record { shows = refl; no_note = refl; words = refl }) (Some (wants.Number ∷ []), decimal_converts, refl))
 
--- a line of plain words that is wrong behind `let x "a"`
+-- a line of plain words that is wrong after `let x "a"`
 bad_behind_let : (c : ℕ) (cs : List ℕ) (ws : List (List ℕ)) (kind : RefusalKind) → length (let_line (codes "a") ++ 10 ∷ spelled (plain c cs ws)) ≤ MAX_SCRIPT → each no_end (spelled (plain c cs ws)) ≡ true → IsLine c cs (behind ws) → HasBadWords whole (after_all (Let 1 (codes "x") (codes "a") ∷ []) start) (chunk_words (plain c cs ws)) kind → FlawBy whole (let_line (codes "a") ++ 10 ∷ spelled (plain c cs ws)) 2 kind
 bad_behind_let c cs ws kind small l h bad = second_bad (let_line (codes "a") ++ 10 ∷ spelled (plain c cs ws)) (let_line (codes "a")) (spelled (plain c cs ws)) [] (Let 1 (codes "x") (codes "a") ∷ []) kind small
     (more_lines (let_line (codes "a")) (spelled (plain c cs ws)) (spelled (plain c cs ws) ∷ []) refl (last_line (spelled (plain c cs ws)) l refl))

@@ -1,4 +1,4 @@
--- What a line says behind the lines before it, and what it leaves.
+-- What a line says after the lines before it, and what it leaves.
 use Rattle.std.specs.Prelude.{◌≡◌, ℕ, List, map}
 use Rattle.cord_script.specs.declared.grammar.Verb.{Verb}
 use Rattle.cord_script.specs.declared.parts.Part.{Part}
@@ -16,7 +16,7 @@ left_after verb n ps before = record {
   blocks = blocks_after (verb_effect verb) n before.blocks;
 }
 
--- what the words of line n say behind these lines, and what is left after it
+-- what the words of line n say after these lines, and what is left after it
 pub record SaysBehind (n : ℕ) (old new : Before) (words : List Word) (s : Statement) : Type 0 where
   pub says : Says whole n old words s
   pub leaves : after s old ≡ new

@@ -86,7 +86,7 @@ first_pair test (x ∷ xs) (w ∷ ws) = first_of (test x w) (first_pair test xs 
 abbrev pub first_misfit : List Want → List Word → Option RefusalKind
 first_misfit xs ws = first_pair misfit xs ws
 
--- Kind 5 where the number of words behind the statement's word is wrong; for `sprintf`: fewer than a target and a format.
+-- Kind 5 where the number of words after the statement's word is wrong; for `sprintf`: fewer than a target and a format.
 abbrev pub is_count : Shape → ℕ → Bool
 is_count (Words xs) n = n == length xs
 is_count Joined n = nat_le (1 + MIN_PARTS) n && nat_le n (1 + MAX_PARTS)
@@ -117,7 +117,7 @@ wants_of (Words xs) formats ws = xs
 wants_of Joined formats ws = joined ws
 wants_of Printed formats ws = format_wants ++ conversions formats
 
--- the words behind a target and a format
+-- the words after a target and a format
 abbrev pub argument_words : List Word → List Word
 argument_words [] = []
 argument_words (target ∷ []) = []
@@ -129,7 +129,7 @@ abbrev pub arguments_flaw : Option (List Want) → List Word → Option RefusalK
 arguments_flaw None ws = Some BadFormat
 arguments_flaw (Some xs) ws = first_of (unless (length ws == length xs) WrongCount) (first_misfit xs ws)
 
--- what is wrong with the words behind a statement's word, from left to right
+-- what is wrong with the words after a statement's word, from left to right
 abbrev pub words_flaw : Shape → Option (List Want) → List Word → Option RefusalKind
 words_flaw (Words xs) formats ws = first_misfit xs ws
 words_flaw Joined formats ws = first_misfit (joined ws) ws
@@ -205,7 +205,7 @@ block_flaw Closes blocks = end_flaw blocks
 abbrev pub names_flaw : Before → List Want → List Word → Option RefusalKind
 names_flaw before xs ws = first_of (operands_flaw before.names xs ws) (first_of (target_flaw before.names xs ws) (path_flaw before.paths xs ws))
 
--- What is wrong with the words behind a statement's word, in order: their number, the words, the names, the blocks.
+-- What is wrong with the words after a statement's word, in order: their number, the words, the names, the blocks.
 abbrev pub form_flaw : Form → Before → Option (List Want) → List Word → Option RefusalKind
 form_flaw form before formats ws =
     first_of (unless (is_count form.shape (length ws)) WrongCount)
@@ -218,7 +218,7 @@ abbrev pub HasFormat : Shape → List Word → Option (List Want) → Type 0
 HasFormat Printed (target ∷ Quoted text ∷ ws) formats = Converts text formats
 HasFormat _ ws formats = formats ≡ None
 
--- Kind 4 where a plain word is no statement's word; else what is wrong with the words behind it.
+-- Kind 4 where a plain word is no statement's word; else what is wrong with the words after it.
 abbrev pub HasFormFlaw : Before → Option Form → List Word → RefusalKind → Type 0
 HasFormFlaw before None ws kind = kind ≡ UnknownStatement
 HasFormFlaw before (Some form) ws kind = (formats : Option (List Want)) × HasFormat form.shape ws formats × (form_flaw form before formats ws ≡ Some kind)
@@ -241,7 +241,7 @@ pub record IsTooBig (b : List ℕ) (n : ℕ) (kind : RefusalKind) : Type 0 where
   pub line : n ≡ 0
   pub is : kind ≡ TooBig
 
--- Then line by line: the lines in front say statements, and line n is wrong behind them.
+-- Then line by line: the lines in front say statements, and line n is wrong after them.
 pub record StopsAt (g : Grammar) (b : List ℕ) (n : ℕ) (kind : RefusalKind) : Type 0 where
   pub size : length b ≤ MAX_SCRIPT
   pub front : List (List ℕ)
@@ -259,7 +259,7 @@ IsLeft (InRepeat line) n kind = (n ≡ line) × (kind ≡ MissingEnd)
 IsLeft (InIf line) n kind = (n ≡ line) × (kind ≡ MissingIfEnd)
 IsLeft (InElse line) n kind = (n ≡ line) × (kind ≡ MissingIfEnd)
 
--- Last, by the innermost block that is open behind all lines.
+-- Last, by the innermost block that is open after all lines.
 pub record LeavesOpen (g : Grammar) (b : List ℕ) (n : ℕ) (kind : RefusalKind) : Type 0 where
   pub size : length b ≤ MAX_SCRIPT
   pub lines : List (List ℕ)

@@ -13,7 +13,7 @@ use Rattle.cord_operands.specs.declared.operands.Argument.TheVariants as argumen
 use Rattle.cord_syntax.specs.declared.statements.Statement.{Statement}
 use Rattle.cord_syntax.specs.declared.statements.Statement.TheVariants.{Let, File, Eager, Lazy, Chars, Nul, FromFn, Cat, Catn, Catc, Substr, Balance, EcToCord, Sprintf, Len, Fetch, Cmp, Ncmp, Str, Chr, Rchr, Assign, Add, Sub, EcInit, EcPut, EcCat, EcStr, Put, Repeat, If, Else, End}
 
--- The words behind a statement's word: these; a target and 2 to 16 cords; a target, a format and what its conversions want.
+-- The words after a statement's word: these; a target and 2 to 16 cords; a target, a format and what its conversions want.
 pub data Shape : Type 0 where
   Words : List Want → Shape
   Joined : Shape
@@ -138,7 +138,7 @@ abbrev pub argument_want : Argument → Want
 argument_want (arguments.Number n) = wants.Number
 argument_want (arguments.Cord name) = wants.Operand kinds.Cord
 
--- What the words behind a statement's word say, from left to right.
+-- What the words after a statement's word say, from left to right.
 abbrev pub terms_of : Statement → List Term
 terms_of (Let line target text) = Target kinds.Cord target ∷ Literal text ∷ []
 terms_of (File line target path) = Target kinds.Cord target ∷ FilePath path ∷ []

@@ -1,4 +1,4 @@
--- What the lines before a line leave, as the code keeps it, and what is wrong with terms behind them.
+-- What the lines before a line leave, as the code keeps it, and what is wrong with terms after them.
 use Rattle.std.specs.Prelude.{ℕ, List, [], ◌∷◌, map, length, ◌||◌, nat_lt, Option, None}
 use Rattle.cord_script.specs.declared.TheConstants.{MAX_PATHS}
 use Rattle.cord_script.specs.declared.kinds.Kind.TheVariants as kinds

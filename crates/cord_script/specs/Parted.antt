@@ -46,7 +46,7 @@ term_of (parts.Formats text) = Formats text
 abbrev pub IsPart : Want → Word → Part → Type 0
 IsPart want word part = IsTerm word (term_of part) × (want_of (term_of part) ≡ want)
 
--- a byte of a name behind its first
+-- a byte of a name after its first
 abbrev pub is_inner : ℕ → Bool
 is_inner c = is_letter c || is_digit c
 
@@ -62,7 +62,7 @@ abbrev pub next_want : List Want → Option Want
 next_want [] = None
 next_want (x ∷ xs) = Some x
 
--- words in front that are what is wanted have become parts behind the others
+-- words in front that are what is wanted have become parts after the others
 pub record HasTaken (xs : List Want) (old new : List Word) (ps qs : List Part) : Type 0 where
   pub front : List Word
   pub more : List Part
@@ -90,7 +90,7 @@ abbrev pub wanted_by : Option (List Piece) → Option (List Want)
 wanted_by None = None
 wanted_by (Some pieces) = Some (wants_of_pieces pieces)
 
--- the words behind a statement's word say these parts, and neither their number nor any of them is wrong
+-- the words after a statement's word say these parts, and neither their number nor any of them is wrong
 pub record IsParted (shape : Shape) (ws : List Word) (ps : List Part) (format : Option (List Piece)) : Type 0 where
   pub has : IsFormatOf shape ws format
   pub count : is_count shape (length ws) ≡ true
@@ -102,7 +102,7 @@ pub record IsParted (shape : Shape) (ws : List Word) (ps : List Part) (format : 
 abbrev pub HasPartFlaw : Shape → List Word → RefusalKind → Type 0
 HasPartFlaw shape ws kind = (formats : Option (List Want)) × HasFormat shape ws formats × (first_of (unless (is_count shape (length ws)) WrongCount) (words_flaw shape formats ws) ≡ Some kind)
 
--- nothing is wrong with the words behind a statement's word, which say these parts
+-- nothing is wrong with the words after a statement's word, which say these parts
 pub record IsChecked (form : Form) (before : Before) (ws : List Word) (ps : List Part) (format : Option (List Piece)) : Type 0 where
   pub parted : IsParted form.shape ws ps format
   pub allowed : AreAllowed before (map term_of ps)

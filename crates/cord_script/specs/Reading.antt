@@ -32,6 +32,6 @@ abbrev pub unit_of : List ℕ → Option (ℕ × List ℕ)
 unit_of [] = None
 unit_of (c ∷ rest) = if c == 92 then escape_of rest else (if c == 34 then None else Some (c, rest))
 
--- the number that digits write behind those that write n, where it is at most the greatest magnitude
+-- the number that digits write after those that write n, where it is at most the greatest magnitude
 abbrev pub magnitude_from : ℕ → List ℕ → Option ℕ
 magnitude_from n ds = if each is_digit ds && nat_le (number_after n ds) (2 ^ 63) then Some (number_after n ds) else None

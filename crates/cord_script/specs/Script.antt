@@ -142,7 +142,7 @@ Suits (Catn line target parts) = (MIN_PARTS ≤ length parts) × (length parts �
 Suits (Sprintf line target text format arguments) = IsFormat text format × (map argument_want arguments ≡ wants_of_pieces format)
 Suits _ = Unit {0}
 
--- The words of line n say a statement of the grammar, behind these lines.
+-- The words of line n say a statement of the grammar, after these lines.
 pub record Says (g : Grammar) (n : ℕ) (before : Before) (words : List Word) (s : Statement) : Type 0 where
   pub has : g.has (word_of s) ≡ true
   pub line : line_of s ≡ n

@@ -17,7 +17,7 @@ Tells n line old new (Some s) = (¬ IsIdle line) × (words : List Word) × HasWo
 abbrev pub Takes : ℕ → List ℕ → Before → Before → List Statement → List Statement → Type 0
 Takes n line old new ss grown = (found : Option Statement) × Tells n line old new found × (grown ≡ ss ++ option_to_list found)
 
--- what is wrong with a line behind the lines before it
+-- what is wrong with a line after the lines before it
 abbrev pub HasWrong : List ℕ → Before → RefusalKind → Type 0
 HasWrong line before kind = (¬ IsIdle line) × (HasBadBytes line kind ⊎ ((words : List Word) × HasWords line words × HasBadWords whole before words kind))
 

@@ -29,7 +29,7 @@ abbrev pub begins_numeral : List ℕ → Bool
 begins_numeral [] = false
 begins_numeral (c ∷ cs) = is_digit c || (c == 45)
 
--- the number that decimal digits write behind those that write n
+-- the number that decimal digits write after those that write n
 abbrev pub number_after : ℕ → List ℕ → ℕ
 number_after n [] = n
 number_after n (d ∷ ds) = number_after (10 * n + (d - 48)) ds

@@ -1,4 +1,4 @@
--- The statements' words and what the words behind them have to be, as the code has them.
+-- The statements' words and what the words after them have to be, as the code has them.
 use Rattle.std.specs.Prelude.{ℕ, List, [], ◌∷◌, Bool, true, false, Option, Some, None, if◌then◌else◌, codes}
 use Rattle.std.specs.Str.{bytes_eq}
 use Rattle.cord_script.specs.declared.grammar.Verb.{Verb}
@@ -46,7 +46,7 @@ verb_word verbs.If = codes "if"
 verb_word verbs.Else = codes "else"
 verb_word verbs.End = codes "end"
 
--- what the words behind it have to be, where their number is fixed
+-- what the words after it have to be, where their number is fixed
 abbrev pub verb_wants : Verb → List Want
 verb_wants verbs.Let = wants.Target kinds.Cord ∷ wants.Text ∷ []
 verb_wants verbs.File = wants.Target kinds.Cord ∷ wants.Path ∷ []
@@ -82,7 +82,7 @@ verb_wants verbs.If = wants.Number ∷ wants.Relation ∷ wants.Number ∷ []
 verb_wants verbs.Else = []
 verb_wants verbs.End = []
 
--- the shape of the words behind it
+-- the shape of the words after it
 abbrev pub verb_shape : Verb → Shape
 verb_shape verbs.Catn = Joined
 verb_shape verbs.Sprintf = Printed
@@ -106,7 +106,7 @@ verb_effect verbs.Else = Turns
 verb_effect verbs.End = Closes
 verb_effect _ = Stays
 
--- the form of the words behind it
+-- the form of the words after it
 abbrev pub verb_form : Verb → Form
 verb_form verb = record { shape = verb_shape verb; effect = verb_effect verb }
 

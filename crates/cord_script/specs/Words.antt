@@ -48,7 +48,7 @@ abbrev pub EndsPlain : List ℕ → Type 0
 EndsPlain [] = Unit {0}
 EndsPlain (c ∷ rest) = ¬ IsPlain c
 
--- One word stands behind blanks, before the rest: a plain word as its bytes, a quoted one as the text that it spells.
+-- One word stands after blanks, before the rest: a plain word as its bytes, a quoted one as the text that it spells.
 abbrev pub HasWord : List ℕ → Word → List ℕ → Type 0
 HasWord line (Plain p) rest = (front : List ℕ) × All IsBlank front × (line ≡ front ++ p ++ rest) × (p ≢ []) × All IsPlain p × EndsPlain rest
 HasWord line (Quoted text) rest = (front w : List ℕ) × All IsBlank front × (line ≡ front ++ 34 ∷ w ++ 34 ∷ rest) × Spells w text × (length text ≤ MAX_TEXT)
@@ -62,7 +62,7 @@ StartsWith line (word ∷ words) rest = (behind : List ℕ) × HasWord line word
 abbrev pub HasWords : List ℕ → List Word → Type 0
 HasWords line words = (rest : List ℕ) × StartsWith line words rest × All IsBlank rest
 
--- How a quoted word ends that is none, behind the text that its bytes spell: at a `\`, itself no part of an escape,
+-- How a quoted word ends that is none, after the text that its bytes spell: at a `\`, itself no part of an escape,
 -- that begins none of the escapes; at the 65,536th byte of the word; at the end of the line.
 abbrev pub IsBadEnd : List ℕ → List ℕ → RefusalKind → Type 0
 IsBadEnd text rest kind =
@@ -70,7 +70,7 @@ IsBadEnd text rest kind =
     ⊎ ((kind ≡ LiteralTooLong) × (length text ≡ MAX_TEXT) × ((u v : List ℕ) × (b : ℕ) × (rest ≡ u ++ v) × Stands u b))
     ⊎ ((kind ≡ Unterminated) × (rest ≡ []))
 
--- What is wrong behind the first quote of a quoted word, the bytes being read from left to right.
+-- What is wrong after the first quote of a quoted word, the bytes being read from left to right.
 abbrev pub IsBadText : List ℕ → RefusalKind → Type 0
 IsBadText inner kind = (w rest text : List ℕ) × (inner ≡ w ++ rest) × Spells w text × (length text ≤ MAX_TEXT) × IsBadEnd text rest kind
 
@@ -78,7 +78,7 @@ IsBadText inner kind = (w rest text : List ℕ) × (inner ≡ w ++ rest) × Spel
 abbrev pub BeginsBadText : List ℕ → RefusalKind → Type 0
 BeginsBadText rest kind = (front inner : List ℕ) × All IsBlank front × (rest ≡ front ++ 34 ∷ inner) × IsBadText inner kind
 
--- The bytes of a line have a flaw: behind whole words a quoted word begins that is none.
+-- The bytes of a line have a flaw: after whole words a quoted word begins that is none.
 abbrev pub HasBadBytes : List ℕ → RefusalKind → Type 0
 HasBadBytes line kind = (words : List Word) × (rest : List ℕ) × StartsWith line words rest × BeginsBadText rest kind
 

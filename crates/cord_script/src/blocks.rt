@@ -28,7 +28,7 @@ fn else_flaw(blocks: &VecDeque<Open>) -> Option<RefusalKind>
     }
 }
 
-/// What is wrong with a statement behind these open blocks.
+/// What is wrong with a statement after these open blocks.
 pub fn block_flaw(verb: Verb, blocks: &VecDeque<Open>) -> Option<RefusalKind>
     ensures { result ≡ block_flaw (verb_effect verb) (map block_of blocks.now.items) }
 {
@@ -78,7 +78,7 @@ pub fn set_blocks(verb: Verb, line: u32, blocks: &mut VecDeque<Open>) -> Result<
     }
 }
 
-/// What is wrong at the end of a script behind these open blocks.
+/// What is wrong at the end of a script after these open blocks.
 pub fn open_flaw(blocks: &VecDeque<Open>) -> Option<Refusal>
     ensures { MatchOption result (map block_of blocks.now.items ≡ []) (λ r. IsInnermostLeft (map block_of blocks.now.items) r.line r.kind) }
 {

@@ -1,4 +1,4 @@
-// The statements' words, and what the words behind them have to be.
+// The statements' words, and what the words after them have to be.
 ghost use Rattle.std.specs.Prelude.{◌≡◌, MatchOption, IfSome, Some, None};
 ghost use Rattle.cord_script.specs.Forms.{form_in};
 ghost use Rattle.cord_script.specs.Script.{whole};
@@ -288,7 +288,7 @@ const REPEAT: [Want; 1] = [Want::Number];
 
 const IF: [Want; 3] = [Want::Number, Want::Relation, Want::Number];
 
-/// What the words behind a statement's word have to be, where their number is fixed.
+/// What the words after a statement's word have to be, where their number is fixed.
 pub fn wants_of(verb: Verb) -> &'static [Want]
     ensures { result.now ≡ verb_wants verb }
 {

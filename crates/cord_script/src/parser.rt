@@ -55,7 +55,7 @@ fn line_statement(
     Ok(Some(statement))
 }
 
-// Adds a statement behind the others.
+// Adds a statement after the others.
 fn add(statements: &mut Vec<Statement>, statement: Statement) -> Result<(), RefusalKind>
     ensures statements { OnOk result (statements.new.items ≡ statements.old.items ++ statement ∷ []) }
     ensures flaw { IfErr result (λ kind. kind ≡ RefusalKind.NoMemory) }

@@ -1,4 +1,4 @@
-// What a line says behind the lines before it.
+// What a line says after the lines before it.
 ghost use Rattle.std.specs.Prelude.{◌≡◌, ◌≢◌, [], ◌∷◌, Some, IfOk, IfErr, MatchOption, OnOk};
 ghost use Rattle.cord_script.specs.Flaws.{HasFormFlaw, HasBadWords};
 ghost use Rattle.cord_script.specs.Script.{Before, whole};
@@ -19,7 +19,7 @@ use crate::{RefusalKind, Statement};
 use std::alloc::Global;
 use std::collections::VecDeque;
 
-// The parts of the words behind a statement's word, with nothing wrong in them, their names or the open blocks.
+// The parts of the words after a statement's word, with nothing wrong in them, their names or the open blocks.
 fn checked_parts(
     alloc: Global,
     left: &Left,
@@ -39,7 +39,7 @@ fn checked_parts(
     Ok(worded)
 }
 
-// What a line leaves behind what the lines before it leave.
+// What a line leaves after what the lines before it leave.
 fn leave(verb: Verb, number: u32, left: &mut Left, parts: &[Part]) -> Result<(), RefusalKind>
     ensures left { OnOk result (before_of left.new ≡ left_after verb number parts.now (before_of left.old)) }
     ensures flaw { IfErr result (λ kind. kind ≡ RefusalKind.NoMemory) }
@@ -61,7 +61,7 @@ fn verb_in(words: &mut VecDeque<Word>) -> Option<Verb>
     }
 }
 
-/// The statement that words say behind the lines before, and what it leaves.
+/// The statement that words say after the lines before, and what it leaves.
 pub fn said(
     alloc: Global,
     number: u32,

@@ -147,7 +147,7 @@ impl Table {
         }
     }
 
-    // Leads the name's slot, or the first free one behind it, to a place.
+    // Leads the name's slot, or the first free one after it, to a place.
     fn guess(&mut self, name: &[u8], place: usize)
         ensures { self.new ≡ self.old }
     {

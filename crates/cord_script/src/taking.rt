@@ -1,4 +1,4 @@
-// What the words behind a statement's word say.
+// What the words after a statement's word say.
 ghost use Rattle.std.specs.Prelude.{◌≡◌, ◌≢◌, ◌≤◌, length, IfOk, IfErr, OnOk};
 ghost use Rattle.cord_script.specs.Forms.Shape.{Words, Joined, Printed};
 ghost use Rattle.cord_script.specs.Formats.{want_of_kind, wants_of_pieces};
@@ -179,7 +179,7 @@ fn printed_parts(
     })
 }
 
-/// The parts of the words behind a verb.
+/// The parts of the words after a verb.
 pub fn parts_of(
     alloc: Global,
     names: &Table,

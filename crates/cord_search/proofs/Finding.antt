@@ -97,7 +97,7 @@ first_none t n c from p end len none =
     let x = bytes_over t n in
     first_only x (c ∷ []) from None (λ q low at. let inside : q < length x = slice_get_within x q c (byte_there x c q at) in none q low (omega (arith, len, inside)) at)
 
--- the same from behind
+-- the same from after
 pub last_on : (t : Table) (n : Node) (xs : List ℕ) (c at p end : ℕ) (r : Option ℕ) → r ≡ None → IsLastByte (is_byte c) xs r → p + length xs ≡ end → IsPieceAt t n p xs → HasNot t n c end (at + 1) → HasNot t n c p (at + 1)
 last_on t n xs c at p end r is h seam e none =
     let nowhere : Nowhere (Passes (is_byte c) xs) 0 (length xs) = rw is at h in
@@ -126,7 +126,7 @@ in_stretch t n p s c q fits sound h from to there =
     let m : p + (q - p) ≡ q = omega arith in
     slice_get-get_or xs (q - p) 0 (omega (arith, long, from, to)) ∙ ap (λ (b : ℕ). Some b) (range_at x xs p (q - p) range (omega (arith, long, from, to)) ∙ ap (λ (k : ℕ). get_or x k 0) m ∙ get_or_from_slice_get x q c 0 there)
 
--- a search goes on behind a stretch that hasn't the byte
+-- a search goes on after a stretch that hasn't the byte
 pub first_past : (ls : Lengths) (t : Table) (n : Node) (s : Stretch) (c from p : ℕ) → HasLengths ls t → FitsIn ls n → IsSound n → IsStretchAt n p s → IsWithout s c → NotFound t n (c ∷ []) from p → NotFound t n (c ∷ []) from (p + stretch_len s)
 first_past ls t n s c from p told f sound h not none =
     λ q low to at. ⊎_elim (λ (lt : q < p). none q low lt at) (λ (le : p ≤ q). not t (q - p) (in_stretch t n p s c q (Fits-told ls t n told f) sound h le to (byte_there (bytes_over t n) c q at))) (cases_lt q p)

@@ -48,7 +48,7 @@ pub common_all : (t : Table) (x : Option Node) (i : ℕ) (y : Option Node) (j mo
 common_all t x i y j most done le ge s = record { within = le; same = s; differ = λ lt. absurd (omega (arith, lt, ge)) }
 
 module _ (t : Table) (x s : Option Node) (place period count run : ℕ) (len : length (bytes_of t x) ≡ text_len x) (pattern_len : length (bytes_of t s) ≡ text_len s) (inside : period ≤ text_len s) (repeats : IsCommon t s 0 s period (text_len s - period) count) (runs : IsCommon t x place x (place + period) (text_len x - (place + period)) run) where
-  -- what the text has at two places of the pattern, one a period behind the other
+  -- what the text has at two places of the pattern, one a period after the other
   here : (q k : ℕ) → StandsAt (bytes_of t x) (bytes_of t s) q → k + period < text_len s → get_or (bytes_of t x) (q + k) 0 ≡ get_or (bytes_of t s) k 0
   here q k at lt = stands_get (bytes_of t x) (bytes_of t s) q k at (omega (arith, lt, pattern_len))
 
@@ -89,6 +89,6 @@ module _ (t : Table) (x s : Option Node) (place period count run : ℕ) (len : l
 pub passed_none : (t : Table) (x : Option Node) (s : List ℕ) (place : ℕ) → StandsNot t x s (place + 1) (place + 1)
 passed_none t x s place = λ q low to at. omega (arith, low, to)
 
--- a search goes on behind what it passes over
+-- a search goes on after what it passes over
 pub passed_on : (t : Table) (x : Option Node) (s : List ℕ) (start place next : ℕ) → StandsNot t x s start (place + 1) → StandsNot t x s (place + 1) next → StandsNot t x s start next
 passed_on t x s start place next before behind = λ q low to at. ⊎_elim (λ (lt : q < place + 1). before q low lt at) (λ (le : place + 1 ≤ q). behind q le to at) (cases_lt q (place + 1))

@@ -24,7 +24,7 @@ use Rattle.cord_search.proofs.Ranges.{cord_told, cord_len}
 use Rattle.cord_search.proofs.Finding.{range_at, range_inside, first_only}
 use Rattle.cord_search.proofs.Comparing.{cmp_same, cmp_equal, piece_front}
 
--- bytes were copied behind what was filled
+-- bytes were copied after what was filled
 pub filled_on : (t : Table) (c : Option Node) (place done k n : ℕ) (out part : List ℕ) → IsFilled t c place done out → IsPieceOf t c (place + done) part → length part ≡ n → done ≤ length out → IsFilled t c place (done + n) (put_mid done k out part)
 filled_on t c place done k n out part h e long q =
     let x = drop place (bytes_of t c) in

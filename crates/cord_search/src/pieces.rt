@@ -11,7 +11,7 @@ use cord_core::Cord;
 use cord_io::{ReadFault, Source};
 
 // At least `count` bytes of a cord's text from a place on, which it has, where this stretch begins: the rest of a leaf where
-// that is enough. Else they are copied, some times as many where there are, so that a search which goes on behind them
+// that is enough. Else they are copied, some times as many where there are, so that a search which goes on after them
 // copies no byte often.
 pub(crate) fn window_at<'a, S: Source>(
     cord: &Cord,

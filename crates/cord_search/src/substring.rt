@@ -37,7 +37,7 @@ const WINDOW_LEN: usize = 4 * FRONT_LEN;
 /// use cord_io::{CordError, Source};
 /// use cord_search::str;
 ///
-/// /// Where `word` stands once more, behind the first place at which it stands.
+/// /// Where `word` stands once more, after the first place at which it stands.
 /// pub fn second_place<S: Source>(
 ///     text: &Cord,
 ///     word: &Cord,

@@ -22,7 +22,7 @@ pub(crate) enum Family {
     Other,
 }
 
-// A copy of a statement that is one of these members, each with its fields behind the line.
+// A copy of a statement that is one of these members, each with its fields after the line.
 macro_rules! copied {
     ($statement:ident; $($member:ident($($field:ident),*)),*) => {
         match $statement {

@@ -32,7 +32,7 @@ pub fn parse<'a, F: Files>(
     Ok(parts)
 }
 
-/// Adds a part behind the others.
+/// Adds a part after the others.
 fn add<'a>(parts: &mut Vec<Part<'a>>, part: Part<'a>) -> Result<(), AllocError> {
     parts.push(part)?;
     Ok(())

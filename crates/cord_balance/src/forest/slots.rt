@@ -93,7 +93,7 @@ pub fn gather_all(alloc: Global, forest: &mut Vec<Piece>) -> Result<Rc<Node>, Al
     }
 }
 
-/// Puts a node behind the pieces, joined with each last one whose slot isn't above its own.
+/// Puts a node after the pieces, joined with each last one whose slot isn't above its own.
 pub fn merge(alloc: Global, forest: &mut Vec<Piece>, node: Rc<Node>) -> Result<(), AllocError>
     requires forest { IsForest forest.old.items }
     requires sound { IsSound node.value }
@@ -138,7 +138,7 @@ fn put_right(alloc: Global, left: Option<Rc<Node>>, right: Rc<Node>) -> Result<R
     Ok(node)
 }
 
-/// Puts a balanced node behind the pieces.
+/// Puts a balanced node after the pieces.
 pub fn insert(alloc: Global, forest: &mut Vec<Piece>, node: Rc<Node>) -> Result<(), AllocError>
     requires forest { IsForest forest.old.items }
     requires sound { IsSound node.value }

@@ -26,7 +26,7 @@ fn is_balanced(node: &Node) -> bool
     index <= MAX_INDEX && fib(index) <= node.len()
 }
 
-/// Puts a tree behind the pieces, each greatest balanced part of it as one piece.
+/// Puts a tree after the pieces, each greatest balanced part of it as one piece.
 #[tactic(auto, using(crate::proofs::FibLemmas::fibs))]
 pub fn insert_tree(
     alloc: Global,
@@ -56,7 +56,7 @@ pub fn insert_tree(
     }
 }
 
-/// Puts a tree behind the pieces, each greatest balanced part of it as one piece. A subtree that isn't balanced and has
+/// Puts a tree after the pieces, each greatest balanced part of it as one piece. A subtree that isn't balanced and has
 /// more than `alone` owners, which is 1 for a side, is opened by itself where it is first met, once in a call. At each
 /// further place the pairs are looked through, and its balanced form goes in, opened as far as that isn't balanced: a
 /// few nodes for each of its levels.

@@ -43,7 +43,7 @@ fn all_of(rt: &impl Abort, alloc: Global, cords: &[Cord]) -> Cord {
     Cord::catn(alloc, cords).expect(rt, "no memory")
 }
 
-// A leaf, a run, a byte and bytes, one behind the other.
+// A leaf, a run, a byte and bytes, one after the other.
 fn abccdef(rt: &impl Abort, alloc: Global) -> Cord {
     let run = run_of(rt, alloc, 99, 2);
     let cord = joined(rt, alloc, &cord_of(rt, alloc, b"ab"), &run);
@@ -240,7 +240,7 @@ fn repeats(cord: &Cord, piece: &Cord) -> bool {
     }
 }
 
-// Two leaves that are one, and this so often more behind it.
+// Two leaves that are one, and this so often more after it.
 fn repeated(rt: &impl Abort, alloc: Global, piece: &Cord) -> Cord {
     let mut cord = share_of(rt, alloc, piece);
     for _ in 0..40 {

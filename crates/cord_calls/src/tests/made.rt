@@ -64,7 +64,7 @@ fn both(rt: &impl Abort, alloc: Global, left: &Cord, right: &Cord) -> Cord
     cord
 }
 
-// A cord and itself, one behind the other, so often.
+// A cord and itself, one after the other, so often.
 fn doubled(rt: &impl Abort, alloc: Global, cord: &Cord, turns: u32) -> Cord
     requires { (lengths : Lengths) → 600 ≤ length_at lengths 2 → CordFitsIn lengths cord.now }
     ensures { (lengths : Lengths) → 600 ≤ length_at lengths 2 → CordFitsIn lengths result }
@@ -88,7 +88,7 @@ fn with_part(rt: &impl Abort, alloc: Global, cord: &Cord, part: Part) -> Cord
     }
 }
 
-// A cord, and these parts behind it; with no part the very cord, shared.
+// A cord, and these parts after it; with no part the very cord, shared.
 pub(super) fn longer(rt: &impl Abort, alloc: Global, cord: &Cord, parts: &[Part]) -> Cord
     requires { (lengths : Lengths) → 600 ≤ length_at lengths 2 → CordFitsIn lengths cord.now }
     ensures { (lengths : Lengths) → 600 ≤ length_at lengths 2 → CordFitsIn lengths result }

@@ -37,7 +37,7 @@ fn func_of(rt: &impl Abort, alloc: Global, id: u32, start: u64) -> Rc<Node>
     func(alloc, SourceId(id), start, 3).expect(rt, "no memory")
 }
 
-// Two nodes, one behind the other, both shallow, where a cord can be so long.
+// Two nodes, one after the other, both shallow, where a cord can be so long.
 fn joined(rt: &impl Abort, alloc: Global, left: &Rc<Node>, right: &Rc<Node>) -> Rc<Node>
     requires left_sound { IsSound left.now.value }
     requires right_sound { IsSound right.now.value }
@@ -147,7 +147,7 @@ fn one_node_is_the_same(rt: HostRuntime) {
     expect_its_clone(&rt, &func_of(&rt, alloc, 1, 2));
 }
 
-// A node, and a thousand zeros behind it.
+// A node, and a thousand zeros after it.
 fn with_zeros(rt: &impl Abort, alloc: Global, node: &Rc<Node>) -> Rc<Node>
     requires { IsSound node.now.value }
     ensures { IsSound result.value }

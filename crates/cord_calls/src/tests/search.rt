@@ -155,7 +155,7 @@ const LONGEST_RUN: Parts = &[Run(b'a', MAX_LEN)];
 
 const SHORTER_RUN: Parts = &[Run(b'a', MAX_LEN - 1)];
 
-// What two cords share, and what each of them has behind it: with nothing both are one cord.
+// What two cords share, and what each of them has after it: with nothing both are one cord.
 type Pair = (Parts, Parts, Parts);
 
 // Which of two cords is greater.

@@ -31,7 +31,7 @@ pub(super) fn run_of(rt: &impl Abort, alloc: Global, byte: u8, len: u64) -> Cord
     Cord::chars(alloc, byte, len).expect(rt, "no memory")
 }
 
-// Two cords, one behind the other.
+// Two cords, one after the other.
 pub(super) fn joined(rt: &impl Abort, alloc: Global, left: &Cord, right: &Cord) -> Cord {
     Cord::cat(alloc, left, right).expect(rt, "no memory")
 }

@@ -6,12 +6,12 @@ use std::alloc::Global;
 use std::process::Abort;
 use std::rc::RcSlice;
 
-// A cord with bytes behind it.
+// A cord with bytes after it.
 fn longer_by(rt: &impl Abort, alloc: Global, cord: &Cord, bytes: &[u8]) -> Cord {
     again!(rt, Cord::cat_bytes(alloc, cord, bytes))
 }
 
-// Two cords, one behind the other.
+// Two cords, one after the other.
 fn joined(rt: &impl Abort, alloc: Global, left: &Cord, right: &Cord) -> Cord {
     again!(rt, Cord::cat(alloc, left, right))
 }
@@ -22,7 +22,7 @@ fn abcc(rt: &impl Abort, alloc: Global) -> Cord {
     joined(rt, alloc, &leaf, &run_of(rt, alloc, 99, 2))
 }
 
-// A text in leaves of 65 bytes, each of which is one step deeper than the one behind it: of 61 leaves, 60 deep.
+// A text in leaves of 65 bytes, each of which is one step deeper than the one after it: of 61 leaves, 60 deep.
 fn deep(rt: &impl Abort, alloc: Global, text: &[u8]) -> Cord {
     let mut cord = Cord::empty();
     for leaf in text.chunks(65) {

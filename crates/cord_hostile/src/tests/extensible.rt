@@ -103,7 +103,7 @@ fn refused_ext_cord_calls(rt: HostRuntime) {
     expect_ext(&rt, alloc, &mut ext, b"abc", true);
 }
 
-// A byte behind a full buffer.
+// A byte after a full buffer.
 fn outgrow(rt: &impl Abort, alloc: Global, full: &[u8], whole: &[u8], is_read: bool) {
     let mut ext = ext_of(rt, alloc, full);
     add_byte(
@@ -127,7 +127,7 @@ fn refused_append_behind_a_full_buffer(rt: HostRuntime) {
     outgrow(&rt, rt.alloc(), full, &text, true);
 }
 
-// Many bytes behind the first 100 of a text.
+// Many bytes after the first 100 of a text.
 fn grow(rt: &impl Abort, alloc: Global, text: &[u8], is_read: bool) {
     let Some((few, many)) = text.split_at_checked(100) else {
         panic!(rt; "too short");
@@ -144,7 +144,7 @@ fn refused_append_bytes_that_fit(rt: HostRuntime) {
     grow(&rt, rt.alloc(), &text, true);
 }
 
-// 10,000 bytes behind 100, which take leaves of their own.
+// 10,000 bytes after 100, which take leaves of their own.
 #[test]
 fn refused_append_bytes_in_the_middle(rt: HostRuntime) {
     let text = pattern(&rt, rt.alloc(), 10_100);
@@ -152,7 +152,7 @@ fn refused_append_bytes_in_the_middle(rt: HostRuntime) {
     grow(&rt, rt.alloc(), &text, true);
 }
 
-// A cord behind "abc".
+// A cord after "abc".
 fn add_de(rt: &impl Abort, alloc: Global, cord: &Cord, is_read: bool) {
     let mut ext = ext_of(rt, alloc, b"abc");
     add_cord(
@@ -175,7 +175,7 @@ fn refused_append_cord(rt: HostRuntime) {
     add_de(&rt, rt.alloc(), &cord, true);
 }
 
-// A byte behind "abcde".
+// A byte after "abcde".
 fn add_f(rt: &impl Abort, alloc: Global, ext: &mut ExtCord) {
     again!(rt, ext.append(alloc, 102));
 }

@@ -53,7 +53,7 @@ fn run_of(rt: &impl Abort, alloc: Global, byte: u8, len: u64) -> Rc<Node>
     made(rt, first, run(alloc, byte, len))
 }
 
-// Two nodes, one behind the other, both short and shallow.
+// Two nodes, one after the other, both short and shallow.
 fn joined(
     rt: &impl Abort,
     alloc: Global,

@@ -131,7 +131,7 @@ fn jumps_of(rt: &impl Abort, alloc: Global, made: &Plan, count: usize) -> Vec<us
     }
 }
 
-// A `repeat` leads behind its `end`, an `if` behind its `else` or to its `end`, an `else` to its `end`, and any other to the next
+// A `repeat` leads after its `end`, an `if` after its `else` or to its `end`, an `else` to its `end`, and any other to the next
 // place.
 #[test]
 fn refused_jumps(rt: HostRuntime) {

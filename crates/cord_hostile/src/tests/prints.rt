@@ -161,7 +161,7 @@ fn refused_sprintf_that_pads(rt: HostRuntime) {
     expect_text(&rt, &cord, b"   he|7   |-0007||%");
 }
 
-// 300 times the byte "a", and a text behind them.
+// 300 times the byte "a", and a text after them.
 fn behind_letters(rt: &impl Abort, alloc: Global, text: &[u8]) -> Vec<u8> {
     let mut bytes = again!(rt, Vec::from_elem(alloc, 97, 300));
     again!(rt, bytes.extend_from_slice(text));

@@ -25,7 +25,7 @@ fn expect_buffer(rt: &impl Abort, buffer: &RawBuf, bytes: &[u8]) {
     assert!(rt; holds(buffer, bytes), "the buffer is not {bytes:?}");
 }
 
-// Pushes a byte behind these, for which there is room.
+// Pushes a byte after these, for which there is room.
 fn push(rt: &impl Abort, alloc: Global, buffer: &mut RawBuf, before: &[u8], byte: u8) {
     assert!(rt; buffer.len() < RawBuf::CAP);
     if buffer.push(alloc, byte).is_err() {
@@ -34,7 +34,7 @@ fn push(rt: &impl Abort, alloc: Global, buffer: &mut RawBuf, before: &[u8], byte
     }
 }
 
-// Adds bytes behind these, for which there is room.
+// Adds bytes after these, for which there is room.
 fn extend(rt: &impl Abort, alloc: Global, buffer: &mut RawBuf, before: &[u8], bytes: &[u8]) {
     assert!(rt; bytes.len() as u64 <= RawBuf::CAP - buffer.len());
     if buffer.extend(alloc, bytes).is_err() {

@@ -21,7 +21,7 @@ pub enum Fragment<'a> {
     Number(&'a Number),
     /// A path, quoted.
     Path(&'a Path),
-    /// The arguments of a format, each behind a blank.
+    /// The arguments of a format, each after a blank.
     Arguments(&'a Arguments),
 }
 
@@ -138,7 +138,7 @@ fn hex_digit(digit: u8) -> u8
     }
 }
 
-// The arguments of a format, each behind a blank.
+// The arguments of a format, each after a blank.
 fn put_arguments<W: Sink>(arguments: &[Argument], sink: &mut W) -> Result<(), WriteFault>
     ensures { Writes (argument_words arguments.now) (W.taken sink.old) (W.taken sink.new) (W.failures sink.old) (W.failures sink.new) (W.finished sink.old) (W.finished sink.new) result }
 {

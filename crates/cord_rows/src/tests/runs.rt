@@ -144,7 +144,7 @@ fn names_at_the_limit(rt: HostRuntime) {
     expect_end(&rt, "names-at-the-limit", &names(&rt, 256), End::Done, b"");
 }
 
-// Of two names behind the first few that share a slot each keeps its own number: 97 * 31 + 80 is 98 * 31 + 49.
+// Of two names after the first few that share a slot each keeps its own number: 97 * 31 + 80 is 98 * 31 + 49.
 #[test]
 fn names_of_one_slot(rt: HostRuntime) {
     let few =

@@ -46,7 +46,7 @@ fn nested(rt: &impl Abort, alloc: Global, n: u32) -> String {
     script
 }
 
-// A `catn` of so many cords, behind the line that makes them.
+// A `catn` of so many cords, after the line that makes them.
 fn joined(rt: &impl Abort, alloc: Global, n: u32) -> String {
     let operands = repeated(rt, alloc, " x", n);
     format!(in alloc; "let x \"a\"\ncatn z{operands}").expect(rt, "no memory")

@@ -3,7 +3,7 @@ use Rattle.std.specs.Prelude.{slice_index}
 use Rattle.cord_io.specs.Entries.{function_byte}
 use Rattle.cord_file.proofs.functions.fill.Given as goal
 
--- the bytes so far, which come again behind them
+-- the bytes so far, which come again after them
 abbrev pub invariant-loop-done : goal.invariant-loop-done
 invariant-loop-done l = record {
   some : 0 < length l.out → 0 < l.done;

@@ -1,4 +1,4 @@
-//! Rows of scripts over files: whole ones, ones that fail after some calls, and ones that give no byte behind a place.
+//! Rows of scripts over files: whole ones, ones that fail after some calls, and ones that give no byte after a place.
 use super::{add, lines, numbered, run_way};
 use cord_io::{CutFiles, Files, FuseFiles, MemFiles, MemSink};
 use cord_run::{End, FaultKind};

@@ -17,7 +17,7 @@ cat_open = 99 ∷ 97 ∷ 116 ∷ 40 ∷ []
 abbrev sub_open : List ℕ
 sub_open = 115 ∷ 117 ∷ 98 ∷ 40 ∷ []
 
--- what stands behind the expression of a `sub`
+-- what stands after the expression of a `sub`
 abbrev behind : Number → Number → List ℕ
 behind i n = 32 ∷ (number i ++ 32 ∷ (number n ++ 41 ∷ []))
 

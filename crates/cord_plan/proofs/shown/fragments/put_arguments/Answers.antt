@@ -4,7 +4,7 @@ use Rattle.cord_plan.specs.Shown.{argument, argument_words}
 use Rattle.cord_plan.proofs.Writing.{AreJoined, writes_failed, writes_next, writes_broken, writes_then, writes_stopped, writes_same}
 use Rattle.cord_plan.proofs.shown.fragments.put_arguments.Goals as goal
 
--- an argument behind a blank
+-- an argument after a blank
 abbrev word : Argument → List ℕ
 word a = 32 ∷ argument a
 

@@ -109,22 +109,22 @@ module _ {M : Type 1} (𝓤 : Ura M) (𝓛 : Logic 𝓤) (𝓜 : Model 𝓤 𝓛
         sets ! (of_opd ! (get ! refl)) refl (tt, record { fits = few }) $ sets ! (bin ! (lit ! tt) (get ! refl) tt) refl (tt, tt) $
         first ! $ branches ! (get ! refl) (λ more. skips ! $ exec ! 𝓣.C 𝓣.Λ En (after 3 turn) (any_q (Turned here)) $
         fsplit ! $ fsplit ! $ use1 𝓛 (‵ (pointer 𝓛 x.next b o) ⊛ raw (Rest 𝓛 x b o)) (pointer_apart 𝓛 x b o) $ split ! $
-        -- [its pointer; the rest of the block; the right to free it; the blocks behind it; the tokens]
+        -- [its pointer; the rest of the block; the right to free it; the blocks after it; the tokens]
         first ! $ blocks ! $ sets_last ! (of_opd ! (load ! (through ! refl (fld ! refl (stop !))) (look ! 0 refl))) refl (Ptr-Good x.next) $
         exec ! 𝓣.C 𝓣.Λ En (after 4 turn) (any_q (Turned here)) $ sets ! (of_opd ! (get ! refl)) refl (Ptr-Good x.next) $
         use2 𝓛 (‵ (part_at the_row full_share x b o)) (pointer_back 𝓛 x x.next b o) $ fjoin ! $ move ! (0 ∷ 2 ∷ []) $
-        -- [the block; the tokens; the blocks behind it]
+        -- [the block; the tokens; the blocks after it]
         first ! $ blocks ! $ sets ! (of_opd ! (get ! refl)) refl handle_typed $ sets ! (of_opd ! (get ! refl)) refl (tt, tt) $
         let z = at_makes 𝓛 mem run α β x b o in use2 𝓛 (raw ((Makes 𝓛 mem run α β).pre z)) (makes_asks 𝓛 mem run α β x b o) $
         calls_at_last ! fm (Makes 𝓛 mem run α β) boxes z (and_then ! (get ! refl) (and_then ! (get ! refl) (no_more !))) (λ u.
         use1 𝓛 (later (some (λ (d : Boxed.Denot). given (Good (layout Boxed) u) (‵ (Boxed.own_val d (u ∷ [])) ⊛ tokens α β)))) (makes_gives 𝓛 mem run α β x b o u) $
         await ! tt $ pick ! (λ d. learn ! (λ good. split ! $
-        -- [the box; the tokens; the blocks behind it]
+        -- [the box; the tokens; the blocks after it]
         lands_last ! refl good $ exec ! 𝓣.C 𝓣.Λ En (after 6 turn) (any_q (Turned here)) $ sets ! (of_opd ! (get ! refl)) refl good $
         let z' = at_frees 𝓛 mem run α β d u in use2 𝓛 (raw ((Frees 𝓛 mem run α β).pre z')) (frees_asks 𝓛 mem run α β d u) $
         calls_at ! fm (Frees 𝓛 mem run α β) frees z' (and_then ! (get ! refl) (no_more !)) (λ v.
         use1 𝓛 (later (given (v ≡ vunit) (tokens α β))) (frees_gives 𝓛 mem run α β d u v) $ await ! tt $ learn ! (λ is_unit.
-        -- [the tokens; the blocks behind it]
+        -- [the tokens; the blocks after it]
         lands_as ! is_unit refl (tt, tt) $
         sets ! (of_opd ! (get ! refl)) refl (Ptr-Good x.next) $ sets ! (of_opd ! (get ! refl)) refl (tt, record { fits = few }) $
         sets_last ! (bin ! (get ! refl) (lit ! tt) one) refl (tt, record { fits = fits }) $

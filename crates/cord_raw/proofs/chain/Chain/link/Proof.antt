@@ -39,7 +39,7 @@ use Rattle.cord_raw.proofs.chain.Chain.link.Code as code
 abbrev stayed : Stays f.ended.signature.params f.ended.kept
 stayed = (stay_ref (0 ∷ []) tt (plain (λ _. C)), (stay_dropped (plain (λ _. C)) yes, tt))
 
--- the chain d with the blocks of e behind its newest
+-- the chain d with the blocks of e after its newest
 abbrev linked : (d e : Chain) → length d.older + length e.older + 2 ≤ MOST_BLOCKS → Chain
 linked d e few = record {
   first = d.first;

@@ -1,4 +1,4 @@
--- `newest` opens the chain, lends the block behind its second pointer, and keeps what gives the chain back.
+-- `newest` opens the chain, lends the block after its second pointer, and keeps what gives the chain back.
 use Rattle.std.proofs.Common.{◌≡◌, ℕ, List, [], ◌∷◌, refl, sym, MutBor}
 use seplogic.Ra.Ura.{Ura}
 use mir.Syntax.{named}

@@ -1,4 +1,4 @@
--- `put_run` follows the chain's second pointer, lends the run of bytes behind the newest block's text for the call that copies into it, and counts what was copied.
+-- `put_run` follows the chain's second pointer, lends the run of bytes after the newest block's text for the call that copies into it, and counts what was copied.
 use Rattle.std.proofs.Common.{◌≡◌, ℕ, ◌+◌, ◌-◌, ◌≤◌, ◌<◌, ◌^◌, w64, List, [], ◌∷◌, length, refl, sym, ap, ◌∙◌, subst, arith, MutBor}
 use mir.Syntax.{named}
 use mir.Val.{Val, vunit, vint}
@@ -45,7 +45,7 @@ use Rattle.cord_raw.proofs.chain.Chain.put_run.Code as code
 abbrev stayed : Stays f.ended.signature.params f.ended.kept
 stayed = (stay_ref (0 ∷ []) tt (plain (λ _. C)), (stay_dropped (SliceRefOf (1 ∷ []) tt (plain (λ _. u8)) (λ _. tt)) yes, tt))
 
--- the block x with these bytes behind its text
+-- the block x with these bytes after its text
 abbrev with_bytes : Block → List ℕ → Block
 with_bytes x run = record { next = x.next; len = x.len + length run; bytes = with_run x.bytes x.len (length run) run }
 
