@@ -63,6 +63,13 @@ range_at x xs p k e lt = ap (λ (ys : List ℕ). get_or ys k 0) e ∙ get_or-tak
 pub range_inside : (x xs : List ℕ) (p : ℕ) → xs ≡ take (length xs) (drop p x) → 0 < length xs → p + length xs ≤ length x
 range_inside x xs p e some = omega (arith, some, ap (λ (ys : List ℕ). length ys) e, length-take (length xs) (drop p x), length-drop p x)
 
+-- the first byte of a range
+pub byte_of_range : (x xs : List ℕ) (p : ℕ) → xs ≡ take (length xs) (drop p x) → 0 < length xs → slice_get x p ≡ Some (get_or xs 0 0)
+byte_of_range x xs p e some =
+    let inside : p + length xs ≤ length x = range_inside x xs p e some in
+    let here : p + 0 ≡ p = omega arith in
+    slice_get-get_or x p 0 (omega (arith, inside, some)) ∙ ap (λ (b : ℕ). Some b) (sym (range_at x xs p 0 e some ∙ ap (λ (k : ℕ). get_or x k 0) here))
+
 -- a byte of the text is found in the range that holds its place
 passes : (x xs : List ℕ) (c p q : ℕ) → xs ≡ take (length xs) (drop p x) → p ≤ q → q < p + length xs → slice_get x q ≡ Some c → Passes (is_byte c) xs (q - p)
 passes x xs c p q e from to h =

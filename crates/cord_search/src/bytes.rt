@@ -7,11 +7,10 @@ ghost use Rattle.cord_core.specs.Cord.{text_len, bytes_of, CordFitsIn};
 ghost use Rattle.cord_core.specs.Texts.{first, last};
 
 use crate::PIECE_LEN;
-use crate::pieces::{first_piece, last_piece};
-use crate::stretches::{block_at, stretch_before};
+use crate::pieces::{copy_front, first_piece, last_piece};
+use crate::stretches::{block_at, cord_stretch_at, stretch_before};
 use cord_core::{Cord, Node};
 use cord_io::{CordError, ReadFault, Source};
-use cord_pos::Position;
 use memchr::{memchr, memrchr};
 
 /// The byte of a cord at place `i`, after `CORD_fetch` of `cord.h`. The place is below the length, and each function
@@ -28,8 +27,9 @@ pub fn fetch<S: Source>(x: &Cord, i: u64, src: &mut S) -> Result<u8, CordError>
     ensures table { S.table src.new ≡ S.table src.old }
     ensures earlier { (folder : Folder) → S.keeps src.new folder → S.keeps src.old folder }
 {
-    let byte = Position::set(x, i).fetch(src)?;
-    Ok(byte)
+    let mut byte = [0];
+    copy_front(cord_stretch_at(x, i), &mut byte, src)?;
+    Ok(byte[0])
 }
 
 /// The first place of the byte `c` at `i` or later, after `CORD_chr` of `cord.h`. The place `i` is below the length,

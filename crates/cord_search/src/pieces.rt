@@ -74,7 +74,11 @@ pub(crate) fn gather<S: Source>(
 }
 
 // Copies the first bytes of a stretch, which has as many.
-fn copy_front<S: Source>(stretch: Stretch, out: &mut [u8], src: &mut S) -> Result<(), ReadFault>
+pub(crate) fn copy_front<S: Source>(
+    stretch: Stretch,
+    out: &mut [u8],
+    src: &mut S,
+) -> Result<(), ReadFault>
     requires some { 0 < length out.old }
     requires inside { length out.old ≤ stretch_len stretch }
     requires fits { StretchFitsIn (S.lengths src.old) stretch }
