@@ -47,10 +47,10 @@ const PUT: &[(&str, Parts, Passes, Result<(), CordError>, &[u8])] = &[
     ),
     (
         "a_read_fails_in_the_middle",
-        &[Func(0, 600)],
+        &[Func(0, 500), Func(0, 600)],
         (1, u64::MAX, 4096),
         Err(CordError::ReadFailed),
-        &[120; 512],
+        &[120; 500],
     ),
 ];
 

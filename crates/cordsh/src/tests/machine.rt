@@ -112,7 +112,7 @@ fn real_file(rt: HostRuntime) {
 #[test]
 fn file_cut_while_it_is_read(rt: HostRuntime) {
     let path = "cordsh_test_emptied";
-    let file = numbered(&rt, 2_000);
+    let file = numbered(&rt, 10_000);
     write_file(&rt, path, &file);
     let script = lines(&rt, r#"lazy x "cordsh_test_emptied" ; put x"#);
     write_file(&rt, "cordsh_test_emptying", &script);
@@ -126,7 +126,7 @@ fn file_cut_while_it_is_read(rt: HostRuntime) {
     remove_file(&rt, "cordsh_test_emptying");
     assert!(rt; status == 4);
     assert!(rt; err.as_slice() == b"cordsh: line 2: read failed\n".as_slice());
-    assert!(rt; out.taken.len() == 512);
+    assert!(rt; out.taken.len() == 4_096);
     assert!(rt; file.as_slice().starts_with(out.taken.as_slice()));
 }
 
