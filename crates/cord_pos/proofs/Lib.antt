@@ -1,5 +1,5 @@
-pub mod WayLemmas
 pub mod Sides
+pub mod Steps
 pub mod Moves
 pub mod Counts
 pub mod SamePart

@@ -9,7 +9,7 @@ use Rattle.cord_node.proofs.TableLemmas.{Fits-told}
 use Rattle.cord_core.specs.Cord.{CordFitsIn}
 use Rattle.cord_pos.specs.declared.path.Path.{Path}
 use Rattle.cord_pos.specs.declared.Spot.{Spot}
-use Rattle.cord_pos.specs.Path.{places, part_at}
+use Rattle.cord_pos.specs.Path.{node_of, places, part_at}
 use Rattle.cord_pos.specs.Parts.{is_part, HasByte}
 use Rattle.cord_pos.specs.Position.{IsByteAt}
 use Rattle.cord_pos.specs.Invariant.{IsOnPart, IsPosition}
@@ -19,10 +19,10 @@ use Rattle.cord_pos.proofs.SamePart.{has_range}
 -- what the part at which a valid position stands is good for
 pub record IsSpotPart (lengths : Lengths) (c : Option Node) (spot : Spot) : Type 0 where
   pub from : spot.part.start ≤ spot.index
-  pub inside : spot.index - spot.part.start < len_of spot.part.node.now
-  pub part : is_part spot.part.node.now ≡ true
-  pub sound : IsSound spot.part.node.now
-  pub fits : CordFitsIn lengths c → FitsIn lengths spot.part.node.now
+  pub inside : spot.index - spot.part.start < len_of (node_of spot.part.node)
+  pub part : is_part (node_of spot.part.node) ≡ true
+  pub sound : IsSound (node_of spot.part.node)
+  pub fits : CordFitsIn lengths c → FitsIn lengths (node_of spot.part.node)
 
 -- the part of each valid position is so
 pub spot_part : (lengths : Lengths) (c : Option Node) (spot : Spot) (path : Path) → IsPosition c (Some spot) path → IsSpotPart lengths c spot
@@ -30,8 +30,8 @@ spot_part lengths None spot path on = absurd on.on_spot
 spot_part lengths (Some n) spot path on =
     let p : IsOnPart n spot.index spot.part (places path.stops.items) = on.on_spot in
     let start : spot.part.start ≡ (part_at n 0 spot.index).1 = ap (λ (x : Node × ℕ). x.1) p.holder in
-    let node : spot.part.node.now ≡ (part_at n 0 spot.index).0 = ap (λ (x : Node × ℕ). x.0) p.holder in
-    let len : len_of spot.part.node.now ≡ len_of (part_at n 0 spot.index).0 = ap (λ (x : Node × ℕ). len_of x.0) p.holder in
+    let node : (node_of spot.part.node) ≡ (part_at n 0 spot.index).0 = ap (λ (x : Node × ℕ). x.0) p.holder in
+    let len : len_of (node_of spot.part.node) ≡ len_of (part_at n 0 spot.index).0 = ap (λ (x : Node × ℕ). len_of x.0) p.holder in
     let r = has_range n 0 spot.index p.sound p.inside in
     let m : IsPartOf lengths n (part_at n 0 spot.index).0 = part_of lengths n 0 spot.index p.sound in
     record {
@@ -43,11 +43,11 @@ spot_part lengths (Some n) spot path on =
     }
 
 -- over a table with the lengths that were told, the byte of the part is that of the cord
-pub spot_byte : (lengths : Lengths) (t : Table) (c : Option Node) (spot : Spot) (path : Path) (b : ℕ) → IsPosition c (Some spot) path → HasLengths lengths t → CordFitsIn lengths c → HasByte t spot.part.node.now (spot.index - spot.part.start) b → IsByteAt t c (Some spot.index) b
+pub spot_byte : (lengths : Lengths) (t : Table) (c : Option Node) (spot : Spot) (path : Path) (b : ℕ) → IsPosition c (Some spot) path → HasLengths lengths t → CordFitsIn lengths c → HasByte t (node_of spot.part.node) (spot.index - spot.part.start) b → IsByteAt t c (Some spot.index) b
 spot_byte lengths t None spot path b on told fits e = absurd on.on_spot
 spot_byte lengths t (Some n) spot path b on told fits e =
     let p : IsOnPart n spot.index spot.part (places path.stops.items) = on.on_spot in
     let start : spot.part.start ≡ (part_at n 0 spot.index).1 = ap (λ (x : Node × ℕ). x.1) p.holder in
-    let node : spot.part.node.now ≡ (part_at n 0 spot.index).0 = ap (λ (x : Node × ℕ). x.0) p.holder in
+    let node : (node_of spot.part.node) ≡ (part_at n 0 spot.index).0 = ap (λ (x : Node × ℕ). x.0) p.holder in
     let e' : HasByte t (part_at n 0 spot.index).0 (spot.index - (part_at n 0 spot.index).1) b = rw (node, start) at e in
     part_byte t n 0 spot.index spot.index b (omega arith) p.sound p.inside (Fits-told lengths t n told fits) e'

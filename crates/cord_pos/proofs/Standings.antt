@@ -1,5 +1,5 @@
 -- Where a position stands, and what it takes to set or move it.
-use Rattle.std.proofs.Common.{◌≡◌, ℕ, ◌+◌, ◌-◌, ◌^◌, ◌<◌, ◌≤◌, min, refl, sym, ◌∙◌, ap, arith, Some, None, zero, suc}
+use Rattle.std.proofs.Common.{◌≡◌, ℕ, ◌+◌, ◌-◌, ◌^◌, ◌<◌, ◌≤◌, min, List, refl, sym, ◌∙◌, ap, arith, Some, None, zero, suc}
 use Rattle.std.specs.Prelude.{Option}
 use Rattle.std.proofs.lemmas.Bool.{lt-ltb}
 use Rattle.std.proofs.lemmas.Bool.Decides.{nat_tests}
@@ -10,20 +10,27 @@ use Rattle.cord_io.specs.declared.TheConstants.{MAX_DEPTH}
 use Rattle.cord_core.specs.Cord.{text_len, depth, IsCord}
 use Rattle.cord_pos.specs.declared.path.Path.{Path}
 use Rattle.cord_pos.specs.declared.Spot.{Spot}
-use Rattle.cord_pos.specs.Path.{places, part_at}
+use Rattle.cord_pos.specs.declared.path.Part.{Part}
+use Rattle.cord_pos.specs.Path.{Place, node_of, places, part_at}
 use Rattle.cord_pos.specs.Position.{set_visits, move_visits, number_at, occurrences, index_at, next_index, next_visits, prev_visits, IsNoEarlier, IsOnePart}
-use Rattle.cord_pos.specs.Invariant.{IsOnPart, IsPosition}
+use Rattle.cord_pos.specs.Invariant.{IsOnPart, IsOnCord, IsPosition}
+use Rattle.cord_pos.proofs.Sides.{not_less}
 use Rattle.cord_pos.proofs.Counts.{level_depth, depth_limit, preorder_first, preorder_last, preorder_below, preorder_next, shared_same, shared_below, size_len}
 use Rattle.cord_node.proofs.TreeLemmas.{len_limit, len_positive}
 use Rattle.cord_pos.proofs.SamePart.{HasRange, has_range, IsSamePart, same_part}
 
--- a position at an index, from its root and its part
-pub position_at : (c : Option Node) (n : Node) (spot : Option Spot) (s : Spot) (path : Path) → c ≡ Some n → spot ≡ Some s → IsOnPart n s.index s.part (places path.stops.items) → path.visits ≤ 2 ^ 64 - 1 → IsPosition c spot path
-position_at c n spot s path e f on counted = record { on_spot = rw (e, f) on; counted = counted }
+-- the part at the end of a way from a root is that of the cord
+pub on_cord : (c : Option Node) (n : Node) (index : ℕ) (part : Part) (ps : List Place) → c ≡ Some n → IsOnPart n index part ps → IsOnCord c index part ps
+on_cord c n index part ps e on = rw e on
 
--- a position without an index
-pub position_nowhere : (c : Option Node) (spot : Option Spot) (path : Path) → spot ≡ None → path.visits ≤ 2 ^ 64 - 1 → IsPosition c spot path
-position_nowhere c spot path f counted = record { on_spot = rw f tt; counted = counted }
+-- past the end no node is visited
+pub set_past : (c : Option Node) (i : ℕ) → text_len c ≤ i → set_visits c i ≡ 0
+set_past None i h = refl
+set_past (Some n) i h = rw (not_less i (len_of n) h) refl
+
+-- inside, one more than the level
+pub set_inside : (c : Option Node) (n : Node) (i : ℕ) → c ≡ Some n → i < len_of n → set_visits c i ≡ level n i + 1
+set_inside c n i e h = rw (e, lt-ltb i (len_of n) h) refl
 
 -- setting a position visits at most one node more than the depth
 pub set_bound : (c : Option Node) (i : ℕ) → IsCord c → set_visits c i ≤ depth c + 1
@@ -53,8 +60,8 @@ still None spot path j on a b = absurd on.on_spot
 still (Some n) spot path j on a b =
     let p : IsOnPart n spot.index spot.part (places path.stops.items) = on.on_spot in
     let start : spot.part.start ≡ (part_at n 0 spot.index).1 = ap (λ (x : Node × ℕ). x.1) p.holder in
-    let node : spot.part.node.now ≡ (part_at n 0 spot.index).0 = ap (λ (x : Node × ℕ). x.0) p.holder in
-    let len : len_of spot.part.node.now ≡ len_of (part_at n 0 spot.index).0 = ap len_of node in
+    let node : (node_of spot.part.node) ≡ (part_at n 0 spot.index).0 = ap (λ (x : Node × ℕ). x.0) p.holder in
+    let len : len_of (node_of spot.part.node) ≡ len_of (part_at n 0 spot.index).0 = ap len_of node in
     let m : IsSamePart n 0 spot.index j = same_part n 0 spot.index j j (omega arith) p.sound p.inside (omega arith) (omega (arith, p.end)) in
     let shared : shared_level n spot.index j ≡ level n j = shared_same n spot.index j (sym m.preorder) in
     let r : HasRange n 0 spot.index = has_range n 0 spot.index p.sound p.inside in
@@ -83,7 +90,7 @@ end_above None spot path on = absurd on.on_spot
 end_above (Some n) spot path on =
     let p : IsOnPart n spot.index spot.part (places path.stops.items) = on.on_spot in
     let start : spot.part.start ≡ (part_at n 0 spot.index).1 = ap (λ (x : Node × ℕ). x.1) p.holder in
-    let len : len_of spot.part.node.now ≡ len_of (part_at n 0 spot.index).0 = ap (λ (x : Node × ℕ). len_of x.0) p.holder in
+    let len : len_of (node_of spot.part.node) ≡ len_of (part_at n 0 spot.index).0 = ap (λ (x : Node × ℕ). len_of x.0) p.holder in
     omega (arith, p.end, (has_range n 0 spot.index p.sound p.inside).last)
 
 -- a `prev` is a move to the index before
@@ -100,7 +107,7 @@ pub next_still_index : (c : Option Node) (spot : Spot) (path : Path) → IsPosit
 next_still_index c spot path on k = grind (arith, nat_tests, (next_still c spot path on k).inside)
 
 -- its visits: none
-pub next_still_visits : (c : Option Node) (spot : Spot) (path : Path) → IsPosition c (Some spot) path → spot.index + 1 < spot.part.end → path.visits ≡ min (path.visits + next_visits c (Some spot.index)) (2 ^ 64 - 1)
+pub next_still_visits : (c : Option Node) (spot : Spot) (path : Path) → IsPosition c (Some spot) path → spot.index + 1 < spot.part.end → path.visits.count ≡ min (path.visits.count + next_visits c (Some spot.index)) (2 ^ 64 - 1)
 next_still_visits c spot path on k =
     let m : IsStill c spot path (spot.index + 1) = next_still c spot path on k in
     let z : next_visits c (Some spot.index) ≡ 0 = grind (arith, nat_tests, m.number, m.inside) in
@@ -111,7 +118,7 @@ pub prev_still : (c : Option Node) (spot : Spot) (path : Path) → IsPosition c 
 prev_still c spot path on k = still c spot path (spot.index - 1) on (omega arith) (omega (arith, end_above c spot path on))
 
 -- its visits: none
-pub prev_still_visits : (c : Option Node) (spot : Spot) (path : Path) → IsPosition c (Some spot) path → spot.part.start < spot.index → path.visits ≡ min (path.visits + prev_visits c (Some spot.index)) (2 ^ 64 - 1)
+pub prev_still_visits : (c : Option Node) (spot : Spot) (path : Path) → IsPosition c (Some spot) path → spot.part.start < spot.index → path.visits.count ≡ min (path.visits.count + prev_visits c (Some spot.index)) (2 ^ 64 - 1)
 prev_still_visits c spot path on k =
     let z : prev_visits c (Some spot.index) ≡ move_visits c spot.index (spot.index - 1) = prev_move c spot.index (omega arith) in
     let m : IsStill c spot path (spot.index - 1) = prev_still c spot path on k in

@@ -6,6 +6,11 @@ use Rattle.cord_node.specs.declared.Node.TheVariants.{Leaf, Run, Func, Cat'}
 use Rattle.cord_node.specs.Tree.{len_of, IsSound}
 use Rattle.cord_node.specs.Occurrences.{level, shared_level}
 use Rattle.cord_pos.specs.declared.path.Occurrence.{Occurrence}
+use Rattle.cord_pos.specs.declared.visited.Visited.{Visited}
+
+-- the node that was visited
+abbrev pub node_of : Visited → Node
+node_of v = v.node.now
 
 -- a node, and where its text begins in the text of the root
 abbrev pub Place : Type 0
@@ -13,11 +18,18 @@ Place = Option Node × ℕ
 
 -- the place of an occurrence
 abbrev pub place_of : Occurrence → Place
-place_of o = (option_map (λ b. b.now) o.node, o.start)
+place_of o = (option_map node_of o.node, o.start)
 
 -- the places of a list of occurrences
 abbrev pub places : List Occurrence → List Place
 places os = map place_of os
+
+-- the side of a node that holds its index `i`, and where the side begins in the node's text: none of a part
+abbrev pub side_at : Node → ℕ → Option (Node × ℕ)
+side_at (Leaf bytes s len mark) i = None
+side_at (Run byte len) i = None
+side_at (Func id s len) i = None
+side_at (Cat' p left q right len depth mark) i = if nat_lt i (len_of left) then Some (left, 0) else Some (right, len_of left)
 
 -- the places below a node that begins at `start`, down to the part that holds the index `i` of the node
 abbrev pub below : Node → ℕ → ℕ → List Place

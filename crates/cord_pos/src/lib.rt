@@ -10,11 +10,13 @@ use cord_core::Cord;
 use cord_io::MAX_DEPTH;
 use path::{Part, Path};
 use std::marker::Model;
+use visited::Tree;
 
 mod fetch;
 mod next;
 mod path;
 mod prev;
+mod visited;
 mod walk;
 
 /// Where a valid position stands: an index, and the part that holds it.
@@ -50,7 +52,7 @@ struct Spot<'a> {
 /// ```
 #[derive(Drop)]
 pub struct Position<'a> {
-    cord: &'a Cord,
+    tree: Tree<'a>,
     spot: Option<Spot<'a>>,
     path: Path<'a>,
 }
@@ -67,9 +69,9 @@ impl<'a> Model for Position<'a> {
 
     ghost use Rattle.cord_pos.specs.Invariant.{IsPosition};
 
-    ghost view = { λ p. record { cord = p.cord.now; index = option_map (λ s. s.index) p.spot; visits = p.path.visits } };
+    ghost view = { λ p. record { cord = p.tree.cord.now; index = option_map (λ s. s.index) p.spot; visits = p.path.visits.count } };
 
-    ghost invariant = { λ p. IsPosition p.cord.now p.spot p.path };
+    ghost invariant = { λ p. IsPosition p.tree.cord.now p.spot p.path };
 }
 
 impl<'a> Position<'a> {
@@ -82,15 +84,21 @@ impl<'a> Position<'a> {
         ensures limit { result.visits ≤ MAX_DEPTH + 1 }
         ensures sound { IsCord cord.now }
     {
+        let tree = Tree::new(cord);
         let mut path = Path::new();
-        let spot = match cord.root() {
-            Some(root) if index < root.len() => Some(Spot {
-                index,
-                part: path.enter(root.as_ref(), index),
-            }),
-            _ => None,
-        };
-        Position { cord, spot, path }
+        if tree.len() <= index {
+            return Position {
+                tree,
+                spot: None,
+                path,
+            };
+        }
+        let part = path.enter(tree, index);
+        Position {
+            tree,
+            spot: Some(Spot { index, part }),
+            path,
+        }
     }
 
     /// Whether it has an index.
@@ -115,7 +123,7 @@ impl<'a> Position<'a> {
     pub fn cord(&self) -> &'a Cord
         ensures { result.now ≡ self.now.cord }
     {
-        self.cord
+        self.tree.cord()
     }
 
     /// How many nodes were visited since it was set: at 2^64 - 1 the count stays. A visit is a step down into a node, from
@@ -123,7 +131,7 @@ impl<'a> Position<'a> {
     pub fn visits(&self) -> u64
         ensures { result ≡ self.now.visits }
     {
-        self.path.visits
+        self.path.visits()
     }
 
     // From a valid index to another one of the cord.

@@ -22,7 +22,7 @@ impl<'a> Position<'a> {
         let index = spot.index + 1;
         if index < spot.part.end {
             self.spot = Some(Spot { index, ..spot });
-        } else if index < self.cord.len() {
+        } else if index < self.tree.len() {
             self.go_to(index);
         } else {
             self.spot = None;

@@ -1,13 +1,16 @@
 // The way from a root to a part: where each occurrence on it begins, and how many were visited.
-ghost use Rattle.std.specs.Prelude.{◌≡◌, ◌+◌, ◌-◌, ◌<◌, ◌≤◌, min, length, Some, [], ◌∷◌, ◌++◌, MatchOption};
+ghost use Rattle.std.specs.Prelude.{◌≡◌, ◌+◌, ◌-◌, ◌<◌, ◌≤◌, min, [], ◌∷◌, ◌++◌, Some, MatchOption};
 ghost use Rattle.arrayvec.specs.ArrayVec.{array_vec_len};
 ghost use Rattle.cord_node.specs.Tree.{len_of, depth_of, IsSound};
 ghost use Rattle.cord_node.specs.Occurrences.{level};
-ghost use Rattle.cord_pos.specs.Path.{places, below, way, part_at, IsClimb, EndsIn, IsOnWay, IsTakenTo};
+ghost use Rattle.cord_core.specs.Cord.{text_len};
+ghost use Rattle.cord_pos.specs.Path.{node_of, places, below, part_at, IsClimb, EndsIn, IsOnWay, IsTakenTo};
+ghost use Rattle.cord_pos.specs.Position.{set_visits};
+ghost use Rattle.cord_pos.specs.Invariant.{IsOnCord};
 
+use crate::visited::{Tree, Visited, Visits};
 use arrayvec::ArrayVec;
 use cord_io::{MAX_DEPTH, MAX_LEN};
-use cord_node::Node;
 
 /// The most occurrences on a way: a root, and a step for each level below it.
 pub(crate) const PATH_LEN: usize = MAX_DEPTH as usize + 1;
@@ -15,14 +18,14 @@ pub(crate) const PATH_LEN: usize = MAX_DEPTH as usize + 1;
 /// A node on the way, and the place in the root's text where its own text begins.
 #[derive(Clone, Copy, Default)]
 pub(crate) struct Occurrence<'a> {
-    pub(crate) node: Option<&'a Node>,
-    pub(crate) start: u64,
+    node: Option<Visited<'a>>,
+    start: u64,
 }
 
 /// A part at the end of a way: where it begins and ends in the root's text.
 #[derive(Clone, Copy)]
 pub(crate) struct Part<'a> {
-    pub(crate) node: &'a Node,
+    pub(crate) node: Visited<'a>,
     pub(crate) start: u64,
     pub(crate) end: u64,
 }
@@ -30,57 +33,49 @@ pub(crate) struct Part<'a> {
 /// The occurrences from a root down, and how many were visited.
 #[derive(Drop)]
 pub(crate) struct Path<'a> {
-    pub(crate) stops: ArrayVec<Occurrence<'a>, PATH_LEN>,
-    pub(crate) visits: u64,
+    stops: ArrayVec<Occurrence<'a>, PATH_LEN>,
+    visits: Visits,
 }
 
 impl<'a> Path<'a> {
     /// A path on which nothing was visited.
     pub(crate) fn new() -> Path<'a>
         ensures places { places result.stops.items ≡ [] }
-        ensures visits { result.visits ≡ 0 }
+        ensures visits { result.visits.count ≡ 0 }
     {
         Path {
             stops: ArrayVec::new(),
-            visits: 0,
+            visits: Visits::none(),
         }
     }
 
-    // Visits a node: the one step down, as the root or from its parent.
-    fn step_down(&mut self, node: &'a Node, start: u64)
-        requires room { array_vec_len self.old.stops < PATH_LEN }
-        ensures places { places self.new.stops.items ≡ places self.old.stops.items ++ (Some node.now, start) ∷ [] }
-        ensures visits { self.new.visits ≡ min (self.old.visits + 1) u64.MAX }
-        ensures len { array_vec_len self.new.stops ≡ array_vec_len self.old.stops + 1 }
+    /// How many nodes were visited.
+    pub(crate) fn visits(&self) -> u64
+        ensures { result ≡ self.now.visits.count }
     {
-        self.stops.push(Occurrence {
-            node: Some(node),
-            start,
-        });
-        self.visits = self.visits.saturating_add(1);
+        self.visits.count()
     }
 
-    /// The way from a root to the part that holds the index: each node on it is visited.
-    pub(crate) fn enter(&mut self, root: &'a Node, index: u64) -> Part<'a>
-        requires sound { IsSound root.now }
-        requires inside { index < len_of root.now }
+    /// The way from the root of a cord to the part that holds the index: each node on it is visited.
+    pub(crate) fn enter(&mut self, tree: Tree<'a>, index: u64) -> Part<'a>
+        requires inside { index < text_len tree.cord.now }
         requires empty { places self.old.stops.items ≡ [] }
-        requires start { self.old.visits ≡ 0 }
-        ensures places { places self.new.stops.items ≡ way root.now 0 index }
-        ensures visits { self.new.visits ≡ level root.now index + 1 }
-        ensures part { (result.node.now, result.start) ≡ part_at root.now 0 index }
-        ensures end { result.end ≡ result.start + len_of result.node.now }
+        requires start { self.old.visits.count ≡ 0 }
+        ensures on_cord { IsOnCord tree.entry.cord.now index result (places self.new.stops.items) }
+        ensures visits { self.new.visits.count ≡ set_visits tree.entry.cord.now index }
     {
-        self.step_down(root, 0);
+        let root = tree.root(&mut self.visits);
+        self.keep(root, 0);
         self.descend(root, 0, index)
     }
 
     /// From the part at the end of the path to the part that holds the index `at`: up to the last node that holds it, and down.
     pub(crate) fn go_to(&mut self, at: u64) -> Part<'a>
         requires on_way { IsOnWay (places self.old.stops.items) at }
-        requires counted { self.old.visits ≤ u64.MAX }
-        ensures taken { IsTakenTo (places self.old.stops.items) at (places self.new.stops.items) result.node.now result.start self.old.visits self.new.visits }
-        ensures end { result.end ≡ result.start + len_of result.node.now }
+        requires counted { self.old.visits.count ≤ u64.MAX }
+        ensures taken { IsTakenTo (places self.old.stops.items) at (places self.new.stops.items) (node_of result.node) result.start
+            self.old.visits.count self.new.visits.count }
+        ensures end { result.end ≡ result.start + len_of (node_of result.node) }
     {
         let Some((node, start)) = self.climb(at) else {
             unreachable!()
@@ -88,28 +83,37 @@ impl<'a> Path<'a> {
         self.descend(node, start, at - start)
     }
 
-    /// Steps down from a node that begins at `start` to the part that holds its index `index`.
-    pub(crate) fn descend(&mut self, top: &'a Node, mut start: u64, mut index: u64) -> Part<'a>
-        requires sound { IsSound top.now }
-        requires inside { index < len_of top.now }
-        requires fits { start + len_of top.now ≤ MAX_LEN }
-        requires room { array_vec_len self.old.stops + depth_of top.now ≤ PATH_LEN }
-        requires counted { self.old.visits ≤ u64.MAX }
-        ensures places { places self.new.stops.items ≡ places self.old.stops.items ++ below top.now start index }
-        ensures visits { self.new.visits ≡ min (self.old.visits + level top.now index) u64.MAX }
-        ensures part { (result.node.now, result.start) ≡ part_at top.now start index }
-        ensures end { result.end ≡ result.start + len_of result.node.now }
+    // Keeps the place of a node that was visited, as the last one.
+    fn keep(&mut self, node: Visited<'a>, start: u64)
+        requires room { array_vec_len self.old.stops < PATH_LEN }
+        ensures places { places self.new.stops.items ≡ places self.old.stops.items ++ (Some (node_of node.entry), start) ∷ [] }
+        ensures visits { self.new.visits.count ≡ self.old.visits.count }
+        ensures len { array_vec_len self.new.stops ≡ array_vec_len self.old.stops + 1 }
+    {
+        self.stops.push(Occurrence {
+            node: Some(node),
+            start,
+        });
+    }
+
+    // Steps down from a node that begins at `start` to the part that holds its index `index`.
+    fn descend(&mut self, top: Visited<'a>, mut start: u64, mut index: u64) -> Part<'a>
+        requires sound { IsSound (node_of top) }
+        requires inside { index < len_of (node_of top) }
+        requires fits { start + len_of (node_of top) ≤ MAX_LEN }
+        requires room { array_vec_len self.old.stops + depth_of (node_of top) ≤ PATH_LEN }
+        requires counted { self.old.visits.count ≤ u64.MAX }
+        ensures places { places self.new.stops.items ≡ places self.old.stops.items ++ below (node_of top.entry) start index }
+        ensures visits { self.new.visits.count ≡ min (self.old.visits.count + level (node_of top.entry) index) u64.MAX }
+        ensures part { (node_of result.node, result.start) ≡ part_at (node_of top.entry) start index }
+        ensures end { result.end ≡ result.start + len_of (node_of result.node) }
     {
         let mut node = top;
-        while let Node::Cat { left, right, .. } = node {
-            if index < left.len() {
-                node = left.as_ref();
-            } else {
-                start += left.len();
-                index -= left.len();
-                node = right.as_ref();
-            }
-            self.step_down(node, start);
+        while let Some(side) = node.step(index, &mut self.visits) {
+            start += side.offset;
+            index -= side.offset;
+            node = side.node;
+            self.keep(node, start);
         }
         Part {
             node,
@@ -118,11 +122,12 @@ impl<'a> Path<'a> {
         }
     }
 
-    /// Goes up to the last node that holds the index `at` of the root's text, which visits nothing: that node, and where it begins.
-    pub(crate) fn climb(&mut self, at: u64) -> Option<(&'a Node, u64)>
+    // Goes up to the last node that holds the index `at` of the root's text, which visits nothing: that node, and where it begins.
+    fn climb(&mut self, at: u64) -> Option<(Visited<'a>, u64)>
         ensures climb { IsClimb (places self.old.stops.items) (places self.new.stops.items) at }
-        ensures found { MatchOption result (places self.new.stops.items ≡ []) (λ top. EndsIn (places self.new.stops.items) top.0.now top.1 at) }
-        ensures visits { self.new.visits ≡ self.old.visits }
+        ensures found { MatchOption result (places self.new.stops.items ≡ [])
+            (λ top. EndsIn (places self.new.stops.items) (node_of top.0) top.1 at) }
+        ensures visits { self.new.visits.count ≡ self.old.visits.count }
     {
         while let Some(last) = self.stops.last() {
             if let Some(node) = last.node {

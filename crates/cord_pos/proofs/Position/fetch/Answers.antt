@@ -4,21 +4,21 @@ use Rattle.cord_pos.proofs.Position.fetch.Goals as goal
 pub overflow_sub-spot : goal.overflow_sub-spot
 overflow_sub-spot g c = (spot_part (g.S.Source.lengths c.args.src.now) _ _ _ (rw c.in-Some.is at c.self.invariant)).from
 
-pub byte_of-requires-clause-part : goal.byte_of-requires-clause-part
-byte_of-requires-clause-part g c = (spot_part (g.S.Source.lengths c.args.src.now) _ _ _ (rw c.in-Some.is at c.self.invariant)).part
+pub byte-requires-clause-part : goal.byte-requires-clause-part
+byte-requires-clause-part g c = (spot_part (g.S.Source.lengths c.args.src.now) _ _ _ (rw c.in-Some.is at c.self.invariant)).part
 
-pub byte_of-requires-clause-sound : goal.byte_of-requires-clause-sound
-byte_of-requires-clause-sound g c = (spot_part (g.S.Source.lengths c.args.src.now) _ _ _ (rw c.in-Some.is at c.self.invariant)).sound
+pub byte-requires-clause-sound : goal.byte-requires-clause-sound
+byte-requires-clause-sound g c = (spot_part (g.S.Source.lengths c.args.src.now) _ _ _ (rw c.in-Some.is at c.self.invariant)).sound
 
-pub byte_of-requires-clause-inside : goal.byte_of-requires-clause-inside
-byte_of-requires-clause-inside g c = (spot_part (g.S.Source.lengths c.args.src.now) _ _ _ (rw c.in-Some.is at c.self.invariant)).inside
+pub byte-requires-clause-inside : goal.byte-requires-clause-inside
+byte-requires-clause-inside g c = (spot_part (g.S.Source.lengths c.args.src.now) _ _ _ (rw c.in-Some.is at c.self.invariant)).inside
 
-pub byte_of-requires-clause-fits : goal.byte_of-requires-clause-fits
-byte_of-requires-clause-fits g c = (spot_part (g.S.Source.lengths c.args.src.now) _ _ _ (rw c.in-Some.is at c.self.invariant)).fits (rw (← c.self.view_is) at c.requires.fits)
+pub byte-requires-clause-fits : goal.byte-requires-clause-fits
+byte-requires-clause-fits g c = (spot_part (g.S.Source.lengths c.args.src.now) _ _ _ (rw c.in-Some.is at c.self.invariant)).fits (rw (← c.self.view_is) at c.requires.fits)
 
 pub returns-clause-byte : goal.returns-clause-byte
 returns-clause-byte g c folder kept =
     let lengths = g.S.Source.lengths c.args.src.now in
-    let told = g.met.S.Source.lengths_of_table c.args.src.now folder (c.byte_of.ensures.earlier folder kept) in
+    let told = g.met.S.Source.lengths_of_table c.args.src.now folder (c.byte.ensures.earlier folder kept) in
     rw (← c.self.view_is, c.in-Some.is)
     (spot_byte lengths (g.S.Source.table c.args.src.now folder) _ _ _ _ (rw c.in-Some.is at c.self.invariant) told (rw (← c.self.view_is) at c.requires.fits) (c.in_ok-byte.ensures.byte folder kept))

@@ -24,15 +24,15 @@ returns-then-index-len-clause-visits c =
     let on = rw c.in-Some.is at c.self.invariant in
     let cord = position_cord _ _ _ on in
     let v = rw (← c.self.view_is, c.in-Some.is) at c.go_to.ensures.visits in
-    let k : c.in-Some.spot.index + 1 < text_len c.self.inside.cord.now = omega (arith, c.len.ensures.stored, c.if-index-len.true) in
-    let m : next_visits c.self.inside.cord.now (Some c.in-Some.spot.index) ≡ move_visits c.self.inside.cord.now c.in-Some.spot.index (c.in-Some.spot.index + 1) = next_move _ _ cord k in
+    let k : c.in-Some.spot.index + 1 < text_len c.self.inside.tree.cord.now = omega (arith, c.len.ensures, c.if-index-len.true) in
+    let m : next_visits c.self.inside.tree.cord.now (Some c.in-Some.spot.index) ≡ move_visits c.self.inside.tree.cord.now c.in-Some.spot.index (c.in-Some.spot.index + 1) = next_move _ _ cord k in
     rw (← c.self.view_is, c.in-Some.is, m) v
 
 pub returns-then-index-len-clause-bound : goal.returns-then-index-len-clause-bound
 returns-then-index-len-clause-bound c =
     let on = rw c.in-Some.is at c.self.invariant in
     let v = rw (← c.self.view_is, c.in-Some.is) at c.go_to.ensures.visits in
-    rw (← c.self.view_is) (omega (arith, v, move_bound c.self.inside.cord.now c.in-Some.spot.index (c.in-Some.spot.index + 1) (position_cord _ _ _ on)))
+    rw (← c.self.view_is) (omega (arith, v, move_bound c.self.inside.tree.cord.now c.in-Some.spot.index (c.in-Some.spot.index + 1) (position_cord _ _ _ on)))
 
 pub returns-then-index-len-clause-one_part : goal.returns-then-index-len-clause-one_part
 returns-then-index-len-clause-one_part c =
@@ -47,5 +47,5 @@ returns-then-index-spot-clause-order c =
 pub returns-then-index-len-clause-order : goal.returns-then-index-len-clause-order
 returns-then-index-len-clause-order c =
     let on = rw c.in-Some.is at c.self.invariant in
-    let k : c.in-Some.spot.index + 1 < text_len c.self.inside.cord.now = omega (arith, c.len.ensures.stored, c.if-index-len.true) in
+    let k : c.in-Some.spot.index + 1 < text_len c.self.inside.tree.cord.now = omega (arith, c.len.ensures, c.if-index-len.true) in
     rw (← c.self.view_is, c.in-Some.is, c.go_to.ensures.index) (next_no_earlier _ _ (position_cord _ _ _ on) k)

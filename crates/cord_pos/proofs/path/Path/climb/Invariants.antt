@@ -7,7 +7,7 @@ use Rattle.cord_pos.proofs.path.Path.climb.Given as goal
 abbrev pub invariant-loop-last : goal.invariant-loop-last
 invariant-loop-last l = record {
   climb : IsClimb (places l.fn.self.stops.items) (places l.self.stops.items) l.at;
-  visits : l.self.visits ≡ l.fn.self.visits;
+  visits : l.self.visits.count ≡ l.fn.self.visits.count;
 }
 
 abbrev pub decreases-loop-last : goal.decreases-loop-last

@@ -1,15 +1,34 @@
-use Rattle.std.proofs.Common.{arith, sym, ◌∙◌}
+use Rattle.std.proofs.Common.{◌++◌, List, ap, arith, sym, ◌∙◌, append_assoc}
 use Rattle.std.proofs.lemmas.Grind.{common_steps}
-use Rattle.cord_pos.proofs.WayLemmas.{ends_at_part, EndsAt}
+use Rattle.cord_pos.specs.Path.{Place, node_of, places}
+use Rattle.cord_pos.proofs.Steps.{IsSide, is_side, EndsAt, ends_at_part}
 use Rattle.cord_pos.proofs.path.Path.descend.Goals as goal
+
+pub loop-side-preserved : goal.loop-side-preserved
+loop-side-preserved c =
+    let i = c.loop-side.invariant in
+    let n = node_of c.loop-side.node in
+    let m = node_of c.in-Some.side.node in
+    let o = c.in-Some.side.offset in
+    let s : IsSide n c.loop-side.index m o = is_side n c.loop-side.index m o i.sound i.inside c.in-Some.ensures.side in
+    record {
+      sound = s.sound;
+      inside = s.inside;
+      fits = omega (arith, s.to, i.fits);
+      room = omega (arith, s.depth, i.room, c.keep.ensures.len);
+      places = rw (c.keep.ensures.places, append_assoc) (ap (λ (ps : List Place). places c.loop-side.self.stops.items ++ ps) (sym (s.below c.loop-side.start)) ∙ i.places);
+      counted = omega (arith, c.in-Some.ensures.count, c.keep.ensures.visits);
+      visits = omega (arith, i.visits, s.level, c.in-Some.ensures.count, c.keep.ensures.visits);
+      part = sym (s.part c.loop-side.start) ∙ i.part;
+    }
 
 pub returns : goal.returns
 returns c =
-    let h : EndsAt c.loop-node.node.now c.loop-node.start c.loop-node.index = ends_at_part c.loop-node.node.now c.loop-node.start c.loop-node.index c.in_default.not-Cat in
-    let i = c.loop-node.invariant in
+    let i = c.loop-side.invariant in
+    let h : EndsAt (node_of c.loop-side.node) c.loop-side.start c.loop-side.index = ends_at_part (node_of c.loop-side.node) c.loop-side.start c.loop-side.index c.in_default.ensures.side in
     record {
       places = grind (arith, common_steps);
-      visits = omega arith;
+      visits = omega (arith, i.visits, i.counted, h.level, c.in_default.ensures.count);
       part = sym h.part ∙ i.part;
       end = grind (arith, common_steps);
     }
