@@ -1,8 +1,9 @@
 pub mod Entries
 pub mod Members
 pub mod Told
-pub mod Ranged
 pub mod SoFar
+pub mod Ranged
+pub mod Turns
 pub mod Growing
 pub mod Assigned
 pub mod Wholes

@@ -6,7 +6,8 @@ use Rattle.cord_io.specs.Table.{Table}
 use Rattle.cord_io.specs.declared.TheConstants.{MAX_LEN}
 use Rattle.cord_node.specs.declared.Node.{Node}
 use Rattle.cord_node.specs.Tables.{lengths_of}
-use Rattle.cord_core.specs.Cord.{all_bytes, AllFitIn, IsCord}
+use Rattle.cord_node.specs.Kept.{Kept}
+use Rattle.cord_core.specs.Cord.{all_bytes, all_parts, parts_of, AllFitIn, IsCord}
 use Rattle.cord_core.specs.Equations.{IsAllOf}
 use Rattle.cord_meaning.specs.declared.ends.FaultKind.{FaultKind}
 use Rattle.cord_plan.specs.Exprs.{Expr}
@@ -17,6 +18,7 @@ use Rattle.cord_run.specs.Extents.{extent_in}
 use Rattle.cord_run.specs.Held.{IsOver}
 use Rattle.cord_run.specs.Holdings.{holding_of, plain_of}
 use Rattle.cord_run.specs.Ranges.{AddsExpression}
+use Rattle.cord_run.specs.Turns.{AddsInTurn, InTurn, origins}
 use Rattle.cord_run.specs.Whole.{AreWhole, IsBuilt}
 use Rattle.cord_run.proofs.Told.{text_told}
 
@@ -49,7 +51,7 @@ module _ (entries : List Entry) (e : Expr) where
   })
 
   -- all its bytes
-  pub whole_range : (len : ℕ) (old pieces : List (Option Node)) → old ≡ [] → extent_in entries e ≡ Ok len → AddsExpression entries e 0 len old pieces → AreWhole entries e pieces
+  pub whole_range : (len : ℕ) (old pieces : List (Option Node)) → old ≡ [] → extent_in entries e ≡ Ok len → AddsExpression entries e (record { skip = 0; count = len }) old pieces → AreWhole entries e pieces
   whole_range len old pieces none extent part = record {
     fits = λ lengths over. part.fits lengths over (subst (λ (ps : List (Option Node)). AllFitIn lengths ps) (sym none) tt);
     bytes = λ t over there.
@@ -61,12 +63,22 @@ module _ (entries : List Entry) (e : Expr) where
         k.is ∙ ap (λ (u : List ℕ). Ok u) (sym all);
   }
 
+  -- and they come from its names in turn
+  pub whole_in_turn : (old pieces : List (Option Node)) → old ≡ [] → AddsInTurn entries (origins e) old pieces → InTurn entries (origins e) pieces
+  whole_in_turn old pieces none turns =
+      let same : turns.added ≡ pieces = ap (λ (ps : List (Option Node)). ps ++ turns.added) (sym none) ∙ sym turns.is in
+      subst (λ (ps : List (Option Node)). InTurn entries (origins e) ps) same turns.each
+
   -- one cord of them
-  pub whole_built : (pieces : List (Option Node)) (cord : Option Node) → AreWhole entries e pieces → IsAllOf pieces cord → IsCord cord → IsBuilt entries e cord
-  whole_built pieces cord whole all sound = record {
+  pub whole_built : (pieces : List (Option Node)) (cord : Option Node) → AreWhole entries e pieces → InTurn entries (origins e) pieces → Kept (all_parts pieces) (parts_of cord) → IsAllOf pieces cord → IsCord cord → IsBuilt entries e cord
+  whole_built pieces cord whole turns kept all sound = record {
     sound = sound;
     fits = λ lengths over. all.fits lengths (whole.fits lengths over);
     bytes = λ t over there. whole.bytes t over there ∙ ap (λ (u : List ℕ). Ok u) (sym (all.bytes t (whole.fits (lengths_of t) over)));
+    pieces = pieces;
+    whole = whole;
+    in_turn = turns;
+    kept = kept;
   }
 
   -- its fault

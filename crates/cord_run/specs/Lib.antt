@@ -9,6 +9,7 @@ pub mod Controls
 pub mod Served
 pub mod Failing
 pub mod Steps
+pub mod Turns
 pub mod Ending
 pub mod Contents
 pub mod Finding

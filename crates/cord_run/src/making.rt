@@ -2,10 +2,11 @@
 ghost use Rattle.std.specs.Prelude.{◌≡◌, IfErr, IfOk, IsOkUnless, Ok};
 ghost use Rattle.cord_plan.specs.Views.{expr_view};
 ghost use Rattle.cord_run.specs.Extents.{extent_in};
+ghost use Rattle.cord_run.specs.Turns.{InTurn, origins};
 ghost use Rattle.cord_run.specs.Whole.{AreWhole, IsBuilt, IsUnbuilt};
 
 use crate::measuring::length_of;
-use crate::picking::add_range;
+use crate::picking::{Wanted, add_range};
 use crate::store::Store;
 use cord_core::Cord;
 use cord_io::CordError;
@@ -39,9 +40,10 @@ pub(crate) fn build(alloc: Global, expression: &Expr, store: &Store) -> Result<C
     }
 }
 
-/// Cords of the text of an expression, in order, which share the cords of its names. Refused with its fault, or with `NoMemory`.
+/// Cords of the text of an expression, in order: each is a range of the cord of one of its names, or copies of a byte. Refused with its fault, or with `NoMemory`.
 pub(crate) fn pieces_of(alloc: Global, expression: &Expr, store: &Store) -> Result<Vec<Cord>, Halt>
     ensures whole { IfOk result (λ pieces. AreWhole store.now.entries.items (expr_view expression.now) pieces.items) }
+    ensures in_turn { IfOk result (λ pieces. InTurn store.now.entries.items (origins (expr_view expression.now)) pieces.items) }
     ensures refused { IfErr result (IsUnbuilt store.now.entries.items (expr_view expression.now)) }
 {
     match length_of(expression, store) {
@@ -62,12 +64,17 @@ fn pieces_within(
 ) -> Result<Vec<Cord>, CordError>
     requires { extent_in store.now.entries.items (expr_view expression.now) ≡ Ok len }
     ensures whole { IfOk result (λ pieces. AreWhole store.now.entries.items (expr_view expression.now) pieces.items) }
+    ensures in_turn { IfOk result (λ pieces. InTurn store.now.entries.items (origins (expr_view expression.now)) pieces.items) }
     ensures refused { IsOkUnless result CordError.NoMemory }
 {
     let mut pieces = Vec::new(alloc);
     if len == 0 {
         return Ok(pieces);
     }
-    add_range(alloc, expression, store, 0, len, &mut pieces)?;
+    let wanted = Wanted {
+        skip: 0,
+        count: len,
+    };
+    add_range(alloc, expression, store, wanted, &mut pieces)?;
     Ok(pieces)
 }

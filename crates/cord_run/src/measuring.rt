@@ -51,8 +51,8 @@ fn length_of_all(members: &[Expr], store: &Store) -> Result<u64, FaultKind>
     Ok(total)
 }
 
-// The length of so many copies of a byte.
-fn length_of_run(byte: i64, count: i64) -> Result<u64, FaultKind>
+/// The length of so many copies of a byte, or its fault.
+pub(crate) fn length_of_run(byte: i64, count: i64) -> Result<u64, FaultKind>
     ensures { result ≡ measured_copies MAX_LEN byte count }
 {
     match as_byte(byte) {

@@ -1,51 +1,113 @@
-// The bytes of an expression from a place on, as cords: one for each part that has some of them. A `sub` over a `cat` is
-// resolved by the lengths of the members: each gets its own start and count, and one that gets none isn't touched.
-ghost use Rattle.std.specs.Prelude.{◌≡◌, ◌+◌, ◌-◌, ◌<◌, ◌≤◌, ◌^◌, min, replicate, IfOk, IsOk, IsOkUnless};
+// What is wanted of an expression, as cords: one for each name and each run that has some of it. What is wanted is handed on
+// from part to part, so each length is asked for once. A `sub` hands on less, and makes no cord of what it is cut from.
+ghost use Rattle.std.specs.Prelude.{◌≡◌, ◌+◌, ◌-◌, ◌<◌, ◌≤◌, ◌^◌, min, replicate, true, IfOk, IsOk, IsOkUnless};
 ghost use Rattle.cord_core.specs.Cord.{text_len};
 ghost use Rattle.cord_core.specs.Equations.{HasText};
 ghost use Rattle.cord_meaning.specs.State as meant;
+ghost use Rattle.cord_plan.specs.Values.{measured_copies};
 ghost use Rattle.cord_plan.specs.Views.{expr_view};
 ghost use Rattle.cord_run.specs.Extents.{extent_in, members_extent, members_seen};
-ghost use Rattle.cord_run.specs.Held.{content_in, cord_in};
-ghost use Rattle.cord_run.specs.Ranges.{AddsCopies, AddsExpression, AddsMembers, AddsPart, IsInside};
+ghost use Rattle.cord_run.specs.Held.{content_in, cord_in, length_in, operand_in};
+ghost use Rattle.cord_run.specs.Ranges.{AddsCopies, AddsExpression, AddsMembers, AddsPart, AddsRun, AreFew, IsAfter, IsInside, IsOutside, IsPast};
+ghost use Rattle.cord_run.specs.Turns.{AddsAtMostOne, AddsInTurn, AreCopies, IsCutOf, origins, origins_of};
 
 use crate::checks::{as_byte, as_index};
-use crate::measuring::length_of;
+use crate::measuring::length_of_run;
 use crate::store::Store;
 use cord_core::Cord;
 use cord_io::{CordError, MAX_LEN};
 use cord_plan::Expr;
+use cord_script::Number;
 use std::alloc::Global;
 
 /// So many copies of a byte are a leaf: a join makes one leaf of two that are no longer together.
 const FEW: u64 = 64;
 
-/// Adds cords of so many bytes of an expression from a place on, none of them after its end. Refused with `NoMemory` alone.
+/// What is wanted of bytes that are still to come: so many are passed over, and at most so many after them are taken.
+#[derive(Clone, Copy)]
+pub(crate) struct Wanted {
+    pub(crate) skip: u64,
+    pub(crate) count: u64,
+}
+
+impl Wanted {
+    // Whether nothing is.
+    fn is_nothing(self) -> bool
+        ensures skip { result ≡ true → self.skip ≡ 0 }
+        ensures count { result ≡ true → self.count ≡ 0 }
+    {
+        self.skip == 0 && self.count == 0
+    }
+
+    // How many of so many bytes are taken.
+    fn of(self, len: u64) -> u64
+        ensures { result ≡ min self.count (len - self.skip) }
+    {
+        self.count.min(len.saturating_sub(self.skip))
+    }
+
+    // What is wanted after so many bytes.
+    fn after(self, len: u64) -> Wanted
+        ensures { IsPast len self result }
+    {
+        Wanted {
+            skip: self.skip.saturating_sub(len),
+            count: self.count.saturating_sub(len.saturating_sub(self.skip)),
+        }
+    }
+
+    // What is wanted of a text, where this is wanted of at most so many bytes of it from a place on.
+    fn inside(self, start: u64, most: u64) -> Wanted
+        requires { start + most < 2 ^ 64 }
+        ensures { IsInside start most self result }
+    {
+        Wanted {
+            skip: start + self.skip.min(most),
+            count: self.count.min(most.saturating_sub(self.skip)),
+        }
+    }
+
+    // What is wanted after those bytes, where the rest is wanted after the text.
+    fn outside(self, most: u64, inner: Wanted, rest: Wanted) -> Wanted
+        ensures { IsOutside most self inner rest result }
+    {
+        let passed = self.skip.min(most).saturating_sub(rest.skip);
+        let taken = inner.count.saturating_sub(rest.count);
+        Wanted {
+            skip: self.skip.saturating_sub(passed),
+            count: self.count.saturating_sub(taken),
+        }
+    }
+}
+
+/// Adds cords of what is wanted of an expression, and answers what is wanted after it. Refused with `NoMemory` alone.
 #[cycle(add_range)]
 pub(crate) fn add_range(
     alloc: Global,
     expression: &Expr,
     store: &Store,
-    start: u64,
-    count: u64,
+    wanted: Wanted,
     pieces: &mut Vec<Cord>,
-) -> Result<(), CordError>
-    requires some { 0 < count }
-    requires inside { IsInside (extent_in store.now.entries.items (expr_view expression.now)) (start + count) }
-    ensures added { IfOk result (λ _. AddsExpression store.now.entries.items (expr_view expression.now) start count pieces.old.items pieces.new.items) }
+) -> Result<Wanted, CordError>
+    ensures added { IfOk result (λ _. AddsExpression store.now.entries.items (expr_view expression.now) wanted pieces.old.items pieces.new.items) }
+    ensures in_turn { IfOk result (λ _. AddsInTurn store.now.entries.items (origins (expr_view expression.now)) pieces.old.items pieces.new.items) }
+    ensures past { IfOk result (IsAfter (extent_in store.now.entries.items (expr_view expression.now)) wanted) }
+    ensures few { IfOk result (λ after. AreFew wanted after pieces.old.items pieces.new.items) }
     ensures refused { IsOkUnless result CordError.NoMemory }
 {
     match expression {
-        Expr::Name(name) => add_name(alloc, name.as_slice(), store, start, count, pieces),
-        Expr::Run { byte, .. } => add_copies(alloc, store.value_of(byte), count, pieces),
-        Expr::Cat(members) => add_members(alloc, members.as_slice(), store, start, count, pieces),
+        Expr::Name(name) => add_name(alloc, name.as_slice(), store, wanted, pieces),
+        Expr::Run { byte, count } => add_run(alloc, byte, count, store, wanted, pieces),
+        Expr::Cat(members) => add_members(alloc, members.as_slice(), store, wanted, pieces),
         Expr::Sub {
             expression,
-            start: from,
-            ..
+            start,
+            count,
         } => {
-            let first = place_behind(store.value_of(from), start);
-            add_range(alloc, expression.as_ref(), store, first, count, pieces)
+            let most = index_of(count, store);
+            let inner = wanted.inside(index_of(start, store), most);
+            let rest = add_range(alloc, expression.as_ref(), store, inner, pieces)?;
+            Ok(wanted.outside(most, inner, rest))
         }
     }
 }
@@ -56,78 +118,106 @@ fn add_members(
     alloc: Global,
     members: &[Expr],
     store: &Store,
-    start: u64,
-    count: u64,
+    wanted: Wanted,
     pieces: &mut Vec<Cord>,
-) -> Result<(), CordError>
-    requires inside { IsInside (members_extent store.now.entries.items (members_seen members.now)) (start + count) }
-    ensures added { IfOk result (λ _. AddsMembers store.now.entries.items (members_seen members.now) start count pieces.old.items pieces.new.items) }
+) -> Result<Wanted, CordError>
+    ensures added { IfOk result (λ _. AddsMembers store.now.entries.items (members_seen members.now) wanted pieces.old.items pieces.new.items) }
+    ensures in_turn { IfOk result (λ _. AddsInTurn store.now.entries.items (origins_of (members_seen members.now)) pieces.old.items pieces.new.items) }
+    ensures past { IfOk result (IsAfter (members_extent store.now.entries.items (members_seen members.now)) wanted) }
+    ensures few { IfOk result (λ after. AreFew wanted after pieces.old.items pieces.new.items) }
     ensures refused { IsOkUnless result CordError.NoMemory }
 {
-    let mut skip = start;
-    let mut left = count;
+    let mut left = wanted;
     for member in members {
-        if left == 0 {
-            return Ok(());
+        if left.is_nothing() {
+            return Ok(left);
         }
-        let len = match length_of(member, store) {
-            Ok(len) => len,
-            Err(_) => unreachable!(),
-        };
-        if len <= skip {
-            skip -= len;
-            continue;
-        }
-        let taken = left.min(len - skip);
-        add_range(alloc, member, store, skip, taken, pieces)?;
-        skip = 0;
-        left -= taken;
+        left = add_range(alloc, member, store, left, pieces)?;
     }
-    Ok(())
+    Ok(left)
 }
 
-// A place after another one, which is no index where it is below 0; it stays at the greatest number.
-fn place_behind(from: i64, start: u64) -> u64
-    ensures { IfOk (meant.as_index from) (λ i. result ≡ min (i + start) (2 ^ 64 - 1)) }
+// A number operand as an index; 0 where it is none.
+fn index_of(operand: &Number, store: &Store) -> u64
+    ensures is { IfOk (meant.as_index (operand_in store.now.entries.items operand.now)) (λ i. result ≡ i) }
+    ensures small { result < 2 ^ 63 }
 {
-    match as_index(from) {
-        Ok(from) => from.saturating_add(start),
-        Err(_) => start,
+    match as_index(store.value_of(operand)) {
+        Ok(index) => index,
+        Err(_) => 0,
     }
 }
 
-// Adds a range of the cord of a name.
+// Adds what is wanted of the cord of a name.
 fn add_name(
     alloc: Global,
     name: &[u8],
     store: &Store,
-    start: u64,
-    count: u64,
+    wanted: Wanted,
     pieces: &mut Vec<Cord>,
-) -> Result<(), CordError>
-    ensures added { IfOk result (λ _. AddsPart (cord_in (content_in store.now.entries.items name.now)) start count pieces.old.items pieces.new.items) }
+) -> Result<Wanted, CordError>
+    ensures added { IfOk result (λ _. AddsPart (cord_in (content_in store.now.entries.items name.now)) wanted pieces.old.items pieces.new.items) }
+    ensures in_turn { IfOk result (λ _. AddsAtMostOne (IsCutOf (cord_in (content_in store.now.entries.items name.now))) pieces.old.items pieces.new.items) }
+    ensures past { IfOk result (IsPast (length_in store.now.entries.items name.now) wanted) }
+    ensures few { IfOk result (λ after. AreFew wanted after pieces.old.items pieces.new.items) }
     ensures refused { IsOkUnless result CordError.NoMemory }
 {
     match store.cord_of(name) {
-        None => Ok(()),
-        Some(cord) => add_part(alloc, cord, start, count, pieces),
+        None => Ok(wanted.after(store.length_of(name))),
+        Some(cord) => add_part(alloc, cord, wanted, pieces),
     }
 }
 
-// Adds a range of a cord.
+// Adds what is wanted of a cord.
 fn add_part(
     alloc: Global,
     cord: &Cord,
-    start: u64,
-    count: u64,
+    wanted: Wanted,
     pieces: &mut Vec<Cord>,
-) -> Result<(), CordError>
-    ensures added { IfOk result (λ _. AddsPart cord.now start count pieces.old.items pieces.new.items) }
+) -> Result<Wanted, CordError>
+    ensures added { IfOk result (λ _. AddsPart cord.now wanted pieces.old.items pieces.new.items) }
+    ensures in_turn { IfOk result (λ _. AddsAtMostOne (IsCutOf cord.now) pieces.old.items pieces.new.items) }
+    ensures past { IfOk result (IsPast (text_len cord.now) wanted) }
+    ensures few { IfOk result (λ after. AreFew wanted after pieces.old.items pieces.new.items) }
     ensures refused { IsOkUnless result CordError.NoMemory }
 {
-    let part = cord.substr(alloc, start, count)?;
+    let len = cord.len();
+    let after = wanted.after(len);
+    if wanted.of(len) == 0 {
+        return Ok(after);
+    }
+    let part = cord.substr(alloc, wanted.skip, wanted.count)?;
     pieces.push(part)?;
-    Ok(())
+    Ok(after)
+}
+
+// Adds what is wanted of copies of a byte.
+fn add_run(
+    alloc: Global,
+    byte: &Number,
+    count: &Number,
+    store: &Store,
+    wanted: Wanted,
+    pieces: &mut Vec<Cord>,
+) -> Result<Wanted, CordError>
+    ensures added { IfOk result (λ _. AddsRun (operand_in store.now.entries.items byte.now) (operand_in store.now.entries.items count.now) wanted pieces.old.items pieces.new.items) }
+    ensures in_turn { IfOk result (λ _. AddsAtMostOne (AreCopies (operand_in store.now.entries.items byte.now)) pieces.old.items pieces.new.items) }
+    ensures past { IfOk result (IsAfter (measured_copies MAX_LEN (operand_in store.now.entries.items byte.now) (operand_in store.now.entries.items count.now)) wanted) }
+    ensures few { IfOk result (λ after. AreFew wanted after pieces.old.items pieces.new.items) }
+    ensures refused { IsOkUnless result CordError.NoMemory }
+{
+    let byte = store.value_of(byte);
+    let len = match length_of_run(byte, store.value_of(count)) {
+        Ok(len) => len,
+        Err(_) => return Ok(wanted),
+    };
+    let after = wanted.after(len);
+    let taken = wanted.of(len);
+    if taken == 0 {
+        return Ok(after);
+    }
+    add_copies(alloc, byte, taken, pieces)?;
+    Ok(after)
 }
 
 // Adds copies of a byte.
@@ -135,6 +225,7 @@ fn add_copies(alloc: Global, byte: i64, count: u64, pieces: &mut Vec<Cord>) -> R
     requires byte { IsOk (meant.as_byte byte) }
     requires short { count ≤ MAX_LEN }
     ensures added { IfOk result (λ _. AddsCopies byte count pieces.old.items pieces.new.items) }
+    ensures in_turn { IfOk result (λ _. AddsAtMostOne (AreCopies byte) pieces.old.items pieces.new.items) }
     ensures refused { IsOkUnless result CordError.NoMemory }
 {
     let byte = match as_byte(byte) {

@@ -1,5 +1,6 @@
 // What the names of a run of a plan hold.
 ghost use Rattle.std.specs.Prelude.{◌≡◌, ◌+◌, ◌<◌, ◌≤◌, ◌∷◌, ℕ, ℤ, List, pos, true, false, [], length, IfOk, IfSome, IfNone, IsErr, OnOk, Err, None, Some};
+ghost use Rattle.cord_core.specs.Cord.{text_len};
 ghost use Rattle.cord_ec.specs.Grown.{IsGrownBy};
 ghost use Rattle.cord_run.specs.Extending.{cells_of, Grew, GrewTo};
 ghost use Rattle.cord_run.specs.Held.{are_distinct, content_in, cord_in, extensible_in, length_in, names_in, number_in, operand_in, HasContent, HasExtensible, HasNoEntry, HasNumber, IsEntryAt, SameEntries};
@@ -197,6 +198,7 @@ impl Store {
     /// The cord of a name, where it has one that isn't empty.
     pub(crate) fn cord_of(&self, name: &[u8]) -> Option<&Cord>
         ensures some { IfSome result (λ cord. cord.now ≡ cord_in (content_in self.now.entries.items name.now)) }
+        ensures len { IfSome result (λ cord. text_len cord.now ≡ length_in self.now.entries.items name.now) }
         ensures none { IfNone result (cord_in (content_in self.now.entries.items name.now) ≡ None) }
     {
         match self.place(name) {

@@ -1,17 +1,19 @@
-use Rattle.std.proofs.Common.{◌≡◌, ◌<◌, ◌≤◌, ◌+◌, ◌-◌, ◌^◌, ℕ, ℤ, List, drop, Ok, sym, ap, subst, ◌∙◌, FitsSigned, to_z, of_z, w64, rules, arith}
-use Rattle.std.specs.Prelude.{IfOk, min}
-use Rattle.std.proofs.lemmas.Int.{to_z-of_z}
-use Rattle.cord_meaning.specs.State.{as_index}
+use Rattle.std.proofs.Common.{◌≡◌, ◌<◌, ◌+◌, ℕ, List, drop, sym, ap, subst, ◌∙◌, rules, arith}
+use Rattle.std.specs.Prelude.{IfOk, Option}
+use Rattle.std.proofs.lemmas.List.{drop_all}
+use Rattle.cord_node.specs.declared.Node.{Node}
 use Rattle.cord_plan.specs.Exprs as plain
 use Rattle.cord_plan.specs.declared.expressions.Expr.{Expr}
 use Rattle.cord_plan.specs.Views.{expr_view}
 use Rattle.cord_plan.proofs.ExprViews.{view-Name, view-Run, view-Cat, view-Sub}
+use Rattle.cord_run.specs.declared.picking.Wanted.{Wanted}
 use Rattle.cord_run.specs.Extents.{extent_in, members_extent, members_seen}
-use Rattle.cord_run.specs.Held.{operand_in}
-use Rattle.cord_run.specs.Ranges.{AddsCopies, AddsExpression, IsInside}
+use Rattle.cord_run.specs.Ranges.{AddsExpression, AddsMembers, IsAfter}
+use Rattle.cord_run.specs.Turns.{AddsInTurn, origins_of}
 use Rattle.cord_run.proofs.Members.{weight, weights, member_smaller, members_left}
-use Rattle.cord_run.proofs.Ranged.{name_added, run_added, cat_added, sub_added, sub_inside, still_ok, ok_value}
-use Rattle.cord_run.proofs.SoFar.{SoFar, has_head, inside_before, skips, takes}
+use Rattle.cord_run.proofs.Ranged.{name_added, run_added, cat_added, cat_past, sub_added, sub_past, still_ok, still_ok_by}
+use Rattle.cord_run.proofs.SoFar.{SoFar, WantedSoFar, starts, goes_on, ends_early, ends_last, wanted_goes_on, wanted_ends_early, wanted_ends}
+use Rattle.cord_run.proofs.Turns.{TurnsSoFar, turns_start, turns_go_on, turns_end}
 use Rattle.cord_run.proofs.picking.+add_range.Goals as goal
 
 pub add_range-returns-in-Name-clause-added : goal.add_range-returns-in-Name-clause-added
@@ -21,21 +23,17 @@ add_range-returns-in-Name-clause-added t c =
     let old = c.args.pieces.now.items in
     let new = c.add_name.new.pieces.items in
     let view : expr_view c.args.expression.now ≡ plain.name x = ap expr_view c.in-Name.is ∙ view-Name c.in-Name.name ∙ ap (λ (y : List ℕ). plain.name y) (sym c.as_slice.ensures) in
-    subst (λ (e : plain.Expr). IfOk c.add_name.result (λ _. AddsExpression entries e c.args.start c.args.count old new)) (sym view)
-    (still_ok c.add_name.result (name_added entries x c.args.start c.args.count old new) c.add_name.ensures.added)
+    subst (λ (e : plain.Expr). IfOk c.add_name.result (λ _. AddsExpression entries e c.args.wanted old new)) (sym view)
+    (still_ok c.add_name.result (name_added entries x c.args.wanted old new) c.add_name.ensures.added)
 
 pub add_range-returns-in-Run-clause-added : goal.add_range-returns-in-Run-clause-added
 add_range-returns-in-Run-clause-added t c =
     let entries = c.args.store.now.entries.items in
     let old = c.args.pieces.now.items in
-    let new = c.add_copies.new.pieces.items in
+    let new = c.add_run.new.pieces.items in
     let view : expr_view c.args.expression.now ≡ plain.run c.in-Run.byte c.in-Run.count = ap expr_view c.in-Run.is ∙ view-Run c.in-Run.byte c.in-Run.count in
-    let inside : IsInside (extent_in entries (plain.run c.in-Run.byte c.in-Run.count)) (c.args.start + c.args.count) = subst (λ (e : plain.Expr). IsInside (extent_in entries e) (c.args.start + c.args.count)) view c.requires.inside in
-    let fits : FitsSigned w64 c.value_of.result = search rules in
-    let byte : to_z w64 (of_z w64 c.value_of.result) ≡ operand_in entries c.in-Run.byte = to_z-of_z w64 c.value_of.result fits ∙ c.value_of.ensures in
-    subst (λ (e : plain.Expr). IfOk c.add_copies.result (λ _. AddsExpression entries e c.args.start c.args.count old new)) (sym view)
-    (still_ok c.add_copies.result (run_added entries c.in-Run.byte c.in-Run.count c.args.start c.args.count old new inside)
-    (subst (λ (z : ℤ). IfOk c.add_copies.result (λ _. AddsCopies z c.args.count old new)) byte c.add_copies.ensures.added))
+    subst (λ (e : plain.Expr). IfOk c.add_run.result (λ _. AddsExpression entries e c.args.wanted old new)) (sym view)
+    (still_ok c.add_run.result (run_added entries c.in-Run.byte c.in-Run.count c.args.wanted old new) c.add_run.ensures.added)
 
 pub add_range-returns-in-Cat-clause-added : goal.add_range-returns-in-Cat-clause-added
 add_range-returns-in-Cat-clause-added t c =
@@ -44,74 +42,107 @@ add_range-returns-in-Cat-clause-added t c =
     let old = c.args.pieces.now.items in
     let new = c.add_members.new.pieces.items in
     let view : expr_view c.args.expression.now ≡ plain.cat es = ap expr_view c.in-Cat.is ∙ view-Cat c.in-Cat.members ∙ ap (λ (ms : plain.Exprs). plain.cat ms) c.as_slice-in-Cat.ensures in
-    subst (λ (e : plain.Expr). IfOk c.add_members.result (λ _. AddsExpression entries e c.args.start c.args.count old new)) (sym view)
-    (still_ok c.add_members.result (cat_added entries es c.args.start c.args.count old new) c.add_members.ensures.added)
+    subst (λ (e : plain.Expr). IfOk c.add_members.result (λ _. AddsExpression entries e c.args.wanted old new)) (sym view)
+    (still_ok c.add_members.result (cat_added entries es c.args.wanted old new) c.add_members.ensures.added)
 
-pub add_range-returns-in-Sub-clause-added : goal.add_range-returns-in-Sub-clause-added
-add_range-returns-in-Sub-clause-added t c =
+pub add_range-returns-in-Cat-clause-past : goal.add_range-returns-in-Cat-clause-past
+add_range-returns-in-Cat-clause-past t c =
+    let entries = c.args.store.now.entries.items in
+    let es = members_seen c.as_slice-in-Cat.result.now in
+    let view : expr_view c.args.expression.now ≡ plain.cat es = ap expr_view c.in-Cat.is ∙ view-Cat c.in-Cat.members ∙ ap (λ (ms : plain.Exprs). plain.cat ms) c.as_slice-in-Cat.ensures in
+    subst (λ (e : plain.Expr). IfOk c.add_members.result (λ after. IsAfter (extent_in entries e) c.args.wanted after)) (sym view)
+    (still_ok_by (λ after. IsAfter (members_extent entries es) c.args.wanted after) (λ after. IsAfter (extent_in entries (plain.cat es)) c.args.wanted after) c.add_members.result (λ after past. cat_past entries es c.args.wanted after past) c.add_members.ensures.past)
+
+pub add_range-returns-in_ok-rest-in-Sub-clause-added : goal.add_range-returns-in_ok-rest-in-Sub-clause-added
+add_range-returns-in_ok-rest-in-Sub-clause-added t c =
     let entries = c.args.store.now.entries.items in
     let inner = expr_view c.in-Sub.expression.value in
     let old = c.args.pieces.now.items in
     let new = c.add_range.new.pieces.items in
-    let place = c.place_behind-first.result in
-    let view : expr_view c.args.expression.now ≡ plain.sub inner c.in-Sub.from c.in-Sub.count = ap expr_view c.in-Sub.is ∙ view-Sub c.in-Sub.expression c.in-Sub.from c.in-Sub.count in
-    let inside : IsInside (extent_in entries (plain.sub inner c.in-Sub.from c.in-Sub.count)) (c.args.start + c.args.count) = subst (λ (e : plain.Expr). IsInside (extent_in entries e) (c.args.start + c.args.count)) view c.requires.inside in
-    let fits : FitsSigned w64 c.value_of-in-Sub.result = search rules in
-    let from : to_z w64 (of_z w64 c.value_of-in-Sub.result) ≡ operand_in entries c.in-Sub.from = to_z-of_z w64 c.value_of-in-Sub.result fits ∙ c.value_of-in-Sub.ensures in
-    let at : IfOk (as_index (operand_in entries c.in-Sub.from)) (λ i. place ≡ min (i + c.args.start) (2 ^ 64 - 1)) = subst (λ (z : ℤ). IfOk (as_index z) (λ i. place ≡ min (i + c.args.start) (2 ^ 64 - 1))) from c.place_behind-first.ensures in
-    let added : IfOk c.add_range.result (λ _. AddsExpression entries inner place c.args.count old new) = subst (λ (e : Expr). IfOk c.add_range.result (λ _. AddsExpression entries (expr_view e) place c.args.count old new)) c.as_ref.ensures c.add_range.ensures.added in
-    subst (λ (e : plain.Expr). IfOk c.add_range.result (λ _. AddsExpression entries e c.args.start c.args.count old new)) (sym view)
-    (still_ok c.add_range.result (sub_added entries inner c.in-Sub.from c.in-Sub.count c.args.start c.args.count place old new c.requires.some (sub_inside entries inner c.in-Sub.from c.in-Sub.count c.args.start c.args.count inside) (λ first is. ok_value (λ i. place ≡ min (i + c.args.start) (2 ^ 64 - 1)) (as_index (operand_in entries c.in-Sub.from)) first at is)) added)
+    let wanted = c.inside-inner.result in
+    let view : expr_view c.args.expression.now ≡ plain.sub inner c.in-Sub.start c.in-Sub.count = ap expr_view c.in-Sub.is ∙ view-Sub c.in-Sub.expression c.in-Sub.start c.in-Sub.count in
+    let added : AddsExpression entries inner wanted old new = subst (λ (e : Expr). AddsExpression entries (expr_view e) wanted old new) c.as_ref.ensures c.in_ok-rest-in-Sub.ensures.added in
+    subst (λ (e : plain.Expr). AddsExpression entries e c.args.wanted old new) (sym view)
+    (sub_added entries inner c.in-Sub.start c.in-Sub.count c.index_of.result c.index_of-most.result c.args.wanted wanted c.index_of.ensures.is c.index_of-most.ensures.is c.inside-inner.ensures old new added)
 
-pub add_members-loop-member-preserved-then-len-skip : goal.add_members-loop-member-preserved-then-len-skip
-add_members-loop-member-preserved-then-len-skip t c =
+pub add_range-returns-in_ok-rest-in-Sub-clause-past : goal.add_range-returns-in_ok-rest-in-Sub-clause-past
+add_range-returns-in_ok-rest-in-Sub-clause-past t c =
     let entries = c.args.store.now.entries.items in
+    let inner = expr_view c.in-Sub.expression.value in
+    let wanted = c.inside-inner.result in
+    let rest = c.in_ok-rest-in-Sub.rest in
+    let view : expr_view c.args.expression.now ≡ plain.sub inner c.in-Sub.start c.in-Sub.count = ap expr_view c.in-Sub.is ∙ view-Sub c.in-Sub.expression c.in-Sub.start c.in-Sub.count in
+    let past : IsAfter (extent_in entries inner) wanted rest = subst (λ (e : Expr). IsAfter (extent_in entries (expr_view e)) wanted rest) c.as_ref.ensures c.in_ok-rest-in-Sub.ensures.past in
+    subst (λ (e : plain.Expr). IsAfter (extent_in entries e) c.args.wanted c.outside.result) (sym view)
+    (sub_past entries inner c.in-Sub.start c.in-Sub.count c.index_of.result c.index_of-most.result c.args.wanted wanted c.index_of.ensures.is c.index_of-most.ensures.is c.inside-inner.ensures rest c.outside.result c.outside.ensures past)
+
+pub add_members-loop-member-init : goal.add_members-loop-member-init
+add_members-loop-member-init t c = record {
+  added = starts c.args.store.now.entries.items (members_seen c.args.members.now) c.args.wanted c.args.pieces.now.items;
+  in_turn = turns_start c.args.store.now.entries.items (members_seen c.args.members.now) c.args.pieces.now.items;
+  past = λ last h. h;
+  few = omega arith;
+}
+
+pub add_members-returns-then-is_nothing-clause-added : goal.add_members-returns-then-is_nothing-clause-added
+add_members-returns-then-is_nothing-clause-added t c =
     let ms = c.args.members.now in
-    let k = c.loop-member.member-index in
-    let e = expr_view c.member-item.result in
-    let others = members_seen (drop (k + 1) ms) in
-    let skip = c.loop-member.skip in
-    let left = c.loop-member.left in
-    let now = c.loop-member.pieces.items in
-    let at : members_seen (drop k ms) ≡ plain.member e others = members_left ms k c.member-item.result c.loop-member-test.true c.member-item.is in
-    let head = has_head entries e others (skip + left) (subst (λ (es : plain.Exprs). IsInside (members_extent entries es) (skip + left)) at c.loop-member.invariant.inside) in
-    let extent : extent_in entries e ≡ Ok c.in-Ok.len = sym c.in-Ok.ensures in
-    let len : head.len ≡ c.in-Ok.len = cc in
-    record {
-      inside = inside_before (members_extent entries others) (skip + left - head.len) (skip - c.in-Ok.len + left) (omega (arith, len, c.if-len-skip.true)) head.behind;
-      added = skips entries (members_seen ms) c.args.start c.args.count c.args.pieces.now.items e others c.in-Ok.len skip left now extent (subst (λ (es : plain.Exprs). SoFar entries (members_seen ms) c.args.start c.args.count c.args.pieces.now.items es skip left now) at c.loop-member.invariant.added) c.if-len-skip.true;
-    }
+    ends_early c.args.store.now.entries.items (members_seen ms) c.args.wanted c.args.pieces.now.items (members_seen (drop c.loop-member.member-index ms)) c.loop-member.left c.loop-member.pieces.items (c.is_nothing.ensures.count c.if-is_nothing.true) c.loop-member.invariant.added
+
+pub add_members-returns-then-is_nothing-clause-in_turn : goal.add_members-returns-then-is_nothing-clause-in_turn
+add_members-returns-then-is_nothing-clause-in_turn t c =
+    let ms = c.args.members.now in
+    turns_end c.args.store.now.entries.items (members_seen ms) c.args.pieces.now.items (members_seen (drop c.loop-member.member-index ms)) c.loop-member.pieces.items c.loop-member.invariant.in_turn
+
+pub add_members-returns-then-is_nothing-clause-past : goal.add_members-returns-then-is_nothing-clause-past
+add_members-returns-then-is_nothing-clause-past t c =
+    let ms = c.args.members.now in
+    wanted_ends_early c.args.store.now.entries.items (members_seen ms) c.args.wanted (members_seen (drop c.loop-member.member-index ms)) c.loop-member.left (c.is_nothing.ensures.skip c.if-is_nothing.true) (c.is_nothing.ensures.count c.if-is_nothing.true) c.loop-member.invariant.past
 
 pub add_members-add_range-requires : goal.add_members-add_range-requires
 add_members-add_range-requires t c =
-    let entries = c.args.store.now.entries.items in
-    let e = expr_view c.member-item.result in
-    let below : weight e < weights (members_seen c.args.members.now) = member_smaller c.args.members.now c.loop-member.member-index c.member-item.result c.loop-member-test.true c.member-item.is in
-    let some : 0 < c.min-taken.result = omega (arith, c.min-taken.ensures, c.if-left-eq0.false, c.if-len-skip.false) in
-    let short : c.loop-member.skip + c.min-taken.result ≤ c.in-Ok.len = omega (arith, c.min-taken.ensures, c.if-len-skip.false) in
-    let inside : IsInside (extent_in entries e) (c.loop-member.skip + c.min-taken.result) = subst (λ r. IsInside r (c.loop-member.skip + c.min-taken.result)) c.in-Ok.ensures short in
-    search (rules, below, some, inside)
+    let below : weight (expr_view c.member-item.result) < weights (members_seen c.args.members.now) = member_smaller c.args.members.now c.loop-member.member-index c.member-item.result c.loop-member-test.true c.member-item.is in
+    search (rules, below)
 
 pub add_members-loop-member-preserved : goal.add_members-loop-member-preserved
 add_members-loop-member-preserved t c =
     let entries = c.args.store.now.entries.items in
     let ms = c.args.members.now in
     let k = c.loop-member.member-index in
+    let es = members_seen ms in
     let e = expr_view c.member-item.result in
     let others = members_seen (drop (k + 1) ms) in
-    let skip = c.loop-member.skip in
     let left = c.loop-member.left in
+    let old = c.args.pieces.now.items in
     let now = c.loop-member.pieces.items in
     let next = c.add_range.new.pieces.items in
-    let len = c.in-Ok.len in
+    let after = c.in_ok-left.left in
     let at : members_seen (drop k ms) ≡ plain.member e others = members_left ms k c.member-item.result c.loop-member-test.true c.member-item.is in
-    let head = has_head entries e others (skip + left) (subst (λ (es : plain.Exprs). IsInside (members_extent entries es) (skip + left)) at c.loop-member.invariant.inside) in
-    let extent : extent_in entries e ≡ Ok len = sym c.in-Ok.ensures in
-    let same : head.len ≡ len = cc in
-    let taken : c.min-taken.result ≡ min left (len - skip) = c.min-taken.ensures in
-    let part : AddsExpression entries e skip (min left (len - skip)) now next = subst (λ (n : ℕ). AddsExpression entries e skip n now next) taken c.in_ok-add_range.ensures.added in
     record {
-      inside = inside_before (members_extent entries others) (skip + left - head.len) (0 + (left - c.min-taken.result)) (omega (arith, same, taken, c.if-len-skip.false)) head.behind;
-      added = subst (λ (n : ℕ). SoFar entries (members_seen ms) c.args.start c.args.count c.args.pieces.now.items others 0 (left - n) next) (sym taken)
-          (takes entries (members_seen ms) c.args.start c.args.count c.args.pieces.now.items e others len skip left now extent (subst (λ (es : plain.Exprs). SoFar entries (members_seen ms) c.args.start c.args.count c.args.pieces.now.items es skip left now) at c.loop-member.invariant.added) c.if-len-skip.false next part);
+      added = goes_on entries es c.args.wanted old e others left after now next (subst (λ (xs : plain.Exprs). SoFar entries es c.args.wanted old xs left now) at c.loop-member.invariant.added) c.in_ok-left.ensures.added c.in_ok-left.ensures.past;
+      in_turn = turns_go_on entries es old e others now next (subst (λ (xs : plain.Exprs). TurnsSoFar entries es old xs now) at c.loop-member.invariant.in_turn) c.in_ok-left.ensures.in_turn;
+      past = wanted_goes_on entries es c.args.wanted e others left after (subst (λ (xs : plain.Exprs). WantedSoFar entries es c.args.wanted xs left) at c.loop-member.invariant.past) c.in_ok-left.ensures.past;
+      few = omega (arith, c.in_ok-left.ensures.few, c.loop-member.invariant.few);
     }
+
+pub add_members-returns-clause-added : goal.add_members-returns-clause-added
+add_members-returns-clause-added t c =
+    let entries = c.args.store.now.entries.items in
+    let ms = c.args.members.now in
+    let left = c.loop-member.left in
+    let now = c.loop-member.pieces.items in
+    let none : members_seen (drop c.loop-member.member-index ms) ≡ plain.nothing = ap members_seen (drop_all c.loop-member.member-index ms c.loop-member-test.false) in
+    ends_last entries (members_seen ms) c.args.wanted c.args.pieces.now.items left now (subst (λ (xs : plain.Exprs). SoFar entries (members_seen ms) c.args.wanted c.args.pieces.now.items xs left now) none c.loop-member.invariant.added)
+
+pub add_members-returns-clause-in_turn : goal.add_members-returns-clause-in_turn
+add_members-returns-clause-in_turn t c =
+    let ms = c.args.members.now in
+    turns_end c.args.store.now.entries.items (members_seen ms) c.args.pieces.now.items (members_seen (drop c.loop-member.member-index ms)) c.loop-member.pieces.items c.loop-member.invariant.in_turn
+
+pub add_members-returns-clause-past : goal.add_members-returns-clause-past
+add_members-returns-clause-past t c =
+    let entries = c.args.store.now.entries.items in
+    let ms = c.args.members.now in
+    let left = c.loop-member.left in
+    let none : members_seen (drop c.loop-member.member-index ms) ≡ plain.nothing = ap members_seen (drop_all c.loop-member.member-index ms c.loop-member-test.false) in
+    wanted_ends entries (members_seen ms) c.args.wanted left (subst (λ (xs : plain.Exprs). WantedSoFar entries (members_seen ms) c.args.wanted xs left) none c.loop-member.invariant.past)

@@ -1,9 +1,10 @@
 use Rattle.std.proofs.Common.{◌+◌, drop}
 use Rattle.cord_plan.specs.Views.{expr_view}
-use Rattle.cord_run.specs.Extents.{members_extent, members_seen}
-use Rattle.cord_run.specs.Ranges.{IsInside}
+use Rattle.cord_run.specs.Extents.{members_seen}
+use Rattle.cord_run.specs.Ranges.{AreFew}
 use Rattle.cord_run.proofs.Members.{weight, weights}
-use Rattle.cord_run.proofs.SoFar.{SoFar}
+use Rattle.cord_run.proofs.SoFar.{SoFar, WantedSoFar}
+use Rattle.cord_run.proofs.Turns.{TurnsSoFar}
 use Rattle.cord_run.proofs.picking.+add_range.Given as goal
 
 abbrev pub decreases-add_range : goal.decreases-add_range
@@ -14,6 +15,8 @@ decreases-add_members l = weights (members_seen l.members.now)
 
 abbrev pub invariant-add_members-loop-member : goal.invariant-add_members-loop-member
 invariant-add_members-loop-member l = record {
-  inside : IsInside (members_extent l.store.entries.items (members_seen (drop l.member-index l.members))) (l.skip + l.left);
-  added : SoFar l.store.entries.items (members_seen l.members) l.start l.count l.initial.pieces.items (members_seen (drop l.member-index l.members)) l.skip l.left l.pieces.items;
+  added : SoFar l.store.entries.items (members_seen l.members) l.fn.wanted l.initial.pieces.items (members_seen (drop l.member-index l.members)) l.left l.pieces.items;
+  in_turn : TurnsSoFar l.store.entries.items (members_seen l.members) l.initial.pieces.items (members_seen (drop l.member-index l.members)) l.pieces.items;
+  past : WantedSoFar l.store.entries.items (members_seen l.members) l.fn.wanted (members_seen (drop l.member-index l.members)) l.left;
+  few : AreFew l.fn.wanted l.left l.initial.pieces.items l.pieces.items;
 }

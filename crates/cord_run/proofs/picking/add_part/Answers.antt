@@ -1,8 +1,21 @@
-use Rattle.std.proofs.Common.{◌≡◌, ◌++◌, ◌∷◌, [], rules}
-use Rattle.cord_run.proofs.Ranged.{part_added}
+use Rattle.std.proofs.Common.{◌≡◌, ◌-◌, ◌++◌, ◌∷◌, [], ℕ, length, ap, sym, ◌∙◌, rules}
+use Rattle.std.specs.Prelude.{min}
+use Rattle.cord_core.specs.Cord.{bytes_of}
+use Rattle.cord_run.proofs.Ranged.{few_more, part_added, part_passed}
 use Rattle.cord_run.proofs.picking.add_part.Goals as goal
+
+pub returns-then-of-eq0-clause-added : goal.returns-then-of-eq0-clause-added
+returns-then-of-eq0-clause-added c =
+    part_passed c.args.cord.now c.args.wanted c.args.pieces.now.items
+    (λ t fits. ap (λ (n : ℕ). min c.args.wanted.count (n - c.args.wanted.skip)) (sym (c.len-len.ensures.over t fits)) ∙ sym c.of.ensures ∙ c.if-of-eq0.true)
 
 pub returns-clause-added : goal.returns-clause-added
 returns-clause-added c =
     let pushed : c.push.new.self.items ≡ c.args.pieces.now.items ++ c.in_ok-part.part ∷ [] = search rules in
-    part_added c.args.cord.now c.in_ok-part.part c.args.start c.args.count c.args.pieces.now.items c.push.new.self.items c.in_ok-part.ensures.over c.in_ok-part.ensures.len pushed
+    part_added c.args.cord.now c.args.wanted c.in_ok-part.part c.args.pieces.now.items c.push.new.self.items c.in_ok-part.ensures.over pushed
+
+pub returns-clause-few : goal.returns-clause-few
+returns-clause-few c =
+    let pushed : c.push.new.self.items ≡ c.args.pieces.now.items ++ c.in_ok-part.part ∷ [] = search rules in
+    few_more c.args.wanted c.after-after.result c.len-len.result c.args.pieces.now.items c.push.new.self.items c.in_ok-part.part c.after-after.ensures
+    (c.in_ok-part.ensures.len ∙ ap (λ (n : ℕ). min c.args.wanted.count (n - c.args.wanted.skip)) (sym c.len-len.ensures.stored)) pushed

@@ -1,6 +1,6 @@
 use Rattle.std.proofs.Common.{refl, None, sym, ap, ◌∙◌}
 use Rattle.cord_run.specs.declared.store.Content.TheVariants.{Whole}
-use Rattle.cord_run.specs.Held.{cord_in}
+use Rattle.cord_run.specs.Held.{content_length, cord_in}
 use Rattle.cord_run.proofs.Entries.{none_there, value_there}
 use Rattle.cord_run.proofs.store.Store.cord_of.Goals as goal
 
@@ -12,3 +12,6 @@ returns-in-Whole-clause-some c = ap cord_in (sym c.in-Whole.is ∙ value_there (
 
 pub returns-in-Long-clause-none : goal.returns-in-Long-clause-none
 returns-in-Long-clause-none c = sym (ap cord_in (sym c.in-Long.is ∙ value_there (λ entry. entry.content) (Whole None) c.args.self.now.entries.items c.args.self.now.entries.items c.args.name.now c.in-Some.place c.index.result.now refl c.in-Some.ensures.some c.index.ensures))
+
+pub returns-in-Whole-clause-len : goal.returns-in-Whole-clause-len
+returns-in-Whole-clause-len c = ap content_length (sym c.in-Whole.is ∙ value_there (λ entry. entry.content) (Whole None) c.args.self.now.entries.items c.args.self.now.entries.items c.args.name.now c.in-Some.place c.index.result.now refl c.in-Some.ensures.some c.index.ensures)
