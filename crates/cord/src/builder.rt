@@ -21,9 +21,9 @@ impl Model for TextBuilder {
 
     ghost Value = { List ℕ };
 
-    ghost view = { λ b. grown_bytes b.grown };
+    ghost view = { λ b. grown_bytes b.grown.text };
 
-    ghost invariant = { λ b. IsPlainGrowth b.grown };
+    ghost invariant = { λ b. IsPlainGrowth b.grown.text };
 }
 
 impl TextBuilder {

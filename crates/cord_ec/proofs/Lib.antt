@@ -1,1 +1,3 @@
 pub mod Growing
+pub mod Leaves
+pub mod MadeLemmas

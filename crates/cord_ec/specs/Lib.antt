@@ -1,2 +1,3 @@
 pub mod Cells
+pub mod Gathered
 pub mod Grown

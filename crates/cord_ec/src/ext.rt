@@ -1,9 +1,11 @@
 // The extensible cord.
-ghost use Rattle.std.specs.Prelude.{◌≡◌, ◌+◌, ◌<◌, ◌≤◌, List, [], ◌∷◌, ◌++◌, IfOk, OnOk, IfErr, IsErr, IsOkUnless, Err, length, map};
+ghost use Rattle.std.specs.Prelude.{◌≡◌, ℕ, ◌+◌, ◌<◌, ◌≤◌, List, [], ◌∷◌, ◌++◌, IfOk, OnOk, IfErr, IsErr, IsOkUnless, Err, length, map};
 ghost use Rattle.cord_io.specs.Table.{Table};
 ghost use Rattle.cord_node.specs.Tree.{known};
-ghost use Rattle.cord_core.specs.Cord.{text, text_len, IsCord};
+ghost use Rattle.cord_node.specs.Kept.{Kept};
+ghost use Rattle.cord_core.specs.Cord.{text, text_len, parts_of, IsCord};
 ghost use Rattle.cord_core.specs.Refusals.{IsRefusal};
+ghost use Rattle.cord_ec.specs.Gathered.{leaf_bytes, leaf_parts, Gathered};
 ghost use Rattle.cord_ec.specs.Grown.{bytes_over, IsGrownBy, IsGrownByCord, IsCordOf};
 
 use cord_core::Cord;
@@ -23,18 +25,18 @@ pub struct ExtCord {
 }
 
 impl Model for ExtCord {
-    ghost use Rattle.std.specs.Prelude.{◌≤◌, ◌+◌, ◌++◌, List, length, map};
-    ghost use Rattle.std.specs.Coded.{coded_list};
+    ghost use Rattle.std.specs.Prelude.{◌≤◌, ◌+◌, ◌++◌, length, map};
     ghost use Rattle.cord_io.specs.declared.TheConstants.{MAX_LEN};
-    ghost use Rattle.cord_node.specs.Tree.{Cell, known};
-    ghost use Rattle.cord_core.specs.Cord.{text, text_len};
-    ghost use Rattle.cord_ec.specs.Cells.{coded_cell};
+    ghost use Rattle.cord_node.specs.Tree.{known};
+    ghost use Rattle.cord_core.specs.Cord.{text, text_len, parts_of};
+    ghost use Rattle.cord_ec.specs.Gathered.{Growth, coded_growth, leaf_parts};
 
-    ghost Value = { List Cell };
+    ghost Value = { Growth };
 
-    ghost coded = { coded_list coded_cell };
+    ghost coded = { coded_growth };
 
-    ghost view = { λ e. text e.cord ++ map known e.buffer };
+    // The buffer's bytes are a leaf after the cord's parts.
+    ghost view = { λ e. record { text = text e.cord ++ map known e.buffer; parts = parts_of e.cord ++ leaf_parts e.buffer } };
 
     ghost invariant = { λ e. text_len e.cord + length e.buffer ≤ MAX_LEN };
 }
@@ -42,7 +44,8 @@ impl Model for ExtCord {
 impl ExtCord {
     /// The extensible cord of no bytes. Refused for want of memory alone.
     pub fn new(alloc: Global) -> Result<ExtCord, CordError>
-        ensures text { IfOk result (λ made. made ≡ []) }
+        ensures text { IfOk result (λ made. made.text ≡ []) }
+        ensures parts { IfOk result (λ made. made.parts ≡ []) }
         ensures refused { IsOkUnless result CordError.NoMemory }
     {
         let buffer = RawBuf::new(alloc)?;
@@ -54,8 +57,8 @@ impl ExtCord {
 
     /// The length of the text, in bytes.
     pub fn len(&self) -> u64
-        ensures value { result ≡ length self.now }
-        ensures over { (t : Table) → result ≡ length (bytes_over t self.now) }
+        ensures value { result ≡ length self.now.text }
+        ensures over { (t : Table) → result ≡ length (bytes_over t self.now.text) }
         ensures limit { result ≤ MAX_LEN }
     {
         len_of(&self.cord, &self.buffer)
@@ -65,20 +68,25 @@ impl ExtCord {
     /// `TooLong` where the text would be longer than `MAX_LEN`, `NoMemory` where memory was refused. After either the text is as
     /// before.
     pub fn append(&mut self, alloc: Global, byte: u8) -> Result<(), CordError>
-        ensures text { IfOk result (λ _. self.new ≡ self.old ++ known byte ∷ []) }
-        ensures over { IfOk result (λ _. IsGrownBy self.old self.new (byte ∷ [])) }
+        ensures text { IfOk result (λ _. self.new.text ≡ self.old.text ++ known byte ∷ []) }
+        ensures over { IfOk result (λ _. IsGrownBy self.old.text self.new.text (byte ∷ [])) }
+        ensures gathered { IfOk result (λ _. Gathered 1 self.old.parts self.new.parts) }
         ensures unchanged { IsErr result → self.new ≡ self.old }
-        ensures too_long { result ≡ Err CordError.TooLong → MAX_LEN < length self.old + 1 }
-        ensures within_limit { OnOk result (length self.old + 1 ≤ MAX_LEN) }
+        ensures too_long { result ≡ Err CordError.TooLong → MAX_LEN < length self.old.text + 1 }
+        ensures within_limit { OnOk result (length self.old.text + 1 ≤ MAX_LEN) }
         ensures refused { IfErr result IsRefusal }
     {
         if len_of(&self.cord, &self.buffer) == MAX_LEN {
             return Err(CordError::TooLong);
         }
-        if self.buffer.len() == RawBuf::CAP {
-            flush(alloc, &mut self.cord, &mut self.buffer)?;
+        if self.buffer.len() < RawBuf::CAP {
+            self.buffer.push(alloc, byte)?;
+            return Ok(());
         }
-        self.buffer.push(alloc, byte)?;
+        let longer = whole(alloc, &self.cord, &self.buffer)?;
+        let next = buffer_of(alloc, byte)?;
+        self.cord = longer;
+        self.buffer = next;
         Ok(())
     }
 
@@ -86,11 +94,12 @@ impl ExtCord {
     /// `TooLong` where the text would be longer than `MAX_LEN`, `NoMemory` where memory was refused. After either the text is as
     /// before.
     pub fn append_bytes(&mut self, alloc: Global, bytes: &[u8]) -> Result<(), CordError>
-        ensures text { IfOk result (λ _. self.new ≡ self.old ++ map known bytes.now) }
-        ensures over { IfOk result (λ _. IsGrownBy self.old self.new bytes.now) }
+        ensures text { IfOk result (λ _. self.new.text ≡ self.old.text ++ map known bytes.now) }
+        ensures over { IfOk result (λ _. IsGrownBy self.old.text self.new.text bytes.now) }
+        ensures gathered { IfOk result (λ _. (k : ℕ) → length bytes.now ≤ leaf_bytes k → Gathered k self.old.parts self.new.parts) }
         ensures unchanged { IsErr result → self.new ≡ self.old }
-        ensures too_long { result ≡ Err CordError.TooLong → MAX_LEN < length self.old + length bytes.now }
-        ensures within_limit { OnOk result (length self.old + length bytes.now ≤ MAX_LEN) }
+        ensures too_long { result ≡ Err CordError.TooLong → MAX_LEN < length self.old.text + length bytes.now }
+        ensures within_limit { OnOk result (length self.old.text + length bytes.now ≤ MAX_LEN) }
         ensures refused { IfErr result IsRefusal }
     {
         if bytes.len() as u64 > MAX_LEN - len_of(&self.cord, &self.buffer) {
@@ -111,11 +120,12 @@ impl ExtCord {
     /// `TooLong` where the text would be longer than `MAX_LEN`, `NoMemory` where memory was refused. After either the text is as
     /// before.
     pub fn append_cord(&mut self, alloc: Global, cord: &Cord) -> Result<(), CordError>
-        ensures text { IfOk result (λ _. self.new ≡ self.old ++ text cord.now) }
-        ensures over { IfOk result (λ _. IsGrownByCord self.old self.new cord.now) }
+        ensures text { IfOk result (λ _. self.new.text ≡ self.old.text ++ text cord.now) }
+        ensures over { IfOk result (λ _. IsGrownByCord self.old.text self.new.text cord.now) }
+        ensures kept { IfOk result (λ _. Kept (self.old.parts ++ parts_of cord.now) self.new.parts) }
         ensures unchanged { IsErr result → self.new ≡ self.old }
-        ensures too_long { result ≡ Err CordError.TooLong → MAX_LEN < length self.old + text_len cord.now }
-        ensures within_limit { OnOk result (length self.old + text_len cord.now ≤ MAX_LEN) }
+        ensures too_long { result ≡ Err CordError.TooLong → MAX_LEN < length self.old.text + text_len cord.now }
+        ensures within_limit { OnOk result (length self.old.text + text_len cord.now ≤ MAX_LEN) }
         ensures refused { IfErr result IsRefusal }
     {
         if cord.len() > MAX_LEN - len_of(&self.cord, &self.buffer) {
@@ -132,10 +142,12 @@ impl ExtCord {
     /// Refused for want of memory alone.
     #[tactic(auto, using(crate::proofs::Growing::cord_of))]
     pub fn to_cord(&mut self, alloc: Global) -> Result<Cord, CordError>
-        ensures text { IfOk result (λ c. text c ≡ self.old) }
-        ensures over { IfOk result (IsCordOf self.old) }
+        ensures text { IfOk result (λ c. text c ≡ self.old.text) }
+        ensures over { IfOk result (IsCordOf self.old.text) }
         ensures sound { IfOk result IsCord }
-        ensures same { self.new ≡ self.old }
+        ensures kept { IfOk result (λ c. Kept self.old.parts (parts_of c)) }
+        ensures same { self.new.text ≡ self.old.text }
+        ensures stays { Kept self.old.parts self.new.parts }
         ensures refused { IsOkUnless result CordError.NoMemory }
     {
         flush(alloc, &mut self.cord, &mut self.buffer)?;
@@ -158,6 +170,7 @@ fn whole(alloc: Global, cord: &Cord, buffer: &RawBuf) -> Result<Cord, CordError>
     requires within_limit { text_len cord.now + length buffer.now ≤ MAX_LEN }
     ensures text { IfOk result (λ c. text c ≡ text cord.now ++ map known buffer.now) }
     ensures len { IfOk result (λ c. text_len c ≡ text_len cord.now + length buffer.now) }
+    ensures kept { IfOk result (λ c. Kept (parts_of cord.now ++ leaf_parts buffer.now) (parts_of c)) }
     ensures sound { IfOk result IsCord }
     ensures refused { IsOkUnless result CordError.NoMemory }
 {
@@ -170,11 +183,22 @@ fn whole(alloc: Global, cord: &Cord, buffer: &RawBuf) -> Result<Cord, CordError>
     Ok(longer)
 }
 
+// A buffer of one byte.
+fn buffer_of(alloc: Global, byte: u8) -> Result<RawBuf, CordError>
+    ensures bytes { IfOk result (λ made. made ≡ byte ∷ []) }
+    ensures refused { IsOkUnless result CordError.NoMemory }
+{
+    let mut made = RawBuf::new(alloc)?;
+    made.push(alloc, byte)?;
+    Ok(made)
+}
+
 // Puts the bytes of the buffer, where it has any, into the cord, and empties it.
 fn flush(alloc: Global, cord: &mut Cord, buffer: &mut RawBuf) -> Result<(), CordError>
     requires within_limit { text_len cord.old + length buffer.old ≤ MAX_LEN }
     ensures text { IfOk result (λ _. text cord.new ≡ text cord.old ++ map known buffer.old) }
     ensures len { IfOk result (λ _. text_len cord.new ≡ text_len cord.old + length buffer.old) }
+    ensures kept { IfOk result (λ _. Kept (parts_of cord.old ++ leaf_parts buffer.old) (parts_of cord.new)) }
     ensures emptied { IfOk result (λ _. buffer.new ≡ []) }
     ensures cord_unchanged { IsErr result → cord.new ≡ cord.old }
     ensures buffer_unchanged { IsErr result → buffer.new ≡ buffer.old }
@@ -191,6 +215,7 @@ fn cat_within(alloc: Global, left: &Cord, right: &Cord) -> Result<Cord, CordErro
     requires within_limit { text_len left.now + text_len right.now ≤ MAX_LEN }
     ensures text { IfOk result (λ c. text c ≡ text left.now ++ text right.now) }
     ensures len { IfOk result (λ c. text_len c ≡ text_len left.now + text_len right.now) }
+    ensures kept { IfOk result (λ c. Kept (parts_of left.now ++ parts_of right.now) (parts_of c)) }
     ensures sound { IfOk result IsCord }
     ensures refused { IsOkUnless result CordError.NoMemory }
 {
@@ -203,6 +228,8 @@ fn leaf_of(alloc: Global, buffer: &RawBuf) -> Result<Cord, CordError>
     requires filled { 0 < length buffer.now }
     ensures text { IfOk result (λ c. text c ≡ map known buffer.now) }
     ensures len { IfOk result (λ c. text_len c ≡ length buffer.now) }
+    ensures parts { IfOk result (λ c. parts_of c ≡ leaf_parts buffer.now) }
+    ensures small { length buffer.now ≤ RawBuf.CAP }
     ensures sound { IfOk result IsCord }
     ensures refused { IsOkUnless result CordError.NoMemory }
 {
@@ -216,6 +243,7 @@ fn cat_leaves(alloc: Global, cord: Cord, bytes: &[u8]) -> Result<Cord, CordError
     requires within_limit { text_len cord + length bytes.now ≤ MAX_LEN }
     ensures text { IfOk result (λ c. text c ≡ text cord ++ map known bytes.now) }
     ensures len { IfOk result (λ c. text_len c ≡ text_len cord + length bytes.now) }
+    ensures gathered { IfOk result (λ c. (k : ℕ) → length bytes.now ≤ leaf_bytes k → Gathered k (parts_of cord) (parts_of c)) }
     ensures refused { IsOkUnless result CordError.NoMemory }
 {
     let mut longer = cord;

@@ -11,3 +11,4 @@ pub mod Layouts
 pub mod Prints
 pub mod Natural
 pub mod Tables
+pub mod Owned

@@ -37,7 +37,7 @@ next_of place p after args none are =
     }
 
 -- the first of the pieces from a place on
-piece_at : (pieces : List Piece) (i : ℕ) (p : Piece) → i < length pieces → p ≡ get_or pieces i p → drop i pieces ≡ p ∷ drop (i + 1) pieces
+pub piece_at : (pieces : List Piece) (i : ℕ) (p : Piece) → i < length pieces → p ≡ get_or pieces i p → drop i pieces ≡ p ∷ drop (i + 1) pieces
 piece_at pieces i p h e = drop-cons pieces i p h ∙ rw (← e, ← add-one i) refl
 
 next : (place : ℕ) (pieces : List Piece) (i : ℕ) (p : Piece) (args others : List (PieceArgument Cell)) (a : Option (PieceArgument Cell)) (shown : List Cell) → i < length pieces → p ≡ get_or pieces i p

@@ -1,8 +1,9 @@
-pub mod Pieces
 pub mod Format
-pub mod Reading
 pub mod FormatLaws
-pub mod PieceText
-pub mod Printing
-pub mod Shown
 pub mod Over
+pub mod Own
+pub mod PieceText
+pub mod Pieces
+pub mod Printing
+pub mod Reading
+pub mod Shown

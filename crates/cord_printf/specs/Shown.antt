@@ -1,7 +1,9 @@
 -- What a piece shows: blanks, a sign, zeros, its body, blanks.
-use Rattle.std.specs.Prelude.{unwrap_or, ◌≡◌, ℕ, ◌-◌, Option, Some, None, List, [], ◌∷◌, ◌++◌, length, map, replicate, take, option_to_list}
+use Rattle.std.specs.Prelude.{unwrap_or, ◌≡◌, ℕ, ◌+◌, ◌-◌, Option, Some, None, List, [], ◌∷◌, ◌++◌, length, map, replicate, take, option_to_list}
 use Rattle.cord_node.specs.Tree.{Cell, known}
-use Rattle.cord_core.specs.Cord.{text}
+use Rattle.cord_node.specs.Kept.{Part}
+use Rattle.cord_core.specs.Cord.{text, parts_of}
+use Rattle.cord_ec.specs.Gathered.{Growth}
 use Rattle.cord_printf.specs.declared.pieces.Flags.{Flags}
 use Rattle.cord_printf.specs.declared.shown.Layout.{Layout}
 use Rattle.cord_printf.specs.declared.shown.Body.{Body}
@@ -32,7 +34,36 @@ body_text (Start c len) = take len (text c.now)
 abbrev pub shown_text : Shown → List Cell
 shown_text s = map known (front_of s.layout) ++ body_text s.body ++ map known (replicate s.layout.after 32)
 
+-- the parts of the cord of a body, and how many bytes it has beside a cord's
+abbrev pub body_parts : Body → List Part
+body_parts (Bytes b) = []
+body_parts (Byte b) = []
+body_parts (Digits d) = []
+body_parts (Start c len) = parts_of c.now
+
+abbrev pub body_own : Body → ℕ
+body_own (Bytes b) = length b.now
+body_own (Byte b) = 1
+body_own (Digits d) = length d
+body_own (Start c len) = 0
+
+-- the text of a body that comes from a cord
+abbrev pub body_taken : Body → List Cell
+body_taken (Bytes b) = []
+body_taken (Byte b) = []
+body_taken (Digits d) = []
+body_taken (Start c len) = take len (text c.now)
+
+-- how many bytes are shown beside a cord's
+abbrev pub shown_own : Shown → ℕ
+shown_own s = length (front_of s.layout) + body_own s.body + s.layout.after
+
+-- the parts of a text that may not have begun
+abbrev pub parts_in : Option Growth → List Part
+parts_in None = []
+parts_in (Some growth) = growth.parts
+
 -- the cells of a text that may not have begun
-abbrev pub cells_of : Option (List Cell) → List Cell
+abbrev pub cells_of : Option Growth → List Cell
 cells_of None = []
-cells_of (Some cells) = cells
+cells_of (Some growth) = growth.text

@@ -1,9 +1,12 @@
 // What pieces show, added to a text that grows. Each addition fits, so it is refused for want of memory alone.
-ghost use Rattle.std.specs.Prelude.{◌≡◌, ◌+◌, ◌≤◌, [], ◌++◌, IfOk, IfSome, IsOkUnless, length, option_to_list, map, replicate, take};
+ghost use Rattle.std.specs.Prelude.{◌≡◌, ℕ, ◌+◌, ◌<◌, ◌≤◌, [], ◌++◌, IfOk, IfSome, IsOkUnless, length, option_to_list, map, replicate, take};
 ghost use Rattle.cord_node.specs.Tree.{known};
-ghost use Rattle.cord_core.specs.Cord.{text as text_of, IsCord};
+ghost use Rattle.cord_node.specs.Kept.{Kept};
+ghost use Rattle.cord_core.specs.Cord.{text as text_of, parts_of, IsCord};
+ghost use Rattle.cord_ec.specs.Gathered.{leaf_bytes, leaf_parts, Gathered};
 ghost use Rattle.cord_ec.specs.Grown.{IsCordOf};
-ghost use Rattle.cord_printf.specs.Shown.{body_text, cells_of, front_of, shown_text};
+ghost use Rattle.cord_printf.specs.Own.{IsPrintedFrom};
+ghost use Rattle.cord_printf.specs.Shown.{body_own, body_parts, body_text, cells_of, front_of, parts_in, shown_own, shown_text};
 
 use crate::PrintError;
 use crate::shown::{Body, Layout, Shown};
@@ -33,23 +36,23 @@ pub struct Output {
 }
 
 impl Model for Output {
-    ghost use Rattle.std.specs.Prelude.{List, ◌++◌, map};
-    ghost use Rattle.std.specs.Coded.{coded_list};
-    ghost use Rattle.cord_node.specs.Tree.{Cell, known};
-    ghost use Rattle.cord_ec.specs.Cells.{coded_cell};
-    ghost use Rattle.cord_printf.specs.Shown.{cells_of};
+    ghost use Rattle.std.specs.Prelude.{◌++◌, map};
+    ghost use Rattle.cord_node.specs.Tree.{known};
+    ghost use Rattle.cord_ec.specs.Gathered.{Growth, coded_growth, leaf_parts};
+    ghost use Rattle.cord_printf.specs.Shown.{cells_of, parts_in};
 
-    ghost Value = { List Cell };
+    ghost Value = { Growth };
 
-    ghost coded = { coded_list coded_cell };
+    ghost coded = { coded_growth };
 
-    ghost view = { λ o. cells_of o.grown ++ map known o.gathered.items };
+    ghost view = { λ o. record { text = cells_of o.grown ++ map known o.gathered.items; parts = parts_in o.grown ++ leaf_parts o.gathered.items } };
 }
 
 impl Output {
     /// The text of no bytes.
     pub fn new() -> Output
-        ensures { result ≡ [] }
+        ensures text { result.text ≡ [] }
+        ensures parts { result.parts ≡ [] }
     {
         Output {
             grown: None,
@@ -59,8 +62,9 @@ impl Output {
 
     /// Adds what a piece shows.
     pub fn add_shown(&mut self, alloc: Global, shown: &Shown<'_>) -> Result<(), PrintError>
-        requires within_limit { length self.old + length (shown_text shown.now) ≤ MAX_LEN }
-        ensures text { IfOk result (λ _. self.new ≡ self.old ++ shown_text shown.now) }
+        requires within_limit { length self.old.text + length (shown_text shown.now) ≤ MAX_LEN }
+        ensures text { IfOk result (λ _. self.new.text ≡ self.old.text ++ shown_text shown.now) }
+        ensures made { IfOk result (λ _. IsPrintedFrom (shown_own shown.now) (self.old.parts ++ body_parts shown.now.body) self.new.parts) }
         ensures refused { IsOkUnless result PrintError.NoMemory }
     {
         self.add_front(alloc, shown.layout)?;
@@ -70,9 +74,10 @@ impl Output {
 
     /// The text as a cord.
     pub fn to_cord(&mut self, alloc: Global) -> Result<Cord, PrintError>
-        requires within_limit { length self.old ≤ MAX_LEN }
-        ensures text { IfOk result (λ c. text_of c ≡ self.old) }
-        ensures over { IfOk result (IsCordOf self.old) }
+        requires within_limit { length self.old.text ≤ MAX_LEN }
+        ensures text { IfOk result (λ c. text_of c ≡ self.old.text) }
+        ensures made { IfOk result (λ c. IsPrintedFrom 0 self.old.parts (parts_of c)) }
+        ensures over { IfOk result (IsCordOf self.old.text) }
         ensures sound { IfOk result IsCord }
         ensures refused { IsOkUnless result PrintError.NoMemory }
     {
@@ -85,8 +90,9 @@ impl Output {
 
     // The blanks, the sign and the zeros in front of a body.
     fn add_front(&mut self, alloc: Global, layout: Layout) -> Result<(), PrintError>
-        requires within_limit { length self.old + length (front_of layout) ≤ MAX_LEN }
-        ensures text { IfOk result (λ _. self.new ≡ self.old ++ map known (front_of layout)) }
+        requires within_limit { length self.old.text + length (front_of layout) ≤ MAX_LEN }
+        ensures text { IfOk result (λ _. self.new.text ≡ self.old.text ++ map known (front_of layout)) }
+        ensures made { IfOk result (λ _. IsPrintedFrom (length (front_of layout)) self.old.parts self.new.parts) }
         ensures refused { IsOkUnless result PrintError.NoMemory }
     {
         self.add_run(alloc, b' ', layout.before)?;
@@ -95,8 +101,9 @@ impl Output {
     }
 
     fn add_sign(&mut self, alloc: Global, sign: Option<u8>) -> Result<(), PrintError>
-        requires within_limit { length self.old + length (option_to_list sign) ≤ MAX_LEN }
-        ensures text { IfOk result (λ _. self.new ≡ self.old ++ map known (option_to_list sign)) }
+        requires within_limit { length self.old.text + length (option_to_list sign) ≤ MAX_LEN }
+        ensures text { IfOk result (λ _. self.new.text ≡ self.old.text ++ map known (option_to_list sign)) }
+        ensures made { IfOk result (λ _. IsPrintedFrom (length (option_to_list sign)) self.old.parts self.new.parts) }
         ensures refused { IsOkUnless result PrintError.NoMemory }
     {
         let Some(sign) = sign else {
@@ -106,8 +113,9 @@ impl Output {
     }
 
     fn add_body(&mut self, alloc: Global, body: &Body<'_>) -> Result<(), PrintError>
-        requires within_limit { length self.old + length (body_text body.now) ≤ MAX_LEN }
-        ensures text { IfOk result (λ _. self.new ≡ self.old ++ body_text body.now) }
+        requires within_limit { length self.old.text + length (body_text body.now) ≤ MAX_LEN }
+        ensures text { IfOk result (λ _. self.new.text ≡ self.old.text ++ body_text body.now) }
+        ensures made { IfOk result (λ _. IsPrintedFrom (body_own body.now) (self.old.parts ++ body_parts body.now) self.new.parts) }
         ensures refused { IsOkUnless result PrintError.NoMemory }
     {
         match body {
@@ -121,8 +129,9 @@ impl Output {
     // So many copies of a byte, mostly none.
     #[inline(always)]
     fn add_run(&mut self, alloc: Global, byte: u8, count: u32) -> Result<(), PrintError>
-        requires within_limit { length self.old + count ≤ MAX_LEN }
-        ensures text { IfOk result (λ _. self.new ≡ self.old ++ replicate count (known byte)) }
+        requires within_limit { length self.old.text + count ≤ MAX_LEN }
+        ensures text { IfOk result (λ _. self.new.text ≡ self.old.text ++ replicate count (known byte)) }
+        ensures made { IfOk result (λ _. IsPrintedFrom count self.old.parts self.new.parts) }
         ensures refused { IsOkUnless result PrintError.NoMemory }
     {
         if count > 0 {
@@ -134,8 +143,10 @@ impl Output {
 
     // A long run is shared, not written out.
     fn add_copies(&mut self, alloc: Global, byte: u8, count: u32) -> Result<(), PrintError>
-        requires within_limit { length self.old + count ≤ MAX_LEN }
-        ensures text { IfOk result (λ _. self.new ≡ self.old ++ replicate count (known byte)) }
+        requires some { 0 < count }
+        requires within_limit { length self.old.text + count ≤ MAX_LEN }
+        ensures text { IfOk result (λ _. self.new.text ≡ self.old.text ++ replicate count (known byte)) }
+        ensures made { IfOk result (λ _. IsPrintedFrom count self.old.parts self.new.parts) }
         ensures refused { IsOkUnless result PrintError.NoMemory }
     {
         if count as usize <= SHORT_RUN {
@@ -151,8 +162,9 @@ impl Output {
 
     // The first bytes of a cord, which shares its tree.
     fn add_start(&mut self, alloc: Global, cord: &Cord, len: u64) -> Result<(), PrintError>
-        requires within_limit { length self.old + length (take len (text_of cord.now)) ≤ MAX_LEN }
-        ensures text { IfOk result (λ _. self.new ≡ self.old ++ take len (text_of cord.now)) }
+        requires within_limit { length self.old.text + length (take len (text_of cord.now)) ≤ MAX_LEN }
+        ensures text { IfOk result (λ _. self.new.text ≡ self.old.text ++ take len (text_of cord.now)) }
+        ensures made { IfOk result (λ _. IsPrintedFrom 0 (self.old.parts ++ parts_of cord.now) self.new.parts) }
         ensures refused { IsOkUnless result PrintError.NoMemory }
     {
         if cord.len() <= len {
@@ -165,8 +177,9 @@ impl Output {
     }
 
     fn add_bytes(&mut self, alloc: Global, bytes: &[u8]) -> Result<(), PrintError>
-        requires within_limit { length self.old + length bytes.now ≤ MAX_LEN }
-        ensures text { IfOk result (λ _. self.new ≡ self.old ++ map known bytes.now) }
+        requires within_limit { length self.old.text + length bytes.now ≤ MAX_LEN }
+        ensures text { IfOk result (λ _. self.new.text ≡ self.old.text ++ map known bytes.now) }
+        ensures made { IfOk result (λ _. (k : ℕ) → length bytes.now ≤ leaf_bytes k → IsPrintedFrom k self.old.parts self.new.parts) }
         ensures refused { IsOkUnless result PrintError.NoMemory }
     {
         if self.gathered.try_extend_from_slice(bytes).is_ok() {
@@ -178,8 +191,9 @@ impl Output {
 
     // A leaf that the join with the text in front of it would copy is gathered.
     fn add_cord(&mut self, alloc: Global, cord: &Cord) -> Result<(), PrintError>
-        requires within_limit { length self.old + length (text_of cord.now) ≤ MAX_LEN }
-        ensures text { IfOk result (λ _. self.new ≡ self.old ++ text_of cord.now) }
+        requires within_limit { length self.old.text + length (text_of cord.now) ≤ MAX_LEN }
+        ensures text { IfOk result (λ _. self.new.text ≡ self.old.text ++ text_of cord.now) }
+        ensures made { IfOk result (λ _. IsPrintedFrom 0 (self.old.parts ++ parts_of cord.now) self.new.parts) }
         ensures refused { IsOkUnless result PrintError.NoMemory }
     {
         if self.grown.is_none() {
@@ -194,7 +208,9 @@ impl Output {
 
 // The bytes of a cord that is a leaf, where a join would copy them after so many bytes.
 fn joined_leaf(before: usize, cord: &Cord) -> Option<&[u8]>
-    ensures { IfSome result (λ leaf. text_of cord.now ≡ map known leaf.now) }
+    ensures text { IfSome result (λ leaf. text_of cord.now ≡ map known leaf.now) }
+    ensures short { IfSome result (λ leaf. length leaf.now ≤ MOST_JOINED) }
+    ensures part { IfSome result (λ leaf. length (parts_of cord.now) ≡ 1) }
 {
     if before == 0 || before > MOST_JOINED {
         return None;
@@ -207,7 +223,8 @@ fn joined_leaf(before: usize, cord: &Cord) -> Option<&[u8]>
 
 // The bytes of a cord that is a leaf.
 fn leaf_slice(cord: &Cord) -> Option<&[u8]>
-    ensures { IfSome result (λ leaf. text_of cord.now ≡ map known leaf.now) }
+    ensures text { IfSome result (λ leaf. text_of cord.now ≡ map known leaf.now) }
+    ensures part { IfSome result (λ leaf. length (parts_of cord.now) ≡ 1) }
 {
     let Some(root) = cord.root() else {
         return None;
@@ -228,6 +245,7 @@ fn leaf_of(alloc: Global, bytes: &[u8]) -> Result<Cord, PrintError>
     requires within_limit { length bytes.now ≤ MAX_LEN }
     ensures text { IfOk result (λ c. text_of c ≡ map known bytes.now) }
     ensures over { IfOk result (IsCordOf (map known bytes.now)) }
+    ensures parts { IfOk result (λ c. parts_of c ≡ leaf_parts bytes.now) }
     ensures sound { IfOk result IsCord }
     ensures refused { IsOkUnless result PrintError.NoMemory }
 {
@@ -241,6 +259,7 @@ fn leaf_of(alloc: Global, bytes: &[u8]) -> Result<Cord, PrintError>
 fn cord_of(alloc: Global, grown: &mut Option<ExtCord>) -> Result<Cord, PrintError>
     ensures text { IfOk result (λ c. text_of c ≡ cells_of grown.old) }
     ensures over { IfOk result (IsCordOf (cells_of grown.old)) }
+    ensures kept { IfOk result (λ c. Kept (parts_in grown.old) (parts_of c)) }
     ensures sound { IfOk result IsCord }
     ensures refused { IsOkUnless result PrintError.NoMemory }
 {
@@ -262,6 +281,7 @@ fn put_in(
     requires within_limit { length (cells_of grown.old) + length gathered.old.items ≤ MAX_LEN }
     ensures text { IfOk result (λ _. cells_of grown.new ≡ cells_of grown.old ++ map known gathered.old.items) }
     ensures emptied { IfOk result (λ _. gathered.new.items ≡ []) }
+    ensures made { IfOk result (λ _. IsPrintedFrom 0 (parts_in grown.old ++ leaf_parts gathered.old.items) (parts_in grown.new)) }
     ensures refused { IsOkUnless result PrintError.NoMemory }
 {
     grow(alloc, grown, gathered.as_slice())?;
@@ -273,6 +293,7 @@ fn put_in(
 fn grow(alloc: Global, grown: &mut Option<ExtCord>, bytes: &[u8]) -> Result<(), PrintError>
     requires within_limit { length (cells_of grown.old) + length bytes.now ≤ MAX_LEN }
     ensures text { IfOk result (λ _. cells_of grown.new ≡ cells_of grown.old ++ map known bytes.now) }
+    ensures gathered { IfOk result (λ _. (k : ℕ) → length bytes.now ≤ leaf_bytes k → Gathered k (parts_in grown.old) (parts_in grown.new)) }
     ensures refused { IsOkUnless result PrintError.NoMemory }
 {
     match grown {
@@ -290,6 +311,7 @@ fn grow(alloc: Global, grown: &mut Option<ExtCord>, bytes: &[u8]) -> Result<(), 
 fn grow_by_cord(alloc: Global, grown: &mut Option<ExtCord>, cord: &Cord) -> Result<(), PrintError>
     requires within_limit { length (cells_of grown.old) + length (text_of cord.now) ≤ MAX_LEN }
     ensures text { IfOk result (λ _. cells_of grown.new ≡ cells_of grown.old ++ text_of cord.now) }
+    ensures kept { IfOk result (λ _. Kept (parts_in grown.old ++ parts_of cord.now) (parts_in grown.new)) }
     ensures refused { IsOkUnless result PrintError.NoMemory }
 {
     match grown {
@@ -305,7 +327,8 @@ fn grow_by_cord(alloc: Global, grown: &mut Option<ExtCord>, cord: &Cord) -> Resu
 
 // An extensible cord of no bytes.
 fn begin(alloc: Global) -> Result<ExtCord, PrintError>
-    ensures text { IfOk result (λ made. made ≡ []) }
+    ensures text { IfOk result (λ made. made.text ≡ []) }
+    ensures parts { IfOk result (λ made. made.parts ≡ []) }
     ensures refused { IsOkUnless result PrintError.NoMemory }
 {
     match ExtCord::new(alloc) {
@@ -316,8 +339,9 @@ fn begin(alloc: Global) -> Result<ExtCord, PrintError>
 
 // Appends bytes that fit.
 fn append(alloc: Global, grown: &mut ExtCord, bytes: &[u8]) -> Result<(), PrintError>
-    requires within_limit { length grown.old + length bytes.now ≤ MAX_LEN }
-    ensures text { IfOk result (λ _. grown.new ≡ grown.old ++ map known bytes.now) }
+    requires within_limit { length grown.old.text + length bytes.now ≤ MAX_LEN }
+    ensures text { IfOk result (λ _. grown.new.text ≡ grown.old.text ++ map known bytes.now) }
+    ensures gathered { IfOk result (λ _. (k : ℕ) → length bytes.now ≤ leaf_bytes k → Gathered k grown.old.parts grown.new.parts) }
     ensures refused { IsOkUnless result PrintError.NoMemory }
 {
     match grown.append_bytes(alloc, bytes) {
@@ -328,8 +352,9 @@ fn append(alloc: Global, grown: &mut ExtCord, bytes: &[u8]) -> Result<(), PrintE
 
 // Appends a cord that fits.
 fn append_cord(alloc: Global, grown: &mut ExtCord, cord: &Cord) -> Result<(), PrintError>
-    requires within_limit { length grown.old + length (text_of cord.now) ≤ MAX_LEN }
-    ensures text { IfOk result (λ _. grown.new ≡ grown.old ++ text_of cord.now) }
+    requires within_limit { length grown.old.text + length (text_of cord.now) ≤ MAX_LEN }
+    ensures text { IfOk result (λ _. grown.new.text ≡ grown.old.text ++ text_of cord.now) }
+    ensures kept { IfOk result (λ _. Kept (grown.old.parts ++ parts_of cord.now) grown.new.parts) }
     ensures refused { IsOkUnless result PrintError.NoMemory }
 {
     match grown.append_cord(alloc, cord) {

@@ -1,10 +1,12 @@
 // What a piece shows.
 ghost use Rattle.std.specs.Prelude.{◌≡◌, ◌≤◌, ◌-◌, ◌^◌, min, ◌&&◌, not, is_none, if◌then◌else◌, [], ◌∷◌, map, take, None, length, option_map, option_to_list, IfOk, IfErr, Some};
 ghost use Rattle.cord_printf.specs.PieceText.{PieceArgument, piece_text, refusal, sign_of, number_text, digits_in, padded, cut};
+ghost use Rattle.cord_printf.specs.Own.{parts_if, taken_text};
 ghost use Rattle.cord_printf.specs.Printing.{argument_of};
-ghost use Rattle.cord_printf.specs.Shown.{IsNumberLayout, body_text, shown_text};
+ghost use Rattle.cord_printf.specs.Shown.{IsNumberLayout, body_parts, body_taken, body_text, shown_text};
+ghost use Rattle.cord_node.specs.Kept.{Kept};
 ghost use Rattle.cord_node.specs.Tree.{Cell, known};
-ghost use Rattle.cord_core.specs.Cord.{text};
+ghost use Rattle.cord_core.specs.Cord.{text, parts_of};
 
 use crate::digits::Digits;
 use crate::{Arg, Flags, Piece, PrintError, Radix};
@@ -125,7 +127,8 @@ fn show_digits<'a>(
     sign: Option<u8>,
     magnitude: u64,
 ) -> Shown<'a>
-    ensures { shown_text result ≡ map known (number_text flags width precision (option_to_list sign) (digits_in radix precision magnitude)) }
+    ensures text { shown_text result ≡ map known (number_text flags width precision (option_to_list sign) (digits_in radix precision magnitude)) }
+    ensures own { (body_taken result.body ≡ []) × (body_parts result.body ≡ []) }
 {
     let digits = Digits::of(radix, magnitude);
     Shown {
@@ -136,7 +139,8 @@ fn show_digits<'a>(
 
 // One byte, with blanks up to the width.
 fn show_byte<'a>(left: bool, width: u16, byte: u8) -> Shown<'a>
-    ensures { shown_text result ≡ map known (padded 32 left width (byte ∷ [])) }
+    ensures text { shown_text result ≡ map known (padded 32 left width (byte ∷ [])) }
+    ensures own { (body_taken result.body ≡ []) × (body_parts result.body ≡ []) }
 {
     Shown {
         layout: Layout::padding(left, width, 1),
@@ -157,7 +161,9 @@ fn cut_len(precision: Option<u16>, cord: &Cord) -> u64
 
 // A cord or its first bytes, with blanks up to the width.
 fn show_start(left: bool, width: u16, precision: Option<u16>, cord: &Cord) -> Shown<'_>
-    ensures { shown_text result ≡ padded (known 32) left width (cut precision (text cord.now)) }
+    ensures text { shown_text result ≡ padded (known 32) left width (cut precision (text cord.now)) }
+    ensures taken { body_taken result.body ≡ cut precision (text cord.now) }
+    ensures parts { body_parts result.body ≡ parts_of cord.now }
 {
     let len = cut_len(precision, cord);
     Shown {
@@ -168,7 +174,8 @@ fn show_start(left: bool, width: u16, precision: Option<u16>, cord: &Cord) -> Sh
 
 // Bytes as they are.
 fn show_bytes(bytes: &[u8]) -> Shown<'_>
-    ensures { shown_text result ≡ map known bytes.now }
+    ensures text { shown_text result ≡ map known bytes.now }
+    ensures own { (body_taken result.body ≡ []) × (body_parts result.body ≡ []) }
 {
     Shown {
         layout: Layout::padding(false, 0, 0),
@@ -179,7 +186,8 @@ fn show_bytes(bytes: &[u8]) -> Shown<'_>
 // What a piece shows that takes no argument.
 #[inline(always)]
 fn show_text(piece: &Piece) -> Shown<'_>
-    ensures { shown_text result ≡ piece_text known piece.now None }
+    ensures text { shown_text result ≡ piece_text known piece.now None }
+    ensures own { (body_taken result.body ≡ []) × (body_parts result.body ≡ []) }
 {
     match piece {
         Piece::Text(text) => show_bytes(text.as_slice()),
@@ -192,6 +200,7 @@ fn show_text(piece: &Piece) -> Shown<'_>
 #[inline(always)]
 fn show_number(place: u64, piece: &Piece, number: i64) -> Result<Shown<'_>, PrintError>
     ensures text { IfOk result (λ s. shown_text s ≡ piece_text known piece.now (Some (PieceArgument.number number))) }
+    ensures own { IfOk result (λ s. (body_taken s.body ≡ []) × (body_parts s.body ≡ [])) }
     ensures taken { IfOk result (λ s. refusal {A = Cell} place piece.now (Some (PieceArgument.number number)) ≡ None) }
     ensures refused { IfErr result (λ e. refusal {A = Cell} place piece.now (Some (PieceArgument.number number)) ≡ Some e) }
 {
@@ -228,7 +237,9 @@ fn show_number(place: u64, piece: &Piece, number: i64) -> Result<Shown<'_>, Prin
 // What a piece shows with a cord.
 #[inline(always)]
 fn show_cord<'a>(piece: &'a Piece, cord: &'a Cord) -> Shown<'a>
-    ensures { shown_text result ≡ piece_text known piece.now (Some (PieceArgument.text (text cord.now))) }
+    ensures text { shown_text result ≡ piece_text known piece.now (Some (PieceArgument.text (text cord.now))) }
+    ensures of_cord { body_taken result.body ≡ taken_text piece.now (Some (PieceArgument.text (text cord.now))) }
+    ensures kept { Kept (parts_of cord.now) (body_parts result.body) }
 {
     match piece {
         Piece::Cord {
@@ -248,6 +259,8 @@ pub fn show<'a>(
     argument: Option<&'a Arg>,
 ) -> Result<Shown<'a>, PrintError>
     ensures text { IfOk result (λ s. shown_text s ≡ piece_text known piece.now (option_map (λ a. argument_of a.now) argument.entry)) }
+    ensures of_cord { IfOk result (λ s. body_taken s.body ≡ taken_text piece.now (option_map (λ a. argument_of a.now) argument.entry)) }
+    ensures kept { IfOk result (λ s. Kept (parts_if (option_map (λ a. a.now) argument.entry)) (body_parts s.body)) }
     ensures taken { IfOk result (λ s. refusal place piece.now (option_map (λ a. argument_of a.now) argument.entry) ≡ None) }
     ensures refused { IfErr result (λ e. refusal place piece.now (option_map (λ a. argument_of a.now) argument.entry) ≡ Some e) }
 {

@@ -123,7 +123,7 @@ fn refusal(error: CordError) -> Halt
 
 // The extensible cord of a name, taken out of its entry: an empty one where it was not begun.
 fn taken(alloc: Global, store: &mut Store, name: &[u8]) -> Result<ExtCord, Halt>
-    ensures taken { IfOk result (IsTaken name.now store.old.entries.items store.new.entries.items) }
+    ensures taken { IfOk result (λ e. IsTaken name.now store.old.entries.items store.new.entries.items e.text) }
     ensures refused { IfErr result (λ halt. halt ≡ Halt.NoMemory) }
 {
     match store.take_extensible(name) {
@@ -134,7 +134,7 @@ fn taken(alloc: Global, store: &mut Store, name: &[u8]) -> Result<ExtCord, Halt>
 
 // Gives a name its extensible cord.
 fn give(alloc: Global, store: &mut Store, name: &[u8], extensible: ExtCord) -> Result<(), Halt>
-    ensures given { IfOk result (λ _. HasExtensible name.now (Some extensible) store.old.entries.items store.new.entries.items) }
+    ensures given { IfOk result (λ _. HasExtensible name.now (Some extensible.text) store.old.entries.items store.new.entries.items) }
     ensures refused { IfErr result (λ halt. halt ≡ Halt.NoMemory) }
 {
     store.assign_extensible(alloc, name, extensible)?;

@@ -1,7 +1,7 @@
 // Cords of what names hold.
 ghost use Rattle.std.specs.Prelude.{◌≡◌, IfOk, IsOkUnless, Ok};
 ghost use Rattle.cord_run.specs.Contents.{IsExtended, IsTextOver, extensible_length};
-ghost use Rattle.cord_run.specs.Held.{SameEntries, content_in, cord_in, extensible_in};
+ghost use Rattle.cord_run.specs.Held.{SameEntries, cells_in, content_in, cord_in, extensible_in};
 
 use crate::store::Store;
 use cord_core::Cord;
@@ -64,8 +64,8 @@ impl Store {
 
 // The text of an extensible cord, where there is one, which stays.
 fn cord_of(alloc: Global, extensible: &mut Option<ExtCord>) -> Result<Cord, CordError>
-    ensures made { IfOk result (IsExtended extensible.old) }
-    ensures same { extensible.new ≡ extensible.old }
+    ensures made { IfOk result (IsExtended (cells_in extensible.old)) }
+    ensures same { cells_in extensible.new ≡ cells_in extensible.old }
     ensures refused { IsOkUnless result CordError.NoMemory }
 {
     match extensible {

@@ -3,7 +3,7 @@ ghost use Rattle.std.specs.Prelude.{◌≡◌, ◌+◌, ◌<◌, ◌≤◌, ◌�
 ghost use Rattle.cord_core.specs.Cord.{text_len};
 ghost use Rattle.cord_ec.specs.Grown.{IsGrownBy};
 ghost use Rattle.cord_run.specs.Extending.{cells_of, Grew, GrewTo};
-ghost use Rattle.cord_run.specs.Held.{are_distinct, content_in, cord_in, extensible_in, length_in, names_in, number_in, operand_in, HasContent, HasExtensible, HasNoEntry, HasNumber, IsEntryAt, SameEntries};
+ghost use Rattle.cord_run.specs.Held.{are_distinct, cells_in, content_in, cord_in, extensible_in, length_in, names_in, number_in, operand_in, HasContent, HasExtensible, HasNoEntry, HasNumber, IsEntryAt, SameEntries};
 ghost use Rattle.cord_run.specs.Places.{Begin};
 
 use cord_core::Cord;
@@ -303,7 +303,7 @@ impl Store {
         name: &[u8],
         extensible: ExtCord,
     ) -> Result<(), AllocError>
-        ensures { IfOk result (λ _. HasExtensible name.now (Some extensible) self.old.entries.items self.new.entries.items) }
+        ensures { IfOk result (λ _. HasExtensible name.now (Some extensible.text) self.old.entries.items self.new.entries.items) }
     {
         let place = place_for(alloc, &mut self.entries, &mut self.guesses, name)?;
         let _ = set_extensible(&mut self.entries, name, place, Some(extensible));
@@ -338,7 +338,7 @@ impl Store {
 
     /// Takes the extensible cord of a name out, which then has none.
     pub(crate) fn take_extensible(&mut self, name: &[u8]) -> Option<ExtCord>
-        ensures taken { result ≡ extensible_in self.old.entries.items name.now }
+        ensures taken { cells_in result ≡ extensible_in self.old.entries.items name.now }
         ensures left { HasExtensible name.now None self.old.entries.items self.new.entries.items }
     {
         match self.place(name) {
@@ -380,8 +380,8 @@ fn set_extensible(
 ) -> Option<ExtCord>
     requires within { place < length entries.old }
     requires place { IsEntryAt entries.old name.now place }
-    ensures before { result ≡ extensible_in entries.old name.now }
-    ensures set { HasExtensible name.now extensible entries.old entries.new }
+    ensures before { cells_in result ≡ extensible_in entries.old name.now }
+    ensures set { HasExtensible name.now (cells_in extensible) entries.old entries.new }
     ensures distinct { are_distinct (names_in entries.old) ≡ true → are_distinct (names_in entries.new) ≡ true }
 {
     let _ = name;
@@ -405,7 +405,7 @@ fn append_bytes(alloc: Global, entries: &mut [Entry], place: usize, bytes: &[u8]
 // Lets an extensible cord that was begun grow by bytes. Answers whether it did.
 fn append_begun(alloc: Global, extensible: &mut Option<ExtCord>, bytes: &[u8]) -> bool
     ensures grown { result ≡ true → GrewTo bytes.now extensible.old extensible.new }
-    ensures fits { result ≡ true → length (cells_of extensible.old) + length bytes.now ≤ MAX_LEN }
+    ensures fits { result ≡ true → length (cells_of (cells_in extensible.old)) + length bytes.now ≤ MAX_LEN }
     ensures left { result ≡ false → extensible.new ≡ extensible.old }
 {
     match extensible {
@@ -440,8 +440,8 @@ fn append_at(
 // Lets an extensible cord grow by bytes; where there is none, one is begun.
 fn append_to(alloc: Global, extensible: &mut Option<ExtCord>, bytes: &[u8]) -> Result<(), CordError>
     ensures grown { IfOk result (λ _. GrewTo bytes.now extensible.old extensible.new) }
-    ensures fits { OnOk result (length (cells_of extensible.old) + length bytes.now ≤ MAX_LEN) }
-    ensures too_long { result ≡ Err CordError.TooLong → MAX_LEN < length (cells_of extensible.old) + length bytes.now }
+    ensures fits { OnOk result (length (cells_of (cells_in extensible.old)) + length bytes.now ≤ MAX_LEN) }
+    ensures too_long { result ≡ Err CordError.TooLong → MAX_LEN < length (cells_of (cells_in extensible.old)) + length bytes.now }
 {
     match extensible {
         Some(grown) => append(alloc, grown, bytes),
@@ -457,10 +457,10 @@ fn append_to(alloc: Global, extensible: &mut Option<ExtCord>, bytes: &[u8]) -> R
 // Appends bytes: one alone costs less.
 #[inline(always)]
 fn append(alloc: Global, grown: &mut ExtCord, bytes: &[u8]) -> Result<(), CordError>
-    ensures over { IfOk result (λ _. IsGrownBy grown.old grown.new bytes.now) }
+    ensures over { IfOk result (λ _. IsGrownBy grown.old.text grown.new.text bytes.now) }
     ensures unchanged { IsErr result → grown.new ≡ grown.old }
-    ensures fits { OnOk result (length grown.old + length bytes.now ≤ MAX_LEN) }
-    ensures too_long { result ≡ Err CordError.TooLong → MAX_LEN < length grown.old + length bytes.now }
+    ensures fits { OnOk result (length grown.old.text + length bytes.now ≤ MAX_LEN) }
+    ensures too_long { result ≡ Err CordError.TooLong → MAX_LEN < length grown.old.text + length bytes.now }
 {
     match bytes {
         [byte] => grown.append(alloc, *byte),

@@ -1,8 +1,11 @@
 use Rattle.std.proofs.Common.{◌+◌, ◌++◌, ◌∙◌, ap, sym, drop, append_assoc, option_map}
 use Rattle.cord_node.specs.Tree.{known}
+use Rattle.cord_core.specs.Cord.{parts_of}
+use Rattle.cord_printf.specs.Own.{all_own, parts_given, parts_if}
 use Rattle.cord_printf.specs.PieceText.{printed}
 use Rattle.cord_printf.specs.Printing.{argument_of, arguments_of}
-use Rattle.cord_printf.specs.Shown.{shown_text}
+use Rattle.cord_printf.specs.Shown.{body_parts, shown_own, shown_text}
+use Rattle.cord_printf.proofs.Owned.{own_next, own_shown, printing_step, printing_end}
 use Rattle.cord_printf.proofs.Prints.{further, all_written}
 use Rattle.cord_printf.proofs.Tables.{print_of}
 use Rattle.cord_printf.proofs.print.sprintf.Goals as goal
@@ -13,14 +16,23 @@ loop-piece-preserved c =
     let others = c.next_argument.result.1.now in
     let pieces = c.pieces-piece-items.result.now in
     let shown = shown_text c.in_ok-shown.shown in
+    let taken = option_map (λ a. a.now) c.next_argument.result.0 in
+    let argument = option_map (λ a. argument_of a.now) c.next_argument.result.0 in
     let after = printed known (drop (c.loop-piece.piece-index + 1) pieces) (arguments_of others) in
     let step = further c.args.args.now rest others pieces c.loop-piece.piece-index c.piece-item.result (option_map (λ a. argument_of a.now) c.next_argument.result.0) shown c.loop-piece-test.true c.piece-item.is c.next_argument.ensures.argument c.next_argument.ensures.others c.in_ok-shown.ensures.text c.in_ok-shown.ensures.taken c.loop-piece.invariant.wanted_are c.loop-piece.invariant.fewer in
     record {
       wanted_are = step.wanted_are;
       fewer = step.fewer;
-      written = ap (λ x. x ++ after) c.in_ok-add_shown.ensures.text ∙ append_assoc c.loop-piece.output shown after ∙ ap (λ x. c.loop-piece.output ++ x) (sym step.text) ∙ c.loop-piece.invariant.written;
+      written = ap (λ x. x ++ after) c.in_ok-add_shown.ensures.text ∙ append_assoc c.loop-piece.output.text shown after ∙ ap (λ x. c.loop-piece.output.text ++ x) (sym step.text) ∙ c.loop-piece.invariant.written;
+      printing = printing_step (parts_given c.args.args.now) (all_own c.args.format.now (arguments_of c.args.args.now)) c.loop-piece.output.parts c.add_shown.new.output.parts (parts_if taken) (parts_given others) (body_parts c.in_ok-shown.shown.body) (parts_given rest) (shown_own c.in_ok-shown.shown)
+          (all_own (drop c.loop-piece.piece-index pieces) (arguments_of rest)) (all_own (drop (c.loop-piece.piece-index + 1) pieces) (arguments_of others)) c.loop-piece.invariant.printing c.next_argument.ensures.parts c.in_ok-shown.ensures.kept
+          (own_next pieces c.loop-piece.piece-index c.piece-item.result (arguments_of rest) (arguments_of others) argument (shown_own c.in_ok-shown.shown) c.loop-piece-test.true c.piece-item.is c.next_argument.ensures.argument c.next_argument.ensures.others (own_shown c.in_ok-shown.shown c.piece-item.result argument c.in_ok-shown.ensures.text c.in_ok-shown.ensures.of_cord))
+          c.in_ok-add_shown.ensures.made;
       refused = sym step.refused ∙ c.loop-piece.invariant.refused;
     }
 
 pub returns-clause-over : goal.returns-clause-over
-returns-clause-over c = print_of c.args.format.now c.args.args.now c.loop-piece.output c.in_ok-cord.cord c.in_ok-cord.ensures.over (all_written c.pieces-piece-items.result.now c.loop-piece.piece-index (arguments_of c.loop-piece.rest.now) c.loop-piece.output (printed known c.args.format.now (arguments_of c.args.args.now)) c.loop-piece-test.false c.loop-piece.invariant.written)
+returns-clause-over c = print_of c.args.format.now c.args.args.now c.loop-piece.output.text c.in_ok-cord.cord c.in_ok-cord.ensures.over (all_written c.pieces-piece-items.result.now c.loop-piece.piece-index (arguments_of c.loop-piece.rest.now) c.loop-piece.output.text (printed known c.args.format.now (arguments_of c.args.args.now)) c.loop-piece-test.false c.loop-piece.invariant.written)
+
+pub returns-clause-kept : goal.returns-clause-kept
+returns-clause-kept c = printing_end (parts_given c.args.args.now) (all_own c.args.format.now (arguments_of c.args.args.now)) c.loop-piece.output.parts (parts_given c.loop-piece.rest.now) (all_own (drop c.loop-piece.piece-index c.pieces-piece-items.result.now) (arguments_of c.loop-piece.rest.now)) (parts_of c.in_ok-cord.cord) c.loop-piece.invariant.printing c.in_ok-cord.ensures.made

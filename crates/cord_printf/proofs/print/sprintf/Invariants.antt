@@ -2,13 +2,16 @@ use Rattle.std.proofs.Common.{◌≡◌, ◌++◌, ◌-◌, ◌≤◌, drop, len
 use Rattle.cord_node.specs.Tree.{known}
 use Rattle.cord_printf.specs.PieceText.{printed, first_refusal}
 use Rattle.cord_printf.specs.Printing.{arguments_of, AreWanted}
+use Rattle.cord_printf.specs.Own.{all_own, parts_given}
+use Rattle.cord_printf.proofs.Owned.{IsPrinting}
 use Rattle.cord_printf.proofs.print.sprintf.Given as goal
 
--- what is written, with what is left, is the whole; what is refused is still to come
+-- what is written, with what is left, is the whole, and made of the cords that are given; what is refused is still to come
 abbrev pub invariant-loop-piece : goal.invariant-loop-piece
 invariant-loop-piece l = record {
   wanted_are : AreWanted (drop l.piece-index l.piece-items) (arguments_of l.rest);
   fewer : length l.rest ≤ length l.args;
-  written : l.output ++ printed known (drop l.piece-index l.piece-items) (arguments_of l.rest) ≡ printed known l.format (arguments_of l.args);
+  written : l.output.text ++ printed known (drop l.piece-index l.piece-items) (arguments_of l.rest) ≡ printed known l.format (arguments_of l.args);
+  printing : IsPrinting (parts_given l.args) (all_own l.format (arguments_of l.args)) l.output.parts (parts_given l.rest) (all_own (drop l.piece-index l.piece-items) (arguments_of l.rest));
   refused : first_refusal (length l.args - length l.rest) (drop l.piece-index l.piece-items) (arguments_of l.rest) ≡ first_refusal 0 l.format (arguments_of l.args);
 }

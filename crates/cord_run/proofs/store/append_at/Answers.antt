@@ -4,6 +4,7 @@ use Rattle.cord_io.specs.declared.TheConstants.{MAX_LEN}
 use Rattle.cord_node.specs.Tree.{Cell}
 use Rattle.cord_run.specs.declared.store.Entry.{Entry}
 use Rattle.cord_run.specs.Extending.{cells_of, Grew, GrewTo}
+use Rattle.cord_run.specs.Held.{cells_in}
 use Rattle.cord_run.proofs.Entries.{distinct_set, grew_set, if_grew, name_at_place, value_at_place}
 use Rattle.cord_run.proofs.store.append_at.Goals as goal
 
@@ -16,11 +17,11 @@ returns-clause-grown c =
     (λ g. grew_set c.args.name.now c.args.bytes.now c.index-entries-place.result to entries c.args.place c.requires.place (name_at_place entries c.args.name.now c.args.place c.index-entries-place.result c.requires.place) refl refl g) c.append_to.ensures.grown
 
 pub returns-clause-fits : goal.returns-clause-fits
-returns-clause-fits c = subst (λ (o : Option (List Cell)). OnOk c.append_to.result (length (cells_of o) + length c.args.bytes.now ≤ MAX_LEN)) (value_at_place (λ entry. entry.extensible) None c.args.entries.now c.args.name.now c.args.place c.index-entries-place.result c.requires.place) c.append_to.ensures.fits
+returns-clause-fits c = subst (λ (o : Option (List Cell)). OnOk c.append_to.result (length (cells_of o) + length c.args.bytes.now ≤ MAX_LEN)) (value_at_place (λ entry. cells_in entry.extensible) None c.args.entries.now c.args.name.now c.args.place c.index-entries-place.result c.requires.place) c.append_to.ensures.fits
 
 pub returns-clause-too_long : goal.returns-clause-too_long
 returns-clause-too_long c = λ is.
-    subst (λ (o : Option (List Cell)). MAX_LEN < length (cells_of o) + length c.args.bytes.now) (value_at_place (λ entry. entry.extensible) None c.args.entries.now c.args.name.now c.args.place c.index-entries-place.result c.requires.place) (c.append_to.ensures.too_long is)
+    subst (λ (o : Option (List Cell)). MAX_LEN < length (cells_of o) + length c.args.bytes.now) (value_at_place (λ entry. cells_in entry.extensible) None c.args.entries.now c.args.name.now c.args.place c.index-entries-place.result c.requires.place) (c.append_to.ensures.too_long is)
 
 pub returns-clause-distinct : goal.returns-clause-distinct
 returns-clause-distinct c = λ distinct.

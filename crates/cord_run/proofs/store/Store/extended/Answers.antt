@@ -1,13 +1,23 @@
-use Rattle.std.proofs.Common.{refl, None}
-use Rattle.cord_run.proofs.Entries.{none_there, value_there}
+use Rattle.std.proofs.Common.{refl, ap, ◌∙◌, None}
+use Rattle.cord_run.specs.declared.store.Entry.{Entry}
+use Rattle.cord_run.specs.Held.{cells_in}
+use Rattle.cord_run.proofs.Entries.{extensible_same, name_at_place, none_there, value_there}
 use Rattle.cord_run.proofs.Shares.{extended_name, extended_none}
 use Rattle.cord_run.proofs.store.Store.extended.Goals as goal
 
 pub returns-in-None-clause-made : goal.returns-in-None-clause-made
-returns-in-None-clause-made c = extended_none c.args.self.now.entries.items c.args.name.now (none_there (λ entry. entry.extensible) None c.args.self.now.entries.items c.args.self.now.entries.items c.args.name.now refl c.in-None.ensures.none) c.empty.result c.empty.ensures
+returns-in-None-clause-made c = extended_none c.args.self.now.entries.items c.args.name.now (none_there (λ entry. cells_in entry.extensible) None c.args.self.now.entries.items c.args.self.now.entries.items c.args.name.now refl c.in-None.ensures.none) c.empty.result c.empty.ensures
 
 pub returns-in-Some-clause-made : goal.returns-in-Some-clause-made
 returns-in-Some-clause-made c =
-    extended_name c.args.self.now.entries.items c.args.name.now c.index_mut.result.now.extensible
-    (value_there (λ entry. entry.extensible) None c.args.self.now.entries.items c.args.self.now.entries.items c.args.name.now c.in-Some.place c.index_mut.result.now refl c.in-Some.ensures.some c.index_mut.ensures.value)
+    extended_name c.args.self.now.entries.items c.args.name.now (cells_in c.index_mut.result.now.extensible)
+    (value_there (λ entry. cells_in entry.extensible) None c.args.self.now.entries.items c.args.self.now.entries.items c.args.name.now c.in-Some.place c.index_mut.result.now refl c.in-Some.ensures.some c.index_mut.ensures.value)
     c.cord_of.result c.cord_of.ensures.made
+
+pub returns-in-Some-clause-same : goal.returns-in-Some-clause-same
+returns-in-Some-clause-same c =
+    let entries = c.args.self.now.entries.items in
+    let from : Entry = c.index_mut.result.now in
+    let to : Entry = record { name = from.name; content = from.content; number = from.number; extensible = c.cord_of.new.extensible } in
+    let is = c.index_mut.ensures.value in
+    extensible_same c.args.name.now from to entries c.in-Some.place c.in-Some.ensures.some (ap (λ (e : Entry). e.name.items) is ∙ name_at_place entries c.args.name.now c.in-Some.place from c.in-Some.ensures.some) (ap (λ (e : Entry). e.content) is) (ap (λ (e : Entry). e.number) is) (c.cord_of.ensures.same ∙ ap (λ (e : Entry). cells_in e.extensible) is)

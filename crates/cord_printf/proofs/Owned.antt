@@ -1,0 +1,188 @@
+-- What a print makes of its own.
+use Rattle.std.proofs.Common.{◌≡◌, inl, inr, ℕ, ◌+◌, ◌-◌, ◌<◌, ◌≤◌, Option, Some, None, List, [], ◌∷◌, ◌++◌, length, map, replicate, take, drop, get_or, length-append, append-nil, append_assoc, refl, sym, ap, ◌∙◌, subst, arith}
+use Rattle.std.proofs.lemmas.List.{length-map, length-replicate, drop_all}
+use Rattle.std.specs.Prelude.{option_to_list}
+use Rattle.cord_node.specs.declared.Node.{Node}
+use Rattle.cord_node.specs.declared.Node.TheVariants.{Leaf, Run, Func, Cat'}
+use Rattle.cord_node.specs.Tree.{Cell, known}
+use Rattle.cord_node.specs.Kept.{Part, leaf_part, run_part, func_part, IsSmall, IsRangeOf, Kept}
+use Rattle.cord_core.specs.Cord.{parts_of}
+use Rattle.cord_core.specs.Forms.{IsRunOf}
+use Rattle.cord_ec.specs.Gathered.{leaf_bytes, leaf_parts, IsGathered, AreFromOr, MadeOf, Gathered}
+use Rattle.cord_ec.proofs.MadeLemmas.{IsOwn, are_both, are_left, are_right, are_self, are_kept, are_through, made_kept, made_self, made_through, made_more, made_beside, made_without, made_wider}
+use Rattle.cord_ec.proofs.Leaves.{gathered_own, tail_grown}
+use Rattle.cord_printf.specs.declared.shown.Layout.{Layout}
+use Rattle.cord_printf.specs.declared.shown.Body.{Body}
+use Rattle.cord_printf.specs.declared.shown.Body.TheVariants.{Bytes, Byte, Digits, Start}
+use Rattle.cord_printf.specs.declared.shown.Shown.{Shown}
+use Rattle.cord_printf.specs.declared.pieces.Piece.{Piece}
+use Rattle.cord_printf.specs.Pieces.{wants}
+use Rattle.cord_printf.specs.PieceText.{PieceArgument, argument_if, others_if, piece_text}
+use Rattle.cord_printf.specs.Own.{IsPrinted, IsPrintedFrom, own_bytes, all_own, taken_text}
+use Rattle.cord_printf.specs.Shown.{body_own, body_parts, body_taken, body_text, front_of, shown_own, shown_text}
+use Rattle.cord_printf.proofs.Prints.{piece_at}
+
+printed_range : (p q : Part) → IsRangeOf p q → IsPrinted q → IsPrinted p
+printed_range (leaf_part bytes start len) (leaf_part bytes' start' len') h k = gathered_own.range (leaf_part bytes start len) (leaf_part bytes' start' len') h k
+printed_range (leaf_part bytes start len) (run_part byte' len') h k = absurd h
+printed_range (leaf_part bytes start len) (func_part id' start' len') h k = absurd k
+printed_range (run_part byte len) q h k = tt
+printed_range (func_part id start len) (leaf_part bytes' start' len') h k = absurd h
+printed_range (func_part id start len) (run_part byte' len') h k = absurd h
+printed_range (func_part id start len) (func_part id' start' len') h k = absurd k
+
+printed_small : (p : Part) → IsSmall p → IsPrinted p
+printed_small (leaf_part bytes start len) h = gathered_own.small (leaf_part bytes start len) h
+printed_small (run_part byte len) h = absurd h
+printed_small (func_part id start len) h = absurd h
+
+printed_own : IsOwn IsPrinted
+printed_own = record { range = printed_range; small = printed_small }
+
+gathered_printed : (p : Part) → IsGathered p → IsPrinted p
+gathered_printed (leaf_part bytes start len) h = h
+gathered_printed (run_part byte len) h = absurd h
+gathered_printed (func_part id start len) h = absurd h
+
+-- what is gathered is printed
+pub gathered_from : (k : ℕ) (old new : List Part) → Gathered k old new → IsPrintedFrom k old new
+gathered_from k old new h = made_wider IsGathered IsPrinted gathered_printed k old new h
+
+-- what is kept is printed
+pub kept_from : (old new : List Part) → Kept old new → IsPrintedFrom 0 old new
+kept_from old new h = made_kept IsPrinted printed_own old new h
+
+-- nothing was added
+pub same_from : (n : ℕ) (ps : List Part) → IsPrintedFrom n ps ps
+same_from n ps = made_more IsPrinted printed_own 0 n ps ps (omega arith) (made_self IsPrinted printed_own ps)
+
+-- no cord's parts stand after these
+pub bare_from : (n : ℕ) (old new : List Part) → IsPrintedFrom n old new → IsPrintedFrom n (old ++ []) new
+bare_from n old new h = rw (append-nil old) h
+
+-- two additions, one after the other
+pub twice_from : (m n : ℕ) (a b c : List Part) → IsPrintedFrom m a b → IsPrintedFrom n b c → IsPrintedFrom (m + n) a c
+twice_from m n a b c h k = made_through IsPrinted printed_own m n a b c h k
+
+-- an addition of a print's own, and one with a cord's parts
+pub beside_from : (m n : ℕ) (a b c ps : List Part) → IsPrintedFrom m a b → IsPrintedFrom n (b ++ ps) c → IsPrintedFrom (m + n) (a ++ ps) c
+beside_from m n a b c ps h k = made_through IsPrinted printed_own m n (a ++ ps) (b ++ ps) c (made_beside IsPrinted printed_own m a b ps h) k
+
+-- parts that are kept of a cord
+pub start_from : (old ps qs new : List Part) → Kept ps qs → IsPrintedFrom 0 (old ++ qs) new → IsPrintedFrom 0 (old ++ ps) new
+start_from old ps qs new k h = record {
+  no_more = omega (arith, k.no_more, h.no_more, length-append old ps, length-append old qs);
+  from_there = are_through IsPrinted printed_own new (old ++ qs) (old ++ ps) h.from_there (are_both IsPrinted printed_own old qs (old ++ ps) (are_left IsPrinted printed_own old old ps (are_self IsPrinted printed_own old)) (are_right IsPrinted printed_own qs old ps (are_kept IsPrinted printed_own qs ps k.from_there)));
+}
+
+-- a leaf that is gathered in the place of a cord of one part
+pub joined_from : (old ps new : List Part) → length ps ≡ 1 → IsPrintedFrom 1 old new → IsPrintedFrom 0 (old ++ ps) new
+joined_from old ps new one h = record {
+  no_more = omega (arith, one, h.no_more, length-append old ps);
+  from_there = are_left IsPrinted printed_own new old ps h.from_there;
+}
+
+-- a run is a print's own
+run_own : (b n : ℕ) (c : Option Node) → IsRunOf b n c → AreFromOr IsPrinted (parts_of c) []
+run_own b n None h = tt
+run_own b n (Some (Leaf bytes start len mark)) h = absurd h
+run_own b n (Some (Run byte len)) h = (tt, tt)
+run_own b n (Some (Func id start len)) h = absurd h
+run_own b n (Some (Cat' p left q right len depth mark)) h = absurd h
+
+one_run : (b n : ℕ) (c : Option Node) → IsRunOf b n c → length (parts_of c) ≤ 1
+one_run b n None h = omega arith
+one_run b n (Some (Leaf bytes start len mark)) h = absurd h
+one_run b n (Some (Run byte len)) h = omega arith
+one_run b n (Some (Func id start len)) h = absurd h
+one_run b n (Some (Cat' p left q right len depth mark)) h = absurd h
+
+pub run_from : (b n : ℕ) (c : Option Node) (old new : List Part) → IsRunOf b n c → 0 < n → IsPrintedFrom 0 (old ++ parts_of c) new → IsPrintedFrom n old new
+run_from b n c old new run some h =
+    let few : length (parts_of c) + 0 ≤ n = omega (arith, one_run b n c run, some) in
+    made_more IsPrinted printed_own (length (parts_of c) + 0) n old new few (made_without IsPrinted printed_own 0 old (parts_of c) new (run_own b n c run) h)
+
+-- gathered bytes that went into a cord
+pub put_from : (old new : List Part) (b : List ℕ) → length b ≤ 256 → ((k : ℕ) → length b ≤ leaf_bytes k → Gathered k old new) → IsPrintedFrom 0 (old ++ leaf_parts b) new
+put_from old new [] short h = subst (λ (ps : List Part). IsPrintedFrom 0 ps new) (sym (append-nil old)) (gathered_from 0 old new (h 0 (omega arith)))
+put_from old new (x ∷ b) short h = joined_from old (leaf_parts (x ∷ b)) new refl (gathered_from 1 old new (h 1 (omega (arith, short))))
+
+-- bytes after those that are gathered
+pub tail_from : (ps : List Part) (a b : List ℕ) (k : ℕ) → length (a ++ b) ≤ 256 → length b ≤ leaf_bytes k → IsPrintedFrom k (ps ++ leaf_parts a) (ps ++ leaf_parts (a ++ b))
+tail_from ps a b k short h = gathered_from k (ps ++ leaf_parts a) (ps ++ leaf_parts (a ++ b)) (tail_grown ps a b k (omega (arith, short)) h)
+
+-- bytes after those that went into a cord
+pub grown_from : (old middle new : List Part) (b : List ℕ) → IsPrintedFrom 0 old middle → ((k : ℕ) → length b ≤ leaf_bytes k → Gathered k middle new) → (k : ℕ) → length b ≤ leaf_bytes k → IsPrintedFrom k old (new ++ leaf_parts [])
+grown_from old middle new b h g k fits = subst (λ (ps : List Part). IsPrintedFrom k old ps) (sym (append-nil new)) (made_through IsPrinted printed_own 0 k old middle new h (gathered_from k middle new (g k fits)))
+
+-- each byte in a leaf of its own would be enough
+pub each_byte : (n : ℕ) (b : List ℕ) (old new : List Part) → length b ≡ n → ((k : ℕ) → length b ≤ leaf_bytes k → IsPrintedFrom k old new) → IsPrintedFrom n old new
+each_byte n b old new e h = h n (omega (arith, e))
+
+-- what is shown beside a cord's text
+pub own_shown : (s : Shown) (p : Piece) (a : Option (PieceArgument Cell)) → shown_text s ≡ piece_text known p a → body_taken s.body ≡ taken_text p a → shown_own s ≡ own_bytes p a
+own_shown s p a text taken = own_length s ∙ ap (λ x. length x - length (body_taken s.body)) text ∙ ap (λ x. length (piece_text known p a) - length x) taken
+  where
+    body_length : (b : Body) → length (body_text b) ≡ body_own b + length (body_taken b)
+    body_length (Bytes b) = omega (arith, length-map b.now known)
+    body_length (Byte b) = omega arith
+    body_length (Digits d) = omega (arith, length-map d known)
+    body_length (Start c len) = omega arith
+
+    own_length : (s : Shown) → shown_own s ≡ length (shown_text s) - length (body_taken s.body)
+    own_length s =
+        let front : length (map known (front_of s.layout)) ≡ length (front_of s.layout) = length-map (front_of s.layout) known in
+        let after : length (map known (replicate s.layout.after 32)) ≡ s.layout.after = length-map (replicate s.layout.after 32) known ∙ length-replicate s.layout.after 32 in
+        let body : length (body_text s.body ++ map known (replicate s.layout.after 32)) ≡ length (body_text s.body) + length (map known (replicate s.layout.after 32)) = length-append (body_text s.body) (map known (replicate s.layout.after 32)) in
+        let all : length (shown_text s) ≡ length (map known (front_of s.layout)) + length (body_text s.body ++ map known (replicate s.layout.after 32)) = length-append (map known (front_of s.layout)) (body_text s.body ++ map known (replicate s.layout.after 32)) in
+        omega (arith, front, after, body, all, body_length s.body)
+
+-- blanks, a sign and zeros
+pub front_length : (l : Layout) → length (front_of l) ≡ l.before + (length (option_to_list l.sign) + l.zeros)
+front_length l = simp (length-append, length-replicate)
+
+-- what a loop over the pieces keeps: what is made, with the parts that are still to come, has no more than all of these, and what is left
+pub record IsPrinting (all : List Part) (own : ℕ) (made rest : List Part) (left : ℕ) : Type 0 where
+  pub no_more : length made + length rest + left ≤ length all + own
+  pub from_there : AreFromOr IsPrinted (made ++ rest) all
+
+pub printing_start : (all : List Part) (own : ℕ) (made : List Part) → made ≡ [] → IsPrinting all own made all own
+printing_start all own made none = rw none (record { no_more = omega arith; from_there = are_self IsPrinted printed_own all })
+
+pub printing_step : (all : List Part) (own : ℕ) (made next given others ps rest : List Part) (n left after : ℕ) → IsPrinting all own made rest left → rest ≡ given ++ others → Kept given ps → left ≡ n + after
+    → IsPrintedFrom n (made ++ ps) next → IsPrinting all own next others after
+printing_step all own made next given others ps rest n left after h split k count step =
+    let own_laws = printed_own in
+    let kept_parts : AreFromOr IsPrinted (made ++ ps) (made ++ given) = (start_from made given ps (made ++ ps) k (made_self IsPrinted own_laws (made ++ ps))).from_there in
+    let before : AreFromOr IsPrinted (made ++ (given ++ others)) all = subst (λ x. AreFromOr IsPrinted (made ++ x) all) split h.from_there in
+    let there : AreFromOr IsPrinted ((made ++ given) ++ others) all = rw (append_assoc made given others) before in
+    let mine : MadeOf IsPrinted 0 (made ++ given) (made ++ given) = made_self IsPrinted own_laws (made ++ given) in
+    let grown : AreFromOr IsPrinted next (made ++ given) = are_through IsPrinted own_laws next (made ++ ps) (made ++ given) step.from_there kept_parts in
+    let both : AreFromOr IsPrinted (next ++ others) ((made ++ given) ++ others) = are_both IsPrinted own_laws next others ((made ++ given) ++ others) (are_left IsPrinted own_laws next (made ++ given) others grown) (are_right IsPrinted own_laws others (made ++ given) others (are_self IsPrinted own_laws others)) in
+    record {
+      no_more = omega (arith, h.no_more, ap length split, length-append given others, k.no_more, count, step.no_more, length-append made ps);
+      from_there = are_through IsPrinted own_laws (next ++ others) ((made ++ given) ++ others) all both there;
+    }
+
+pub printing_end : (all : List Part) (own : ℕ) (made rest : List Part) (left : ℕ) (c : List Part) → IsPrinting all own made rest left → IsPrintedFrom 0 made c → IsPrintedFrom own all c
+printing_end all own made rest left c h k = record {
+  no_more = omega (arith, h.no_more, k.no_more);
+  from_there = are_through IsPrinted printed_own c (made ++ rest) all (are_left IsPrinted printed_own c made rest k.from_there) h.from_there;
+}
+
+-- the own bytes of the pieces that are left, one piece further
+pub own_next : (pieces : List Piece) (i : ℕ) (p : Piece) (args others : List (PieceArgument Cell)) (a : Option (PieceArgument Cell)) (n : ℕ) → i < length pieces → p ≡ get_or pieces i p
+    → a ≡ argument_if (wants p) args → others ≡ others_if (wants p) args → n ≡ own_bytes p a → all_own (drop i pieces) args ≡ n + all_own (drop (i + 1) pieces) others
+own_next pieces i p args others a n within is taken left own =
+    let after : List Piece = drop (i + 1) pieces in
+    let first : n ≡ own_bytes p (argument_if (wants p) args) = own ∙ ap (λ x. own_bytes p x) taken in
+    ap (λ (ps : List Piece). all_own ps args) (piece_at pieces i p within is)
+    ∙ ap (λ (m : ℕ). m + all_own after (others_if (wants p) args)) (sym first)
+    ∙ ap (λ (os : List (PieceArgument Cell)). n + all_own after os) (sym left)
+
+-- the steps of a front, and of what is shown
+pub front_from : (l : Layout) (a b c d : List Part) → IsPrintedFrom l.before a b → IsPrintedFrom (length (option_to_list l.sign)) b c → IsPrintedFrom l.zeros c d → IsPrintedFrom (length (front_of l)) a d
+front_from l a b c d one two three = subst (λ (n : ℕ). IsPrintedFrom n a d) (sym (front_length l)) (twice_from l.before (length (option_to_list l.sign) + l.zeros) a b d one (twice_from (length (option_to_list l.sign)) l.zeros b c d two three))
+
+pub shown_from : (s : Shown) (a b c d : List Part) → IsPrintedFrom (length (front_of s.layout)) a b → IsPrintedFrom (body_own s.body) (b ++ body_parts s.body) c → IsPrintedFrom s.layout.after c d → IsPrintedFrom (shown_own s) (a ++ body_parts s.body) d
+shown_from s a b c d one two three = twice_from (length (front_of s.layout) + body_own s.body) s.layout.after (a ++ body_parts s.body) c d (beside_from (length (front_of s.layout)) (body_own s.body) a b c (body_parts s.body) one two) three
