@@ -1,7 +1,7 @@
 -- What a print makes of its own.
 use Rattle.std.proofs.Common.{◌≡◌, inl, inr, ℕ, ◌+◌, ◌-◌, ◌<◌, ◌≤◌, Option, Some, None, List, [], ◌∷◌, ◌++◌, length, map, replicate, take, drop, get_or, length-append, append-nil, append_assoc, refl, sym, ap, ◌∙◌, subst, arith}
 use Rattle.std.proofs.lemmas.List.{length-map, length-replicate, drop_all}
-use Rattle.std.specs.Prelude.{option_to_list}
+use Rattle.std.specs.Prelude.{◌↔◌, Result, Ok, Err, IfOk, IsOk, OnOk, OnErr, is_ok, true, false, option_to_list}
 use Rattle.cord_node.specs.declared.Node.{Node}
 use Rattle.cord_node.specs.declared.Node.TheVariants.{Leaf, Run, Func, Cat'}
 use Rattle.cord_node.specs.Tree.{Cell, known}
@@ -11,6 +11,7 @@ use Rattle.cord_core.specs.Forms.{IsRunOf}
 use Rattle.cord_ec.specs.Gathered.{leaf_bytes, leaf_parts, IsGathered, AreFromOr, MadeOf, Gathered}
 use Rattle.cord_ec.proofs.MadeLemmas.{IsOwn, are_both, are_left, are_right, are_self, are_kept, are_through, made_kept, made_self, made_through, made_more, made_beside, made_without, made_wider}
 use Rattle.cord_ec.proofs.Leaves.{gathered_own, tail_grown}
+use Rattle.cord_printf.specs.declared.errors.PrintError.{PrintError}
 use Rattle.cord_printf.specs.declared.shown.Layout.{Layout}
 use Rattle.cord_printf.specs.declared.shown.Body.{Body}
 use Rattle.cord_printf.specs.declared.shown.Body.TheVariants.{Bytes, Byte, Digits, Start}
@@ -107,17 +108,41 @@ pub put_from : (old new : List Part) (b : List ℕ) → length b ≤ 256 → ((k
 put_from old new [] short h = subst (λ (ps : List Part). IsPrintedFrom 0 ps new) (sym (append-nil old)) (gathered_from 0 old new (h 0 (omega arith)))
 put_from old new (x ∷ b) short h = joined_from old (leaf_parts (x ∷ b)) new refl (gathered_from 1 old new (h 1 (omega (arith, short))))
 
+-- a call that was Ok where it says when
+pub went_well : {A B : Type 0} (r : Result A B) (P Q : Type 0) → is_ok r ≡ true → OnOk r P → IsOk r ↔ Q → P × Q
+went_well (Ok x) P Q is h when = (h, when.0 refl)
+went_well (Err e) P Q is h when = absurd (cc is)
+
+-- what a refused call leaves
+pub went_wrong : {A B : Type 0} (r : Result A B) (P : Type 0) → is_ok r ≡ false → OnErr r P → P
+went_wrong (Ok x) P is h = absurd (cc is)
+went_wrong (Err e) P is h = h
+
+-- what follows where a call was Ok
+pub when_ok : (A B : Type 0) (r : Result (Unit {0}) PrintError) → (A → B) → IfOk r (λ _. A) → IfOk r (λ _. B)
+when_ok A B (Ok x) f h = f h
+when_ok A B (Err e) f h = tt
+
 -- bytes after those that are gathered
 pub tail_from : (ps : List Part) (a b : List ℕ) (k : ℕ) → length (a ++ b) ≤ 256 → length b ≤ leaf_bytes k → IsPrintedFrom k (ps ++ leaf_parts a) (ps ++ leaf_parts (a ++ b))
 tail_from ps a b k short h = gathered_from k (ps ++ leaf_parts a) (ps ++ leaf_parts (a ++ b)) (tail_grown ps a b k (omega (arith, short)) h)
 
 -- bytes after those that went into a cord
 pub grown_from : (old middle new : List Part) (b : List ℕ) → IsPrintedFrom 0 old middle → ((k : ℕ) → length b ≤ leaf_bytes k → Gathered k middle new) → (k : ℕ) → length b ≤ leaf_bytes k → IsPrintedFrom k old (new ++ leaf_parts [])
-grown_from old middle new b h g k fits = subst (λ (ps : List Part). IsPrintedFrom k old ps) (sym (append-nil new)) (made_through IsPrinted printed_own 0 k old middle new h (gathered_from k middle new (g k fits)))
+grown_from old middle new b h g k fits = subst (λ (ps : List Part). IsPrintedFrom k old ps) (sym (append-nil new)) (made_more IsPrinted printed_own (0 + k) k old new (omega arith) (made_through IsPrinted printed_own 0 k old middle new h (gathered_from k middle new (g k fits))))
+
+-- a cord after those that went into a cord
+pub cord_from : (old middle new x : List Part) (b : List ℕ) → b ≡ [] → IsPrintedFrom 0 old middle → Kept (middle ++ x) new → IsPrintedFrom 0 (old ++ x) (new ++ leaf_parts b)
+cord_from old middle new x b none made k =
+    subst (λ (y : List ℕ). IsPrintedFrom 0 (old ++ x) (new ++ leaf_parts y)) (sym none) (subst (λ (ps : List Part). IsPrintedFrom 0 (old ++ x) ps) (sym (append-nil new)) (beside_from 0 0 old middle new x made (kept_from (middle ++ x) new k)))
 
 -- each byte in a leaf of its own would be enough
 pub each_byte : (n : ℕ) (b : List ℕ) (old new : List Part) → length b ≡ n → ((k : ℕ) → length b ≤ leaf_bytes k → IsPrintedFrom k old new) → IsPrintedFrom n old new
 each_byte n b old new e h = h n (omega (arith, e))
+
+-- three texts, one after another
+shown_split : (x y z : List Cell) → x ++ y ++ z ≡ x ++ (y ++ z)
+shown_split x y z = simp append_assoc
 
 -- what is shown beside a cord's text
 pub own_shown : (s : Shown) (p : Piece) (a : Option (PieceArgument Cell)) → shown_text s ≡ piece_text known p a → body_taken s.body ≡ taken_text p a → shown_own s ≡ own_bytes p a
@@ -134,12 +159,13 @@ own_shown s p a text taken = own_length s ∙ ap (λ x. length x - length (body_
         let front : length (map known (front_of s.layout)) ≡ length (front_of s.layout) = length-map (front_of s.layout) known in
         let after : length (map known (replicate s.layout.after 32)) ≡ s.layout.after = length-map (replicate s.layout.after 32) known ∙ length-replicate s.layout.after 32 in
         let body : length (body_text s.body ++ map known (replicate s.layout.after 32)) ≡ length (body_text s.body) + length (map known (replicate s.layout.after 32)) = length-append (body_text s.body) (map known (replicate s.layout.after 32)) in
-        let all : length (shown_text s) ≡ length (map known (front_of s.layout)) + length (body_text s.body ++ map known (replicate s.layout.after 32)) = length-append (map known (front_of s.layout)) (body_text s.body ++ map known (replicate s.layout.after 32)) in
+        let split : shown_text s ≡ map known (front_of s.layout) ++ (body_text s.body ++ map known (replicate s.layout.after 32)) = shown_split (map known (front_of s.layout)) (body_text s.body) (map known (replicate s.layout.after 32)) in
+        let all : length (shown_text s) ≡ length (map known (front_of s.layout)) + length (body_text s.body ++ map known (replicate s.layout.after 32)) = ap length split ∙ length-append (map known (front_of s.layout)) (body_text s.body ++ map known (replicate s.layout.after 32)) in
         omega (arith, front, after, body, all, body_length s.body)
 
 -- blanks, a sign and zeros
 pub front_length : (l : Layout) → length (front_of l) ≡ l.before + (length (option_to_list l.sign) + l.zeros)
-front_length l = simp (length-append, length-replicate)
+front_length l = simp (length-append, length-replicate) (omega arith)
 
 -- what a loop over the pieces keeps: what is made, with the parts that are still to come, has no more than all of these, and what is left
 pub record IsPrinting (all : List Part) (own : ℕ) (made rest : List Part) (left : ℕ) : Type 0 where

@@ -1,14 +1,30 @@
-use Rattle.std.proofs.Common.{◌+◌, ◌++◌, ◌∙◌, ap, sym, drop, append_assoc, option_map}
-use Rattle.cord_node.specs.Tree.{known}
+use Rattle.std.proofs.Common.{◌≡◌, ℕ, ◌+◌, ◌-◌, List, ◌++◌, ◌∙◌, ap, sym, drop, length, append_assoc, option_map, subst, arith}
+use Rattle.cord_node.specs.Tree.{Cell, known}
+use Rattle.cord_printf.specs.declared.arguments.Arg.{Arg}
+use Rattle.cord_printf.specs.declared.pieces.Piece.{Piece}
 use Rattle.cord_core.specs.Cord.{parts_of}
 use Rattle.cord_printf.specs.Own.{all_own, parts_given, parts_if}
-use Rattle.cord_printf.specs.PieceText.{printed}
-use Rattle.cord_printf.specs.Printing.{argument_of, arguments_of}
+use Rattle.cord_printf.specs.PieceText.{printed, first_refusal}
+use Rattle.cord_printf.specs.Printing.{argument_of, arguments_of, AreWanted}
 use Rattle.cord_printf.specs.Shown.{body_parts, shown_own, shown_text}
-use Rattle.cord_printf.proofs.Owned.{own_next, own_shown, printing_step, printing_end}
+use Rattle.cord_printf.proofs.Owned.{IsPrinting, own_next, own_shown, printing_start, printing_step, printing_end}
 use Rattle.cord_printf.proofs.Prints.{further, all_written}
 use Rattle.cord_printf.proofs.Tables.{print_of}
 use Rattle.cord_printf.proofs.print.sprintf.Goals as goal
+
+pub loop-piece-init : goal.loop-piece-init
+loop-piece-init c =
+    let pieces : List Piece = c.pieces-piece-items.result.now in
+    let args : List Arg = c.args.args.now in
+    let are : pieces ≡ c.args.format.now = c.pieces-piece-items.ensures in
+    let none : length args - length args ≡ 0 = omega arith in
+    record {
+      wanted_are = subst (λ (ps : List Piece). AreWanted ps (arguments_of args)) (sym are) c.in_ok-sprintf_len.ensures.taken.wanted_are;
+      fewer = omega arith;
+      written = ap (λ (x : List Cell). x ++ printed known pieces (arguments_of args)) c.new-output.ensures.text ∙ ap (λ (ps : List Piece). printed known ps (arguments_of args)) are;
+      printing = subst (λ (left : ℕ). IsPrinting (parts_given args) (all_own c.args.format.now (arguments_of args)) c.new-output.result.parts (parts_given args) left) (sym (ap (λ (ps : List Piece). all_own ps (arguments_of args)) are)) (printing_start (parts_given args) (all_own c.args.format.now (arguments_of args)) c.new-output.result.parts c.new-output.ensures.parts);
+      refused = ap (λ (k : ℕ). first_refusal k pieces (arguments_of args)) none ∙ ap (λ (ps : List Piece). first_refusal 0 ps (arguments_of args)) are;
+    }
 
 pub loop-piece-preserved : goal.loop-piece-preserved
 loop-piece-preserved c =
@@ -24,7 +40,7 @@ loop-piece-preserved c =
       wanted_are = step.wanted_are;
       fewer = step.fewer;
       written = ap (λ x. x ++ after) c.in_ok-add_shown.ensures.text ∙ append_assoc c.loop-piece.output.text shown after ∙ ap (λ x. c.loop-piece.output.text ++ x) (sym step.text) ∙ c.loop-piece.invariant.written;
-      printing = printing_step (parts_given c.args.args.now) (all_own c.args.format.now (arguments_of c.args.args.now)) c.loop-piece.output.parts c.add_shown.new.output.parts (parts_if taken) (parts_given others) (body_parts c.in_ok-shown.shown.body) (parts_given rest) (shown_own c.in_ok-shown.shown)
+      printing = printing_step (parts_given c.args.args.now) (all_own c.args.format.now (arguments_of c.args.args.now)) c.loop-piece.output.parts c.add_shown.new.self.parts (parts_if taken) (parts_given others) (body_parts c.in_ok-shown.shown.body) (parts_given rest) (shown_own c.in_ok-shown.shown)
           (all_own (drop c.loop-piece.piece-index pieces) (arguments_of rest)) (all_own (drop (c.loop-piece.piece-index + 1) pieces) (arguments_of others)) c.loop-piece.invariant.printing c.next_argument.ensures.parts c.in_ok-shown.ensures.kept
           (own_next pieces c.loop-piece.piece-index c.piece-item.result (arguments_of rest) (arguments_of others) argument (shown_own c.in_ok-shown.shown) c.loop-piece-test.true c.piece-item.is c.next_argument.ensures.argument c.next_argument.ensures.others (own_shown c.in_ok-shown.shown c.piece-item.result argument c.in_ok-shown.ensures.text c.in_ok-shown.ensures.of_cord))
           c.in_ok-add_shown.ensures.made;

@@ -1,7 +1,7 @@
 use Rattle.std.proofs.Common.{refl, ap, ◌∙◌, None}
 use Rattle.cord_run.specs.declared.store.Entry.{Entry}
 use Rattle.cord_run.specs.Held.{cells_in}
-use Rattle.cord_run.proofs.Entries.{extensible_same, name_at_place, none_there, value_there}
+use Rattle.cord_run.proofs.Entries.{distinct_set, extensible_same, name_at_place, none_there, value_there}
 use Rattle.cord_run.proofs.Shares.{extended_name, extended_none}
 use Rattle.cord_run.proofs.store.Store.extended.Goals as goal
 
@@ -21,3 +21,9 @@ returns-in-Some-clause-same c =
     let to : Entry = record { name = from.name; content = from.content; number = from.number; extensible = c.cord_of.new.extensible } in
     let is = c.index_mut.ensures.value in
     extensible_same c.args.name.now from to entries c.in-Some.place c.in-Some.ensures.some (ap (λ (e : Entry). e.name.items) is ∙ name_at_place entries c.args.name.now c.in-Some.place from c.in-Some.ensures.some) (ap (λ (e : Entry). e.content) is) (ap (λ (e : Entry). e.number) is) (c.cord_of.ensures.same ∙ ap (λ (e : Entry). cells_in e.extensible) is)
+
+pub invariant_of-self : goal.invariant_of-self
+invariant_of-self c =
+    let from : Entry = c.index_mut.result.now in
+    let to : Entry = record { name = from.name; content = from.content; number = from.number; extensible = c.cord_of.new.extensible } in
+    record { distinct = distinct_set c.args.self.now.entries.items c.in-Some.place from to (ap (λ (e : Entry). e.name.items) c.index_mut.ensures.value) c.args.self.now.distinct }
