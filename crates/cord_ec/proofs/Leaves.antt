@@ -1,17 +1,16 @@
 -- Leaves that a buffer was made into.
-use Rattle.std.proofs.Common.{◌≡◌, inl, inr, ℕ, ◌+◌, ◌*◌, ◌<◌, ◌≤◌, min, List, [], ◌∷◌, ◌++◌, length, map, take, drop, length-append, append-nil, append_assoc, take-append-drop, refl, sym, ap, ◌∙◌, subst, arith}
+use Rattle.std.proofs.Common.{◌≡◌, ℕ, ◌+◌, ◌*◌, ◌<◌, ◌≤◌, min, List, [], ◌∷◌, ◌++◌, length, map, take, drop, append-nil, append_assoc, take-append-drop, refl, sym, ap, ◌∙◌, subst, arith}
 use Rattle.std.specs.Prelude.{Option, Some, None}
-use Rattle.std.specs.Rc.{rc_slice_items}
 use Rattle.std.proofs.lemmas.List.{map-append}
 use Rattle.cord_node.specs.declared.Node.{Node}
 use Rattle.cord_node.specs.Tree.{Cell, known}
 use Rattle.cord_node.specs.declared.Node.TheVariants.{Leaf, Run, Func, Cat'}
 use Rattle.cord_node.specs.Kept.{Part, leaf_part, run_part, func_part, IsSmall, IsRangeOf, Kept}
-use Rattle.cord_node.proofs.KeptLemmas.{Kept-self, Kept-join, Kept_same}
+use Rattle.cord_node.proofs.KeptLemmas.{Kept-self, Kept-join}
 use Rattle.cord_core.specs.Cord.{parts_of, IsCord}
 use Rattle.cord_core.specs.Forms.{IsLeafOf}
 use Rattle.cord_raw.specs.declared.buffer.TheConstants.RawBuf.{CAP}
-use Rattle.cord_ec.specs.Gathered.{leaf_parts, IsGathered, AreFromOr, MadeOf, Gathered}
+use Rattle.cord_ec.specs.Gathered.{leaf_parts, IsGathered, AreFromOr, Gathered}
 use Rattle.cord_ec.proofs.MadeLemmas.{IsOwn, are_through, made_kept, made_more, made_through, made_after, made_self}
 
 gathered_range : (p q : Part) → IsRangeOf p q → IsGathered q → IsGathered p

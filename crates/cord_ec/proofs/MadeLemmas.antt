@@ -1,6 +1,6 @@
 -- Laws of `AreFromOr` and `MadeOf`.
-use Rattle.std.proofs.Common.{◌≡◌, inl, inr, ℕ, ◌+◌, ◌*◌, ◌<◌, ◌≤◌, List, [], ◌∷◌, ◌++◌, length, length-append, refl, sym, ap, ◌∙◌, subst, arith, ⊎_elim}
-use Rattle.cord_node.specs.Kept.{Part, leaf_part, run_part, func_part, IsSmall, IsRangeOf, IsFrom, AreFrom, Kept}
+use Rattle.std.proofs.Common.{inl, inr, ℕ, ◌+◌, ◌≤◌, List, [], ◌∷◌, ◌++◌, length, length-append, arith, ⊎_elim}
+use Rattle.cord_node.specs.Kept.{Part, IsSmall, IsRangeOf, IsFrom, AreFrom, Kept}
 use Rattle.cord_node.proofs.KeptLemmas.{IsRangeOf-self, IsRangeOf-trans}
 use Rattle.cord_ec.specs.Gathered.{IsFromOr, AreFromOr, MadeOf}
 

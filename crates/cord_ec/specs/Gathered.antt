@@ -1,5 +1,5 @@
 -- What contracts see of an extensible cord, and when its parts come from those that it was given.
-use Rattle.std.specs.Prelude.{◌≡◌, ℕ, ◌+◌, ◌*◌, ◌≤◌, ◌⊎◌, List, [], ◌∷◌, length, ⊤, refl}
+use Rattle.std.specs.Prelude.{ℕ, ◌+◌, ◌*◌, ◌≤◌, ◌⊎◌, List, [], ◌∷◌, length, ⊤, refl}
 use Rattle.std.specs.Coded.{Coded, code_by, coded_list, coded×}
 use Rattle.cord_mark.specs.Part.{coded_parts}
 use Rattle.cord_node.specs.Tree.{Cell}

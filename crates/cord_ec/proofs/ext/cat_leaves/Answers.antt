@@ -1,10 +1,8 @@
 use Rattle.std.proofs.Common.{◌≡◌, ◌+◌, ◌<◌, ◌∙◌, ℕ, List, ◌++◌, min, length, map, ap, refl, arith}
 use Rattle.std.proofs.lemmas.Grind.{common_steps}
-use Rattle.cord_node.specs.Tree.{Cell, known}
-use Rattle.cord_node.specs.Kept.{Part, Kept}
+use Rattle.cord_node.specs.Tree.{known}
 use Rattle.cord_core.specs.Cord.{text, parts_of}
 use Rattle.cord_raw.specs.declared.buffer.TheConstants.RawBuf.{CAP}
-use Rattle.cord_ec.specs.Gathered.{leaf_parts}
 use Rattle.cord_ec.proofs.Leaves.{gathering_end, gathering_start, gathering_step, leaf_text}
 use Rattle.cord_ec.proofs.ext.cat_leaves.Goals as goal
 
