@@ -26,6 +26,6 @@ returns-clause-made c =
     let gathers : Type 0 = (k : ℕ) → length c.args.bytes.now ≤ leaf_bytes k → Gathered k middle new in
     let makes : Type 0 = (k : ℕ) → length c.args.bytes.now ≤ leaf_bytes k → IsPrintedFrom k c.args.self.now.parts (new ++ leaf_parts c.put_in.new.gathered.items) in
     let made : gathers → makes = λ g k few.
-        subst (λ (old : List Part). IsPrintedFrom k old (new ++ leaf_parts c.put_in.new.gathered.items)) (ap (λ (x : Growth). x.parts) c.self.view_is)
-        (subst (λ (b : List ℕ). IsPrintedFrom k before (new ++ leaf_parts b)) (sym c.in_ok-put_in.ensures.emptied) (grown_from before middle new c.args.bytes.now put g k few)) in
+    subst (λ (old : List Part). IsPrintedFrom k old (new ++ leaf_parts c.put_in.new.gathered.items)) (ap (λ (x : Growth). x.parts) c.self.view_is)
+    (subst (λ (b : List ℕ). IsPrintedFrom k before (new ++ leaf_parts b)) (sym c.in_ok-put_in.ensures.emptied) (grown_from before middle new c.args.bytes.now put g k few)) in
     when_ok gathers makes c.grow.result made c.grow.ensures.gathered
