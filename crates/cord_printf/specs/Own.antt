@@ -7,9 +7,9 @@ use Rattle.cord_ec.specs.Gathered.{IsGathered, MadeOf}
 use Rattle.cord_printf.specs.declared.arguments.Arg.{Arg}
 use Rattle.cord_printf.specs.declared.arguments.Arg.TheVariants as arguments
 use Rattle.cord_printf.specs.declared.pieces.Piece.{Piece}
-use Rattle.cord_printf.specs.declared.pieces.Piece.TheVariants.{Text, Signed, Unsigned, Byte, Cord, Percent}
+use Rattle.cord_printf.specs.declared.pieces.Piece.TheVariants.{Cord}
 use Rattle.cord_printf.specs.Pieces.{wants}
-use Rattle.cord_printf.specs.PieceText.{PieceArgument, number, text, cut, piece_text, argument_if, others_if}
+use Rattle.cord_printf.specs.PieceText.{PieceArgument, text, cut, piece_text, argument_if, others_if}
 
 -- the parts of an argument, where it is a cord
 abbrev pub argument_parts : Arg → List Part

@@ -1,7 +1,7 @@
 use Rattle.std.proofs.Common.{ℕ, ◌≤◌, List, length, subst, sym}
 use Rattle.std.specs.Prelude.{Option, IfOk}
 use Rattle.cord_node.specs.Kept.{Part}
-use Rattle.cord_ec.specs.Gathered.{Growth, leaf_bytes, leaf_parts, Gathered}
+use Rattle.cord_ec.specs.Gathered.{Growth, leaf_bytes, Gathered}
 use Rattle.cord_printf.specs.Shown.{parts_in}
 use Rattle.cord_printf.proofs.output.grow.Goals as goal
 

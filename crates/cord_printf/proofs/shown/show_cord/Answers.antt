@@ -1,4 +1,3 @@
-use Rattle.std.proofs.Common.{◌≡◌}
 use Rattle.cord_node.proofs.KeptLemmas.{Kept_same}
 use Rattle.cord_core.specs.Cord.{parts_of}
 use Rattle.cord_printf.specs.Shown.{body_parts}

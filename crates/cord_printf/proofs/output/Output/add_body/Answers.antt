@@ -1,4 +1,4 @@
-use Rattle.std.proofs.Common.{◌≤◌, ◌∙◌, ℕ, List, [], ◌∷◌, ◌++◌, ap, length, refl, subst, sym, arith}
+use Rattle.std.proofs.Common.{◌≤◌, ◌∙◌, ℕ, List, [], ◌∷◌, ◌++◌, ap, length, refl, subst, sym}
 use Rattle.std.specs.Prelude.{IfOk}
 use Rattle.cord_node.specs.Kept.{Part}
 use Rattle.cord_ec.specs.Gathered.{leaf_bytes}

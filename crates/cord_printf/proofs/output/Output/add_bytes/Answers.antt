@@ -1,4 +1,4 @@
-use Rattle.std.proofs.Common.{◌≡◌, ◌≤◌, ◌∙◌, ℕ, List, ◌++◌, length, length-append, ap, subst, sym, arith}
+use Rattle.std.proofs.Common.{◌≤◌, ◌∙◌, ℕ, List, ◌++◌, length, length-append, ap, subst, sym, arith}
 use Rattle.arrayvec.specs.ArrayVec.{ArrayVec}
 use Rattle.cord_node.specs.Kept.{Part}
 use Rattle.cord_ec.specs.Gathered.{Growth, Gathered, leaf_bytes, leaf_parts}
