@@ -1,10 +1,13 @@
--- The equations of `expr_view`, one for each variant.
-use Rattle.std.proofs.Common.{◌≡◌, ℕ, List, Box, Global, sym, ap, ◌∙◌}
+-- The equations of `expr_view`, one for each variant, and of `members_view`.
+use Rattle.std.proofs.Common.{◌≡◌, ℕ, List, [], ◌∷◌, map, Box, Global, refl, sym, ap, ◌∙◌}
 use Rattle.cord_operands.specs.declared.operands.Number.{Number}
 use Rattle.cord_plan.specs.Exprs as plain
-use Rattle.cord_plan.specs.Views.{expr_view, expr_step, members_view, members_step}
+use Rattle.cord_plan.specs.Views.{Shared, expr_view, expr_step, members_of, members_view, members_step, shared_view}
 use Rattle.cord_plan.specs.declared.expressions.Expr.{Expr, Expr-F, fold-roll-Expr}
 use Rattle.cord_plan.specs.declared.expressions.Expr.TheVariants.{Name, Run, Cat, Sub, rolls-Name, rolls-Run, rolls-Cat, rolls-Sub}
+use Rattle.cord_plan.specs.declared.expressions.Expr.TheOpen.{Members-F}
+use Rattle.cord_plan.specs.declared.expressions.Expr.TheViews.{out-Members, roll-Members}
+use Rattle.cord_plan.specs.declared.expressions.Expr.TheFolds.{fold-roll-Members, fold_out-Members}
 use Rattle.cord_plan.specs.declared.expressions.Members.{Members}
 
 pub view-Name : (x : List ℕ) → expr_view (Name x) ≡ plain.name x
@@ -18,3 +21,13 @@ view-Cat ms = ap expr_view (sym (rolls-Cat ms)) ∙ fold-roll-Expr plain.Expr pl
 
 pub view-Sub : (e : Box Expr Global) (i n : Number) → expr_view (Sub e i n) ≡ plain.sub (expr_view e.value) i n
 view-Sub e i n = ap expr_view (sym (rolls-Sub e i n)) ∙ fold-roll-Expr plain.Expr plain.Exprs expr_step members_step (Expr-F.Sub e i n)
+
+map_twice : {A B C : Type 0} (f : A → B) (g : B → C) (xs : List A) → map g (map f xs) ≡ map (λ x. g (f x)) xs
+map_twice f g [] = refl
+map_twice f g (x ∷ xs) = ap (λ ys. g (f x) ∷ ys) (map_twice f g xs)
+
+pub members_made : (m : Members-F Expr Members) → members_view (roll-Members m) ≡ members_of (map shared_view m.members.items)
+members_made m = fold-roll-Members plain.Expr plain.Exprs expr_step members_step m ∙ ap members_of (map_twice _ _ m.members.items)
+
+pub members_there : (ms : Members) → members_view ms ≡ members_of (map shared_view (out-Members ms).members.items)
+members_there ms = fold_out-Members plain.Expr plain.Exprs expr_step members_step ms ∙ ap members_of (map_twice _ _ (out-Members ms).members.items)

@@ -4,9 +4,8 @@ use Rattle.std.specs.Prelude.{not}
 use Rattle.std.specs.Str.{bytes_eq}
 use Rattle.std.proofs.lemmas.List.{at_drop_more}
 use Rattle.cord_syntax.specs.declared.statements.Statement.{Statement}
-use Rattle.cord_plan.specs.declared.expressions.Expr as code
 use Rattle.cord_plan.specs.Exprs.{names, names_of}
-use Rattle.cord_plan.specs.Views.{expr_view, members_of}
+use Rattle.cord_plan.specs.Views.{Shared, members_of, shared_view}
 use Rattle.cord_plan.specs.Operands.{is_name, target_of}
 use Rattle.cord_plan.specs.Forced.{keeps}
 use Rattle.cord_plan.specs.Recent.{lacks}
@@ -21,12 +20,12 @@ module _ (x : List ℕ) where
       pick false more = refl
 
   -- what the names of members lack, by the first
-  pub lacks_member : (ms : List code.Expr) (k : ℕ) (m : code.Expr) → k < length ms → m ≡ get_or ms k m →
-      lacks (names_of (members_of (map expr_view (drop k ms)))) x ≡ (lacks (names (expr_view m)) x && lacks (names_of (members_of (map expr_view (drop (k + 1) ms)))) x)
+  pub lacks_member : (ms : List Shared) (k : ℕ) (m : Shared) → k < length ms → m ≡ get_or ms k m →
+      lacks (names_of (members_of (map shared_view (drop k ms)))) x ≡ (lacks (names (shared_view m)) x && lacks (names_of (members_of (map shared_view (drop (k + 1) ms)))) x)
   lacks_member ms k m lt is =
-      at_drop_more (λ (es : List code.Expr). lacks (names_of (members_of (map expr_view es))) x) ms k m lt
-      ∙ (ap (λ (e : code.Expr). lacks (names_of (members_of (map expr_view (e ∷ drop (k + 1) ms)))) x) (sym is)
-      ∙ lacks_append (names (expr_view m)) (names_of (members_of (map expr_view (drop (k + 1) ms)))))
+      at_drop_more (λ (es : List Shared). lacks (names_of (members_of (map shared_view es))) x) ms k m lt
+      ∙ (ap (λ (e : Shared). lacks (names_of (members_of (map shared_view (e ∷ drop (k + 1) ms)))) x) (sym is)
+      ∙ lacks_append (names (shared_view m)) (names_of (members_of (map shared_view (drop (k + 1) ms)))))
 
 module _ (l : Statement) where
   pub keeps_all : target_of l ≡ None → (xs : List (List ℕ)) → keeps (Some l) xs ≡ true

@@ -6,9 +6,8 @@ use Rattle.std.proofs.lemmas.Bool.{le-leb}
 use Rattle.std.proofs.lemmas.Bool.Decides.{leb_tells}
 use Rattle.cord_syntax.specs.declared.statements.Statement.{Statement}
 use Rattle.std.proofs.lemmas.List.{at_drop_more}
-use Rattle.cord_plan.specs.declared.expressions.Expr as code
 use Rattle.cord_plan.specs.Exprs.{names, names_of}
-use Rattle.cord_plan.specs.Views.{expr_view, members_of}
+use Rattle.cord_plan.specs.Views.{Shared, members_of, shared_view}
 use Rattle.cord_meaning.specs.Statements.{shape_of}
 use Rattle.cord_plan.specs.Operands.{assigns, assigns_at, reads, reads_at}
 use Rattle.cord_plan.specs.declared.numbering.Numbering.{Numbering}
@@ -156,12 +155,12 @@ module _ (s : List Statement) (a b : ℕ) where
   stay_nothing = stay_nothing_from (b - a) a
 
   -- what stays of members, by the first
-  pub stay_member : (ms : List code.Expr) (k : ℕ) (m : code.Expr) → k < length ms → m ≡ get_or ms k m →
-      stay s a b (names_of (members_of (map expr_view (drop k ms)))) ≡ (stay s a b (names (expr_view m)) && stay s a b (names_of (members_of (map expr_view (drop (k + 1) ms)))))
+  pub stay_member : (ms : List Shared) (k : ℕ) (m : Shared) → k < length ms → m ≡ get_or ms k m →
+      stay s a b (names_of (members_of (map shared_view (drop k ms)))) ≡ (stay s a b (names (shared_view m)) && stay s a b (names_of (members_of (map shared_view (drop (k + 1) ms)))))
   stay_member ms k m lt is =
-      at_drop_more (λ (es : List code.Expr). stay s a b (names_of (members_of (map expr_view es)))) ms k m lt
-      ∙ (ap (λ (x : code.Expr). stay s a b (names_of (members_of (map expr_view (x ∷ drop (k + 1) ms))))) (sym is)
-      ∙ stay_append (names (expr_view m)) (names_of (members_of (map expr_view (drop (k + 1) ms)))))
+      at_drop_more (λ (es : List Shared). stay s a b (names_of (members_of (map shared_view es)))) ms k m lt
+      ∙ (ap (λ (x : Shared). stay s a b (names_of (members_of (map shared_view (x ∷ drop (k + 1) ms))))) (sym is)
+      ∙ stay_append (names (shared_view m)) (names_of (members_of (map shared_view (drop (k + 1) ms)))))
 
 -- a line more
 module _ (s : List Statement) (t : Numbering) (b : ℕ) (l : Statement) (here : slice_get s b ≡ Some l) where

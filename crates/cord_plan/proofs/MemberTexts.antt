@@ -2,8 +2,7 @@
 use Rattle.std.proofs.Common.{◌≡◌, ◌<◌, ℕ, zero, suc, ◌+◌, List, [], ◌∷◌, length, map, get_or, refl, sym, subst, arith}
 use Rattle.cord_plan.specs.Exprs as plain
 use Rattle.cord_plan.specs.Shown.{expr, exprs, more_exprs}
-use Rattle.cord_plan.specs.Views.{expr_view, members_of}
-use Rattle.cord_plan.specs.declared.expressions.Expr.{Expr}
+use Rattle.cord_plan.specs.Views.{Shared, members_of, shared_view}
 use Rattle.cord_plan.proofs.Spacing.{AreSpaced}
 
 abbrev mutual
@@ -18,26 +17,26 @@ abbrev mutual
   weights (plain.member e es) = weight e + weights es + 1
 
 -- a member is smaller than all of them
-pub member_below : (ms : List Expr) (i : ℕ) (d : Expr) → i < length ms → weight (expr_view (get_or ms i d)) < weights (members_of (map expr_view ms))
+pub member_below : (ms : List Shared) (i : ℕ) (d : Shared) → i < length ms → weight (shared_view (get_or ms i d)) < weights (members_of (map shared_view ms))
 member_below [] i d h = absurd (omega (arith, h))
 member_below (m ∷ ms) zero d h = omega arith
 member_below (m ∷ ms) (suc i) d h = let below = member_below ms i d (omega (arith, h)) in omega (arith, below)
 
 -- the text of members
-abbrev pub members_text : List Expr → List ℕ
-members_text ms = exprs (members_of (map expr_view ms))
+abbrev pub members_text : List Shared → List ℕ
+members_text ms = exprs (members_of (map shared_view ms))
 
 -- each after a blank
-abbrev pub more_text : List Expr → List ℕ
-more_text ms = more_exprs (members_of (map expr_view ms))
+abbrev pub more_text : List Shared → List ℕ
+more_text ms = more_exprs (members_of (map shared_view ms))
 
 -- one of them
-abbrev pub member_text : Expr → List ℕ
-member_text m = expr (expr_view m)
+abbrev pub member_text : Shared → List ℕ
+member_text m = expr (shared_view m)
 
 pub members_spaced : AreSpaced members_text more_text member_text
 members_spaced = record { nil = refl; cons = λ m ms. refl; behind = record { nil = refl; cons = λ m ms. refl } }
 
 -- the member at hand on a walk over all of them
-pub member_there : (ms : List Expr) (i : ℕ) (m : Expr) → i < length ms → m ≡ get_or ms i m → weight (expr_view m) < weights (members_of (map expr_view ms))
-member_there ms i m h is = subst (λ (x : Expr). weight (expr_view x) < weights (members_of (map expr_view ms))) (sym is) (member_below ms i m h)
+pub member_there : (ms : List Shared) (i : ℕ) (m : Shared) → i < length ms → m ≡ get_or ms i m → weight (shared_view m) < weights (members_of (map shared_view ms))
+member_there ms i m h is = subst (λ (x : Shared). weight (shared_view x) < weights (members_of (map shared_view ms))) (sym is) (member_below ms i m h)

@@ -8,8 +8,7 @@ use Rattle.cord_operands.specs.declared.operands.Number.TheVariants.{Numeral}
 use Rattle.cord_syntax.specs.declared.statements.Statement.{Statement}
 use Rattle.cord_syntax.specs.declared.statements.Statement.TheVariants.{Chars, Nul, Cat, Catn, Catc, Substr, Put}
 use Rattle.cord_plan.specs.Exprs.{Expr, Exprs, name, run, cat, sub, nothing, member, parts, parts_of, append, in_front, members}
-use Rattle.cord_plan.specs.declared.expressions.Expr as code
-use Rattle.cord_plan.specs.Views.{expr_view, members_of}
+use Rattle.cord_plan.specs.Views.{Shared, members_of, shared_view}
 use Rattle.cord_plan.specs.Operands.{assigns_at}
 use Rattle.cord_plan.specs.Forced.{Choice, expr_of, keeps, is_small, expr_with}
 use Rattle.cord_plan.specs.Choices.{room_left, room_left_by, simple_operands, parts_beside}
@@ -59,11 +58,11 @@ room_for_more n m room left e =
     ∙ ap (λ (k : ℕ). if nat_le m left then Some k else None) rest
 
 -- the parts of members, by the first
-pub parts_member : (ms : List code.Expr) (k : ℕ) (m : code.Expr) → k < length ms → m ≡ get_or ms k m →
-    parts_of (members_of (map expr_view (drop k ms))) ≡ parts (expr_view m) + parts_of (members_of (map expr_view (drop (k + 1) ms)))
+pub parts_member : (ms : List Shared) (k : ℕ) (m : Shared) → k < length ms → m ≡ get_or ms k m →
+    parts_of (members_of (map shared_view (drop k ms))) ≡ parts (shared_view m) + parts_of (members_of (map shared_view (drop (k + 1) ms)))
 parts_member ms k m lt is =
-    at_drop_more (λ (es : List code.Expr). parts_of (members_of (map expr_view es))) ms k m lt
-    ∙ ap (λ (e : code.Expr). parts_of (members_of (map expr_view (e ∷ drop (k + 1) ms)))) (sym is)
+    at_drop_more (λ (es : List Shared). parts_of (members_of (map shared_view es))) ms k m lt
+    ∙ ap (λ (e : Shared). parts_of (members_of (map shared_view (e ∷ drop (k + 1) ms)))) (sym is)
 
 -- what keeps the names of two lists
 pub keeps_append : (l : Option Statement) (xs ys : List (List ℕ)) → keeps l (xs ++ ys) ≡ keeps l xs && keeps l ys

@@ -1,8 +1,9 @@
 // Expressions of plans.
 ghost use Rattle.std.specs.Prelude.{◌≡◌, map};
-ghost use Rattle.cord_plan.specs.Views.{expr_view, members_of, members_view};
+ghost use Rattle.cord_plan.specs.Views.{members_of, members_view, shared_view};
 
 use cord_script::{Name, Number};
+use std::rc::Rc;
 
 /// An expression of a plan: what a line makes of names of cords and of runs of a byte.
 #[derive(Drop)]
@@ -25,24 +26,24 @@ pub enum Expr {
     },
 }
 
-/// The members of a `cat`, in order.
+/// The members of a `cat`, in order. Expressions share members: a copy of one is a count.
 #[derive(Drop)]
 #[cycle(expressions)]
 pub struct Members {
-    members: Vec<Expr>,
+    members: Vec<Rc<Expr>>,
 }
 
 impl Members {
     /// These members, without taking memory.
-    pub fn of(members: Vec<Expr>) -> Self
-        ensures { members_view result ≡ members_of (map expr_view members.items) }
+    pub fn of(members: Vec<Rc<Expr>>) -> Self
+        ensures { members_view result ≡ members_of (map shared_view members.items) }
     {
         Members { members }
     }
 
     /// The members in order.
-    pub fn as_slice(&self) -> &[Expr]
-        ensures { members_view self.now ≡ members_of (map expr_view result.now) }
+    pub fn as_slice(&self) -> &[Rc<Expr>]
+        ensures { members_view self.now ≡ members_of (map shared_view result.now) }
     {
         &self.members
     }

@@ -5,15 +5,17 @@ ghost use Rattle.cord_plan.specs.Exprs.{append, in_front, members, nothing};
 ghost use Rattle.cord_operands.specs.declared.operands.Number.TheVariants.{Numeral};
 ghost use Rattle.cord_plan.specs.Forced.{expr_of, expr_with};
 ghost use Rattle.cord_plan.specs.Choices.{choice_view};
-ghost use Rattle.cord_plan.specs.Views.{expr_view, members_of};
+ghost use Rattle.cord_plan.specs.Views.{expr_view, members_of, shared_view};
 
 use crate::Expr;
 use crate::choosing::Choice;
-use crate::own::{cat, named, run, run_of, sub_of};
-use crate::parts::{copy, copy_onto};
+use crate::interning::Interner;
+use crate::own::{cat, named, run, run_of, shared_byte, sub_of};
+use crate::parts::{copy, share_onto};
 use cord_io::CordError;
 use cord_script::{Number, Statement};
 use std::alloc::Global;
+use std::rc::Rc;
 
 // An expression that stands for an operand.
 fn expression_of(alloc: Global, choice: &Choice) -> Result<Expr, CordError>
@@ -26,27 +28,40 @@ fn expression_of(alloc: Global, choice: &Choice) -> Result<Expr, CordError>
     }
 }
 
-// Puts a copy of an expression after the members of a `cat`; of a `cat` its members.
-fn add_copy(alloc: Global, members: &mut Vec<Expr>, expression: &Expr) -> Result<(), CordError>
-    ensures added { OnOk result (members_of (map expr_view members.new.items) ≡ append (members_of (map expr_view members.old.items)) (in_front (expr_view expression.now) nothing)) }
+// A copy of an expression, to be shared.
+fn shared_copy(alloc: Global, expression: &Expr) -> Result<Rc<Expr>, CordError>
+    ensures made { IfOk result (λ e. shared_view e ≡ expr_view expression.now) }
+    ensures refused { IsOkUnless result CordError.NoMemory }
+{
+    Ok(Rc::new(alloc, copy(alloc, expression)?)?)
+}
+
+// Puts a copy of an expression after the members of a `cat`; of a `cat` its members, which are shared.
+fn add_copy(alloc: Global, members: &mut Vec<Rc<Expr>>, expression: &Expr) -> Result<(), CordError>
+    ensures added { OnOk result (members_of (map shared_view members.new.items) ≡ append (members_of (map shared_view members.old.items)) (in_front (expr_view expression.now) nothing)) }
     ensures refused { IsOkUnless result CordError.NoMemory }
 {
     match expression {
-        Expr::Cat(inner) => copy_onto(alloc, inner.as_slice(), members)?,
-        Expr::Name(_) => members.push(copy(alloc, expression)?)?,
-        Expr::Run { .. } => members.push(copy(alloc, expression)?)?,
-        Expr::Sub { .. } => members.push(copy(alloc, expression)?)?,
+        Expr::Cat(inner) => share_onto(inner.as_slice(), members)?,
+        Expr::Name(_) => members.push(shared_copy(alloc, expression)?)?,
+        Expr::Run { .. } => members.push(shared_copy(alloc, expression)?)?,
+        Expr::Sub { .. } => members.push(shared_copy(alloc, expression)?)?,
     }
     Ok(())
 }
 
 // The same of an expression that stands for an operand.
-fn add(alloc: Global, members: &mut Vec<Expr>, choice: &Choice) -> Result<(), CordError>
-    ensures added { OnOk result (members_of (map expr_view members.new.items) ≡ append (members_of (map expr_view members.old.items)) (in_front (expr_of (choice_view choice.now)) nothing)) }
+fn add(
+    alloc: Global,
+    interner: &mut Interner,
+    members: &mut Vec<Rc<Expr>>,
+    choice: &Choice,
+) -> Result<(), CordError>
+    ensures added { OnOk result (members_of (map shared_view members.new.items) ≡ append (members_of (map shared_view members.old.items)) (in_front (expr_of (choice_view choice.now)) nothing)) }
     ensures refused { IsOkUnless result CordError.NoMemory }
 {
     match choice {
-        Choice::Kept(name) => members.push(named(name)?)?,
+        Choice::Kept(name) => members.push(interner.name(alloc, name)?)?,
         Choice::Replaced(_, expression) => add_copy(alloc, members, expression)?,
     }
     Ok(())
@@ -70,34 +85,43 @@ fn room_for(choices: &[Choice]) -> usize {
 }
 
 // The members that these expressions give to a `cat`, with room for so many more.
-fn joined(alloc: Global, choices: &[Choice], more: usize) -> Result<Vec<Expr>, CordError>
-    ensures made { IfOk result (λ ms. members_of (map expr_view ms.items) ≡ members (map expr_of (map choice_view choices.now))) }
+fn joined(
+    alloc: Global,
+    interner: &mut Interner,
+    choices: &[Choice],
+    more: usize,
+) -> Result<Vec<Rc<Expr>>, CordError>
+    ensures made { IfOk result (λ ms. members_of (map shared_view ms.items) ≡ members (map expr_of (map choice_view choices.now))) }
     ensures refused { IsOkUnless result CordError.NoMemory }
 {
     let room = room_for(choices).saturating_add(more);
     let mut members = Vec::with_capacity(alloc, room)?;
     'choices: for choice in choices {
-        add(alloc, &mut members, choice)?;
+        add(alloc, interner, &mut members, choice)?;
     }
     Ok(members)
 }
 
 // `cat` of these expressions.
-fn joined_all(alloc: Global, choices: &[Choice]) -> Result<Expr, CordError>
+fn joined_all(alloc: Global, interner: &mut Interner, choices: &[Choice]) -> Result<Expr, CordError>
     ensures made { IfOk result (λ e. expr_view e ≡ plain.cat (members (map expr_of (map choice_view choices.now)))) }
     ensures refused { IsOkUnless result CordError.NoMemory }
 {
-    Ok(cat(joined(alloc, choices, 0)?))
+    Ok(cat(joined(alloc, interner, choices, 0)?))
 }
 
 // `cat` of these expressions and one byte.
-fn joined_with(alloc: Global, choices: &[Choice], byte: &Number) -> Result<Expr, CordError>
+fn joined_with(
+    alloc: Global,
+    interner: &mut Interner,
+    choices: &[Choice],
+    byte: &Number,
+) -> Result<Expr, CordError>
     ensures made { IfOk result (λ e. expr_view e ≡ plain.cat (members (map expr_of (map choice_view choices.now) ++ plain.run byte.now (Numeral (pos 1)) ∷ []))) }
     ensures refused { IsOkUnless result CordError.NoMemory }
 {
-    let mut members = joined(alloc, choices, 1)?;
-    let last = run(byte.clone()?, Number::Numeral(1));
-    members.push(last)?;
+    let mut members = joined(alloc, interner, choices, 1)?;
+    members.push(shared_byte(alloc, byte)?)?;
     Ok(cat(members))
 }
 
@@ -112,6 +136,7 @@ fn part(alloc: Global, choice: &Choice, start: &Number, count: &Number) -> Resul
 /// The expression of a simple line, where these stand for its operands; of any other line there is none.
 pub(crate) fn expression_with(
     alloc: Global,
+    interner: &mut Interner,
     statement: &Statement,
     choices: &[Choice],
 ) -> Result<Option<Expr>, CordError>
@@ -119,8 +144,10 @@ pub(crate) fn expression_with(
     ensures refused { IsOkUnless result CordError.NoMemory }
 {
     match statement {
-        Statement::Cat { .. } | Statement::Catn { .. } => Ok(Some(joined_all(alloc, choices)?)),
-        Statement::Catc { byte, .. } => Ok(Some(joined_with(alloc, choices, byte)?)),
+        Statement::Cat { .. } | Statement::Catn { .. } => Ok(Some(joined_all(
+            alloc, interner, choices,
+        )?)),
+        Statement::Catc { byte, .. } => Ok(Some(joined_with(alloc, interner, choices, byte)?)),
         Statement::Chars { byte, count, .. } => Ok(Some(run_of(byte, count)?)),
         Statement::Nul { count, .. } => {
             let count = count.clone()?;

@@ -4,6 +4,7 @@
 mod choosing;
 mod expression_laws;
 mod expressions;
+mod interning;
 mod joining;
 mod jumps;
 mod laws;

@@ -2,10 +2,11 @@
 ghost use Rattle.std.specs.Prelude.{◌≡◌, ◌++◌, [], ◌∷◌, map};
 ghost use Rattle.cord_plan.specs.Exprs.{names, names_of, number_names};
 ghost use Rattle.cord_plan.specs.Recent.{lacks};
-ghost use Rattle.cord_plan.specs.Views.{expr_view, members_of};
+ghost use Rattle.cord_plan.specs.Views.{expr_view, members_of, shared_view};
 
 use crate::Expr;
 use cord_script::{Number, is_same};
+use std::rc::Rc;
 
 fn differs(known: &[u8], name: &[u8]) -> bool
     ensures { result ≡ lacks (known.now ∷ []) name.now }
@@ -47,13 +48,14 @@ pub(crate) fn lacks(expression: &Expr, name: &[u8]) -> bool
 
 // The same of all these expressions.
 #[cycle(lacks)]
-fn all_lack(members: &[Expr], name: &[u8]) -> bool
-    ensures { result ≡ lacks (names_of (members_of (map expr_view members.now))) name.now }
+fn all_lack(members: &[Rc<Expr>], name: &[u8]) -> bool
+    ensures { result ≡ lacks (names_of (members_of (map shared_view members.now))) name.now }
 {
     for member in members {
-        let lacking = match member {
+        let expression = member.as_ref();
+        let lacking = match expression {
             Expr::Name(known) => differs(known.as_slice(), name),
-            _ => lacks(member, name),
+            _ => lacks(expression, name),
         };
         if !lacking {
             return false;

@@ -19,8 +19,8 @@ pub(crate) struct Numbering {
     guesses: Vec<usize>,
 }
 
-// The slot of a name.
-fn slot_of(name: &[u8]) -> usize
+/// The slot of a name.
+pub(crate) fn slot_of(name: &[u8]) -> usize
     ensures slot { result ≡ slot_of name.now }
     ensures within { result < 4096 }
 {

@@ -3,30 +3,35 @@ ghost use Rattle.std.specs.Prelude.{◌≡◌, [], ◌∷◌, pos, IfOk, IsOkUnl
 ghost use Rattle.cord_operands.specs.declared.operands.Number.TheVariants.{Numeral};
 ghost use Rattle.cord_plan.specs.Exprs as plain;
 ghost use Rattle.cord_plan.specs.Forced.{own};
-ghost use Rattle.cord_plan.specs.Views.{expr_view, members_of};
+ghost use Rattle.cord_plan.specs.Views.{expr_view, members_of, shared_view};
 
+use crate::interning::Interner;
 use crate::{Expr, Members};
 use cord_io::CordError;
 use cord_script::{Name, Number, Statement};
 use std::alloc::Global;
+use std::rc::Rc;
 
 /// The own expression of a simple statement; of any other there is none.
 ///
 /// Refused only with `NoMemory`.
 pub(crate) fn own_expression(
     alloc: Global,
+    interner: &mut Interner,
     statement: &Statement,
 ) -> Result<Option<Expr>, CordError>
     ensures made { IfOk result (λ e. option_map expr_view e ≡ own statement.now) }
     ensures refused { IsOkUnless result CordError.NoMemory }
 {
     match statement {
-        Statement::Cat { left, right, .. } => Ok(Some(pair(alloc, left, right)?)),
+        Statement::Cat { left, right, .. } => Ok(Some(pair(alloc, interner, left, right)?)),
         Statement::Catn { parts, .. } => {
-            let operands = all_named(alloc, parts.as_slice())?;
+            let operands = all_named(alloc, interner, parts.as_slice())?;
             Ok(Some(cat(operands)))
         }
-        Statement::Catc { operand, byte, .. } => Ok(Some(with_byte(alloc, operand, byte)?)),
+        Statement::Catc { operand, byte, .. } => Ok(Some(with_byte(
+            alloc, interner, operand, byte,
+        )?)),
         Statement::Chars { byte, count, .. } => Ok(Some(run_of(byte, count)?)),
         Statement::Nul { count, .. } => {
             let count = count.clone()?;
@@ -44,30 +49,49 @@ pub(crate) fn own_expression(
 }
 
 // `cat` of two names.
-fn pair(alloc: Global, left: &Name, right: &Name) -> Result<Expr, CordError>
+fn pair(
+    alloc: Global,
+    interner: &mut Interner,
+    left: &Name,
+    right: &Name,
+) -> Result<Expr, CordError>
     ensures made { IfOk result (λ e. expr_view e ≡ plain.cat (members_of (plain.name left.now ∷ plain.name right.now ∷ []))) }
     ensures refused { IsOkUnless result CordError.NoMemory }
 {
-    let (left, right) = (left.clone()?, right.clone()?);
-    let operands = vec![in alloc; Expr::Name(left), Expr::Name(right)]?;
+    let (left, right) = (interner.name(alloc, left)?, interner.name(alloc, right)?);
+    let operands = vec![in alloc; left, right]?;
     Ok(cat(operands))
 }
 
 // `cat` of a name and one byte.
-fn with_byte(alloc: Global, operand: &Name, byte: &Number) -> Result<Expr, CordError>
+fn with_byte(
+    alloc: Global,
+    interner: &mut Interner,
+    operand: &Name,
+    byte: &Number,
+) -> Result<Expr, CordError>
     ensures made { IfOk result (λ e. expr_view e ≡ plain.cat (members_of (plain.name operand.now ∷ plain.run byte.now (Numeral (pos 1)) ∷ []))) }
     ensures refused { IsOkUnless result CordError.NoMemory }
 {
-    let (operand, byte) = (operand.clone()?, byte.clone()?);
-    let operands = vec![in alloc; Expr::Name(operand), run(byte, Number::Numeral(1))]?;
+    let (operand, last) = (interner.name(alloc, operand)?, shared_byte(alloc, byte)?);
+    let operands = vec![in alloc; operand, last]?;
     Ok(cat(operands))
 }
 
 /// `cat` of these members.
-pub(crate) fn cat(members: Vec<Expr>) -> Expr
-    ensures { expr_view result ≡ plain.cat (members_of (map expr_view members.items)) }
+pub(crate) fn cat(members: Vec<Rc<Expr>>) -> Expr
+    ensures { expr_view result ≡ plain.cat (members_of (map shared_view members.items)) }
 {
     Expr::Cat(Members::of(members))
+}
+
+/// One copy of a byte, to be shared.
+pub(crate) fn shared_byte(alloc: Global, byte: &Number) -> Result<Rc<Expr>, CordError>
+    ensures made { IfOk result (λ e. shared_view e ≡ plain.run byte.now (Numeral (pos 1))) }
+    ensures refused { IsOkUnless result CordError.NoMemory }
+{
+    let byte = byte.clone()?;
+    Ok(Rc::new(alloc, run(byte, Number::Numeral(1)))?)
 }
 
 /// `run(byte count)`.
@@ -110,14 +134,18 @@ pub(crate) fn named(name: &Name) -> Result<Expr, CordError>
     Ok(Expr::Name(name.clone()?))
 }
 
-// Each of these names as an expression.
-fn all_named(alloc: Global, names: &[Name]) -> Result<Vec<Expr>, CordError>
-    ensures made { IfOk result (λ es. map expr_view es.items ≡ map (λ x. plain.name x) names.now) }
+// Each of these names as a shared expression.
+fn all_named(
+    alloc: Global,
+    interner: &mut Interner,
+    names: &[Name],
+) -> Result<Vec<Rc<Expr>>, CordError>
+    ensures made { IfOk result (λ es. map shared_view es.items ≡ map (λ x. plain.name x) names.now) }
     ensures refused { IsOkUnless result CordError.NoMemory }
 {
-    let mut expressions = Vec::new(alloc);
+    let mut expressions = Vec::with_capacity(alloc, names.len())?;
     'names: for name in names {
-        expressions.push(named(name)?)?;
+        expressions.push(interner.name(alloc, name)?)?;
     }
     Ok(expressions)
 }

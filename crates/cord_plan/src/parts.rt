@@ -2,12 +2,13 @@
 ghost use Rattle.std.specs.Prelude.{◌≡◌, ◌++◌, IfOk, IsOkUnless, OnOk, map};
 ghost use Rattle.cord_plan.specs.Exprs.{parts, parts_of};
 ghost use Rattle.cord_plan.specs.Choices.{room_left};
-ghost use Rattle.cord_plan.specs.Views.{expr_view, members_of};
+ghost use Rattle.cord_plan.specs.Views.{expr_view, members_of, shared_view};
 
 use crate::Expr;
 use crate::own::{cat, named, run_of, sub_of};
 use cord_io::CordError;
 use std::alloc::Global;
+use std::rc::Rc;
 
 /// How much of a room is left after the parts of an expression, where they find room.
 #[cycle(room_behind)]
@@ -26,14 +27,15 @@ pub(crate) fn room_behind(expression: &Expr, room: u32) -> Option<u32>
 
 /// The same of all these expressions.
 #[cycle(room_behind)]
-pub(crate) fn room_behind_all(members: &[Expr], room: u32) -> Option<u32>
-    ensures { result ≡ room_left (parts_of (members_of (map expr_view members.now))) room }
+pub(crate) fn room_behind_all(members: &[Rc<Expr>], room: u32) -> Option<u32>
+    ensures { result ≡ room_left (parts_of (members_of (map shared_view members.now))) room }
 {
     let mut left = room;
     for member in members {
-        let behind = match member {
+        let expression = member.as_ref();
+        let behind = match expression {
             Expr::Name(_) => left.checked_sub(1),
-            _ => room_behind(member, left),
+            _ => room_behind(expression, left),
         };
         match behind {
             Some(less) => left = less,
@@ -43,7 +45,7 @@ pub(crate) fn room_behind_all(members: &[Expr], room: u32) -> Option<u32>
     Some(left)
 }
 
-/// A copy of an expression. Refused only with `NoMemory`.
+/// A copy of an expression, which shares the members of a `cat`. Refused only with `NoMemory`.
 #[cycle(copy)]
 pub(crate) fn copy(alloc: Global, expression: &Expr) -> Result<Expr, CordError>
     ensures made { IfOk result (λ e. expr_view e ≡ expr_view expression.now) }
@@ -53,9 +55,9 @@ pub(crate) fn copy(alloc: Global, expression: &Expr) -> Result<Expr, CordError>
         Expr::Name(name) => named(name),
         Expr::Run { byte, count } => run_of(byte, count),
         Expr::Cat(members) => {
-            let mut copies = Vec::with_capacity(alloc, members.as_slice().len())?;
-            copy_onto(alloc, members.as_slice(), &mut copies)?;
-            Ok(cat(copies))
+            let mut shared = Vec::new(alloc);
+            share_onto(members.as_slice(), &mut shared)?;
+            Ok(cat(shared))
         }
         Expr::Sub {
             expression,
@@ -68,23 +70,14 @@ pub(crate) fn copy(alloc: Global, expression: &Expr) -> Result<Expr, CordError>
     }
 }
 
-/// Puts copies of these expressions after others, for which room is made at once: most are names, which are copied without a call.
-/// Refused only with `NoMemory`.
-#[cycle(copy)]
-pub(crate) fn copy_onto(
-    alloc: Global,
-    members: &[Expr],
-    copies: &mut Vec<Expr>,
-) -> Result<(), CordError>
-    ensures made { OnOk result (map expr_view copies.new.items ≡ map expr_view copies.old.items ++ map expr_view members.now) }
+/// Puts these members after others, which share them; room for them is made at once. Refused only with `NoMemory`.
+pub(crate) fn share_onto(members: &[Rc<Expr>], shared: &mut Vec<Rc<Expr>>) -> Result<(), CordError>
+    ensures made { OnOk result (map shared_view shared.new.items ≡ map shared_view shared.old.items ++ map shared_view members.now) }
     ensures refused { IsOkUnless result CordError.NoMemory }
 {
-    copies.reserve(members.len())?;
+    shared.reserve(members.len())?;
     for member in members {
-        match member {
-            Expr::Name(name) => copies.push_reserved(Expr::Name(name.clone()?)),
-            _ => copies.push_reserved(copy(alloc, member)?),
-        }
+        shared.push_reserved(member.clone()?);
     }
     Ok(())
 }

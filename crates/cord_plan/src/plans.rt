@@ -10,6 +10,7 @@ ghost use Rattle.cord_plan.specs.Shown.{shown};
 ghost use Rattle.cord_plan.specs.Views.{operation_view};
 
 use crate::Operation;
+use crate::interning::Interner;
 use crate::jumps::jumps;
 use crate::lines::operation_of;
 use crate::own::own_expression;
@@ -51,8 +52,9 @@ fn trivial_operations(alloc: Global, statements: &[Statement]) -> Result<Vec<Ope
     ensures refused { IsOkUnless result CordError.NoMemory }
 {
     let mut operations = Vec::with_capacity(alloc, statements.len())?;
+    let mut interner = Interner::of(alloc);
     'lines: for statement in statements {
-        let expression = own_expression(alloc, statement)?;
+        let expression = own_expression(alloc, &mut interner, statement)?;
         operations.push(operation_of(alloc, statement, expression, false, false)?)?;
     }
     Ok(operations)

@@ -5,7 +5,7 @@ ghost use Rattle.cord_plan.specs.Exprs.{names, names_of, number_names};
 ghost use Rattle.cord_plan.specs.Forced.{keeps};
 ghost use Rattle.cord_plan.specs.Choices.{nearest};
 ghost use Rattle.cord_plan.specs.Recent.{IsRecent, stay, bars};
-ghost use Rattle.cord_plan.specs.Views.{expr_view, members_of};
+ghost use Rattle.cord_plan.specs.Views.{expr_view, members_of, shared_view};
 
 use crate::Expr;
 use crate::choosing::Line;
@@ -13,6 +13,7 @@ use crate::naming::lacks;
 use crate::readings::{assigns, reads, target_of};
 use crate::recent::{entry_at, entry_of, is_before, is_block, unless_behind};
 use cord_script::{Number, Statement};
+use std::rc::Rc;
 
 /// So many lines are looked at faster than the numbers of names.
 const NEAR: usize = 2;
@@ -126,13 +127,13 @@ fn stays_far(line: &Line, from: usize, expression: &Expr) -> bool
 
 // The same of all these expressions.
 #[cycle(stays_far)]
-fn all_stay_far(line: &Line, from: usize, members: &[Expr]) -> bool
+fn all_stay_far(line: &Line, from: usize, members: &[Rc<Expr>]) -> bool
     requires place { line.now.place ≤ length line.now.statements.now }
     requires recent { IsRecent line.now.statements.now line.now.place line.now.recent.now }
-    ensures { result ≡ stay line.now.statements.now from line.now.place (names_of (members_of (map expr_view members.now))) }
+    ensures { result ≡ stay line.now.statements.now from line.now.place (names_of (members_of (map shared_view members.now))) }
 {
     for member in members {
-        if !stays_far(line, from, member) {
+        if !stays_far(line, from, member.as_ref()) {
             return false;
         }
     }

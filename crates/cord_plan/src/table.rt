@@ -8,6 +8,7 @@ ghost use Rattle.cord_plan.specs.Views.{expr_view};
 
 use crate::Expr;
 use crate::choosing::{Choice, Line, choose_all, operands_of};
+use crate::interning::Interner;
 use crate::joining::expression_with;
 use crate::liveness::Later;
 use crate::recent::Recent;
@@ -43,6 +44,7 @@ fn mark(firsts: &mut [bool], choices: &[Choice])
 // The expression of the next line after those that have these; the lines that it takes are marked.
 fn next_expression<'a>(
     alloc: Global,
+    interner: &mut Interner,
     statements: &'a [Statement],
     place: usize,
     statement: &'a Statement,
@@ -67,7 +69,7 @@ fn next_expression<'a>(
     };
     let choices = choose_all(alloc, &line, expressions)?;
     mark(firsts, &choices);
-    expression_with(alloc, statement, &choices)
+    expression_with(alloc, interner, statement, &choices)
 }
 
 impl Table {
@@ -82,10 +84,12 @@ impl Table {
     {
         let mut expressions = Vec::with_capacity(alloc, statements.len())?;
         let mut firsts = vec![in alloc; false; statements.len()]?;
+        let mut interner = Interner::of(alloc);
         let mut recent = Recent::of(alloc, later)?;
         for (place, statement) in statements.iter().enumerate() {
             let expression = next_expression(
                 alloc,
+                &mut interner,
                 statements,
                 place,
                 statement,

@@ -8,8 +8,7 @@ use Rattle.cord_meaning.specs.declared.ends.FaultKind.{FaultKind}
 use Rattle.cord_meaning.specs.State.{and_then, as_length}
 use Rattle.cord_meaning.proofs.Checks.{length_above}
 use Rattle.cord_plan.specs.Exprs as plain
-use Rattle.cord_plan.specs.Views.{expr_view}
-use Rattle.cord_plan.specs.declared.expressions.Expr.{Expr}
+use Rattle.cord_plan.specs.Views.{Shared, shared_view}
 use Rattle.cord_plan.proofs.MemberTexts as texts
 use Rattle.cord_run.specs.declared.store.Entry.{Entry}
 use Rattle.cord_run.specs.Extents.{counted, extent_in, members_extent, members_seen}
@@ -21,12 +20,12 @@ abbrev pub weights : plain.Exprs → ℕ
 weights es = texts.weights es
 
 -- the member at hand is smaller than all of them
-pub member_smaller : (ms : List Expr) (i : ℕ) (m : Expr) → i < length ms → m ≡ get_or ms i m → weight (expr_view m) < weights (members_seen ms)
+pub member_smaller : (ms : List Shared) (i : ℕ) (m : Shared) → i < length ms → m ≡ get_or ms i m → weight (shared_view m) < weights (members_seen ms)
 member_smaller ms i m h is = texts.member_there ms i m h is
 
 -- the member at hand is the first of those that are left
-pub members_left : (ms : List Expr) (i : ℕ) (m : Expr) → i < length ms → m ≡ get_or ms i m → members_seen (drop i ms) ≡ plain.member (expr_view m) (members_seen (drop (i + 1) ms))
-members_left ms i m h is = ap members_seen (drop_more ms i m h ∙ ap (λ (x : Expr). x ∷ drop (i + 1) ms) (sym is))
+pub members_left : (ms : List Shared) (i : ℕ) (m : Shared) → i < length ms → m ≡ get_or ms i m → members_seen (drop i ms) ≡ plain.member (shared_view m) (members_seen (drop (i + 1) ms))
+members_left ms i m h is = ap members_seen (drop_more ms i m h ∙ ap (λ (x : Shared). x ∷ drop (i + 1) ms) (sym is))
 
 -- a length more
 pub counted_more : (total len : ℕ) (r : Result ℕ FaultKind) → counted total (and_then r (λ others. Ok (len + others))) ≡ counted (min (total + len) (2 ^ 64 - 1)) r
@@ -35,25 +34,25 @@ counted_more total len (Ok others) =
     ap (λ (n : ℕ). Ok n) same
 counted_more total len (Err kind) = refl
 
-module _ (entries : List Entry) (ms : List Expr) (i : ℕ) (m : Expr) (h : i < length ms) (is : m ≡ get_or ms i m) (total : ℕ) where
+module _ (entries : List Entry) (ms : List Shared) (i : ℕ) (m : Shared) (h : i < length ms) (is : m ≡ get_or ms i m) (total : ℕ) where
   -- the member at hand is counted
-  pub member_counted : (len : ℕ) → extent_in entries (expr_view m) ≡ Ok len → counted total (members_extent entries (members_seen (drop i ms))) ≡ counted (min (total + len) (2 ^ 64 - 1)) (members_extent entries (members_seen (drop (i + 1) ms)))
+  pub member_counted : (len : ℕ) → extent_in entries (shared_view m) ≡ Ok len → counted total (members_extent entries (members_seen (drop i ms))) ≡ counted (min (total + len) (2 ^ 64 - 1)) (members_extent entries (members_seen (drop (i + 1) ms)))
   member_counted len e =
       ap (λ (es : plain.Exprs). counted total (members_extent entries es)) (members_left ms i m h is)
       ∙ ap (λ (r : Result ℕ FaultKind). counted total (and_then r (λ n. and_then (members_extent entries (members_seen (drop (i + 1) ms))) (λ others. Ok (n + others))))) e
       ∙ counted_more total len (members_extent entries (members_seen (drop (i + 1) ms)))
 
   -- the member at hand has a fault
-  pub member_faulty : (kind : FaultKind) → extent_in entries (expr_view m) ≡ Err kind → counted total (members_extent entries (members_seen (drop i ms))) ≡ Err kind
+  pub member_faulty : (kind : FaultKind) → extent_in entries (shared_view m) ≡ Err kind → counted total (members_extent entries (members_seen (drop i ms))) ≡ Err kind
   member_faulty kind e =
       ap (λ (es : plain.Exprs). counted total (members_extent entries es)) (members_left ms i m h is)
       ∙ ap (λ (r : Result ℕ FaultKind). counted total (and_then r (λ n. and_then (members_extent entries (members_seen (drop (i + 1) ms))) (λ others. Ok (n + others))))) e
 
 -- no member is left to count
-pub all_counted : (entries : List Entry) (ms : List Expr) (i total : ℕ) → length ms ≤ i → total < 2 ^ 64 → counted total (members_extent entries (members_seen (drop i ms))) ≡ Ok total
+pub all_counted : (entries : List Entry) (ms : List Shared) (i total : ℕ) → length ms ≤ i → total < 2 ^ 64 → counted total (members_extent entries (members_seen (drop i ms))) ≡ Ok total
 all_counted entries ms i total h small =
     let none : min (total + 0) (2 ^ 64 - 1) ≡ total = omega arith in
-    ap (λ (xs : List Expr). counted total (members_extent entries (members_seen xs))) (drop_all i ms h) ∙ ap (λ (n : ℕ). Ok n) none
+    ap (λ (xs : List Shared). counted total (members_extent entries (members_seen xs))) (drop_all i ms h) ∙ ap (λ (n : ℕ). Ok n) none
 
 -- a length that stayed at the greatest number is too long all the same
 pub counted_length : (len : ℕ) (r : Result ℕ FaultKind) → Ok len ≡ counted 0 r → as_length MAX_LEN len ≡ and_then r (λ n. as_length MAX_LEN n)

@@ -7,8 +7,7 @@ use Rattle.cord_meaning.specs.State.{and_then}
 use Rattle.cord_plan.specs.Exprs as plain
 use Rattle.cord_plan.specs.Meaning.{cords, cords_of}
 use Rattle.cord_plan.specs.Values.{within}
-use Rattle.cord_plan.specs.Views.{expr_view}
-use Rattle.cord_plan.specs.declared.expressions.Expr.{Expr}
+use Rattle.cord_plan.specs.Views.{Shared, shared_view}
 use Rattle.cord_run.specs.declared.store.Entry.{Entry}
 use Rattle.cord_run.specs.Extents.{members_seen}
 use Rattle.cord_run.specs.Holdings.{holding_of, plain_of}
@@ -26,21 +25,21 @@ module _ (entries : List Entry) where
       ∙ ap (λ (r : Result (List ℕ) FaultKind). and_then r (λ v. Ok (text ++ v))) (behind t split.second)
 
   -- those gathered so far, whatever the others are
-  abbrev pub GatheredOf : List Expr → ℕ → List ℕ → Type 0
+  abbrev pub GatheredOf : List Shared → ℕ → List ℕ → Type 0
   GatheredOf ms i text = (rest : List ℕ) → AreTextsIn entries (members_seen (drop i ms)) rest → AreTextsIn entries (members_seen ms) (text ++ rest)
 
-  pub gathered_none : (ms : List Expr) (text : List ℕ) → text ≡ [] → GatheredOf ms 0 text
+  pub gathered_none : (ms : List Shared) (text : List ℕ) → text ≡ [] → GatheredOf ms 0 text
   gathered_none ms text none = λ rest behind. subst (λ (u : List ℕ). AreTextsIn entries (members_seen ms) (u ++ rest)) (sym none) behind
 
-  pub gathered_more : (ms : List Expr) (i : ℕ) (m : Expr) → i < length ms → m ≡ get_or ms i m → (text slice more : List ℕ) → IsTextIn entries (expr_view m) slice → more ≡ text ++ slice → GatheredOf ms i text → GatheredOf ms (i + 1) more
+  pub gathered_more : (ms : List Shared) (i : ℕ) (m : Shared) → i < length ms → m ≡ get_or ms i m → (text slice more : List ℕ) → IsTextIn entries (shared_view m) slice → more ≡ text ++ slice → GatheredOf ms i text → GatheredOf ms (i + 1) more
   gathered_more ms i m here is text slice more first grown so_far = λ rest behind.
       let others : plain.Exprs = members_seen (drop (i + 1) ms) in
-      let left = so_far (slice ++ rest) (subst (λ (es : plain.Exprs). AreTextsIn entries es (slice ++ rest)) (sym (members_left ms i m here is)) (member_texts (expr_view m) others slice rest first behind)) in
+      let left = so_far (slice ++ rest) (subst (λ (es : plain.Exprs). AreTextsIn entries es (slice ++ rest)) (sym (members_left ms i m here is)) (member_texts (shared_view m) others slice rest first behind)) in
       subst (λ (u : List ℕ). AreTextsIn entries (members_seen ms) u) (sym (ap (λ (u : List ℕ). u ++ rest) grown ∙ append_assoc text slice rest)) left
 
-  pub gathered_all : (ms : List Expr) (i : ℕ) (text : List ℕ) → length ms ≤ i → GatheredOf ms i text → AreTextsIn entries (members_seen ms) text
+  pub gathered_all : (ms : List Shared) (i : ℕ) (text : List ℕ) → length ms ≤ i → GatheredOf ms i text → AreTextsIn entries (members_seen ms) text
   gathered_all ms i text past so_far =
-      let none : AreTextsIn entries (members_seen (drop i ms)) [] = subst (λ (xs : List Expr). AreTextsIn entries (members_seen xs) []) (sym (drop_all i ms past)) (λ t there. refl) in
+      let none : AreTextsIn entries (members_seen (drop i ms)) [] = subst (λ (xs : List Shared). AreTextsIn entries (members_seen xs) []) (sym (drop_all i ms past)) (λ t there. refl) in
       subst (λ (u : List ℕ). AreTextsIn entries (members_seen ms) u) (append-nil text) (so_far [] none)
 
   -- members that are short together, joined

@@ -2,10 +2,9 @@
 use Rattle.std.specs.Prelude.{ℕ, ◌+◌, ◌-◌, ◌^◌, min, List, map, Result, Ok, Err}
 use Rattle.cord_io.specs.declared.TheConstants.{MAX_LEN}
 use Rattle.cord_meaning.specs.declared.ends.FaultKind.{FaultKind}
-use Rattle.cord_plan.specs.declared.expressions.Expr.{Expr}
 use Rattle.cord_plan.specs.Exprs as plain
 use Rattle.cord_plan.specs.Values.{measured, measured_members}
-use Rattle.cord_plan.specs.Views.{expr_view, members_of}
+use Rattle.cord_plan.specs.Views.{Shared, members_of, shared_view}
 use Rattle.cord_run.specs.declared.store.Entry.{Entry}
 use Rattle.cord_run.specs.Held.{length_in, operand_in}
 
@@ -18,8 +17,8 @@ abbrev pub members_extent : List Entry → plain.Exprs → Result ℕ FaultKind
 members_extent entries es = measured_members MAX_LEN (λ x. length_in entries x) (λ n. operand_in entries n) es
 
 -- the members that these expressions are
-abbrev pub members_seen : List Expr → plain.Exprs
-members_seen members = members_of (map expr_view members)
+abbrev pub members_seen : List Shared → plain.Exprs
+members_seen members = members_of (map shared_view members)
 
 -- a length after others, which stays at the greatest number
 abbrev pub counted : ℕ → Result ℕ FaultKind → Result ℕ FaultKind

@@ -8,6 +8,7 @@ use crate::slices::slice_of;
 use crate::store::Store;
 use arrayvec::ArrayVec;
 use cord_plan::Expr;
+use std::rc::Rc;
 
 /// So many bytes are gathered at most.
 pub(crate) const MOST_GATHERED: usize = 256;
@@ -29,13 +30,13 @@ pub(crate) fn gather(
 }
 
 // The same of all these expressions, joined.
-fn gather_all(members: &[Expr], store: &Store, text: &mut ArrayVec<u8, MOST_GATHERED>) -> bool
+fn gather_all(members: &[Rc<Expr>], store: &Store, text: &mut ArrayVec<u8, MOST_GATHERED>) -> bool
     requires { text.old.items ≡ [] }
     ensures texts { result ≡ true → AreTextsIn store.now.entries.items (members_seen members.now) text.new.items }
     ensures short { result ≡ true → length text.new.items ≤ MOST_GATHERED }
 {
     for member in members {
-        let slice = match slice_of(member, store) {
+        let slice = match slice_of(member.as_ref(), store) {
             Some(slice) => slice,
             None => return false,
         };

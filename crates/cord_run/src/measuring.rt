@@ -9,6 +9,7 @@ use crate::store::Store;
 use cord_io::MAX_LEN;
 use cord_meaning::FaultKind;
 use cord_plan::Expr;
+use std::rc::Rc;
 
 /// The length of an expression, or its fault. No byte is read.
 #[cycle(length_of)]
@@ -35,14 +36,15 @@ pub(crate) fn length_of(expression: &Expr, store: &Store) -> Result<u64, FaultKi
 
 // The length of all these expressions together, as far as a number goes, or their first fault.
 #[cycle(length_of)]
-fn length_of_all(members: &[Expr], store: &Store) -> Result<u64, FaultKind>
+fn length_of_all(members: &[Rc<Expr>], store: &Store) -> Result<u64, FaultKind>
     ensures { result ≡ counted 0 (members_extent store.now.entries.items (members_seen members.now)) }
 {
     let mut total: u64 = 0;
     for member in members {
-        match member {
+        let expression = member.as_ref();
+        match expression {
             Expr::Name(name) => total = total.saturating_add(store.length_of(name.as_slice())),
-            _ => match length_of(member, store) {
+            _ => match length_of(expression, store) {
                 Ok(len) => total = total.saturating_add(len),
                 Err(kind) => return Err(kind),
             },

@@ -19,6 +19,7 @@ use cord_io::{CordError, MAX_LEN};
 use cord_plan::Expr;
 use cord_script::Number;
 use std::alloc::Global;
+use std::rc::Rc;
 
 /// So many copies of a byte are a leaf: a join makes one leaf of two that are no longer together.
 const FEW: u64 = 64;
@@ -116,7 +117,7 @@ pub(crate) fn add_range(
 #[cycle(add_range)]
 fn add_members(
     alloc: Global,
-    members: &[Expr],
+    members: &[Rc<Expr>],
     store: &Store,
     wanted: Wanted,
     pieces: &mut Vec<Cord>,
@@ -132,7 +133,8 @@ fn add_members(
         if left.is_nothing() {
             return Ok(left);
         }
-        left = add_range(alloc, member, store, left, pieces)?;
+        let expression = member.as_ref();
+        left = add_range(alloc, expression, store, left, pieces)?;
     }
     Ok(left)
 }

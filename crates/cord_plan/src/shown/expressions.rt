@@ -2,11 +2,12 @@
 ghost use Rattle.std.specs.Prelude.{map};
 ghost use Rattle.cord_plan.specs.Shown.{expr, exprs};
 ghost use Rattle.cord_plan.specs.Showing.{Writes};
-ghost use Rattle.cord_plan.specs.Views.{expr_view, members_of};
+ghost use Rattle.cord_plan.specs.Views.{expr_view, members_of, shared_view};
 
 use super::fragments::{Fragment, put_fragments, put_text};
 use crate::Expr;
 use cord_io::{Sink, WriteFault};
+use std::rc::Rc;
 
 // Hands a sink the text of an expression.
 #[cycle(shown_expressions)]
@@ -51,13 +52,13 @@ pub(crate) fn put_expression<W: Sink>(expression: &Expr, sink: &mut W) -> Result
 
 // The members of a `cat`, separated by one blank.
 #[cycle(shown_expressions)]
-fn put_members<W: Sink>(members: &[Expr], sink: &mut W) -> Result<(), WriteFault>
-    ensures { Writes (exprs (members_of (map expr_view members.now))) (W.taken sink.old) (W.taken sink.new) (W.failures sink.old) (W.failures sink.new) (W.finished sink.old) (W.finished sink.new) result }
+fn put_members<W: Sink>(members: &[Rc<Expr>], sink: &mut W) -> Result<(), WriteFault>
+    ensures { Writes (exprs (members_of (map shared_view members.now))) (W.taken sink.old) (W.taken sink.new) (W.failures sink.old) (W.failures sink.new) (W.finished sink.old) (W.finished sink.new) result }
 {
     let mut blank: &[u8] = b"";
     for member in members {
         put_text(blank, sink)?;
-        put_expression(member, sink)?;
+        put_expression(member.as_ref(), sink)?;
         blank = b" ";
     }
     Ok(())

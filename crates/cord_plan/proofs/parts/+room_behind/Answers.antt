@@ -1,8 +1,9 @@
-use Rattle.std.proofs.Common.{◌≡◌, ℕ, ◌<◌, ◌+◌, map, drop, sym, ap, ◌∙◌, rules}
+use Rattle.std.proofs.Common.{◌≡◌, ℕ, ◌<◌, ◌+◌, map, drop, sym, ap, subst, ◌∙◌, rules}
 use Rattle.cord_plan.specs.Exprs as plain
+use Rattle.cord_plan.specs.declared.expressions.Expr.{Expr}
 use Rattle.cord_plan.specs.Exprs.{parts, parts_of}
 use Rattle.cord_plan.specs.Choices.{room_left}
-use Rattle.cord_plan.specs.Views.{expr_view, members_of}
+use Rattle.cord_plan.specs.Views.{expr_view, members_of, shared_view}
 use Rattle.cord_plan.proofs.ExprViews.{view-Name}
 use Rattle.cord_plan.proofs.PartSums.{none_for_more, room_for_more, parts_member}
 use Rattle.cord_plan.proofs.MemberTexts.{weight, weights, member_there}
@@ -11,27 +12,28 @@ use Rattle.cord_plan.proofs.parts.+room_behind.Goals.{room_behind_all-in-Name, r
 
 pub room_behind_all-room_behind-behind-requires : goal.room_behind_all-room_behind-behind-requires
 room_behind_all-room_behind-behind-requires t c =
-    let below : weight (expr_view c.member-item.result) < weights (members_of (map expr_view c.args.members.now)) = member_there c.args.members.now c.loop-member.member-index c.member-item.result c.loop-member-test.true c.member-item.is in
+    let there : weight (shared_view c.member-item.result) < weights (members_of (map shared_view c.args.members.now)) = member_there c.args.members.now c.loop-member.member-index c.member-item.result c.loop-member-test.true c.member-item.is in
+    let below : weight (expr_view c.as_ref-expression.result.now) < weights (members_of (map shared_view c.args.members.now)) = subst (λ (e : Expr). weight (expr_view e) < weights (members_of (map shared_view c.args.members.now))) (sym c.as_ref-expression.ensures) there in
     search (rules, below)
 
 pub room_behind_all-returns-in-None : goal.room_behind_all-returns-in-None
 room_behind_all-returns-in-None t c =
-    let told : c.match-member.behind ≡ room_left (parts (expr_view c.member-item.result)) c.loop-member.left = elim c.match-member.branch [
-      | room_behind_all-in-Name w ↦ let view : expr_view c.member-item.result ≡ plain.name w.in-Name.field-0 = ap expr_view w.in-Name.is ∙ view-Name w.in-Name.field-0 in search (rules, view)
-      | room_behind_all-in_default w ↦ w.behind-is ∙ w.room_behind-behind.ensures
+    let told : c.match-expression.behind ≡ room_left (parts (shared_view c.member-item.result)) c.loop-member.left = elim c.match-expression.branch [
+      | room_behind_all-in-Name w ↦ let view : shared_view c.member-item.result ≡ plain.name w.in-Name.field-0 = ap expr_view (sym c.as_ref-expression.ensures ∙ w.in-Name.is) ∙ view-Name w.in-Name.field-0 in search (rules, view)
+      | room_behind_all-in_default w ↦ w.behind-is ∙ (w.room_behind-behind.ensures ∙ ap (λ (e : Expr). room_left (parts (expr_view e)) c.loop-member.left) c.as_ref-expression.ensures)
     ] in
-    let rest = parts_of (members_of (map expr_view (drop (c.loop-member.member-index + 1) c.args.members.now))) in
-    let first : room_left (parts_of (members_of (map expr_view c.args.members.now))) c.args.room ≡ room_left (parts (expr_view c.member-item.result) + rest) c.loop-member.left =
+    let rest = parts_of (members_of (map shared_view (drop (c.loop-member.member-index + 1) c.args.members.now))) in
+    let first : room_left (parts_of (members_of (map shared_view c.args.members.now))) c.args.room ≡ room_left (parts (shared_view c.member-item.result) + rest) c.loop-member.left =
     c.loop-member.invariant ∙ ap (λ (n : ℕ). room_left n c.loop-member.left) (parts_member c.args.members.now c.loop-member.member-index c.member-item.result c.loop-member-test.true c.member-item.is) in
-    none_for_more (parts (expr_view c.member-item.result)) rest c.loop-member.left (sym c.in-None.is ∙ told) ∙ sym first
+    none_for_more (parts (shared_view c.member-item.result)) rest c.loop-member.left (sym c.in-None.is ∙ told) ∙ sym first
 
 pub room_behind_all-loop-member-preserved : goal.room_behind_all-loop-member-preserved
 room_behind_all-loop-member-preserved t c =
-    let told : c.match-member.behind ≡ room_left (parts (expr_view c.member-item.result)) c.loop-member.left = elim c.match-member.branch [
-      | room_behind_all-in-Name w ↦ let view : expr_view c.member-item.result ≡ plain.name w.in-Name.field-0 = ap expr_view w.in-Name.is ∙ view-Name w.in-Name.field-0 in search (rules, view)
-      | room_behind_all-in_default w ↦ w.behind-is ∙ w.room_behind-behind.ensures
+    let told : c.match-expression.behind ≡ room_left (parts (shared_view c.member-item.result)) c.loop-member.left = elim c.match-expression.branch [
+      | room_behind_all-in-Name w ↦ let view : shared_view c.member-item.result ≡ plain.name w.in-Name.field-0 = ap expr_view (sym c.as_ref-expression.ensures ∙ w.in-Name.is) ∙ view-Name w.in-Name.field-0 in search (rules, view)
+      | room_behind_all-in_default w ↦ w.behind-is ∙ (w.room_behind-behind.ensures ∙ ap (λ (e : Expr). room_left (parts (expr_view e)) c.loop-member.left) c.as_ref-expression.ensures)
     ] in
-    let rest = parts_of (members_of (map expr_view (drop (c.loop-member.member-index + 1) c.args.members.now))) in
-    let first : room_left (parts_of (members_of (map expr_view c.args.members.now))) c.args.room ≡ room_left (parts (expr_view c.member-item.result) + rest) c.loop-member.left =
+    let rest = parts_of (members_of (map shared_view (drop (c.loop-member.member-index + 1) c.args.members.now))) in
+    let first : room_left (parts_of (members_of (map shared_view c.args.members.now))) c.args.room ≡ room_left (parts (shared_view c.member-item.result) + rest) c.loop-member.left =
     c.loop-member.invariant ∙ ap (λ (n : ℕ). room_left n c.loop-member.left) (parts_member c.args.members.now c.loop-member.member-index c.member-item.result c.loop-member-test.true c.member-item.is) in
-    first ∙ room_for_more (parts (expr_view c.member-item.result)) rest c.loop-member.left c.in-Some.less (sym c.in-Some.is ∙ told)
+    first ∙ room_for_more (parts (shared_view c.member-item.result)) rest c.loop-member.left c.in-Some.less (sym c.in-Some.is ∙ told)

@@ -1,10 +1,10 @@
-use Rattle.std.proofs.Common.{◌≡◌, ◌<◌, ◌+◌, Bool, true, false, ◌&&◌, List, ◌++◌, map, drop, sym, ap, ◌∙◌, rules}
+use Rattle.std.proofs.Common.{◌≡◌, ◌<◌, ◌+◌, Bool, true, false, ◌&&◌, List, ◌++◌, map, drop, sym, ap, subst, ◌∙◌, rules}
 use Rattle.std.proofs.lemmas.List.{at_drop_all}
 use Rattle.cord_plan.specs.Exprs as plain
 use Rattle.cord_plan.specs.declared.expressions.Expr.{Expr}
 use Rattle.cord_plan.specs.Exprs.{names, names_of, number_names}
 use Rattle.cord_plan.specs.Recent.{stay}
-use Rattle.cord_plan.specs.Views.{expr_view, members_of}
+use Rattle.cord_plan.specs.Views.{Shared, expr_view, members_of, shared_view}
 use Rattle.cord_plan.proofs.ExprViews.{view-Sub}
 use Rattle.cord_plan.proofs.MemberTexts.{weight, weights, member_there}
 use Rattle.cord_plan.proofs.Lasts.{stay_append, stay_member, stay_nothing}
@@ -12,20 +12,21 @@ use Rattle.cord_plan.proofs.staying.+stays_far.Goals as goal
 
 pub all_stay_far-stays_far-requires : goal.all_stay_far-stays_far-requires
 all_stay_far-stays_far-requires t c =
-    let below : weight (expr_view c.member-item.result) < weights (members_of (map expr_view c.args.members.now)) = member_there c.args.members.now c.loop-member.member-index c.member-item.result c.loop-member-test.true c.member-item.is in
+    let there : weight (shared_view c.member-item.result) < weights (members_of (map shared_view c.args.members.now)) = member_there c.args.members.now c.loop-member.member-index c.member-item.result c.loop-member-test.true c.member-item.is in
+    let below : weight (expr_view c.as_ref.result.now) < weights (members_of (map shared_view c.args.members.now)) = subst (λ (e : Expr). weight (expr_view e) < weights (members_of (map shared_view c.args.members.now))) (sym c.as_ref.ensures) there in
     search (rules, below)
 
 pub all_stay_far-returns-then-not-stays_far : goal.all_stay_far-returns-then-not-stays_far
 all_stay_far-returns-then-not-stays_far t c =
-    let kept : stay c.args.line.now.statements.now c.args.from c.args.line.now.place (names (expr_view c.member-item.result)) ≡ false = cc in
+    let kept : stay c.args.line.now.statements.now c.args.from c.args.line.now.place (names (shared_view c.member-item.result)) ≡ false = ap (λ (e : Expr). stay c.args.line.now.statements.now c.args.from c.args.line.now.place (names (expr_view e))) (sym c.as_ref.ensures) ∙ (sym c.stays_far.ensures ∙ c.if-not-stays_far.true) in
     sym (c.loop-member.invariant ∙ (stay_member c.args.line.now.statements.now c.args.from c.args.line.now.place c.args.members.now c.loop-member.member-index c.member-item.result c.loop-member-test.true c.member-item.is
-    ∙ ap (λ (v : Bool). v && stay c.args.line.now.statements.now c.args.from c.args.line.now.place (names_of (members_of (map expr_view (drop (c.loop-member.member-index + 1) c.args.members.now))))) kept))
+    ∙ ap (λ (v : Bool). v && stay c.args.line.now.statements.now c.args.from c.args.line.now.place (names_of (members_of (map shared_view (drop (c.loop-member.member-index + 1) c.args.members.now))))) kept))
 
 pub all_stay_far-loop-member-preserved : goal.all_stay_far-loop-member-preserved
 all_stay_far-loop-member-preserved t c =
-    let kept : stay c.args.line.now.statements.now c.args.from c.args.line.now.place (names (expr_view c.member-item.result)) ≡ true = cc in
+    let kept : stay c.args.line.now.statements.now c.args.from c.args.line.now.place (names (shared_view c.member-item.result)) ≡ true = ap (λ (e : Expr). stay c.args.line.now.statements.now c.args.from c.args.line.now.place (names (expr_view e))) (sym c.as_ref.ensures) ∙ (sym c.stays_far.ensures ∙ c.if-not-stays_far.false) in
     c.loop-member.invariant ∙ (stay_member c.args.line.now.statements.now c.args.from c.args.line.now.place c.args.members.now c.loop-member.member-index c.member-item.result c.loop-member-test.true c.member-item.is
-    ∙ ap (λ (v : Bool). v && stay c.args.line.now.statements.now c.args.from c.args.line.now.place (names_of (members_of (map expr_view (drop (c.loop-member.member-index + 1) c.args.members.now))))) kept)
+    ∙ ap (λ (v : Bool). v && stay c.args.line.now.statements.now c.args.from c.args.line.now.place (names_of (members_of (map shared_view (drop (c.loop-member.member-index + 1) c.args.members.now))))) kept)
 
 pub stays_far-returns-then-stays_far : goal.stays_far-returns-then-stays_far
 stays_far-returns-then-stays_far t c =
@@ -54,5 +55,5 @@ all_stay_far-returns t c =
     let line = c.args.line.now in
     let kept = stay line.statements.now c.args.from line.place in
     sym (c.loop-member.invariant
-    ∙ (at_drop_all (λ (es : List Expr). kept (names_of (members_of (map expr_view es)))) c.args.members.now c.loop-member.member-index c.loop-member-test.false
+    ∙ (at_drop_all (λ (es : List Shared). kept (names_of (members_of (map shared_view es)))) c.args.members.now c.loop-member.member-index c.loop-member-test.false
     ∙ stay_nothing line.statements.now c.args.from line.place))

@@ -1,6 +1,7 @@
-use Rattle.std.proofs.Common.{◌≡◌, ◌<◌, ◌+◌, drop, ℕ, sym, ap, ◌∙◌, rules, arith}
+use Rattle.std.proofs.Common.{◌≡◌, ◌<◌, ◌+◌, drop, ℕ, sym, ap, subst, ◌∙◌, rules, arith}
 use Rattle.cord_plan.specs.Exprs as plain
-use Rattle.cord_plan.specs.Views.{expr_view}
+use Rattle.cord_plan.specs.declared.expressions.Expr.{Expr}
+use Rattle.cord_plan.specs.Views.{expr_view, shared_view}
 use Rattle.cord_plan.proofs.ExprViews.{view-Cat}
 use Rattle.cord_run.specs.Extents.{counted, extent_in, members_extent, members_seen}
 use Rattle.cord_run.proofs.Members.{weight, weights, member_smaller, member_counted, member_faulty, all_counted, counted_length}
@@ -16,12 +17,13 @@ length_of-returns-in-Ok t c =
 
 pub length_of_all-length_of-requires-in_default : goal.length_of_all-length_of-requires-in_default
 length_of_all-length_of-requires-in_default t c =
-    let below : weight (expr_view c.member-item.result) < weights (members_seen c.args.members.now) = member_smaller c.args.members.now c.loop-member.member-index c.member-item.result c.loop-member-test.true c.member-item.is in
+    let there : weight (shared_view c.member-item.result) < weights (members_seen c.args.members.now) = member_smaller c.args.members.now c.loop-member.member-index c.member-item.result c.loop-member-test.true c.member-item.is in
+    let below : weight (expr_view c.as_ref-expression.result.now) < weights (members_seen c.args.members.now) = subst (λ (e : Expr). weight (expr_view e) < weights (members_seen c.args.members.now)) (sym c.as_ref-expression.ensures) there in
     search (rules, below)
 
 pub length_of_all-returns-in-Err : goal.length_of_all-returns-in-Err
 length_of_all-returns-in-Err t c =
-    sym (c.loop-member.invariant.extent ∙ member_faulty c.args.store.now.entries.items c.args.members.now c.loop-member.member-index c.member-item.result c.loop-member-test.true c.member-item.is c.loop-member.total c.in-Err.kind (sym c.in-Err.ensures))
+    sym (c.loop-member.invariant.extent ∙ member_faulty c.args.store.now.entries.items c.args.members.now c.loop-member.member-index c.member-item.result c.loop-member-test.true c.member-item.is c.loop-member.total c.in-Err.kind (ap (λ (e : Expr). extent_in c.args.store.now.entries.items (expr_view e)) (sym c.as_ref-expression.ensures) ∙ sym c.in-Err.ensures))
 
 pub length_of_all-returns : goal.length_of_all-returns
 length_of_all-returns t c =

@@ -4,12 +4,12 @@ use Rattle.std.proofs.lemmas.List.{drop_all}
 use Rattle.cord_node.specs.declared.Node.{Node}
 use Rattle.cord_plan.specs.Exprs as plain
 use Rattle.cord_plan.specs.declared.expressions.Expr.{Expr}
-use Rattle.cord_plan.specs.Views.{expr_view}
+use Rattle.cord_plan.specs.Views.{expr_view, shared_view}
 use Rattle.cord_plan.proofs.ExprViews.{view-Name, view-Run, view-Cat, view-Sub}
 use Rattle.cord_run.specs.declared.picking.Wanted.{Wanted}
 use Rattle.cord_run.specs.Extents.{extent_in, members_extent, members_seen}
 use Rattle.cord_run.specs.Ranges.{AddsExpression, AddsMembers, IsAfter}
-use Rattle.cord_run.specs.Turns.{AddsInTurn, origins_of}
+use Rattle.cord_run.specs.Turns.{AddsInTurn, origins, origins_of}
 use Rattle.cord_run.proofs.Members.{weight, weights, member_smaller, members_left}
 use Rattle.cord_run.proofs.Ranged.{name_added, run_added, cat_added, cat_past, sub_added, sub_past, still_ok, still_ok_by}
 use Rattle.cord_run.proofs.SoFar.{SoFar, WantedSoFar, starts, goes_on, ends_early, ends_last, wanted_goes_on, wanted_ends_early, wanted_ends}
@@ -101,7 +101,8 @@ add_members-returns-then-is_nothing-clause-past t c =
 
 pub add_members-add_range-requires : goal.add_members-add_range-requires
 add_members-add_range-requires t c =
-    let below : weight (expr_view c.member-item.result) < weights (members_seen c.args.members.now) = member_smaller c.args.members.now c.loop-member.member-index c.member-item.result c.loop-member-test.true c.member-item.is in
+    let there : weight (shared_view c.member-item.result) < weights (members_seen c.args.members.now) = member_smaller c.args.members.now c.loop-member.member-index c.member-item.result c.loop-member-test.true c.member-item.is in
+    let below : weight (expr_view c.as_ref-expression.result.now) < weights (members_seen c.args.members.now) = subst (λ (x : Expr). weight (expr_view x) < weights (members_seen c.args.members.now)) (sym c.as_ref-expression.ensures) there in
     search (rules, below)
 
 pub add_members-loop-member-preserved : goal.add_members-loop-member-preserved
@@ -110,7 +111,7 @@ add_members-loop-member-preserved t c =
     let ms = c.args.members.now in
     let k = c.loop-member.member-index in
     let es = members_seen ms in
-    let e = expr_view c.member-item.result in
+    let e = shared_view c.member-item.result in
     let others = members_seen (drop (k + 1) ms) in
     let left = c.loop-member.left in
     let old = c.args.pieces.now.items in
@@ -118,10 +119,13 @@ add_members-loop-member-preserved t c =
     let next = c.add_range.new.pieces.items in
     let after = c.in_ok-left.left in
     let at : members_seen (drop k ms) ≡ plain.member e others = members_left ms k c.member-item.result c.loop-member-test.true c.member-item.is in
+    let added : AddsExpression entries e left now next = subst (λ (x : Expr). AddsExpression entries (expr_view x) left now next) c.as_ref-expression.ensures c.in_ok-left.ensures.added in
+    let in_turn : AddsInTurn entries (origins e) now next = subst (λ (x : Expr). AddsInTurn entries (origins (expr_view x)) now next) c.as_ref-expression.ensures c.in_ok-left.ensures.in_turn in
+    let past : IsAfter (extent_in entries e) left after = subst (λ (x : Expr). IsAfter (extent_in entries (expr_view x)) left after) c.as_ref-expression.ensures c.in_ok-left.ensures.past in
     record {
-      added = goes_on entries es c.args.wanted old e others left after now next (subst (λ (xs : plain.Exprs). SoFar entries es c.args.wanted old xs left now) at c.loop-member.invariant.added) c.in_ok-left.ensures.added c.in_ok-left.ensures.past;
-      in_turn = turns_go_on entries es old e others now next (subst (λ (xs : plain.Exprs). TurnsSoFar entries es old xs now) at c.loop-member.invariant.in_turn) c.in_ok-left.ensures.in_turn;
-      past = wanted_goes_on entries es c.args.wanted e others left after (subst (λ (xs : plain.Exprs). WantedSoFar entries es c.args.wanted xs left) at c.loop-member.invariant.past) c.in_ok-left.ensures.past;
+      added = goes_on entries es c.args.wanted old e others left after now next (subst (λ (xs : plain.Exprs). SoFar entries es c.args.wanted old xs left now) at c.loop-member.invariant.added) added past;
+      in_turn = turns_go_on entries es old e others now next (subst (λ (xs : plain.Exprs). TurnsSoFar entries es old xs now) at c.loop-member.invariant.in_turn) in_turn;
+      past = wanted_goes_on entries es c.args.wanted e others left after (subst (λ (xs : plain.Exprs). WantedSoFar entries es c.args.wanted xs left) at c.loop-member.invariant.past) past;
       few = omega (arith, c.in_ok-left.ensures.few, c.loop-member.invariant.few);
     }
 

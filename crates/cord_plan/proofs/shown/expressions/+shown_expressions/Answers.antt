@@ -4,7 +4,7 @@ use Rattle.cord_operands.specs.declared.operands.Number.{Number}
 use Rattle.cord_plan.specs.declared.expressions.Expr.{Expr}
 use Rattle.cord_plan.specs.Exprs as plain
 use Rattle.cord_plan.specs.Shown.{expr, exprs, number, called, spaced}
-use Rattle.cord_plan.specs.Views.{expr_view, members_of, members_view}
+use Rattle.cord_plan.specs.Views.{Shared, expr_view, members_of, members_view, shared_view}
 use Rattle.cord_plan.proofs.ExprViews.{view-Run, view-Cat, view-Sub}
 use Rattle.cord_plan.proofs.MemberTexts.{weight, weights, members_text, more_text, member_text, members_spaced, member_below}
 use Rattle.cord_plan.proofs.Spacing.{two_words, three_words, blank_at, blank_later, spaced_next, spaced_all, rest_of}
@@ -78,7 +78,8 @@ pub put_members-put_expression-requires : goal.put_members-put_expression-requir
 put_members-put_expression-requires g t c κs within =
     let ms = c.args.members.now in
     let item = c.member-item.result in
-    let below : weight (expr_view item) < weights (members_of (map expr_view ms)) = subst (λ (x : Expr). weight (expr_view x) < weights (members_of (map expr_view ms))) (sym c.member-item.is) (member_below ms c.loop-member.member-index item c.loop-member-test.true) in
+    let there : weight (shared_view item) < weights (members_of (map shared_view ms)) = subst (λ (x : Shared). weight (shared_view x) < weights (members_of (map shared_view ms))) (sym c.member-item.is) (member_below ms c.loop-member.member-index item c.loop-member-test.true) in
+    let below : weight (expr_view c.as_ref.result.now) < weights (members_of (map shared_view ms)) = subst (λ (e : Expr). weight (expr_view e) < weights (members_of (map shared_view ms))) (sym c.as_ref.ensures) there in
     search (rules, below)
 
 pub put_members-returns-in_err-put_text : goal.put_members-returns-in_err-put_text
@@ -86,26 +87,26 @@ put_members-returns-in_err-put_text g t c =
     let ms = c.args.members.now in
     let i = c.loop-member.member-index in
     let item = c.member-item.result in
-    let next = spaced_next members_text more_text member_text members_spaced ms i item c.loop-member-test.true ∙ ap (λ (x : Expr). members_text (take i ms) ++ (blank_at i ++ expr (expr_view x))) (sym c.member-item.is) in
+    let next = spaced_next members_text more_text member_text members_spaced ms i item c.loop-member-test.true ∙ ap (λ (x : Shared). members_text (take i ms) ++ (blank_at i ++ expr (shared_view x))) (sym c.member-item.is) in
     writes_failed c.from_residual.ensures.0 (writes_cut (rest_of members_text more_text member_text members_spaced (i + 1) ms) (spaced_all members_text more_text member_text members_spaced ms (i + 1)) next c.loop-member.invariant.taken
-    (writes_stopped (expr (expr_view item)) (writes_same c.loop-member.invariant.blank c.in_err-put_text.ensures)))
+    (writes_stopped (expr (shared_view item)) (writes_same c.loop-member.invariant.blank c.in_err-put_text.ensures)))
 
 pub put_members-returns-in_err-put_expression : goal.put_members-returns-in_err-put_expression
 put_members-returns-in_err-put_expression g t c =
     let ms = c.args.members.now in
     let i = c.loop-member.member-index in
     let item = c.member-item.result in
-    let next = spaced_next members_text more_text member_text members_spaced ms i item c.loop-member-test.true ∙ ap (λ (x : Expr). members_text (take i ms) ++ (blank_at i ++ expr (expr_view x))) (sym c.member-item.is) in
+    let next = spaced_next members_text more_text member_text members_spaced ms i item c.loop-member-test.true ∙ ap (λ (x : Shared). members_text (take i ms) ++ (blank_at i ++ expr (shared_view x))) (sym c.member-item.is) in
     writes_failed c.from_residual-in_err-put_expression.ensures.0 (writes_cut (rest_of members_text more_text member_text members_spaced (i + 1) ms) (spaced_all members_text more_text member_text members_spaced ms (i + 1)) next c.loop-member.invariant.taken
-    (writes_then (writes_same c.loop-member.invariant.blank c.in_ok-put_text.ensures) c.in_err-put_expression.ensures))
+    (writes_then (writes_same c.loop-member.invariant.blank c.in_ok-put_text.ensures) (writes_same (ap (λ e. expr (expr_view e)) c.as_ref.ensures) c.in_err-put_expression.ensures)))
 
 pub put_members-loop-member-preserved : goal.put_members-loop-member-preserved
 put_members-loop-member-preserved g t c =
     let ms = c.args.members.now in
     let i = c.loop-member.member-index in
     let item = c.member-item.result in
-    let next = spaced_next members_text more_text member_text members_spaced ms i item c.loop-member-test.true ∙ ap (λ (x : Expr). members_text (take i ms) ++ (blank_at i ++ expr (expr_view x))) (sym c.member-item.is) in
+    let next = spaced_next members_text more_text member_text members_spaced ms i item c.loop-member-test.true ∙ ap (λ (x : Shared). members_text (take i ms) ++ (blank_at i ++ expr (shared_view x))) (sym c.member-item.is) in
     record {
-      taken = writes_same (sym next) (writes_then c.loop-member.invariant.taken (writes_then (writes_same c.loop-member.invariant.blank c.in_ok-put_text.ensures) c.in_ok-put_expression.ensures));
+      taken = writes_same (sym next) (writes_then c.loop-member.invariant.taken (writes_then (writes_same c.loop-member.invariant.blank c.in_ok-put_text.ensures) (writes_same (ap (λ e. expr (expr_view e)) c.as_ref.ensures) c.in_ok-put_expression.ensures)));
       blank = blank_later i;
     }

@@ -1,6 +1,6 @@
 use Rattle.std.proofs.Common.{◌≡◌, take, map, Ok}
 use Rattle.cord_plan.specs.Showing.{Writes}
-use Rattle.cord_plan.specs.Views.{expr_view, members_of}
+use Rattle.cord_plan.specs.Views.{expr_view, members_of, shared_view}
 use Rattle.cord_plan.proofs.MemberTexts.{weight, weights, members_text}
 use Rattle.cord_plan.proofs.Spacing.{blank_at}
 use Rattle.cord_plan.proofs.shown.expressions.+shown_expressions.Given as goal
@@ -9,7 +9,7 @@ abbrev pub decreases-put_expression : goal.decreases-put_expression
 decreases-put_expression g l = weight (expr_view l.expression.now)
 
 abbrev pub decreases-put_members : goal.decreases-put_members
-decreases-put_members g l = weights (members_of (map expr_view l.members.now))
+decreases-put_members g l = weights (members_of (map shared_view l.members.now))
 
 abbrev pub invariant-put_members-loop-member : goal.invariant-put_members-loop-member
 invariant-put_members-loop-member g l = record {

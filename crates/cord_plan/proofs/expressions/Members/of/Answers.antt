@@ -1,0 +1,5 @@
+use Rattle.cord_plan.proofs.ExprViews.{members_made}
+use Rattle.cord_plan.proofs.expressions.Members.of.Goals as goal
+
+pub returns : goal.returns
+returns c = members_made _
