@@ -47,3 +47,4 @@ pub mod Marked
 pub mod PlannedLines
 pub mod OnlyKept
 pub mod Pushed
+mod Dead

@@ -1,12 +1,13 @@
 -- What the code goes by that plans all lines of a script.
-use Rattle.std.specs.Prelude.{◌≡◌, ℕ, ◌<◌, Bool, ◌||◌, List, map, drop, length, Option}
+use Rattle.std.specs.Prelude.{◌≡◌, ℕ, ◌<◌, Bool, ◌||◌, List, map, drop, length, Option, Some, slice_get}
 use Rattle.std.specs.Prelude.{option_map}
 use Rattle.cord_syntax.specs.declared.statements.Statement.{Statement}
 use Rattle.cord_plan.specs.Exprs.{Expr}
 use Rattle.cord_plan.specs.Forced as plain
 use Rattle.cord_plan.specs.Choices.{Has}
 use Rattle.cord_plan.specs.Liveness.{at, tells}
-use Rattle.cord_plan.specs.Planned.{some_from, is_first}
+use Rattle.cord_plan.specs.Operands.{target_of}
+use Rattle.cord_plan.specs.Planned.{some_from, is_dead, is_first}
 use Rattle.cord_plan.specs.Views.{expr_view}
 use Rattle.cord_plan.specs.declared.liveness.Later.{Later}
 use Rattle.cord_plan.specs.declared.table.Table.{Table}
@@ -35,6 +36,11 @@ module _ (s : List Statement) (later : List ℕ → ℕ → Bool) where
     pub has : Has expressions (plain.exprs s later)
     pub size : length firsts ≡ length s
     pub first : (p : ℕ) → p < length firsts → at firsts p ≡ is_first p (plain.exprs s later)
+
+-- these tell of each line whether it has a target that is not read later
+pub record AreDead (s : List Statement) (later : List ℕ → ℕ → Bool) (dead : List Bool) : Type 0 where
+  pub size : length dead ≡ length s
+  pub told : (p : ℕ) (l : Statement) → p < length dead → slice_get s p ≡ Some l → at dead p ≡ is_dead later p (target_of l)
 
 -- the table of a script
 abbrev pub IsTableOf : List Statement → Later → Table → Type 0

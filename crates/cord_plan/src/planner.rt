@@ -4,7 +4,7 @@ ghost use Rattle.cord_plan.specs.Liveness.{tells};
 ghost use Rattle.cord_plan.specs.Meaning.{IsPlanOf};
 ghost use Rattle.cord_plan.specs.Operands.{target_of};
 ghost use Rattle.cord_plan.specs.Planned as plan;
-ghost use Rattle.cord_plan.specs.Tables.{IsTableOf};
+ghost use Rattle.cord_plan.specs.Tables.{AreDead, IsTableOf};
 ghost use Rattle.cord_plan.specs.Unread.{IsLater};
 ghost use Rattle.cord_plan.specs.Views.{operation_view};
 
@@ -15,7 +15,7 @@ use crate::table::Table;
 use crate::{Expr, Operation, Plan};
 use cord_io::CordError;
 use cord_script::{Script, Statement};
-use std::alloc::Global;
+use std::alloc::{AllocError, Global};
 
 // Whether a line has a target that isn't read later.
 fn is_dead(statement: &Statement, place: usize, later: &Later) -> bool
@@ -25,6 +25,21 @@ fn is_dead(statement: &Statement, place: usize, later: &Later) -> bool
         None => false,
         Some(target) => !later.is_later(target.as_slice(), place),
     }
+}
+
+// Whether each line has a target that isn't read later.
+fn dead_lines(
+    alloc: Global,
+    statements: &[Statement],
+    later: &Later,
+) -> Result<Vec<bool>, AllocError>
+    ensures { IfOk result (λ v. AreDead statements.now (tells later.now) v.items) }
+{
+    let mut dead = Vec::with_capacity(alloc, statements.len())?;
+    for (place, statement) in statements.iter().enumerate() {
+        dead.push(is_dead(statement, place, later))?;
+    }
+    Ok(dead)
 }
 
 // Takes the expression at a place.
@@ -37,17 +52,19 @@ fn take_at(expressions: &mut [Option<Expr>], place: usize) -> Option<Expr>
     expressions[place].take()
 }
 
-// The operations of a script's lines.
+// The operations of a script's lines. What is read later is given up first: a `bool` a line is kept of it.
 fn operations_of(
     alloc: Global,
     statements: &[Statement],
-    later: &Later,
+    later: Later,
     table: Table,
 ) -> Result<Vec<Operation>, CordError>
-    requires { IsTableOf statements.now later.now table }
-    ensures made { IfOk result (λ os. map operation_view os.items ≡ plan.planned statements.now (tells later.now)) }
+    requires { IsTableOf statements.now later table }
+    ensures made { IfOk result (λ os. map operation_view os.items ≡ plan.planned statements.now (tells later)) }
     ensures refused { IsOkUnless result CordError.NoMemory }
 {
+    let dead = dead_lines(alloc, statements, &later)?;
+    drop(later);
     let mut operations = Vec::with_capacity(alloc, statements.len())?;
     let Table {
         mut expressions,
@@ -55,8 +72,8 @@ fn operations_of(
     } = table;
     for (place, statement) in statements.iter().enumerate() {
         let expression = take_at(&mut expressions, place);
-        let dead = is_dead(statement, place, later);
-        operations.push(operation_of(alloc, statement, expression, dead, firsts[place])?)?;
+        let (dead, first) = (dead[place], firsts[place]);
+        operations.push(operation_of(alloc, statement, expression, dead, first)?)?;
     }
     Ok(operations)
 }
@@ -75,6 +92,6 @@ pub fn plan(alloc: Global, script: &Script) -> Result<Plan, CordError>
     let statements = script.statements();
     let later = Later::of(alloc, statements)?;
     let table = Table::of(alloc, statements, &later)?;
-    let operations = operations_of(alloc, statements, &later, table)?;
+    let operations = operations_of(alloc, statements, later, table)?;
     Ok(Plan::of(operations))
 }

@@ -1,0 +1,17 @@
+use Rattle.std.proofs.Common.{◌≡◌, ◌<◌, length, ◌∙◌, arith}
+use Rattle.cord_plan.specs.Liveness.{tells}
+use Rattle.cord_plan.proofs.Dead.{dead_more, longer}
+use Rattle.cord_plan.proofs.planner.dead_lines.Goals as goal
+
+pub loop-place-preserved : goal.loop-place-preserved
+loop-place-preserved c = record {
+  size = rw c.in_ok-push.ensures.items (longer c.loop-place.dead.items c.is_dead.result c.loop-place.place c.loop-place.invariant.size);
+  told = rw c.in_ok-push.ensures.items (dead_more c.args.statements.now (tells c.args.later.now) c.loop-place.dead.items c.loop-place.place c.index-statements-place.result c.is_dead.result c.loop-place.invariant.size c.loop-place-test.true c.index-statements-place.is c.is_dead.ensures c.loop-place.invariant.told);
+}
+
+pub returns : goal.returns
+returns c =
+    record {
+      size = c.loop-place.invariant.size ∙ omega arith;
+      told = λ p l lt there. c.loop-place.invariant.told p l (omega (arith, lt, c.loop-place.invariant.size)) there;
+    }

@@ -1,0 +1,10 @@
+use Rattle.std.proofs.Common.{◌≡◌, length}
+use Rattle.cord_plan.specs.Liveness.{tells}
+use Rattle.cord_plan.proofs.Dead.{ToldTo}
+use Rattle.cord_plan.proofs.planner.dead_lines.Given as goal
+
+abbrev pub invariant-loop-place : goal.invariant-loop-place
+invariant-loop-place l = record {
+  size : length l.dead.items ≡ l.place;
+  told : ToldTo l.statements (tells l.later) l.place l.dead.items;
+}
