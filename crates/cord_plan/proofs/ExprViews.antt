@@ -2,7 +2,7 @@
 use Rattle.std.proofs.Common.{◌≡◌, ℕ, List, [], ◌∷◌, map, Box, Global, refl, sym, ap, ◌∙◌}
 use Rattle.cord_operands.specs.declared.operands.Number.{Number}
 use Rattle.cord_plan.specs.Exprs as plain
-use Rattle.cord_plan.specs.Views.{Shared, expr_view, expr_step, members_of, members_view, members_step, shared_view}
+use Rattle.cord_plan.specs.Views.{expr_view, expr_step, members_of, members_view, members_step, shared_view}
 use Rattle.cord_plan.specs.declared.expressions.Expr.{Expr, Expr-F, fold-roll-Expr}
 use Rattle.cord_plan.specs.declared.expressions.Expr.TheVariants.{Name, Run, Cat, Sub, rolls-Name, rolls-Run, rolls-Cat, rolls-Sub}
 use Rattle.cord_plan.specs.declared.expressions.Expr.TheOpen.{Members-F}

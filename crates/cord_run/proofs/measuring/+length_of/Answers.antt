@@ -1,10 +1,10 @@
-use Rattle.std.proofs.Common.{◌≡◌, ◌<◌, ◌+◌, drop, ℕ, sym, ap, subst, ◌∙◌, rules, arith}
+use Rattle.std.proofs.Common.{◌≡◌, ◌<◌, sym, ap, subst, ◌∙◌, rules}
 use Rattle.cord_plan.specs.Exprs as plain
 use Rattle.cord_plan.specs.declared.expressions.Expr.{Expr}
 use Rattle.cord_plan.specs.Views.{expr_view, shared_view}
 use Rattle.cord_plan.proofs.ExprViews.{view-Cat}
-use Rattle.cord_run.specs.Extents.{counted, extent_in, members_extent, members_seen}
-use Rattle.cord_run.proofs.Members.{weight, weights, member_smaller, member_counted, member_faulty, all_counted, counted_length}
+use Rattle.cord_run.specs.Extents.{extent_in, members_extent, members_seen}
+use Rattle.cord_run.proofs.Members.{weight, weights, member_smaller, member_faulty, all_counted, counted_length}
 use Rattle.cord_run.proofs.measuring.+length_of.Goals as goal
 
 pub length_of-returns-in-Ok : goal.length_of-returns-in-Ok
