@@ -161,6 +161,41 @@ int zc_to_bytes(zc_cord *x, uint64_t start, void *bytes, size_t count);
    0 at or past the end. The rest of bytes stays. ZC_NO_MEMORY: all of bytes and *got stay. O(count + d). */
 int zc_read(zc_cord *x, uint64_t start, void *bytes, size_t count, size_t *got);
 
+/* ---- extensible cords ---- */
+
+/* A text that grows at its end: a cord, and up to 4,096 bytes after it that are gathered to its next leaf. It lies where
+   the caller puts it, and owns its cord; so it is never copied. Begin with ZC_EXT_EMPTY or zeros, and end with
+   zc_ext_free. */
+typedef struct zc_ext {
+    zc_cord built; /* for the library alone, as are all fields */
+    uint64_t length;
+    size_t count;
+    unsigned char bytes[4096];
+} zc_ext;
+
+#define ZC_EXT_EMPTY {ZC_EMPTY, 0, 0, {0}}
+
+/* Adds a byte at the end. ZC_TOO_LONG, ZC_NO_MEMORY: x stays. O(1); each 4,096th time as zc_cat_bytes of them. */
+int zc_ext_char(zc_ext *x, unsigned char byte);
+
+/* Adds these bytes at the end, of which it takes a copy. More than 4,096 are a leaf of their own.
+   ZC_TOO_LONG, ZC_NO_MEMORY: x stays. O(count), and as zc_cat_bytes where those that are gathered become a leaf. */
+int zc_ext_bytes(zc_ext *x, const void *bytes, size_t count);
+
+/* Adds the bytes of y at the end, whose tree is shared. ZC_TOO_LONG, ZC_NO_MEMORY: x stays. As zc_cat_bytes of those
+   that are gathered, and as zc_cat. */
+int zc_ext_cord(zc_ext *x, zc_cord *y);
+
+/* The bytes of x as a cord, whose tree is shared. x stays, and may grow further. ZC_NO_MEMORY. As zc_cat_bytes of those
+   that are gathered. */
+int zc_ext_to_cord(zc_ext *x, zc_cord *out);
+
+/* The number of bytes; 0 of null. O(1). */
+uint64_t zc_ext_len(zc_ext *x);
+
+/* Frees what x owns; x is then empty, and may be used or freed again. Null is fine. */
+void zc_ext_free(zc_ext *x);
+
 #ifdef __cplusplus
 }
 #endif

@@ -1,3 +1,4 @@
 pub mod Answers
 pub mod Codes
+pub mod Grown
 pub mod Handles

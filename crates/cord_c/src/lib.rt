@@ -4,10 +4,13 @@
 mod ask;
 mod code;
 mod edit;
+mod extend;
+mod extensible;
 mod handle;
 mod loose;
 mod make;
 mod pointer;
 
 pub use code::{BAD_ARGUMENT, NO_MEMORY, NOT_FOUND, OK, TOO_LONG};
+pub use extensible::{Extensible, ROOM};
 pub use handle::Handle;
