@@ -196,6 +196,36 @@ uint64_t zc_ext_len(zc_ext *x);
 /* Frees what x owns; x is then empty, and may be used or freed again. Null is fine. */
 void zc_ext_free(zc_ext *x);
 
+/* ---- positions ---- */
+
+/* A cord and an index in it, or nowhere, as past the end and before the beginning. It owns a share of the cord, so it
+   is never copied, and the cord may be freed before it. Begin with ZC_POS_NOWHERE or zeros, end with zc_pos_free. */
+typedef struct zc_pos {
+    zc_cord text; /* for the library alone, as are all fields */
+    uint64_t length;
+    uint64_t index;
+} zc_pos;
+
+#define ZC_POS_NOWHERE {ZC_EMPTY, 0, 0}
+
+/* Sets a position to the byte index of x, or nowhere where x has no such byte. ZC_NO_MEMORY: it stays. O(1). */
+int zc_pos_set(zc_cord *x, uint64_t index, zc_pos *position);
+
+/* The index where it stands; ZC_NOT_FOUND where it stands nowhere, and of null. O(1). */
+uint64_t zc_pos_index(zc_pos *position);
+
+/* Writes the byte where it stands to *byte. ZC_BAD_ARGUMENT where it stands nowhere: *byte stays. O(d). */
+int zc_pos_fetch(zc_pos *position, unsigned char *byte);
+
+/* Goes to the next byte, from the last one nowhere. Nowhere it stays. O(1). */
+void zc_pos_next(zc_pos *position);
+
+/* Goes to the previous byte, from the first one nowhere. Nowhere it stays. O(1). */
+void zc_pos_prev(zc_pos *position);
+
+/* Frees what it owns; it then stands nowhere in the cord of no bytes, and may be set or freed again. Null is fine. */
+void zc_pos_free(zc_pos *position);
+
 #ifdef __cplusplus
 }
 #endif

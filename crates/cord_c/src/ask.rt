@@ -67,12 +67,7 @@ pub extern "C" fn zc_fetch(alloc: Global, x: &mut Handle, place: u64, byte: &mut
     if missing(x) || missing(byte) {
         return BAD_ARGUMENT;
     }
-    let Some(text) = x.lift(alloc) else {
-        return BAD_ARGUMENT;
-    };
-    let found = text.get(place);
-    x.lower(text);
-    let Some(found) = found else {
+    let Some(found) = x.get(alloc, place) else {
         return BAD_ARGUMENT;
     };
     *byte = found;

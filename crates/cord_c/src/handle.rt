@@ -1,5 +1,5 @@
 //! What a `zc_cord` of C is: a pointer to a text on the heap, or null for the text of no bytes.
-ghost use Rattle.std.specs.Prelude.{◌≡◌, ◌⊎◌, ℕ, List, [], take, drop, IfOk, IsOkUnless, MatchOption};
+ghost use Rattle.std.specs.Prelude.{◌≡◌, ◌⊎◌, ℕ, List, [], take, drop, IfOk, IsOkUnless, MatchOption, slice_get};
 ghost use denote.RawPtr.{Testable};
 ghost use Rattle.cord_c.specs.Codes.{IsKeeping};
 ghost use Rattle.cord_c.specs.Handles.{handle_owns};
@@ -89,6 +89,17 @@ impl Handle {
         let whole = self.read(alloc)?;
         let part = whole.substr(alloc, start, count)?;
         Ok(part)
+    }
+
+    /// Its byte at a place, nothing at or past the end.
+    pub(crate) fn get(&mut self, alloc: Global, place: u64) -> Option<u8>
+        ensures byte { result ≡ slice_get self.old.text place }
+        ensures same { self.new.text ≡ self.old.text }
+    {
+        let text = self.lift(alloc)?;
+        let found = text.get(place);
+        self.lower(text);
+        found
     }
 
     /// Holds this text on the heap from now on.

@@ -10,7 +10,10 @@ mod handle;
 mod loose;
 mod make;
 mod pointer;
+mod position;
+mod walk;
 
 pub use code::{BAD_ARGUMENT, NO_MEMORY, NOT_FOUND, OK, TOO_LONG};
 pub use extensible::{Extensible, ROOM};
 pub use handle::Handle;
+pub use position::Position;

@@ -1,0 +1,144 @@
+// Positions, and steps from byte to byte.
+ghost use Rattle.std.specs.Prelude.{◌≡◌, ◌⊎◌, [], Some, None};
+ghost use Rattle.cord_c.specs.Answers.{place_or_none};
+ghost use Rattle.cord_c.specs.Codes.{IsKeeping};
+ghost use Rattle.cord_c.specs.Positions.{index_in, next_in, prev_of, bytes_of, index_of, byte_of};
+ghost use denote.RawPtr.{Testable};
+ghost use Rattle.core.specs.Ptr.{as_mut_ptr};
+
+use crate::code::{BAD_ARGUMENT, NO_MEMORY, NOT_FOUND, OK};
+use crate::pointer::missing;
+use crate::{Handle, Position};
+use std::alloc::Global;
+
+/// Sets a position to the byte `index` of `x`, or nowhere where `x` has no such byte.
+#[unsafe(no_mangle)]
+pub extern "C" fn zc_pos_set(
+    alloc: Global,
+    x: &mut Handle,
+    index: u64,
+    position: &mut Position,
+) -> i32
+    requires places { Testable (as_mut_ptr x) × Testable (as_mut_ptr position) }
+    ensures bytes { result ≡ OK → bytes_of position.new ≡ x.old.text }
+    ensures index { result ≡ OK → index_of position.new ≡ index_in x.old.text index }
+    ensures bytes_kept { (result ≡ OK) ⊎ (bytes_of position.new ≡ bytes_of position.old) }
+    ensures index_kept { (result ≡ OK) ⊎ (index_of position.new ≡ index_of position.old) }
+    ensures code { IsKeeping result }
+    ensures x { x.new.text ≡ x.old.text }
+{
+    if missing(x) || missing(position) {
+        return BAD_ARGUMENT;
+    }
+    let Ok(text) = x.read(alloc) else {
+        return NO_MEMORY;
+    };
+    let len = text.len();
+    if position.text.hold(alloc, text) != OK {
+        return NO_MEMORY;
+    }
+    position.len = len;
+    position.index = index;
+    OK
+}
+
+/// The index where a position stands.
+#[unsafe(no_mangle)]
+pub extern "C" fn zc_pos_index(position: &mut Position) -> u64
+    requires places { Testable (as_mut_ptr position) }
+    ensures index { result ≡ place_or_none (index_of position.old) }
+    ensures bytes { bytes_of position.new ≡ bytes_of position.old }
+    ensures kept { index_of position.new ≡ index_of position.old }
+{
+    if missing(position) {
+        return NOT_FOUND;
+    }
+    position.index().unwrap_or(NOT_FOUND)
+}
+
+/// Writes the byte where a position stands to `byte`: `BAD_ARGUMENT` where it stands nowhere, and `byte` stays.
+#[unsafe(no_mangle)]
+pub extern "C" fn zc_pos_fetch(alloc: Global, position: &mut Position, byte: &mut u8) -> i32
+    requires places { Testable (as_mut_ptr position) × Testable (as_mut_ptr byte) }
+    ensures byte { result ≡ OK → byte_of position.old ≡ Some byte.new }
+    ensures nowhere { result ≡ BAD_ARGUMENT → index_of position.old ≡ None }
+    ensures kept { (result ≡ OK) ⊎ (byte.new ≡ byte.old) }
+    ensures code { (result ≡ OK) ⊎ (result ≡ BAD_ARGUMENT) }
+    ensures bytes { bytes_of position.new ≡ bytes_of position.old }
+    ensures index { index_of position.new ≡ index_of position.old }
+{
+    if missing(position) || missing(byte) {
+        return BAD_ARGUMENT;
+    }
+    let index = position.index;
+    let Some(found) = position.text.get(alloc, index) else {
+        return BAD_ARGUMENT;
+    };
+    *byte = found;
+    OK
+}
+
+/// Goes to the next byte, from the last one nowhere.
+#[unsafe(no_mangle)]
+pub extern "C" fn zc_pos_next(position: &mut Position)
+    requires places { Testable (as_mut_ptr position) }
+    ensures index { index_of position.new ≡ next_in (bytes_of position.old) (index_of position.old) }
+    ensures bytes { bytes_of position.new ≡ bytes_of position.old }
+{
+    if missing(position) || position.index >= position.len {
+        return;
+    }
+    position.index += 1;
+}
+
+/// Goes to the previous byte, from the first one nowhere.
+#[unsafe(no_mangle)]
+pub extern "C" fn zc_pos_prev(position: &mut Position)
+    requires places { Testable (as_mut_ptr position) }
+    ensures index { index_of position.new ≡ prev_of (index_of position.old) }
+    ensures bytes { bytes_of position.new ≡ bytes_of position.old }
+{
+    if missing(position) || position.index >= position.len {
+        return;
+    }
+    position.index = if position.index == 0 {
+        NOT_FOUND
+    } else {
+        position.index - 1
+    };
+}
+
+/// Frees what a position owns, which then stands nowhere in the text of no bytes.
+#[unsafe(no_mangle)]
+pub extern "C" fn zc_pos_free(alloc: Global, position: &mut Position)
+    requires places { Testable (as_mut_ptr position) }
+    ensures bytes { bytes_of position.new ≡ [] }
+    ensures index { index_of position.new ≡ None }
+{
+    if missing(position) {
+        return;
+    }
+    position.clear(alloc);
+}
+
+impl Position {
+    // The index where it stands.
+    fn index(&self) -> Option<u64>
+        ensures { result ≡ index_of self.now }
+    {
+        if self.index < self.len {
+            Some(self.index)
+        } else {
+            None
+        }
+    }
+
+    // Frees the text.
+    fn clear(&mut self, alloc: Global)
+        ensures bytes { bytes_of self.new ≡ [] }
+        ensures index { index_of self.new ≡ None }
+    {
+        self.text = Handle::empty(alloc);
+        self.len = 0;
+    }
+}
