@@ -1,10 +1,12 @@
 /* Tests of the library through its header. Each row says what it expects; the first that fails ends the program with
    status 1. With an argument, want of memory is no failure: a call that is refused has to say so, leave its result as
    it was, and work when it is made again, since one request alone is refused. */
+#define _POSIX_C_SOURCE 200809L
 #include "zomtsje.h"
 #include <stdio.h>
 #include <stdlib.h>
 #include <string.h>
+#include <unistd.h>
 
 static int may_want = 0;
 static unsigned long rows = 0, wants = 0;
@@ -357,6 +359,212 @@ static void nulls(void) {
     zc_free(&a);
 }
 
+static void grows(void) {
+    zc_ext grown = ZC_EXT_EMPTY;
+    zc_cord a = ZC_EMPTY, out = ZC_EMPTY;
+    EXPECT(zc_ext_len(&grown) == 0);
+    DO(zc_ext_to_cord(&grown, &out));
+    EXPECT_TEXT(&out, "");
+    DO(zc_ext_char(&grown, 'a'));
+    DO(zc_ext_bytes(&grown, "bc", 2));
+    DO(zc_from_bytes("de", 2, &a));
+    DO(zc_ext_cord(&grown, &a));
+    EXPECT(zc_ext_len(&grown) == 5);
+    DO(zc_ext_to_cord(&grown, &out));
+    EXPECT_TEXT(&out, "abcde");
+    DO(zc_ext_bytes(&grown, NULL, 0));
+    DO(zc_ext_char(&grown, 'f'));
+    DO(zc_ext_to_cord(&grown, &a));
+    EXPECT_TEXT(&a, "abcdef");
+    EXPECT_TEXT(&out, "abcde");
+    EXPECT(zc_ext_len(&grown) == 6);
+    zc_ext_free(&grown);
+    EXPECT(zc_ext_len(&grown) == 0);
+    DO(zc_ext_char(&grown, 0));
+    DO(zc_ext_to_cord(&grown, &out));
+    EXPECT_TEXT(&out, "\0");
+    zc_ext_free(&grown);
+    zc_ext_free(&grown);
+    zc_free(&a);
+    zc_free(&out);
+}
+
+/* The leaves of an extensible cord have 4,096 bytes: one is no tree, and one byte more is. */
+static void grows_by_leaves(void) {
+    zc_ext grown = ZC_EXT_EMPTY;
+    zc_cord out = ZC_EMPTY;
+    char many[5000];
+    memset(many, 'm', sizeof many);
+    for (int i = 0; i < 4096; i++) DO(zc_ext_char(&grown, (unsigned char)i));
+    DO(zc_ext_to_cord(&grown, &out));
+    EXPECT(zc_depth(&out) == 0);
+    DO(zc_ext_char(&grown, 'z'));
+    DO(zc_ext_to_cord(&grown, &out));
+    EXPECT(zc_depth(&out) == 1);
+    EXPECT(zc_len(&out) == 4097);
+    EXPECT(zc_count(&out, 7) == 16);
+    EXPECT(zc_chr(&out, 4096, 'z') == 4096);
+    DO(zc_ext_bytes(&grown, many, 4095));
+    EXPECT(zc_ext_len(&grown) == 8192);
+    DO(zc_ext_bytes(&grown, many, 5000));
+    DO(zc_ext_bytes(&grown, many, 4096));
+    DO(zc_ext_bytes(&grown, "e", 1));
+    EXPECT(zc_ext_len(&grown) == 17289);
+    DO(zc_ext_to_cord(&grown, &out));
+    EXPECT(zc_len(&out) == 17289);
+    EXPECT(zc_count(&out, 'm') == 13207); /* 4,095 and 5,000 and 4,096, and 16 among the first bytes */
+    EXPECT(zc_chr(&out, 4097, 'e') == 17288);
+    zc_ext_free(&grown);
+    zc_free(&out);
+}
+
+static void grows_no_longer(void) {
+    zc_ext grown = ZC_EXT_EMPTY;
+    zc_cord most = ZC_EMPTY, out = ZC_EMPTY;
+    DO(zc_chars('m', ZC_MAX_LEN - 1, &most));
+    DO(zc_ext_cord(&grown, &most));
+    EXPECT(zc_ext_bytes(&grown, "xy", 2) == ZC_TOO_LONG);
+    if (!may_want) EXPECT(zc_ext_cord(&grown, &most) == ZC_TOO_LONG);
+    DO(zc_ext_char(&grown, 'x'));
+    EXPECT(zc_ext_char(&grown, 'y') == ZC_TOO_LONG);
+    DO(zc_ext_bytes(&grown, "", 0));
+    EXPECT(zc_ext_len(&grown) == ZC_MAX_LEN);
+    DO(zc_ext_to_cord(&grown, &out));
+    EXPECT(zc_len(&out) == ZC_MAX_LEN);
+    EXPECT(zc_rchr(&out, ZC_MAX_LEN, 'x') == ZC_MAX_LEN - 1);
+    zc_ext_free(&grown);
+    zc_free(&most);
+    zc_free(&out);
+}
+
+static int byte_at(zc_pos *position) {
+    unsigned char byte = 7;
+    int code = zc_pos_fetch(position, &byte);
+    EXPECT(code == ZC_OK || (code == ZC_BAD_ARGUMENT && byte == 7));
+    return code == ZC_OK ? byte : -1;
+}
+
+static void walks(void) {
+    zc_cord a = ZC_EMPTY;
+    zc_pos position = ZC_POS_NOWHERE;
+    EXPECT(zc_pos_index(&position) == ZC_NOT_FOUND);
+    EXPECT(byte_at(&position) == -1);
+    DO(zc_from_bytes("abc", 3, &a));
+    DO(zc_pos_set(&a, 1, &position));
+    EXPECT(byte_at(&position) == 'b' && zc_pos_index(&position) == 1);
+    zc_pos_next(&position);
+    EXPECT(byte_at(&position) == 'c' && zc_pos_index(&position) == 2);
+    zc_pos_next(&position);
+    EXPECT(byte_at(&position) == -1 && zc_pos_index(&position) == ZC_NOT_FOUND);
+    zc_pos_prev(&position);
+    EXPECT(zc_pos_index(&position) == ZC_NOT_FOUND);
+    zc_pos_next(&position);
+    EXPECT(zc_pos_index(&position) == ZC_NOT_FOUND);
+    DO(zc_pos_set(&a, 1, &position));
+    zc_pos_prev(&position);
+    EXPECT(byte_at(&position) == 'a' && zc_pos_index(&position) == 0);
+    zc_pos_prev(&position);
+    EXPECT(byte_at(&position) == -1 && zc_pos_index(&position) == ZC_NOT_FOUND);
+    zc_pos_next(&position);
+    EXPECT(zc_pos_index(&position) == ZC_NOT_FOUND);
+    DO(zc_pos_set(&a, 3, &position));
+    EXPECT(zc_pos_index(&position) == ZC_NOT_FOUND);
+    DO(zc_pos_set(&a, UINT64_MAX, &position));
+    EXPECT(zc_pos_index(&position) == ZC_NOT_FOUND);
+    DO(zc_pos_set(&a, 2, &position));
+    zc_free(&a); /* the position has a share of its own */
+    EXPECT(byte_at(&position) == 'c');
+    zc_pos_free(&position);
+    EXPECT(zc_pos_index(&position) == ZC_NOT_FOUND);
+    zc_pos_free(&position);
+}
+
+/* Puts bytes to a file, from this place on. */
+static void put_at(zc_cord *x, int fd, off_t place) {
+    int code = zc_put(x, fd);
+    if (code == ZC_NO_MEMORY && may_want) {
+        wants++;
+        EXPECT(ftruncate(fd, place) == 0 && lseek(fd, place, SEEK_SET) == place);
+        code = zc_put(x, fd);
+    }
+    EXPECT(code == ZC_OK);
+}
+
+static void read_all(int fd, zc_cord *out) {
+    EXPECT(lseek(fd, 0, SEEK_SET) == 0);
+    int code = zc_from_fd(fd, out);
+    if (code == ZC_NO_MEMORY && may_want) {
+        wants++;
+        EXPECT(lseek(fd, 0, SEEK_SET) == 0);
+        code = zc_from_fd(fd, out);
+    }
+    EXPECT(code == ZC_OK);
+}
+
+static void files(void) {
+    zc_cord a = ZC_EMPTY, b = ZC_EMPTY, c = ZC_EMPTY;
+    char bytes[20] = "";
+    FILE *file = tmpfile();
+    if (file == NULL && may_want) file = tmpfile();
+    EXPECT(file != NULL);
+    int fd = fileno(file);
+    read_all(fd, &c);
+    EXPECT_TEXT(&c, "");
+    DO(zc_from_bytes("a\0b", 3, &a));
+    DO(zc_chars('x', 5, &b));
+    DO(zc_cat(&a, &b, &c));
+    put_at(&c, fd, 0);
+    zc_free(&c);
+    put_at(&c, fd, 8);
+    put_at(&a, fd, 8);
+    EXPECT(pread(fd, bytes, sizeof bytes, 0) == 11);
+    EXPECT(memcmp(bytes, "a\0bxxxxxa\0b", 11) == 0);
+    read_all(fd, &c);
+    EXPECT_TEXT(&c, "a\0bxxxxxa\0b");
+    DO(zc_chars('y', 50000, &b));
+    put_at(&b, fd, 11);
+    read_all(fd, &c);
+    EXPECT(zc_len(&c) == 50011);
+    EXPECT(zc_count(&c, 'y') == 50000);
+    if (!may_want) {
+        EXPECT(zc_put(&a, -1) == ZC_WRITE_FAILED);
+        EXPECT(zc_from_fd(-1, &c) == ZC_READ_FAILED);
+    }
+    EXPECT(zc_len(&c) == 50011);
+    fclose(file);
+    zc_free(&a);
+    zc_free(&b);
+    zc_free(&c);
+}
+
+static void nulls_of_the_rest(void) {
+    zc_cord *volatile none = NULL;
+    zc_ext *volatile no_ext = NULL;
+    zc_pos *volatile no_pos = NULL;
+    unsigned char *volatile no_byte = NULL, byte = 7;
+    zc_ext grown = ZC_EXT_EMPTY;
+    zc_pos position = ZC_POS_NOWHERE;
+    zc_cord a = ZC_EMPTY;
+    EXPECT(zc_put(none, 1) == ZC_BAD_ARGUMENT);
+    EXPECT(zc_ext_char(no_ext, 'a') == ZC_BAD_ARGUMENT);
+    EXPECT(zc_ext_bytes(no_ext, "a", 1) == ZC_BAD_ARGUMENT);
+    EXPECT(zc_ext_cord(no_ext, &a) == ZC_BAD_ARGUMENT);
+    EXPECT(zc_ext_cord(&grown, none) == ZC_BAD_ARGUMENT);
+    EXPECT(zc_ext_to_cord(no_ext, &a) == ZC_BAD_ARGUMENT);
+    EXPECT(zc_ext_to_cord(&grown, none) == ZC_BAD_ARGUMENT);
+    EXPECT(zc_ext_len(no_ext) == 0);
+    zc_ext_free(no_ext);
+    EXPECT(zc_pos_set(none, 0, &position) == ZC_BAD_ARGUMENT);
+    EXPECT(zc_pos_set(&a, 0, no_pos) == ZC_BAD_ARGUMENT);
+    EXPECT(zc_pos_fetch(no_pos, &byte) == ZC_BAD_ARGUMENT);
+    EXPECT(zc_pos_fetch(&position, no_byte) == ZC_BAD_ARGUMENT);
+    EXPECT(zc_pos_index(no_pos) == ZC_NOT_FOUND);
+    zc_pos_next(no_pos);
+    zc_pos_prev(no_pos);
+    zc_pos_free(no_pos);
+    EXPECT(byte == 7);
+}
+
 static void messages(void) {
     EXPECT(strcmp(zc_message(ZC_OK), "done") == 0);
     EXPECT(strcmp(zc_message(ZC_TOO_LONG), "too long") == 0);
@@ -378,7 +586,13 @@ int main(int count, char **words) {
     parts_in_order();
     copies();
     reads();
+    grows();
+    grows_by_leaves();
+    grows_no_longer();
+    walks();
+    files();
     nulls();
+    nulls_of_the_rest();
     messages();
     if (!may_want) trees();
     printf("%lu rows, %lu refused\n", rows, wants);

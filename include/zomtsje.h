@@ -31,6 +31,10 @@
 
 #include <stddef.h>
 #include <stdint.h>
+#ifndef _WIN32
+#include <errno.h>
+#include <unistd.h>
+#endif
 
 #ifdef __cplusplus
 extern "C" {
@@ -54,8 +58,8 @@ enum {
     ZC_OK = 0,           /* done */
     ZC_TOO_LONG = 1,     /* the text would be longer than ZC_MAX_LEN */
     ZC_NO_MEMORY = 2,    /* memory was refused */
-    ZC_READ_FAILED = 3,  /* kept for cords over files; no call gives it yet */
-    ZC_WRITE_FAILED = 4, /* kept for output; no call gives it yet */
+    ZC_READ_FAILED = 3,  /* read failed */
+    ZC_WRITE_FAILED = 4, /* write failed */
     ZC_BAD_ARGUMENT = 5  /* a null pointer, or a place that isn't there */
 };
 
@@ -225,6 +229,49 @@ void zc_pos_prev(zc_pos *position);
 
 /* Frees what it owns; it then stands nowhere in the cord of no bytes, and may be set or freed again. Null is fine. */
 void zc_pos_free(zc_pos *position);
+
+/* ---- files, by the descriptors of POSIX ---- */
+
+/* These two are in C here, over the calls above: no proof speaks of them. */
+#ifndef _WIN32
+
+/* Writes all bytes of x to the descriptor fd. ZC_WRITE_FAILED, ZC_NO_MEMORY: then a prefix of them is written.
+   O(n), and O(d) for each 16,384 bytes. */
+static inline int zc_put(zc_cord *x, int fd) {
+    unsigned char bytes[16384];
+    size_t got = 0;
+    uint64_t start;
+    for (start = 0;; start += got) {
+        size_t done = 0;
+        int code = zc_read(x, start, bytes, sizeof bytes, &got);
+        if (code != ZC_OK || got == 0) return code;
+        while (done < got) {
+            ssize_t count = write(fd, bytes + done, got - done);
+            if (count < 0 && errno == EINTR) continue;
+            if (count <= 0) return ZC_WRITE_FAILED;
+            done += (size_t)count;
+        }
+    }
+}
+
+/* The bytes that the descriptor fd gives, to its end. ZC_READ_FAILED, ZC_TOO_LONG, ZC_NO_MEMORY. As zc_ext_bytes of
+   them, up to 16,384 at a time. */
+static inline int zc_from_fd(int fd, zc_cord *out) {
+    unsigned char bytes[16384];
+    zc_ext all = ZC_EXT_EMPTY;
+    int code = ZC_OK;
+    while (code == ZC_OK) {
+        ssize_t count = read(fd, bytes, sizeof bytes);
+        if (count == 0) break;
+        if (count < 0 && errno == EINTR) continue;
+        code = count < 0 ? ZC_READ_FAILED : zc_ext_bytes(&all, bytes, (size_t)count);
+    }
+    if (code == ZC_OK) code = zc_ext_to_cord(&all, out);
+    zc_ext_free(&all);
+    return code;
+}
+
+#endif
 
 #ifdef __cplusplus
 }
