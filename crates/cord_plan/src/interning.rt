@@ -14,8 +14,8 @@ use std::rc::Rc;
 /// The number of slots in which names are looked for.
 const SLOTS: usize = 2_048;
 
-/// Names as expressions, each made once and then shared: of two names of one slot the last one is kept. The slots take no memory
-/// before the first name.
+/// Names as expressions, each made once and then shared: of two names of one slot the last one is kept.
+/// The slots take no memory before the first name.
 #[derive(Drop)]
 pub(crate) struct Interner {
     slots: Vec<Option<Rc<Expr>>>,
