@@ -8,7 +8,7 @@ use Rattle.cord_node.proofs.KeptLemmas.{Kept-more, Kept-self, Kept-trans}
 use Rattle.cord_node.proofs.TreeLemmas.{len_positive}
 use Rattle.cord_balance.specs.Pieces.{Shared, all_cells, all_parts, total_len, AllSound}
 use Rattle.cord_balance.specs.declared.forest.Piece.{Piece}
-use Rattle.cord_balance.specs.Forest.{AllFrom, IsForest, forest_cells, forest_parts, forest_len}
+use Rattle.cord_balance.specs.inner.Forest.{AllFrom, IsForest, forest_cells, forest_parts, forest_len}
 use Rattle.cord_balance.proofs.States.{IsFilling}
 use Rattle.cord_balance.proofs.ForestLemmas.{no_pieces}
 

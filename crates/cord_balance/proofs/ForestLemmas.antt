@@ -8,7 +8,7 @@ use Rattle.cord_node.specs.Kept.{Part, parts}
 use Rattle.cord_node.proofs.KeptLemmas.{Kept_same}
 use Rattle.cord_balance.specs.Fib.{fib_of}
 use Rattle.cord_balance.specs.declared.forest.Piece.{Piece}
-use Rattle.cord_balance.specs.Forest.{IsPiece, AllBelow, AllFrom, IsForest, forest_cells, forest_parts, forest_len}
+use Rattle.cord_balance.specs.inner.Forest.{IsPiece, AllBelow, AllFrom, IsForest, forest_cells, forest_parts, forest_len}
 use Rattle.cord_balance.proofs.FibLemmas.{fib_mono, fib_index}
 use Rattle.std.proofs.lemmas.Bool.{cases_lt}
 use Rattle.std.proofs.Common.{⊎_elim}

@@ -11,7 +11,7 @@ use Rattle.cord_node.specs.Kept.{Part, parts, Kept}
 use Rattle.cord_node.proofs.TreeLemmas.{len_positive}
 use Rattle.cord_node.proofs.KeptLemmas.{Kept-self, Kept-both, Kept-trans}
 use Rattle.cord_balance.specs.declared.forest.Piece.{Piece}
-use Rattle.cord_balance.specs.Forest.{AllFrom, IsForest, IsForm, forest_cells, forest_parts, forest_len}
+use Rattle.cord_balance.specs.inner.Forest.{AllFrom, IsForest, IsForm, forest_cells, forest_parts, forest_len}
 use Rattle.cord_balance.proofs.ForestLemmas.{no_pieces}
 use Rattle.cord_balance.proofs.Inserting.{kept_two}
 

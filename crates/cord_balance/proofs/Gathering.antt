@@ -8,7 +8,7 @@ use Rattle.cord_node.proofs.KeptLemmas.{Kept-self, Kept_same, Kept-both, Kept-tr
 use Rattle.cord_balance.specs.Fib.{fib_of}
 use Rattle.cord_balance.specs.Pieces.{Shared}
 use Rattle.cord_balance.specs.declared.forest.Piece.{Piece}
-use Rattle.cord_balance.specs.Forest.{IsPiece, IsForest, forest_cells, forest_parts, forest_len, piece_cells, piece_parts, piece_len}
+use Rattle.cord_balance.specs.inner.Forest.{IsPiece, IsForest, forest_cells, forest_parts, forest_len, piece_cells, piece_parts, piece_len}
 use Rattle.cord_balance.proofs.States.{GoesRightOf, IsGathering, IsPutLeft}
 use Rattle.cord_balance.proofs.FibLemmas.{fib_mono, fib_below}
 use Rattle.cord_balance.proofs.ForestLemmas.{forest_cells-snoc, forest_parts-snoc, forest_len-snoc, IsForest-init, IsForest-last, IsForest-falls, AllFrom-lower, AllFrom-last}

@@ -9,7 +9,7 @@ use Rattle.cord_node.specs.Kept.{Part, Kept}
 use Rattle.cord_node.proofs.KeptLemmas.{Kept-self, Kept-both, Kept-trans}
 use Rattle.cord_balance.specs.Fib.{fib_of, IsSlotOf}
 use Rattle.cord_balance.specs.Pieces.{Shared}
-use Rattle.cord_balance.specs.Forest.{IsGathered}
+use Rattle.cord_balance.specs.inner.Forest.{IsGathered}
 use Rattle.cord_balance.proofs.FibLemmas.{fib_mono, fib_below, fib_sum, fib_index}
 
 -- small pieces joined with a balanced one on their right

@@ -10,7 +10,7 @@ use Rattle.cord_node.proofs.KeptLemmas.{Kept-self}
 use Rattle.cord_balance.specs.Fib.{fib_of, IsSlotOf}
 use Rattle.cord_balance.specs.Pieces.{Shared}
 use Rattle.cord_balance.specs.declared.forest.Piece.{Piece}
-use Rattle.cord_balance.specs.Forest.{IsPiece, AllFrom, IsForest, forest_cells, forest_parts, forest_len}
+use Rattle.cord_balance.specs.inner.Forest.{IsPiece, AllFrom, IsForest, forest_cells, forest_parts, forest_len}
 use Rattle.cord_balance.proofs.States.{IsMerging, IsJoinOf}
 use Rattle.cord_balance.proofs.FibLemmas.{fib_mono, fib_sum, fib_index}
 use Rattle.cord_balance.proofs.ForestLemmas.{forest_cells-snoc, forest_parts-snoc, forest_len-snoc, IsForest-init, IsForest-last, IsForest-falls, IsForest-push, AllFrom-lower, AllFrom-last}

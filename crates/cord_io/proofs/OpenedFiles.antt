@@ -7,7 +7,7 @@ use Rattle.std.proofs.lemmas.Bool.{cases_eq}
 use Rattle.std.proofs.lemmas.List.{length-take-le}
 use Rattle.std.proofs.lemmas.Option.{slice_get_read, slice_get_within}
 use Rattle.cord_io.specs.Device.{Folder, bytes_at, HandsOut}
-use Rattle.cord_io.specs.Disk.{told_of, opened_of}
+use Rattle.cord_io.specs.inner.Disk.{told_of, opened_of}
 use Rattle.cord_io.specs.DiskTold.{AgreesWithGiven}
 use Rattle.cord_io.specs.Told.{Told, has_bytes, Agrees}
 use Rattle.cord_io.specs.declared.opened.OpenedFile.{OpenedFile}

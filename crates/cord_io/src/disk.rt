@@ -94,7 +94,7 @@ impl<R: rt::Files> DiskFiles<R> {
 }
 
 impl<R: rt::Files> Files for DiskFiles<R> {
-    ghost use Rattle.cord_io.specs.Disk.{opened_of};
+    ghost use Rattle.cord_io.specs.inner.Disk.{opened_of};
     ghost use Rattle.cord_io.specs.DiskTold.{told_by, after_opening, after_reading, AgreesWithMachine};
     ghost use Rattle.cord_io.specs.Told.{Agrees};
 

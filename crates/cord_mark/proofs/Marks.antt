@@ -17,7 +17,7 @@ use denote.Opens.{unhide}
 use denote.Struct.Members.{Member}
 use Rattle.core.proofs.cell.Inside.{round, wraps, unwraps}
 use Rattle.cord_mark.specs.Part.{Part}
-use Rattle.cord_mark.specs.Ownership.{fields_at, told}
+use Rattle.cord_mark.specs.inner.Ownership.{fields_at, told}
 use Rattle.cord_mark.specs.contracts.mark.Mark as mark
 use Rattle.cord_mark.specs.contracts.mark.Mark.TheInside as inside
 

@@ -12,7 +12,7 @@ use types.Logic.{Logic, sem}
 use types.Owned.{own_glued}
 use contract.Monad.{fact, fact_i}
 use denote.Sharing.{ShrLaws, said}
-use Rattle.cord_mark.specs.Ownership.{Told, telling, told}
+use Rattle.cord_mark.specs.inner.Ownership.{Told, telling, told}
 
 module _ {M : Type 1} {𝓤 : Ura M} (𝓛 : Logic 𝓤) (γ : GName) where
   pub told_twice : (parts : List Part) (b o : ℕ) → ent 𝓤 (sem 𝓛 (told γ parts b o)) (sep 𝓤 (sem 𝓛 (told γ parts b o)) (sem 𝓛 (told γ parts b o)))

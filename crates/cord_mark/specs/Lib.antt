@@ -1,2 +1,2 @@
 pub mod Part
-pub mod Ownership
+pub mod inner

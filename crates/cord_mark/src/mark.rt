@@ -2,7 +2,7 @@
 ghost use Rattle.std.specs.Prelude.{◌≡◌, List, true};
 ghost use base.Fml.{fex};
 ghost use Rattle.cord_mark.specs.Part.{Part, coded_parts};
-ghost use Rattle.cord_mark.specs.Ownership.{mark_shares};
+ghost use Rattle.cord_mark.specs.inner.Ownership.{mark_shares};
 
 use std::marker::{Move, Owns};
 

@@ -3,7 +3,6 @@ pub mod Blocks
 pub mod Paths
 pub mod Machine
 pub mod Ends
-pub mod Running
 pub mod State
 pub mod Formats
 pub mod Statements
@@ -11,3 +10,4 @@ pub mod Meaning
 pub mod Unrolled
 pub mod Simulation
 pub mod Rows
+pub mod inner

@@ -6,7 +6,7 @@ use Rattle.cord_syntax.specs.declared.statements.Statement.TheVariants.{Chars, N
 use Rattle.cord_plan.specs.Exprs.{Expr, name}
 use Rattle.cord_plan.specs.Operands.{read_by}
 use Rattle.cord_plan.specs.Forced.{Choice, Table, expr_of, setter, chosen_of, choices, entry, operands_chosen, own}
-use Rattle.cord_plan.specs.Choices.{simple_operands}
+use Rattle.cord_plan.specs.inner.Choices.{simple_operands}
 
 -- a simple line reads its operands
 pub simple_reads : (l : Statement) (xs : List (List ℕ)) → simple_operands l ≡ Some xs → read_by l ≡ xs

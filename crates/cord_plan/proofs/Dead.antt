@@ -5,7 +5,7 @@ use Rattle.std.proofs.Math.Nat.{eq-or-lt_of_le}
 use Rattle.std.proofs.lemmas.List.{get_or_append_left, get_or_push}
 use Rattle.std.proofs.lemmas.Option.{slice_get_read}
 use Rattle.cord_syntax.specs.declared.statements.Statement.{Statement}
-use Rattle.cord_plan.specs.Liveness.{at}
+use Rattle.cord_plan.specs.inner.Liveness.{at}
 use Rattle.cord_plan.specs.Operands.{target_of}
 use Rattle.cord_plan.specs.Planned.{is_dead}
 

@@ -9,7 +9,7 @@ use Rattle.cord_meaning.specs.Paths.{opened, open_at}
 use Rattle.cord_plan.specs.declared.successors.Shape.{Shape}
 use Rattle.cord_plan.specs.declared.successors.Behind.{Behind}
 use Rattle.cord_plan.specs.Unread.{behind, behind_close}
-use Rattle.cord_plan.specs.Liveness.{shape_view, innermost, places, places_at, AreBehind}
+use Rattle.cord_plan.specs.inner.Liveness.{shape_view, innermost, places, places_at, AreBehind}
 
 -- the shape at a place
 pub shape_there : (xs : List Shape) (p : ℕ) (x d : Shape) → p < length xs → get_or xs p d ≡ x → slice_get (map shape_view xs) p ≡ Some (shape_view x)

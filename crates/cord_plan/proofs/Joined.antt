@@ -7,7 +7,7 @@ use Rattle.cord_plan.specs.Views.{Shared, members_of, shared_view}
 use Rattle.cord_plan.specs.declared.choosing.Choice.{Choice}
 use Rattle.cord_plan.specs.Forced as plain
 use Rattle.cord_plan.specs.Forced.{expr_of}
-use Rattle.cord_plan.specs.Choices.{choice_view}
+use Rattle.cord_plan.specs.inner.Choices.{choice_view}
 
 append_thrice : (a b c : Exprs) → append (append a b) c ≡ append a (append b c)
 append_thrice nothing b c = refl

@@ -8,7 +8,7 @@ use Rattle.cord_plan.specs.Exprs.{names, names_of}
 use Rattle.cord_plan.specs.Views.{Shared, members_of, shared_view}
 use Rattle.cord_plan.specs.Operands.{is_name, target_of}
 use Rattle.cord_plan.specs.Forced.{keeps}
-use Rattle.cord_plan.specs.Recent.{lacks}
+use Rattle.cord_plan.specs.inner.Recent.{lacks}
 
 module _ (x : List ℕ) where
   pub lacks_append : (ys zs : List (List ℕ)) → lacks (ys ++ zs) x ≡ (lacks ys x && lacks zs x)

@@ -12,8 +12,8 @@ use Rattle.cord_meaning.specs.Statements.{shape_of}
 use Rattle.cord_plan.specs.Operands.{assigns, assigns_at, reads, reads_at}
 use Rattle.cord_plan.specs.declared.numbering.Numbering.{Numbering}
 use Rattle.cord_plan.specs.Forced.{each_from, is_block, is_block_at, keeps, setter}
-use Rattle.cord_plan.specs.Choices.{nearest}
-use Rattle.cord_plan.specs.Recent.{Notes, entry_of, reader, blocker, is_before, is_behind, stay, unless_behind}
+use Rattle.cord_plan.specs.inner.Choices.{nearest}
+use Rattle.cord_plan.specs.inner.Recent.{Notes, entry_of, reader, blocker, is_before, is_behind, stay, unless_behind}
 use Rattle.cord_plan.proofs.Chosen.{setter_is}
 use Rattle.cord_plan.proofs.Nearest.{each_more}
 use Rattle.cord_plan.proofs.PartSums.{keeps_append}

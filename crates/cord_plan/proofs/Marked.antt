@@ -11,11 +11,11 @@ use Rattle.std.proofs.lemmas.List.Recursion.{or_push}
 use Rattle.cord_syntax.specs.declared.statements.Statement.{Statement}
 use Rattle.cord_plan.specs.Exprs.{Expr}
 use Rattle.cord_plan.specs.Forced.{Table, Choice, kept, replaced, own, operands_chosen, grown, exprs, expr_with, expr_of}
-use Rattle.cord_plan.specs.Choices as code
-use Rattle.cord_plan.specs.Choices.{Has, simple_operands}
-use Rattle.cord_plan.specs.Liveness.{at}
+use Rattle.cord_plan.specs.inner.Choices as code
+use Rattle.cord_plan.specs.inner.Choices.{Has, simple_operands}
+use Rattle.cord_plan.specs.inner.Liveness.{at}
 use Rattle.cord_plan.specs.Planned.{is_from, some_from, is_first}
-use Rattle.cord_plan.specs.Tables.{IsMarked, IsNext, IsGrown, IsWhole}
+use Rattle.cord_plan.specs.inner.Tables.{IsMarked, IsNext, IsGrown, IsWhole}
 use Rattle.cord_plan.proofs.Choices.{entry_of, chosen_simple}
 
 -- what a call through a whole slice of a vector leaves in it

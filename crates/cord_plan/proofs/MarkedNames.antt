@@ -13,8 +13,8 @@ use Rattle.cord_operands.specs.declared.operands.Number as numbers
 use Rattle.cord_operands.specs.declared.operands.Argument.{Argument}
 use Rattle.cord_operands.specs.declared.operands.Argument.TheVariants.{Number, Cord}
 use Rattle.cord_plan.specs.Operands.{has, cord_arguments, read_by, target_of, reads, assigns}
-use Rattle.cord_plan.specs.Numbering.{names_of, number_of}
-use Rattle.cord_plan.specs.Marks.{bit, IsBit, Marks}
+use Rattle.cord_plan.specs.inner.Numbering.{names_of, number_of}
+use Rattle.cord_plan.specs.inner.Marks.{bit, IsBit, Marks}
 use Rattle.cord_plan.proofs.Named.{same_bytes, own_bytes}
 use Rattle.cord_plan.proofs.Numbers.{number_there, arguments_more}
 use Rattle.cord_plan.proofs.Words.{bit_or_is, bit_zero_is, bit_one_same, bit_one_other}

@@ -10,7 +10,7 @@ use Rattle.cord_meaning.specs.Statements.{shape_of}
 use Rattle.cord_plan.specs.Exprs.{Expr, names}
 use Rattle.cord_plan.specs.Operands.{assigns, assigns_at, count, reads, reads_at, read_by}
 use Rattle.cord_plan.specs.Forced.{Choice, kept, replaced, Table, first_of, is_block, is_block_at, keeps, each_from, setter, is_small, expr_with, chosen_from, chosen_of}
-use Rattle.cord_plan.specs.Choices.{nearest, is_spare, stands, expression_of, expression_in, Has}
+use Rattle.cord_plan.specs.inner.Choices.{nearest, is_spare, stands, expression_of, expression_in, Has}
 use Rattle.cord_plan.proofs.Chosen.{setter_is}
 
 -- one place more at the end

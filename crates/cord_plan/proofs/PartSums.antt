@@ -11,7 +11,7 @@ use Rattle.cord_plan.specs.Exprs.{Expr, Exprs, name, run, cat, sub, nothing, mem
 use Rattle.cord_plan.specs.Views.{Shared, members_of, shared_view}
 use Rattle.cord_plan.specs.Operands.{assigns_at}
 use Rattle.cord_plan.specs.Forced.{Choice, expr_of, keeps, is_small, expr_with}
-use Rattle.cord_plan.specs.Choices.{room_left, room_left_by, simple_operands, parts_beside}
+use Rattle.cord_plan.specs.inner.Choices.{room_left, room_left_by, simple_operands, parts_beside}
 
 -- where one count of parts is too large, so is it with more
 over_more : (n m room : ℕ) → nat_le n room ≡ false → nat_le (n + m) room ≡ false

@@ -5,14 +5,14 @@ use Rattle.std.proofs.lemmas.Option.{slice_get_read}
 use Rattle.std.proofs.lemmas.List.{at_drop_more, at_drop_all, map-append, length-map}
 use Rattle.cord_syntax.specs.declared.statements.Statement.{Statement}
 use Rattle.cord_plan.specs.Exprs.{Expr}
-use Rattle.cord_plan.specs.Choices.{expression_of}
+use Rattle.cord_plan.specs.inner.Choices.{expression_of}
 use Rattle.cord_plan.specs.Conditions.{Decisions, decided, decided_from}
 use Rattle.cord_plan.specs.Forced.{Choice, exprs}
-use Rattle.cord_plan.specs.Liveness.{at}
+use Rattle.cord_plan.specs.inner.Liveness.{at}
 use Rattle.cord_plan.specs.Operands.{target_of}
 use Rattle.cord_plan.specs.Planned as plan
 use Rattle.cord_plan.specs.Planned.{or_nothing, operation, is_dead, planned}
-use Rattle.cord_plan.specs.Tables.{IsWhole}
+use Rattle.cord_plan.specs.inner.Tables.{IsWhole}
 use Rattle.cord_plan.specs.Views.{operation_view}
 use Rattle.cord_plan.specs.declared.operations.Operation.{Operation}
 use Rattle.cord_plan.proofs.Nearest.{first_in}

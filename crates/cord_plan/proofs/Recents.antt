@@ -9,8 +9,8 @@ use Rattle.cord_operands.specs.declared.operands.Number as numbers
 use Rattle.cord_operands.specs.declared.operands.Argument.{Argument}
 use Rattle.cord_operands.specs.declared.operands.Argument.TheVariants.{Number, Cord}
 use Rattle.cord_plan.specs.Operands.{has, cord_arguments}
-use Rattle.cord_plan.specs.Numbering.{names_of, number_of}
-use Rattle.cord_plan.specs.Recent.{Notes, entry_at, entry_of, noted}
+use Rattle.cord_plan.specs.inner.Numbering.{names_of, number_of}
+use Rattle.cord_plan.specs.inner.Recent.{Notes, entry_at, entry_of, noted}
 use Rattle.cord_plan.specs.declared.numbering.Numbering.{Numbering}
 use Rattle.cord_plan.proofs.Named.{same_bytes, own_bytes}
 use Rattle.cord_plan.proofs.Numbers.{number_there, arguments_more}

@@ -12,9 +12,9 @@ use Rattle.cord_plan.specs.declared.liveness.Later.{Later}
 use Rattle.cord_plan.specs.declared.numbering.Numbering.{Numbering}
 use Rattle.cord_plan.specs.Operands.{has, reads_at}
 use Rattle.cord_plan.specs.Unread.{ReadBy, ReadLater, Unread, IsLater, behind, some_of}
-use Rattle.cord_plan.specs.Numbering.{Covers, names_of}
-use Rattle.cord_plan.specs.Marks.{IsBit, column}
-use Rattle.cord_plan.specs.Liveness.{AreBehind, AreLive, AllLive, LiveTo, IsLive, at, live_of, tells, places_at}
+use Rattle.cord_plan.specs.inner.Numbering.{Covers, names_of}
+use Rattle.cord_plan.specs.inner.Marks.{IsBit, column}
+use Rattle.cord_plan.specs.inner.Liveness.{AreBehind, AreLive, AllLive, LiveTo, IsLive, at, live_of, tells, places_at}
 use Rattle.cord_plan.proofs.Flows.{Found, shape_found, shape_held}
 use Rattle.cord_plan.proofs.Numbers.{Numbered, numbered, unnumbered}
 use Rattle.cord_plan.proofs.Sweeps.{path_in_table}

@@ -3,9 +3,9 @@ ghost use Rattle.std.specs.Prelude.{◌≡◌, ◌==◌, ◌+◌, ◌<◌, ◌�
 ghost use Rattle.cord_plan.specs.Exprs.{names, name};
 ghost use Rattle.cord_plan.specs.Operands.{assigns, count};
 ghost use Rattle.cord_plan.specs.Forced.{is_small, expr_of, expr_with};
-ghost use Rattle.cord_plan.specs.Choices.{simple_operands, parts_beside, expression_in, is_spare, room_left_by, choice_view, operands_view, IsChoice, AreChoices};
-ghost use Rattle.cord_plan.specs.Liveness.{tells};
-ghost use Rattle.cord_plan.specs.Recent.{IsRecent};
+ghost use Rattle.cord_plan.specs.inner.Choices.{simple_operands, parts_beside, expression_in, is_spare, room_left_by, choice_view, operands_view, IsChoice, AreChoices};
+ghost use Rattle.cord_plan.specs.inner.Liveness.{tells};
+ghost use Rattle.cord_plan.specs.inner.Recent.{IsRecent};
 ghost use Rattle.cord_plan.specs.Views.{expr_view};
 
 use crate::parts::room_behind;

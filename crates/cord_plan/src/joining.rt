@@ -4,7 +4,7 @@ ghost use Rattle.cord_plan.specs.Exprs as plain;
 ghost use Rattle.cord_plan.specs.Exprs.{append, in_front, members, nothing};
 ghost use Rattle.cord_operands.specs.declared.operands.Number.TheVariants.{Numeral};
 ghost use Rattle.cord_plan.specs.Forced.{expr_of, expr_with};
-ghost use Rattle.cord_plan.specs.Choices.{choice_view};
+ghost use Rattle.cord_plan.specs.inner.Choices.{choice_view};
 ghost use Rattle.cord_plan.specs.Views.{expr_view, members_of, shared_view};
 
 use crate::Expr;

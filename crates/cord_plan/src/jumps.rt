@@ -1,7 +1,7 @@
 // Where the operations of a plan lead that pass others over.
 ghost use Rattle.std.specs.Prelude.{◌≡◌, ◌<◌, ℕ, Some, IfOk, length, map, slice_get};
 ghost use Rattle.cord_meaning.specs.Blocks.{jump};
-ghost use Rattle.cord_plan.specs.Liveness.{shape_view};
+ghost use Rattle.cord_plan.specs.inner.Liveness.{shape_view};
 ghost use Rattle.cord_plan.specs.Meaning.{operation_shape};
 ghost use Rattle.cord_plan.specs.Views.{operation_view};
 

@@ -3,9 +3,9 @@ ghost use Rattle.std.specs.Prelude.{◌≡◌, ◌<◌, ◌≤◌, ◌/◌, ◌^
 ghost use Rattle.cord_meaning.specs.Statements.{shape_of};
 ghost use Rattle.cord_plan.specs.Operands.{assigns_at};
 ghost use Rattle.cord_plan.specs.Unread.{IsLater, behind, some_of};
-ghost use Rattle.cord_plan.specs.Marks.{bit, column, room, IsBit};
-ghost use Rattle.cord_plan.specs.Numbering.{names_of};
-ghost use Rattle.cord_plan.specs.Liveness.{places, places_at, AreBehind, at, tells, flow, AreAssigned, ArePartly, AreLive, AllLive, column_of};
+ghost use Rattle.cord_plan.specs.inner.Marks.{bit, column, room, IsBit};
+ghost use Rattle.cord_plan.specs.inner.Numbering.{names_of};
+ghost use Rattle.cord_plan.specs.inner.Liveness.{places, places_at, AreBehind, at, tells, flow, AreAssigned, ArePartly, AreLive, AllLive, column_of};
 
 use crate::marks::{GROUP, has_bit, mark_assigned, mark_read};
 use crate::numbering::Numbering;

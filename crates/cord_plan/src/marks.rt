@@ -1,6 +1,6 @@
 // Sets of names by words: bit i of a word of a group stands for the name whose number is 128 times the group and i.
 ghost use Rattle.std.specs.Prelude.{◌≡◌, ◌<◌, ◌||◌};
-ghost use Rattle.cord_plan.specs.Marks.{bit, Marks};
+ghost use Rattle.cord_plan.specs.inner.Marks.{bit, Marks};
 ghost use Rattle.cord_plan.specs.Operands.{has, cord_arguments, reads, assigns};
 ghost use Rattle.std.specs.Str.{bytes_eq};
 

@@ -1,8 +1,8 @@
 // Names with numbers.
 ghost use Rattle.std.specs.Prelude.{◌≡◌, ◌<◌, [], ◌∷◌, IfOk, OnOk, length, slice_get};
 ghost use Rattle.cord_plan.specs.Operands.{cord_arguments, is_name, read_by};
-ghost use Rattle.cord_plan.specs.Readings.{read_names};
-ghost use Rattle.cord_plan.specs.Numbering.{slot_of, place_of, number_of, names_of, Adds, Covers};
+ghost use Rattle.cord_plan.specs.inner.Readings.{read_names};
+ghost use Rattle.cord_plan.specs.inner.Numbering.{slot_of, place_of, number_of, names_of, Adds, Covers};
 
 use crate::readings::{Reading, reading_of, target_of};
 use cord_script::{Argument, Name, Statement, is_same};

@@ -1,7 +1,7 @@
 // Walks over expressions: their parts, copies of them.
 ghost use Rattle.std.specs.Prelude.{◌≡◌, ◌++◌, IfOk, IsOkUnless, OnOk, map};
 ghost use Rattle.cord_plan.specs.Exprs.{parts, parts_of};
-ghost use Rattle.cord_plan.specs.Choices.{room_left};
+ghost use Rattle.cord_plan.specs.inner.Choices.{room_left};
 ghost use Rattle.cord_plan.specs.Views.{expr_view, members_of, shared_view};
 
 use crate::Expr;

@@ -1,10 +1,10 @@
 // The planner.
 ghost use Rattle.std.specs.Prelude.{◌≡◌, ◌<◌, ℕ, Bool, List, Some, IfOk, IsOkUnless, length, map, option_map, slice_get};
-ghost use Rattle.cord_plan.specs.Liveness.{tells};
+ghost use Rattle.cord_plan.specs.inner.Liveness.{tells};
 ghost use Rattle.cord_plan.specs.Meaning.{IsPlanOf};
 ghost use Rattle.cord_plan.specs.Operands.{target_of};
 ghost use Rattle.cord_plan.specs.Planned as plan;
-ghost use Rattle.cord_plan.specs.Tables.{AreDead, IsTableOf};
+ghost use Rattle.cord_plan.specs.inner.Tables.{AreDead, IsTableOf};
 ghost use Rattle.cord_plan.specs.Unread.{IsLater};
 ghost use Rattle.cord_plan.specs.Views.{operation_view};
 

@@ -1,7 +1,7 @@
 // The names whose bytes a line reads, and the name that it assigns.
 ghost use Rattle.std.specs.Prelude.{◌≡◌, [], ◌∷◌, option_map};
 ghost use Rattle.cord_plan.specs.Operands.{has, cord_arguments, read_by, target_of, reads, assigns};
-ghost use Rattle.cord_plan.specs.Readings.{read_names};
+ghost use Rattle.cord_plan.specs.inner.Readings.{read_names};
 
 use cord_script::{Argument, Name, Statement, is_same};
 

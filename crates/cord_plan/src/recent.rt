@@ -5,7 +5,7 @@ ghost use Rattle.cord_syntax.specs.declared.statements.Statement.{Statement};
 ghost use Rattle.cord_meaning.specs.Statements.{shape_of};
 ghost use Rattle.cord_plan.specs.Forced.{is_block};
 ghost use Rattle.cord_plan.specs.Operands.{assigns, cord_arguments, has, reads};
-ghost use Rattle.cord_plan.specs.Recent.{IsRecent, Notes, entry_at, entry_of, is_before, is_behind, unless_behind};
+ghost use Rattle.cord_plan.specs.inner.Recent.{IsRecent, Notes, entry_at, entry_of, is_before, is_behind, unless_behind};
 
 use crate::liveness::Later;
 use crate::numbering::Numbering;

@@ -8,7 +8,7 @@ ghost use Rattle.cord_io.specs.Device.{raised};
 ghost use Rattle.cord_meaning.specs.Statements.{line_of};
 ghost use Rattle.cord_iter.specs.Taking.{IsFrontOf, Takes};
 ghost use Rattle.cord_plan.specs.Shown.{decimal, expr, function, spaced, statement, made as made_text, operation as operation_text, shown};
-ghost use Rattle.cord_plan.specs.Showing.{Writes, fragment_text};
+ghost use Rattle.cord_plan.specs.inner.Showing.{Writes, fragment_text};
 ghost use Rattle.cord_plan.specs.Views.{expr_view, made_view, operation_view};
 
 use self::expressions::put_expression;

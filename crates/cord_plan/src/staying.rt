@@ -3,8 +3,8 @@ ghost use Rattle.std.specs.Prelude.{◌≡◌, ◌≤◌, ◌++◌, [], ◌∷�
 ghost use Rattle.cord_meaning.specs.Statements.{shape_of};
 ghost use Rattle.cord_plan.specs.Exprs.{names, names_of, number_names};
 ghost use Rattle.cord_plan.specs.Forced.{keeps};
-ghost use Rattle.cord_plan.specs.Choices.{nearest};
-ghost use Rattle.cord_plan.specs.Recent.{IsRecent, stay, bars};
+ghost use Rattle.cord_plan.specs.inner.Choices.{nearest};
+ghost use Rattle.cord_plan.specs.inner.Recent.{IsRecent, stay, bars};
 ghost use Rattle.cord_plan.specs.Views.{expr_view, members_of, shared_view};
 
 use crate::Expr;

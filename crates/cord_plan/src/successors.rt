@@ -4,7 +4,7 @@ ghost use Rattle.cord_meaning.specs.Blocks.{to_end, to_else, jump};
 ghost use Rattle.cord_meaning.specs.Paths.{opened, open_at};
 ghost use Rattle.cord_meaning.specs.Statements.{shape_of};
 ghost use Rattle.cord_plan.specs.Unread.{behind};
-ghost use Rattle.cord_plan.specs.Liveness.{shape_view, turn_of, innermost, places, AreBehind};
+ghost use Rattle.cord_plan.specs.inner.Liveness.{shape_view, turn_of, innermost, places, AreBehind};
 
 use cord_script::Statement;
 use std::alloc::{AllocError, Global};

@@ -1,9 +1,9 @@
 // The expressions of all lines of a script, and which lines are the first of a forced pair.
 ghost use Rattle.std.specs.Prelude.{◌≡◌, ◌≤◌, IfOk, IsOkUnless, length, map, option_map};
-ghost use Rattle.cord_plan.specs.Choices.{choice_view};
-ghost use Rattle.cord_plan.specs.Liveness.{tells};
-ghost use Rattle.cord_plan.specs.Recent.{IsRecent};
-ghost use Rattle.cord_plan.specs.Tables.{IsMarked, IsNext, IsTableOf};
+ghost use Rattle.cord_plan.specs.inner.Choices.{choice_view};
+ghost use Rattle.cord_plan.specs.inner.Liveness.{tells};
+ghost use Rattle.cord_plan.specs.inner.Recent.{IsRecent};
+ghost use Rattle.cord_plan.specs.inner.Tables.{IsMarked, IsNext, IsTableOf};
 ghost use Rattle.cord_plan.specs.Views.{expr_view};
 
 use crate::Expr;

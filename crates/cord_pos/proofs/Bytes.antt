@@ -11,8 +11,8 @@ use Rattle.cord_node.specs.Tree.{cells, len_of, IsSound}
 use Rattle.cord_node.specs.Tables.{bytes_over, FitsIn, Fits, byte_at}
 use Rattle.cord_node.proofs.TreeLemmas.{length-cells}
 use Rattle.cord_node.proofs.TableLemmas.{bytes-cells}
-use Rattle.cord_pos.specs.Path.{part_at}
-use Rattle.cord_pos.specs.Parts.{is_part, HasByte}
+use Rattle.cord_pos.specs.inner.Path.{part_at}
+use Rattle.cord_pos.specs.inner.Parts.{is_part, HasByte}
 use Rattle.cord_pos.proofs.Sides.{part_at-left, part_at-right}
 
 -- the part that holds an index is sound and fits where the node does

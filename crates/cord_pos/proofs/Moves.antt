@@ -7,7 +7,7 @@ use Rattle.cord_node.specs.declared.Node.{Node}
 use Rattle.cord_node.specs.declared.Node.TheVariants.{Leaf, Run, Func, Cat'}
 use Rattle.cord_node.specs.Tree.{len_of, depth_of, IsSound}
 use Rattle.cord_node.specs.Occurrences.{level, shared_level}
-use Rattle.cord_pos.specs.Path.{Place, below, way, part_at, holds, NoneHolds}
+use Rattle.cord_pos.specs.inner.Path.{Place, below, way, part_at, holds, NoneHolds}
 use Rattle.cord_pos.proofs.Sides.{below-left, below-right, level-left, level-right, part_at-left, part_at-right, shared-left, shared-right, shared-parted, shared-parted_back}
 
 -- a node that stands k steps below a root, where its text begins

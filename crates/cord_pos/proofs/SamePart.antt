@@ -6,7 +6,7 @@ use Rattle.cord_node.specs.declared.Node.{Node}
 use Rattle.cord_node.specs.declared.Node.TheVariants.{Leaf, Run, Func, Cat'}
 use Rattle.cord_node.specs.Tree.{len_of, IsSound}
 use Rattle.cord_node.specs.Occurrences.{preorder}
-use Rattle.cord_pos.specs.Path.{below, way, part_at}
+use Rattle.cord_pos.specs.inner.Path.{below, way, part_at}
 use Rattle.cord_pos.proofs.Sides.{below-left, below-right, preorder-left, preorder-right, part_at-left, part_at-right}
 
 -- the part that holds an index lies inside the node and has the index in it

@@ -9,7 +9,7 @@ use Rattle.cord_node.specs.declared.Node.{Node}
 use Rattle.cord_node.specs.declared.Node.TheVariants.{Cat'}
 use Rattle.cord_node.specs.Tree.{len_of}
 use Rattle.cord_node.specs.Occurrences.{size, level, preorder, shared_level}
-use Rattle.cord_pos.specs.Path.{below, way, part_at}
+use Rattle.cord_pos.specs.inner.Path.{below, way, part_at}
 
 -- a test that says no
 pub not_less : (a b : ℕ) → b ≤ a → nat_lt a b ≡ false

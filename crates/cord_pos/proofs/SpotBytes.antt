@@ -9,10 +9,10 @@ use Rattle.cord_node.proofs.TableLemmas.{Fits-told}
 use Rattle.cord_core.specs.Cord.{CordFitsIn}
 use Rattle.cord_pos.specs.declared.path.Path.{Path}
 use Rattle.cord_pos.specs.declared.Spot.{Spot}
-use Rattle.cord_pos.specs.Path.{node_of, places, part_at}
-use Rattle.cord_pos.specs.Parts.{is_part, HasByte}
+use Rattle.cord_pos.specs.inner.Path.{node_of, places, part_at}
+use Rattle.cord_pos.specs.inner.Parts.{is_part, HasByte}
 use Rattle.cord_pos.specs.Position.{IsByteAt}
-use Rattle.cord_pos.specs.Invariant.{IsOnPart, IsPosition}
+use Rattle.cord_pos.specs.inner.Invariant.{IsOnPart, IsPosition}
 use Rattle.cord_pos.proofs.Bytes.{IsPartOf, part_of, part_byte}
 use Rattle.cord_pos.proofs.SamePart.{has_range}
 

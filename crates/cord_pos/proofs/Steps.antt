@@ -6,7 +6,7 @@ use Rattle.cord_node.specs.declared.Node.{Node}
 use Rattle.cord_node.specs.declared.Node.TheVariants.{Leaf, Run, Func, Cat'}
 use Rattle.cord_node.specs.Tree.{len_of, depth_of, IsSound}
 use Rattle.cord_node.specs.Occurrences.{level}
-use Rattle.cord_pos.specs.Path.{side_at, below, part_at}
+use Rattle.cord_pos.specs.inner.Path.{side_at, below, part_at}
 use Rattle.cord_pos.proofs.Sides.{not_less, below-left, below-right, level-left, level-right, part_at-left, part_at-right}
 
 -- the side m of a node that holds its index i begins at the offset o

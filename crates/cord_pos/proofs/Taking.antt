@@ -5,7 +5,7 @@ use Rattle.cord_node.specs.declared.Node.{Node}
 use Rattle.cord_node.specs.Tree.{len_of, depth_of, IsSound}
 use Rattle.cord_node.specs.Occurrences.{level, shared_level}
 use Rattle.cord_node.proofs.TreeLemmas.{len_limit}
-use Rattle.cord_pos.specs.Path.{Place, below, part_at, IsClimb, EndsIn, IsOnWay, IsTakenTo}
+use Rattle.cord_pos.specs.inner.Path.{Place, below, part_at, IsClimb, EndsIn, IsOnWay, IsTakenTo}
 use Rattle.cord_pos.proofs.Counts.{depth_limit}
 use Rattle.cord_pos.proofs.Moves.{IsUnder, under_root, IsMove, moved}
 

@@ -1,4 +1,2 @@
-pub mod Path
 pub mod Position
-pub mod Invariant
-pub mod Parts
+pub mod inner

@@ -67,7 +67,7 @@ impl<'a> Model for Position<'a> {
 
     ghost coded = { Prim.hlevel (codes, n.the_row.coded) };
 
-    ghost use Rattle.cord_pos.specs.Invariant.{IsPosition};
+    ghost use Rattle.cord_pos.specs.inner.Invariant.{IsPosition};
 
     ghost view = { λ p. record { cord = p.tree.cord.now; index = option_map (λ s. s.index) p.spot; visits = p.path.visits.count } };
 

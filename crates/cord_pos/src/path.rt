@@ -4,9 +4,9 @@ ghost use Rattle.arrayvec.specs.ArrayVec.{array_vec_len};
 ghost use Rattle.cord_node.specs.Tree.{len_of, depth_of, IsSound};
 ghost use Rattle.cord_node.specs.Occurrences.{level};
 ghost use Rattle.cord_core.specs.Cord.{text_len};
-ghost use Rattle.cord_pos.specs.Path.{node_of, places, below, part_at, IsClimb, EndsIn, IsOnWay, IsTakenTo};
+ghost use Rattle.cord_pos.specs.inner.Path.{node_of, places, below, part_at, IsClimb, EndsIn, IsOnWay, IsTakenTo};
 ghost use Rattle.cord_pos.specs.Position.{set_visits};
-ghost use Rattle.cord_pos.specs.Invariant.{IsOnCord};
+ghost use Rattle.cord_pos.specs.inner.Invariant.{IsOnCord};
 
 use crate::visited::{Tree, Visited, Visits};
 use arrayvec::ArrayVec;

@@ -6,8 +6,8 @@ ghost use Rattle.cord_io.specs.Device.{Folder, count_after};
 ghost use Rattle.cord_node.specs.Tree.{len_of, IsSound};
 ghost use Rattle.cord_node.specs.Tables.{FitsIn};
 ghost use Rattle.cord_core.specs.Cord.{text_len, IsCord};
-ghost use Rattle.cord_pos.specs.Path.{node_of, side_at};
-ghost use Rattle.cord_pos.specs.Parts.{is_part, HasByte};
+ghost use Rattle.cord_pos.specs.inner.Path.{node_of, side_at};
+ghost use Rattle.cord_pos.specs.inner.Parts.{is_part, HasByte};
 
 use cord_core::Cord;
 use cord_io::{ReadFault, Source};

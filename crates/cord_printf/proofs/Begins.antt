@@ -6,7 +6,7 @@ use Rattle.cord_printf.specs.declared.pieces.Flags.{Flags}
 use Rattle.cord_printf.specs.declared.pieces.Piece.{Piece}
 use Rattle.cord_printf.specs.Pieces.{IsMark, StartsNo, IsPoint, Conversion, Spells, number_of, flags_of}
 use Rattle.cord_printf.specs.Format.{Converts, BeginsConversion}
-use Rattle.cord_printf.specs.Reading.{AreParts, IsLettered, IsNoLetter, IsAllowed}
+use Rattle.cord_printf.specs.inner.Reading.{AreParts, IsLettered, IsNoLetter, IsAllowed}
 use Rattle.cord_printf.proofs.Spans.{SameParts}
 use Rattle.cord_printf.proofs.Spelled.{same_parts, spelling-append}
 use Rattle.cord_printf.proofs.Lettered.{HasParts, spells_of, lettered_of, lettered-unique, point_of, small_width, allowed_of, some_letter}

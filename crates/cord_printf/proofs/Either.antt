@@ -9,7 +9,7 @@ use Rattle.cord_printf.specs.declared.pieces.Radix.TheVariants.{Decimal, Octal, 
 use Rattle.cord_printf.specs.declared.pieces.Piece.{Piece}
 use Rattle.cord_printf.specs.declared.pieces.Piece.TheVariants.{Text, Signed, Unsigned, Byte, Cord, Percent}
 use Rattle.cord_printf.specs.Pieces.{IsMark, IsDigit, StartsNo, IsPoint, IsPiece, spelling, number_of, flags_of}
-use Rattle.cord_printf.specs.Reading.{AreParts, IsDotted, IsPointed, IsLettered, IsNoLetter, IsAllowed}
+use Rattle.cord_printf.specs.inner.Reading.{AreParts, IsDotted, IsPointed, IsLettered, IsNoLetter, IsAllowed}
 use Rattle.cord_printf.specs.Format.{IsFormat, BeginsConversion, IsBadAt}
 use Rattle.cord_printf.specs.FormatLaws.{FormatOrBad}
 use Rattle.cord_printf.proofs.Spelled.{not_mark_of}

@@ -8,7 +8,7 @@ use Rattle.cord_printf.specs.declared.pieces.Radix.TheVariants.{Decimal, Octal, 
 use Rattle.cord_printf.specs.declared.pieces.Piece.{Piece}
 use Rattle.cord_printf.specs.declared.pieces.Piece.TheVariants.{Text, Signed, Unsigned, Byte, Cord, Percent}
 use Rattle.cord_printf.specs.Pieces.{IsMark, IsDigit, StartsNo, IsPoint, IsModifier, Conversion, Spells, number_of, flags_of, HasWidth}
-use Rattle.cord_printf.specs.Reading.{IsLettered, IsNoLetter, IsAllowed}
+use Rattle.cord_printf.specs.inner.Reading.{IsLettered, IsNoLetter, IsAllowed}
 use Rattle.cord_printf.proofs.Spelled.{IsLong}
 
 modifier_of : (m : List ℕ) → All IsLong m → length m ≤ 2 → IsModifier m

@@ -3,7 +3,7 @@ use Rattle.std.proofs.Common.{◌≡◌, ℕ, List, [], ◌∷◌, ◌++◌, ref
 use Rattle.std.specs.Prelude.{All}
 use Rattle.std.proofs.lemmas.List.Elements.{All-head, All-tail}
 use Rattle.cord_printf.specs.Pieces.{IsMark, IsDigit, StartsNo}
-use Rattle.cord_printf.specs.Reading.{AreParts, IsDotted}
+use Rattle.cord_printf.specs.inner.Reading.{AreParts, IsDotted}
 
 -- one span of a kind stands at the front
 pub span-unique : (P : ℕ → Type 0) (xs us ys vs : List ℕ) → All P xs → All P ys → StartsNo P us → StartsNo P vs → xs ++ us ≡ ys ++ vs → (xs ≡ ys) × (us ≡ vs)

@@ -7,7 +7,7 @@ use Rattle.cord_printf.specs.declared.pieces.Radix.TheVariants.{Decimal, Octal, 
 use Rattle.cord_printf.specs.declared.pieces.Piece.{Piece}
 use Rattle.cord_printf.specs.declared.pieces.Piece.TheVariants.{Text, Signed, Unsigned, Byte, Cord, Percent}
 use Rattle.cord_printf.specs.Pieces.{IsMark, IsDigit, StartsNo, IsPoint, IsModifier, Conversion, spelling, Spells, HasWidth}
-use Rattle.cord_printf.specs.Reading.{AreParts, IsDotted, IsPointed}
+use Rattle.cord_printf.specs.inner.Reading.{AreParts, IsDotted, IsPointed}
 use Rattle.cord_printf.proofs.Spans.{parts-unique, SameParts}
 
 -- a byte that ends a conversion: none of the marks, digits, `.` and `l`

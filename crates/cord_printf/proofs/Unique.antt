@@ -5,7 +5,7 @@ use Rattle.std.proofs.lemmas.List.Elements.{All-head}
 use Rattle.cord_printf.specs.declared.pieces.Piece.{Piece}
 use Rattle.cord_printf.specs.declared.pieces.Piece.TheVariants.{Text, Signed, Unsigned, Byte, Cord, Percent}
 use Rattle.cord_printf.specs.Pieces.{IsPiece, IsPoint, StartsNo, Conversion, flags_of, number_of}
-use Rattle.cord_printf.specs.Reading.{IsLettered}
+use Rattle.cord_printf.specs.inner.Reading.{IsLettered}
 use Rattle.cord_printf.specs.Format.{HasPieces, IsFormat, Converts, BeginsConversion}
 use Rattle.cord_printf.specs.FormatLaws.{OneFormat, BadIsNoFormat, OneBadOffset}
 use Rattle.cord_printf.proofs.Spans.{span-unique, SameParts}

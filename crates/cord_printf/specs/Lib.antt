@@ -5,5 +5,5 @@ pub mod Own
 pub mod PieceText
 pub mod Pieces
 pub mod Printing
-pub mod Reading
 pub mod Shown
+pub mod inner

@@ -3,7 +3,7 @@ ghost use Rattle.std.specs.Prelude.{◌≡◌, ◌↔◌, ℕ, Option, ◌∷◌
 ghost use Rattle.cord_printf.specs.declared.pieces.Piece.{Piece};
 ghost use Rattle.cord_printf.specs.Pieces.{IsPoint};
 ghost use Rattle.cord_printf.specs.Format.{Converts, BeginsConversion};
-ghost use Rattle.cord_printf.specs.Reading.{IsLettered, IsNoLetter, IsAllowed, IsPointed};
+ghost use Rattle.cord_printf.specs.inner.Reading.{IsLettered, IsNoLetter, IsAllowed, IsPointed};
 
 use crate::reading::{Parts, flags_in, number, split_parts, uncons};
 use crate::{Flags, Piece, Radix};

@@ -1,7 +1,7 @@
 // Bytes of a format, read from left to right.
 ghost use Rattle.std.specs.Prelude.{◌≡◌, ◌<◌, ◌≤◌, ◌⊎◌, [], ◌∷◌, ◌++◌, All, length, take, drop, IfSome, IfNone, MatchOption, IsTrue, false};
 ghost use Rattle.cord_printf.specs.Pieces.{IsDigit, StartsNo, number_of, flags_of};
-ghost use Rattle.cord_printf.specs.Reading.{IsOf, AreParts, IsDotted};
+ghost use Rattle.cord_printf.specs.inner.Reading.{IsOf, AreParts, IsDotted};
 
 use crate::{Flags, MAX_WIDTH};
 

@@ -19,7 +19,7 @@ use denote.Struct.Members.{Member}
 use denote.Struct.Parts.{PartsBack}
 use denote.Struct.Pick.{rest_at, record_field_out, record_field_back}
 use Rattle.cord_raw.specs.declared.block.Block.{Block}
-use Rattle.cord_raw.specs.Blocks.{pointing}
+use Rattle.cord_raw.specs.inner.Blocks.{pointing}
 use Rattle.cord_raw.specs.contracts.block.Block as block
 use Rattle.cord_raw.proofs.block.Block.TheLaws as block_laws
 

@@ -7,7 +7,7 @@ use base.Fraction.{full_share}
 use types.Logic.{Logic, sem}
 use types.Kit.{‵, ◌$◌, ◌∵◌, !, qed, done, move, drop, keep, by, use2, fsplit, fjoin}
 use base.Logic.{ent, sep}
-use Rattle.cord_raw.specs.Blocks.{place_after}
+use Rattle.cord_raw.specs.inner.Blocks.{place_after}
 use denote.Memory.{lone}
 use denote.RawPtr.{Ptr, lies_at}
 use denote.Sharing.{ShrLaws}

@@ -5,7 +5,7 @@ use Rattle.std.proofs.Math.Seq.{take-add, drop-append-add}
 use Rattle.cord_raw.specs.declared.block.TheConstants.{ROOM}
 use Rattle.cord_raw.specs.declared.block.Block.{Block}
 use Rattle.cord_raw.specs.declared.chain.Chain.{Chain}
-use Rattle.cord_raw.specs.Places.{block_at}
+use Rattle.cord_raw.specs.inner.Places.{block_at}
 use Rattle.cord_raw.specs.Texts.{text_of, text, AreFull, blocks_of, chain_text, IsFilled}
 
 pub text_append : (xs ys : List Block) → text (xs ++ ys) ≡ text xs ++ text ys

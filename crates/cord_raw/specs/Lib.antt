@@ -1,5 +1,3 @@
-pub mod Blocks
-pub mod Loans
 pub mod Ownership
-pub mod Places
 pub mod Texts
+pub mod inner

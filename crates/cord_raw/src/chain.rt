@@ -2,7 +2,7 @@
 ghost use Rattle.std.specs.Prelude.{◌≡◌, ◌+◌, ◌<◌, ◌≤◌, List, [], ◌∷◌, ◌++◌, length, slice_range};
 ghost use Rattle.cord_raw.specs.declared.block.Block.{Block};
 ghost use Rattle.cord_raw.specs.declared.block.TheConstants.{MOST_BLOCKS, ROOM};
-ghost use Rattle.cord_raw.specs.Blocks.{place_after, pointing};
+ghost use Rattle.cord_raw.specs.inner.Blocks.{place_after, pointing};
 ghost use Rattle.cord_raw.specs.Ownership.{chain_owns, chain_lent};
 
 use crate::block::{Block, MOST_BLOCKS};
@@ -38,8 +38,8 @@ pub(crate) struct Place {
 
 impl Chain {
     ghost use types.Logic.{sem};
-    ghost use Rattle.cord_raw.specs.Loans.{newest_follows};
-    ghost use Rattle.cord_raw.specs.Places.{IsPlaceOf, block_at};
+    ghost use Rattle.cord_raw.specs.inner.Loans.{newest_follows};
+    ghost use Rattle.cord_raw.specs.inner.Places.{IsPlaceOf, block_at};
     ghost use Rattle.cord_raw.specs.Texts.{text_of};
 
     /// Takes over one block.

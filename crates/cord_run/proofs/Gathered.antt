@@ -13,7 +13,7 @@ use Rattle.cord_ec.specs.Grown.{bytes_over, IsCordOf, IsGrownBy}
 use Rattle.cord_file.specs.Entries.{lengths_in, table_in}
 use Rattle.cord_operands.specs.declared.operands.Function.{Function}
 use Rattle.cord_operands.specs.declared.operands.Function.TheVariants.{Digits, Bytes}
-use Rattle.cord_run.specs.Contents.{IsStartOf, IsTextOf, entry_of}
+use Rattle.cord_run.specs.inner.Contents.{IsStartOf, IsTextOf, entry_of}
 
 -- an extensible cord of no bytes that has grown by a text
 pub gathered_text : (text : List ℕ) (before after : List Cell) (cord : Option Node) → before ≡ [] → length before + length text ≤ MAX_LEN → IsGrownBy before after text → IsCordOf after cord → IsCord cord → IsTextOf text cord

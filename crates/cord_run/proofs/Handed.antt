@@ -18,10 +18,10 @@ use Rattle.cord_plan.proofs.Writing.{AreJoined, joined_next, joined_all}
 use Rattle.cord_run.specs.declared.making.Halt.{Halt}
 use Rattle.cord_run.specs.declared.making.Halt.TheVariants as halts
 use Rattle.cord_run.specs.declared.store.Entry.{Entry}
-use Rattle.cord_run.specs.Held.{IsOver}
-use Rattle.cord_run.specs.Holdings.{holding_of, plain_of}
-use Rattle.cord_run.specs.Putting.{Wrote, CountsHalts, halt_of}
-use Rattle.cord_run.specs.Whole.{AreWhole, IsUnbuilt}
+use Rattle.cord_run.specs.inner.Held.{IsOver}
+use Rattle.cord_run.specs.inner.Holdings.{holding_of, plain_of}
+use Rattle.cord_run.specs.inner.Putting.{Wrote, CountsHalts, halt_of}
+use Rattle.cord_run.specs.inner.Whole.{AreWhole, IsUnbuilt}
 use Rattle.cord_run.proofs.Growing.{over_told}
 
 -- each of them fits

@@ -11,7 +11,7 @@ use Rattle.cord_plan.specs.Exprs as plain
 use Rattle.cord_plan.specs.Views.{Shared, shared_view}
 use Rattle.cord_plan.proofs.MemberTexts as texts
 use Rattle.cord_run.specs.declared.store.Entry.{Entry}
-use Rattle.cord_run.specs.Extents.{counted, extent_in, members_extent, members_seen}
+use Rattle.cord_run.specs.inner.Extents.{counted, extent_in, members_extent, members_seen}
 
 abbrev pub weight : plain.Expr → ℕ
 weight e = texts.weight e

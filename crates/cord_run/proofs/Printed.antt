@@ -27,9 +27,9 @@ use Rattle.cord_meaning.proofs.Checks.{length_above}
 use Rattle.cord_plan.specs.Values.{length_of, within}
 use Rattle.cord_plan.proofs.Values.{is_within}
 use Rattle.cord_run.specs.declared.store.Entry.{Entry}
-use Rattle.cord_run.specs.Contents.{IsFaultOver, IsTextOver, IsToldOver, argument_in, halt_of_print}
-use Rattle.cord_run.specs.Held.{content_in, IsOver}
-use Rattle.cord_run.specs.Holdings.{plain_of}
+use Rattle.cord_run.specs.inner.Contents.{IsFaultOver, IsTextOver, IsToldOver, argument_in, halt_of_print}
+use Rattle.cord_run.specs.inner.Held.{content_in, IsOver}
+use Rattle.cord_run.specs.inner.Holdings.{plain_of}
 use Rattle.cord_run.proofs.Told.{content_text, cord_fits, operand_value}
 
 -- the arguments that names give, in order

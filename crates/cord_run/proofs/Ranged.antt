@@ -18,11 +18,11 @@ use Rattle.cord_plan.specs.Values.{within, copies, part_of, measured_copies, mea
 use Rattle.cord_plan.proofs.Values.{passes, fits_within, cat_joined}
 use Rattle.cord_run.specs.declared.picking.Wanted.{Wanted}
 use Rattle.cord_run.specs.declared.store.Entry.{Entry}
-use Rattle.cord_run.specs.Extents.{extent_in, members_extent}
-use Rattle.cord_run.specs.Held.{content_in, cord_in, operand_in}
-use Rattle.cord_run.specs.Holdings.{holding_of, plain_of}
-use Rattle.cord_run.specs.Ranges.{AddsPart, AddsCopies, AddsRun, AddsExpression, AddsMembers, AreFew, IsAfter, IsInside, IsOutside, IsPast}
-use Rattle.cord_run.specs.Turns.{AddsPiece, AreCopies}
+use Rattle.cord_run.specs.inner.Extents.{extent_in, members_extent}
+use Rattle.cord_run.specs.inner.Held.{content_in, cord_in, operand_in}
+use Rattle.cord_run.specs.inner.Holdings.{holding_of, plain_of}
+use Rattle.cord_run.specs.inner.Ranges.{AddsPart, AddsCopies, AddsRun, AddsExpression, AddsMembers, AreFew, IsAfter, IsInside, IsOutside, IsPast}
+use Rattle.cord_run.specs.inner.Turns.{AddsPiece, AreCopies}
 use Rattle.cord_run.proofs.SoFar.{nothing_taken}
 use Rattle.cord_run.proofs.Told.{cord_fits, content_text, operand_value, length_passed}
 

@@ -9,9 +9,9 @@ use Rattle.cord_node.specs.Tables.{lengths_of}
 use Rattle.cord_core.specs.Cord.{bytes_of, CordFitsIn, IsCord}
 use Rattle.cord_core.specs.Equations.{IsSameText}
 use Rattle.cord_run.specs.declared.store.Entry.{Entry}
-use Rattle.cord_run.specs.Contents.{IsExtended, IsTextOver}
-use Rattle.cord_run.specs.Held.{content_in, cord_in, extensible_in, ExtensibleFits, IsOver}
-use Rattle.cord_run.specs.Holdings.{extended_over}
+use Rattle.cord_run.specs.inner.Contents.{IsExtended, IsTextOver}
+use Rattle.cord_run.specs.inner.Held.{content_in, cord_in, extensible_in, ExtensibleFits, IsOver}
+use Rattle.cord_run.specs.inner.Holdings.{extended_over}
 use Rattle.cord_run.proofs.Told.{content_text, cord_fits}
 
 module _ (entries : List Entry) (name : List ℕ) where

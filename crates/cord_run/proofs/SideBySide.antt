@@ -9,9 +9,9 @@ use Rattle.cord_plan.specs.Meaning.{cords, cords_of}
 use Rattle.cord_plan.specs.Values.{within}
 use Rattle.cord_plan.specs.Views.{Shared, shared_view}
 use Rattle.cord_run.specs.declared.store.Entry.{Entry}
-use Rattle.cord_run.specs.Extents.{members_seen}
-use Rattle.cord_run.specs.Holdings.{holding_of, plain_of}
-use Rattle.cord_run.specs.Slices.{AreTextsIn, IsTextIn, texts_in}
+use Rattle.cord_run.specs.inner.Extents.{members_seen}
+use Rattle.cord_run.specs.inner.Holdings.{holding_of, plain_of}
+use Rattle.cord_run.specs.inner.Slices.{AreTextsIn, IsTextIn, texts_in}
 use Rattle.cord_run.proofs.Members.{members_left}
 use Rattle.cord_run.proofs.Opened.{short_text}
 use Rattle.cord_run.proofs.Told.{texts_split}

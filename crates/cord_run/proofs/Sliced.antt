@@ -8,9 +8,9 @@ use Rattle.cord_meaning.specs.State.{number_value, and_then}
 use Rattle.cord_plan.specs.Exprs.{name, sub}
 use Rattle.cord_plan.specs.Values.{part_of}
 use Rattle.cord_run.specs.declared.store.Entry.{Entry}
-use Rattle.cord_run.specs.Held.{content_in, cord_in, operand_in}
-use Rattle.cord_run.specs.Holdings.{plain_of}
-use Rattle.cord_run.specs.Slices.{IsSliceOf, IsTextIn}
+use Rattle.cord_run.specs.inner.Held.{content_in, cord_in, operand_in}
+use Rattle.cord_run.specs.inner.Holdings.{plain_of}
+use Rattle.cord_run.specs.inner.Slices.{IsSliceOf, IsTextIn}
 use Rattle.cord_run.proofs.Told.{content_text, operand_value}
 
 -- what follows from what a call gives

@@ -17,10 +17,10 @@ use Rattle.cord_plan.specs.Values.{text_in}
 use Rattle.cord_plan.proofs.Values.{passes}
 use Rattle.cord_run.specs.declared.picking.Wanted.{Wanted}
 use Rattle.cord_run.specs.declared.store.Entry.{Entry}
-use Rattle.cord_run.specs.Extents.{extent_in, members_extent}
-use Rattle.cord_run.specs.Held.{IsOver}
-use Rattle.cord_run.specs.Holdings.{holding_of, plain_of}
-use Rattle.cord_run.specs.Ranges.{AddsExpression, AddsMembers, IsAfter, IsPast, joined_over}
+use Rattle.cord_run.specs.inner.Extents.{extent_in, members_extent}
+use Rattle.cord_run.specs.inner.Held.{IsOver}
+use Rattle.cord_run.specs.inner.Holdings.{holding_of, plain_of}
+use Rattle.cord_run.specs.inner.Ranges.{AddsExpression, AddsMembers, IsAfter, IsPast, joined_over}
 use Rattle.cord_run.proofs.Told.{texts_split, text_length}
 
 -- ---- texts

@@ -22,9 +22,9 @@ use Rattle.cord_plan.proofs.Evaluation.{In, value_same, extent_is}
 use Rattle.cord_run.specs.declared.store.Content.{Content}
 use Rattle.cord_run.specs.declared.store.Content.TheVariants.{Whole, Long}
 use Rattle.cord_run.specs.declared.store.Entry.{Entry}
-use Rattle.cord_run.specs.Extents.{extent_in, members_extent}
-use Rattle.cord_run.specs.Held.{content_in, length_in, operand_in, content_length, cord_in, ContentFits, IsOver}
-use Rattle.cord_run.specs.Holdings.{held_over, holding_of, plain_of}
+use Rattle.cord_run.specs.inner.Extents.{extent_in, members_extent}
+use Rattle.cord_run.specs.inner.Held.{content_in, length_in, operand_in, content_length, cord_in, ContentFits, IsOver}
+use Rattle.cord_run.specs.inner.Holdings.{held_over, holding_of, plain_of}
 
 -- the cord of a content that fits
 pub cord_fits : (lengths : Lengths) (c : Content) → ContentFits lengths c → CordFitsIn lengths (cord_in c)

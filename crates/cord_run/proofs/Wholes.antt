@@ -14,12 +14,12 @@ use Rattle.cord_plan.specs.Exprs.{Expr}
 use Rattle.cord_plan.specs.Meaning.{all_texts, cords}
 use Rattle.cord_plan.specs.Values.{length_of, text_in}
 use Rattle.cord_run.specs.declared.store.Entry.{Entry}
-use Rattle.cord_run.specs.Extents.{extent_in}
-use Rattle.cord_run.specs.Held.{IsOver}
-use Rattle.cord_run.specs.Holdings.{holding_of, plain_of}
-use Rattle.cord_run.specs.Ranges.{AddsExpression}
-use Rattle.cord_run.specs.Turns.{AddsInTurn, InTurn, origins}
-use Rattle.cord_run.specs.Whole.{AreWhole, IsBuilt}
+use Rattle.cord_run.specs.inner.Extents.{extent_in}
+use Rattle.cord_run.specs.inner.Held.{IsOver}
+use Rattle.cord_run.specs.inner.Holdings.{holding_of, plain_of}
+use Rattle.cord_run.specs.inner.Ranges.{AddsExpression}
+use Rattle.cord_run.specs.inner.Turns.{AddsInTurn, InTurn, origins}
+use Rattle.cord_run.specs.inner.Whole.{AreWhole, IsBuilt}
 use Rattle.cord_run.proofs.Told.{text_told}
 
 -- a text that has a length

@@ -1,7 +1,7 @@
 // Where a run stands among the operations of its plan.
 ghost use Rattle.std.specs.Prelude.{map, reverse, ◌≡◌, ◌+◌, ◌-◌, ◌^◌, ◌<◌, ◌∷◌, [], Ok, IfOk, IfErr};
 ghost use Rattle.cord_meaning.specs.declared.TheConstants.{MAX_TURNS};
-ghost use Rattle.cord_run.specs.Controls.{Goes, IsTurnAt, begun, block_view, chosen, closed, repeated, where_of};
+ghost use Rattle.cord_run.specs.inner.Controls.{Goes, IsTurnAt, begun, block_view, chosen, closed, repeated, where_of};
 
 use crate::checks::as_index;
 use cord_meaning::{FaultKind, MAX_TURNS};

@@ -1,7 +1,7 @@
 // The end of a run: what it is, how the output is ended, and which end is told.
 ghost use Rattle.std.specs.Prelude.{◌≡◌};
-ghost use Rattle.cord_run.specs.Ending.{Closes, SinkCounts};
-ghost use Rattle.cord_run.specs.Steps.{end_of_run};
+ghost use Rattle.cord_run.specs.inner.Ending.{Closes, SinkCounts};
+ghost use Rattle.cord_run.specs.inner.Steps.{end_of_run};
 
 use crate::making::Halt;
 use crate::running::Stopped;

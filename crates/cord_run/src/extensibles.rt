@@ -4,11 +4,11 @@ ghost use Rattle.cord_core.specs.Cord.{bytes_of};
 ghost use Rattle.cord_io.specs.Table.{Table};
 ghost use Rattle.cord_meaning.specs.State as meant;
 ghost use Rattle.cord_node.specs.Tables.{lengths_of};
-ghost use Rattle.cord_run.specs.Extending.{Becomes, GrowsByByte, IsExtending, IsTaken, longer_text, refusal_of};
-ghost use Rattle.cord_run.specs.Finding.{text_over};
-ghost use Rattle.cord_run.specs.Held.{HasExtensible, IsOver};
-ghost use Rattle.cord_run.specs.Keeping.{KeepsOver, StaysOver};
-ghost use Rattle.cord_run.specs.Served.{CountsReads};
+ghost use Rattle.cord_run.specs.inner.Extending.{Becomes, GrowsByByte, IsExtending, IsTaken, longer_text, refusal_of};
+ghost use Rattle.cord_run.specs.inner.Finding.{text_over};
+ghost use Rattle.cord_run.specs.inner.Held.{HasExtensible, IsOver};
+ghost use Rattle.cord_run.specs.inner.Keeping.{KeepsOver, StaysOver};
+ghost use Rattle.cord_run.specs.inner.Served.{CountsReads};
 
 use crate::checks::as_byte;
 use crate::making::Halt;

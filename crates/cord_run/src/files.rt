@@ -3,7 +3,7 @@ ghost use Rattle.std.specs.Prelude.{◌≡◌, IfErr, IfOk, OnErr};
 ghost use Rattle.cord_io.specs.Device.{Folder, count_after};
 ghost use Rattle.cord_file.specs.Opening.{Grows};
 ghost use Rattle.cord_file.specs.Sources.{device_in, opened_in};
-ghost use Rattle.cord_run.specs.Contents.{IsFileAt, IsLengthAt, IsNoFileAt, has_failed};
+ghost use Rattle.cord_run.specs.inner.Contents.{IsFileAt, IsLengthAt, IsNoFileAt, has_failed};
 
 use crate::making::Halt;
 use cord_core::Cord;

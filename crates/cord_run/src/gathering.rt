@@ -1,8 +1,8 @@
 // Expressions of short texts side by side, whose text is gathered without memory.
 ghost use Rattle.std.specs.Prelude.{◌≡◌, ◌≤◌, [], length, true};
 ghost use Rattle.cord_plan.specs.Views.{expr_view};
-ghost use Rattle.cord_run.specs.Extents.{members_seen};
-ghost use Rattle.cord_run.specs.Slices.{AreTextsIn, IsTextIn};
+ghost use Rattle.cord_run.specs.inner.Extents.{members_seen};
+ghost use Rattle.cord_run.specs.inner.Slices.{AreTextsIn, IsTextIn};
 
 use crate::slices::slice_of;
 use crate::store::Store;

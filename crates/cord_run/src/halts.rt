@@ -1,6 +1,6 @@
 // What a refusal of a call on cords, files or prints is to a run.
 ghost use Rattle.std.specs.Prelude.{◌≡◌};
-ghost use Rattle.cord_run.specs.Contents.{halt_of_cord, halt_of_file, halt_of_print};
+ghost use Rattle.cord_run.specs.inner.Contents.{halt_of_cord, halt_of_file, halt_of_print};
 ghost use Rattle.cord_run.specs.declared.making.Halt.TheVariants.{Fault, NoMemory};
 
 use crate::making::Halt;

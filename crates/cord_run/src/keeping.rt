@@ -9,11 +9,11 @@ ghost use Rattle.cord_plan.specs.Kept.{IsKept};
 ghost use Rattle.cord_plan.specs.Meaning.{keeps};
 ghost use Rattle.cord_plan.specs.Planned as plan;
 ghost use Rattle.cord_run.specs.Failing.{FailsIn};
-ghost use Rattle.cord_run.specs.Finding.{IsSearch};
-ghost use Rattle.cord_run.specs.Held.{IsOver, length_in};
-ghost use Rattle.cord_run.specs.Holdings.{holding_of};
-ghost use Rattle.cord_run.specs.Keeping.{IsKeptUnread, KeepsOver, StaysOver};
-ghost use Rattle.cord_run.specs.Served.{CountsReads, Gives};
+ghost use Rattle.cord_run.specs.inner.Finding.{IsSearch};
+ghost use Rattle.cord_run.specs.inner.Held.{IsOver, length_in};
+ghost use Rattle.cord_run.specs.inner.Holdings.{holding_of};
+ghost use Rattle.cord_run.specs.inner.Keeping.{IsKeptUnread, KeepsOver, StaysOver};
+ghost use Rattle.cord_run.specs.inner.Served.{CountsReads, Gives};
 ghost use Rattle.cord_io.specs.Device.{Folder};
 
 use crate::extensibles::keep_extensible;

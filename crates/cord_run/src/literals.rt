@@ -1,7 +1,7 @@
 // Cords of literals and of functions.
 ghost use Rattle.std.specs.Prelude.{◌≡◌, ◌<◌, ◌≤◌, Err, IfErr, IfOk, IsOkUnless, length};
 ghost use Rattle.cord_core.specs.Refusals.{IsRefusal};
-ghost use Rattle.cord_run.specs.Contents.{IsHaltBy, IsStartAsked, IsStartOf, IsTextOf, entry_of, start_extent};
+ghost use Rattle.cord_run.specs.inner.Contents.{IsHaltBy, IsStartAsked, IsStartOf, IsTextOf, entry_of, start_extent};
 
 use crate::checks::{as_index, as_length};
 use crate::making::Halt;

@@ -1,9 +1,9 @@
 // Cords of expressions.
 ghost use Rattle.std.specs.Prelude.{◌≡◌, IfErr, IfOk, IsOkUnless, Ok};
 ghost use Rattle.cord_plan.specs.Views.{expr_view};
-ghost use Rattle.cord_run.specs.Extents.{extent_in};
-ghost use Rattle.cord_run.specs.Turns.{InTurn, origins};
-ghost use Rattle.cord_run.specs.Whole.{AreWhole, IsBuilt, IsUnbuilt};
+ghost use Rattle.cord_run.specs.inner.Extents.{extent_in};
+ghost use Rattle.cord_run.specs.inner.Turns.{InTurn, origins};
+ghost use Rattle.cord_run.specs.inner.Whole.{AreWhole, IsBuilt, IsUnbuilt};
 
 use crate::measuring::length_of;
 use crate::picking::{Wanted, add_range};

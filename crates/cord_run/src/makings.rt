@@ -8,11 +8,11 @@ ghost use Rattle.cord_file.specs.Sources.{device_in, opened_in};
 ghost use Rattle.cord_plan.specs.Meaning.{does};
 ghost use Rattle.cord_plan.specs.Planned as plan;
 ghost use Rattle.cord_plan.specs.Views.{made_view};
-ghost use Rattle.cord_run.specs.Contents.{IsLength, IsLengthOfNames, IsMade, IsMadeOfNames, IsUnmade, IsUnmadeOfNames, IsUnmeasured, IsUnmeasuredOfNames, NeedsNoFile, TakesNoMemory, has_failed, halting};
+ghost use Rattle.cord_run.specs.inner.Contents.{IsLength, IsLengthOfNames, IsMade, IsMadeOfNames, IsUnmade, IsUnmadeOfNames, IsUnmeasured, IsUnmeasuredOfNames, NeedsNoFile, TakesNoMemory, has_failed, halting};
 ghost use Rattle.cord_run.specs.Failing.{FailsBy, FailsIn, IsFileMade};
-ghost use Rattle.cord_run.specs.Held.{HasContent, IsOver, SameEntries};
-ghost use Rattle.cord_run.specs.Holdings.{holding_of};
-ghost use Rattle.cord_run.specs.Served.{CountsReads, Gives};
+ghost use Rattle.cord_run.specs.inner.Held.{HasContent, IsOver, SameEntries};
+ghost use Rattle.cord_run.specs.inner.Holdings.{holding_of};
+ghost use Rattle.cord_run.specs.inner.Served.{CountsReads, Gives};
 
 use crate::checks::as_length;
 use crate::files::{lazy, opened_length, whole, whole_or_lazy};

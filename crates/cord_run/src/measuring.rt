@@ -2,7 +2,7 @@
 ghost use Rattle.std.specs.Prelude.{◌≡◌};
 ghost use Rattle.cord_plan.specs.Values.{measured_copies, measured_part};
 ghost use Rattle.cord_plan.specs.Views.{expr_view};
-ghost use Rattle.cord_run.specs.Extents.{counted, extent_in, members_extent, members_seen};
+ghost use Rattle.cord_run.specs.inner.Extents.{counted, extent_in, members_extent, members_seen};
 
 use crate::checks::{as_byte, as_index, as_length};
 use crate::store::Store;

@@ -1,7 +1,7 @@
 // Cords of what names hold.
 ghost use Rattle.std.specs.Prelude.{◌≡◌, IfOk, IsOkUnless, Ok};
-ghost use Rattle.cord_run.specs.Contents.{IsExtended, IsTextOver, extensible_length};
-ghost use Rattle.cord_run.specs.Held.{SameEntries, cells_in, content_in, cord_in, extensible_in};
+ghost use Rattle.cord_run.specs.inner.Contents.{IsExtended, IsTextOver, extensible_length};
+ghost use Rattle.cord_run.specs.inner.Held.{SameEntries, cells_in, content_in, cord_in, extensible_in};
 
 use crate::store::Store;
 use cord_core::Cord;

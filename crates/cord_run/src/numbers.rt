@@ -4,10 +4,10 @@ ghost use Rattle.cord_io.specs.Table.{Table};
 ghost use Rattle.cord_io.specs.declared.TheConstants.{MAX_LEN};
 ghost use Rattle.cord_node.specs.Tables.{lengths_of};
 ghost use Rattle.cord_plan.specs.Operands.{target_of};
-ghost use Rattle.cord_run.specs.Finding.{CountsFinding, FindsOver, in_i64, IsComputed, IsLook, IsNumeric, IsPlace, IsSearch, or_halt};
-ghost use Rattle.cord_run.specs.Held.{content_in, cord_in, HasNumber, IsOver, length_in};
-ghost use Rattle.cord_run.specs.Keeping.{KeepsOver, StaysOver};
-ghost use Rattle.cord_run.specs.Served.{CountsReads};
+ghost use Rattle.cord_run.specs.inner.Finding.{CountsFinding, FindsOver, in_i64, IsComputed, IsLook, IsNumeric, IsPlace, IsSearch, or_halt};
+ghost use Rattle.cord_run.specs.inner.Held.{content_in, cord_in, HasNumber, IsOver, length_in};
+ghost use Rattle.cord_run.specs.inner.Keeping.{KeepsOver, StaysOver};
+ghost use Rattle.cord_run.specs.inner.Served.{CountsReads};
 ghost use Rattle.cord_io.specs.Device.{Folder};
 
 use crate::making::Halt;

@@ -6,10 +6,10 @@ ghost use Rattle.cord_core.specs.Equations.{HasText};
 ghost use Rattle.cord_meaning.specs.State as meant;
 ghost use Rattle.cord_plan.specs.Values.{measured_copies};
 ghost use Rattle.cord_plan.specs.Views.{expr_view};
-ghost use Rattle.cord_run.specs.Extents.{extent_in, members_extent, members_seen};
-ghost use Rattle.cord_run.specs.Held.{content_in, cord_in, length_in, operand_in};
-ghost use Rattle.cord_run.specs.Ranges.{AddsCopies, AddsExpression, AddsMembers, AddsPart, AddsRun, AreFew, IsAfter, IsInside, IsOutside, IsPast};
-ghost use Rattle.cord_run.specs.Turns.{AddsAtMostOne, AddsInTurn, AreCopies, IsCutOf, origins, origins_of};
+ghost use Rattle.cord_run.specs.inner.Extents.{extent_in, members_extent, members_seen};
+ghost use Rattle.cord_run.specs.inner.Held.{content_in, cord_in, length_in, operand_in};
+ghost use Rattle.cord_run.specs.inner.Ranges.{AddsCopies, AddsExpression, AddsMembers, AddsPart, AddsRun, AreFew, IsAfter, IsInside, IsOutside, IsPast};
+ghost use Rattle.cord_run.specs.inner.Turns.{AddsAtMostOne, AddsInTurn, AreCopies, IsCutOf, origins, origins_of};
 
 use crate::checks::{as_byte, as_index};
 use crate::measuring::length_of_run;

@@ -3,7 +3,7 @@ ghost use Rattle.std.specs.Prelude.{◌≡◌, IfErr, IfOk, IsOkUnless, map};
 ghost use Rattle.cord_meaning.specs.Formats.{format_text};
 ghost use Rattle.cord_plan.specs.Values.{within};
 ghost use Rattle.cord_meaning.specs.State.{and_then};
-ghost use Rattle.cord_run.specs.Contents.{IsFaultOver, IsTextOver, IsToldOver, argument_in};
+ghost use Rattle.cord_run.specs.inner.Contents.{IsFaultOver, IsTextOver, IsToldOver, argument_in};
 
 use crate::making::Halt;
 use crate::named::shared;

@@ -7,7 +7,7 @@ ghost use Rattle.cord_plan.specs.Meaning.{IsPlanOf};
 ghost use Rattle.cord_plan.specs.Views.{operation_view};
 ghost use Rattle.cord_run.specs.Failing.{FailsAmong, FailsNowhereElse};
 ghost use Rattle.cord_run.specs.Runs.{NothingCalled, Runs};
-ghost use Rattle.cord_run.specs.Steps.{HonestPlan};
+ghost use Rattle.cord_run.specs.inner.Steps.{HonestPlan};
 ghost use Rattle.cord_script.specs.Flaws.{Flaw};
 ghost use Rattle.cord_script.specs.Forms.{Grammar};
 ghost use Rattle.cord_script.specs.Script.{ReadsBy};

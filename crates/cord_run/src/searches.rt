@@ -5,7 +5,7 @@ ghost use Rattle.cord_core.specs.Texts.{order};
 ghost use Rattle.cord_io.specs.declared.TheConstants.{MAX_LEN};
 ghost use Rattle.cord_meaning.specs.State as meant;
 ghost use Rattle.cord_meaning.specs.Statements as statements;
-ghost use Rattle.cord_run.specs.Finding.{byte_place, CountsFinding, fetched, Finds, last_place, parts_order, Refuses, text_place};
+ghost use Rattle.cord_run.specs.inner.Finding.{byte_place, CountsFinding, fetched, Finds, last_place, parts_order, Refuses, text_place};
 ghost use Rattle.cord_io.specs.Device.{Folder};
 
 use crate::checks::{as_byte, as_index};

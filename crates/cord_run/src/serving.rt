@@ -8,10 +8,10 @@ ghost use Rattle.cord_plan.specs.Meaning.{does};
 ghost use Rattle.cord_plan.specs.Planned as plan;
 ghost use Rattle.cord_plan.specs.Views.{expr_view, operation_view};
 ghost use Rattle.cord_run.specs.Failing.{FailsIn};
-ghost use Rattle.cord_run.specs.Held.{IsOver};
-ghost use Rattle.cord_run.specs.Holdings.{holding_of};
-ghost use Rattle.cord_run.specs.Putting.{CountsHalts};
-ghost use Rattle.cord_run.specs.Served.{Serves};
+ghost use Rattle.cord_run.specs.inner.Held.{IsOver};
+ghost use Rattle.cord_run.specs.inner.Holdings.{holding_of};
+ghost use Rattle.cord_run.specs.inner.Putting.{CountsHalts};
+ghost use Rattle.cord_run.specs.inner.Served.{Serves};
 ghost use Rattle.cord_io.specs.Device.{Folder};
 
 use crate::keeping::keep;

@@ -2,8 +2,8 @@
 ghost use Rattle.std.specs.Prelude.{◌≡◌, IfSome, Ok};
 ghost use Rattle.cord_plan.specs.Values.{part_of};
 ghost use Rattle.cord_plan.specs.Views.{expr_view};
-ghost use Rattle.cord_run.specs.Held.{content_in, cord_in};
-ghost use Rattle.cord_run.specs.Slices.{IsSliceOf, IsTextIn};
+ghost use Rattle.cord_run.specs.inner.Held.{content_in, cord_in};
+ghost use Rattle.cord_run.specs.inner.Slices.{IsSliceOf, IsTextIn};
 
 use crate::checks::{as_index, as_length};
 use crate::store::Store;

@@ -6,8 +6,8 @@ ghost use Rattle.cord_meaning.specs.Statements.{compares, shape_of};
 ghost use Rattle.cord_plan.specs.Meaning.{operation_shape};
 ghost use Rattle.cord_plan.specs.Planned as plan;
 ghost use Rattle.cord_plan.specs.Views.{operation_view};
-ghost use Rattle.cord_run.specs.Controls.{Goes, where_of};
-ghost use Rattle.cord_run.specs.Steps.{IsRefusedAt, goal_of};
+ghost use Rattle.cord_run.specs.inner.Controls.{Goes, where_of};
+ghost use Rattle.cord_run.specs.inner.Steps.{IsRefusedAt, goal_of};
 
 use crate::control::{Barred, Control};
 use crate::store::Store;

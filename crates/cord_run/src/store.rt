@@ -2,9 +2,9 @@
 ghost use Rattle.std.specs.Prelude.{◌≡◌, ◌+◌, ◌<◌, ◌≤◌, ◌∷◌, ℕ, ℤ, List, pos, true, false, [], length, IfOk, IfSome, IfNone, IsErr, OnOk, Err, None, Some};
 ghost use Rattle.cord_core.specs.Cord.{text_len};
 ghost use Rattle.cord_ec.specs.Grown.{IsGrownBy};
-ghost use Rattle.cord_run.specs.Extending.{cells_of, Grew, GrewTo};
-ghost use Rattle.cord_run.specs.Held.{are_distinct, cells_in, content_in, cord_in, extensible_in, length_in, names_in, number_in, operand_in, HasContent, HasExtensible, HasNoEntry, HasNumber, IsEntryAt, SameEntries};
-ghost use Rattle.cord_run.specs.Places.{Begin};
+ghost use Rattle.cord_run.specs.inner.Extending.{cells_of, Grew, GrewTo};
+ghost use Rattle.cord_run.specs.inner.Held.{are_distinct, cells_in, content_in, cord_in, extensible_in, length_in, names_in, number_in, operand_in, HasContent, HasExtensible, HasNoEntry, HasNumber, IsEntryAt, SameEntries};
+ghost use Rattle.cord_run.specs.inner.Places.{Begin};
 
 use cord_core::Cord;
 use cord_ec::ExtCord;

@@ -6,9 +6,9 @@ ghost use Rattle.cord_iter.specs.Taking.{CountsFaults};
 ghost use Rattle.cord_plan.specs.Meaning.{all_texts, cords};
 ghost use Rattle.cord_plan.specs.Values.{text_in};
 ghost use Rattle.cord_plan.specs.Views.{expr_view};
-ghost use Rattle.cord_run.specs.Held.{IsOver};
-ghost use Rattle.cord_run.specs.Holdings.{holding_of, plain_of};
-ghost use Rattle.cord_run.specs.Putting.{CountsHalts, Puts, Wrote, halt_of};
+ghost use Rattle.cord_run.specs.inner.Held.{IsOver};
+ghost use Rattle.cord_run.specs.inner.Holdings.{holding_of, plain_of};
+ghost use Rattle.cord_run.specs.inner.Putting.{CountsHalts, Puts, Wrote, halt_of};
 ghost use Rattle.cord_io.specs.Device.{Folder};
 
 use crate::gathering::gather;

@@ -13,8 +13,8 @@ use Rattle.cord_script.specs.Forms.{Term, form_of, word_of, terms_of, effect_of}
 use Rattle.cord_script.specs.Script.{Before, AreTerms, AreAllowed, FitsBlocks, Suits, whole, after, names_after, paths_after, blocks_after}
 use Rattle.cord_script.specs.Flaws.{HasFormFlaw, HasBadWords}
 use Rattle.cord_script.specs.Parted.{term_of, IsChecked}
-use Rattle.cord_script.specs.Verbal.{verb_word, verb_effect, verb_form}
-use Rattle.cord_script.specs.Behind.{left_after, SaysBehind}
+use Rattle.cord_script.specs.inner.Verbal.{verb_word, verb_effect, verb_form}
+use Rattle.cord_script.specs.inner.Behind.{left_after, SaysBehind}
 use Rattle.cord_script.proofs.Stated.{right_form}
 use Rattle.cord_script.proofs.Tabled.{form_is}
 

@@ -26,8 +26,8 @@ use Rattle.cord_script.specs.Formats.{want_of_kind, wants_of_pieces}
 use Rattle.cord_script.specs.Script.{IsTerm, AreTerms}
 use Rattle.cord_script.specs.Flaws.{first_of, first_misfit, is_count, cords, joined, format_wants, arguments_flaw, words_flaw, wants_of}
 use Rattle.cord_script.specs.Parted.{want_of, term_of, wanted_by, IsReadAs, IsFormatOf, IsParted}
-use Rattle.cord_script.specs.Verbal.{verb_shape}
-use Rattle.cord_script.specs.Built.{are_cords, are_arguments, IsJoined, IsPrinted, IsPrintedAs, IsWorded}
+use Rattle.cord_script.specs.inner.Verbal.{verb_shape}
+use Rattle.cord_script.specs.inner.Built.{are_cords, are_arguments, IsJoined, IsPrinted, IsPrintedAs, IsWorded}
 use Rattle.cord_script.proofs.Spelled.{both}
 use Rattle.cord_script.proofs.Checked.{neither}
 use Rattle.cord_script.proofs.Terms.{terms_count}

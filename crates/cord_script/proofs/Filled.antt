@@ -38,8 +38,8 @@ use Rattle.cord_script.specs.Forms.Term.{Target, Operand, Value, Literal, FilePa
 use Rattle.cord_script.specs.Script.{Before, Says, Suits, IsTerm, AreTerms, FitsBlocks}
 use Rattle.cord_script.specs.Flaws.{first_of, unless, misfit, first_pair, first_misfit, name_misfit, is_count, cords, joined, format_wants, arguments_flaw, words_flaw, wants_of, names_flaw, block_flaw, form_flaw, HasFormat, HasFormFlaw, HasBadWords}
 use Rattle.cord_script.specs.Parted.{want_of}
-use Rattle.cord_script.specs.Leaves.{terms_flaw}
-use Rattle.cord_script.specs.Verbal.{verb_word, verb_shape, verb_effect, verb_form, find_verb, form_at}
+use Rattle.cord_script.specs.inner.Leaves.{terms_flaw}
+use Rattle.cord_script.specs.inner.Verbal.{verb_word, verb_shape, verb_effect, verb_form, find_verb, form_at}
 use Rattle.cord_script.proofs.Spelled.{both, chosen}
 use Rattle.cord_script.proofs.Checked.{neither, holds}
 use Rattle.cord_script.proofs.Firsts.{same_bytes}

@@ -9,7 +9,7 @@ use Rattle.cord_script.specs.declared.refusals.RefusalKind.TheVariants.{Untermin
 use Rattle.cord_script.specs.declared.words.Word.{Word}
 use Rattle.cord_script.specs.declared.words.Word.TheVariants.{Plain, Quoted}
 use Rattle.cord_script.specs.Words.{IsBlank, IsIdle, IsPlain, EndsPlain, Stands, Spells, HasWord, HasWords, IsBadText, BeginsBadText, HasBadBytes}
-use Rattle.cord_script.specs.Reading.{unit_of}
+use Rattle.cord_script.specs.inner.Reading.{unit_of}
 use Rattle.cord_script.proofs.Lines.{note_shows}
 use Rattle.cord_script.proofs.Spelled.{spells_push, unit_stands}
 use Rattle.cord_script.proofs.Unique.{Begins, one_beginning, no_beginning, stands_unit}

@@ -3,7 +3,7 @@ use Rattle.std.proofs.Common.{Some, None, ◌≡◌, ◌≤◌, ◌<◌, ◌+◌
 use Rattle.std.specs.Prelude.{◌&&◌, nat_le, if◌then◌else◌}
 use Rattle.std.proofs.lemmas.Bool.{lt-leb}
 use Rattle.cord_script.specs.Tests.{is_digit, each, number_after}
-use Rattle.cord_script.specs.Reading.{magnitude_from}
+use Rattle.cord_script.specs.inner.Reading.{magnitude_from}
 
 -- more digits write no smaller number
 pub no_smaller : (n : ℕ) (ds : List ℕ) → n ≤ number_after n ds

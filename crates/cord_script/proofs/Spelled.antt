@@ -4,7 +4,7 @@ use Rattle.std.specs.Prelude.{Option, ◌==◌, ◌&&◌, nat_le, if◌then◌el
 use Rattle.std.proofs.lemmas.Option.{same_Some}
 use Rattle.std.proofs.lemmas.Bool.{leb-true, eqb-false}
 use Rattle.cord_script.specs.Words.{Stands, Spells, HexDigit}
-use Rattle.cord_script.specs.Reading.{digit_of, byte_of, hex_of, escape_of, unit_of}
+use Rattle.cord_script.specs.inner.Reading.{digit_of, byte_of, hex_of, escape_of, unit_of}
 
 -- which of two values was chosen
 pub chosen : {A : Type 0} (x : Bool) (p q z : A) → (if x then p else q) ≡ z → ((x ≡ true) × (p ≡ z)) ⊎ ((x ≡ false) × (q ≡ z))

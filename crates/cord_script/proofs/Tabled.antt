@@ -7,7 +7,7 @@ use Rattle.cord_script.specs.declared.grammar.Verb.TheVariants as verbs
 use Rattle.cord_script.specs.declared.grammar.TheConstants.{VERBS}
 use Rattle.cord_script.specs.Forms.{Form, form_of, form_in}
 use Rattle.cord_script.specs.Script.{whole}
-use Rattle.cord_script.specs.Verbal.{verb_word, verb_form, find_verb, form_at}
+use Rattle.cord_script.specs.inner.Verbal.{verb_word, verb_form, find_verb, form_at}
 
 -- a choice of verbs is a choice of forms
 chosen_form : (c : Bool) (v : Verb) (o : Option Verb) (f rest : Option Form) → form_at (Some v) ≡ f → form_at o ≡ rest → form_at (if c then Some v else o) ≡ (if c then f else rest)

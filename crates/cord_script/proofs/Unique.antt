@@ -7,7 +7,7 @@ use Rattle.cord_script.specs.declared.refusals.RefusalKind.{RefusalKind}
 use Rattle.cord_script.specs.declared.words.Word.{Word}
 use Rattle.cord_script.specs.declared.words.Word.TheVariants.{Plain, Quoted}
 use Rattle.cord_script.specs.Words.{IsSplit, IsBlank, IsPlain, EndsPlain, Stands, Spells, HexDigit, HasWord, HasWords, StartsWith, IsBadEnd, IsBadText, BeginsBadText, HasBadBytes}
-use Rattle.cord_script.specs.Reading.{digit_of, byte_of, escape_of, unit_of}
+use Rattle.cord_script.specs.inner.Reading.{digit_of, byte_of, escape_of, unit_of}
 use Rattle.cord_script.proofs.Lines.{split_nil, head_of, tail_of, not_all_blank, one_front}
 use Rattle.cord_script.proofs.Spelled.{both, same_pair, unit_stands}
 

@@ -16,7 +16,7 @@ use Rattle.cord_script.specs.Words.{IsSplit, IsIdle, Stands, IsBadText}
 use Rattle.cord_script.specs.Tests.{each}
 use Rattle.cord_script.specs.Formats.{Converts}
 use Rattle.cord_script.specs.Forms.{form_of}
-use Rattle.cord_script.specs.Reading.{unit_of}
+use Rattle.cord_script.specs.inner.Reading.{unit_of}
 use Rattle.cord_script.specs.Script.{Before, Block, Says, LinesSay, ReadsBy, start, after, after_all, whole}
 use Rattle.cord_script.specs.Script.Block.{InRepeat, InIf}
 use Rattle.cord_script.specs.Flaws.{HasBadWords, HasBadLine, FlawBy}

@@ -3,7 +3,7 @@ ghost use Rattle.std.specs.Prelude.{◌≡◌, ◌≢◌, ◌==◌, ◌∷◌, S
 ghost use Rattle.cord_script.specs.Forms.{argument_term};
 ghost use Rattle.cord_script.specs.Forms.Term.{Target, Operand, Value, Literal, FilePath, Applies, Compares, Formats};
 ghost use Rattle.cord_script.specs.Parted.{term_of, want_of, next_want};
-ghost use Rattle.cord_script.specs.Built.{are_cords, are_arguments};
+ghost use Rattle.cord_script.specs.inner.Built.{are_cords, are_arguments};
 
 use crate::kinds::{Kind, Want};
 use crate::parts::Part;

@@ -2,7 +2,7 @@
 ghost use Rattle.std.specs.Prelude.{◌≡◌, MatchOption, IfSome, Some, None};
 ghost use Rattle.cord_script.specs.Forms.{form_in};
 ghost use Rattle.cord_script.specs.Script.{whole};
-ghost use Rattle.cord_script.specs.Verbal.{verb_word, verb_wants, verb_form, find_verb};
+ghost use Rattle.cord_script.specs.inner.Verbal.{verb_word, verb_wants, verb_form, find_verb};
 
 use crate::kinds::{Kind, Want};
 use crate::words::{is_same, uncons};

@@ -1,7 +1,7 @@
 // Numerals.
 ghost use Rattle.std.specs.Prelude.{◌≡◌, ◌≤◌, ◌^◌, pos, neg_ℤ};
 ghost use Rattle.cord_script.specs.Tests.{is_digit, numeral_of};
-ghost use Rattle.cord_script.specs.Reading.{magnitude_from};
+ghost use Rattle.cord_script.specs.inner.Reading.{magnitude_from};
 
 use crate::words::uncons;
 

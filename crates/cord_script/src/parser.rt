@@ -4,8 +4,8 @@ ghost use Rattle.cord_script.specs.Words.{IsIdle, IsSplit};
 ghost use Rattle.cord_syntax.specs.Lines.{line_of};
 ghost use Rattle.cord_script.specs.Script.{Reads, ReadsUpTo};
 ghost use Rattle.cord_script.specs.Flaws.{Flaw};
-ghost use Rattle.cord_script.specs.Leaves.{before_of};
-ghost use Rattle.cord_script.specs.Steps.{Tells, Takes, HasWrong};
+ghost use Rattle.cord_script.specs.inner.Leaves.{before_of};
+ghost use Rattle.cord_script.specs.inner.Steps.{Tells, Takes, HasWrong};
 
 use crate::before::Left;
 use crate::blocks::open_flaw;

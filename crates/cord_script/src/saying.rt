@@ -2,10 +2,10 @@
 ghost use Rattle.std.specs.Prelude.{◌≡◌, ◌≢◌, [], ◌∷◌, Some, IfOk, IfErr, MatchOption, OnOk};
 ghost use Rattle.cord_script.specs.Flaws.{HasFormFlaw, HasBadWords};
 ghost use Rattle.cord_script.specs.Script.{Before, whole};
-ghost use Rattle.cord_script.specs.Leaves.{before_of};
+ghost use Rattle.cord_script.specs.inner.Leaves.{before_of};
 ghost use Rattle.cord_script.specs.Parted.{IsChecked};
-ghost use Rattle.cord_script.specs.Behind.{left_after, SaysBehind};
-ghost use Rattle.cord_script.specs.Verbal.{verb_form, verb_word};
+ghost use Rattle.cord_script.specs.inner.Behind.{left_after, SaysBehind};
+ghost use Rattle.cord_script.specs.inner.Verbal.{verb_form, verb_word};
 
 use crate::before::{Left, add_names, add_paths, names_flaw};
 use crate::blocks::{block_flaw, set_blocks};

@@ -4,7 +4,7 @@ ghost use Rattle.cord_script.specs.Forms.Shape.{Words, Joined, Printed};
 ghost use Rattle.cord_script.specs.Formats.{want_of_kind, wants_of_pieces};
 ghost use Rattle.cord_script.specs.Flaws.{first_pair, misfit};
 ghost use Rattle.cord_script.specs.Parted.{HasTaken, counted_misfit, IsFormatOf, IsParted, HasPartFlaw};
-ghost use Rattle.cord_script.specs.Verbal.{verb_shape};
+ghost use Rattle.cord_script.specs.inner.Verbal.{verb_shape};
 
 use crate::grammar::{Verb, wants_of};
 use crate::kinds::{Kind, Want};

@@ -2,7 +2,7 @@
 ghost use Rattle.std.specs.Prelude.{◌≡◌, ◌≢◌, ◌<◌, ◌≤◌, ℕ, List, [], ◌∷◌, ◌++◌, length, take, drop, All, IfOk, IfErr, IfSome, MatchOption, option_map, IsTrue, false};
 ghost use Rattle.cord_script.specs.Words.{IsBlank, IsPlain, EndsPlain, StartsNoBlank, Spells, IsBadText, HasNext, BeginsBadText, HasWords, HasBadBytes};
 ghost use Rattle.std.specs.Str.{bytes_eq};
-ghost use Rattle.cord_script.specs.Reading.{digit_of, hex_of, escape_of, unit_of};
+ghost use Rattle.cord_script.specs.inner.Reading.{digit_of, hex_of, escape_of, unit_of};
 
 use crate::{MAX_TEXT, RefusalKind, Text};
 use std::alloc::Global;

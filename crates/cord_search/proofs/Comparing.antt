@@ -17,7 +17,7 @@ use Rattle.cord_node.proofs.TreeLemmas.{len_limit}
 use Rattle.cord_core.proofs.CordLemmas.{range_min}
 use Rattle.cord_core.specs.Cord.{text_len, bytes_of, IsCord}
 use Rattle.cord_core.specs.Texts.{order}
-use Rattle.cord_search.specs.Pieces.{IsPieceOf, AreSame, IsOrderOf, sign_of}
+use Rattle.cord_search.specs.inner.Pieces.{IsPieceOf, AreSame, IsOrderOf, sign_of}
 
 -- a byte against itself
 same_byte : (b : ℕ) → nat_cmp b b ≡ Equal

@@ -14,8 +14,8 @@ use Rattle.cord_core.specs.Texts.{StandsAt, first, IsFirst, last, IsLast}
 use Rattle.cord_core.proofs.Places.{at_here, some_here}
 use Rattle.cord_core.proofs.Searches.{first_is_least, last_is_greatest}
 use Rattle.cord_iter.proofs.Lengths.{length-bytes_over}
-use Rattle.cord_search.specs.Pieces.{IsPieceAt, NotFound, HasNot}
-use Rattle.cord_search.specs.Stretches.{stretch_len, stretch_bytes, IsStretchAt, IsWithout}
+use Rattle.cord_search.specs.inner.Pieces.{IsPieceAt, NotFound, HasNot}
+use Rattle.cord_search.specs.inner.Stretches.{stretch_len, stretch_bytes, IsStretchAt, IsWithout}
 use Rattle.cord_search.specs.declared.stretches.Stretch.{Stretch}
 
 -- a node that fits a table has as long a text there as it stores

@@ -18,9 +18,9 @@ use Rattle.cord_node.proofs.TableLemmas.{Fits-told}
 use Rattle.cord_iter.proofs.Lengths.{length-bytes_over}
 use Rattle.cord_core.specs.Cord.{text_len, bytes_of, IsCord, CordFitsIn, CordFits}
 use Rattle.cord_core.proofs.OverLemmas.{length-bytes}
-use Rattle.cord_search.specs.Ahead.{IsWithin}
-use Rattle.cord_search.specs.Pieces.{IsPieceOf}
-use Rattle.cord_search.specs.Stretches.{stretch_len, stretch_bytes, StretchFitsIn, IsStretchOf, IsStretchAt, IsPartOf}
+use Rattle.cord_search.specs.inner.Ahead.{IsWithin}
+use Rattle.cord_search.specs.inner.Pieces.{IsPieceOf}
+use Rattle.cord_search.specs.inner.Stretches.{stretch_len, stretch_bytes, StretchFitsIn, IsStretchOf, IsStretchAt, IsPartOf}
 use Rattle.cord_search.specs.declared.stretches.Stretch.{Stretch}
 
 -- a range is its own first bytes

@@ -8,8 +8,8 @@ use Rattle.cord_io.specs.Table.{Table}
 use Rattle.cord_node.specs.declared.Node.{Node}
 use Rattle.cord_core.specs.Cord.{text_len, bytes_of}
 use Rattle.cord_core.specs.Texts.{StandsAt}
-use Rattle.cord_search.specs.Pieces.{IsPieceOf, AreSame, StandsNot}
-use Rattle.cord_search.specs.Periods.{IsCommon}
+use Rattle.cord_search.specs.inner.Pieces.{IsPieceOf, AreSame, StandsNot}
+use Rattle.cord_search.specs.inner.Periods.{IsCommon}
 use Rattle.cord_search.proofs.Finding.{range_at}
 use Rattle.cord_search.proofs.Comparing.{piece_front}
 use Rattle.cord_search.proofs.Standing.{stands_get, stands_inside}

@@ -2,7 +2,7 @@
 ghost use Rattle.std.specs.Prelude.{◌≡◌, ◌<◌, true, IfSome};
 ghost use Rattle.cord_core.specs.Cord.{text_len};
 ghost use Rattle.cord_node.specs.Tree.{len_of};
-ghost use Rattle.cord_search.specs.Ahead.{IsSpot, IsSpotOf, AreOneSpot, IsWithin, IsAhead};
+ghost use Rattle.cord_search.specs.inner.Ahead.{IsSpot, IsSpotOf, AreOneSpot, IsWithin, IsAhead};
 
 use crate::stretches::{Stretch, stretch_at};
 use cord_core::{Cord, Node};

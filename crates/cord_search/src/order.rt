@@ -3,7 +3,7 @@ ghost use Rattle.std.specs.Prelude.{◌≡◌, ◌+◌, ◌<◌, ◌≤◌, take
 ghost use Rattle.cord_io.specs.Device.{Folder, count_after};
 ghost use Rattle.cord_core.specs.Cord.{text_len, bytes_of, IsCord, CordFitsIn};
 ghost use Rattle.cord_core.specs.Texts.{order};
-ghost use Rattle.cord_search.specs.Pieces.{IsOrderOf, sign_of};
+ghost use Rattle.cord_search.specs.inner.Pieces.{IsOrderOf, sign_of};
 
 use crate::PIECE_LEN;
 use crate::ahead::{Ahead, look_ahead};

@@ -2,8 +2,8 @@
 ghost use Rattle.std.specs.Prelude.{◌≡◌, ◌≢◌, ◌+◌, ◌<◌, ◌≤◌, length, take, slice_index, is_err, IfOk, IfSome};
 ghost use Rattle.cord_io.specs.Device.{Folder, count_after};
 ghost use Rattle.cord_core.specs.Cord.{text_len, bytes_of, IsCord, CordFitsIn};
-ghost use Rattle.cord_search.specs.Pieces.{StandsNot};
-ghost use Rattle.cord_search.specs.Periods.{IsCommon, IsRepeated};
+ghost use Rattle.cord_search.specs.inner.Pieces.{StandsNot};
+ghost use Rattle.cord_search.specs.inner.Periods.{IsCommon, IsRepeated};
 
 use crate::PIECE_LEN;
 use crate::ahead::{Ahead, look_ahead};

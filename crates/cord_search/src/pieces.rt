@@ -2,8 +2,8 @@
 ghost use Rattle.std.specs.Prelude.{◌≡◌, ◌+◌, ◌-◌, ◌<◌, ◌≤◌, length, is_err, IfOk, OnOk};
 ghost use Rattle.cord_io.specs.Device.{Folder, count_after};
 ghost use Rattle.cord_core.specs.Cord.{text_len, IsCord, CordFitsIn};
-ghost use Rattle.cord_search.specs.Pieces.{IsPieceOf};
-ghost use Rattle.cord_search.specs.Stretches.{stretch_len, StretchFitsIn, IsStretchOf, IsPartOf};
+ghost use Rattle.cord_search.specs.inner.Pieces.{IsPieceOf};
+ghost use Rattle.cord_search.specs.inner.Stretches.{stretch_len, StretchFitsIn, IsStretchOf, IsPartOf};
 
 use crate::PIECE_LEN;
 use crate::stretches::{Stretch, cord_stretch_at};

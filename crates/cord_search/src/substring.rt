@@ -3,8 +3,8 @@ ghost use Rattle.std.specs.Prelude.{◌≡◌, ◌+◌, ◌<◌, ◌≤◌, leng
 ghost use Rattle.cord_io.specs.Device.{Folder, count_after};
 ghost use Rattle.cord_core.specs.Cord.{text_len, bytes_of, IsCord, CordFitsIn};
 ghost use Rattle.cord_core.specs.Texts.{first};
-ghost use Rattle.cord_search.specs.Pieces.{IsPieceOf, IsStanding};
-ghost use Rattle.cord_search.specs.Periods.{IsRepeated};
+ghost use Rattle.cord_search.specs.inner.Pieces.{IsPieceOf, IsStanding};
+ghost use Rattle.cord_search.specs.inner.Periods.{IsRepeated};
 
 use crate::PIECE_LEN;
 use crate::order::compare;

@@ -1,6 +1,6 @@
-pub mod Files
 pub mod CommandLine
 pub mod Outcomes
 pub mod Tells
 pub mod Drives
 pub mod Headline
+pub mod inner

@@ -1,7 +1,7 @@
 //! Reads whole files.
 ghost use Rattle.std.specs.Prelude.{◌≡◌, ◌<◌, ◌≤◌, ◌-◌, ◌^◌, ℕ, IfOk, IfErr, Some, IsSomeAnd, length};
 ghost use Rattle.cord_io.specs.Device.{Folder, file_at, bytes_at, count_after};
-ghost use Rattle.cord_shell.specs.Files.{HasCause, IsFailedOrMemory, read_failed};
+ghost use Rattle.cord_shell.specs.inner.Files.{HasCause, IsFailedOrMemory, read_failed};
 
 use cord_io::{FileNo, Files, OpenFault};
 use std::alloc::Global;

@@ -10,7 +10,7 @@ use Rattle.std.proofs.Common.{ℕ, ◌<◌}
 use Rattle.std.specs.Prelude.{Some}
 use Rattle.cord_node.specs.Tree.{len_of, depth_of}
 use Rattle.cord_balance.specs.Fib.{IsSlotOf}
-use Rattle.cord_balance.specs.Forest.{IsGathered, IsKnown}
+use Rattle.cord_balance.specs.inner.Forest.{IsGathered, IsKnown}
 use Rattle.cord_balance.proofs.FibLemmas.{fib_below}
 use Rattle.cord_balance.proofs.PiecesLemmas.{joined_over}
 use Rattle.cord_balance.proofs.balance_parts.Goals as goal

@@ -1,6 +1,6 @@
 use Rattle.std.proofs.Common.{drop}
 use Rattle.std.specs.List.{All}
-use Rattle.cord_balance.specs.Forest.{IsKnown}
+use Rattle.cord_balance.specs.inner.Forest.{IsKnown}
 use Rattle.cord_balance.proofs.States.{IsFilling}
 use Rattle.cord_balance.proofs.balance_parts.Given as goal
 

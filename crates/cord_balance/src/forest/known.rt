@@ -2,7 +2,7 @@
 ghost use Rattle.std.specs.Prelude.{◌≡◌, ◌+◌, IfSome, IfOk, OnOk};
 ghost use Rattle.std.specs.List.{All};
 ghost use Rattle.cord_node.specs.Tree.{cells, len_of, IsSound};
-ghost use Rattle.cord_balance.specs.Forest.{IsForm, IsKnown};
+ghost use Rattle.cord_balance.specs.inner.Forest.{IsForm, IsKnown};
 
 use cord_node::Node;
 use std::rc::Rc;

@@ -4,7 +4,7 @@ ghost use Rattle.std.specs.Option.{ForSome};
 ghost use Rattle.cord_node.specs.Tree.{cells, len_of, depth_of, IsSound};
 ghost use Rattle.cord_node.specs.Kept.{parts, Kept};
 ghost use Rattle.cord_balance.specs.Fib.{fib_of, IsSlotOf};
-ghost use Rattle.cord_balance.specs.Forest.{IsPiece, AllFrom, IsForest, forest_cells, forest_parts, forest_len, piece_cells, piece_parts, piece_len, IsGathered};
+ghost use Rattle.cord_balance.specs.inner.Forest.{IsPiece, AllFrom, IsForest, forest_cells, forest_parts, forest_len, piece_cells, piece_parts, piece_len, IsGathered};
 
 use super::Piece;
 use crate::{MAX_INDEX, slot_of};

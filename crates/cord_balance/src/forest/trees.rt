@@ -5,7 +5,7 @@ ghost use Rattle.cord_node.specs.Kept.{parts, Kept};
 ghost use Rattle.cord_balance.specs.Fib.{fib_of};
 ghost use Rattle.cord_balance.specs.Pieces.{all_cells, all_parts, total_len, AllSound};
 ghost use Rattle.std.specs.List.{All};
-ghost use Rattle.cord_balance.specs.Forest.{IsForest, IsKnown, forest_cells, forest_parts, forest_len};
+ghost use Rattle.cord_balance.specs.inner.Forest.{IsForest, IsKnown, forest_cells, forest_parts, forest_len};
 
 use super::Piece;
 use super::known::{Known, find};

@@ -1,7 +1,7 @@
 // The text of expressions.
 ghost use Rattle.std.specs.Prelude.{map};
 ghost use Rattle.cord_plan.specs.Shown.{expr, exprs};
-ghost use Rattle.cord_plan.specs.Showing.{Writes};
+ghost use Rattle.cord_plan.specs.inner.Showing.{Writes};
 ghost use Rattle.cord_plan.specs.Views.{expr_view, members_of, shared_view};
 
 use super::fragments::{Fragment, put_fragments, put_text};

@@ -1,7 +1,7 @@
 // Fragments of a plan's text, and how a sink gets them.
 ghost use Rattle.std.specs.Prelude.{◌≡◌, ◌<◌, flat_map, map};
 ghost use Rattle.cord_plan.specs.Shown.{argument, argument_words, decimal, hex, number, path_byte, quoted, signed_decimal, spaced};
-ghost use Rattle.cord_plan.specs.Showing.{Writes, fragment_text, fragments_text};
+ghost use Rattle.cord_plan.specs.inner.Showing.{Writes, fragment_text, fragments_text};
 
 use cord_io::{Sink, WriteFault};
 use cord_iter::put_all;

@@ -2,7 +2,7 @@
 ghost use Rattle.std.specs.Prelude.{◌≡◌, map};
 ghost use Rattle.cord_syntax.specs.Families.{IsGrowth, IsLook, IsSearch, IsCount, IsControl};
 ghost use Rattle.cord_plan.specs.Shown.{called, counted, grows, relation, statement};
-ghost use Rattle.cord_plan.specs.Showing.{Writes, fragment_text};
+ghost use Rattle.cord_plan.specs.inner.Showing.{Writes, fragment_text};
 
 use super::fragments::Fragment::{Count, Name, Number, Plain};
 use super::fragments::{Fragment, put_fragments, put_text, put_words};

@@ -2,9 +2,9 @@ use Rattle.std.proofs.Common.{◌≡◌, ℕ, ◌+◌, Bool, true, false, ◌&&�
 use Rattle.std.specs.Prelude.{option_map}
 use Rattle.cord_plan.specs.Exprs.{Expr, name}
 use Rattle.cord_plan.specs.Forced.{expr_of, expr_with, is_small}
-use Rattle.cord_plan.specs.Liveness.{tells}
+use Rattle.cord_plan.specs.inner.Liveness.{tells}
 use Rattle.cord_plan.specs.Views.{expr_view}
-use Rattle.cord_plan.specs.Choices.{choice_view, is_spare, nearest, stands, expression_in}
+use Rattle.cord_plan.specs.inner.Choices.{choice_view, is_spare, nearest, stands, expression_in}
 use Rattle.cord_plan.proofs.Choices.{simple_reads}
 use Rattle.cord_plan.proofs.Nearest.{kept_far, kept_bare, kept_needed, by_tests, first_in, spare_stands}
 use Rattle.cord_plan.proofs.choosing.choose.Goals as goal

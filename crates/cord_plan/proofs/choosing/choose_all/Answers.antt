@@ -2,9 +2,9 @@ use Rattle.std.proofs.Common.{◌≡◌, ℕ, ◌+◌, List, [], ◌∷◌, map,
 use Rattle.std.specs.Prelude.{option_map}
 use Rattle.std.proofs.lemmas.List.{map-append, at_drop_all, length-map}
 use Rattle.cord_plan.specs.declared.choosing.Choice.{Choice}
-use Rattle.cord_plan.specs.Choices.{choice_view, IsChoice}
+use Rattle.cord_plan.specs.inner.Choices.{choice_view, IsChoice}
 use Rattle.cord_plan.specs.Forced as plain
-use Rattle.cord_plan.specs.Liveness.{tells}
+use Rattle.cord_plan.specs.inner.Liveness.{tells}
 use Rattle.cord_plan.specs.Views.{expr_view}
 use Rattle.cord_plan.proofs.Choices.{more_chosen, simple_reads}
 use Rattle.cord_plan.proofs.choosing.choose_all.Goals as goal

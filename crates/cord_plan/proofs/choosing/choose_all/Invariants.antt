@@ -1,8 +1,8 @@
 use Rattle.std.proofs.Common.{◌≡◌, [], map, drop, length}
 use Rattle.std.specs.Prelude.{option_map}
-use Rattle.cord_plan.specs.Choices.{choice_view, Has}
+use Rattle.cord_plan.specs.inner.Choices.{choice_view, Has}
 use Rattle.cord_plan.specs.Forced.{Table, choices}
-use Rattle.cord_plan.specs.Liveness.{tells}
+use Rattle.cord_plan.specs.inner.Liveness.{tells}
 use Rattle.cord_plan.specs.Views.{expr_view}
 use Rattle.cord_plan.proofs.choosing.choose_all.Given as goal
 

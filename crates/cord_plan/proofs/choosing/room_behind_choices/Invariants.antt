@@ -1,5 +1,5 @@
 use Rattle.std.proofs.Common.{◌≡◌, map, drop}
-use Rattle.cord_plan.specs.Choices.{room_left_by, choice_view}
+use Rattle.cord_plan.specs.inner.Choices.{room_left_by, choice_view}
 use Rattle.cord_plan.proofs.choosing.room_behind_choices.Given as goal
 
 abbrev pub invariant-loop-choice : goal.invariant-loop-choice

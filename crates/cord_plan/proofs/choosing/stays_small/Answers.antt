@@ -2,7 +2,7 @@ use Rattle.std.proofs.lemmas.List.{length-map}
 use Rattle.std.proofs.Common.{◌+◌, ◌-◌, ℕ, map, length, ap, ◌∙◌}
 use Rattle.std.specs.Prelude.{nat_le}
 use Rattle.cord_plan.specs.Views.{expr_view}
-use Rattle.cord_plan.specs.Choices.{choice_view}
+use Rattle.cord_plan.specs.inner.Choices.{choice_view}
 use Rattle.cord_plan.proofs.PartSums.{small_none, small_some_none, small_some_some}
 use Rattle.cord_plan.proofs.choosing.stays_small.Goals as goal
 

@@ -1,6 +1,6 @@
 use Rattle.std.proofs.Common.{ap}
 use Rattle.cord_plan.specs.Forced.{expr_of}
-use Rattle.cord_plan.specs.Choices.{choice_view}
+use Rattle.cord_plan.specs.inner.Choices.{choice_view}
 use Rattle.cord_plan.specs.declared.choosing.Choice.{Choice}
 use Rattle.cord_plan.proofs.Joined.{added_name}
 use Rattle.cord_plan.proofs.joining.add.Goals as goal

@@ -1,7 +1,7 @@
 use Rattle.std.proofs.Common.{ap, ◌∙◌}
 use Rattle.cord_plan.specs.Exprs.{Exprs, append, in_front, nothing}
 use Rattle.cord_plan.specs.Forced.{expr_of}
-use Rattle.cord_plan.specs.Choices.{choice_view}
+use Rattle.cord_plan.specs.inner.Choices.{choice_view}
 use Rattle.cord_plan.proofs.Joined.{more_joined}
 use Rattle.cord_plan.proofs.joining.joined.Goals as goal
 

@@ -1,7 +1,7 @@
 use Rattle.std.proofs.Common.{◌≡◌, map, take}
 use Rattle.cord_plan.specs.Exprs.{members}
 use Rattle.cord_plan.specs.Forced.{expr_of}
-use Rattle.cord_plan.specs.Choices.{choice_view}
+use Rattle.cord_plan.specs.inner.Choices.{choice_view}
 use Rattle.cord_plan.specs.Views.{members_of, shared_view}
 use Rattle.cord_plan.proofs.joining.joined.Given as goal
 

@@ -1,7 +1,7 @@
 use Rattle.std.proofs.Common.{map, pos, ◌∙◌}
 use Rattle.cord_operands.specs.declared.operands.Number.TheVariants.{Numeral}
 use Rattle.cord_plan.specs.Forced.{expr_of}
-use Rattle.cord_plan.specs.Choices.{choice_view}
+use Rattle.cord_plan.specs.inner.Choices.{choice_view}
 use Rattle.cord_plan.proofs.Joined.{joined_more}
 use Rattle.cord_plan.proofs.joining.joined_with.Goals as goal
 

@@ -2,7 +2,7 @@ use Rattle.std.proofs.Common.{◌≡◌, ◌<◌, List, Some, map, length, sym, 
 use Rattle.std.proofs.lemmas.List.{length-map}
 use Rattle.cord_meaning.specs.Blocks as blocks
 use Rattle.cord_meaning.specs.Blocks.{jump}
-use Rattle.cord_plan.specs.Liveness.{shape_view}
+use Rattle.cord_plan.specs.inner.Liveness.{shape_view}
 use Rattle.cord_plan.specs.Meaning.{operation_shape}
 use Rattle.cord_plan.specs.Views.{operation_view}
 use Rattle.cord_plan.specs.declared.operations.Operation.{Operation}

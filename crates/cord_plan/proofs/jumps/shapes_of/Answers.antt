@@ -1,4 +1,4 @@
-use Rattle.cord_plan.specs.Liveness.{shape_view}
+use Rattle.cord_plan.specs.inner.Liveness.{shape_view}
 use Rattle.cord_plan.specs.Meaning.{operation_shape}
 use Rattle.cord_plan.specs.Views.{operation_view}
 use Rattle.cord_plan.proofs.Pushed.{made_more_of}

@@ -1,5 +1,5 @@
 use Rattle.std.proofs.Common.{◌≡◌, List, ℕ, Some, ap, sym, ◌∙◌}
-use Rattle.cord_plan.specs.Numbering.{number_of}
+use Rattle.cord_plan.specs.inner.Numbering.{number_of}
 use Rattle.cord_plan.proofs.MarkedNames.{marks_number}
 use Rattle.cord_plan.proofs.marks.mark.Goals as goal
 

@@ -1,6 +1,6 @@
 use Rattle.std.proofs.Common.{take}
 use Rattle.cord_plan.specs.Operands.{has}
-use Rattle.cord_plan.specs.Marks.{Marks}
+use Rattle.cord_plan.specs.inner.Marks.{Marks}
 use Rattle.cord_plan.proofs.marks.mark_all.Given as goal
 
 abbrev pub invariant-loop-name : goal.invariant-loop-name

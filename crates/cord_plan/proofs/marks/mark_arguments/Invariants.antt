@@ -1,6 +1,6 @@
 use Rattle.std.proofs.Common.{take}
 use Rattle.cord_plan.specs.Operands.{has, cord_arguments}
-use Rattle.cord_plan.specs.Marks.{Marks}
+use Rattle.cord_plan.specs.inner.Marks.{Marks}
 use Rattle.cord_plan.proofs.marks.mark_arguments.Given as goal
 
 abbrev pub invariant-loop-argument : goal.invariant-loop-argument

@@ -1,6 +1,6 @@
 use Rattle.std.proofs.Common.{◌≡◌, map, drop}
 use Rattle.cord_plan.specs.Exprs.{names_of}
-use Rattle.cord_plan.specs.Recent.{lacks}
+use Rattle.cord_plan.specs.inner.Recent.{lacks}
 use Rattle.cord_plan.specs.Views.{expr_view, members_of, shared_view}
 use Rattle.cord_plan.proofs.MemberTexts.{weight, weights}
 use Rattle.cord_plan.proofs.naming.+lacks.Given as goal

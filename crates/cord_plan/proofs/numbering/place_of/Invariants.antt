@@ -1,5 +1,5 @@
 use Rattle.std.proofs.Common.{◌≡◌, drop}
-use Rattle.cord_plan.specs.Numbering.{place_of}
+use Rattle.cord_plan.specs.inner.Numbering.{place_of}
 use Rattle.cord_plan.proofs.Numbers.{moved}
 use Rattle.cord_plan.proofs.numbering.place_of.Given as goal
 

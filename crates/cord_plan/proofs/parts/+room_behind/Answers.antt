@@ -2,7 +2,7 @@ use Rattle.std.proofs.Common.{◌≡◌, ℕ, ◌<◌, ◌+◌, map, drop, sym, 
 use Rattle.cord_plan.specs.Exprs as plain
 use Rattle.cord_plan.specs.declared.expressions.Expr.{Expr}
 use Rattle.cord_plan.specs.Exprs.{parts, parts_of}
-use Rattle.cord_plan.specs.Choices.{room_left}
+use Rattle.cord_plan.specs.inner.Choices.{room_left}
 use Rattle.cord_plan.specs.Views.{expr_view, members_of, shared_view}
 use Rattle.cord_plan.proofs.ExprViews.{view-Name}
 use Rattle.cord_plan.proofs.PartSums.{none_for_more, room_for_more, parts_member}

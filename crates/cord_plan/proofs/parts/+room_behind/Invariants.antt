@@ -1,6 +1,6 @@
 use Rattle.std.proofs.Common.{◌≡◌, map, drop}
 use Rattle.cord_plan.specs.Exprs.{parts_of}
-use Rattle.cord_plan.specs.Choices.{room_left}
+use Rattle.cord_plan.specs.inner.Choices.{room_left}
 use Rattle.cord_plan.specs.Views.{expr_view, members_of, shared_view}
 use Rattle.cord_plan.proofs.MemberTexts.{weight, weights}
 use Rattle.cord_plan.proofs.parts.+room_behind.Given as goal

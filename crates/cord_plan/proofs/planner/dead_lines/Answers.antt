@@ -1,5 +1,5 @@
 use Rattle.std.proofs.Common.{◌∙◌, arith}
-use Rattle.cord_plan.specs.Liveness.{tells}
+use Rattle.cord_plan.specs.inner.Liveness.{tells}
 use Rattle.cord_plan.proofs.Dead.{dead_more, longer}
 use Rattle.cord_plan.proofs.planner.dead_lines.Goals as goal
 

@@ -1,5 +1,5 @@
 use Rattle.std.proofs.Common.{◌≡◌, length}
-use Rattle.cord_plan.specs.Liveness.{tells}
+use Rattle.cord_plan.specs.inner.Liveness.{tells}
 use Rattle.cord_plan.proofs.Dead.{ToldTo}
 use Rattle.cord_plan.proofs.planner.dead_lines.Given as goal
 

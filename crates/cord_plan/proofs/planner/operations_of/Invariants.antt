@@ -1,7 +1,7 @@
 use Rattle.std.proofs.Common.{◌≡◌, ◌≤◌, ℕ, ◌++◌, map, drop, length}
 use Rattle.std.specs.Prelude.{slice_get}
 use Rattle.cord_plan.specs.Conditions.{decided, decided_from}
-use Rattle.cord_plan.specs.Liveness.{tells}
+use Rattle.cord_plan.specs.inner.Liveness.{tells}
 use Rattle.cord_plan.specs.Views.{operation_view}
 use Rattle.cord_plan.proofs.Planning.{decisions}
 use Rattle.cord_plan.proofs.planner.operations_of.Given as goal

@@ -1,5 +1,5 @@
 use Rattle.std.proofs.Common.{◌≡◌, ℕ, List, Some, ap, sym, ◌∙◌}
-use Rattle.cord_plan.specs.Numbering.{number_of}
+use Rattle.cord_plan.specs.inner.Numbering.{number_of}
 use Rattle.cord_plan.proofs.Recents.{notes_there, notes_past}
 use Rattle.cord_plan.proofs.recent.note.Goals as goal
 

@@ -1,6 +1,6 @@
 use Rattle.std.proofs.Common.{take}
 use Rattle.cord_plan.specs.Operands.{has}
-use Rattle.cord_plan.specs.Recent.{Notes}
+use Rattle.cord_plan.specs.inner.Recent.{Notes}
 use Rattle.cord_plan.proofs.recent.note_all.Given as goal
 
 abbrev pub invariant-loop-name : goal.invariant-loop-name

@@ -1,6 +1,6 @@
 use Rattle.std.proofs.Common.{take, map, Ok}
 use Rattle.cord_plan.specs.Shown.{shown}
-use Rattle.cord_plan.specs.Showing.{Writes}
+use Rattle.cord_plan.specs.inner.Showing.{Writes}
 use Rattle.cord_plan.specs.Views.{operation_view}
 use Rattle.cord_plan.proofs.shown.put_operations.Given as goal
 

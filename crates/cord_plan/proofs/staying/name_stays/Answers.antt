@@ -1,6 +1,6 @@
 use Rattle.std.proofs.Common.{◌≡◌, List, ℕ, Option, sym, ap, ◌∙◌}
 use Rattle.cord_plan.specs.Forced.{setter}
-use Rattle.cord_plan.specs.Recent.{entry_of, is_before}
+use Rattle.cord_plan.specs.inner.Recent.{entry_of, is_before}
 use Rattle.cord_plan.proofs.Lasts.{stay_by_last}
 use Rattle.cord_plan.proofs.staying.name_stays.Goals as goal
 

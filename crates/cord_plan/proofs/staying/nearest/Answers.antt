@@ -1,6 +1,6 @@
 use Rattle.std.proofs.Common.{◌≡◌, List, ℕ, Option, sym, ap, ◌∙◌}
 use Rattle.cord_plan.specs.Forced.{setter}
-use Rattle.cord_plan.specs.Recent.{entry_at, entry_of, reader, unless_behind}
+use Rattle.cord_plan.specs.inner.Recent.{entry_at, entry_of, reader, unless_behind}
 use Rattle.cord_plan.proofs.Lasts.{nearest_by_last}
 use Rattle.cord_plan.proofs.staying.nearest.Goals as goal
 

@@ -3,7 +3,7 @@ use Rattle.std.specs.Prelude.{◌||◌, if◌then◌else◌}
 use Rattle.cord_meaning.specs.Statements.{shape_of}
 use Rattle.cord_plan.specs.Forced.{is_block}
 use Rattle.cord_plan.specs.Operands.{reads}
-use Rattle.cord_plan.specs.Choices.{nearest}
+use Rattle.cord_plan.specs.inner.Choices.{nearest}
 use Rattle.cord_plan.proofs.Nearest.{near_here}
 use Rattle.cord_plan.proofs.staying.nearest_by_lines.Goals as goal
 

@@ -1,5 +1,5 @@
 use Rattle.std.proofs.Common.{◌≡◌}
-use Rattle.cord_plan.specs.Choices.{nearest}
+use Rattle.cord_plan.specs.inner.Choices.{nearest}
 use Rattle.cord_plan.proofs.staying.nearest_by_lines.Given as goal
 
 abbrev pub invariant-loop-p : goal.invariant-loop-p

@@ -1,6 +1,6 @@
 use Rattle.std.proofs.Common.{Bool, ◌&&◌, sym, ap, ◌∙◌}
 use Rattle.cord_plan.specs.Exprs.{number_names}
-use Rattle.cord_plan.specs.Recent.{stay}
+use Rattle.cord_plan.specs.inner.Recent.{stay}
 use Rattle.cord_plan.proofs.Lasts.{stay_append}
 use Rattle.cord_plan.proofs.staying.numbers_stay.Goals as goal
 

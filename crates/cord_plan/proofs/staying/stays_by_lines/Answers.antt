@@ -1,7 +1,7 @@
 use Rattle.std.proofs.Common.{◌≡◌, ℕ, ◌+◌, ◌-◌, Bool, ◌&&◌, [], ◌∷◌, sym, ap, ◌∙◌, Some, arith}
 use Rattle.std.specs.Prelude.{slice_get, not}
 use Rattle.cord_plan.specs.Forced.{each_from, keeps}
-use Rattle.cord_plan.specs.Recent.{stay}
+use Rattle.cord_plan.specs.inner.Recent.{stay}
 use Rattle.cord_plan.proofs.Nearest.{keep_here}
 use Rattle.cord_plan.proofs.staying.stays_by_lines.Goals as goal
 

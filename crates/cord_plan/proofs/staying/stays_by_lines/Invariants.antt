@@ -1,5 +1,5 @@
 use Rattle.std.proofs.Common.{◌≡◌, [], ◌∷◌}
-use Rattle.cord_plan.specs.Recent.{stay}
+use Rattle.cord_plan.specs.inner.Recent.{stay}
 use Rattle.cord_plan.proofs.staying.stays_by_lines.Given as goal
 
 abbrev pub invariant-loop-p : goal.invariant-loop-p

@@ -2,7 +2,7 @@ use Rattle.std.proofs.Common.{◌≡◌, ℕ, ◌+◌, ◌-◌, Bool, true, fals
 use Rattle.std.specs.Prelude.{slice_get}
 use Rattle.cord_plan.specs.Exprs.{names}
 use Rattle.cord_plan.specs.Forced.{each_from, keeps}
-use Rattle.cord_plan.specs.Recent.{stay}
+use Rattle.cord_plan.specs.inner.Recent.{stay}
 use Rattle.cord_plan.specs.Views.{expr_view}
 use Rattle.cord_plan.proofs.Nearest.{keep_here}
 use Rattle.cord_plan.proofs.staying.stays_near.Goals as goal

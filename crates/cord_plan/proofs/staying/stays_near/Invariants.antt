@@ -1,6 +1,6 @@
 use Rattle.std.proofs.Common.{◌≡◌}
 use Rattle.cord_plan.specs.Exprs.{names}
-use Rattle.cord_plan.specs.Recent.{stay}
+use Rattle.cord_plan.specs.inner.Recent.{stay}
 use Rattle.cord_plan.specs.Views.{expr_view}
 use Rattle.cord_plan.proofs.staying.stays_near.Given as goal
 

@@ -1,7 +1,7 @@
 use Rattle.std.proofs.Common.{map, ap, ◌∙◌, sym, ◌<◌, ◌≡◌, reverse, length, arith, length-append}
 use Rattle.std.proofs.lemmas.List.{length-map}
 use Rattle.cord_plan.specs.declared.successors.Shape.TheVariants.{Simple}
-use Rattle.cord_plan.specs.Liveness.{shape_view}
+use Rattle.cord_plan.specs.inner.Liveness.{shape_view}
 use Rattle.cord_plan.specs.Unread.{behind}
 use Rattle.cord_plan.proofs.Followers.{open_more, told_more, all_behind}
 use Rattle.cord_plan.proofs.successors.behinds.Goals as goal

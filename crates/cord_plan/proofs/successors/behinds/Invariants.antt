@@ -1,7 +1,7 @@
 use Rattle.std.proofs.Common.{◌≡◌, ℕ, ◌<◌, map, reverse, length}
 use Rattle.cord_meaning.specs.Paths.{open_at}
 use Rattle.cord_plan.specs.Unread.{behind}
-use Rattle.cord_plan.specs.Liveness.{shape_view, places_at}
+use Rattle.cord_plan.specs.inner.Liveness.{shape_view, places_at}
 use Rattle.cord_plan.proofs.successors.behinds.Given as goal
 
 abbrev pub invariant-loop-p : goal.invariant-loop-p

@@ -1,7 +1,7 @@
 use Rattle.std.proofs.Common.{map, ap, ◌∙◌, ◌+◌}
 use Rattle.cord_meaning.specs.Blocks.{to_end, to_else}
 use Rattle.cord_plan.specs.declared.successors.Shape.TheVariants.{Simple, Loop, Branch, Otherwise, Close}
-use Rattle.cord_plan.specs.Liveness.{shape_view}
+use Rattle.cord_plan.specs.inner.Liveness.{shape_view}
 use Rattle.cord_plan.proofs.Followers.{shape_there, shapes_behind, jump_simple, jump_loop, jump_branch, jump_otherwise, jump_close}
 use Rattle.cord_plan.proofs.successors.jump.Goals as goal
 

@@ -1,5 +1,5 @@
 use Rattle.cord_meaning.specs.Statements.{shape_of}
-use Rattle.cord_plan.specs.Liveness.{shape_view}
+use Rattle.cord_plan.specs.inner.Liveness.{shape_view}
 use Rattle.cord_plan.proofs.Pushed.{made_more}
 use Rattle.cord_plan.proofs.successors.shapes_of.Goals as goal
 

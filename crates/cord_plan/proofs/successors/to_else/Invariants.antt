@@ -1,6 +1,6 @@
 use Rattle.std.proofs.Common.{◌≡◌, ◌+◌, ◌≤◌, map, drop}
 use Rattle.cord_meaning.specs.Blocks.{to_else}
-use Rattle.cord_plan.specs.Liveness.{shape_view}
+use Rattle.cord_plan.specs.inner.Liveness.{shape_view}
 use Rattle.cord_plan.proofs.successors.to_else.Given as goal
 
 abbrev pub invariant-loop-i : goal.invariant-loop-i

@@ -1,4 +1,4 @@
-use Rattle.cord_plan.specs.Choices.{choice_view}
+use Rattle.cord_plan.specs.inner.Choices.{choice_view}
 use Rattle.cord_plan.proofs.Marked.{marked_then, marked_kept, marked_at, marked_past}
 use Rattle.cord_plan.proofs.table.mark.Goals as goal
 use Rattle.cord_plan.proofs.table.mark.Goals.{in-Kept, in-Replaced+then-place-firsts, in-Replaced+else-place-firsts}

@@ -1,6 +1,6 @@
 use Rattle.std.proofs.Common.{map, take}
-use Rattle.cord_plan.specs.Choices.{choice_view}
-use Rattle.cord_plan.specs.Tables.{IsMarked}
+use Rattle.cord_plan.specs.inner.Choices.{choice_view}
+use Rattle.cord_plan.specs.inner.Tables.{IsMarked}
 use Rattle.cord_plan.proofs.table.mark.Given as goal
 
 -- the choices so far have marked their lines

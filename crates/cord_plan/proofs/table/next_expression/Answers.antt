@@ -1,10 +1,10 @@
 use Rattle.std.proofs.Common.{◌≡◌, List, Some, map, sym, ap, subst, ◌∙◌}
 use Rattle.std.specs.Prelude.{option_map}
 use Rattle.std.proofs.lemmas.Result.{IfOk-weaker}
-use Rattle.cord_plan.specs.Choices.{choice_view, operands_view, simple_operands}
+use Rattle.cord_plan.specs.inner.Choices.{choice_view, operands_view, simple_operands}
 use Rattle.cord_plan.specs.Forced.{expr_of, expr_with}
-use Rattle.cord_plan.specs.Liveness.{tells}
-use Rattle.cord_plan.specs.Tables.{IsMarked, IsNext}
+use Rattle.cord_plan.specs.inner.Liveness.{tells}
+use Rattle.cord_plan.specs.inner.Tables.{IsMarked, IsNext}
 use Rattle.cord_plan.specs.Views.{expr_view}
 use Rattle.cord_plan.specs.declared.choosing.Choice.{Choice}
 use Rattle.cord_plan.proofs.Marked.{next_chosen}

@@ -1,6 +1,6 @@
 use Rattle.std.proofs.Common.{arith, refl}
 use Rattle.std.proofs.lemmas.List.Elements.{All-more}
-use Rattle.cord_printf.specs.Reading.{IsOf}
+use Rattle.cord_printf.specs.inner.Reading.{IsOf}
 use Rattle.cord_printf.proofs.reading.span_len.Goals as goal
 
 pub loop-i-preserved : goal.loop-i-preserved

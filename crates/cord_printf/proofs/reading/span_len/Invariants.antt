@@ -1,6 +1,6 @@
 use Rattle.std.proofs.Common.{take}
 use Rattle.std.specs.Prelude.{All}
-use Rattle.cord_printf.specs.Reading.{IsOf}
+use Rattle.cord_printf.specs.inner.Reading.{IsOf}
 use Rattle.cord_printf.proofs.reading.span_len.Given as goal
 
 abbrev pub invariant-loop-i : goal.invariant-loop-i

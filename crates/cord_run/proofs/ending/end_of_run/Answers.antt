@@ -1,6 +1,6 @@
 use Rattle.std.proofs.Common.{ap, sym, ◌∙◌}
 use Rattle.cord_run.specs.declared.making.Halt.{Halt}
-use Rattle.cord_run.specs.Steps.{end_at, end_of_run}
+use Rattle.cord_run.specs.inner.Steps.{end_at, end_of_run}
 use Rattle.cord_run.proofs.ending.end_of_run.Goals as goal
 
 pub returns-in-Fault : goal.returns-in-Fault

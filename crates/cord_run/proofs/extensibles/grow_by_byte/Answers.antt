@@ -1,6 +1,6 @@
 use Rattle.std.proofs.Common.{Err, sym, subst, [], ◌∷◌}
 use Rattle.cord_run.specs.declared.making.Halt.{Halt}
-use Rattle.cord_run.specs.Extending.{Becomes, longer_text}
+use Rattle.cord_run.specs.inner.Extending.{Becomes, longer_text}
 use Rattle.cord_run.proofs.Extending.{grew_over, grew_becomes, grew_refused}
 use Rattle.cord_run.proofs.extensibles.grow_by_byte.Goals as goal
 

@@ -1,10 +1,10 @@
 use Rattle.std.proofs.Common.{ℕ, List, Err, sym, subst, ◌+◌, ◌<◌, ◌≤◌, ◌++◌, ◌∙◌, ap, length}
 use Rattle.cord_run.specs.declared.making.Halt.{Halt}
-use Rattle.cord_run.specs.Extending.{Becomes, longer_text}
+use Rattle.cord_run.specs.inner.Extending.{Becomes, longer_text}
 use Rattle.cord_io.specs.declared.TheConstants.{MAX_LEN}
 use Rattle.cord_node.specs.Tables.{lengths_of}
 use Rattle.cord_ec.specs.Grown.{bytes_over}
-use Rattle.cord_run.specs.Finding.{text_over}
+use Rattle.cord_run.specs.inner.Finding.{text_over}
 use Rattle.cord_run.proofs.Extending.{cord_inside, cord_length, cord_text, grown_over, grown_becomes, grown_refused}
 use Rattle.cord_run.proofs.extensibles.grow_by_cord.Goals as goal
 

@@ -1,7 +1,7 @@
 use Rattle.std.proofs.Common.{rules, ◌≤◌, length, subst}
 use Rattle.cord_plan.specs.Views.{expr_view}
 use Rattle.cord_plan.specs.declared.expressions.Expr.{Expr}
-use Rattle.cord_run.specs.Slices.{IsTextIn}
+use Rattle.cord_run.specs.inner.Slices.{IsTextIn}
 use Rattle.cord_run.proofs.SideBySide.{gathered_all, gathered_more}
 use Rattle.cord_run.proofs.gathering.gather_all.Goals as goal
 

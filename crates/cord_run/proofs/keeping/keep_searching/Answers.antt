@@ -3,7 +3,7 @@ use Rattle.cord_io.specs.Table.{Lengths}
 use Rattle.std.specs.Prelude.{IfOk}
 use Rattle.cord_file.specs.Entries.{lengths_in}
 use Rattle.cord_file.specs.Sources.{opened_in}
-use Rattle.cord_run.specs.Held.{IsOver}
+use Rattle.cord_run.specs.inner.Held.{IsOver}
 use Rattle.cord_run.proofs.Failing.{search_fails}
 use Rattle.cord_run.proofs.Sourced.{gives_read, stays_there}
 use Rattle.cord_run.proofs.keeping.keep_searching.Goals as goal

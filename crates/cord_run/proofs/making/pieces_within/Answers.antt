@@ -2,7 +2,7 @@ use Rattle.std.proofs.Common.{◌∙◌, ap, sym, subst, List, Ok, ℕ}
 use Rattle.std.specs.Prelude.{Option}
 use Rattle.cord_node.specs.declared.Node.{Node}
 use Rattle.cord_plan.specs.Views.{expr_view}
-use Rattle.cord_run.specs.Turns.{InTurn, origins}
+use Rattle.cord_run.specs.inner.Turns.{InTurn, origins}
 use Rattle.cord_run.proofs.Turns.{none_in_turn}
 use Rattle.cord_run.proofs.Wholes.{whole_in_turn, whole_nothing, whole_range}
 use Rattle.cord_run.proofs.making.pieces_within.Goals as goal

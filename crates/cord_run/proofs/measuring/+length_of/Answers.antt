@@ -3,7 +3,7 @@ use Rattle.cord_plan.specs.Exprs as plain
 use Rattle.cord_plan.specs.declared.expressions.Expr.{Expr}
 use Rattle.cord_plan.specs.Views.{expr_view, shared_view}
 use Rattle.cord_plan.proofs.ExprViews.{view-Cat}
-use Rattle.cord_run.specs.Extents.{extent_in, members_extent, members_seen}
+use Rattle.cord_run.specs.inner.Extents.{extent_in, members_extent, members_seen}
 use Rattle.cord_run.proofs.Members.{weight, weights, member_smaller, member_faulty, all_counted, counted_length}
 use Rattle.cord_run.proofs.measuring.+length_of.Goals as goal
 

@@ -1,6 +1,6 @@
 use Rattle.std.proofs.Common.{◌≡◌, ◌<◌, ◌^◌, drop}
 use Rattle.cord_plan.specs.Views.{expr_view}
-use Rattle.cord_run.specs.Extents.{counted, members_extent, members_seen}
+use Rattle.cord_run.specs.inner.Extents.{counted, members_extent, members_seen}
 use Rattle.cord_run.proofs.Members.{weight, weights}
 use Rattle.cord_run.proofs.measuring.+length_of.Given as goal
 

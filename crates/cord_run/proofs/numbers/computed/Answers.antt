@@ -1,8 +1,8 @@
 use Rattle.std.proofs.Common.{◌≡◌, ℤ, pos, Ok, sym, subst, ap, ◌∙◌, FitsSigned, to_z, of_z, w64, rules}
 use Rattle.std.proofs.lemmas.Int.{to_z-of_z}
 use Rattle.cord_syntax.specs.declared.statements.Statement.{Statement}
-use Rattle.cord_run.specs.Finding.{FindsOver}
-use Rattle.cord_run.specs.Held.{length_in}
+use Rattle.cord_run.specs.inner.Finding.{FindsOver}
+use Rattle.cord_run.specs.inner.Held.{length_in}
 use Rattle.cord_run.proofs.Kept.{len_finds}
 use Rattle.cord_run.proofs.numbers.computed.Goals as goal
 

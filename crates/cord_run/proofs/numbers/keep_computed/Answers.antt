@@ -2,8 +2,8 @@ use Rattle.std.proofs.Common.{ℤ, subst, FitsSigned, w64, rules}
 use Rattle.std.specs.Prelude.{IfOk, Result}
 use Rattle.std.proofs.lemmas.Int.{to_z-of_z}
 use Rattle.cord_meaning.specs.declared.ends.FaultKind.{FaultKind}
-use Rattle.cord_run.specs.Finding.{FindsOver, or_halt}
-use Rattle.cord_run.specs.Held.{HasNumber}
+use Rattle.cord_run.specs.inner.Finding.{FindsOver, or_halt}
+use Rattle.cord_run.specs.inner.Held.{HasNumber}
 use Rattle.cord_run.proofs.Kept.{kept_giving}
 use Rattle.cord_run.proofs.numbers.keep_computed.Goals as goal
 

@@ -1,7 +1,7 @@
 use Rattle.std.proofs.Common.{ℤ, subst, w64, FitsSigned, rules}
 use Rattle.std.specs.Prelude.{IfOk}
 use Rattle.std.proofs.lemmas.Int.{to_z-of_z}
-use Rattle.cord_run.specs.Held.{HasNumber}
+use Rattle.cord_run.specs.inner.Held.{HasNumber}
 use Rattle.cord_run.proofs.Kept.{kept_giving}
 use Rattle.cord_run.proofs.numbers.keep_search.Goals as goal
 

@@ -1,7 +1,7 @@
 use Rattle.std.proofs.Common.{◌+◌, drop}
 use Rattle.cord_plan.specs.Views.{expr_view}
-use Rattle.cord_run.specs.Extents.{members_seen}
-use Rattle.cord_run.specs.Ranges.{AreFew}
+use Rattle.cord_run.specs.inner.Extents.{members_seen}
+use Rattle.cord_run.specs.inner.Ranges.{AreFew}
 use Rattle.cord_run.proofs.Members.{weight, weights}
 use Rattle.cord_run.proofs.SoFar.{SoFar, WantedSoFar}
 use Rattle.cord_run.proofs.Turns.{TurnsSoFar}

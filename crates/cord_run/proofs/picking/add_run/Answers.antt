@@ -2,8 +2,8 @@ use Rattle.std.proofs.Common.{◌≡◌, FitsSigned, Ok, ℤ, sym, ap, subst, �
 use Rattle.std.proofs.lemmas.Int.{to_z-of_z}
 use Rattle.cord_io.specs.declared.TheConstants.{MAX_LEN}
 use Rattle.cord_plan.specs.Values.{measured_copies}
-use Rattle.cord_run.specs.Held.{operand_in}
-use Rattle.cord_run.specs.Ranges.{AddsCopies}
+use Rattle.cord_run.specs.inner.Held.{operand_in}
+use Rattle.cord_run.specs.inner.Ranges.{AddsCopies}
 use Rattle.cord_run.proofs.Ranged.{run_picked}
 use Rattle.cord_run.proofs.picking.add_run.Goals as goal
 

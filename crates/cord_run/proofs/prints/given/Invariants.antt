@@ -1,5 +1,5 @@
 use Rattle.std.proofs.Common.{◌≡◌, map, take}
-use Rattle.cord_run.specs.Contents.{argument_in}
+use Rattle.cord_run.specs.inner.Contents.{argument_in}
 use Rattle.cord_run.proofs.prints.given.Given as goal
 
 abbrev pub invariant-loop-argument : goal.invariant-loop-argument

@@ -3,7 +3,7 @@ use Rattle.cord_io.specs.declared.TheConstants.{MAX_LEN}
 use Rattle.cord_meaning.specs.Formats.{format_text}
 use Rattle.cord_meaning.specs.State.{and_then}
 use Rattle.cord_plan.specs.Values.{within}
-use Rattle.cord_run.specs.Contents.{IsFaultOver, halt_of_print}
+use Rattle.cord_run.specs.inner.Contents.{IsFaultOver, halt_of_print}
 use Rattle.cord_run.proofs.Printed.{printed_cord, unprinted_unless}
 use Rattle.cord_run.proofs.Refused.{passed_on}
 use Rattle.cord_run.proofs.prints.print.Goals as goal

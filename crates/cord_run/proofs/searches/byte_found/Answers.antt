@@ -3,7 +3,7 @@ use Rattle.std.specs.Prelude.{IfSome}
 use Rattle.std.proofs.lemmas.Int.{to_z-of_z}
 use Rattle.cord_core.specs.Cord.{bytes_of, text_len}
 use Rattle.cord_meaning.specs.State.{as_byte, as_index}
-use Rattle.cord_run.specs.Finding.{byte_place, Finds}
+use Rattle.cord_run.specs.inner.Finding.{byte_place, Finds}
 use Rattle.cord_run.proofs.Finding.{past_byte, byte_placed}
 use Rattle.cord_run.proofs.searches.byte_found.Goals as goal
 

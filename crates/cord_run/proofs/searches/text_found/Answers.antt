@@ -3,7 +3,7 @@ use Rattle.std.specs.Prelude.{IfSome}
 use Rattle.std.proofs.lemmas.Int.{to_z-of_z}
 use Rattle.cord_core.specs.Cord.{bytes_of}
 use Rattle.cord_meaning.specs.State.{as_index}
-use Rattle.cord_run.specs.Finding.{text_place, Finds}
+use Rattle.cord_run.specs.inner.Finding.{text_place, Finds}
 use Rattle.cord_run.proofs.Finding.{text_placed}
 use Rattle.cord_run.proofs.searches.text_found.Goals as goal
 

@@ -3,8 +3,8 @@ use Rattle.cord_io.specs.Table.{Lengths}
 use Rattle.cord_file.specs.Entries.{table_in}
 use Rattle.cord_file.specs.Sources.{opened_in}
 use Rattle.cord_plan.specs.Views.{expr_view}
-use Rattle.cord_run.specs.Held.{IsOver}
-use Rattle.cord_run.specs.Holdings.{holding_of}
+use Rattle.cord_run.specs.inner.Held.{IsOver}
+use Rattle.cord_run.specs.inner.Holdings.{holding_of}
 use Rattle.cord_run.proofs.Wrote.{held_read, wrote_serves}
 use Rattle.cord_run.proofs.serving.put.Goals as goal
 

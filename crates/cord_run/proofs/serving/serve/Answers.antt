@@ -7,8 +7,8 @@ use Rattle.cord_plan.specs.Meaning.{does}
 use Rattle.cord_plan.specs.Planned as plan
 use Rattle.cord_plan.specs.Views.{made_view, operation_view}
 use Rattle.cord_run.specs.Failing.{FailsIn}
-use Rattle.cord_run.specs.Holdings.{holding_of}
-use Rattle.cord_run.specs.Served.{Serves}
+use Rattle.cord_run.specs.inner.Holdings.{holding_of}
+use Rattle.cord_run.specs.inner.Served.{Serves}
 use Rattle.cord_run.proofs.Failing.{fails_freely}
 use Rattle.cord_run.proofs.Served.{build_serves, measure_serves}
 use Rattle.cord_run.proofs.serving.serve.Goals as goal

@@ -5,8 +5,8 @@ use Rattle.cord_plan.specs.Exprs as plain
 use Rattle.cord_plan.specs.Values.{part_of}
 use Rattle.cord_plan.specs.Views.{expr_view}
 use Rattle.cord_plan.proofs.ExprViews.{view-Name, view-Sub}
-use Rattle.cord_run.specs.Held.{operand_in}
-use Rattle.cord_run.specs.Slices.{IsTextIn}
+use Rattle.cord_run.specs.inner.Held.{operand_in}
+use Rattle.cord_run.specs.inner.Slices.{IsTextIn}
 use Rattle.cord_run.proofs.Sliced.{name_is, still_some, sub_is}
 use Rattle.cord_run.proofs.slices.slice_of.Goals as goal
 

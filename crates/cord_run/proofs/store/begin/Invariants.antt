@@ -1,6 +1,6 @@
 use Rattle.std.proofs.Common.{drop}
-use Rattle.cord_run.specs.Held.{names_in}
-use Rattle.cord_run.specs.Places.{Begin}
+use Rattle.cord_run.specs.inner.Held.{names_in}
+use Rattle.cord_run.specs.inner.Places.{Begin}
 use Rattle.cord_run.proofs.store.begin.Given as goal
 
 -- where the rest begins so, all of them do

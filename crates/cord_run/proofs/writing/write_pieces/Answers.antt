@@ -7,8 +7,8 @@ use Rattle.cord_iter.specs.Taking.{Counts, IsFrontOf, Takes}
 use Rattle.cord_plan.specs.Values.{text_in}
 use Rattle.cord_plan.specs.Views.{expr_view}
 use Rattle.cord_run.specs.declared.making.Halt.{Halt}
-use Rattle.cord_run.specs.Holdings.{plain_of}
-use Rattle.cord_run.specs.Putting.{Wrote, CountsHalts}
+use Rattle.cord_run.specs.inner.Holdings.{plain_of}
+use Rattle.cord_run.specs.inner.Putting.{Wrote, CountsHalts}
 use Rattle.cord_run.proofs.Handed.{wrote_nothing, wrote_whole, wrote_part, halt_counts, unbuilt_counts}
 use Rattle.cord_run.proofs.writing.write_pieces.Goals as goal
 

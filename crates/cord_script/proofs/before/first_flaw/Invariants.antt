@@ -1,6 +1,6 @@
 use Rattle.std.proofs.Common.{◌≡◌, drop, map}
 use Rattle.cord_script.specs.Parted.{term_of}
-use Rattle.cord_script.specs.Leaves.{first_term, term_flaw, before_of}
+use Rattle.cord_script.specs.inner.Leaves.{first_term, term_flaw, before_of}
 use Rattle.cord_script.proofs.before.first_flaw.Given as goal
 
 abbrev pub invariant-loop-part : goal.invariant-loop-part

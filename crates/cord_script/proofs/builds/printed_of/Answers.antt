@@ -1,5 +1,5 @@
 use Rattle.std.proofs.Common.{subst}
-use Rattle.cord_script.specs.Built.{IsPrinted}
+use Rattle.cord_script.specs.inner.Built.{IsPrinted}
 use Rattle.cord_script.proofs.Built.{printed_arguments, printed_suits}
 use Rattle.cord_script.proofs.builds.printed_of.Goals as goal
 

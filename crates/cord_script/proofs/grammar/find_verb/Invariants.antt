@@ -1,5 +1,5 @@
 use Rattle.std.proofs.Common.{◌≡◌, drop}
-use Rattle.cord_script.specs.Verbal.{find_verb}
+use Rattle.cord_script.specs.inner.Verbal.{find_verb}
 use Rattle.cord_script.proofs.grammar.find_verb.Given as goal
 
 abbrev pub invariant-loop-verb : goal.invariant-loop-verb

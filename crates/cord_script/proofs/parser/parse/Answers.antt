@@ -1,6 +1,6 @@
 use Rattle.std.proofs.Common.{length, arith, inl, refl, sym, subst, eqb-true}
 use Rattle.cord_script.specs.Script.{Reads}
-use Rattle.cord_script.specs.Leaves.{before_of}
+use Rattle.cord_script.specs.inner.Leaves.{before_of}
 use Rattle.cord_script.proofs.Readings.{reads_line, stops, too_many, is_wrong, read_whole, leaves_open, no_bytes, some_bytes, numbered_line, reached, left_found}
 use Rattle.cord_script.proofs.parser.parse.Goals as goal
 

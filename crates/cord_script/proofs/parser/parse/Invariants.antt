@@ -2,8 +2,8 @@ use Rattle.std.proofs.Common.{◌≤◌, ◌+◌, length}
 use Rattle.std.specs.Prelude.{All}
 use Rattle.cord_script.specs.declared.TheConstants.{MAX_LINES}
 use Rattle.cord_syntax.specs.Lines.{line_of}
-use Rattle.cord_script.specs.Leaves.{before_of}
-use Rattle.cord_script.specs.Steps.{HasRead}
+use Rattle.cord_script.specs.inner.Leaves.{before_of}
+use Rattle.cord_script.specs.inner.Steps.{HasRead}
 use Rattle.cord_script.proofs.parser.parse.Given as goal
 
 abbrev pub invariant-lines : goal.invariant-lines

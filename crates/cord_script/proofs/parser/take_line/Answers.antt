@@ -1,7 +1,7 @@
 use Rattle.std.proofs.Common.{Some, subst}
 use Rattle.std.proofs.lemmas.Result.{on_ok_weaker}
-use Rattle.cord_script.specs.Leaves.{before_of}
-use Rattle.cord_script.specs.Steps.{Tells}
+use Rattle.cord_script.specs.inner.Leaves.{before_of}
+use Rattle.cord_script.specs.inner.Steps.{Tells}
 use Rattle.cord_script.proofs.parser.take_line.Goals as goal
 
 pub returns-clause-takes : goal.returns-clause-takes

@@ -1,7 +1,7 @@
 use Rattle.std.proofs.Common.{◌∙◌, sym, ap, map}
 use Rattle.std.proofs.lemmas.Result.{err_from_is_err_and}
-use Rattle.cord_script.specs.Verbal.{verb_form}
-use Rattle.cord_script.specs.Leaves.{before_of, terms_flaw}
+use Rattle.cord_script.specs.inner.Verbal.{verb_form}
+use Rattle.cord_script.specs.inner.Leaves.{before_of, terms_flaw}
 use Rattle.cord_script.specs.Parted.{term_of}
 use Rattle.cord_script.proofs.Allowed.{words_wrong, names_wrong, blocks_wrong, checked}
 use Rattle.cord_script.proofs.saying.checked_parts.Goals as goal

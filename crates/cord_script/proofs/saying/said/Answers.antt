@@ -1,9 +1,9 @@
 use Rattle.std.proofs.Common.{◌∙◌, refl, sym, ap, subst}
 use Rattle.std.proofs.lemmas.Result.{err_from_is_err_and}
-use Rattle.cord_script.specs.Leaves.{before_of}
-use Rattle.cord_script.specs.Behind.{left_after}
-use Rattle.cord_script.specs.Built.{IsWorded}
-use Rattle.cord_script.specs.Verbal.{verb_word}
+use Rattle.cord_script.specs.inner.Leaves.{before_of}
+use Rattle.cord_script.specs.inner.Behind.{left_after}
+use Rattle.cord_script.specs.inner.Built.{IsWorded}
+use Rattle.cord_script.specs.inner.Verbal.{verb_word}
 use Rattle.cord_script.proofs.Behind.{said, bad_words}
 use Rattle.cord_script.proofs.Built.{worded}
 use Rattle.cord_script.proofs.saying.said.Goals as goal

@@ -6,7 +6,7 @@ use Rattle.cord_script.specs.declared.refusals.RefusalKind.TheVariants.{NoMemory
 use Rattle.cord_script.specs.Forms.{Shape}
 use Rattle.cord_script.specs.Forms.Shape.{Words}
 use Rattle.cord_script.specs.Parted.{IsParted, HasPartFlaw}
-use Rattle.cord_script.specs.Verbal.{verb_shape, verb_wants}
+use Rattle.cord_script.specs.inner.Verbal.{verb_shape, verb_wants}
 use Rattle.cord_script.proofs.taking.parts_of.Goals as goal
 
 -- every other verb has the words that it wants

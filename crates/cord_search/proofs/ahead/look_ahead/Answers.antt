@@ -1,7 +1,7 @@
 use Rattle.std.proofs.Common.{◌+◌, ◌<◌, ◌≤◌, Some, arith}
 use Rattle.cord_node.specs.Tree.{len_of}
-use Rattle.cord_search.specs.Ahead.{AreOneSpot, AreAlike}
-use Rattle.cord_search.specs.Stretches.{stretch_len, IsStretchOf}
+use Rattle.cord_search.specs.inner.Ahead.{AreOneSpot, AreAlike}
+use Rattle.cord_search.specs.inner.Stretches.{stretch_len, IsStretchOf}
 use Rattle.cord_search.proofs.Ranges.{stretch_on}
 use Rattle.cord_search.proofs.Sharing.{on_cord, spots_alike, stretches_alike, front_stretch}
 use Rattle.cord_search.proofs.ahead.look_ahead.Goals as goal

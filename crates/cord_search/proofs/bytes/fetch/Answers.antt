@@ -1,5 +1,5 @@
 use Rattle.std.proofs.Common.{arith}
-use Rattle.cord_search.specs.Pieces.{IsPieceOf}
+use Rattle.cord_search.specs.inner.Pieces.{IsPieceOf}
 use Rattle.cord_core.specs.Cord.{bytes_of}
 use Rattle.cord_search.proofs.Ranges.{piece_within}
 use Rattle.cord_search.proofs.Finding.{byte_of_range}

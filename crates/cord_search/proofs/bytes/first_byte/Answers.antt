@@ -1,6 +1,6 @@
 use Rattle.std.proofs.Common.{◌≡◌, ◌∙◌, arith, Some}
-use Rattle.cord_search.specs.Pieces.{IsPieceAt}
-use Rattle.cord_search.specs.Stretches.{stretch_len}
+use Rattle.cord_search.specs.inner.Pieces.{IsPieceAt}
+use Rattle.cord_search.specs.inner.Stretches.{stretch_len}
 use Rattle.cord_search.proofs.Ranges.{piece_within}
 use Rattle.cord_search.proofs.Finding.{node_len, first_on, first_past, first_found, first_none}
 use Rattle.cord_search.proofs.bytes.first_byte.Goals as goal

@@ -1,6 +1,6 @@
 use Rattle.std.proofs.Common.{◌≡◌, ◌-◌, ◌≤◌, [], ◌∷◌}
 use Rattle.cord_io.specs.Device.{Folder}
-use Rattle.cord_search.specs.Pieces.{NotFound}
+use Rattle.cord_search.specs.inner.Pieces.{NotFound}
 use Rattle.cord_search.proofs.bytes.first_byte.Given as goal
 
 -- the byte stands at no place before, and no read has failed

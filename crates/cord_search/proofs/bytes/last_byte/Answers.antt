@@ -1,6 +1,6 @@
 use Rattle.std.proofs.Common.{◌≡◌, ◌+◌, ◌-◌, ◌≤◌, ◌∙◌, length, arith, Some}
-use Rattle.cord_search.specs.Pieces.{IsPieceAt, HasNot}
-use Rattle.cord_search.specs.Stretches.{stretch_len}
+use Rattle.cord_search.specs.inner.Pieces.{IsPieceAt, HasNot}
+use Rattle.cord_search.specs.inner.Stretches.{stretch_len}
 use Rattle.cord_search.proofs.Ranges.{piece_within}
 use Rattle.cord_search.proofs.Finding.{last_on, last_past, last_found, last_none}
 use Rattle.cord_search.proofs.bytes.last_byte.Goals as goal

@@ -1,6 +1,6 @@
 use Rattle.std.proofs.Common.{◌≡◌, ◌+◌, ◌≤◌}
 use Rattle.cord_io.specs.Device.{Folder}
-use Rattle.cord_search.specs.Pieces.{HasNot}
+use Rattle.cord_search.specs.inner.Pieces.{HasNot}
 use Rattle.cord_search.proofs.bytes.last_byte.Given as goal
 
 -- the byte stands at no place from the end on, and no read has failed

@@ -1,5 +1,5 @@
 use Rattle.std.proofs.Common.{◌+◌, ◌<◌, ◌∙◌, length, arith}
-use Rattle.cord_search.specs.Pieces.{IsPieceOf}
+use Rattle.cord_search.specs.inner.Pieces.{IsPieceOf}
 use Rattle.cord_search.proofs.Ranges.{piece_within}
 use Rattle.cord_search.proofs.Sharing.{alike_on}
 use Rattle.cord_search.proofs.Comparing.{cord_limit}

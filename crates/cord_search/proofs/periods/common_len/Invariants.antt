@@ -1,6 +1,6 @@
 use Rattle.std.proofs.Common.{◌≡◌, ◌-◌, ◌≤◌}
 use Rattle.cord_io.specs.Device.{Folder}
-use Rattle.cord_search.specs.Pieces.{AreSame}
+use Rattle.cord_search.specs.inner.Pieces.{AreSame}
 use Rattle.cord_search.proofs.periods.common_len.Given as goal
 
 -- the first `done` bytes are the same, and no read has failed

@@ -1,6 +1,6 @@
 use Rattle.std.proofs.Common.{◌≡◌, ◌+◌, ◌-◌, ◌∙◌, length, drop, arith, length-drop}
 use Rattle.std.proofs.lemmas.List.{length-take-le}
-use Rattle.cord_search.specs.Pieces.{IsPieceOf}
+use Rattle.cord_search.specs.inner.Pieces.{IsPieceOf}
 use Rattle.cord_search.proofs.Comparing.{cord_limit}
 use Rattle.cord_search.proofs.Ranges.{piece_within}
 use Rattle.cord_search.proofs.Standing.{filled_on, filled_inside}

@@ -1,6 +1,6 @@
 use Rattle.std.proofs.Common.{◌≡◌, ◌-◌, ◌≤◌, length}
 use Rattle.cord_io.specs.Device.{Folder}
-use Rattle.cord_search.specs.Pieces.{IsFilled}
+use Rattle.cord_search.specs.inner.Pieces.{IsFilled}
 use Rattle.cord_search.proofs.pieces.gather.Given as goal
 
 -- the first `done` bytes are filled, and no read has failed

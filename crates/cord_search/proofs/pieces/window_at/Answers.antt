@@ -1,5 +1,5 @@
 use Rattle.std.proofs.Common.{◌≡◌, length, refl, ap, arith}
-use Rattle.cord_search.specs.Stretches.{stretch_len, stretch_bytes}
+use Rattle.cord_search.specs.inner.Stretches.{stretch_len, stretch_bytes}
 use Rattle.cord_search.specs.declared.stretches.Stretch.{Stretch}
 use Rattle.cord_search.proofs.Ranges.{whole_part, piece_within}
 use Rattle.cord_search.proofs.pieces.window_at.Goals as goal

@@ -1,7 +1,7 @@
 use Rattle.std.proofs.Common.{◌≡◌, ◌<◌, ◌≤◌, ap, arith, rules, subst, sym, take, drop, ◌∙◌, Some}
 use Rattle.std.proofs.lemmas.List.{take-take}
 use Rattle.cord_core.specs.Cord.{bytes_of}
-use Rattle.cord_search.specs.Stretches.{stretch_len, IsStretchAt}
+use Rattle.cord_search.specs.inner.Stretches.{stretch_len, IsStretchAt}
 use Rattle.cord_search.specs.declared.stretches.Stretch.{Stretch}
 use Rattle.cord_search.specs.declared.stretches.Stretch.TheVariants.{Func}
 use Rattle.cord_search.proofs.stretches.block_at.Goals as goal

@@ -7,7 +7,7 @@ use Rattle.cord_node.specs.Kept.{leaf_part}
 use Rattle.cord_node.specs.declared.Node.{Node}
 use Rattle.cord_node.specs.Tree.{len_of}
 use Rattle.cord_node.specs.Tables.{bytes_over}
-use Rattle.cord_search.specs.Ahead.{IsWithin}
+use Rattle.cord_search.specs.inner.Ahead.{IsWithin}
 use Rattle.cord_search.proofs.Ranges.{cat_len, within_left, within_right, stretch_back, leaf_stretch, run_stretch, func_stretch}
 use Rattle.cord_search.proofs.stretches.stretch_before.Goals as goal
 

@@ -5,8 +5,8 @@ use Rattle.cord_io.specs.Table.{Table}
 use Rattle.cord_core.specs.Cord.{bytes_of}
 use Rattle.cord_core.specs.Texts.{first}
 use Rattle.cord_search.proofs.Ranges.{cord_len}
-use Rattle.cord_search.specs.Pieces.{IsPieceOf, IsStanding, StandsNot}
-use Rattle.cord_search.specs.Periods.{IsRepeated}
+use Rattle.cord_search.specs.inner.Pieces.{IsPieceOf, IsStanding, StandsNot}
+use Rattle.cord_search.specs.inner.Periods.{IsRepeated}
 use Rattle.cord_search.proofs.Standing.{front_on, front_none, stands_on, stands_first, stands_none}
 use Rattle.cord_search.proofs.Repeating.{passed_on}
 use Rattle.cord_search.proofs.substring.first_confirmed.Goals as goal

@@ -1,7 +1,7 @@
 use Rattle.std.proofs.Common.{◌≡◌, ◌+◌, ◌-◌, ◌≤◌}
 use Rattle.cord_io.specs.Device.{Folder}
 use Rattle.cord_core.specs.Cord.{bytes_of}
-use Rattle.cord_search.specs.Pieces.{StandsNot}
+use Rattle.cord_search.specs.inner.Pieces.{StandsNot}
 use Rattle.cord_search.proofs.substring.first_confirmed.Given as goal
 
 -- the text stands at no place before, and no read has failed

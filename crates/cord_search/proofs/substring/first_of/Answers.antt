@@ -1,7 +1,7 @@
 use Rattle.std.proofs.Common.{◌≡◌, ℕ, ◌≤◌, ◌∙◌, ap, List, length, arith}
 use Rattle.cord_io.specs.Table.{HasLengths}
 use Rattle.cord_search.proofs.Ranges.{cord_len}
-use Rattle.cord_search.specs.Pieces.{IsPieceOf}
+use Rattle.cord_search.specs.inner.Pieces.{IsPieceOf}
 use Rattle.cord_search.proofs.Standing.{misfit_on, window_none, window_some, stands_none}
 use Rattle.cord_search.proofs.substring.first_of.Goals as goal
 

@@ -1,7 +1,7 @@
 use Rattle.std.proofs.Common.{◌≡◌, ◌+◌, ◌-◌, ◌≤◌}
 use Rattle.cord_io.specs.Device.{Folder}
 use Rattle.cord_core.specs.Cord.{text_len}
-use Rattle.cord_search.specs.Pieces.{StandsNot}
+use Rattle.cord_search.specs.inner.Pieces.{StandsNot}
 use Rattle.cord_search.proofs.substring.first_of.Given as goal
 
 -- the bytes stand at no place before, and no read has failed

@@ -1,7 +1,7 @@
 use Rattle.std.proofs.Common.{◌+◌, ◌≤◌, ◌∙◌, true, sym, arith}
 use Rattle.cord_search.proofs.Ranges.{cord_len}
 use Rattle.cord_core.specs.Cord.{bytes_of}
-use Rattle.cord_search.specs.Pieces.{IsStanding}
+use Rattle.cord_search.specs.inner.Pieces.{IsStanding}
 use Rattle.cord_search.proofs.Standing.{stands_first, stands_none, stands_start, nothing_stands}
 use Rattle.cord_search.proofs.substring.str.Goals as goal
 

@@ -2,7 +2,7 @@ use Rattle.std.proofs.Common.{◌≡◌, ◌+◌, ◌∙◌, List, [], ◌++◌,
 use Rattle.cord_node.specs.Tree.{cells, len_of}
 use Rattle.cord_node.specs.Kept.{parts, Kept}
 use Rattle.cord_balance.specs.declared.forest.Piece.{Piece}
-use Rattle.cord_balance.specs.Forest.{forest_cells, forest_parts, forest_len}
+use Rattle.cord_balance.specs.inner.Forest.{forest_cells, forest_parts, forest_len}
 use Rattle.cord_balance.proofs.Forms.{all_taken, some_taken}
 use Rattle.cord_balance.proofs.forest.slots.gather_all.Goals as goal
 

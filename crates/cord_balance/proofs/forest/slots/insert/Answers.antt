@@ -4,7 +4,7 @@ use Rattle.cord_node.specs.Tree.{len_of, depth_of}
 use Rattle.cord_node.specs.Kept.{parts}
 use Rattle.cord_node.proofs.TreeLemmas.{len_positive}
 use Rattle.cord_balance.specs.Fib.{IsSlotOf}
-use Rattle.cord_balance.specs.Forest.{forest_parts, piece_parts}
+use Rattle.cord_balance.specs.inner.Forest.{forest_parts, piece_parts}
 use Rattle.cord_balance.proofs.ForestLemmas.{AllFrom-lower}
 use Rattle.cord_balance.proofs.Inserting.{gathered_fits, joined_depth_in_slot, kept_insert}
 use Rattle.cord_balance.proofs.forest.slots.insert.Goals as goal

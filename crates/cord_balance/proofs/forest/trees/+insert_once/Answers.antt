@@ -6,7 +6,7 @@ use Rattle.cord_node.specs.declared.Node.{Node}
 use Rattle.cord_node.specs.Tree.{len_of, IsSound}
 use Rattle.cord_node.specs.Kept.{parts}
 use Rattle.cord_balance.specs.declared.forest.known.Known.{Known}
-use Rattle.cord_balance.specs.Forest.{IsForm, IsKnown, forest_parts}
+use Rattle.cord_balance.specs.inner.Forest.{IsForm, IsKnown, forest_parts}
 use Rattle.cord_balance.proofs.Inserting.{kept_two}
 use Rattle.cord_balance.proofs.Forms.{IsPut, form_put, cat_put, form_of_put, right_some}
 use Rattle.cord_balance.proofs.forest.trees.+insert_once.Goals as goal

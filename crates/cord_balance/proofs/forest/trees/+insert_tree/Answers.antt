@@ -1,6 +1,6 @@
 use Rattle.std.proofs.lemmas.Result.{on_ok_weaker}
 use Rattle.cord_node.specs.Kept.{parts}
-use Rattle.cord_balance.specs.Forest.{forest_parts}
+use Rattle.cord_balance.specs.inner.Forest.{forest_parts}
 use Rattle.cord_balance.proofs.Inserting.{kept_two}
 use Rattle.cord_balance.proofs.forest.trees.+insert_tree.Goals as goal
 

@@ -2,7 +2,7 @@ use Rattle.std.proofs.Common.{◌≡◌, ◌∷◌, take, Some, sym, subst, rule
 use Rattle.std.specs.Prelude.{slice_get, Ok}
 use Rattle.std.specs.Option.{option_map}
 use Rattle.std.specs.String.{string_bytes}
-use Rattle.cord_io.specs.Disk.{told_of}
+use Rattle.cord_io.specs.inner.Disk.{told_of}
 use Rattle.cord_io.specs.DiskTold.{after_reading}
 use Rattle.cord_io.specs.Told.{has_bytes, Agrees}
 use Rattle.cord_io.specs.declared.faults.ReadFault.{ReadFault}

@@ -14,7 +14,7 @@ use denote.Steps.{nothing}
 use denote.Triple.Entry.{alive}
 use denote.Triple.Walked.{Stays, stay_dropped, Goes-dropped, walk_of, ends_at, says}
 use Rattle.std.proofs.raw_atomic.Walks.{proved}
-use Rattle.cord_io.specs.Takings.{bytes_by, ends_by}
+use Rattle.cord_io.specs.inner.Takings.{bytes_by, ends_by}
 use Rattle.cord_io.specs.declared.tally.Tally.{Tally}
 use Rattle.cord_io.specs.contracts.tally.Tally.{the_row as Row}
 use Rattle.cord_io.specs.contracts.tally.Taking as arg

@@ -14,7 +14,7 @@ use denote.Steps.{nothing}
 use denote.Triple.Entry.{alive}
 use denote.Triple.Walked.{Stays, stay_dropped, Goes-dropped, walk_of, ends_at, says}
 use Rattle.std.proofs.raw_atomic.Walks.{proved}
-use Rattle.cord_io.specs.Answers.{told_by}
+use Rattle.cord_io.specs.inner.Answers.{told_by}
 use Rattle.cord_io.specs.declared.trace.Trace.{Trace}
 use Rattle.cord_io.specs.contracts.trace.Trace.{the_row as Row}
 use Rattle.cord_io.specs.contracts.trace.Answer as arg

@@ -11,7 +11,7 @@ use denote.Memory.{part_at, part_of}
 use denote.Sharing.{said, beside}
 use denote.SharingLaws.{some_shr_laws, beside_shr_laws}
 use denote.Hidden.{guarded, guarded_shr_laws}
-use Rattle.cord_mark.specs.Ownership.{telling, told}
+use Rattle.cord_mark.specs.inner.Ownership.{telling, told}
 use Rattle.cord_mark.proofs.Told.{told_shr_laws}
 use Rattle.cord_mark.specs.contracts.mark.Mark as C
 use Rattle.cord_mark.proofs.mark.Mark.TheLaw.Statement.{statement}

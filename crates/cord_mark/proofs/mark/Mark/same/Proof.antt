@@ -20,7 +20,7 @@ use denote.Triple.Walked.{Stays, stay_dropped, walk_of, Goes-dropped}
 use Rattle.core.proofs.alloc.Shapes.{after}
 use Rattle.std.proofs.raw_atomic.Walks.{leaves}
 use Rattle.cord_mark.specs.Part.{Part}
-use Rattle.cord_mark.specs.Ownership.{Told, told, fields_at}
+use Rattle.cord_mark.specs.inner.Ownership.{Told, told, fields_at}
 use Rattle.cord_mark.proofs.Told.{told_same}
 use Rattle.cord_mark.proofs.Marks.{Fields, named, opens_mark, shuts_mark}
 use Rattle.cord_mark.proofs.Token.{parameter, held, met_with_token}

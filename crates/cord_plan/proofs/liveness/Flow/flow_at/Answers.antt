@@ -1,8 +1,8 @@
 use Rattle.std.proofs.Common.{List, ℕ, ap, ◌∙◌, map}
 use Rattle.std.specs.Prelude.{slice_get}
 use Rattle.cord_meaning.specs.Statements.{shape_of}
-use Rattle.cord_plan.specs.Marks.{bit, column}
-use Rattle.cord_plan.specs.Liveness.{at}
+use Rattle.cord_plan.specs.inner.Marks.{bit, column}
+use Rattle.cord_plan.specs.inner.Liveness.{at}
 use Rattle.cord_plan.specs.Operands.{assigns_at}
 use Rattle.cord_plan.specs.Unread.{behind, some_of}
 use Rattle.cord_plan.proofs.Words.{flow_same}

@@ -2,7 +2,7 @@ use Rattle.std.proofs.Common.{◌≤◌, Bool, List, length, map, ap, ◌∙◌,
 use Rattle.std.proofs.lemmas.List.{take_all}
 use Rattle.cord_syntax.specs.declared.statements.Statement.{Statement}
 use Rattle.cord_plan.specs.Operands.{assigns}
-use Rattle.cord_plan.specs.Liveness.{at}
+use Rattle.cord_plan.specs.inner.Liveness.{at}
 use Rattle.cord_plan.proofs.Words.{told_more, size_more}
 use Rattle.cord_plan.proofs.Sweeps.{assigned_at}
 use Rattle.cord_plan.proofs.liveness.Flow.words_assigned.Goals as goal

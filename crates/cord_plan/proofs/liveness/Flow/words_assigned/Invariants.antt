@@ -1,6 +1,6 @@
 use Rattle.std.proofs.Common.{◌≡◌, List, ℕ, length, map, take}
 use Rattle.cord_plan.specs.Operands.{assigns}
-use Rattle.cord_plan.specs.Marks.{IsBit, column}
+use Rattle.cord_plan.specs.inner.Marks.{IsBit, column}
 use Rattle.cord_plan.proofs.liveness.Flow.words_assigned.Given as goal
 
 abbrev pub invariant-loop-statement : goal.invariant-loop-statement

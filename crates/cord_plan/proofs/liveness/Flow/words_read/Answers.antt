@@ -2,7 +2,7 @@ use Rattle.std.proofs.Common.{◌≤◌, List, length, map, ap, ◌∙◌, arith
 use Rattle.std.proofs.lemmas.List.{take_all}
 use Rattle.cord_syntax.specs.declared.statements.Statement.{Statement}
 use Rattle.cord_plan.specs.Operands.{reads}
-use Rattle.cord_plan.specs.Marks.{column}
+use Rattle.cord_plan.specs.inner.Marks.{column}
 use Rattle.cord_plan.proofs.Words.{told_more, size_more}
 use Rattle.cord_plan.proofs.Sweeps.{readers_partly}
 use Rattle.cord_plan.proofs.liveness.Flow.words_read.Goals as goal

@@ -1,4 +1,4 @@
-use Rattle.cord_plan.specs.Numbering.{names_of}
+use Rattle.cord_plan.specs.inner.Numbering.{names_of}
 use Rattle.cord_plan.proofs.Numbers.{more_added}
 use Rattle.cord_plan.proofs.numbering.Numbering.add_all.Goals as goal
 

@@ -1,5 +1,5 @@
 use Rattle.std.proofs.Common.{take}
-use Rattle.cord_plan.specs.Numbering.{Adds, names_of}
+use Rattle.cord_plan.specs.inner.Numbering.{Adds, names_of}
 use Rattle.cord_plan.proofs.numbering.Numbering.add_all.Given as goal
 
 abbrev pub invariant-loop-name : goal.invariant-loop-name

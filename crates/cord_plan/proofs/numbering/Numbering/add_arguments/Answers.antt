@@ -1,4 +1,4 @@
-use Rattle.cord_plan.specs.Numbering.{names_of}
+use Rattle.cord_plan.specs.inner.Numbering.{names_of}
 use Rattle.cord_plan.proofs.Numbers.{more_arguments, none_added}
 use Rattle.cord_plan.proofs.numbering.Numbering.add_arguments.Goals as goal
 use Rattle.cord_plan.proofs.numbering.Numbering.add_arguments.Goals.{in-Number, in-Cord+in_ok-add-in-Cord}

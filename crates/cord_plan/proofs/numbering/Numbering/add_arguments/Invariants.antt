@@ -1,6 +1,6 @@
 use Rattle.std.proofs.Common.{take}
 use Rattle.cord_plan.specs.Operands.{cord_arguments}
-use Rattle.cord_plan.specs.Numbering.{Adds, names_of}
+use Rattle.cord_plan.specs.inner.Numbering.{Adds, names_of}
 use Rattle.cord_plan.proofs.numbering.Numbering.add_arguments.Given as goal
 
 abbrev pub invariant-loop-argument : goal.invariant-loop-argument

@@ -1,5 +1,5 @@
 use Rattle.std.proofs.Common.{◌≡◌, List, ℕ, [], ◌∷◌, ◌++◌, ap, sym, ◌∙◌, subst, rules}
-use Rattle.cord_plan.specs.Numbering.{names_of, Adds}
+use Rattle.cord_plan.specs.inner.Numbering.{names_of, Adds}
 use Rattle.cord_plan.proofs.Numbers.{name_added}
 use Rattle.cord_plan.proofs.numbering.Numbering.add_new.Goals as goal
 

@@ -1,4 +1,4 @@
-use Rattle.cord_plan.specs.Numbering.{CoversTo}
+use Rattle.cord_plan.specs.inner.Numbering.{CoversTo}
 use Rattle.cord_plan.proofs.numbering.Numbering.of.Given as goal
 
 abbrev pub invariant-loop-statement : goal.invariant-loop-statement

@@ -1,6 +1,6 @@
 use Rattle.std.proofs.Common.{sym, ◌∙◌}
 use Rattle.cord_plan.specs.Operands.{assigns, reads}
-use Rattle.cord_plan.specs.Recent.{Notes}
+use Rattle.cord_plan.specs.inner.Recent.{Notes}
 use Rattle.cord_plan.proofs.Marked.{written_back}
 use Rattle.cord_plan.proofs.Lasts.{assigned_then, read_then, block_then}
 use Rattle.cord_plan.proofs.recent.Recent.note.Goals as goal

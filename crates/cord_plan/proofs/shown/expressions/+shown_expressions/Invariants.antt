@@ -1,5 +1,5 @@
 use Rattle.std.proofs.Common.{◌≡◌, take, map, Ok}
-use Rattle.cord_plan.specs.Showing.{Writes}
+use Rattle.cord_plan.specs.inner.Showing.{Writes}
 use Rattle.cord_plan.specs.Views.{expr_view, members_of, shared_view}
 use Rattle.cord_plan.proofs.MemberTexts.{weight, weights, members_text}
 use Rattle.cord_plan.proofs.Spacing.{blank_at}

@@ -1,6 +1,6 @@
 use Rattle.std.proofs.Common.{take, Ok}
 use Rattle.cord_plan.specs.Shown.{argument_words}
-use Rattle.cord_plan.specs.Showing.{Writes}
+use Rattle.cord_plan.specs.inner.Showing.{Writes}
 use Rattle.cord_plan.proofs.shown.fragments.put_arguments.Given as goal
 
 abbrev pub invariant-loop-argument : goal.invariant-loop-argument

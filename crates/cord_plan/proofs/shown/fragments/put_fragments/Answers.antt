@@ -1,5 +1,5 @@
 use Rattle.std.proofs.Common.{refl, ap}
-use Rattle.cord_plan.specs.Showing.{fragment_text, fragments_text}
+use Rattle.cord_plan.specs.inner.Showing.{fragment_text, fragments_text}
 use Rattle.cord_plan.proofs.Writing.{AreJoined, writes_failed, writes_next, writes_broken, writes_same}
 use Rattle.cord_plan.proofs.shown.fragments.put_fragments.Goals as goal
 

@@ -1,5 +1,5 @@
 use Rattle.std.proofs.Common.{take, Ok}
-use Rattle.cord_plan.specs.Showing.{Writes, fragments_text}
+use Rattle.cord_plan.specs.inner.Showing.{Writes, fragments_text}
 use Rattle.cord_plan.proofs.shown.fragments.put_fragments.Given as goal
 
 abbrev pub invariant-loop-fragment : goal.invariant-loop-fragment

@@ -1,6 +1,6 @@
 use Rattle.std.proofs.Common.{take, flat_map, Ok}
 use Rattle.cord_plan.specs.Shown.{path_byte}
-use Rattle.cord_plan.specs.Showing.{Writes}
+use Rattle.cord_plan.specs.inner.Showing.{Writes}
 use Rattle.cord_plan.proofs.shown.fragments.put_path_bytes.Given as goal
 
 abbrev pub invariant-loop-byte : goal.invariant-loop-byte

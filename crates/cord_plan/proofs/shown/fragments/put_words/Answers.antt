@@ -1,7 +1,7 @@
 use Rattle.std.proofs.Common.{◌+◌, ◌++◌, List, ℕ, map, take, sym, ap, ◌∙◌}
 use Rattle.cord_plan.specs.declared.shown.fragments.Fragment.{Fragment}
 use Rattle.cord_plan.specs.Shown.{spaced}
-use Rattle.cord_plan.specs.Showing.{fragment_text}
+use Rattle.cord_plan.specs.inner.Showing.{fragment_text}
 use Rattle.cord_plan.proofs.Spacing.{AreSpaced, blank_at, blank_later, behind_words, words_spaced, spaced_next, spaced_all, rest_of}
 use Rattle.cord_plan.proofs.Writing.{writes_same, writes_then, writes_stopped, writes_failed, writes_cut}
 use Rattle.cord_plan.proofs.shown.fragments.put_words.Goals as goal

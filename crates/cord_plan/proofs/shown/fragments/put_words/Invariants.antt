@@ -1,6 +1,6 @@
 use Rattle.std.proofs.Common.{◌≡◌, take, map, Ok}
 use Rattle.cord_plan.specs.Shown.{spaced}
-use Rattle.cord_plan.specs.Showing.{Writes, fragment_text}
+use Rattle.cord_plan.specs.inner.Showing.{Writes, fragment_text}
 use Rattle.cord_plan.proofs.Spacing.{blank_at}
 use Rattle.cord_plan.proofs.shown.fragments.put_words.Given as goal
 

@@ -1,7 +1,7 @@
 use Rattle.std.proofs.Common.{◌≡◌, List, ℕ, [], ◌∷◌, ◌++◌, map, sym, ap, ◌∙◌, append_assoc}
 use Rattle.std.specs.Prelude.{codes}
 use Rattle.cord_plan.specs.Shown.{called, spaced}
-use Rattle.cord_plan.specs.Showing.{fragment_text}
+use Rattle.cord_plan.specs.inner.Showing.{fragment_text}
 use Rattle.cord_plan.proofs.Spacing.{two_words}
 use Rattle.cord_plan.proofs.Writing.{writes_same, writes_then, writes_stopped, writes_failed}
 use Rattle.cord_plan.proofs.shown.statements.put_counted.Goals as goal

@@ -2,8 +2,8 @@ use Rattle.std.proofs.Common.{◌≡◌, false, [], ◌∷◌, Some, map, length
 use Rattle.std.specs.Prelude.{option_map, replicate, slice_get}
 use Rattle.std.proofs.lemmas.Option.{slice_get_read}
 use Rattle.std.proofs.lemmas.List.{map-append}
-use Rattle.cord_plan.specs.Liveness.{tells}
-use Rattle.cord_plan.specs.Tables.{IsNext}
+use Rattle.cord_plan.specs.inner.Liveness.{tells}
+use Rattle.cord_plan.specs.inner.Tables.{IsNext}
 use Rattle.cord_plan.specs.Views.{expr_view}
 use Rattle.cord_plan.proofs.Marked.{all_grown, grown_none, grown_then, written_back}
 use Rattle.cord_plan.proofs.table.Table.of.Goals as goal

@@ -1,8 +1,8 @@
 use Rattle.std.proofs.Common.{◌≡◌, map}
 use Rattle.std.specs.Prelude.{option_map}
-use Rattle.cord_plan.specs.Liveness.{tells}
-use Rattle.cord_plan.specs.Recent.{IsRecent}
-use Rattle.cord_plan.specs.Tables.{IsGrown}
+use Rattle.cord_plan.specs.inner.Liveness.{tells}
+use Rattle.cord_plan.specs.inner.Recent.{IsRecent}
+use Rattle.cord_plan.specs.inner.Tables.{IsGrown}
 use Rattle.cord_plan.specs.Views.{expr_view}
 use Rattle.cord_plan.proofs.table.Table.of.Given as goal
 

@@ -1,6 +1,6 @@
 use Rattle.std.proofs.Common.{◌++◌, List, ap, arith, sym, ◌∙◌, append_assoc}
 use Rattle.std.proofs.lemmas.Grind.{common_steps}
-use Rattle.cord_pos.specs.Path.{Place, node_of, places}
+use Rattle.cord_pos.specs.inner.Path.{Place, node_of, places}
 use Rattle.cord_pos.proofs.Steps.{IsSide, is_side, EndsAt, ends_at_part}
 use Rattle.cord_pos.proofs.path.Path.descend.Goals as goal
 

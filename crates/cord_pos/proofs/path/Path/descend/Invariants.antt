@@ -3,7 +3,7 @@ use Rattle.arrayvec.specs.ArrayVec.{array_vec_len}
 use Rattle.cord_io.specs.declared.TheConstants.{MAX_LEN}
 use Rattle.cord_node.specs.Tree.{len_of, depth_of, IsSound}
 use Rattle.cord_node.specs.Occurrences.{level}
-use Rattle.cord_pos.specs.Path.{node_of, places, below, part_at}
+use Rattle.cord_pos.specs.inner.Path.{node_of, places, below, part_at}
 use Rattle.cord_pos.specs.declared.path.TheConstants.{PATH_LEN}
 use Rattle.cord_pos.proofs.path.Path.descend.Given as goal
 

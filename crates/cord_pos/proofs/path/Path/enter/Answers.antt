@@ -1,6 +1,6 @@
 use Rattle.std.proofs.Common.{◌<◌, arith}
 use Rattle.cord_node.specs.Tree.{len_of}
-use Rattle.cord_pos.specs.Path.{node_of}
+use Rattle.cord_pos.specs.inner.Path.{node_of}
 use Rattle.cord_pos.proofs.Counts.{level_depth, depth_limit}
 use Rattle.cord_pos.proofs.Standings.{set_inside}
 use Rattle.cord_pos.proofs.path.Path.enter.Goals as goal

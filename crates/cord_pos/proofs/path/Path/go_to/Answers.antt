@@ -1,6 +1,6 @@
 use Rattle.std.proofs.Common.{arith}
 use Rattle.std.proofs.lemmas.List.{length-map}
-use Rattle.cord_pos.specs.Path.{place_of}
+use Rattle.cord_pos.specs.inner.Path.{place_of}
 use Rattle.cord_pos.proofs.Taking.{found, taken}
 use Rattle.cord_pos.proofs.path.Path.go_to.Goals as goal
 

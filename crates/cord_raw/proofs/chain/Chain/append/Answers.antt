@@ -1,7 +1,7 @@
 use Rattle.std.proofs.Common.{◌≡◌, ◌≤◌, List, ◌∷◌, ◌++◌, length, refl, sym, ap, ◌∙◌, subst}
 use Rattle.cord_raw.specs.declared.block.TheConstants.{ROOM}
 use Rattle.cord_raw.specs.declared.block.Block.{Block}
-use Rattle.cord_raw.specs.Blocks.{pointing}
+use Rattle.cord_raw.specs.inner.Blocks.{pointing}
 use Rattle.cord_raw.specs.Texts.{text, text_of, AreFull}
 use Rattle.cord_raw.proofs.Texts.{linked_text, full_append}
 use Rattle.cord_raw.proofs.chain.Chain.append.Goals as goal

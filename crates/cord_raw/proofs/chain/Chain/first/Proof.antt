@@ -23,7 +23,7 @@ use Rattle.std_alloc.proofs.Words.{pointer_in, pointer_out}
 use Rattle.std.proofs.raw_atomic.Walks.{proved}
 use Rattle.cord_raw.specs.declared.chain.Place.{Place}
 use Rattle.cord_raw.specs.Ownership.{chain_lent}
-use Rattle.cord_raw.specs.Places.{block_at}
+use Rattle.cord_raw.specs.inner.Places.{block_at}
 use Rattle.cord_raw.specs.contracts.block.Block.{the_row as B}
 use Rattle.cord_raw.specs.contracts.chain.Chain.{the_row as C}
 use Rattle.cord_raw.proofs.Links.{lent_nth}

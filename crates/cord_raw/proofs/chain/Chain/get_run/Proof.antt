@@ -31,9 +31,9 @@ use denote.Triple.Walked.{says, Stays, stay_dropped, gave_slice, walk_of, ends_a
 use Rattle.std_alloc.proofs.VecSteps.Shapes.{after}
 use Rattle.std.proofs.raw_atomic.Walks.{proved}
 use Rattle.cord_raw.specs.declared.block.Block.{Block}
-use Rattle.cord_raw.specs.Blocks.{place_after}
+use Rattle.cord_raw.specs.inner.Blocks.{place_after}
 use Rattle.cord_raw.specs.Ownership.{chain_lent}
-use Rattle.cord_raw.specs.Places.{IsPlaceOf, block_at}
+use Rattle.cord_raw.specs.inner.Places.{IsPlaceOf, block_at}
 use Rattle.cord_raw.specs.Texts.{text_of}
 use Rattle.cord_raw.specs.contracts.block.Block.{the_row as B}
 use Rattle.cord_raw.specs.contracts.chain.Chain.{the_row as C}

@@ -26,7 +26,7 @@ use Rattle.std_alloc.proofs.VecSteps.Shapes.{after}
 use Rattle.std.proofs.raw_atomic.Walks.{proved}
 use Rattle.cord_raw.specs.declared.block.Block.{Block}
 use Rattle.cord_raw.specs.declared.chain.Chain.{Chain}
-use Rattle.cord_raw.specs.Loans.{with_newest}
+use Rattle.cord_raw.specs.inner.Loans.{with_newest}
 use Rattle.cord_raw.specs.Ownership.{frees, block_owns, links}
 use Rattle.cord_raw.specs.contracts.block.Block.{the_row as B}
 use Rattle.cord_raw.specs.contracts.chain.Chain.{the_row as C}

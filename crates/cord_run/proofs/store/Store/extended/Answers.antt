@@ -1,6 +1,6 @@
 use Rattle.std.proofs.Common.{refl, ap, ◌∙◌, None}
 use Rattle.cord_run.specs.declared.store.Entry.{Entry}
-use Rattle.cord_run.specs.Held.{cells_in}
+use Rattle.cord_run.specs.inner.Held.{cells_in}
 use Rattle.cord_run.proofs.Entries.{distinct_set, extensible_same, name_at_place, none_there, value_there}
 use Rattle.cord_run.proofs.Shares.{extended_name, extended_none}
 use Rattle.cord_run.proofs.store.Store.extended.Goals as goal

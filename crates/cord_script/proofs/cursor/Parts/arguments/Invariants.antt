@@ -1,7 +1,7 @@
 use Rattle.std.proofs.Common.{◌≡◌, ◌++◌, true, length, map}
 use Rattle.cord_script.specs.Forms.{argument_term}
 use Rattle.cord_script.specs.Parted.{want_of}
-use Rattle.cord_script.specs.Built.{are_arguments}
+use Rattle.cord_script.specs.inner.Built.{are_arguments}
 use Rattle.cord_script.proofs.cursor.Parts.arguments.Given as goal
 
 abbrev pub invariant-arguments : goal.invariant-arguments

@@ -2,7 +2,7 @@ use Rattle.std.proofs.Common.{◌≡◌, ◌++◌, true, length, map}
 use Rattle.cord_script.specs.declared.kinds.Kind.TheVariants as kinds
 use Rattle.cord_script.specs.Forms.Term.{Operand}
 use Rattle.cord_script.specs.Parted.{want_of}
-use Rattle.cord_script.specs.Built.{are_cords}
+use Rattle.cord_script.specs.inner.Built.{are_cords}
 use Rattle.cord_script.proofs.cursor.Parts.cords.Given as goal
 
 abbrev pub invariant-cords : goal.invariant-cords

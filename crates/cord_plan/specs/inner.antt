@@ -1,0 +1,8 @@
+pub mod Readings
+pub mod Numbering
+pub mod Marks
+pub mod Liveness
+pub mod Choices
+pub mod Recent
+pub mod Tables
+pub mod Showing

@@ -1,0 +1,122 @@
+-- What the code that finds what is read later goes by.
+use Rattle.std.specs.Prelude.{◌≡◌, ℕ, zero, suc, ◌<◌, ◌/◌, ◌%◌, Bool, true, false, not, ◌&&◌, ◌||◌, List, [], ◌∷◌, map, length, get_or, Option, Some, None, slice_get}
+use Rattle.std.specs.Option.{option_to_list}
+use Rattle.cord_syntax.specs.declared.statements.Statement.{Statement}
+use Rattle.cord_meaning.specs.Blocks as blocks
+use Rattle.cord_meaning.specs.Statements.{shape_of}
+use Rattle.cord_plan.specs.Operands.{reads_at, assigns_at}
+use Rattle.cord_plan.specs.inner.Numbering.{number_of, names_of}
+use Rattle.cord_plan.specs.inner.Marks.{column, IsBit}
+use Rattle.cord_plan.specs.Unread.{ReadBy, behind, some_of}
+use Rattle.cord_plan.specs.declared.liveness.Later.{Later}
+use Rattle.cord_plan.specs.declared.liveness.Group.{Group}
+use Rattle.cord_plan.specs.declared.numbering.Numbering.{Numbering}
+use Rattle.cord_plan.specs.declared.successors.Shape.{Shape}
+use Rattle.cord_plan.specs.declared.successors.Shape.TheVariants.{Simple, Loop, Branch, Otherwise, Close}
+use Rattle.cord_plan.specs.declared.successors.Behind.{Behind}
+use Rattle.cord_plan.specs.declared.successors.Turn.{Turn}
+use Rattle.cord_plan.specs.declared.successors.Turn.TheVariants.{Closed, Turned, Inside}
+
+-- the shape that a shape of the program stands for
+abbrev pub shape_view : Shape → blocks.Shape
+shape_view Simple = blocks.Simple
+shape_view Loop = blocks.Loop
+shape_view Branch = blocks.Branch
+shape_view Otherwise = blocks.Otherwise
+shape_view Close = blocks.Close
+
+-- how a statement leads on a search for the end of a block, where so many blocks are open inside it
+abbrev pub turn_of : blocks.Shape → ℕ → Turn
+turn_of blocks.Simple d = Inside d
+turn_of blocks.Loop d = Inside (suc d)
+turn_of blocks.Branch d = Inside (suc d)
+turn_of blocks.Otherwise zero = Turned
+turn_of blocks.Otherwise (suc d) = Inside (suc d)
+turn_of blocks.Close zero = Closed
+turn_of blocks.Close (suc d) = Inside d
+
+-- the innermost open block, where it is a `repeat`
+abbrev pub innermost : List (Option ℕ) → Option ℕ
+innermost [] = None
+innermost (block ∷ blocks) = block
+
+-- the places of the program as a list
+abbrev pub places : Behind → List ℕ
+places b = b.first ∷ option_to_list b.second
+
+abbrev pub places_of : Option Behind → List ℕ
+places_of None = []
+places_of (Some b) = places b
+
+-- the same of the place at p; after the script there is none
+abbrev pub places_at : List Behind → ℕ → List ℕ
+places_at behinds p = places_of (slice_get behinds p)
+
+-- these are the places that may come next after each place
+pub record AreBehind (shapes : List blocks.Shape) (behinds : List Behind) : Type 0 where
+  pub size : length behinds ≡ length shapes
+  pub told : (p : ℕ) → places_at behinds p ≡ behind shapes p
+
+-- whether a table of places has a place
+abbrev pub at : List Bool → ℕ → Bool
+at table p = get_or table p false
+
+module _ (s : List Statement) (x : List ℕ) (table : List Bool) where
+  -- it has each place whose line reads x, and a path that reads x begins at each place that it has
+  pub record IsPartly : Type 0 where
+    pub size : length table ≡ length s
+    pub reads : (p : ℕ) → reads_at (slice_get s p) x ≡ true → at table p ≡ true
+    pub found : (p : ℕ) → at table p ≡ true → (path : List ℕ) × ReadBy s x p path
+
+  -- whether the flow back over the line at p finds a place that the table doesn't have
+  abbrev pub finds : ℕ → Bool
+  finds p = not (at table p) && (some_of (λ q. at table q) (behind (map shape_of s) p) && not (assigns_at (slice_get s p) x))
+
+  -- it has the places from which a path reads x before it assigns it, and no other
+  pub record IsLive : Type 0 where
+    pub partly : IsPartly
+    pub resting : (p : ℕ) → finds p ≡ false
+
+-- what the flow back over a line makes of a bit
+abbrev pub flow : Bool → Bool → Bool → Bool
+flow here behind assigned = here || (behind && not assigned)
+
+module _ (s : List Statement) (t : Numbering) (g : ℕ) (words : List ℕ) where
+  -- the bits of each line are the name of the group that it assigns
+  pub record AreAssigned : Type 0 where
+    pub size : length words ≡ length s
+    pub told : (x : List ℕ) (i : ℕ) → IsBit t g x i → (p : ℕ) → at (column words i) p ≡ assigns_at (slice_get s p) x
+
+  -- each name of the group has its places partly
+  pub record ArePartly : Type 0 where
+    pub size : length words ≡ length s
+    pub told : (x : List ℕ) (i : ℕ) → IsBit t g x i → IsPartly s x (column words i)
+
+  -- each name of the group has its live places
+  abbrev pub AreLive : Type 0
+  AreLive = (x : List ℕ) (i : ℕ) → IsBit t g x i → IsLive s x (column words i)
+
+-- the live places of the name of a number
+abbrev pub column_in : Option Group → ℕ → List Bool
+column_in None i = []
+column_in (Some g) i = column g.words.items i
+
+abbrev pub column_of : List Group → Option ℕ → List Bool
+column_of groups None = []
+column_of groups (Some n) = column_in (slice_get groups (n / 128)) (n % 128)
+
+-- the live places of a name
+abbrev pub live_of : Later → List ℕ → List Bool
+live_of t x = column_of t.groups.items (number_of t.numbering x)
+
+-- what a table tells: whether a name is read later than the line at a place
+abbrev pub tells : Later → List ℕ → ℕ → Bool
+tells t x p = some_of (λ q. at (live_of t x) q) (places_at t.behinds.items p)
+
+-- each of the first k groups is live
+abbrev pub LiveTo : List Statement → Numbering → ℕ → List Group → Type 0
+LiveTo s t k groups = (g : ℕ) → g < k → (group : Group) × (slice_get groups g ≡ Some group) × AreLive s t g group.words.items
+
+-- the group of each name is live
+abbrev pub AllLive : List Statement → Numbering → List Group → Type 0
+AllLive s t groups = (n : ℕ) → n < length (names_of t) → (group : Group) × (slice_get groups (n / 128) ≡ Some group) × AreLive s t (n / 128) group.words.items

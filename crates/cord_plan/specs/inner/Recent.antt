@@ -1,0 +1,68 @@
+-- The last lines that assign and read each name, as the code keeps them.
+use Rattle.std.specs.Prelude.{◌≡◌, ℕ, zero, suc, ◌-◌, Bool, true, false, not, nat_le, ◌&&◌, ◌||◌, List, [], ◌∷◌, if◌then◌else◌, Option, Some, None, slice_get, option_map}
+use Rattle.std.specs.Str.{bytes_eq}
+use Rattle.cord_syntax.specs.declared.statements.Statement.{Statement}
+use Rattle.cord_meaning.specs.Statements.{shape_of}
+use Rattle.cord_plan.specs.Operands.{reads, reads_at}
+use Rattle.cord_plan.specs.Forced.{each_from, is_block, is_block_at, keeps, setter}
+use Rattle.cord_plan.specs.inner.Numbering.{number_of}
+use Rattle.cord_plan.specs.declared.numbering.Numbering.{Numbering}
+use Rattle.cord_plan.specs.declared.recent.Recent.{Recent}
+
+-- the last line before p that reads x, and the last one of a block
+abbrev pub reader : List Statement → List ℕ → ℕ → Option ℕ
+reader s x zero = None
+reader s x (suc p) = if reads_at (slice_get s p) x then Some p else reader s x p
+
+abbrev pub blocker : List Statement → ℕ → Option ℕ
+blocker s zero = None
+blocker s (suc p) = if is_block_at (slice_get s p) then Some p else blocker s p
+
+-- whether a line is a block's or reads x
+abbrev pub bars : Statement → List ℕ → Bool
+bars l x = is_block (shape_of l) || reads l x
+
+-- whether no line from a up to b assigns one of these names
+abbrev pub stay : List Statement → ℕ → ℕ → List (List ℕ) → Bool
+stay s a b xs = each_from (λ m. keeps (slice_get s m) xs) (b - a) a
+
+-- whether a name stands nowhere in a list of names
+abbrev pub lacks : List (List ℕ) → List ℕ → Bool
+lacks [] x = true
+lacks (y ∷ ys) x = not (bytes_eq y x) && lacks ys x
+
+-- whether a place, where there is one, stands after another
+abbrev pub is_behind : Option ℕ → ℕ → Bool
+is_behind None a = false
+is_behind (Some p) a = not (nat_le p a)
+
+-- the last line that assigns a name, where neither of the other places stands after it
+abbrev pub unless_behind : Option ℕ → Option ℕ → Option ℕ → Option ℕ
+unless_behind None r k = None
+unless_behind (Some a) r k = if is_behind r a || is_behind k a then None else Some a
+
+-- whether a place, where there is one, stands before another
+abbrev pub is_before : Option ℕ → ℕ → Bool
+is_before None a = true
+is_before (Some p) a = not (nat_le a p)
+
+-- what places, by the numbers of names, have for a name
+abbrev pub entry_at : List (Option ℕ) → Option ℕ → Option (Option ℕ)
+entry_at places None = None
+entry_at places (Some n) = slice_get places n
+
+abbrev pub entry_of : Numbering → List (Option ℕ) → List ℕ → Option (Option ℕ)
+entry_of t places x = entry_at places (number_of t x)
+
+-- a place is noted for the names of which this holds, and for no other
+abbrev pub noted : Bool → ℕ → Option ℕ → Option ℕ
+noted holds p o = if holds then Some p else o
+
+abbrev pub Notes : Numbering → (List ℕ → Bool) → ℕ → List (Option ℕ) → List (Option ℕ) → Type 0
+Notes t holds p old new = (x : List ℕ) → entry_of t new x ≡ option_map (λ o. noted (holds x) p o) (entry_of t old x)
+
+-- the places are those of the lines before b
+pub record IsRecent (s : List Statement) (b : ℕ) (r : Recent) : Type 0 where
+  pub assigned : (x : List ℕ) (o : Option ℕ) → entry_of r.later.now.numbering r.assigned.items x ≡ Some o → o ≡ setter s x b
+  pub read : (x : List ℕ) (o : Option ℕ) → entry_of r.later.now.numbering r.read.items x ≡ Some o → o ≡ reader s x b
+  pub block : r.block ≡ blocker s b

@@ -1,0 +1,6 @@
+pub mod Behind
+pub mod Built
+pub mod Leaves
+pub mod Reading
+pub mod Steps
+pub mod Verbal

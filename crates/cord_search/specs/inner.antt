@@ -1,0 +1,4 @@
+pub mod Stretches
+pub mod Ahead
+pub mod Pieces
+pub mod Periods
