@@ -1,5 +1,6 @@
 -- Texts are put one after another.
-use Rattle.std.proofs.Common.{◌≡◌, ℕ, ◌+◌, ◌<◌, ◌≤◌, List, [], ◌∷◌, ◌++◌, length, refl, ◌∙◌, sym, ap, arith, append_assoc, append-nil, length-append}
+use Rattle.std.proofs.Common.{◌≡◌, ℕ, ◌+◌, ◌<◌, ◌≤◌, List, [], ◌∷◌, ◌++◌, length, refl, ◌∙◌, sym, ap, arith, append_assoc, append-nil}
+use Rattle.std.proofs.Common.{length-append}
 use Rattle.std.specs.List.{concat}
 use Rattle.cord_io.specs.declared.TheConstants.{MAX_LEN}
 
@@ -13,14 +14,16 @@ pub catting_start : (texts : List (List ℕ)) (all : List ℕ) → all ≡ [] �
 catting_start texts all e = rw e (record { told = refl; short = omega arith })
 
 -- one more text was joined
-pub catting_step : (texts : List (List ℕ)) (x : List ℕ) (rest : List (List ℕ)) (all next : List ℕ) → IsCatting texts (x ∷ rest) all → next ≡ all ++ x → length all + length x ≤ MAX_LEN → IsCatting texts rest next
+pub catting_step : (texts : List (List ℕ)) (x : List ℕ) (rest : List (List ℕ)) (all next : List ℕ) → IsCatting texts (x ∷ rest) all →
+    next ≡ all ++ x → length all + length x ≤ MAX_LEN → IsCatting texts rest next
 catting_step texts x rest all next i e le = record {
   told = ap (λ (y : List ℕ). y ++ concat rest) e ∙ append_assoc all x (concat rest) ∙ i.told;
   short = let l : length next ≡ length (all ++ x) = ap (λ (y : List ℕ). length y) e in omega (arith, l, length-append all x, le);
 }
 
 -- one text more would be too much
-pub catting_too_long : (texts : List (List ℕ)) (x : List ℕ) (rest : List (List ℕ)) (all : List ℕ) → IsCatting texts (x ∷ rest) all → MAX_LEN < length all + length x → MAX_LEN < length (concat texts)
+pub catting_too_long : (texts : List (List ℕ)) (x : List ℕ) (rest : List (List ℕ)) (all : List ℕ) → IsCatting texts (x ∷ rest) all →
+    MAX_LEN < length all + length x → MAX_LEN < length (concat texts)
 catting_too_long texts x rest all i lt =
     let l : length (all ++ (x ++ concat rest)) ≡ length (concat texts) = ap (λ (y : List ℕ). length y) i.told in
     omega (arith, l, length-append all (x ++ concat rest), length-append x (concat rest), lt)

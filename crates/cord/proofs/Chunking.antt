@@ -1,5 +1,6 @@
 -- What a part has of a text from a place on.
-use Rattle.std.proofs.Common.{◌≡◌, ℕ, ◌+◌, ◌<◌, List, [], ◌∷◌, ◌++◌, length, map, drop, sym, ap, ◌∙◌, arith, append_assoc, append-nil, length-append, length-drop}
+use Rattle.std.proofs.Common.{◌≡◌, ℕ, ◌+◌, ◌<◌, List, [], ◌∷◌, ◌++◌, length, map, drop, sym, ap, ◌∙◌, arith, append_assoc, append-nil}
+use Rattle.std.proofs.Common.{length-append, length-drop}
 use Rattle.std.specs.Prelude.{Some, None, true}
 use Rattle.std.specs.List.{concat}
 use Rattle.std.specs.Iterator.{Yields}
@@ -53,7 +54,8 @@ module _ (l r : List ℕ) (place : ℕ) (chunk : Chunk) where
         text = rw (end, e, drop-append-add l r at, drop-append-add l r (at + n)) k.text;
       }
 
-joined : (left : List ℕ) (chunks : List Chunk) (end after : List ℕ) → Yields GivesChunk left chunks end → GivesChunk end None after → concat (map chunk_bytes chunks) ≡ left
+joined : (left : List ℕ) (chunks : List Chunk) (end after : List ℕ) → Yields GivesChunk left chunks end → GivesChunk end None after →
+    concat (map chunk_bytes chunks) ≡ left
 joined left [] end after y g = sym (y ∙ g.0)
 joined left (chunk ∷ chunks) end after y g = ap (λ (z : List ℕ). chunk_bytes chunk ++ z) (joined y.0 chunks end after y.2 g) ∙ sym y.1.1
 

@@ -1,5 +1,6 @@
 -- What a part has of a text up to a place.
-use Rattle.std.proofs.Common.{◌≡◌, ℕ, ◌+◌, ◌-◌, ◌<◌, ◌≤◌, List, [], ◌∷◌, ◌++◌, length, map, take, sym, ap, ◌∙◌, arith, append_assoc, append-nil}
+use Rattle.std.proofs.Common.{◌≡◌, ℕ, ◌+◌, ◌-◌, ◌<◌, ◌≤◌, List, [], ◌∷◌, ◌++◌, length, map, take, sym, ap, ◌∙◌, arith, append_assoc}
+use Rattle.std.proofs.Common.{append-nil}
 use Rattle.std.specs.Prelude.{None, true, reverse}
 use Rattle.std.specs.List.{concat}
 use Rattle.std.specs.Iterator.{Yields}
@@ -11,7 +12,8 @@ use Rattle.cord.specs.declared.chunks.Chunk.{Chunk}
 use Rattle.cord.specs.Chunks.{chunk_bytes, IsChunkBefore, GivesChunkBefore}
 
 -- all that a part has up to the place
-pub chunk_front : (x : List ℕ) (end : ℕ) (chunk : Chunk) → 0 < end → end ≤ length x → chunk_bytes chunk ≡ take end x → IsChunkBefore x end chunk
+pub chunk_front : (x : List ℕ) (end : ℕ) (chunk : Chunk) → 0 < end → end ≤ length x → chunk_bytes chunk ≡ take end x →
+    IsChunkBefore x end chunk
 chunk_front x end chunk lt le e =
     let n : length (chunk_bytes chunk) ≡ end = ap (λ (y : List ℕ). length y) e ∙ length-take-le end x le in
     let none : end - length (chunk_bytes chunk) ≡ 0 = omega (arith, n) in
@@ -57,10 +59,12 @@ concat_last xss xs =
     ∙ concat-append (reverse xss) (xs ∷ [])
     ∙ ap (λ (y : List ℕ). concat (reverse xss) ++ y) (append-nil xs)
 
-joined : (left : List ℕ) (chunks : List Chunk) (end after : List ℕ) → Yields GivesChunkBefore left chunks end → GivesChunkBefore end None after → concat (reverse (map chunk_bytes chunks)) ≡ left
+joined : (left : List ℕ) (chunks : List Chunk) (end after : List ℕ) → Yields GivesChunkBefore left chunks end →
+    GivesChunkBefore end None after → concat (reverse (map chunk_bytes chunks)) ≡ left
 joined left [] end after y g = sym (y ∙ g.0)
 joined left (chunk ∷ chunks) end after y g =
-    concat_last (map chunk_bytes chunks) (chunk_bytes chunk) ∙ ap (λ (z : List ℕ). z ++ chunk_bytes chunk) (joined y.0 chunks end after y.2 g) ∙ sym y.1.1
+    concat_last (map chunk_bytes chunks) (chunk_bytes chunk) ∙ ap (λ (z : List ℕ). z ++ chunk_bytes chunk)
+    (joined y.0 chunks end after y.2 g) ∙ sym y.1.1
 
 -- the chunks of a run up to the end
 pub run_joined_back : (p : Run GivesChunkBefore) → p.whole ≡ true → concat (reverse (map chunk_bytes p.items)) ≡ p.from

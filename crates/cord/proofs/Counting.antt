@@ -16,7 +16,8 @@ pub record IsCounted (p : ℕ → Bool) (x : List ℕ) (place count : ℕ) : Typ
 module _ (p : ℕ → Bool) (x : List ℕ) (place count : ℕ) (i : IsCounted p x place count) where
   module _ (chunk : Chunk) (k : IsChunkAt x place chunk) where
     rest : count_by p (drop place x) ≡ count_by p (chunk_bytes chunk) + count_by p (drop (place + length (chunk_bytes chunk)) x)
-    rest = ap (λ (y : List ℕ). count_by p y) k.text ∙ sum_by-append (λ (b : ℕ). cond (p b) 1 0) (chunk_bytes chunk) (drop (place + length (chunk_bytes chunk)) x)
+    rest = ap (λ (y : List ℕ). count_by p y) k.text ∙ sum_by-append (λ (b : ℕ). cond (p b) 1 0) (chunk_bytes chunk)
+        (drop (place + length (chunk_bytes chunk)) x)
 
     pub counted_next : IsCounted p x (place + length (chunk_bytes chunk)) (count + count_by p (chunk_bytes chunk))
     counted_next = record { inside = k.inside; sum = omega (arith, rest, i.sum) }
@@ -36,7 +37,8 @@ count_places p hay i (suc n) e = step (p (slice_index hay i)) refl (count_places
     all : count_by p (drop i hay) ≡ cond (p (slice_index hay i)) 1 0 + count_by p (drop (i + 1) hay)
     all = sum_by-drop_more (λ (b : ℕ). cond (p b) 1 0) hay i 0 (omega (arith, e))
 
-    step : (is : Bool) → p (slice_index hay i) ≡ is → length (places_from p hay (i + 1) n) ≡ count_by p (drop (i + 1) hay) → length (places_from p hay i (suc n)) ≡ count_by p (drop i hay)
+    step : (is : Bool) → p (slice_index hay i) ≡ is → length (places_from p hay (i + 1) n) ≡ count_by p (drop (i + 1) hay) →
+        length (places_from p hay i (suc n)) ≡ count_by p (drop i hay)
     step true h later = rw (h, all, h) (omega (arith, later))
     step false h later = rw (h, all, h) (omega (arith, later))
 

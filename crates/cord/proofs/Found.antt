@@ -1,5 +1,6 @@
 -- Places that are found, and places past the end.
-use Rattle.std.proofs.Common.{◌≡◌, ◌⊎◌, ℕ, zero, suc, ◌+◌, ◌-◌, ◌<◌, ◌≤◌, List, ◌++◌, length, drop, Option, Some, None, refl, ◌∙◌, sym, ap, subst, ⊎_elim, arith, length-append, length-drop}
+use Rattle.std.proofs.Common.{◌≡◌, ◌⊎◌, ℕ, zero, suc, ◌+◌, ◌-◌, ◌<◌, ◌≤◌, List, ◌++◌, length, drop, Option, Some, None, refl, ◌∙◌, sym, ap}
+use Rattle.std.proofs.Common.{subst, ⊎_elim, arith, length-append, length-drop}
 use Rattle.std.specs.Prelude.{min, IfSome}
 use Rattle.std.proofs.lemmas.Option.{slice_get_past}
 use Rattle.cord_core.specs.Texts.{first, StandsAt, IsFirst, last}
@@ -40,7 +41,8 @@ module _ (x : List ℕ) (c : ℕ) where
 
   last_past : (e : ℕ) → length x ≤ e → last_before x e c ≡ last_before x (length x) c
   last_past zero le = let none : length x ≡ 0 = omega (arith, le) in ap (λ (n : ℕ). last_before x n c) (sym none)
-  last_past (suc e) le = ⊎_elim (λ (h : length x ≡ suc e). ap (λ (n : ℕ). last_before x n c) (sym h)) (λ (h : length x ≤ e). last_one_more e h ∙ last_past e h) (end_or_past e le)
+  last_past (suc e) le = ⊎_elim (λ (h : length x ≡ suc e). ap (λ (n : ℕ). last_before x n c) (sym h))
+      (λ (h : length x ≤ e). last_one_more e h ∙ last_past e h) (end_or_past e le)
 
   either_end : (e : ℕ) → (e ≤ length x) ⊎ (length x ≤ e)
   either_end e = grind arith

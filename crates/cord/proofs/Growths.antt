@@ -23,14 +23,18 @@ pub bytes_by : (old new : List Cell) (b : List ℕ) → IsPlainGrowth old → Is
 bytes_by old new b p g = g.bytes no_table (p.fits (lengths_of no_table))
 
 -- one more text
-pub growth_by_text : (old new : List Cell) (b : List ℕ) (c : Option Node) → IsPlainGrowth old → HasText b c → IsGrownByCord old new c → IsPlainGrowth new
+pub growth_by_text : (old new : List Cell) (b : List ℕ) (c : Option Node) → IsPlainGrowth old → HasText b c → IsGrownByCord old new c →
+    IsPlainGrowth new
 growth_by_text old new b c p h g = record {
   fits = λ ls. g.fits ls (p.fits ls) (h.fits ls);
-  bytes = λ t. g.bytes t (p.fits (lengths_of t)) (h.fits (lengths_of t)) ∙ (rw (p.bytes t, h.bytes t, ← h.bytes no_table) refl) ∙ sym (g.bytes no_table (p.fits (lengths_of no_table)) (h.fits (lengths_of no_table)));
+  bytes = λ t. g.bytes t (p.fits (lengths_of t)) (h.fits (lengths_of t)) ∙ (rw (p.bytes t, h.bytes t, ← h.bytes no_table) refl)
+      ∙ sym (g.bytes no_table (p.fits (lengths_of no_table)) (h.fits (lengths_of no_table)));
 }
 
-pub bytes_by_text : (old new : List Cell) (b : List ℕ) (c : Option Node) → IsPlainGrowth old → HasText b c → IsGrownByCord old new c → grown_bytes new ≡ grown_bytes old ++ b
-bytes_by_text old new b c p h g = g.bytes no_table (p.fits (lengths_of no_table)) (h.fits (lengths_of no_table)) ∙ (rw (h.bytes no_table) refl)
+pub bytes_by_text : (old new : List Cell) (b : List ℕ) (c : Option Node) → IsPlainGrowth old → HasText b c → IsGrownByCord old new c →
+    grown_bytes new ≡ grown_bytes old ++ b
+bytes_by_text old new b c p h g = g.bytes no_table (p.fits (lengths_of no_table)) (h.fits (lengths_of no_table))
+    ∙ (rw (h.bytes no_table) refl)
 
 -- the cord of a growing text
 pub cord_has : (xs : List Cell) (c : Option Node) → IsPlainGrowth xs → IsCordOf xs c → HasText (grown_bytes xs) c

@@ -11,7 +11,8 @@ pub record IsLineStart (x : List ℕ) (n start : ℕ) : Type 0 where
   pub rest : bare_lines (drop start x) ≡ drop n (bare_lines x)
 
 module _ (x : List ℕ) (n start : ℕ) (i : IsLineStart x n start) where
-  pub next_start : (line : List ℕ) (next : ℕ) → next ≤ length x → bare_lines (drop start x) ≡ line ∷ bare_lines (drop next x) → IsLineStart x (n + 1) next
+  pub next_start : (line : List ℕ) (next : ℕ) → next ≤ length x → bare_lines (drop start x) ≡ line ∷ bare_lines (drop next x) →
+      IsLineStart x (n + 1) next
   next_start line next le e = record {
     inside = le;
     rest = ap (drop 1) (sym e ∙ i.rest) ∙ drop-drop 1 n (bare_lines x);
@@ -35,7 +36,8 @@ module _ (x : List ℕ) (n start : ℕ) (i : IsLineStart x n start) where
   pub no_line : length x ≤ start → slice_get (bare_lines x) n ≡ None
   no_line le = slice_get_past (bare_lines x) n (are_few le)
 
-  pub line_there : (line : List ℕ) (after : List (List ℕ)) → bare_lines (drop start x) ≡ line ∷ after → slice_get (bare_lines x) n ≡ Some line
+  pub line_there : (line : List ℕ) (after : List (List ℕ)) → bare_lines (drop start x) ≡ line ∷ after →
+      slice_get (bare_lines x) n ≡ Some line
   line_there line after e =
       let here : drop n (bare_lines x) ≡ line ∷ after = sym i.rest ∙ e in
       let count : length (drop n (bare_lines x)) ≡ length (line ∷ after) = ap (λ (ys : List (List ℕ)). length ys) here in

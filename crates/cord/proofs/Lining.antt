@@ -1,5 +1,6 @@
 -- Lines end where the byte 10 is found.
-use Rattle.std.proofs.Common.{◌≡◌, ℕ, suc, ◌+◌, ◌-◌, ◌<◌, Bool, true, false, Option, Some, None, List, [], ◌∷◌, length, take, drop, map, refl, sym, ap, ◌∙◌, arith, length-drop}
+use Rattle.std.proofs.Common.{◌≡◌, ℕ, suc, ◌+◌, ◌-◌, ◌<◌, Bool, true, false, Option, Some, None, List, [], ◌∷◌, length, take, drop, map}
+use Rattle.std.proofs.Common.{refl, sym, ap, ◌∙◌, arith, length-drop}
 use Rattle.std.specs.Prelude.{◌==◌, if◌then◌else◌, nat_le}
 use Rattle.std.proofs.lemmas.Bool.Decides.{nat_tests}
 use Rattle.std.proofs.lemmas.List.{take_all, drop_all, drop-drop}
@@ -19,7 +20,8 @@ abbrev HasEnd : (i : ℕ) (y : List ℕ) (p : ℕ) → Type 0
 HasEnd i y p = (k : ℕ) × (p ≡ i + k) × IsEnded y k
 
 -- an end is found
-end_here : (i b : ℕ) (y : List ℕ) (p : ℕ) (is : Bool) → (b == 10) ≡ is → here i b y is ≡ Some p → (first_from (i + 1) y (10 ∷ []) ≡ Some p → HasEnd (i + 1) y p) → HasEnd i (b ∷ y) p
+end_here : (i b : ℕ) (y : List ℕ) (p : ℕ) (is : Bool) → (b == 10) ≡ is → here i b y is ≡ Some p →
+    (first_from (i + 1) y (10 ∷ []) ≡ Some p → HasEnd (i + 1) y p) → HasEnd i (b ∷ y) p
 end_here i b y p true h e later = let same : i ≡ p = cc in (0, omega (arith, same), record { line = rw h refl; bare = rw h refl })
 end_here i b y p false h e later =
     let r = later e in
@@ -37,7 +39,8 @@ pub record IsLastLine (y : List ℕ) : Type 0 where
   pub line : lines y ≡ y ∷ []
   pub bare : bare y ≡ y
 
-none_here : (i b : ℕ) (y : List ℕ) (is : Bool) → (b == 10) ≡ is → here i b y is ≡ None → (first_from (i + 1) y (10 ∷ []) ≡ None → IsWhole b y) → IsLastLine (b ∷ y)
+none_here : (i b : ℕ) (y : List ℕ) (is : Bool) → (b == 10) ≡ is → here i b y is ≡ None →
+    (first_from (i + 1) y (10 ∷ []) ≡ None → IsWhole b y) → IsLastLine (b ∷ y)
 none_here i b y true h e later = cc
 none_here i b y false h e later = let r = later e in record { line = rw h r.0; bare = rw h (ap (λ (z : List ℕ). b ∷ z) r.1) }
 
@@ -68,7 +71,8 @@ module _ (x : List ℕ) (i : ℕ) (lt : i < length x) where
     next_bare =
         let n : p - i ≡ at.0 = omega (arith, at.1) in
         let one : bare_lines (drop i x) ≡ bare (take (suc at.0) (drop i x)) ∷ bare_lines (drop (suc at.0) (drop i x)) = ap (map bare) at.2.line in
-        rw n (one ∙ ap (λ (z : List ℕ). z ∷ bare_lines (drop (suc at.0) (drop i x))) at.2.bare ∙ ap (λ (z : List ℕ). take at.0 (drop i x) ∷ bare_lines z) after)
+        rw n (one ∙ ap (λ (z : List ℕ). z ∷ bare_lines (drop (suc at.0) (drop i x))) at.2.bare
+        ∙ ap (λ (z : List ℕ). take at.0 (drop i x) ∷ bare_lines z) after)
 
   module _ (n : ℕ) (len : n ≡ length x) (e : first x i (10 ∷ []) ≡ None) where
     whole : take (n - i) (drop i x) ≡ drop i x

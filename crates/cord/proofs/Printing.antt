@@ -34,18 +34,21 @@ map_both f [] y = refl
 map_both f (x ∷ xs) y = ap (λ ys. f x ∷ ys) (map_both f xs y)
 
 -- one argument more
-pub one_made : (args : List TextArg) (arg : TextArg) (xs : List Arg) (x : Arg) → AreArgumentsFor args xs → IsArgumentFor arg x → AreArgumentsFor (args ++ arg ∷ []) (xs ++ x ∷ [])
+pub one_made : (args : List TextArg) (arg : TextArg) (xs : List Arg) (x : Arg) → AreArgumentsFor args xs → IsArgumentFor arg x →
+    AreArgumentsFor (args ++ arg ∷ []) (xs ++ x ∷ [])
 one_made args arg xs x a i = record {
   fits = λ ls. fit_both ls xs (x ∷ []) (a.fits ls) (i.fits ls);
   bytes = λ t. map_both (argument_over t) xs x ∙ (rw (a.bytes t, i.bytes t) (sym (map_both given_by args arg)));
 }
 
 -- a text as a cord
-pub text_made : (arg : TextArg) (b : List ℕ) (x c : Option Node) → given_by arg ≡ text b → HasText b x → c ≡ x → IsArgumentFor arg (cords.Cord c)
+pub text_made : (arg : TextArg) (b : List ℕ) (x c : Option Node) → given_by arg ≡ text b → HasText b x → c ≡ x →
+    IsArgumentFor arg (cords.Cord c)
 text_made arg b x c g h e = rw e (record { fits = λ ls. (h.fits ls, tt); bytes = λ t. ap (λ y. text y) (h.bytes t) ∙ sym g })
 
 -- the cells of the cords become the bytes of the texts
-cells_over : (t : Table) (xs : List Arg) → ArgumentsFitIn (lengths_of t) xs → map (map_argument (byte_at t)) (arguments_of xs) ≡ map (argument_over t) xs
+cells_over : (t : Table) (xs : List Arg) → ArgumentsFitIn (lengths_of t) xs → map (map_argument (byte_at t)) (arguments_of xs)
+    ≡ map (argument_over t) xs
 cells_over t [] f = refl
 cells_over t (cords.Num n ∷ xs) f = ap (λ ys. number n ∷ ys) (cells_over t xs f)
 cells_over t (cords.Cord c ∷ xs) f =
@@ -64,7 +67,8 @@ module _ (pieces : List Piece) (args : List TextArg) (made : List Arg) (a : AreA
   refusals = sym (first_refusal-map (byte_at no_table) 0 pieces (arguments_of made)) ∙ ap (first_refusal 0 pieces) as_given
 
   lengths : length (printed known pieces (arguments_of made)) ≡ length (print_of pieces args)
-  lengths = length_of_print pieces made _ refl no_table (a.fits (lengths_of no_table)) ∙ ap (λ ys. length (printed (λ b. b) pieces ys)) (a.bytes no_table)
+  lengths = length_of_print pieces made _ refl no_table (a.fits (lengths_of no_table)) ∙ ap (λ ys. length (printed (λ b. b) pieces ys))
+      (a.bytes no_table)
 
   -- the print of the cords is that of the texts
   pub print_has : (c : Option Node) → IsPrintOf pieces made c → HasText (print_of pieces args) c
@@ -80,7 +84,8 @@ module _ (pieces : List Piece) (args : List TextArg) (made : List Arg) (a : AreA
   taken_alike n = sym refusals ∙ n
 
   -- and is refused for the same reason
-  pub refused_alike : (limit : ℕ) (e : PrintError) → (e ≢ NoMemory → on_cells.IsRefusedFor limit pieces (arguments_of made) e) → IsRefusedFor limit pieces args e
+  pub refused_alike : (limit : ℕ) (e : PrintError) → (e ≢ NoMemory → on_cells.IsRefusedFor limit pieces (arguments_of made) e) →
+      IsRefusedFor limit pieces args e
   refused_alike limit WrongArgs r = λ w. r (λ h. cc) (kinds ∙ w)
   refused_alike limit (Negative k) r = let p = r (λ h. cc) in (sym kinds ∙ p.0, sym refusals ∙ p.1)
   refused_alike limit (BadByte k) r = let p = r (λ h. cc) in (sym kinds ∙ p.0, sym refusals ∙ p.1)

@@ -12,7 +12,8 @@ err_same : {T E : Type 0} (y z : E) → ◌≡◌ {A = Result T E} (Err y) (Err 
 err_same y z h = cc
 
 -- an error that was handed on means what it meant
-pub handed_on : {T E : Type 0} (P : Type 0) (wanted given : E) (r : Result T E) → IsErrAnd r (λ y. y ≡ given) → (given ≡ wanted → P) → r ≡ Err wanted → P
+pub handed_on : {T E : Type 0} (P : Type 0) (wanted given : E) (r : Result T E) → IsErrAnd r (λ y. y ≡ given) → (given ≡ wanted → P) →
+    r ≡ Err wanted → P
 handed_on P wanted given (Ok x) is known e = absurd is
 handed_on P wanted given (Err y) is known e = known (sym is ∙ err_same y wanted e)
 

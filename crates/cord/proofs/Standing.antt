@@ -1,5 +1,6 @@
 -- Bytes that stand at a place of a text.
-use Rattle.std.proofs.Common.{◌≡◌, ℕ, suc, ◌+◌, ◌-◌, ◌<◌, ◌≤◌, List, [], ◌∷◌, ◌++◌, length, take, drop, Some, refl, ◌∙◌, sym, ap, arith, append-nil, length-append, length-drop}
+use Rattle.std.proofs.Common.{◌≡◌, ℕ, suc, ◌+◌, ◌-◌, ◌<◌, ◌≤◌, List, [], ◌∷◌, ◌++◌, length, take, drop, Some, refl, ◌∙◌, sym, ap, arith}
+use Rattle.std.proofs.Common.{append-nil, length-append, length-drop}
 use Rattle.std.specs.Prelude.{slice_get}
 use Rattle.std.proofs.lemmas.List.{drop_more, take-append-drop}
 use Rattle.std.proofs.lemmas.Option.{slice_get_within, get_or_from_slice_get}
@@ -21,7 +22,11 @@ stand_by_each x (b ∷ s) p each =
 
 -- what stands as far before the end as it is long is the end
 pub ends_there : (x s : List ℕ) → length s ≤ length x → BeginsWith (drop (length x - length s) x) s → EndsWith x s
-ends_there x s le (rest, e) = (take (length x - length s) x, sym (take-append-drop (length x - length s) x) ∙ ap (λ (y : List ℕ). take (length x - length s) x ++ y) whole)
+ends_there x s le (rest, e) = (
+  take (length x - length s) x,
+  sym (take-append-drop (length x - length s) x)
+      ∙ ap (λ (y : List ℕ). take (length x - length s) x ++ y) whole,
+)
   where
     none : rest ≡ []
     none = nothing rest (let l : length (drop (length x - length s) x) ≡ length (s ++ rest) = ap (λ (y : List ℕ). length y) e in omega (arith, l, le, length-drop (length x - length s) x, length-append s rest))

@@ -1,5 +1,6 @@
 -- Chunks: what a text has in one part of its tree, of which none is empty.
-use Rattle.std.specs.Prelude.{◌≡◌, ◌+◌, ◌-◌, ◌<◌, ◌≤◌, ℕ, List, [], ◌++◌, length, map, take, drop, reverse, replicate, Option, MatchOption, true}
+use Rattle.std.specs.Prelude.{◌≡◌, ◌+◌, ◌-◌, ◌<◌, ◌≤◌, ℕ, List, [], ◌++◌, length, map, take, drop, reverse, replicate, Option, MatchOption}
+use Rattle.std.specs.Prelude.{true}
 use Rattle.std.specs.List.{concat}
 use Rattle.std.specs.Iterator.Runs.{EachRunFrom}
 use Rattle.cord.specs.declared.chunks.Chunk.{Chunk}
@@ -18,7 +19,8 @@ pub record IsChunkAt (x : List ℕ) (place : ℕ) (chunk : Chunk) : Type 0 where
 
 -- a call that gave a chunk with which the bytes that were left begin, or nothing where none was left
 abbrev pub GivesChunk : List ℕ → Option Chunk → List ℕ → Type 0
-GivesChunk old answer new = MatchOption answer ((old ≡ []) × (new ≡ [])) (λ chunk. (0 < length (chunk_bytes chunk)) × (old ≡ chunk_bytes chunk ++ new))
+GivesChunk old answer new = MatchOption answer ((old ≡ []) × (new ≡ [])) (λ chunk. (0 < length (chunk_bytes chunk)) ×
+    (old ≡ chunk_bytes chunk ++ new))
 
 -- the chunks that come up to the end are the bytes, one after another
 abbrev pub JoinTo : List ℕ → List ℕ → Type 0
@@ -32,7 +34,8 @@ pub record IsChunkBefore (x : List ℕ) (end : ℕ) (chunk : Chunk) : Type 0 whe
 
 -- a call that gave a chunk with which the bytes that were left end, or nothing where none was left
 abbrev pub GivesChunkBefore : List ℕ → Option Chunk → List ℕ → Type 0
-GivesChunkBefore old answer new = MatchOption answer ((old ≡ []) × (new ≡ [])) (λ chunk. (0 < length (chunk_bytes chunk)) × (old ≡ new ++ chunk_bytes chunk))
+GivesChunkBefore old answer new = MatchOption answer ((old ≡ []) × (new ≡ [])) (λ chunk. (0 < length (chunk_bytes chunk)) ×
+    (old ≡ new ++ chunk_bytes chunk))
 
 -- the chunks that come up to the end are the bytes, the last one first
 abbrev pub JoinBackTo : List ℕ → List ℕ → Type 0

@@ -33,7 +33,8 @@ abbrev pub IsRefusedFor : ℕ → List Piece → List TextArg → PrintError →
 IsRefusedFor limit pieces args WrongArgs = ¬ AreWanted pieces args
 IsRefusedFor limit pieces args (Negative k) = AreWanted pieces args × (first_refusal 0 pieces (given args) ≡ Some (Negative k))
 IsRefusedFor limit pieces args (BadByte k) = AreWanted pieces args × (first_refusal 0 pieces (given args) ≡ Some (BadByte k))
-IsRefusedFor limit pieces args TooLong = AreWanted pieces args × (first_refusal 0 pieces (given args) ≡ None) × (limit < length (print_of pieces args))
+IsRefusedFor limit pieces args TooLong = AreWanted pieces args × (first_refusal 0 pieces (given args) ≡ None) ×
+    (limit < length (print_of pieces args))
 IsRefusedFor limit pieces args NoMemory = ⊤
 
 -- an argument as `sprintf` takes it: of a text a cord that has it

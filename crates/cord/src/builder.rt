@@ -1,5 +1,6 @@
 // Texts that grow at their end.
-ghost use Rattle.std.specs.Prelude.{◌≡◌, ◌↔◌, ◌+◌, ◌<◌, ◌≤◌, [], ◌∷◌, ◌++◌, IfOk, OnOk, IfErr, IsErr, IsOkUnless, IsTrue, Err, length};
+ghost use Rattle.std.specs.Prelude.{◌≡◌, ◌↔◌, ◌+◌, ◌<◌, ◌≤◌, [], ◌∷◌, ◌++◌, IfOk, OnOk, IfErr, IsErr, IsOkUnless};
+ghost use Rattle.std.specs.Prelude.{IsTrue, Err, length};
 ghost use Rattle.cord_core.specs.Refusals.{IsRefusal};
 
 use crate::Text;

@@ -68,7 +68,8 @@ impl Text {
         ensures text { IfOk result (λ t. t ≡ take start self.now ++ text.now ++ drop (start + count) self.now) }
         ensures too_long { result ≡ Err CordError.TooLong →
             MAX_LEN < length (take start self.now ++ text.now ++ drop (start + count) self.now) }
-        ensures within_limit { OnOk result (length (take start self.now ++ text.now ++ drop (start + count) self.now) ≤ MAX_LEN) }
+        ensures within_limit { OnOk result (length (take start self.now ++ text.now ++ drop (start + count) self.now)
+            ≤ MAX_LEN) }
         ensures refused { IfErr result IsRefusal }
     {
         let front = self.substr(alloc, 0, start)?;

@@ -17,7 +17,9 @@ pub filling_start : (all : List Shared) (f : List Piece) → AllSound all → f 
 filling_start all f s e = rw e (record { is_forest = tt; sound = s; text = refl; len = omega arith; kept = Kept-self (all_parts all) })
 
 -- one more node is in the forest
-pub filling_step : (all : List Shared) (x : Shared) (rest : List Shared) (f g : List Piece) → IsFilling all (x ∷ rest) f → IsForest g → forest_cells g ≡ forest_cells f ++ cells x.value → forest_len g ≡ forest_len f + len_of x.value → Kept (forest_parts f ++ parts x.value) (forest_parts g) → IsFilling all rest g
+pub filling_step : (all : List Shared) (x : Shared) (rest : List Shared) (f g : List Piece) → IsFilling all (x ∷ rest) f → IsForest g →
+    forest_cells g ≡ forest_cells f ++ cells x.value → forest_len g ≡ forest_len f + len_of x.value →
+    Kept (forest_parts f ++ parts x.value) (forest_parts g) → IsFilling all rest g
 filling_step all x rest f g i w t l k = record {
   is_forest = w;
   sound = i.sound.1;
@@ -32,7 +34,8 @@ total_positive [] h s = absurd (omega arith)
 total_positive (x ∷ xs) h s = let p : 0 < len_of x.value = len_positive x.value s.0 in omega arith
 
 -- something was gathered
-pub filling_none : (all : List Shared) (f g : List Piece) → IsFilling all [] f → total_len all ≤ MAX_LEN → 0 < length all → AllSound all → IsForest g → AllFrom MAX_INDEX g → forest_len f ≡ forest_len g + 0 → ⊥
+pub filling_none : (all : List Shared) (f g : List Piece) → IsFilling all [] f → total_len all ≤ MAX_LEN → 0 < length all → AllSound all →
+    IsForest g → AllFrom MAX_INDEX g → forest_len f ≡ forest_len g + 0 → ⊥
 filling_none all f g i h n s w a l =
     let e : g ≡ [] = no_pieces g w a (omega (arith, i.len)) in
     let z : forest_len g ≡ 0 = ap forest_len e in
@@ -40,14 +43,18 @@ filling_none all f g i h n s w a l =
     omega (arith, i.len)
 
 -- what was gathered has the texts of all
-pub filling_text : (all : List Shared) (f g : List Piece) (x : Shared) → IsFilling all [] f → total_len all ≤ MAX_LEN → IsForest g → AllFrom MAX_INDEX g → forest_len f ≡ forest_len g + len_of x.value → forest_cells f ≡ forest_cells g ++ cells x.value → cells x.value ≡ all_cells all
+pub filling_text : (all : List Shared) (f g : List Piece) (x : Shared) → IsFilling all [] f → total_len all ≤ MAX_LEN → IsForest g →
+    AllFrom MAX_INDEX g → forest_len f ≡ forest_len g + len_of x.value → forest_cells f ≡ forest_cells g ++ cells x.value →
+    cells x.value ≡ all_cells all
 filling_text all f g x i h w a l t =
     let e : g ≡ [] = no_pieces g w a (omega (arith, i.len)) in
     let u : forest_cells f ≡ cells x.value = t ∙ ap (λ (ps : List Piece). forest_cells ps ++ cells x.value) e in
     sym u ∙ sym (append-nil (forest_cells f)) ∙ i.text
 
 -- and its parts are kept
-pub filling_kept : (all : List Shared) (f g : List Piece) (x : Shared) → IsFilling all [] f → total_len all ≤ MAX_LEN → IsForest g → AllFrom MAX_INDEX g → forest_len f ≡ forest_len g + len_of x.value → Kept (forest_parts f) (forest_parts g ++ parts x.value) → Kept (all_parts all) (parts x.value)
+pub filling_kept : (all : List Shared) (f g : List Piece) (x : Shared) → IsFilling all [] f → total_len all ≤ MAX_LEN → IsForest g →
+    AllFrom MAX_INDEX g → forest_len f ≡ forest_len g + len_of x.value → Kept (forest_parts f) (forest_parts g ++ parts x.value) →
+    Kept (all_parts all) (parts x.value)
 filling_kept all f g x i h w a l k =
     let e : g ≡ [] = no_pieces g w a (omega (arith, i.len)) in
     let m : Kept (forest_parts f) (parts x.value) = rw e at k in
@@ -55,7 +62,8 @@ filling_kept all f g x i h w a l k =
     Kept-trans (all_parts all) (forest_parts f) (parts x.value) n m
 
 -- and its length is theirs together
-pub filling_len : (all : List Shared) (f g : List Piece) (x : Shared) → IsFilling all [] f → total_len all ≤ MAX_LEN → IsForest g → AllFrom MAX_INDEX g → forest_len f ≡ forest_len g + len_of x.value → len_of x.value ≡ total_len all
+pub filling_len : (all : List Shared) (f g : List Piece) (x : Shared) → IsFilling all [] f → total_len all ≤ MAX_LEN → IsForest g →
+    AllFrom MAX_INDEX g → forest_len f ≡ forest_len g + len_of x.value → len_of x.value ≡ total_len all
 filling_len all f g x i h w a l =
     let e : g ≡ [] = no_pieces g w a (omega (arith, i.len)) in
     let z : forest_len g ≡ 0 = ap forest_len e in

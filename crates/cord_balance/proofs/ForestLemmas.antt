@@ -16,12 +16,14 @@ use Rattle.std.proofs.Common.{⊎_elim}
 -- the text with one more piece
 pub forest_cells-snoc : (ps : List Piece) (p : Piece) → forest_cells (ps ++ p ∷ []) ≡ forest_cells ps ++ cells p.node.value
 forest_cells-snoc [] p = append-nil (cells p.node.value)
-forest_cells-snoc (q ∷ ps) p = ap (λ (l : List Cell). cells q.node.value ++ l) (forest_cells-snoc ps p) ∙ sym (append_assoc (cells q.node.value) (forest_cells ps) (cells p.node.value))
+forest_cells-snoc (q ∷ ps) p = ap (λ (l : List Cell). cells q.node.value ++ l) (forest_cells-snoc ps p)
+    ∙ sym (append_assoc (cells q.node.value) (forest_cells ps) (cells p.node.value))
 
 -- the parts with one more piece
 pub forest_parts-snoc : (ps : List Piece) (p : Piece) → forest_parts (ps ++ p ∷ []) ≡ forest_parts ps ++ parts p.node.value
 forest_parts-snoc [] p = append-nil (parts p.node.value)
-forest_parts-snoc (q ∷ ps) p = ap (λ (l : List Part). parts q.node.value ++ l) (forest_parts-snoc ps p) ∙ sym (append_assoc (parts q.node.value) (forest_parts ps) (parts p.node.value))
+forest_parts-snoc (q ∷ ps) p = ap (λ (l : List Part). parts q.node.value ++ l) (forest_parts-snoc ps p)
+    ∙ sym (append_assoc (parts q.node.value) (forest_parts ps) (parts p.node.value))
 
 -- the length with one more piece
 pub forest_len-snoc : (ps : List Piece) (p : Piece) → forest_len (ps ++ p ∷ []) ≡ forest_len ps + len_of p.node.value
@@ -79,7 +81,8 @@ no_pieces [] f a h = refl
 no_pieces (p ∷ ps) f a h = let k : p.slot < MAX_INDEX = fib_index p.slot (omega (arith, f.0.slot.above)) in absurd (omega (arith, a.0))
 
 -- where the last slot is at least k
-pub AllFrom-by_last : (k : ℕ) (ps : List Piece) (p : Piece) → Some p ≡ slice_get ps (length ps - 1) → IsForest ps → k ≤ p.slot → AllFrom k ps
+pub AllFrom-by_last : (k : ℕ) (ps : List Piece) (p : Piece) → Some p ≡ slice_get ps (length ps - 1) → IsForest ps → k ≤ p.slot →
+    AllFrom k ps
 AllFrom-by_last k [] p e f h = tt
 AllFrom-by_last k (q ∷ []) p e f h = let d : p ≡ q = cc in (rw (← d) h, tt)
 AllFrom-by_last k (q ∷ r ∷ ps) p e f h =

@@ -26,11 +26,13 @@ pub form_put : (old new : List Piece) (n form : Node) → IsForm n form → IsPu
 form_put old new n form f put = record {
   text = put.text ∙ ap (λ (cs : List Cell). forest_cells old ++ cs) f.text;
   len = put.len ∙ ap (λ (k : ℕ). forest_len old + k) f.len;
-  kept = Kept-trans (forest_parts old ++ parts n) (forest_parts old ++ parts form) (forest_parts new) (Kept-both (forest_parts old) (parts n) (forest_parts old) (parts form) (Kept-self (forest_parts old)) f.kept) put.kept;
+  kept = Kept-trans (forest_parts old ++ parts n) (forest_parts old ++ parts form) (forest_parts new)
+      (Kept-both (forest_parts old) (parts n) (forest_parts old) (parts form) (Kept-self (forest_parts old)) f.kept) put.kept;
 }
 
 -- a concatenation is put where its two sides are
-pub cat_put : (old mid new : List Piece) (n : Node) (p : Rc (Unit {0}) Global) (l : Node) (q : Rc (Unit {0}) Global) (r : Node) (len depth : ℕ) (mark : List Part) → n ≡ Cat' p l q r len depth mark → IsSound n → IsPut old mid l → IsPut mid new r → IsPut old new n
+pub cat_put : (old mid new : List Piece) (n : Node) (p : Rc (Unit {0}) Global) (l : Node) (q : Rc (Unit {0}) Global) (r : Node)
+    (len depth : ℕ) (mark : List Part) → n ≡ Cat' p l q r len depth mark → IsSound n → IsPut old mid l → IsPut mid new r → IsPut old new n
 cat_put old mid new n p l q r len depth mark e s one two =
     let v : IsSound (Cat' p l q r len depth mark) = subst IsSound e s in
     let long : len ≡ len_of l + len_of r = v.2 in
@@ -42,7 +44,8 @@ cat_put old mid new n p l q r len depth mark e s one two =
     subst (λ (m : Node). IsPut old new m) (sym e) put
 
 -- what all pieces of an empty forest and a node were joined to is the node's form
-pub form_of_put : (old all : List Piece) (n form : Node) → old ≡ [] → IsPut old all n → IsSound form → cells form ≡ forest_cells all → len_of form ≡ forest_len all → Kept (forest_parts all) (parts form) → IsForm n form
+pub form_of_put : (old all : List Piece) (n form : Node) → old ≡ [] → IsPut old all n → IsSound form → cells form ≡ forest_cells all →
+    len_of form ≡ forest_len all → Kept (forest_parts all) (parts form) → IsForm n form
 form_of_put old all n form none put s t k kept =
     let fresh : IsPut [] all n = subst (λ (ps : List Piece). IsPut ps all n) none put in
     record {
@@ -53,17 +56,20 @@ form_of_put old all n form none put s t k kept =
     }
 
 -- the right side of a concatenation isn't empty
-pub right_some : (n : Node) (p : Rc (Unit {0}) Global) (l : Node) (q : Rc (Unit {0}) Global) (r : Node) (len depth : ℕ) (mark : List Part) → n ≡ Cat' p l q r len depth mark → IsSound n → 0 < len_of r
+pub right_some : (n : Node) (p : Rc (Unit {0}) Global) (l : Node) (q : Rc (Unit {0}) Global) (r : Node) (len depth : ℕ)
+    (mark : List Part) → n ≡ Cat' p l q r len depth mark → IsSound n → 0 < len_of r
 right_some n p l q r len depth mark e s =
     let v : IsSound (Cat' p l q r len depth mark) = subst IsSound e s in
     len_positive r v.1
 
 -- nothing is left of a forest of which all was taken
-pub all_taken : (old rest : List Piece) (len : ℕ) → IsForest rest → AllFrom MAX_INDEX rest → forest_len old ≤ MAX_LEN → forest_len old ≡ forest_len rest + len → rest ≡ []
+pub all_taken : (old rest : List Piece) (len : ℕ) → IsForest rest → AllFrom MAX_INDEX rest → forest_len old ≤ MAX_LEN →
+    forest_len old ≡ forest_len rest + len → rest ≡ []
 all_taken old rest len f a h e = no_pieces rest f a (omega (arith, h, e))
 
 -- and something was joined
-pub some_taken : (old rest : List Piece) → IsForest rest → AllFrom MAX_INDEX rest → forest_len old ≤ MAX_LEN → 0 < forest_len old → forest_len old ≡ forest_len rest + 0 → ⊥
+pub some_taken : (old rest : List Piece) → IsForest rest → AllFrom MAX_INDEX rest → forest_len old ≤ MAX_LEN → 0 < forest_len old →
+    forest_len old ≡ forest_len rest + 0 → ⊥
 some_taken old rest f a h some e =
     let none : rest ≡ [] = all_taken old rest 0 f a h e in
     let zero : forest_len rest ≡ 0 = ap forest_len none in

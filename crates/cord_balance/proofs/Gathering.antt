@@ -11,7 +11,8 @@ use Rattle.cord_balance.specs.declared.forest.Piece.{Piece}
 use Rattle.cord_balance.specs.inner.Forest.{IsPiece, IsForest, forest_cells, forest_parts, forest_len, piece_cells, piece_parts, piece_len}
 use Rattle.cord_balance.proofs.States.{GoesRightOf, IsGathering, IsPutLeft}
 use Rattle.cord_balance.proofs.FibLemmas.{fib_mono, fib_below}
-use Rattle.cord_balance.proofs.ForestLemmas.{forest_cells-snoc, forest_parts-snoc, forest_len-snoc, IsForest-init, IsForest-last, IsForest-falls, AllFrom-lower, AllFrom-last}
+use Rattle.cord_balance.proofs.ForestLemmas.{forest_cells-snoc, forest_parts-snoc, forest_len-snoc, IsForest-init, IsForest-last}
+use Rattle.cord_balance.proofs.ForestLemmas.{IsForest-falls, AllFrom-lower, AllFrom-last}
 
 -- nothing was taken off
 pub gathering_start : (old : List Piece) (below : ℕ) → IsForest old → IsGathering old old None below
@@ -29,7 +30,8 @@ pub depth_in_slot : (p : Piece) → IsPiece p → depth_of p.node.value < p.slot
 depth_in_slot p i = let h : depth_of p.node.value + 1 < p.slot + 1 = fib_below (depth_of p.node.value + 1) (p.slot + 1) (omega (arith, i.shallow, i.slot.below)) in omega arith
 
 -- a piece with what stands to its right is no deeper than its slot
-depth_put : (rest : List Piece) (p : Piece) (joined : Option Shared) (node : Shared) → IsPiece p → GoesRightOf joined (rest ++ p ∷ []) → IsPutLeft p.node joined node → depth_of node.value ≤ p.slot
+depth_put : (rest : List Piece) (p : Piece) (joined : Option Shared) (node : Shared) → IsPiece p → GoesRightOf joined (rest ++ p ∷ []) →
+    IsPutLeft p.node joined node → depth_of node.value ≤ p.slot
 depth_put rest p None node i r u = let h : depth_of p.node.value < p.slot = depth_in_slot p i in let e : depth_of node.value ≡ depth_of p.node.value = u.alone in omega arith
 depth_put rest p (Some n) node i r u =
     let h : depth_of p.node.value < p.slot = depth_in_slot p i in
@@ -44,7 +46,8 @@ kept_put a b c j n h k =
     Kept-trans a (b ++ (c ++ j)) (b ++ n) (rw (← append_assoc b c j) h) l
 
 -- one more piece was taken off and joined
-pub gathering_step : (old rest : List Piece) (p : Piece) (joined : Option Shared) (node : Shared) (below : ℕ) → IsGathering old (rest ++ p ∷ []) joined below → p.slot < below → IsPutLeft p.node joined node → IsGathering old rest (Some node) below
+pub gathering_step : (old rest : List Piece) (p : Piece) (joined : Option Shared) (node : Shared) (below : ℕ) →
+    IsGathering old (rest ++ p ∷ []) joined below → p.slot < below → IsPutLeft p.node joined node → IsGathering old rest (Some node) below
 gathering_step old rest p joined node below g b u =
     let i : IsPiece p = IsForest-last rest p g.forest in
     let d : depth_of node.value ≤ p.slot = depth_put rest p joined node i g.right u in
@@ -53,15 +56,19 @@ gathering_step old rest p joined node below g b u =
     let e : forest_len (rest ++ p ∷ []) ≡ forest_len rest + len_of p.node.value = forest_len-snoc rest p in
     record {
       forest = IsForest-init rest p g.forest;
-      text = g.text ∙ ap (λ (l : List Cell). l ++ piece_cells joined) (forest_cells-snoc rest p) ∙ append_assoc (forest_cells rest) (cells p.node.value) (piece_cells joined) ∙ ap (λ (l : List Cell). forest_cells rest ++ l) (sym u.text);
+      text = g.text ∙ ap (λ (l : List Cell). l ++ piece_cells joined) (forest_cells-snoc rest p)
+          ∙ append_assoc (forest_cells rest) (cells p.node.value) (piece_cells joined) ∙ ap (λ (l : List Cell). forest_cells rest ++ l)
+          (sym u.text);
       len = omega (arith, g.len, u.len);
-      kept = kept_put (forest_parts old) (forest_parts rest) (parts p.node.value) (piece_parts joined) (parts node.value) (rw (← forest_parts-snoc rest p) g.kept) u.kept;
+      kept = kept_put (forest_parts old) (forest_parts rest) (parts p.node.value) (piece_parts joined) (parts node.value)
+          (rw (← forest_parts-snoc rest p) g.kept) u.kept;
       gathered = (u.sound, u.shallow, j);
       right = AllFrom-lower (depth_of node.value + 1) (p.slot + 1) rest k (IsForest-falls rest p g.forest);
     }
 
 -- what is joined on the left is long enough
-pub gathering_shallow : (old rest : List Piece) (p : Piece) (joined : Option Shared) (below : ℕ) → IsGathering old (rest ++ p ∷ []) joined below → (x : Shared) → joined ≡ Some x → fib_of (depth_of x.value + 1) ≤ len_of p.node.value
+pub gathering_shallow : (old rest : List Piece) (p : Piece) (joined : Option Shared) (below : ℕ) →
+    IsGathering old (rest ++ p ∷ []) joined below → (x : Shared) → joined ≡ Some x → fib_of (depth_of x.value + 1) ≤ len_of p.node.value
 gathering_shallow old rest p joined below g x e =
     let i : IsPiece p = IsForest-last rest p g.forest in
     let P : Option Shared → Type 0 = λ o. GoesRightOf o (rest ++ p ∷ []) in
@@ -71,5 +78,6 @@ gathering_shallow old rest p joined below g x e =
     omega (arith, i.slot.above)
 
 -- what is joined is no longer than all was
-pub gathering_fits : (old rest : List Piece) (p : Piece) (joined : Option Shared) (below : ℕ) → IsGathering old (rest ++ p ∷ []) joined below → forest_len old ≤ MAX_LEN → len_of p.node.value + piece_len joined ≤ MAX_LEN
+pub gathering_fits : (old rest : List Piece) (p : Piece) (joined : Option Shared) (below : ℕ) →
+    IsGathering old (rest ++ p ∷ []) joined below → forest_len old ≤ MAX_LEN → len_of p.node.value + piece_len joined ≤ MAX_LEN
 gathering_fits old rest p joined below g h = let e : forest_len (rest ++ p ∷ []) ≡ forest_len rest + len_of p.node.value = forest_len-snoc rest p in omega (arith, g.len)

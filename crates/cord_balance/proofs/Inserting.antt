@@ -21,13 +21,15 @@ right_shallow dl dr ll lr a b c =
     (cases_lt dl dr)
 
 -- their join is not too deep
-pub right_depth : (dl dr ll lr : ℕ) → fib_of dl ≤ ll → fib_of (dl + 1) ≤ lr → fib_of (dr + 2) ≤ lr → ll + lr ≤ MAX_LEN → max dl dr + 1 ≤ MAX_DEPTH
+pub right_depth : (dl dr ll lr : ℕ) → fib_of dl ≤ ll → fib_of (dl + 1) ≤ lr → fib_of (dr + 2) ≤ lr → ll + lr ≤ MAX_LEN →
+    max dl dr + 1 ≤ MAX_DEPTH
 right_depth dl dr ll lr a b c h =
     let k : fib_of (max dl dr + 1 + 1) ≤ ll + lr = right_shallow dl dr ll lr a b c in
     let i : max dl dr + 1 + 1 < MAX_INDEX = fib_index (max dl dr + 1 + 1) (omega arith) in omega arith
 
 -- their join may stand in its slot
-pub right_joined : (d dl dr ll lr : ℕ) → fib_of dl ≤ ll → fib_of (dl + 1) ≤ lr → fib_of (dr + 2) ≤ lr → d ≤ max dl dr + 1 → fib_of (d + 1) ≤ ll + lr
+pub right_joined : (d dl dr ll lr : ℕ) → fib_of dl ≤ ll → fib_of (dl + 1) ≤ lr → fib_of (dr + 2) ≤ lr → d ≤ max dl dr + 1 →
+    fib_of (d + 1) ≤ ll + lr
 right_joined d dl dr ll lr a b c h =
     let k : fib_of (max dl dr + 1 + 1) ≤ ll + lr = right_shallow dl dr ll lr a b c in
     let m : fib_of (d + 1) ≤ fib_of (max dl dr + 1 + 1) = fib_mono (d + 1) (max dl dr + 1 + 1) (omega arith) in omega arith
@@ -37,7 +39,8 @@ pub balanced_alone : (d n : ℕ) → fib_of (d + 2) ≤ n → fib_of (d + 1) ≤
 balanced_alone d n h = let m : fib_of (d + 1) ≤ fib_of (d + 2) = fib_mono (d + 1) (d + 2) (omega arith) in omega arith
 
 -- what was gathered is no deeper than the slot, so its next number is no longer than the node
-pub gathered_fits : (slot len : ℕ) (small : Option Shared) → IsSlotOf len slot → IsGathered slot small → (x : Shared) → small ≡ Some x → fib_of (depth_of x.value + 1) ≤ len
+pub gathered_fits : (slot len : ℕ) (small : Option Shared) → IsSlotOf len slot → IsGathered slot small → (x : Shared) → small ≡ Some x →
+    fib_of (depth_of x.value + 1) ≤ len
 gathered_fits slot len small i g x e =
     let P : Option Shared → Type 0 = λ o. IsGathered slot o in
     let k : IsGathered slot (Some x) = subst P e g in
@@ -45,12 +48,14 @@ gathered_fits slot len small i g x e =
     omega (arith, i.above)
 
 -- the joined node is no deeper than the slot
-pub joined_depth_in_slot : (slot len dr d : ℕ) (small : Option Shared) → IsSlotOf len slot → IsGathered slot small → fib_of (dr + 2) ≤ len → IfNone small (d ≡ dr) → IfSome small (λ l. d ≤ max (depth_of l.value) dr + 1) → d ≤ slot
+pub joined_depth_in_slot : (slot len dr d : ℕ) (small : Option Shared) → IsSlotOf len slot → IsGathered slot small →
+    fib_of (dr + 2) ≤ len → IfNone small (d ≡ dr) → IfSome small (λ l. d ≤ max (depth_of l.value) dr + 1) → d ≤ slot
 joined_depth_in_slot slot len dr d None i g b n s = let k : dr + 2 < slot + 1 = fib_below (dr + 2) (slot + 1) (omega (arith, i.below)) in omega arith
 joined_depth_in_slot slot len dr d (Some x) i g b n s = let k : dr + 2 < slot + 1 = fib_below (dr + 2) (slot + 1) (omega (arith, i.below)) in let h : depth_of x.value < slot = g.2 in omega arith
 
 -- what is put into a forest is kept
-pub kept_insert : (old rest small n joined new : List Part) → Kept old (rest ++ small) → Kept (small ++ n) joined → Kept (rest ++ joined) new → Kept (old ++ n) new
+pub kept_insert : (old rest small n joined new : List Part) → Kept old (rest ++ small) → Kept (small ++ n) joined →
+    Kept (rest ++ joined) new → Kept (old ++ n) new
 kept_insert old rest small n joined new a b c =
     let p : Kept (old ++ n) ((rest ++ small) ++ n) = Kept-both old n (rest ++ small) n a (Kept-self n) in
     let q : Kept (rest ++ (small ++ n)) (rest ++ joined) = Kept-both rest (small ++ n) rest joined (Kept-self rest) b in

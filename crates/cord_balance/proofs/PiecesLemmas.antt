@@ -11,7 +11,8 @@ use Rattle.cord_balance.specs.Pieces.{Shared, all_cells, AllFitIn, all_bytes, Ar
 -- the cells of nodes that all fit are held
 AreHeldIn-all_cells : (ls : Lengths) (xs : List Shared) → AllFitIn ls xs → AreHeldIn ls (all_cells xs)
 AreHeldIn-all_cells ls [] f = tt
-AreHeldIn-all_cells ls (x ∷ xs) f = AreHeldIn-append ls (cells x.value) (all_cells xs) (AreHeldIn-cells ls x.value f.0) (AreHeldIn-all_cells ls xs f.1)
+AreHeldIn-all_cells ls (x ∷ xs) f = AreHeldIn-append ls (cells x.value) (all_cells xs) (AreHeldIn-cells ls x.value f.0)
+    (AreHeldIn-all_cells ls xs f.1)
 
 -- their texts over a table are those of their cells
 bytes-all_cells : (t : Table) (xs : List Shared) → AllFitIn (lengths_of t) xs → all_bytes t xs ≡ map (byte_at t) (all_cells xs)

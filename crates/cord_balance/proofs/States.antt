@@ -4,7 +4,8 @@ use Rattle.cord_node.specs.Tree.{cells, len_of, depth_of, IsSound}
 use Rattle.cord_node.specs.Kept.{parts, Kept}
 use Rattle.cord_balance.specs.Fib.{fib_of, IsSlotOf}
 use Rattle.cord_balance.specs.Pieces.{Shared, all_cells, all_parts, total_len, AllSound}
-use Rattle.cord_balance.specs.inner.Forest.{AllFrom, IsForest, forest_cells, forest_parts, forest_len, piece_cells, piece_parts, piece_len, IsGathered}
+use Rattle.cord_balance.specs.inner.Forest.{AllFrom, IsForest, forest_cells, forest_parts, forest_len, piece_cells, piece_parts, piece_len}
+use Rattle.cord_balance.specs.inner.Forest.{IsGathered}
 use Rattle.cord_balance.specs.declared.forest.Piece.{Piece}
 
 -- it may stand to the right of each of these

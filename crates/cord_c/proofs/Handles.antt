@@ -87,31 +87,44 @@ fields_pure h vs = Struct-Pure (shape handle.the_type) (RawPtr-plain, (heap_laws
 
 module _ {M : Type 1} {𝓤 : Ura M} (𝓛 : Logic 𝓤) where
   pub loose_typed : (r : Loose (List ℕ) Global) → Yes (has_ty (lone LooseText.mir) (loose_val r)) × WT (loose_val r)
-  loose_typed r = ((Struct-Lawful 𝓛 (shape loose_type) (lawfuls 𝓛 loose_type.parts loose_owning)).typed (to loose_type r) (loose_val r ∷ []) (loose_are r)).0
+  loose_typed r = ((Struct-Lawful 𝓛 (shape loose_type) (lawfuls 𝓛 loose_type.parts loose_owning)).typed (to loose_type r)
+      (loose_val r ∷ []) (loose_are r)).0
 
   pub handle_typed : (h : Handle) → Yes (has_ty (layout (shape handle.the_type)) (handle_val h)) × WT (handle_val h)
-  handle_typed h = ((Struct-Lawful 𝓛 (shape handle.the_type) (lawfuls 𝓛 handle.struct.parts handle_laws.the_laws)).typed (fields_of h) (handle_val h ∷ []) (fields_are h)).0
+  handle_typed h = ((Struct-Lawful 𝓛 (shape handle.the_type) (lawfuls 𝓛 handle.struct.parts handle_laws.the_laws)).typed (fields_of h)
+      (handle_val h ∷ []) (fields_are h)).0
 
   -- a text on the heap is a handle's
   pub held : (p : Ptr) (c : List ℕ) → ent 𝓤 (sem 𝓛 (box_owns frees text.the_row p c)) (sem 𝓛 (handle_owns p c))
   held (block_ptr b o) c = id⊢ 𝓤 _
-  held null_ptr c = via 𝓤 (never 𝓤) (fst∗ 𝓤 (never 𝓤) (sem 𝓛 (frees (bare (lone text.the_row.mir)) null_ptr))) (never_e 𝓤 (sem 𝓛 (handle_owns null_ptr c)))
+  held null_ptr c = via 𝓤 (never 𝓤) (fst∗ 𝓤 (never 𝓤) (sem 𝓛 (frees (bare (lone text.the_row.mir)) null_ptr)))
+      (never_e 𝓤 (sem 𝓛 (handle_owns null_ptr c)))
 
   -- and lies where a pointer may be compared with null
-  pub tested : (p : Ptr) (c : List ℕ) → ent 𝓤 (sem 𝓛 (box_owns frees text.the_row p c)) (guard 𝓤 (Testable p) (sem 𝓛 (box_owns frees text.the_row p c)))
-  tested p c = fact_use 𝓤 (Testable p) (via 𝓤 (sem 𝓛 (frees (bare (lone text.the_row.mir)) p)) (snd∗ 𝓤 (sem 𝓛 (lies_at text.the_row full_share p c)) (sem 𝓛 (frees (bare (lone text.the_row.mir)) p))) (dealloc_token-Testable 𝓛 the_heap (bare (lone text.the_row.mir)) p)) (guard_i 𝓤 (Testable p) (sem 𝓛 (box_owns frees text.the_row p c)))
+  pub tested : (p : Ptr) (c : List ℕ) → ent 𝓤 (sem 𝓛 (box_owns frees text.the_row p c))
+      (guard 𝓤 (Testable p) (sem 𝓛 (box_owns frees text.the_row p c)))
+  tested p c = fact_use 𝓤 (Testable p) (via 𝓤 (sem 𝓛 (frees (bare (lone text.the_row.mir)) p))
+      (snd∗ 𝓤 (sem 𝓛 (lies_at text.the_row full_share p c)) (sem 𝓛 (frees (bare (lone text.the_row.mir)) p)))
+      (dealloc_token-Testable 𝓛 the_heap (bare (lone text.the_row.mir)) p))
+      (guard_i 𝓤 (Testable p) (sem 𝓛 (box_owns frees text.the_row p c)))
 
 module _ {M : Type 1} {𝓤 : Ura M} {𝓛 : Logic 𝓤} {X : Type 0} {Γ : List (Item 𝓤)} {G : Goal 𝓤 𝓛.H} where
   -- a handle is made of what it owns
   pub packs : X → (h : Handle) → Step X 𝓛 (‵ (handle.the_row.own_val h (handle_val h ∷ [])) ∷ Γ) G (‵ (handle_owns h.at h.text) ∷ Γ) G
-  packs t h = step (λ s. pure_i t (Fields.own_val (fields_of h) (handle_val h ∷ [])) (fields_pure h (handle_val h ∷ [])) (fields_are h) $ fjoin t $ s)
+  packs t h = step (λ s. pure_i t (Fields.own_val (fields_of h) (handle_val h ∷ [])) (fields_pure h (handle_val h ∷ []))
+      (fields_are h) $ fjoin t $ s)
 
   -- a text on the heap is made of it
   pub packs_loose : X → (b o : ℕ) (a : Global) (c : List ℕ)
-      → Step X 𝓛 (‵ (LooseText.own_val (record { at = block_ptr b o; alloc = a; value = c }) (loose_val (record { at = block_ptr b o; alloc = a; value = c }) ∷ [])) ∷ Γ) G (‵ (box_owns frees text.the_row (block_ptr b o) c) ∷ Γ) G
-  packs_loose t b o a c = step (λ s. pure_i t (heap.the_row.own_val a (heap_val ∷ [])) (heap_plain a (heap_val ∷ [])) (heap_is a) $ move t (1 ∷ 0 ∷ []) $
+      → Step X 𝓛 (‵ (LooseText.own_val (record { at = block_ptr b o; alloc = a; value = c })
+      (loose_val (record { at = block_ptr b o; alloc = a; value = c }) ∷ [])) ∷ Γ) G
+      (‵ (box_owns frees text.the_row (block_ptr b o) c) ∷ Γ) G
+  packs_loose t b o a c = step (λ s. pure_i t (heap.the_row.own_val a (heap_val ∷ [])) (heap_plain a (heap_val ∷ [])) (heap_is a) $ move t
+      (1 ∷ 0 ∷ []) $
       loose_in text.the_row heap.the_row heap_laws.the_row_laws ghosts t b o heap_val a c $ s)
 
   -- and taken apart to it
-  pub unpacks : X → (h : Handle) (vs : List Val) → (vs ≡ handle_val h ∷ [] → Seq X 𝓛 (‵ (handle_owns h.at h.text) ∷ Γ) G) → Seq X 𝓛 (‵ (handle.the_row.own_val h vs) ∷ Γ) G
-  unpacks t h vs rest = peeks t handle.the_row (Is handle.the_row) (shows 𝓛 handle.the_row) h vs (λ is. fsplit t $ drop t $ rest (handle_laws.lowers.val_is h vs is))
+  pub unpacks : X → (h : Handle) (vs : List Val) → (vs ≡ handle_val h ∷ [] → Seq X 𝓛 (‵ (handle_owns h.at h.text) ∷ Γ) G) →
+      Seq X 𝓛 (‵ (handle.the_row.own_val h vs) ∷ Γ) G
+  unpacks t h vs rest = peeks t handle.the_row (Is handle.the_row) (shows 𝓛 handle.the_row) h vs
+      (λ is. fsplit t $ drop t $ rest (handle_laws.lowers.val_is h vs is))

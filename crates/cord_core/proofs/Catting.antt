@@ -19,7 +19,9 @@ pub catting_start : (cords : List (Option Node)) (all : Option Node) → all ≡
 catting_start cords all e = rw e (record { sound = tt; told = refl; len = omega arith; kept = Kept-self (all_parts cords) })
 
 -- one more cord was joined
-pub catting_step : (cords : List (Option Node)) (x : Option Node) (rest : List (Option Node)) (all next : Option Node) → IsCatting cords (x ∷ rest) all → IsCord next → text next ≡ text all ++ text x → text_len next ≡ text_len all + text_len x → Kept (parts_of all ++ parts_of x) (parts_of next) → IsCatting cords rest next
+pub catting_step : (cords : List (Option Node)) (x : Option Node) (rest : List (Option Node)) (all next : Option Node) →
+    IsCatting cords (x ∷ rest) all → IsCord next → text next ≡ text all ++ text x → text_len next ≡ text_len all + text_len x →
+    Kept (parts_of all ++ parts_of x) (parts_of next) → IsCatting cords rest next
 catting_step cords x rest all next i s t l k = record {
   sound = s;
   told = ap (λ (cs : List Cell). cs ++ all_text rest) t ∙ append_assoc (text all) (text x) (all_text rest) ∙ i.told;

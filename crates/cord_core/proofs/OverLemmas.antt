@@ -6,7 +6,8 @@ use Rattle.cord_io.specs.Table.{Table, Lengths, length_at, HasLengths}
 use Rattle.cord_node.specs.declared.Node.{Node}
 use Rattle.cord_node.specs.Tables.{lengths_of, byte_at, AreHeldIn}
 use Rattle.cord_node.proofs.TreeLemmas.{length-cells}
-use Rattle.cord_node.proofs.TableLemmas.{bytes-cells, AreHeldIn-append, AreHeldIn-cells, AreHeldIn-take, AreHeldIn-drop, FitsIn-cells, FitsIn-longer, Fits-told}
+use Rattle.cord_node.proofs.TableLemmas.{bytes-cells, AreHeldIn-append, AreHeldIn-cells, AreHeldIn-take, AreHeldIn-drop, FitsIn-cells}
+use Rattle.cord_node.proofs.TableLemmas.{FitsIn-longer, Fits-told}
 use Rattle.cord_core.specs.Cord.{text, text_len, IsCord, bytes_of, CordFitsIn, CordFits, all_text, all_bytes, AllFitIn}
 use Rattle.cord_core.specs.Equations.{HasText, IsSameText, IsCatOf, IsAppended, IsAllOf, IsSubstring}
 
@@ -90,7 +91,8 @@ all_over xs c s e =
     }
 
 -- where no entry is shorter, what fitted fits
-pub CordFitsIn-longer : (ls ms : Lengths) (c : Option Node) → ((id : ℕ) → length_at ls id ≤ length_at ms id) → CordFitsIn ls c → CordFitsIn ms c
+pub CordFitsIn-longer : (ls ms : Lengths) (c : Option Node) → ((id : ℕ) → length_at ls id ≤ length_at ms id) → CordFitsIn ls c →
+    CordFitsIn ms c
 CordFitsIn-longer ls ms None h f = tt
 CordFitsIn-longer ls ms (Some n) h f = FitsIn-longer ls ms n h f
 

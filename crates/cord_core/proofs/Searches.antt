@@ -1,5 +1,6 @@
 -- Searches answer places, and the order the first difference.
-use Rattle.std.proofs.Common.{◌≡◌, ◌≢◌, ◌≤◌, ◌+◌, ◌==◌, ◌⊎◌, ℕ, zero, suc, ℤ, pos, negsuc, Bool, true, false, List, [], ◌∷◌, ◌++◌, length, drop, Option, Some, None, refl, sym, ap, ◌∙◌, subst, inl, inr, ⊎_elim, arith, eq-eqb}
+use Rattle.std.proofs.Common.{◌≡◌, ◌≢◌, ◌≤◌, ◌+◌, ◌==◌, ◌⊎◌, ℕ, zero, suc, ℤ, pos, negsuc, Bool, true, false, List, [], ◌∷◌, ◌++◌, length}
+use Rattle.std.proofs.Common.{drop, Option, Some, None, refl, sym, ap, ◌∙◌, subst, inl, inr, ⊎_elim, arith, eq-eqb}
 use Rattle.std.specs.Prelude.{slice_get, nat_le, nat_lt, if◌then◌else◌}
 use Rattle.std.proofs.lemmas.Bool.{leb-true, leb-false, eqb-true, eqb-false}
 use Rattle.std.proofs.lemmas.List.{length-drop}
@@ -17,7 +18,8 @@ begun x [] e = (x, refl)
 begun [] (c ∷ s) e = absurd (differ e)
 begun (b ∷ x) (c ∷ s) e = pick (b == c) refl (λ h. begun x s h) e
   where
-    pick : (v : Bool) → (b == c) ≡ v → (begins_with x s ≡ true → (rest : List ℕ) × (x ≡ s ++ rest)) → (if v then begins_with x s else false) ≡ true → (rest : List ℕ) × (b ∷ x ≡ (c ∷ s) ++ rest)
+    pick : (v : Bool) → (b == c) ≡ v → (begins_with x s ≡ true → (rest : List ℕ) × (x ≡ s ++ rest)) →
+        (if v then begins_with x s else false) ≡ true → (rest : List ℕ) × (b ∷ x ≡ (c ∷ s) ++ rest)
     pick true same ih h =
         let w = ih h in
         let one : b ≡ c = eqb-true b c same in
@@ -41,11 +43,18 @@ module _ (x s : List ℕ) where
 
   -- a search from one place further, where s doesn't stand here
   one_before : (p : ℕ) (o : Option ℕ) → (StandsAt x s p → ⊥) → IsFirst x (p + 1) s o → IsFirst x p s o
-  one_before p (Some r) none (le, at, least) = (omega arith, at, λ q from to here. ⊎_elim (λ (e : q ≡ p). none (subst (λ (n : ℕ). StandsAt x s n) e here)) (λ (more : p + 1 ≤ q). least q more to here) (at_or_after p q from))
+  one_before p (Some r) none (le, at, least) = (
+    omega arith,
+    at,
+    λ q from to here.
+        ⊎_elim (λ (e : q ≡ p). none (subst (λ (n : ℕ). StandsAt x s n) e here)) (λ (more : p + 1 ≤ q). least q more to here)
+        (at_or_after p q from),
+  )
     where
       at_or_after : (p q : ℕ) → p ≤ q → (q ≡ p) ⊎ (p + 1 ≤ q)
       at_or_after p q le = grind arith
-  one_before p None none h = λ q from here. ⊎_elim (λ (e : q ≡ p). none (subst (λ (n : ℕ). StandsAt x s n) e here)) (λ (more : p + 1 ≤ q). h q more here) (at_or_after p q from)
+  one_before p None none h = λ q from here. ⊎_elim (λ (e : q ≡ p). none (subst (λ (n : ℕ). StandsAt x s n) e here))
+      (λ (more : p + 1 ≤ q). h q more here) (at_or_after p q from)
     where
       at_or_after : (p q : ℕ) → p ≤ q → (q ≡ p) ⊎ (p + 1 ≤ q)
       at_or_after p q le = grind arith
@@ -59,9 +68,11 @@ module _ (x s : List ℕ) where
       pick : (v : Bool) → begins_with [] s ≡ v → IsFirst x p s (if v then Some p else None)
       pick true h = (omega arith, stands p [] e le h, λ q from to at. omega arith)
       pick false h = λ q from at. let same : q ≡ p = omega (arith, long, at.within) in stands_not p [] e h (subst (λ (n : ℕ). StandsAt x s n) same at)
-  from_here (b ∷ y) p e le = pick (begins_with (b ∷ y) s) refl (from_here y (p + 1) (next_here x p b y e) (omega (arith, length-drop p x, ap (λ (z : List ℕ). length z) e)))
+  from_here (b ∷ y) p e le = pick (begins_with (b ∷ y) s) refl (from_here y (p + 1) (next_here x p b y e)
+      (omega (arith, length-drop p x, ap (λ (z : List ℕ). length z) e)))
     where
-      pick : (v : Bool) → begins_with (b ∷ y) s ≡ v → IsFirst x (p + 1) s (first_from (p + 1) y s) → IsFirst x p s (if v then Some p else first_from (p + 1) y s)
+      pick : (v : Bool) → begins_with (b ∷ y) s ≡ v → IsFirst x (p + 1) s (first_from (p + 1) y s) →
+          IsFirst x p s (if v then Some p else first_from (p + 1) y s)
       pick true h ih = (omega arith, stands p (b ∷ y) e le h, λ q from to at. omega arith)
       pick false h ih = one_before p (first_from (p + 1) y s) (stands_not p (b ∷ y) e h) ih
 
@@ -99,10 +110,18 @@ module _ (x : List ℕ) (c : ℕ) where
 
   -- the same answer for one place more, where the byte doesn't stand there
   one_more : (i : ℕ) (o : Option ℕ) → (slice_get x (suc i) ≡ Some c → ⊥) → IsLast x i c o → IsLast x (suc i) c o
-  one_more i (Some p) none (le, at, greatest) = (omega arith, at, λ q lt to here. ⊎_elim (λ (e : q ≡ suc i). none (ap (λ (n : ℕ). slice_get x n) (sym e) ∙ here)) (λ (less : q ≤ i). greatest q lt less here) (last_or_before i q to))
-  one_more i None none h = λ q to here. ⊎_elim (λ (e : q ≡ suc i). none (ap (λ (n : ℕ). slice_get x n) (sym e) ∙ here)) (λ (less : q ≤ i). h q less here) (last_or_before i q to)
+  one_more i (Some p) none (le, at, greatest) = (
+    omega arith,
+    at,
+    λ q lt to here.
+        ⊎_elim (λ (e : q ≡ suc i). none (ap (λ (n : ℕ). slice_get x n) (sym e) ∙ here)) (λ (less : q ≤ i). greatest q lt less here)
+        (last_or_before i q to),
+  )
+  one_more i None none h = λ q to here. ⊎_elim (λ (e : q ≡ suc i). none (ap (λ (n : ℕ). slice_get x n) (sym e) ∙ here))
+      (λ (less : q ≤ i). h q less here) (last_or_before i q to)
 
-  next_place : (i : ℕ) (o : Option ℕ) → slice_get x (suc i) ≡ o → (earlier : Option ℕ) → IsLast x i c earlier → IsLast x (suc i) c (here_or (suc i) o c earlier)
+  next_place : (i : ℕ) (o : Option ℕ) → slice_get x (suc i) ≡ o → (earlier : Option ℕ) → IsLast x i c earlier →
+      IsLast x (suc i) c (here_or (suc i) o c earlier)
   next_place i None e earlier ih = one_more i earlier (λ h. no_byte (sym e ∙ h)) ih
   next_place i (Some b) e earlier ih = pick (b == c) refl
     where
@@ -121,7 +140,8 @@ more_less b c x y e (inl (d, rest, is)) = inl (d, rest, bytes_are b c x y (d ∷
   where
     bytes_are : (b c : ℕ) (x y rest : List ℕ) → b ≡ c → y ≡ x ++ rest → c ∷ y ≡ (b ∷ x) ++ rest
     bytes_are b c x y rest e is = cc (sym e, is)
-more_less b c x y e (inr (front, d, f, xs, ys, one, two, lt)) = inr (b ∷ front, d, f, xs, ys, ap (λ (z : List ℕ). b ∷ z) one, head_is b c y (front ++ (f ∷ ys)) e two, lt)
+more_less b c x y e (inr (front, d, f, xs, ys, one, two, lt)) =
+    inr (b ∷ front, d, f, xs, ys, ap (λ (z : List ℕ). b ∷ z) one, head_is b c y (front ++ (f ∷ ys)) e two, lt)
   where
     head_is : (b c : ℕ) (y z : List ℕ) → b ≡ c → y ≡ z → c ∷ y ≡ b ∷ z
     head_is b c y z e is = cc (sym e, is)
@@ -147,6 +167,7 @@ order_is (b ∷ x) (c ∷ y) = below (nat_lt b c) refl (order_is x y)
     above true e le ih = inr ([], c, b, y, x, refl, refl, ltb-true c b e)
     above false e le ih = let le' : b ≤ c = ltb-false c b e in more_order b c x y (order x y) (omega arith) ih
 
-    below : (v : Bool) → nat_lt b c ≡ v → IsOrder x y (order x y) → IsOrder (b ∷ x) (c ∷ y) (if v then negsuc 0 else if nat_lt c b then pos 1 else order x y)
+    below : (v : Bool) → nat_lt b c ≡ v → IsOrder x y (order x y) →
+        IsOrder (b ∷ x) (c ∷ y) (if v then negsuc 0 else if nat_lt c b then pos 1 else order x y)
     below true e ih = inr ([], b, c, x, y, refl, refl, ltb-true b c e)
     below false e ih = above (nat_lt c b) refl (ltb-false b c e) ih

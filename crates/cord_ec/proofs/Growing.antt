@@ -30,7 +30,8 @@ grown_by xs ys b e = record {
 pub grown_by_cord : (xs ys : List Cell) (c : Option Node) → ys ≡ xs ++ text c → IsGrownByCord xs ys c
 grown_by_cord xs ys c e = record {
   fits = λ ls held inside. subst (AreHeldIn ls) (sym e) (AreHeldIn-append ls xs (text c) held (AreHeldIn-text ls c inside));
-  bytes = λ t held inside. ap (map (byte_at t)) e ∙ map-append (byte_at t) xs (text c) ∙ ap (λ zs. map (byte_at t) xs ++ zs) (sym (bytes-text t c inside));
+  bytes = λ t held inside. ap (map (byte_at t)) e ∙ map-append (byte_at t) xs (text c)
+      ∙ ap (λ zs. map (byte_at t) xs ++ zs) (sym (bytes-text t c inside));
 }
 
 pub cord_of : (xs : List Cell) (c : Option Node) → IsCord c → text c ≡ xs → IsCordOf xs c

@@ -1,5 +1,6 @@
 -- Leaves that a buffer was made into.
-use Rattle.std.proofs.Common.{◌≡◌, ℕ, ◌+◌, ◌*◌, ◌<◌, ◌≤◌, min, List, [], ◌∷◌, ◌++◌, length, map, take, drop, append-nil, append_assoc, take-append-drop, refl, sym, ap, ◌∙◌, subst, arith}
+use Rattle.std.proofs.Common.{◌≡◌, ℕ, ◌+◌, ◌*◌, ◌<◌, ◌≤◌, min, List, [], ◌∷◌, ◌++◌, length, map, take, drop, append-nil, append_assoc}
+use Rattle.std.proofs.Common.{take-append-drop, refl, sym, ap, ◌∙◌, subst, arith}
 use Rattle.std.specs.Prelude.{Option, Some, None}
 use Rattle.std.proofs.lemmas.List.{map-append}
 use Rattle.cord_node.specs.declared.Node.{Node}
@@ -56,34 +57,43 @@ leaf_grown [] [] k h = omega arith
 leaf_grown [] (x ∷ b) k h = omega (arith, h)
 leaf_grown (y ∷ a) b k h = omega arith
 
-pub tail_grown : (ps : List Part) (a b : List ℕ) (k : ℕ) → length (a ++ b) ≤ CAP → length b ≤ k * CAP → Gathered k (ps ++ leaf_parts a) (ps ++ leaf_parts (a ++ b))
-tail_grown ps a b k fits h = made_after IsGathered gathered_own k ps (leaf_parts a) (leaf_parts (a ++ b)) (leaf_grown a b k h) (leaf_gathered (a ++ b) fits)
+pub tail_grown : (ps : List Part) (a b : List ℕ) (k : ℕ) → length (a ++ b) ≤ CAP → length b ≤ k * CAP →
+    Gathered k (ps ++ leaf_parts a) (ps ++ leaf_parts (a ++ b))
+tail_grown ps a b k fits h = made_after IsGathered gathered_own k ps (leaf_parts a) (leaf_parts (a ++ b)) (leaf_grown a b k h)
+    (leaf_gathered (a ++ b) fits)
 
 -- one leaf more
 leaf_after : (ps : List Part) (b : List ℕ) → length b ≤ CAP → Gathered 1 ps (ps ++ leaf_parts b)
-leaf_after ps b fits = subst (λ (old : List Part). Gathered 1 old (ps ++ leaf_parts b)) (append-nil ps) (made_after IsGathered gathered_own 1 ps [] (leaf_parts b) (one_leaf b) (leaf_gathered b fits))
+leaf_after ps b fits = subst (λ (old : List Part). Gathered 1 old (ps ++ leaf_parts b)) (append-nil ps)
+    (made_after IsGathered gathered_own 1 ps [] (leaf_parts b) (one_leaf b) (leaf_gathered b fits))
 
 pub leaf_added : (ps new : List Part) (b : List ℕ) → length b ≤ CAP → Kept (ps ++ leaf_parts b) new → Gathered 1 ps new
-leaf_added ps new b fits k = made_through IsGathered gathered_own 1 0 ps (ps ++ leaf_parts b) new (leaf_after ps b fits) (made_kept IsGathered gathered_own (ps ++ leaf_parts b) new k)
+leaf_added ps new b fits k = made_through IsGathered gathered_own 1 0 ps (ps ++ leaf_parts b) new (leaf_after ps b fits)
+    (made_kept IsGathered gathered_own (ps ++ leaf_parts b) new k)
 
 -- a leaf of its own after what is kept
 pub leaf_begun : (old longer : List Part) (b : List ℕ) → length b ≤ CAP → Kept old longer → Gathered 1 old (longer ++ leaf_parts b)
-leaf_begun old longer b fits k = made_through IsGathered gathered_own 0 1 old longer (longer ++ leaf_parts b) (made_kept IsGathered gathered_own old longer k) (leaf_after longer b fits)
+leaf_begun old longer b fits k = made_through IsGathered gathered_own 0 1 old longer (longer ++ leaf_parts b)
+    (made_kept IsGathered gathered_own old longer k) (leaf_after longer b fits)
 
 -- no bytes after parts
 no_bytes : (P : List Part → Type 0) (ps : List Part) (b : List ℕ) → b ≡ [] → P ps → P (ps ++ leaf_parts b)
 no_bytes P ps b none h = subst (λ (x : List ℕ). P (ps ++ leaf_parts x)) (sym none) (subst P (sym (append-nil ps)) h)
 
 -- what is gathered after what is kept, and no bytes after that
-pub leaves_added : (old so_far new : List Part) (b : List ℕ) (m : ℕ) → b ≡ [] → Kept old so_far → Gathered m so_far new → Gathered m old (new ++ leaf_parts b)
-leaves_added old so_far new b m none k h = no_bytes (λ (ps : List Part). Gathered m old ps) new b none (made_more IsGathered gathered_own (0 + m) m old new (omega arith) (made_through IsGathered gathered_own 0 m old so_far new (made_kept IsGathered gathered_own old so_far k) h))
+pub leaves_added : (old so_far new : List Part) (b : List ℕ) (m : ℕ) → b ≡ [] → Kept old so_far → Gathered m so_far new →
+    Gathered m old (new ++ leaf_parts b)
+leaves_added old so_far new b m none k h = no_bytes (λ (ps : List Part). Gathered m old ps) new b none
+    (made_more IsGathered gathered_own (0 + m) m old new (omega arith)
+    (made_through IsGathered gathered_own 0 m old so_far new (made_kept IsGathered gathered_own old so_far k) h))
 
 -- what is kept, and no bytes after that
 pub flushed : (old new : List Part) (b : List ℕ) → b ≡ [] → Kept old new → Kept old (new ++ leaf_parts b)
 flushed old new b none k = no_bytes (λ (ps : List Part). Kept old ps) new b none k
 
 -- a cord after what is kept, and no bytes after that
-pub cord_added : (old so_far x longer : List Part) (b : List ℕ) → b ≡ [] → Kept old so_far → Kept (so_far ++ x) longer → Kept (old ++ x) (longer ++ leaf_parts b)
+pub cord_added : (old so_far x longer : List Part) (b : List ℕ) → b ≡ [] → Kept old so_far → Kept (so_far ++ x) longer →
+    Kept (old ++ x) (longer ++ leaf_parts b)
 cord_added old so_far x longer b none k j = flushed (old ++ x) longer b none (Kept-join old x so_far x longer k (Kept-self x) j)
 
 -- no bytes after a cord
@@ -98,7 +108,8 @@ pub record IsGathering (start longer : List Part) (all rest : ℕ) : Type 0 wher
   pub few : CAP * length longer < CAP * length start + all + CAP
 
 -- the text with one leaf more
-pub leaf_text : (longer leaf next all : List Cell) (b run rest left : List ℕ) (n : ℕ) → next ≡ longer ++ leaf → leaf ≡ map known b → b ≡ run → run ≡ take n rest → left ≡ drop n rest → longer ++ map known rest ≡ all → next ++ map known left ≡ all
+pub leaf_text : (longer leaf next all : List Cell) (b run rest left : List ℕ) (n : ℕ) → next ≡ longer ++ leaf → leaf ≡ map known b →
+    b ≡ run → run ≡ take n rest → left ≡ drop n rest → longer ++ map known rest ≡ all → next ++ map known left ≡ all
 leaf_text longer leaf next all b run rest left n next_is leaf_is bytes_are front back before =
     let whole : run ++ left ≡ rest = ap (λ (x : List ℕ). x ++ left) front ∙ ap (λ (x : List ℕ). take n rest ++ x) back ∙ take-append-drop n rest in
     ap (λ (x : List Cell). x ++ map known left) (next_is ∙ ap (λ (x : List Cell). longer ++ x) (leaf_is ∙ ap (map known) bytes_are))
@@ -107,9 +118,14 @@ leaf_text longer leaf next all b run rest left n next_is leaf_is bytes_are front
     ∙ before
 
 pub gathering_start : (ps : List Part) (all : ℕ) → IsGathering ps ps all all
-gathering_start ps all = record { from_there = (made_self IsGathered gathered_own ps).from_there; full = λ h. omega arith; few = omega arith }
+gathering_start ps all = record {
+  from_there = (made_self IsGathered gathered_own ps).from_there;
+  full = λ h. omega arith;
+  few = omega arith;
+}
 
-pub gathering_step : (start longer next : List Part) (b : List ℕ) (all rest run left : ℕ) → run + left ≡ rest → run ≡ min rest CAP → 0 < rest → length b ≤ CAP → Kept (longer ++ leaf_parts b) next
+pub gathering_step : (start longer next : List Part) (b : List ℕ) (all rest run left : ℕ) → run + left ≡ rest → run ≡ min rest CAP →
+    0 < rest → length b ≤ CAP → Kept (longer ++ leaf_parts b) next
     → IsGathering start longer all rest → IsGathering start next all left
 gathering_step start longer next b all rest run left sum is some fits k h =
     let step : Gathered 1 longer next = leaf_added longer next b fits k in
@@ -120,5 +136,6 @@ gathering_step start longer next b all rest run left sum is some fits k h =
       few = omega (arith, step.no_more, before, some);
     }
 
-pub gathering_end : (start longer : List Part) (all rest : ℕ) → IsGathering start longer all rest → (k : ℕ) → all ≤ k * CAP → Gathered k start longer
+pub gathering_end : (start longer : List Part) (all rest : ℕ) → IsGathering start longer all rest → (k : ℕ) → all ≤ k * CAP →
+    Gathered k start longer
 gathering_end start longer all rest h k fits = record { no_more = omega (arith, h.few, fits); from_there = h.from_there }

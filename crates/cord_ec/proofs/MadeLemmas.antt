@@ -74,7 +74,10 @@ module _ (own : Part → Type 0) (laws : IsOwn own) where
 
   -- what is made of what is made
   pub made_through : (m n : ℕ) (a b c : List Part) → MadeOf own m a b → MadeOf own n b c → MadeOf own (m + n) a c
-  made_through m n a b c h k = record { no_more = omega (arith, h.no_more, k.no_more); from_there = are_through c b a k.from_there h.from_there }
+  made_through m n a b c h k = record {
+    no_more = omega (arith, h.no_more, k.no_more);
+    from_there = are_through c b a k.from_there h.from_there;
+  }
 
   -- more is allowed
   pub made_more : (m n : ℕ) (a b : List Part) → m ≤ n → MadeOf own m a b → MadeOf own n a b

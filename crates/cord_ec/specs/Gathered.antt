@@ -14,7 +14,8 @@ pub record Growth : Type 0 where
 
 -- how the logic stores one
 abbrev pub coded_growth : Coded Growth
-coded_growth = code_by (List Cell × List Part) (coded× (coded_list coded_cell) coded_parts) (λ g. (g.text, g.parts)) (λ p. record { text = p.0; parts = p.1 }) (λ _. refl)
+coded_growth = code_by (List Cell × List Part) (coded× (coded_list coded_cell) coded_parts) (λ g. (g.text, g.parts))
+    (λ p. record { text = p.0; parts = p.1 }) (λ _. refl)
 
 -- bytes as one leaf: no part where there are none
 abbrev pub leaf_parts : List ℕ → List Part

@@ -1,5 +1,6 @@
 // The extensible cord.
-ghost use Rattle.std.specs.Prelude.{◌≡◌, ℕ, ◌+◌, ◌<◌, ◌≤◌, List, [], ◌∷◌, ◌++◌, IfOk, OnOk, IfErr, IsErr, IsOkUnless, Err, length, map};
+ghost use Rattle.std.specs.Prelude.{◌≡◌, ℕ, ◌+◌, ◌<◌, ◌≤◌, List, [], ◌∷◌, ◌++◌, IfOk, OnOk, IfErr, IsErr, IsOkUnless};
+ghost use Rattle.std.specs.Prelude.{Err, length, map};
 ghost use Rattle.cord_io.specs.Table.{Table};
 ghost use Rattle.cord_node.specs.Tree.{known};
 ghost use Rattle.cord_node.specs.Kept.{Kept};
@@ -96,7 +97,8 @@ impl ExtCord {
     pub fn append_bytes(&mut self, alloc: Global, bytes: &[u8]) -> Result<(), CordError>
         ensures text { IfOk result (λ _. self.new.text ≡ self.old.text ++ map known bytes.now) }
         ensures over { IfOk result (λ _. IsGrownBy self.old.text self.new.text bytes.now) }
-        ensures gathered { IfOk result (λ _. (k : ℕ) → length bytes.now ≤ leaf_bytes k → Gathered k self.old.parts self.new.parts) }
+        ensures gathered { IfOk result (λ _. (k : ℕ) → length bytes.now ≤ leaf_bytes k →
+            Gathered k self.old.parts self.new.parts) }
         ensures unchanged { IsErr result → self.new ≡ self.old }
         ensures too_long { result ≡ Err CordError.TooLong → MAX_LEN < length self.old.text + length bytes.now }
         ensures within_limit { OnOk result (length self.old.text + length bytes.now ≤ MAX_LEN) }
@@ -243,7 +245,8 @@ fn cat_leaves(alloc: Global, cord: Cord, bytes: &[u8]) -> Result<Cord, CordError
     requires within_limit { text_len cord + length bytes.now ≤ MAX_LEN }
     ensures text { IfOk result (λ c. text c ≡ text cord ++ map known bytes.now) }
     ensures len { IfOk result (λ c. text_len c ≡ text_len cord + length bytes.now) }
-    ensures gathered { IfOk result (λ c. (k : ℕ) → length bytes.now ≤ leaf_bytes k → Gathered k (parts_of cord) (parts_of c)) }
+    ensures gathered { IfOk result (λ c. (k : ℕ) → length bytes.now ≤ leaf_bytes k →
+        Gathered k (parts_of cord) (parts_of c)) }
     ensures refused { IsOkUnless result CordError.NoMemory }
 {
     let mut longer = cord;

@@ -1,5 +1,6 @@
 -- Parts of blocks, and what is kept.
-use Rattle.std.proofs.Common.{◌≡◌, ℕ, ◌+◌, ◌*◌, ◌/◌, ◌%◌, ◌<◌, ◌≤◌, ◌⊎◌, inl, inr, List, [], ◌∷◌, ◌++◌, Bool, true, false, length, length-append, take, drop, Contains, Option, Some, None, refl, sym, ap, subst, ◌∙◌, arith}
+use Rattle.std.proofs.Common.{◌≡◌, ℕ, ◌+◌, ◌*◌, ◌/◌, ◌%◌, ◌<◌, ◌≤◌, ◌⊎◌, inl, inr, List, [], ◌∷◌, ◌++◌, Bool, true, false, length}
+use Rattle.std.proofs.Common.{length-append, take, drop, Contains, Option, Some, None, refl, sym, ap, subst, ◌∙◌, arith}
 use Rattle.std.specs.Prelude.{slice_get, is_some, IsSome, IsSomeAnd, if◌then◌else◌}
 use Rattle.std.specs.String.{string_bytes}
 use Rattle.std.proofs.lemmas.Option.{slice_get_within}
@@ -14,47 +15,68 @@ use Rattle.cord_file.specs.Soundness.{IsSound}
 use Rattle.cord_file.proofs.Growing.{place_inside}
 
 -- lists that begin with the same elements have the same parts there
-same_part : (size from count : ℕ) (xs ys : List ℕ) → from + count ≤ size → take size xs ≡ take size ys → take count (drop from xs) ≡ take count (drop from ys)
+same_part : (size from count : ℕ) (xs ys : List ℕ) → from + count ≤ size → take size xs ≡ take size ys →
+    take count (drop from xs) ≡ take count (drop from ys)
 same_part size from count xs ys fits same =
     let front : take (from + count) xs ≡ take (from + count) ys = sym (take-take (from + count) size xs fits) ∙ ap (take (from + count)) same ∙ take-take (from + count) size ys fits in
     sym (drop-take from count xs) ∙ ap (drop from) front ∙ drop-take from count ys
 
 -- a part of a block is a range of the text
-part_of_block : (len number from count : ℕ) (text block : List ℕ) → from + count ≤ BLOCK → number * BLOCK + from + count ≤ len → IsBlock len text number block → take count (drop from block) ≡ take count (drop (number * BLOCK + from) text)
+part_of_block : (len number from count : ℕ) (text block : List ℕ) → from + count ≤ BLOCK → number * BLOCK + from + count ≤ len →
+    IsBlock len text number block → take count (drop from block) ≡ take count (drop (number * BLOCK + from) text)
 part_of_block len number from count text block inside within is =
     let fits : from + count ≤ block_size len number = omega arith in
-    same_part (block_size len number) from count block (drop (number * BLOCK) text) fits is ∙ ap (take count) (drop-drop from (number * BLOCK) text)
+    same_part (block_size len number) from count block (drop (number * BLOCK) text) fits is
+    ∙ ap (take count) (drop-drop from (number * BLOCK) text)
 
 -- what was read as a block of an opened file is a block of it
-pub block_of_read : (told : Option (List ℕ × ℕ)) (files : List OpenFile) (place number : ℕ) (file f : OpenFile) (block : List ℕ) (folder : Folder) → slice_get files place ≡ Some file → told ≡ Some (told_of file) → IsSomeAnd told (λ t. IsBlock file.len (bytes_at folder t.0) number block) → slice_get files place ≡ Some f → IsBlock f.len (bytes_at folder (string_bytes f.path)) number block
+pub block_of_read : (told : Option (List ℕ × ℕ)) (files : List OpenFile) (place number : ℕ) (file f : OpenFile) (block : List ℕ)
+    (folder : Folder) → slice_get files place ≡ Some file → told ≡ Some (told_of file) →
+    IsSomeAnd told (λ t. IsBlock file.len (bytes_at folder t.0) number block) → slice_get files place ≡ Some f →
+    IsBlock f.len (bytes_at folder (string_bytes f.path)) number block
 block_of_read told files place number file f block folder here same read there = subst (λ x. IsBlock x.len (bytes_at folder (string_bytes x.path)) number block) (one_file file f (sym here ∙ there)) (subst (λ o. IsSomeAnd o (λ t. IsBlock file.len (bytes_at folder t.0) number block)) same read) where
   one_file : (f g : OpenFile) → Some f ≡ Some g → f ≡ g
   one_file f g e = cc
 
 -- a block that was read of an opened file can be kept
-pub kept_of_read : (keeps : Folder → Type 0) (told : Option (List ℕ × ℕ)) (files : List OpenFile) (key : BlockKey) (file : OpenFile) (block : HeapBlock) → slice_get files key.place ≡ Some file → told ≡ Some (told_of file) → ((folder : Folder) → keeps folder → IsSomeAnd told (λ t. IsBlock file.len (bytes_at folder t.0) key.number block.value)) → IsKept keeps files (key, block)
+pub kept_of_read : (keeps : Folder → Type 0) (told : Option (List ℕ × ℕ)) (files : List OpenFile) (key : BlockKey) (file : OpenFile)
+    (block : HeapBlock) → slice_get files key.place ≡ Some file → told ≡ Some (told_of file) →
+    ((folder : Folder) → keeps folder → IsSomeAnd told (λ t. IsBlock file.len (bytes_at folder t.0) key.number block.value)) →
+    IsKept keeps files (key, block)
 kept_of_read keeps told files key file block here same read = record {
   opened = slice_get_within files key.place file here;
   block = λ f e folder kept. block_of_read told files key.place key.number file f block.value folder here same (read folder kept) e;
 }
 
 -- what is copied of a block is the file's
-pub read_of_block : (files : List OpenFile) (place number : ℕ) (block out : List ℕ) (start : ℕ) (folder : Folder) → ((file : OpenFile) → slice_get files place ≡ Some file → IsBlock file.len (bytes_at folder (string_bytes file.path)) number block) → number ≡ start / BLOCK → IsSomeAnd (slice_get files place) (λ file. start + length out ≤ file.len) → start % BLOCK + length out ≤ BLOCK → out ≡ take (length out) (drop (start % BLOCK) block) → AreRead folder (slice_get files place) start out
+pub read_of_block : (files : List OpenFile) (place number : ℕ) (block out : List ℕ) (start : ℕ) (folder : Folder) →
+    ((file : OpenFile) → slice_get files place ≡ Some file → IsBlock file.len (bytes_at folder (string_bytes file.path)) number block) →
+    number ≡ start / BLOCK → IsSomeAnd (slice_get files place) (λ file. start + length out ≤ file.len) →
+    start % BLOCK + length out ≤ BLOCK → out ≡ take (length out) (drop (start % BLOCK) block) →
+    AreRead folder (slice_get files place) start out
 read_of_block files place number block out start folder is same inside part copied = at (slice_get files place) refl inside where
-  at : (o : Option OpenFile) → slice_get files place ≡ o → IsSomeAnd o (λ file. start + length out ≤ file.len) → IsSomeAnd o (λ file. out ≡ take (length out) (drop start (bytes_at folder (string_bytes file.path))))
+  at : (o : Option OpenFile) → slice_get files place ≡ o → IsSomeAnd o (λ file. start + length out ≤ file.len) →
+      IsSomeAnd o (λ file. out ≡ take (length out) (drop start (bytes_at folder (string_bytes file.path))))
   at None e h = absurd h
   at (Some file) e within =
       let place : number * BLOCK + start % BLOCK ≡ start = omega (arith, same) in
       let range : number * BLOCK + start % BLOCK + length out ≤ file.len = omega (arith, place, within) in
       let text : List ℕ = bytes_at folder (string_bytes file.path) in
-      copied ∙ part_of_block file.len number (start % BLOCK) (length out) text block part range (is file e) ∙ ap (λ n. take (length out) (drop n text)) place
+      copied ∙ part_of_block file.len number (start % BLOCK) (length out) text block part range (is file e)
+      ∙ ap (λ n. take (length out) (drop n text)) place
 
 -- what is copied of a kept block is the file's
-pub read_of_kept : (keeps : Folder → Type 0) (files : List OpenFile) (key : BlockKey) (block : HeapBlock) (out : List ℕ) (start : ℕ) → IsKept keeps files (key, block) → key.number ≡ start / BLOCK → IsSomeAnd (slice_get files key.place) (λ file. start + length out ≤ file.len) → start % BLOCK + length out ≤ BLOCK → out ≡ take (length out) (drop (start % BLOCK) block.value) → (folder : Folder) → keeps folder → AreRead folder (slice_get files key.place) start out
-read_of_kept keeps files key block out start kept number inside part copied folder is = read_of_block files key.place key.number block.value out start folder (λ file e. kept.block file e folder is) number inside part copied
+pub read_of_kept : (keeps : Folder → Type 0) (files : List OpenFile) (key : BlockKey) (block : HeapBlock) (out : List ℕ) (start : ℕ) →
+    IsKept keeps files (key, block) → key.number ≡ start / BLOCK →
+    IsSomeAnd (slice_get files key.place) (λ file. start + length out ≤ file.len) → start % BLOCK + length out ≤ BLOCK →
+    out ≡ take (length out) (drop (start % BLOCK) block.value) → (folder : Folder) → keeps folder →
+    AreRead folder (slice_get files key.place) start out
+read_of_kept keeps files key block out start kept number inside part copied folder is =
+    read_of_block files key.place key.number block.value out start folder (λ file e. kept.block file e folder is) number inside part copied
 
 -- one more block is kept
-pub kept_with : (keeps : Folder → Type 0) (files : List OpenFile) (old new : List Entry) (entry : Entry) → AreKept keeps files old → IsKept keeps files entry → ((e : Entry) → Contains new e → Contains old e ⊎ (e ≡ entry)) → AreKept keeps files new
+pub kept_with : (keeps : Folder → Type 0) (files : List OpenFile) (old new : List Entry) (entry : Entry) → AreKept keeps files old →
+    IsKept keeps files entry → ((e : Entry) → Contains new e → Contains old e ⊎ (e ≡ entry)) → AreKept keeps files new
 kept_with keeps files old new entry all one among e h = elim (among e h) [
   | inl was ↦ all e was
   | inr same ↦ subst (IsKept keeps files) (sym same) one
@@ -72,7 +94,8 @@ pub of_slot : (P : OpenFile → Type 0) {o : Option OpenFile} {file : OpenFile} 
 of_slot P e h = subst (λ o. IsSomeAnd o P) e h
 
 -- kept blocks stay so where one more file is opened, and memory was found for it
-pub kept_behind : (keeps : Folder → Type 0) (files new : List OpenFile) (file : OpenFile) (b : Bool) (entries : List Entry) → new ≡ (if b then files ++ file ∷ [] else files) → AreKept keeps files entries → AreKept keeps new entries
+pub kept_behind : (keeps : Folder → Type 0) (files new : List OpenFile) (file : OpenFile) (b : Bool) (entries : List Entry) →
+    new ≡ (if b then files ++ file ∷ [] else files) → AreKept keeps files entries → AreKept keeps new entries
 kept_behind keeps files new file false entries same all = subst (λ xs. AreKept keeps xs entries) (sym same) all
 kept_behind keeps files new file true entries same all = subst (λ xs. AreKept keeps xs entries) (sym same) (λ e h. more e (all e h)) where
   more : (e : Entry) → IsKept keeps files e → IsKept keeps (files ++ file ∷ []) e
@@ -86,13 +109,16 @@ pub kept_none : (keeps : Folder → Type 0) (files : List OpenFile) → AreKept 
 kept_none keeps files e h = absurd (omega (arith, h.1))
 
 -- kept blocks stay so where no other folder is kept
-pub kept_earlier : (old new : Folder → Type 0) (files : List OpenFile) (entries : List Entry) → ((folder : Folder) → new folder → old folder) → AreKept old files entries → AreKept new files entries
+pub kept_earlier : (old new : Folder → Type 0) (files : List OpenFile) (entries : List Entry) →
+    ((folder : Folder) → new folder → old folder) → AreKept old files entries → AreKept new files entries
 kept_earlier old new files entries earlier all e h =
     let was = all e h in
     record { opened = was.opened; block = λ f here folder kept. was.block f here folder (earlier folder kept) }
 
 -- the table stays sound where no other folder is kept, and the numbers that were handed out stay
-pub sound_moved : (old new : Folder → Type 0) (before after : ℕ → Option (List ℕ × ℕ)) (files : List OpenFile) (blocks : List Entry) → ((folder : Folder) → new folder → old folder) → ((n : ℕ) → IsSome (before n) → after n ≡ before n) → IsSound old before files blocks → IsSound new after files blocks
+pub sound_moved : (old new : Folder → Type 0) (before after : ℕ → Option (List ℕ × ℕ)) (files : List OpenFile) (blocks : List Entry) →
+    ((folder : Folder) → new folder → old folder) → ((n : ℕ) → IsSome (before n) → after n ≡ before n) → IsSound old before files blocks →
+    IsSound new after files blocks
 sound_moved old new before after files blocks earlier stays sound = record {
   handed_out = λ k f h. let was = sound.handed_out k f h in stays f.no.0 (ap is_some was) ∙ was;
   short_enough = sound.short_enough;
@@ -102,7 +128,8 @@ sound_moved old new before after files blocks earlier stays sound = record {
 }
 
 -- and where other blocks are kept
-pub sound_keeping : (keeps : Folder → Type 0) (told : ℕ → Option (List ℕ × ℕ)) (files : List OpenFile) (old new : List Entry) → AreKept keeps files new → IsSound keeps told files old → IsSound keeps told files new
+pub sound_keeping : (keeps : Folder → Type 0) (told : ℕ → Option (List ℕ × ℕ)) (files : List OpenFile) (old new : List Entry) →
+    AreKept keeps files new → IsSound keeps told files old → IsSound keeps told files new
 sound_keeping keeps told files old new kept sound = record {
   handed_out = sound.handed_out;
   short_enough = sound.short_enough;

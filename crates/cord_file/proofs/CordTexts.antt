@@ -17,14 +17,17 @@ use Rattle.cord_file.proofs.EntryBytes.{entry_read}
 use Rattle.cord_file.specs.declared.files.OpenFile.{OpenFile}
 
 -- the text of one part over the whole of an entry
-pub text_over : (folder : Folder) (files : List OpenFile) (id len : ℕ) (cord : Option Node) → HasLengths (lengths_in (opened_of files)) (table_in (opened_of files) folder) → lengths_in (opened_of files) id ≡ Some len → IsEntryRange id 0 len cord → bytes_of (table_in (opened_of files) folder) cord ≡ table_in (opened_of files) folder id
+pub text_over : (folder : Folder) (files : List OpenFile) (id len : ℕ) (cord : Option Node) →
+    HasLengths (lengths_in (opened_of files)) (table_in (opened_of files) folder) → lengths_in (opened_of files) id ≡ Some len →
+    IsEntryRange id 0 len cord → bytes_of (table_in (opened_of files) folder) cord ≡ table_in (opened_of files) folder id
 text_over folder files id len cord long told range =
     let t : ℕ → List ℕ = table_in (opened_of files) folder in
     let all : length (t id) ≡ len = long id ∙ ap (λ o. unwrap_or o 0) told in
     range.bytes t (inl (omega (arith, all))) ∙ take_all len (t id) (omega (arith, all))
 
 -- one function part over the whole of an entry
-pub func_over : (files : List OpenFile) (id len : ℕ) (cord : Option Node) → lengths_in (opened_of files) id ≡ Some len → IsFuncOf id 0 len cord → IsEntryRange id 0 len cord → IsFuncOver (opened_of files) id len cord
+pub func_over : (files : List OpenFile) (id len : ℕ) (cord : Option Node) → lengths_in (opened_of files) id ≡ Some len →
+    IsFuncOf id 0 len cord → IsEntryRange id 0 len cord → IsFuncOver (opened_of files) id len cord
 func_over files id len cord told form range =
     let all : length_at (lengths_in (opened_of files)) id ≡ len = ap (λ o. unwrap_or o 0) told in
     record { form = form; fits = range.fits (lengths_in (opened_of files)) (inl (omega (arith, all))) }
@@ -36,7 +39,9 @@ written len new old stored count =
     ap (λ n. take n (new ++ drop (length new) old)) all ∙ take-append_seam new (drop (length new) old)
 
 -- the bytes that were read of a whole entry
-pub entry_bytes : (folder : Folder) (files : List OpenFile) (id len : ℕ) (bytes : List ℕ) → 2 ≤ id → HasLengths (lengths_in (opened_of files)) (table_in (opened_of files) folder) → lengths_in (opened_of files) id ≡ Some len → length bytes ≡ len → AreRead folder (slice_get files (id - 2)) 0 bytes → bytes ≡ table_in (opened_of files) folder id
+pub entry_bytes : (folder : Folder) (files : List OpenFile) (id len : ℕ) (bytes : List ℕ) → 2 ≤ id →
+    HasLengths (lengths_in (opened_of files)) (table_in (opened_of files) folder) → lengths_in (opened_of files) id ≡ Some len →
+    length bytes ≡ len → AreRead folder (slice_get files (id - 2)) 0 bytes → bytes ≡ table_in (opened_of files) folder id
 entry_bytes folder files id len bytes past long told count read =
     let t : ℕ → List ℕ = table_in (opened_of files) folder in
     let all : length (t id) ≡ len = long id ∙ ap (λ o. unwrap_or o 0) told in

@@ -1,5 +1,6 @@
 -- What is read of an entry.
-use Rattle.std.proofs.Common.{◌≡◌, ℕ, zero, suc, ◌+◌, ◌-◌, ◌<◌, ◌≤◌, List, [], ◌∷◌, length, take, drop, Option, Some, None, Result, Ok, Err, refl, sym, ap, subst, ◌∙◌, arith}
+use Rattle.std.proofs.Common.{◌≡◌, ℕ, zero, suc, ◌+◌, ◌-◌, ◌<◌, ◌≤◌, List, [], ◌∷◌, length, take, drop, Option, Some, None, Result, Ok, Err}
+use Rattle.std.proofs.Common.{refl, sym, ap, subst, ◌∙◌, arith}
 use Rattle.std.specs.Prelude.{slice_get, slice_index, IsSomeAnd, OnOk, unwrap_or}
 use Rattle.std.specs.Option.{option_map}
 use Rattle.std.specs.String.{string_bytes}
@@ -21,21 +22,24 @@ length_past opened (suc (suc n)) h =
     ap (λ k. option_map (λ file. file.1) (slice_get opened k)) e
 
 -- the same of an opened file
-pub length_of_file : (files : List OpenFile) (id : ℕ) (o : Option OpenFile) → 2 ≤ id → slice_get files (id - 2) ≡ o → lengths_in (opened_of files) id ≡ option_map (λ file. file.len) o
+pub length_of_file : (files : List OpenFile) (id : ℕ) (o : Option OpenFile) → 2 ≤ id → slice_get files (id - 2) ≡ o →
+    lengths_in (opened_of files) id ≡ option_map (λ file. file.len) o
 length_of_file files id o h e = length_past (opened_of files) id h ∙ ap (option_map (λ file. file.1)) (slice_get-map told_of files (id - 2) ∙ ap (option_map told_of) e) ∙ both o where
   both : (o : Option OpenFile) → option_map (λ file. file.1) (option_map told_of o) ≡ option_map (λ file. file.len) o
   both None = refl
   both (Some file) = refl
 
 -- what holds of the length told of an entry that is a file holds of the file there
-pub in_slot : (P : ℕ → Type 0) (files : List OpenFile) (id : ℕ) → 2 ≤ id → IsSomeAnd (lengths_in (opened_of files) id) P → IsSomeAnd (slice_get files (id - 2)) (λ file. P file.len)
+pub in_slot : (P : ℕ → Type 0) (files : List OpenFile) (id : ℕ) → 2 ≤ id → IsSomeAnd (lengths_in (opened_of files) id) P →
+    IsSomeAnd (slice_get files (id - 2)) (λ file. P file.len)
 in_slot P files id h p = at (slice_get files (id - 2)) refl where
   at : (o : Option OpenFile) → slice_get files (id - 2) ≡ o → IsSomeAnd o (λ file. P file.len)
   at None e = subst (λ o. IsSomeAnd o P) (length_of_file files id None h e) p
   at (Some file) e = subst (λ o. IsSomeAnd o P) (length_of_file files id (Some file) h e) p
 
 -- what holds of the length of a file holds of what the device told
-pub of_told : (P : ℕ → Type 0) (told : Option (List ℕ × ℕ)) (file : OpenFile) → told ≡ Some (told_of file) → P file.len → IsSomeAnd told (λ t. P t.1)
+pub of_told : (P : ℕ → Type 0) (told : Option (List ℕ × ℕ)) (file : OpenFile) → told ≡ Some (told_of file) → P file.len →
+    IsSomeAnd told (λ t. P t.1)
 of_told P told file e p = subst (λ o. IsSomeAnd o (λ t. P t.1)) (sym e) p
 
 -- no entry is longer than a cord can be
@@ -43,19 +47,23 @@ pub entry_limit : (files : List OpenFile) → AreShortEnough files → (id len :
 entry_limit files short zero len e = let same : MAX_LEN ≡ len = cc in omega (arith, same)
 entry_limit files short (suc zero) len e = let same : MAX_LEN ≡ len = cc in omega (arith, same)
 entry_limit files short (suc (suc n)) len e = at files n short e where
-  at : (files : List OpenFile) (n : ℕ) → AreShortEnough files → option_map (λ file. file.1) (slice_get (opened_of files) n) ≡ Some len → len ≤ MAX_LEN
+  at : (files : List OpenFile) (n : ℕ) → AreShortEnough files → option_map (λ file. file.1) (slice_get (opened_of files) n) ≡ Some len →
+      len ≤ MAX_LEN
   at [] n short e = cc
   at (file ∷ files) zero short e = let same : file.len ≡ len = cc in subst (λ k. k ≤ MAX_LEN) same (short zero file refl)
   at (file ∷ files) (suc n) short e = at files n (λ k. short (suc k)) e
 
 -- the bytes of a function
-pub function_bytes : (folder : Folder) (opened : Opened) (id start : ℕ) (out : List ℕ) → id < 2 → start + length out ≤ MAX_LEN → ((k : ℕ) → k < length out → slice_index out k ≡ function_byte id (start + k)) → out ≡ take (length out) (drop start (table_in opened folder id))
+pub function_bytes : (folder : Folder) (opened : Opened) (id start : ℕ) (out : List ℕ) → id < 2 → start + length out ≤ MAX_LEN →
+    ((k : ℕ) → k < length out → slice_index out k ≡ function_byte id (start + k)) →
+    out ≡ take (length out) (drop start (table_in opened folder id))
 function_bytes folder opened zero start out below inside each = function_read zero start out inside each
 function_bytes folder opened (suc zero) start out below inside each = function_read (suc zero) start out inside each
 function_bytes folder opened (suc (suc n)) start out below inside each = absurd (omega arith)
 
 -- the text of an entry that is a file
-pub text_of_file : (folder : Folder) (files : List OpenFile) (id : ℕ) (file : OpenFile) → 2 ≤ id → slice_get files (id - 2) ≡ Some file → table_in (opened_of files) folder id ≡ bytes_at folder (string_bytes file.path)
+pub text_of_file : (folder : Folder) (files : List OpenFile) (id : ℕ) (file : OpenFile) → 2 ≤ id → slice_get files (id - 2) ≡ Some file →
+    table_in (opened_of files) folder id ≡ bytes_at folder (string_bytes file.path)
 text_of_file folder files zero file h e = absurd (omega arith)
 text_of_file folder files (suc zero) file h e = absurd (omega arith)
 text_of_file folder files (suc (suc n)) file h e =
@@ -64,14 +72,18 @@ text_of_file folder files (suc (suc n)) file h e =
     ap (λ o. unwrap_or (option_map (λ f. bytes_at folder f.0) o) []) (slice_get-map told_of files n ∙ ap (option_map told_of) here)
 
 -- the bytes of a file are those of its entry
-pub entry_read : (folder : Folder) (files : List OpenFile) (id start : ℕ) (out : List ℕ) → 2 ≤ id → AreRead folder (slice_get files (id - 2)) start out → out ≡ take (length out) (drop start (table_in (opened_of files) folder id))
+pub entry_read : (folder : Folder) (files : List OpenFile) (id start : ℕ) (out : List ℕ) → 2 ≤ id →
+    AreRead folder (slice_get files (id - 2)) start out → out ≡ take (length out) (drop start (table_in (opened_of files) folder id))
 entry_read folder files id start out h read = at (slice_get files (id - 2)) refl read where
-  at : (o : Option OpenFile) → slice_get files (id - 2) ≡ o → AreRead folder o start out → out ≡ take (length out) (drop start (table_in (opened_of files) folder id))
+  at : (o : Option OpenFile) → slice_get files (id - 2) ≡ o → AreRead folder o start out →
+      out ≡ take (length out) (drop start (table_in (opened_of files) folder id))
   at None e read = absurd read
   at (Some file) e read = read ∙ ap (λ b. take (length out) (drop start b)) (sym (text_of_file folder files id file h e))
 
 -- the same where a read may have failed
-pub entry_read_ok : {A E : Type 0} (r : Result A E) (folder : Folder) (files : List OpenFile) (id start : ℕ) (out : List ℕ) → 2 ≤ id → OnOk r (AreRead folder (slice_get files (id - 2)) start out) → OnOk r (out ≡ take (length out) (drop start (table_in (opened_of files) folder id)))
+pub entry_read_ok : {A E : Type 0} (r : Result A E) (folder : Folder) (files : List OpenFile) (id start : ℕ) (out : List ℕ) → 2 ≤ id →
+    OnOk r (AreRead folder (slice_get files (id - 2)) start out) →
+    OnOk r (out ≡ take (length out) (drop start (table_in (opened_of files) folder id)))
 entry_read_ok (Err e) folder files id start out h read = tt
 entry_read_ok (Ok x) folder files id start out h read = entry_read folder files id start out h read
 

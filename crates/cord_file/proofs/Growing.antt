@@ -1,5 +1,6 @@
 -- Lists of opened paths, and how they grow.
-use Rattle.std.proofs.Common.{◌≡◌, ℕ, zero, suc, ◌+◌, ◌<◌, ◌≤◌, true, false, ◌⊎◌, inl, inr, List, [], ◌∷◌, ◌++◌, length, Option, Some, None, refl, sym, ap, subst, ◌∙◌, arith}
+use Rattle.std.proofs.Common.{◌≡◌, ℕ, zero, suc, ◌+◌, ◌<◌, ◌≤◌, true, false, ◌⊎◌, inl, inr, List, [], ◌∷◌, ◌++◌, length, Option, Some, None}
+use Rattle.std.proofs.Common.{refl, sym, ap, subst, ◌∙◌, arith}
 use Rattle.std.specs.Prelude.{slice_get, IsSome, is_some, if◌then◌else◌, unwrap_or}
 use Rattle.std.specs.Option.{option_map}
 use Rattle.std.specs.Str.{bytes_eq}
@@ -11,7 +12,8 @@ use Rattle.cord_file.specs.Entries.{Opened, lengths_in, table_in, id_from, id_in
 use Rattle.cord_file.specs.Opening.{Grows, Opens}
 
 -- a member stays where it is after more members
-pub kept_place : {X Y : Type 0} (f : X → Y) (xs ys : List X) (n : ℕ) → IsSome (option_map f (slice_get xs n)) → slice_get (xs ++ ys) n ≡ slice_get xs n
+pub kept_place : {X Y : Type 0} (f : X → Y) (xs ys : List X) (n : ℕ) → IsSome (option_map f (slice_get xs n)) →
+    slice_get (xs ++ ys) n ≡ slice_get xs n
 kept_place f [] ys n h = cc
 kept_place f (x ∷ xs) ys zero h = refl
 kept_place f (x ∷ xs) ys (suc n) h = kept_place f xs ys n h
@@ -35,10 +37,12 @@ one_more (z ∷ xs) x y zero h = inl h
 one_more (z ∷ xs) x y (suc n) h = one_more xs x y n h
 
 -- where the entry of a path stands
-pub id_place : (m : ℕ) (opened : Opened) (path : List ℕ) (id : ℕ) → id_from m opened path ≡ Some id → (n : ℕ) × (len : ℕ) × (id ≡ m + n) × (slice_get opened n ≡ Some (path, len))
+pub id_place : (m : ℕ) (opened : Opened) (path : List ℕ) (id : ℕ) → id_from m opened path ≡ Some id → (n : ℕ) × (len : ℕ) × (id ≡ m + n) ×
+    (slice_get opened n ≡ Some (path, len))
 id_place m [] path id h = cc
 id_place m (file ∷ files) path id h =
-    elim (bytes_eq file.0 path) as (λ v. bytes_eq file.0 path ≡ v → (n : ℕ) × (len : ℕ) × (id ≡ m + n) × (slice_get (file ∷ files) n ≡ Some (path, len))) [
+    elim (bytes_eq file.0 path) as (λ v. bytes_eq file.0 path ≡ v → (n : ℕ) × (len : ℕ) × (id ≡ m + n) ×
+    (slice_get (file ∷ files) n ≡ Some (path, len))) [
       | true ↦ λ e.
           let same : file.0 ≡ path = (bytes_eq-Decides file.0 path).0 e in
           let h2 = rw e at h in
@@ -51,22 +55,26 @@ id_place m (file ∷ files) path id h =
     ] refl
 
 -- an entry keeps its id after more entries
-pub id_kept : (m : ℕ) (opened more : Opened) (path : List ℕ) (id : ℕ) → id_from m opened path ≡ Some id → id_from m (opened ++ more) path ≡ Some id
+pub id_kept : (m : ℕ) (opened more : Opened) (path : List ℕ) (id : ℕ) → id_from m opened path ≡ Some id →
+    id_from m (opened ++ more) path ≡ Some id
 id_kept m [] more path id h = cc
 id_kept m (file ∷ files) more path id h =
-    elim (bytes_eq file.0 path) as (λ v. (if v then Some m else id_from (suc m) files path) ≡ Some id → (if v then Some m else id_from (suc m) (files ++ more) path) ≡ Some id) [
+    elim (bytes_eq file.0 path) as (λ v. (if v then Some m else id_from (suc m) files path) ≡ Some id →
+    (if v then Some m else id_from (suc m) (files ++ more) path) ≡ Some id) [
       | true ↦ λ e. e
       | false ↦ λ e. id_kept (suc m) files more path id e
     ] h
 
 -- a path that wasn't open gets the id after all others
-pub id_added : (m : ℕ) (opened : Opened) (path : List ℕ) (len : ℕ) → id_from m opened path ≡ None → id_from m (opened ++ (path, len) ∷ []) path ≡ Some (m + length opened)
+pub id_added : (m : ℕ) (opened : Opened) (path : List ℕ) (len : ℕ) → id_from m opened path ≡ None →
+    id_from m (opened ++ (path, len) ∷ []) path ≡ Some (m + length opened)
 id_added m [] path len h =
     let same : bytes_eq path path ≡ true = (bytes_eq-Decides path path).1 refl in
     let sum : m ≡ m + 0 = omega arith in
     rw same (ap (λ n. Some n) sum)
 id_added m (file ∷ files) path len h =
-    elim (bytes_eq file.0 path) as (λ v. (if v then Some m else id_from (suc m) files path) ≡ None → (if v then Some m else id_from (suc m) (files ++ (path, len) ∷ []) path) ≡ Some (m + suc (length files))) [
+    elim (bytes_eq file.0 path) as (λ v. (if v then Some m else id_from (suc m) files path) ≡ None →
+    (if v then Some m else id_from (suc m) (files ++ (path, len) ∷ []) path) ≡ Some (m + suc (length files))) [
       | true ↦ λ e. cc
       | false ↦ λ e.
           let sum : suc m + length files ≡ m + suc (length files) = omega arith in
@@ -82,10 +90,12 @@ lengths_kept old more zero h = refl
 lengths_kept old more (suc zero) h = refl
 lengths_kept old more (suc (suc n)) h = ap (option_map (λ file. file.1)) (kept_place (λ file. file.1) old more n h)
 
-texts_kept : (old more : Opened) (folder : Folder) (id : ℕ) → IsSome (lengths_in old id) → table_in (old ++ more) folder id ≡ table_in old folder id
+texts_kept : (old more : Opened) (folder : Folder) (id : ℕ) → IsSome (lengths_in old id) →
+    table_in (old ++ more) folder id ≡ table_in old folder id
 texts_kept old more folder zero h = refl
 texts_kept old more folder (suc zero) h = refl
-texts_kept old more folder (suc (suc n)) h = ap (λ o. unwrap_or (option_map (λ file. bytes_at folder file.0) o) []) (kept_place (λ file. file.1) old more n h)
+texts_kept old more folder (suc (suc n)) h = ap (λ o. unwrap_or (option_map (λ file. bytes_at folder file.0) o) [])
+    (kept_place (λ file. file.1) old more n h)
 
 -- and so does one with more entries after all
 pub grows_behind : (old more : Opened) → Grows old (old ++ more)
@@ -104,7 +114,8 @@ pub grows_opened : (old new : Opened) (path : List ℕ) (id len : ℕ) → Opens
 grows_opened old new path id len opens = grows_by old new path id len (id_in old path) refl opens
 
 -- a path that is open stays so
-pub opens_again : (opened : Opened) (path : List ℕ) (id len : ℕ) → id_in opened path ≡ Some id → lengths_in opened id ≡ Some len → len ≤ MAX_LEN → Opens opened opened path id len
+pub opens_again : (opened : Opened) (path : List ℕ) (id len : ℕ) → id_in opened path ≡ Some id → lengths_in opened id ≡ Some len →
+    len ≤ MAX_LEN → Opens opened opened path id len
 opens_again opened path id len known told limit = record {
   known = known;
   told = told;
@@ -114,7 +125,8 @@ opens_again opened path id len known told limit = record {
 }
 
 -- a path that isn't is added after all entries
-pub opens_behind : (old : Opened) (path : List ℕ) (len : ℕ) → id_in old path ≡ None → length old < MAX_FILES → len ≤ MAX_LEN → Opens old (old ++ (path, len) ∷ []) path (length old + 2) len
+pub opens_behind : (old : Opened) (path : List ℕ) (len : ℕ) → id_in old path ≡ None → length old < MAX_FILES → len ≤ MAX_LEN →
+    Opens old (old ++ (path, len) ∷ []) path (length old + 2) len
 opens_behind old path len none room limit =
     let sum : 2 + length old ≡ length old + 2 = omega arith in
     let next : length old + 2 ≡ suc (suc (length old)) = omega arith in

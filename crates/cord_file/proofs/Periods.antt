@@ -11,7 +11,9 @@ again_twice f done again k =
     ap f one ∙ again (k + done) ∙ again k
 
 -- copies of the first bytes are the next ones, where they come again there
-pub copies_behind : (f : ℕ → ℕ) (start done count : ℕ) (old new : List ℕ) → count ≤ done → ((k : ℕ) → f (k + done) ≡ f k) → ((k : ℕ) → k < done → slice_index old k ≡ f (start + k)) → ((k : ℕ) → k < done → slice_index new k ≡ slice_index old k) → ((k : ℕ) → k < count → slice_index new (done + k) ≡ slice_index old k) → (k : ℕ) → k < done + count → slice_index new k ≡ f (start + k)
+pub copies_behind : (f : ℕ → ℕ) (start done count : ℕ) (old new : List ℕ) → count ≤ done → ((k : ℕ) → f (k + done) ≡ f k) →
+    ((k : ℕ) → k < done → slice_index old k ≡ f (start + k)) → ((k : ℕ) → k < done → slice_index new k ≡ slice_index old k) →
+    ((k : ℕ) → k < count → slice_index new (done + k) ≡ slice_index old k) → (k : ℕ) → k < done + count → slice_index new k ≡ f (start + k)
 copies_behind f start done count old new few again bytes front behind k below = ⊎_elim before after (cases_lt k done) where
   before : k < done → slice_index new k ≡ f (start + k)
   before h = front k h ∙ bytes k h

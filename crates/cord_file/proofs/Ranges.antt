@@ -12,7 +12,9 @@ use Rattle.cord_file.specs.Files.{told_of}
 use Rattle.cord_file.specs.declared.files.OpenFile.{OpenFile}
 
 -- so many bytes more, read after those that are there
-more_bytes : (done k room start : ℕ) (out part text : List ℕ) → done ≤ length out → k ≤ length part → take done out ≡ take done (drop start text) → take k part ≡ take k (drop (start + done) text) → take (done + k) (put_mid done room out part) ≡ take (done + k) (drop start text)
+more_bytes : (done k room start : ℕ) (out part text : List ℕ) → done ≤ length out → k ≤ length part →
+    take done out ≡ take done (drop start text) → take k part ≡ take k (drop (start + done) text) →
+    take (done + k) (put_mid done room out part) ≡ take (done + k) (drop start text)
 more_bytes done k room start out part text fits inside before more =
     let rest : List ℕ = drop room (drop done out) in
     let len : length (take done out) ≡ done = length-take-le done out fits in
@@ -26,17 +28,25 @@ more_bytes done k room start out part text fits inside before more =
     ∙ sym (take-add done k (drop start text))
 
 -- the same of an opened file
-pub more_read : {X : Type 0} (path : X → List ℕ) (folder : Folder) (opened : Option X) (done k room start : ℕ) (out part : List ℕ) → done ≤ length out → k ≤ length part → IsSomeAnd opened (λ file. take done out ≡ take done (drop start (bytes_at folder (path file)))) → IsSomeAnd opened (λ file. take k part ≡ take k (drop (start + done) (bytes_at folder (path file)))) → IsSomeAnd opened (λ file. take (done + k) (put_mid done room out part) ≡ take (done + k) (drop start (bytes_at folder (path file))))
+pub more_read : {X : Type 0} (path : X → List ℕ) (folder : Folder) (opened : Option X) (done k room start : ℕ) (out part : List ℕ) →
+    done ≤ length out → k ≤ length part → IsSomeAnd opened (λ file. take done out ≡ take done (drop start (bytes_at folder (path file)))) →
+    IsSomeAnd opened (λ file. take k part ≡ take k (drop (start + done) (bytes_at folder (path file)))) →
+    IsSomeAnd opened (λ file. take (done + k) (put_mid done room out part) ≡ take (done + k) (drop start (bytes_at folder (path file))))
 more_read path folder None done k room start out part fits inside before more = absurd before
-more_read path folder (Some file) done k room start out part fits inside before more = more_bytes done k room start out part (bytes_at folder (path file)) fits inside before more
+more_read path folder (Some file) done k room start out part fits inside before more =
+    more_bytes done k room start out part (bytes_at folder (path file)) fits inside before more
 
 -- bytes that were read are as many as they are
-pub all_read : (folder : Folder) (slot : Option OpenFile) (start k : ℕ) (part : List ℕ) → k ≡ length part → AreRead folder slot start part → IsSomeAnd slot (λ file. take k part ≡ take k (drop start (bytes_at folder (string_bytes file.path))))
+pub all_read : (folder : Folder) (slot : Option OpenFile) (start k : ℕ) (part : List ℕ) → k ≡ length part →
+    AreRead folder slot start part → IsSomeAnd slot (λ file. take k part ≡ take k (drop start (bytes_at folder (string_bytes file.path))))
 all_read folder None start k part same read = read
-all_read folder (Some file) start k part same read = ap (λ n. take n part) same ∙ take-length part ∙ read ∙ ap (λ n. take n (drop start (bytes_at folder (string_bytes file.path)))) (sym same)
+all_read folder (Some file) start k part same read = ap (λ n. take n part) same ∙ take-length part ∙ read
+    ∙ ap (λ n. take n (drop start (bytes_at folder (string_bytes file.path)))) (sym same)
 
 -- bytes that were read of the file that the device told are those of the file in its place, where the read didn't fail
-pub read_of_told : {A E : Type 0} (r : Result A E) (folder : Folder) (told : Option (List ℕ × ℕ)) (slot : Option OpenFile) (file : OpenFile) (start : ℕ) (out : List ℕ) → told ≡ Some (told_of file) → slot ≡ Some file → OnOk r (IsSomeAnd told (λ t. out ≡ take (length out) (drop start (bytes_at folder t.0)))) → OnOk r (AreRead folder slot start out)
+pub read_of_told : {A E : Type 0} (r : Result A E) (folder : Folder) (told : Option (List ℕ × ℕ)) (slot : Option OpenFile)
+    (file : OpenFile) (start : ℕ) (out : List ℕ) → told ≡ Some (told_of file) → slot ≡ Some file →
+    OnOk r (IsSomeAnd told (λ t. out ≡ take (length out) (drop start (bytes_at folder t.0)))) → OnOk r (AreRead folder slot start out)
 read_of_told (Err e) folder told slot file start out same here read = tt
 read_of_told (Ok x) folder told slot file start out same here read =
     let text : Option (List ℕ × ℕ) → Type 0 = λ o. IsSomeAnd o (λ t. out ≡ take (length out) (drop start (bytes_at folder t.0))) in

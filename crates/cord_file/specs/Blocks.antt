@@ -27,7 +27,8 @@ Entry = BlockKey × HeapBlock
 -- a kept block is one of a file that was opened, in each folder that is kept
 pub record IsKept (keeps : Folder → Type 0) (files : List OpenFile) (entry : Entry) : Type 0 where
   pub opened : entry.0.place < length files
-  pub block : (file : OpenFile) → slice_get files entry.0.place ≡ Some file → (folder : Folder) → keeps folder → IsBlock file.len (bytes_at folder (string_bytes file.path)) entry.0.number entry.1.value
+  pub block : (file : OpenFile) → slice_get files entry.0.place ≡ Some file → (folder : Folder) → keeps folder →
+      IsBlock file.len (bytes_at folder (string_bytes file.path)) entry.0.number entry.1.value
 
 -- the same of each kept block
 abbrev pub AreKept : (Folder → Type 0) → List OpenFile → List Entry → Type 0
@@ -35,4 +36,5 @@ AreKept keeps files entries = (entry : Entry) → Contains entries entry → IsK
 
 -- the bytes are those of a file from a place on
 abbrev pub AreRead : Folder → Option OpenFile → ℕ → List ℕ → Type 0
-AreRead folder slot start bytes = IsSomeAnd slot (λ file. bytes ≡ take (length bytes) (drop start (bytes_at folder (string_bytes file.path))))
+AreRead folder slot start bytes = IsSomeAnd slot (λ file. bytes
+    ≡ take (length bytes) (drop start (bytes_at folder (string_bytes file.path))))

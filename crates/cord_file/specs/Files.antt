@@ -31,22 +31,27 @@ AreShortEnough files = Each (λ file. file.len ≤ MAX_LEN) files
 
 -- each path is there, in each folder that is kept
 abbrev pub AreThere : (Folder → Type 0) → List OpenFile → Type 0
-AreThere keeps files = Each (λ file. (folder : Folder) → keeps folder → file_at folder (string_bytes file.path) ≡ Some (bytes_at folder (string_bytes file.path))) files
+AreThere keeps files = Each (λ file. (folder : Folder) → keeps folder →
+    file_at folder (string_bytes file.path) ≡ Some (bytes_at folder (string_bytes file.path))) files
 
 -- and each file is as long as was told
 abbrev pub AreAsLong : (Folder → Type 0) → List OpenFile → Type 0
 AreAsLong keeps files = Each (λ file. (folder : Folder) → keeps folder → length (bytes_at folder (string_bytes file.path)) ≡ file.len) files
 
-lengths_of_one : (folder : Folder) (files : List OpenFile) (n : ℕ) → ((file : OpenFile) → slice_get files n ≡ Some file → length (bytes_at folder (string_bytes file.path)) ≡ file.len) → length (table_in (opened_of files) folder (suc (suc n))) ≡ length_at (lengths_in (opened_of files)) (suc (suc n))
+lengths_of_one : (folder : Folder) (files : List OpenFile) (n : ℕ) →
+    ((file : OpenFile) → slice_get files n ≡ Some file → length (bytes_at folder (string_bytes file.path)) ≡ file.len) →
+    length (table_in (opened_of files) folder (suc (suc n))) ≡ length_at (lengths_in (opened_of files)) (suc (suc n))
 lengths_of_one folder [] n h = refl
 lengths_of_one folder (file ∷ files) zero h = h file refl
 lengths_of_one folder (file ∷ files) (suc n) h = lengths_of_one folder files n h
 
-lengths_of_table : (folder : Folder) (files : List OpenFile) → Each (λ file. length (bytes_at folder (string_bytes file.path)) ≡ file.len) files → HasLengths (lengths_in (opened_of files)) (table_in (opened_of files) folder)
+lengths_of_table : (folder : Folder) (files : List OpenFile) → Each (λ file. length (bytes_at folder (string_bytes file.path)) ≡ file.len)
+    files → HasLengths (lengths_in (opened_of files)) (table_in (opened_of files) folder)
 lengths_of_table folder files h zero = length-text_of digit_at MAX_LEN
 lengths_of_table folder files h (suc zero) = length-text_of byte_value_at MAX_LEN
 lengths_of_table folder files h (suc (suc n)) = lengths_of_one folder files n (h n)
 
 -- over each folder that is kept the table has the lengths told
-pub as_long_as_told : (keeps : Folder → Type 0) (files : List OpenFile) → AreAsLong keeps files → (folder : Folder) → keeps folder → HasLengths (lengths_in (opened_of files)) (table_in (opened_of files) folder)
+pub as_long_as_told : (keeps : Folder → Type 0) (files : List OpenFile) → AreAsLong keeps files → (folder : Folder) → keeps folder →
+    HasLengths (lengths_in (opened_of files)) (table_in (opened_of files) folder)
 as_long_as_told keeps files h folder kept = lengths_of_table folder files (λ k file e. h k file e folder kept)

@@ -43,7 +43,8 @@ pub record IsLazy (old new : Opened) (path : List ℕ) (cord : Option Node) : Ty
 
 -- a short file is read whole, another one not at all
 abbrev pub IsWholeOrLazy : Opened → Opened → List ℕ → Option Node → Type 0
-IsWholeOrLazy old new path cord = ((text_len cord ≤ SHORT_FILE) × IsWhole old new path cord) ⊎ ((SHORT_FILE < text_len cord) × IsLazy old new path cord)
+IsWholeOrLazy old new path cord = ((text_len cord ≤ SHORT_FILE) × IsWhole old new path cord) ⊎
+    ((SHORT_FILE < text_len cord) × IsLazy old new path cord)
 
 -- why a file that is open wasn't read whole
 abbrev pub IsReadRefusal : FileError → Type 0
@@ -69,6 +70,7 @@ IsLazyRefusal old new path e = ((new ≡ old) × IsOpenRefusal old path e) ⊎ (
 abbrev pub IsShortOpened : Opened → Opened → List ℕ → Type 0
 IsShortOpened old new path = (id : ℕ) × (len : ℕ) × Opens old new path id len × (len ≤ SHORT_FILE)
 
--- why no cord was made of a file that is read where it is short: the path wasn't opened, or it is open, and there was no memory or a short file wasn't read
+-- why no cord was made of a file that is read where it is short: the path wasn't opened, or it is open, and there was no memory or a short
+-- file wasn't read
 abbrev pub IsWholeOrLazyRefusal : Opened → Opened → List ℕ → FileError → Type 0
 IsWholeOrLazyRefusal old new path e = IsLazyRefusal old new path e ⊎ (IsReadRefusal e × IsShortOpened old new path)

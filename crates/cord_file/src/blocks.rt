@@ -1,5 +1,6 @@
 // Blocks of files, and those that are kept.
-ghost use Rattle.std.specs.Prelude.{◌≡◌, ◌+◌, ◌*◌, ◌<◌, ◌≤◌, ℕ, List, length, take, drop, true, is_err, Contains, OnOk, IsSomeAnd, ◌⊎◌};
+ghost use Rattle.std.specs.Prelude.{◌≡◌, ◌+◌, ◌*◌, ◌<◌, ◌≤◌, ℕ, List, length, take, drop, true, is_err, Contains, OnOk};
+ghost use Rattle.std.specs.Prelude.{IsSomeAnd, ◌⊎◌};
 ghost use Rattle.cord_io.specs.Device.{Folder, bytes_at, count_after};
 ghost use Rattle.cord_file.specs.Blocks.{HeapBlock, Entry, IsBlock};
 

@@ -5,7 +5,8 @@ ghost use Rattle.cord_core.specs.Cord.{bytes_of};
 ghost use Rattle.cord_file.specs.Faults.{has_failed};
 ghost use Rattle.cord_file.specs.Entries.{lengths_in, table_in};
 ghost use Rattle.cord_file.specs.Opening.{Grows, IsRefusalOver};
-ghost use Rattle.cord_file.specs.Making.{IsLeafOver, IsFuncOver, IsFileIn, IsWhole, IsLazy, IsWholeOrLazy, IsReadRefusal, IsWholeRefusal, IsLazyRefusal, IsWholeOrLazyRefusal};
+ghost use Rattle.cord_file.specs.Making.{IsLeafOver, IsFuncOver, IsFileIn, IsWhole, IsLazy, IsWholeOrLazy};
+ghost use Rattle.cord_file.specs.Making.{IsReadRefusal, IsWholeRefusal, IsLazyRefusal, IsWholeOrLazyRefusal};
 
 use crate::{FileError, SHORT_FILE, Sources};
 use cord_core::Cord;

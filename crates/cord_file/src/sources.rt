@@ -1,5 +1,6 @@
 // A table of entries: two functions, and the files that were opened.
-ghost use Rattle.std.specs.Prelude.{◌≡◌, ◌+◌, ◌<◌, ◌≤◌, ℕ, length, take, drop, [], MatchResult, vec_len, is_err, OnOk, IsSomeAnd};
+ghost use Rattle.std.specs.Prelude.{◌≡◌, ◌+◌, ◌<◌, ◌≤◌, ℕ, length, take, drop, [], MatchResult, vec_len, is_err, OnOk};
+ghost use Rattle.std.specs.Prelude.{IsSomeAnd};
 ghost use Rattle.cord_io.specs.Device.{Folder, count_after};
 ghost use Rattle.cord_file.specs.declared.TheConstants.{MAX_FILES};
 ghost use Rattle.cord_file.specs.Soundness.{IsSound};

@@ -1,5 +1,6 @@
 -- Files of the machine of which one is read.
-use Rattle.std.proofs.Common.{take, drop, get_or, inl, inr, ◌≡◌, ◌≢◌, ℕ, zero, suc, ◌<◌, ◌≤◌, List, [], ◌∷◌, ◌++◌, Option, None, Some, refl, sym, ◌∙◌, ap, subst}
+use Rattle.std.proofs.Common.{take, drop, get_or, inl, inr, ◌≡◌, ◌≢◌, ℕ, zero, suc, ◌<◌, ◌≤◌, List, [], ◌∷◌, ◌++◌, Option, None, Some, refl}
+use Rattle.std.proofs.Common.{sym, ◌∙◌, ap, subst}
 use Rattle.std.specs.Prelude.{IsSome, IsSomeAnd, slice_get, slice_set, length}
 use Rattle.std.specs.Option.{option_map}
 use Rattle.std.specs.String.{string_bytes}
@@ -14,16 +15,19 @@ use Rattle.cord_io.specs.declared.opened.OpenedFile.{OpenedFile}
 use Rattle.cord_io.proofs.Folders.{get_set_same, get_set_other}
 
 -- the file whose number it is, where something is told of the number
-pub has_number : {F : Type 0} (files : List (OpenedFile F)) (n : ℕ) (file : OpenedFile F) (P : List ℕ × ℕ → Type 0) → IsSomeAnd (opened_of files n) P → file ≡ get_or files n file → slice_get files n ≡ Some file
+pub has_number : {F : Type 0} (files : List (OpenedFile F)) (n : ℕ) (file : OpenedFile F) (P : List ℕ × ℕ → Type 0) →
+    IsSomeAnd (opened_of files n) P → file ≡ get_or files n file → slice_get files n ≡ Some file
 has_number files n file P told is = slice_get_read files (length files) n file refl (at (slice_get files n) refl told) is where
   at : (o : Option (OpenedFile _)) → slice_get files n ≡ o → IsSomeAnd (option_map told_of o) P → n < length files
   at None e h = absurd h
   at (Some other) e h = slice_get_within files n other e
 
 -- what is told of the files stays
-pub told_after : {F : Type 0} (files : List (OpenedFile F)) (n : ℕ) (old new : OpenedFile F) → slice_get files n ≡ Some old → told_of new ≡ told_of old → (k : ℕ) → opened_of (slice_set files n new) k ≡ opened_of files k
+pub told_after : {F : Type 0} (files : List (OpenedFile F)) (n : ℕ) (old new : OpenedFile F) → slice_get files n ≡ Some old →
+    told_of new ≡ told_of old → (k : ℕ) → opened_of (slice_set files n new) k ≡ opened_of files k
 told_after files n old new here same k = elim (cases_eq k n) [
-  | inl is ↦ subst (λ j. opened_of (slice_set files n new) j ≡ opened_of files j) (sym is) (ap (option_map told_of) (get_set_same files n old new here) ∙ ap (λ x. Some x) same ∙ sym (ap (option_map told_of) here))
+  | inl is ↦ subst (λ j. opened_of (slice_set files n new) j ≡ opened_of files j) (sym is)
+      (ap (option_map told_of) (get_set_same files n old new here) ∙ ap (λ x. Some x) same ∙ sym (ap (option_map told_of) here))
   | inr differs ↦ ap (option_map told_of) (get_set_other files n k new differs)
 ]
 
@@ -31,22 +35,31 @@ one : {X : Type 0} (x y : X) → Some x ≡ Some y → x ≡ y
 one x y e = cc
 
 -- what the machine gave stays
-pub given_before : {F : Type 0} (folder : Folder) (files : List (OpenedFile F)) (n : ℕ) (old new : OpenedFile F) → slice_get files n ≡ Some old → (Agrees folder new.reader.given.told → Agrees folder old.reader.given.told) → AgreesWithGiven folder (slice_set files n new) → AgreesWithGiven folder files
+pub given_before : {F : Type 0} (folder : Folder) (files : List (OpenedFile F)) (n : ℕ) (old new : OpenedFile F) →
+    slice_get files n ≡ Some old → (Agrees folder new.reader.given.told → Agrees folder old.reader.given.told) →
+    AgreesWithGiven folder (slice_set files n new) → AgreesWithGiven folder files
 given_before folder files n old new here earlier all k file at = elim (cases_eq k n) [
   | inl is ↦
       let found : slice_get files n ≡ Some file = subst (λ j. slice_get files j ≡ Some file) is at in
-      subst (λ f. Agrees folder f.reader.given.told) (one old file (sym here ∙ found)) (earlier (all n new (get_set_same files n old new here)))
+      subst (λ f. Agrees folder f.reader.given.told) (one old file (sym here ∙ found))
+      (earlier (all n new (get_set_same files n old new here)))
   | inr differs ↦ all k file (get_set_other files n k new differs ∙ at)
 ]
 
 -- bytes that the machine gave are those of the file
-pub given_read : {F : Type 0} (folder : Folder) (files : List (OpenedFile F)) (n : ℕ) (old new : OpenedFile F) (k start : ℕ) (out : List ℕ) → slice_get files n ≡ Some old → (Agrees folder new.reader.given.told → take k out ≡ take k (drop start (bytes_at folder (string_bytes old.reader.path)))) → AgreesWithGiven folder (slice_set files n new) → IsSomeAnd (opened_of files n) (λ told. take k out ≡ take k (drop start (bytes_at folder told.0)))
+pub given_read : {F : Type 0} (folder : Folder) (files : List (OpenedFile F)) (n : ℕ) (old new : OpenedFile F) (k start : ℕ)
+    (out : List ℕ) → slice_get files n ≡ Some old → (Agrees folder new.reader.given.told →
+    take k out ≡ take k (drop start (bytes_at folder (string_bytes old.reader.path)))) → AgreesWithGiven folder (slice_set files n new) →
+    IsSomeAnd (opened_of files n) (λ told. take k out ≡ take k (drop start (bytes_at folder told.0)))
 given_read folder files n old new k start out here read all =
     let text : Option (OpenedFile _) → Type 0 = λ o. IsSomeAnd (option_map told_of o) (λ told. take k out ≡ take k (drop start (bytes_at folder told.0))) in
     subst text (sym here) (read (all n new (get_set_same files n old new here)))
 
 -- bytes that were told are those of the file
-pub told_read : {F : Type 0} (folder : Folder) (files : List (OpenedFile F)) (n : ℕ) (old : OpenedFile F) (k start : ℕ) (out : List ℕ) (before : List Told) → slice_get files n ≡ Some old → k ≤ length out → Agrees folder (has_bytes (string_bytes old.reader.path) start (take k out) ∷ before) → IsSomeAnd (opened_of files n) (λ told. take k out ≡ take k (drop start (bytes_at folder told.0)))
+pub told_read : {F : Type 0} (folder : Folder) (files : List (OpenedFile F)) (n : ℕ) (old : OpenedFile F) (k start : ℕ) (out : List ℕ)
+    (before : List Told) → slice_get files n ≡ Some old → k ≤ length out →
+    Agrees folder (has_bytes (string_bytes old.reader.path) start (take k out) ∷ before) →
+    IsSomeAnd (opened_of files n) (λ told. take k out ≡ take k (drop start (bytes_at folder told.0)))
 told_read folder files n old k start out before here fits agrees =
     let text : Option (OpenedFile _) → Type 0 = λ o. IsSomeAnd (option_map told_of o) (λ told. take k out ≡ take k (drop start (bytes_at folder told.0))) in
     let path : List ℕ = string_bytes old.reader.path in
@@ -56,13 +69,15 @@ get_pushed : {F : Type 0} (files : List (OpenedFile F)) (file : OpenedFile F) �
 get_pushed [] file = refl
 get_pushed (first ∷ rest) file = get_pushed rest file
 
-get_beside : {F : Type 0} (files : List (OpenedFile F)) (file : OpenedFile F) (n : ℕ) → n ≢ length files → slice_get (files ++ file ∷ []) n ≡ slice_get files n
+get_beside : {F : Type 0} (files : List (OpenedFile F)) (file : OpenedFile F) (n : ℕ) → n ≢ length files →
+    slice_get (files ++ file ∷ []) n ≡ slice_get files n
 get_beside [] file zero differs = absurd (differs refl)
 get_beside [] file (suc n) differs = refl
 get_beside (first ∷ rest) file zero differs = refl
 get_beside (first ∷ rest) file (suc n) differs = get_beside rest file n (λ same. differs (ap suc same))
 
-get_kept : {F : Type 0} (files : List (OpenedFile F)) (file : OpenedFile F) (n : ℕ) → IsSome (slice_get files n) → slice_get (files ++ file ∷ []) n ≡ slice_get files n
+get_kept : {F : Type 0} (files : List (OpenedFile F)) (file : OpenedFile F) (n : ℕ) → IsSome (slice_get files n) →
+    slice_get (files ++ file ∷ []) n ≡ slice_get files n
 get_kept [] file n there = cc
 get_kept (first ∷ rest) file zero there = refl
 get_kept (first ∷ rest) file (suc n) there = get_kept rest file n there
@@ -71,7 +86,8 @@ is_there : {F : Type 0} (o : Option (OpenedFile F)) → IsSome (option_map told_
 is_there None there = cc
 is_there (Some file) there = there
 
-handed_last : {F : Type 0} (files : List (OpenedFile F)) (file : OpenedFile F) → HandsOut (opened_of files) (opened_of (files ++ file ∷ [])) (length files) (string_bytes file.reader.path) file.len
+handed_last : {F : Type 0} (files : List (OpenedFile F)) (file : OpenedFile F) →
+    HandsOut (opened_of files) (opened_of (files ++ file ∷ [])) (length files) (string_bytes file.reader.path) file.len
 handed_last files file = record {
   told = ap (option_map told_of) (get_pushed files file);
   others = λ n differs. ap (option_map told_of) (get_beside files file n differs);
@@ -79,13 +95,16 @@ handed_last files file = record {
 }
 
 -- the next number was handed out
-pub handed_out : {F : Type 0} (files more : List (OpenedFile F)) (file : OpenedFile F) (n : ℕ) (path : List ℕ) → more ≡ files ++ file ∷ [] → n ≡ length files → string_bytes file.reader.path ≡ path → HandsOut (opened_of files) (opened_of more) n path file.len
+pub handed_out : {F : Type 0} (files more : List (OpenedFile F)) (file : OpenedFile F) (n : ℕ) (path : List ℕ) →
+    more ≡ files ++ file ∷ [] → n ≡ length files → string_bytes file.reader.path ≡ path →
+    HandsOut (opened_of files) (opened_of more) n path file.len
 handed_out files more file n path is last same =
     let by_path = subst (λ p. HandsOut (opened_of files) (opened_of (files ++ file ∷ [])) (length files) p file.len) same (handed_last files file) in
     let by_number = subst (λ k. HandsOut (opened_of files) (opened_of (files ++ file ∷ [])) k path file.len) (sym last) by_path in
     subst (λ fs. HandsOut (opened_of files) (opened_of fs) n path file.len) (sym is) by_number
 
 -- what the machine gave of the others stays where one more file is open
-pub given_beside : {F : Type 0} (folder : Folder) (files more : List (OpenedFile F)) (file : OpenedFile F) → more ≡ files ++ file ∷ [] → AgreesWithGiven folder more → AgreesWithGiven folder files
+pub given_beside : {F : Type 0} (folder : Folder) (files more : List (OpenedFile F)) (file : OpenedFile F) → more ≡ files ++ file ∷ [] →
+    AgreesWithGiven folder more → AgreesWithGiven folder files
 given_beside folder files more file is all n other at =
     all n other (ap (λ fs. slice_get fs n) is ∙ get_kept files file n (subst IsSome (sym at) refl) ∙ at)

@@ -21,5 +21,7 @@ abbrev pub bare_val : Val
 bare_val = vstruct vnil
 
 -- it is made of nothing, with a part of its own that is empty
-pub makes_bare : {M : Type 1} {𝓤 : Ura M} {𝓛 : Logic 𝓤} {K : Type 0} {Γ : List (Item 𝓤)} {G : Goal 𝓤 𝓛.H} → K → Step K 𝓛 (‵ (fsep (Bare.own_val tt (bare_val ∷ [])) ftrue) ∷ Γ) G Γ G
-makes_bare {𝓛 = 𝓛} t = step (λ rest. nothing t $ owned t Bare _ (Struct-Makes 𝓛 bare tt) tt (bare_val ∷ []) (tt, (refl, tt)) $ fjoin t $ rest)
+pub makes_bare : {M : Type 1} {𝓤 : Ura M} {𝓛 : Logic 𝓤} {K : Type 0} {Γ : List (Item 𝓤)} {G : Goal 𝓤 𝓛.H} → K →
+    Step K 𝓛 (‵ (fsep (Bare.own_val tt (bare_val ∷ [])) ftrue) ∷ Γ) G Γ G
+makes_bare {𝓛 = 𝓛} t = step (λ rest. nothing t $ owned t Bare _ (Struct-Makes 𝓛 bare tt) tt (bare_val ∷ [])
+    (tt, (refl, tt)) $ fjoin t $ rest)

@@ -1,5 +1,6 @@
 // The machine's files.
-ghost use Rattle.std.specs.Prelude.{◌≡◌, ◌<◌, ◌≤◌, ◌↔◌, ℕ, [], None, length, take, drop, is_err, IfOk, OnErr, IsErrOf, IsSomeAnd};
+ghost use Rattle.std.specs.Prelude.{◌≡◌, ◌<◌, ◌≤◌, ◌↔◌, ℕ, [], None, length, take, drop, is_err, IfOk, OnErr, IsErrOf};
+ghost use Rattle.std.specs.Prelude.{IsSomeAnd};
 ghost use Rattle.std.specs.String.{string_bytes};
 ghost use Rattle.std.specs.IoError.{error_kind};
 ghost use Rattle.cord_io.specs.Device.{Folder, file_at, bytes_at, count_after, open_failed, HandsOut};
@@ -126,7 +127,8 @@ impl<R: rt::Files> Files for DiskFiles<R> {
         ensures told { told_by self.new ≡ after_opening path.now result (told_by self.old) }
 
         // What the machine gave stays.
-        ensures given_earlier { (folder : Folder) → AgreesWithMachine folder self.new → AgreesWithMachine folder self.old }
+        ensures given_earlier { (folder : Folder) → AgreesWithMachine folder self.new →
+            AgreesWithMachine folder self.old }
     {
         match self.opened_file(path) {
             Err(OpenFault::NotFound) => {
@@ -166,7 +168,8 @@ impl<R: rt::Files> Files for DiskFiles<R> {
             ≡ after_reading (⟦<DiskFiles<R> as Files>⟧.opened self.old no.0) start out.new result (told_by self.old) }
 
         // The bytes are those that the machine gave of the file, now or ahead.
-        ensures given_earlier { (folder : Folder) → AgreesWithMachine folder self.new → AgreesWithMachine folder self.old }
+        ensures given_earlier { (folder : Folder) → AgreesWithMachine folder self.new →
+            AgreesWithMachine folder self.old }
         ensures given { (folder : Folder) → AgreesWithMachine folder self.new → IfOk result (λ k.
             IsSomeAnd (⟦<DiskFiles<R> as Files>⟧.opened self.old no.0) (λ told.
             take k out.new ≡ take k (drop start (bytes_at folder told.0)))) }

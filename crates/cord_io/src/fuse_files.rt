@@ -1,5 +1,6 @@
 // Files that pass so many calls to the files inside, and then fail each.
-ghost use Rattle.std.specs.Prelude.{◌≡◌, ◌-◌, ◌<◌, ◌≤◌, ℕ, length, take, drop, is_err, IfOk, OnErr, IsErr, IsErrOf, IsSomeAnd};
+ghost use Rattle.std.specs.Prelude.{◌≡◌, ◌-◌, ◌<◌, ◌≤◌, ℕ, length, take, drop, is_err, IfOk, OnErr, IsErr, IsErrOf};
+ghost use Rattle.std.specs.Prelude.{IsSomeAnd};
 ghost use Rattle.cord_io.specs.Device.{Folder, file_at, bytes_at, count_after, open_failed, HandsOut};
 
 use crate::failures::Failures;
@@ -36,7 +37,8 @@ impl<F: Files> FuseFiles<F> {
     /// The files inside: it keeps what they keep.
     pub fn inner(&self) -> &F
         ensures value { result.now ≡ files_inside self.now }
-        ensures keeps { (folder : Folder) → (⟦<FuseFiles<F> as Files>⟧.keeps self.now folder → F.keeps result.now folder)
+        ensures keeps { (folder : Folder) → (⟦<FuseFiles<F> as Files>⟧.keeps self.now folder →
+            F.keeps result.now folder)
             × (F.keeps result.now folder → ⟦<FuseFiles<F> as Files>⟧.keeps self.now folder) }
         ensures opened { ⟦<FuseFiles<F> as Files>⟧.opened self.now ≡ F.opened result.now }
     {
@@ -58,7 +60,8 @@ impl<F: Files> Files for FuseFiles<F> {
     }
 
     fn open(&mut self, path: &str) -> Result<(FileNo, u64), OpenFault>
-        ensures earlier { (folder : Folder) → F.keeps (files_inside self.new) folder → F.keeps (files_inside self.old) folder }
+        ensures earlier { (folder : Folder) → F.keeps (files_inside self.new) folder →
+            F.keeps (files_inside self.old) folder }
         ensures count { ⟦<FuseFiles<F> as Files>⟧.failures self.new
             ≡ count_after (open_failed result) (⟦<FuseFiles<F> as Files>⟧.failures self.old) }
         ensures opened { IfOk result (λ r. HandsOut (F.opened (files_inside self.old))
@@ -95,7 +98,8 @@ impl<F: Files> Files for FuseFiles<F> {
     fn read_at(&mut self, no: FileNo, start: u64, out: &mut [u8]) -> Result<usize, ReadFault>
         requires inside { IsSomeAnd (F.opened (files_inside self.old) no.0) (λ told. start < told.1) }
         requires room { 0 < length out.old }
-        ensures earlier { (folder : Folder) → F.keeps (files_inside self.new) folder → F.keeps (files_inside self.old) folder }
+        ensures earlier { (folder : Folder) → F.keeps (files_inside self.new) folder →
+            F.keeps (files_inside self.old) folder }
         ensures count { ⟦<FuseFiles<F> as Files>⟧.failures self.new
             ≡ count_after (is_err result) (⟦<FuseFiles<F> as Files>⟧.failures self.old) }
         ensures opened { (n : ℕ) → F.opened (files_inside self.new) n ≡ F.opened (files_inside self.old) n }

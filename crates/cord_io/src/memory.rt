@@ -1,5 +1,6 @@
 // Files in memory.
-ghost use Rattle.std.specs.Prelude.{◌≡◌, ◌<◌, ◌≤◌, ℕ, None, length, take, drop, IfSome, IfNone, IsTrue, ◌-◌, min, is_err, IsOk, IfOk, IsSomeAnd};
+ghost use Rattle.std.specs.Prelude.{◌≡◌, ◌<◌, ◌≤◌, ℕ, None, length, take, drop, IfSome, IfNone, IsTrue, ◌-◌, min};
+ghost use Rattle.std.specs.Prelude.{is_err, IsOk, IfOk, IsSomeAnd};
 ghost use Rattle.std.specs.Vec.{vec_len};
 ghost use Rattle.cord_io.specs.Device.{Folder, file_at, bytes_at, count_after};
 ghost use Rattle.cord_io.specs.Memory.{IsAt, Marks, Rewrites, folder_of, paths_differ};
@@ -96,7 +97,8 @@ impl Files for MemFiles {
     fn read_at(&mut self, no: FileNo, start: u64, out: &mut [u8]) -> Result<usize, ReadFault>
         requires inside { IsSomeAnd (⟦<MemFiles as Files>⟧.opened self.old no.0) (λ told. start < told.1) }
         requires room { 0 < length out.old }
-        ensures earlier { (folder : Folder) → ⟦<MemFiles as Files>⟧.keeps self.new folder → ⟦<MemFiles as Files>⟧.keeps self.old folder }
+        ensures earlier { (folder : Folder) → ⟦<MemFiles as Files>⟧.keeps self.new folder →
+            ⟦<MemFiles as Files>⟧.keeps self.old folder }
         ensures ok { IsOk result }
         ensures count { ⟦<MemFiles as Files>⟧.failures self.new
             ≡ count_after (is_err result) (⟦<MemFiles as Files>⟧.failures self.old) }

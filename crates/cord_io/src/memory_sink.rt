@@ -51,7 +51,8 @@ impl Sink for MemSink {
     fn put(&mut self, bytes: &[u8]) -> Result<usize, WriteFault>
         requires { 0 < length bytes.now }
         ensures whole { IfOk result (λ k. k ≡ length bytes.now) }
-        ensures taken { IfOk result (λ k. ⟦<MemSink as Sink>⟧.taken self.new ≡ ⟦<MemSink as Sink>⟧.taken self.old ++ take k bytes.now) }
+        ensures taken { IfOk result (λ k. ⟦<MemSink as Sink>⟧.taken self.new ≡ ⟦<MemSink as Sink>⟧.taken self.old
+            ++ take k bytes.now) }
         ensures refused { OnErr result (⟦<MemSink as Sink>⟧.taken self.new ≡ ⟦<MemSink as Sink>⟧.taken self.old) }
         ensures finished { ⟦<MemSink as Sink>⟧.finished self.new ≡ ⟦<MemSink as Sink>⟧.finished self.old }
         ensures count { ⟦<MemSink as Sink>⟧.failures self.new

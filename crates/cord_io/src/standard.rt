@@ -60,7 +60,8 @@ impl<W: Write> Sink for StdSink<W> {
             ≡ count_after (is_err result) (⟦<StdSink<W> as Sink>⟧.failures self.old) }
 
         // Where the writer tells its bytes, they grow by those that are told to be taken.
-        ensures written { WriteAppends (W.contents (writer_in self.old)) (W.contents (writer_in self.new)) result bytes.now }
+        ensures written { WriteAppends (W.contents (writer_in self.old)) (W.contents (writer_in self.new)) result
+            bytes.now }
     {
         match self.writer.write(bytes) {
             Ok(count) if count > 0 => {

@@ -1,5 +1,6 @@
 -- Walks from a place down, by positions.
-use Rattle.std.proofs.Common.{◌≡◌, ℕ, ◌+◌, ◌-◌, ◌<◌, ◌≤◌, Bool, true, false, List, [], ◌∷◌, ◌++◌, length, take, drop, get_or, None, Some, refl, sym, ◌∙◌, ap, subst, arith, zero, suc}
+use Rattle.std.proofs.Common.{◌≡◌, ℕ, ◌+◌, ◌-◌, ◌<◌, ◌≤◌, Bool, true, false, List, [], ◌∷◌, ◌++◌, length, take, drop, get_or, None, Some}
+use Rattle.std.proofs.Common.{refl, sym, ◌∙◌, ap, subst, arith, zero, suc}
 use Rattle.std.specs.Prelude.{Option, reverse, slice_get, unwrap_or}
 use Rattle.std.proofs.lemmas.List.{take_more, get_or-reverse, get_or-take, length-reverse, length-take-le, take-append-drop, take_all}
 use Rattle.std.proofs.lemmas.Option.{unwrap_or-slice_get}
@@ -13,7 +14,8 @@ use Rattle.cord_iter.proofs.Lengths.{length-bytes_over}
 use Rattle.cord_iter.proofs.Walks.{walk_on, walk_one, walk_stop_in}
 
 -- a cord that fits has as long a text as it stores
-pub cord_len : (ls : Lengths) (t : Table) (c : Option Node) → HasLengths ls t → IsCord c → CordFitsIn ls c → length (bytes_of t c) ≡ text_len c
+pub cord_len : (ls : Lengths) (t : Table) (c : Option Node) → HasLengths ls t → IsCord c → CordFitsIn ls c →
+    length (bytes_of t c) ≡ text_len c
 cord_len ls t None told s f = refl
 cord_len ls t (Some n) told s f = length-bytes_over t n s (Fits-told ls t n told f)
 
@@ -22,7 +24,8 @@ abbrev pub downward : List ℕ → ℕ → List ℕ
 downward xs i = reverse (take (i + 1) xs)
 
 -- the byte at a place is the next one after those above it
-next_down : (xs : List ℕ) (i j b : ℕ) → i < length xs → j ≤ i → slice_get xs j ≡ Some b → take ((i - j) + 1) (downward xs i) ≡ take (i - j) (downward xs i) ++ b ∷ []
+next_down : (xs : List ℕ) (i j b : ℕ) → i < length xs → j ≤ i → slice_get xs j ≡ Some b →
+    take ((i - j) + 1) (downward xs i) ≡ take (i - j) (downward xs i) ++ b ∷ []
 next_down xs i j b inside below e =
     let m : i + 1 ≤ length xs = omega arith in
     let l : length (take (i + 1) xs) ≡ i + 1 = length-take-le (i + 1) xs m in
@@ -32,11 +35,14 @@ next_down xs i j b inside below e =
     let d : i - j < length (take (i + 1) xs) = omega arith in
     let u : j < i + 1 = omega arith in
     let byte : get_or (downward xs i) (i - j) 0 ≡ b =
-    get_or-reverse (take (i + 1) xs) (i - j) 0 d ∙ ap (λ (n : ℕ). get_or (take (i + 1) xs) n 0) k ∙ get_or-take (i + 1) xs j 0 u ∙ sym (unwrap_or-slice_get xs j 0) ∙ ap (λ (x : Option ℕ). unwrap_or x 0) e in
+    get_or-reverse (take (i + 1) xs) (i - j) 0 d ∙ ap (λ (n : ℕ). get_or (take (i + 1) xs) n 0) k ∙ get_or-take (i + 1) xs j 0 u
+    ∙ sym (unwrap_or-slice_get xs j 0) ∙ ap (λ (x : Option ℕ). unwrap_or x 0) e in
     take_more (downward xs i) (i - j) 0 a ∙ ap (λ (x : ℕ). take (i - j) (downward xs i) ++ x ∷ []) byte
 
 -- the same at a position
-next_at : (t : Table) (c : Option Node) (i : ℕ) (index : Option ℕ) (b : ℕ) → i < length (bytes_of t c) → left_of index ≤ i + 1 → IsByteAt t c index b → take (i + 1 - left_of (prev_index index)) (downward (bytes_of t c) i) ≡ take (i + 1 - left_of index) (downward (bytes_of t c) i) ++ b ∷ []
+next_at : (t : Table) (c : Option Node) (i : ℕ) (index : Option ℕ) (b : ℕ) → i < length (bytes_of t c) → left_of index ≤ i + 1 →
+    IsByteAt t c index b → take (i + 1 - left_of (prev_index index)) (downward (bytes_of t c) i)
+    ≡ take (i + 1 - left_of index) (downward (bytes_of t c) i) ++ b ∷ []
 next_at t c i None b inside below e = absurd e
 next_at t c i (Some zero) b inside below e =
     let m : i + 1 - 0 ≡ (i - 0) + 1 = omega arith in
@@ -49,21 +55,30 @@ next_at t c i (Some (suc j)) b inside below e =
     rw (m, n) (next_down (bytes_of t c) i (suc j) b inside h e)
 
 -- one byte further down
-pub back_on : {S : Type 0} (step : S → ℕ → S × Bool) (s a d : S) (t : Table) (c : Option Node) (i : ℕ) (index : Option ℕ) (b : ℕ) → length (bytes_of t c) ≡ text_len c → i < text_len c → left_of index ≤ i + 1 → IsByteAt t c index b → (d, false) ≡ step a b → walk step s (take (i + 1 - left_of index) (downward (bytes_of t c) i)) ≡ (a, false) → walk step s (take (i + 1 - left_of (prev_index index)) (downward (bytes_of t c) i)) ≡ (d, false)
+pub back_on : {S : Type 0} (step : S → ℕ → S × Bool) (s a d : S) (t : Table) (c : Option Node) (i : ℕ) (index : Option ℕ) (b : ℕ) →
+    length (bytes_of t c) ≡ text_len c → i < text_len c → left_of index ≤ i + 1 → IsByteAt t c index b → (d, false) ≡ step a b →
+    walk step s (take (i + 1 - left_of index) (downward (bytes_of t c) i)) ≡ (a, false) →
+    walk step s (take (i + 1 - left_of (prev_index index)) (downward (bytes_of t c) i)) ≡ (d, false)
 back_on step s a d t c i index b len inside below byte e h =
     let k : i < length (bytes_of t c) = rw len inside in
-    ap (λ (l : List ℕ). walk step s l) (next_at t c i index b k below byte) ∙ walk_on step s a (d, false) (take (i + 1 - left_of index) (downward (bytes_of t c) i)) (b ∷ []) h (walk_one step a d false b e)
+    ap (λ (l : List ℕ). walk step s l) (next_at t c i index b k below byte)
+    ∙ walk_on step s a (d, false) (take (i + 1 - left_of index) (downward (bytes_of t c) i)) (b ∷ []) h (walk_one step a d false b e)
 
 -- a stop at one
-pub back_stop : {S : Type 0} (step : S → ℕ → S × Bool) (s a d : S) (t : Table) (c : Option Node) (i : ℕ) (index : Option ℕ) (b : ℕ) → length (bytes_of t c) ≡ text_len c → i < text_len c → left_of index ≤ i + 1 → IsByteAt t c index b → (d, true) ≡ step a b → walk step s (take (i + 1 - left_of index) (downward (bytes_of t c) i)) ≡ (a, false) → walk step s (downward (bytes_of t c) i) ≡ (d, true)
+pub back_stop : {S : Type 0} (step : S → ℕ → S × Bool) (s a d : S) (t : Table) (c : Option Node) (i : ℕ) (index : Option ℕ) (b : ℕ) →
+    length (bytes_of t c) ≡ text_len c → i < text_len c → left_of index ≤ i + 1 → IsByteAt t c index b → (d, true) ≡ step a b →
+    walk step s (take (i + 1 - left_of index) (downward (bytes_of t c) i)) ≡ (a, false) →
+    walk step s (downward (bytes_of t c) i) ≡ (d, true)
 back_stop step s a d t c i index b len inside below byte e h =
     let k : i < length (bytes_of t c) = rw len inside in
     let whole = downward (bytes_of t c) i in
     let n = i + 1 - left_of (prev_index index) in
-    walk_stop_in step s d whole n (ap (λ (l : List ℕ). walk step s l) (next_at t c i index b k below byte) ∙ walk_on step s a (d, true) (take (i + 1 - left_of index) whole) (b ∷ []) h (walk_one step a d true b e))
+    walk_stop_in step s d whole n (ap (λ (l : List ℕ). walk step s l) (next_at t c i index b k below byte)
+    ∙ walk_on step s a (d, true) (take (i + 1 - left_of index) whole) (b ∷ []) h (walk_one step a d true b e))
 
 -- the next one could not be read
-pub back_front : {S : Type 0} (step : S → ℕ → S × Bool) (s a : S) (t : Table) (c : Option Node) (i n : ℕ) → walk step s (take n (downward (bytes_of t c) i)) ≡ (a, false) → WalkedFront step s a (downward (bytes_of t c) i)
+pub back_front : {S : Type 0} (step : S → ℕ → S × Bool) (s a : S) (t : Table) (c : Option Node) (i n : ℕ) →
+    walk step s (take n (downward (bytes_of t c) i)) ≡ (a, false) → WalkedFront step s a (downward (bytes_of t c) i)
 back_front step s a t c i n h = record {
   front = take n (downward (bytes_of t c) i);
   rest = drop n (downward (bytes_of t c) i);
@@ -82,15 +97,20 @@ none_left [] h = refl
 none_left (x ∷ xs) h = absurd (omega arith)
 
 -- a walk over the empty cord
-pub empty_walk : {S : Type 0} (step : S → ℕ → S × Bool) (s : S) (t : Table) (c : Option Node) → length (bytes_of t c) ≡ text_len c → text_len c ≡ 0 → walk step s (reverse (bytes_of t c)) ≡ (s, false)
+pub empty_walk : {S : Type 0} (step : S → ℕ → S × Bool) (s : S) (t : Table) (c : Option Node) → length (bytes_of t c) ≡ text_len c →
+    text_len c ≡ 0 → walk step s (reverse (bytes_of t c)) ≡ (s, false)
 empty_walk step s t c len e = ap (λ (l : List ℕ). walk step s (reverse l)) (none_left (bytes_of t c) (len ∙ e))
 
 -- from the last place down
 whole_down : (xs : List ℕ) (n : ℕ) → length xs ≡ n → 0 < n → reverse (take (n - 1 + 1) xs) ≡ reverse xs
 whole_down xs n h k = ap (λ (l : List ℕ). reverse l) (take_all (n - 1 + 1) xs (omega arith))
 
-pub all_walk : {S : Type 0} (step : S → ℕ → S × Bool) (s : S) (p : S × Bool) (t : Table) (c : Option Node) (n : ℕ) → length (bytes_of t c) ≡ text_len c → n ≡ text_len c → 0 < n → walk step s (reverse (take (n - 1 + 1) (bytes_of t c))) ≡ p → walk step s (reverse (bytes_of t c)) ≡ p
+pub all_walk : {S : Type 0} (step : S → ℕ → S × Bool) (s : S) (p : S × Bool) (t : Table) (c : Option Node) (n : ℕ) →
+    length (bytes_of t c) ≡ text_len c → n ≡ text_len c → 0 < n → walk step s (reverse (take (n - 1 + 1) (bytes_of t c))) ≡ p →
+    walk step s (reverse (bytes_of t c)) ≡ p
 all_walk step s p t c n len e k h = rw (← whole_down (bytes_of t c) n (len ∙ sym e) k) h
 
-pub all_front : {S : Type 0} (step : S → ℕ → S × Bool) (s a : S) (t : Table) (c : Option Node) (n : ℕ) → length (bytes_of t c) ≡ text_len c → n ≡ text_len c → 0 < n → WalkedFront step s a (reverse (take (n - 1 + 1) (bytes_of t c))) → WalkedFront step s a (reverse (bytes_of t c))
+pub all_front : {S : Type 0} (step : S → ℕ → S × Bool) (s a : S) (t : Table) (c : Option Node) (n : ℕ) →
+    length (bytes_of t c) ≡ text_len c → n ≡ text_len c → 0 < n → WalkedFront step s a (reverse (take (n - 1 + 1) (bytes_of t c))) →
+    WalkedFront step s a (reverse (bytes_of t c))
 all_front step s a t c n len e k h = subst (WalkedFront step s a) (whole_down (bytes_of t c) n (len ∙ sym e) k) h

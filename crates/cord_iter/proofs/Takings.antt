@@ -1,5 +1,6 @@
 -- What a sink took in several calls, one after the other.
-use Rattle.std.proofs.Common.{◌≡◌, ℕ, ◌+◌, ◌-◌, ◌≤◌, List, ◌++◌, length, take, drop, Ok, Err, refl, sym, ◌∙◌, ap, arith, append_assoc, length-append}
+use Rattle.std.proofs.Common.{◌≡◌, ℕ, ◌+◌, ◌-◌, ◌≤◌, List, ◌++◌, length, take, drop, Ok, Err, refl, sym, ◌∙◌, ap, arith, append_assoc}
+use Rattle.std.proofs.Common.{length-append}
 use Rattle.std.specs.Prelude.{replicate}
 use Rattle.std.proofs.lemmas.List.{take-append-drop, drop-drop, take-replicate, replicate-append-replicate}
 use Rattle.std.specs.declared.rc.Rc.{Rc}
@@ -22,7 +23,8 @@ pub appends_both : (a b c x y : List ℕ) → b ≡ a ++ x → c ≡ b ++ y → 
 appends_both a b c x y h k = k ∙ ap (λ (l : List ℕ). l ++ y) h ∙ append_assoc a x y
 
 -- two calls, one after the other
-pub takes_both : {P Q R : List ℕ → Type 0} {a b c : List ℕ} → Takes P a b → Takes Q b c → ((x y : List ℕ) → P x → Q y → R (x ++ y)) → Takes R a c
+pub takes_both : {P Q R : List ℕ → Type 0} {a b c : List ℕ} → Takes P a b → Takes Q b c → ((x y : List ℕ) → P x → Q y → R (x ++ y)) →
+    Takes R a c
 takes_both {P} {Q} {R} {a} {b} {c} s t h = record {
   out = s.out ++ t.out;
   such = h s.out t.out s.such t.such;
@@ -53,21 +55,26 @@ range_join xs s a b = take-add a b (drop s xs) ∙ ap (λ (l : List ℕ). take a
 func_range : (xs x y : List ℕ) (s a b : ℕ) → x ≡ take a (drop s xs) → y ≡ take b (drop (s + a) xs) → x ++ y ≡ take (a + b) (drop s xs)
 func_range xs x y s a b h k = rw (h, k) (sym (range_join xs s a b))
 
-pub func_text : {before keeps : Folder → Type 0} (table : Folder → Table) (id : SourceId) (s a b : ℕ) (x y : List ℕ) → ((folder : Folder) → keeps folder → before folder) → IsTextOver before table (Func id s a) x → IsTextOver keeps table (Func id (s + a) b) y → IsTextOver keeps table (Func id s (a + b)) (x ++ y)
+pub func_text : {before keeps : Folder → Type 0} (table : Folder → Table) (id : SourceId) (s a b : ℕ) (x y : List ℕ) →
+    ((folder : Folder) → keeps folder → before folder) → IsTextOver before table (Func id s a) x →
+    IsTextOver keeps table (Func id (s + a) b) y → IsTextOver keeps table (Func id s (a + b)) (x ++ y)
 func_text table id s a b x y earlier h k = record {
   len = length-append x y ∙ (let i : length x ≡ a = h.len in let j : length y ≡ b = k.len in omega arith);
   text = λ folder kept. func_range (table folder id.0) x y s a b (h.text folder (earlier folder kept)) (k.text folder kept);
 }
 
 -- a range of an entry and a prefix of the range after it
-range_front : (xs x y : List ℕ) (s a b n : ℕ) → a + b ≤ n → x ≡ take a (drop s xs) → IsFrontOf (take b (drop (s + a) xs)) y → IsFrontOf (take n (drop s xs)) (x ++ y)
+range_front : (xs x y : List ℕ) (s a b n : ℕ) → a + b ≤ n → x ≡ take a (drop s xs) → IsFrontOf (take b (drop (s + a) xs)) y →
+    IsFrontOf (take n (drop s xs)) (x ++ y)
 range_front xs x y s a b n e h k =
     let m : n ≡ (a + b) + (n - (a + b)) = omega arith in
     let first : take n (drop s xs) ≡ take (a + b) (drop s xs) ++ take (n - (a + b)) (drop (a + b) (drop s xs)) = ap (λ (l : ℕ). take l (drop s xs)) m ∙ take-add (a + b) (n - (a + b)) (drop s xs) in
     front_more (take n (drop s xs)) (take (a + b) (drop s xs)) (take (n - (a + b)) (drop (a + b) (drop s xs))) (x ++ y) first
     (rw h (front_join (take (a + b) (drop s xs)) (take a (drop s xs)) (take b (drop (s + a) xs)) y (range_join xs s a b) k))
 
-pub func_prefix : {before keeps : Folder → Type 0} (table : Folder → Table) (id : SourceId) (s a b n : ℕ) (x y : List ℕ) → a + b ≤ n → ((folder : Folder) → keeps folder → before folder) → IsTextOver before table (Func id s a) x → IsPrefixOver keeps table (Func id (s + a) b) y → IsPrefixOver keeps table (Func id s n) (x ++ y)
+pub func_prefix : {before keeps : Folder → Type 0} (table : Folder → Table) (id : SourceId) (s a b n : ℕ) (x y : List ℕ) → a + b ≤ n →
+    ((folder : Folder) → keeps folder → before folder) → IsTextOver before table (Func id s a) x →
+    IsPrefixOver keeps table (Func id (s + a) b) y → IsPrefixOver keeps table (Func id s n) (x ++ y)
 func_prefix table id s a b n x y e earlier h k = record {
   len = rw (length-append x y) (let i : length x ≡ a = h.len in let j : length y ≤ b = k.len in omega arith);
   front = λ folder kept. range_front (table folder id.0) x y s a b n e (h.text folder (earlier folder kept)) (k.front folder kept);
@@ -79,21 +86,26 @@ pub record AreSides (l r n : Node) : Type 0 where
   pub bytes : (t : Table) → bytes_over t n ≡ bytes_over t l ++ bytes_over t r
 
 -- the texts of both
-pub cat_text : {before keeps : Folder → Type 0} (table : Folder → Table) (l r n : Node) (x y : List ℕ) → AreSides l r n → ((folder : Folder) → keeps folder → before folder) → IsTextOver before table l x → IsTextOver keeps table r y → IsTextOver keeps table n (x ++ y)
+pub cat_text : {before keeps : Folder → Type 0} (table : Folder → Table) (l r n : Node) (x y : List ℕ) → AreSides l r n →
+    ((folder : Folder) → keeps folder → before folder) → IsTextOver before table l x → IsTextOver keeps table r y →
+    IsTextOver keeps table n (x ++ y)
 cat_text table l r n x y e earlier h k = record {
   len = length-append x y ∙ (let i : length x ≡ len_of l = h.len in let j : length y ≡ len_of r = k.len in let m : len_of n ≡ len_of l + len_of r = e.len in omega arith);
   text = λ folder kept. rw (h.text folder (earlier folder kept), k.text folder kept) (sym (e.bytes (table folder)));
 }
 
 -- a prefix of the left one
-pub cat_left : {keeps : Folder → Type 0} (table : Folder → Table) (l r n : Node) (x : List ℕ) → AreSides l r n → IsPrefixOver keeps table l x → IsPrefixOver keeps table n x
+pub cat_left : {keeps : Folder → Type 0} (table : Folder → Table) (l r n : Node) (x : List ℕ) → AreSides l r n →
+    IsPrefixOver keeps table l x → IsPrefixOver keeps table n x
 cat_left table l r n x e h = record {
   len = let i : length x ≤ len_of l = h.len in let m : len_of n ≡ len_of l + len_of r = e.len in omega arith;
   front = λ folder kept. let t = table folder in front_more (bytes_over t n) (bytes_over t l) (bytes_over t r) x (e.bytes t) (h.front folder kept);
 }
 
 -- the left one and a prefix of the right one
-pub cat_right : {before keeps : Folder → Type 0} (table : Folder → Table) (l r n : Node) (x y : List ℕ) → AreSides l r n → ((folder : Folder) → keeps folder → before folder) → IsTextOver before table l x → IsPrefixOver keeps table r y → IsPrefixOver keeps table n (x ++ y)
+pub cat_right : {before keeps : Folder → Type 0} (table : Folder → Table) (l r n : Node) (x y : List ℕ) → AreSides l r n →
+    ((folder : Folder) → keeps folder → before folder) → IsTextOver before table l x → IsPrefixOver keeps table r y →
+    IsPrefixOver keeps table n (x ++ y)
 cat_right table l r n x y e earlier h k = record {
   len = rw (length-append x y) (let i : length x ≡ len_of l = h.len in let j : length y ≤ len_of r = k.len in let m : len_of n ≡ len_of l + len_of r = e.len in omega arith);
   front = λ folder kept. let t = table folder in rw (h.text folder (earlier folder kept)) (front_join (bytes_over t n) (bytes_over t l) (bytes_over t r) y (e.bytes t) (k.front folder kept));
@@ -105,16 +117,19 @@ on_err (Ok x) h = tt
 on_err (Err e) h = h
 
 -- a prefix of the next bytes of a run
-run_front : (byte len done count : ℕ) (y : List ℕ) → done + count ≤ len → IsFrontOf (replicate count byte) y → IsFrontOf (replicate len byte) (replicate done byte ++ y)
+run_front : (byte len done count : ℕ) (y : List ℕ) → done + count ≤ len → IsFrontOf (replicate count byte) y →
+    IsFrontOf (replicate len byte) (replicate done byte ++ y)
 run_front byte len done count y h k =
     let e : done + (len - done) ≡ len = omega arith in
     let f : count + (len - done - count) ≡ len - done = omega arith in
     let first : replicate len byte ≡ replicate done byte ++ replicate (len - done) byte = sym (replicate-append-replicate done (len - done) byte ∙ ap (λ (n : ℕ). replicate n byte) e) in
     let next : replicate (len - done) byte ≡ replicate count byte ++ replicate (len - done - count) byte = sym (replicate-append-replicate count (len - done - count) byte ∙ ap (λ (n : ℕ). replicate n byte) f) in
-    front_join (replicate len byte) (replicate done byte) (replicate (len - done) byte) y first (front_more (replicate (len - done) byte) (replicate count byte) (replicate (len - done - count) byte) y next k)
+    front_join (replicate len byte) (replicate done byte) (replicate (len - done) byte) y first
+    (front_more (replicate (len - done) byte) (replicate count byte) (replicate (len - done - count) byte) y next k)
 
 -- some of a run, and a prefix of the next piece of it
-pub run_stopped : (a b c : List ℕ) (byte len done count n : ℕ) → done + count ≤ len → count ≤ n → b ≡ a ++ replicate done byte → Takes (IsFrontOf (take count (replicate n byte))) b c → Takes (IsFrontOf (replicate len byte)) a c
+pub run_stopped : (a b c : List ℕ) (byte len done count n : ℕ) → done + count ≤ len → count ≤ n → b ≡ a ++ replicate done byte →
+    Takes (IsFrontOf (take count (replicate n byte))) b c → Takes (IsFrontOf (replicate len byte)) a c
 run_stopped a b c byte len done count n h k s t = record {
   out = replicate done byte ++ t.out;
   such = run_front byte len done count t.out h (rw (take-replicate count n byte k) at t.such);
@@ -122,11 +137,14 @@ run_stopped a b c byte len done count n h k s t = record {
 }
 
 -- some of a run, and the next piece of it
-pub run_more : (a b c : List ℕ) (byte done count n : ℕ) → count ≤ n → b ≡ a ++ replicate done byte → c ≡ b ++ take count (replicate n byte) → c ≡ a ++ replicate (done + count) byte
-run_more a b c byte done count n k s t = appends_both a b c (replicate done byte) (replicate count byte) s (rw (take-replicate count n byte k) at t) ∙ ap (λ (l : List ℕ). a ++ l) (replicate-append-replicate done count byte)
+pub run_more : (a b c : List ℕ) (byte done count n : ℕ) → count ≤ n → b ≡ a ++ replicate done byte →
+    c ≡ b ++ take count (replicate n byte) → c ≡ a ++ replicate (done + count) byte
+run_more a b c byte done count n k s t = appends_both a b c (replicate done byte) (replicate count byte) s
+    (rw (take-replicate count n byte k) at t) ∙ ap (λ (l : List ℕ). a ++ l) (replicate-append-replicate done count byte)
 
 -- the two sides of a node that is a concatenation
-pub cat_sides : (p : Rc (Unit {0}) Global) (l : Node) (q : Rc (Unit {0}) Global) (r : Node) (len depth : ℕ) (mark : List Part) (n : Node) → n ≡ Cat' p l q r len depth mark → IsSound n → AreSides l r n
+pub cat_sides : (p : Rc (Unit {0}) Global) (l : Node) (q : Rc (Unit {0}) Global) (r : Node) (len depth : ℕ) (mark : List Part) (n : Node) →
+    n ≡ Cat' p l q r len depth mark → IsSound n → AreSides l r n
 cat_sides p l q r len depth mark n e s =
     let sound : IsSound (Cat' p l q r len depth mark) = rw e at s in
     rw e (record { len = sound.2; bytes = λ t. refl })

@@ -1,5 +1,6 @@
 -- Walks over one list after another.
-use Rattle.std.proofs.Common.{◌≡◌, ℕ, ◌+◌, ◌-◌, ◌<◌, ◌≤◌, Bool, true, false, List, [], ◌∷◌, ◌++◌, length, take, drop, get_or, refl, sym, ◌∙◌, ap, arith, append_assoc}
+use Rattle.std.proofs.Common.{◌≡◌, ℕ, ◌+◌, ◌-◌, ◌<◌, ◌≤◌, Bool, true, false, List, [], ◌∷◌, ◌++◌, length, take, drop, get_or, refl, sym}
+use Rattle.std.proofs.Common.{◌∙◌, ap, arith, append_assoc}
 use Rattle.std.specs.Prelude.{replicate, if◌then◌else◌}
 use Rattle.std.proofs.lemmas.List.{drop-take, drop-drop, take_more, take-append-drop, take-replicate, replicate-append-replicate}
 use Rattle.std.proofs.Math.Seq.{take-add}
@@ -10,7 +11,8 @@ use Rattle.cord_iter.specs.Walk.{walk, WalkedFront}
 go_on : {S : Type 0} → (S → ℕ → S × Bool) → S × Bool → List ℕ → S × Bool
 go_on step p y = if p.1 then (p.0, true) else walk step p.0 y
 
-go_if : {S : Type 0} (step : S → ℕ → S × Bool) (c : Bool) (s : S) (w v : S × Bool) (y : List ℕ) → w ≡ go_on step v y → (if c then (s, true) else w) ≡ go_on step (if c then (s, true) else v) y
+go_if : {S : Type 0} (step : S → ℕ → S × Bool) (c : Bool) (s : S) (w v : S × Bool) (y : List ℕ) → w ≡ go_on step v y →
+    (if c then (s, true) else w) ≡ go_on step (if c then (s, true) else v) y
 unfolding go_on
 go_if step true s w v y h = refl
 go_if step false s w v y h = h
@@ -18,37 +20,48 @@ go_if step false s w v y h = h
 walk-append : {S : Type 0} (step : S → ℕ → S × Bool) (a : S) (x y : List ℕ) → walk step a (x ++ y) ≡ go_on step (walk step a x) y
 unfolding go_on
 walk-append step a [] y = refl
-walk-append step a (b ∷ bs) y = go_if step ((step a b).1) ((step a b).0) (walk step ((step a b).0) (bs ++ y)) (walk step ((step a b).0) bs) y (walk-append step ((step a b).0) bs y)
+walk-append step a (b ∷ bs) y = go_if step ((step a b).1) ((step a b).0) (walk step ((step a b).0) (bs ++ y))
+    (walk step ((step a b).0) bs) y (walk-append step ((step a b).0) bs y)
 
 -- over two lists, the first one without a stop
-pub walk_on : {S : Type 0} (step : S → ℕ → S × Bool) (a b : S) (p : S × Bool) (x y : List ℕ) → walk step a x ≡ (b, false) → walk step b y ≡ p → walk step a (x ++ y) ≡ p
+pub walk_on : {S : Type 0} (step : S → ℕ → S × Bool) (a b : S) (p : S × Bool) (x y : List ℕ) → walk step a x ≡ (b, false) →
+    walk step b y ≡ p → walk step a (x ++ y) ≡ p
 unfolding go_on
 walk_on {S} step a b p x y h k = walk-append step a x y ∙ ap (λ (q : S × Bool). go_on step q y) h ∙ k
 
 -- a stop in the first of two lists
-pub walk_stop : {S : Type 0} (step : S → ℕ → S × Bool) (a b : S) (x y : List ℕ) → walk step a x ≡ (b, true) → walk step a (x ++ y) ≡ (b, true)
+pub walk_stop : {S : Type 0} (step : S → ℕ → S × Bool) (a b : S) (x y : List ℕ) → walk step a x ≡ (b, true) →
+    walk step a (x ++ y) ≡ (b, true)
 unfolding go_on
 walk_stop {S} step a b x y h = walk-append step a x y ∙ ap (λ (q : S × Bool). go_on step q y) h
 
 -- over one byte
-pub walk_one : {S : Type 0} (step : S → ℕ → S × Bool) (a d : S) (stop : Bool) (b : ℕ) → (d, stop) ≡ step a b → walk step a (b ∷ []) ≡ (d, stop)
+pub walk_one : {S : Type 0} (step : S → ℕ → S × Bool) (a d : S) (stop : Bool) (b : ℕ) → (d, stop) ≡ step a b →
+    walk step a (b ∷ []) ≡ (d, stop)
 walk_one step a d true b e = rw (← e) refl
 walk_one step a d false b e = rw (← e) refl
 
 -- over the bytes before a place, and the one there
-pub walk_next : {S : Type 0} (step : S → ℕ → S × Bool) (a b d : S) (stop : Bool) (xs : List ℕ) (i : ℕ) → i < length xs → walk step a (take i xs) ≡ (b, false) → (d, stop) ≡ step b (get_or xs i 0) → walk step a (take (i + 1) xs) ≡ (d, stop)
-walk_next {S} step a b d stop xs i inside h k = ap (λ (l : List ℕ). walk step a l) (take_more xs i 0 inside) ∙ walk_on step a b (d, stop) (take i xs) (get_or xs i 0 ∷ []) h (walk_one step b d stop (get_or xs i 0) k)
+pub walk_next : {S : Type 0} (step : S → ℕ → S × Bool) (a b d : S) (stop : Bool) (xs : List ℕ) (i : ℕ) → i < length xs →
+    walk step a (take i xs) ≡ (b, false) → (d, stop) ≡ step b (get_or xs i 0) → walk step a (take (i + 1) xs) ≡ (d, stop)
+walk_next {S} step a b d stop xs i inside h k = ap (λ (l : List ℕ). walk step a l) (take_more xs i 0 inside)
+    ∙ walk_on step a b (d, stop) (take i xs) (get_or xs i 0 ∷ []) h (walk_one step b d stop (get_or xs i 0) k)
 
 -- a stop among the first bytes
-pub walk_stop_in : {S : Type 0} (step : S → ℕ → S × Bool) (a d : S) (xs : List ℕ) (i : ℕ) → walk step a (take i xs) ≡ (d, true) → walk step a xs ≡ (d, true)
-walk_stop_in {S} step a d xs i h = ap (λ (l : List ℕ). walk step a l) (sym (take-append-drop i xs)) ∙ walk_stop step a d (take i xs) (drop i xs) h
+pub walk_stop_in : {S : Type 0} (step : S → ℕ → S × Bool) (a d : S) (xs : List ℕ) (i : ℕ) → walk step a (take i xs) ≡ (d, true) →
+    walk step a xs ≡ (d, true)
+walk_stop_in {S} step a d xs i h = ap (λ (l : List ℕ). walk step a l) (sym (take-append-drop i xs))
+    ∙ walk_stop step a d (take i xs) (drop i xs) h
 
 -- a stop in the second of three
-pub walk_stop_between : {S : Type 0} (step : S → ℕ → S × Bool) (a b c : S) (whole x y z : List ℕ) → whole ≡ (x ++ y) ++ z → walk step a x ≡ (b, false) → walk step b y ≡ (c, true) → walk step a whole ≡ (c, true)
-walk_stop_between step a b c whole x y z e h k = ap (λ (l : List ℕ). walk step a l) e ∙ walk_stop step a c (x ++ y) z (walk_on step a b (c, true) x y h k)
+pub walk_stop_between : {S : Type 0} (step : S → ℕ → S × Bool) (a b c : S) (whole x y z : List ℕ) → whole ≡ (x ++ y) ++ z →
+    walk step a x ≡ (b, false) → walk step b y ≡ (c, true) → walk step a whole ≡ (c, true)
+walk_stop_between step a b c whole x y z e h k = ap (λ (l : List ℕ). walk step a l) e
+    ∙ walk_stop step a c (x ++ y) z (walk_on step a b (c, true) x y h k)
 
 -- a prefix of the first of two lists
-pub front_first : {S : Type 0} (step : S → ℕ → S × Bool) (a b : S) (whole x y : List ℕ) → whole ≡ x ++ y → WalkedFront step a b x → WalkedFront step a b whole
+pub front_first : {S : Type 0} (step : S → ℕ → S × Bool) (a b : S) (whole x y : List ℕ) → whole ≡ x ++ y → WalkedFront step a b x →
+    WalkedFront step a b whole
 front_first step a b whole x y e h = record {
   front = h.front;
   rest = h.rest ++ y;
@@ -57,7 +70,8 @@ front_first step a b whole x y e h = record {
 }
 
 -- the first list, and a prefix of the second one
-pub front_second : {S : Type 0} (step : S → ℕ → S × Bool) (a b c : S) (whole x y : List ℕ) → whole ≡ x ++ y → walk step a x ≡ (b, false) → WalkedFront step b c y → WalkedFront step a c whole
+pub front_second : {S : Type 0} (step : S → ℕ → S × Bool) (a b c : S) (whole x y : List ℕ) → whole ≡ x ++ y → walk step a x ≡ (b, false) →
+    WalkedFront step b c y → WalkedFront step a c whole
 front_second step a b c whole x y e h k = record {
   front = x ++ k.front;
   rest = k.rest;
@@ -66,35 +80,54 @@ front_second step a b c whole x y e h k = record {
 }
 
 -- a run: some of it, a piece, and the rest
-run_split : (byte len done count : ℕ) → done + count ≤ len → replicate len byte ≡ (replicate done byte ++ replicate count byte) ++ replicate (len - (done + count)) byte
+run_split : (byte len done count : ℕ) → done + count ≤ len → replicate len byte ≡ (replicate done byte ++ replicate count byte)
+    ++ replicate (len - (done + count)) byte
 run_split byte len done count h =
     let e : (done + count) + (len - (done + count)) ≡ len = omega arith in
-    sym (ap (λ (l : List ℕ). l ++ replicate (len - (done + count)) byte) (replicate-append-replicate done count byte) ∙ replicate-append-replicate (done + count) (len - (done + count)) byte ∙ ap (λ (n : ℕ). replicate n byte) e)
+    sym (ap (λ (l : List ℕ). l ++ replicate (len - (done + count)) byte) (replicate-append-replicate done count byte)
+    ∙ replicate-append-replicate (done + count) (len - (done + count)) byte ∙ ap (λ (n : ℕ). replicate n byte) e)
 
-pub run_stop : {S : Type 0} (step : S → ℕ → S × Bool) (a b c : S) (byte len done count n : ℕ) → done + count ≤ len → count ≤ n → walk step a (replicate done byte) ≡ (b, false) → walk step b (take count (replicate n byte)) ≡ (c, true) → walk step a (replicate len byte) ≡ (c, true)
-run_stop step a b c byte len done count n inside piece h k = walk_stop_between step a b c (replicate len byte) (replicate done byte) (replicate count byte) (replicate (len - (done + count)) byte) (run_split byte len done count inside) h (rw (take-replicate count n byte piece) at k)
+pub run_stop : {S : Type 0} (step : S → ℕ → S × Bool) (a b c : S) (byte len done count n : ℕ) → done + count ≤ len → count ≤ n →
+    walk step a (replicate done byte) ≡ (b, false) → walk step b (take count (replicate n byte)) ≡ (c, true) →
+    walk step a (replicate len byte) ≡ (c, true)
+run_stop step a b c byte len done count n inside piece h k = walk_stop_between step a b c (replicate len byte) (replicate done byte)
+    (replicate count byte) (replicate (len - (done + count)) byte) (run_split byte len done count inside) h
+    (rw (take-replicate count n byte piece) at k)
 
-pub run_on : {S : Type 0} (step : S → ℕ → S × Bool) (a b : S) (p : S × Bool) (byte done count n : ℕ) → count ≤ n → walk step a (replicate done byte) ≡ (b, false) → walk step b (take count (replicate n byte)) ≡ p → walk step a (replicate (done + count) byte) ≡ p
-run_on step a b p byte done count n piece h k = ap (λ (l : List ℕ). walk step a l) (sym (replicate-append-replicate done count byte)) ∙ walk_on step a b p (replicate done byte) (replicate count byte) h (rw (take-replicate count n byte piece) at k)
+pub run_on : {S : Type 0} (step : S → ℕ → S × Bool) (a b : S) (p : S × Bool) (byte done count n : ℕ) → count ≤ n →
+    walk step a (replicate done byte) ≡ (b, false) → walk step b (take count (replicate n byte)) ≡ p →
+    walk step a (replicate (done + count) byte) ≡ p
+run_on step a b p byte done count n piece h k = ap (λ (l : List ℕ). walk step a l) (sym (replicate-append-replicate done count byte))
+    ∙ walk_on step a b p (replicate done byte) (replicate count byte) h (rw (take-replicate count n byte piece) at k)
 
 -- a range: some of it, and a piece
 range_next : (xs : List ℕ) (s a b : ℕ) → take (a + b) (drop s xs) ≡ take a (drop s xs) ++ take b (drop (s + a) xs)
 range_next xs s a b = take-add a b (drop s xs) ∙ ap (λ (l : List ℕ). take a (drop s xs) ++ take b l) (drop-drop a s xs)
 
 -- the same, and the rest
-range_split : (xs : List ℕ) (s a b n : ℕ) → a + b ≤ n → take n (drop s xs) ≡ (take a (drop s xs) ++ take b (drop (s + a) xs)) ++ take (n - (a + b)) (drop (s + (a + b)) xs)
+range_split : (xs : List ℕ) (s a b n : ℕ) → a + b ≤ n → take n (drop s xs) ≡ (take a (drop s xs) ++ take b (drop (s + a) xs))
+    ++ take (n - (a + b)) (drop (s + (a + b)) xs)
 range_split xs s a b n h =
     let e : n ≡ (a + b) + (n - (a + b)) = omega arith in
-    ap (λ (k : ℕ). take k (drop s xs)) e ∙ range_next xs s (a + b) (n - (a + b)) ∙ ap (λ (l : List ℕ). l ++ take (n - (a + b)) (drop (s + (a + b)) xs)) (range_next xs s a b)
+    ap (λ (k : ℕ). take k (drop s xs)) e ∙ range_next xs s (a + b) (n - (a + b))
+    ∙ ap (λ (l : List ℕ). l ++ take (n - (a + b)) (drop (s + (a + b)) xs)) (range_next xs s a b)
 
-pub func_stop : {S : Type 0} (step : S → ℕ → S × Bool) (a b c : S) (t : Table) (id s len done count : ℕ) → done + count ≤ len → walk step a (take done (drop s (t id))) ≡ (b, false) → walk step b (take count (drop (s + done) (t id))) ≡ (c, true) → walk step a (take len (drop s (t id))) ≡ (c, true)
-func_stop step a b c t id s len done count inside h k = walk_stop_between step a b c (take len (drop s (t id))) (take done (drop s (t id))) (take count (drop (s + done) (t id))) (take (len - (done + count)) (drop (s + (done + count)) (t id))) (range_split (t id) s done count len inside) h k
+pub func_stop : {S : Type 0} (step : S → ℕ → S × Bool) (a b c : S) (t : Table) (id s len done count : ℕ) → done + count ≤ len →
+    walk step a (take done (drop s (t id))) ≡ (b, false) → walk step b (take count (drop (s + done) (t id))) ≡ (c, true) →
+    walk step a (take len (drop s (t id))) ≡ (c, true)
+func_stop step a b c t id s len done count inside h k = walk_stop_between step a b c (take len (drop s (t id))) (take done (drop s (t id)))
+    (take count (drop (s + done) (t id))) (take (len - (done + count)) (drop (s + (done + count)) (t id)))
+    (range_split (t id) s done count len inside) h k
 
-pub func_on : {S : Type 0} (step : S → ℕ → S × Bool) (a b : S) (p : S × Bool) (t : Table) (id s done count : ℕ) → walk step a (take done (drop s (t id))) ≡ (b, false) → walk step b (take count (drop (s + done) (t id))) ≡ p → walk step a (take (done + count) (drop s (t id))) ≡ p
-func_on step a b p t id s done count h k = ap (λ (l : List ℕ). walk step a l) (range_next (t id) s done count) ∙ walk_on step a b p (take done (drop s (t id))) (take count (drop (s + done) (t id))) h k
+pub func_on : {S : Type 0} (step : S → ℕ → S × Bool) (a b : S) (p : S × Bool) (t : Table) (id s done count : ℕ) →
+    walk step a (take done (drop s (t id))) ≡ (b, false) → walk step b (take count (drop (s + done) (t id))) ≡ p →
+    walk step a (take (done + count) (drop s (t id))) ≡ p
+func_on step a b p t id s done count h k = ap (λ (l : List ℕ). walk step a l) (range_next (t id) s done count)
+    ∙ walk_on step a b p (take done (drop s (t id))) (take count (drop (s + done) (t id))) h k
 
 -- some of a range was walked over, and the next piece was not read
-pub func_front : {S : Type 0} (step : S → ℕ → S × Bool) (a b c : S) (t : Table) (id s len done : ℕ) → done ≤ len → c ≡ b → walk step a (take done (drop s (t id))) ≡ (b, false) → WalkedFront step a c (take len (drop s (t id)))
+pub func_front : {S : Type 0} (step : S → ℕ → S × Bool) (a b c : S) (t : Table) (id s len done : ℕ) → done ≤ len → c ≡ b →
+    walk step a (take done (drop s (t id))) ≡ (b, false) → WalkedFront step a c (take len (drop s (t id)))
 func_front step a b c t id s len done inside e h =
     let m : len ≡ done + (len - done) = omega arith in
     record {
@@ -108,7 +141,8 @@ func_front step a b c t id s len done inside e h =
 pub range_rest : (xs : List ℕ) (s len from : ℕ) → from ≤ len → take (len - from) (drop (s + from) xs) ≡ drop from (take len (drop s xs))
 range_rest xs s len from h =
     let e : len ≡ from + (len - from) = omega arith in
-    sym (ap (λ (k : ℕ). drop from (take k (drop s xs))) e ∙ drop-take from (len - from) (drop s xs) ∙ ap (λ (l : List ℕ). take (len - from) l) (drop-drop from s xs))
+    sym (ap (λ (k : ℕ). drop from (take k (drop s xs))) e ∙ drop-take from (len - from) (drop s xs)
+    ∙ ap (λ (l : List ℕ). take (len - from) l) (drop-drop from s xs))
 
 -- a walk over a text in another spelling
 pub same_walk : {S : Type 0} (step : S → ℕ → S × Bool) (a : S) (p : S × Bool) (x y : List ℕ) → x ≡ y → walk step a x ≡ p → walk step a y ≡ p

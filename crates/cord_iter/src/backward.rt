@@ -21,8 +21,12 @@ pub fn riter4<S: Source, V: Visitor>(
 ) -> Result<bool, CordError>
     requires inside { i < text_len cord.now }
     requires fits { CordFitsIn (S.lengths src.old) cord.now }
-    ensures walked { (folder : Folder) → S.keeps src.new folder → IfOk result (λ stopped. walk V.step (V.state visitor.old) (reverse (take (i + 1) (bytes_of (S.table src.old folder) cord.now))) ≡ (V.state visitor.new, stopped)) }
-    ensures prefix { (folder : Folder) → S.keeps src.new folder → OnErr result (WalkedFront V.step (V.state visitor.old) (V.state visitor.new) (reverse (take (i + 1) (bytes_of (S.table src.old folder) cord.now)))) }
+    ensures walked { (folder : Folder) → S.keeps src.new folder →
+        IfOk result (λ stopped. walk V.step (V.state visitor.old)
+        (reverse (take (i + 1) (bytes_of (S.table src.old folder) cord.now))) ≡ (V.state visitor.new, stopped)) }
+    ensures prefix { (folder : Folder) → S.keeps src.new folder →
+        OnErr result (WalkedFront V.step (V.state visitor.old) (V.state visitor.new)
+        (reverse (take (i + 1) (bytes_of (S.table src.old folder) cord.now)))) }
     ensures refused { IfErr result (λ e. e ≡ CordError.ReadFailed) }
     ensures count { S.failures src.new ≡ count_after (is_err result) (S.failures src.old) }
     ensures steady { S.failures src.old < u64.MAX → S.failures src.new ≡ S.failures src.old → IsOk result }
@@ -49,8 +53,12 @@ pub fn riter<S: Source, V: Visitor>(
     visitor: &mut V,
 ) -> Result<bool, CordError>
     requires fits { CordFitsIn (S.lengths src.old) cord.now }
-    ensures walked { (folder : Folder) → S.keeps src.new folder → IfOk result (λ stopped. walk V.step (V.state visitor.old) (reverse (bytes_of (S.table src.old folder) cord.now)) ≡ (V.state visitor.new, stopped)) }
-    ensures prefix { (folder : Folder) → S.keeps src.new folder → OnErr result (WalkedFront V.step (V.state visitor.old) (V.state visitor.new) (reverse (bytes_of (S.table src.old folder) cord.now))) }
+    ensures walked { (folder : Folder) → S.keeps src.new folder →
+        IfOk result (λ stopped. walk V.step (V.state visitor.old)
+        (reverse (bytes_of (S.table src.old folder) cord.now)) ≡ (V.state visitor.new, stopped)) }
+    ensures prefix { (folder : Folder) → S.keeps src.new folder →
+        OnErr result (WalkedFront V.step (V.state visitor.old) (V.state visitor.new)
+        (reverse (bytes_of (S.table src.old folder) cord.now))) }
     ensures refused { IfErr result (λ e. e ≡ CordError.ReadFailed) }
     ensures count { S.failures src.new ≡ count_after (is_err result) (S.failures src.old) }
     ensures steady { S.failures src.old < u64.MAX → S.failures src.new ≡ S.failures src.old → IsOk result }

@@ -35,7 +35,8 @@ use std::alloc::Global;
 /// ```
 pub fn to_vec<S: Source>(alloc: Global, cord: &Cord, src: &mut S) -> Result<Vec<u8>, CordError>
     requires fits { CordFitsIn (S.lengths src.old) cord.now }
-    ensures text { (folder : Folder) → S.keeps src.new folder → IfOk result (λ v. v.items ≡ bytes_of (S.table src.old folder) cord.now) }
+    ensures text { (folder : Folder) → S.keeps src.new folder →
+        IfOk result (λ v. v.items ≡ bytes_of (S.table src.old folder) cord.now) }
     ensures len { IfOk result (λ v. length v.items ≡ text_len cord.now) }
     ensures reads { CountsReads (S.failures src.old) (S.failures src.new) result }
     ensures lengths { S.lengths src.new ≡ S.lengths src.old }

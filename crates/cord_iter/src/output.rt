@@ -42,12 +42,17 @@ use cord_io::{CordError, MAX_LEN, Sink, Source, SourceId};
 /// ```
 pub fn put<S: Source, W: Sink>(cord: &Cord, src: &mut S, sink: &mut W) -> Result<(), CordError>
     requires fits { CordFitsIn (S.lengths src.old) cord.now }
-    ensures text { (folder : Folder) → S.keeps src.new folder → OnOk result (W.taken sink.new ≡ W.taken sink.old ++ bytes_of (S.table src.old folder) cord.now) }
-    ensures prefix { (folder : Folder) → S.keeps src.new folder → OnErr result (Takes (IsFrontOf (bytes_of (S.table src.old folder) cord.now)) (W.taken sink.old) (W.taken sink.new)) }
+    ensures text { (folder : Folder) → S.keeps src.new folder →
+        OnOk result (W.taken sink.new ≡ W.taken sink.old ++ bytes_of (S.table src.old folder) cord.now) }
+    ensures prefix { (folder : Folder) → S.keeps src.new folder →
+        OnErr result (Takes (IsFrontOf (bytes_of (S.table src.old folder) cord.now)) (W.taken sink.old)
+        (W.taken sink.new)) }
     ensures len { OnOk result (Takes (λ out. length out ≡ text_len cord.now) (W.taken sink.old) (W.taken sink.new)) }
     ensures most { OnErr result (Takes (λ out. length out ≤ text_len cord.now) (W.taken sink.old) (W.taken sink.new)) }
-    ensures faults { CountsFaults (record { source = S.failures src.old; sink = W.failures sink.old }) (record { source = S.failures src.new; sink = W.failures sink.new }) result }
-    ensures steady { S.failures src.old < u64.MAX → W.failures sink.old < u64.MAX → S.failures src.new ≡ S.failures src.old → W.failures sink.new ≡ W.failures sink.old → IsOk result }
+    ensures faults { CountsFaults (record { source = S.failures src.old; sink = W.failures sink.old })
+        (record { source = S.failures src.new; sink = W.failures sink.new }) result }
+    ensures steady { S.failures src.old < u64.MAX → W.failures sink.old < u64.MAX →
+        S.failures src.new ≡ S.failures src.old → W.failures sink.new ≡ W.failures sink.old → IsOk result }
     ensures lengths { S.lengths src.new ≡ S.lengths src.old }
     ensures table { S.table src.new ≡ S.table src.old }
     ensures earlier { (folder : Folder) → S.keeps src.new folder → S.keeps src.old folder }
@@ -63,9 +68,12 @@ pub fn put<S: Source, W: Sink>(cord: &Cord, src: &mut S, sink: &mut W) -> Result
 fn put_node<S: Source, W: Sink>(node: &Node, src: &mut S, sink: &mut W) -> Result<(), CordError>
     requires sound { IsSound node.now }
     requires fits { FitsIn (S.lengths src.old) node.now }
-    ensures text { OnOk result (Takes (IsTextOver (S.keeps src.new) (S.table src.old) node.now) (W.taken sink.old) (W.taken sink.new)) }
-    ensures prefix { OnErr result (Takes (IsPrefixOver (S.keeps src.new) (S.table src.old) node.now) (W.taken sink.old) (W.taken sink.new)) }
-    ensures faults { CountsFaults (record { source = S.failures src.old; sink = W.failures sink.old }) (record { source = S.failures src.new; sink = W.failures sink.new }) result }
+    ensures text { OnOk result (Takes (IsTextOver (S.keeps src.new) (S.table src.old) node.now) (W.taken sink.old)
+        (W.taken sink.new)) }
+    ensures prefix { OnErr result (Takes (IsPrefixOver (S.keeps src.new) (S.table src.old) node.now) (W.taken sink.old)
+        (W.taken sink.new)) }
+    ensures faults { CountsFaults (record { source = S.failures src.old; sink = W.failures sink.old })
+        (record { source = S.failures src.new; sink = W.failures sink.new }) result }
     ensures lengths { S.lengths src.new ≡ S.lengths src.old }
     ensures table { S.table src.new ≡ S.table src.old }
     ensures earlier { (folder : Folder) → S.keeps src.new folder → S.keeps src.old folder }
@@ -103,9 +111,12 @@ fn put_func<S: Source, W: Sink>(
 ) -> Result<(), CordError>
     requires fits { start + len ≤ length_at (S.lengths src.old) id.0 }
     requires limit { start + len ≤ MAX_LEN }
-    ensures text { OnOk result (Takes (IsTextOver (S.keeps src.new) (S.table src.old) (Node.Func id start len)) (W.taken sink.old) (W.taken sink.new)) }
-    ensures prefix { OnErr result (Takes (IsPrefixOver (S.keeps src.new) (S.table src.old) (Node.Func id start len)) (W.taken sink.old) (W.taken sink.new)) }
-    ensures faults { CountsFaults (record { source = S.failures src.old; sink = W.failures sink.old }) (record { source = S.failures src.new; sink = W.failures sink.new }) result }
+    ensures text { OnOk result (Takes (IsTextOver (S.keeps src.new) (S.table src.old) (Node.Func id start len))
+        (W.taken sink.old) (W.taken sink.new)) }
+    ensures prefix { OnErr result (Takes (IsPrefixOver (S.keeps src.new) (S.table src.old) (Node.Func id start len))
+        (W.taken sink.old) (W.taken sink.new)) }
+    ensures faults { CountsFaults (record { source = S.failures src.old; sink = W.failures sink.old })
+        (record { source = S.failures src.new; sink = W.failures sink.new }) result }
     ensures lengths { S.lengths src.new ≡ S.lengths src.old }
     ensures table { S.table src.new ≡ S.table src.old }
     ensures earlier { (folder : Folder) → S.keeps src.new folder → S.keeps src.old folder }
@@ -134,9 +145,12 @@ fn put_range<const N: usize, S: Source, W: Sink>(
     requires few { N ≤ BLOCK_LEN }
     requires fits { start + len ≤ length_at (S.lengths src.old) id.0 }
     requires limit { start + len ≤ MAX_LEN }
-    ensures text { OnOk result (Takes (IsTextOver (S.keeps src.new) (S.table src.old) (Node.Func id start len)) (W.taken sink.old) (W.taken sink.new)) }
-    ensures prefix { OnErr result (Takes (IsPrefixOver (S.keeps src.new) (S.table src.old) (Node.Func id start len)) (W.taken sink.old) (W.taken sink.new)) }
-    ensures faults { CountsFaults (record { source = S.failures src.old; sink = W.failures sink.old }) (record { source = S.failures src.new; sink = W.failures sink.new }) result }
+    ensures text { OnOk result (Takes (IsTextOver (S.keeps src.new) (S.table src.old) (Node.Func id start len))
+        (W.taken sink.old) (W.taken sink.new)) }
+    ensures prefix { OnErr result (Takes (IsPrefixOver (S.keeps src.new) (S.table src.old) (Node.Func id start len))
+        (W.taken sink.old) (W.taken sink.new)) }
+    ensures faults { CountsFaults (record { source = S.failures src.old; sink = W.failures sink.old })
+        (record { source = S.failures src.new; sink = W.failures sink.new }) result }
     ensures lengths { S.lengths src.new ≡ S.lengths src.old }
     ensures table { S.table src.new ≡ S.table src.old }
     ensures earlier { (folder : Folder) → S.keeps src.new folder → S.keeps src.old folder }
@@ -162,9 +176,14 @@ fn put_piece<S: Source, W: Sink>(
 ) -> Result<(), CordError>
     requires some { 0 < length piece.old }
     requires fits { start + length piece.old ≤ length_at (S.lengths src.old) id.0 }
-    ensures text { OnOk result (Takes (IsTextOver (S.keeps src.new) (S.table src.old) (Node.Func id start (length piece.old))) (W.taken sink.old) (W.taken sink.new)) }
-    ensures prefix { OnErr result (Takes (IsPrefixOver (S.keeps src.new) (S.table src.old) (Node.Func id start (length piece.old))) (W.taken sink.old) (W.taken sink.new)) }
-    ensures faults { CountsFaults (record { source = S.failures src.old; sink = W.failures sink.old }) (record { source = S.failures src.new; sink = W.failures sink.new }) result }
+    ensures text { OnOk result
+        (Takes (IsTextOver (S.keeps src.new) (S.table src.old) (Node.Func id start (length piece.old)))
+        (W.taken sink.old) (W.taken sink.new)) }
+    ensures prefix { OnErr result
+        (Takes (IsPrefixOver (S.keeps src.new) (S.table src.old) (Node.Func id start (length piece.old)))
+        (W.taken sink.old) (W.taken sink.new)) }
+    ensures faults { CountsFaults (record { source = S.failures src.old; sink = W.failures sink.old })
+        (record { source = S.failures src.new; sink = W.failures sink.new }) result }
     ensures lengths { S.lengths src.new ≡ S.lengths src.old }
     ensures table { S.table src.new ≡ S.table src.old }
     ensures earlier { (folder : Folder) → S.keeps src.new folder → S.keeps src.old folder }

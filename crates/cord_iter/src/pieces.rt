@@ -8,8 +8,10 @@ use cord_io::{Sink, WriteFault};
 
 /// Offers the bytes until the sink has taken them all: after a short `put` the rest. After a fault the sink has taken a prefix.
 pub fn put_all<W: Sink>(bytes: &[u8], sink: &mut W) -> Result<(), WriteFault>
-    ensures ok { OnOk result ((W.taken sink.new ≡ W.taken sink.old ++ bytes.now) × (W.failures sink.new ≡ W.failures sink.old)) }
-    ensures err { OnErr result (Takes (IsFrontOf bytes.now) (W.taken sink.old) (W.taken sink.new) × (W.failures sink.new ≡ raised (W.failures sink.old))) }
+    ensures ok { OnOk result ((W.taken sink.new ≡ W.taken sink.old ++ bytes.now) ×
+        (W.failures sink.new ≡ W.failures sink.old)) }
+    ensures err { OnErr result (Takes (IsFrontOf bytes.now) (W.taken sink.old) (W.taken sink.new) ×
+        (W.failures sink.new ≡ raised (W.failures sink.old))) }
     ensures finished { W.finished sink.new ≡ W.finished sink.old }
 {
     let mut done = 0;
@@ -21,8 +23,10 @@ pub fn put_all<W: Sink>(bytes: &[u8], sink: &mut W) -> Result<(), WriteFault>
 
 // Puts `len` times the byte: a long run in blocks, so that a sink with a buffer need not keep them.
 pub(crate) fn put_run<W: Sink>(byte: u8, len: u64, sink: &mut W) -> Result<(), WriteFault>
-    ensures ok { OnOk result ((W.taken sink.new ≡ W.taken sink.old ++ replicate len byte) × (W.failures sink.new ≡ W.failures sink.old)) }
-    ensures err { OnErr result (Takes (IsFrontOf (replicate len byte)) (W.taken sink.old) (W.taken sink.new) × (W.failures sink.new ≡ raised (W.failures sink.old))) }
+    ensures ok { OnOk result ((W.taken sink.new ≡ W.taken sink.old ++ replicate len byte) ×
+        (W.failures sink.new ≡ W.failures sink.old)) }
+    ensures err { OnErr result (Takes (IsFrontOf (replicate len byte)) (W.taken sink.old) (W.taken sink.new) ×
+        (W.failures sink.new ≡ raised (W.failures sink.old))) }
     ensures finished { W.finished sink.new ≡ W.finished sink.old }
 {
     if len < BLOCK_LEN as u64 {
@@ -37,8 +41,10 @@ pub(crate) fn put_run<W: Sink>(byte: u8, len: u64, sink: &mut W) -> Result<(), W
 fn put_repeated<const N: usize, W: Sink>(byte: u8, len: u64, sink: &mut W) -> Result<(), WriteFault>
     requires some { 0 < N }
     requires few { N ≤ BLOCK_LEN }
-    ensures ok { OnOk result ((W.taken sink.new ≡ W.taken sink.old ++ replicate len byte) × (W.failures sink.new ≡ W.failures sink.old)) }
-    ensures err { OnErr result (Takes (IsFrontOf (replicate len byte)) (W.taken sink.old) (W.taken sink.new) × (W.failures sink.new ≡ raised (W.failures sink.old))) }
+    ensures ok { OnOk result ((W.taken sink.new ≡ W.taken sink.old ++ replicate len byte) ×
+        (W.failures sink.new ≡ W.failures sink.old)) }
+    ensures err { OnErr result (Takes (IsFrontOf (replicate len byte)) (W.taken sink.old) (W.taken sink.new) ×
+        (W.failures sink.new ≡ raised (W.failures sink.old))) }
     ensures finished { W.finished sink.new ≡ W.finished sink.old }
 {
     let block = [byte; N];

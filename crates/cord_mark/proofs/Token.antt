@@ -56,7 +56,8 @@ module _ {M : Type 1} {𝓤 : Ura M} (𝓛 : Logic 𝓤) (T : Ended) (stays : St
       fact_use 𝓤 (Related y) (via 𝓤 (sem 𝓛 (owns Rs y.0.3 y.0.4)) (via 𝓤 start (fst∗ 𝓤 start ((held y.0.0 y.0.3).requires y.1))
       (snd∗ 𝓤 (alive 𝓛 S y.0.0 y.0.1) (sem 𝓛 (owns Rs y.0.3 y.0.4)))) (owns_show 𝓛 Rs (Ises Rs) (showss 𝓛 Rs) y.0.3 y.0.4)) walk
 
-  pub met_with_token : (𝓜 : Model 𝓤 H) (𝓡 : Running 𝓤 H 𝓜) → AllGo 𝓛 S.lifetimes S.params T.kept stays → (k : Callee) (e : Fn) → over 𝓡.env e ≼⁺ 𝓡.env k
+  pub met_with_token : (𝓜 : Model 𝓤 H) (𝓡 : Running 𝓤 H 𝓜) → AllGo 𝓛 S.lifetimes S.params T.kept stays → (k : Callee) (e : Fn) →
+      over 𝓡.env e ≼⁺ 𝓡.env k
       → ((C : Calls 𝓤 H) (Λ : Loops 𝓤 H) (y : Ghost) → Related y → Runs e C Λ y) → Meets 𝓛 S (𝓡.run (𝓡.env k)) (closing 𝓛 T c)
   unfolding tables_of
   met_with_token 𝓜 𝓡 go k e is walk =

@@ -15,11 +15,13 @@ use denote.Sharing.{ShrLaws, said}
 use Rattle.cord_mark.specs.inner.Ownership.{Told, telling, told}
 
 module _ {M : Type 1} {𝓤 : Ura M} (𝓛 : Logic 𝓤) (γ : GName) where
-  pub told_twice : (parts : List Part) (b o : ℕ) → ent 𝓤 (sem 𝓛 (told γ parts b o)) (sep 𝓤 (sem 𝓛 (told γ parts b o)) (sem 𝓛 (told γ parts b o)))
+  pub told_twice : (parts : List Part) (b o : ℕ) → ent 𝓤 (sem 𝓛 (told γ parts b o))
+      (sep 𝓤 (sem 𝓛 (told γ parts b o)) (sem 𝓛 (told γ parts b o)))
   told_twice parts b o = let t : Told = (parts, (b, o)) in
       𝓛.algebras.own_cut telling γ t t t (Ag.idem (SetCoded-set (coded (coded× coded_parts (coded× coded_ℕ coded_ℕ)))) t)
 
-  pub told_same : (s t : List Part) (b o c e : ℕ) → ent 𝓤 (sep 𝓤 (sem 𝓛 (told γ s b o)) (sem 𝓛 (told γ t c e))) (fact 𝓤 (◌≡◌ {A = Told} (s, (b, o)) (t, (c, e))))
+  pub told_same : (s t : List Part) (b o c e : ℕ) → ent 𝓤 (sep 𝓤 (sem 𝓛 (told γ s b o)) (sem 𝓛 (told γ t c e)))
+      (fact 𝓤 (◌≡◌ {A = Told} (s, (b, o)) (t, (c, e))))
   told_same s t b o c e = own_glued 𝓛 telling γ (s, (b, o)) (t, (c, e)) _ (λ u m. fact_i 𝓤 _ _ m.0)
 
 pub told_shr_laws : (γ : GName) (parts : List Part) (b o : ℕ) → ShrLaws (said (told γ parts b o))

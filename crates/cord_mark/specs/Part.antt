@@ -30,7 +30,8 @@ part-numbers (run_part byte len) = refl
 part-numbers (func_part id start len) = refl
 
 abbrev pub coded_numbers : Coded Numbers
-coded_numbers = coded⊎ (coded× (coded_list coded_ℕ) (coded× coded_ℕ coded_ℕ)) (coded⊎ (coded× coded_ℕ coded_ℕ) (coded× coded_ℕ (coded× coded_ℕ coded_ℕ)))
+coded_numbers = coded⊎ (coded× (coded_list coded_ℕ) (coded× coded_ℕ coded_ℕ))
+    (coded⊎ (coded× coded_ℕ coded_ℕ) (coded× coded_ℕ (coded× coded_ℕ coded_ℕ)))
 
 -- how the logic stores a list of parts
 abbrev pub coded_parts : Coded (List Part)

@@ -1,12 +1,14 @@
 -- A run follows paths.
-use Rattle.std.proofs.Common.{◌≡◌, ℕ, zero, suc, ◌+◌, ◌<◌, ◌≤◌, ℤ, pos, negsuc, Bool, true, false, List, [], ◌∷◌, ◌++◌, length, map, drop, Option, Some, None, Result, Ok, Err, refl, sym, ap, ◌∙◌, subst, inl, inr, nat_lt, arith}
+use Rattle.std.proofs.Common.{◌≡◌, ℕ, zero, suc, ◌+◌, ◌<◌, ◌≤◌, ℤ, pos, negsuc, Bool, true, false, List, [], ◌∷◌, ◌++◌, length, map, drop}
+use Rattle.std.proofs.Common.{Option, Some, None, Result, Ok, Err, refl, sym, ap, ◌∙◌, subst, inl, inr, nat_lt, arith}
 use Rattle.std.specs.Prelude.{slice_get, if◌then◌else◌}
 use Rattle.cord_meaning.specs.declared.ends.End.{End}
 use Rattle.cord_meaning.specs.declared.ends.FaultKind.{FaultKind}
 use Rattle.cord_meaning.specs.declared.ends.FaultKind.TheVariants.{TooManyTurns}
 use Rattle.cord_meaning.specs.Blocks.{Shape, Simple, Loop, Branch, Otherwise, Close, IsNested, to_end, to_else, jump_at, jump_of}
 use Rattle.cord_meaning.specs.Paths.{opened, open_at, NextOf, NextOfClose, Next}
-use Rattle.cord_meaning.specs.Machine.{Rules, Block, Turns, Chosen, Config, acted, begins, turned, faults, notes, repeats, chooses, closes, if_running, jump_from, runs_shape, runs, after}
+use Rattle.cord_meaning.specs.Machine.{Rules, Block, Turns, Chosen, Config, acted, begins, turned, faults, notes, repeats, chooses, closes}
+use Rattle.cord_meaning.specs.Machine.{if_running, jump_from, runs_shape, runs, after}
 use Rattle.std.proofs.lemmas.Option.{slice_get_within, slice_get-map}
 use Rattle.std.specs.Option.{option_map}
 use Rattle.cord_core.proofs.Places.{at_here, next_here, some_here}
@@ -48,11 +50,15 @@ module _ (shapes : List Shape) where
   open_next p o e = let one : p + 1 ≡ suc p = omega arith in ap (λ (n : ℕ). open_at shapes n) one ∙ ap (λ (w : Option Shape). opened p (open_at shapes p) w) e
 
   module _ (r : ℕ) (rest : List (Option ℕ)) where
-    behind_loop : (p : ℕ) (xs : List (Option ℕ)) → slice_get shapes p ≡ Some Loop → Some p ∷ open_at shapes p ≡ xs ++ (Some r ∷ rest) → ((ys : List (Option ℕ)) → open_at shapes p ≡ ys ++ (Some r ∷ rest) → open_at shapes (r + 1) ≡ Some r ∷ rest) → open_at shapes (r + 1) ≡ Some r ∷ rest
+    behind_loop : (p : ℕ) (xs : List (Option ℕ)) → slice_get shapes p ≡ Some Loop → Some p ∷ open_at shapes p ≡ xs ++ (Some r ∷ rest) →
+        ((ys : List (Option ℕ)) → open_at shapes p ≡ ys ++ (Some r ∷ rest) → open_at shapes (r + 1) ≡ Some r ∷ rest) →
+        open_at shapes (r + 1) ≡ Some r ∷ rest
     behind_loop p [] s e ih = let same : p ≡ r = ap first_place e in subst (λ (n : ℕ). open_at shapes (n + 1) ≡ Some r ∷ rest) same (open_next p (Some Loop) s ∙ e)
     behind_loop p (y ∷ ys) s e ih = ih ys (ap outer e)
 
-    behind_branch : (p : ℕ) (xs : List (Option ℕ)) → None ∷ open_at shapes p ≡ xs ++ (Some r ∷ rest) → ((ys : List (Option ℕ)) → open_at shapes p ≡ ys ++ (Some r ∷ rest) → open_at shapes (r + 1) ≡ Some r ∷ rest) → open_at shapes (r + 1) ≡ Some r ∷ rest
+    behind_branch : (p : ℕ) (xs : List (Option ℕ)) → None ∷ open_at shapes p ≡ xs ++ (Some r ∷ rest) →
+        ((ys : List (Option ℕ)) → open_at shapes p ≡ ys ++ (Some r ∷ rest) → open_at shapes (r + 1) ≡ Some r ∷ rest) →
+        open_at shapes (r + 1) ≡ Some r ∷ rest
     behind_branch p [] e ih = absurd (differ (ap is_loop e))
       where
         is_loop : List (Option ℕ) → Bool
@@ -63,11 +69,16 @@ module _ (shapes : List Shape) where
         differ e = cc
     behind_branch p (y ∷ ys) e ih = ih ys (ap outer e)
 
-    behind_close : (p : ℕ) (xs stack : List (Option ℕ)) → open_at shapes p ≡ stack → opened p stack (Some Close) ≡ xs ++ (Some r ∷ rest) → ((ys : List (Option ℕ)) → open_at shapes p ≡ ys ++ (Some r ∷ rest) → open_at shapes (r + 1) ≡ Some r ∷ rest) → open_at shapes (r + 1) ≡ Some r ∷ rest
+    behind_close : (p : ℕ) (xs stack : List (Option ℕ)) → open_at shapes p ≡ stack → opened p stack (Some Close) ≡ xs ++ (Some r ∷ rest) →
+        ((ys : List (Option ℕ)) → open_at shapes p ≡ ys ++ (Some r ∷ rest) → open_at shapes (r + 1) ≡ Some r ∷ rest) →
+        open_at shapes (r + 1) ≡ Some r ∷ rest
     behind_close p xs [] k e ih = absurd (not_nil xs (Some r) rest (sym e))
     behind_close p xs (b ∷ stack) k e ih = ih (b ∷ xs) (k ∙ ap (λ (ys : List (Option ℕ)). b ∷ ys) e)
 
-    behind_one : (p : ℕ) (xs : List (Option ℕ)) (o : Option Shape) → slice_get shapes p ≡ o → opened p (open_at shapes p) o ≡ xs ++ (Some r ∷ rest) → ((ys : List (Option ℕ)) → open_at shapes p ≡ ys ++ (Some r ∷ rest) → open_at shapes (r + 1) ≡ Some r ∷ rest) → open_at shapes (r + 1) ≡ Some r ∷ rest
+    behind_one : (p : ℕ) (xs : List (Option ℕ)) (o : Option Shape) → slice_get shapes p ≡ o →
+        opened p (open_at shapes p) o ≡ xs ++ (Some r ∷ rest) →
+        ((ys : List (Option ℕ)) → open_at shapes p ≡ ys ++ (Some r ∷ rest) → open_at shapes (r + 1) ≡ Some r ∷ rest) →
+        open_at shapes (r + 1) ≡ Some r ∷ rest
     behind_one p xs None s e ih = ih xs e
     behind_one p xs (Some Simple) s e ih = ih xs e
     behind_one p xs (Some Otherwise) s e ih = ih xs e
@@ -84,31 +95,41 @@ module _ (shapes : List Shape) where
   abbrev Passed : ℕ → List Shape → ℕ → ℕ → Type 0
   Passed q ls d n = open_at shapes (q + n) ≡ drop d (open_at shapes q)
 
-  passed_on : (q n d e : ℕ) (x : Shape) (ls : List Shape) → drop q shapes ≡ x ∷ ls → drop e (opened q (open_at shapes q) (Some x)) ≡ drop d (open_at shapes q) → open_at shapes (q + 1 + n) ≡ drop e (open_at shapes (q + 1)) → open_at shapes (q + suc n) ≡ drop d (open_at shapes q)
+  passed_on : (q n d e : ℕ) (x : Shape) (ls : List Shape) → drop q shapes ≡ x ∷ ls →
+      drop e (opened q (open_at shapes q) (Some x)) ≡ drop d (open_at shapes q) →
+      open_at shapes (q + 1 + n) ≡ drop e (open_at shapes (q + 1)) → open_at shapes (q + suc n) ≡ drop d (open_at shapes q)
   passed_on q n d e x ls here same ih =
       let one : q + suc n ≡ q + 1 + n = omega arith in
-      ap (λ (m : ℕ). open_at shapes m) one ∙ ih ∙ ap (λ (bs : List (Option ℕ)). drop e bs) (open_next q (Some x) (at_here shapes q x ls here)) ∙ same
+      ap (λ (m : ℕ). open_at shapes m) one ∙ ih ∙ ap (λ (bs : List (Option ℕ)). drop e bs)
+      (open_next q (Some x) (at_here shapes q x ls here)) ∙ same
 
   still : (q : ℕ) → open_at shapes (q + 0) ≡ open_at shapes q
   still q = let same : q + 0 ≡ q = omega arith in ap (λ (n : ℕ). open_at shapes n) same
 
   -- up to the `end` that closes d blocks and one more
-  end_comes : (ls : List Shape) (q d : ℕ) (st : List Bool) → drop q shapes ≡ ls → IsNested st ls → d < length st → Passed q ls d (to_end d ls)
+  end_comes : (ls : List Shape) (q d : ℕ) (st : List Bool) → drop q shapes ≡ ls → IsNested st ls → d < length st →
+      Passed q ls d (to_end d ls)
   end_comes [] q d [] here n lt = absurd (omega arith)
   end_comes [] q d (b ∷ st) here n lt = absurd n
-  end_comes (Simple ∷ ls) q d st here n lt = passed_on q (to_end d ls) d d Simple ls here refl (end_comes ls (q + 1) d st (next_here shapes q Simple ls here) n lt)
-  end_comes (Loop ∷ ls) q d st here n lt = passed_on q (to_end (suc d) ls) d (suc d) Loop ls here refl (end_comes ls (q + 1) (suc d) (false ∷ st) (next_here shapes q Loop ls here) n (omega arith))
-  end_comes (Branch ∷ ls) q d st here n lt = passed_on q (to_end (suc d) ls) d (suc d) Branch ls here refl (end_comes ls (q + 1) (suc d) (true ∷ st) (next_here shapes q Branch ls here) n (omega arith))
+  end_comes (Simple ∷ ls) q d st here n lt = passed_on q (to_end d ls) d d Simple ls here refl
+      (end_comes ls (q + 1) d st (next_here shapes q Simple ls here) n lt)
+  end_comes (Loop ∷ ls) q d st here n lt = passed_on q (to_end (suc d) ls) d (suc d) Loop ls here refl
+      (end_comes ls (q + 1) (suc d) (false ∷ st) (next_here shapes q Loop ls here) n (omega arith))
+  end_comes (Branch ∷ ls) q d st here n lt = passed_on q (to_end (suc d) ls) d (suc d) Branch ls here refl
+      (end_comes ls (q + 1) (suc d) (true ∷ st) (next_here shapes q Branch ls here) n (omega arith))
   end_comes (Otherwise ∷ ls) q d [] here n lt = absurd n
   end_comes (Otherwise ∷ ls) q d (false ∷ st) here n lt = absurd n
-  end_comes (Otherwise ∷ ls) q d (true ∷ st) here n lt = passed_on q (to_end d ls) d d Otherwise ls here refl (end_comes ls (q + 1) d (false ∷ st) (next_here shapes q Otherwise ls here) n lt)
+  end_comes (Otherwise ∷ ls) q d (true ∷ st) here n lt = passed_on q (to_end d ls) d d Otherwise ls here refl
+      (end_comes ls (q + 1) d (false ∷ st) (next_here shapes q Otherwise ls here) n lt)
   end_comes (Close ∷ ls) q zero st here n lt = still q
   end_comes (Close ∷ ls) q (suc d) [] here n lt = absurd n
   end_comes (Close ∷ ls) q (suc d) (b ∷ st) here n lt =
-      passed_on q (to_end d ls) (suc d) d Close ls here (ap (λ (bs : List (Option ℕ)). drop d bs) (opened-close q (open_at shapes q)) ∙ drop-outer d (open_at shapes q)) (end_comes ls (q + 1) d st (next_here shapes q Close ls here) n (omega arith))
+      passed_on q (to_end d ls) (suc d) d Close ls here (ap (λ (bs : List (Option ℕ)). drop d bs) (opened-close q (open_at shapes q))
+      ∙ drop-outer d (open_at shapes q)) (end_comes ls (q + 1) d st (next_here shapes q Close ls here) n (omega arith))
 
   -- that `end` is there
-  end_stands : (ls : List Shape) (q d : ℕ) (st : List Bool) → drop q shapes ≡ ls → IsNested st ls → d < length st → slice_get shapes (q + to_end d ls) ≡ Some Close
+  end_stands : (ls : List Shape) (q d : ℕ) (st : List Bool) → drop q shapes ≡ ls → IsNested st ls → d < length st →
+      slice_get shapes (q + to_end d ls) ≡ Some Close
   end_stands [] q d [] here n lt = absurd (omega arith)
   end_stands [] q d (b ∷ st) here n lt = absurd n
   end_stands (Simple ∷ ls) q d st here n lt = let one : q + suc (to_end d ls) ≡ q + 1 + to_end d ls = omega arith in ap (λ (m : ℕ). slice_get shapes m) one ∙ end_stands ls (q + 1) d st (next_here shapes q Simple ls here) n lt
@@ -122,22 +143,29 @@ module _ (shapes : List Shape) where
   end_stands (Close ∷ ls) q (suc d) (b ∷ st) here n lt = let one : q + suc (to_end d ls) ≡ q + 1 + to_end d ls = omega arith in ap (λ (m : ℕ). slice_get shapes m) one ∙ end_stands ls (q + 1) d st (next_here shapes q Close ls here) n (omega arith)
 
   -- after the `else`, or up to the `end`, of an `if`
-  else_comes : (ls : List Shape) (q d : ℕ) (st : List Bool) → drop q shapes ≡ ls → IsNested st ls → d < length st → Passed q ls d (to_else d ls)
+  else_comes : (ls : List Shape) (q d : ℕ) (st : List Bool) → drop q shapes ≡ ls → IsNested st ls → d < length st →
+      Passed q ls d (to_else d ls)
   else_comes [] q d [] here n lt = absurd (omega arith)
   else_comes [] q d (b ∷ st) here n lt = absurd n
-  else_comes (Simple ∷ ls) q d st here n lt = passed_on q (to_else d ls) d d Simple ls here refl (else_comes ls (q + 1) d st (next_here shapes q Simple ls here) n lt)
-  else_comes (Loop ∷ ls) q d st here n lt = passed_on q (to_else (suc d) ls) d (suc d) Loop ls here refl (else_comes ls (q + 1) (suc d) (false ∷ st) (next_here shapes q Loop ls here) n (omega arith))
-  else_comes (Branch ∷ ls) q d st here n lt = passed_on q (to_else (suc d) ls) d (suc d) Branch ls here refl (else_comes ls (q + 1) (suc d) (true ∷ st) (next_here shapes q Branch ls here) n (omega arith))
+  else_comes (Simple ∷ ls) q d st here n lt = passed_on q (to_else d ls) d d Simple ls here refl
+      (else_comes ls (q + 1) d st (next_here shapes q Simple ls here) n lt)
+  else_comes (Loop ∷ ls) q d st here n lt = passed_on q (to_else (suc d) ls) d (suc d) Loop ls here refl
+      (else_comes ls (q + 1) (suc d) (false ∷ st) (next_here shapes q Loop ls here) n (omega arith))
+  else_comes (Branch ∷ ls) q d st here n lt = passed_on q (to_else (suc d) ls) d (suc d) Branch ls here refl
+      (else_comes ls (q + 1) (suc d) (true ∷ st) (next_here shapes q Branch ls here) n (omega arith))
   else_comes (Otherwise ∷ ls) q d [] here n lt = absurd n
   else_comes (Otherwise ∷ ls) q d (false ∷ st) here n lt = absurd n
   else_comes (Otherwise ∷ ls) q zero (true ∷ st) here n lt = open_next q (Some Otherwise) (at_here shapes q Otherwise ls here)
-  else_comes (Otherwise ∷ ls) q (suc d) (true ∷ st) here n lt = passed_on q (to_else (suc d) ls) (suc d) (suc d) Otherwise ls here refl (else_comes ls (q + 1) (suc d) (false ∷ st) (next_here shapes q Otherwise ls here) n lt)
+  else_comes (Otherwise ∷ ls) q (suc d) (true ∷ st) here n lt = passed_on q (to_else (suc d) ls) (suc d) (suc d) Otherwise ls here refl
+      (else_comes ls (q + 1) (suc d) (false ∷ st) (next_here shapes q Otherwise ls here) n lt)
   else_comes (Close ∷ ls) q zero st here n lt = still q
   else_comes (Close ∷ ls) q (suc d) [] here n lt = absurd n
   else_comes (Close ∷ ls) q (suc d) (b ∷ st) here n lt =
-      passed_on q (to_else d ls) (suc d) d Close ls here (ap (λ (bs : List (Option ℕ)). drop d bs) (opened-close q (open_at shapes q)) ∙ drop-outer d (open_at shapes q)) (else_comes ls (q + 1) d st (next_here shapes q Close ls here) n (omega arith))
+      passed_on q (to_else d ls) (suc d) d Close ls here (ap (λ (bs : List (Option ℕ)). drop d bs) (opened-close q (open_at shapes q))
+      ∙ drop-outer d (open_at shapes q)) (else_comes ls (q + 1) d st (next_here shapes q Close ls here) n (omega arith))
 
-  nested_one : (p : ℕ) (x : Shape) (rest : List Shape) (st : List Bool) (blocks : List (Option ℕ)) → IsNested st (x ∷ rest) → length st ≡ length blocks → (more : List Bool) × IsNested more rest × (length more ≡ length (opened p blocks (Some x)))
+  nested_one : (p : ℕ) (x : Shape) (rest : List Shape) (st : List Bool) (blocks : List (Option ℕ)) → IsNested st (x ∷ rest) →
+      length st ≡ length blocks → (more : List Bool) × IsNested more rest × (length more ≡ length (opened p blocks (Some x)))
   nested_one p Simple rest st blocks n e = (st, n, e)
   nested_one p Loop rest st blocks n e = (false ∷ st, n, omega (arith, e))
   nested_one p Branch rest st blocks n e = (true ∷ st, n, omega (arith, e))
@@ -149,7 +177,8 @@ module _ (shapes : List Shape) where
   nested_one p Close rest (b ∷ st) (c ∷ blocks) n e = (st, n, omega (arith, e))
 
   -- the blocks that are open at a place are closed after it
-  nested_at : IsNested [] shapes → (p : ℕ) → p ≤ length shapes → (st : List Bool) × IsNested st (drop p shapes) × (length st ≡ length (open_at shapes p))
+  nested_at : IsNested [] shapes → (p : ℕ) → p ≤ length shapes → (st : List Bool) × IsNested st (drop p shapes) ×
+      (length st ≡ length (open_at shapes p))
   nested_at n zero le = ([], n, refl)
   nested_at n (suc p) le =
       let here = some_here shapes p (omega arith) in
@@ -158,15 +187,20 @@ module _ (shapes : List Shape) where
       let one = nested_one p here.0 here.1 before.0 (open_at shapes p) now before.2 in
       let same : p + 1 ≡ suc p = omega arith in
       let behind : drop (suc p) shapes ≡ here.1 = ap (λ (m : ℕ). drop m shapes) (sym same) ∙ next_here shapes p here.0 here.1 here.2 in
-      let shape : slice_get shapes p ≡ Some here.0 = at_here shapes p here.0 here.1 here.2 in
-      (one.0, subst (λ (ls : List Shape). IsNested one.0 ls) (sym behind) one.1, one.2 ∙ ap (λ (o : Option Shape). length (opened p (open_at shapes p) o)) (sym shape))
+      let shape : slice_get shapes p ≡ Some here.0 = at_here shapes p here.0 here.1 here.2 in (
+        one.0,
+        subst (λ (ls : List Shape). IsNested one.0 ls) (sym behind) one.1,
+        one.2
+            ∙ ap (λ (o : Option Shape). length (opened p (open_at shapes p) o)) (sym shape),
+      )
 
   module _ (nested : IsNested [] shapes) (p : ℕ) (inside : p < length shapes) where
     rest_here : List Shape
     rest_here = drop (p + 1) shapes
 
     -- some block is open after a statement that opens one
-    one_open : (x : Shape) (blocks : List (Option ℕ)) (b : Option ℕ) → slice_get shapes p ≡ Some x → opened p (open_at shapes p) (Some x) ≡ b ∷ blocks → (st : List Bool) × IsNested st (drop (p + 1) shapes) × (0 < length st)
+    one_open : (x : Shape) (blocks : List (Option ℕ)) (b : Option ℕ) → slice_get shapes p ≡ Some x →
+        opened p (open_at shapes p) (Some x) ≡ b ∷ blocks → (st : List Bool) × IsNested st (drop (p + 1) shapes) × (0 < length st)
     one_open x blocks b s e =
         let behind = nested_at nested (p + 1) (omega (arith, inside)) in
         let some : length (open_at shapes (p + 1)) ≡ length (b ∷ blocks) = ap (λ (bs : List (Option ℕ)). length bs) (open_next p (Some x) s ∙ e) in
@@ -197,7 +231,8 @@ module _ (shapes : List Shape) where
         let some : 0 < length before.0 = some_block before.0 here.0 here.1 is now in
         let behind = nested_at nested (p + 1) (omega (arith, inside)) in
         let same : length (open_at shapes (p + 1)) ≡ length (open_at shapes p) = ap (λ (bs : List (Option ℕ)). length bs) (open_next p (Some Otherwise) s) in
-        end_comes (drop (p + 1) shapes) (p + 1) 0 behind.0 refl behind.1 (omega (arith, some, same, behind.2, before.2)) ∙ open_next p (Some Otherwise) s
+        end_comes (drop (p + 1) shapes) (p + 1) 0 behind.0 refl behind.1 (omega (arith, some, same, behind.2, before.2))
+        ∙ open_next p (Some Otherwise) s
       where
         some_block : (st : List Bool) (x : Shape) (rest : List Shape) → Some x ≡ Some Otherwise → IsNested st (x ∷ rest) → 0 < length st
         some_block (b ∷ st) x rest is n = omega arith
@@ -225,7 +260,8 @@ module _ {L S : Type 0} (rules : Rules L S) (most : ℕ) (statements : List L) w
   module _ (nested : IsNested [] shapes_of) (c : Config S) (fits : Fits c) (l : L) (here : slice_get statements c.place ≡ Some l) where
     module _ (x : Shape) (is : rules.shape l ≡ x) where
       shape_here : slice_get shapes_of c.place ≡ Some x
-      shape_here = slice_get-map rules.shape statements c.place ∙ ap (λ (o : Option L). option_map rules.shape o) here ∙ ap (λ (w : Shape). Some w) is
+      shape_here = slice_get-map rules.shape statements c.place ∙ ap (λ (o : Option L). option_map rules.shape o) here
+          ∙ ap (λ (w : Shape). Some w) is
 
       next_by : (q : ℕ) → NextOf shapes_of c.place (Some x) q → Next shapes_of c.place q
       next_by q h = subst (λ (o : Option Shape). NextOf shapes_of c.place o q) (sym shape_here) h
@@ -240,64 +276,97 @@ module _ {L S : Type 0} (rules : Rules L S) (most : ℕ) (statements : List L) w
       steps_on : opened c.place (open_at shapes_of c.place) (Some x) ≡ opened c.place (block_places c.blocks) (Some x)
       steps_on = ap (λ (bs : List (Option ℕ)). opened c.place bs (Some x)) (sym fits)
 
-      fits_next : (bs : List Block) → block_places bs ≡ opened c.place (block_places c.blocks) (Some x) → block_places bs ≡ open_at shapes_of (c.place + 1)
+      fits_next : (bs : List Block) → block_places bs ≡ opened c.place (block_places c.blocks) (Some x) →
+          block_places bs ≡ open_at shapes_of (c.place + 1)
       fits_next bs e = e ∙ sym steps_on ∙ sym (open_next shapes_of c.place (Some x) shape_here)
 
-    acted_follows : rules.shape l ≡ Simple → (line : ℕ) (r : Result (S × List ℕ) FaultKind) → (acted c line r).ended ≡ None → Follows c (acted c line r)
+    acted_follows : rules.shape l ≡ Simple → (line : ℕ) (r : Result (S × List ℕ) FaultKind) → (acted c line r).ended ≡ None →
+        Follows c (acted c line r)
     acted_follows is line (Ok next) e = (next_by Simple is (c.place + 1) refl, fits_next Simple is c.blocks refl)
     acted_follows is line (Err kind) e = absurd (ended_not _ e)
 
-    begins_follows : (d : Config S) (place line left : ℕ) (bs : List Block) → Next shapes_of c.place (place + 1) → Some place ∷ block_places bs ≡ open_at shapes_of (place + 1) → (begins most d place line left bs).ended ≡ None → Follows c (begins most d place line left bs)
+    begins_follows : (d : Config S) (place line left : ℕ) (bs : List Block) → Next shapes_of c.place (place + 1) →
+        Some place ∷ block_places bs ≡ open_at shapes_of (place + 1) → (begins most d place line left bs).ended ≡ None →
+        Follows c (begins most d place line left bs)
     begins_follows d place line left bs next fit = pick (nat_lt d.turns most)
       where
-        pick : (v : Bool) → (if v then turned d place line left bs else faults d line TooManyTurns).ended ≡ None → Follows c (if v then turned d place line left bs else faults d line TooManyTurns)
+        pick : (v : Bool) → (if v then turned d place line left bs else faults d line TooManyTurns).ended ≡ None →
+            Follows c (if v then turned d place line left bs else faults d line TooManyTurns)
         pick true e = (next, fit)
         pick false e = absurd (ended_not _ e)
 
-    repeats_follows : rules.shape l ≡ Loop → (line : ℕ) (z : ℤ) → (repeats most c line (jump_from rules most statements c.place) z).ended ≡ None → Follows c (repeats most c line (jump_from rules most statements c.place) z)
+    repeats_follows : rules.shape l ≡ Loop → (line : ℕ) (z : ℤ) → (repeats most c line (jump_from rules most statements c.place) z).ended
+        ≡ None → Follows c (repeats most c line (jump_from rules most statements c.place) z)
     repeats_follows is line (negsuc n) e = absurd (ended_not _ e)
-    repeats_follows is line (pos zero) e =
-        (next_by Loop is (jump_from rules most statements c.place) (inr refl), fits ∙ sym (open_behind_loop shapes_of nested c.place (inside Loop is) (shape_here Loop is)) ∙ ap (λ (q : ℕ). open_at shapes_of q) (sym (jump_is Loop is)))
-    repeats_follows is line (pos (suc n)) e = begins_follows (notes c line []) c.place line n c.blocks (next_by Loop is (c.place + 1) (inl refl)) (fits_next Loop is (Turns c.place line n ∷ c.blocks) refl) e
+    repeats_follows is line (pos zero) e = (
+      next_by Loop is (jump_from rules most statements c.place) (inr refl),
+      fits
+          ∙ sym (open_behind_loop shapes_of nested c.place (inside Loop is) (shape_here Loop is))
+          ∙ ap (λ (q : ℕ). open_at shapes_of q) (sym (jump_is Loop is)),
+    )
+    repeats_follows is line (pos (suc n)) e = begins_follows (notes c line []) c.place line n c.blocks
+        (next_by Loop is (c.place + 1) (inl refl)) (fits_next Loop is (Turns c.place line n ∷ c.blocks) refl) e
 
-    chooses_follows : rules.shape l ≡ Branch → (line : ℕ) (v : Bool) → Follows c (chooses c line (jump_from rules most statements c.place) v)
+    chooses_follows : rules.shape l ≡ Branch → (line : ℕ) (v : Bool) →
+        Follows c (chooses c line (jump_from rules most statements c.place) v)
     chooses_follows is line true = (next_by Branch is (c.place + 1) (inl refl), fits_next Branch is (Chosen ∷ c.blocks) refl)
-    chooses_follows is line false =
-        (next_by Branch is (jump_from rules most statements c.place) (inr refl), ap (λ (bs : List (Option ℕ)). None ∷ bs) fits ∙ sym (open_behind_else shapes_of nested c.place (inside Branch is) (shape_here Branch is)) ∙ ap (λ (q : ℕ). open_at shapes_of q) (sym (jump_is Branch is)))
+    chooses_follows is line false = (
+      next_by Branch is (jump_from rules most statements c.place) (inr refl),
+      ap (λ (bs : List (Option ℕ)). None ∷ bs) fits
+          ∙ sym (open_behind_else shapes_of nested c.place (inside Branch is) (shape_here Branch is))
+          ∙ ap (λ (q : ℕ). open_at shapes_of q) (sym (jump_is Branch is)),
+    )
 
-    closes_follows : rules.shape l ≡ Close → (bs : List Block) → c.blocks ≡ bs → (closes most c bs).ended ≡ None → Follows c (closes most c bs)
+    closes_follows : rules.shape l ≡ Close → (bs : List Block) → c.blocks ≡ bs → (closes most c bs).ended ≡ None →
+        Follows c (closes most c bs)
     closes_follows is [] k e =
-        let opens : [] ≡ open_at shapes_of c.place = ap block_places (sym k) ∙ fits in
-        (next_by Close is (c.place + 1) (subst (λ (os : List (Option ℕ)). NextOfClose c.place os (c.place + 1)) opens refl), fits_next Close is [] (ap (λ (xs : List Block). opened c.place (block_places xs) (Some Close)) (sym k)))
+        let opens : [] ≡ open_at shapes_of c.place = ap block_places (sym k) ∙ fits in (
+          next_by Close is (c.place + 1) (subst (λ (os : List (Option ℕ)). NextOfClose c.place os (c.place + 1)) opens refl),
+          fits_next Close is [] (ap (λ (xs : List Block). opened c.place (block_places xs) (Some Close)) (sym k)),
+        )
     closes_follows is (Chosen ∷ bs) k e =
-        let opens : None ∷ block_places bs ≡ open_at shapes_of c.place = ap block_places (sym k) ∙ fits in
-        (next_by Close is (c.place + 1) (subst (λ (os : List (Option ℕ)). NextOfClose c.place os (c.place + 1)) opens refl), fits_next Close is bs (ap (λ (xs : List Block). opened c.place (block_places xs) (Some Close)) (sym k)))
+        let opens : None ∷ block_places bs ≡ open_at shapes_of c.place = ap block_places (sym k) ∙ fits in (
+          next_by Close is (c.place + 1) (subst (λ (os : List (Option ℕ)). NextOfClose c.place os (c.place + 1)) opens refl),
+          fits_next Close is bs (ap (λ (xs : List Block). opened c.place (block_places xs) (Some Close)) (sym k)),
+        )
     closes_follows is (Turns place line zero ∷ bs) k e =
-        let opens : Some place ∷ block_places bs ≡ open_at shapes_of c.place = ap block_places (sym k) ∙ fits in
-        (next_by Close is (c.place + 1) (subst (λ (os : List (Option ℕ)). NextOfClose c.place os (c.place + 1)) opens (inr refl)), fits_next Close is bs (ap (λ (xs : List Block). opened c.place (block_places xs) (Some Close)) (sym k)))
+        let opens : Some place ∷ block_places bs ≡ open_at shapes_of c.place = ap block_places (sym k) ∙ fits in (
+          next_by Close is (c.place + 1) (subst (λ (os : List (Option ℕ)). NextOfClose c.place os (c.place + 1)) opens (inr refl)),
+          fits_next Close is bs (ap (λ (xs : List Block). opened c.place (block_places xs) (Some Close)) (sym k)),
+        )
     closes_follows is (Turns place line (suc n) ∷ bs) k e =
         let opens : Some place ∷ block_places bs ≡ open_at shapes_of c.place = ap block_places (sym k) ∙ fits in
         begins_follows c place line n bs
         (next_by Close is (place + 1) (subst (λ (os : List (Option ℕ)). NextOfClose c.place os (place + 1)) opens (inl refl)))
         (sym (open_behind shapes_of place (block_places bs) c.place [] (sym opens))) e
 
-    shape_follows : (x : Shape) → rules.shape l ≡ x → (runs_shape rules most statements c l x).ended ≡ None → Follows c (runs_shape rules most statements c l x)
+    shape_follows : (x : Shape) → rules.shape l ≡ x → (runs_shape rules most statements c l x).ended ≡ None →
+        Follows c (runs_shape rules most statements c l x)
     shape_follows Simple is e = acted_follows is (rules.line l) (rules.act c.place l c.state) e
     shape_follows Loop is e = repeats_follows is (rules.line l) (rules.count l c.state) e
     shape_follows Branch is e = chooses_follows is (rules.line l) (rules.holds l c.state)
-    shape_follows Otherwise is e = (next_by Otherwise is (jump_from rules most statements c.place) refl, fits ∙ sym (open_at_end shapes_of nested c.place (inside Otherwise is) (shape_here Otherwise is)) ∙ ap (λ (q : ℕ). open_at shapes_of q) (sym (jump_is Otherwise is)))
+    shape_follows Otherwise is e = (
+      next_by Otherwise is (jump_from rules most statements c.place) refl,
+      fits
+          ∙ sym (open_at_end shapes_of nested c.place (inside Otherwise is) (shape_here Otherwise is))
+          ∙ ap (λ (q : ℕ). open_at shapes_of q) (sym (jump_is Otherwise is)),
+    )
     shape_follows Close is e = closes_follows is c.blocks refl e
 
   module _ (nested : IsNested [] shapes_of) where
-    runs_follows : (c : Config S) → Fits c → (o : Option L) → slice_get statements c.place ≡ o → (runs rules most statements c o).ended ≡ None → Follows c (runs rules most statements c o)
+    runs_follows : (c : Config S) → Fits c → (o : Option L) → slice_get statements c.place ≡ o →
+        (runs rules most statements c o).ended ≡ None → Follows c (runs rules most statements c o)
     runs_follows c fits None here e = absurd (ended_not _ e)
     runs_follows c fits (Some l) here e = shape_follows nested c fits l here (rules.shape l) refl e
 
-    step_follows : (c : Config S) → Fits c → (o : Option End) → c.ended ≡ o → (if_running o c (runs rules most statements c (slice_get statements c.place))).ended ≡ None → Follows c (if_running o c (runs rules most statements c (slice_get statements c.place)))
+    step_follows : (c : Config S) → Fits c → (o : Option End) → c.ended ≡ o →
+        (if_running o c (runs rules most statements c (slice_get statements c.place))).ended ≡ None →
+        Follows c (if_running o c (runs rules most statements c (slice_get statements c.place)))
     step_follows c fits None k e = runs_follows c fits (slice_get statements c.place) refl e
     step_follows c fits (Some x) k e = absurd (ended_not x (sym k ∙ e))
 
-    was_running : (c : Config S) (o : Option End) → c.ended ≡ o → (if_running o c (runs rules most statements c (slice_get statements c.place))).ended ≡ None → c.ended ≡ None
+    was_running : (c : Config S) (o : Option End) → c.ended ≡ o →
+        (if_running o c (runs rules most statements c (slice_get statements c.place))).ended ≡ None → c.ended ≡ None
     was_running c None k e = k
     was_running c (Some x) k e = e
 
@@ -308,7 +377,8 @@ module _ {L S : Type 0} (rules : Rules L S) (most : ℕ) (statements : List L) w
         (step_follows c (fits_after a k (was_running c c.ended refl e)) c.ended refl e).1
 
     -- a run goes from a place to one that may come next
-    pub follows : (a : S) (k : ℕ) → (after rules most statements (suc k) a).ended ≡ None → Next shapes_of (after rules most statements k a).place (after rules most statements (suc k) a).place
+    pub follows : (a : S) (k : ℕ) → (after rules most statements (suc k) a).ended ≡ None →
+        Next shapes_of (after rules most statements k a).place (after rules most statements (suc k) a).place
     follows a k e =
         let c : Config S = after rules most statements k a in
         (step_follows c (fits_after a k (was_running c c.ended refl e)) c.ended refl e).0

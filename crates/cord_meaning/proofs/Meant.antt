@@ -6,7 +6,8 @@ use Rattle.cord_meaning.specs.declared.ends.End.TheVariants.{Done}
 use Rattle.cord_meaning.specs.declared.ends.FaultKind.{FaultKind}
 use Rattle.cord_meaning.specs.declared.ends.FaultKind.TheVariants.{TooManyTurns}
 use Rattle.cord_meaning.specs.Blocks.{Shape, Simple, Loop, Branch, Otherwise, Close}
-use Rattle.cord_meaning.specs.Machine.{Rules, Block, Turns, Chosen, Config, notes, faults, acted, turned, begins, repeats, chooses, closes, if_running, jump_from, runs_shape, runs, step, after, whole, enough, run_end}
+use Rattle.cord_meaning.specs.Machine.{Rules, Block, Turns, Chosen, Config, notes, faults, acted, turned, begins, repeats, chooses, closes}
+use Rattle.cord_meaning.specs.Machine.{if_running, jump_from, runs_shape, runs, step, after, whole, enough, run_end}
 use Rattle.cord_meaning.specs.Ends.{IsMeant}
 
 -- it goes on, or has ended as Done or by a fault
@@ -15,14 +16,17 @@ MeantSoFar None = Unit {0}
 MeantSoFar (Some e) = IsMeant e
 
 module _ {S : Type 0} where
-  begins_meant : (most : ℕ) (c : Config S) → MeantSoFar c.ended → (place line left : ℕ) (blocks : List Block) → MeantSoFar (begins most c place line left blocks).ended
-  begins_meant most c h place line left blocks = elim (nat_lt c.turns most) as (λ v. MeantSoFar (if v then turned c place line left blocks else faults c line TooManyTurns).ended) [ true ↦ h | false ↦ tt ]
+  begins_meant : (most : ℕ) (c : Config S) → MeantSoFar c.ended → (place line left : ℕ) (blocks : List Block) →
+      MeantSoFar (begins most c place line left blocks).ended
+  begins_meant most c h place line left blocks = elim (nat_lt c.turns most) as
+      (λ v. MeantSoFar (if v then turned c place line left blocks else faults c line TooManyTurns).ended) [ true ↦ h | false ↦ tt ]
 
   acted_meant : (c : Config S) → MeantSoFar c.ended → (line : ℕ) (r : Result (S × List ℕ) FaultKind) → MeantSoFar (acted c line r).ended
   acted_meant c h line (Ok r) = h
   acted_meant c h line (Err k) = tt
 
-  repeats_meant : (most : ℕ) (c : Config S) → MeantSoFar c.ended → (line behind : ℕ) (n : ℤ) → MeantSoFar (repeats most c line behind n).ended
+  repeats_meant : (most : ℕ) (c : Config S) → MeantSoFar c.ended → (line behind : ℕ) (n : ℤ) →
+      MeantSoFar (repeats most c line behind n).ended
   repeats_meant most c h line behind (negsuc n) = tt
   repeats_meant most c h line behind (pos zero) = h
   repeats_meant most c h line behind (pos (suc n)) = begins_meant most (notes c line []) h c.place line n c.blocks
@@ -38,7 +42,8 @@ module _ {S : Type 0} where
   closes_meant most c h (Turns place line (suc n) ∷ blocks) = begins_meant most c h place line n blocks
 
 module _ {L S : Type 0} (rules : Rules L S) (most : ℕ) (statements : List L) where
-  shape_meant : (c : Config S) → MeantSoFar c.ended → (l : L) (shape : Shape) → MeantSoFar (runs_shape rules most statements c l shape).ended
+  shape_meant : (c : Config S) → MeantSoFar c.ended → (l : L) (shape : Shape) →
+      MeantSoFar (runs_shape rules most statements c l shape).ended
   shape_meant c h l Simple = acted_meant c h (rules.line l) (rules.act c.place l c.state)
   shape_meant c h l Loop = repeats_meant most c h (rules.line l) (jump_from rules most statements c.place) (rules.count l c.state)
   shape_meant c h l Branch = chooses_meant c h (rules.line l) (jump_from rules most statements c.place) (rules.holds l c.state)

@@ -1,5 +1,6 @@
 -- Statements whose blocks are closed are parts, one after the other.
-use Rattle.std.proofs.Common.{◌≡◌, ℕ, zero, suc, ◌<◌, ◌≤◌, ◌⊎◌, Bool, true, false, List, [], ◌∷◌, ◌++◌, length, map, refl, sym, ap, ◌∙◌, inl, inr, ⊎_elim, arith, append_assoc}
+use Rattle.std.proofs.Common.{◌≡◌, ℕ, zero, suc, ◌<◌, ◌≤◌, ◌⊎◌, Bool, true, false, List, [], ◌∷◌, ◌++◌, length, map, refl, sym, ap, ◌∙◌}
+use Rattle.std.proofs.Common.{inl, inr, ⊎_elim, arith, append_assoc}
 use Rattle.cord_meaning.specs.Blocks.{Shape, Simple, Loop, Branch, Otherwise, Close, IsNested}
 use Rattle.cord_meaning.specs.Unrolled.{Parts, Nothing, Then, Repeats, Chooses, ChoosesElse, flat, IsWell}
 
@@ -15,7 +16,8 @@ module _ {L : Type 0} (shape : L → Shape) where
     rest : List L
     is : ls ≡ flat body ++ (closing ∷ rest)
     less : length rest < length ls
-    closes : ((shape closing ≡ Close) × IsNested blocks (shapes rest)) ⊎ ((shape closing ≡ Otherwise) × (b ≡ true) × IsNested (false ∷ blocks) (shapes rest))
+    closes : ((shape closing ≡ Close) × IsNested blocks (shapes rest)) ⊎
+        ((shape closing ≡ Otherwise) × (b ≡ true) × IsNested (false ∷ blocks) (shapes rest))
 
   -- all are parts
   pub record Whole (ls : List L) : Type 0 where
@@ -30,15 +32,41 @@ module _ {L : Type 0} (shape : L → Shape) where
   Splits n = (ls : List L) → length ls ≤ n → (b : Bool) (blocks : List Bool) → IsNested (b ∷ blocks) (shapes ls) → Split b blocks ls
 
   -- a block and what follows it
-  block_is : (x e z : L) (inner rest behind : List L) → x ∷ (inner ++ (e ∷ (rest ++ (z ∷ behind)))) ≡ (x ∷ (inner ++ (e ∷ rest))) ++ (z ∷ behind)
+  block_is : (x e z : L) (inner rest behind : List L) → x ∷ (inner ++ (e ∷ (rest ++ (z ∷ behind)))) ≡ (x ∷ (inner ++ (e ∷ rest)))
+      ++ (z ∷ behind)
   block_is x e z inner rest behind = ap (λ (ls : List L). x ∷ ls) (sym (append_assoc inner (e ∷ rest) (z ∷ behind)))
 
-  split_one : (n : ℕ) → Splits n → (x : L) (xs : List L) → length xs ≤ n → (b : Bool) (blocks : List Bool) (w : Shape) → shape x ≡ w → IsNested (b ∷ blocks) (w ∷ shapes xs) → Split b blocks (x ∷ xs)
+  split_one : (n : ℕ) → Splits n → (x : L) (xs : List L) → length xs ≤ n → (b : Bool) (blocks : List Bool) (w : Shape) → shape x ≡ w →
+      IsNested (b ∷ blocks) (w ∷ shapes xs) → Split b blocks (x ∷ xs)
   split_one n ih x xs le b blocks Simple is h =
       let s = ih xs le b blocks h in
-      record { body = Then x s.body; well = (is, s.well); closing = s.closing; rest = s.rest; is = ap (λ (ls : List L). x ∷ ls) s.is; less = omega (arith, s.less); closes = s.closes }
-  split_one n ih x xs le b blocks Close is h = record { body = Nothing; well = tt; closing = x; rest = xs; is = refl; less = omega arith; closes = inl (is, h) }
-  split_one n ih x xs le true blocks Otherwise is h = record { body = Nothing; well = tt; closing = x; rest = xs; is = refl; less = omega arith; closes = inr (is, refl, h) }
+      record {
+        body = Then x s.body;
+        well = (is, s.well);
+        closing = s.closing;
+        rest = s.rest;
+        is = ap (λ (ls : List L). x ∷ ls) s.is;
+        less = omega (arith, s.less);
+        closes = s.closes;
+      }
+  split_one n ih x xs le b blocks Close is h = record {
+    body = Nothing;
+    well = tt;
+    closing = x;
+    rest = xs;
+    is = refl;
+    less = omega arith;
+    closes = inl (is, h);
+  }
+  split_one n ih x xs le true blocks Otherwise is h = record {
+    body = Nothing;
+    well = tt;
+    closing = x;
+    rest = xs;
+    is = refl;
+    less = omega arith;
+    closes = inr (is, refl, h);
+  }
   split_one n ih x xs le false blocks Otherwise is h = absurd h
   split_one n ih x xs le b blocks Loop is h =
       let s = ih xs le false (b ∷ blocks) h in
@@ -50,7 +78,8 @@ module _ {L : Type 0} (shape : L → Shape) where
         well = (is, c.0, s.well, r.well);
         closing = r.closing;
         rest = r.rest;
-        is = ap (λ (ls : List L). x ∷ ls) (s.is ∙ ap (λ (ls : List L). flat s.body ++ (s.closing ∷ ls)) r.is) ∙ block_is x s.closing r.closing (flat s.body) (flat r.body) r.rest;
+        is = ap (λ (ls : List L). x ∷ ls) (s.is ∙ ap (λ (ls : List L). flat s.body ++ (s.closing ∷ ls)) r.is)
+            ∙ block_is x s.closing r.closing (flat s.body) (flat r.body) r.rest;
         less = omega (arith, s.less, r.less);
         closes = r.closes;
       })
@@ -66,7 +95,8 @@ module _ {L : Type 0} (shape : L → Shape) where
         well = (is, c.0, s.well, r.well);
         closing = r.closing;
         rest = r.rest;
-        is = ap (λ (ls : List L). x ∷ ls) (s.is ∙ ap (λ (ls : List L). flat s.body ++ (s.closing ∷ ls)) r.is) ∙ block_is x s.closing r.closing (flat s.body) (flat r.body) r.rest;
+        is = ap (λ (ls : List L). x ∷ ls) (s.is ∙ ap (λ (ls : List L). flat s.body ++ (s.closing ∷ ls)) r.is)
+            ∙ block_is x s.closing r.closing (flat s.body) (flat r.body) r.rest;
         less = omega (arith, s.less, r.less);
         closes = r.closes;
       })
@@ -80,7 +110,9 @@ module _ {L : Type 0} (shape : L → Shape) where
         well = (is, c.0, k.0, s.well, o.well, r.well);
         closing = r.closing;
         rest = r.rest;
-        is = ap (λ (ls : List L). x ∷ ls) (s.is ∙ ap (λ (ls : List L). flat s.body ++ (s.closing ∷ ls)) (o.is ∙ ap (λ (ls : List L). flat o.body ++ (o.closing ∷ ls)) r.is ∙ sym (append_assoc (flat o.body) (o.closing ∷ flat r.body) (r.closing ∷ r.rest))))
+        is = ap (λ (ls : List L). x ∷ ls) (s.is ∙ ap (λ (ls : List L). flat s.body ++ (s.closing ∷ ls))
+            (o.is ∙ ap (λ (ls : List L). flat o.body ++ (o.closing ∷ ls)) r.is
+            ∙ sym (append_assoc (flat o.body) (o.closing ∷ flat r.body) (r.closing ∷ r.rest))))
             ∙ block_is x s.closing r.closing (flat s.body) (flat o.body ++ (o.closing ∷ flat r.body)) r.rest;
         less = omega (arith, s.less, o.less, r.less);
         closes = r.closes;
@@ -97,7 +129,8 @@ module _ {L : Type 0} (shape : L → Shape) where
   abbrev Wholes : ℕ → Type 0
   Wholes n = (ls : List L) → length ls ≤ n → IsNested [] (shapes ls) → Whole ls
 
-  whole_one : (n : ℕ) → Wholes n → (x : L) (xs : List L) → length xs ≤ n → (w : Shape) → shape x ≡ w → IsNested [] (w ∷ shapes xs) → Whole (x ∷ xs)
+  whole_one : (n : ℕ) → Wholes n → (x : L) (xs : List L) → length xs ≤ n → (w : Shape) → shape x ≡ w → IsNested [] (w ∷ shapes xs) →
+      Whole (x ∷ xs)
   whole_one n ih x xs le Simple is h =
       let r = ih xs le h in
       record { parts = Then x r.parts; well = (is, r.well); is = ap (λ (ls : List L). x ∷ ls) r.is }
@@ -108,7 +141,11 @@ module _ {L : Type 0} (shape : L → Shape) where
       ⊎_elim
       (λ c.
       let r = ih s.rest (omega (arith, s.less)) c.1 in
-      record { parts = Repeats x s.closing s.body r.parts; well = (is, c.0, s.well, r.well); is = ap (λ (ls : List L). x ∷ ls) (s.is ∙ ap (λ (ls : List L). flat s.body ++ (s.closing ∷ ls)) r.is) })
+      record {
+        parts = Repeats x s.closing s.body r.parts;
+        well = (is, c.0, s.well, r.well);
+        is = ap (λ (ls : List L). x ∷ ls) (s.is ∙ ap (λ (ls : List L). flat s.body ++ (s.closing ∷ ls)) r.is);
+      })
       (λ c. absurd (differ c.1))
       s.closes
   whole_one n ih x xs le Branch is h =
@@ -116,7 +153,11 @@ module _ {L : Type 0} (shape : L → Shape) where
       ⊎_elim
       (λ c.
       let r = ih s.rest (omega (arith, s.less)) c.1 in
-      record { parts = Chooses x s.closing s.body r.parts; well = (is, c.0, s.well, r.well); is = ap (λ (ls : List L). x ∷ ls) (s.is ∙ ap (λ (ls : List L). flat s.body ++ (s.closing ∷ ls)) r.is) })
+      record {
+        parts = Chooses x s.closing s.body r.parts;
+        well = (is, c.0, s.well, r.well);
+        is = ap (λ (ls : List L). x ∷ ls) (s.is ∙ ap (λ (ls : List L). flat s.body ++ (s.closing ∷ ls)) r.is);
+      })
       (λ c.
       let o = split n s.rest (omega (arith, s.less)) false [] c.2 in
       ⊎_elim
@@ -125,7 +166,8 @@ module _ {L : Type 0} (shape : L → Shape) where
       record {
         parts = ChoosesElse x s.closing o.closing s.body o.body r.parts;
         well = (is, c.0, k.0, s.well, o.well, r.well);
-        is = ap (λ (ls : List L). x ∷ ls) (s.is ∙ ap (λ (ls : List L). flat s.body ++ (s.closing ∷ ls)) (o.is ∙ ap (λ (ls : List L). flat o.body ++ (o.closing ∷ ls)) r.is));
+        is = ap (λ (ls : List L). x ∷ ls) (s.is ∙ ap (λ (ls : List L). flat s.body ++ (s.closing ∷ ls))
+            (o.is ∙ ap (λ (ls : List L). flat o.body ++ (o.closing ∷ ls)) r.is));
       })
       (λ k. absurd (differ k.1))
       o.closes)

@@ -20,17 +20,20 @@ abbrev may_turn_each : List scripts.Block → List Bool
 may_turn_each blocks = map may_turn blocks
 
 module _ (more : List Shape) where
-  ends_block : (blocks : List scripts.Block) → blocks ≢ [] → IsNested (may_turn_each (scripts.closed blocks)) more → IsNested (may_turn_each blocks) (Close ∷ more)
+  ends_block : (blocks : List scripts.Block) → blocks ≢ [] → IsNested (may_turn_each (scripts.closed blocks)) more →
+      IsNested (may_turn_each blocks) (Close ∷ more)
   ends_block [] some h = absurd (some refl)
   ends_block (b ∷ blocks) some h = h
 
-  turns_block : (blocks : List scripts.Block) → (line : ℕ) × (rest : List scripts.Block) × (blocks ≡ scripts.Block.InIf line ∷ rest) → IsNested (may_turn_each (scripts.turned blocks)) more → IsNested (may_turn_each blocks) (Otherwise ∷ more)
+  turns_block : (blocks : List scripts.Block) → (line : ℕ) × (rest : List scripts.Block) × (blocks ≡ scripts.Block.InIf line ∷ rest) →
+      IsNested (may_turn_each (scripts.turned blocks)) more → IsNested (may_turn_each blocks) (Otherwise ∷ more)
   turns_block blocks (line, rest, is) h =
       subst (λ (bs : List scripts.Block). IsNested (may_turn_each bs) (Otherwise ∷ more)) (sym is)
       (subst (λ (bs : List scripts.Block). IsNested (may_turn_each (scripts.turned bs)) more) is h)
 
   -- one statement in front
-  one_nested : (s : Statement) (blocks : List scripts.Block) → FitsBlocks (effect_of s) blocks → IsNested (may_turn_each (blocks_after (effect_of s) (line_of s) blocks)) more → IsNested (may_turn_each blocks) (shape_of s ∷ more)
+  one_nested : (s : Statement) (blocks : List scripts.Block) → FitsBlocks (effect_of s) blocks →
+      IsNested (may_turn_each (blocks_after (effect_of s) (line_of s) blocks)) more → IsNested (may_turn_each blocks) (shape_of s ∷ more)
   one_nested (Repeat line count) blocks fits h = h
   one_nested (If line left relation right) blocks fits h = h
   one_nested (Else line) blocks fits h = turns_block blocks fits h
@@ -38,22 +41,27 @@ module _ (more : List Shape) where
   one_nested _ blocks fits h = h
 
 module _ (g : Grammar) where
-  lines_nested : (lines : List (List ℕ)) (n : ℕ) (before : Before) (ss : List Statement) → LinesSay g n before lines ss → (after_all ss before).blocks ≡ [] → IsNested (may_turn_each before.blocks) (map shape_of ss)
+  lines_nested : (lines : List (List ℕ)) (n : ℕ) (before : Before) (ss : List Statement) → LinesSay g n before lines ss →
+      (after_all ss before).blocks ≡ [] → IsNested (may_turn_each before.blocks) (map shape_of ss)
   lines_nested [] n before ss none closed =
       let shut : before.blocks ≡ [] = subst (λ (xs : List Statement). (after_all xs before).blocks ≡ []) none closed in
-      subst (λ (xs : List Statement). IsNested (may_turn_each before.blocks) (map shape_of xs)) (sym none) (subst (λ (bs : List scripts.Block). IsNested (may_turn_each bs) []) (sym shut) tt)
+      subst (λ (xs : List Statement). IsNested (may_turn_each before.blocks) (map shape_of xs)) (sym none)
+      (subst (λ (bs : List scripts.Block). IsNested (may_turn_each bs) []) (sym shut) tt)
   lines_nested (line ∷ lines) n before ss (inl (idle, rest)) closed = lines_nested lines (n + 1) before ss rest closed
   lines_nested (line ∷ lines) n before ss (inr (busy, s, words, rest, is, has, says, others)) closed =
       let shut : (after_all rest (scripts.after s before)).blocks ≡ [] = subst (λ (xs : List Statement). (after_all xs before).blocks ≡ []) is closed in
       subst (λ (xs : List Statement). IsNested (may_turn_each before.blocks) (map shape_of xs)) (sym is)
       (one_nested (map shape_of rest) s before.blocks says.blocks (lines_nested lines (n + 1) (scripts.after s before) rest others shut))
 
-  lines_numbered : (lines : List (List ℕ)) (n : ℕ) (before : Before) (ss : List Statement) → 0 < n → LinesSay g n before lines ss → All (λ s. 0 < line_of s) ss
-  lines_numbered [] n before ss lt none = subst (λ (xs : List Statement). All (λ s. 0 < line_of s) xs) (sym none) (All-nil (λ s. 0 < line_of s))
+  lines_numbered : (lines : List (List ℕ)) (n : ℕ) (before : Before) (ss : List Statement) → 0 < n → LinesSay g n before lines ss →
+      All (λ s. 0 < line_of s) ss
+  lines_numbered [] n before ss lt none = subst (λ (xs : List Statement). All (λ s. 0 < line_of s) xs) (sym none)
+      (All-nil (λ s. 0 < line_of s))
   lines_numbered (line ∷ lines) n before ss lt (inl (idle, rest)) = lines_numbered lines (n + 1) before ss (omega arith) rest
   lines_numbered (line ∷ lines) n before ss lt (inr (busy, s, words, rest, is, has, says, others)) =
       let first : 0 < line_of s = subst (λ (k : ℕ). 0 < k) (sym says.line) lt in
-      subst (λ (xs : List Statement). All (λ s. 0 < line_of s) xs) (sym is) (All-cons (λ s. 0 < line_of s) s rest first (lines_numbered lines (n + 1) (scripts.after s before) rest (omega arith) others))
+      subst (λ (xs : List Statement). All (λ s. 0 < line_of s) xs) (sym is)
+      (All-cons (λ s. 0 < line_of s) s rest first (lines_numbered lines (n + 1) (scripts.after s before) rest (omega arith) others))
 
 -- the blocks of a script that is read are closed
 pub read_nested : {g : Grammar} (b : List ℕ) (ss : List Statement) → ReadsBy g b ss → IsNested [] (map shape_of ss)

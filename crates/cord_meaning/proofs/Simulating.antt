@@ -1,5 +1,6 @@
 -- Two runs of one shape go together, where states stay related.
-use Rattle.std.proofs.Common.{◌≡◌, ℕ, zero, suc, ◌+◌, ℤ, pos, negsuc, Bool, true, false, List, [], ◌∷◌, ◌++◌, map, Option, Some, None, Result, Ok, Err, refl, sym, ap, ◌∙◌, subst, nat_lt}
+use Rattle.std.proofs.Common.{◌≡◌, ℕ, zero, suc, ◌+◌, ℤ, pos, negsuc, Bool, true, false, List, [], ◌∷◌, ◌++◌, map, Option, Some, None}
+use Rattle.std.proofs.Common.{Result, Ok, Err, refl, sym, ap, ◌∙◌, subst, nat_lt}
 use Rattle.std.specs.Prelude.{slice_get, if◌then◌else◌, IsSome, unwrap_or}
 use Rattle.std.specs.Option.{option_map}
 use Rattle.std.proofs.lemmas.List.{map-append}
@@ -10,7 +11,8 @@ use Rattle.cord_meaning.specs.declared.ends.FaultKind.{FaultKind}
 use Rattle.cord_meaning.specs.declared.ends.FaultKind.TheVariants.{TooManyTurns}
 use Rattle.cord_meaning.specs.Blocks.{Shape, Simple, Loop, Branch, Otherwise, Close, IsNested, jump}
 use Rattle.cord_meaning.specs.Paths.{Next}
-use Rattle.cord_meaning.specs.Machine.{Rules, Moment, Block, Turns, Chosen, Config, notes, goes_to, faults, acted, turned, begins, repeats, chooses, closes, if_running, jump_from, runs_shape, runs, step, after, enough, run_moments, run_end}
+use Rattle.cord_meaning.specs.Machine.{Rules, Moment, Block, Turns, Chosen, Config, notes, goes_to, faults, acted, turned, begins, repeats}
+use Rattle.cord_meaning.specs.Machine.{chooses, closes, if_running, jump_from, runs_shape, runs, step, after, enough, run_moments, run_end}
 use Rattle.cord_meaning.specs.Simulation.{told, Agree, IsControl, Simulates}
 use Rattle.cord_meaning.proofs.Terminates.{ends}
 use Rattle.cord_meaning.proofs.Runs.{moments_when_ended, end_when_ended}
@@ -29,9 +31,11 @@ module _ {S T : Type 0} where
     state_is : c.state ≡ s
 
   -- one member more on both sides
-  tells_more : (xs : List (Moment S)) (ys : List (Moment T)) (m : Moment S) (n : Moment T) → map told xs ≡ map told ys → told m ≡ told n → map told (xs ++ m ∷ []) ≡ map told (ys ++ n ∷ [])
+  tells_more : (xs : List (Moment S)) (ys : List (Moment T)) (m : Moment S) (n : Moment T) → map told xs ≡ map told ys → told m ≡ told n →
+      map told (xs ++ m ∷ []) ≡ map told (ys ++ n ∷ [])
   tells_more xs ys m n e f =
-      map-append told xs (m ∷ []) ∙ ap (λ (zs : List (ℕ × ℕ × List ℕ)). zs ++ told m ∷ []) e ∙ ap (λ (z : ℕ × ℕ × List ℕ). map told ys ++ z ∷ []) f ∙ sym (map-append told ys (n ∷ []))
+      map-append told xs (m ∷ []) ∙ ap (λ (zs : List (ℕ × ℕ × List ℕ)). zs ++ told m ∷ []) e
+      ∙ ap (λ (z : ℕ × ℕ × List ℕ). map told ys ++ z ∷ []) f ∙ sym (map-append told ys (n ∷ []))
 
   module _ (most : ℕ) (c : Config S) (seen : List (Moment T)) (t : T) (same : map told c.seen ≡ map told seen) where
     abbrev d : Config T
@@ -46,10 +50,12 @@ module _ {S T : Type 0} where
     noted : (line : ℕ) → map told (c.seen ++ mine line ∷ []) ≡ map told (seen ++ theirs line ∷ [])
     noted line = tells_more c.seen seen (mine line) (theirs line) same refl
 
-    begins_beside : (place line left : ℕ) (bs : List Block) → Beside (begins most c place line left bs) (begins most d place line left bs) c.state t
+    begins_beside : (place line left : ℕ) (bs : List Block) → Beside (begins most c place line left bs)
+        (begins most d place line left bs) c.state t
     begins_beside place line left bs = pick (nat_lt c.turns most)
       where
-        pick : (v : Bool) → Beside (if v then turned c place line left bs else faults c line TooManyTurns) (if v then turned d place line left bs else faults d line TooManyTurns) c.state t
+        pick : (v : Bool) → Beside (if v then turned c place line left bs else faults c line TooManyTurns)
+            (if v then turned d place line left bs else faults d line TooManyTurns) c.state t
         pick true = record { other = seen ++ theirs line ∷ []; is = refl; tells = noted line; state_is = refl }
         pick false = record { other = seen ++ theirs line ∷ []; is = refl; tells = noted line; state_is = refl }
 
@@ -63,10 +69,23 @@ module _ {S T : Type 0} where
     closes_beside (Turns place line zero ∷ bs) = record { other = seen; is = refl; tells = same; state_is = refl }
     closes_beside (Turns place line (suc n) ∷ bs) = begins_beside place line n bs
 
-  repeats_beside : (most : ℕ) (c : Config S) (seen : List (Moment T)) (t : T) → map told c.seen ≡ map told seen → (line behind : ℕ) (z : ℤ) → Beside (repeats most c line behind z) (repeats most (with_other c seen t) line behind z) c.state t
-  repeats_beside most c seen t same line behind (negsuc n) = record { other = seen ++ theirs most c seen t same line ∷ []; is = refl; tells = noted most c seen t same line; state_is = refl }
-  repeats_beside most c seen t same line behind (pos zero) = record { other = seen ++ theirs most c seen t same line ∷ []; is = refl; tells = noted most c seen t same line; state_is = refl }
-  repeats_beside most c seen t same line behind (pos (suc n)) = begins_beside most (notes c line []) (seen ++ theirs most c seen t same line ∷ []) t (noted most c seen t same line) c.place line n c.blocks
+  repeats_beside : (most : ℕ) (c : Config S) (seen : List (Moment T)) (t : T) → map told c.seen ≡ map told seen →
+      (line behind : ℕ) (z : ℤ) → Beside (repeats most c line behind z) (repeats most (with_other c seen t) line behind z) c.state t
+  repeats_beside most c seen t same line behind (negsuc n) = record {
+    other = seen ++ theirs most c seen t same line ∷ [];
+    is = refl;
+    tells = noted most c seen t same line;
+    state_is = refl;
+  }
+  repeats_beside most c seen t same line behind (pos zero) = record {
+    other = seen ++ theirs most c seen t same line ∷ [];
+    is = refl;
+    tells = noted most c seen t same line;
+    state_is = refl;
+  }
+  repeats_beside most c seen t same line behind (pos (suc n)) =
+      begins_beside most (notes c line []) (seen ++ theirs most c seen t same line ∷ []) t (noted most c seen t same line) c.place line n
+      c.blocks
 
 module _ {L M S T : Type 0} (rules : Rules L S) (others : Rules M T) (most : ℕ) (statements : List L) (operations : List M) (Related : ℕ → S → T → Type 0) (sim : Simulates rules others statements operations Related) where
   abbrev shapes : List Shape
@@ -91,12 +110,15 @@ module _ {L M S T : Type 0} (rules : Rules L S) (others : Rules M T) (most : ℕ
     beside = with_other c seen t
 
     module _ (l : L) (m : M) (here : slice_get statements c.place ≡ Some l) (there : slice_get operations c.place ≡ Some m) (line : others.line m ≡ rules.line l) where
-      simple_alike : (r : Result (S × List ℕ) FaultKind) (u : Result (T × List ℕ) FaultKind) → Agree (Related (c.place + 1)) r u → Alike c.place (acted c (rules.line l) r) (acted beside (rules.line l) u)
+      simple_alike : (r : Result (S × List ℕ) FaultKind) (u : Result (T × List ℕ) FaultKind) → Agree (Related (c.place + 1)) r u →
+          Alike c.place (acted c (rules.line l) r) (acted beside (rules.line l) u)
       simple_alike (Ok r) (Ok u) g = record {
         state = u.0;
         other = seen ++ record { line = rules.line l; turns = c.turns; before = t; puts = u.1 } ∷ [];
         is = refl;
-        tells = tells_more c.seen seen (record { line = rules.line l; turns = c.turns; before = c.state; puts = r.1 }) (record { line = rules.line l; turns = c.turns; before = t; puts = u.1 }) same (ap (λ (puts : List ℕ). (rules.line l, c.turns, puts)) g.0);
+        tells = tells_more c.seen seen (record { line = rules.line l; turns = c.turns; before = c.state; puts = r.1 })
+            (record { line = rules.line l; turns = c.turns; before = t; puts = u.1 }) same
+            (ap (λ (puts : List ℕ). (rules.line l, c.turns, puts)) g.0);
         related = λ running next. g.1;
       }
       simple_alike (Err i) (Err j) g = record {
@@ -109,7 +131,8 @@ module _ {L M S T : Type 0} (rules : Rules L S) (others : Rules M T) (most : ℕ
       simple_alike (Ok r) (Err j) g = absurd g
       simple_alike (Err i) (Ok u) g = absurd g
 
-      control_alike : (x : Shape) → rules.shape l ≡ x → IsControl x → (d : Config T) → Beside (runs_shape rules most statements c l x) d c.state t → Alike c.place (runs_shape rules most statements c l x) d
+      control_alike : (x : Shape) → rules.shape l ≡ x → IsControl x → (d : Config T) →
+          Beside (runs_shape rules most statements c l x) d c.state t → Alike c.place (runs_shape rules most statements c l x) d
       control_alike x is control d b = record {
         state = t;
         other = b.other;
@@ -121,9 +144,11 @@ module _ {L M S T : Type 0} (rules : Rules L S) (others : Rules M T) (most : ℕ
             subst (λ (s : S). Related e s t) (sym b.state_is) (sim.moves c.place e x at control next c.state t rel);
       }
 
-      shape_alike : (x : Shape) → rules.shape l ≡ x → Alike c.place (runs_shape rules most statements c l x) (runs_shape others most operations beside m x)
+      shape_alike : (x : Shape) → rules.shape l ≡ x → Alike c.place (runs_shape rules most statements c l x)
+          (runs_shape others most operations beside m x)
       shape_alike Simple is =
-          subst (λ (n : ℕ). Alike c.place (acted c (rules.line l) (rules.act c.place l c.state)) (acted beside n (others.act c.place m t))) (sym line)
+          subst (λ (n : ℕ). Alike c.place (acted c (rules.line l) (rules.act c.place l c.state)) (acted beside n (others.act c.place m t)))
+          (sym line)
           (simple_alike (rules.act c.place l c.state) (others.act c.place m t) (sim.acts c.place l m here there is c.state t rel))
       shape_alike Loop is =
           let count : rules.count l c.state ≡ others.count m t = sim.counts c.place l m here there is c.state t rel in
@@ -132,7 +157,8 @@ module _ {L M S T : Type 0} (rules : Rules L S) (others : Rules M T) (most : ℕ
           ∙ ap (λ (q : ℕ). repeats most beside (others.line m) q (rules.count l c.state)) (sym (same_jump c.place))
           ∙ ap (λ (z : ℤ). repeats most beside (others.line m) (jump_from others most operations c.place) z) count in
           subst (λ (d : Config T). Alike c.place (runs_shape rules most statements c l Loop) d) same_step
-          (control_alike Loop is tt (repeats most beside (rules.line l) (jump_from rules most statements c.place) (rules.count l c.state)) (repeats_beside most c seen t same (rules.line l) (jump_from rules most statements c.place) (rules.count l c.state)))
+          (control_alike Loop is tt (repeats most beside (rules.line l) (jump_from rules most statements c.place) (rules.count l c.state))
+          (repeats_beside most c seen t same (rules.line l) (jump_from rules most statements c.place) (rules.count l c.state)))
       shape_alike Branch is =
           let holds : rules.holds l c.state ≡ others.holds m t = sim.compares c.place l m here there is c.state t rel in
           let same_step : chooses beside (rules.line l) (jump_from rules most statements c.place) (rules.holds l c.state) ≡ chooses beside (others.line m) (jump_from others most operations c.place) (others.holds m t) =
@@ -140,10 +166,13 @@ module _ {L M S T : Type 0} (rules : Rules L S) (others : Rules M T) (most : ℕ
           ∙ ap (λ (q : ℕ). chooses beside (others.line m) q (rules.holds l c.state)) (sym (same_jump c.place))
           ∙ ap (λ (v : Bool). chooses beside (others.line m) (jump_from others most operations c.place) v) holds in
           subst (λ (d : Config T). Alike c.place (runs_shape rules most statements c l Branch) d) same_step
-          (control_alike Branch is tt (chooses beside (rules.line l) (jump_from rules most statements c.place) (rules.holds l c.state)) (chooses_beside most c seen t same (rules.line l) (jump_from rules most statements c.place) (rules.holds l c.state)))
+          (control_alike Branch is tt (chooses beside (rules.line l) (jump_from rules most statements c.place) (rules.holds l c.state))
+          (chooses_beside most c seen t same (rules.line l) (jump_from rules most statements c.place) (rules.holds l c.state)))
       shape_alike Otherwise is =
-          subst (λ (d : Config T). Alike c.place (runs_shape rules most statements c l Otherwise) d) (ap (λ (q : ℕ). goes_to beside q c.blocks) (sym (same_jump c.place)))
-          (control_alike Otherwise is tt (goes_to beside (jump_from rules most statements c.place) c.blocks) (record { other = seen; is = refl; tells = same; state_is = refl }))
+          subst (λ (d : Config T). Alike c.place (runs_shape rules most statements c l Otherwise) d)
+          (ap (λ (q : ℕ). goes_to beside q c.blocks) (sym (same_jump c.place)))
+          (control_alike Otherwise is tt (goes_to beside (jump_from rules most statements c.place) c.blocks)
+          (record { other = seen; is = refl; tells = same; state_is = refl }))
       shape_alike Close is = control_alike Close is tt (closes most beside c.blocks) (closes_beside most c seen t same c.blocks)
 
     injective : {A : Type 0} (x y : A) → Some x ≡ Some y → x ≡ y
@@ -152,16 +181,26 @@ module _ {L M S T : Type 0} (rules : Rules L S) (others : Rules M T) (most : ℕ
     nothing_there : {A : Type 0} (x : A) → None ≡ Some x → ⊥
     nothing_there x e = cc
 
-    runs_alike : (o : Option L) → slice_get statements c.place ≡ o → (u : Option M) → slice_get operations c.place ≡ u → option_map rules.shape o ≡ option_map others.shape u → option_map rules.line o ≡ option_map others.line u → Alike c.place (runs rules most statements c o) (runs others most operations beside u)
-    runs_alike None here None there e f = record { state = t; other = seen; is = refl; tells = same; related = λ running next. absurd (ended_not _ running) }
+    runs_alike : (o : Option L) → slice_get statements c.place ≡ o → (u : Option M) → slice_get operations c.place ≡ u →
+        option_map rules.shape o ≡ option_map others.shape u → option_map rules.line o ≡ option_map others.line u →
+        Alike c.place (runs rules most statements c o) (runs others most operations beside u)
+    runs_alike None here None there e f = record {
+      state = t;
+      other = seen;
+      is = refl;
+      tells = same;
+      related = λ running next. absurd (ended_not _ running);
+    }
     runs_alike None here (Some m) there e f = absurd (nothing_there _ e)
     runs_alike (Some l) here None there e f = absurd (nothing_there _ (sym e))
     runs_alike (Some l) here (Some m) there e f =
         let shape : rules.shape l ≡ others.shape m = injective (rules.shape l) (others.shape m) e in
         let line : rules.line l ≡ others.line m = injective (rules.line l) (others.line m) f in
-        subst (λ (x : Shape). Alike c.place (runs_shape rules most statements c l (rules.shape l)) (runs_shape others most operations beside m x)) shape (shape_alike l m here there (sym line) (rules.shape l) refl)
+        subst (λ (x : Shape). Alike c.place (runs_shape rules most statements c l (rules.shape l))
+        (runs_shape others most operations beside m x)) shape (shape_alike l m here there (sym line) (rules.shape l) refl)
 
-    next_alike : Alike c.place (runs rules most statements c (slice_get statements c.place)) (runs others most operations beside (slice_get operations c.place))
+    next_alike : Alike c.place (runs rules most statements c (slice_get statements c.place))
+        (runs others most operations beside (slice_get operations c.place))
     next_alike =
         let e : option_map rules.shape (slice_get statements c.place) ≡ option_map others.shape (slice_get operations c.place) = sym (slice_get-map rules.shape statements c.place) ∙ ap (λ (xs : List Shape). slice_get xs c.place) sim.shapes ∙ slice_get-map others.shape operations c.place in
         let f : option_map rules.line (slice_get statements c.place) ≡ option_map others.line (slice_get operations c.place) = sym (slice_get-map rules.line statements c.place) ∙ ap (λ (xs : List ℕ). slice_get xs c.place) sim.lines ∙ slice_get-map others.line operations c.place in
@@ -176,7 +215,8 @@ module _ {L M S T : Type 0} (rules : Rules L S) (others : Rules M T) (most : ℕ
       tells : map told c.seen ≡ map told other
       related : c.ended ≡ None → Related c.place c.state state
 
-    one_step : (k : ℕ) (o : Option End) → (after rules most statements k a).ended ≡ o → (d : Config T) → Together (after rules most statements k a) d → Together (after rules most statements (suc k) a) (step others most operations d)
+    one_step : (k : ℕ) (o : Option End) → (after rules most statements k a).ended ≡ o → (d : Config T) →
+        Together (after rules most statements k a) d → Together (after rules most statements (suc k) a) (step others most operations d)
     one_step k None e d h =
         let c : Config S = after rules most statements k a in
         let stepped : step rules most statements c ≡ runs rules most statements c (slice_get statements c.place) = ap (λ (o : Option End). if_running o c (runs rules most statements c (slice_get statements c.place))) e in
@@ -218,12 +258,15 @@ module _ {L M S T : Type 0} (rules : Rules L S) (others : Rules M T) (most : ℕ
         nothing h = cc
     the_end (Some e) h = refl
 
-    ended_there : (after others most operations (enough most statements) b).ended ≡ Some (unwrap_or (after rules most statements (enough most statements) a).ended Done)
+    ended_there : (after others most operations (enough most statements) b).ended
+        ≡ Some (unwrap_or (after rules most statements (enough most statements) a).ended Done)
     ended_there =
         let w = together (enough most statements) in
-        ap (λ (d : Config T). d.ended) w.is ∙ the_end (after rules most statements (enough most statements) a).ended (ends rules most statements a)
+        ap (λ (d : Config T). d.ended) w.is ∙ the_end (after rules most statements (enough most statements) a).ended
+        (ends rules most statements a)
 
-    ended_here : (after rules most statements (enough most statements) a).ended ≡ Some (unwrap_or (after rules most statements (enough most statements) a).ended Done)
+    ended_here : (after rules most statements (enough most statements) a).ended
+        ≡ Some (unwrap_or (after rules most statements (enough most statements) a).ended Done)
     ended_here = the_end (after rules most statements (enough most statements) a).ended (ends rules most statements a)
 
     -- the whole runs tell the same
@@ -231,11 +274,14 @@ module _ {L M S T : Type 0} (rules : Rules L S) (others : Rules M T) (most : ℕ
     told_same =
         let w = together (enough most statements) in
         let e : End = unwrap_or (after rules most statements (enough most statements) a).ended Done in
-        ap (λ (ms : List (Moment T)). map told ms) (moments_when_ended others most operations b (enough most statements) e ended_there ∙ ap (λ (d : Config T). d.seen) w.is)
-        ∙ sym w.tells ∙ ap (λ (ms : List (Moment S)). map told ms) (sym (moments_when_ended rules most statements a (enough most statements) e ended_here))
+        ap (λ (ms : List (Moment T)). map told ms) (moments_when_ended others most operations b (enough most statements) e ended_there
+        ∙ ap (λ (d : Config T). d.seen) w.is)
+        ∙ sym w.tells ∙ ap (λ (ms : List (Moment S)). map told ms)
+        (sym (moments_when_ended rules most statements a (enough most statements) e ended_here))
 
     -- and end the same
     pub end_same : run_end others most operations b ≡ run_end rules most statements a
     end_same =
         let e : End = unwrap_or (after rules most statements (enough most statements) a).ended Done in
-        end_when_ended others most operations b (enough most statements) e ended_there ∙ sym (end_when_ended rules most statements a (enough most statements) e ended_here)
+        end_when_ended others most operations b (enough most statements) e ended_there
+        ∙ sym (end_when_ended rules most statements a (enough most statements) e ended_here)

@@ -15,7 +15,8 @@ abbrev pub given : State → Argument → PieceArgument ℕ
 given s (arguments.Number n) = number (number_value s n)
 given s (arguments.Cord name) = text (s.texts name)
 
--- the fault that a refused argument is; of a statement that was read, whose arguments are those that its format wants, only the first two come
+-- the fault that a refused argument is; of a statement that was read, whose arguments are those that its format wants, only the first two
+-- come
 abbrev pub fault_of : PrintError → FaultKind
 fault_of (refusals.Negative k) = Negative
 fault_of (refusals.BadByte k) = BadByte

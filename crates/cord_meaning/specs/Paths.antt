@@ -17,7 +17,8 @@ abbrev pub open_at : List Shape → ℕ → List (Option ℕ)
 open_at shapes zero = []
 open_at shapes (suc p) = opened p (open_at shapes p) (slice_get shapes p)
 
--- what may come after an `end` at place p, where these blocks are open: the next place, and the first one of the body where it is the `end` of a `repeat`
+-- what may come after an `end` at place p, where these blocks are open: the next place, and the first one of the body where it is the `end`
+-- of a `repeat`
 abbrev pub NextOfClose : ℕ → List (Option ℕ) → ℕ → Type 0
 NextOfClose p [] q = q ≡ p + 1
 NextOfClose p (None ∷ blocks) q = q ≡ p + 1

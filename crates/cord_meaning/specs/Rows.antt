@@ -6,7 +6,9 @@ use Rattle.cord_printf.specs.declared.pieces.Radix.TheVariants.{Octal, LowerHex,
 use Rattle.cord_printf.specs.declared.pieces.Piece.{Piece}
 use Rattle.cord_printf.specs.declared.pieces.Piece.TheVariants.{Text, Signed, Unsigned, Byte, Cord, Percent}
 use Rattle.cord_syntax.specs.declared.statements.Statement.{Statement}
-use Rattle.cord_syntax.specs.declared.statements.Statement.TheVariants.{Let, File, Chars, Cat, Catn, Catc, Substr, Balance, EcToCord, Sprintf, Len, Fetch, Cmp, Ncmp, Str, Chr, Rchr, Assign, Add, EcInit, EcPut, EcStr, Put, Repeat, If, Else, End}
+use Rattle.cord_syntax.specs.declared.statements.Statement.TheVariants.{Let, File, Chars, Cat, Catn, Catc, Substr, Balance, EcToCord}
+use Rattle.cord_syntax.specs.declared.statements.Statement.TheVariants.{Sprintf, Len, Fetch, Cmp, Ncmp, Str, Chr, Rchr, Assign, Add, EcInit}
+use Rattle.cord_syntax.specs.declared.statements.Statement.TheVariants.{EcPut, EcStr, Put, Repeat, If, Else, End}
 use Rattle.cord_operands.specs.declared.operands.Number.{Number}
 use Rattle.cord_operands.specs.declared.operands.Number.TheVariants.{Numeral, Named}
 use Rattle.cord_operands.specs.declared.operands.Argument.TheVariants as arguments
@@ -44,7 +46,8 @@ bar = Text (codes "|")
 
 -- `sprintf t "%d" n ; put t` on these lines: what a row shows of the number n
 abbrev pub shows : ℕ → ℕ → List Statement
-shows first second = Sprintf first (codes "t") (codes "%d") (plain_number ∷ []) (arguments.Number (Named (codes "n")) ∷ []) ∷ Put second (codes "t") ∷ []
+shows first second = Sprintf first (codes "t") (codes "%d") (plain_number ∷ []) (arguments.Number (Named (codes "n")) ∷ [])
+    ∷ Put second (codes "t") ∷ []
 
 -- `let x "hello" ; put x`
 abbrev pub hello : List Statement
@@ -237,20 +240,26 @@ parts_compared k =
 abbrev pub sprintf_pads : List Statement
 sprintf_pads =
     Let 1 (codes "h") (codes "hello")
-    ∷ Sprintf 2 (codes "z") (codes "%5.2r|%-4d|%05d|%.0d|%%") (Cord no_flags 5 (Some 2) ∷ bar ∷ Signed left_flag 4 None ∷ bar ∷ Signed zero_flag 5 None ∷ bar ∷ Signed no_flags 0 (Some 0) ∷ bar ∷ Percent ∷ []) (arguments.Cord (codes "h") ∷ arguments.Number (numeral 7) ∷ arguments.Number (below_zero 6) ∷ arguments.Number (numeral 0) ∷ [])
+    ∷ Sprintf 2 (codes "z") (codes "%5.2r|%-4d|%05d|%.0d|%%") (Cord no_flags 5 (Some 2) ∷ bar ∷ Signed left_flag 4 None ∷ bar
+    ∷ Signed zero_flag 5 None ∷ bar ∷ Signed no_flags 0 (Some 0) ∷ bar ∷ Percent ∷ [])
+    (arguments.Cord (codes "h") ∷ arguments.Number (numeral 7) ∷ arguments.Number (below_zero 6) ∷ arguments.Number (numeral 0) ∷ [])
     ∷ Put 3 (codes "z")
     ∷ []
 
 -- `sprintf z "%08x|%+d|%o|%X|%c" 255 5 8 255 65 ; put z`
 abbrev pub sprintf_numbers : List Statement
 sprintf_numbers =
-    Sprintf 1 (codes "z") (codes "%08x|%+d|%o|%X|%c") (Unsigned LowerHex zero_flag 8 None ∷ bar ∷ Signed plus_flag 0 None ∷ bar ∷ Unsigned Octal no_flags 0 None ∷ bar ∷ Unsigned UpperHex no_flags 0 None ∷ bar ∷ Byte no_flags 0 ∷ []) (arguments.Number (numeral 255) ∷ arguments.Number (numeral 5) ∷ arguments.Number (numeral 8) ∷ arguments.Number (numeral 255) ∷ arguments.Number (numeral 65) ∷ [])
+    Sprintf 1 (codes "z") (codes "%08x|%+d|%o|%X|%c") (Unsigned LowerHex zero_flag 8 None ∷ bar ∷ Signed plus_flag 0 None ∷ bar
+    ∷ Unsigned Octal no_flags 0 None ∷ bar ∷ Unsigned UpperHex no_flags 0 None ∷ bar ∷ Byte no_flags 0 ∷ [])
+    (arguments.Number (numeral 255) ∷ arguments.Number (numeral 5) ∷ arguments.Number (numeral 8) ∷ arguments.Number (numeral 255)
+    ∷ arguments.Number (numeral 65) ∷ [])
     ∷ Put 2 (codes "z")
     ∷ []
 
 -- `sprintf z "%x" -1`
 abbrev pub sprintf_negative_hex : List Statement
-sprintf_negative_hex = Sprintf 1 (codes "z") (codes "%x") (Unsigned LowerHex no_flags 0 None ∷ []) (arguments.Number (below_zero 0) ∷ []) ∷ []
+sprintf_negative_hex = Sprintf 1 (codes "z") (codes "%x") (Unsigned LowerHex no_flags 0 None ∷ []) (arguments.Number (below_zero 0) ∷ [])
+    ∷ []
 
 -- `repeat n ; end`
 abbrev pub empty_turns : ℕ → List Statement

@@ -1,5 +1,6 @@
 -- The unrolled run, by the blocks of a script: a loop is its body as many times as its `repeat` read, an `if` is one of its branches.
-use Rattle.std.specs.Prelude.{◌≡◌, ℕ, zero, suc, ◌+◌, ℤ, pos, negsuc, Bool, true, false, List, [], ◌∷◌, ◌++◌, Option, Some, None, Result, Ok, Err, nat_lt, if◌then◌else◌}
+use Rattle.std.specs.Prelude.{◌≡◌, ℕ, zero, suc, ◌+◌, ℤ, pos, negsuc, Bool, true, false, List, [], ◌∷◌, ◌++◌, Option, Some, None, Result}
+use Rattle.std.specs.Prelude.{Ok, Err, nat_lt, if◌then◌else◌}
 use Rattle.cord_meaning.specs.declared.ends.End.{End}
 use Rattle.cord_meaning.specs.declared.ends.End.TheVariants.{Fault}
 use Rattle.cord_meaning.specs.declared.ends.FaultKind.{FaultKind}
@@ -29,7 +30,8 @@ IsWell shape Nothing = Unit {0}
 IsWell shape (Then l rest) = (shape l ≡ Simple) × IsWell shape rest
 IsWell shape (Repeats l e body rest) = (shape l ≡ Loop) × (shape e ≡ Close) × IsWell shape body × IsWell shape rest
 IsWell shape (Chooses l e branch rest) = (shape l ≡ Branch) × (shape e ≡ Close) × IsWell shape branch × IsWell shape rest
-IsWell shape (ChoosesElse l m e branch other rest) = (shape l ≡ Branch) × (shape m ≡ Otherwise) × (shape e ≡ Close) × IsWell shape branch × IsWell shape other × IsWell shape rest
+IsWell shape (ChoosesElse l m e branch other rest) = (shape l ≡ Branch) × (shape m ≡ Otherwise) × (shape e ≡ Close) × IsWell shape branch ×
+    IsWell shape other × IsWell shape rest
 
 -- what was run, how it ended if it did, and the turns and the state then
 pub record Unrolled (S : Type 0) : Type 0 where
@@ -49,7 +51,12 @@ module _ {S : Type 0} where
 
   -- one member that puts this, and how it ends
   abbrev pub member : ℕ → ℕ → S → List ℕ → Option End → S → Unrolled S
-  member line turns before puts ended state = record { members = record { line = line; turns = turns; before = before; puts = puts } ∷ []; ended = ended; turns = turns; state = state }
+  member line turns before puts ended state = record {
+    members = record { line = line; turns = turns; before = before; puts = puts } ∷ [];
+    ended = ended;
+    turns = turns;
+    state = state;
+  }
 
   -- a simple statement
   abbrev pub acted_once : ℕ → ℕ → S → Result (S × List ℕ) FaultKind → Unrolled S
@@ -65,11 +72,13 @@ module _ {S : Type 0} where
   -- so many turns
   abbrev pub all_turns : ℕ → ℕ → (ℕ → S → Unrolled S) → ℕ → ℕ → S → Unrolled S
   all_turns most line body zero turns state = record { members = []; ended = None; turns = turns; state = state }
-  all_turns most line body (suc n) turns state = then_on (turn most line body turns state) (λ turns state. all_turns most line body n turns state)
+  all_turns most line body (suc n) turns state = then_on (turn most line body turns state)
+      (λ turns state. all_turns most line body n turns state)
 
   -- a `repeat` that read this number, and its turns
   abbrev pub repeated : ℕ → ℕ → (ℕ → S → Unrolled S) → ℤ → ℕ → S → Unrolled S
-  repeated most line body (pos n) turns state = then_on (member line turns state [] None state) (λ turns state. all_turns most line body n turns state)
+  repeated most line body (pos n) turns state = then_on (member line turns state [] None state)
+      (λ turns state. all_turns most line body n turns state)
   repeated most line body (negsuc n) turns state = member line turns state [] (Some (Fault line Negative)) state
 
   -- the branch that a comparison chooses
@@ -81,15 +90,18 @@ module _ {L S : Type 0} (rules : Rules L S) (most : ℕ) where
   -- the unrolled run from a state in which so many turns have begun
   abbrev pub unrolled : Parts L → ℕ → S → Unrolled S
   unrolled Nothing turns state = record { members = []; ended = None; turns = turns; state = state }
-  unrolled (Then l rest) turns state = then_on (acted_once (rules.line l) turns state (rules.act 0 l state)) (λ turns state. unrolled rest turns state)
+  unrolled (Then l rest) turns state = then_on (acted_once (rules.line l) turns state (rules.act 0 l state))
+      (λ turns state. unrolled rest turns state)
   unrolled (Repeats l e body rest) turns state =
       then_on (repeated most (rules.line l) (λ turns state. unrolled body turns state) (rules.count l state) turns state)
       (λ turns state. unrolled rest turns state)
   unrolled (Chooses l e branch rest) turns state =
       then_on (member (rules.line l) turns state [] None state)
-      (λ turns state. then_on (chosen (rules.holds l state) (λ turns state. unrolled branch turns state) (λ turns state. record { members = []; ended = None; turns = turns; state = state }) turns state)
+      (λ turns state. then_on (chosen (rules.holds l state) (λ turns state. unrolled branch turns state)
+      (λ turns state. record { members = []; ended = None; turns = turns; state = state }) turns state)
       (λ turns state. unrolled rest turns state))
   unrolled (ChoosesElse l m e branch other rest) turns state =
       then_on (member (rules.line l) turns state [] None state)
-      (λ turns state. then_on (chosen (rules.holds l state) (λ turns state. unrolled branch turns state) (λ turns state. unrolled other turns state) turns state)
+      (λ turns state. then_on (chosen (rules.holds l state) (λ turns state. unrolled branch turns state)
+      (λ turns state. unrolled other turns state) turns state)
       (λ turns state. unrolled rest turns state))

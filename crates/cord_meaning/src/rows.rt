@@ -5,7 +5,8 @@ ghost use Rattle.cord_meaning.specs.Ends.{Counts, EndsHonestly};
 ghost use Rattle.cord_meaning.specs.Meaning.{Means, MeansWithin};
 ghost use Rattle.cord_meaning.specs.Rows;
 ghost use Rattle.cord_meaning.specs.declared.ends.End.TheVariants.{Done, Fault, NoMemory, ReadFailed, WriteFailed};
-ghost use Rattle.cord_meaning.specs.declared.ends.FaultKind.TheVariants.{Negative, BadByte, OutOfRange, NoFile, TooLong, Overflow, TooManyTurns};
+ghost use Rattle.cord_meaning.specs.declared.ends.FaultKind.TheVariants.{Negative, BadByte, OutOfRange, NoFile};
+ghost use Rattle.cord_meaning.specs.declared.ends.FaultKind.TheVariants.{TooLong, Overflow, TooManyTurns};
 
 use crate::MAX_TURNS;
 
@@ -68,13 +69,20 @@ pub fn wrong_ends_are_not_honest()
     ensures too_little_put { (n : Counts) → EndsHonestly Rows.hello [] [] (codes "hell") n Done → ⊥ }
     ensures put_too_early { (n : Counts) → EndsHonestly Rows.hello [] [] (codes "h") n (NoMemory 1) → ⊥ }
     ensures later_line { (n : Counts) → EndsHonestly Rows.fetch_past_end [] [] (codes "ab") n (Fault 4 OutOfRange) → ⊥ }
-    ensures another_fault { (n : Counts) → EndsHonestly Rows.fetch_past_end [] [] (codes "ab") n (Fault 3 Negative) → ⊥ }
-    ensures done_without_finish { (n : Counts) → n.sink_after ≡ n.sink_before + 1 → EndsHonestly Rows.hello [] [] (codes "hello") n Done → ⊥ }
-    ensures fault_without_finish { (n : Counts) → n.finished_after ≡ n.finished_before → EndsHonestly Rows.fetch_past_end [] [] (codes "ab") n (Fault 3 OutOfRange) → ⊥ }
-    ensures finish_after_write_failed { (n : Counts) → n.finished_after ≡ n.finished_before + 1 → EndsHonestly Rows.hello [] [] (codes "hel") n (WriteFailed 2) → ⊥ }
-    ensures no_read_failed { (n : Counts) → n.files_after ≡ n.files_before → EndsHonestly Rows.file_twice Rows.one_file [] [] n (ReadFailed 1) → ⊥ }
-    ensures read_failure_as_no_memory { (n : Counts) → n.files_after ≡ n.files_before + 1 → EndsHonestly Rows.file_twice Rows.one_file [] [] n (NoMemory 1) → ⊥ }
-    ensures write_failure_as_no_memory { (n : Counts) → n.sink_after ≡ n.sink_before + 1 → n.finished_after ≡ n.finished_before + 1 → EndsHonestly Rows.hello [] [] [] n (NoMemory 2) → ⊥ }
+    ensures another_fault { (n : Counts) → EndsHonestly Rows.fetch_past_end [] [] (codes "ab") n (Fault 3 Negative) →
+        ⊥ }
+    ensures done_without_finish { (n : Counts) → n.sink_after ≡ n.sink_before + 1 →
+        EndsHonestly Rows.hello [] [] (codes "hello") n Done → ⊥ }
+    ensures fault_without_finish { (n : Counts) → n.finished_after ≡ n.finished_before →
+        EndsHonestly Rows.fetch_past_end [] [] (codes "ab") n (Fault 3 OutOfRange) → ⊥ }
+    ensures finish_after_write_failed { (n : Counts) → n.finished_after ≡ n.finished_before + 1 →
+        EndsHonestly Rows.hello [] [] (codes "hel") n (WriteFailed 2) → ⊥ }
+    ensures no_read_failed { (n : Counts) → n.files_after ≡ n.files_before →
+        EndsHonestly Rows.file_twice Rows.one_file [] [] n (ReadFailed 1) → ⊥ }
+    ensures read_failure_as_no_memory { (n : Counts) → n.files_after ≡ n.files_before + 1 →
+        EndsHonestly Rows.file_twice Rows.one_file [] [] n (NoMemory 1) → ⊥ }
+    ensures write_failure_as_no_memory { (n : Counts) → n.sink_after ≡ n.sink_before + 1 →
+        n.finished_after ≡ n.finished_before + 1 → EndsHonestly Rows.hello [] [] [] n (NoMemory 2) → ⊥ }
     ensures nothing_reads_there { (n : Counts) → EndsHonestly Rows.hello [] [] [] n (ReadFailed 1) → ⊥ }
     ensures nothing_puts_there { (n : Counts) → EndsHonestly Rows.hello [] [] [] n (WriteFailed 1) → ⊥ }
 {}

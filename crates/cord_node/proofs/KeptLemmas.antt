@@ -65,7 +65,8 @@ IsSmall-range (func_part id start len) (func_part id' start' len') h k = absurd 
 
 -- a range of a range is a range
 pub IsRangeOf-trans : (p q r : Part) → IsRangeOf p q → IsRangeOf q r → IsRangeOf p r
-IsRangeOf-trans (leaf_part bytes start len) (leaf_part bytes' start' len') (leaf_part bytes'' start'' len'') h k = (h.0 ∙ k.0, (omega arith, omega arith))
+IsRangeOf-trans (leaf_part bytes start len) (leaf_part bytes' start' len') (leaf_part bytes'' start'' len'') h k =
+    (h.0 ∙ k.0, (omega arith, omega arith))
 IsRangeOf-trans (leaf_part bytes start len) (leaf_part bytes' start' len') (run_part byte'' len'') h k = absurd k
 IsRangeOf-trans (leaf_part bytes start len) (leaf_part bytes' start' len') (func_part id'' start'' len'') h k = absurd k
 IsRangeOf-trans (leaf_part bytes start len) (run_part byte' len') r h k = absurd h
@@ -79,7 +80,8 @@ IsRangeOf-trans (func_part id start len) (leaf_part bytes' start' len') r h k = 
 IsRangeOf-trans (func_part id start len) (run_part byte' len') r h k = absurd h
 IsRangeOf-trans (func_part id start len) (func_part id' start' len') (leaf_part bytes'' start'' len'') h k = absurd k
 IsRangeOf-trans (func_part id start len) (func_part id' start' len') (run_part byte'' len'') h k = absurd k
-IsRangeOf-trans (func_part id start len) (func_part id' start' len') (func_part id'' start'' len'') h k = (h.0 ∙ k.0, (omega arith, omega arith))
+IsRangeOf-trans (func_part id start len) (func_part id' start' len') (func_part id'' start'' len'') h k =
+    (h.0 ∙ k.0, (omega arith, omega arith))
 
 -- a range of what comes from a list comes from it
 pub IsFrom-range : (p q : Part) (rs : List Part) → IsRangeOf p q → IsFrom q rs → IsFrom p rs
@@ -106,11 +108,17 @@ Kept-left a b ps h = record { no_more = omega (arith, h.no_more, length-append a
 
 -- kept from the second of two lists
 pub Kept-right : (a b ps : List Part) → Kept b ps → Kept (a ++ b) ps
-Kept-right a b ps h = record { no_more = omega (arith, h.no_more, length-append a b); from_there = AreFrom-append_right ps a b h.from_there }
+Kept-right a b ps h = record {
+  no_more = omega (arith, h.no_more, length-append a b);
+  from_there = AreFrom-append_right ps a b h.from_there;
+}
 
 -- two that are kept, one after the other
 pub Kept-both : (a b ps qs : List Part) → Kept a ps → Kept b qs → Kept (a ++ b) (ps ++ qs)
-Kept-both a b ps qs h k = record { no_more = omega (arith, h.no_more, k.no_more, length-append a b, length-append ps qs); from_there = AreFrom-append ps qs (a ++ b) (AreFrom-append_left ps a b h.from_there) (AreFrom-append_right qs a b k.from_there) }
+Kept-both a b ps qs h k = record {
+  no_more = omega (arith, h.no_more, k.no_more, length-append a b, length-append ps qs);
+  from_there = AreFrom-append ps qs (a ++ b) (AreFrom-append_left ps a b h.from_there) (AreFrom-append_right qs a b k.from_there);
+}
 
 -- two that are kept, joined to a third
 pub Kept-join : (a b ps qs rs : List Part) → Kept a ps → Kept b qs → Kept (ps ++ qs) rs → Kept (a ++ b) rs

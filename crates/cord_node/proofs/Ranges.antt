@@ -1,5 +1,6 @@
 -- Ranges of lists: `take n (drop i xs)`.
-use Rattle.std.proofs.Common.{◌≡◌, ℕ, ◌+◌, ◌-◌, ◌≤◌, List, [], ◌∷◌, ◌++◌, length, take, drop, refl, arith, ◌∙◌, sym, ap, suc, zero, length-drop}
+use Rattle.std.proofs.Common.{◌≡◌, ℕ, ◌+◌, ◌-◌, ◌≤◌, List, [], ◌∷◌, ◌++◌, length, take, drop, refl, arith, ◌∙◌, sym, ap, suc, zero}
+use Rattle.std.proofs.Common.{length-drop}
 use Rattle.std.specs.List.{range_with_len}
 use Rattle.std.proofs.lemmas.List.{drop-take, take-take, drop-drop, take-append-le, drop-append-le, drop_at, take_all}
 use native.Mathlib.Numerals.{unary_clauses}
@@ -27,7 +28,8 @@ pub drop-append_right : {X : Type 0} (xs ys : List X) (i : ℕ) → length xs �
 drop-append_right xs ys i h =
     let e : i ≡ length xs + (i - length xs) = omega arith in
     let f : drop (length xs + (i - length xs)) (xs ++ ys) ≡ drop (i - length xs) ys =
-    sym (drop-drop (i - length xs) (length xs) (xs ++ ys)) ∙ ap (λ (zs : List _). drop (i - length xs) zs) (drop_at xs ys (length xs) refl) in
+    sym (drop-drop (i - length xs) (length xs) (xs ++ ys)) ∙ ap (λ (zs : List _). drop (i - length xs) zs) (drop_at xs ys (length xs) refl)
+    in
     ap (λ (k : ℕ). drop k (xs ++ ys)) e ∙ f
 
 -- a prefix that reaches into the second of two lists
@@ -41,7 +43,8 @@ pub range_right : {X : Type 0} (xs ys : List X) (i n : ℕ) → length xs ≤ i 
 range_right xs ys i n h = ap (λ (zs : List _). take n zs) (drop-append_right xs ys i h)
 
 -- a range over the seam
-pub range_both : {X : Type 0} (xs ys : List X) (i n : ℕ) → i ≤ length xs → length xs ≤ i + n → take n (drop i (xs ++ ys)) ≡ take (length xs - i) (drop i xs) ++ take (i + n - length xs) (drop 0 ys)
+pub range_both : {X : Type 0} (xs ys : List X) (i n : ℕ) → i ≤ length xs → length xs ≤ i + n →
+    take n (drop i (xs ++ ys)) ≡ take (length xs - i) (drop i xs) ++ take (i + n - length xs) (drop 0 ys)
 range_both xs ys i n a b =
     let l : length (drop i xs) ≡ length xs - i = length-drop i xs in
     let k : length (drop i xs) ≤ n = omega arith in

@@ -21,7 +21,8 @@ map-replicate t zero b = refl
 map-replicate t (suc n) b = ap (λ (l : List ℕ). b ∷ l) (map-replicate t n b)
 
 -- places of an entry over a table are its range
-map-held_by : (t : Table) (id a n : ℕ) → a + n ≤ length (t id) → take n (drop a (t id)) ≡ map (byte_at t) (map (held_by id) (range_with_len a n))
+map-held_by : (t : Table) (id a n : ℕ) → a + n ≤ length (t id) →
+    take n (drop a (t id)) ≡ map (byte_at t) (map (held_by id) (range_with_len a n))
 map-held_by t id a zero h = refl
 map-held_by t id a (suc n) h =
     let k : a < length (t id) = omega arith in
@@ -32,7 +33,8 @@ pub bytes-cells : (t : Table) (n : Node) → Fits t n → bytes_over t n ≡ map
 bytes-cells t (Leaf bytes start len mark) f = map-known t (take len (drop start (rc_slice_items bytes)))
 bytes-cells t (Run byte len) f = map-replicate t len byte
 bytes-cells t (Func id start len) f = map-held_by t id.0 start len f
-bytes-cells t (Cat' p left q right len depth mark) f = sym (rw (map-append (byte_at t) (cells left) (cells right), ← bytes-cells t left f.0, ← bytes-cells t right f.1) refl)
+bytes-cells t (Cat' p left q right len depth mark) f =
+    sym (rw (map-append (byte_at t) (cells left) (cells right), ← bytes-cells t left f.0, ← bytes-cells t right f.1) refl)
 
 -- two lists of held cells
 pub AreHeldIn-append : (ls : Lengths) (xs ys : List Cell) → AreHeldIn ls xs → AreHeldIn ls ys → AreHeldIn ls (xs ++ ys)
@@ -74,7 +76,8 @@ pub AreHeldIn-cells : (ls : Lengths) (n : Node) → FitsIn ls n → AreHeldIn ls
 AreHeldIn-cells ls (Leaf bytes start len mark) f = AreHeldIn-known ls (take len (drop start (rc_slice_items bytes)))
 AreHeldIn-cells ls (Run byte len) f = AreHeldIn-replicate ls len byte
 AreHeldIn-cells ls (Func id start len) f = AreHeldIn-held_by ls id.0 start len f
-AreHeldIn-cells ls (Cat' p left q right len depth mark) f = AreHeldIn-append ls (cells left) (cells right) (AreHeldIn-cells ls left f.0) (AreHeldIn-cells ls right f.1)
+AreHeldIn-cells ls (Cat' p left q right len depth mark) f = AreHeldIn-append ls (cells left) (cells right) (AreHeldIn-cells ls left f.0)
+    (AreHeldIn-cells ls right f.1)
 
 -- a range of at least one byte that is held lies inside its entry
 fits_from_held : (ls : Lengths) (id a n : ℕ) → 0 < n → AreHeldIn ls (map (held_by id) (range_with_len a n)) → a + n ≤ length_at ls id
@@ -86,7 +89,10 @@ pub FitsIn-cells : (ls : Lengths) (n : Node) → IsSound n → AreHeldIn ls (cel
 FitsIn-cells ls (Leaf bytes start len mark) s h = tt
 FitsIn-cells ls (Run byte len) s h = tt
 FitsIn-cells ls (Func id start len) s h = fits_from_held ls id.0 start len s.0 h
-FitsIn-cells ls (Cat' p left q right len depth mark) s h = (FitsIn-cells ls left s.0 (AreHeldIn-left ls (cells left) (cells right) h), FitsIn-cells ls right s.1 (AreHeldIn-right ls (cells left) (cells right) h))
+FitsIn-cells ls (Cat' p left q right len depth mark) s h = (
+  FitsIn-cells ls left s.0 (AreHeldIn-left ls (cells left) (cells right) h),
+  FitsIn-cells ls right s.1 (AreHeldIn-right ls (cells left) (cells right) h),
+)
 
 -- a prefix of held cells
 pub AreHeldIn-take : (ls : Lengths) (n : ℕ) (xs : List Cell) → AreHeldIn ls xs → AreHeldIn ls (take n xs)
@@ -122,8 +128,10 @@ pub Fits-told : (ls : Lengths) (t : Table) (n : Node) → HasLengths ls t → Fi
 Fits-told ls t n h f = FitsIn-longer ls (lengths_of t) n (λ id. let e : length (t id) ≡ length_at ls id = h id in omega arith) f
 
 -- over two tables that have the same text at each entry that isn't empty in the first one
-pub bytes_over-same : (t u : Table) (n : Node) → ((id : ℕ) → 0 < length (t id) → u id ≡ t id) → IsSound n → Fits t n → bytes_over u n ≡ bytes_over t n
+pub bytes_over-same : (t u : Table) (n : Node) → ((id : ℕ) → 0 < length (t id) → u id ≡ t id) → IsSound n → Fits t n →
+    bytes_over u n ≡ bytes_over t n
 bytes_over-same t u (Leaf bytes start len mark) h s f = refl
 bytes_over-same t u (Run byte len) h s f = refl
 bytes_over-same t u (Func id start len) h s f = let k : 0 < length (t id.0) = omega arith in let e : u id.0 ≡ t id.0 = h id.0 k in rw e refl
-bytes_over-same t u (Cat' p left q right len depth mark) h s f = rw (bytes_over-same t u left h s.0 f.0, bytes_over-same t u right h s.1 f.1) refl
+bytes_over-same t u (Cat' p left q right len depth mark) h s f =
+    rw (bytes_over-same t u left h s.0 f.0, bytes_over-same t u right h s.1 f.1) refl

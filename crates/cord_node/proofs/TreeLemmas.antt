@@ -1,5 +1,6 @@
 -- The text of a node and of its ranges.
-use Rattle.std.proofs.Common.{◌≡◌, ℕ, ◌+◌, ◌-◌, ◌<◌, ◌≤◌, List, [], ◌∷◌, ◌++◌, length, map, take, drop, refl, arith, ◌∙◌, sym, ap, append_assoc, append-nil, length-append, length-drop}
+use Rattle.std.proofs.Common.{◌≡◌, ℕ, ◌+◌, ◌-◌, ◌<◌, ◌≤◌, List, [], ◌∷◌, ◌++◌, length, map, take, drop, refl, arith, ◌∙◌, sym, ap}
+use Rattle.std.proofs.Common.{append_assoc, append-nil, length-append, length-drop}
 use Rattle.std.specs.Prelude.{replicate}
 use Rattle.std.specs.List.{range_with_len}
 use Rattle.std.specs.Rc.{rc_slice_items}
@@ -22,7 +23,8 @@ length-cells (Func id start len) s = length-map (range_with_len start len) (held
 length-cells (Cat' p left q right len depth mark) s = length-append (cells left) (cells right) ∙ (let a : length (cells left) ≡ len_of left = length-cells left s.0 in let b : length (cells right) ≡ len_of right = length-cells right s.1 in omega arith)
 
 -- a range of a leaf's text
-pub range_of_leaf : (xs : List ℕ) (start len from count : ℕ) → from + count ≤ len → map known (take count (drop (start + from) xs)) ≡ take count (drop from (map known (take len (drop start xs))))
+pub range_of_leaf : (xs : List ℕ) (start len from count : ℕ) → from + count ≤ len → map known (take count (drop (start + from) xs))
+    ≡ take count (drop from (map known (take len (drop start xs))))
 range_of_leaf xs start len from count h = sym (rw (drop-map, take-map, range_of_range xs from count start len h) refl)
 
 -- a range of a run's text
@@ -30,7 +32,8 @@ pub range_of_run : (x : Cell) (len from count : ℕ) → from + count ≤ len �
 range_of_run x len from count h = let k : count ≤ len - from = omega arith in sym (rw (drop-replicate from len x, take-replicate count (len - from) x k) refl)
 
 -- a range of a function part's text
-pub range_of_func : (f : ℕ → Cell) (start len from count : ℕ) → from + count ≤ len → map f (range_with_len (start + from) count) ≡ take count (drop from (map f (range_with_len start len)))
+pub range_of_func : (f : ℕ → Cell) (start len from count : ℕ) → from + count ≤ len →
+    map f (range_with_len (start + from) count) ≡ take count (drop from (map f (range_with_len start len)))
 range_of_func f start len from count h =
     let k : count ≤ len - from = omega arith in
     sym (rw (drop-map, take-map, drop-range_with_len start len from, take-range_with_len (start + from) (len - from) count k) refl)
@@ -76,14 +79,16 @@ all_part_cells (p ∷ ps) = part_cells p ++ all_part_cells ps
 
 pub all_part_cells-append : (ps qs : List Part) → all_part_cells (ps ++ qs) ≡ all_part_cells ps ++ all_part_cells qs
 all_part_cells-append [] qs = refl
-all_part_cells-append (p ∷ ps) qs = ap (λ (l : List Cell). part_cells p ++ l) (all_part_cells-append ps qs) ∙ sym (append_assoc (part_cells p) (all_part_cells ps) (all_part_cells qs))
+all_part_cells-append (p ∷ ps) qs = ap (λ (l : List Cell). part_cells p ++ l) (all_part_cells-append ps qs)
+    ∙ sym (append_assoc (part_cells p) (all_part_cells ps) (all_part_cells qs))
 
 -- a node's text is that of its parts
 pub cells-parts : (n : Node) → cells n ≡ all_part_cells (parts n)
 cells-parts (Leaf bytes start len mark) = sym (append-nil (map known (take len (drop start (rc_slice_items bytes)))))
 cells-parts (Run byte len) = sym (append-nil (replicate len (known byte)))
 cells-parts (Func id start len) = sym (append-nil (map (held_by id.0) (range_with_len start len)))
-cells-parts (Cat' p left q right len depth mark) = rw (cells-parts left, cells-parts right) (sym (all_part_cells-append (parts left) (parts right)))
+cells-parts (Cat' p left q right len depth mark) = rw (cells-parts left, cells-parts right)
+    (sym (all_part_cells-append (parts left) (parts right)))
 
 -- nodes of the same parts have one text
 pub same_parts-cells : (m n : Node) → parts m ≡ parts n → cells m ≡ cells n

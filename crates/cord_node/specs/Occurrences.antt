@@ -16,7 +16,8 @@ abbrev pub preorder : Node → ℕ → ℕ
 preorder (Leaf bytes start len mark) i = 0
 preorder (Run byte len) i = 0
 preorder (Func id start len) i = 0
-preorder (Cat' p left q right len depth mark) i = if nat_lt i (len_of left) then 1 + preorder left i else 1 + size left + preorder right (i - len_of left)
+preorder (Cat' p left q right len depth mark) i = if nat_lt i (len_of left) then 1 + preorder left i else 1 + size left
+    + preorder right (i - len_of left)
 
 -- the level of the part that holds an index: the steps, left or right, from the root to it
 abbrev pub level : Node → ℕ → ℕ
@@ -32,4 +33,5 @@ shared_level (Run byte len) i j = 0
 shared_level (Func id start len) i j = 0
 shared_level (Cat' p left q right len depth mark) i j =
     if nat_lt i (len_of left) && nat_lt j (len_of left) then 1 + shared_level left i j
-    else (if not (nat_lt i (len_of left)) && not (nat_lt j (len_of left)) then 1 + shared_level right (i - len_of left) (j - len_of left) else 0)
+    else (if not (nat_lt i (len_of left)) && not (nat_lt j (len_of left)) then 1
+    + shared_level right (i - len_of left) (j - len_of left) else 0)

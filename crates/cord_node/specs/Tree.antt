@@ -1,5 +1,6 @@
 -- What a node is: its text as a list of cells, its length and depth, and when it is sound.
-use Rattle.std.specs.Prelude.{◌≡◌, ℕ, ◌+◌, ◌<◌, ◌≤◌, max, List, [], ◌∷◌, ◌++◌, length, map, take, drop, replicate, Bool, true, false, ◌&&◌, nat_le, if◌then◌else◌}
+use Rattle.std.specs.Prelude.{◌≡◌, ℕ, ◌+◌, ◌<◌, ◌≤◌, max, List, [], ◌∷◌, ◌++◌, length, map, take, drop, replicate, Bool, true, false, ◌&&◌}
+use Rattle.std.specs.Prelude.{nat_le, if◌then◌else◌}
 use Rattle.std.specs.List.{range_with_len}
 use Rattle.std.specs.Rc.{rc_slice_items}
 use Rattle.cord_io.specs.declared.TheConstants.{MAX_LEN, MAX_DEPTH}
@@ -52,10 +53,12 @@ depth_of (Cat' p left q right len depth mark) = depth
 -- concatenation stores fits what its two sides store, so that it is the true length and depth; each
 -- mark stands for the parts of its node
 abbrev pub IsSound : Node → Type 0
-IsSound (Leaf bytes start len mark) = (0 < len) × (start + len ≤ length (rc_slice_items bytes)) × (len ≤ MAX_LEN) × (mark ≡ leaf_part (rc_slice_items bytes) start len ∷ [])
+IsSound (Leaf bytes start len mark) = (0 < len) × (start + len ≤ length (rc_slice_items bytes)) × (len ≤ MAX_LEN) ×
+    (mark ≡ leaf_part (rc_slice_items bytes) start len ∷ [])
 IsSound (Run byte len) = (0 < len) × (len ≤ MAX_LEN)
 IsSound (Func id start len) = (0 < len) × (start + len ≤ MAX_LEN)
-IsSound (Cat' p left q right len depth mark) = IsSound left × IsSound right × (len ≡ len_of left + len_of right) × (depth ≡ max (depth_of left) (depth_of right) + 1) × (len ≤ MAX_LEN) × (depth ≤ MAX_DEPTH) × (mark ≡ parts left ++ parts right)
+IsSound (Cat' p left q right len depth mark) = IsSound left × IsSound right × (len ≡ len_of left + len_of right) ×
+    (depth ≡ max (depth_of left) (depth_of right) + 1) × (len ≤ MAX_LEN) × (depth ≤ MAX_DEPTH) × (mark ≡ parts left ++ parts right)
 
 -- it is a `Leaf`
 abbrev pub is_leaf : Node → Bool

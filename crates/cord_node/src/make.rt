@@ -21,7 +21,8 @@ pub fn leaf_range(
     requires not_empty { 0 < len }
     requires inside { start + len ≤ length (rc_slice_items bytes) }
     requires within_limit { len ≤ MAX_LEN }
-    ensures form { IfOk result (λ node. node.value ≡ Node.Leaf bytes start len (leaf_part (rc_slice_items bytes) start len ∷ [])) }
+    ensures form { IfOk result (λ node. node.value ≡ Node.Leaf bytes start len
+        (leaf_part (rc_slice_items bytes) start len ∷ [])) }
 {
     let mark = Mark::new(&bytes, &(start, len));
     let node = Rc::new(
@@ -40,7 +41,8 @@ pub fn leaf_range(
 pub fn leaf(alloc: Global, bytes: RcSlice<u8>) -> Result<Rc<Node>, AllocError>
     requires not_empty { 0 < length (rc_slice_items bytes) }
     requires within_limit { length (rc_slice_items bytes) ≤ MAX_LEN }
-    ensures form { IfOk result (λ node. node.value ≡ Node.Leaf bytes 0 (length (rc_slice_items bytes)) (leaf_part (rc_slice_items bytes) 0 (length (rc_slice_items bytes)) ∷ [])) }
+    ensures form { IfOk result (λ node. node.value ≡ Node.Leaf bytes 0 (length (rc_slice_items bytes))
+        (leaf_part (rc_slice_items bytes) 0 (length (rc_slice_items bytes)) ∷ [])) }
     ensures sound { IfOk result (λ node. IsSound node.value) }
     ensures depth { IfOk result (λ node. depth_of node.value ≡ 0) }
 {
@@ -85,7 +87,8 @@ fn cat(alloc: Global, left: &Rc<Node>, right: &Rc<Node>) -> Result<Rc<Node>, All
     ensures text { IfOk result (λ node. cells node.value ≡ cells left.now.value ++ cells right.now.value) }
     ensures parts { IfOk result (λ node. parts node.value ≡ parts left.now.value ++ parts right.now.value) }
     ensures len { IfOk result (λ node. len_of node.value ≡ len_of left.now.value + len_of right.now.value) }
-    ensures depth { IfOk result (λ node. depth_of node.value ≡ max (depth_of left.now.value) (depth_of right.now.value) + 1) }
+    ensures depth { IfOk result (λ node. depth_of node.value ≡ max (depth_of left.now.value) (depth_of right.now.value)
+        + 1) }
 {
     let len = left.len() + right.len();
     let depth = left.depth().max(right.depth()) + 1;
@@ -112,7 +115,8 @@ fn merged(alloc: Global, left: &[u8], right: &[u8]) -> Result<Rc<Node>, AllocErr
     ensures sound { IfOk result (λ node. IsSound node.value) }
     ensures form { IfOk result (λ node. is_leaf node.value ≡ true) }
     ensures text { IfOk result (λ node. cells node.value ≡ map known (left.now ++ right.now)) }
-    ensures part { IfOk result (λ node. parts node.value ≡ leaf_part (left.now ++ right.now) 0 (length left.now + length right.now) ∷ []) }
+    ensures part { IfOk result (λ node. parts node.value
+        ≡ leaf_part (left.now ++ right.now) 0 (length left.now + length right.now) ∷ []) }
     ensures len { IfOk result (λ node. len_of node.value ≡ length left.now + length right.now) }
     ensures depth { IfOk result (λ node. depth_of node.value ≡ 0) }
 {
@@ -138,7 +142,8 @@ pub fn join(alloc: Global, left: &Rc<Node>, right: &Rc<Node>) -> Result<Rc<Node>
 
     ensures form { IfOk result (λ node. is_leaf node.value ≡ are_merged left.now.value right.now.value) }
     ensures depth { IfOk result (λ node. depth_of node.value ≡ joined_depth left.now.value right.now.value) }
-    ensures depth_bound { IfOk result (λ node. depth_of node.value ≤ max (depth_of left.now.value) (depth_of right.now.value) + 1) }
+    ensures depth_bound { IfOk result (λ node. depth_of node.value
+        ≤ max (depth_of left.now.value) (depth_of right.now.value) + 1) }
     ensures kept { IfOk result (λ node. Kept (parts left.now.value ++ parts right.now.value) (parts node.value)) }
 {
     match (left.leaf_bytes(), right.leaf_bytes()) {

@@ -21,7 +21,8 @@ fn shared_range(
     requires inside { start + len ≤ length (rc_slice_items bytes.now) }
     requires within_limit { len ≤ MAX_LEN }
     ensures sound { IfOk result (λ node. IsSound node.value) }
-    ensures text { IfOk result (λ node. cells node.value ≡ map known (take len (drop start (rc_slice_items bytes.now)))) }
+    ensures text { IfOk result (λ node. cells node.value
+        ≡ map known (take len (drop start (rc_slice_items bytes.now)))) }
     ensures part { IfOk result (λ node. parts node.value ≡ leaf_part (rc_slice_items bytes.now) start len ∷ []) }
     ensures len { IfOk result (λ node. len_of node.value ≡ len) }
     ensures depth { IfOk result (λ node. depth_of node.value ≡ 0) }

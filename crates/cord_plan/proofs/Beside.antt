@@ -20,7 +20,8 @@ module _ (d : Decisions) where
   abbrev decided_at : ℕ → Statement → Operation
   decided_at p l = operation l (d.exprs p) (d.dead p) (d.paired p)
 
-  at_offset : (p : ℕ) (s : List Statement) (q : ℕ) (l : Statement) (o : Operation) → slice_get s q ≡ Some l → slice_get (decided_from d p s) q ≡ Some o → decided_at (p + q) l ≡ o
+  at_offset : (p : ℕ) (s : List Statement) (q : ℕ) (l : Statement) (o : Operation) → slice_get s q ≡ Some l →
+      slice_get (decided_from d p s) q ≡ Some o → decided_at (p + q) l ≡ o
   at_offset p [] q l o e f = let bad : ⊥ = cc in absurd bad
   at_offset p (k ∷ s) zero l o e f =
       let same : k ≡ l = cc in
@@ -31,7 +32,8 @@ module _ (d : Decisions) where
       let place : p + 1 + q ≡ p + suc q = omega arith in
       subst (λ (n : ℕ). decided_at n l ≡ o) place (at_offset (p + 1) s q l o e f)
 
-  at_place : (s : List Statement) (p : ℕ) (l : Statement) (o : Operation) → slice_get s p ≡ Some l → slice_get (decided d s) p ≡ Some o → decided_at p l ≡ o
+  at_place : (s : List Statement) (p : ℕ) (l : Statement) (o : Operation) → slice_get s p ≡ Some l → slice_get (decided d s) p ≡ Some o →
+      decided_at p l ≡ o
   at_place s p l o e f =
       let place : 0 + p ≡ p = omega arith in
       subst (λ (n : ℕ). decided_at n l ≡ o) place (at_offset 0 s p l o e f)
@@ -48,21 +50,29 @@ module _ (s : List Statement) (d : Decisions) (ok : MeetsConditions s d) (limit 
   abbrev Beside : ℕ → State → Option Holding → Type 0
   Beside p f t = Related s d ok limit files p f t
 
-  counts : (p : ℕ) (l : Statement) (o : Operation) → slice_get s p ≡ Some l → slice_get (decided d s) p ≡ Some o → (f : State) (t : Option Holding) → Beside p f t → (rules limit files).count l f ≡ (plan_rules limit files).count o t
+  counts : (p : ℕ) (l : Statement) (o : Operation) → slice_get s p ≡ Some l → slice_get (decided d s) p ≡ Some o →
+      (f : State) (t : Option Holding) → Beside p f t → (rules limit files).count l f ≡ (plan_rules limit files).count o t
   counts p l o e g f None inv = absurd inv
-  counts p l o e g f (Some h) inv = subst (λ (w : Operation). (rules limit files).count l f ≡ (plan_rules limit files).count w (Some h)) (at_place d s p l o e g) (same_count h f inv.numbers l (d.exprs p) (d.dead p) (d.paired p))
+  counts p l o e g f (Some h) inv = subst (λ (w : Operation). (rules limit files).count l f ≡ (plan_rules limit files).count w (Some h))
+      (at_place d s p l o e g) (same_count h f inv.numbers l (d.exprs p) (d.dead p) (d.paired p))
 
-  compare : (p : ℕ) (l : Statement) (o : Operation) → slice_get s p ≡ Some l → slice_get (decided d s) p ≡ Some o → (f : State) (t : Option Holding) → Beside p f t → (rules limit files).holds l f ≡ (plan_rules limit files).holds o t
+  compare : (p : ℕ) (l : Statement) (o : Operation) → slice_get s p ≡ Some l → slice_get (decided d s) p ≡ Some o →
+      (f : State) (t : Option Holding) → Beside p f t → (rules limit files).holds l f ≡ (plan_rules limit files).holds o t
   compare p l o e g f None inv = absurd inv
-  compare p l o e g f (Some h) inv = subst (λ (w : Operation). (rules limit files).holds l f ≡ (plan_rules limit files).holds w (Some h)) (at_place d s p l o e g) (same_holds h f inv.numbers l (d.exprs p) (d.dead p) (d.paired p))
+  compare p l o e g f (Some h) inv = subst (λ (w : Operation). (rules limit files).holds l f ≡ (plan_rules limit files).holds w (Some h))
+      (at_place d s p l o e g) (same_holds h f inv.numbers l (d.exprs p) (d.dead p) (d.paired p))
 
-  passes : (p q : ℕ) (x : Shape) → slice_get (map shape_of s) p ≡ Some x → IsControl x → Next (map shape_of s) p q → (f : State) (t : Option Holding) → Beside p f t → Beside q f t
+  passes : (p q : ℕ) (x : Shape) → slice_get (map shape_of s) p ≡ Some x → IsControl x → Next (map shape_of s) p q →
+      (f : State) (t : Option Holding) → Beside p f t → Beside q f t
   passes p q x at control next f None inv = inv
   passes p q x at control next f (Some h) inv = moves s d ok limit p q x at control next f h inv
 
-  acts : (p : ℕ) (l : Statement) (o : Operation) → slice_get s p ≡ Some l → slice_get (decided d s) p ≡ Some o → shape_of l ≡ Simple → (f : State) (t : Option Holding) → Beside p f t → Agree (Beside (p + 1)) ((rules limit files).act p l f) ((plan_rules limit files).act p o t)
+  acts : (p : ℕ) (l : Statement) (o : Operation) → slice_get s p ≡ Some l → slice_get (decided d s) p ≡ Some o → shape_of l ≡ Simple →
+      (f : State) (t : Option Holding) → Beside p f t → Agree (Beside (p + 1)) ((rules limit files).act p l f)
+      ((plan_rules limit files).act p o t)
   acts p l o e g simple f None inv = absurd inv
-  acts p l o e g simple f (Some h) inv = subst (λ (w : Operation). Agree (Beside (p + 1)) (act limit files l f) (does limit files w h)) (at_place d s p l o e g) (agrees s d ok limit files p f h inv l e simple)
+  acts p l o e g simple f (Some h) inv = subst (λ (w : Operation). Agree (Beside (p + 1)) (act limit files l f) (does limit files w h))
+      (at_place d s p l o e g) (agrees s d ok limit files p f h inv l e simple)
 
   pub plan_simulates : Simulates (rules limit files) (plan_rules limit files) s (decided d s) (Related s d ok limit files)
   plan_simulates = record {

@@ -1,12 +1,15 @@
 -- Only what is read later is built.
-use Rattle.std.proofs.Common.{◌≡◌, ℕ, zero, suc, ◌+◌, Bool, true, false, List, [], ◌∷◌, Option, Some, None, refl, sym, ap, ◌∙◌, subst, arith}
+use Rattle.std.proofs.Common.{◌≡◌, ℕ, zero, suc, ◌+◌, Bool, true, false, List, [], ◌∷◌, Option, Some, None, refl, sym, ap, ◌∙◌, subst}
+use Rattle.std.proofs.Common.{arith}
 use Rattle.std.specs.Prelude.{slice_get, not, ◌||◌}
 use Rattle.cord_syntax.specs.declared.statements.Statement.{Statement}
-use Rattle.cord_syntax.specs.declared.statements.Statement.TheVariants.{Let, File, Eager, Lazy, Chars, Nul, FromFn, Cat, Catn, Catc, Substr, Balance, EcToCord, Sprintf}
+use Rattle.cord_syntax.specs.declared.statements.Statement.TheVariants.{Let, File, Eager, Lazy, Chars, Nul, FromFn, Cat, Catn, Catc, Substr}
+use Rattle.cord_syntax.specs.declared.statements.Statement.TheVariants.{Balance, EcToCord, Sprintf}
 use Rattle.cord_plan.specs.Exprs.{Expr}
 use Rattle.cord_plan.specs.Operands.{target_of}
 use Rattle.cord_plan.specs.Forced.{Table}
-use Rattle.cord_plan.specs.Planned.{Made, Operation, Build, Measure, Write, Keep, gives, or_nothing, operation, operations, is_dead, is_first}
+use Rattle.cord_plan.specs.Planned.{Made, Operation, Build, Measure, Write, Keep, gives, or_nothing, operation, operations, is_dead}
+use Rattle.cord_plan.specs.Planned.{is_first}
 
 -- the name that an operation builds
 abbrev built : Operation → Option (List ℕ)
@@ -24,16 +27,19 @@ not_both : (dead paired : Bool) → (dead || paired) ≡ false → dead ≡ fals
 not_both true paired e = cc
 not_both false paired e = refl
 
-given : (dead : Bool) (line : ℕ) (target : List ℕ) (made : Made) (x : List ℕ) → built (gives dead line target made) ≡ Some x → Builds (Some target) dead x
+given : (dead : Bool) (line : ℕ) (target : List ℕ) (made : Made) (x : List ℕ) → built (gives dead line target made) ≡ Some x →
+    Builds (Some target) dead x
 given true line target made x e = let bad : ⊥ = cc in absurd bad
 given false line target made x e = record { assigned = e; living = refl }
 
-given_simple : (dead paired : Bool) (line : ℕ) (target : List ℕ) (made : Made) (x : List ℕ) → built (gives (dead || paired) line target made) ≡ Some x → Builds (Some target) dead x
+given_simple : (dead paired : Bool) (line : ℕ) (target : List ℕ) (made : Made) (x : List ℕ) →
+    built (gives (dead || paired) line target made) ≡ Some x → Builds (Some target) dead x
 given_simple dead paired line target made x e =
     let b : Builds (Some target) (dead || paired) x = given (dead || paired) line target made x e in
     record { assigned = b.assigned; living = not_both dead paired b.living }
 
-builds : (l : Statement) (e : Expr) (dead paired : Bool) (x : List ℕ) → built (operation l e dead paired) ≡ Some x → Builds (target_of l) dead x
+builds : (l : Statement) (e : Expr) (dead paired : Bool) (x : List ℕ) → built (operation l e dead paired) ≡ Some x →
+    Builds (target_of l) dead x
 builds (Cat line target left right) e dead paired x h = given_simple dead paired line target _ x h
 builds (Catn line target many) e dead paired x h = given_simple dead paired line target _ x h
 builds (Catc line target operand byte) e dead paired x h = given_simple dead paired line target _ x h
@@ -50,7 +56,8 @@ builds (EcToCord line target extensible) e dead paired x h = given dead line tar
 builds (Sprintf line target text format arguments) e dead paired x h = given dead line target _ x h
 builds l e dead paired x h = let bad : ⊥ = cc in absurd bad
 
-lives : (later : List ℕ → ℕ → Bool) (p : ℕ) (target : Option (List ℕ)) (x : List ℕ) → target ≡ Some x → is_dead later p target ≡ false → later x p ≡ true
+lives : (later : List ℕ → ℕ → Bool) (p : ℕ) (target : Option (List ℕ)) (x : List ℕ) → target ≡ Some x → is_dead later p target ≡ false →
+    later x p ≡ true
 lives later p None x same e = let bad : ⊥ = cc in absurd bad
 lives later p (Some y) x same e = let y_is : y ≡ x = cc in pick (later x p) refl
   where
@@ -62,7 +69,8 @@ lives later p (Some y) x same e = let y_is : y ≡ x = cc in pick (later x p) re
     pick false f = let bad : ⊥ = cc in absurd bad
 
 module _ (later : List ℕ → ℕ → Bool) (table : Table) where
-  pub built_later : (p : ℕ) (s : List Statement) (entries : Table) (k line : ℕ) (x : List ℕ) (made : Made) → slice_get (operations later table p s entries) k ≡ Some (Build line x made) → later x (p + k) ≡ true
+  pub built_later : (p : ℕ) (s : List Statement) (entries : Table) (k line : ℕ) (x : List ℕ) (made : Made) →
+      slice_get (operations later table p s entries) k ≡ Some (Build line x made) → later x (p + k) ≡ true
   built_later p [] entries k line x made e = let bad : ⊥ = cc in absurd bad
   built_later p (l ∷ rest) [] k line x made e = let bad : ⊥ = cc in absurd bad
   built_later p (l ∷ rest) (entry ∷ entries) zero line x made e =

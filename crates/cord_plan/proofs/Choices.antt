@@ -1,5 +1,6 @@
 -- The choices for a line's operands, from left to right.
-use Rattle.std.proofs.Common.{◌≡◌, ℕ, ◌+◌, ◌<◌, Bool, List, [], ◌∷◌, ◌++◌, map, drop, length, get_or, Option, Some, None, refl, sym, ap, ◌∙◌}
+use Rattle.std.proofs.Common.{◌≡◌, ℕ, ◌+◌, ◌<◌, Bool, List, [], ◌∷◌, ◌++◌, map, drop, length, get_or, Option, Some, None, refl, sym, ap}
+use Rattle.std.proofs.Common.{◌∙◌}
 use Rattle.std.proofs.lemmas.List.{at_drop_more}
 use Rattle.cord_syntax.specs.declared.statements.Statement.{Statement}
 use Rattle.cord_syntax.specs.declared.statements.Statement.TheVariants.{Chars, Nul, Cat, Catn, Catc, Substr, Put}
@@ -21,7 +22,8 @@ simple_reads l xs e = let bad : ⊥ = cc in absurd bad
 
 module _ (s : List Statement) (later : List ℕ → ℕ → Bool) (t : Table) (b : ℕ) (l : Statement) where
   -- a choice more, and an operand less
-  pub more_chosen : (xs : List (List ℕ)) (done : List Choice) (c : Choice) (i : ℕ) (x : List ℕ) → i < length xs → x ≡ get_or xs i x → length done ≡ i →
+  pub more_chosen : (xs : List (List ℕ)) (done : List Choice) (c : Choice) (i : ℕ) (x : List ℕ) → i < length xs → x ≡ get_or xs i x →
+      length done ≡ i →
       c ≡ chosen_of s later t b l x (map (λ d. expr_of d) done) (map (λ y. name y) (drop (length done + 1) xs)) (setter s x b) →
       choices s later t b l (done ++ c ∷ []) (drop (i + 1) xs) ≡ choices s later t b l done (drop i xs)
   more_chosen xs done c i x lt is size chosen = sym (
@@ -29,15 +31,18 @@ module _ (s : List Statement) (later : List ℕ → ℕ → Bool) (t : Table) (b
       ∙ (ap (λ (y : List ℕ). choices s later t b l done (y ∷ drop (i + 1) xs)) (sym is)
       ∙ ap (λ (d : Choice). choices s later t b l (done ++ d ∷ []) (drop (i + 1) xs)) (here ∙ sym chosen)))
     where
-      here : chosen_of s later t b l x (map (λ d. expr_of d) done) (map (λ y. name y) (drop (i + 1) xs)) (setter s x b) ≡ chosen_of s later t b l x (map (λ d. expr_of d) done) (map (λ y. name y) (drop (length done + 1) xs)) (setter s x b)
-      here = ap (λ (n : ℕ). chosen_of s later t b l x (map (λ d. expr_of d) done) (map (λ y. name y) (drop (n + 1) xs)) (setter s x b)) (sym size)
+      here : chosen_of s later t b l x (map (λ d. expr_of d) done) (map (λ y. name y) (drop (i + 1) xs)) (setter s x b)
+          ≡ chosen_of s later t b l x (map (λ d. expr_of d) done) (map (λ y. name y) (drop (length done + 1) xs)) (setter s x b)
+      here = ap (λ (n : ℕ). chosen_of s later t b l x (map (λ d. expr_of d) done) (map (λ y. name y) (drop (n + 1) xs)) (setter s x b))
+          (sym size)
 
   -- the line's entry, by its operands
   abbrev pub entry_of : Option (List (List ℕ)) → Option Expr × List Choice
   entry_of None = (None, [])
   entry_of (Some xs) = entry s later l (choices s later t b l [] (read_by l))
 
-pub chosen_simple : (s : List Statement) (later : List ℕ → ℕ → Bool) (t : Table) (b : ℕ) (l : Statement) → operands_chosen s later t b l (own l) ≡ entry_of s later t b l (simple_operands l)
+pub chosen_simple : (s : List Statement) (later : List ℕ → ℕ → Bool) (t : Table) (b : ℕ) (l : Statement) →
+    operands_chosen s later t b l (own l) ≡ entry_of s later t b l (simple_operands l)
 chosen_simple s later t b (Cat line target left right) = refl
 chosen_simple s later t b (Catn line target many) = refl
 chosen_simple s later t b (Catc line target operand byte) = refl

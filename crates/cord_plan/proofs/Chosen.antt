@@ -1,18 +1,21 @@
 -- What stands for the operands of a line, and what holds of each entry of a script's table.
-use Rattle.std.proofs.Common.{◌≡◌, ◌⊎◌, ℕ, zero, suc, ◌+◌, ◌<◌, Bool, true, false, ◌&&◌, List, [], ◌∷◌, ◌++◌, map, length, Option, Some, None, refl, sym, ap, ◌∙◌, subst, inl, inr, arith, append_assoc, append-nil, length-append}
+use Rattle.std.proofs.Common.{◌≡◌, ◌⊎◌, ℕ, zero, suc, ◌+◌, ◌<◌, Bool, true, false, ◌&&◌, List, [], ◌∷◌, ◌++◌, map, length, Option, Some}
+use Rattle.std.proofs.Common.{None, refl, sym, ap, ◌∙◌, subst, inl, inr, arith, append_assoc, append-nil, length-append}
 use Rattle.std.specs.Prelude.{slice_get, if◌then◌else◌}
 use Rattle.std.proofs.lemmas.List.{map-append}
 use Rattle.cord_syntax.specs.declared.statements.Statement.{Statement}
 use Rattle.cord_plan.specs.Exprs.{Expr, name}
 use Rattle.cord_plan.specs.Operands.{assigns_at}
-use Rattle.cord_plan.specs.Forced.{Table, Choice, kept, replaced, expr_of, expr_with, first_of, own, setter, fits, is_small, chosen_from, chosen_of, choices, operands_chosen, grown, exprs}
+use Rattle.cord_plan.specs.Forced.{Table, Choice, kept, replaced, expr_of, expr_with, first_of, own, setter, fits, is_small, chosen_from}
+use Rattle.cord_plan.specs.Forced.{chosen_of, choices, operands_chosen, grown, exprs}
 
 pub both_true : (a b : Bool) → (a && b) ≡ true → (a ≡ true) × (b ≡ true)
 both_true true b e = (refl, e)
 both_true false b e = let bad : ⊥ = cc in absurd bad
 
 -- the last element of a list, or one before it
-pub last_or : {X : Type 0} (xs : List X) (y : X) (k : ℕ) (z : X) → slice_get (xs ++ y ∷ []) k ≡ Some z → (slice_get xs k ≡ Some z) ⊎ ((k ≡ length xs) × (z ≡ y))
+pub last_or : {X : Type 0} (xs : List X) (y : X) (k : ℕ) (z : X) → slice_get (xs ++ y ∷ []) k ≡ Some z → (slice_get xs k ≡ Some z) ⊎
+    ((k ≡ length xs) × (z ≡ y))
 last_or [] y zero z e = let same : z ≡ y = cc in inr (refl, same)
 last_or [] y (suc k) z e = let bad : ⊥ = cc in absurd bad
 last_or (x ∷ xs) y zero z e = inl e
@@ -40,7 +43,8 @@ pub setter_is : (s : List Statement) (x : List ℕ) (p a : ℕ) → setter s x p
 setter_is s x zero a e = let bad : ⊥ = cc in absurd bad
 setter_is s x (suc p) a e = pick (assigns_at (slice_get s p) x) refl e (λ h. setter_is s x p a h)
   where
-    pick : (v : Bool) → assigns_at (slice_get s p) x ≡ v → (if v then Some p else setter s x p) ≡ Some a → (setter s x p ≡ Some a → IsSetter s x p a) → IsSetter s x (suc p) a
+    pick : (v : Bool) → assigns_at (slice_get s p) x ≡ v → (if v then Some p else setter s x p) ≡ Some a →
+        (setter s x p ≡ Some a → IsSetter s x p a) → IsSetter s x (suc p) a
     pick true f h before =
         let same : p ≡ a = cc in
         record { before = omega arith; assigns = ap (λ (k : ℕ). assigns_at (slice_get s k) x) (sym same) ∙ f }
@@ -61,17 +65,22 @@ module _ (s : List Statement) (later : List ℕ → ℕ → Bool) where
   Stands table b l before after x (kept y) = y ≡ x
   Stands table b l before after x (replaced a r) = Taken table b l x a r × (is_small (expr_with l (before ++ r ∷ after)) ≡ true)
 
-  from_stands : (table : Table) (b : ℕ) (l : Statement) (x : List ℕ) (before after : List Expr) (a : ℕ) (o : Option Expr) → setter s x b ≡ Some a → first_of (slice_get table a) ≡ o → Stands table b l before after x (chosen_from s later b l x before after a o)
+  from_stands : (table : Table) (b : ℕ) (l : Statement) (x : List ℕ) (before after : List Expr) (a : ℕ) (o : Option Expr) →
+      setter s x b ≡ Some a → first_of (slice_get table a) ≡ o →
+      Stands table b l before after x (chosen_from s later b l x before after a o)
   from_stands table b l x before after a None set from = refl
-  from_stands table b l x before after a (Some r) set from = pick (fits s later r a b l x && is_small (expr_with l (before ++ r ∷ after))) refl
+  from_stands table b l x before after a (Some r) set from = pick (fits s later r a b l x && is_small (expr_with l (before ++ r ∷ after)))
+      refl
     where
-      pick : (v : Bool) → (fits s later r a b l x && is_small (expr_with l (before ++ r ∷ after))) ≡ v → Stands table b l before after x (if v then replaced a r else kept x)
+      pick : (v : Bool) → (fits s later r a b l x && is_small (expr_with l (before ++ r ∷ after))) ≡ v →
+          Stands table b l before after x (if v then replaced a r else kept x)
       pick true e =
           let p = both_true (fits s later r a b l x) (is_small (expr_with l (before ++ r ∷ after))) e in
           (record { set = setter_is s x b a set; from = from; fit = p.0 }, p.1)
       pick false e = refl
 
-  chosen_stands : (table : Table) (b : ℕ) (l : Statement) (x : List ℕ) (before after : List Expr) (o : Option ℕ) → setter s x b ≡ o → Stands table b l before after x (chosen_of s later table b l x before after o)
+  chosen_stands : (table : Table) (b : ℕ) (l : Statement) (x : List ℕ) (before after : List Expr) (o : Option ℕ) → setter s x b ≡ o →
+      Stands table b l before after x (chosen_of s later table b l x before after o)
   chosen_stands table b l x before after None set = refl
   chosen_stands table b l x before after (Some a) set = from_stands table b l x before after a (first_of (slice_get table a)) set refl
 
@@ -88,7 +97,8 @@ module _ (s : List Statement) (later : List ℕ → ℕ → Bool) where
     AreChosen (x ∷ xs) [] = ⊥
     AreChosen (x ∷ xs) (c ∷ cs) = Chosen x c × AreChosen xs cs
 
-    chosen_then : (xs : List (List ℕ)) (cs : List Choice) (x : List ℕ) (c : Choice) → AreChosen xs cs → Chosen x c → AreChosen (xs ++ x ∷ []) (cs ++ c ∷ [])
+    chosen_then : (xs : List (List ℕ)) (cs : List Choice) (x : List ℕ) (c : Choice) → AreChosen xs cs → Chosen x c →
+        AreChosen (xs ++ x ∷ []) (cs ++ c ∷ [])
     chosen_then [] [] x c h k = (k, tt)
     chosen_then [] (d ∷ cs) x c h k = absurd h
     chosen_then (y ∷ xs) [] x c h k = absurd h
@@ -102,15 +112,18 @@ module _ (s : List Statement) (later : List ℕ → ℕ → Bool) where
     abbrev next : List Choice → List ℕ → List (List ℕ) → Choice
     next done x xs = chosen_of s later table b l x (map (λ c. expr_of c) done) (map (λ y. name y) xs) (setter s x b)
 
-    next_stands : (done : List Choice) (x : List ℕ) (xs : List (List ℕ)) → Stands table b l (map (λ c. expr_of c) done) (map (λ y. name y) xs) x (next done x xs)
+    next_stands : (done : List Choice) (x : List ℕ) (xs : List (List ℕ)) →
+        Stands table b l (map (λ c. expr_of c) done) (map (λ y. name y) xs) x (next done x xs)
     next_stands done x xs = chosen_stands table b l x (map (λ c. expr_of c) done) (map (λ y. name y) xs) (setter s x b) refl
 
-    pub are_chosen : (ys : List (List ℕ)) (done : List Choice) (xs : List (List ℕ)) → AreChosen ys done → AreChosen (ys ++ xs) (choices s later table b l done xs)
+    pub are_chosen : (ys : List (List ℕ)) (done : List Choice) (xs : List (List ℕ)) → AreChosen ys done →
+        AreChosen (ys ++ xs) (choices s later table b l done xs)
     are_chosen ys done [] h = subst (λ (zs : List (List ℕ)). AreChosen zs done) (sym (append-nil ys)) h
     are_chosen ys done (x ∷ xs) h =
         let c : Choice = next done x xs in
         let one : Chosen x c = is_chosen (map (λ c. expr_of c) done) (map (λ y. name y) xs) x c (next_stands done x xs) in
-        subst (λ (zs : List (List ℕ)). AreChosen zs (choices s later table b l (done ++ c ∷ []) xs)) (append_assoc ys (x ∷ []) xs) (are_chosen (ys ++ x ∷ []) (done ++ c ∷ []) xs (chosen_then ys done x c h one))
+        subst (λ (zs : List (List ℕ)). AreChosen zs (choices s later table b l (done ++ c ∷ []) xs)) (append_assoc ys (x ∷ []) xs)
+        (are_chosen (ys ++ x ∷ []) (done ++ c ∷ []) xs (chosen_then ys done x c h one))
 
     -- the line's expression with these choices, and the other operands as they are
     abbrev standing : List Choice → List (List ℕ) → Option Expr
@@ -120,22 +133,29 @@ module _ (s : List Statement) (later : List ℕ → ℕ → Bool) where
     abbrev pub IsSmall : List Choice → List (List ℕ) → Type 0
     IsSmall done xs = (k a : ℕ) (r : Expr) → slice_get done k ≡ Some (replaced a r) → is_small (standing done xs) ≡ true
 
-    one_more : (done : List Choice) (c : Choice) (xs : List (List ℕ)) → standing (done ++ c ∷ []) xs ≡ expr_with l (map (λ c. expr_of c) done ++ expr_of c ∷ map (λ y. name y) xs)
-    one_more done c xs = ap (λ (es : List Expr). expr_with l es) (ap (λ (es : List Expr). es ++ map (λ y. name y) xs) (map-append (λ (c : Choice). expr_of c) done (c ∷ [])) ∙ append_assoc (map (λ c. expr_of c) done) (expr_of c ∷ []) (map (λ y. name y) xs))
+    one_more : (done : List Choice) (c : Choice) (xs : List (List ℕ)) →
+        standing (done ++ c ∷ []) xs ≡ expr_with l (map (λ c. expr_of c) done ++ expr_of c ∷ map (λ y. name y) xs)
+    one_more done c xs = ap (λ (es : List Expr). expr_with l es)
+        (ap (λ (es : List Expr). es ++ map (λ y. name y) xs) (map-append (λ (c : Choice). expr_of c) done (c ∷ []))
+        ∙ append_assoc (map (λ c. expr_of c) done) (expr_of c ∷ []) (map (λ y. name y) xs))
 
-    small_then : (done : List Choice) (x : List ℕ) (xs : List (List ℕ)) (c : Choice) → Stands table b l (map (λ c. expr_of c) done) (map (λ y. name y) xs) x c → IsSmall done (x ∷ xs) → IsSmall (done ++ c ∷ []) xs
+    small_then : (done : List Choice) (x : List ℕ) (xs : List (List ℕ)) (c : Choice) →
+        Stands table b l (map (λ c. expr_of c) done) (map (λ y. name y) xs) x c → IsSmall done (x ∷ xs) → IsSmall (done ++ c ∷ []) xs
     small_then done x xs (replaced a' r') h small k a r e = ap (λ (o : Option Expr). is_small o) (one_more done (replaced a' r') xs) ∙ h.1
     small_then done x xs (kept y) h small k a r e = pick (last_or done (kept y) k (replaced a r) e)
       where
-        pick : (slice_get done k ≡ Some (replaced a r)) ⊎ ((k ≡ length done) × (replaced a r ≡ kept y)) → is_small (standing (done ++ kept y ∷ []) xs) ≡ true
+        pick : (slice_get done k ≡ Some (replaced a r)) ⊎ ((k ≡ length done) × (replaced a r ≡ kept y)) →
+            is_small (standing (done ++ kept y ∷ []) xs) ≡ true
         pick (inl f) =
-            ap (λ (o : Option Expr). is_small o) (one_more done (kept y) xs ∙ ap (λ (z : List ℕ). expr_with l (map (λ c. expr_of c) done ++ name z ∷ map (λ y. name y) xs)) h)
+            ap (λ (o : Option Expr). is_small o) (one_more done (kept y) xs
+            ∙ ap (λ (z : List ℕ). expr_with l (map (λ c. expr_of c) done ++ name z ∷ map (λ y. name y) xs)) h)
             ∙ small k a r f
         pick (inr f) = let bad : ⊥ = (let same = f.1 in cc) in absurd bad
 
     pub stay_small : (done : List Choice) (xs : List (List ℕ)) → IsSmall done xs → IsSmall (choices s later table b l done xs) []
     stay_small done [] small = small
-    stay_small done (x ∷ xs) small = stay_small (done ++ next done x xs ∷ []) xs (small_then done x xs (next done x xs) (next_stands done x xs) small)
+    stay_small done (x ∷ xs) small = stay_small (done ++ next done x xs ∷ []) xs
+        (small_then done x xs (next done x xs) (next_stands done x xs) small)
 
   -- what holds of each entry of a table
   abbrev pub EachEntry : (ℕ → Option Expr × List Choice → Type 0) → Table → Type 0
@@ -145,7 +165,8 @@ module _ (s : List Statement) (later : List ℕ → ℕ → Bool) where
   abbrev pub IsFront : Table → Type 0
   IsFront table = EachEntry (λ k en. slice_get (exprs s later) k ≡ Some en) table
 
-  grown_keeps : (table : Table) (b : ℕ) (rest : List Statement) → EachEntry (λ k en. slice_get (grown s later table b rest) k ≡ Some en) table
+  grown_keeps : (table : Table) (b : ℕ) (rest : List Statement) →
+      EachEntry (λ k en. slice_get (grown s later table b rest) k ≡ Some en) table
   grown_keeps table b [] k en e = e
   grown_keeps table b (l ∷ rest) k en e =
       let more : Option Expr × List Choice = operands_chosen s later table b l (own l) in
@@ -159,7 +180,8 @@ module _ (s : List Statement) (later : List ℕ → ℕ → Bool) where
         pick (inl h) = each k other h
         pick (inr h) = subst (λ (n : ℕ). P n other) (sym h.0) (subst (λ (x : Option Expr × List Choice). P (length table) x) (sym h.1) one)
 
-    grown_each : (table : Table) (rest : List Statement) → ((k : ℕ) → slice_get s (length table + k) ≡ slice_get rest k) → grown s later table (length table) rest ≡ exprs s later → EachEntry P table → EachEntry P (exprs s later)
+    grown_each : (table : Table) (rest : List Statement) → ((k : ℕ) → slice_get s (length table + k) ≡ slice_get rest k) →
+        grown s later table (length table) rest ≡ exprs s later → EachEntry P table → EachEntry P (exprs s later)
     grown_each table [] here whole each = subst (λ (t : Table). EachEntry P t) whole each
     grown_each table (l ∷ rest) here whole each =
         let en : Option Expr × List Choice = operands_chosen s later table (length table) l (own l) in

@@ -1,7 +1,8 @@
 -- What an operation is to control, beside its statement.
 use Rattle.std.proofs.Common.{◌≡◌, ℕ, pos, Bool, true, false, ◌||◌, List, Some, refl, sym}
 use Rattle.cord_syntax.specs.declared.statements.Statement.{Statement}
-use Rattle.cord_syntax.specs.declared.statements.Statement.TheVariants.{Let, File, Eager, Lazy, Chars, Nul, FromFn, Cat, Catn, Catc, Substr, Balance, EcToCord, Sprintf, Repeat, If}
+use Rattle.cord_syntax.specs.declared.statements.Statement.TheVariants.{Let, File, Eager, Lazy, Chars, Nul, FromFn, Cat, Catn, Catc, Substr}
+use Rattle.cord_syntax.specs.declared.statements.Statement.TheVariants.{Balance, EcToCord, Sprintf, Repeat, If}
 use Rattle.cord_meaning.specs.Blocks.{Simple}
 use Rattle.cord_meaning.specs.State.{State}
 use Rattle.cord_meaning.specs.Statements.{shape_of, line_of, count_of, holds_of, compares}
@@ -95,5 +96,6 @@ module _ (h : Holding) (s : State) (numbers : h.numbers ≡ s.numbers) where
   same_holds (Balance line target operand) e dead paired = gives_holds line target _ dead
   same_holds (EcToCord line target extensible) e dead paired = gives_holds line target _ dead
   same_holds (Sprintf line target text format arguments) e dead paired = gives_holds line target _ dead
-  same_holds (If line left relation right) e dead paired = λ i. compares relation (sym (plain_number h s numbers left) i) (sym (plain_number h s numbers right) i)
+  same_holds (If line left relation right) e dead paired = λ i. compares relation (sym (plain_number h s numbers left) i)
+      (sym (plain_number h s numbers right) i)
   same_holds l e dead paired = refl

@@ -1,5 +1,6 @@
 -- Lines whose targets are dead, one after the other.
-use Rattle.std.proofs.Common.{◌≡◌, ℕ, ◌+◌, ◌<◌, ◌≤◌, Bool, false, List, [], ◌∷◌, ◌++◌, length, get_or, Some, refl, sym, ap, ◌∙◌, subst, ⊎_elim, length-append, arith}
+use Rattle.std.proofs.Common.{◌≡◌, ℕ, ◌+◌, ◌<◌, ◌≤◌, Bool, false, List, [], ◌∷◌, ◌++◌, length, get_or, Some, refl, sym, ap, ◌∙◌, subst}
+use Rattle.std.proofs.Common.{⊎_elim, length-append, arith}
 use Rattle.std.specs.Prelude.{slice_get}
 use Rattle.std.proofs.Math.Nat.{eq-or-lt_of_le}
 use Rattle.std.proofs.lemmas.List.{get_or_append_left, get_or_push}
@@ -18,7 +19,8 @@ module _ (s : List Statement) (later : List ℕ → ℕ → Bool) where
   ToldTo n dead = (p : ℕ) (m : Statement) → p < n → slice_get s p ≡ Some m → at dead p ≡ is_dead later p (target_of m)
 
   -- and of a line more
-  pub dead_more : (dead : List Bool) (n : ℕ) (l : Statement) (v : Bool) → length dead ≡ n → n < length s → l ≡ get_or s n l → v ≡ is_dead later n (target_of l) → ToldTo n dead → ToldTo (n + 1) (dead ++ v ∷ [])
+  pub dead_more : (dead : List Bool) (n : ℕ) (l : Statement) (v : Bool) → length dead ≡ n → n < length s → l ≡ get_or s n l →
+      v ≡ is_dead later n (target_of l) → ToldTo n dead → ToldTo (n + 1) (dead ++ v ∷ [])
   dead_more dead n l v size lt here is so_far = λ p m within there. ⊎_elim
       (λ same. subst (λ (q : ℕ). slice_get s q ≡ Some m → at (dead ++ v ∷ []) q ≡ is_dead later q (target_of m)) (sym same) (last m) there)
       (λ below. (let inside : p < length dead = omega (arith, size, below) in get_or_append_left dead (v ∷ []) false p inside) ∙ so_far p m below there)

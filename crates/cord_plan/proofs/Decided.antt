@@ -1,5 +1,6 @@
 -- Each operation of a plan that meets the conditions does what its statement does.
-use Rattle.std.proofs.Common.{◌≡◌, ℕ, ◌+◌, ◌⊎◌, ◌++◌, ℤ, pos, Bool, true, false, ◌||◌, List, [], ◌∷◌, length, map, Option, Some, None, Result, Ok, Err, refl, sym, ap, ◌∙◌, subst, inl, inr, ⊎_elim}
+use Rattle.std.proofs.Common.{◌≡◌, ℕ, ◌+◌, ◌⊎◌, ◌++◌, ℤ, pos, Bool, true, false, ◌||◌, List, [], ◌∷◌, length, map, Option, Some, None}
+use Rattle.std.proofs.Common.{Result, Ok, Err, refl, sym, ap, ◌∙◌, subst, inl, inr, ⊎_elim}
 use Rattle.std.specs.Prelude.{slice_get, if◌then◌else◌, ◌&&◌, ◌+ℤ◌, ◌-ℤ◌}
 use Rattle.std.specs.Str.{bytes_eq}
 use Rattle.cord_io.specs.Device.{Folder}
@@ -9,11 +10,15 @@ use Rattle.cord_operands.specs.declared.operands.Argument.{Argument}
 use Rattle.cord_operands.specs.declared.operands.Argument.TheVariants as arguments
 use Rattle.cord_operands.specs.declared.operands.Number.TheVariants.{Numeral}
 use Rattle.cord_syntax.specs.declared.statements.Statement.{Statement}
-use Rattle.cord_syntax.specs.declared.statements.Statement.TheVariants.{Let, File, Eager, Lazy, Chars, Nul, FromFn, Cat, Catn, Catc, Substr, Balance, EcToCord, Sprintf, Len, Fetch, Cmp, Ncmp, Str, Chr, Rchr, Assign, Add, Sub, EcInit, EcPut, EcCat, EcStr, Put, Repeat, If, Else, End}
+use Rattle.cord_syntax.specs.declared.statements.Statement.TheVariants.{Let, File, Eager, Lazy, Chars, Nul, FromFn, Cat, Catn, Catc, Substr}
+use Rattle.cord_syntax.specs.declared.statements.Statement.TheVariants.{Balance, EcToCord, Sprintf, Len, Fetch, Cmp, Ncmp, Str, Chr, Rchr}
+use Rattle.cord_syntax.specs.declared.statements.Statement.TheVariants.{Assign, Add, Sub, EcInit, EcPut, EcCat, EcStr, Put, Repeat, If}
+use Rattle.cord_syntax.specs.declared.statements.Statement.TheVariants.{Else, End}
 use Rattle.cord_meaning.specs.declared.ends.FaultKind.{FaultKind}
 use Rattle.cord_meaning.specs.declared.ends.FaultKind.TheVariants.{Overflow}
 use Rattle.cord_meaning.specs.Blocks.{Simple}
-use Rattle.cord_meaning.specs.State.{State, Outcome, number_value, and_then, as_index, as_byte, as_length, fits_i64, has_number, sets_number, sets_extensible}
+use Rattle.cord_meaning.specs.State.{State, Outcome, number_value, and_then, as_index, as_byte, as_length, fits_i64, has_number}
+use Rattle.cord_meaning.specs.State.{sets_number, sets_extensible}
 use Rattle.cord_meaning.specs.Statements.{act, shape_of, byte_at, file_text, function_text}
 use Rattle.cord_meaning.specs.Formats.{given, format_text, unless_refused}
 use Rattle.cord_meaning.specs.Simulation.{Agree}
@@ -21,15 +26,18 @@ use Rattle.cord_plan.specs.Exprs.{Expr, name, run, cat, sub, Exprs, nothing, mem
 use Rattle.cord_plan.specs.Operands.{has, read_by, target_of, is_name, cord_arguments, assigns, assigns_at, reads_at}
 use Rattle.cord_plan.specs.Unread.{Unread}
 use Rattle.cord_plan.specs.Forced.{expr_with, own}
-use Rattle.cord_plan.specs.Planned.{Made, Joined, Literal, OfFile, OfEager, OfLazy, OfFunction, Balanced, OfExtensible, Printed, gives, operation}
+use Rattle.cord_plan.specs.Planned.{Made, Joined, Literal, OfFile, OfEager, OfLazy, OfFunction, Balanced, OfExtensible, Printed, gives}
+use Rattle.cord_plan.specs.Planned.{operation}
 use Rattle.cord_plan.specs.Values.{within, length_of, text_in, gives_text}
 use Rattle.cord_plan.specs.Flattening.{HaveTexts}
-use Rattle.cord_plan.specs.Meaning.{Held, Text, Long, Holding, plain, held_text, is_text, all_texts, cords, cords_of, texts_to_build, texts_to_measure, opened, made_text, made_length, keeps, does}
+use Rattle.cord_plan.specs.Meaning.{Held, Text, Long, Holding, plain, held_text, is_text, all_texts, cords, cords_of, texts_to_build}
+use Rattle.cord_plan.specs.Meaning.{texts_to_measure, opened, made_text, made_length, keeps, does}
 use Rattle.cord_plan.specs.Conditions.{Decisions, is_simple, is_simple_at, makes_cord, stands, MeetsConditions}
 use Rattle.cord_plan.proofs.Keeps.{IsKept, Agrees}
 use Rattle.cord_plan.proofs.Values.{within_length}
 use Rattle.cord_plan.proofs.Owns.{sets_within}
-use Rattle.cord_plan.proofs.Evaluation.{In, in_left, in_right, in_either, plain_number, value_same, extent_is, line_gives, gives_after, function_gives}
+use Rattle.cord_plan.proofs.Evaluation.{In, in_left, in_right, in_either, plain_number, value_same, extent_is, line_gives, gives_after}
+use Rattle.cord_plan.proofs.Evaluation.{function_gives}
 use Rattle.cord_plan.proofs.Does.{built_agrees, measured_agrees, put_agrees, len_agrees, kept_agrees, with_others}
 use Rattle.cord_plan.proofs.Keeping.{not_both, same_self, unset_same, Ready, Inv, lengths, inv_set, inv_on, operand, operand_text}
 
@@ -59,7 +67,8 @@ module _ (H : List ℕ → Type 0) where
   append_cords (member e es) others y i =
       ⊎_elim (λ (m : In y (cords e)). inl (in_left y (cords e) (cords_of es) m))
       (λ (m : In y (cords_of (append es others))).
-      ⊎_elim (λ (n : In y (cords_of es)). inl (in_right y (cords e) (cords_of es) n)) (λ (n : In y (cords_of others)). inr n) (append_cords es others y m))
+      ⊎_elim (λ (n : In y (cords_of es)). inl (in_right y (cords e) (cords_of es) n)) (λ (n : In y (cords_of others)). inr n)
+      (append_cords es others y m))
       (in_either y (cords e) (cords_of (append es others)) i)
 
   front_cords : (e : Expr) (others : Exprs) (y : List ℕ) → In y (cords_of (in_front e others)) → In y (cords e) ⊎ In y (cords_of others)
@@ -70,7 +79,8 @@ module _ (H : List ℕ → Type 0) where
 
   members_each : (es : List Expr) → EachOf es → (y : List ℕ) → In y (cords_of (members es)) → H y
   members_each [] a y i = absurd i
-  members_each (e ∷ es) a y i = ⊎_elim (λ (m : In y (cords e)). a.0 y m) (λ (m : In y (cords_of (members es))). members_each es a.1 y m) (front_cords e (members es) y i)
+  members_each (e ∷ es) a y i = ⊎_elim (λ (m : In y (cords e)). a.0 y m) (λ (m : In y (cords_of (members es))). members_each es a.1 y m)
+      (front_cords e (members es) y i)
 
   each_then : (es : List Expr) (e : Expr) → EachOf es → Each e → EachOf (es ++ e ∷ [])
   each_then [] e a b = (b, tt)
@@ -81,7 +91,8 @@ module _ (H : List ℕ → Type 0) where
   line_each (Catn line target parts) es e h a = let same : cat (members es) ≡ e = cc in subst (λ (w : Expr). Each w) same (λ y i. members_each es a y i)
   line_each (Catc line target x byte) es e h a =
       let same : cat (members (es ++ run byte (Numeral (pos 1)) ∷ [])) ≡ e = cc in
-      subst (λ (w : Expr). Each w) same (λ y i. members_each (es ++ run byte (Numeral (pos 1)) ∷ []) (each_then es (run byte (Numeral (pos 1))) a (λ y i. absurd i)) y i)
+      subst (λ (w : Expr). Each w) same (λ y i. members_each (es ++ run byte (Numeral (pos 1)) ∷ [])
+      (each_then es (run byte (Numeral (pos 1))) a (λ y i. absurd i)) y i)
   line_each (Chars line target byte n) es e h a = let same : run byte n ≡ e = cc in subst (λ (w : Expr). Each w) same (λ y i. absurd i)
   line_each (Nul line target n) es e h a = let same : run (Numeral (pos 0)) n ≡ e = cc in subst (λ (w : Expr). Each w) same (λ y i. absurd i)
   line_each (Substr line target x start n) (g ∷ es) e h a = let same : sub g start n ≡ e = cc in subst (λ (w : Expr). Each w) same (λ y i. a.0 y i)
@@ -92,7 +103,8 @@ module _ (H : List ℕ → Type 0) where
   each_of g [] a = tt
   each_of g (x ∷ xs) a = (a x (inl refl), each_of g xs (λ y i. a y (inr i)))
 
-stand_all : (limit : ℕ) (f : State) (g : List ℕ → Expr) (xs : List (List ℕ)) → ((x : List ℕ) → In x xs → text_in limit f (g x) ≡ Ok (f.texts x)) → HaveTexts limit f (map g xs) (map f.texts xs)
+stand_all : (limit : ℕ) (f : State) (g : List ℕ → Expr) (xs : List (List ℕ)) →
+    ((x : List ℕ) → In x xs → text_in limit f (g x) ≡ Ok (f.texts x)) → HaveTexts limit f (map g xs) (map f.texts xs)
 stand_all limit f g [] a = tt
 stand_all limit f g (x ∷ xs) a = (a x (inl refl), stand_all limit f g xs (λ y i. a y (inr i)))
 
@@ -107,13 +119,16 @@ module _ (f : State) (h : Holding) where
   agree_held (x ∷ xs) a = (ap held_text (a x (inl refl)), agree_held xs (λ y i. a y (inr i)))
 
   module _ (numbers : h.numbers ≡ f.numbers) where
-    given_same : (args : List Argument) → Agrees (plain h).texts f.texts (cord_arguments args) → map (λ a. given (plain h) a) args ≡ map (λ a. given f a) args
+    given_same : (args : List Argument) → Agrees (plain h).texts f.texts (cord_arguments args) →
+        map (λ a. given (plain h) a) args ≡ map (λ a. given f a) args
     given_same [] a = refl
     given_same (arguments.Number n ∷ args) a = λ i. number (plain_number h f numbers n i) ∷ given_same args a i
     given_same (arguments.Cord x ∷ args) a = λ i. text (a.0 i) ∷ given_same args a.1 i
 
-    format_same : (format : List Piece) (args : List Argument) → Agrees (plain h).texts f.texts (cord_arguments args) → format_text (plain h) format args ≡ format_text f format args
-    format_same format args a = ap (λ (values : List (PieceArgument ℕ)). unless_refused (first_refusal 0 format values) (printed (λ b. b) format values)) (given_same args a)
+    format_same : (format : List Piece) (args : List Argument) → Agrees (plain h).texts f.texts (cord_arguments args) →
+        format_text (plain h) format args ≡ format_text f format args
+    format_same format args a = ap (λ (values : List (PieceArgument ℕ)). unless_refused (first_refusal 0 format values)
+        (printed (λ b. b) format values)) (given_same args a)
 
 -- ---- a statement that makes no cord changes no number but its target
 module _ (f : State) (y : List ℕ) where
@@ -139,17 +154,25 @@ module _ (f : State) (y : List ℕ) where
   extensible_kept limit x t = then_kept (as_length limit (length t)) _ (λ k. refl)
 
   numbers_kept : (limit : ℕ) (files : Folder) (l : Statement) → IsKept l → assigns l y ≡ false → NumberKept (act limit files l f)
-  numbers_kept limit files (Fetch line target x index) k e = then_kept (as_index (number_value f index)) _ (λ i. then_kept (byte_at (f.texts x) i) _ (λ b. has_kept target (pos b) e))
+  numbers_kept limit files (Fetch line target x index) k e = then_kept (as_index (number_value f index)) _
+      (λ i. then_kept (byte_at (f.texts x) i) _ (λ b. has_kept target (pos b) e))
   numbers_kept limit files (Cmp line target left right) k e = has_kept target _ e
-  numbers_kept limit files (Ncmp line target left left_start right right_start count) k e = then_kept (as_index (number_value f left_start)) _ (λ i. then_kept (as_index (number_value f right_start)) _ (λ j. then_kept (as_index (number_value f count)) _ (λ n. has_kept target _ e)))
+  numbers_kept limit files (Ncmp line target left left_start right right_start count) k e =
+      then_kept (as_index (number_value f left_start)) _ (λ i. then_kept (as_index (number_value f right_start)) _
+      (λ j. then_kept (as_index (number_value f count)) _ (λ n. has_kept target _ e)))
   numbers_kept limit files (Str line target x start pattern) k e = then_kept (as_index (number_value f start)) _ (λ i. has_kept target _ e)
-  numbers_kept limit files (Chr line target x start byte) k e = then_kept (as_index (number_value f start)) _ (λ i. then_kept (as_byte (number_value f byte)) _ (λ b. then_kept (byte_at (f.texts x) i) _ (λ _. has_kept target _ e)))
-  numbers_kept limit files (Rchr line target x start byte) k e = then_kept (as_index (number_value f start)) _ (λ i. then_kept (as_byte (number_value f byte)) _ (λ b. then_kept (byte_at (f.texts x) i) _ (λ _. has_kept target _ e)))
+  numbers_kept limit files (Chr line target x start byte) k e =
+      then_kept (as_index (number_value f start)) _ (λ i. then_kept (as_byte (number_value f byte)) _
+      (λ b. then_kept (byte_at (f.texts x) i) _ (λ _. has_kept target _ e)))
+  numbers_kept limit files (Rchr line target x start byte) k e =
+      then_kept (as_index (number_value f start)) _ (λ i. then_kept (as_byte (number_value f byte)) _
+      (λ b. then_kept (byte_at (f.texts x) i) _ (λ _. has_kept target _ e)))
   numbers_kept limit files (Assign line target n) k e = set_kept target (number_value f n) e
   numbers_kept limit files (Add line target left right) k e = set_kept target (number_value f left +ℤ number_value f right) e
   numbers_kept limit files (Sub line target left right) k e = set_kept target (number_value f left -ℤ number_value f right) e
   numbers_kept limit files (EcInit line target) k e = extensible_kept limit target []
-  numbers_kept limit files (EcPut line extensible byte) k e = then_kept (as_byte (number_value f byte)) _ (λ b. extensible_kept limit extensible _)
+  numbers_kept limit files (EcPut line extensible byte) k e = then_kept (as_byte (number_value f byte)) _
+      (λ b. extensible_kept limit extensible _)
   numbers_kept limit files (EcCat line extensible x) k e = extensible_kept limit extensible _
   numbers_kept limit files (EcStr line extensible bytes) k e = extensible_kept limit extensible _
   numbers_kept limit files (Repeat line count) k e = refl
@@ -195,20 +218,26 @@ module _ (s : List Statement) (d : Decisions) (ok : MeetsConditions s d) (limit 
             (to_build : all_texts h (texts_to_build made) ≡ true) (built : made_text limit files made (plain h) ≡ r)
             (to_measure : all_texts h (texts_to_measure made) ≡ true) (measured : made_length limit files made h ≡ length_of r)
             (knows : (t : List ℕ) → r ≡ Ok t → is_simple_at (slice_get s p) ≡ true → Ready s d ok limit (d.exprs p) f h × (text_in limit f (d.exprs p) ≡ Ok t)) where
-          makes_agree : (v : Bool) → (v ≡ true → Excused) → Agree (Related (p + 1)) (act limit files l f) (does limit files (gives v line z made) h)
+          makes_agree : (v : Bool) → (v ≡ true → Excused) → Agree (Related (p + 1)) (act limit files l f)
+              (does limit files (gives v line z made) h)
           makes_agree true excuse =
               subst (λ (w : Outcome). Agree (Related (p + 1)) w (does limit files (gives true line z made) h)) (sym acts)
-              (measured_agrees limit files (Related (p + 1)) f h z line made r to_measure measured (λ t e. inv_set s d ok limit p l here simple_shape f h inv z target t (Long (length t)) (knows t e) (refl, excuse refl)))
+              (measured_agrees limit files (Related (p + 1)) f h z line made r to_measure measured
+              (λ t e. inv_set s d ok limit p l here simple_shape f h inv z target t (Long (length t)) (knows t e) (refl, excuse refl)))
           makes_agree false excuse =
               subst (λ (w : Outcome). Agree (Related (p + 1)) w (does limit files (gives false line z made) h)) (sym acts)
-              (built_agrees limit files (Related (p + 1)) f h z line made r to_build built (λ t e. inv_set s d ok limit p l here simple_shape f h inv z target t (Text t) (knows t e) refl))
+              (built_agrees limit files (Related (p + 1)) f h z line made r to_build built
+              (λ t e. inv_set s d ok limit p l here simple_shape f h inv z target t (Text t) (knows t e) refl))
 
         -- a line that isn't simple is measured where its target is dead
         other_agrees : is_simple l ≡ false → (made : Made) (r : Result (List ℕ) FaultKind) → act limit files l f ≡ gives_text f z r
-            → all_texts h (texts_to_build made) ≡ true → made_text limit files made (plain h) ≡ r → all_texts h (texts_to_measure made) ≡ true → made_length limit files made h ≡ length_of r
+            → all_texts h (texts_to_build made) ≡ true → made_text limit files made (plain h) ≡ r →
+            all_texts h (texts_to_measure made) ≡ true → made_length limit files made h ≡ length_of r
             → Agree (Related (p + 1)) (act limit files l f) (does limit files (gives (d.dead p) line z made) h)
         other_agrees bare made r acts to_build built to_measure measured =
-            makes_agree made r acts to_build built to_measure measured (λ t e simple. absurd (not_both (is_simple_at (slice_get s p)) simple (ap is_simple_at here ∙ bare))) (d.dead p) excused_dead
+            makes_agree made r acts to_build built to_measure measured
+            (λ t e simple. absurd (not_both (is_simple_at (slice_get s p)) simple (ap is_simple_at here ∙ bare)))
+            (d.dead p) excused_dead
 
       -- ---- a simple line
       module _ (simple : is_simple l ≡ true) where
@@ -220,7 +249,8 @@ module _ (s : List Statement) (d : Decisions) (ok : MeetsConditions s d) (limit 
 
         ready_here : Ready s d ok limit (d.exprs p) f h
         ready_here = line_each (λ y. h.held y ≡ Text (f.texts y)) l (map (λ x. stands d p x) (read_by l)) (d.exprs p) own_here
-            (each_of (λ y. h.held y ≡ Text (f.texts y)) (λ x. stands d p x) (read_by l) (λ x i. (operand s d ok limit p f h inv x (read_here x i)).0))
+            (each_of (λ y. h.held y ≡ Text (f.texts y)) (λ x. stands d p x) (read_by l)
+            (λ x i. (operand s d ok limit p f h inv x (read_here x i)).0))
 
         there_here : all_texts h (cords (d.exprs p)) ≡ true
         there_here = all_held f h (cords (d.exprs p)) ready_here
@@ -228,7 +258,8 @@ module _ (s : List Statement) (d : Decisions) (ok : MeetsConditions s d) (limit 
         value_here : text_in limit (plain h) (d.exprs p) ≡ text_in limit f (d.exprs p)
         value_here = value_same limit (plain h) f (d.exprs p) (λ y i. ap held_text (ready_here y i)) (λ y i. λ r. inv.numbers r y)
 
-        simple_agrees : (line : ℕ) (z : List ℕ) (o : Expr) → own l ≡ Some o → target_of l ≡ Some z → Agree (Related (p + 1)) (act limit files l f) (does limit files (gives (d.dead p || d.paired p) line z (Joined (d.exprs p))) h)
+        simple_agrees : (line : ℕ) (z : List ℕ) (o : Expr) → own l ≡ Some o → target_of l ≡ Some z →
+            Agree (Related (p + 1)) (act limit files l f) (does limit files (gives (d.dead p || d.paired p) line z (Joined (d.exprs p))) h)
         simple_agrees line z o own_is target =
             makes_agree line z target (Joined (d.exprs p)) (text_in limit f (d.exprs p))
             (line_gives limit files f l (map (λ x. stands d p x) (read_by l)) (d.exprs p) o stand_here own_here own_is z target)
@@ -238,14 +269,18 @@ module _ (s : List Statement) (d : Decisions) (ok : MeetsConditions s d) (limit 
 
       -- ---- a line that makes no cord
       on : makes_cord l ≡ false → is_simple l ≡ false → ((y : List ℕ) → assigns l y ≡ false → NumberKept f y (act limit files l f))
-          → (u : State) (puts : List ℕ) → act limit files l f ≡ Ok (u, puts) → u.texts ≡ f.texts → Related (p + 1) u (Some (with_others limit files (Related (p + 1)) f h u))
+          → (u : State) (puts : List ℕ) → act limit files l f ≡ Ok (u, puts) → u.texts ≡ f.texts →
+          Related (p + 1) u (Some (with_others limit files (Related (p + 1)) f h u))
       on no_cord bare kept u puts e texts =
           inv_on s d ok limit p l here simple_shape f h inv u (with_others limit files (Related (p + 1)) f h u) texts refl refl refl
-          (λ y unset. kept_there f y (act limit files l f) u puts e (kept y unset)) no_cord (λ x simple assigned. absurd (not_both (is_simple l) simple bare))
+          (λ y unset. kept_there f y (act limit files l f) u puts e (kept y unset)) no_cord
+          (λ x simple assigned. absurd (not_both (is_simple l) simple bare))
 
-      keeps_agree : IsKept l → makes_cord l ≡ false → is_simple l ≡ false → Agree (Related (p + 1)) (act limit files l f) (keeps limit files l h)
+      keeps_agree : IsKept l → makes_cord l ≡ false → is_simple l ≡ false →
+          Agree (Related (p + 1)) (act limit files l f) (keeps limit files l h)
       keeps_agree k no_cord bare =
-          kept_agrees limit files (Related (p + 1)) f h l inv.numbers inv.extensibles (on no_cord bare (λ y e. numbers_kept f y limit files l k e)) k
+          kept_agrees limit files (Related (p + 1)) f h l inv.numbers inv.extensibles
+          (on no_cord bare (λ y e. numbers_kept f y limit files l k e)) k
           (all_held f h (read_by l) (texts_read bare)) (agree_held f h (read_by l) (texts_read bare))
 
     abbrev Goal : Statement → Type 0
@@ -265,28 +300,37 @@ module _ (s : List Statement) (d : Decisions) (ok : MeetsConditions s d) (limit 
         put_agrees limit files (Related (p + 1)) f h line x (d.exprs p) (there_here l e q refl)
         (value_here l e q refl ∙ ap (λ (w : Expr). text_in limit f w) (sym is) ∙ (stand_here l e q refl).0)
         (inv_on s d ok limit p l e q f h inv f h refl refl inv.numbers inv.extensibles (λ y unset. refl) refl (λ y simple assigned. let bad : ⊥ = cc in bad))
-    agrees (Let line z bytes) e q = other_agrees (Let line z bytes) e q line z refl refl (Literal bytes) (within limit bytes) (sets_within limit f z bytes) refl refl refl (within_length limit bytes)
-    agrees (File line z path) e q = other_agrees (File line z path) e q line z refl refl (OfFile path) (opened limit files path) (gives_after limit f z (file_text files path)) refl refl refl refl
-    agrees (Eager line z path) e q = other_agrees (Eager line z path) e q line z refl refl (OfEager path) (opened limit files path) (gives_after limit f z (file_text files path)) refl refl refl refl
-    agrees (Lazy line z path) e q = other_agrees (Lazy line z path) e q line z refl refl (OfLazy path) (opened limit files path) (gives_after limit f z (file_text files path)) refl refl refl refl
+    agrees (Let line z bytes) e q = other_agrees (Let line z bytes) e q line z refl refl (Literal bytes) (within limit bytes)
+        (sets_within limit f z bytes) refl refl refl (within_length limit bytes)
+    agrees (File line z path) e q = other_agrees (File line z path) e q line z refl refl (OfFile path) (opened limit files path)
+        (gives_after limit f z (file_text files path)) refl refl refl refl
+    agrees (Eager line z path) e q = other_agrees (Eager line z path) e q line z refl refl (OfEager path) (opened limit files path)
+        (gives_after limit f z (file_text files path)) refl refl refl refl
+    agrees (Lazy line z path) e q = other_agrees (Lazy line z path) e q line z refl refl (OfLazy path) (opened limit files path)
+        (gives_after limit f z (file_text files path)) refl refl refl refl
     agrees (FromFn line z function count) e q =
         let made : Made = OfFunction function count in
         let built : made_text limit files made (plain h) ≡ made_text limit files made f = ap (λ (w : ℤ). and_then (as_index w) (λ k. and_then (as_length limit k) (λ _. within limit (function_text function k)))) (plain_number h f inv.numbers count) in
-        other_agrees (FromFn line z function count) e q line z refl refl made (made_text limit files made f) (function_gives limit f z files line function count) refl built refl (ap length_of built)
+        other_agrees (FromFn line z function count) e q line z refl refl made (made_text limit files made f)
+        (function_gives limit f z files line function count) refl built refl (ap length_of built)
     agrees (Balance line z x) e q =
         let there : h.held x ≡ Text (f.texts x) = texts_read (Balance line z x) e q refl x (inl refl) in
-        other_agrees (Balance line z x) e q line z refl refl (Balanced x) (within limit (f.texts x)) (sets_within limit f z (f.texts x)) (all_held f h (x ∷ []) (texts_read (Balance line z x) e q refl))
-        (ap (λ (k : Held). within limit (held_text k)) there) refl (ap (λ (n : ℕ). as_length limit n) (lengths s d ok limit p f h inv x) ∙ within_length limit (f.texts x))
+        other_agrees (Balance line z x) e q line z refl refl (Balanced x) (within limit (f.texts x)) (sets_within limit f z (f.texts x))
+        (all_held f h (x ∷ []) (texts_read (Balance line z x) e q refl))
+        (ap (λ (k : Held). within limit (held_text k)) there) refl
+        (ap (λ (n : ℕ). as_length limit n) (lengths s d ok limit p f h inv x) ∙ within_length limit (f.texts x))
     agrees (EcToCord line z extensible) e q =
         let built : within limit (h.extensibles extensible) ≡ within limit (f.extensibles extensible) = ap (λ (g : List ℕ → List ℕ). within limit (g extensible)) inv.extensibles in
-        other_agrees (EcToCord line z extensible) e q line z refl refl (OfExtensible extensible) (within limit (f.extensibles extensible)) (sets_within limit f z (f.extensibles extensible)) refl built refl
+        other_agrees (EcToCord line z extensible) e q line z refl refl (OfExtensible extensible) (within limit (f.extensibles extensible))
+        (sets_within limit f z (f.extensibles extensible)) refl built refl
         (within_length limit (h.extensibles extensible) ∙ ap length_of built)
     agrees (Sprintf line z bytes format args) e q =
         let l : Statement = Sprintf line z bytes format args in
         let made : Made = Printed bytes format args in
         let there : all_texts h (cord_arguments args) ≡ true = all_held f h (cord_arguments args) (texts_read l e q refl) in
         let built : made_text limit files made (plain h) ≡ made_text limit files made f = ap (λ (r : Result (List ℕ) FaultKind). and_then r (λ t. within limit t)) (format_same f h inv.numbers format args (agree_held f h (cord_arguments args) (texts_read l e q refl))) in
-        other_agrees l e q line z refl refl made (made_text limit files made f) (gives_after limit f z (format_text f format args)) there built there (ap length_of built)
+        other_agrees l e q line z refl refl made (made_text limit files made f) (gives_after limit f z (format_text f format args)) there
+        built there (ap length_of built)
     agrees (Len line z x) e q =
         len_agrees limit files (Related (p + 1)) f h line z x inv.numbers inv.extensibles
         (on (Len line z x) e q refl refl (λ y unset. has_kept f y z (pos (length (f.texts x))) unset)) (lengths s d ok limit p f h inv x)
@@ -296,7 +340,8 @@ module _ (s : List Statement) (d : Decisions) (ok : MeetsConditions s d) (limit 
     agrees (End line) e q = let bad : ⊥ = cc in absurd bad
     agrees (Fetch line target x index) e q = keeps_agree (Fetch line target x index) e q tt refl refl
     agrees (Cmp line target left right) e q = keeps_agree (Cmp line target left right) e q tt refl refl
-    agrees (Ncmp line target left left_start right right_start count) e q = keeps_agree (Ncmp line target left left_start right right_start count) e q tt refl refl
+    agrees (Ncmp line target left left_start right right_start count) e q =
+        keeps_agree (Ncmp line target left left_start right right_start count) e q tt refl refl
     agrees (Str line target x start pattern) e q = keeps_agree (Str line target x start pattern) e q tt refl refl
     agrees (Chr line target x start byte) e q = keeps_agree (Chr line target x start byte) e q tt refl refl
     agrees (Rchr line target x start byte) e q = keeps_agree (Rchr line target x start byte) e q tt refl refl

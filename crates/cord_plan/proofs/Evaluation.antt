@@ -1,5 +1,6 @@
 -- Values of expressions: which names they depend on, and what a line does by the value of its expression.
-use Rattle.std.proofs.Common.{◌≡◌, ℕ, ◌⊎◌, List, [], ◌∷◌, ◌++◌, length, map, Option, Some, None, Result, Ok, Err, refl, sym, ap, ◌∙◌, subst, inl, inr, ⊎_elim}
+use Rattle.std.proofs.Common.{◌≡◌, ℕ, ◌⊎◌, List, [], ◌∷◌, ◌++◌, length, map, Option, Some, None, Result, Ok, Err, refl, sym, ap, ◌∙◌, subst}
+use Rattle.std.proofs.Common.{inl, inr, ⊎_elim}
 use Rattle.cord_io.specs.Device.{Folder}
 use Rattle.cord_operands.specs.declared.operands.Number.{Number}
 use Rattle.cord_operands.specs.declared.operands.Number.TheVariants.{Numeral, Named}
@@ -23,10 +24,12 @@ use Rattle.cord_plan.proofs.Owns.{Means, own_means, sets_within}
 -- ---- what a simple line does, by the value of its own expression, where its operands stand as expressions of their texts
 module _ (limit : ℕ) (files : Folder) (s : State) (l : Statement) (es : List Expr) (e o : Expr) (stand : HaveTexts limit s es (map s.texts (read_by l))) (is : expr_with l es ≡ Some e) (own_is : own l ≡ Some o) where
   same_own : text_in limit s e ≡ text_in limit s o
-  same_own = subst (λ (q : Option Expr). MeanSame limit s (Some e) q) own_is (subst (λ (q : Option Expr). MeanSame limit s q (own l)) is (replaced_means limit s l es stand))
+  same_own = subst (λ (q : Option Expr). MeanSame limit s (Some e) q) own_is
+      (subst (λ (q : Option Expr). MeanSame limit s q (own l)) is (replaced_means limit s l es stand))
 
   means_own : (target : Option (List ℕ)) → target_of l ≡ target → Means limit s files l (Some o) target
-  means_own target to = subst (λ (t : Option (List ℕ)). Means limit s files l (Some o) t) to (subst (λ (q : Option Expr). Means limit s files l q (target_of l)) own_is (own_means limit s files l))
+  means_own target to = subst (λ (t : Option (List ℕ)). Means limit s files l (Some o) t) to
+      (subst (λ (q : Option Expr). Means limit s files l q (target_of l)) own_is (own_means limit s files l))
 
   pub line_gives : (z : List ℕ) → target_of l ≡ Some z → act limit files l s ≡ gives_text s z (text_in limit s e)
   line_gives z to = means_own (Some z) to ∙ ap (λ (r : Result (List ℕ) FaultKind). gives_text s z r) (sym same_own)
@@ -36,18 +39,23 @@ module _ (limit : ℕ) (files : Folder) (s : State) (l : Statement) (es : List E
 
 -- ---- what another line does that gives a text to a name
 module _ (limit : ℕ) (s : State) (z : List ℕ) where
-  pub gives_after : (r : Result (List ℕ) FaultKind) → and_then r (λ t. sets_text limit s z t) ≡ gives_text s z (and_then r (λ t. within limit t))
+  pub gives_after : (r : Result (List ℕ) FaultKind) → and_then r (λ t. sets_text limit s z t)
+      ≡ gives_text s z (and_then r (λ t. within limit t))
   gives_after (Ok t) = sets_within limit s z t
   gives_after (Err kind) = refl
 
-  pub function_gives : (files : Folder) (line : ℕ) (function : Function) (n : Number) → act limit files (FromFn line z function n) s ≡ gives_text s z (made_text limit files (OfFunction function n) s)
+  pub function_gives : (files : Folder) (line : ℕ) (function : Function) (n : Number) →
+      act limit files (FromFn line z function n) s ≡ gives_text s z (made_text limit files (OfFunction function n) s)
   function_gives files line function n = by_checks (as_index (number_value s n))
     where
-      by_length : (k : ℕ) (r : Result ℕ FaultKind) → and_then r (λ _. sets_text limit s z (function_text function k)) ≡ gives_text s z (and_then r (λ _. within limit (function_text function k)))
+      by_length : (k : ℕ) (r : Result ℕ FaultKind) → and_then r (λ _. sets_text limit s z (function_text function k))
+          ≡ gives_text s z (and_then r (λ _. within limit (function_text function k)))
       by_length k (Ok m) = sets_within limit s z (function_text function k)
       by_length k (Err kind) = refl
 
-      by_checks : (r : Result ℕ FaultKind) → and_then r (λ k. and_then (as_length limit k) (λ _. sets_text limit s z (function_text function k))) ≡ gives_text s z (and_then r (λ k. and_then (as_length limit k) (λ _. within limit (function_text function k))))
+      by_checks : (r : Result ℕ FaultKind) →
+          and_then r (λ k. and_then (as_length limit k) (λ _. sets_text limit s z (function_text function k)))
+          ≡ gives_text s z (and_then r (λ k. and_then (as_length limit k) (λ _. within limit (function_text function k))))
       by_checks (Ok k) = by_length k (as_length limit k)
       by_checks (Err kind) = refl
 
@@ -85,7 +93,8 @@ mutual
 
   cords_of_named : (es : Exprs) (y : List ℕ) → In y (cords_of es) → In y (names_of es)
   cords_of_named nothing y i = i
-  cords_of_named (member e es) y i = ⊎_elim (λ (m : In y (cords e)). in_left y (names e) (names_of es) (cords_named e y m)) (λ (m : In y (cords_of es)). in_right y (names e) (names_of es) (cords_of_named es y m)) (in_either y (cords e) (cords_of es) i)
+  cords_of_named (member e es) y i = ⊎_elim (λ (m : In y (cords e)). in_left y (names e) (names_of es) (cords_named e y m))
+      (λ (m : In y (cords_of es)). in_right y (names e) (names_of es) (cords_of_named es y m)) (in_either y (cords e) (cords_of es) i)
 
 module _ (limit : ℕ) (s t : State) where
   number_same : (n : Number) → ((y : List ℕ) → In y (number_names n) → s.numbers y ≡ t.numbers y) → number_value s n ≡ number_value t n
@@ -93,17 +102,27 @@ module _ (limit : ℕ) (s t : State) where
   number_same (Named x) g = g x (inl refl)
 
   mutual
-    pub value_same : (e : Expr) → ((y : List ℕ) → In y (cords e) → s.texts y ≡ t.texts y) → ((y : List ℕ) → In y (names e) → s.numbers y ≡ t.numbers y) → text_in limit s e ≡ text_in limit t e
+    pub value_same : (e : Expr) → ((y : List ℕ) → In y (cords e) → s.texts y ≡ t.texts y) →
+        ((y : List ℕ) → In y (names e) → s.numbers y ≡ t.numbers y) → text_in limit s e ≡ text_in limit t e
     value_same (name x) f g = ap (λ (u : List ℕ). Ok u) (f x (inl refl))
-    value_same (run c n) f g = λ i. copies limit (number_same c (λ y m. g y (in_left y (number_names c) (number_names n) m)) i) (number_same n (λ y m. g y (in_right y (number_names c) (number_names n) m)) i)
+    value_same (run c n) f g = λ i. copies limit (number_same c (λ y m. g y (in_left y (number_names c) (number_names n) m)) i)
+        (number_same n (λ y m. g y (in_right y (number_names c) (number_names n) m)) i)
     value_same (cat es) f g = ap (λ (r : Result (List ℕ) FaultKind). and_then r (λ text. within limit text)) (values_same es f g)
     value_same (sub e j n) f g =
-        λ i. and_then (value_same e f (λ y m. g y (in_left y (names e) (number_names j ++ number_names n) m)) i) (λ u. part_of limit u (number_same j (λ y m. g y (in_right y (names e) (number_names j ++ number_names n) (in_left y (number_names j) (number_names n) m))) i) (number_same n (λ y m. g y (in_right y (names e) (number_names j ++ number_names n) (in_right y (number_names j) (number_names n) m))) i))
+        λ i. and_then (value_same e f (λ y m. g y (in_left y (names e) (number_names j ++ number_names n) m)) i)
+        (λ u. part_of limit u (number_same j
+        (λ y m. g y (in_right y (names e) (number_names j ++ number_names n) (in_left y (number_names j) (number_names n) m))) i)
+        (number_same n (λ y m. g y (in_right y (names e) (number_names j ++ number_names n)
+        (in_right y (number_names j) (number_names n) m))) i))
 
-    values_same : (es : Exprs) → ((y : List ℕ) → In y (cords_of es) → s.texts y ≡ t.texts y) → ((y : List ℕ) → In y (names_of es) → s.numbers y ≡ t.numbers y) → values limit s.texts (λ n. number_value s n) es ≡ values limit t.texts (λ n. number_value t n) es
+    values_same : (es : Exprs) → ((y : List ℕ) → In y (cords_of es) → s.texts y ≡ t.texts y) →
+        ((y : List ℕ) → In y (names_of es) → s.numbers y ≡ t.numbers y) → values limit s.texts (λ n. number_value s n) es
+        ≡ values limit t.texts (λ n. number_value t n) es
     values_same nothing f g = refl
     values_same (member e es) f g =
-        λ i. and_then (value_same e (λ y m. f y (in_left y (cords e) (cords_of es) m)) (λ y m. g y (in_left y (names e) (names_of es) m)) i) (λ a. and_then (values_same es (λ y m. f y (in_right y (cords e) (cords_of es) m)) (λ y m. g y (in_right y (names e) (names_of es) m)) i) (λ b. Ok (a ++ b)))
+        λ i. and_then (value_same e (λ y m. f y (in_left y (cords e) (cords_of es) m)) (λ y m. g y (in_left y (names e) (names_of es) m))
+        i) (λ a. and_then (values_same es (λ y m. f y (in_right y (cords e) (cords_of es) m))
+        (λ y m. g y (in_right y (names e) (names_of es) m)) i) (λ b. Ok (a ++ b)))
 
 -- ---- by lengths
 -- the same numbers stand after number operands
@@ -112,6 +131,7 @@ plain_number h s numbers (Numeral z) = refl
 plain_number h s numbers (Named x) = λ i. numbers i x
 
 -- an expression has the length of its text, where names have the lengths of theirs
-pub extent_is : (limit : ℕ) (h : Holding) (s : State) → h.numbers ≡ s.numbers → ((y : List ℕ) → held_length (h.held y) ≡ length (s.texts y)) → (e : Expr) → extent limit e h ≡ length_of (text_in limit s e)
+pub extent_is : (limit : ℕ) (h : Holding) (s : State) → h.numbers ≡ s.numbers →
+    ((y : List ℕ) → held_length (h.held y) ≡ length (s.texts y)) → (e : Expr) → extent limit e h ≡ length_of (text_in limit s e)
 extent_is limit h s numbers lengths e =
     (λ i. measured limit (λ x. lengths x i) (λ n. plain_number h s numbers n i) e) ∙ measure_is limit s.texts (λ n. number_value s n) e

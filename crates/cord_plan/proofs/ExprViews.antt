@@ -30,4 +30,5 @@ pub members_made : (m : Members-F Expr Members) → members_view (roll-Members m
 members_made m = fold-roll-Members plain.Expr plain.Exprs expr_step members_step m ∙ ap members_of (map_twice _ _ m.members.items)
 
 pub members_there : (ms : Members) → members_view ms ≡ members_of (map shared_view (out-Members ms).members.items)
-members_there ms = fold_out-Members plain.Expr plain.Exprs expr_step members_step ms ∙ ap members_of (map_twice _ _ (out-Members ms).members.items)
+members_there ms = fold_out-Members plain.Expr plain.Exprs expr_step members_step ms
+    ∙ ap members_of (map_twice _ _ (out-Members ms).members.items)

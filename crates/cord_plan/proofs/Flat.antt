@@ -3,11 +3,13 @@ use Rattle.std.proofs.Common.{◌≡◌, ℕ, zero, suc, ◌+◌, Bool, true, fa
 use Rattle.std.specs.Prelude.{slice_get, if◌then◌else◌, ◌||◌, ◌&&◌, pos}
 use Rattle.cord_operands.specs.declared.operands.Number.TheVariants.{Numeral}
 use Rattle.cord_syntax.specs.declared.statements.Statement.{Statement}
-use Rattle.cord_syntax.specs.declared.statements.Statement.TheVariants.{Let, File, Eager, Lazy, Chars, Nul, FromFn, Cat, Catn, Catc, Substr, Balance, EcToCord, Sprintf, Put}
+use Rattle.cord_syntax.specs.declared.statements.Statement.TheVariants.{Let, File, Eager, Lazy, Chars, Nul, FromFn, Cat, Catn, Catc, Substr}
+use Rattle.cord_syntax.specs.declared.statements.Statement.TheVariants.{Balance, EcToCord, Sprintf, Put}
 use Rattle.cord_plan.specs.Exprs.{Expr, name, run, cat, sub, Exprs, nothing, member, append, in_front, members}
 use Rattle.cord_plan.specs.Operands.{read_by, target_of}
 use Rattle.cord_plan.specs.Flat.{IsFlat, AreMembers, IsFlatOperation}
-use Rattle.cord_plan.specs.Forced.{Table, Choice, kept, replaced, expr_of, expr_with, first_of, own, setter, fits, is_small, chosen_from, chosen_of, choices, operands_chosen, grown, exprs}
+use Rattle.cord_plan.specs.Forced.{Table, Choice, kept, replaced, expr_of, expr_with, first_of, own, setter, fits, is_small, chosen_from}
+use Rattle.cord_plan.specs.Forced.{chosen_of, choices, operands_chosen, grown, exprs}
 use Rattle.cord_plan.specs.Planned.{Operation, Joined, gives, or_nothing, operation, operations, is_dead, is_first}
 
 append_flat : (es others : Exprs) → AreMembers es → AreMembers others → AreMembers (append es others)
@@ -43,7 +45,8 @@ OptionFlat (Some e) = IsFlat e
 with_flat : (l : Statement) (es : List Expr) → Each es → OptionFlat (expr_with l es)
 with_flat (Cat line target left right) es a = members_flat es a
 with_flat (Catn line target many) es a = members_flat es a
-with_flat (Catc line target operand byte) es a = members_flat (es ++ run byte (Numeral (pos 1)) ∷ []) (each_then es (run byte (Numeral (pos 1))) a tt)
+with_flat (Catc line target operand byte) es a = members_flat (es ++ run byte (Numeral (pos 1)) ∷ [])
+    (each_then es (run byte (Numeral (pos 1))) a tt)
 with_flat (Chars line target byte n) es a = tt
 with_flat (Nul line target n) es a = tt
 with_flat (Substr line target operand start n) (e ∷ es) a = a.0
@@ -81,23 +84,29 @@ picked true k e x a = a
 picked false k e x a = tt
 
 module _ (s : List Statement) (later : List ℕ → ℕ → Bool) where
-  from_flat : (b : ℕ) (l : Statement) (x : List ℕ) (before after : List Expr) (k : ℕ) (o : Option Expr) → OptionFlat o → IsFlat (expr_of (chosen_from s later b l x before after k o))
+  from_flat : (b : ℕ) (l : Statement) (x : List ℕ) (before after : List Expr) (k : ℕ) (o : Option Expr) → OptionFlat o →
+      IsFlat (expr_of (chosen_from s later b l x before after k o))
   from_flat b l x before after k None a = tt
   from_flat b l x before after k (Some e) a = picked (fits s later e k b l x && is_small (expr_with l (before ++ e ∷ after))) k e x a
 
-  chosen_flat : (table : Table) (b : ℕ) (l : Statement) (x : List ℕ) (before after : List Expr) (o : Option ℕ) → EachEntry table → IsFlat (expr_of (chosen_of s later table b l x before after o))
+  chosen_flat : (table : Table) (b : ℕ) (l : Statement) (x : List ℕ) (before after : List Expr) (o : Option ℕ) → EachEntry table →
+      IsFlat (expr_of (chosen_of s later table b l x before after o))
   chosen_flat table b l x before after None a = tt
   chosen_flat table b l x before after (Some k) a = from_flat b l x before after k (first_of (slice_get table k)) (entry_flat table k a)
 
-  choices_flat : (table : Table) (b : ℕ) (l : Statement) (done : List Choice) (xs : List (List ℕ)) → EachEntry table → EachChoice done → EachChoice (choices s later table b l done xs)
+  choices_flat : (table : Table) (b : ℕ) (l : Statement) (done : List Choice) (xs : List (List ℕ)) → EachEntry table → EachChoice done →
+      EachChoice (choices s later table b l done xs)
   choices_flat table b l done [] a d = d
   choices_flat table b l done (x ∷ xs) a d =
       let c : Choice = chosen_of s later table b l x (map (λ c. expr_of c) done) (map (λ y. name y) xs) (setter s x b) in
-      choices_flat table b l (done ++ c ∷ []) xs a (choices_then done c d (chosen_flat table b l x (map (λ c. expr_of c) done) (map (λ y. name y) xs) (setter s x b) a))
+      choices_flat table b l (done ++ c ∷ []) xs a
+      (choices_then done c d (chosen_flat table b l x (map (λ c. expr_of c) done) (map (λ y. name y) xs) (setter s x b) a))
 
-  operands_flat : (table : Table) (b : ℕ) (l : Statement) (o : Option Expr) → EachEntry table → OptionFlat (operands_chosen s later table b l o).0
+  operands_flat : (table : Table) (b : ℕ) (l : Statement) (o : Option Expr) → EachEntry table →
+      OptionFlat (operands_chosen s later table b l o).0
   operands_flat table b l None a = tt
-  operands_flat table b l (Some e) a = with_flat l (map (λ c. expr_of c) (choices s later table b l [] (read_by l))) (choice_exprs (choices s later table b l [] (read_by l)) (choices_flat table b l [] (read_by l) a tt))
+  operands_flat table b l (Some e) a = with_flat l (map (λ c. expr_of c) (choices s later table b l [] (read_by l)))
+      (choice_exprs (choices s later table b l [] (read_by l)) (choices_flat table b l [] (read_by l) a tt))
 
   grown_flat : (table : Table) (b : ℕ) (rest : List Statement) → EachEntry table → EachEntry (grown s later table b rest)
   grown_flat table b [] a = a
@@ -143,10 +152,12 @@ operation_flat (Sprintf line target text format arguments) e false paired a = tt
 operation_flat l e dead paired a = tt
 
 module _ (later : List ℕ → ℕ → Bool) (table : Table) where
-  pub operations_flat : (p : ℕ) (s : List Statement) (entries : Table) → EachEntry entries → (k : ℕ) (o : Operation) → slice_get (operations later table p s entries) k ≡ Some o → IsFlatOperation o
+  pub operations_flat : (p : ℕ) (s : List Statement) (entries : Table) → EachEntry entries → (k : ℕ) (o : Operation) →
+      slice_get (operations later table p s entries) k ≡ Some o → IsFlatOperation o
   operations_flat p [] entries a k o e = let bad : ⊥ = cc in absurd bad
   operations_flat p (l ∷ rest) [] a k o e = let bad : ⊥ = cc in absurd bad
   operations_flat p (l ∷ rest) (en ∷ entries) a zero o e =
       let same : operation l (or_nothing en.0) (is_dead later p (target_of l)) (is_first p table) ≡ o = cc in
-      subst (λ (w : Operation). IsFlatOperation w) same (operation_flat l (or_nothing en.0) (is_dead later p (target_of l)) (is_first p table) (or_flat en.0 a.0))
+      subst (λ (w : Operation). IsFlatOperation w) same (operation_flat l (or_nothing en.0) (is_dead later p (target_of l))
+      (is_first p table) (or_flat en.0 a.0))
   operations_flat p (l ∷ rest) (en ∷ entries) a (suc k) o e = operations_flat (p + 1) rest entries a.1 k o e

@@ -1,5 +1,6 @@
 -- A `cat` flattened means what the nested one means; expressions in the place of operands mean what the operands do.
-use Rattle.std.proofs.Common.{◌≡◌, ℕ, pos, List, [], ◌∷◌, ◌++◌, map, Option, Some, None, Result, Ok, Err, refl, sym, ap, ◌∙◌, append_assoc, append-nil}
+use Rattle.std.proofs.Common.{◌≡◌, ℕ, pos, List, [], ◌∷◌, ◌++◌, map, Option, Some, None, Result, Ok, Err, refl, sym, ap, ◌∙◌, append_assoc}
+use Rattle.std.proofs.Common.{append-nil}
 use Rattle.cord_operands.specs.declared.operands.Number.TheVariants.{Numeral}
 use Rattle.cord_syntax.specs.declared.statements.Statement.{Statement}
 use Rattle.cord_syntax.specs.declared.statements.Statement.TheVariants.{Chars, Nul, Cat, Catn, Catc, Substr, Put}
@@ -33,10 +34,12 @@ module _ (limit : ℕ) (s : State) where
       ap (λ (r : Result (List ℕ) FaultKind). behind (text_in limit s e) r) (append_joined es others)
       ∙ behind_assoc (text_in limit s e) (joined_in limit s es) (joined_in limit s others)
 
-  front_joined : (e : Expr) (others : Exprs) (text : List ℕ) → text_in limit s e ≡ Ok text → joined_in limit s (in_front e others) ≡ behind (Ok text) (joined_in limit s others)
+  front_joined : (e : Expr) (others : Exprs) (text : List ℕ) → text_in limit s e ≡ Ok text →
+      joined_in limit s (in_front e others) ≡ behind (Ok text) (joined_in limit s others)
   front_joined (name x) others text h = ap (λ (r : Result (List ℕ) FaultKind). behind r (joined_in limit s others)) h
   front_joined (run c n) others text h = ap (λ (r : Result (List ℕ) FaultKind). behind r (joined_in limit s others)) h
-  front_joined (cat es) others text h = append_joined es others ∙ ap (λ (r : Result (List ℕ) FaultKind). behind r (joined_in limit s others)) (cat_joined limit s es text h).joined
+  front_joined (cat es) others text h = append_joined es others
+      ∙ ap (λ (r : Result (List ℕ) FaultKind). behind r (joined_in limit s others)) (cat_joined limit s es text h).joined
   front_joined (sub e i n) others text h = ap (λ (r : Result (List ℕ) FaultKind). behind r (joined_in limit s others)) h
 
   nested_joined : (es : List Expr) (text : List ℕ) → joined_in limit s (nested es) ≡ Ok text → joined_in limit s (members es) ≡ Ok text
@@ -49,13 +52,15 @@ module _ (limit : ℕ) (s : State) where
       ∙ q.next
 
   -- a `cat` of members is their `cat` as they stand, where that has no fault
-  pub flattened : (es : List Expr) (text : List ℕ) → text_in limit s (cat (nested es)) ≡ Ok text → text_in limit s (cat (members es)) ≡ Ok text
+  pub flattened : (es : List Expr) (text : List ℕ) → text_in limit s (cat (nested es)) ≡ Ok text →
+      text_in limit s (cat (members es)) ≡ Ok text
   flattened es text h =
       let p = passes (joined_in limit s (nested es)) (λ t. within limit t) text h in
       ap (λ (r : Result (List ℕ) FaultKind). and_then r (λ t. within limit t)) (nested_joined es p.middle p.first) ∙ p.next
 
   -- expressions of the same texts are the same as members
-  same_joined : (es fs : List Expr) (ts : List (List ℕ)) (more : List Expr) → HaveTexts limit s es ts → HaveTexts limit s fs ts → joined_in limit s (members (es ++ more)) ≡ joined_in limit s (members (fs ++ more))
+  same_joined : (es fs : List Expr) (ts : List (List ℕ)) (more : List Expr) → HaveTexts limit s es ts → HaveTexts limit s fs ts →
+      joined_in limit s (members (es ++ more)) ≡ joined_in limit s (members (fs ++ more))
   same_joined [] [] [] more h k = refl
   same_joined [] (f ∷ fs) [] more h k = absurd k
   same_joined [] fs (t ∷ ts) more h k = absurd h
@@ -71,10 +76,13 @@ module _ (limit : ℕ) (s : State) where
   names_have (x ∷ xs) = (refl, names_have xs)
 
   -- a `cat` with these members means what it means with the names
-  cat_replaced : (es : List Expr) (xs : List (List ℕ)) (more : List Expr) → HaveTexts limit s es (map s.texts xs) → text_in limit s (cat (members (es ++ more))) ≡ text_in limit s (cat (members (map (λ x. name x) xs ++ more)))
-  cat_replaced es xs more h = ap (λ (r : Result (List ℕ) FaultKind). and_then r (λ t. within limit t)) (same_joined es (map (λ x. name x) xs) (map s.texts xs) more h (names_have xs))
+  cat_replaced : (es : List Expr) (xs : List (List ℕ)) (more : List Expr) → HaveTexts limit s es (map s.texts xs) →
+      text_in limit s (cat (members (es ++ more))) ≡ text_in limit s (cat (members (map (λ x. name x) xs ++ more)))
+  cat_replaced es xs more h = ap (λ (r : Result (List ℕ) FaultKind). and_then r (λ t. within limit t))
+      (same_joined es (map (λ x. name x) xs) (map s.texts xs) more h (names_have xs))
 
-  all_replaced : (es : List Expr) (xs : List (List ℕ)) → HaveTexts limit s es (map s.texts xs) → text_in limit s (cat (members es)) ≡ text_in limit s (cat (members (map (λ x. name x) xs)))
+  all_replaced : (es : List Expr) (xs : List (List ℕ)) → HaveTexts limit s es (map s.texts xs) →
+      text_in limit s (cat (members es)) ≡ text_in limit s (cat (members (map (λ x. name x) xs)))
   all_replaced es xs h =
       ap (λ (fs : List Expr). text_in limit s (cat (members fs))) (sym (append-nil es))
       ∙ cat_replaced es xs [] h
@@ -93,7 +101,8 @@ module _ (limit : ℕ) (s : State) where
   replaced_means (Chars line target byte n) es h = refl
   replaced_means (Nul line target n) es h = refl
   replaced_means (Substr line target operand start n) [] h = tt
-  replaced_means (Substr line target operand start n) (e ∷ es) h = ap (λ (r : Result (List ℕ) FaultKind). and_then r (λ text. part_of limit text (number_value s start) (number_value s n))) h.0
+  replaced_means (Substr line target operand start n) (e ∷ es) h =
+      ap (λ (r : Result (List ℕ) FaultKind). and_then r (λ text. part_of limit text (number_value s start) (number_value s n))) h.0
   replaced_means (Put line operand) [] h = tt
   replaced_means (Put line operand) (e ∷ es) h = h.0
   replaced_means l es h = tt

@@ -1,5 +1,6 @@
 -- What a backwards fixed point over the lines tells of paths.
-use Rattle.std.proofs.Common.{◌≡◌, ◌⊎◌, ℕ, zero, suc, ◌+◌, Bool, true, false, ◌||◌, ◌&&◌, List, [], ◌∷◌, map, Option, Some, None, refl, sym, ap, ◌∙◌, inl, inr}
+use Rattle.std.proofs.Common.{◌≡◌, ◌⊎◌, ℕ, zero, suc, ◌+◌, Bool, true, false, ◌||◌, ◌&&◌, List, [], ◌∷◌, map, Option, Some, None, refl, sym}
+use Rattle.std.proofs.Common.{ap, ◌∙◌, inl, inr}
 use Rattle.std.specs.Prelude.{slice_get, not}
 use Rattle.std.proofs.lemmas.Bool.{or_left, or_right}
 use Rattle.cord_syntax.specs.declared.statements.Statement.{Statement}
@@ -83,12 +84,14 @@ module _ (holds : ℕ → Bool) where
     shape_held (Some Close) q n h = close_held (open_at shapes p) q n h
 
 -- what a path reads is in each fixed point
-pub path_in : (s : List Statement) (table : List ℕ → ℕ → Bool) → IsFixed s table → (x : List ℕ) (p : ℕ) (path : List ℕ) → ReadBy s x p path → table x p ≡ true
+pub path_in : (s : List Statement) (table : List ℕ → ℕ → Bool) → IsFixed s table → (x : List ℕ) (p : ℕ) (path : List ℕ) →
+    ReadBy s x p path → table x p ≡ true
 path_in s table fixed x p [] r = fixed.reads x p r
 path_in s table fixed x p (q ∷ path) r = fixed.flows x p q r.0 r.1 (path_in s table fixed x q path r.2)
 
 -- and what isn't in it is read by no path
-pub not_in : (s : List Statement) (table : List ℕ → ℕ → Bool) → IsFixed s table → (x : List ℕ) (p : ℕ) → table x p ≡ false → (path : List ℕ) → ReadBy s x p path → ⊥
+pub not_in : (s : List Statement) (table : List ℕ → ℕ → Bool) → IsFixed s table → (x : List ℕ) (p : ℕ) → table x p ≡ false →
+    (path : List ℕ) → ReadBy s x p path → ⊥
 not_in s table fixed x p e path r = let t : table x p ≡ true = path_in s table fixed x p path r in cc
 
 -- a path that reads a name from a place
@@ -97,12 +100,14 @@ pub record Reading (s : List Statement) (x : List ℕ) (p : ℕ) : Type 0 where
   pub reads : ReadBy s x p path
 
 module _ (s : List Statement) (k : ℕ) (x : List ℕ) (p : ℕ) (ih : (q : ℕ) → live s k x q ≡ true → Reading s x q) where
-  reading_behind : assigns_at (slice_get s p) x ≡ false → Found (λ q. live s k x q) (map shape_of s) p (Next (map shape_of s) p) → Reading s x p
+  reading_behind : assigns_at (slice_get s p) x ≡ false → Found (λ q. live s k x q) (map shape_of s) p (Next (map shape_of s) p) →
+      Reading s x p
   reading_behind unset found =
       let later : Reading s x found.place = ih found.place found.true_there in
       record { path = found.place ∷ later.path; reads = (unset, found.next, later.reads) }
 
-  reading_step : (reads_at (slice_get s p) x ≡ true) ⊎ ((not (assigns_at (slice_get s p) x) && some_of (λ q. live s k x q) (behind (map shape_of s) p)) ≡ true) → Reading s x p
+  reading_step : (reads_at (slice_get s p) x ≡ true) ⊎
+      ((not (assigns_at (slice_get s p) x) && some_of (λ q. live s k x q) (behind (map shape_of s) p)) ≡ true) → Reading s x p
   reading_step (inl r) = record { path = []; reads = r }
   reading_step (inr e) =
       let both : (assigns_at (slice_get s p) x ≡ false) × (some_of (λ q. live s k x q) (behind (map shape_of s) p) ≡ true) = and_true (assigns_at (slice_get s p) x) (some_of (λ q. live s k x q) (behind (map shape_of s) p)) e in
@@ -111,7 +116,8 @@ module _ (s : List Statement) (k : ℕ) (x : List ℕ) (p : ℕ) (ih : (q : ℕ)
 -- what the backwards flow found after k steps, a path reads
 pub path_of : (s : List Statement) (k : ℕ) (x : List ℕ) (p : ℕ) → live s k x p ≡ true → Reading s x p
 path_of s zero x p e = record { path = []; reads = e }
-path_of s (suc k) x p e = reading_step s k x p (λ q h. path_of s k x q h) (or_true (reads_at (slice_get s p) x) (not (assigns_at (slice_get s p) x) && some_of (λ q. live s k x q) (behind (map shape_of s) p)) e)
+path_of s (suc k) x p e = reading_step s k x p (λ q h. path_of s k x q h)
+    (or_true (reads_at (slice_get s p) x) (not (assigns_at (slice_get s p) x) && some_of (λ q. live s k x q) (behind (map shape_of s) p)) e)
 
 module _ (s : List Statement) (k : ℕ) where
   later_read : (x : List ℕ) (p : ℕ) → Found (λ q. live s k x q) (map shape_of s) p (Next (map shape_of s) p) → ReadLater s x p

@@ -1,5 +1,6 @@
 -- The places that may come next, as the program finds them.
-use Rattle.std.proofs.Common.{◌≡◌, ℕ, zero, suc, ◌+◌, ◌<◌, ◌≤◌, List, [], ◌∷◌, ◌++◌, map, drop, length, get_or, take, ◌-◌, Option, Some, None, refl, sym, ap, ◌∙◌, ⊎_elim, arith, add-one}
+use Rattle.std.proofs.Common.{◌≡◌, ℕ, zero, suc, ◌+◌, ◌<◌, ◌≤◌, List, [], ◌∷◌, ◌++◌, map, drop, length, get_or, take, ◌-◌, Option, Some}
+use Rattle.std.proofs.Common.{None, refl, sym, ap, ◌∙◌, ⊎_elim, arith, add-one}
 use Rattle.std.specs.Prelude.{slice_get}
 use Rattle.std.proofs.lemmas.List.{drop-map, take_rest}
 use Rattle.std.proofs.lemmas.Option.{slice_get-map, slice_get-get_or, slice_get_past, slice_get_cases}
@@ -12,7 +13,8 @@ use Rattle.cord_plan.specs.Unread.{behind, behind_close}
 use Rattle.cord_plan.specs.inner.Liveness.{shape_view, innermost, places, places_at, AreBehind}
 
 -- the shape at a place
-pub shape_there : (xs : List Shape) (p : ℕ) (x d : Shape) → p < length xs → get_or xs p d ≡ x → slice_get (map shape_view xs) p ≡ Some (shape_view x)
+pub shape_there : (xs : List Shape) (p : ℕ) (x d : Shape) → p < length xs → get_or xs p d ≡ x →
+    slice_get (map shape_view xs) p ≡ Some (shape_view x)
 shape_there xs p x d lt is =
     let there : slice_get xs p ≡ Some x = slice_get-get_or xs p d lt ∙ ap Some is in
     rw (slice_get-map shape_view xs p, there) refl
@@ -71,7 +73,8 @@ module _ (shapes : List control.Shape) (p : ℕ) where
   pub behind_branch_end : slice_get shapes p ≡ Some Close → None ≡ innermost (open_at shapes p) → (p + 1) ∷ [] ≡ behind shapes p
   behind_branch_end is e = rw is (next_of_close (open_at shapes p) e)
 
-  pub behind_loop_end : (r : ℕ) → slice_get shapes p ≡ Some Close → Some r ≡ innermost (open_at shapes p) → (r + 1) ∷ (p + 1) ∷ [] ≡ behind shapes p
+  pub behind_loop_end : (r : ℕ) → slice_get shapes p ≡ Some Close → Some r ≡ innermost (open_at shapes p) →
+      (r + 1) ∷ (p + 1) ∷ [] ≡ behind shapes p
   behind_loop_end r is e = rw is (back_of_close r (open_at shapes p) e)
 
 -- each open `repeat` stands before this place
@@ -112,14 +115,16 @@ pub block_below : (shapes : List control.Shape) (p r : ℕ) → Some r ≡ inner
 block_below shapes p r e = first_below p r (open_at shapes p) (open_below shapes p) e
 
 -- what one more place leads to
-pub pushed : (found : List Behind) (b : Behind) (f : ℕ → List ℕ) → ((k : ℕ) → k < length found → places_at found k ≡ f k) → places b ≡ f (length found) → (k : ℕ) → k < length found + 1 → places_at (found ++ b ∷ []) k ≡ f k
+pub pushed : (found : List Behind) (b : Behind) (f : ℕ → List ℕ) → ((k : ℕ) → k < length found → places_at found k ≡ f k) →
+    places b ≡ f (length found) → (k : ℕ) → k < length found + 1 → places_at (found ++ b ∷ []) k ≡ f k
 pushed [] b f below here zero lt = here
 pushed [] b f below here (suc k) lt = absurd (omega arith)
 pushed (x ∷ found) b f below here zero lt = below 0 (omega arith)
 pushed (x ∷ found) b f below here (suc k) lt = pushed found b (λ n. f (suc n)) (λ n h. below (suc n) (omega arith)) here k (omega arith)
 
 -- and where that is told of every place of the script
-all_places : (found : List Behind) (shapes : List control.Shape) → length found ≡ length shapes → ((k : ℕ) → k < length shapes → places_at found k ≡ behind shapes k) → (p : ℕ) → places_at found p ≡ behind shapes p
+all_places : (found : List Behind) (shapes : List control.Shape) → length found ≡ length shapes →
+    ((k : ℕ) → k < length shapes → places_at found k ≡ behind shapes k) → (p : ℕ) → places_at found p ≡ behind shapes p
 all_places found shapes size below p =
     ⊎_elim
     (λ within. below p within.1)
@@ -130,14 +135,18 @@ all_places found shapes size below p =
     rw (none, nowhere) refl)
     (slice_get_cases shapes p).1
 
-pub all_behind : (found : List Behind) (shapes : List control.Shape) → length found ≡ length shapes → ((k : ℕ) → k < length shapes → places_at found k ≡ behind shapes k) → AreBehind shapes found
+pub all_behind : (found : List Behind) (shapes : List control.Shape) → length found ≡ length shapes →
+    ((k : ℕ) → k < length shapes → places_at found k ≡ behind shapes k) → AreBehind shapes found
 all_behind found shapes size below = record { size = size; told = λ p. all_places found shapes size below p }
 
 -- the open blocks after one more place
-pub open_more : (xs : List Shape) (p : ℕ) (d : Shape) (old new : List (Option ℕ)) → p < length xs → old ≡ open_at (map shape_view xs) p → new ≡ opened p old (Some (shape_view (get_or xs p d))) → new ≡ open_at (map shape_view xs) (p + 1)
+pub open_more : (xs : List Shape) (p : ℕ) (d : Shape) (old new : List (Option ℕ)) → p < length xs → old ≡ open_at (map shape_view xs) p →
+    new ≡ opened p old (Some (shape_view (get_or xs p d))) → new ≡ open_at (map shape_view xs) (p + 1)
 open_more xs p d old new lt is e =
     let there : slice_get (map shape_view xs) p ≡ Some (shape_view (get_or xs p d)) = shape_there xs p (get_or xs p d) d lt refl in
     rw (add-one, there, ← is) e
 
-pub told_more : (found new : List Behind) (b : Behind) (f : ℕ → List ℕ) (p : ℕ) → length found ≡ p → new ≡ found ++ b ∷ [] → ((k : ℕ) → k < p → places_at found k ≡ f k) → places b ≡ f p → (k : ℕ) → k < p + 1 → places_at new k ≡ f k
-told_more found new b f p size is below here k lt = rw is (pushed found b f (λ n h. below n (omega arith)) (here ∙ ap f (sym size)) k (omega arith))
+pub told_more : (found new : List Behind) (b : Behind) (f : ℕ → List ℕ) (p : ℕ) → length found ≡ p → new ≡ found ++ b ∷ [] →
+    ((k : ℕ) → k < p → places_at found k ≡ f k) → places b ≡ f p → (k : ℕ) → k < p + 1 → places_at new k ≡ f k
+told_more found new b f p size is below here k lt = rw is (pushed found b f (λ n h. below n (omega arith)) (here ∙ ap f (sym size)) k
+    (omega arith))

@@ -1,5 +1,6 @@
 -- A plan that meets the conditions goes beside its script: the invariant, by places.
-use Rattle.std.proofs.Common.{◌≡◌, ◌<◌, ◌≤◌, ℕ, ◌+◌, ◌⊎◌, Bool, true, false, ◌&&◌, List, [], ◌∷◌, length, map, Option, Some, None, Ok, refl, sym, ap, ◌∙◌, subst, inl, inr, ⊎_elim, arith}
+use Rattle.std.proofs.Common.{◌≡◌, ◌<◌, ◌≤◌, ℕ, ◌+◌, ◌⊎◌, Bool, true, false, ◌&&◌, List, [], ◌∷◌, length, map, Option, Some, None, Ok, refl}
+use Rattle.std.proofs.Common.{sym, ap, ◌∙◌, subst, inl, inr, ⊎_elim, arith}
 use Rattle.std.proofs.Math.Nat.{eq-or-lt_of_le}
 use Rattle.std.specs.Prelude.{slice_get, if◌then◌else◌, not}
 use Rattle.std.specs.Option.{option_map}
@@ -20,7 +21,8 @@ use Rattle.cord_plan.specs.Unread.{ReadBy, Unread}
 use Rattle.cord_plan.specs.Forced.{is_block, is_block_at, keeps}
 use Rattle.cord_plan.specs.Values.{text_in}
 use Rattle.cord_plan.specs.Meaning.{Held, Text, Long, Holding, held_length, gets, cords}
-use Rattle.cord_plan.specs.Conditions.{Decisions, is_simple, is_simple_at, makes_cord, assigns_other_at, stands, stands_by, IsForced, MeetsConditions}
+use Rattle.cord_plan.specs.Conditions.{Decisions, is_simple, is_simple_at, makes_cord, assigns_other_at, stands, stands_by, IsForced}
+use Rattle.cord_plan.specs.Conditions.{MeetsConditions}
 use Rattle.cord_plan.proofs.Evaluation.{In, value_same, cords_named}
 use Rattle.cord_plan.proofs.Barriers.{bars, Barred, next_barred}
 
@@ -57,7 +59,8 @@ kept_name : (o : Option Statement) (xs : List (List ℕ)) → keeps o xs ≡ tru
 kept_name o [] e y i = absurd i
 kept_name o (x ∷ xs) e y i = pick (λ g j. kept_name o xs g y j) (assigns_at o x) refl e i
   where
-    pick : (keeps o xs ≡ true → In y xs → assigns_at o y ≡ false) → (v : Bool) → assigns_at o x ≡ v → (not v && keeps o xs) ≡ true → In y (x ∷ xs) → assigns_at o y ≡ false
+    pick : (keeps o xs ≡ true → In y xs → assigns_at o y ≡ false) → (v : Bool) → assigns_at o x ≡ v → (not v && keeps o xs) ≡ true →
+        In y (x ∷ xs) → assigns_at o y ≡ false
     pick rest true f g i = let bad : ⊥ = cc in absurd bad
     pick rest false f g (inl same) = ap (λ (w : List ℕ). assigns_at o w) same ∙ f
     pick rest false f g (inr i) = rest g i
@@ -101,7 +104,8 @@ module _ (s : List Statement) (d : Decisions) (ok : MeetsConditions s d) (limit 
   abbrev pub Ready : Expr → State → Holding → Type 0
   Ready e f h = (y : List ℕ) → In y (cords e) → h.held y ≡ Text (f.texts y)
 
-  -- at place p: each name is held as a text, or as a length where the text is spare; the earlier expression of each pair under way can be built, and its value is the name's text
+  -- at place p: each name is held as a text, or as a length where the text is spare; the earlier expression of each pair under way can be
+  -- built, and its value is the name's text
   pub record Inv (p : ℕ) (f : State) (h : Holding) : Type 0 where
     pub held : (x : List ℕ) → HeldAs (Spare x p) (h.held x) (f.texts x)
     pub numbers : h.numbers ≡ f.numbers
@@ -172,7 +176,8 @@ module _ (s : List Statement) (d : Decisions) (ok : MeetsConditions s d) (limit 
     where
       pick : (o : Option Statement) → slice_get s p ≡ o → q ≡ p + 1
       pick None f = absurd (subst (λ (o : Option Shape). NextOf shapes p o q) (shape_at p None f) n)
-      pick (Some l) f = plain_next (shape_of l) p q (ap is_block_at (sym f) ∙ e) (subst (λ (o : Option Shape). NextOf shapes p o q) (shape_at p (Some l) f) n)
+      pick (Some l) f = plain_next (shape_of l) p q (ap is_block_at (sym f) ∙ e)
+          (subst (λ (o : Option Shape). NextOf shapes p o q) (shape_at p (Some l) f) n)
 
   -- ---- what stays spare
   goes_on : (x : List ℕ) (p q : ℕ) → assigns_at (slice_get s p) x ≡ false → Next shapes p q → UnreadFrom x p → UnreadFrom x q
@@ -183,7 +188,8 @@ module _ (s : List Statement) (d : Decisions) (ok : MeetsConditions s d) (limit 
       let fd : IsForced s d a b x = ok.forced a b x fl.from in
       ⊎_elim {C = Spare x q}
       (λ (e : p ≡ b). ⊎_elim {C = Spare x q}
-      (λ (t : assigns_at (slice_get s b) x ≡ true). absurd (not_both (assigns_at (slice_get s b) x) t (subst (λ (m : ℕ). assigns_at (slice_get s m) x ≡ false) e unset)))
+      (λ (t : assigns_at (slice_get s b) x ≡ true).
+      absurd (not_both (assigns_at (slice_get s b) x) t (subst (λ (m : ℕ). assigns_at (slice_get s m) x ≡ false) e unset)))
       (λ (u : Unread s x b). inl (subst (λ (m : ℕ). Unread s x m) (sym e) u q n)) fd.later)
       (λ (lt : p < b).
       let at : q ≡ p + 1 = next_plain p q (fd.straight p fl.before lt) n in
@@ -195,7 +201,8 @@ module _ (s : List Statement) (d : Decisions) (ok : MeetsConditions s d) (limit 
   spare_on x p q unset n (inr w) = flight_on x p q w.0 w.1 unset n w.2
 
   -- what control passes leaves the invariant
-  pub moves : (p q : ℕ) (x : Shape) → slice_get shapes p ≡ Some x → IsControl x → Next shapes p q → (f : State) (h : Holding) → Inv p f h → Inv q f h
+  pub moves : (p q : ℕ) (x : Shape) → slice_get shapes p ≡ Some x → IsControl x → Next shapes p q → (f : State) (h : Holding) → Inv p f h →
+      Inv q f h
   moves p q x at k n f h inv =
       let line = line_of_shape p x at in
       let unset : (y : List ℕ) → assigns_at (slice_get s p) y ≡ false = λ y. ap (λ (o : Option Statement). assigns_at o y) line.1 ∙ block_unset line.0 x line.2 k y in
@@ -209,7 +216,8 @@ module _ (s : List Statement) (d : Decisions) (ok : MeetsConditions s d) (limit 
   -- ---- a line that gives a text to a name
   module _ (p : ℕ) (l : Statement) (here : slice_get s p ≡ Some l) (plain : shape_of l ≡ Simple) (f : State) (h : Holding) (inv : Inv p f h) where
     next_here : Next shapes p (p + 1)
-    next_here = subst (λ (o : Option Shape). NextOf shapes p o (p + 1)) (sym (shape_at p (Some l) here ∙ ap (λ (x : Shape). Some x) plain)) refl
+    next_here = subst (λ (o : Option Shape). NextOf shapes p o (p + 1)) (sym (shape_at p (Some l) here ∙ ap (λ (x : Shape). Some x) plain))
+        refl
 
     unset_line : (x : List ℕ) → assigns l x ≡ false → assigns_at (slice_get s p) x ≡ false
     unset_line x e = ap (λ (o : Option Statement). assigns_at o x) here ∙ e
@@ -234,27 +242,37 @@ module _ (s : List Statement) (d : Decisions) (ok : MeetsConditions s d) (limit 
           unset_same h.held z k y unset ∙ r y i ∙ ap Text (sym (unset_same f.texts z v y unset))
 
       value_kept : (e : Expr) → keeps (slice_get s p) (names e) ≡ true → text_in limit f_set e ≡ text_in limit f e
-      value_kept e fixed = value_same limit f_set f e (λ y i. unset_same f.texts z v y (unset_other y (kept_name (slice_get s p) (names e) fixed y (cords_named e y i)))) (λ y i. refl)
+      value_kept e fixed = value_same limit f_set f e (λ y i. unset_same f.texts z v y
+          (unset_other y (kept_name (slice_get s p) (names e) fixed y (cords_named e y i)))) (λ y i. refl)
 
       module _ (knows : is_simple_at (slice_get s p) ≡ true → Ready (d.exprs p) f h × (text_in limit f (d.exprs p) ≡ Ok v)) where
-        begun : (b : ℕ) (x : List ℕ) → d.source b x ≡ Some p → Ready (d.exprs p) f_set h_set × (text_in limit f_set (d.exprs p) ≡ Ok (f_set.texts x))
+        begun : (b : ℕ) (x : List ℕ) → d.source b x ≡ Some p → Ready (d.exprs p) f_set h_set ×
+            (text_in limit f_set (d.exprs p) ≡ Ok (f_set.texts x))
         begun b x from =
             let fd : IsForced s d p b x = ok.forced p b x from in
             let got = knows fd.first in
             let low : p ≤ p = omega arith in
-            let fixed : keeps (slice_get s p) (names (d.exprs p)) ≡ true = fd.fixed p low fd.before in
-            (ready_kept (d.exprs p) fixed got.0, value_kept (d.exprs p) fixed ∙ got.1 ∙ ap (λ (t : List ℕ). Ok t) (sym (set_there f.texts z v x (sym (sets_at x) ∙ fd.sets))))
+            let fixed : keeps (slice_get s p) (names (d.exprs p)) ≡ true = fd.fixed p low fd.before in (
+              ready_kept (d.exprs p) fixed got.0,
+              value_kept (d.exprs p) fixed ∙ got.1
+                  ∙ ap (λ (t : List ℕ). Ok t) (sym (set_there f.texts z v x (sym (sets_at x) ∙ fd.sets))),
+            )
 
-        pair_on : (a b : ℕ) (x : List ℕ) → InFlight (p + 1) a b x → (a ≡ p) ⊎ (a < p) → Ready (d.exprs a) f_set h_set × (text_in limit f_set (d.exprs a) ≡ Ok (f_set.texts x))
-        pair_on a b x fl (inl e) = subst (λ (m : ℕ). Ready (d.exprs m) f_set h_set × (text_in limit f_set (d.exprs m) ≡ Ok (f_set.texts x))) (sym e) (begun b x (subst (λ (m : ℕ). d.source b x ≡ Some m) e fl.from))
+        pair_on : (a b : ℕ) (x : List ℕ) → InFlight (p + 1) a b x → (a ≡ p) ⊎ (a < p) → Ready (d.exprs a) f_set h_set ×
+            (text_in limit f_set (d.exprs a) ≡ Ok (f_set.texts x))
+        pair_on a b x fl (inl e) = subst (λ (m : ℕ). Ready (d.exprs m) f_set h_set ×
+            (text_in limit f_set (d.exprs m) ≡ Ok (f_set.texts x))) (sym e) (begun b x (subst (λ (m : ℕ). d.source b x ≡ Some m) e fl.from))
         pair_on a b x fl (inr lt) =
             let fd : IsForced s d a b x = ok.forced a b x fl.from in
             let on : p < b = omega (arith, fl.until) in
             let low : a ≤ p = omega arith in
             let until : p ≤ b = omega arith in
             let old = inv.flight a b x (record { before = lt; until = until; from = fl.from }) in
-            let fixed : keeps (slice_get s p) (names (d.exprs a)) ≡ true = fd.fixed p low on in
-            (ready_kept (d.exprs a) fixed old.0, value_kept (d.exprs a) fixed ∙ old.1 ∙ ap (λ (t : List ℕ). Ok t) (sym (unset_same f.texts z v x (unset_other x (fd.kept p lt on)))))
+            let fixed : keeps (slice_get s p) (names (d.exprs a)) ≡ true = fd.fixed p low on in (
+              ready_kept (d.exprs a) fixed old.0,
+              value_kept (d.exprs a) fixed ∙ old.1
+                  ∙ ap (λ (t : List ℕ). Ok t) (sym (unset_same f.texts z v x (unset_other x (fd.kept p lt on)))),
+            )
 
         abbrev Excused : Type 0
         Excused = Unread s z p ⊎ ((b : ℕ) × (d.source b z ≡ Some p))
@@ -265,9 +283,12 @@ module _ (s : List Statement) (d : Decisions) (ok : MeetsConditions s d) (limit 
             let ahead : p < w.0 = (ok.forced p w.0 z w.1).before in
             inr (p, w.0, record { before = omega arith; until = omega arith; from = w.1 })
 
-        held_set : HeldAs Excused k v → (x : List ℕ) (w : Bool) → bytes_eq x z ≡ w → HeldAs (Spare x (p + 1)) (if w then k else h.held x) (if w then v else f.texts x)
-        held_set there x true e = held_on Excused (Spare x (p + 1)) k v (λ u. subst (λ (y : List ℕ). Spare y (p + 1)) (sym ((bytes_eq-Decides x z).0 e)) (excused_on u)) there
-        held_set there x false e = held_on (Spare x p) (Spare x (p + 1)) (h.held x) (f.texts x) (spare_on x p (p + 1) (sets_at x ∙ e) next_here) (inv.held x)
+        held_set : HeldAs Excused k v → (x : List ℕ) (w : Bool) → bytes_eq x z ≡ w →
+            HeldAs (Spare x (p + 1)) (if w then k else h.held x) (if w then v else f.texts x)
+        held_set there x true e = held_on Excused (Spare x (p + 1)) k v
+            (λ u. subst (λ (y : List ℕ). Spare y (p + 1)) (sym ((bytes_eq-Decides x z).0 e)) (excused_on u)) there
+        held_set there x false e = held_on (Spare x p) (Spare x (p + 1)) (h.held x) (f.texts x)
+            (spare_on x p (p + 1) (sets_at x ∙ e) next_here) (inv.held x)
 
         pub inv_set : HeldAs Excused k v → Inv (p + 1) f_set h_set
         inv_set there = record {
@@ -280,7 +301,8 @@ module _ (s : List Statement) (d : Decisions) (ok : MeetsConditions s d) (limit 
         }
 
     -- ---- a line that gives no text to a name
-    module _ (u : State) (h_on : Holding) (texts : u.texts ≡ f.texts) (held : h_on.held ≡ h.held) (numbers : h_on.numbers ≡ u.numbers) (extensibles : h_on.extensibles ≡ u.extensibles)
+    module _ (u : State) (h_on : Holding) (texts : u.texts ≡ f.texts) (held : h_on.held ≡ h.held) (numbers : h_on.numbers ≡ u.numbers)
+        (extensibles : h_on.extensibles ≡ u.extensibles)
         (others : (y : List ℕ) → assigns l y ≡ false → u.numbers y ≡ f.numbers y) (no_cord : makes_cord l ≡ false) (bare : (x : List ℕ) → is_simple l ≡ true → assigns l x ≡ true → ⊥) where
       -- what is assigned otherwise than as a cord is read by no line
       no_reader : (x : List ℕ) → assigns l x ≡ true → (q : ℕ) → reads_at (slice_get s q) x ≡ false
@@ -294,7 +316,8 @@ module _ (s : List Statement) (d : Decisions) (ok : MeetsConditions s d) (limit 
       spare_after x true e sp = inl (unread_all x (no_reader x e) (p + 1))
       spare_after x false e sp = spare_on x p (p + 1) (unset_line x e) next_here sp
 
-      on_pair : (a b : ℕ) (x : List ℕ) → InFlight (p + 1) a b x → (a ≡ p) ⊎ (a < p) → Ready (d.exprs a) u h_on × (text_in limit u (d.exprs a) ≡ Ok (u.texts x))
+      on_pair : (a b : ℕ) (x : List ℕ) → InFlight (p + 1) a b x → (a ≡ p) ⊎ (a < p) → Ready (d.exprs a) u h_on ×
+          (text_in limit u (d.exprs a) ≡ Ok (u.texts x))
       on_pair a b x fl (inl e) =
           let fd : IsForced s d p b x = ok.forced p b x (subst (λ (m : ℕ). d.source b x ≡ Some m) e fl.from) in
           absurd (bare x (ap is_simple_at (sym here) ∙ fd.first) (ap (λ (o : Option Statement). assigns_at o x) (sym here) ∙ fd.sets))
@@ -325,7 +348,8 @@ module _ (s : List Statement) (d : Decisions) (ok : MeetsConditions s d) (limit 
   -- ---- what a line reads
   module _ (p : ℕ) (f : State) (h : Holding) (inv : Inv p f h) where
     -- what is read here and doesn't stand as an expression is there as a text
-    text_there : (x : List ℕ) → reads_at (slice_get s p) x ≡ true → d.source p x ≡ None → (k : Held) → h.held x ≡ k → HeldAs (Spare x p) k (f.texts x) → h.held x ≡ Text (f.texts x)
+    text_there : (x : List ℕ) → reads_at (slice_get s p) x ≡ true → d.source p x ≡ None → (k : Held) → h.held x ≡ k →
+        HeldAs (Spare x p) k (f.texts x) → h.held x ≡ Text (f.texts x)
     text_there x r none (Text t) e ea = e ∙ ap Text ea
     text_there x r none (Long n) e (l, inl u) = absurd (u [] r)
     text_there x r none (Long n) e (l, inr w) =
@@ -335,14 +359,17 @@ module _ (s : List Statement) (d : Decisions) (ok : MeetsConditions s d) (limit 
         (λ (lt : p < w.1). not_both (reads_at (slice_get s p) x) r (fd.unread p fl.before lt)) (eq-or-lt_of_le fl.until))
 
     -- what stands for an operand can be built, and its value is the operand's text
-    pub operand : (x : List ℕ) → reads_at (slice_get s p) x ≡ true → Ready (stands d p x) f h × (text_in limit f (stands d p x) ≡ Ok (f.texts x))
+    pub operand : (x : List ℕ) → reads_at (slice_get s p) x ≡ true → Ready (stands d p x) f h ×
+        (text_in limit f (stands d p x) ≡ Ok (f.texts x))
     operand x r = pick (d.source p x) refl
       where
-        pick : (o : Option ℕ) → d.source p x ≡ o → Ready (stands_by d.exprs o x) f h × (text_in limit f (stands_by d.exprs o x) ≡ Ok (f.texts x))
+        pick : (o : Option ℕ) → d.source p x ≡ o → Ready (stands_by d.exprs o x) f h ×
+            (text_in limit f (stands_by d.exprs o x) ≡ Ok (f.texts x))
         pick None e = ((λ y i. named y i), refl)
           where
             named : (y : List ℕ) → In y (cords (name x)) → h.held y ≡ Text (f.texts y)
-            named y (inl same) = subst (λ (w : List ℕ). h.held w ≡ Text (f.texts w)) (sym same) (text_there x r e (h.held x) refl (inv.held x))
+            named y (inl same) = subst (λ (w : List ℕ). h.held w ≡ Text (f.texts w)) (sym same)
+                (text_there x r e (h.held x) refl (inv.held x))
             named y (inr i) = absurd i
         pick (Some a) e =
             let low : p ≤ p = omega arith in

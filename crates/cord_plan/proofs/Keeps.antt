@@ -5,10 +5,14 @@ use Rattle.cord_io.specs.Device.{Folder}
 use Rattle.cord_operands.specs.declared.operands.Number.{Number}
 use Rattle.cord_operands.specs.declared.operands.Number.TheVariants.{Numeral, Named}
 use Rattle.cord_syntax.specs.declared.statements.Statement.{Statement}
-use Rattle.cord_syntax.specs.declared.statements.Statement.TheVariants.{Let, File, Eager, Lazy, Chars, Nul, FromFn, Cat, Catn, Catc, Substr, Balance, EcToCord, Sprintf, Len, Fetch, Cmp, Ncmp, Str, Chr, Rchr, Assign, Add, Sub, EcInit, EcPut, EcCat, EcStr, Put, Repeat, If, Else, End}
+use Rattle.cord_syntax.specs.declared.statements.Statement.TheVariants.{Let, File, Eager, Lazy, Chars, Nul, FromFn, Cat, Catn, Catc, Substr}
+use Rattle.cord_syntax.specs.declared.statements.Statement.TheVariants.{Balance, EcToCord, Sprintf, Len, Fetch, Cmp, Ncmp, Str, Chr, Rchr}
+use Rattle.cord_syntax.specs.declared.statements.Statement.TheVariants.{Assign, Add, Sub, EcInit, EcPut, EcCat, EcStr, Put, Repeat, If}
+use Rattle.cord_syntax.specs.declared.statements.Statement.TheVariants.{Else, End}
 use Rattle.cord_meaning.specs.declared.ends.FaultKind.{FaultKind}
 use Rattle.cord_meaning.specs.declared.ends.FaultKind.TheVariants.{Overflow}
-use Rattle.cord_meaning.specs.State.{State, Outcome, number_value, and_then, as_index, as_byte, as_length, fits_i64, sets_extensible, has_number, sets_number}
+use Rattle.cord_meaning.specs.State.{State, Outcome, number_value, and_then, as_index, as_byte, as_length, fits_i64, sets_extensible}
+use Rattle.cord_meaning.specs.State.{has_number, sets_number}
 use Rattle.cord_meaning.specs.Statements.{act, byte_at, place_number}
 use Rattle.cord_core.specs.Texts.{first, last, order}
 use Rattle.cord_plan.specs.Operands.{read_by}
@@ -47,7 +51,8 @@ module _ (t : List ℕ → List ℕ) where
   with_texts (Ok r) = Ok (over r.0, r.1)
   with_texts (Err kind) = Err kind
 
-  then_with : {A : Type 0} (q r : Result A FaultKind) (f g : A → Outcome) → q ≡ r → ((a : A) → f a ≡ with_texts (g a)) → and_then q f ≡ with_texts (and_then r g)
+  then_with : {A : Type 0} (q r : Result A FaultKind) (f g : A → Outcome) → q ≡ r → ((a : A) → f a ≡ with_texts (g a)) →
+      and_then q f ≡ with_texts (and_then r g)
   then_with q (Ok a) f g e h = ap (λ (w : Result _ FaultKind). and_then w f) e ∙ h a
   then_with q (Err kind) f g e h = ap (λ (w : Result _ FaultKind). and_then w f) e
 
@@ -65,7 +70,8 @@ module _ (t : List ℕ → List ℕ) where
     number_set : (target : List ℕ) (z w : ℤ) → z ≡ w → sets_number (over s) target z ≡ with_texts (sets_number s target w)
     number_set target z w e = ap (λ (v : ℤ). sets_number (over s) target v) e ∙ pick (fits_i64 w)
       where
-        pick : (v : Bool) → (if v then has_number (over s) target w else Err Overflow) ≡ with_texts (if v then has_number s target w else Err Overflow)
+        pick : (v : Bool) → (if v then has_number (over s) target w else Err Overflow)
+            ≡ with_texts (if v then has_number s target w else Err Overflow)
         pick true = refl
         pick false = refl
 
@@ -73,19 +79,30 @@ module _ (t : List ℕ → List ℕ) where
     has_same target z w e = ap (λ (v : ℤ). has_number (over s) target v) e
 
     module _ (limit : ℕ) (files : Folder) where
-      extensible_set : (name : List ℕ) (u v : List ℕ) → u ≡ v → sets_extensible limit (over s) name u ≡ with_texts (sets_extensible limit s name v)
-      extensible_set name u v e = ap (λ (w : List ℕ). sets_extensible limit (over s) name w) e ∙ then_with (as_length limit (length v)) (as_length limit (length v)) _ _ refl (λ k. refl)
+      extensible_set : (name : List ℕ) (u v : List ℕ) → u ≡ v →
+          sets_extensible limit (over s) name u ≡ with_texts (sets_extensible limit s name v)
+      extensible_set name u v e = ap (λ (w : List ℕ). sets_extensible limit (over s) name w) e
+          ∙ then_with (as_length limit (length v)) (as_length limit (length v)) _ _ refl (λ k. refl)
 
-      pub kept_same : (l : Statement) → IsKept l → Agrees t s.texts (read_by l) → act limit files l (over s) ≡ with_texts (act limit files l s)
-      kept_same (Fetch line target operand index) k a = then_with _ _ _ _ (same_index index) (λ i. then_with _ _ _ _ (ap (λ (x : List ℕ). byte_at x i) a.0) (λ b. refl))
+      pub kept_same : (l : Statement) → IsKept l → Agrees t s.texts (read_by l) →
+          act limit files l (over s) ≡ with_texts (act limit files l s)
+      kept_same (Fetch line target operand index) k a = then_with _ _ _ _ (same_index index)
+          (λ i. then_with _ _ _ _ (ap (λ (x : List ℕ). byte_at x i) a.0) (λ b. refl))
       kept_same (Cmp line target left right) k a = has_same target _ _ (λ i. order (a.0 i) (a.1.0 i))
       kept_same (Ncmp line target left left_start right right_start count) k a =
-          then_with _ _ _ _ (same_index left_start) (λ i. then_with _ _ _ _ (same_index right_start) (λ j. then_with _ _ _ _ (same_index count) (λ n. has_same target _ _ (λ r. order (take n (drop i (a.0 r))) (take n (drop j (a.1.0 r)))))))
-      kept_same (Str line target operand start pattern) k a = then_with _ _ _ _ (same_index start) (λ i. has_same target _ _ (λ r. place_number (first (a.0 r) i (a.1.0 r))))
+          then_with _ _ _ _ (same_index left_start) (λ i. then_with _ _ _ _ (same_index right_start)
+          (λ j. then_with _ _ _ _ (same_index count) (λ n. has_same target _ _
+          (λ r. order (take n (drop i (a.0 r))) (take n (drop j (a.1.0 r)))))))
+      kept_same (Str line target operand start pattern) k a = then_with _ _ _ _ (same_index start)
+          (λ i. has_same target _ _ (λ r. place_number (first (a.0 r) i (a.1.0 r))))
       kept_same (Chr line target operand start byte) k a =
-          then_with _ _ _ _ (same_index start) (λ i. then_with _ _ _ _ (same_byte byte) (λ b. then_with _ _ _ _ (ap (λ (x : List ℕ). byte_at x i) a.0) (λ _. has_same target _ _ (λ r. place_number (first (a.0 r) i (b ∷ []))))))
+          then_with _ _ _ _ (same_index start) (λ i. then_with _ _ _ _ (same_byte byte)
+          (λ b. then_with _ _ _ _ (ap (λ (x : List ℕ). byte_at x i) a.0)
+          (λ _. has_same target _ _ (λ r. place_number (first (a.0 r) i (b ∷ []))))))
       kept_same (Rchr line target operand start byte) k a =
-          then_with _ _ _ _ (same_index start) (λ i. then_with _ _ _ _ (same_byte byte) (λ b. then_with _ _ _ _ (ap (λ (x : List ℕ). byte_at x i) a.0) (λ _. has_same target _ _ (λ r. place_number (last (a.0 r) i b)))))
+          then_with _ _ _ _ (same_index start) (λ i. then_with _ _ _ _ (same_byte byte)
+          (λ b. then_with _ _ _ _ (ap (λ (x : List ℕ). byte_at x i) a.0)
+          (λ _. has_same target _ _ (λ r. place_number (last (a.0 r) i b)))))
       kept_same (Assign line target value) k a = number_set target _ _ (same_number value)
       kept_same (Add line target left right) k a = number_set target _ _ (λ r. same_number left r +ℤ same_number right r)
       kept_same (Sub line target left right) k a = number_set target _ _ (λ r. same_number left r -ℤ same_number right r)

@@ -24,12 +24,17 @@ use Rattle.cord_plan.proofs.TrivialDecided.{plain_decisions, trivial_decided, tr
 module _ (limit most : ℕ) (files : Folder) (s : List Statement) where
   pub decided_keeps : (d : Decisions) → IsNested [] (map shape_of s) → MeetsConditions s d → KeepsMeaning limit most files s (decided d s)
   decided_keeps d nested ok = record {
-    never_stuck = each_related (rules limit files) (plan_rules limit files) most s (decided d s) (Related s d ok limit files) (plan_simulates s d ok limit files) (λ t. IsSome t) (related_some s d ok limit files) nested start_state (Some start_holding) (related_first s d ok limit files);
-    members = told_same (rules limit files) (plan_rules limit files) most s (decided d s) (Related s d ok limit files) (plan_simulates s d ok limit files) nested start_state (Some start_holding) (related_first s d ok limit files);
-    end = end_same (rules limit files) (plan_rules limit files) most s (decided d s) (Related s d ok limit files) (plan_simulates s d ok limit files) nested start_state (Some start_holding) (related_first s d ok limit files);
+    never_stuck = each_related (rules limit files) (plan_rules limit files) most s (decided d s) (Related s d ok limit files)
+        (plan_simulates s d ok limit files) (λ t. IsSome t) (related_some s d ok limit files) nested start_state (Some start_holding)
+        (related_first s d ok limit files);
+    members = told_same (rules limit files) (plan_rules limit files) most s (decided d s) (Related s d ok limit files)
+        (plan_simulates s d ok limit files) nested start_state (Some start_holding) (related_first s d ok limit files);
+    end = end_same (rules limit files) (plan_rules limit files) most s (decided d s) (Related s d ok limit files)
+        (plan_simulates s d ok limit files) nested start_state (Some start_holding) (related_first s d ok limit files);
   }
 
-  pub planned_keeps : (g : Grammar) (text : List ℕ) (later : List ℕ → ℕ → Bool) → ReadsBy g text s → IsLater s later → KeepsMeaning limit most files s (planned s later)
+  pub planned_keeps : (g : Grammar) (text : List ℕ) (later : List ℕ → ℕ → Bool) → ReadsBy g text s → IsLater s later →
+      KeepsMeaning limit most files s (planned s later)
   planned_keeps g text later read is =
       subst (λ (plan : List Operation). KeepsMeaning limit most files s plan) (sym (planned_decided s later))
       (decided_keeps (decisions s later) (read_nested {g = g} text s read) (meets s later is (read_kinds g text s read)))

@@ -1,5 +1,6 @@
 -- Whether a name stands nowhere in a list of names, and what a line that assigns it keeps.
-use Rattle.std.proofs.Common.{◌≡◌, ℕ, ◌+◌, ◌<◌, Bool, true, false, ◌&&◌, List, [], ◌∷◌, ◌++◌, map, drop, length, get_or, Option, Some, None, refl, sym, ap, ◌∙◌}
+use Rattle.std.proofs.Common.{◌≡◌, ℕ, ◌+◌, ◌<◌, Bool, true, false, ◌&&◌, List, [], ◌∷◌, ◌++◌, map, drop, length, get_or, Option, Some, None}
+use Rattle.std.proofs.Common.{refl, sym, ap, ◌∙◌}
 use Rattle.std.specs.Prelude.{not}
 use Rattle.std.specs.Str.{bytes_eq}
 use Rattle.std.proofs.lemmas.List.{at_drop_more}
@@ -21,7 +22,8 @@ module _ (x : List ℕ) where
 
   -- what the names of members lack, by the first
   pub lacks_member : (ms : List Shared) (k : ℕ) (m : Shared) → k < length ms → m ≡ get_or ms k m →
-      lacks (names_of (members_of (map shared_view (drop k ms)))) x ≡ (lacks (names (shared_view m)) x && lacks (names_of (members_of (map shared_view (drop (k + 1) ms)))) x)
+      lacks (names_of (members_of (map shared_view (drop k ms)))) x
+      ≡ (lacks (names (shared_view m)) x && lacks (names_of (members_of (map shared_view (drop (k + 1) ms)))) x)
   lacks_member ms k m lt is =
       at_drop_more (λ (es : List Shared). lacks (names_of (members_of (map shared_view es))) x) ms k m lt
       ∙ (ap (λ (e : Shared). lacks (names_of (members_of (map shared_view (e ∷ drop (k + 1) ms)))) x) (sym is)

@@ -1,5 +1,6 @@
 -- The nearest line, and what stays, by the last lines that assign and read a name.
-use Rattle.std.proofs.Common.{◌≡◌, ℕ, zero, suc, ◌+◌, ◌-◌, ◌<◌, ◌≤◌, Bool, true, false, ◌||◌, ◌&&◌, List, [], ◌∷◌, ◌++◌, map, drop, length, get_or, Option, Some, None, inl, inr, refl, sym, ap, ◌∙◌, arith}
+use Rattle.std.proofs.Common.{◌≡◌, ℕ, zero, suc, ◌+◌, ◌-◌, ◌<◌, ◌≤◌, Bool, true, false, ◌||◌, ◌&&◌, List, [], ◌∷◌, ◌++◌, map, drop, length}
+use Rattle.std.proofs.Common.{get_or, Option, Some, None, inl, inr, refl, sym, ap, ◌∙◌, arith}
 use Rattle.std.specs.Prelude.{slice_get, if◌then◌else◌, not}
 use Rattle.std.proofs.Math.Bool.{and-false, and-true}
 use Rattle.std.proofs.lemmas.Bool.{le-leb}
@@ -53,9 +54,11 @@ module _ (s : List Statement) (x : List ℕ) where
   -- the nearest line by the last ones
   pub nearest_by_last : (b : ℕ) → nearest s x b ≡ unless_behind (setter s x b) (reader s x b) (blocker s b)
   nearest_by_last zero = refl
-  nearest_by_last (suc b) = by_assigns (assigns_at (slice_get s b) x) (is_block_at (slice_get s b)) (reads_at (slice_get s b) x) (nearest_by_last b)
+  nearest_by_last (suc b) = by_assigns (assigns_at (slice_get s b) x) (is_block_at (slice_get s b)) (reads_at (slice_get s b) x)
+      (nearest_by_last b)
     where
-      shut : (o : Option ℕ) → ((a : ℕ) → o ≡ Some a → a < b) → (r k : Option ℕ) → ((a : ℕ) → a < b → (is_behind r a || is_behind k a) ≡ true) → None ≡ unless_behind o r k
+      shut : (o : Option ℕ) → ((a : ℕ) → o ≡ Some a → a < b) → (r k : Option ℕ) →
+          ((a : ℕ) → a < b → (is_behind r a || is_behind k a) ≡ true) → None ≡ unless_behind o r k
       shut None below r k bars = refl
       shut (Some a) below r k bars = ap (λ (v : Bool). if v then None else Some a) (sym (bars a (below a refl)))
 
@@ -64,7 +67,8 @@ module _ (s : List Statement) (x : List ℕ) where
       or_true false w e = e
 
       by_assigns : (f k r : Bool) → nearest s x b ≡ unless_behind (setter s x b) (reader s x b) (blocker s b)
-          → (if f then Some b else (if k || r then None else nearest s x b)) ≡ unless_behind (if f then Some b else setter s x b) (if r then Some b else reader s x b) (if k then Some b else blocker s b)
+          → (if f then Some b else (if k || r then None else nearest s x b)) ≡ unless_behind (if f then Some b else setter s x b)
+          (if r then Some b else reader s x b) (if k then Some b else blocker s b)
       by_assigns true k r ih = sym (ap (λ (v : Bool). if v then None else Some b) (free k r))
         where
           here : is_behind (Some b) b ≡ false
@@ -76,13 +80,16 @@ module _ (s : List Statement) (x : List ℕ) where
           block : is_behind (blocker s b) b ≡ false
           block = none_behind (blocker s b) b (blocker_before b)
 
-          free : (k r : Bool) → (is_behind (if r then Some b else reader s x b) b || is_behind (if k then Some b else blocker s b) b) ≡ false
+          free : (k r : Bool) → (is_behind (if r then Some b else reader s x b) b || is_behind (if k then Some b else blocker s b) b)
+              ≡ false
           free true true = rw here refl
           free true false = rw (read, here) refl
           free false true = rw (here, block) refl
           free false false = rw (read, block) refl
-      by_assigns false true r ih = shut (setter s x b) (λ a e. (setter_is s x b a e).before) (if r then Some b else reader s x b) (Some b) (λ a lt. or_true (is_behind (if r then Some b else reader s x b) a) (is_behind (Some b) a) (behind b a lt))
-      by_assigns false false true ih = shut (setter s x b) (λ a e. (setter_is s x b a e).before) (Some b) (blocker s b) (λ a lt. ap (λ (v : Bool). v || is_behind (blocker s b) a) (behind b a lt))
+      by_assigns false true r ih = shut (setter s x b) (λ a e. (setter_is s x b a e).before) (if r then Some b else reader s x b) (Some b)
+          (λ a lt. or_true (is_behind (if r then Some b else reader s x b) a) (is_behind (Some b) a) (behind b a lt))
+      by_assigns false false true ih = shut (setter s x b) (λ a e. (setter_is s x b a e).before) (Some b) (blocker s b)
+          (λ a lt. ap (λ (v : Bool). v || is_behind (blocker s b) a) (behind b a lt))
       by_assigns false false false ih = ih
 
   -- a name stays where no line assigned it since
@@ -134,12 +141,16 @@ module _ (s : List Statement) (x : List ℕ) where
 
 -- what stays of two lists of names
 module _ (s : List Statement) (a b : ℕ) where
-  stay_append_from : (xs ys : List (List ℕ)) (n k : ℕ) → each_from (λ m. keeps (slice_get s m) (xs ++ ys)) n k ≡ (each_from (λ m. keeps (slice_get s m) xs) n k && each_from (λ m. keeps (slice_get s m) ys) n k)
+  stay_append_from : (xs ys : List (List ℕ)) (n k : ℕ) → each_from (λ m. keeps (slice_get s m) (xs ++ ys)) n k
+      ≡ (each_from (λ m. keeps (slice_get s m) xs) n k && each_from (λ m. keeps (slice_get s m) ys) n k)
   stay_append_from xs ys zero k = refl
-  stay_append_from xs ys (suc n) k = pick (keeps (slice_get s k) xs) (keeps (slice_get s k) ys) (keeps (slice_get s k) (xs ++ ys)) (keeps_append (slice_get s k) xs ys) (stay_append_from xs ys n (k + 1))
+  stay_append_from xs ys (suc n) k = pick (keeps (slice_get s k) xs) (keeps (slice_get s k) ys) (keeps (slice_get s k) (xs ++ ys))
+      (keeps_append (slice_get s k) xs ys) (stay_append_from xs ys n (k + 1))
     where
-      pick : (v w u : Bool) → u ≡ (v && w) → each_from (λ m. keeps (slice_get s m) (xs ++ ys)) n (k + 1) ≡ (each_from (λ m. keeps (slice_get s m) xs) n (k + 1) && each_from (λ m. keeps (slice_get s m) ys) n (k + 1))
-          → (u && each_from (λ m. keeps (slice_get s m) (xs ++ ys)) n (k + 1)) ≡ ((v && each_from (λ m. keeps (slice_get s m) xs) n (k + 1)) && (w && each_from (λ m. keeps (slice_get s m) ys) n (k + 1)))
+      pick : (v w u : Bool) → u ≡ (v && w) → each_from (λ m. keeps (slice_get s m) (xs ++ ys)) n (k + 1)
+          ≡ (each_from (λ m. keeps (slice_get s m) xs) n (k + 1) && each_from (λ m. keeps (slice_get s m) ys) n (k + 1))
+          → (u && each_from (λ m. keeps (slice_get s m) (xs ++ ys)) n (k + 1))
+          ≡ ((v && each_from (λ m. keeps (slice_get s m) xs) n (k + 1)) && (w && each_from (λ m. keeps (slice_get s m) ys) n (k + 1)))
       pick true true u e ih = rw e ih
       pick true false u e ih = rw e (sym (and-false (each_from (λ m. keeps (slice_get s m) xs) n (k + 1))))
       pick false w u e ih = rw e refl
@@ -156,7 +167,8 @@ module _ (s : List Statement) (a b : ℕ) where
 
   -- what stays of members, by the first
   pub stay_member : (ms : List Shared) (k : ℕ) (m : Shared) → k < length ms → m ≡ get_or ms k m →
-      stay s a b (names_of (members_of (map shared_view (drop k ms)))) ≡ (stay s a b (names (shared_view m)) && stay s a b (names_of (members_of (map shared_view (drop (k + 1) ms)))))
+      stay s a b (names_of (members_of (map shared_view (drop k ms))))
+      ≡ (stay s a b (names (shared_view m)) && stay s a b (names_of (members_of (map shared_view (drop (k + 1) ms)))))
   stay_member ms k m lt is =
       at_drop_more (λ (es : List Shared). stay s a b (names_of (members_of (map shared_view es)))) ms k m lt
       ∙ (ap (λ (x : Shared). stay s a b (names_of (members_of (map shared_view (x ∷ drop (k + 1) ms))))) (sym is)
@@ -167,17 +179,22 @@ module _ (s : List Statement) (t : Numbering) (b : ℕ) (l : Statement) (here : 
   up : b + 1 ≡ suc b
   up = omega arith
 
-  pub assigned_then : (old new : List (Option ℕ)) → Notes t (λ x. assigns l x) b old new → ((x : List ℕ) (o : Option ℕ) → entry_of t old x ≡ Some o → o ≡ setter s x b) → (x : List ℕ) (o : Option ℕ) → entry_of t new x ≡ Some o → o ≡ setter s x (b + 1)
+  pub assigned_then : (old new : List (Option ℕ)) → Notes t (λ x. assigns l x) b old new →
+      ((x : List ℕ) (o : Option ℕ) → entry_of t old x ≡ Some o → o ≡ setter s x b) → (x : List ℕ) (o : Option ℕ) →
+      entry_of t new x ≡ Some o → o ≡ setter s x (b + 1)
   assigned_then old new notes before x o is =
       last_then (assigns l x) b (entry_of t old x) o (setter s x b) (sym (notes x) ∙ is) (λ q e. before x q e)
       ∙ sym (ap (λ (n : ℕ). setter s x n) up ∙ ap (λ (at : Option Statement). if assigns_at at x then Some b else setter s x b) here)
 
-  pub read_then : (old new : List (Option ℕ)) → Notes t (λ x. reads l x) b old new → ((x : List ℕ) (o : Option ℕ) → entry_of t old x ≡ Some o → o ≡ reader s x b) → (x : List ℕ) (o : Option ℕ) → entry_of t new x ≡ Some o → o ≡ reader s x (b + 1)
+  pub read_then : (old new : List (Option ℕ)) → Notes t (λ x. reads l x) b old new →
+      ((x : List ℕ) (o : Option ℕ) → entry_of t old x ≡ Some o → o ≡ reader s x b) → (x : List ℕ) (o : Option ℕ) →
+      entry_of t new x ≡ Some o → o ≡ reader s x (b + 1)
   read_then old new notes before x o is =
       last_then (reads l x) b (entry_of t old x) o (reader s x b) (sym (notes x) ∙ is) (λ q e. before x q e)
       ∙ sym (ap (λ (n : ℕ). reader s x n) up ∙ ap (λ (at : Option Statement). if reads_at at x then Some b else reader s x b) here)
 
-  pub block_then : (old : Option ℕ) (v : Bool) → v ≡ is_block (shape_of l) → old ≡ blocker s b → (if v then Some b else old) ≡ blocker s (b + 1)
+  pub block_then : (old : Option ℕ) (v : Bool) → v ≡ is_block (shape_of l) → old ≡ blocker s b →
+      (if v then Some b else old) ≡ blocker s (b + 1)
   block_then old v is before =
       ap (λ (o : Option ℕ). if v then Some b else o) before
       ∙ (ap (λ (w : Bool). if w then Some b else blocker s b) is

@@ -1,5 +1,6 @@
 -- The table of a script, line by line: expressions, and marks on the lines that are the first of a pair.
-use Rattle.std.proofs.Common.{◌≡◌, ℕ, zero, suc, ◌+◌, ◌<◌, ◌≤◌, Bool, true, false, ◌||◌, List, [], ◌∷◌, ◌++◌, map, drop, take, length, get_or, set, Option, Some, None, inl, inr, refl, sym, ap, ◌∙◌, subst, arith, length-set}
+use Rattle.std.proofs.Common.{◌≡◌, ℕ, zero, suc, ◌+◌, ◌<◌, ◌≤◌, Bool, true, false, ◌||◌, List, [], ◌∷◌, ◌++◌, map, drop, take, length}
+use Rattle.std.proofs.Common.{get_or, set, Option, Some, None, inl, inr, refl, sym, ap, ◌∙◌, subst, arith, length-set}
 use Rattle.std.specs.Prelude.{◌==◌, replicate}
 use Rattle.std.proofs.Math.Seq.{take-append_seam}
 use Rattle.std.proofs.Math.Bool.{or-false, or-true, or_assoc}
@@ -20,7 +21,8 @@ use Rattle.cord_plan.proofs.Choices.{entry_of, chosen_simple}
 
 -- what a call through a whole slice of a vector leaves in it
 pub written_back : {X : Type 0} (n : ℕ) (new old : List X) → length new ≡ n → take n (new ++ drop (length new) old) ≡ new
-written_back n new old size = subst (λ (m : ℕ). take m (new ++ drop (length new) old) ≡ new) size (take-append_seam new (drop (length new) old))
+written_back n new old size = subst (λ (m : ℕ). take m (new ++ drop (length new) old) ≡ new) size
+    (take-append_seam new (drop (length new) old))
 
 -- ---- marks
 -- a mark at a, and no other one
@@ -47,7 +49,8 @@ first_then : (p : ℕ) (t : Table) (en : Option Expr × List Choice) → is_firs
 first_then p = or_push (λ t. is_first p t) (λ en. some_from p en.1) refl (λ en t. refl)
 
 -- a choice more
-pub one_more : (cs : List Choice) (c : Choice) (old now new : List Bool) → IsMarked cs old now → length new ≡ length now → ((p : ℕ) → p < length now → at new p ≡ (at now p || is_from p c)) → IsMarked (cs ++ c ∷ []) old new
+pub one_more : (cs : List Choice) (c : Choice) (old now new : List Bool) → IsMarked cs old now → length new ≡ length now →
+    ((p : ℕ) → p < length now → at new p ≡ (at now p || is_from p c)) → IsMarked (cs ++ c ∷ []) old new
 one_more cs c old now new so_far size told = record {
   size = size ∙ so_far.size;
   told = λ p lt.
@@ -64,17 +67,23 @@ marked_none marks = record { size = refl; told = λ p lt. sym (or-false (at mark
 pub marked_kept : (cs : List Choice) (x : List ℕ) (old now : List Bool) → IsMarked cs old now → IsMarked (cs ++ kept x ∷ []) old now
 marked_kept cs x old now so_far = one_more cs (kept x) old now now so_far refl (λ p lt. sym (or-false (at now p)))
 
-pub marked_at : (cs : List Choice) (a : ℕ) (e : Expr) (old now : List Bool) → IsMarked cs old now → IsMarked (cs ++ replaced a e ∷ []) old (set now a true)
-marked_at cs a e old now so_far = one_more cs (replaced a e) old now (set now a true) so_far (length-set now a true) (λ p lt. at_marked now a p lt)
+pub marked_at : (cs : List Choice) (a : ℕ) (e : Expr) (old now : List Bool) → IsMarked cs old now →
+    IsMarked (cs ++ replaced a e ∷ []) old (set now a true)
+marked_at cs a e old now so_far = one_more cs (replaced a e) old now (set now a true) so_far (length-set now a true)
+    (λ p lt. at_marked now a p lt)
 
-pub marked_past : (cs : List Choice) (a : ℕ) (e : Expr) (old now : List Bool) → IsMarked cs old now → length now ≤ a → IsMarked (cs ++ replaced a e ∷ []) old now
-marked_past cs a e old now so_far past = one_more cs (replaced a e) old now now so_far refl (λ p lt. sym (ap (λ (v : Bool). at now p || v) (not_there (length now) a p past lt) ∙ or-false (at now p)))
+pub marked_past : (cs : List Choice) (a : ℕ) (e : Expr) (old now : List Bool) → IsMarked cs old now → length now ≤ a →
+    IsMarked (cs ++ replaced a e ∷ []) old now
+marked_past cs a e old now so_far past = one_more cs (replaced a e) old now now so_far refl
+    (λ p lt. sym (ap (λ (v : Bool). at now p || v) (not_there (length now) a p past lt) ∙ or-false (at now p)))
 
 -- the marks of one choice more of a list
-pub marked_then : {X : Type 0} (view : X → Choice) (xs : List X) (i : ℕ) (x : X) (old new : List Bool) → i < length xs → x ≡ get_or xs i x → IsMarked (map view (take i xs) ++ view x ∷ []) old new → IsMarked (map view (take (i + 1) xs)) old new
+pub marked_then : {X : Type 0} (view : X → Choice) (xs : List X) (i : ℕ) (x : X) (old new : List Bool) → i < length xs →
+    x ≡ get_or xs i x → IsMarked (map view (take i xs) ++ view x ∷ []) old new → IsMarked (map view (take (i + 1) xs)) old new
 marked_then view xs i x old new lt here so_far =
     subst (λ (cs : List Choice). IsMarked cs old new)
-    (sym (ap (λ (ys : List _). map view ys) (take_more xs i x lt ∙ ap (λ (y : _). take i xs ++ y ∷ []) (sym here)) ∙ map-append view (take i xs) (x ∷ [])))
+    (sym (ap (λ (ys : List _). map view ys) (take_more xs i x lt ∙ ap (λ (y : _). take i xs ++ y ∷ []) (sym here))
+    ∙ map-append view (take i xs) (x ∷ [])))
     so_far
 
 -- ---- the next line
@@ -83,17 +92,21 @@ module _ (s : List Statement) (later : List ℕ → ℕ → Bool) (b : ℕ) (l :
   pub next_without : (marks : List Bool) → simple_operands l ≡ None → IsNext s later b l table marks marks None
   next_without marks none = record {
     expression = λ t has. sym (ap (λ (en : Option Expr × List Choice). en.0) (entry_is t));
-    marked = λ t has. subst (λ (cs : List Choice). IsMarked cs marks marks) (sym (ap (λ (en : Option Expr × List Choice). en.1) (entry_is t))) (marked_none marks);
+    marked = λ t has. subst (λ (cs : List Choice). IsMarked cs marks marks)
+        (sym (ap (λ (en : Option Expr × List Choice). en.1) (entry_is t))) (marked_none marks);
   }
     where
       entry_is : (t : Table) → operands_chosen s later t b l (own l) ≡ (None, [])
       entry_is t = chosen_simple s later t b l ∙ ap (λ (o : Option (List (List ℕ))). entry_of s later t b l o) none
 
   -- a simple line has its choices' expression, and takes theirs
-  pub next_chosen : (xs : List (List ℕ)) (cs : List Choice) (old new : List Bool) (e : Option Expr) → simple_operands l ≡ Some xs → code.AreChoices s later b l table cs → IsMarked cs old new → e ≡ expr_with l (map (λ c. expr_of c) cs) → IsNext s later b l table old new e
+  pub next_chosen : (xs : List (List ℕ)) (cs : List Choice) (old new : List Bool) (e : Option Expr) → simple_operands l ≡ Some xs →
+      code.AreChoices s later b l table cs → IsMarked cs old new → e ≡ expr_with l (map (λ c. expr_of c) cs) →
+      IsNext s later b l table old new e
   next_chosen xs cs old new e simple chosen marks made = record {
     expression = λ t has. made ∙ sym (ap (λ (en : Option Expr × List Choice). en.0) (entry_is t has));
-    marked = λ t has. subst (λ (ds : List Choice). IsMarked ds old new) (sym (ap (λ (en : Option Expr × List Choice). en.1) (entry_is t has))) marks;
+    marked = λ t has. subst (λ (ds : List Choice). IsMarked ds old new)
+        (sym (ap (λ (en : Option Expr × List Choice). en.1) (entry_is t has))) marks;
   }
     where
       entry_is : (t : Table) → Has table t → operands_chosen s later t b l (own l) ≡ (expr_with l (map (λ c. expr_of c) cs), cs)
@@ -117,10 +130,13 @@ module _ (s : List Statement) (later : List ℕ → ℕ → Bool) where
   }
 
   -- a line more
-  pub grown_then : (b : ℕ) (l : Statement) (table : List (Option Expr)) (e : Option Expr) (old new : List Bool) → b < length s → l ≡ get_or s b l → IsGrown s later b table old → IsNext s later b l table old new e → IsGrown s later (b + 1) (table ++ e ∷ []) new
+  pub grown_then : (b : ℕ) (l : Statement) (table : List (Option Expr)) (e : Option Expr) (old new : List Bool) → b < length s →
+      l ≡ get_or s b l → IsGrown s later b table old → IsNext s later b l table old new e → IsGrown s later (b + 1) (table ++ e ∷ []) new
   grown_then b l table e old new within here so_far next = record {
     table = t ++ en ∷ [];
-    has = map-append (λ (one : Option Expr × List Choice). one.0) t (en ∷ []) ∙ (ap (λ (es : List (Option Expr)). es ++ en.0 ∷ []) so_far.has ∙ ap (λ (f : Option Expr). table ++ f ∷ []) (sym (next.expression t so_far.has)));
+    has = map-append (λ (one : Option Expr × List Choice). one.0) t (en ∷ [])
+        ∙ (ap (λ (es : List (Option Expr)). es ++ en.0 ∷ []) so_far.has
+        ∙ ap (λ (f : Option Expr). table ++ f ∷ []) (sym (next.expression t so_far.has)));
     grows =
         ap (λ (m : Statement). grown s later (t ++ operands_chosen s later t b m (own m) ∷ []) (b + 1) (drop (b + 1) s)) here
         ∙ (sym (at_drop_more (λ (ls : List Statement). grown s later t b ls) s b l within)
@@ -141,7 +157,8 @@ module _ (s : List Statement) (later : List ℕ → ℕ → Bool) where
       marks = next.marked t so_far.has
 
   -- after the last line
-  pub all_grown : (b : ℕ) (table : List (Option Expr)) (marks : List Bool) → length s ≤ b → IsGrown s later b table marks → IsWhole s later table marks
+  pub all_grown : (b : ℕ) (table : List (Option Expr)) (marks : List Bool) → length s ≤ b → IsGrown s later b table marks →
+      IsWhole s later table marks
   all_grown b table marks past so_far = record {
     has = ap (λ (t : Table). map (λ (entry : Option Expr × List Choice). entry.0) t) (sym all) ∙ so_far.has;
     size = so_far.size;

@@ -1,5 +1,6 @@
 -- Words that mark names.
-use Rattle.std.proofs.Common.{◌≡◌, ◌⊎◌, ℕ, ◌+◌, ◌*◌, ◌/◌, ◌%◌, ◌^◌, ◌<◌, Bool, true, false, ◌||◌, List, [], ◌∷◌, ◌++◌, take, length, get_or, Some, None, refl, sym, ap, ◌∙◌, subst, inl, inr, arith}
+use Rattle.std.proofs.Common.{◌≡◌, ◌⊎◌, ℕ, ◌+◌, ◌*◌, ◌/◌, ◌%◌, ◌^◌, ◌<◌, Bool, true, false, ◌||◌, List, [], ◌∷◌, ◌++◌, take, length, get_or}
+use Rattle.std.proofs.Common.{Some, None, refl, sym, ap, ◌∙◌, subst, inl, inr, arith}
 use Rattle.std.specs.Prelude.{slice_get}
 use Rattle.std.specs.Str.{bytes_eq}
 use Rattle.std.specs.Int.RustNames.{bit_or}
@@ -76,14 +77,16 @@ has_both (y ∷ xs) ys x = by_name (bytes_eq x y) (has_both xs ys x)
 pub has_one : (y x : List ℕ) → has (y ∷ []) x ≡ bytes_eq x y
 has_one y x = or-false (bytes_eq x y)
 
-pub has_more : (names : List (List ℕ)) (i : ℕ) (y x : List ℕ) → i < length names → y ≡ get_or names i y → has (take (i + 1) names) x ≡ (has (take i names) x || bytes_eq x y)
+pub has_more : (names : List (List ℕ)) (i : ℕ) (y x : List ℕ) → i < length names → y ≡ get_or names i y →
+    has (take (i + 1) names) x ≡ (has (take i names) x || bytes_eq x y)
 has_more names i y x lt is =
     let front : take (i + 1) names ≡ take i names ++ y ∷ [] = take_more names i y lt ∙ ap (λ (z : List ℕ). take i names ++ z ∷ []) (sym is) in
     rw (front, has_both (take i names) (y ∷ []) x, has_one y x) refl
 
 module _ (t : Numbering) (g : ℕ) where
   -- a name by its number
-  pub marks_number : (y : List ℕ) (n : ℕ) → number_of t y ≡ Some n → n / 128 ≡ g → Marks t g (λ x. bytes_eq x y) (1 * 2 ^ (n % 128) % 2 ^ 128)
+  pub marks_number : (y : List ℕ) (n : ℕ) → number_of t y ≡ Some n → n / 128 ≡ g →
+      Marks t g (λ x. bytes_eq x y) (1 * 2 ^ (n % 128) % 2 ^ 128)
   marks_number y n is group =
       let whole : 128 * g + n % 128 ≡ n = rw (← group) (div-add-mod n 128) in
       marks_one t g y (n % 128) (record { within = mod-lt n (omega arith); number = is ∙ ap Some (sym whole) })
@@ -97,18 +100,27 @@ module _ (t : Numbering) (g : ℕ) where
   pub marks_unknown : (y : List ℕ) → number_of t y ≡ None → Marks t g (λ x. bytes_eq x y) 0
   marks_unknown y is = marks_none t g y (λ i b. let one = b.number in cc)
 
-  pub marks_more : (names : List (List ℕ)) (i : ℕ) (y : List ℕ) (v w : ℕ) → i < length names → y ≡ get_or names i y → Marks t g (λ x. has (take i names) x) v → Marks t g (λ x. bytes_eq x y) w → Marks t g (λ x. has (take (i + 1) names) x) (bit_or v w)
-  marks_more names i y v w lt is one two = marks_same t g (λ x. has (take i names) x || bytes_eq x y) (λ x. has (take (i + 1) names) x) (bit_or v w) (λ x. has_more names i y x lt is) (marks_or t g (λ x. has (take i names) x) (λ x. bytes_eq x y) v w one two)
+  pub marks_more : (names : List (List ℕ)) (i : ℕ) (y : List ℕ) (v w : ℕ) → i < length names → y ≡ get_or names i y →
+      Marks t g (λ x. has (take i names) x) v → Marks t g (λ x. bytes_eq x y) w → Marks t g (λ x. has (take (i + 1) names) x) (bit_or v w)
+  marks_more names i y v w lt is one two = marks_same t g (λ x. has (take i names) x || bytes_eq x y) (λ x. has (take (i + 1) names) x)
+      (bit_or v w) (λ x. has_more names i y x lt is) (marks_or t g (λ x. has (take i names) x) (λ x. bytes_eq x y) v w one two)
 
   -- an argument more: a number
-  pub marks_number_more : (arguments : List Argument) (i : ℕ) (e : Argument) (n : numbers.Number) (v : ℕ) → i < length arguments → e ≡ get_or arguments i e → e ≡ Number n → Marks t g (λ x. has (cord_arguments (take i arguments)) x) v → Marks t g (λ x. has (cord_arguments (take (i + 1) arguments)) x) v
-  marks_number_more arguments i e n v lt is c one x j b = one x j b ∙ sym (ap (λ (xs : List (List ℕ)). has xs x) (arguments_more arguments i e lt is) ∙ has_both (cord_arguments (take i arguments)) (cord_arguments (e ∷ [])) x ∙ rw c (or-false (has (cord_arguments (take i arguments)) x)))
+  pub marks_number_more : (arguments : List Argument) (i : ℕ) (e : Argument) (n : numbers.Number) (v : ℕ) → i < length arguments →
+      e ≡ get_or arguments i e → e ≡ Number n → Marks t g (λ x. has (cord_arguments (take i arguments)) x) v →
+      Marks t g (λ x. has (cord_arguments (take (i + 1) arguments)) x) v
+  marks_number_more arguments i e n v lt is c one x j b = one x j b
+      ∙ sym (ap (λ (xs : List (List ℕ)). has xs x) (arguments_more arguments i e lt is) ∙ has_both (cord_arguments (take i arguments))
+      (cord_arguments (e ∷ [])) x ∙ rw c (or-false (has (cord_arguments (take i arguments)) x)))
 
   -- and a cord
-  pub marks_cord_more : (arguments : List Argument) (i : ℕ) (e : Argument) (y : List ℕ) (v w : ℕ) → i < length arguments → e ≡ get_or arguments i e → e ≡ Cord y → Marks t g (λ x. has (cord_arguments (take i arguments)) x) v → Marks t g (λ x. bytes_eq x y) w → Marks t g (λ x. has (cord_arguments (take (i + 1) arguments)) x) (bit_or v w)
+  pub marks_cord_more : (arguments : List Argument) (i : ℕ) (e : Argument) (y : List ℕ) (v w : ℕ) → i < length arguments →
+      e ≡ get_or arguments i e → e ≡ Cord y → Marks t g (λ x. has (cord_arguments (take i arguments)) x) v →
+      Marks t g (λ x. bytes_eq x y) w → Marks t g (λ x. has (cord_arguments (take (i + 1) arguments)) x) (bit_or v w)
   marks_cord_more arguments i e y v w lt is c one two x j b =
       marks_or t g (λ z. has (cord_arguments (take i arguments)) z) (λ z. bytes_eq z y) v w one two x j b
-      ∙ sym (ap (λ (xs : List (List ℕ)). has xs x) (arguments_more arguments i e lt is) ∙ has_both (cord_arguments (take i arguments)) (cord_arguments (e ∷ [])) x ∙ rw (c, has_one y x) refl)
+      ∙ sym (ap (λ (xs : List (List ℕ)). has xs x) (arguments_more arguments i e lt is) ∙ has_both (cord_arguments (take i arguments))
+      (cord_arguments (e ∷ [])) x ∙ rw (c, has_one y x) refl)
 
   module _ (l : Statement) where
     pub marks_reads : (xs : List (List ℕ)) (w : ℕ) → read_by l ≡ xs → Marks t g (λ x. has xs x) w → Marks t g (λ x. reads l x) w

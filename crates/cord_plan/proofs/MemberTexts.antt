@@ -17,7 +17,8 @@ abbrev mutual
   weights (plain.member e es) = weight e + weights es + 1
 
 -- a member is smaller than all of them
-pub member_below : (ms : List Shared) (i : ℕ) (d : Shared) → i < length ms → weight (shared_view (get_or ms i d)) < weights (members_of (map shared_view ms))
+pub member_below : (ms : List Shared) (i : ℕ) (d : Shared) → i < length ms →
+    weight (shared_view (get_or ms i d)) < weights (members_of (map shared_view ms))
 member_below [] i d h = absurd (omega (arith, h))
 member_below (m ∷ ms) zero d h = omega arith
 member_below (m ∷ ms) (suc i) d h = let below = member_below ms i d (omega (arith, h)) in omega (arith, below)
@@ -38,5 +39,7 @@ pub members_spaced : AreSpaced members_text more_text member_text
 members_spaced = record { nil = refl; cons = λ m ms. refl; behind = record { nil = refl; cons = λ m ms. refl } }
 
 -- the member at hand on a walk over all of them
-pub member_there : (ms : List Shared) (i : ℕ) (m : Shared) → i < length ms → m ≡ get_or ms i m → weight (shared_view m) < weights (members_of (map shared_view ms))
-member_there ms i m h is = subst (λ (x : Shared). weight (shared_view x) < weights (members_of (map shared_view ms))) (sym is) (member_below ms i m h)
+pub member_there : (ms : List Shared) (i : ℕ) (m : Shared) → i < length ms → m ≡ get_or ms i m →
+    weight (shared_view m) < weights (members_of (map shared_view ms))
+member_there ms i m h is = subst (λ (x : Shared). weight (shared_view x) < weights (members_of (map shared_view ms))) (sym is)
+    (member_below ms i m h)

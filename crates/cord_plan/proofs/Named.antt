@@ -1,5 +1,6 @@
 -- What expressions name, and names in lists.
-use Rattle.std.proofs.Common.{◌≡◌, ◌⊎◌, ℕ, zero, suc, ◌+◌, ◌<◌, ◌≤◌, pos, Bool, true, false, List, [], ◌∷◌, ◌++◌, length, Option, Some, None, refl, sym, ap, ◌∙◌, subst, inl, inr, arith, append_assoc, append-nil}
+use Rattle.std.proofs.Common.{◌≡◌, ◌⊎◌, ℕ, zero, suc, ◌+◌, ◌<◌, ◌≤◌, pos, Bool, true, false, List, [], ◌∷◌, ◌++◌, length, Option, Some}
+use Rattle.std.proofs.Common.{None, refl, sym, ap, ◌∙◌, subst, inl, inr, arith, append_assoc, append-nil}
 use Rattle.std.specs.Prelude.{slice_get, not, nat_le, if◌then◌else◌}
 use Rattle.std.specs.Str.{bytes_eq}
 use Rattle.std.proofs.lemmas.Bool.{or_left, or_right, leb-true, leb-false}
@@ -7,7 +8,8 @@ use Rattle.std.proofs.lemmas.Slice.Eq.{bytes_eq-Decides}
 use Rattle.cord_operands.specs.declared.operands.Number.TheVariants.{Numeral}
 use Rattle.cord_syntax.specs.declared.statements.Statement.{Statement}
 use Rattle.cord_syntax.specs.declared.statements.Statement.TheVariants.{Chars, Nul, Cat, Catn, Catc, Substr, Put}
-use Rattle.cord_plan.specs.Exprs.{Expr, name, run, cat, sub, Exprs, nothing, member, append, in_front, members, names, names_of, number_names}
+use Rattle.cord_plan.specs.Exprs.{Expr, name, run, cat, sub, Exprs, nothing, member, append, in_front, members, names, names_of}
+use Rattle.cord_plan.specs.Exprs.{number_names}
 use Rattle.cord_plan.specs.Operands.{count, has, assigns_at}
 use Rattle.cord_plan.specs.Forced.{expr_with, each_from, keeps}
 use Rattle.cord_plan.specs.Pairs.{numbers_named}
@@ -37,7 +39,8 @@ has_append (x ∷ xs) ys y e = first (or_true (bytes_eq y x) (has (xs ++ ys) y) 
     rest (inl h) = inl (or_right (bytes_eq y x) (has xs y) h)
     rest (inr h) = inr h
 
-    first : (bytes_eq y x ≡ true) ⊎ (has (xs ++ ys) y ≡ true) → (has (xs ++ ys) y ≡ true → (has xs y ≡ true) ⊎ (has ys y ≡ true)) → (has (x ∷ xs) y ≡ true) ⊎ (has ys y ≡ true)
+    first : (bytes_eq y x ≡ true) ⊎ (has (xs ++ ys) y ≡ true) → (has (xs ++ ys) y ≡ true → (has xs y ≡ true) ⊎ (has ys y ≡ true)) →
+        (has (x ∷ xs) y ≡ true) ⊎ (has ys y ≡ true)
     first (inl h) others = inl (or_left (bytes_eq y x) (has xs y) h)
     first (inr h) others = rest (others h)
 
@@ -53,7 +56,8 @@ none_at : (x : List ℕ) (xs : List (List ℕ)) (k : ℕ) → count x xs ≡ 0 �
 none_at x [] k none e = let bad : ⊥ = cc in bad
 none_at x (y ∷ xs) k none e = pick (bytes_eq x y) refl k none e (λ m h g. none_at x xs m h g)
   where
-    pick : (v : Bool) → bytes_eq x y ≡ v → (k : ℕ) → (if v then suc (count x xs) else count x xs) ≡ 0 → slice_get (y ∷ xs) k ≡ Some x → ((m : ℕ) → count x xs ≡ 0 → slice_get xs m ≡ Some x → ⊥) → ⊥
+    pick : (v : Bool) → bytes_eq x y ≡ v → (k : ℕ) → (if v then suc (count x xs) else count x xs) ≡ 0 → slice_get (y ∷ xs) k ≡ Some x →
+        ((m : ℕ) → count x xs ≡ 0 → slice_get xs m ≡ Some x → ⊥) → ⊥
     pick true f k h g others = absurd (omega (arith, h))
     pick false f zero h g others =
         let same : y ≡ x = cc in
@@ -72,7 +76,8 @@ one_place x (y ∷ xs) i j one e f = pick (bytes_eq x y) refl i j one e f (λ k 
         let bad : true ≡ false = sym is ∙ g in
         cc
 
-    pick : (v : Bool) → bytes_eq x y ≡ v → (i j : ℕ) → (if v then suc (count x xs) else count x xs) ≡ 1 → slice_get (y ∷ xs) i ≡ Some x → slice_get (y ∷ xs) j ≡ Some x → ((k m : ℕ) → count x xs ≡ 1 → slice_get xs k ≡ Some x → slice_get xs m ≡ Some x → k ≡ m) → i ≡ j
+    pick : (v : Bool) → bytes_eq x y ≡ v → (i j : ℕ) → (if v then suc (count x xs) else count x xs) ≡ 1 → slice_get (y ∷ xs) i ≡ Some x →
+        slice_get (y ∷ xs) j ≡ Some x → ((k m : ℕ) → count x xs ≡ 1 → slice_get xs k ≡ Some x → slice_get xs m ≡ Some x → k ≡ m) → i ≡ j
     pick true g zero zero h a b others = refl
     pick true g (suc i) j h a b others = absurd (none_at x xs i (omega (arith, h)) a)
     pick true g zero (suc j) h a b others = absurd (none_at x xs j (omega (arith, h)) b)
@@ -83,7 +88,8 @@ one_place x (y ∷ xs) i j one e f = pick (bytes_eq x y) refl i j one e f (λ k 
 -- it holds of each of n places from a on
 pub each_at : (holds : ℕ → Bool) (n a m : ℕ) → each_from holds n a ≡ true → a ≤ m → m < a + n → holds m ≡ true
 each_at holds zero a m e low high = absurd (omega arith)
-each_at holds (suc n) a m e low high = pick (nat_le m a) refl (λ above below. each_at holds n (a + 1) m (both_true (holds a) (each_from holds n (a + 1)) e).1 above below)
+each_at holds (suc n) a m e low high = pick (nat_le m a) refl (λ above below.
+    each_at holds n (a + 1) m (both_true (holds a) (each_from holds n (a + 1)) e).1 above below)
   where
     pick : (v : Bool) → nat_le m a ≡ v → (a + 1 ≤ m → m < a + 1 + n → holds m ≡ true) → holds m ≡ true
     pick true f others =
@@ -96,16 +102,19 @@ each_at holds (suc n) a m e low high = pick (nat_le m a) refl (λ above below. e
 
 pub keeps_at : (l : Option Statement) (xs : List (List ℕ)) (y : List ℕ) → keeps l xs ≡ true → has xs y ≡ true → assigns_at l y ≡ false
 keeps_at l [] y e h = let bad : ⊥ = cc in absurd bad
-keeps_at l (x ∷ xs) y e h = pick (or_true (bytes_eq y x) (has xs y) h) (λ f. keeps_at l xs y (both_true (not (assigns_at l x)) (keeps l xs) e).1 f)
+keeps_at l (x ∷ xs) y e h = pick (or_true (bytes_eq y x) (has xs y) h)
+    (λ f. keeps_at l xs y (both_true (not (assigns_at l x)) (keeps l xs) e).1 f)
   where
     pick : (bytes_eq y x ≡ true) ⊎ (has xs y ≡ true) → (has xs y ≡ true → assigns_at l y ≡ false) → assigns_at l y ≡ false
-    pick (inl f) others = ap (λ (z : List ℕ). assigns_at l z) (same_bytes y x f) ∙ not_true (assigns_at l x) (both_true (not (assigns_at l x)) (keeps l xs) e).0
+    pick (inl f) others = ap (λ (z : List ℕ). assigns_at l z) (same_bytes y x f)
+        ∙ not_true (assigns_at l x) (both_true (not (assigns_at l x)) (keeps l xs) e).0
     pick (inr f) others = others f
 
 -- the names of members are those of the expressions
 append_names : (es others : Exprs) → names_of (append es others) ≡ names_of es ++ names_of others
 append_names nothing others = refl
-append_names (member e es) others = ap (λ (x : List (List ℕ)). names e ++ x) (append_names es others) ∙ sym (append_assoc (names e) (names_of es) (names_of others))
+append_names (member e es) others = ap (λ (x : List (List ℕ)). names e ++ x) (append_names es others)
+    ∙ sym (append_assoc (names e) (names_of es) (names_of others))
 
 front_names : (e : Expr) (others : Exprs) → names_of (in_front e others) ≡ names e ++ names_of others
 front_names (name x) others = refl
@@ -125,16 +134,20 @@ behind_names e es y h = record { place = suc h.place; expression = h.expression;
 
 members_name : (es : List Expr) (y : List ℕ) → has (names_of (members es)) y ≡ true → SomeNames es y
 members_name [] y e = let bad : ⊥ = cc in absurd bad
-members_name (f ∷ es) y e = pick (has_append (names f) (names_of (members es)) y (ap (λ (x : List (List ℕ)). has x y) (sym (front_names f (members es))) ∙ e)) (λ h. members_name es y h)
+members_name (f ∷ es) y e =
+    pick (has_append (names f) (names_of (members es)) y (ap (λ (x : List (List ℕ)). has x y) (sym (front_names f (members es))) ∙ e))
+    (λ h. members_name es y h)
   where
-    pick : (has (names f) y ≡ true) ⊎ (has (names_of (members es)) y ≡ true) → (has (names_of (members es)) y ≡ true → SomeNames es y) → SomeNames (f ∷ es) y
+    pick : (has (names f) y ≡ true) ⊎ (has (names_of (members es)) y ≡ true) → (has (names_of (members es)) y ≡ true → SomeNames es y) →
+        SomeNames (f ∷ es) y
     pick (inl h) others = record { place = 0; expression = f; is = refl; names_it = h }
     pick (inr h) others = behind_names f es y (others h)
 
 last_names : (es : List Expr) (f : Expr) (y : List ℕ) → SomeNames (es ++ f ∷ []) y → SomeNames es y ⊎ (has (names f) y ≡ true)
 last_names es f y h = pick (last_or es f h.place h.expression h.is)
   where
-    pick : (slice_get es h.place ≡ Some h.expression) ⊎ ((h.place ≡ length es) × (h.expression ≡ f)) → SomeNames es y ⊎ (has (names f) y ≡ true)
+    pick : (slice_get es h.place ≡ Some h.expression) ⊎ ((h.place ≡ length es) × (h.expression ≡ f)) → SomeNames es y ⊎
+        (has (names f) y ≡ true)
     pick (inl e) = inl (record { place = h.place; expression = h.expression; is = e; names_it = h.names_it })
     pick (inr e) = inr (subst (λ (g : Expr). has (names g) y ≡ true) e.1 h.names_it)
 
@@ -146,7 +159,8 @@ Names l es y (Some e) = has (names e) y ≡ true → SomeNames es y ⊎ (has (nu
 pub with_names : (l : Statement) (es : List Expr) (y : List ℕ) → Names l es y (expr_with l es)
 with_names (Cat line target left right) es y = λ h. inl (members_name es y h)
 with_names (Catn line target many) es y = λ h. inl (members_name es y h)
-with_names (Catc line target operand byte) es y = λ h. pick (last_names es (run byte (Numeral (pos 1))) y (members_name (es ++ run byte (Numeral (pos 1)) ∷ []) y h))
+with_names (Catc line target operand byte) es y = λ h.
+    pick (last_names es (run byte (Numeral (pos 1))) y (members_name (es ++ run byte (Numeral (pos 1)) ∷ []) y h))
   where
     pick : SomeNames es y ⊎ (has (number_names byte ++ []) y ≡ true) → SomeNames es y ⊎ (has (number_names byte) y ≡ true)
     pick (inl e) = inl e
@@ -156,7 +170,8 @@ with_names (Nul line target n) es y = λ h. inr h
 with_names (Substr line target operand start n) [] y = tt
 with_names (Substr line target operand start n) (e ∷ es) y = λ h. pick (has_append (names e) (number_names start ++ number_names n) y h)
   where
-    pick : (has (names e) y ≡ true) ⊎ (has (number_names start ++ number_names n) y ≡ true) → SomeNames (e ∷ es) y ⊎ (has (number_names start ++ number_names n) y ≡ true)
+    pick : (has (names e) y ≡ true) ⊎ (has (number_names start ++ number_names n) y ≡ true) → SomeNames (e ∷ es) y ⊎
+        (has (number_names start ++ number_names n) y ≡ true)
     pick (inl f) = inl (record { place = 0; expression = e; is = refl; names_it = f })
     pick (inr f) = inr f
 with_names (Put line operand) [] y = tt

@@ -1,5 +1,6 @@
 -- The nearest line that assigns an operand, and what stands for the operand then.
-use Rattle.std.proofs.Common.{◌≡◌, ℕ, zero, suc, ◌+◌, ◌-◌, ◌<◌, ◌≤◌, Bool, true, false, ◌&&◌, ◌||◌, ◌==◌, List, ◌∷◌, ◌++◌, drop, length, get_or, Option, Some, None, refl, sym, ap, ◌∙◌, arith}
+use Rattle.std.proofs.Common.{◌≡◌, ℕ, zero, suc, ◌+◌, ◌-◌, ◌<◌, ◌≤◌, Bool, true, false, ◌&&◌, ◌||◌, ◌==◌, List, ◌∷◌, ◌++◌, drop, length}
+use Rattle.std.proofs.Common.{get_or, Option, Some, None, refl, sym, ap, ◌∙◌, arith}
 use Rattle.std.specs.Prelude.{slice_get, not, if◌then◌else◌, option_map}
 use Rattle.std.proofs.Math.Bool.{and-false}
 use Rattle.std.proofs.lemmas.Option.{slice_get-map, slice_get_read}
@@ -9,7 +10,8 @@ use Rattle.cord_syntax.specs.declared.statements.Statement.{Statement}
 use Rattle.cord_meaning.specs.Statements.{shape_of}
 use Rattle.cord_plan.specs.Exprs.{Expr, names}
 use Rattle.cord_plan.specs.Operands.{assigns, assigns_at, count, reads, reads_at, read_by}
-use Rattle.cord_plan.specs.Forced.{Choice, kept, replaced, Table, first_of, is_block, is_block_at, keeps, each_from, setter, is_small, expr_with, chosen_from, chosen_of}
+use Rattle.cord_plan.specs.Forced.{Choice, kept, replaced, Table, first_of, is_block, is_block_at, keeps, each_from, setter, is_small}
+use Rattle.cord_plan.specs.Forced.{expr_with, chosen_from, chosen_of}
 use Rattle.cord_plan.specs.inner.Choices.{nearest, is_spare, stands, expression_of, expression_in, Has}
 use Rattle.cord_plan.proofs.Chosen.{setter_is}
 
@@ -25,7 +27,8 @@ each_more holds (suc n) a = first (holds a) (each_more holds n (a + 1))
     there : holds (a + 1 + n) ≡ holds (a + suc n)
     there = ap holds (let same : a + 1 + n ≡ a + suc n = omega arith in same)
 
-    first : (v : Bool) → each_from holds (suc n) (a + 1) ≡ (each_from holds n (a + 1) && holds (a + 1 + n)) → (v && each_from holds (suc n) (a + 1)) ≡ ((v && each_from holds n (a + 1)) && holds (a + suc n))
+    first : (v : Bool) → each_from holds (suc n) (a + 1) ≡ (each_from holds n (a + 1) && holds (a + 1 + n)) →
+        (v && each_from holds (suc n) (a + 1)) ≡ ((v && each_from holds n (a + 1)) && holds (a + suc n))
     first true more = more ∙ ap (λ (w : Bool). each_from holds n (a + 1) && w) there
     first false more = refl
 
@@ -72,14 +75,17 @@ module _ (s : List Statement) (x : List ℕ) where
       over (Some a) f free told =
           (on f ∙ told.0, step p a (setter_is s x p a told.0).before ∙ (ap (λ (v : Bool). v && clear p) told.1 ∙ free))
 
-      here : (v : Bool) → barred p ≡ v → assigns_at (slice_get s p) x ≡ false → Told p (nearest s x p) → Told (suc p) (if v then None else nearest s x p)
+      here : (v : Bool) → barred p ≡ v → assigns_at (slice_get s p) x ≡ false → Told p (nearest s x p) →
+          Told (suc p) (if v then None else nearest s x p)
       here true e f told = λ a set.
           (let before : setter s x p ≡ Some a = sym (on f) ∙ set in
           let shut : clear p ≡ false = clear_or_barred p ∙ ap not e in
-          step p a (setter_is s x p a before).before ∙ (ap (λ (v : Bool). each_from clear (p - (a + 1)) (a + 1) && v) shut ∙ and-false (each_from clear (p - (a + 1)) (a + 1))))
+          step p a (setter_is s x p a before).before ∙ (ap (λ (v : Bool). each_from clear (p - (a + 1)) (a + 1) && v) shut
+          ∙ and-false (each_from clear (p - (a + 1)) (a + 1))))
       here false e f told = over (nearest s x p) f (clear_or_barred p ∙ ap not e) told
 
-      pick : (v : Bool) → assigns_at (slice_get s p) x ≡ v → Told p (nearest s x p) → Told (suc p) (if v then Some p else (if barred p then None else nearest s x p))
+      pick : (v : Bool) → assigns_at (slice_get s p) x ≡ v → Told p (nearest s x p) →
+          Told (suc p) (if v then Some p else (if barred p then None else nearest s x p))
       pick true f told =
           let none : suc p - (p + 1) ≡ 0 = omega arith in
           (ap (λ (v : Bool). if v then Some p else setter s x p) f, ap (λ (n : ℕ). each_from clear n (p + 1)) none)
@@ -95,14 +101,16 @@ module _ (s : List Statement) (later : List ℕ → ℕ → Bool) (t : Table) (b
 
       from : (a : ℕ) (o : Option Expr) → setter s x b ≡ Some a → kept x ≡ chosen_from s later b l x before after a o
       from a None set = refl
-      from a (Some e) set = ap (λ (v : Bool). if (v && stands s later e a b l (read_by l) x) && is_small (expr_with l (before ++ e ∷ after)) then replaced a e else kept x) (sym (told a set))
+      from a (Some e) set = ap (λ (v : Bool). if (v && stands s later e a b l (read_by l) x) && is_small
+          (expr_with l (before ++ e ∷ after)) then replaced a e else kept x) (sym (told a set))
 
       pick : (o : Option ℕ) → setter s x b ≡ o → kept x ≡ chosen_of s later t b l x before after o
       pick None set = refl
       pick (Some a) set = from a (first_of (slice_get t a)) set
 
   -- where it isn't spare, it is kept too
-  pub kept_needed : (xs : List (List ℕ)) → read_by l ≡ xs → is_spare s later b l xs x ≡ false → kept x ≡ chosen_of s later t b l x before after (setter s x b)
+  pub kept_needed : (xs : List (List ℕ)) → read_by l ≡ xs → is_spare s later b l xs x ≡ false →
+      kept x ≡ chosen_of s later t b l x before after (setter s x b)
   kept_needed xs reads e = pick (setter s x b)
     where
       needed : is_spare s later b l (read_by l) x ≡ false
@@ -127,27 +135,35 @@ module _ (s : List Statement) (later : List ℕ → ℕ → Bool) (t : Table) (b
       pick (Some a) = from a (first_of (slice_get t a))
 
   -- where there is one, its expression is looked at
-  from_near : (a : ℕ) → nearest s x b ≡ Some a → chosen_of s later t b l x before after (setter s x b) ≡ chosen_from s later b l x before after a (first_of (slice_get t a))
+  from_near : (a : ℕ) → nearest s x b ≡ Some a → chosen_of s later t b l x before after (setter s x b)
+      ≡ chosen_from s later b l x before after a (first_of (slice_get t a))
   from_near a e = ap (λ (o : Option ℕ). chosen_of s later t b l x before after o) (told.0)
     where
       told : (setter s x b ≡ Some a) × (each_from (clear s x) (b - (a + 1)) (a + 1) ≡ true)
       told = rw e at (nearest_told s x b)
 
-  pub kept_bare : (a : ℕ) → nearest s x b ≡ Some a → first_of (slice_get t a) ≡ None → kept x ≡ chosen_of s later t b l x before after (setter s x b)
+  pub kept_bare : (a : ℕ) → nearest s x b ≡ Some a → first_of (slice_get t a) ≡ None →
+      kept x ≡ chosen_of s later t b l x before after (setter s x b)
   kept_bare a e none = sym (from_near a e ∙ ap (λ (o : Option Expr). chosen_from s later b l x before after a o) none)
 
   -- and stands for the operand where it may
-  pub by_tests : (xs : List (List ℕ)) → read_by l ≡ xs → (a : ℕ) (r : Expr) → nearest s x b ≡ Some a → first_of (slice_get t a) ≡ Some r → (v : Bool) → (stands s later r a b l xs x && is_small (expr_with l (before ++ r ∷ after))) ≡ v → (if v then replaced a r else kept x) ≡ chosen_of s later t b l x before after (setter s x b)
+  pub by_tests : (xs : List (List ℕ)) → read_by l ≡ xs → (a : ℕ) (r : Expr) → nearest s x b ≡ Some a → first_of (slice_get t a) ≡ Some r →
+      (v : Bool) → (stands s later r a b l xs x && is_small (expr_with l (before ++ r ∷ after))) ≡ v →
+      (if v then replaced a r else kept x) ≡ chosen_of s later t b l x before after (setter s x b)
   by_tests xs reads a r e some v tests = sym (from_near a e ∙ (ap (λ (o : Option Expr). chosen_from s later b l x before after a o) some
-      ∙ (ap (λ (w : Bool). if (w && stands s later r a b l (read_by l) x) && is_small (expr_with l (before ++ r ∷ after)) then replaced a r else kept x) told.1
-      ∙ (ap (λ (ys : List (List ℕ)). if stands s later r a b l ys x && is_small (expr_with l (before ++ r ∷ after)) then replaced a r else kept x) reads
+      ∙ (ap (λ (w : Bool). if (w && stands s later r a b l (read_by l) x) && is_small (expr_with l (before ++ r ∷ after)) then replaced a r
+      else kept x) told.1
+      ∙ (ap (λ (ys : List (List ℕ)). if stands s later r a b l ys x && is_small (expr_with l (before ++ r ∷ after)) then replaced a r
+      else kept x) reads
       ∙ ap (λ (w : Bool). if w then replaced a r else kept x) tests))))
     where
       told : (setter s x b ≡ Some a) × (each_from (clear s x) (b - (a + 1)) (a + 1) ≡ true)
       told = rw e at (nearest_told s x b)
 
 -- for a spare operand an expression stands that stays
-pub spare_stands : (s : List Statement) (later : List ℕ → ℕ → Bool) (e : Expr) (a b : ℕ) (l : Statement) (xs : List (List ℕ)) (x : List ℕ) → is_spare s later b l xs x ≡ true → stands s later e a b l xs x ≡ each_from (λ m. keeps (slice_get s m) (names e)) (b - a) a
+pub spare_stands : (s : List Statement) (later : List ℕ → ℕ → Bool) (e : Expr) (a b : ℕ) (l : Statement) (xs : List (List ℕ))
+    (x : List ℕ) → is_spare s later b l xs x ≡ true → stands s later e a b l xs x ≡ each_from (λ m. keeps (slice_get s m) (names e))
+    (b - a) a
 spare_stands s later e a b l xs x spare = pick (count x xs == 1) (assigns l x || not (later x b)) spare
   where
     stay : Bool
@@ -165,11 +181,13 @@ near_here s x p l pos le is =
     let up : p ≡ suc (p - 1) = omega arith in
     let there : slice_get s (p - 1) ≡ Some l = slice_get_read s (length s) (p - 1) l refl (omega arith) is in
     ap (λ (n : ℕ). nearest s x n) up
-    ∙ ap (λ (o : Option Statement). if assigns_at o x then Some (p - 1) else (if is_block_at o || reads_at o x then None else nearest s x (p - 1))) there
+    ∙ ap (λ (o : Option Statement). if assigns_at o x then Some (p - 1) else
+    (if is_block_at o || reads_at o x then None else nearest s x (p - 1))) there
 
 -- what each line keeps, by the first
 pub keep_here : (s : List Statement) (xs : List (List ℕ)) (p end : ℕ) (l : Statement) → p < end → end ≤ length s → l ≡ get_or s p l →
-    each_from (λ m. keeps (slice_get s m) xs) (end - p) p ≡ keeps (Some l) xs && each_from (λ m. keeps (slice_get s m) xs) (end - (p + 1)) (p + 1)
+    each_from (λ m. keeps (slice_get s m) xs) (end - p) p ≡ keeps (Some l) xs && each_from (λ m. keeps (slice_get s m) xs) (end - (p + 1))
+    (p + 1)
 keep_here s xs p end l lt le is =
     let more : end - p ≡ suc (end - (p + 1)) = omega arith in
     let there : slice_get s p ≡ Some l = slice_get_read s (length s) p l refl (omega arith) is in
@@ -177,15 +195,19 @@ keep_here s xs p end l lt le is =
     ∙ ap (λ (o : Option Statement). keeps o xs && each_from (λ m. keeps (slice_get s m) xs) (end - (p + 1)) (p + 1)) there
 
 -- how often a name stands in a list, by its first element
-pub count_here : (names : List (List ℕ)) (i : ℕ) (y x : List ℕ) → i < length names → y ≡ get_or names i y → count x (drop i names) ≡ (if bytes_eq x y then suc (count x (drop (i + 1) names)) else count x (drop (i + 1) names))
+pub count_here : (names : List (List ℕ)) (i : ℕ) (y x : List ℕ) → i < length names → y ≡ get_or names i y →
+    count x (drop i names) ≡ (if bytes_eq x y then suc (count x (drop (i + 1) names)) else count x (drop (i + 1) names))
 count_here names i y x lt is =
     at_drop_more (λ (ys : List (List ℕ)). count x ys) names i y lt
     ∙ ap (λ (z : List ℕ). if bytes_eq x z then suc (count x (drop (i + 1) names)) else count x (drop (i + 1) names)) (sym is)
 
 -- the expression of a line, as a table of the program has it
 pub first_in : (table : List (Option Expr)) (t : Table) (a : ℕ) → Has table t → expression_in table a ≡ first_of (slice_get t a)
-first_in table t a has = ap (λ (xs : List (Option Expr)). expression_in xs a) (sym has) ∙ (ap (λ (o : Option (Option Expr)). expression_of o) (slice_get-map (λ (entry : Option Expr × List Choice). entry.0) t a) ∙ pick (slice_get t a))
+first_in table t a has = ap (λ (xs : List (Option Expr)). expression_in xs a) (sym has)
+    ∙ (ap (λ (o : Option (Option Expr)). expression_of o) (slice_get-map (λ (entry : Option Expr × List Choice). entry.0) t a)
+    ∙ pick (slice_get t a))
   where
-    pick : (o : Option (Option Expr × List Choice)) → expression_of (option_map (λ (entry : Option Expr × List Choice). entry.0) o) ≡ first_of o
+    pick : (o : Option (Option Expr × List Choice)) → expression_of (option_map (λ (entry : Option Expr × List Choice). entry.0) o)
+        ≡ first_of o
     pick None = refl
     pick (Some entry) = refl

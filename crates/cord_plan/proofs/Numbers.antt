@@ -1,5 +1,6 @@
 -- Names and their numbers.
-use Rattle.std.proofs.Common.{◌≡◌, ◌⊎◌, ℕ, zero, suc, ◌+◌, ◌<◌, Bool, true, false, ◌||◌, List, [], ◌∷◌, ◌++◌, drop, take, length, get_or, Option, Some, None, refl, sym, ap, ◌∙◌, subst, ⊎_elim, arith, add-one, if◌then◌else◌}
+use Rattle.std.proofs.Common.{◌≡◌, ◌⊎◌, ℕ, zero, suc, ◌+◌, ◌<◌, Bool, true, false, ◌||◌, List, [], ◌∷◌, ◌++◌, drop, take, length, get_or}
+use Rattle.std.proofs.Common.{Option, Some, None, refl, sym, ap, ◌∙◌, subst, ⊎_elim, arith, add-one, if◌then◌else◌}
 use Rattle.std.specs.Prelude.{slice_get, option_map}
 use Rattle.std.specs.Str.{bytes_eq}
 use Rattle.std.proofs.Math.Seq.{drop-cons}
@@ -37,7 +38,8 @@ pub place_found : (names : List (List ℕ)) (x : List ℕ) (n : ℕ) → place_o
 place_found [] x n e = let bad : ⊥ = cc in absurd bad
 place_found (y ∷ ys) x n e = by_name (bytes_eq x y) refl (place_of ys x) e (λ m h. place_found ys x m h)
   where
-    by_name : (b : Bool) → bytes_eq x y ≡ b → (o : Option ℕ) → (if b then Some 0 else option_map suc o) ≡ Some n → ((m : ℕ) → o ≡ Some m → slice_get ys m ≡ Some x) → slice_get (y ∷ ys) n ≡ Some x
+    by_name : (b : Bool) → bytes_eq x y ≡ b → (o : Option ℕ) → (if b then Some 0 else option_map suc o) ≡ Some n →
+        ((m : ℕ) → o ≡ Some m → slice_get ys m ≡ Some x) → slice_get (y ∷ ys) n ≡ Some x
     by_name true same o f ih =
         let is : 0 ≡ n = cc in
         rw (← is) (ap Some (sym (same_bytes x y same)))
@@ -51,7 +53,8 @@ pub place_within : (names : List (List ℕ)) (x : List ℕ) → has names x ≡ 
 place_within [] x h = let bad : ⊥ = cc in absurd bad
 place_within (y ∷ ys) x h = by_name (bytes_eq x y) h (λ k. place_within ys x k)
   where
-    by_name : (b : Bool) → (b || has ys x) ≡ true → (has ys x ≡ true → (n : ℕ) × (place_of ys x ≡ Some n)) → (n : ℕ) × ((if b then Some 0 else option_map suc (place_of ys x)) ≡ Some n)
+    by_name : (b : Bool) → (b || has ys x) ≡ true → (has ys x ≡ true → (n : ℕ) × (place_of ys x ≡ Some n)) → (n : ℕ) ×
+        ((if b then Some 0 else option_map suc (place_of ys x)) ≡ Some n)
     by_name true k ih = (0, refl)
     by_name false k ih = let rest : (n : ℕ) × (place_of ys x ≡ Some n) = ih k in (suc rest.0, rw rest.1 refl)
 
@@ -79,7 +82,8 @@ module _ (t : Numbering) (x : List ℕ) where
       by_guess None f = place_found (names_of t) x n f
       by_guess (Some g) f = by_right (is_name (slice_get (names_of t) g) x) refl f
         where
-          by_right : (b : Bool) → is_name (slice_get (names_of t) g) x ≡ b → (if b then Some g else place_of (names_of t) x) ≡ Some n → slice_get (names_of t) n ≡ Some x
+          by_right : (b : Bool) → is_name (slice_get (names_of t) g) x ≡ b → (if b then Some g else place_of (names_of t) x) ≡ Some n →
+              slice_get (names_of t) n ≡ Some x
           by_right true right h =
               let is : g ≡ n = cc in
               rw (← is) (is_name_there (names_of t) x g right)
@@ -103,7 +107,11 @@ module _ (t : Numbering) (x : List ℕ) where
       some_number (Some g) = by_right g (is_name (slice_get (names_of t) g) x)
 
       with_number : (n : ℕ) × (number_of t x ≡ Some n) → Numbered
-      with_number found = record { number = found.0; is = found.1; within = slice_get_within (names_of t) found.0 x (number_there found.0 found.1) }
+      with_number found = record {
+        number = found.0;
+        is = found.1;
+        within = slice_get_within (names_of t) found.0 x (number_there found.0 found.1);
+      }
 
   pub unnumbered : has (names_of t) x ≡ false → number_of t x ≡ None
   unnumbered unknown = by_number (number_of t x) refl
@@ -120,7 +128,8 @@ has_before : (x y : List ℕ) (names : List (List ℕ)) → has names x ≡ true
 has_before x y [] h = let bad : ⊥ = cc in absurd bad
 has_before x y (z ∷ names) h = by_name (bytes_eq x z) h (λ k. has_before x y names k)
   where
-    by_name : (b : Bool) → (b || has names x) ≡ true → (has names x ≡ true → has (names ++ y ∷ []) x ≡ true) → (b || has (names ++ y ∷ []) x) ≡ true
+    by_name : (b : Bool) → (b || has names x) ≡ true → (has names x ≡ true → has (names ++ y ∷ []) x ≡ true) →
+        (b || has (names ++ y ∷ []) x) ≡ true
     by_name true k ih = refl
     by_name false k ih = ih k
 
@@ -140,7 +149,8 @@ name_added y names = record {
 pub name_known : (y : List ℕ) (t : Numbering) (n : ℕ) → number_of t y ≡ Some n → Adds (y ∷ []) (names_of t) (names_of t)
 name_known y t n e = record {
   kept = λ x k. k;
-  added = λ x h. subst (λ (z : List ℕ). has (names_of t) z ≡ true) (sym (same_bytes x y (same_name y x h))) (has_there (names_of t) y n (number_there t y n e));
+  added = λ x h. subst (λ (z : List ℕ). has (names_of t) z ≡ true) (sym (same_bytes x y (same_name y x h)))
+      (has_there (names_of t) y n (number_there t y n e));
 }
 
 pub none_added : (names : List (List ℕ)) → Adds [] names names
@@ -159,7 +169,8 @@ first_added xs ys a b c one two = record {
   added = λ x h. two.kept x (one.added x h);
 }
 
-pub more_added : (names : List (List ℕ)) (i : ℕ) (y : List ℕ) (a b c : List (List ℕ)) → i < length names → y ≡ get_or names i y → Adds (take i names) a b → Adds (y ∷ []) b c → Adds (take (i + 1) names) a c
+pub more_added : (names : List (List ℕ)) (i : ℕ) (y : List ℕ) (a b c : List (List ℕ)) → i < length names → y ≡ get_or names i y →
+    Adds (take i names) a b → Adds (y ∷ []) b c → Adds (take (i + 1) names) a c
 more_added names i y a b c lt is one two =
     let front : take (i + 1) names ≡ take i names ++ y ∷ [] = take_more names i y lt ∙ ap (λ (z : List ℕ). take i names ++ z ∷ []) (sym is) in
     rw front (both_added (take i names) (y ∷ []) a b c one two)
@@ -169,17 +180,22 @@ cords_append [] ys = refl
 cords_append (Number n ∷ xs) ys = cords_append xs ys
 cords_append (Cord y ∷ xs) ys = ap (λ (zs : List (List ℕ)). y ∷ zs) (cords_append xs ys)
 
-pub arguments_more : (arguments : List Argument) (i : ℕ) (e : Argument) → i < length arguments → e ≡ get_or arguments i e → cord_arguments (take (i + 1) arguments) ≡ cord_arguments (take i arguments) ++ cord_arguments (e ∷ [])
+pub arguments_more : (arguments : List Argument) (i : ℕ) (e : Argument) → i < length arguments → e ≡ get_or arguments i e →
+    cord_arguments (take (i + 1) arguments) ≡ cord_arguments (take i arguments) ++ cord_arguments (e ∷ [])
 arguments_more arguments i e lt is =
     let front : take (i + 1) arguments ≡ take i arguments ++ e ∷ [] = take_more arguments i e lt ∙ ap (λ (z : Argument). take i arguments ++ z ∷ []) (sym is) in
     rw front (cords_append (take i arguments) (e ∷ []))
 
-pub more_arguments : (arguments : List Argument) (i : ℕ) (e : Argument) (a b c : List (List ℕ)) → i < length arguments → e ≡ get_or arguments i e → Adds (cord_arguments (take i arguments)) a b → Adds (cord_arguments (e ∷ [])) b c → Adds (cord_arguments (take (i + 1) arguments)) a c
+pub more_arguments : (arguments : List Argument) (i : ℕ) (e : Argument) (a b c : List (List ℕ)) → i < length arguments →
+    e ≡ get_or arguments i e → Adds (cord_arguments (take i arguments)) a b → Adds (cord_arguments (e ∷ [])) b c →
+    Adds (cord_arguments (take (i + 1) arguments)) a c
 more_arguments arguments i e a b c lt is one two =
     rw (arguments_more arguments i e lt is) (both_added (cord_arguments (take i arguments)) (cord_arguments (e ∷ [])) a b c one two)
 
-pub more_covered : (s : List Statement) (i : ℕ) (l : Statement) (old new : Numbering) → i < length s → l ≡ get_or s i l → CoversTo s i old → Adds (read_by l) (names_of old) (names_of new) → CoversTo s (i + 1) new
-more_covered s i l old new lt is covers adds k within x r = ⊎_elim (λ here. adds.added x (reads_here here)) (λ before. adds.kept x (covers k before x r)) (last_or_before k within)
+pub more_covered : (s : List Statement) (i : ℕ) (l : Statement) (old new : Numbering) → i < length s → l ≡ get_or s i l →
+    CoversTo s i old → Adds (read_by l) (names_of old) (names_of new) → CoversTo s (i + 1) new
+more_covered s i l old new lt is covers adds k within x r = ⊎_elim (λ here. adds.added x (reads_here here))
+    (λ before. adds.kept x (covers k before x r)) (last_or_before k within)
   where
     there : slice_get s i ≡ Some l
     there = slice_get-get_or s i l lt ∙ ap Some (sym is)

@@ -68,12 +68,14 @@ text_with digits = lines_shown (
     spaced (codes "1" ∷ codes "measure" ∷ codes "a" ∷ zeros_shown digits ∷ [])
     ∷ codes "2 build b literal(1)"
     ∷ spaced (codes "3" ∷ codes "measure" ∷ codes "t" ∷ joined_shown digits ∷ [])
-    ∷ spaced (codes "4" ∷ codes "measure" ∷ codes "z" ∷ called (codes "sub") (spaced (joined_shown digits ∷ codes "0" ∷ codes "1" ∷ [])) ∷ [])
+    ∷ spaced (codes "4" ∷ codes "measure" ∷ codes "z" ∷ called (codes "sub") (spaced (joined_shown digits ∷ codes "0" ∷ codes "1" ∷ []))
+    ∷ [])
     ∷ codes "5 write b"
     ∷ [])
 
 shows : (n : ℕ) → shown (operations_with n) ≡ text_with (decimal n)
 shows n = refl
 
-pub unread_cat_shows : (operations : List Operation) (n : ℕ) (digits : List ℕ) → operations ≡ operations_with n → decimal n ≡ digits → shown operations ≡ text_with digits
+pub unread_cat_shows : (operations : List Operation) (n : ℕ) (digits : List ℕ) → operations ≡ operations_with n → decimal n ≡ digits →
+    shown operations ≡ text_with digits
 unread_cat_shows operations n digits same written = ap shown same ∙ shows n ∙ ap text_with written

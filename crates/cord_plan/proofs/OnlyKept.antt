@@ -3,12 +3,16 @@ use Rattle.std.proofs.Common.{ℕ, ◌+◌, Bool, true, false, ◌||◌, List, [
 use Rattle.std.specs.Prelude.{All}
 use Rattle.std.proofs.lemmas.List.Elements.{All-nil, All-cons}
 use Rattle.cord_syntax.specs.declared.statements.Statement.{Statement}
-use Rattle.cord_syntax.specs.declared.statements.Statement.TheVariants.{Let, File, Eager, Lazy, Chars, Nul, FromFn, Cat, Catn, Catc, Substr, Balance, EcToCord, Sprintf, Len, Fetch, Cmp, Ncmp, Str, Chr, Rchr, Assign, Add, Sub, EcInit, EcPut, EcCat, EcStr, Put, Repeat, If, Else, End}
+use Rattle.cord_syntax.specs.declared.statements.Statement.TheVariants.{Let, File, Eager, Lazy, Chars, Nul, FromFn, Cat, Catn, Catc, Substr}
+use Rattle.cord_syntax.specs.declared.statements.Statement.TheVariants.{Balance, EcToCord, Sprintf, Len, Fetch, Cmp, Ncmp, Str, Chr, Rchr}
+use Rattle.cord_syntax.specs.declared.statements.Statement.TheVariants.{Assign, Add, Sub, EcInit, EcPut, EcCat, EcStr, Put, Repeat, If}
+use Rattle.cord_syntax.specs.declared.statements.Statement.TheVariants.{Else, End}
 use Rattle.cord_plan.specs.Exprs.{Expr}
 use Rattle.cord_plan.specs.Forced.{Table, own, exprs}
 use Rattle.cord_plan.specs.Kept.{KeepsNoOther}
 use Rattle.cord_plan.specs.Operands.{target_of}
-use Rattle.cord_plan.specs.Planned.{Made, Joined, Literal, OfFile, OfEager, OfLazy, OfFunction, Balanced, OfExtensible, Printed, gives, operation, operations, or_nothing, is_dead, is_first, planned, trivial}
+use Rattle.cord_plan.specs.Planned.{Made, Joined, Literal, OfFile, OfEager, OfLazy, OfFunction, Balanced, OfExtensible, Printed, gives}
+use Rattle.cord_plan.specs.Planned.{operation, operations, or_nothing, is_dead, is_first, planned, trivial}
 
 kept_gives : (measures : Bool) (line : ℕ) (target : List ℕ) (made : Made) → KeepsNoOther (gives measures line target made)
 kept_gives true line target made = tt
@@ -51,13 +55,16 @@ kept_line (End line) e dead paired = tt
 
 pub kept_trivial : (s : List Statement) → All KeepsNoOther (trivial s)
 kept_trivial [] = All-nil KeepsNoOther
-kept_trivial (l ∷ rest) = All-cons KeepsNoOther (operation l (or_nothing (own l)) false false) (trivial rest) (kept_line l (or_nothing (own l)) false false) (kept_trivial rest)
+kept_trivial (l ∷ rest) = All-cons KeepsNoOther (operation l (or_nothing (own l)) false false) (trivial rest)
+    (kept_line l (or_nothing (own l)) false false) (kept_trivial rest)
 
-kept_lines : (later : List ℕ → ℕ → Bool) (table : Table) (p : ℕ) (s : List Statement) (entries : Table) → All KeepsNoOther (operations later table p s entries)
+kept_lines : (later : List ℕ → ℕ → Bool) (table : Table) (p : ℕ) (s : List Statement) (entries : Table) →
+    All KeepsNoOther (operations later table p s entries)
 kept_lines later table p [] entries = All-nil KeepsNoOther
 kept_lines later table p (l ∷ rest) [] = All-nil KeepsNoOther
 kept_lines later table p (l ∷ rest) (entry ∷ entries) =
-    All-cons KeepsNoOther (operation l (or_nothing entry.0) (is_dead later p (target_of l)) (is_first p table)) (operations later table (p + 1) rest entries)
+    All-cons KeepsNoOther (operation l (or_nothing entry.0) (is_dead later p (target_of l)) (is_first p table))
+    (operations later table (p + 1) rest entries)
     (kept_line l (or_nothing entry.0) (is_dead later p (target_of l)) (is_first p table))
     (kept_lines later table (p + 1) rest entries)
 

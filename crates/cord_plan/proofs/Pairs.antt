@@ -1,5 +1,6 @@
 -- What the expressions of forced pairs name, and how great they are.
-use Rattle.std.proofs.Common.{◌≡◌, ◌⊎◌, ℕ, zero, suc, ◌+◌, ◌-◌, ◌<◌, ◌≤◌, Bool, true, false, ◌&&◌, ◌||◌, List, [], ◌∷◌, ◌++◌, map, Option, Some, None, refl, sym, ap, ◌∙◌, subst, inl, inr, arith, append-nil}
+use Rattle.std.proofs.Common.{◌≡◌, ◌⊎◌, ℕ, zero, suc, ◌+◌, ◌-◌, ◌<◌, ◌≤◌, Bool, true, false, ◌&&◌, ◌||◌, List, [], ◌∷◌, ◌++◌, map, Option}
+use Rattle.std.proofs.Common.{Some, None, refl, sym, ap, ◌∙◌, subst, inl, inr, arith, append-nil}
 use Rattle.std.specs.Prelude.{slice_get, not, ◌==◌, nat_le}
 use Rattle.std.specs.Str.{bytes_eq}
 use Rattle.std.proofs.lemmas.Bool.{leb-true, leb-false, eqb-true}
@@ -9,7 +10,8 @@ use Rattle.cord_syntax.specs.declared.statements.Statement.{Statement}
 use Rattle.cord_plan.specs.declared.TheConstants.{MAX_EXPR_PARTS}
 use Rattle.cord_plan.specs.Exprs.{Expr, parts, names}
 use Rattle.cord_plan.specs.Operands.{count, has, read_by, reads_at, assigns, assigns_at}
-use Rattle.cord_plan.specs.Forced.{Table, Choice, kept, replaced, expr_of, expr_with, is_small, is_block_at, each_from, keeps, first_of, own, choices, operands_chosen}
+use Rattle.cord_plan.specs.Forced.{Table, Choice, kept, replaced, expr_of, expr_with, is_small, is_block_at, each_from, keeps, first_of}
+use Rattle.cord_plan.specs.Forced.{own, choices, operands_chosen}
 use Rattle.cord_plan.specs.Pairs.{IsPair, numbers_named, numbers_named_at, IsNoNumber}
 use Rattle.cord_plan.proofs.Chosen.{both_true, Taken, Chosen, AreChosen, are_chosen, stay_small, EachEntry, IsFront, each_entry}
 use Rattle.cord_plan.proofs.Flows.{or_true}
@@ -32,7 +34,9 @@ module _ (s : List Statement) (later : List ℕ → ℕ → Bool) where
       let q = both_true (count x (read_by l) == 1) ((assigns l x || not (later x b)) && each_from keeping (b - a) a) p.1 in
       let w = both_true (assigns l x || not (later x b)) (each_from keeping (b - a) a) q.1 in
       record {
-        unread = λ m low high. not_true (reads_at (slice_get s m) x) (both_true (not (is_block_at (slice_get s m))) (not (reads_at (slice_get s m) x)) (each_at quiet (b - (a + 1)) (a + 1) m p.0 (omega arith) (omega arith))).1;
+        unread = λ m low high. not_true (reads_at (slice_get s m) x)
+            (both_true (not (is_block_at (slice_get s m))) (not (reads_at (slice_get s m) x))
+            (each_at quiet (b - (a + 1)) (a + 1) m p.0 (omega arith) (omega arith))).1;
         once = eqb-true (count x (read_by l)) 1 q.0;
         stays = λ m y low high named. keeps_at (slice_get s m) (names r) y (each_at keeping (b - a) a m w.1 low (omega arith)) named;
       }
@@ -60,7 +64,8 @@ module _ (s : List Statement) (later : List ℕ → ℕ → Bool) where
     is : expr_of choice ≡ f
     chosen : Chosen s later table b l operand choice
 
-  chosen_at : (table : Table) (b : ℕ) (l : Statement) (xs : List (List ℕ)) (cs : List Choice) (k : ℕ) (f : Expr) → AreChosen s later table b l xs cs → slice_get (map (λ c. expr_of c) cs) k ≡ Some f → ChosenAt table b l xs cs k f
+  chosen_at : (table : Table) (b : ℕ) (l : Statement) (xs : List (List ℕ)) (cs : List Choice) (k : ℕ) (f : Expr) →
+      AreChosen s later table b l xs cs → slice_get (map (λ c. expr_of c) cs) k ≡ Some f → ChosenAt table b l xs cs k f
   chosen_at table b l [] [] k f h e = let bad : ⊥ = cc in absurd bad
   chosen_at table b l [] (c ∷ cs) k f h e = absurd h
   chosen_at table b l (x ∷ xs) [] k f h e = absurd h
@@ -70,7 +75,8 @@ module _ (s : List Statement) (later : List ℕ → ℕ → Bool) where
       record { operand = r.operand; choice = r.choice; is_operand = r.is_operand; is_choice = r.is_choice; is = r.is; chosen = r.chosen }
 
   -- the replacement at an operand's place
-  pub taken_at : (table : Table) (b : ℕ) (l : Statement) (xs : List (List ℕ)) (cs : List Choice) (i : ℕ) (t : List ℕ) (a : ℕ) (r : Expr) → AreChosen s later table b l xs cs → slice_get xs i ≡ Some t → slice_get cs i ≡ Some (replaced a r) → Taken s later table b l t a r
+  pub taken_at : (table : Table) (b : ℕ) (l : Statement) (xs : List (List ℕ)) (cs : List Choice) (i : ℕ) (t : List ℕ) (a : ℕ) (r : Expr) →
+      AreChosen s later table b l xs cs → slice_get xs i ≡ Some t → slice_get cs i ≡ Some (replaced a r) → Taken s later table b l t a r
   taken_at table b l [] cs i t a r h e f = let bad : ⊥ = cc in absurd bad
   taken_at table b l (x ∷ xs) [] i t a r h e f = absurd h
   taken_at table b l (x ∷ xs) (c ∷ cs) zero t a r h e f =
@@ -100,10 +106,16 @@ module _ (s : List Statement) (later : List ℕ → ℕ → Bool) where
     are_made = are_chosen s later table b l [] [] (read_by l) tt
 
     named_here : (y : List ℕ) → NamesIt (Some l) y → NamedBy b y
-    named_here y h = record { place = b; up_to = omega arith; names_it = subst (λ (o : Option Statement). NamesIt o y) (sym at) h; stays = λ m low high. absurd (omega arith) }
+    named_here y h = record {
+      place = b;
+      up_to = omega arith;
+      names_it = subst (λ (o : Option Statement). NamesIt o y) (sym at) h;
+      stays = λ m low high. absurd (omega arith);
+    }
 
     -- what the replaced expression of the line at a names
-    named_there : (x : List ℕ) (a : ℕ) (r : Expr) (y : List ℕ) → Taken s later table b l x a r → has (names r) y ≡ true → (n : NamedBy b y) × (n.place ≤ a)
+    named_there : (x : List ℕ) (a : ℕ) (r : Expr) (y : List ℕ) → Taken s later table b l x a r → has (names r) y ≡ true →
+        (n : NamedBy b y) × (n.place ≤ a)
     named_there x a r y h named =
         let from : EntryOf table a r = entry_of table a r h.from in
         let n : NamedBy a y = each a from.en from.at r y from.is named in
@@ -113,9 +125,11 @@ module _ (s : List Statement) (later : List ℕ → ℕ → Bool) where
         let stays : (m : ℕ) → n.place ≤ m → m < b → assigns_at (slice_get s m) y ≡ false = λ m least most. two m least most (nat_le a m) refl in
         (record { place = n.place; up_to = omega arith; names_it = n.names_it; stays = stays }, low)
       where
-        two : (m : ℕ) → (each a (entry_of table a r h.from).en (entry_of table a r h.from).at r y (entry_of table a r h.from).is named).place ≤ m → m < b → (v : Bool) → nat_le a m ≡ v → assigns_at (slice_get s m) y ≡ false
+        two : (m : ℕ) → (each a (entry_of table a r h.from).en (entry_of table a r h.from).at r y
+            (entry_of table a r h.from).is named).place ≤ m → m < b → (v : Bool) → nat_le a m ≡ v → assigns_at (slice_get s m) y ≡ false
         two m least most true e = (taken_facts table b l x a r h).stays m y (leb-true a m e) most named
-        two m least most false e = (each a (entry_of table a r h.from).en (entry_of table a r h.from).at r y (entry_of table a r h.from).is named).stays m least (leb-false a m e)
+        two m least most false e = (each a (entry_of table a r h.from).en (entry_of table a r h.from).at r y
+            (entry_of table a r h.from).is named).stays m least (leb-false a m e)
 
     chosen_named : (k : ℕ) (f : Expr) (y : List ℕ) → (c : ChosenAt table b l (read_by l) made k f) → has (names f) y ≡ true → NamedBy b y
     chosen_named k f y c named = pick c.choice c.is c.chosen
@@ -125,15 +139,20 @@ module _ (s : List Statement) (later : List ℕ → ℕ → Bool) where
           where
             one : (bytes_eq y z ≡ true) ⊎ (false ≡ true) → NamedBy b y
             one (inr bad) = let no_one : ⊥ = cc in absurd no_one
-            one (inl e) = named_here y (inl (subst (λ (w : List ℕ). has (read_by l) w ≡ true) (sym (same_bytes y z e ∙ is)) (has_at (read_by l) k c.operand c.is_operand)))
-        pick (replaced a r) same taken = (named_there c.operand a r y taken (subst (λ (g : Expr). has (names g) y ≡ true) (sym same) named)).0
+            one (inl e) = named_here y
+                (inl (subst (λ (w : List ℕ). has (read_by l) w ≡ true) (sym (same_bytes y z e ∙ is))
+                (has_at (read_by l) k c.operand c.is_operand)))
+        pick (replaced a r) same taken =
+            (named_there c.operand a r y taken (subst (λ (g : Expr). has (names g) y ≡ true) (sym same) named)).0
 
     entry_named : (o : Option Expr) → EntryNamed b (operands_chosen s later table b l o)
     entry_named None e y is named = let bad : ⊥ = cc in absurd bad
-    entry_named (Some first) e y is named = pick (subst (λ (q : Option Expr). Names l (map (λ c. expr_of c) made) y q) is (with_names l (map (λ c. expr_of c) made) y) named)
+    entry_named (Some first) e y is named = pick (subst (λ (q : Option Expr). Names l (map (λ c. expr_of c) made) y q) is
+        (with_names l (map (λ c. expr_of c) made) y) named)
       where
         pick : SomeNames (map (λ c. expr_of c) made) y ⊎ (has (numbers_named l) y ≡ true) → NamedBy b y
-        pick (inl h) = chosen_named h.place h.expression y (chosen_at table b l (read_by l) made h.place h.expression are_made h.is) h.names_it
+        pick (inl h) = chosen_named h.place h.expression y (chosen_at table b l (read_by l) made h.place h.expression are_made h.is)
+            h.names_it
         pick (inr h) = named_here y (inr h)
 
     module _ (t : List ℕ) (a i : ℕ) (r : Expr) (operand : slice_get (read_by l) i ≡ Some t) (is_replaced : slice_get made i ≡ Some (replaced a r)) (no_number : IsNoNumber s t) where
@@ -185,39 +204,48 @@ module _ (s : List Statement) (later : List ℕ → ℕ → Bool) where
           pick (replaced k q) same there h = not_there c.operand k q h (subst (λ (g : Expr). has (names g) t ≡ true) (sym same) named)
 
       left_out : (e : Expr) → expr_with l (map (λ c. expr_of c) made) ≡ Some e → has (names e) t ≡ false
-      left_out e is = no_true (has (names e) t) (λ named. pick (subst (λ (q : Option Expr). Names l (map (λ c. expr_of c) made) t q) is (with_names l (map (λ c. expr_of c) made) t) named))
+      left_out e is = no_true (has (names e) t)
+          (λ named. pick (subst (λ (q : Option Expr). Names l (map (λ c. expr_of c) made) t q) is
+          (with_names l (map (λ c. expr_of c) made) t) named))
         where
           pick : SomeNames (map (λ c. expr_of c) made) t ⊎ (has (numbers_named l) t ≡ true) → ⊥
-          pick (inl h) = not_chosen h.place h.expression (chosen_at table b l (read_by l) made h.place h.expression are_made h.is) h.names_it
-          pick (inr h) = clash (has (numbers_named l) t) h (ap (λ (o : Option Statement). has (numbers_named_at o) t) (sym at) ∙ no_number b)
+          pick (inl h) = not_chosen h.place h.expression (chosen_at table b l (read_by l) made h.place h.expression are_made h.is)
+              h.names_it
+          pick (inr h) = clash (has (numbers_named l) t) h (ap (λ (o : Option Statement). has (numbers_named_at o) t) (sym at)
+              ∙ no_number b)
 
     -- the line's own entry
     abbrev LeavesOut : Option Expr × List Choice → Type 0
-    LeavesOut en = (t : List ℕ) (a i : ℕ) (r e : Expr) → en.0 ≡ Some e → slice_get (read_by l) i ≡ Some t → slice_get en.1 i ≡ Some (replaced a r) → IsNoNumber s t → has (names e) t ≡ false
+    LeavesOut en = (t : List ℕ) (a i : ℕ) (r e : Expr) → en.0 ≡ Some e → slice_get (read_by l) i ≡ Some t →
+        slice_get en.1 i ≡ Some (replaced a r) → IsNoNumber s t → has (names e) t ≡ false
 
     entry_out : (o : Option Expr) → LeavesOut (operands_chosen s later table b l o)
     entry_out None t a i r e is operand is_replaced no_number = let bad : ⊥ = cc in absurd bad
     entry_out (Some first) t a i r e is operand is_replaced no_number = left_out t a i r operand is_replaced no_number e is
 
   abbrev EntryOut : ℕ → Option Expr × List Choice → Type 0
-  EntryOut k en = (l : Statement) (t : List ℕ) (a i : ℕ) (r e : Expr) → slice_get s k ≡ Some l → en.0 ≡ Some e → slice_get (read_by l) i ≡ Some t → slice_get en.1 i ≡ Some (replaced a r) → IsNoNumber s t → has (names e) t ≡ false
+  EntryOut k en = (l : Statement) (t : List ℕ) (a i : ℕ) (r e : Expr) → slice_get s k ≡ Some l → en.0 ≡ Some e →
+      slice_get (read_by l) i ≡ Some t → slice_get en.1 i ≡ Some (replaced a r) → IsNoNumber s t → has (names e) t ≡ false
 
   abbrev EntryFine : ℕ → Option Expr × List Choice → Type 0
   EntryFine k en = EntryNamed k en × EntryOut k en
 
-  entry_fine : (table : Table) (b : ℕ) (l : Statement) → slice_get s b ≡ Some l → IsFront s later table → EachEntry s later EntryFine table → EntryFine b (operands_chosen s later table b l (own l))
+  entry_fine : (table : Table) (b : ℕ) (l : Statement) → slice_get s b ≡ Some l → IsFront s later table →
+      EachEntry s later EntryFine table → EntryFine b (operands_chosen s later table b l (own l))
   entry_fine table b l at front each = (
     entry_named table b l at named (own l),
     λ line t a i r e line_at is operand is_replaced no_number. (
         let same : l ≡ line = (let both : Some l ≡ Some line = sym at ∙ line_at in cc) in
-        entry_out table b l at named (own l) t a i r e is (subst (λ (x : Statement). slice_get (read_by x) i ≡ Some t) (sym same) operand) is_replaced no_number),
+        entry_out table b l at named (own l) t a i r e is (subst (λ (x : Statement). slice_get (read_by x) i ≡ Some t) (sym same) operand)
+        is_replaced no_number),
   )
     where
       named : EachEntry s later EntryNamed table
       named k en e = (each k en e).0
 
   pub leaves_out : (a b : ℕ) (t : List ℕ) (e : Expr) → IsPair s later a b t e → IsNoNumber s t → has (names e) t ≡ false
-  leaves_out a b t e h no_number = (each_entry s later EntryFine entry_fine b (Some e, h.choices) h.is_expression).1 h.line t a h.operand h.earlier e h.is_line refl h.is_operand h.is_replaced no_number
+  leaves_out a b t e h no_number = (each_entry s later EntryFine entry_fine b (Some e, h.choices) h.is_expression).1 h.line t a h.operand
+      h.earlier e h.is_line refl h.is_operand h.is_replaced no_number
 
   abbrev EntrySmall : ℕ → Option Expr × List Choice → Type 0
   EntrySmall k en = (e : Expr) (i a : ℕ) (r : Expr) → en.0 ≡ Some e → slice_get en.1 i ≡ Some (replaced a r) → parts e ≤ MAX_EXPR_PARTS
@@ -227,25 +255,30 @@ module _ (s : List Statement) (later : List ℕ → ℕ → Bool) where
   small_of table b l (Some first) e i a r is is_replaced =
       let cs : List Choice = choices s later table b l [] (read_by l) in
       let small : is_small (expr_with l (map (λ c. expr_of c) cs ++ [])) ≡ true = stay_small s later table b l [] (read_by l) (λ k n q f. (let bad : ⊥ = cc in absurd bad)) i a r is_replaced in
-      leb-true (parts e) MAX_EXPR_PARTS (ap (λ (o : Option Expr). is_small o) (sym is) ∙ ap (λ (es : List Expr). is_small (expr_with l es)) (sym (append-nil (map (λ c. expr_of c) cs))) ∙ small)
+      leb-true (parts e) MAX_EXPR_PARTS (ap (λ (o : Option Expr). is_small o) (sym is) ∙ ap (λ (es : List Expr). is_small (expr_with l es))
+      (sym (append-nil (map (λ c. expr_of c) cs))) ∙ small)
 
   pub stays_small : (a b : ℕ) (t : List ℕ) (e : Expr) → IsPair s later a b t e → parts e ≤ MAX_EXPR_PARTS
-  stays_small a b t e h = each_entry s later EntrySmall (λ table b l at front each. small_of table b l (own l)) b (Some e, h.choices) h.is_expression e h.operand a h.earlier refl h.is_replaced
+  stays_small a b t e h = each_entry s later EntrySmall (λ table b l at front each. small_of table b l (own l)) b
+      (Some e, h.choices) h.is_expression e h.operand a h.earlier refl h.is_replaced
 
   abbrev pub EntryOwn : ℕ → Option Expr × List Choice → Type 0
   EntryOwn k en = (l : Statement) (e : Expr) → slice_get s k ≡ Some l → en.0 ≡ Some e → (o : Expr) × (own l ≡ Some o)
 
-  own_of : (table : Table) (b : ℕ) (l : Statement) (o : Option Expr) → own l ≡ o → (e : Expr) → (operands_chosen s later table b l o).0 ≡ Some e → (o : Expr) × (own l ≡ Some o)
+  own_of : (table : Table) (b : ℕ) (l : Statement) (o : Option Expr) → own l ≡ o → (e : Expr) →
+      (operands_chosen s later table b l o).0 ≡ Some e → (o : Expr) × (own l ≡ Some o)
   own_of table b l None own_is e is = let bad : ⊥ = cc in absurd bad
   own_of table b l (Some first) own_is e is = (first, own_is)
 
-  pub entry_own : (table : Table) (b : ℕ) (l : Statement) → slice_get s b ≡ Some l → IsFront s later table → EachEntry s later EntryOwn table → EntryOwn b (operands_chosen s later table b l (own l))
+  pub entry_own : (table : Table) (b : ℕ) (l : Statement) → slice_get s b ≡ Some l → IsFront s later table →
+      EachEntry s later EntryOwn table → EntryOwn b (operands_chosen s later table b l (own l))
   entry_own table b l at front each line e line_at is =
       let same : l ≡ line = (let both : Some l ≡ Some line = sym at ∙ line_at in cc) in
       subst (λ (x : Statement). (o : Expr) × (own x ≡ Some o)) same (own_of table b l (own l) refl e is)
 
   -- the same in a script that is read
-  pub leaves_out_read : (g : Grammar) (text : List ℕ) → ReadsBy g text s → (a b : ℕ) (t : List ℕ) (e : Expr) → IsPair s later a b t e → has (names e) t ≡ false
+  pub leaves_out_read : (g : Grammar) (text : List ℕ) → ReadsBy g text s → (a b : ℕ) (t : List ℕ) (e : Expr) → IsPair s later a b t e →
+      has (names e) t ≡ false
   leaves_out_read g text read a b t e h =
       let first = each_entry s later EntryOwn entry_own b (Some e, h.choices) h.is_expression h.line e h.is_line refl in
       leaves_out a b t e h (no_number g text s b h.operand h.line first.0 t read h.is_line first.1 h.is_operand)

@@ -1,5 +1,6 @@
 -- The parts and the names of expressions, summed over members and operands.
-use Rattle.std.proofs.Common.{◌≡◌, ℕ, ◌+◌, ◌-◌, ◌<◌, ◌≤◌, Bool, true, false, ◌&&◌, List, [], ◌∷◌, ◌++◌, map, drop, length, get_or, pos, Option, Some, None, refl, sym, ap, ◌∙◌, arith, length-append, length-drop}
+use Rattle.std.proofs.Common.{◌≡◌, ℕ, ◌+◌, ◌-◌, ◌<◌, ◌≤◌, Bool, true, false, ◌&&◌, List, [], ◌∷◌, ◌++◌, map, drop, length, get_or, pos}
+use Rattle.std.proofs.Common.{Option, Some, None, refl, sym, ap, ◌∙◌, arith, length-append, length-drop}
 use Rattle.std.specs.Prelude.{nat_le, not, sum_by, if◌then◌else◌}
 use Rattle.std.proofs.lemmas.Bool.{leb-false, leb-true, lt-leb, le-leb}
 use Rattle.std.proofs.lemmas.List.{at_drop_more, length-map}
@@ -100,7 +101,8 @@ sum_names [] = refl
 sum_names (x ∷ xs) = let more : sum_parts (map (λ y. name y) xs) ≡ length xs = sum_names xs in omega arith
 
 -- a line's expression stays small where the parts of its operands and those beside them do
-pub small_sum : (l : Statement) (es : List Expr) (xs : List (List ℕ)) → simple_operands l ≡ Some xs → length es ≡ length xs → 0 < length es → is_small (expr_with l es) ≡ nat_le (sum_parts es + parts_beside l) 64
+pub small_sum : (l : Statement) (es : List Expr) (xs : List (List ℕ)) → simple_operands l ≡ Some xs → length es ≡ length xs →
+    0 < length es → is_small (expr_with l es) ≡ nat_le (sum_parts es + parts_beside l) 64
 small_sum (Cat line target left right) es xs e f g = ap (λ (n : ℕ). nat_le n 64) (parts_members es ∙ omega arith)
 small_sum (Catn line target many) es xs e f g = ap (λ (n : ℕ). nat_le n 64) (parts_members es ∙ omega arith)
 small_sum (Catc line target operand byte) es xs e f g =
@@ -136,7 +138,8 @@ module _ (l : Statement) (xs : List (List ℕ)) (done : List Choice) (e : Expr) 
         let left : length (drop (length done + 1) xs) ≡ length xs - k - 1 = behind in
         omega arith
 
-    standing_sum : sum_parts standing + parts_beside l ≡ sum_by (λ c. parts (expr_of c)) done + (parts e + (length xs - k - 1 + parts_beside l))
+    standing_sum : sum_parts standing + parts_beside l ≡ sum_by (λ c. parts (expr_of c)) done
+        + (parts e + (length xs - k - 1 + parts_beside l))
     standing_sum =
         let both : sum_parts standing ≡ sum_parts (map (λ c. expr_of c) done) + sum_parts (e ∷ map (λ y. name y) (drop (length done + 1) xs)) = sum_append (map (λ c. expr_of c) done) (e ∷ map (λ y. name y) (drop (length done + 1) xs)) in
         let front : sum_parts (map (λ c. expr_of c) done) ≡ sum_by (λ c. parts (expr_of c)) done = sum_choices done in
@@ -145,20 +148,24 @@ module _ (l : Statement) (xs : List (List ℕ)) (done : List Choice) (e : Expr) 
         omega arith
 
     -- whether the line's expression stays small then
-    small_standing : is_small (expr_with l standing) ≡ nat_le (sum_by (λ c. parts (expr_of c)) done + (parts e + (length xs - k - 1 + parts_beside l))) 64
+    small_standing : is_small (expr_with l standing) ≡ nat_le (sum_by (λ c. parts (expr_of c)) done
+        + (parts e + (length xs - k - 1 + parts_beside l))) 64
     small_standing =
         let size' : length standing ≡ length xs = standing_size in
         small_sum l standing xs simple size' (omega arith) ∙ ap (λ (n : ℕ). nat_le n 64) standing_sum
 
     pub small_none : None ≡ room_left_by done 64 → false ≡ is_small (expr_with l standing)
-    small_none none = sym (small_standing ∙ over_more (sum_by (λ c. parts (expr_of c)) done) (parts e + (length xs - k - 1 + parts_beside l)) 64 (none_left (sum_by (λ c. parts (expr_of c)) done) 64 none))
+    small_none none = sym (small_standing ∙ over_more (sum_by (λ c. parts (expr_of c)) done)
+        (parts e + (length xs - k - 1 + parts_beside l)) 64 (none_left (sum_by (λ c. parts (expr_of c)) done) 64 none))
 
-    pub small_some_none : (room : ℕ) → Some room ≡ room_left_by done 64 → None ≡ room_left (parts e) room → false ≡ is_small (expr_with l standing)
+    pub small_some_none : (room : ℕ) → Some room ≡ room_left_by done 64 → None ≡ room_left (parts e) room →
+        false ≡ is_small (expr_with l standing)
     small_some_none room some none = sym (small_standing
         ∙ (some_left (sum_by (λ c. parts (expr_of c)) done) (parts e + (length xs - k - 1 + parts_beside l)) 64 room some
         ∙ over_more (parts e) (length xs - k - 1 + parts_beside l) room (none_left (parts e) room none)))
 
-    pub small_some_some : (room left : ℕ) → Some room ≡ room_left_by done 64 → Some left ≡ room_left (parts e) room → nat_le (length xs - k - 1 + parts_beside l) left ≡ is_small (expr_with l standing)
+    pub small_some_some : (room left : ℕ) → Some room ≡ room_left_by done 64 → Some left ≡ room_left (parts e) room →
+        nat_le (length xs - k - 1 + parts_beside l) left ≡ is_small (expr_with l standing)
     small_some_some room left some more_left = sym (small_standing
         ∙ (some_left (sum_by (λ c. parts (expr_of c)) done) (parts e + (length xs - k - 1 + parts_beside l)) 64 room some
         ∙ some_left (parts e) (length xs - k - 1 + parts_beside l) room left more_left))

@@ -1,5 +1,6 @@
 -- The operations of forced pairs.
-use Rattle.std.proofs.Common.{◌≡◌, ℕ, zero, suc, ◌+◌, Bool, true, false, ◌||◌, List, [], ◌∷◌, Option, Some, None, refl, sym, ap, ◌∙◌, subst, arith}
+use Rattle.std.proofs.Common.{◌≡◌, ℕ, zero, suc, ◌+◌, Bool, true, false, ◌||◌, List, [], ◌∷◌, Option, Some, None, refl, sym, ap, ◌∙◌, subst}
+use Rattle.std.proofs.Common.{arith}
 use Rattle.std.specs.Prelude.{slice_get}
 use Rattle.std.specs.Str.{bytes_eq}
 use Rattle.std.proofs.lemmas.Bool.{or_left, or_right, eq-eqb}
@@ -9,7 +10,8 @@ use Rattle.cord_syntax.specs.declared.statements.Statement.TheVariants.{Chars, N
 use Rattle.cord_plan.specs.Exprs.{Expr}
 use Rattle.cord_plan.specs.Operands.{read_by, target_of, assigns, assigns_at}
 use Rattle.cord_plan.specs.Forced.{Table, Choice, replaced, own, choices, operands_chosen, exprs}
-use Rattle.cord_plan.specs.Planned.{Operation, Measure, Joined, gives, or_nothing, operation, is_from, some_from, is_first, is_dead, operations, planned}
+use Rattle.cord_plan.specs.Planned.{Operation, Measure, Joined, gives, or_nothing, operation, is_from, some_from, is_first, is_dead}
+use Rattle.cord_plan.specs.Planned.{operations, planned}
 use Rattle.cord_plan.specs.Pairs.{IsPair, expression_of}
 use Rattle.cord_plan.proofs.Chosen.{Taken, are_chosen, EachEntry, IsFront, each_entry}
 use Rattle.cord_plan.proofs.Named.{same_bytes}
@@ -17,7 +19,10 @@ use Rattle.cord_plan.proofs.ReadNames.{HasOwn}
 use Rattle.cord_plan.proofs.Pairs.{taken_at, EntryOf, entry_of, EntryOwn, entry_own}
 
 -- the operation at a line's place
-operation_at : (later : List ℕ → ℕ → Bool) (table : Table) (p : ℕ) (s : List Statement) (entries : Table) (k : ℕ) (l : Statement) (en : Option Expr × List Choice) → slice_get s k ≡ Some l → slice_get entries k ≡ Some en → slice_get (operations later table p s entries) k ≡ Some (operation l (or_nothing en.0) (is_dead later (p + k) (target_of l)) (is_first (p + k) table))
+operation_at : (later : List ℕ → ℕ → Bool) (table : Table) (p : ℕ) (s : List Statement) (entries : Table) (k : ℕ) (l : Statement)
+    (en : Option Expr × List Choice) → slice_get s k ≡ Some l → slice_get entries k ≡ Some en →
+    slice_get (operations later table p s entries) k ≡ Some (operation l (or_nothing en.0) (is_dead later (p + k) (target_of l))
+    (is_first (p + k) table))
 operation_at later table p [] entries k l en e f = let bad : ⊥ = cc in absurd bad
 operation_at later table p (m ∷ rest) [] k l en e f = let bad : ⊥ = cc in absurd bad
 operation_at later table p (m ∷ rest) (first ∷ entries) zero l en e f =
@@ -40,7 +45,8 @@ some_found a zero r (c ∷ cs) e =
     or_left (is_from a c) (some_from a cs) (ap (λ (d : Choice). is_from a d) same ∙ eq-eqb a a refl)
 some_found a (suc i) r (c ∷ cs) e = or_right (is_from a c) (some_from a cs) (some_found a i r cs e)
 
-first_found : (a b : ℕ) (table : Table) (en : Option Expr × List Choice) → slice_get table b ≡ Some en → some_from a en.1 ≡ true → is_first a table ≡ true
+first_found : (a b : ℕ) (table : Table) (en : Option Expr × List Choice) → slice_get table b ≡ Some en → some_from a en.1 ≡ true →
+    is_first a table ≡ true
 first_found a b [] en e f = let bad : ⊥ = cc in absurd bad
 first_found a zero (first ∷ table) en e f =
     let same : first ≡ en = cc in
@@ -62,13 +68,15 @@ has_expression (Substr line target operand start n) e dead paired o = gives_expr
 has_expression (Put line operand) e dead paired o = refl
 has_expression l e dead paired o = absurd o
 
-measured_by : (dead paired : Bool) (line : ℕ) (x t : List ℕ) (e : Expr) → paired ≡ true → bytes_eq t x ≡ true → gives (dead || paired) line x (Joined e) ≡ Measure line t (Joined e)
+measured_by : (dead paired : Bool) (line : ℕ) (x t : List ℕ) (e : Expr) → paired ≡ true → bytes_eq t x ≡ true →
+    gives (dead || paired) line x (Joined e) ≡ Measure line t (Joined e)
 measured_by dead paired line x t e first named =
     ap (λ (v : Bool). gives v line x (Joined e)) (or_right dead paired first)
     ∙ ap (λ (y : List ℕ). Measure line y (Joined e)) (sym (same_bytes t x named))
 
 -- the first line of a pair only measures the name that it assigns
-only_measures : (l : Statement) (e : Expr) (dead paired : Bool) (t : List ℕ) → HasOwn (own l) → assigns l t ≡ true → paired ≡ true → operation l e dead paired ≡ Measure (line_of l) t (Joined e)
+only_measures : (l : Statement) (e : Expr) (dead paired : Bool) (t : List ℕ) → HasOwn (own l) → assigns l t ≡ true → paired ≡ true →
+    operation l e dead paired ≡ Measure (line_of l) t (Joined e)
 only_measures (Cat line target left right) e dead paired t o named first = measured_by dead paired line target t e first named
 only_measures (Catn line target many) e dead paired t o named first = measured_by dead paired line target t e first named
 only_measures (Catc line target operand byte) e dead paired t o named first = measured_by dead paired line target t e first named
@@ -98,21 +106,26 @@ module _ (s : List Statement) (later : List ℕ → ℕ → Bool) where
     entry : EntryOf s later (exprs s later) a r
 
   abbrev EntryEarlier : ℕ → Option Expr × List Choice → Type 0
-  EntryEarlier k en = (l : Statement) (t : List ℕ) (a i : ℕ) (r e : Expr) → slice_get s k ≡ Some l → en.0 ≡ Some e → slice_get (read_by l) i ≡ Some t → slice_get en.1 i ≡ Some (replaced a r) → Earlier a t r
+  EntryEarlier k en = (l : Statement) (t : List ℕ) (a i : ℕ) (r e : Expr) → slice_get s k ≡ Some l → en.0 ≡ Some e →
+      slice_get (read_by l) i ≡ Some t → slice_get en.1 i ≡ Some (replaced a r) → Earlier a t r
 
-  earlier_of : (table : Table) (b : ℕ) (l : Statement) → IsFront s later table → (o : Option Expr) (t : List ℕ) (a i : ℕ) (r e : Expr) → (operands_chosen s later table b l o).0 ≡ Some e → slice_get (read_by l) i ≡ Some t → slice_get (operands_chosen s later table b l o).1 i ≡ Some (replaced a r) → Earlier a t r
+  earlier_of : (table : Table) (b : ℕ) (l : Statement) → IsFront s later table → (o : Option Expr) (t : List ℕ) (a i : ℕ) (r e : Expr) →
+      (operands_chosen s later table b l o).0 ≡ Some e → slice_get (read_by l) i ≡ Some t →
+      slice_get (operands_chosen s later table b l o).1 i ≡ Some (replaced a r) → Earlier a t r
   earlier_of table b l front None t a i r e is operand is_replaced = let bad : ⊥ = cc in absurd bad
   earlier_of table b l front (Some first) t a i r e is operand is_replaced =
       let taken : Taken s later table b l t a r = taken_at s later table b l (read_by l) (choices s later table b l [] (read_by l)) i t a r (are_chosen s later table b l [] [] (read_by l) tt) operand is_replaced in
       let en : EntryOf s later table a r = entry_of s later table a r taken.from in
       record { assigned = taken.set.assigns; entry = record { en = en.en; at = front a en.en en.at; is = en.is } }
 
-  entry_earlier : (table : Table) (b : ℕ) (l : Statement) → slice_get s b ≡ Some l → IsFront s later table → EachEntry s later EntryEarlier table → EntryEarlier b (operands_chosen s later table b l (own l))
+  entry_earlier : (table : Table) (b : ℕ) (l : Statement) → slice_get s b ≡ Some l → IsFront s later table →
+      EachEntry s later EntryEarlier table → EntryEarlier b (operands_chosen s later table b l (own l))
   entry_earlier table b l at front each line t a i r e line_at is operand is_replaced =
       let same : line ≡ l = (let both : Some line ≡ Some l = sym line_at ∙ at in cc) in
       earlier_of table b l front (own l) t a i r e is (subst (λ (x : Statement). slice_get (read_by x) i ≡ Some t) same operand) is_replaced
 
-  has_own : (k : ℕ) (en : Option Expr × List Choice) (l : Statement) (e : Expr) → slice_get (exprs s later) k ≡ Some en → slice_get s k ≡ Some l → en.0 ≡ Some e → HasOwn (own l)
+  has_own : (k : ℕ) (en : Option Expr × List Choice) (l : Statement) (e : Expr) → slice_get (exprs s later) k ≡ Some en →
+      slice_get s k ≡ Some l → en.0 ≡ Some e → HasOwn (own l)
   has_own k en l e entry at is =
       let first = each_entry s later (EntryOwn s later) (entry_own s later) k en entry l e at is in
       subst (λ (o : Option Expr). HasOwn o) (sym first.1) tt
@@ -123,7 +136,8 @@ module _ (s : List Statement) (later : List ℕ → ℕ → Bool) where
     later_operation = (
       operation pair.line e (is_dead later (0 + b) (target_of pair.line)) (is_first (0 + b) (exprs s later)),
       operation_at later (exprs s later) 0 s (exprs s later) b pair.line (Some e, pair.choices) pair.is_line pair.is_expression,
-      has_expression pair.line e (is_dead later (0 + b) (target_of pair.line)) (is_first (0 + b) (exprs s later)) (has_own b (Some e, pair.choices) pair.line e pair.is_expression pair.is_line refl),
+      has_expression pair.line e (is_dead later (0 + b) (target_of pair.line)) (is_first (0 + b) (exprs s later))
+          (has_own b (Some e, pair.choices) pair.line e pair.is_expression pair.is_line refl),
     )
 
     -- the earlier one only measures the name
@@ -137,7 +151,10 @@ module _ (s : List Statement) (later : List ℕ → ℕ → Bool) where
         let place : 0 + a ≡ a = omega arith in (
           line_of line.line,
           operation_at later (exprs s later) 0 s (exprs s later) a line.line en line.at earlier.entry.at
-              ∙ ap (λ (n : ℕ). Some (operation line.line (or_nothing en.0) (is_dead later n (target_of line.line)) (is_first n (exprs s later)))) place
-              ∙ ap (λ (o : Option Expr). Some (operation line.line (or_nothing o) (is_dead later a (target_of line.line)) (is_first a (exprs s later)))) earlier.entry.is
-              ∙ ap (λ (o : Operation). Some o) (only_measures line.line pair.earlier (is_dead later a (target_of line.line)) (is_first a (exprs s later)) t own_is line.assigns_it first),
+              ∙ ap (λ (n : ℕ). Some (operation line.line (or_nothing en.0) (is_dead later n (target_of line.line))
+              (is_first n (exprs s later)))) place
+              ∙ ap (λ (o : Option Expr). Some (operation line.line (or_nothing o) (is_dead later a (target_of line.line))
+              (is_first a (exprs s later)))) earlier.entry.is
+              ∙ ap (λ (o : Operation). Some o) (only_measures line.line pair.earlier (is_dead later a (target_of line.line))
+              (is_first a (exprs s later)) t own_is line.assigns_it first),
         )

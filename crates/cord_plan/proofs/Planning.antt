@@ -1,5 +1,7 @@
 -- What the plan of a script decides meets the conditions.
-use Rattle.std.proofs.Common.{◌≡◌, ◌⊎◌, ℕ, zero, suc, ◌+◌, ◌-◌, ◌<◌, ◌≤◌, Bool, true, false, ◌&&◌, ◌||◌, List, [], ◌∷◌, ◌++◌, map, length, Option, Some, None, refl, sym, ap, ◌∙◌, subst, inl, inr, ⊎_elim, arith, append_assoc, append-nil, length-append}
+use Rattle.std.proofs.Common.{◌≡◌, ◌⊎◌, ℕ, zero, suc, ◌+◌, ◌-◌, ◌<◌, ◌≤◌, Bool, true, false, ◌&&◌, ◌||◌, List, [], ◌∷◌, ◌++◌, map, length}
+use Rattle.std.proofs.Common.{Option, Some, None, refl, sym, ap, ◌∙◌, subst, inl, inr, ⊎_elim, arith, append_assoc, append-nil}
+use Rattle.std.proofs.Common.{length-append}
 use Rattle.std.proofs.Math.Nat.{eq-or-lt_of_le}
 use Rattle.std.proofs.lemmas.Bool.{eqb-true}
 use Rattle.std.proofs.lemmas.Option.{slice_get_within}
@@ -12,9 +14,11 @@ use Rattle.cord_core.proofs.Places.{at_here, some_here}
 use Rattle.cord_plan.specs.Exprs.{Expr, name, names}
 use Rattle.cord_plan.specs.Operands.{count, read_by, target_of, is_name, assigns, assigns_at, reads_at}
 use Rattle.cord_plan.specs.Unread.{Unread, IsLater}
-use Rattle.cord_plan.specs.Forced.{Table, Choice, kept, replaced, expr_of, expr_with, first_of, own, setter, fits, is_small, is_block_at, each_from, keeps, chosen_from, chosen_of, choices, operands_chosen, entry, grown, exprs}
+use Rattle.cord_plan.specs.Forced.{Table, Choice, kept, replaced, expr_of, expr_with, first_of, own, setter, fits, is_small, is_block_at}
+use Rattle.cord_plan.specs.Forced.{each_from, keeps, chosen_from, chosen_of, choices, operands_chosen, entry, grown, exprs}
 use Rattle.cord_plan.specs.Planned.{or_nothing, operation, operations, is_dead, is_first, some_from, planned}
-use Rattle.cord_plan.specs.Conditions.{Decisions, decided, decided_from, is_simple, is_simple_at, HasKinds, stands, stands_by, IsForced, MeetsConditions}
+use Rattle.cord_plan.specs.Conditions.{Decisions, decided, decided_from, is_simple, is_simple_at, HasKinds, stands, stands_by, IsForced}
+use Rattle.cord_plan.specs.Conditions.{MeetsConditions}
 use Rattle.cord_plan.proofs.Chosen.{both_true}
 use Rattle.cord_plan.proofs.Flows.{or_true}
 use Rattle.cord_plan.proofs.Named.{not_true, one_place, each_at}
@@ -75,10 +79,15 @@ last_told : (s : List Statement) (x : List ℕ) (b a : ℕ) → setter s x b ≡
 last_told s x zero a e = let bad : ⊥ = cc in absurd bad
 last_told s x (suc b) a e = pick (λ h. last_told s x b a h) (assigns_at (slice_get s b) x) refl e
   where
-    pick : (setter s x b ≡ Some a → IsLast s x b a) → (v : Bool) → assigns_at (slice_get s b) x ≡ v → (if v then Some b else setter s x b) ≡ Some a → IsLast s x (suc b) a
+    pick : (setter s x b ≡ Some a → IsLast s x b a) → (v : Bool) → assigns_at (slice_get s b) x ≡ v →
+        (if v then Some b else setter s x b) ≡ Some a → IsLast s x (suc b) a
     pick again true t h =
         let q : b ≡ a = cc in
-        record { before = omega arith; sets = subst (λ (w : ℕ). assigns_at (slice_get s w) x ≡ true) q t; kept_so = λ m low high. absurd (omega arith) }
+        record {
+          before = omega arith;
+          sets = subst (λ (w : ℕ). assigns_at (slice_get s w) x ≡ true) q t;
+          kept_so = λ m low high. absurd (omega arith);
+        }
     pick again false t h =
         let r : IsLast s x b a = again h in
         let below : a < b = r.before in
@@ -87,7 +96,8 @@ last_told s x (suc b) a e = pick (λ h. last_told s x b a h) (assigns_at (slice_
           sets = r.sets;
           kept_so = λ m low high.
               let le : m ≤ b = omega arith in
-              ⊎_elim (λ (q : m ≡ b). subst (λ (w : ℕ). assigns_at (slice_get s w) x ≡ false) (sym q) t) (λ (lt : m < b). r.kept_so m low lt) (eq-or-lt_of_le le);
+              ⊎_elim (λ (q : m ≡ b). subst (λ (w : ℕ). assigns_at (slice_get s w) x ≡ false) (sym q) t)
+              (λ (lt : m < b). r.kept_so m low lt) (eq-or-lt_of_le le);
         }
 
 -- ---- the source of a name among choices
@@ -108,7 +118,8 @@ record Found (xs : List (List ℕ)) (cs : List Choice) (x : List ℕ) (a : ℕ) 
   operand : slice_get xs place ≡ Some x
   choice : slice_get cs place ≡ Some (replaced a expression)
 
-further : (y : List ℕ) (c : Choice) (xs : List (List ℕ)) (cs : List Choice) (x : List ℕ) (a : ℕ) → Found xs cs x a → Found (y ∷ xs) (c ∷ cs) x a
+further : (y : List ℕ) (c : Choice) (xs : List (List ℕ)) (cs : List Choice) (x : List ℕ) (a : ℕ) → Found xs cs x a →
+    Found (y ∷ xs) (c ∷ cs) x a
 further y c xs cs x a f = record { place = suc f.place; expression = f.expression; operand = f.operand; choice = f.choice }
 
 found : (xs : List (List ℕ)) (cs : List Choice) (x : List ℕ) (a : ℕ) → source_in xs cs x ≡ Some a → Found xs cs x a
@@ -117,14 +128,21 @@ found (y ∷ xs) [] x a e = let bad : ⊥ = cc in absurd bad
 found (y ∷ xs) (kept z ∷ cs) x a e = further y (kept z) xs cs x a (found xs cs x a e)
 found (y ∷ xs) (replaced b r ∷ cs) x a e = pick (λ h. found xs cs x a h) (bytes_eq x y) refl e
   where
-    pick : (source_in xs cs x ≡ Some a → Found xs cs x a) → (v : Bool) → bytes_eq x y ≡ v → (if v then Some b else source_in xs cs x) ≡ Some a → Found (y ∷ xs) (replaced b r ∷ cs) x a
+    pick : (source_in xs cs x ≡ Some a → Found xs cs x a) → (v : Bool) → bytes_eq x y ≡ v →
+        (if v then Some b else source_in xs cs x) ≡ Some a → Found (y ∷ xs) (replaced b r ∷ cs) x a
     pick rest true f h =
         let same : b ≡ a = cc in
-        record { place = 0; expression = r; operand = ap (λ (w : List ℕ). Some w) (sym ((bytes_eq-Decides x y).0 f)); choice = ap (λ (n : ℕ). Some (replaced n r)) same }
+        record {
+          place = 0;
+          expression = r;
+          operand = ap (λ (w : List ℕ). Some w) (sym ((bytes_eq-Decides x y).0 f));
+          choice = ap (λ (n : ℕ). Some (replaced n r)) same;
+        }
     pick rest false f h = further y (replaced b r) xs cs x a (rest h)
 
 -- where a choice takes an expression for x, x has a source
-has_source : (xs : List (List ℕ)) (cs : List Choice) (x : List ℕ) (i a : ℕ) (r : Expr) → slice_get xs i ≡ Some x → slice_get cs i ≡ Some (replaced a r) → source_in xs cs x ≡ None → ⊥
+has_source : (xs : List (List ℕ)) (cs : List Choice) (x : List ℕ) (i a : ℕ) (r : Expr) → slice_get xs i ≡ Some x →
+    slice_get cs i ≡ Some (replaced a r) → source_in xs cs x ≡ None → ⊥
 has_source [] cs x i a r e f none = let bad : ⊥ = cc in bad
 has_source (y ∷ xs) [] x i a r e f none = let bad : ⊥ = cc in bad
 has_source (y ∷ xs) (kept z ∷ cs) x zero a r e f none = let bad : ⊥ = cc in bad
@@ -147,15 +165,19 @@ some_told p [] e = let bad : ⊥ = cc in absurd bad
 some_told p (kept x ∷ cs) e = let w = some_told p cs e in (suc w.0, w.1, w.2)
 some_told p (replaced a r ∷ cs) e = pick (λ h. some_told p cs h) (or_true (a == p) (some_from p cs) e)
   where
-    pick : (some_from p cs ≡ true → (i : ℕ) × (r : Expr) × (slice_get cs i ≡ Some (replaced p r))) → ((a == p) ≡ true) ⊎ (some_from p cs ≡ true) → (i : ℕ) × (q : Expr) × (slice_get (replaced a r ∷ cs) i ≡ Some (replaced p q))
+    pick : (some_from p cs ≡ true → (i : ℕ) × (r : Expr) × (slice_get cs i ≡ Some (replaced p r))) → ((a == p) ≡ true) ⊎
+        (some_from p cs ≡ true) → (i : ℕ) × (q : Expr) × (slice_get (replaced a r ∷ cs) i ≡ Some (replaced p q))
     pick rest (inl h) = (0, r, ap (λ (n : ℕ). Some (replaced n r)) (eqb-true a p h))
     pick rest (inr h) = let w = rest h in (suc w.0, w.1, w.2)
 
-first_told : (p : ℕ) (table : Table) → is_first p table ≡ true → (b : ℕ) × (en : Option Expr × List Choice) × (slice_get table b ≡ Some en) × (some_from p en.1 ≡ true)
+first_told : (p : ℕ) (table : Table) → is_first p table ≡ true → (b : ℕ) × (en : Option Expr × List Choice) ×
+    (slice_get table b ≡ Some en) × (some_from p en.1 ≡ true)
 first_told p [] e = let bad : ⊥ = cc in absurd bad
 first_told p (en ∷ table) e = pick (λ h. first_told p table h) (or_true (some_from p en.1) (is_first p table) e)
   where
-    pick : (is_first p table ≡ true → (b : ℕ) × (en : Option Expr × List Choice) × (slice_get table b ≡ Some en) × (some_from p en.1 ≡ true)) → (some_from p en.1 ≡ true) ⊎ (is_first p table ≡ true) → (b : ℕ) × (other : Option Expr × List Choice) × (slice_get (en ∷ table) b ≡ Some other) × (some_from p other.1 ≡ true)
+    pick : (is_first p table ≡ true → (b : ℕ) × (en : Option Expr × List Choice) × (slice_get table b ≡ Some en) ×
+        (some_from p en.1 ≡ true)) → (some_from p en.1 ≡ true) ⊎ (is_first p table ≡ true) → (b : ℕ) ×
+        (other : Option Expr × List Choice) × (slice_get (en ∷ table) b ≡ Some other) × (some_from p other.1 ≡ true)
     pick rest (inl h) = (0, en, refl, h)
     pick rest (inr h) = let w = rest h in (suc w.0, w.1, w.2, w.3)
 
@@ -173,32 +195,39 @@ module _ (s : List Statement) (later : List ℕ → ℕ → Bool) where
     ArePicked (x ∷ xs) [] = ⊥
     ArePicked (x ∷ xs) (c ∷ cs) = Picked x c × ArePicked xs cs
 
-    picked_then : (xs : List (List ℕ)) (cs : List Choice) (x : List ℕ) (c : Choice) → ArePicked xs cs → Picked x c → ArePicked (xs ++ x ∷ []) (cs ++ c ∷ [])
+    picked_then : (xs : List (List ℕ)) (cs : List Choice) (x : List ℕ) (c : Choice) → ArePicked xs cs → Picked x c →
+        ArePicked (xs ++ x ∷ []) (cs ++ c ∷ [])
     picked_then [] [] x c h k = (k, tt)
     picked_then [] (d ∷ cs) x c h k = absurd h
     picked_then (y ∷ xs) [] x c h k = absurd h
     picked_then (y ∷ xs) (d ∷ cs) x c h k = (h.0, picked_then xs cs x c h.1 k)
 
-    from_picked : (x : List ℕ) (before after : List Expr) (a : ℕ) (o : Option Expr) → setter s x b ≡ Some a → first_of (slice_get table a) ≡ o → Picked x (chosen_from s later b l x before after a o)
+    from_picked : (x : List ℕ) (before after : List Expr) (a : ℕ) (o : Option Expr) → setter s x b ≡ Some a →
+        first_of (slice_get table a) ≡ o → Picked x (chosen_from s later b l x before after a o)
     from_picked x before after a None set from = refl
     from_picked x before after a (Some r) set from = pick (fits s later r a b l x && is_small (expr_with l (before ++ r ∷ after))) refl
       where
-        pick : (v : Bool) → (fits s later r a b l x && is_small (expr_with l (before ++ r ∷ after))) ≡ v → Picked x (if v then replaced a r else kept x)
+        pick : (v : Bool) → (fits s later r a b l x && is_small (expr_with l (before ++ r ∷ after))) ≡ v →
+            Picked x (if v then replaced a r else kept x)
         pick true e = (set, from, (both_true (fits s later r a b l x) (is_small (expr_with l (before ++ r ∷ after))) e).0)
         pick false e = refl
 
-    chosen_picked : (x : List ℕ) (before after : List Expr) (o : Option ℕ) → setter s x b ≡ o → Picked x (chosen_of s later table b l x before after o)
+    chosen_picked : (x : List ℕ) (before after : List Expr) (o : Option ℕ) → setter s x b ≡ o →
+        Picked x (chosen_of s later table b l x before after o)
     chosen_picked x before after None set = refl
     chosen_picked x before after (Some a) set = from_picked x before after a (first_of (slice_get table a)) set refl
 
-    all_picked : (ys : List (List ℕ)) (done : List Choice) (xs : List (List ℕ)) → ArePicked ys done → ArePicked (ys ++ xs) (choices s later table b l done xs)
+    all_picked : (ys : List (List ℕ)) (done : List Choice) (xs : List (List ℕ)) → ArePicked ys done →
+        ArePicked (ys ++ xs) (choices s later table b l done xs)
     all_picked ys done [] h = subst (λ (zs : List (List ℕ)). ArePicked zs done) (sym (append-nil ys)) h
     all_picked ys done (x ∷ xs) h =
         let c : Choice = chosen_of s later table b l x (map (λ c. expr_of c) done) (map (λ y. name y) xs) (setter s x b) in
         let one : Picked x c = chosen_picked x (map (λ c. expr_of c) done) (map (λ y. name y) xs) (setter s x b) refl in
-        subst (λ (zs : List (List ℕ)). ArePicked zs (choices s later table b l (done ++ c ∷ []) xs)) (append_assoc ys (x ∷ []) xs) (all_picked (ys ++ x ∷ []) (done ++ c ∷ []) xs (picked_then ys done x c h one))
+        subst (λ (zs : List (List ℕ)). ArePicked zs (choices s later table b l (done ++ c ∷ []) xs)) (append_assoc ys (x ∷ []) xs)
+        (all_picked (ys ++ x ∷ []) (done ++ c ∷ []) xs (picked_then ys done x c h one))
 
-    picked_at : (xs : List (List ℕ)) (cs : List Choice) (i : ℕ) (x : List ℕ) (a : ℕ) (r : Expr) → ArePicked xs cs → slice_get xs i ≡ Some x → slice_get cs i ≡ Some (replaced a r) → Picked x (replaced a r)
+    picked_at : (xs : List (List ℕ)) (cs : List Choice) (i : ℕ) (x : List ℕ) (a : ℕ) (r : Expr) → ArePicked xs cs →
+        slice_get xs i ≡ Some x → slice_get cs i ≡ Some (replaced a r) → Picked x (replaced a r)
     picked_at [] cs i x a r h e f = let bad : ⊥ = cc in absurd bad
     picked_at (y ∷ xs) [] i x a r h e f = absurd h
     picked_at (y ∷ xs) (c ∷ cs) zero x a r h e f =
@@ -208,7 +237,8 @@ module _ (s : List Statement) (later : List ℕ → ℕ → Bool) where
     picked_at (y ∷ xs) (c ∷ cs) (suc i) x a r h e f = picked_at xs cs i x a r h.1 e f
 
     -- each choice has its operand
-    operand_of : (xs : List (List ℕ)) (cs : List Choice) (i : ℕ) (c : Choice) → ArePicked xs cs → slice_get cs i ≡ Some c → (x : List ℕ) × (slice_get xs i ≡ Some x)
+    operand_of : (xs : List (List ℕ)) (cs : List Choice) (i : ℕ) (c : Choice) → ArePicked xs cs → slice_get cs i ≡ Some c → (x : List ℕ) ×
+        (slice_get xs i ≡ Some x)
     operand_of [] [] i c h e = let bad : ⊥ = cc in absurd bad
     operand_of [] (d ∷ cs) i c h e = absurd h
     operand_of (y ∷ xs) [] i c h e = absurd h
@@ -232,10 +262,13 @@ module _ (s : List Statement) (later : List ℕ → ℕ → Bool) where
       let w = both_true (assigns l x || not (later x b)) (each_from keeping (b - a) a) q.1 in
       let between : (m : ℕ) → a < m → m < b → quiet m ≡ true = λ m low high. each_at quiet (b - (a + 1)) (a + 1) m p.0 (omega arith) (omega arith) in
       record {
-        straight = λ m low high. not_true (is_block_at (slice_get s m)) (both_true (not (is_block_at (slice_get s m))) (not (reads_at (slice_get s m) x)) (between m low high)).0;
-        unread = λ m low high. not_true (reads_at (slice_get s m) x) (both_true (not (is_block_at (slice_get s m))) (not (reads_at (slice_get s m) x)) (between m low high)).1;
+        straight = λ m low high. not_true (is_block_at (slice_get s m))
+            (both_true (not (is_block_at (slice_get s m))) (not (reads_at (slice_get s m) x)) (between m low high)).0;
+        unread = λ m low high. not_true (reads_at (slice_get s m) x)
+            (both_true (not (is_block_at (slice_get s m))) (not (reads_at (slice_get s m) x)) (between m low high)).1;
         once = eqb-true (count x (read_by l)) 1 q.0;
-        later_or = ⊎_elim (λ (e : assigns l x ≡ true). inl e) (λ (e : not (later x b) ≡ true). inr (not_true (later x b) e)) (or_true (assigns l x) (not (later x b)) w.0);
+        later_or = ⊎_elim (λ (e : assigns l x ≡ true). inl e) (λ (e : not (later x b) ≡ true). inr (not_true (later x b) e))
+            (or_true (assigns l x) (not (later x b)) w.0);
         fixed = λ m low high. each_at keeping (b - a) a m w.1 low (omega arith);
       }
 
@@ -243,9 +276,11 @@ module _ (s : List Statement) (later : List ℕ → ℕ → Bool) where
   abbrev whole_table : Table
   whole_table = exprs s later
 
-  grown_keeps : (table : Table) (b : ℕ) (rest : List Statement) (k : ℕ) (en : Option Expr × List Choice) → slice_get table k ≡ Some en → slice_get (grown s later table b rest) k ≡ Some en
+  grown_keeps : (table : Table) (b : ℕ) (rest : List Statement) (k : ℕ) (en : Option Expr × List Choice) → slice_get table k ≡ Some en →
+      slice_get (grown s later table b rest) k ≡ Some en
   grown_keeps table b [] k en e = e
-  grown_keeps table b (l ∷ rest) k en e = grown_keeps (table ++ operands_chosen s later table b l (own l) ∷ []) (b + 1) rest k en (get_append table (operands_chosen s later table b l (own l) ∷ []) k en e)
+  grown_keeps table b (l ∷ rest) k en e = grown_keeps (table ++ operands_chosen s later table b l (own l) ∷ []) (b + 1) rest k en
+      (get_append table (operands_chosen s later table b l (own l) ∷ []) k en e)
 
   pub grown_length : (table : Table) (b : ℕ) (rest : List Statement) → length (grown s later table b rest) ≡ length table + length rest
   grown_length table b [] = omega arith
@@ -260,7 +295,8 @@ module _ (s : List Statement) (later : List ℕ → ℕ → Bool) where
     keeps_on : (k : ℕ) (en : Option Expr × List Choice) → slice_get front k ≡ Some en → slice_get final k ≡ Some en
     entry_is : slice_get final b ≡ Some (operands_chosen s later front b l (own l))
 
-  grown_at : (table : Table) (rest : List Statement) (k : ℕ) (l : Statement) → slice_get rest k ≡ Some l → EntryAt (grown s later table (length table) rest) (length table + k) l
+  grown_at : (table : Table) (rest : List Statement) (k : ℕ) (l : Statement) → slice_get rest k ≡ Some l →
+      EntryAt (grown s later table (length table) rest) (length table + k) l
   grown_at table [] k l e = let bad : ⊥ = cc in absurd bad
   grown_at table (m ∷ rest) zero l e =
       let b : ℕ = length table in
@@ -281,7 +317,8 @@ module _ (s : List Statement) (later : List ℕ → ℕ → Bool) where
       let long : length (table ++ en ∷ []) ≡ b + 1 = length-append table (en ∷ []) in
       let place : length (table ++ en ∷ []) + k ≡ b + suc k = omega (arith, long) in
       subst (λ (n : ℕ). EntryAt (grown s later (table ++ en ∷ []) n rest) (b + suc k) l) long
-      (subst (λ (n : ℕ). EntryAt (grown s later (table ++ en ∷ []) (length (table ++ en ∷ [])) rest) n l) place (grown_at (table ++ en ∷ []) rest k l e))
+      (subst (λ (n : ℕ). EntryAt (grown s later (table ++ en ∷ []) (length (table ++ en ∷ [])) rest) n l) place
+      (grown_at (table ++ en ∷ []) rest k l e))
 
   entry_at : (b : ℕ) (l : Statement) → slice_get s b ≡ Some l → EntryAt whole_table b l
   entry_at b l e = let place : 0 + b ≡ b = omega arith in subst (λ (n : ℕ). EntryAt whole_table n l) place (grown_at [] s b l e)
@@ -308,7 +345,9 @@ module _ (s : List Statement) (later : List ℕ → ℕ → Bool) where
   }
 
   -- the operations are those of the decisions
-  operations_decided : (p : ℕ) (rest : List Statement) (entries : Table) → length entries ≡ length rest → ((k : ℕ) → slice_get s (p + k) ≡ slice_get rest k) → ((k : ℕ) → slice_get whole_table (p + k) ≡ slice_get entries k) → operations later whole_table p rest entries ≡ decided_from decisions p rest
+  operations_decided : (p : ℕ) (rest : List Statement) (entries : Table) → length entries ≡ length rest →
+      ((k : ℕ) → slice_get s (p + k) ≡ slice_get rest k) → ((k : ℕ) → slice_get whole_table (p + k) ≡ slice_get entries k) →
+      operations later whole_table p rest entries ≡ decided_from decisions p rest
   operations_decided p [] entries long line here = refl
   operations_decided p (l ∷ rest) [] long line here = let bad : ⊥ = cc in absurd bad
   operations_decided p (l ∷ rest) (en ∷ entries) long line here =
@@ -346,15 +385,18 @@ module _ (s : List Statement) (later : List ℕ → ℕ → Bool) where
         where
           pick : (o : Option (Option Expr × List Choice)) → slice_get at.front a ≡ o → decisions.exprs a ≡ r
           pick None f = let gone : first_of None ≡ Some r = ap first_of (sym f) ∙ h.1 in let bad : ⊥ = cc in absurd bad
-          pick (Some en) f = ap (λ (o : Option (Option Expr × List Choice)). or_nothing (first_of o)) (at.keeps_on a en f) ∙ ap or_nothing (ap first_of (sym f) ∙ h.1)
+          pick (Some en) f = ap (λ (o : Option (Option Expr × List Choice)). or_nothing (first_of o)) (at.keeps_on a en f)
+              ∙ ap or_nothing (ap first_of (sym f) ∙ h.1)
 
       source_is : (x : List ℕ) → decisions.source b x ≡ source_in (read_by l) chosen_here x
       source_is x = λ i. source_in (read_at (here i)) (choices_at (entry_chosen i)) x
 
       -- what stands for the operand at a place is its choice's expression
-      stands_here : (i : ℕ) (x : List ℕ) (c : Choice) → slice_get (read_by l) i ≡ Some x → slice_get chosen_here i ≡ Some c → Picked at.front b l x c → (o : Option ℕ) → source_in (read_by l) chosen_here x ≡ o → stands_by decisions.exprs o x ≡ expr_of c
+      stands_here : (i : ℕ) (x : List ℕ) (c : Choice) → slice_get (read_by l) i ≡ Some x → slice_get chosen_here i ≡ Some c →
+          Picked at.front b l x c → (o : Option ℕ) → source_in (read_by l) chosen_here x ≡ o → stands_by decisions.exprs o x ≡ expr_of c
       stands_here i x (kept y) operand choice h None source = ap (λ (w : List ℕ). name w) (sym h)
-      stands_here i x (replaced a r) operand choice h None source = absurd (has_source (read_by l) chosen_here x i a r operand choice source)
+      stands_here i x (replaced a r) operand choice h None source =
+          absurd (has_source (read_by l) chosen_here x i a r operand choice source)
       stands_here i x c operand choice h (Some a) source =
           let f : Found (read_by l) chosen_here x a = found (read_by l) chosen_here x a source in
           let p : Picked at.front b l x (replaced a f.expression) = picked_at at.front b l (read_by l) chosen_here f.place x a f.expression picked_here f.operand f.choice in
@@ -364,17 +406,21 @@ module _ (s : List Statement) (later : List ℕ → ℕ → Bool) where
           let is : c ≡ replaced a f.expression = cc in
           taken_is x a f.expression p ∙ ap expr_of (sym is)
 
-      all_stand : (xs : List (List ℕ)) (cs : List Choice) → ArePicked at.front b l xs cs → ((i : ℕ) (x : List ℕ) (c : Choice) → slice_get xs i ≡ Some x → slice_get cs i ≡ Some c → Picked at.front b l x c → stands decisions b x ≡ expr_of c) → map (λ x. stands decisions b x) xs ≡ map (λ c. expr_of c) cs
+      all_stand : (xs : List (List ℕ)) (cs : List Choice) → ArePicked at.front b l xs cs →
+          ((i : ℕ) (x : List ℕ) (c : Choice) → slice_get xs i ≡ Some x → slice_get cs i ≡ Some c → Picked at.front b l x c →
+          stands decisions b x ≡ expr_of c) → map (λ x. stands decisions b x) xs ≡ map (λ c. expr_of c) cs
       all_stand [] [] h each = refl
       all_stand [] (c ∷ cs) h each = absurd h
       all_stand (x ∷ xs) [] h each = absurd h
       all_stand (x ∷ xs) (c ∷ cs) h each = λ i. each 0 x c refl refl h.0 i ∷ all_stand xs cs h.1 (λ k y d e f g. each (suc k) y d e f g) i
 
       own_stands : expr_with l (map (λ x. stands decisions b x) (read_by l)) ≡ expr_with l (map (λ c. expr_of c) chosen_here)
-      own_stands = ap (λ (es : List Expr). expr_with l es) (all_stand (read_by l) chosen_here picked_here (λ i x c operand choice h. stands_here i x c operand choice h (decisions.source b x) (sym (source_is x))))
+      own_stands = ap (λ (es : List Expr). expr_with l es) (all_stand (read_by l) chosen_here picked_here
+          (λ i x c operand choice h. stands_here i x c operand choice h (decisions.source b x) (sym (source_is x))))
 
   -- the line at a place that has an expression
-  simple_with_own : (a : ℕ) (r : Expr) (en : Option Expr × List Choice) → slice_get whole_table a ≡ Some en → en.0 ≡ Some r → (l : Statement) → slice_get s a ≡ Some l → is_simple l ≡ true
+  simple_with_own : (a : ℕ) (r : Expr) (en : Option Expr × List Choice) → slice_get whole_table a ≡ Some en → en.0 ≡ Some r →
+      (l : Statement) → slice_get s a ≡ Some l → is_simple l ≡ true
   simple_with_own a r en e first l here = pick (own l) refl
     where
       pick : (o : Option Expr) → own l ≡ o → is_simple l ≡ true
@@ -411,11 +457,14 @@ module _ (s : List Statement) (later : List ℕ → ℕ → Bool) where
             kept = last.kept_so;
             straight = fit.straight;
             unread = fit.unread;
-            later = ⊎_elim (λ (g : assigns l x ≡ true). inl (ap (λ (o : Option Statement). assigns_at o x) here ∙ g)) (λ (g : later x b ≡ false). inr (told.unread x b g)) fit.later_or;
-            fixed = λ m low high. ap (λ (r : Expr). keeps (slice_get s m) (names r)) (taken_is b l here e own_is x a f.expression p) ∙ fit.fixed m low high;
+            later = ⊎_elim (λ (g : assigns l x ≡ true). inl (ap (λ (o : Option Statement). assigns_at o x) here ∙ g))
+                (λ (g : later x b ≡ false). inr (told.unread x b g)) fit.later_or;
+            fixed = λ m low high. ap (λ (r : Expr). keeps (slice_get s m) (names r)) (taken_is b l here e own_is x a f.expression p)
+                ∙ fit.fixed m low high;
           }
         where
-          first_simple : (r : Expr) (k : Statement) → slice_get s a ≡ Some k → (o : Option (Option Expr × List Choice)) → slice_get (at b l here).front a ≡ o → first_of (slice_get (at b l here).front a) ≡ Some r → is_simple k ≡ true
+          first_simple : (r : Expr) (k : Statement) → slice_get s a ≡ Some k → (o : Option (Option Expr × List Choice)) →
+              slice_get (at b l here).front a ≡ o → first_of (slice_get (at b l here).front a) ≡ Some r → is_simple k ≡ true
           first_simple r k line None g h = let gone : first_of None ≡ Some r = ap first_of (sym g) ∙ h in let bad : ⊥ = cc in absurd bad
           first_simple r k line (Some en) g h = simple_with_own a r en ((at b l here).keeps_on a en g) (ap first_of (sym g) ∙ h) k line
 
@@ -450,19 +499,23 @@ module _ (s : List Statement) (later : List ℕ → ℕ → Bool) where
       where
         by_target : (t : Option (List ℕ)) → is_dead later p t ≡ true → is_name t x ≡ true → Unread s x p
         by_target None e f = let bad : ⊥ = cc in absurd bad
-        by_target (Some z) e f = subst (λ (y : List ℕ). Unread s y p) (sym ((bytes_eq-Decides x z).0 f)) (told.unread z p (not_true (later z p) e))
+        by_target (Some z) e f = subst (λ (y : List ℕ). Unread s y p) (sym ((bytes_eq-Decides x z).0 f))
+            (told.unread z p (not_true (later z p) e))
 
         pick : (o : Option Statement) → is_dead later p (target_at o) ≡ true → assigns_at o x ≡ true → Unread s x p
         pick None e f = let bad : ⊥ = cc in absurd bad
         pick (Some l) e f = by_target (target_of l) e f
 
-    paired_at : (p : ℕ) (x : List ℕ) → decisions.paired p ≡ true → assigns_at (slice_get s p) x ≡ true → (b : ℕ) × (decisions.source b x ≡ Some p)
+    paired_at : (p : ℕ) (x : List ℕ) → decisions.paired p ≡ true → assigns_at (slice_get s p) x ≡ true → (b : ℕ) ×
+        (decisions.source b x ≡ Some p)
     paired_at p x e f =
         let w = first_told p whole_table e in
         let c = some_told p w.1.1 w.3 in
         by_line w.0 w.1 w.2 c.0 c.1 c.2 (slice_get s w.0) refl
       where
-        by_own : (b : ℕ) (en : Option Expr × List Choice) → slice_get whole_table b ≡ Some en → (i : ℕ) (r : Expr) → slice_get en.1 i ≡ Some (replaced p r) → (l : Statement) → slice_get s b ≡ Some l → (o : Option Expr) → own l ≡ o → (b : ℕ) × (decisions.source b x ≡ Some p)
+        by_own : (b : ℕ) (en : Option Expr × List Choice) → slice_get whole_table b ≡ Some en → (i : ℕ) (r : Expr) →
+            slice_get en.1 i ≡ Some (replaced p r) → (l : Statement) → slice_get s b ≡ Some l → (o : Option Expr) → own l ≡ o → (b : ℕ) ×
+            (decisions.source b x ≡ Some p)
         by_own b en entry i r choice l here None g =
             let same : Some en ≡ Some (None, []) = sym entry ∙ (entry_at b l here).entry_is ∙ ap (λ (o : Option Expr). Some (operands_chosen s later (entry_at b l here).front b l o)) g in
             let none : en.1 ≡ [] = ap (λ (o : Option (Option Expr × List Choice)). choices_at o) same in
@@ -479,14 +532,18 @@ module _ (s : List Statement) (later : List ℕ → ℕ → Bool) where
             let name_is : x ≡ y.0 = one_target (slice_get s p) x y.0 f last.sets in
             (b, by_source y.0 name_is (source_in (read_by l) (chosen_here b l here) y.0) refl q.0 y.1 chosen)
           where
-            by_source : (y : List ℕ) → x ≡ y → (o : Option ℕ) → source_in (read_by l) (chosen_here b l here) y ≡ o → setter s y b ≡ Some p → slice_get (read_by l) i ≡ Some y → slice_get (chosen_here b l here) i ≡ Some (replaced p r) → decisions.source b x ≡ Some p
-            by_source y same None source set operand chosen = absurd (has_source (read_by l) (chosen_here b l here) y i p r operand chosen source)
+            by_source : (y : List ℕ) → x ≡ y → (o : Option ℕ) → source_in (read_by l) (chosen_here b l here) y ≡ o →
+                setter s y b ≡ Some p → slice_get (read_by l) i ≡ Some y → slice_get (chosen_here b l here) i ≡ Some (replaced p r) →
+                decisions.source b x ≡ Some p
+            by_source y same None source set operand chosen = absurd
+                (has_source (read_by l) (chosen_here b l here) y i p r operand chosen source)
             by_source y same (Some a) source set operand chosen =
                 let t : Found (read_by l) (chosen_here b l here) y a = found (read_by l) (chosen_here b l here) y a source in
                 let other : Picked (at b l here).front b l y (replaced a t.expression) = picked_at (at b l here).front b l (read_by l) (chosen_here b l here) t.place y a t.expression (picked_here b l here) t.operand t.choice in
                 ap (λ (w : List ℕ). decisions.source b w) same ∙ source_is b l here first g y ∙ source ∙ sym other.0 ∙ set
 
-        by_line : (b : ℕ) (en : Option Expr × List Choice) → slice_get whole_table b ≡ Some en → (i : ℕ) (r : Expr) → slice_get en.1 i ≡ Some (replaced p r) → (o : Option Statement) → slice_get s b ≡ o → (b : ℕ) × (decisions.source b x ≡ Some p)
+        by_line : (b : ℕ) (en : Option Expr × List Choice) → slice_get whole_table b ≡ Some en → (i : ℕ) (r : Expr) →
+            slice_get en.1 i ≡ Some (replaced p r) → (o : Option Statement) → slice_get s b ≡ o → (b : ℕ) × (decisions.source b x ≡ Some p)
         by_line b en entry i r choice (Some l) here = by_own b en entry i r choice l here (own l) refl
         by_line b en entry i r choice None here =
             let none : length {A = Option Expr × List Choice} [] ≡ 0 = refl in

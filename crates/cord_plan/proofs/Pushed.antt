@@ -1,21 +1,25 @@
 -- Lists that a loop fills, one item after the other.
-use Rattle.std.proofs.Common.{◌≡◌, ◌⊎◌, ℕ, zero, suc, ◌+◌, ◌<◌, List, [], ◌∷◌, ◌++◌, map, take, length, get_or, Some, refl, sym, ap, ◌∙◌, inl, inr, arith, length-append}
+use Rattle.std.proofs.Common.{◌≡◌, ◌⊎◌, ℕ, zero, suc, ◌+◌, ◌<◌, List, [], ◌∷◌, ◌++◌, map, take, length, get_or, Some, refl, sym, ap, ◌∙◌}
+use Rattle.std.proofs.Common.{inl, inr, arith, length-append}
 use Rattle.std.proofs.Math.Nat.{eq-or-lt_of_le}
 use Rattle.std.proofs.lemmas.List.{map-append, take_more}
 use Rattle.std.specs.Prelude.{slice_get}
 
 -- one item more, made of the next one of another list
-pub made_more : {A B C : Type 0} (f : A → C) (g : B → C) (xs : List B) (old new : List A) (made : A) (i : ℕ) (x : B) → i < length xs → x ≡ get_or xs i x →
+pub made_more : {A B C : Type 0} (f : A → C) (g : B → C) (xs : List B) (old new : List A) (made : A) (i : ℕ) (x : B) → i < length xs →
+    x ≡ get_or xs i x →
     map f old ≡ map g (take i xs) → new ≡ old ++ made ∷ [] → f made ≡ g x → map f new ≡ map g (take (i + 1) xs)
 made_more {A} {B} {C} f g xs old new made i x lt is so_far items same =
     ap (λ (ys : List A). map f ys) items
     ∙ (map-append f old (made ∷ [])
     ∙ (ap (λ (zs : List C). zs ++ f made ∷ []) so_far
     ∙ (ap (λ (z : C). map g (take i xs) ++ z ∷ []) same
-    ∙ sym (ap (λ (ys : List B). map g ys) (take_more xs i x lt ∙ ap (λ (y : B). take i xs ++ y ∷ []) (sym is)) ∙ map-append g (take i xs) (x ∷ [])))))
+    ∙ sym (ap (λ (ys : List B). map g ys) (take_more xs i x lt ∙ ap (λ (y : B). take i xs ++ y ∷ []) (sym is))
+    ∙ map-append g (take i xs) (x ∷ [])))))
 
 -- the same where the other list is seen as a third one
-pub made_more_of : {A B C D : Type 0} (f : A → C) (g : B → C) (h : D → B) (xs : List D) (old new : List A) (made : A) (i : ℕ) (x : D) → i < length xs → x ≡ get_or xs i x →
+pub made_more_of : {A B C D : Type 0} (f : A → C) (g : B → C) (h : D → B) (xs : List D) (old new : List A) (made : A) (i : ℕ) (x : D) →
+    i < length xs → x ≡ get_or xs i x →
     map f old ≡ map g (map h (take i xs)) → new ≡ old ++ made ∷ [] → f made ≡ g (h x) → map f new ≡ map g (map h (take (i + 1) xs))
 made_more_of {A} {B} {C} {D} f g h xs old new made i x lt is so_far items same =
     ap (λ (ys : List A). map f ys) items
@@ -37,7 +41,8 @@ get_last (z ∷ xs) last = get_last xs last
 -- one item more, told by its place
 pub told_more : {A : Type 0} (f : ℕ → A) (old new : List A) (made : A) (n : ℕ) → new ≡ old ++ made ∷ [] → length old ≡ n → made ≡ f n →
     ((k : ℕ) → k < n → slice_get old k ≡ Some (f k)) → (k : ℕ) → k < n + 1 → slice_get new k ≡ Some (f k)
-told_more {A} f old new made n items size is before k lt = ap (λ (xs : List A). slice_get xs k) items ∙ by_place (eq-or-lt_of_le (omega arith))
+told_more {A} f old new made n items size is before k lt = ap (λ (xs : List A). slice_get xs k) items
+    ∙ by_place (eq-or-lt_of_le (omega arith))
   where
     by_place : (k ≡ n) ⊎ (k < n) → slice_get (old ++ made ∷ []) k ≡ Some (f k)
     by_place (inl same) =
@@ -47,4 +52,5 @@ told_more {A} f old new made n items size is before k lt = ap (λ (xs : List A).
 
 -- and how many there are then
 pub size_more : {A : Type 0} (old new : List A) (made : A) (n : ℕ) → new ≡ old ++ made ∷ [] → length old ≡ n → length new ≡ n + 1
-size_more {A} old new made n items size = ap (λ (xs : List A). length xs) items ∙ (length-append old (made ∷ []) ∙ ap (λ (m : ℕ). m + 1) size)
+size_more {A} old new made n items size = ap (λ (xs : List A). length xs) items
+    ∙ (length-append old (made ∷ []) ∙ ap (λ (m : ℕ). m + 1) size)

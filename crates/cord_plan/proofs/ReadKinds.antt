@@ -1,5 +1,6 @@
 -- In a script that is read, a name that a line assigns as a number or an extensible cord is read by no line as a cord.
-use Rattle.std.proofs.Common.{◌≡◌, ◌⊎◌, ℕ, ◌<◌, Bool, true, false, ◌&&◌, List, [], ◌∷◌, ◌++◌, map, length, Option, Some, None, refl, sym, ap, ◌∙◌, inl, inr}
+use Rattle.std.proofs.Common.{◌≡◌, ◌⊎◌, ℕ, ◌<◌, Bool, true, false, ◌&&◌, List, [], ◌∷◌, ◌++◌, map, length, Option, Some, None, refl, sym}
+use Rattle.std.proofs.Common.{ap, ◌∙◌, inl, inr}
 use Rattle.std.specs.Prelude.{slice_get, not, is_some, if◌then◌else◌}
 use Rattle.std.specs.Str.{bytes_eq}
 use Rattle.std.proofs.lemmas.Slice.Eq.{bytes_eq-Decides}
@@ -10,7 +11,8 @@ use Rattle.cord_operands.specs.declared.operands.Argument.{Argument}
 use Rattle.cord_operands.specs.declared.operands.Argument.TheVariants as arguments
 use Rattle.cord_script.specs.declared.table.Known.{Known}
 use Rattle.cord_syntax.specs.declared.statements.Statement.{Statement}
-use Rattle.cord_syntax.specs.declared.statements.Statement.TheVariants.{Cat, Catn, Catc, Substr, Balance, Sprintf, Len, Fetch, Cmp, Ncmp, Str, Chr, Rchr, Assign, Add, Sub, EcInit, EcCat, Put}
+use Rattle.cord_syntax.specs.declared.statements.Statement.TheVariants.{Cat, Catn, Catc, Substr, Balance, Sprintf, Len, Fetch, Cmp, Ncmp}
+use Rattle.cord_syntax.specs.declared.statements.Statement.TheVariants.{Str, Chr, Rchr, Assign, Add, Sub, EcInit, EcCat, Put}
 use Rattle.cord_script.specs.Forms.{Grammar, terms_of, argument_term}
 use Rattle.cord_script.specs.Forms.Term.{Operand}
 use Rattle.cord_script.specs.Script.{Before, kind_of, with_name, names_after, after_all, AreAllowed, ReadsBy, start}
@@ -21,28 +23,39 @@ use Rattle.cord_plan.proofs.Named.{no_true}
 use Rattle.cord_plan.proofs.ReadNames.{IsSaid, line_said}
 
 -- a name that stands after others, and not among them, has its kind
-kind_last : (names : List Known) (x : List ℕ) (k : Kind) → kind_of names x ≡ None → kind_of (names ++ record { name = x; kind = k } ∷ []) x ≡ Some k
+kind_last : (names : List Known) (x : List ℕ) (k : Kind) → kind_of names x ≡ None → kind_of (names ++ record { name = x; kind = k } ∷ []) x
+    ≡ Some k
 kind_last [] x k e = ap (λ (v : Bool). if v then Some k else None) ((bytes_eq-Decides x x).1 refl)
 kind_last (n ∷ names) x k e = pick (λ h. kind_last names x k h) (bytes_eq n.name x) e
   where
-    pick : (kind_of names x ≡ None → kind_of (names ++ record { name = x; kind = k } ∷ []) x ≡ Some k) → (v : Bool) → (if v then Some n.kind else kind_of names x) ≡ None → (if v then Some n.kind else kind_of (names ++ record { name = x; kind = k } ∷ []) x) ≡ Some k
+    pick : (kind_of names x ≡ None → kind_of (names ++ record { name = x; kind = k } ∷ []) x ≡ Some k) → (v : Bool) →
+        (if v then Some n.kind else kind_of names x) ≡ None →
+        (if v then Some n.kind else kind_of (names ++ record { name = x; kind = k } ∷ []) x) ≡ Some k
     pick rest true h = let bad : ⊥ = cc in absurd bad
     pick rest false h = rest h
 
 -- an assigned name has the kind of its assignment
-kind_assigned : (names : List Known) (x : List ℕ) (k : Kind) → (kind_of names x ≡ Some k) ⊎ ((kind_of names x ≡ None) × (length names < MAX_NAMES)) → kind_of (with_name names x k) x ≡ Some k
-kind_assigned names x k (inl e) = ap (λ (o : Option Kind). kind_of (if is_some o then names else names ++ record { name = x; kind = k } ∷ []) x) e ∙ e
-kind_assigned names x k (inr e) = ap (λ (o : Option Kind). kind_of (if is_some o then names else names ++ record { name = x; kind = k } ∷ []) x) e.0 ∙ kind_last names x k e.0
+kind_assigned : (names : List Known) (x : List ℕ) (k : Kind) → (kind_of names x ≡ Some k) ⊎
+    ((kind_of names x ≡ None) × (length names < MAX_NAMES)) → kind_of (with_name names x k) x ≡ Some k
+kind_assigned names x k (inl e) =
+    ap (λ (o : Option Kind). kind_of (if is_some o then names else names ++ record { name = x; kind = k } ∷ []) x) e ∙ e
+kind_assigned names x k (inr e) =
+    ap (λ (o : Option Kind). kind_of (if is_some o then names else names ++ record { name = x; kind = k } ∷ []) x) e.0
+    ∙ kind_last names x k e.0
 
 abbrev IsOther : List Known → List ℕ → Type 0
 IsOther names x = (kind_of names x ≡ Some kinds.Number) ⊎ (kind_of names x ≡ Some kinds.Extensible)
 
 module _ (before : Before) (x : List ℕ) where
-  number_assigned : (target : List ℕ) → (kind_of before.names target ≡ Some kinds.Number) ⊎ ((kind_of before.names target ≡ None) × (length before.names < MAX_NAMES)) → bytes_eq x target ≡ true → IsOther (with_name before.names target kinds.Number) x
-  number_assigned target h e = inl (ap (λ (y : List ℕ). kind_of (with_name before.names target kinds.Number) y) ((bytes_eq-Decides x target).0 e) ∙ kind_assigned before.names target kinds.Number h)
+  number_assigned : (target : List ℕ) → (kind_of before.names target ≡ Some kinds.Number) ⊎
+      ((kind_of before.names target ≡ None) × (length before.names < MAX_NAMES)) → bytes_eq x target ≡ true →
+      IsOther (with_name before.names target kinds.Number) x
+  number_assigned target h e = inl (ap (λ (y : List ℕ). kind_of (with_name before.names target kinds.Number) y)
+      ((bytes_eq-Decides x target).0 e) ∙ kind_assigned before.names target kinds.Number h)
 
   -- the target of a line that makes no cord is a number or an extensible cord after it
-  other_assigned : (l : Statement) → AreAllowed before (terms_of l) → (not (makes_cord l) && assigns l x) ≡ true → IsOther (names_after (terms_of l) before.names) x
+  other_assigned : (l : Statement) → AreAllowed before (terms_of l) → (not (makes_cord l) && assigns l x) ≡ true →
+      IsOther (names_after (terms_of l) before.names) x
   other_assigned (Len line target operand) h e = number_assigned target h.0 e
   other_assigned (Fetch line target operand index) h e = number_assigned target h.0 e
   other_assigned (Cmp line target left right) h e = number_assigned target h.0 e
@@ -53,7 +66,8 @@ module _ (before : Before) (x : List ℕ) where
   other_assigned (Assign line target value) h e = number_assigned target h.0 e
   other_assigned (Add line target left right) h e = number_assigned target h.0 e
   other_assigned (Sub line target left right) h e = number_assigned target h.0 e
-  other_assigned (EcInit line target) h e = inr (ap (λ (y : List ℕ). kind_of (with_name before.names target kinds.Extensible) y) ((bytes_eq-Decides x target).0 e) ∙ kind_assigned before.names target kinds.Extensible h.0)
+  other_assigned (EcInit line target) h e = inr (ap (λ (y : List ℕ). kind_of (with_name before.names target kinds.Extensible) y)
+      ((bytes_eq-Decides x target).0 e) ∙ kind_assigned before.names target kinds.Extensible h.0)
   other_assigned l h e = let bad : ⊥ = cc in absurd bad
 
   abbrev IsCord : Type 0
@@ -70,7 +84,8 @@ module _ (before : Before) (x : List ℕ) where
   argument_known : (args : List Argument) → AreAllowed before (map argument_term args) → has (cord_arguments args) x ≡ true → IsCord
   argument_known [] h e = let bad : ⊥ = cc in absurd bad
   argument_known (arguments.Number n ∷ args) h e = argument_known args h.1 e
-  argument_known (arguments.Cord y ∷ args) h e = pick (λ r. argument_known args h.1 r) (or_true (bytes_eq x y) (has (cord_arguments args) x) e)
+  argument_known (arguments.Cord y ∷ args) h e = pick (λ r. argument_known args h.1 r)
+      (or_true (bytes_eq x y) (has (cord_arguments args) x) e)
     where
       pick : (has (cord_arguments args) x ≡ true → IsCord) → (bytes_eq x y ≡ true) ⊎ (has (cord_arguments args) x ≡ true) → IsCord
       pick rest (inl r) = ap (λ (z : List ℕ). kind_of before.names z) ((bytes_eq-Decides x y).0 r) ∙ h.0
@@ -95,7 +110,8 @@ module _ (before : Before) (x : List ℕ) where
   read_known l h e = let bad : ⊥ = cc in absurd bad
 
 pub read_kinds : (g : Grammar) (b : List ℕ) (s : List Statement) → ReadsBy g b s → HasKinds s
-read_kinds g b s read p q x assigned = no_true (reads_at (slice_get s q) x) (λ reads. clash (slice_get s p) refl assigned (slice_get s q) refl reads)
+read_kinds g b s read p q x assigned = no_true (reads_at (slice_get s q) x)
+    (λ reads. clash (slice_get s p) refl assigned (slice_get s q) refl reads)
   where
     last : List Known
     last = (after_all s start).names
@@ -104,14 +120,17 @@ read_kinds g b s read p q x assigned = no_true (reads_at (slice_get s q) x) (λ 
     apart (inl e) f = let bad : Some kinds.Number ≡ Some kinds.Cord = sym e ∙ f in cc
     apart (inr e) f = let bad : Some kinds.Extensible ≡ Some kinds.Cord = sym e ∙ f in cc
 
-    clash : (o : Option Statement) → slice_get s p ≡ o → assigns_other_at o x ≡ true → (u : Option Statement) → slice_get s q ≡ u → reads_at u x ≡ true → ⊥
+    clash : (o : Option Statement) → slice_get s p ≡ o → assigns_other_at o x ≡ true → (u : Option Statement) → slice_get s q ≡ u →
+        reads_at u x ≡ true → ⊥
     clash None e f u here r = let bad : ⊥ = cc in bad
     clash (Some l) e f None here r = let bad : ⊥ = cc in bad
     clash (Some l) e f (Some m) here r =
         let one : IsSaid l last = line_said g read.lines 1 start s p l read.say e in
         let two : IsSaid m last = line_said g read.lines 1 start s q m read.say here in
-        apart (on (names_after (terms_of l) one.before.names) one.behind_stays.kept (other_assigned one.before x l one.allowed f)) (two.stays.kept x kinds.Cord (read_known two.before x m two.allowed r))
+        apart (on (names_after (terms_of l) one.before.names) one.behind_stays.kept (other_assigned one.before x l one.allowed f))
+        (two.stays.kept x kinds.Cord (read_known two.before x m two.allowed r))
       where
-        on : (names : List Known) → ((y : List ℕ) (k : Kind) → kind_of names y ≡ Some k → kind_of last y ≡ Some k) → IsOther names x → IsOther last x
+        on : (names : List Known) → ((y : List ℕ) (k : Kind) → kind_of names y ≡ Some k → kind_of last y ≡ Some k) → IsOther names x →
+            IsOther last x
         on names kept (inl h) = inl (kept x kinds.Number h)
         on names kept (inr h) = inr (kept x kinds.Extensible h)

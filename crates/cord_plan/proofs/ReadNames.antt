@@ -1,5 +1,6 @@
 -- In a script that is read, a name that a line reads as a cord is nowhere the name of a number.
-use Rattle.std.proofs.Common.{◌≡◌, ◌⊎◌, ℕ, zero, suc, ◌+◌, Bool, true, false, List, [], ◌∷◌, ◌++◌, map, Option, Some, None, refl, sym, ap, ◌∙◌, subst, inl, inr}
+use Rattle.std.proofs.Common.{◌≡◌, ◌⊎◌, ℕ, zero, suc, ◌+◌, Bool, true, false, List, [], ◌∷◌, ◌++◌, map, Option, Some, None, refl, sym, ap}
+use Rattle.std.proofs.Common.{◌∙◌, subst, inl, inr}
 use Rattle.std.specs.Prelude.{slice_get, is_some, if◌then◌else◌}
 use Rattle.std.specs.Str.{bytes_eq}
 use Rattle.cord_script.specs.declared.kinds.Kind.{Kind}
@@ -11,7 +12,8 @@ use Rattle.cord_syntax.specs.declared.statements.Statement.{Statement}
 use Rattle.cord_syntax.specs.declared.statements.Statement.TheVariants.{Chars, Nul, Cat, Catn, Catc, Substr, Put}
 use Rattle.cord_script.specs.Forms.{Grammar, Term, terms_of}
 use Rattle.cord_script.specs.Forms.Term.{Target, Operand, Value, Literal, FilePath, Applies, Compares, Formats}
-use Rattle.cord_script.specs.Script.{Before, kind_of, with_name, names_after, after, after_all, IsAllowed, AreAllowed, LinesSay, ReadsBy, start}
+use Rattle.cord_script.specs.Script.{Before, kind_of, with_name, names_after, after, after_all, IsAllowed, AreAllowed, LinesSay, ReadsBy}
+use Rattle.cord_script.specs.Script.{start}
 use Rattle.cord_plan.specs.Exprs.{Expr, number_names}
 use Rattle.cord_plan.specs.Operands.{has, read_by}
 use Rattle.cord_plan.specs.Forced.{own}
@@ -27,20 +29,25 @@ kind_behind : (names more : List Known) (y : List ℕ) (k : Kind) → kind_of na
 kind_behind [] more y k e = let bad : ⊥ = cc in absurd bad
 kind_behind (n ∷ names) more y k e = pick (bytes_eq n.name y) e (λ h. kind_behind names more y k h)
   where
-    pick : (v : Bool) → (if v then Some n.kind else kind_of names y) ≡ Some k → (kind_of names y ≡ Some k → kind_of (names ++ more) y ≡ Some k) → (if v then Some n.kind else kind_of (names ++ more) y) ≡ Some k
+    pick : (v : Bool) → (if v then Some n.kind else kind_of names y) ≡ Some k →
+        (kind_of names y ≡ Some k → kind_of (names ++ more) y ≡ Some k) → (if v then Some n.kind else kind_of (names ++ more) y) ≡ Some k
     pick true h others = h
     pick false h others = others h
 
 name_stays : (names : List Known) (x : List ℕ) (j : Kind) → Stays names (with_name names x j)
 name_stays names x j = record { kept = λ y k e. pick (is_some (kind_of names x)) y k e }
   where
-    pick : (v : Bool) (y : List ℕ) (k : Kind) → kind_of names y ≡ Some k → kind_of (if v then names else names ++ record { name = x; kind = j } ∷ []) y ≡ Some k
+    pick : (v : Bool) (y : List ℕ) (k : Kind) → kind_of names y ≡ Some k →
+        kind_of (if v then names else names ++ record { name = x; kind = j } ∷ []) y ≡ Some k
     pick true y k e = e
     pick false y k e = kind_behind names (record { name = x; kind = j } ∷ []) y k e
 
 terms_stay : (ts : List Term) (names : List Known) → Stays names (names_after ts names)
 terms_stay [] names = record { kept = λ y k e. e }
-terms_stay (Target j x ∷ ts) names = record { kept = λ y k e. (terms_stay ts (with_name names x j)).kept y k ((name_stays names x j).kept y k e) }
+terms_stay (Target j x ∷ ts) names = record {
+  kept = λ y k e. (terms_stay ts (with_name names x j)).kept y k
+      ((name_stays names x j).kept y k e);
+}
 terms_stay (Operand j x ∷ ts) names = terms_stay ts names
 terms_stay (Value n ∷ ts) names = terms_stay ts names
 terms_stay (Literal t ∷ ts) names = terms_stay ts names
@@ -51,7 +58,8 @@ terms_stay (Formats t ∷ ts) names = terms_stay ts names
 
 lines_stay : (ss : List Statement) (before : Before) → Stays before.names (after_all ss before).names
 lines_stay [] before = record { kept = λ y k e. e }
-lines_stay (s ∷ ss) before = record { kept = λ y k e. (lines_stay ss (after s before)).kept y k ((terms_stay (terms_of s) before.names).kept y k e) }
+lines_stay (s ∷ ss) before =
+    record { kept = λ y k e. (lines_stay ss (after s before)).kept y k ((terms_stay (terms_of s) before.names).kept y k e) }
 
 -- what is known in front of a line, where the script is read on to these names
 pub record IsSaid (l : Statement) (last : List Known) : Type 0 where
@@ -61,22 +69,33 @@ pub record IsSaid (l : Statement) (last : List Known) : Type 0 where
   pub behind_stays : Stays (names_after (terms_of l) before.names) last
 
 module _ (g : Grammar) where
-  pub line_said : (lines : List (List ℕ)) (n : ℕ) (before : Before) (ss : List Statement) (p : ℕ) (l : Statement) → LinesSay g n before lines ss → slice_get ss p ≡ Some l → IsSaid l (after_all ss before).names
+  pub line_said : (lines : List (List ℕ)) (n : ℕ) (before : Before) (ss : List Statement) (p : ℕ) (l : Statement) →
+      LinesSay g n before lines ss → slice_get ss p ≡ Some l → IsSaid l (after_all ss before).names
   line_said [] n before ss p l none e =
       let bad : ⊥ = (let gone : slice_get {X = Statement} [] p ≡ Some l = subst (λ (xs : List Statement). slice_get xs p ≡ Some l) none e in cc) in
       absurd bad
   line_said (line ∷ lines) n before ss p l (inl (idle, rest)) e = line_said lines (n + 1) before ss p l rest e
   line_said (line ∷ lines) n before ss p l (inr (busy, s, words, rest, is, has, says, others)) e =
-      subst (λ (xs : List Statement). IsSaid l (after_all xs before).names) (sym is) (at p (subst (λ (xs : List Statement). slice_get xs p ≡ Some l) is e) (λ k h. line_said lines (n + 1) (after s before) rest k l others h))
+      subst (λ (xs : List Statement). IsSaid l (after_all xs before).names) (sym is)
+      (at p (subst (λ (xs : List Statement). slice_get xs p ≡ Some l) is e)
+      (λ k h. line_said lines (n + 1) (after s before) rest k l others h))
     where
-      at : (k : ℕ) → slice_get (s ∷ rest) k ≡ Some l → ((m : ℕ) → slice_get rest m ≡ Some l → IsSaid l (after_all rest (after s before)).names) → IsSaid l (after_all (s ∷ rest) before).names
+      at : (k : ℕ) → slice_get (s ∷ rest) k ≡ Some l → ((m : ℕ) → slice_get rest m ≡ Some l →
+          IsSaid l (after_all rest (after s before)).names) → IsSaid l (after_all (s ∷ rest) before).names
       at zero h later =
           let same : s ≡ l = cc in
-          subst (λ (x : Statement). IsSaid x (after_all (s ∷ rest) before).names) same (record { before = before; allowed = says.allowed; stays = lines_stay (s ∷ rest) before; behind_stays = lines_stay rest (after s before) })
+          subst (λ (x : Statement). IsSaid x (after_all (s ∷ rest) before).names) same
+          (record {
+            before = before;
+            allowed = says.allowed;
+            stays = lines_stay (s ∷ rest) before;
+            behind_stays = lines_stay rest (after s before);
+          })
       at (suc k) h later = later k h
 
 -- the names of number operands are names of numbers
-number_known : (before : Before) (n : Number) (y : List ℕ) → IsAllowed before (Value n) → has (number_names n) y ≡ true → kind_of before.names y ≡ Some kinds.Number
+number_known : (before : Before) (n : Number) (y : List ℕ) → IsAllowed before (Value n) → has (number_names n) y ≡ true →
+    kind_of before.names y ≡ Some kinds.Number
 number_known before (Numeral z) y h e = let bad : ⊥ = cc in absurd bad
 number_known before (Named x) y h e = pick (or_true (bytes_eq y x) false e)
   where
@@ -84,14 +103,16 @@ number_known before (Named x) y h e = pick (or_true (bytes_eq y x) false e)
     pick (inl f) = ap (λ (z : List ℕ). kind_of before.names z) (same_bytes y x f) ∙ h
     pick (inr f) = let bad : ⊥ = cc in absurd bad
 
-two_known : (before : Before) (n m : Number) (y : List ℕ) → IsAllowed before (Value n) → IsAllowed before (Value m) → has (number_names n ++ number_names m) y ≡ true → kind_of before.names y ≡ Some kinds.Number
+two_known : (before : Before) (n m : Number) (y : List ℕ) → IsAllowed before (Value n) → IsAllowed before (Value m) →
+    has (number_names n ++ number_names m) y ≡ true → kind_of before.names y ≡ Some kinds.Number
 two_known before n m y h k e = pick (has_append (number_names n) (number_names m) y e)
   where
     pick : (has (number_names n) y ≡ true) ⊎ (has (number_names m) y ≡ true) → kind_of before.names y ≡ Some kinds.Number
     pick (inl f) = number_known before n y h f
     pick (inr f) = number_known before m y k f
 
-numbers_known : (l : Statement) (before : Before) (y : List ℕ) → AreAllowed before (terms_of l) → has (numbers_named l) y ≡ true → kind_of before.names y ≡ Some kinds.Number
+numbers_known : (l : Statement) (before : Before) (y : List ℕ) → AreAllowed before (terms_of l) → has (numbers_named l) y ≡ true →
+    kind_of before.names y ≡ Some kinds.Number
 numbers_known (Chars line target byte n) before y h e = two_known before byte n y h.1.0 h.1.1.0 e
 numbers_known (Nul line target n) before y h e = number_known before n y h.1.0 e
 numbers_known (Catc line target operand byte) before y h e = number_known before byte y h.1.1.0 e
@@ -99,7 +120,8 @@ numbers_known (Substr line target operand start n) before y h e = two_known befo
 numbers_known l before y h e = let bad : ⊥ = cc in absurd bad
 
 -- the cords that a line with an expression reads are names of cords
-operands_known : (before : Before) (xs : List (List ℕ)) (k : ℕ) (y : List ℕ) → AreAllowed before (map (Operand kinds.Cord) xs) → slice_get xs k ≡ Some y → kind_of before.names y ≡ Some kinds.Cord
+operands_known : (before : Before) (xs : List (List ℕ)) (k : ℕ) (y : List ℕ) → AreAllowed before (map (Operand kinds.Cord) xs) →
+    slice_get xs k ≡ Some y → kind_of before.names y ≡ Some kinds.Cord
 operands_known before [] k y h e = let bad : ⊥ = cc in absurd bad
 operands_known before (x ∷ xs) zero y h e =
     let same : x ≡ y = cc in
@@ -110,7 +132,8 @@ abbrev pub HasOwn : Option Expr → Type 0
 HasOwn None = ⊥
 HasOwn (Some e) = Unit {0}
 
-reads_known : (l : Statement) (before : Before) (k : ℕ) (y : List ℕ) → HasOwn (own l) → AreAllowed before (terms_of l) → slice_get (read_by l) k ≡ Some y → kind_of before.names y ≡ Some kinds.Cord
+reads_known : (l : Statement) (before : Before) (k : ℕ) (y : List ℕ) → HasOwn (own l) → AreAllowed before (terms_of l) →
+    slice_get (read_by l) k ≡ Some y → kind_of before.names y ≡ Some kinds.Cord
 reads_known (Cat line target left right) before k y o h e = operands_known before (left ∷ right ∷ []) k y (h.1.0, (h.1.1.0, tt)) e
 reads_known (Catn line target many) before k y o h e = operands_known before many k y h.1 e
 reads_known (Catc line target operand byte) before k y o h e = operands_known before (operand ∷ []) k y (h.1.0, tt) e
@@ -121,7 +144,8 @@ reads_known (Nul line target n) before k y o h e = let bad : ⊥ = cc in absurd 
 reads_known l before k y o h e = absurd o
 
 -- a cord that a line with an expression reads is no number
-pub no_number : (g : Grammar) (b : List ℕ) (s : List Statement) (p k : ℕ) (l : Statement) (e : Expr) (t : List ℕ) → ReadsBy g b s → slice_get s p ≡ Some l → own l ≡ Some e → slice_get (read_by l) k ≡ Some t → IsNoNumber s t
+pub no_number : (g : Grammar) (b : List ℕ) (s : List Statement) (p k : ℕ) (l : Statement) (e : Expr) (t : List ℕ) → ReadsBy g b s →
+    slice_get s p ≡ Some l → own l ≡ Some e → slice_get (read_by l) k ≡ Some t → IsNoNumber s t
 no_number g b s p k l e t read at is operand = λ q. at_line (slice_get s q) q refl
   where
     last : List Known
@@ -130,7 +154,8 @@ no_number g b s p k l e t read at is operand = λ q. at_line (slice_get s q) q r
     cord : kind_of last t ≡ Some kinds.Cord
     cord =
         let said : IsSaid l last = line_said g read.lines 1 start s p l read.say at in
-        said.stays.kept t kinds.Cord (reads_known l said.before k t (subst (λ (o : Option Expr). HasOwn o) (sym is) tt) said.allowed operand)
+        said.stays.kept t kinds.Cord (reads_known l said.before k t (subst (λ (o : Option Expr). HasOwn o) (sym is) tt) said.allowed
+        operand)
 
     at_line : (o : Option Statement) (q : ℕ) → slice_get s q ≡ o → has (numbers_named_at o) t ≡ false
     at_line None q here = refl

@@ -1,5 +1,6 @@
 -- The last lines that assign and read a name: what a note does to the places, and what they tell.
-use Rattle.std.proofs.Common.{◌≡◌, ◌⊎◌, ℕ, zero, suc, ◌+◌, ◌<◌, ◌≤◌, Bool, true, false, ◌||◌, List, [], ◌∷◌, take, length, get_or, set, Option, Some, None, inl, inr, refl, sym, ap, ◌∙◌, arith}
+use Rattle.std.proofs.Common.{◌≡◌, ◌⊎◌, ℕ, zero, suc, ◌+◌, ◌<◌, ◌≤◌, Bool, true, false, ◌||◌, List, [], ◌∷◌, take, length, get_or, set}
+use Rattle.std.proofs.Common.{Option, Some, None, inl, inr, refl, sym, ap, ◌∙◌, arith}
 use Rattle.std.specs.Prelude.{slice_get, option_map, if◌then◌else◌}
 use Rattle.std.specs.Str.{bytes_eq}
 use Rattle.std.proofs.Math.Bool.{or-false}
@@ -40,10 +41,13 @@ module _ (t : Numbering) (p : ℕ) where
   notes_same : (f h : List ℕ → Bool) (old new : List (Option ℕ)) → ((x : List ℕ) → h x ≡ f x) → Notes t f p old new → Notes t h p old new
   notes_same f h old new same notes x = notes x ∙ ap (λ (v : Bool). option_map (λ o. noted v p o) (entry_of t old x)) (sym (same x))
 
-  pub notes_or : (f h : List ℕ → Bool) (old now new : List (Option ℕ)) → Notes t f p old now → Notes t h p now new → Notes t (λ x. f x || h x) p old new
-  notes_or f h old now new one two x = two x ∙ (ap (λ (o : Option (Option ℕ)). option_map (λ q. noted (h x) p q) o) (one x) ∙ both (f x) (h x) (entry_of t old x))
+  pub notes_or : (f h : List ℕ → Bool) (old now new : List (Option ℕ)) → Notes t f p old now → Notes t h p now new →
+      Notes t (λ x. f x || h x) p old new
+  notes_or f h old now new one two x = two x ∙ (ap (λ (o : Option (Option ℕ)). option_map (λ q. noted (h x) p q) o) (one x)
+      ∙ both (f x) (h x) (entry_of t old x))
     where
-      both : (v w : Bool) (o : Option (Option ℕ)) → option_map (λ q. noted w p q) (option_map (λ q. noted v p q) o) ≡ option_map (λ q. noted (v || w) p q) o
+      both : (v w : Bool) (o : Option (Option ℕ)) → option_map (λ q. noted w p q) (option_map (λ q. noted v p q) o)
+          ≡ option_map (λ q. noted (v || w) p q) o
       both v w None = refl
       both true true (Some q) = refl
       both true false (Some q) = refl
@@ -75,7 +79,8 @@ module _ (t : Numbering) (p : ℕ) where
             let number : number_of t x ≡ Some n = ap (λ (z : List ℕ). number_of t z) (same_bytes x y f) ∙ is in
             absurd (differ (let same : m ≡ n = cc in same))
 
-        by_place : (m : ℕ) → number_of t x ≡ Some m → (m ≡ n) ⊎ (m ≡ n → ⊥) → slice_get (set places n (Some p)) m ≡ option_map (λ o. noted (bytes_eq x y) p o) (slice_get places m)
+        by_place : (m : ℕ) → number_of t x ≡ Some m → (m ≡ n) ⊎ (m ≡ n → ⊥) →
+            slice_get (set places n (Some p)) m ≡ option_map (λ o. noted (bytes_eq x y) p o) (slice_get places m)
         by_place m e (inl same) =
             let mine : number_of t x ≡ Some n = e ∙ ap Some same in
             let there : slice_get places n ≡ Some (get_or places n None) = slice_get-get_or places n None lt in
@@ -85,7 +90,8 @@ module _ (t : Numbering) (p : ℕ) where
             ∙ (unnoted p (slice_get places m)
             ∙ ap (λ (v : Bool). option_map (λ o. noted v p o) (slice_get places m)) (sym (other_name m e differ (bytes_eq x y) refl)))
 
-        by_number : (o : Option ℕ) → number_of t x ≡ o → entry_at (set places n (Some p)) o ≡ option_map (λ q. noted (bytes_eq x y) p q) (entry_at places o)
+        by_number : (o : Option ℕ) → number_of t x ≡ o → entry_at (set places n (Some p)) o
+            ≡ option_map (λ q. noted (bytes_eq x y) p q) (entry_at places o)
         by_number None e = refl
         by_number (Some m) e = by_place m e (cases_eq m n)
 
@@ -99,21 +105,34 @@ module _ (t : Numbering) (p : ℕ) where
           let none : entry_of t places x ≡ None = ap (λ (z : List ℕ). entry_of t places z) (same_bytes x y e) ∙ ap (λ (o : Option ℕ). entry_at places o) is in
           rw none refl
 
-  pub notes_more : (names : List (List ℕ)) (i : ℕ) (y : List ℕ) (old now new : List (Option ℕ)) → i < length names → y ≡ get_or names i y → Notes t (λ x. has (take i names) x) p old now → Notes t (λ x. bytes_eq x y) p now new → Notes t (λ x. has (take (i + 1) names) x) p old new
-  notes_more names i y old now new lt is one two = notes_same (λ x. has (take i names) x || bytes_eq x y) (λ x. has (take (i + 1) names) x) old new (λ x. has_more names i y x lt is) (notes_or (λ x. has (take i names) x) (λ x. bytes_eq x y) old now new one two)
+  pub notes_more : (names : List (List ℕ)) (i : ℕ) (y : List ℕ) (old now new : List (Option ℕ)) → i < length names → y ≡ get_or names i y →
+      Notes t (λ x. has (take i names) x) p old now → Notes t (λ x. bytes_eq x y) p now new →
+      Notes t (λ x. has (take (i + 1) names) x) p old new
+  notes_more names i y old now new lt is one two = notes_same (λ x. has (take i names) x || bytes_eq x y)
+      (λ x. has (take (i + 1) names) x) old new (λ x. has_more names i y x lt is)
+      (notes_or (λ x. has (take i names) x) (λ x. bytes_eq x y) old now new one two)
 
   -- an argument more: a number, or a cord
-  pub notes_number_more : (arguments : List Argument) (i : ℕ) (e : Argument) (n : numbers.Number) (old new : List (Option ℕ)) → i < length arguments → e ≡ get_or arguments i e → e ≡ Number n → Notes t (λ x. has (cord_arguments (take i arguments)) x) p old new → Notes t (λ x. has (cord_arguments (take (i + 1) arguments)) x) p old new
-  notes_number_more arguments i e n old new lt is c one = notes_same (λ x. has (cord_arguments (take i arguments)) x) (λ x. has (cord_arguments (take (i + 1) arguments)) x) old new (λ x.
-      ap (λ (xs : List (List ℕ)). has xs x) (arguments_more arguments i e lt is) ∙ has_both (cord_arguments (take i arguments)) (cord_arguments (e ∷ [])) x ∙ rw c (or-false (has (cord_arguments (take i arguments)) x))) one
+  pub notes_number_more : (arguments : List Argument) (i : ℕ) (e : Argument) (n : numbers.Number) (old new : List (Option ℕ)) →
+      i < length arguments → e ≡ get_or arguments i e → e ≡ Number n → Notes t (λ x. has (cord_arguments (take i arguments)) x) p old new →
+      Notes t (λ x. has (cord_arguments (take (i + 1) arguments)) x) p old new
+  notes_number_more arguments i e n old new lt is c one = notes_same (λ x. has (cord_arguments (take i arguments)) x)
+      (λ x. has (cord_arguments (take (i + 1) arguments)) x) old new (λ x.
+      ap (λ (xs : List (List ℕ)). has xs x) (arguments_more arguments i e lt is) ∙ has_both (cord_arguments (take i arguments))
+      (cord_arguments (e ∷ [])) x ∙ rw c (or-false (has (cord_arguments (take i arguments)) x))) one
 
-  pub notes_cord_more : (arguments : List Argument) (i : ℕ) (e : Argument) (y : List ℕ) (old now new : List (Option ℕ)) → i < length arguments → e ≡ get_or arguments i e → e ≡ Cord y → Notes t (λ x. has (cord_arguments (take i arguments)) x) p old now → Notes t (λ x. bytes_eq x y) p now new → Notes t (λ x. has (cord_arguments (take (i + 1) arguments)) x) p old new
-  notes_cord_more arguments i e y old now new lt is c one two = notes_same (λ z. has (cord_arguments (take i arguments)) z || bytes_eq z y) (λ x. has (cord_arguments (take (i + 1) arguments)) x) old new (λ x.
-      ap (λ (xs : List (List ℕ)). has xs x) (arguments_more arguments i e lt is) ∙ has_both (cord_arguments (take i arguments)) (cord_arguments (e ∷ [])) x ∙ rw (c, has_one y x) refl)
+  pub notes_cord_more : (arguments : List Argument) (i : ℕ) (e : Argument) (y : List ℕ) (old now new : List (Option ℕ)) →
+      i < length arguments → e ≡ get_or arguments i e → e ≡ Cord y → Notes t (λ x. has (cord_arguments (take i arguments)) x) p old now →
+      Notes t (λ x. bytes_eq x y) p now new → Notes t (λ x. has (cord_arguments (take (i + 1) arguments)) x) p old new
+  notes_cord_more arguments i e y old now new lt is c one two = notes_same (λ z. has (cord_arguments (take i arguments)) z || bytes_eq z y)
+      (λ x. has (cord_arguments (take (i + 1) arguments)) x) old new (λ x.
+      ap (λ (xs : List (List ℕ)). has xs x) (arguments_more arguments i e lt is) ∙ has_both (cord_arguments (take i arguments))
+      (cord_arguments (e ∷ [])) x ∙ rw (c, has_one y x) refl)
       (notes_or (λ z. has (cord_arguments (take i arguments)) z) (λ z. bytes_eq z y) old now new one two)
 
 -- what a place has after a note, where it had the last one before
-pub last_then : (holds : Bool) (p : ℕ) (e : Option (Option ℕ)) (o last : Option ℕ) → option_map (λ q. noted holds p q) e ≡ Some o → ((q : Option ℕ) → e ≡ Some q → q ≡ last) → o ≡ (if holds then Some p else last)
+pub last_then : (holds : Bool) (p : ℕ) (e : Option (Option ℕ)) (o last : Option ℕ) → option_map (λ q. noted holds p q) e ≡ Some o →
+    ((q : Option ℕ) → e ≡ Some q → q ≡ last) → o ≡ (if holds then Some p else last)
 last_then holds p None o last is old = let bad : ⊥ = cc in absurd bad
 last_then true p (Some q) o last is old = let same : o ≡ Some p = cc in same
 last_then false p (Some q) o last is old = let same : o ≡ q = cc in same ∙ old q refl

@@ -1,5 +1,6 @@
 -- A `sub` over a `cat`, resolved by the lengths of the members.
-use Rattle.std.proofs.Common.{◌≡◌, ℕ, ◌+◌, ◌-◌, ◌<◌, ◌≤◌, pos, Bool, true, false, List, [], ◌∷◌, ◌++◌, length, take, drop, Result, Ok, refl, sym, ap, ◌∙◌, arith, append-nil, length-append}
+use Rattle.std.proofs.Common.{◌≡◌, ℕ, ◌+◌, ◌-◌, ◌<◌, ◌≤◌, pos, Bool, true, false, List, [], ◌∷◌, ◌++◌, length, take, drop, Result, Ok, refl}
+use Rattle.std.proofs.Common.{sym, ap, ◌∙◌, arith, append-nil, length-append}
 use Rattle.std.specs.Prelude.{min, nat_le, nat_lt, ◌&&◌, if◌then◌else◌}
 use Rattle.std.proofs.Math.Seq.{take-append-add, drop-append-add, take-nil, drop-nil}
 use Rattle.std.proofs.lemmas.Bool.{leb-true, leb-false, ltb-false}
@@ -24,7 +25,8 @@ take_both n t u = pick (nat_le n (length t)) refl
     pick false e =
         let long : length t < n = leb-false n (length t) e in
         let sum : n ≡ length t + (n - length t) = omega arith in
-        ap (λ (k : ℕ). take k (t ++ u)) sum ∙ take-append-add t u (n - length t) ∙ ap (λ (x : List ℕ). x ++ take (n - length t) u) (sym (take_all n t (omega arith)))
+        ap (λ (k : ℕ). take k (t ++ u)) sum ∙ take-append-add t u (n - length t) ∙ ap (λ (x : List ℕ). x ++ take (n - length t) u)
+        (sym (take_all n t (omega arith)))
 
 -- the bytes after the first of two texts
 drop_both : (i : ℕ) (t u : List ℕ) → drop i (t ++ u) ≡ drop i t ++ drop (i - length t) u
@@ -38,7 +40,8 @@ drop_both i t u = pick (nat_le i (length t)) refl
     pick false e =
         let long : length t < i = leb-false i (length t) e in
         let sum : i ≡ length t + (i - length t) = omega arith in
-        ap (λ (k : ℕ). drop k (t ++ u)) sum ∙ drop-append-add t u (i - length t) ∙ ap (λ (x : List ℕ). x ++ drop (i - length t) u) (sym (drop_all i t (omega arith)))
+        ap (λ (k : ℕ). drop k (t ++ u)) sum ∙ drop-append-add t u (i - length t) ∙ ap (λ (x : List ℕ). x ++ drop (i - length t) u)
+        (sym (drop_all i t (omega arith)))
 
 -- a part of two texts is a part of each
 part_both : (i n : ℕ) (t u : List ℕ) → take n (drop i (t ++ u)) ≡ take n (drop i t) ++ take (n - (length t - i)) (drop (i - length t) u)
@@ -60,16 +63,21 @@ none_of_it i n t = pick (nat_lt i (length t)) (nat_lt 0 n) refl refl
     pick false w e f h = ap (λ (x : List ℕ). take n x) (drop_all i t (ltb-false i (length t) e)) ∙ take-nil n
 
 module _ (limit : ℕ) (s : State) where
-  picked_joined : (e : Expr) (t : List ℕ) (i n : ℕ) (others : Exprs) (rest : List ℕ) → text_in limit s e ≡ Ok t → length t ≤ limit → joined_in limit s others ≡ Ok rest → joined_in limit s (picked e (length t) i n others) ≡ Ok (take n (drop i t) ++ rest)
+  picked_joined : (e : Expr) (t : List ℕ) (i n : ℕ) (others : Exprs) (rest : List ℕ) → text_in limit s e ≡ Ok t → length t ≤ limit →
+      joined_in limit s others ≡ Ok rest → joined_in limit s (picked e (length t) i n others) ≡ Ok (take n (drop i t) ++ rest)
   picked_joined e t i n others rest h short k = pick (nat_lt i (length t) && nat_lt 0 n) refl
     where
-      pick : (v : Bool) → (nat_lt i (length t) && nat_lt 0 n) ≡ v → joined_in limit s (if v then member (sub e (Numeral (pos i)) (Numeral (pos (min n (length t - i))))) others else others) ≡ Ok (take n (drop i t) ++ rest)
+      pick : (v : Bool) → (nat_lt i (length t) && nat_lt 0 n) ≡ v →
+          joined_in limit s (if v then member (sub e (Numeral (pos i)) (Numeral (pos (min n (length t - i))))) others else others)
+          ≡ Ok (take n (drop i t) ++ rest)
       pick true e_is =
           let m = min n (length t - i) in
           let fits : length (take m (drop i t)) ≤ limit = omega (arith, length-take m (drop i t), length-drop i t) in
           let part : take m (drop i t) ≡ take n (drop i t) = ap (λ (k : ℕ). take (min n k) (drop i t)) (sym (length-drop i t)) ∙ take_min n (drop i t) in
-          ap (λ (r : Result (List ℕ) FaultKind). and_then (and_then r (λ text. within limit (take m (drop i text)))) (λ text. and_then (joined_in limit s others) (λ more. Ok (text ++ more)))) h
-          ∙ ap (λ (r : Result (List ℕ) FaultKind). and_then r (λ text. and_then (joined_in limit s others) (λ more. Ok (text ++ more)))) (is_within limit (take m (drop i t)) fits)
+          ap (λ (r : Result (List ℕ) FaultKind). and_then (and_then r (λ text. within limit (take m (drop i text))))
+          (λ text. and_then (joined_in limit s others) (λ more. Ok (text ++ more)))) h
+          ∙ ap (λ (r : Result (List ℕ) FaultKind). and_then r (λ text. and_then (joined_in limit s others) (λ more. Ok (text ++ more))))
+          (is_within limit (take m (drop i t)) fits)
           ∙ ap (λ (r : Result (List ℕ) FaultKind). and_then r (λ more. Ok (take m (drop i t) ++ more))) k
           ∙ ap (λ (x : List ℕ). Ok (x ++ rest)) part
       pick false e_is = k ∙ ap (λ (x : List ℕ). Ok (x ++ rest)) (sym (none_of_it i n t e_is))
@@ -79,7 +87,8 @@ module _ (limit : ℕ) (s : State) where
       let told : Ok (length t) ≡ length_in limit s e = ap (λ (r : Result (List ℕ) FaultKind). length_of r) (sym k) ∙ sym (measure_is limit s.texts (λ n. number_value s n) e) in
       cc
 
-  resolved_joined : (es : Exprs) (lens text : List ℕ) (i n : ℕ) → HaveLengths limit s es lens → joined_in limit s es ≡ Ok text → length text ≤ limit → joined_in limit s (resolved es lens i n) ≡ Ok (take n (drop i text))
+  resolved_joined : (es : Exprs) (lens text : List ℕ) (i n : ℕ) → HaveLengths limit s es lens → joined_in limit s es ≡ Ok text →
+      length text ≤ limit → joined_in limit s (resolved es lens i n) ≡ Ok (take n (drop i text))
   resolved_joined nothing [] text i n lengths h short =
       let empty : [] ≡ text = cc in
       ap (λ (x : List ℕ). Ok x) (sym (take-nil n) ∙ ap (λ (x : List ℕ). take n x) (sym (drop-nil i) ∙ ap (λ (x : List ℕ). drop i x) empty))
@@ -101,7 +110,8 @@ module _ (limit : ℕ) (s : State) where
       ∙ ap (λ (x : List ℕ). Ok x) (sym (part_both i n t u) ∙ ap (λ (x : List ℕ). take n (drop i x)) whole)
 
   -- the members, resolved, mean what the part of the joined text does
-  pub resolves : (es : Exprs) (lens text : List ℕ) (i n : ℕ) → HaveLengths limit s es lens → text_in limit s (cat es) ≡ Ok text → text_in limit s (cat (resolved es lens i n)) ≡ text_in limit s (sub (cat es) (Numeral (pos i)) (Numeral (pos n)))
+  pub resolves : (es : Exprs) (lens text : List ℕ) (i n : ℕ) → HaveLengths limit s es lens → text_in limit s (cat es) ≡ Ok text →
+      text_in limit s (cat (resolved es lens i n)) ≡ text_in limit s (sub (cat es) (Numeral (pos i)) (Numeral (pos n)))
   resolves es lens text i n lengths h =
       let j = cat_joined limit s es text h in
       ap (λ (r : Result (List ℕ) FaultKind). and_then r (λ t. within limit t)) (resolved_joined es lens text i n lengths j.joined j.short)

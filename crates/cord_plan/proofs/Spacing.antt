@@ -1,5 +1,6 @@
 -- Words between blanks, with what stands after them.
-use Rattle.std.proofs.Common.{◌≡◌, ◌<◌, ℕ, zero, suc, ◌+◌, List, [], ◌∷◌, ◌++◌, length, take, drop, get_or, map, refl, sym, ap, ◌∙◌, append-nil, append_assoc, arith}
+use Rattle.std.proofs.Common.{◌≡◌, ◌<◌, ℕ, zero, suc, ◌+◌, List, [], ◌∷◌, ◌++◌, length, take, drop, get_or, map, refl, sym, ap, ◌∙◌}
+use Rattle.std.proofs.Common.{append-nil, append_assoc, arith}
 use Rattle.cord_plan.specs.Shown.{spaced}
 use Rattle.cord_plan.proofs.Writing.{AreJoined, joined_next, joined_all}
 
@@ -24,13 +25,17 @@ pub record AreSpaced {A : Type 0} (text more : List A → List ℕ) (one : A →
   pub behind : AreJoined more (λ x. 32 ∷ one x)
 
 module _ {A : Type 0} (text more : List A → List ℕ) (one : A → List ℕ) (j : AreSpaced text more one) where
-  pub spaced_next : (xs : List A) (i : ℕ) (d : A) → i < length xs → text (take (i + 1) xs) ≡ text (take i xs) ++ (blank_at i ++ one (get_or xs i d))
+  pub spaced_next : (xs : List A) (i : ℕ) (d : A) → i < length xs →
+      text (take (i + 1) xs) ≡ text (take i xs) ++ (blank_at i ++ one (get_or xs i d))
   spaced_next [] i d h = absurd (omega (arith, h))
-  spaced_next (x ∷ xs) zero d h = j.cons x [] ∙ ap (λ (t : List ℕ). one x ++ t) j.behind.nil ∙ append-nil (one x) ∙ ap (λ (t : List ℕ). t ++ one x) (sym j.nil)
+  spaced_next (x ∷ xs) zero d h = j.cons x [] ∙ ap (λ (t : List ℕ). one x ++ t) j.behind.nil ∙ append-nil (one x)
+      ∙ ap (λ (t : List ℕ). t ++ one x) (sym j.nil)
   spaced_next (x ∷ xs) (suc i) d h =
       let e : suc i + 1 ≡ suc (i + 1) = omega arith in
-      ap (λ k. text (take k (x ∷ xs))) e ∙ j.cons x (take (i + 1) xs) ∙ ap (λ t. one x ++ t) (joined_next more (λ y. 32 ∷ one y) xs i d j.behind (omega (arith, h)))
-      ∙ sym (append_assoc (one x) (more (take i xs)) (32 ∷ one (get_or xs i d))) ∙ ap (λ (t : List ℕ). t ++ 32 ∷ one (get_or xs i d)) (sym (j.cons x (take i xs)))
+      ap (λ k. text (take k (x ∷ xs))) e ∙ j.cons x (take (i + 1) xs)
+      ∙ ap (λ t. one x ++ t) (joined_next more (λ y. 32 ∷ one y) xs i d j.behind (omega (arith, h)))
+      ∙ sym (append_assoc (one x) (more (take i xs)) (32 ∷ one (get_or xs i d))) ∙ ap (λ (t : List ℕ). t ++ 32 ∷ one (get_or xs i d))
+      (sym (j.cons x (take i xs)))
 
   -- what stands after so many of them
   pub rest_of : ℕ → List A → List ℕ
@@ -43,7 +48,9 @@ module _ {A : Type 0} (text more : List A → List ℕ) (one : A → List ℕ) (
   spaced_all [] zero = sym (append-nil (text []))
   spaced_all [] (suc i) = sym (append-nil (text []))
   spaced_all (x ∷ xs) zero = ap (λ (t : List ℕ). t ++ text (x ∷ xs)) (sym j.nil)
-  spaced_all (x ∷ xs) (suc i) = j.cons x xs ∙ ap (λ t. one x ++ t) (joined_all more (λ y. 32 ∷ one y) xs i j.behind) ∙ sym (append_assoc (one x) (more (take i xs)) (more (drop i xs))) ∙ ap (λ (t : List ℕ). t ++ more (drop i xs)) (sym (j.cons x (take i xs)))
+  spaced_all (x ∷ xs) (suc i) = j.cons x xs ∙ ap (λ t. one x ++ t) (joined_all more (λ y. 32 ∷ one y) xs i j.behind)
+      ∙ sym (append_assoc (one x) (more (take i xs)) (more (drop i xs)))
+      ∙ ap (λ (t : List ℕ). t ++ more (drop i xs)) (sym (j.cons x (take i xs)))
 
 -- words
 abbrev pub behind_words : {A : Type 0} → (A → List ℕ) → List A → List ℕ
@@ -58,5 +65,7 @@ pub words_spaced : {A : Type 0} (one : A → List ℕ) → AreSpaced (λ xs. spa
 words_spaced one = record { nil = refl; cons = words_cons one; behind = record { nil = refl; cons = λ x xs. refl } }
 
 -- what is made of a line's head and what is after it
-pub given_line : (line verb target made : List ℕ) → (line ++ 32 ∷ (verb ++ 32 ∷ (target ++ 32 ∷ []))) ++ made ≡ spaced (line ∷ verb ∷ target ∷ made ∷ [])
-given_line line verb target made = three_words line verb (target ++ 32 ∷ []) made ∙ ap (λ (t : List ℕ). line ++ 32 ∷ (verb ++ 32 ∷ t)) (append_assoc target (32 ∷ []) made)
+pub given_line : (line verb target made : List ℕ) → (line ++ 32 ∷ (verb ++ 32 ∷ (target ++ 32 ∷ []))) ++ made
+    ≡ spaced (line ∷ verb ∷ target ∷ made ∷ [])
+given_line line verb target made = three_words line verb (target ++ 32 ∷ []) made ∙ ap (λ (t : List ℕ). line ++ 32 ∷ (verb ++ 32 ∷ t))
+    (append_assoc target (32 ∷ []) made)

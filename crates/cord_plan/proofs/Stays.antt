@@ -1,5 +1,6 @@
 -- What holds of each state of a simulated run.
-use Rattle.std.proofs.Common.{◌≡◌, ℕ, zero, suc, ◌+◌, ℤ, pos, negsuc, Bool, true, false, List, [], ◌∷◌, map, Option, Some, None, Result, Ok, Err, refl, sym, ap, ◌∙◌, subst}
+use Rattle.std.proofs.Common.{◌≡◌, ℕ, zero, suc, ◌+◌, ℤ, pos, negsuc, Bool, true, false, List, [], ◌∷◌, map, Option, Some, None, Result, Ok}
+use Rattle.std.proofs.Common.{Err, refl, sym, ap, ◌∙◌, subst}
 use Rattle.std.specs.Prelude.{slice_get, if◌then◌else◌, nat_lt}
 use Rattle.std.specs.Option.{option_map}
 use Rattle.std.proofs.lemmas.Option.{slice_get-map}
@@ -8,7 +9,8 @@ use Rattle.cord_meaning.specs.declared.ends.FaultKind.{FaultKind}
 use Rattle.cord_meaning.specs.declared.ends.FaultKind.TheVariants.{TooManyTurns}
 use Rattle.cord_meaning.specs.Blocks.{Shape, Simple, Loop, Branch, Otherwise, Close, IsNested}
 use Rattle.cord_meaning.specs.Paths.{Next}
-use Rattle.cord_meaning.specs.Machine.{Rules, Block, Turns, Chosen, Config, notes, faults, acted, turned, begins, repeats, chooses, closes, if_running, jump_from, runs_shape, runs, step, after}
+use Rattle.cord_meaning.specs.Machine.{Rules, Block, Turns, Chosen, Config, notes, faults, acted, turned, begins, repeats, chooses, closes}
+use Rattle.cord_meaning.specs.Machine.{if_running, jump_from, runs_shape, runs, step, after}
 use Rattle.cord_meaning.specs.Simulation.{Agree, IsControl, Simulates}
 use Rattle.cord_meaning.proofs.Follows.{follows}
 
@@ -63,7 +65,8 @@ module _ {M T : Type 0} (rules : Rules M T) (most : ℕ) (ops : List M) where
       on : c.ended ≡ None → Next shapes p c.place → J c.place c.state
 
     module _ (c : Config T) (here : J c.place c.state) where
-      simple_made : (line : ℕ) (r : Result (T × List ℕ) FaultKind) → ((u : T × List ℕ) → r ≡ Ok u → J (c.place + 1) u.0) → Made c.place (acted c line r)
+      simple_made : (line : ℕ) (r : Result (T × List ℕ) FaultKind) → ((u : T × List ℕ) → r ≡ Ok u → J (c.place + 1) u.0) →
+          Made c.place (acted c line r)
       simple_made line (Ok u) g = record { state = tells (c.place + 1) u.0 (g u refl); on = λ running next. g u refl }
       simple_made line (Err kind) g = record { state = tells c.place c.state here; on = λ running next. absurd (ended_not _ running) }
 
@@ -76,7 +79,8 @@ module _ {M T : Type 0} (rules : Rules M T) (most : ℕ) (ops : List M) where
             on = λ running next. subst (λ (t : T). J d.place t) same (moves c.place d.place x at k next c.state here);
           }
 
-      shape_made : (m : M) → slice_get ops c.place ≡ Some m → (x : Shape) → rules.shape m ≡ x → slice_get shapes c.place ≡ Some x → Made c.place (runs_shape rules most ops c m x)
+      shape_made : (m : M) → slice_get ops c.place ≡ Some m → (x : Shape) → rules.shape m ≡ x → slice_get shapes c.place ≡ Some x →
+          Made c.place (runs_shape rules most ops c m x)
       shape_made m e Simple is at = simple_made (rules.line m) (rules.act c.place m c.state) (λ u f. acts c.place m e is c.state here u f)
       shape_made m e Loop is at = control_made m Loop at tt
       shape_made m e Branch is at = control_made m Branch at tt
@@ -85,14 +89,16 @@ module _ {M T : Type 0} (rules : Rules M T) (most : ℕ) (ops : List M) where
 
       runs_made : (o : Option M) → slice_get ops c.place ≡ o → Made c.place (runs rules most ops c o)
       runs_made None e = record { state = tells c.place c.state here; on = λ running next. absurd (ended_not _ running) }
-      runs_made (Some m) e = shape_made m e (rules.shape m) refl (slice_get-map rules.shape ops c.place ∙ ap (λ (o : Option M). option_map rules.shape o) e)
+      runs_made (Some m) e = shape_made m e (rules.shape m) refl
+          (slice_get-map rules.shape ops c.place ∙ ap (λ (o : Option M). option_map rules.shape o) e)
 
     module _ (a : T) (first : J 0 a) where
       record Stays (c : Config T) : Type 0 where
         state : P c.state
         on : c.ended ≡ None → J c.place c.state
 
-      one_step : (k : ℕ) (o : Option End) → (after rules most ops k a).ended ≡ o → Stays (after rules most ops k a) → Stays (after rules most ops (suc k) a)
+      one_step : (k : ℕ) (o : Option End) → (after rules most ops k a).ended ≡ o → Stays (after rules most ops k a) →
+          Stays (after rules most ops (suc k) a)
       one_step k None e h =
           let c : Config T = after rules most ops k a in
           let stepped : runs rules most ops c (slice_get ops c.place) ≡ step rules most ops c = ap (λ (o : Option End). if_running o c (runs rules most ops c (slice_get ops c.place))) (sym e) in
@@ -119,25 +125,38 @@ module _ {L M S T : Type 0} (rules : Rules L S) (others : Rules M T) (most : ℕ
   beside_next p (Ok r) u g = (r.0, g.1)
   beside_next p (Err kind) u g = absurd g
 
-  statement_at : (p : ℕ) (m : M) → slice_get operations p ≡ Some m → (o : Option L) → slice_get statements p ≡ o → (l : L) × (slice_get statements p ≡ Some l) × (rules.shape l ≡ others.shape m)
+  statement_at : (p : ℕ) (m : M) → slice_get operations p ≡ Some m → (o : Option L) → slice_get statements p ≡ o → (l : L) ×
+      (slice_get statements p ≡ Some l) × (rules.shape l ≡ others.shape m)
   statement_at p m f o e = pick o e same
     where
       same : option_map rules.shape o ≡ Some (others.shape m)
-      same = ap (λ (w : Option L). option_map rules.shape w) (sym e) ∙ sym (slice_get-map rules.shape statements p) ∙ ap (λ (xs : List Shape). slice_get xs p) sim.shapes ∙ slice_get-map others.shape operations p ∙ ap (λ (w : Option M). option_map others.shape w) f
+      same = ap (λ (w : Option L). option_map rules.shape w) (sym e) ∙ sym (slice_get-map rules.shape statements p)
+          ∙ ap (λ (xs : List Shape). slice_get xs p) sim.shapes ∙ slice_get-map others.shape operations p
+          ∙ ap (λ (w : Option M). option_map others.shape w) f
 
-      pick : (o : Option L) → slice_get statements p ≡ o → option_map rules.shape o ≡ Some (others.shape m) → (l : L) × (slice_get statements p ≡ Some l) × (rules.shape l ≡ others.shape m)
+      pick : (o : Option L) → slice_get statements p ≡ o → option_map rules.shape o ≡ Some (others.shape m) → (l : L) ×
+          (slice_get statements p ≡ Some l) × (rules.shape l ≡ others.shape m)
       pick None e h = absurd (nothing_there _ h)
       pick (Some l) e h = let shape : rules.shape l ≡ others.shape m = cc in (l, e, shape)
 
-  acts_beside : (p : ℕ) (m : M) → slice_get operations p ≡ Some m → others.shape m ≡ Simple → (t : T) → Beside p t → (r : T × List ℕ) → others.act p m t ≡ Ok r → Beside (p + 1) r.0
+  acts_beside : (p : ℕ) (m : M) → slice_get operations p ≡ Some m → others.shape m ≡ Simple → (t : T) → Beside p t → (r : T × List ℕ) →
+      others.act p m t ≡ Ok r → Beside (p + 1) r.0
   acts_beside p m f simple t b r e =
       let w = statement_at p m f (slice_get statements p) refl in
-      beside_next (p + 1) (rules.act p w.0 b.0) r (subst (λ (u : Result (T × List ℕ) FaultKind). Agree (Related (p + 1)) (rules.act p w.0 b.0) u) e (sim.acts p w.0 m w.1 f (w.2 ∙ simple) b.0 t b.1))
+      beside_next (p + 1) (rules.act p w.0 b.0) r
+      (subst (λ (u : Result (T × List ℕ) FaultKind). Agree (Related (p + 1)) (rules.act p w.0 b.0) u) e
+      (sim.acts p w.0 m w.1 f (w.2 ∙ simple) b.0 t b.1))
 
-  moves_beside : (p q : ℕ) (x : Shape) → slice_get (map others.shape operations) p ≡ Some x → IsControl x → Next (map others.shape operations) p q → (t : T) → Beside p t → Beside q t
-  moves_beside p q x at control next t b =
-      (b.0, sim.moves p q x (ap (λ (xs : List Shape). slice_get xs p) sim.shapes ∙ at) control (subst (λ (xs : List Shape). Next xs p q) (sym sim.shapes) next) b.0 t b.1)
+  moves_beside : (p q : ℕ) (x : Shape) → slice_get (map others.shape operations) p ≡ Some x → IsControl x →
+      Next (map others.shape operations) p q → (t : T) → Beside p t → Beside q t
+  moves_beside p q x at control next t b = (
+    b.0,
+    sim.moves p q x (ap (λ (xs : List Shape). slice_get xs p) sim.shapes ∙ at) control
+        (subst (λ (xs : List Shape). Next xs p q) (sym sim.shapes) next) b.0 t b.1,
+  )
 
-  pub each_related : IsNested [] (map rules.shape statements) → (a : S) (b : T) → Related 0 a b → (k : ℕ) → P (after others most operations k b).state
+  pub each_related : IsNested [] (map rules.shape statements) → (a : S) (b : T) → Related 0 a b → (k : ℕ) →
+      P (after others most operations k b).state
   each_related nested a b first k =
-      each_state others most operations (subst (λ (xs : List Shape). IsNested [] xs) sim.shapes nested) Beside P (λ p t w. tells p w.0 t w.1) moves_beside acts_beside b (a, first) k
+      each_state others most operations (subst (λ (xs : List Shape). IsNested [] xs) sim.shapes nested) Beside P
+      (λ p t w. tells p w.0 t w.1) moves_beside acts_beside b (a, first) k

@@ -1,5 +1,6 @@
 -- Tables of places from which a name is read, as the backwards flow fills them.
-use Rattle.std.proofs.Common.{◌≡◌, ◌⊎◌, ℕ, zero, suc, ◌+◌, ◌-◌, ◌<◌, ◌≤◌, Bool, true, false, ◌&&◌, List, [], ◌∷◌, map, drop, length, set, get_or, None, refl, sym, ap, ◌∙◌, subst, inl, inr, ⊎_elim, arith, length-set, add-one}
+use Rattle.std.proofs.Common.{◌≡◌, ◌⊎◌, ℕ, zero, suc, ◌+◌, ◌-◌, ◌<◌, ◌≤◌, Bool, true, false, ◌&&◌, List, [], ◌∷◌, map, drop, length, set}
+use Rattle.std.proofs.Common.{get_or, None, refl, sym, ap, ◌∙◌, subst, inl, inr, ⊎_elim, arith, length-set, add-one}
 use Rattle.std.proofs.Math.Bool.{and-false}
 use Rattle.std.proofs.Math.Nat.{eq-or-lt_of_le}
 use Rattle.std.proofs.lemmas.List.{length-map, set-get_or}
@@ -30,10 +31,12 @@ module _ (arguments : List Argument) (i : ℕ) (a : Argument) (x : List ℕ) (lt
   pub argument_here : (y : List ℕ) → a ≡ Cord y → bytes_eq x y ≡ true → has (cord_arguments (drop i arguments)) x ≡ true
   argument_here y c e = rw (drop-cons arguments i a, ← is, c, e) refl
 
-  pub argument_on : (y : List ℕ) → a ≡ Cord y → bytes_eq x y ≡ false → has (cord_arguments (drop i arguments)) x ≡ has (cord_arguments (drop (i + 1) arguments)) x
+  pub argument_on : (y : List ℕ) → a ≡ Cord y → bytes_eq x y ≡ false →
+      has (cord_arguments (drop i arguments)) x ≡ has (cord_arguments (drop (i + 1) arguments)) x
   argument_on y c e = rw (add-one, drop-cons arguments i a, ← is, c, e) refl
 
-  pub number_on : (n : numbers.Number) → a ≡ Number n → has (cord_arguments (drop i arguments)) x ≡ has (cord_arguments (drop (i + 1) arguments)) x
+  pub number_on : (n : numbers.Number) → a ≡ Number n → has (cord_arguments (drop i arguments)) x
+      ≡ has (cord_arguments (drop (i + 1) arguments)) x
   number_on n c = rw (add-one, drop-cons arguments i a, ← is, c) refl
 
 -- the parts of a find
@@ -107,7 +110,8 @@ module _ (s : List Statement) (x : List ℕ) where
 
   module _ (table : List Bool) (p : ℕ) where
     -- a place after which there is one of the table's
-    path_over : IsPartly s x table → assigns_at (slice_get s p) x ≡ false → Found (λ q. at table q) (map shape_of s) p (Next (map shape_of s) p) → (path : List ℕ) × ReadBy s x p path
+    path_over : IsPartly s x table → assigns_at (slice_get s p) x ≡ false →
+        Found (λ q. at table q) (map shape_of s) p (Next (map shape_of s) p) → (path : List ℕ) × ReadBy s x p path
     path_over partly unset found =
         let rest : (path : List ℕ) × ReadBy s x found.place path = partly.found found.place found.true_there in
         (found.place ∷ rest.0, (unset, found.next, rest.1))
@@ -129,15 +133,22 @@ module _ (s : List Statement) (x : List ℕ) where
     }
 
     -- what the flow makes of the place is taken in
-    pub flow_partly : IsPartly s x table → (b : Bool) → b ≡ flow (at table p) (some_of (λ q. at table q) (behind (map shape_of s) p)) (assigns_at (slice_get s p) x) → IsPartly s x (set table p b)
+    pub flow_partly : IsPartly s x table → (b : Bool) → b ≡ flow (at table p) (some_of (λ q. at table q) (behind (map shape_of s) p))
+        (assigns_at (slice_get s p) x) → IsPartly s x (set table p b)
     flow_partly partly b is = by_find (finds s x table p) refl
       where
         by_find : (v : Bool) → finds s x table p ≡ v → IsPartly s x (set table p b)
-        by_find true e = rw (is ∙ flow_found (at table p) (some_of (λ q. at table q) (behind (map shape_of s) p)) (assigns_at (slice_get s p) x) e) (set_partly partly e)
-        by_find false e = rw (is ∙ flow_none (at table p) (some_of (λ q. at table q) (behind (map shape_of s) p)) (assigns_at (slice_get s p) x) e, set-get_or table p false) partly
+        by_find true e = rw (is ∙ flow_found (at table p) (some_of (λ q. at table q) (behind (map shape_of s) p))
+            (assigns_at (slice_get s p) x) e) (set_partly partly e)
+        by_find false e = rw (
+          is ∙ flow_none (at table p) (some_of (λ q. at table q) (behind (map shape_of s) p))
+              (assigns_at (slice_get s p) x) e,
+          set-get_or table p false,
+        ) partly
 
     -- what the flow leaves was not to be found
-    pub flow_resting : flow (at table p) (some_of (λ q. at table q) (behind (map shape_of s) p)) (assigns_at (slice_get s p) x) ≡ at table p → finds s x table p ≡ false
+    pub flow_resting : flow (at table p) (some_of (λ q. at table q) (behind (map shape_of s) p)) (assigns_at (slice_get s p) x)
+        ≡ at table p → finds s x table p ≡ false
     flow_resting e = flow_rests (at table p) (some_of (λ q. at table q) (behind (map shape_of s) p)) (assigns_at (slice_get s p) x) e
 
     -- nothing is found after the script
@@ -152,7 +163,8 @@ module _ (s : List Statement) (x : List ℕ) where
   path_in_table table live p (q ∷ path) r =
       let there : at table q ≡ true = path_in_table table live q path r.2 in
       let held : some_of (λ m. at table m) (behind (map shape_of s) p) ≡ true = shape_held (λ m. at table m) (map shape_of s) p (slice_get (map shape_of s) p) q r.1 there in
-      none_found (at table p) (some_of (λ m. at table m) (behind (map shape_of s) p)) (assigns_at (slice_get s p) x) (live.resting p) held r.0
+      none_found (at table p) (some_of (λ m. at table m) (behind (map shape_of s) p)) (assigns_at (slice_get s p) x)
+      (live.resting p) held r.0
 
 -- at the last place looked at, and at those before
 pub rests_from : (rests : ℕ → Type 0) (p : ℕ) → 0 < p → ((k : ℕ) → p ≤ k → rests k) → rests (p - 1) → (k : ℕ) → p - 1 ≤ k → rests k

@@ -1,5 +1,6 @@
 -- Tables of what is read later.
-use Rattle.std.proofs.Common.{◌≡◌, ◌⊎◌, ℕ, zero, suc, ◌+◌, ◌*◌, ◌/◌, ◌%◌, ◌<◌, Bool, true, false, List, [], ◌∷◌, ◌++◌, map, length, Option, Some, None, refl, sym, ap, ◌∙◌, subst, inl, inr, arith}
+use Rattle.std.proofs.Common.{◌≡◌, ◌⊎◌, ℕ, zero, suc, ◌+◌, ◌*◌, ◌/◌, ◌%◌, ◌<◌, Bool, true, false, List, [], ◌∷◌, ◌++◌, map, length, Option}
+use Rattle.std.proofs.Common.{Some, None, refl, sym, ap, ◌∙◌, subst, inl, inr, arith}
 use Rattle.std.specs.Prelude.{slice_get}
 use Rattle.std.proofs.Math.Nat.{div-add-mod, mod-lt, eq-or-lt_of_le}
 use Rattle.std.proofs.lemmas.List.{length-append}
@@ -31,7 +32,8 @@ none_live : (t : Later) (x : List ℕ) → has (names_of t.numbering) x ≡ fals
 none_live t x e = rw (unnumbered t.numbering x e) refl
 
 -- a list of groups with one more
-get_before : (groups : List Group) (last group : Group) (n : ℕ) → slice_get groups n ≡ Some group → slice_get (groups ++ last ∷ []) n ≡ Some group
+get_before : (groups : List Group) (last group : Group) (n : ℕ) → slice_get groups n ≡ Some group →
+    slice_get (groups ++ last ∷ []) n ≡ Some group
 get_before [] last group n e = let bad : ⊥ = cc in absurd bad
 get_before (g ∷ groups) last group zero e = e
 get_before (g ∷ groups) last group (suc n) e = get_before groups last group n e
@@ -43,7 +45,8 @@ get_last (g ∷ groups) last = get_last groups last
 pub groups_more : (groups : List Group) (last : Group) (k : ℕ) → length groups ≡ k → length (groups ++ last ∷ []) ≡ k + 1
 groups_more groups last k is = length-append groups (last ∷ []) ∙ ap (λ (n : ℕ). n + 1) is
 
-pub live_more : (s : List Statement) (t : Numbering) (k : ℕ) (groups : List Group) (last : Group) → length groups ≡ k → LiveTo s t k groups → AreLive s t k last.words.items → LiveTo s t (k + 1) (groups ++ last ∷ [])
+pub live_more : (s : List Statement) (t : Numbering) (k : ℕ) (groups : List Group) (last : Group) → length groups ≡ k →
+    LiveTo s t k groups → AreLive s t k last.words.items → LiveTo s t (k + 1) (groups ++ last ∷ [])
 live_more s t k groups last size before live g lt = by_place (eq-or-lt_of_le (omega arith))
   where
     at_last : slice_get (groups ++ last ∷ []) k ≡ Some last
@@ -77,7 +80,8 @@ module _ (s : List Statement) (t : Later) (behinds : AreBehind (map shape_of s) 
     some_none [] = refl
     some_none (q ∷ qs) = some_none qs
 
-    told_unread : (p : ℕ) (v : Bool) → has (names_of t.numbering) x ≡ v → tells t x p ≡ false → (q : ℕ) → Next (map shape_of s) p q → (path : List ℕ) → ReadBy s x q path → ⊥
+    told_unread : (p : ℕ) (v : Bool) → has (names_of t.numbering) x ≡ v → tells t x p ≡ false → (q : ℕ) → Next (map shape_of s) p q →
+        (path : List ℕ) → ReadBy s x q path → ⊥
     told_unread p false known e q next path r =
         let known_too : has (names_of t.numbering) x ≡ true = path_known q path r in
         let bad : ⊥ = cc in
@@ -89,7 +93,8 @@ module _ (s : List Statement) (t : Later) (behinds : AreBehind (map shape_of s) 
         let bad : ⊥ = cc in
         bad
 
-    read_found : (p : ℕ) → IsLive s x (live_of t x) → Found (λ q. at (live_of t x) q) (map shape_of s) p (Next (map shape_of s) p) → ReadLater s x p
+    read_found : (p : ℕ) → IsLive s x (live_of t x) → Found (λ q. at (live_of t x) q) (map shape_of s) p (Next (map shape_of s) p) →
+        ReadLater s x p
     read_found p live found =
         let rest : (path : List ℕ) × ReadBy s x found.place path = live.partly.found found.place found.true_there in
         record { first = found.place; path = rest.0; next = found.next; reads = rest.1 }

@@ -1,11 +1,15 @@
 -- The trivial plan is never stuck and does what the script does: each name of a cord holds its text.
-use Rattle.std.proofs.Common.{◌≡◌, ℕ, zero, suc, ◌+◌, pos, Bool, true, false, List, [], ◌∷◌, map, Option, Some, None, Result, refl, sym, ap, subst}
+use Rattle.std.proofs.Common.{◌≡◌, ℕ, zero, suc, ◌+◌, pos, Bool, true, false, List, [], ◌∷◌, map, Option, Some, None, Result, refl, sym, ap}
+use Rattle.std.proofs.Common.{subst}
 use Rattle.std.specs.Prelude.{slice_get, if◌then◌else◌}
 use Rattle.std.specs.Str.{bytes_eq}
 use Rattle.cord_io.specs.Device.{Folder}
 use Rattle.cord_operands.specs.declared.operands.Number.TheVariants.{Numeral}
 use Rattle.cord_syntax.specs.declared.statements.Statement.{Statement}
-use Rattle.cord_syntax.specs.declared.statements.Statement.TheVariants.{Let, File, Eager, Lazy, Chars, Nul, FromFn, Cat, Catn, Catc, Substr, Balance, EcToCord, Sprintf, Len, Fetch, Cmp, Ncmp, Str, Chr, Rchr, Assign, Add, Sub, EcInit, EcPut, EcCat, EcStr, Put, Repeat, If, Else, End}
+use Rattle.cord_syntax.specs.declared.statements.Statement.TheVariants.{Let, File, Eager, Lazy, Chars, Nul, FromFn, Cat, Catn, Catc, Substr}
+use Rattle.cord_syntax.specs.declared.statements.Statement.TheVariants.{Balance, EcToCord, Sprintf, Len, Fetch, Cmp, Ncmp, Str, Chr, Rchr}
+use Rattle.cord_syntax.specs.declared.statements.Statement.TheVariants.{Assign, Add, Sub, EcInit, EcPut, EcCat, EcStr, Put, Repeat, If}
+use Rattle.cord_syntax.specs.declared.statements.Statement.TheVariants.{Else, End}
 use Rattle.cord_meaning.specs.declared.ends.FaultKind.{FaultKind}
 use Rattle.cord_meaning.specs.State.{State, with_value}
 use Rattle.cord_meaning.specs.Statements.{act, rules, shape_of, line_of, file_text}
@@ -13,10 +17,12 @@ use Rattle.cord_meaning.specs.Simulation.{Agree, Simulates}
 use Rattle.cord_plan.specs.Exprs.{name, run, cat, sub, members}
 use Rattle.cord_plan.specs.Forced.{own}
 use Rattle.cord_plan.specs.Operands.{read_by}
-use Rattle.cord_plan.specs.Planned.{Made, Joined, Literal, OfFile, OfEager, OfLazy, OfFunction, Balanced, OfExtensible, Printed, Operation, Build, Keep, operation, or_nothing, trivial}
+use Rattle.cord_plan.specs.Planned.{Made, Joined, Literal, OfFile, OfEager, OfLazy, OfFunction, Balanced, OfExtensible, Printed, Operation}
+use Rattle.cord_plan.specs.Planned.{Build, Keep, operation, or_nothing, trivial}
 use Rattle.cord_plan.specs.Values.{gives_text}
 use Rattle.cord_meaning.specs.Formats.{format_text}
-use Rattle.cord_plan.specs.Meaning.{Text, Holding, plain, gets, all_texts, texts_to_build, made_text, does, operation_shape, operation_line, plan_rules}
+use Rattle.cord_plan.specs.Meaning.{Text, Holding, plain, gets, all_texts, texts_to_build, made_text, does, operation_shape, operation_line}
+use Rattle.cord_plan.specs.Meaning.{plan_rules}
 use Rattle.cord_plan.proofs.Keeps.{IsKept, Agrees}
 use Rattle.cord_plan.proofs.Evaluation.{gives_after, function_gives}
 use Rattle.cord_plan.proofs.Owns.{own_means, sets_within}
@@ -53,34 +59,53 @@ full_others s u e = λ i. record { held = λ x. Text (sym e i x); numbers = u.nu
 
 module _ (limit : ℕ) (files : Folder) (p : ℕ) (s : State) where
   -- an operation that builds what its statement makes
-  makes : (l : Statement) (line : ℕ) (z : List ℕ) (made : Made) → act limit files l s ≡ gives_text s z (made_text limit files made s) → Agree (Same p) (act limit files l s) (does limit files (Build line z made) (full s))
+  makes : (l : Statement) (line : ℕ) (z : List ℕ) (made : Made) → act limit files l s ≡ gives_text s z (made_text limit files made s) →
+      Agree (Same p) (act limit files l s) (does limit files (Build line z made) (full s))
   makes l line z made e =
       subst (λ (r : Result (State × List ℕ) FaultKind). Agree (Same p) r (does limit files (Build line z made) (full s))) (sym e)
-      (built_agrees limit files (Same p) s (full s) z line made (made_text limit files made s) (full_texts s (texts_to_build made)) refl (λ t _. full_gets s z t))
+      (built_agrees limit files (Same p) s (full s) z line made (made_text limit files made s) (full_texts s (texts_to_build made)) refl
+      (λ t _. full_gets s z t))
 
   keeps_on : (l : Statement) → IsKept l → Agree (Same p) (act limit files l s) (does limit files (Keep l) (full s))
-  keeps_on l k = kept_agrees limit files (Same p) s (full s) l refl refl (λ u puts is e. full_others s u e) k (full_texts s (read_by l)) (full_same s (read_by l))
+  keeps_on l k = kept_agrees limit files (Same p) s (full s) l refl refl (λ u puts is e. full_others s u e) k (full_texts s (read_by l))
+      (full_same s (read_by l))
 
-  trivial_agrees : (l : Statement) → Agree (Same p) (act limit files l s) (does limit files (operation l (or_nothing (own l)) false false) (full s))
+  trivial_agrees : (l : Statement) → Agree (Same p) (act limit files l s)
+      (does limit files (operation l (or_nothing (own l)) false false) (full s))
   trivial_agrees (Let line target text) = makes (Let line target text) line target (Literal text) (sets_within limit s target text)
-  trivial_agrees (File line target path) = makes (File line target path) line target (OfFile path) (gives_after limit s target (file_text files path))
-  trivial_agrees (Eager line target path) = makes (Eager line target path) line target (OfEager path) (gives_after limit s target (file_text files path))
-  trivial_agrees (Lazy line target path) = makes (Lazy line target path) line target (OfLazy path) (gives_after limit s target (file_text files path))
-  trivial_agrees (Chars line target byte count) = makes (Chars line target byte count) line target (Joined (run byte count)) (own_means limit s files (Chars line target byte count))
-  trivial_agrees (Nul line target count) = makes (Nul line target count) line target (Joined (run (Numeral (pos 0)) count)) (own_means limit s files (Nul line target count))
-  trivial_agrees (FromFn line target function count) = makes (FromFn line target function count) line target (OfFunction function count) (function_gives limit s target files line function count)
-  trivial_agrees (Cat line target left right) = makes (Cat line target left right) line target (Joined (cat (members (name left ∷ name right ∷ [])))) (own_means limit s files (Cat line target left right))
-  trivial_agrees (Catn line target parts) = makes (Catn line target parts) line target (Joined (cat (members (map (λ x. name x) parts)))) (own_means limit s files (Catn line target parts))
-  trivial_agrees (Catc line target operand byte) = makes (Catc line target operand byte) line target (Joined (cat (members (name operand ∷ run byte (Numeral (pos 1)) ∷ [])))) (own_means limit s files (Catc line target operand byte))
-  trivial_agrees (Substr line target operand start count) = makes (Substr line target operand start count) line target (Joined (sub (name operand) start count)) (own_means limit s files (Substr line target operand start count))
-  trivial_agrees (Balance line target operand) = makes (Balance line target operand) line target (Balanced operand) (sets_within limit s target (s.texts operand))
-  trivial_agrees (EcToCord line target extensible) = makes (EcToCord line target extensible) line target (OfExtensible extensible) (sets_within limit s target (s.extensibles extensible))
-  trivial_agrees (Sprintf line target text format arguments) = makes (Sprintf line target text format arguments) line target (Printed text format arguments) (gives_after limit s target (format_text s format arguments))
-  trivial_agrees (Len line target operand) = len_agrees limit files (Same p) s (full s) line target operand refl refl (λ u puts is e. full_others s u e) refl
+  trivial_agrees (File line target path) = makes (File line target path) line target (OfFile path)
+      (gives_after limit s target (file_text files path))
+  trivial_agrees (Eager line target path) = makes (Eager line target path) line target (OfEager path)
+      (gives_after limit s target (file_text files path))
+  trivial_agrees (Lazy line target path) = makes (Lazy line target path) line target (OfLazy path)
+      (gives_after limit s target (file_text files path))
+  trivial_agrees (Chars line target byte count) = makes (Chars line target byte count) line target (Joined (run byte count))
+      (own_means limit s files (Chars line target byte count))
+  trivial_agrees (Nul line target count) = makes (Nul line target count) line target (Joined (run (Numeral (pos 0)) count))
+      (own_means limit s files (Nul line target count))
+  trivial_agrees (FromFn line target function count) = makes (FromFn line target function count) line target (OfFunction function count)
+      (function_gives limit s target files line function count)
+  trivial_agrees (Cat line target left right) = makes (Cat line target left right) line target
+      (Joined (cat (members (name left ∷ name right ∷ [])))) (own_means limit s files (Cat line target left right))
+  trivial_agrees (Catn line target parts) = makes (Catn line target parts) line target (Joined (cat (members (map (λ x. name x) parts))))
+      (own_means limit s files (Catn line target parts))
+  trivial_agrees (Catc line target operand byte) = makes (Catc line target operand byte) line target
+      (Joined (cat (members (name operand ∷ run byte (Numeral (pos 1)) ∷ [])))) (own_means limit s files (Catc line target operand byte))
+  trivial_agrees (Substr line target operand start count) = makes (Substr line target operand start count) line target
+      (Joined (sub (name operand) start count)) (own_means limit s files (Substr line target operand start count))
+  trivial_agrees (Balance line target operand) = makes (Balance line target operand) line target (Balanced operand)
+      (sets_within limit s target (s.texts operand))
+  trivial_agrees (EcToCord line target extensible) = makes (EcToCord line target extensible) line target (OfExtensible extensible)
+      (sets_within limit s target (s.extensibles extensible))
+  trivial_agrees (Sprintf line target text format arguments) = makes (Sprintf line target text format arguments) line target
+      (Printed text format arguments) (gives_after limit s target (format_text s format arguments))
+  trivial_agrees (Len line target operand) = len_agrees limit files (Same p) s (full s) line target operand refl refl
+      (λ u puts is e. full_others s u e) refl
   trivial_agrees (Put line operand) = put_agrees limit files (Same p) s (full s) line operand (name operand) refl refl refl
   trivial_agrees (Fetch line target operand index) = keeps_on (Fetch line target operand index) tt
   trivial_agrees (Cmp line target left right) = keeps_on (Cmp line target left right) tt
-  trivial_agrees (Ncmp line target left left_start right right_start count) = keeps_on (Ncmp line target left left_start right right_start count) tt
+  trivial_agrees (Ncmp line target left left_start right right_start count) =
+      keeps_on (Ncmp line target left left_start right right_start count) tt
   trivial_agrees (Str line target operand start pattern) = keeps_on (Str line target operand start pattern) tt
   trivial_agrees (Chr line target operand start byte) = keeps_on (Chr line target operand start byte) tt
   trivial_agrees (Rchr line target operand start byte) = keeps_on (Rchr line target operand start byte) tt
@@ -97,7 +122,8 @@ module _ (limit : ℕ) (files : Folder) (p : ℕ) (s : State) where
   trivial_agrees (End line) = keeps_on (End line) tt
 
 -- the operation of the trivial plan at a place
-trivial_at : (s : List Statement) (p : ℕ) (l : Statement) (o : Operation) → slice_get s p ≡ Some l → slice_get (trivial s) p ≡ Some o → operation l (or_nothing (own l)) false false ≡ o
+trivial_at : (s : List Statement) (p : ℕ) (l : Statement) (o : Operation) → slice_get s p ≡ Some l → slice_get (trivial s) p ≡ Some o →
+    operation l (or_nothing (own l)) false false ≡ o
 trivial_at [] p l o e f = let bad : ⊥ = cc in absurd bad
 trivial_at (k ∷ s) zero l o e f = let same : k ≡ l = cc in subst (λ (w : Statement). operation w (or_nothing (own w)) false false ≡ o) same cc
 trivial_at (k ∷ s) (suc p) l o e f = trivial_at s p l o e f
@@ -111,19 +137,26 @@ trivial_lines [] = refl
 trivial_lines (l ∷ s) = λ i. sym (same_line l (or_nothing (own l)) false false) i ∷ trivial_lines s i
 
 module _ (limit : ℕ) (files : Folder) (statements : List Statement) where
-  counts : (p : ℕ) (l : Statement) (o : Operation) → slice_get statements p ≡ Some l → slice_get (trivial statements) p ≡ Some o → (s : State) (t : Option Holding) → Same p s t → (rules limit files).count l s ≡ (plan_rules limit files).count o t
+  counts : (p : ℕ) (l : Statement) (o : Operation) → slice_get statements p ≡ Some l → slice_get (trivial statements) p ≡ Some o →
+      (s : State) (t : Option Holding) → Same p s t → (rules limit files).count l s ≡ (plan_rules limit files).count o t
   counts p l o e f s None same = absurd same
-  counts p l o e f s (Some h) same = subst (λ (w : Operation). (rules limit files).count l s ≡ (plan_rules limit files).count w (Some h)) (trivial_at statements p l o e f) (same_count h s (ap (λ (k : Holding). k.numbers) same) l (or_nothing (own l)) false false)
+  counts p l o e f s (Some h) same = subst (λ (w : Operation). (rules limit files).count l s ≡ (plan_rules limit files).count w (Some h))
+      (trivial_at statements p l o e f) (same_count h s (ap (λ (k : Holding). k.numbers) same) l (or_nothing (own l)) false false)
 
-  compare : (p : ℕ) (l : Statement) (o : Operation) → slice_get statements p ≡ Some l → slice_get (trivial statements) p ≡ Some o → (s : State) (t : Option Holding) → Same p s t → (rules limit files).holds l s ≡ (plan_rules limit files).holds o t
+  compare : (p : ℕ) (l : Statement) (o : Operation) → slice_get statements p ≡ Some l → slice_get (trivial statements) p ≡ Some o →
+      (s : State) (t : Option Holding) → Same p s t → (rules limit files).holds l s ≡ (plan_rules limit files).holds o t
   compare p l o e f s None same = absurd same
-  compare p l o e f s (Some h) same = subst (λ (w : Operation). (rules limit files).holds l s ≡ (plan_rules limit files).holds w (Some h)) (trivial_at statements p l o e f) (same_holds h s (ap (λ (k : Holding). k.numbers) same) l (or_nothing (own l)) false false)
+  compare p l o e f s (Some h) same = subst (λ (w : Operation). (rules limit files).holds l s ≡ (plan_rules limit files).holds w (Some h))
+      (trivial_at statements p l o e f) (same_holds h s (ap (λ (k : Holding). k.numbers) same) l (or_nothing (own l)) false false)
 
-  acts : (p : ℕ) (l : Statement) (o : Operation) → slice_get statements p ≡ Some l → slice_get (trivial statements) p ≡ Some o → (s : State) (t : Option Holding) → Same p s t → Agree (Same (p + 1)) ((rules limit files).act p l s) ((plan_rules limit files).act p o t)
+  acts : (p : ℕ) (l : Statement) (o : Operation) → slice_get statements p ≡ Some l → slice_get (trivial statements) p ≡ Some o →
+      (s : State) (t : Option Holding) → Same p s t → Agree (Same (p + 1)) ((rules limit files).act p l s)
+      ((plan_rules limit files).act p o t)
   acts p l o e f s None same = absurd same
   acts p l o e f s (Some h) same =
       subst (λ (w : Operation). Agree (Same (p + 1)) (act limit files l s) (does limit files w h)) (trivial_at statements p l o e f)
-      (subst (λ (k : Holding). Agree (Same (p + 1)) (act limit files l s) (does limit files (operation l (or_nothing (own l)) false false) k)) (sym same) (trivial_agrees limit files (p + 1) s l))
+      (subst (λ (k : Holding). Agree (Same (p + 1)) (act limit files l s)
+      (does limit files (operation l (or_nothing (own l)) false false) k)) (sym same) (trivial_agrees limit files (p + 1) s l))
 
   pub trivial_simulates : Simulates (rules limit files) (plan_rules limit files) statements (trivial statements) Same
   trivial_simulates = record {

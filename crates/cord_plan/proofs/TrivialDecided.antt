@@ -15,7 +15,8 @@ own_at (Some l) = or_nothing (own l)
 abbrev pub plain_decisions : List Statement → Decisions
 plain_decisions s = record { exprs = λ p. own_at (slice_get s p); dead = λ p. false; paired = λ p. false; source = λ b x. None }
 
-from_place : (s : List Statement) (p : ℕ) (rest : List Statement) → ((k : ℕ) → slice_get s (p + k) ≡ slice_get rest k) → trivial rest ≡ decided_from (plain_decisions s) p rest
+from_place : (s : List Statement) (p : ℕ) (rest : List Statement) → ((k : ℕ) → slice_get s (p + k) ≡ slice_get rest k) →
+    trivial rest ≡ decided_from (plain_decisions s) p rest
 from_place s p [] here = refl
 from_place s p (l ∷ rest) here =
     let place : p ≡ p + 0 = omega arith in

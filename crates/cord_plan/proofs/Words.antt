@@ -1,5 +1,6 @@
 -- Words as sets of bits.
-use Rattle.std.proofs.Common.{◌≡◌, ◌≢◌, ℕ, zero, suc, ◌+◌, ◌-◌, ◌*◌, ◌%◌, ◌^◌, ◌<◌, ◌==◌, Bool, true, false, ◌&&◌, ◌||◌, List, [], ◌∷◌, ◌++◌, map, take, length, set, get_or, Option, Some, refl, sym, ap, ◌∙◌, arith}
+use Rattle.std.proofs.Common.{◌≡◌, ◌≢◌, ℕ, zero, suc, ◌+◌, ◌-◌, ◌*◌, ◌%◌, ◌^◌, ◌<◌, ◌==◌, Bool, true, false, ◌&&◌, ◌||◌, List, [], ◌∷◌}
+use Rattle.std.proofs.Common.{◌++◌, map, take, length, set, get_or, Option, Some, refl, sym, ap, ◌∙◌, arith}
 use Rattle.std.specs.Prelude.{not, min, max}
 use Rattle.std.specs.Int.{bit_at, bit_not, w128}
 use Rattle.std.specs.Int.RustNames.{bit_and, bit_or}
@@ -59,8 +60,13 @@ bit_one_other k i within other =
     rw there refl
 
 -- what the flow makes of a word
-pub flow_bits : (word behind assigned i : ℕ) → assigned < 2 ^ 128 → i < 128 → bit (bit_or word (bit_and behind (bit_not w128 assigned))) i ≡ flow (bit word i) (bit behind i) (bit assigned i)
-flow_bits word behind assigned i lt within = rw (bit_or_is word (bit_and behind (bit_not w128 assigned)) i, bit_and_is behind (bit_not w128 assigned) i, bit_not_is assigned i lt within) refl
+pub flow_bits : (word behind assigned i : ℕ) → assigned < 2 ^ 128 → i < 128 → bit (bit_or word (bit_and behind (bit_not w128 assigned))) i
+    ≡ flow (bit word i) (bit behind i) (bit assigned i)
+flow_bits word behind assigned i lt within = rw (
+  bit_or_is word (bit_and behind (bit_not w128 assigned)) i,
+  bit_and_is behind (bit_not w128 assigned) i,
+  bit_not_is assigned i lt within,
+) refl
 
 -- the column of a bit
 pub column_at : (words : List ℕ) (i p : ℕ) → at (column words i) p ≡ bit (get_or words p 0) i
@@ -69,21 +75,26 @@ column_at (w ∷ words) i zero = refl
 column_at (w ∷ words) i (suc p) = column_at words i p
 
 -- the bits of two places after
-pub behind_bits : (words : List ℕ) (i first second : ℕ) (o : Option ℕ) (v w : ℕ) → o ≡ Some second → bit v i ≡ at (column words i) first → bit w i ≡ at (column words i) second → bit (bit_or v w) i ≡ some_of (λ q. at (column words i) q) (first ∷ option_to_list o)
-behind_bits words i first second o v w is one two = rw (is, bit_or_is v w i, one, two) (ap (λ (b : Bool). at (column words i) first || b) (sym (or-false (at (column words i) second))))
+pub behind_bits : (words : List ℕ) (i first second : ℕ) (o : Option ℕ) (v w : ℕ) → o ≡ Some second → bit v i ≡ at (column words i) first →
+    bit w i ≡ at (column words i) second → bit (bit_or v w) i ≡ some_of (λ q. at (column words i) q) (first ∷ option_to_list o)
+behind_bits words i first second o v w is one two = rw (is, bit_or_is v w i, one, two)
+    (ap (λ (b : Bool). at (column words i) first || b) (sym (or-false (at (column words i) second))))
 
 pub flow_same : (a b c d e f : Bool) → a ≡ d → b ≡ e → c ≡ f → flow a b c ≡ flow d e f
 flow_same a b c d e f one two three = rw (one, two, three) refl
 
 -- a greater word takes room
-pub room_less : (words : List ℕ) (p new : ℕ) → p < length words → get_or words p 0 < new → new < 2 ^ 128 → room (set words p new) < room words
-room_less words p new lt less within = less_room (room (set words p new)) (room words) (get_or words p 0) (sum_by-set (λ w. 2 ^ 128 - w) words p new 0 lt) less
+pub room_less : (words : List ℕ) (p new : ℕ) → p < length words → get_or words p 0 < new → new < 2 ^ 128 →
+    room (set words p new) < room words
+room_less words p new lt less within = less_room (room (set words p new)) (room words) (get_or words p 0)
+    (sum_by-set (λ w. 2 ^ 128 - w) words p new 0 lt) less
   where
     less_room : (a b old : ℕ) → a + (2 ^ 128 - old) ≡ b + (2 ^ 128 - new) → old < new → a < b
     less_room a b old e more = omega arith
 
 -- columns of lists with one more
-pub told_more : (f : Statement → Bool) (s : List Statement) (k : ℕ) (l : Statement) (words : List ℕ) (w i : ℕ) → k < length s → l ≡ get_or s k l → column words i ≡ map f (take k s) → bit w i ≡ f l → column (words ++ w ∷ []) i ≡ map f (take (k + 1) s)
+pub told_more : (f : Statement → Bool) (s : List Statement) (k : ℕ) (l : Statement) (words : List ℕ) (w i : ℕ) → k < length s →
+    l ≡ get_or s k l → column words i ≡ map f (take k s) → bit w i ≡ f l → column (words ++ w ∷ []) i ≡ map f (take (k + 1) s)
 told_more f s k l words w i lt is before here =
     let front : take (k + 1) s ≡ take k s ++ l ∷ [] = take_more s k l lt ∙ ap (λ (z : Statement). take k s ++ z ∷ []) (sym is) in
     map-append (λ v. bit v i) words (w ∷ [])

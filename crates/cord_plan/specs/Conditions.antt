@@ -1,14 +1,17 @@
--- The conditions on what a plan decides under which it keeps the meaning of its script: on dead targets, on measured ones, and on forced pairs.
+-- The conditions on what a plan decides under which it keeps the meaning of its script: on dead targets, on measured ones, and on forced
+-- pairs.
 use Rattle.std.specs.Prelude.{◌≡◌, ◌<◌, ◌≤◌, ◌⊎◌, ℕ, ◌+◌, Bool, true, false, not, ◌&&◌, List, [], ◌∷◌, map, Option, Some, None, slice_get}
 use Rattle.cord_syntax.specs.declared.statements.Statement.{Statement}
-use Rattle.cord_syntax.specs.declared.statements.Statement.TheVariants.{Let, File, Eager, Lazy, Chars, Nul, FromFn, Cat, Catn, Catc, Substr, Balance, EcToCord, Sprintf, Put}
+use Rattle.cord_syntax.specs.declared.statements.Statement.TheVariants.{Let, File, Eager, Lazy, Chars, Nul, FromFn, Cat, Catn, Catc, Substr}
+use Rattle.cord_syntax.specs.declared.statements.Statement.TheVariants.{Balance, EcToCord, Sprintf, Put}
 use Rattle.cord_plan.specs.Exprs.{Expr, name, names}
 use Rattle.cord_plan.specs.Operands.{read_by, assigns, assigns_at, reads_at}
 use Rattle.cord_plan.specs.Unread.{Unread}
 use Rattle.cord_plan.specs.Forced.{expr_with, is_block_at, keeps}
 use Rattle.cord_plan.specs.Planned.{Operation, operation}
 
--- what a plan decides of each line: its expression, whether it only measures because its target is dead, or because it is the first of a forced pair, and the line whose expression stands for an operand
+-- what a plan decides of each line: its expression, whether it only measures because its target is dead, or because it is the first of a
+-- forced pair, and the line whose expression stands for an operand
 pub record Decisions : Type 0 where
   pub exprs : ℕ → Expr
   pub dead : ℕ → Bool
@@ -93,7 +96,8 @@ pub record IsForced (s : List Statement) (d : Decisions) (a b : ℕ) (x : List �
 pub record MeetsConditions (s : List Statement) (d : Decisions) : Type 0 where
   pub kinds : HasKinds s
   -- the expression of a simple line is its own, with what stands for its operands
-  pub own : (p : ℕ) (l : Statement) → slice_get s p ≡ Some l → is_simple l ≡ true → expr_with l (map (λ x. stands d p x) (read_by l)) ≡ Some (d.exprs p)
+  pub own : (p : ℕ) (l : Statement) → slice_get s p ≡ Some l → is_simple l ≡ true → expr_with l (map (λ x. stands d p x) (read_by l))
+      ≡ Some (d.exprs p)
   -- each source is that of a forced pair
   pub forced : (a b : ℕ) (x : List ℕ) → d.source b x ≡ Some a → IsForced s d a b x
   -- what is measured is dead, or is the first of a forced pair

@@ -1,5 +1,6 @@
 -- The expression of each line, and the forced pairs.
-use Rattle.std.specs.Prelude.{ℕ, zero, suc, ◌+◌, ◌-◌, Bool, true, false, not, ◌&&◌, ◌||◌, ◌==◌, nat_le, List, [], ◌∷◌, ◌++◌, map, pos, if◌then◌else◌, Option, Some, None, slice_get}
+use Rattle.std.specs.Prelude.{ℕ, zero, suc, ◌+◌, ◌-◌, Bool, true, false, not, ◌&&◌, ◌||◌, ◌==◌, nat_le, List, [], ◌∷◌, ◌++◌, map, pos}
+use Rattle.std.specs.Prelude.{if◌then◌else◌, Option, Some, None, slice_get}
 use Rattle.cord_operands.specs.declared.operands.Number.TheVariants.{Numeral}
 use Rattle.cord_syntax.specs.declared.statements.Statement.{Statement}
 use Rattle.cord_syntax.specs.declared.statements.Statement.TheVariants.{Chars, Nul, Cat, Catn, Catc, Substr, Put}
@@ -73,7 +74,8 @@ first_of None = None
 first_of (Some entry) = entry.0
 
 module _ (s : List Statement) (later : List ℕ → ℕ → Bool) where
-  -- e, the expression of the line at a, the last before b that assigns x, may stand for x in the line l at b: the lines between are no blocks and don't read x, l names x once, x is not read later unless l assigns it, and no name of e is assigned from a up to b
+  -- e, the expression of the line at a, the last before b that assigns x, may stand for x in the line l at b: the lines between are no
+  -- blocks and don't read x, l names x once, x is not read later unless l assigns it, and no name of e is assigned from a up to b
   abbrev pub fits : Expr → ℕ → ℕ → Statement → List ℕ → Bool
   fits e a b l x =
       each_from (λ m. not (is_block_at (slice_get s m)) && not (reads_at (slice_get s m) x)) (b - (a + 1)) (a + 1)
@@ -81,7 +83,8 @@ module _ (s : List Statement) (later : List ℕ → ℕ → Bool) where
       && ((assigns l x || not (later x b))
       && each_from (λ m. keeps (slice_get s m) (names e)) (b - a) a))
 
-  -- the same of the expression of the line at a, if it has one, and the whole expression stays small, where other operands stand before and after it
+  -- the same of the expression of the line at a, if it has one, and the whole expression stays small, where other operands stand before and
+  -- after it
   abbrev pub chosen_from : ℕ → Statement → List ℕ → List Expr → List Expr → ℕ → Option Expr → Choice
   chosen_from b l x before after a None = kept x
   chosen_from b l x before after a (Some e) =

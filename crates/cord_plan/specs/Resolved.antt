@@ -7,7 +7,8 @@ use Rattle.cord_plan.specs.Values.{length_in}
 
 -- at most n bytes from i on of a member of this length, in front of others; a member that gets none isn't touched
 abbrev pub picked : Expr → ℕ → ℕ → ℕ → Exprs → Exprs
-picked e len i n others = if nat_lt i len && nat_lt 0 n then member (sub e (Numeral (pos i)) (Numeral (pos (min n (len - i))))) others else others
+picked e len i n others = if nat_lt i len && nat_lt 0 n then member (sub e (Numeral (pos i)) (Numeral (pos (min n (len - i))))) others
+    else others
 
 -- at most n bytes from i on of members of these lengths: those after a member begin where it ends, and get what it left
 abbrev pub resolved : Exprs → List ℕ → ℕ → ℕ → Exprs

@@ -1,5 +1,6 @@
 -- The text of a plan: one line per operation, ended by byte 10.
-use Rattle.std.specs.Prelude.{ℕ, ℤ, pos, negsuc, ◌+◌, ◌/◌, ◌%◌, ◌||◌, ◌==◌, nat_lt, if◌then◌else◌, None, List, [], ◌∷◌, ◌++◌, length, codes, flat_map}
+use Rattle.std.specs.Prelude.{ℕ, ℤ, pos, negsuc, ◌+◌, ◌/◌, ◌%◌, ◌||◌, ◌==◌, nat_lt, if◌then◌else◌, None, List, [], ◌∷◌, ◌++◌, length, codes}
+use Rattle.std.specs.Prelude.{flat_map}
 use Rattle.cord_printf.specs.declared.pieces.Radix.TheVariants as radices
 use Rattle.cord_printf.specs.PieceText.{digits_in}
 use Rattle.cord_operands.specs.declared.operands.Number.{Number}
@@ -11,10 +12,12 @@ use Rattle.cord_operands.specs.declared.operands.Relation.TheVariants.{Less, Equ
 use Rattle.cord_operands.specs.declared.operands.Argument.{Argument}
 use Rattle.cord_operands.specs.declared.operands.Argument.TheVariants as arguments
 use Rattle.cord_syntax.specs.declared.statements.Statement.{Statement}
-use Rattle.cord_syntax.specs.declared.statements.Statement.TheVariants.{Len, Fetch, Cmp, Ncmp, Str, Chr, Rchr, Assign, Add, Sub, EcInit, EcPut, EcCat, EcStr, Repeat, If, Else, End}
+use Rattle.cord_syntax.specs.declared.statements.Statement.TheVariants.{Len, Fetch, Cmp, Ncmp, Str, Chr, Rchr, Assign, Add, Sub, EcInit}
+use Rattle.cord_syntax.specs.declared.statements.Statement.TheVariants.{EcPut, EcCat, EcStr, Repeat, If, Else, End}
 use Rattle.cord_meaning.specs.Statements.{line_of}
 use Rattle.cord_plan.specs.Exprs.{Expr, name, run, cat, sub, Exprs, nothing, member}
-use Rattle.cord_plan.specs.Planned.{Made, Joined, Literal, OfFile, OfEager, OfLazy, OfFunction, Balanced, OfExtensible, Printed, Operation, Build, Measure, Write, Keep}
+use Rattle.cord_plan.specs.Planned.{Made, Joined, Literal, OfFile, OfEager, OfLazy, OfFunction, Balanced, OfExtensible, Printed, Operation}
+use Rattle.cord_plan.specs.Planned.{Build, Measure, Write, Keep}
 
 -- words, separated by one blank
 abbrev pub spaced : List (List ℕ) → List ℕ

@@ -59,7 +59,8 @@ some_of holds (q ∷ qs) = holds q || some_of holds qs
 -- whether a path of at most k steps from a place reads x before it assigns it
 abbrev pub live : List Statement → ℕ → List ℕ → ℕ → Bool
 live s zero x p = reads_at (slice_get s p) x
-live s (suc k) x p = reads_at (slice_get s p) x || (not (assigns_at (slice_get s p) x) && some_of (λ q. live s k x q) (behind (map shape_of s) p))
+live s (suc k) x p = reads_at (slice_get s p) x || (not (assigns_at (slice_get s p) x) && some_of (λ q. live s k x q)
+    (behind (map shape_of s) p))
 
 -- whether such a path begins after a place
 abbrev pub later_within : List Statement → ℕ → List ℕ → ℕ → Bool

@@ -12,7 +12,8 @@ within limit text = and_then (as_length limit (length text)) (λ _. Ok text)
 
 -- so many copies of a byte
 abbrev pub copies : ℕ → ℤ → ℤ → Result (List ℕ) FaultKind
-copies limit byte count = and_then (as_byte byte) (λ b. and_then (as_index count) (λ n. and_then (as_length limit n) (λ _. Ok (replicate n b))))
+copies limit byte count =
+    and_then (as_byte byte) (λ b. and_then (as_index count) (λ n. and_then (as_length limit n) (λ _. Ok (replicate n b))))
 
 -- at most so many bytes of a text from a place on
 abbrev pub part_of : ℕ → List ℕ → ℤ → ℤ → Result (List ℕ) FaultKind
@@ -28,7 +29,8 @@ abbrev mutual
 
   pub values : ℕ → (List ℕ → List ℕ) → (Number → ℤ) → Exprs → Result (List ℕ) FaultKind
   values limit texts numbers nothing = Ok []
-  values limit texts numbers (member e es) = and_then (value limit texts numbers e) (λ text. and_then (values limit texts numbers es) (λ rest. Ok (text ++ rest)))
+  values limit texts numbers (member e es) = and_then (value limit texts numbers e)
+      (λ text. and_then (values limit texts numbers es) (λ rest. Ok (text ++ rest)))
 
 -- the length of so many copies of a byte
 abbrev pub measured_copies : ℕ → ℤ → ℤ → Result ℕ FaultKind
@@ -44,11 +46,13 @@ abbrev mutual
   measured limit lengths numbers (name x) = Ok (lengths x)
   measured limit lengths numbers (run c n) = measured_copies limit (numbers c) (numbers n)
   measured limit lengths numbers (cat es) = and_then (measured_members limit lengths numbers es) (λ len. as_length limit len)
-  measured limit lengths numbers (sub e i n) = and_then (measured limit lengths numbers e) (λ len. measured_part limit len (numbers i) (numbers n))
+  measured limit lengths numbers (sub e i n) = and_then (measured limit lengths numbers e)
+      (λ len. measured_part limit len (numbers i) (numbers n))
 
   pub measured_members : ℕ → (List ℕ → ℕ) → (Number → ℤ) → Exprs → Result ℕ FaultKind
   measured_members limit lengths numbers nothing = Ok 0
-  measured_members limit lengths numbers (member e es) = and_then (measured limit lengths numbers e) (λ len. and_then (measured_members limit lengths numbers es) (λ others. Ok (len + others)))
+  measured_members limit lengths numbers (member e es) = and_then (measured limit lengths numbers e)
+      (λ len. and_then (measured_members limit lengths numbers es) (λ others. Ok (len + others)))
 
 -- the text of an expression in a state, and the length that is told where no more than the lengths of its texts is known
 abbrev pub text_in : ℕ → State → Expr → Result (List ℕ) FaultKind

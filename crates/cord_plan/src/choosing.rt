@@ -1,9 +1,11 @@
 // What stands for the operands of a line: their names, or expressions of earlier lines.
-ghost use Rattle.std.specs.Prelude.{◌≡◌, ◌==◌, ◌+◌, ◌<◌, ◌≤◌, ◌++◌, ◌∷◌, Some, ◌||◌, IfOk, IsOkUnless, drop, length, map, not, option_map};
+ghost use Rattle.std.specs.Prelude.{◌≡◌, ◌==◌, ◌+◌, ◌<◌, ◌≤◌, ◌++◌, ◌∷◌, Some, ◌||◌, IfOk, IsOkUnless, drop, length};
+ghost use Rattle.std.specs.Prelude.{map, not, option_map};
 ghost use Rattle.cord_plan.specs.Exprs.{names, name};
 ghost use Rattle.cord_plan.specs.Operands.{assigns, count};
 ghost use Rattle.cord_plan.specs.Forced.{is_small, expr_of, expr_with};
-ghost use Rattle.cord_plan.specs.inner.Choices.{simple_operands, parts_beside, expression_in, is_spare, room_left_by, choice_view, operands_view, IsChoice, AreChoices};
+ghost use Rattle.cord_plan.specs.inner.Choices.{simple_operands, parts_beside, expression_in, is_spare, room_left_by};
+ghost use Rattle.cord_plan.specs.inner.Choices.{choice_view, operands_view, IsChoice, AreChoices};
 ghost use Rattle.cord_plan.specs.inner.Liveness.{tells};
 ghost use Rattle.cord_plan.specs.inner.Recent.{IsRecent};
 ghost use Rattle.cord_plan.specs.Views.{expr_view};
@@ -90,14 +92,16 @@ fn is_named_once(operands: &[Name], name: &[u8]) -> bool
 
 // Whether no line after a line reads the name that it has as an operand, but for what the line itself assigns.
 fn is_free(line: &Line, name: &[u8]) -> bool
-    ensures { result ≡ (assigns line.now.statement.now name.now || not (tells line.now.recent.now.later.now name.now line.now.place)) }
+    ensures { result ≡ (assigns line.now.statement.now name.now || not
+        (tells line.now.recent.now.later.now name.now line.now.place)) }
 {
     assigns(line.statement, name) || !line.recent.later.is_later(name, line.place)
 }
 
 // Whether nothing but a line itself needs the text of an operand: the line names it once, and assigns it or it isn't read later.
 fn is_spare(line: &Line, operand: &Name) -> bool
-    ensures { result ≡ is_spare line.now.statements.now (tells line.now.recent.now.later.now) line.now.place line.now.statement.now line.now.operands.now operand.now }
+    ensures { result ≡ is_spare line.now.statements.now (tells line.now.recent.now.later.now) line.now.place
+        line.now.statement.now line.now.operands.now operand.now }
 {
     let name = operand.as_slice();
     is_named_once(line.operands, name) && is_free(line, name)
@@ -135,7 +139,9 @@ fn room_behind_choices(chosen: &[Choice], room: u32) -> Option<u32>
 fn stays_small(line: &Line, chosen: &[Choice], expression: &Expr) -> bool
     requires operands { simple_operands line.now.statement.now ≡ Some line.now.operands.now }
     requires more { length chosen.now < length line.now.operands.now }
-    ensures { result ≡ is_small (expr_with line.now.statement.now (map expr_of (map choice_view chosen.now) ++ expr_view expression.now ∷ map (λ y. name y) (drop (length (map choice_view chosen.now) + 1) line.now.operands.now))) }
+    ensures { result ≡ is_small (expr_with line.now.statement.now
+        (map expr_of (map choice_view chosen.now) ++ expr_view expression.now
+        ∷ map (λ y. name y) (drop (length (map choice_view chosen.now) + 1) line.now.operands.now))) }
 {
     let names = line.operands.len() - chosen.len() - 1;
     match room_behind_choices(chosen, MAX_EXPR_PARTS) {
@@ -168,7 +174,9 @@ fn choose<'a>(
     requires recent { IsRecent line.now.statements.now line.now.place line.now.recent.now }
     requires operands { simple_operands line.now.statement.now ≡ Some line.now.operands.now }
     requires more { length chosen.now < length line.now.operands.now }
-    ensures { IsChoice line.now.statements.now (tells line.now.recent.now.later.now) line.now.place line.now.statement.now line.now.operands.now operand.now (map (option_map expr_view) table.now) (map choice_view chosen.now) (choice_view result) }
+    ensures { IsChoice line.now.statements.now (tells line.now.recent.now.later.now) line.now.place
+        line.now.statement.now line.now.operands.now operand.now (map (option_map expr_view) table.now)
+        (map choice_view chosen.now) (choice_view result) }
 {
     if !is_spare(line, operand) {
         return Choice::Kept(operand);
@@ -197,7 +205,9 @@ pub(crate) fn choose_all<'a>(
     requires place { line.now.place ≤ length line.now.statements.now }
     requires recent { IsRecent line.now.statements.now line.now.place line.now.recent.now }
     requires operands { simple_operands line.now.statement.now ≡ Some line.now.operands.now }
-    ensures { IfOk result (λ cs. AreChoices line.now.statements.now (tells line.now.recent.now.later.now) line.now.place line.now.statement.now (map (option_map expr_view) table.now) (map choice_view cs.items)) }
+    ensures { IfOk result (λ cs. AreChoices line.now.statements.now
+        (tells line.now.recent.now.later.now) line.now.place line.now.statement.now
+        (map (option_map expr_view) table.now) (map choice_view cs.items)) }
 {
     let mut chosen = Vec::with_capacity(alloc, line.operands.len())?;
     for operand in line.operands {

@@ -38,7 +38,8 @@ fn shared_copy(alloc: Global, expression: &Expr) -> Result<Rc<Expr>, CordError>
 
 // Puts a copy of an expression after the members of a `cat`; of a `cat` its members, which are shared.
 fn add_copy(alloc: Global, members: &mut Vec<Rc<Expr>>, expression: &Expr) -> Result<(), CordError>
-    ensures added { OnOk result (members_of (map shared_view members.new.items) ≡ append (members_of (map shared_view members.old.items)) (in_front (expr_view expression.now) nothing)) }
+    ensures added { OnOk result (members_of (map shared_view members.new.items)
+        ≡ append (members_of (map shared_view members.old.items)) (in_front (expr_view expression.now) nothing)) }
     ensures refused { IsOkUnless result CordError.NoMemory }
 {
     match expression {
@@ -57,7 +58,9 @@ fn add(
     members: &mut Vec<Rc<Expr>>,
     choice: &Choice,
 ) -> Result<(), CordError>
-    ensures added { OnOk result (members_of (map shared_view members.new.items) ≡ append (members_of (map shared_view members.old.items)) (in_front (expr_of (choice_view choice.now)) nothing)) }
+    ensures added { OnOk result (members_of (map shared_view members.new.items)
+        ≡ append (members_of (map shared_view members.old.items))
+        (in_front (expr_of (choice_view choice.now)) nothing)) }
     ensures refused { IsOkUnless result CordError.NoMemory }
 {
     match choice {
@@ -91,7 +94,8 @@ fn joined(
     choices: &[Choice],
     more: usize,
 ) -> Result<Vec<Rc<Expr>>, CordError>
-    ensures made { IfOk result (λ ms. members_of (map shared_view ms.items) ≡ members (map expr_of (map choice_view choices.now))) }
+    ensures made { IfOk result (λ ms. members_of (map shared_view ms.items)
+        ≡ members (map expr_of (map choice_view choices.now))) }
     ensures refused { IsOkUnless result CordError.NoMemory }
 {
     let room = room_for(choices).saturating_add(more);
@@ -117,7 +121,8 @@ fn joined_with(
     choices: &[Choice],
     byte: &Number,
 ) -> Result<Expr, CordError>
-    ensures made { IfOk result (λ e. expr_view e ≡ plain.cat (members (map expr_of (map choice_view choices.now) ++ plain.run byte.now (Numeral (pos 1)) ∷ []))) }
+    ensures made { IfOk result (λ e. expr_view e ≡ plain.cat
+        (members (map expr_of (map choice_view choices.now) ++ plain.run byte.now (Numeral (pos 1)) ∷ []))) }
     ensures refused { IsOkUnless result CordError.NoMemory }
 {
     let mut members = joined(alloc, interner, choices, 1)?;
@@ -140,7 +145,8 @@ pub(crate) fn expression_with(
     statement: &Statement,
     choices: &[Choice],
 ) -> Result<Option<Expr>, CordError>
-    ensures made { IfOk result (λ e. option_map expr_view e ≡ expr_with statement.now (map expr_of (map choice_view choices.now))) }
+    ensures made { IfOk result (λ e. option_map expr_view e
+        ≡ expr_with statement.now (map expr_of (map choice_view choices.now))) }
     ensures refused { IsOkUnless result CordError.NoMemory }
 {
     match statement {

@@ -32,7 +32,8 @@ fn shapes_of(alloc: Global, operations: &[Operation]) -> Result<Vec<Shape>, Allo
 /// The place that each operation leads to where it passes others over.
 pub(crate) fn jumps(alloc: Global, operations: &[Operation]) -> Result<Vec<usize>, AllocError>
     ensures size { IfOk result (λ v. length v.items ≡ length operations.now) }
-    ensures told { IfOk result (λ v. (p : ℕ) → p < length operations.now → slice_get v.items p ≡ Some (jump (map operation_shape (map operation_view operations.now)) p)) }
+    ensures told { IfOk result (λ v. (p : ℕ) → p < length operations.now →
+        slice_get v.items p ≡ Some (jump (map operation_shape (map operation_view operations.now)) p)) }
 {
     let shapes = shapes_of(alloc, operations)?;
     let mut places = Vec::new(alloc);

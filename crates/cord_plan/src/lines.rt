@@ -23,7 +23,8 @@ pub(crate) fn operation_of(
     dead: bool,
     paired: bool,
 ) -> Result<Operation, CordError>
-    ensures made { IfOk result (λ o. operation_view o ≡ plan.operation statement.now (plan.or_nothing (option_map expr_view expression)) dead paired) }
+    ensures made { IfOk result (λ o. operation_view o ≡ plan.operation statement.now
+        (plan.or_nothing (option_map expr_view expression)) dead paired) }
     ensures refused { IsOkUnless result CordError.NoMemory }
 {
     match statement {
@@ -50,7 +51,8 @@ pub(crate) fn operation_of(
 // The operation of a line that has no expression.
 fn operation_without(statement: &Statement, dead: bool) -> Result<Operation, CordError>
     requires { own statement.now ≡ None }
-    ensures made { IfOk result (λ o. (e : plain.Expr) (paired : Bool) → operation_view o ≡ plan.operation statement.now e dead paired) }
+    ensures made { IfOk result (λ o. (e : plain.Expr) (paired : Bool) →
+        operation_view o ≡ plan.operation statement.now e dead paired) }
     ensures refused { IsOkUnless result CordError.NoMemory }
 {
     match statement {
@@ -86,7 +88,8 @@ fn operation_without(statement: &Statement, dead: bool) -> Result<Operation, Cor
 // The operation of a line that makes a cord anew of one cord, an extensible cord or a print.
 fn operation_of_print(statement: &Statement, dead: bool) -> Result<Operation, CordError>
     requires { IsPrint statement.now }
-    ensures made { IfOk result (λ o. (e : plain.Expr) (paired : Bool) → operation_view o ≡ plan.operation statement.now e dead paired) }
+    ensures made { IfOk result (λ o. (e : plain.Expr) (paired : Bool) →
+        operation_view o ≡ plan.operation statement.now e dead paired) }
     ensures refused { IsOkUnless result CordError.NoMemory }
 {
     match statement {

@@ -1,11 +1,13 @@
 // Which names are read later than which lines.
-ghost use Rattle.std.specs.Prelude.{◌≡◌, ◌<◌, ◌≤◌, ◌/◌, ◌^◌, ℕ, List, true, false, Some, length, map, get_or, slice_get, IfOk};
+ghost use Rattle.std.specs.Prelude.{◌≡◌, ◌<◌, ◌≤◌, ◌/◌, ◌^◌, ℕ, List, true, false, Some, length, map, get_or};
+ghost use Rattle.std.specs.Prelude.{slice_get, IfOk};
 ghost use Rattle.cord_meaning.specs.Statements.{shape_of};
 ghost use Rattle.cord_plan.specs.Operands.{assigns_at};
 ghost use Rattle.cord_plan.specs.Unread.{IsLater, behind, some_of};
 ghost use Rattle.cord_plan.specs.inner.Marks.{bit, column, room, IsBit};
 ghost use Rattle.cord_plan.specs.inner.Numbering.{names_of};
-ghost use Rattle.cord_plan.specs.inner.Liveness.{places, places_at, AreBehind, at, tells, flow, AreAssigned, ArePartly, AreLive, AllLive, column_of};
+ghost use Rattle.cord_plan.specs.inner.Liveness.{places, places_at, AreBehind, at, tells, flow, AreAssigned, ArePartly};
+ghost use Rattle.cord_plan.specs.inner.Liveness.{AreLive, AllLive, column_of};
 
 use crate::marks::{GROUP, has_bit, mark_assigned, mark_read};
 use crate::numbering::Numbering;
@@ -91,7 +93,8 @@ impl Flow<'_> {
 
     // The bits of the places that may come next after a place.
     fn word_behind_at(&self, words: &[u128], place: usize) -> u128
-        ensures { (i : ℕ) → bit result i ≡ some_of (λ q. at (column words.now i) q) (places_at self.now.behinds.now place) }
+        ensures { (i : ℕ) → bit result i ≡ some_of (λ q. at (column words.now i) q)
+            (places_at self.now.behinds.now place) }
     {
         match self.behinds.get(place) {
             Some(behind) => word_behind(words, *behind),
@@ -103,7 +106,10 @@ impl Flow<'_> {
     fn flow_at(&self, assigned: &[u128], words: &[u128], place: usize) -> u128
         requires behinds { AreBehind (map shape_of self.now.statements.now) self.now.behinds.now }
         requires assigned { AreAssigned self.now.statements.now self.now.numbering.now self.now.group assigned.now }
-        ensures bits { (x : List ℕ) (i : ℕ) → IsBit self.now.numbering.now self.now.group x i → bit result i ≡ flow (at (column words.now i) place) (some_of (λ q. at (column words.now i) q) (behind (map shape_of self.now.statements.now) place)) (assigns_at (slice_get self.now.statements.now place) x) }
+        ensures bits { (x : List ℕ) (i : ℕ) → IsBit self.now.numbering.now self.now.group x i →
+            bit result i ≡ flow (at (column words.now i) place)
+            (some_of (λ q. at (column words.now i) q) (behind (map shape_of self.now.statements.now) place))
+            (assigns_at (slice_get self.now.statements.now place) x) }
         ensures grows { get_or words.now place 0 ≤ result }
         ensures fits { result < 2 ^ 128 }
     {

@@ -55,7 +55,8 @@ fn pair(
     left: &Name,
     right: &Name,
 ) -> Result<Expr, CordError>
-    ensures made { IfOk result (λ e. expr_view e ≡ plain.cat (members_of (plain.name left.now ∷ plain.name right.now ∷ []))) }
+    ensures made { IfOk result (λ e. expr_view e ≡ plain.cat
+        (members_of (plain.name left.now ∷ plain.name right.now ∷ []))) }
     ensures refused { IsOkUnless result CordError.NoMemory }
 {
     let (left, right) = (interner.name(alloc, left)?, interner.name(alloc, right)?);
@@ -70,7 +71,8 @@ fn with_byte(
     operand: &Name,
     byte: &Number,
 ) -> Result<Expr, CordError>
-    ensures made { IfOk result (λ e. expr_view e ≡ plain.cat (members_of (plain.name operand.now ∷ plain.run byte.now (Numeral (pos 1)) ∷ []))) }
+    ensures made { IfOk result (λ e. expr_view e ≡ plain.cat
+        (members_of (plain.name operand.now ∷ plain.run byte.now (Numeral (pos 1)) ∷ []))) }
     ensures refused { IsOkUnless result CordError.NoMemory }
 {
     let (operand, last) = (interner.name(alloc, operand)?, shared_byte(alloc, byte)?);

@@ -72,7 +72,8 @@ pub(crate) fn copy(alloc: Global, expression: &Expr) -> Result<Expr, CordError>
 
 /// Puts these members after others, which share them; room for them is made at once. Refused only with `NoMemory`.
 pub(crate) fn share_onto(members: &[Rc<Expr>], shared: &mut Vec<Rc<Expr>>) -> Result<(), CordError>
-    ensures made { OnOk result (map shared_view shared.new.items ≡ map shared_view shared.old.items ++ map shared_view members.now) }
+    ensures made { OnOk result (map shared_view shared.new.items ≡ map shared_view shared.old.items
+        ++ map shared_view members.now) }
     ensures refused { IsOkUnless result CordError.NoMemory }
 {
     shared.reserve(members.len())?;

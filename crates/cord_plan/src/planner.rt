@@ -1,5 +1,6 @@
 // The planner.
-ghost use Rattle.std.specs.Prelude.{◌≡◌, ◌<◌, ℕ, Bool, List, Some, IfOk, IsOkUnless, length, map, option_map, slice_get};
+ghost use Rattle.std.specs.Prelude.{◌≡◌, ◌<◌, ℕ, Bool, List, Some, IfOk, IsOkUnless, length, map, option_map};
+ghost use Rattle.std.specs.Prelude.{slice_get};
 ghost use Rattle.cord_plan.specs.inner.Liveness.{tells};
 ghost use Rattle.cord_plan.specs.Meaning.{IsPlanOf};
 ghost use Rattle.cord_plan.specs.Operands.{target_of};
@@ -84,7 +85,8 @@ fn operations_of(
 /// Refused only with `NoMemory`.
 pub fn plan(alloc: Global, script: &Script) -> Result<Plan, CordError>
     // Given exactly what is read later, these are the planned operations.
-    ensures made { IfOk result (λ p. (later : List ℕ → ℕ → Bool) × IsLater script.now later × (map operation_view p ≡ plan.planned script.now later)) }
+    ensures made { IfOk result (λ p. (later : List ℕ → ℕ → Bool) × IsLater script.now later ×
+        (map operation_view p ≡ plan.planned script.now later)) }
     // Over all files it does what the script does.
     ensures means { IfOk result (λ p. IsPlanOf script.now (map operation_view p)) }
     ensures refused { IsOkUnless result CordError.NoMemory }

@@ -1,5 +1,6 @@
 // Plans.
-ghost use Rattle.std.specs.Prelude.{◌≡◌, All, ◌<◌, ◌++◌, ℕ, Some, IfErr, IfOk, IsOkUnless, OnErr, OnOk, length, map, slice_get};
+ghost use Rattle.std.specs.Prelude.{◌≡◌, All, ◌<◌, ◌++◌, ℕ, Some, IfErr, IfOk, IsOkUnless, OnErr, OnOk, length, map};
+ghost use Rattle.std.specs.Prelude.{slice_get};
 ghost use Rattle.cord_meaning.specs.Blocks.{jump};
 ghost use Rattle.cord_io.specs.Device.{raised};
 ghost use Rattle.cord_iter.specs.Taking.{IsFrontOf, Takes};
@@ -92,7 +93,8 @@ impl Plan {
     /// `NoMemory`.
     pub fn jumps(&self, alloc: Global) -> Result<Vec<usize>, CordError>
         ensures size { IfOk result (λ v. length v.items ≡ length self.now) }
-        ensures told { IfOk result (λ v. (p : ℕ) → p < length self.now → slice_get v.items p ≡ Some (jump (map operation_shape (map operation_view self.now)) p)) }
+        ensures told { IfOk result (λ v. (p : ℕ) → p < length self.now →
+            slice_get v.items p ≡ Some (jump (map operation_shape (map operation_view self.now)) p)) }
         ensures refused { IsOkUnless result CordError.NoMemory }
     {
         Ok(jumps(alloc, &self.operations)?)
@@ -101,8 +103,10 @@ impl Plan {
     /// Hands a sink the text of the plan: one line an operation, ended by byte 10. Refused with `WriteFailed` where the sink
     /// failed: then it took a prefix of the text.
     pub fn show<W: Sink>(&self, sink: &mut W) -> Result<(), CordError>
-        ensures ok { OnOk result ((W.taken sink.new ≡ W.taken sink.old ++ shown (map operation_view self.now)) × (W.failures sink.new ≡ W.failures sink.old)) }
-        ensures err { OnErr result (Takes (IsFrontOf (shown (map operation_view self.now))) (W.taken sink.old) (W.taken sink.new) × (W.failures sink.new ≡ raised (W.failures sink.old))) }
+        ensures ok { OnOk result ((W.taken sink.new ≡ W.taken sink.old ++ shown (map operation_view self.now)) ×
+            (W.failures sink.new ≡ W.failures sink.old)) }
+        ensures err { OnErr result (Takes (IsFrontOf (shown (map operation_view self.now))) (W.taken sink.old)
+            (W.taken sink.new) × (W.failures sink.new ≡ raised (W.failures sink.old))) }
         ensures finished { W.finished sink.new ≡ W.finished sink.old }
         ensures refused { IfErr result (λ e. e ≡ CordError.WriteFailed) }
     {

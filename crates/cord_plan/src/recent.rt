@@ -5,7 +5,8 @@ ghost use Rattle.cord_syntax.specs.declared.statements.Statement.{Statement};
 ghost use Rattle.cord_meaning.specs.Statements.{shape_of};
 ghost use Rattle.cord_plan.specs.Forced.{is_block};
 ghost use Rattle.cord_plan.specs.Operands.{assigns, cord_arguments, has, reads};
-ghost use Rattle.cord_plan.specs.inner.Recent.{IsRecent, Notes, entry_at, entry_of, is_before, is_behind, unless_behind};
+ghost use Rattle.cord_plan.specs.inner.Recent.{IsRecent, Notes, entry_at, entry_of, is_before, is_behind};
+ghost use Rattle.cord_plan.specs.inner.Recent.{unless_behind};
 
 use crate::liveness::Later;
 use crate::numbering::Numbering;
@@ -198,7 +199,8 @@ impl<'a> Recent<'a> {
     /// Notes the next line.
     pub(crate) fn note(&mut self, statement: &Statement, place: usize)
         ensures later { self.new.later.now ≡ self.old.later.now }
-        ensures recent { (s : List Statement) → slice_get s place ≡ Some statement.now → IsRecent s place self.old → IsRecent s (place + 1) self.new }
+        ensures recent { (s : List Statement) → slice_get s place ≡ Some statement.now → IsRecent s place self.old →
+            IsRecent s (place + 1) self.new }
     {
         let numbering = &self.later.numbering;
         note_assigned(numbering, &mut self.assigned, statement, place);

@@ -7,7 +7,8 @@ ghost use Rattle.std.specs.Prelude.{◌≡◌, [], ◌∷◌, ◌++◌, codes, m
 ghost use Rattle.cord_io.specs.Device.{raised};
 ghost use Rattle.cord_meaning.specs.Statements.{line_of};
 ghost use Rattle.cord_iter.specs.Taking.{IsFrontOf, Takes};
-ghost use Rattle.cord_plan.specs.Shown.{decimal, expr, function, spaced, statement, made as made_text, operation as operation_text, shown};
+ghost use Rattle.cord_plan.specs.Shown.{decimal, expr, function, spaced, statement, made as made_text};
+ghost use Rattle.cord_plan.specs.Shown.{operation as operation_text, shown};
 ghost use Rattle.cord_plan.specs.inner.Showing.{Writes, fragment_text};
 ghost use Rattle.cord_plan.specs.Views.{expr_view, made_view, operation_view};
 
@@ -25,8 +26,10 @@ pub(crate) fn show_operations<W: Sink>(
     operations: &[Operation],
     sink: &mut W,
 ) -> Result<(), CordError>
-    ensures ok { OnOk result ((W.taken sink.new ≡ W.taken sink.old ++ shown (map operation_view operations.now)) × (W.failures sink.new ≡ W.failures sink.old)) }
-    ensures err { OnErr result (Takes (IsFrontOf (shown (map operation_view operations.now))) (W.taken sink.old) (W.taken sink.new) × (W.failures sink.new ≡ raised (W.failures sink.old))) }
+    ensures ok { OnOk result ((W.taken sink.new ≡ W.taken sink.old ++ shown (map operation_view operations.now)) ×
+        (W.failures sink.new ≡ W.failures sink.old)) }
+    ensures err { OnErr result (Takes (IsFrontOf (shown (map operation_view operations.now))) (W.taken sink.old)
+        (W.taken sink.new) × (W.failures sink.new ≡ raised (W.failures sink.old))) }
     ensures finished { W.finished sink.new ≡ W.finished sink.old }
     ensures refused { IfErr result (λ e. e ≡ CordError.WriteFailed) }
 {
@@ -35,7 +38,8 @@ pub(crate) fn show_operations<W: Sink>(
 }
 
 fn put_operations<W: Sink>(operations: &[Operation], sink: &mut W) -> Result<(), WriteFault>
-    ensures { Writes (shown (map operation_view operations.now)) (W.taken sink.old) (W.taken sink.new) (W.failures sink.old) (W.failures sink.new) (W.finished sink.old) (W.finished sink.new) result }
+    ensures { Writes (shown (map operation_view operations.now)) (W.taken sink.old) (W.taken sink.new)
+        (W.failures sink.old) (W.failures sink.new) (W.finished sink.old) (W.finished sink.new) result }
 {
     for operation in operations {
         put_operation(operation, sink)?;
@@ -46,7 +50,8 @@ fn put_operations<W: Sink>(operations: &[Operation], sink: &mut W) -> Result<(),
 
 // A line of the text, without its end.
 fn put_operation<W: Sink>(operation: &Operation, sink: &mut W) -> Result<(), WriteFault>
-    ensures { Writes (operation_text (operation_view operation.now)) (W.taken sink.old) (W.taken sink.new) (W.failures sink.old) (W.failures sink.new) (W.finished sink.old) (W.finished sink.new) result }
+    ensures { Writes (operation_text (operation_view operation.now)) (W.taken sink.old) (W.taken sink.new)
+        (W.failures sink.old) (W.failures sink.new) (W.finished sink.old) (W.finished sink.new) result }
 {
     match operation {
         Operation::Build { line, target, made } => put_given(*line, b"build", target, made, sink),
@@ -66,7 +71,9 @@ fn put_given<'a, W: Sink>(
     made: &Made,
     sink: &mut W,
 ) -> Result<(), WriteFault>
-    ensures { Writes (spaced (decimal line ∷ verb.now ∷ target.now ∷ made_text (made_view made.now) ∷ [])) (W.taken sink.old) (W.taken sink.new) (W.failures sink.old) (W.failures sink.new) (W.finished sink.old) (W.finished sink.new) result }
+    ensures { Writes (spaced (decimal line ∷ verb.now ∷ target.now ∷ made_text (made_view made.now) ∷ []))
+        (W.taken sink.old) (W.taken sink.new) (W.failures sink.old) (W.failures sink.new) (W.finished sink.old)
+        (W.finished sink.new) result }
 {
     let head = [
         Count(line as u64),
@@ -82,7 +89,9 @@ fn put_given<'a, W: Sink>(
 
 // The line of an operation that puts an expression.
 fn put_written<W: Sink>(line: u32, expression: &Expr, sink: &mut W) -> Result<(), WriteFault>
-    ensures { Writes (spaced (decimal line ∷ codes "write" ∷ expr (expr_view expression.now) ∷ [])) (W.taken sink.old) (W.taken sink.new) (W.failures sink.old) (W.failures sink.new) (W.finished sink.old) (W.finished sink.new) result }
+    ensures { Writes (spaced (decimal line ∷ codes "write" ∷ expr (expr_view expression.now) ∷ [])) (W.taken sink.old)
+        (W.taken sink.new) (W.failures sink.old) (W.failures sink.new) (W.finished sink.old)
+        (W.finished sink.new) result }
 {
     put_fragments(&[Count(line as u64), Plain(b" write ")], sink)?;
     put_expression(expression, sink)
@@ -90,7 +99,9 @@ fn put_written<W: Sink>(line: u32, expression: &Expr, sink: &mut W) -> Result<()
 
 // The line of a statement that is kept.
 fn put_kept<W: Sink>(kept: &Statement, sink: &mut W) -> Result<(), WriteFault>
-    ensures { Writes (spaced (decimal (line_of kept.now) ∷ statement kept.now ∷ [])) (W.taken sink.old) (W.taken sink.new) (W.failures sink.old) (W.failures sink.new) (W.finished sink.old) (W.finished sink.new) result }
+    ensures { Writes (spaced (decimal (line_of kept.now) ∷ statement kept.now ∷ [])) (W.taken sink.old)
+        (W.taken sink.new) (W.failures sink.old) (W.failures sink.new) (W.finished sink.old)
+        (W.finished sink.new) result }
 {
     put_fragments(&[Count(kept.line() as u64), Plain(b" ")], sink)?;
     put_statement(kept, sink)
@@ -98,7 +109,8 @@ fn put_kept<W: Sink>(kept: &Statement, sink: &mut W) -> Result<(), WriteFault>
 
 // What a name is made of.
 fn put_made<W: Sink>(made: &Made, sink: &mut W) -> Result<(), WriteFault>
-    ensures { Writes (made_text (made_view made.now)) (W.taken sink.old) (W.taken sink.new) (W.failures sink.old) (W.failures sink.new) (W.finished sink.old) (W.finished sink.new) result }
+    ensures { Writes (made_text (made_view made.now)) (W.taken sink.old) (W.taken sink.new) (W.failures sink.old)
+        (W.failures sink.new) (W.finished sink.old) (W.finished sink.new) result }
 {
     match made {
         Made::Joined(expression) => put_expression(expression, sink),
@@ -142,7 +154,8 @@ fn put_called<'a, W: Sink>(
     inside: Fragment<'a>,
     sink: &mut W,
 ) -> Result<(), WriteFault>
-    ensures { Writes (opened.now ++ fragment_text inside.entry ++ 41 ∷ []) (W.taken sink.old) (W.taken sink.new) (W.failures sink.old) (W.failures sink.new) (W.finished sink.old) (W.finished sink.new) result }
+    ensures { Writes (opened.now ++ fragment_text inside.entry ++ 41 ∷ []) (W.taken sink.old) (W.taken sink.new)
+        (W.failures sink.old) (W.failures sink.new) (W.finished sink.old) (W.finished sink.new) result }
 {
     put_fragments(&[Plain(opened), inside, Plain(b")")], sink)
 }

@@ -99,7 +99,8 @@ fn number_stays(line: &Line, from: usize, number: &Number) -> bool
 fn numbers_stay(line: &Line, from: usize, first: &Number, second: &Number) -> bool
     requires place { line.now.place ≤ length line.now.statements.now }
     requires recent { IsRecent line.now.statements.now line.now.place line.now.recent.now }
-    ensures { result ≡ stay line.now.statements.now from line.now.place (number_names first.now ++ number_names second.now) }
+    ensures { result ≡ stay line.now.statements.now from line.now.place
+        (number_names first.now ++ number_names second.now) }
 {
     number_stays(line, from, first) && number_stays(line, from, second)
 }
@@ -130,7 +131,8 @@ fn stays_far(line: &Line, from: usize, expression: &Expr) -> bool
 fn all_stay_far(line: &Line, from: usize, members: &[Rc<Expr>]) -> bool
     requires place { line.now.place ≤ length line.now.statements.now }
     requires recent { IsRecent line.now.statements.now line.now.place line.now.recent.now }
-    ensures { result ≡ stay line.now.statements.now from line.now.place (names_of (members_of (map shared_view members.now))) }
+    ensures { result ≡ stay line.now.statements.now from line.now.place
+        (names_of (members_of (map shared_view members.now))) }
 {
     for member in members {
         if !stays_far(line, from, member.as_ref()) {

@@ -54,7 +54,8 @@ fn next_expression<'a>(
 ) -> Result<Option<Expr>, CordError>
     requires place { place ≤ length statements.now }
     requires recent { IsRecent statements.now place recent.now }
-    ensures made { IfOk result (λ e. IsNext statements.now (tells recent.now.later.now) place statement.now (map (option_map expr_view) expressions.now) firsts.old firsts.new (option_map expr_view e)) }
+    ensures made { IfOk result (λ e. IsNext statements.now (tells recent.now.later.now) place statement.now
+        (map (option_map expr_view) expressions.now) firsts.old firsts.new (option_map expr_view e)) }
     ensures refused { IsOkUnless result CordError.NoMemory }
 {
     let Some(operands) = operands_of(statement)? else {

@@ -55,7 +55,8 @@ slice_right (x ∷ xs) ys zero h = absurd (omega arith)
 slice_right (x ∷ xs) ys (suc i) h = let e : suc i - suc (length xs) ≡ i - length xs = omega arith in rw e (slice_right xs ys i (omega arith))
 
 -- over a table that the node fits, the byte of the part is that of the node
-pub part_byte : (t : Table) (n : Node) (s i at b : ℕ) → at ≡ s + i → IsSound n → i < len_of n → Fits t n → HasByte t (part_at n s i).0 (at - (part_at n s i).1) b → HasByte t n i b
+pub part_byte : (t : Table) (n : Node) (s i at b : ℕ) → at ≡ s + i → IsSound n → i < len_of n → Fits t n →
+    HasByte t (part_at n s i).0 (at - (part_at n s i).1) b → HasByte t n i b
 part_byte t (Leaf bytes from len mark) s i at b z h k f e = let a : at - s ≡ i = omega arith in rw a at e
 part_byte t (Run byte len) s i at b z h k f e = let a : at - s ≡ i = omega arith in rw a at e
 part_byte t (Func id from len) s i at b z h k f e = let a : at - s ≡ i = omega arith in rw a at e
@@ -67,5 +68,6 @@ part_byte t (Cat' p left q right len depth mark) s i at b z h k f e =
     slice_left (bytes_over t left) (bytes_over t right) i (omega arith) ∙ part_byte t left s i at b z h.0 c f.0 e')
     (λ (c : len_of left ≤ i).
     let e' : HasByte t (part_at right (s + len_of left) (i - len_of left)).0 (at - (part_at right (s + len_of left) (i - len_of left)).1) b = rw (part_at-right p q left right len depth mark s i c) at e in
-    slice_right (bytes_over t left) (bytes_over t right) i (omega arith) ∙ (rw len-left (part_byte t right (s + len_of left) (i - len_of left) at b (omega arith) h.1 (omega (arith, h.2)) f.1 e')))
+    slice_right (bytes_over t left) (bytes_over t right) i (omega arith)
+    ∙ (rw len-left (part_byte t right (s + len_of left) (i - len_of left) at b (omega arith) h.1 (omega (arith, h.2)) f.1 e')))
     (cases_lt i (len_of left))

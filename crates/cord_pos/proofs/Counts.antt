@@ -8,7 +8,8 @@ use Rattle.cord_node.specs.declared.Node.TheVariants.{Leaf, Run, Func, Cat'}
 use Rattle.cord_node.specs.Tree.{len_of, depth_of, IsSound}
 use Rattle.cord_node.specs.Occurrences.{size, level, preorder, shared_level}
 use Rattle.cord_node.proofs.TreeLemmas.{len_positive}
-use Rattle.cord_pos.proofs.Sides.{level-left, level-right, preorder-left, preorder-right, shared-left, shared-right, shared-parted, shared-parted_back}
+use Rattle.cord_pos.proofs.Sides.{level-left, level-right, preorder-left, preorder-right, shared-left, shared-right, shared-parted}
+use Rattle.cord_pos.proofs.Sides.{shared-parted_back}
 
 -- no part lies below the depth
 pub level_depth : (n : Node) (i : ℕ) → IsSound n → level n i ≤ depth_of n
@@ -66,7 +67,8 @@ size_len (Func id from len) h = omega (arith, h.0)
 size_len (Cat' p left q right len depth mark) h = omega (arith, h.2, size_len left h.0, size_len right h.1)
 
 -- to the next index: the preorder number grows by the steps below the deepest occurrence above both parts
-pub preorder_next : (n : Node) (i : ℕ) → IsSound n → i + 1 < len_of n → preorder n (i + 1) + shared_level n i (i + 1) ≡ preorder n i + level n (i + 1)
+pub preorder_next : (n : Node) (i : ℕ) → IsSound n → i + 1 < len_of n → preorder n (i + 1) + shared_level n i (i + 1) ≡ preorder n i
+    + level n (i + 1)
 preorder_next (Leaf bytes from len mark) i h e = refl
 preorder_next (Run byte len) i h e = refl
 preorder_next (Func id from len) i h e = refl
@@ -74,18 +76,40 @@ preorder_next (Cat' p left q right len depth mark) i h e =
     ⊎_elim
     (λ (k : i + 1 < len_of left).
     let a : i < len_of left = omega arith in
-    omega (arith, preorder-left p q left right len depth mark i a, preorder-left p q left right len depth mark (i + 1) k, level-left p q left right len depth mark (i + 1) k, shared-left p q left right len depth mark i (i + 1) a k, preorder_next left i h.0 k))
+    omega (
+      arith,
+      preorder-left p q left right len depth mark i a,
+      preorder-left p q left right len depth mark (i + 1) k,
+      level-left p q left right len depth mark (i + 1) k,
+      shared-left p q left right len depth mark i (i + 1) a k,
+      preorder_next left i h.0 k,
+    ))
     (λ (k : len_of left ≤ i + 1).
     ⊎_elim
     (λ (a : i < len_of left).
     let z : i + 1 - len_of left ≡ 0 = omega arith in
     let pr : preorder (Cat' p left q right len depth mark) (i + 1) ≡ 1 + size left + preorder right 0 = rw (← z) (preorder-right p q left right len depth mark (i + 1) k) in
     let lr : level (Cat' p left q right len depth mark) (i + 1) ≡ 1 + level right 0 = rw (← z) (level-right p q left right len depth mark (i + 1) k) in
-    omega (arith, pr, lr, preorder-left p q left right len depth mark i a, shared-parted p q left right len depth mark i (i + 1) a k, preorder_first right h.1, preorder_last left i h.0 (omega arith)))
+    omega (
+      arith,
+      pr,
+      lr,
+      preorder-left p q left right len depth mark i a,
+      shared-parted p q left right len depth mark i (i + 1) a k,
+      preorder_first right h.1,
+      preorder_last left i h.0 (omega arith),
+    ))
     (λ (a : len_of left ≤ i).
     let z : i + 1 - len_of left ≡ i - len_of left + 1 = omega arith in
     let s : preorder right (i + 1 - len_of left) + shared_level right (i - len_of left) (i + 1 - len_of left) ≡ preorder right (i - len_of left) + level right (i + 1 - len_of left) = rw z (preorder_next right (i - len_of left) h.1 (omega (arith, h.2))) in
-    omega (arith, s, preorder-right p q left right len depth mark i a, preorder-right p q left right len depth mark (i + 1) k, level-right p q left right len depth mark (i + 1) k, shared-right p q left right len depth mark i (i + 1) a k))
+    omega (
+      arith,
+      s,
+      preorder-right p q left right len depth mark i a,
+      preorder-right p q left right len depth mark (i + 1) k,
+      level-right p q left right len depth mark (i + 1) k,
+      shared-right p q left right len depth mark i (i + 1) a k,
+    ))
     (cases_lt i (len_of left)))
     (cases_lt (i + 1) (len_of left))
 
@@ -98,13 +122,37 @@ shared_same (Cat' p left q right len depth mark) i j e =
     ⊎_elim
     (λ (k : i < len_of left).
     ⊎_elim
-    (λ (a : j < len_of left). omega (arith, shared-left p q left right len depth mark i j k a, level-left p q left right len depth mark j a, shared_same left i j (omega (arith, preorder-left p q left right len depth mark i k, preorder-left p q left right len depth mark j a))))
-    (λ (a : len_of left ≤ j). absurd (omega (arith, preorder-left p q left right len depth mark i k, preorder-right p q left right len depth mark j a, preorder_below left i)))
+    (λ (a : j < len_of left). omega (
+      arith,
+      shared-left p q left right len depth mark i j k a,
+      level-left p q left right len depth mark j a,
+      shared_same left i j
+          (omega (arith, preorder-left p q left right len depth mark i k, preorder-left p q left right len depth mark j a)),
+    ))
+    (λ (a : len_of left ≤ j).
+    absurd (omega (
+      arith,
+      preorder-left p q left right len depth mark i k,
+      preorder-right p q left right len depth mark j a,
+      preorder_below left i,
+    )))
     (cases_lt j (len_of left)))
     (λ (k : len_of left ≤ i).
     ⊎_elim
-    (λ (a : j < len_of left). absurd (omega (arith, preorder-right p q left right len depth mark i k, preorder-left p q left right len depth mark j a, preorder_below left j)))
-    (λ (a : len_of left ≤ j). omega (arith, shared-right p q left right len depth mark i j k a, level-right p q left right len depth mark j a, shared_same right (i - len_of left) (j - len_of left) (omega (arith, preorder-right p q left right len depth mark i k, preorder-right p q left right len depth mark j a))))
+    (λ (a : j < len_of left).
+    absurd (omega (
+      arith,
+      preorder-right p q left right len depth mark i k,
+      preorder-left p q left right len depth mark j a,
+      preorder_below left j,
+    )))
+    (λ (a : len_of left ≤ j). omega (
+      arith,
+      shared-right p q left right len depth mark i j k a,
+      level-right p q left right len depth mark j a,
+      shared_same right (i - len_of left) (j - len_of left)
+          (omega (arith, preorder-right p q left right len depth mark i k, preorder-right p q left right len depth mark j a)),
+    ))
     (cases_lt j (len_of left)))
     (cases_lt i (len_of left))
 
@@ -117,12 +165,22 @@ shared_below (Cat' p left q right len depth mark) i j =
     ⊎_elim
     (λ (k : i < len_of left).
     ⊎_elim
-    (λ (a : j < len_of left). omega (arith, shared-left p q left right len depth mark i j k a, level-left p q left right len depth mark j a, shared_below left i j))
+    (λ (a : j < len_of left). omega (
+      arith,
+      shared-left p q left right len depth mark i j k a,
+      level-left p q left right len depth mark j a,
+      shared_below left i j,
+    ))
     (λ (a : len_of left ≤ j). omega (arith, shared-parted p q left right len depth mark i j k a))
     (cases_lt j (len_of left)))
     (λ (k : len_of left ≤ i).
     ⊎_elim
     (λ (a : j < len_of left). omega (arith, shared-parted_back p q left right len depth mark i j k a))
-    (λ (a : len_of left ≤ j). omega (arith, shared-right p q left right len depth mark i j k a, level-right p q left right len depth mark j a, shared_below right (i - len_of left) (j - len_of left)))
+    (λ (a : len_of left ≤ j). omega (
+      arith,
+      shared-right p q left right len depth mark i j k a,
+      level-right p q left right len depth mark j a,
+      shared_below right (i - len_of left) (j - len_of left),
+    ))
     (cases_lt j (len_of left)))
     (cases_lt i (len_of left))

@@ -8,7 +8,8 @@ use Rattle.cord_node.specs.declared.Node.TheVariants.{Leaf, Run, Func, Cat'}
 use Rattle.cord_node.specs.Tree.{len_of, depth_of, IsSound}
 use Rattle.cord_node.specs.Occurrences.{level, shared_level}
 use Rattle.cord_pos.specs.inner.Path.{Place, below, way, part_at, holds, NoneHolds}
-use Rattle.cord_pos.proofs.Sides.{below-left, below-right, level-left, level-right, part_at-left, part_at-right, shared-left, shared-right, shared-parted, shared-parted_back}
+use Rattle.cord_pos.proofs.Sides.{below-left, below-right, level-left, level-right, part_at-left, part_at-right, shared-left, shared-right}
+use Rattle.cord_pos.proofs.Sides.{shared-parted, shared-parted_back}
 
 -- a node that stands k steps below a root, where its text begins
 pub record IsUnder (root : Node) (s k : ℕ) (n : Node) (t : ℕ) : Type 0 where
@@ -36,7 +37,8 @@ under_self : (root n : Node) (s t : ℕ) → IsSound root → root ≡ n → s �
 under_self root n s t h e f = rw (← e, ← f) (record { sound = h; from = omega arith; to = omega arith; depth = omega arith })
 
 -- each place on a way is that of a sound node, whose text lies inside that of the root
-pub under_root : (root : Node) (s i : ℕ) (front rest : List Place) (n : Node) (t : ℕ) → IsSound root → way root s i ≡ front ++ (Some n, t) ∷ rest → IsUnder root s (length front) n t
+pub under_root : (root : Node) (s i : ℕ) (front rest : List Place) (n : Node) (t : ℕ) → IsSound root →
+    way root s i ≡ front ++ (Some n, t) ∷ rest → IsUnder root s (length front) n t
 under_root root s i [] rest n t h e = let f : SamePlace root s n t = same_place root s n t (cc) in under_self root n s t h f.node f.start
 under_root (Leaf bytes from len mark) s i (x ∷ front) rest n t h e = absurd (not_empty front rest (Some n, t) (cc))
 under_root (Run byte len) s i (x ∷ front) rest n t h e = absurd (not_empty front rest (Some n, t) (cc))
@@ -67,7 +69,8 @@ lies_outside : (n : Node) (t at : ℕ) → holds at (Some n, t) ≡ false → t 
 lies_outside n t at h k = grind (arith, nat_tests)
 
 -- where no place below the root holds the second index, the ways part at the root
-parted : (root : Node) (s i j at : ℕ) → at ≡ s + j → j < len_of root → IsSound root → NoneHolds at (below root s i) → shared_level root i j ≡ 0
+parted : (root : Node) (s i j at : ℕ) → at ≡ s + j → j < len_of root → IsSound root → NoneHolds at (below root s i) →
+    shared_level root i j ≡ 0
 parted (Leaf bytes from len mark) s i j at z b h out = refl
 parted (Run byte len) s i j at z b h out = refl
 parted (Func id from len) s i j at z b h out = refl
@@ -101,7 +104,8 @@ moved_self root n s i j t at z k e f =
     rw (← e, ← f) (record { way = rw a refl; shared = sym k; level = rw a (omega arith); part = rw a refl })
 
 -- after a climb that stopped at the first node that holds the second index
-pub moved : (root : Node) (s i j at : ℕ) (front rest : List Place) (n : Node) (t : ℕ) → at ≡ s + j → j < len_of root → IsSound root → way root s i ≡ front ++ (Some n, t) ∷ rest → holds at (Some n, t) ≡ true → NoneHolds at rest → IsMove root s i j front n t at
+pub moved : (root : Node) (s i j at : ℕ) (front rest : List Place) (n : Node) (t : ℕ) → at ≡ s + j → j < len_of root → IsSound root →
+    way root s i ≡ front ++ (Some n, t) ∷ rest → holds at (Some n, t) ≡ true → NoneHolds at rest → IsMove root s i j front n t at
 moved root s i j at [] rest n t z b h e g out =
     let f : SamePlace root s n t = same_place root s n t (cc) in
     let r : rest ≡ below root s i = cc in

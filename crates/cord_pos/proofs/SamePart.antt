@@ -30,7 +30,12 @@ has_range (Cat' p left q right len depth mark) s i h k =
     (λ (a : len_of left ≤ i).
     let r : HasRange right (s + len_of left) (i - len_of left) = has_range right (s + len_of left) (i - len_of left) h.1 (omega (arith, h.2)) in
     let e : part_at (Cat' p left q right len depth mark) s i ≡ part_at right (s + len_of left) (i - len_of left) = part_at-right p q left right len depth mark s i a in
-    record { from = rw e (omega (arith, r.from)); to = rw e (omega (arith, h.2, r.to)); first = rw e (omega (arith, r.first)); last = rw e (omega (arith, r.last)) })
+    record {
+      from = rw e (omega (arith, r.from));
+      to = rw e (omega (arith, h.2, r.to));
+      first = rw e (omega (arith, r.first));
+      last = rw e (omega (arith, r.last));
+    })
     (cases_lt i (len_of left))
 
 -- the second index has the way and the part of the first
@@ -40,7 +45,8 @@ pub record IsSamePart (n : Node) (s i j : ℕ) : Type 0 where
   pub preorder : preorder n j ≡ preorder n i
 
 -- an index inside the part of another has its way
-pub same_part : (n : Node) (s i j at : ℕ) → at ≡ s + j → IsSound n → i < len_of n → (part_at n s i).1 ≤ at → at < (part_at n s i).1 + len_of (part_at n s i).0 → IsSamePart n s i j
+pub same_part : (n : Node) (s i j at : ℕ) → at ≡ s + j → IsSound n → i < len_of n → (part_at n s i).1 ≤ at →
+    at < (part_at n s i).1 + len_of (part_at n s i).0 → IsSamePart n s i j
 same_part (Leaf bytes from len mark) s i j at z h k a b = record { way = refl; part = refl; preorder = refl }
 same_part (Run byte len) s i j at z h k a b = record { way = refl; part = refl; preorder = refl }
 same_part (Func id from len) s i j at z h k a b = record { way = refl; part = refl; preorder = refl }
@@ -59,7 +65,12 @@ same_part (Cat' p left q right len depth mark) s i j at z h k a b =
     record {
       way = cc;
       part = part_at-left p q left right len depth mark s j d ∙ m.part ∙ sym e;
-      preorder = omega (arith, m.preorder, preorder-left p q left right len depth mark i c, preorder-left p q left right len depth mark j d);
+      preorder = omega (
+        arith,
+        m.preorder,
+        preorder-left p q left right len depth mark i c,
+        preorder-left p q left right len depth mark j d,
+      );
     })
     (λ (c : len_of left ≤ i).
     let r : HasRange right (s + len_of left) (i - len_of left) = has_range right (s + len_of left) (i - len_of left) h.1 (omega (arith, h.2)) in
@@ -74,6 +85,11 @@ same_part (Cat' p left q right len depth mark) s i j at z h k a b =
     record {
       way = cc;
       part = part_at-right p q left right len depth mark s j d ∙ m.part ∙ sym e;
-      preorder = omega (arith, m.preorder, preorder-right p q left right len depth mark i c, preorder-right p q left right len depth mark j d);
+      preorder = omega (
+        arith,
+        m.preorder,
+        preorder-right p q left right len depth mark i c,
+        preorder-right p q left right len depth mark j d,
+      );
     })
     (cases_lt i (len_of left))

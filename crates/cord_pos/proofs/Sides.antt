@@ -21,7 +21,8 @@ module _ (p q : Rc (Unit {0}) Global) (left right : Node) (len depth : ℕ) (mar
   below-left start i h = rw (lt-ltb i (len_of left) h) refl
 
   -- on the right side
-  pub below-right : (start i : ℕ) → len_of left ≤ i → below (Cat' p left q right len depth mark) start i ≡ way right (start + len_of left) (i - len_of left)
+  pub below-right : (start i : ℕ) → len_of left ≤ i → below (Cat' p left q right len depth mark) start i
+      ≡ way right (start + len_of left) (i - len_of left)
   below-right start i h = rw (not_less i (len_of left) h) refl
 
   pub level-left : (i : ℕ) → i < len_of left → level (Cat' p left q right len depth mark) i ≡ 1 + level left i
@@ -33,20 +34,24 @@ module _ (p q : Rc (Unit {0}) Global) (left right : Node) (len depth : ℕ) (mar
   pub preorder-left : (i : ℕ) → i < len_of left → preorder (Cat' p left q right len depth mark) i ≡ 1 + preorder left i
   preorder-left i h = rw (lt-ltb i (len_of left) h) refl
 
-  pub preorder-right : (i : ℕ) → len_of left ≤ i → preorder (Cat' p left q right len depth mark) i ≡ 1 + size left + preorder right (i - len_of left)
+  pub preorder-right : (i : ℕ) → len_of left ≤ i → preorder (Cat' p left q right len depth mark) i ≡ 1 + size left
+      + preorder right (i - len_of left)
   preorder-right i h = rw (not_less i (len_of left) h) refl
 
   pub part_at-left : (start i : ℕ) → i < len_of left → part_at (Cat' p left q right len depth mark) start i ≡ part_at left start i
   part_at-left start i h = rw (lt-ltb i (len_of left) h) refl
 
-  pub part_at-right : (start i : ℕ) → len_of left ≤ i → part_at (Cat' p left q right len depth mark) start i ≡ part_at right (start + len_of left) (i - len_of left)
+  pub part_at-right : (start i : ℕ) → len_of left ≤ i → part_at (Cat' p left q right len depth mark) start i
+      ≡ part_at right (start + len_of left) (i - len_of left)
   part_at-right start i h = rw (not_less i (len_of left) h) refl
 
   -- on one side the step there is shared
-  pub shared-left : (i j : ℕ) → i < len_of left → j < len_of left → shared_level (Cat' p left q right len depth mark) i j ≡ 1 + shared_level left i j
+  pub shared-left : (i j : ℕ) → i < len_of left → j < len_of left → shared_level (Cat' p left q right len depth mark) i j ≡ 1
+      + shared_level left i j
   shared-left i j h k = rw (lt-ltb i (len_of left) h, lt-ltb j (len_of left) k) refl
 
-  pub shared-right : (i j : ℕ) → len_of left ≤ i → len_of left ≤ j → shared_level (Cat' p left q right len depth mark) i j ≡ 1 + shared_level right (i - len_of left) (j - len_of left)
+  pub shared-right : (i j : ℕ) → len_of left ≤ i → len_of left ≤ j → shared_level (Cat' p left q right len depth mark) i j ≡ 1
+      + shared_level right (i - len_of left) (j - len_of left)
   shared-right i j h k = rw (not_less i (len_of left) h, not_less j (len_of left) k) refl
 
   -- on two sides the ways part

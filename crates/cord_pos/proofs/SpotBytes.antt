@@ -25,7 +25,8 @@ pub record IsSpotPart (lengths : Lengths) (c : Option Node) (spot : Spot) : Type
   pub fits : CordFitsIn lengths c → FitsIn lengths (node_of spot.part.node)
 
 -- the part of each valid position is so
-pub spot_part : (lengths : Lengths) (c : Option Node) (spot : Spot) (path : Path) → IsPosition c (Some spot) path → IsSpotPart lengths c spot
+pub spot_part : (lengths : Lengths) (c : Option Node) (spot : Spot) (path : Path) → IsPosition c (Some spot) path →
+    IsSpotPart lengths c spot
 spot_part lengths None spot path on = absurd on.on_spot
 spot_part lengths (Some n) spot path on =
     let p : IsOnPart n spot.index spot.part (places path.stops.items) = on.on_spot in
@@ -43,7 +44,9 @@ spot_part lengths (Some n) spot path on =
     }
 
 -- over a table with the lengths that were told, the byte of the part is that of the cord
-pub spot_byte : (lengths : Lengths) (t : Table) (c : Option Node) (spot : Spot) (path : Path) (b : ℕ) → IsPosition c (Some spot) path → HasLengths lengths t → CordFitsIn lengths c → HasByte t (node_of spot.part.node) (spot.index - spot.part.start) b → IsByteAt t c (Some spot.index) b
+pub spot_byte : (lengths : Lengths) (t : Table) (c : Option Node) (spot : Spot) (path : Path) (b : ℕ) → IsPosition c (Some spot) path →
+    HasLengths lengths t → CordFitsIn lengths c → HasByte t (node_of spot.part.node) (spot.index - spot.part.start) b →
+    IsByteAt t c (Some spot.index) b
 spot_byte lengths t None spot path b on told fits e = absurd on.on_spot
 spot_byte lengths t (Some n) spot path b on told fits e =
     let p : IsOnPart n spot.index spot.part (places path.stops.items) = on.on_spot in

@@ -12,15 +12,18 @@ use Rattle.cord_pos.specs.declared.path.Path.{Path}
 use Rattle.cord_pos.specs.declared.Spot.{Spot}
 use Rattle.cord_pos.specs.declared.path.Part.{Part}
 use Rattle.cord_pos.specs.inner.Path.{Place, node_of, places, part_at}
-use Rattle.cord_pos.specs.Position.{set_visits, move_visits, number_at, occurrences, index_at, next_index, next_visits, prev_visits, IsNoEarlier, IsOnePart}
+use Rattle.cord_pos.specs.Position.{set_visits, move_visits, number_at, occurrences, index_at, next_index, next_visits, prev_visits}
+use Rattle.cord_pos.specs.Position.{IsNoEarlier, IsOnePart}
 use Rattle.cord_pos.specs.inner.Invariant.{IsOnPart, IsOnCord, IsPosition}
 use Rattle.cord_pos.proofs.Sides.{not_less}
-use Rattle.cord_pos.proofs.Counts.{level_depth, depth_limit, preorder_first, preorder_last, preorder_below, preorder_next, shared_same, shared_below, size_len}
+use Rattle.cord_pos.proofs.Counts.{level_depth, depth_limit, preorder_first, preorder_last, preorder_below, preorder_next, shared_same}
+use Rattle.cord_pos.proofs.Counts.{shared_below, size_len}
 use Rattle.cord_node.proofs.TreeLemmas.{len_limit, len_positive}
 use Rattle.cord_pos.proofs.SamePart.{HasRange, has_range, IsSamePart, same_part}
 
 -- the part at the end of a way from a root is that of the cord
-pub on_cord : (c : Option Node) (n : Node) (index : ℕ) (part : Part) (ps : List Place) → c ≡ Some n → IsOnPart n index part ps → IsOnCord c index part ps
+pub on_cord : (c : Option Node) (n : Node) (index : ℕ) (part : Part) (ps : List Place) → c ≡ Some n → IsOnPart n index part ps →
+    IsOnCord c index part ps
 on_cord c n index part ps e on = rw e on
 
 -- past the end no node is visited
@@ -55,7 +58,8 @@ pub record IsStill (c : Option Node) (spot : Spot) (path : Path) (j : ℕ) : Typ
   pub visits_none : move_visits c spot.index j ≡ 0
 
 -- an index inside the part at which a position stands takes no visit
-pub still : (c : Option Node) (spot : Spot) (path : Path) (j : ℕ) → IsPosition c (Some spot) path → spot.part.start ≤ j → j < spot.part.end → IsStill c spot path j
+pub still : (c : Option Node) (spot : Spot) (path : Path) (j : ℕ) → IsPosition c (Some spot) path → spot.part.start ≤ j →
+    j < spot.part.end → IsStill c spot path j
 still None spot path j on a b = absurd on.on_spot
 still (Some n) spot path j on a b =
     let p : IsOnPart n spot.index spot.part (places path.stops.items) = on.on_spot in
@@ -99,26 +103,31 @@ prev_move c zero h = absurd (omega arith)
 prev_move c (suc i) h = let e : suc i - 1 ≡ i = omega arith in rw e refl
 
 -- a `next` inside one part
-pub next_still : (c : Option Node) (spot : Spot) (path : Path) → IsPosition c (Some spot) path → spot.index + 1 < spot.part.end → IsStill c spot path (spot.index + 1)
+pub next_still : (c : Option Node) (spot : Spot) (path : Path) → IsPosition c (Some spot) path → spot.index + 1 < spot.part.end →
+    IsStill c spot path (spot.index + 1)
 next_still c spot path on k = let l : spot.part.start ≤ spot.index = start_below c spot path on in still c spot path (spot.index + 1) on (omega arith) k
 
 -- its index
-pub next_still_index : (c : Option Node) (spot : Spot) (path : Path) → IsPosition c (Some spot) path → spot.index + 1 < spot.part.end → Some (spot.index + 1) ≡ next_index c (Some spot.index)
+pub next_still_index : (c : Option Node) (spot : Spot) (path : Path) → IsPosition c (Some spot) path → spot.index + 1 < spot.part.end →
+    Some (spot.index + 1) ≡ next_index c (Some spot.index)
 next_still_index c spot path on k = grind (arith, nat_tests, (next_still c spot path on k).inside)
 
 -- its visits: none
-pub next_still_visits : (c : Option Node) (spot : Spot) (path : Path) → IsPosition c (Some spot) path → spot.index + 1 < spot.part.end → path.visits.count ≡ min (path.visits.count + next_visits c (Some spot.index)) (2 ^ 64 - 1)
+pub next_still_visits : (c : Option Node) (spot : Spot) (path : Path) → IsPosition c (Some spot) path → spot.index + 1 < spot.part.end →
+    path.visits.count ≡ min (path.visits.count + next_visits c (Some spot.index)) (2 ^ 64 - 1)
 next_still_visits c spot path on k =
     let m : IsStill c spot path (spot.index + 1) = next_still c spot path on k in
     let z : next_visits c (Some spot.index) ≡ 0 = grind (arith, nat_tests, m.number, m.inside) in
     rw z (omega (arith, on.counted))
 
 -- a `prev` inside one part
-pub prev_still : (c : Option Node) (spot : Spot) (path : Path) → IsPosition c (Some spot) path → spot.part.start < spot.index → IsStill c spot path (spot.index - 1)
+pub prev_still : (c : Option Node) (spot : Spot) (path : Path) → IsPosition c (Some spot) path → spot.part.start < spot.index →
+    IsStill c spot path (spot.index - 1)
 prev_still c spot path on k = still c spot path (spot.index - 1) on (omega arith) (omega (arith, end_above c spot path on))
 
 -- its visits: none
-pub prev_still_visits : (c : Option Node) (spot : Spot) (path : Path) → IsPosition c (Some spot) path → spot.part.start < spot.index → path.visits.count ≡ min (path.visits.count + prev_visits c (Some spot.index)) (2 ^ 64 - 1)
+pub prev_still_visits : (c : Option Node) (spot : Spot) (path : Path) → IsPosition c (Some spot) path → spot.part.start < spot.index →
+    path.visits.count ≡ min (path.visits.count + prev_visits c (Some spot.index)) (2 ^ 64 - 1)
 prev_still_visits c spot path on k =
     let z : prev_visits c (Some spot.index) ≡ move_visits c spot.index (spot.index - 1) = prev_move c spot.index (omega arith) in
     let m : IsStill c spot path (spot.index - 1) = prev_still c spot path on k in
@@ -150,7 +159,8 @@ walk_first None h k = absurd (omega arith)
 walk_first (Some n) h k = grind (arith, nat_tests, preorder_first n h)
 
 -- each `next` takes the visits to the preorder number of the new part, and they never reach the greatest count
-pub walk_next : (c : Option Node) (i visits : ℕ) → IsCord c → i + 1 < text_len c → visits ≡ number_at c i + 1 → min (visits + next_visits c (Some i)) (2 ^ 64 - 1) ≡ number_at c (i + 1) + 1
+pub walk_next : (c : Option Node) (i visits : ℕ) → IsCord c → i + 1 < text_len c → visits ≡ number_at c i + 1 →
+    min (visits + next_visits c (Some i)) (2 ^ 64 - 1) ≡ number_at c (i + 1) + 1
 walk_next None i visits h k e = absurd (omega arith)
 walk_next (Some n) i visits h k e =
     let z : next_visits (Some n) (Some i) ≡ number_at (Some n) (i + 1) - number_at (Some n) i = grind (arith, nat_tests) in

@@ -1,5 +1,6 @@
 -- A climb and a descent take the way to another index.
-use Rattle.std.proofs.Common.{◌≡◌, ℕ, ◌+◌, ◌-◌, ◌^◌, ◌≤◌, min, List, [], ◌∷◌, ◌++◌, length, refl, sym, ◌∙◌, ap, arith, Some, append_assoc, length-append}
+use Rattle.std.proofs.Common.{◌≡◌, ℕ, ◌+◌, ◌-◌, ◌^◌, ◌≤◌, min, List, [], ◌∷◌, ◌++◌, length, refl, sym, ◌∙◌, ap, arith, Some, append_assoc}
+use Rattle.std.proofs.Common.{length-append}
 use Rattle.cord_io.specs.declared.TheConstants.{MAX_LEN, MAX_DEPTH}
 use Rattle.cord_node.specs.declared.Node.{Node}
 use Rattle.cord_node.specs.Tree.{len_of, depth_of, IsSound}
@@ -10,7 +11,8 @@ use Rattle.cord_pos.proofs.Counts.{depth_limit}
 use Rattle.cord_pos.proofs.Moves.{IsUnder, under_root, IsMove, moved}
 
 -- the old way, with the node at which the climb stopped
-found_split : (old new : List Place) (n : Node) (t at : ℕ) (c : IsClimb old new at) (e : EndsIn new n t at) → old ≡ e.front ++ (Some n, t) ∷ c.left_out
+found_split : (old new : List Place) (n : Node) (t at : ℕ) (c : IsClimb old new at) (e : EndsIn new n t at) →
+    old ≡ e.front ++ (Some n, t) ∷ c.left_out
 found_split old new n t at c e = c.split ∙ (rw (e.split, append_assoc) refl)
 
 -- the node at which a climb stopped is sound, lies inside the limits and leaves room for the way down
@@ -31,7 +33,9 @@ found old new n t at w c e =
     }
 
 -- a climb and the descent from where it stopped take the way to the index
-pub taken : (old new new' : List Place) (n part : Node) (t start at visits visits' : ℕ) → IsClimb old new at → EndsIn new n t at → new' ≡ new ++ below n t (at - t) → visits' ≡ min (visits + level n (at - t)) (2 ^ 64 - 1) → (part, start) ≡ part_at n t (at - t) → IsTakenTo old at new' part start visits visits'
+pub taken : (old new new' : List Place) (n part : Node) (t start at visits visits' : ℕ) → IsClimb old new at → EndsIn new n t at →
+    new' ≡ new ++ below n t (at - t) → visits' ≡ min (visits + level n (at - t)) (2 ^ 64 - 1) → (part, start) ≡ part_at n t (at - t) →
+    IsTakenTo old at new' part start visits visits'
 taken old new new' n part t start at visits visits' c e down counted p = λ root from sound inside old-way.
     let m : IsMove root 0 from at e.front n t at = moved root 0 from at at e.front c.left_out n t (omega arith) inside sound (sym old-way ∙ found_split old new n t at c e) e.holds c.none_holds in
     let k : level root at - shared_level root from at ≡ level n (at - t) = omega (arith, m.level, m.shared) in

@@ -15,7 +15,8 @@ impl<'a> Position<'a> {
         requires valid { IsSome self.old.index }
         requires fits { CordFitsIn (S.lengths src.old) self.old.cord }
         ensures stays { self.new ≡ self.old }
-        ensures byte { (folder : Folder) → S.keeps src.new folder → IfOk result (λ b. IsByteAt (S.table src.old folder) self.old.cord self.old.index b) }
+        ensures byte { (folder : Folder) → S.keeps src.new folder →
+            IfOk result (λ b. IsByteAt (S.table src.old folder) self.old.cord self.old.index b) }
         ensures refused { IfErr result (λ e. e ≡ CordError.ReadFailed) }
         ensures count { S.failures src.new ≡ count_after (is_err result) (S.failures src.old) }
         ensures steady { S.failures src.old < u64.MAX → S.failures src.new ≡ S.failures src.old → IsOk result }

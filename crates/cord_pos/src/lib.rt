@@ -140,7 +140,8 @@ impl<'a> Position<'a> {
         requires inside { index < text_len self.old.cord }
         ensures cord { self.new.cord ≡ self.old.cord }
         ensures index { self.new.index ≡ Some index }
-        ensures visits { IfSome self.old.index (λ i. self.new.visits ≡ min (self.old.visits + move_visits self.old.cord i index) u64.MAX) }
+        ensures visits { IfSome self.old.index (λ i. self.new.visits
+            ≡ min (self.old.visits + move_visits self.old.cord i index) u64.MAX) }
     {
         let part = self.path.go_to(index);
         self.spot = Some(Spot { index, part });

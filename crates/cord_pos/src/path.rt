@@ -73,7 +73,8 @@ impl<'a> Path<'a> {
     pub(crate) fn go_to(&mut self, at: u64) -> Part<'a>
         requires on_way { IsOnWay (places self.old.stops.items) at }
         requires counted { self.old.visits.count ≤ u64.MAX }
-        ensures taken { IsTakenTo (places self.old.stops.items) at (places self.new.stops.items) (node_of result.node) result.start
+        ensures taken { IsTakenTo (places self.old.stops.items) at (places self.new.stops.items)
+            (node_of result.node) result.start
             self.old.visits.count self.new.visits.count }
         ensures end { result.end ≡ result.start + len_of (node_of result.node) }
     {
@@ -86,7 +87,8 @@ impl<'a> Path<'a> {
     // Keeps the place of a node that was visited, as the last one.
     fn keep(&mut self, node: Visited<'a>, start: u64)
         requires room { array_vec_len self.old.stops < PATH_LEN }
-        ensures places { places self.new.stops.items ≡ places self.old.stops.items ++ (Some (node_of node.entry), start) ∷ [] }
+        ensures places { places self.new.stops.items ≡ places self.old.stops.items
+            ++ (Some (node_of node.entry), start) ∷ [] }
         ensures visits { self.new.visits.count ≡ self.old.visits.count }
         ensures len { array_vec_len self.new.stops ≡ array_vec_len self.old.stops + 1 }
     {
@@ -103,7 +105,8 @@ impl<'a> Path<'a> {
         requires fits { start + len_of (node_of top) ≤ MAX_LEN }
         requires room { array_vec_len self.old.stops + depth_of (node_of top) ≤ PATH_LEN }
         requires counted { self.old.visits.count ≤ u64.MAX }
-        ensures places { places self.new.stops.items ≡ places self.old.stops.items ++ below (node_of top.entry) start index }
+        ensures places { places self.new.stops.items ≡ places self.old.stops.items
+            ++ below (node_of top.entry) start index }
         ensures visits { self.new.visits.count ≡ min (self.old.visits.count + level (node_of top.entry) index) u64.MAX }
         ensures part { (node_of result.node, result.start) ≡ part_at (node_of top.entry) start index }
         ensures end { result.end ≡ result.start + len_of (node_of result.node) }

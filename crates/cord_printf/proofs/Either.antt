@@ -1,5 +1,6 @@
 -- All bytes are a format, or have a bad conversion.
-use Rattle.std.proofs.Common.{◌≡◌, ◌≢◌, ◌≤◌, ◌<◌, ℕ, zero, suc, List, [], ◌∷◌, ◌++◌, Option, Some, None, Bool, true, false, length, refl, sym, ap, ◌∙◌, subst, inl, inr, ◌⊎◌, append_assoc, length-append, arith}
+use Rattle.std.proofs.Common.{◌≡◌, ◌≢◌, ◌≤◌, ◌<◌, ℕ, zero, suc, List, [], ◌∷◌, ◌++◌, Option, Some, None, Bool, true, false, length, refl}
+use Rattle.std.proofs.Common.{sym, ap, ◌∙◌, subst, inl, inr, ◌⊎◌, append_assoc, length-append, arith}
 use Rattle.std.specs.Prelude.{All}
 use Rattle.std.proofs.lemmas.Bool.{cases_eq, cases_lt}
 use Rattle.std.proofs.lemmas.List.Elements.{All-nil, All-cons}
@@ -56,7 +57,13 @@ longest P test [] = record { front = []; rest = []; whole = refl; all = All-nil 
 longest P test (c ∷ b) = longer (longest P test b) (test c)
   where
     longer : Longest P b → P c ⊎ (¬ P c) → Longest P (c ∷ b)
-    longer l (inl h) = record { front = c ∷ l.front; rest = l.rest; whole = ap (λ x. c ∷ x) l.whole; all = All-cons P c l.front h l.all; ends = l.ends }
+    longer l (inl h) = record {
+      front = c ∷ l.front;
+      rest = l.rest;
+      whole = ap (λ x. c ∷ x) l.whole;
+      all = All-cons P c l.front h l.all;
+      ends = l.ends;
+    }
     longer l (inr n) = record { front = []; rest = c ∷ b; whole = refl; all = All-nil P; ends = n }
 
 -- what may be a point stands at the front
@@ -123,7 +130,8 @@ precision_or_not point (inr (digits, e, all)) = elim (cases_lt MAX_WIDTH (number
   | inr small ↦ inl (Some (number_of digits), (digits, e, all, refl, small))
 ]
 
-lettered_or_not : (letter width : ℕ) (flags : Flags) (precision : Option ℕ) → ((q : Piece) × IsLettered letter flags width precision q) ⊎ IsNoLetter letter
+lettered_or_not : (letter width : ℕ) (flags : Flags) (precision : Option ℕ) → ((q : Piece) × IsLettered letter flags width precision q) ⊎
+    IsNoLetter letter
 lettered_or_not letter width flags precision = elim (cases_eq letter 100) [
   | inl e ↦ inl (Signed flags width precision, (refl, refl, refl, inl e))
   | inr a ↦ elim (cases_eq letter 105) [
@@ -201,12 +209,19 @@ allowed_or_not (Cord flags width precision) m d p l = three_hold (is_off flags.z
 allowed_or_not Percent m d p l = four_hold (is_none m) (is_none d) (is_none p) (is_none l)
 
 -- with a letter, a width and a precision that fit
-fitting : (b m d p l r rest : List ℕ) (letter : ℕ) (precision : Option ℕ) → AreParts b m d p l r → r ≡ letter ∷ rest → number_of d ≤ MAX_WIDTH → IsPoint p precision → Tells (BeginsConversion (37 ∷ b))
+fitting : (b m d p l r rest : List ℕ) (letter : ℕ) (precision : Option ℕ) → AreParts b m d p l r → r ≡ letter ∷ rest →
+    number_of d ≤ MAX_WIDTH → IsPoint p precision → Tells (BeginsConversion (37 ∷ b))
 fitting b m d p l r rest letter precision parts e small point = elim (lettered_or_not letter (number_of d) (flags_of m) precision) [
   | inr none ↦ inr (no_piece b m d p l r rest letter parts e none)
   | inl piece ↦ elim (allowed_or_not piece.0 m d p l) [
-    | inl allowed ↦ inl (piece.0, rest, converts b m d p l r rest letter (number_of d) (flags_of m) precision piece.0 parts e refl (refl, small) point piece.1 allowed)
-    | inr refused ↦ inr (not_allowed b m d p l r rest letter (number_of d) (flags_of m) precision piece.0 parts e refl refl point piece.1 refused)
+    | inl allowed ↦ inl (
+      piece.0,
+      rest,
+      converts b m d p l r rest letter (number_of d) (flags_of m) precision piece.0 parts e refl
+          (refl, small) point piece.1 allowed,
+    )
+    | inr refused ↦ inr (not_allowed b m d p l r rest letter (number_of d) (flags_of m) precision piece.0 parts e refl refl point piece.1
+        refused)
   ]
 ]
 

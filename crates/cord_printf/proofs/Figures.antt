@@ -1,9 +1,11 @@
 -- Digits in a base.
-use Rattle.std.proofs.Common.{◌≡◌, ℕ, ◌+◌, ◌-◌, ◌/◌, ◌%◌, ◌^◌, ◌<◌, ◌≤◌, List, [], ◌∷◌, ◌++◌, length, map, drop, refl, sym, ap, ◌∙◌, append_assoc, arith}
+use Rattle.std.proofs.Common.{◌≡◌, ℕ, ◌+◌, ◌-◌, ◌/◌, ◌%◌, ◌^◌, ◌<◌, ◌≤◌, List, [], ◌∷◌, ◌++◌, length, map, drop, refl, sym, ap, ◌∙◌}
+use Rattle.std.proofs.Common.{append_assoc, arith}
 use Rattle.std.proofs.lemmas.List.{map-append, drop-set}
 use Rattle.std.proofs.lemmas.Bool.Decides.{nat_tests}
 use Rattle.std.proofs.lemmas.Fmt.{decimal-digits_of}
-use Rattle.std.proofs.lemmas.Int.Digits.{digits_of_step, length-digits_of_step, length-digits_of-le, all_below_base_digits_of, number_digits_of, first_digits_of}
+use Rattle.std.proofs.lemmas.Int.Digits.{digits_of_step, length-digits_of_step, length-digits_of-le, all_below_base_digits_of}
+use Rattle.std.proofs.lemmas.Int.Digits.{number_digits_of, first_digits_of}
 use Rattle.std.specs.Fmt.{decimal}
 use Rattle.std.specs.Prelude.{slice_set}
 use Rattle.std.specs.Int.Digits.{digits_of, AllBelowBase}
@@ -33,20 +35,24 @@ decimal_figures (d ∷ ds) h = let one = decimal_figure d h.0 in let rest = deci
 
 -- a number above 0 is shown by std's decimal digits
 pub decimal-figures : (n : ℕ) → 0 < n → n < 2 ^ 64 → map (figure Decimal) (digits_of 10 n) ≡ decimal n
-decimal-figures n some fits = decimal_figures (digits_of 10 n) (all_below_base_digits_of 10 n (omega arith)) ∙ sym (decimal-digits_of n some fits)
+decimal-figures n some fits = decimal_figures (digits_of 10 n) (all_below_base_digits_of 10 n (omega arith))
+    ∙ sym (decimal-digits_of n some fits)
 
 -- one digit is written in front
-figures_step : (r : Radix) (n s : ℕ) (bytes all : List ℕ) → 0 < n → s < length bytes → all ≡ map (figure r) (digits_of (base_of r) n) ++ drop (s + 1) bytes
+figures_step : (r : Radix) (n s : ℕ) (bytes all : List ℕ) → 0 < n → s < length bytes → all ≡ map (figure r) (digits_of (base_of r) n)
+    ++ drop (s + 1) bytes
     → all ≡ map (figure r) (digits_of (base_of r) (n / base_of r)) ++ drop s (slice_set bytes s (figure r (n % base_of r)))
 figures_step r n s bytes all some room h =
     let b : ℕ = base_of r in
     let f : ℕ → ℕ = figure r in
     let least = base_least r in
     let last : map f (digits_of b n) ≡ map f (digits_of b (n / b)) ++ f (n % b) ∷ [] = ap (map f) (digits_of_step b n (omega arith) some) ∙ map-append f (digits_of b (n / b)) (n % b ∷ []) in
-    h ∙ ap (λ x. x ++ drop (s + 1) bytes) last ∙ append_assoc (map f (digits_of b (n / b))) (f (n % b) ∷ []) (drop (s + 1) bytes) ∙ ap (λ x. map f (digits_of b (n / b)) ++ x) (sym (drop-set bytes s (f (n % b)) room))
+    h ∙ ap (λ x. x ++ drop (s + 1) bytes) last ∙ append_assoc (map f (digits_of b (n / b))) (f (n % b) ∷ []) (drop (s + 1) bytes)
+    ∙ ap (λ x. map f (digits_of b (n / b)) ++ x) (sym (drop-set bytes s (f (n % b)) room))
 
 -- the same with the place of the written digits one lower
-pub figures_before : (r : Radix) (n b v start : ℕ) (bytes all : List ℕ) → b ≡ base_of r → v ≡ figure r (n % b) → 0 < n → start ≤ length bytes → length (digits_of (base_of r) n) ≤ start
+pub figures_before : (r : Radix) (n b v start : ℕ) (bytes all : List ℕ) → b ≡ base_of r → v ≡ figure r (n % b) → 0 < n →
+    start ≤ length bytes → length (digits_of (base_of r) n) ≤ start
     → all ≡ map (figure r) (digits_of (base_of r) n) ++ drop start bytes
     → record {
       written : all ≡ map (figure r) (digits_of (base_of r) (n / b)) ++ drop (start - 1) (slice_set bytes (start - 1) v);

@@ -1,5 +1,6 @@
 -- From the parts of a conversion to its piece, and back.
-use Rattle.std.proofs.Common.{◌≡◌, ◌≤◌, ◌==◌, ℕ, List, [], ◌∷◌, Option, Some, None, if◌then◌else◌, length, refl, sym, ap, ◌∙◌, subst, inl, inr, arith}
+use Rattle.std.proofs.Common.{◌≡◌, ◌≤◌, ◌==◌, ℕ, List, [], ◌∷◌, Option, Some, None, if◌then◌else◌, length, refl, sym, ap, ◌∙◌, subst, inl}
+use Rattle.std.proofs.Common.{inr, arith}
 use Rattle.std.specs.Prelude.{All}
 use Rattle.std.proofs.lemmas.List.Elements.{All-head, All-tail}
 use Rattle.cord_printf.specs.declared.TheConstants.{MAX_WIDTH}
@@ -34,16 +35,43 @@ pub record HasParts (c : Conversion) (precision : Option ℕ) : Type 0 where
   pub point : IsPoint c.point precision
   pub modifier : All IsLong c.modifier
 
-has_width : (c : Conversion) (precision : Option ℕ) (flags : Flags) (width : ℕ) → HasParts c precision → flags ≡ flags_of c.marks → width ≡ number_of c.digits → HasWidth c flags width
-has_width c precision flags width h f w = record { marks = h.marks; flags_are = f; digits = h.digits; no_zero = h.no_zero; width_is = w; small = omega (arith, w, h.small) }
+has_width : (c : Conversion) (precision : Option ℕ) (flags : Flags) (width : ℕ) → HasParts c precision → flags ≡ flags_of c.marks →
+    width ≡ number_of c.digits → HasWidth c flags width
+has_width c precision flags width h f w = record {
+  marks = h.marks;
+  flags_are = f;
+  digits = h.digits;
+  no_zero = h.no_zero;
+  width_is = w;
+  small = omega (arith, w, h.small);
+}
 
 -- a letter with parts that it may have spells its piece
-pub spells_of : (c : Conversion) (precision : Option ℕ) (p : Piece) → HasParts c precision → IsLettered c.letter (flags_of c.marks) (number_of c.digits) precision p → IsAllowed p c.marks c.digits c.point c.modifier → Spells c p
+pub spells_of : (c : Conversion) (precision : Option ℕ) (p : Piece) → HasParts c precision →
+    IsLettered c.letter (flags_of c.marks) (number_of c.digits) precision p → IsAllowed p c.marks c.digits c.point c.modifier → Spells c p
 spells_of c precision (Text t) h l a = a
-spells_of c precision (Signed f w p) h l a = (has_width c precision f w h l.0 l.1, subst (IsPoint c.point) (sym l.2) h.point, modifier_of c.modifier h.modifier a, l.3)
-spells_of c precision (Unsigned r f w p) h l a = (has_width c precision f w h l.0 l.1, subst (IsPoint c.point) (sym l.2) h.point, modifier_of c.modifier h.modifier a.1, l.3, a.0)
+spells_of c precision (Signed f w p) h l a = (
+  has_width c precision f w h l.0 l.1,
+  subst (IsPoint c.point) (sym l.2) h.point,
+  modifier_of c.modifier h.modifier a,
+  l.3,
+)
+spells_of c precision (Unsigned r f w p) h l a = (
+  has_width c precision f w h l.0 l.1,
+  subst (IsPoint c.point) (sym l.2) h.point,
+  modifier_of c.modifier h.modifier a.1,
+  l.3,
+  a.0,
+)
 spells_of c precision (Byte f w) h l a = (has_width c precision f w h l.0 l.1, a.2, a.3, l.2, a.0, a.1)
-spells_of c precision (Cord f w p) h l a = (has_width c precision f w h l.0 l.1, subst (IsPoint c.point) (sym l.2) h.point, a.2, l.3, a.0, a.1)
+spells_of c precision (Cord f w p) h l a = (
+  has_width c precision f w h l.0 l.1,
+  subst (IsPoint c.point) (sym l.2) h.point,
+  a.2,
+  l.3,
+  a.0,
+  a.1,
+)
 spells_of c precision Percent h l a = (a.0, a.1, a.2, a.3, l)
 
 -- one precision stands after a point
@@ -56,7 +84,8 @@ point-unique point (Some p) (Some q) h k =
     ap (λ x. Some x) (h.3 ∙ ap number_of same ∙ sym k.3)
 
 -- what a spelled conversion's letter, flags, width and precision are
-pub lettered_of : (c : Conversion) (precision : Option ℕ) (p : Piece) → IsPoint c.point precision → Spells c p → IsLettered c.letter (flags_of c.marks) (number_of c.digits) precision p
+pub lettered_of : (c : Conversion) (precision : Option ℕ) (p : Piece) → IsPoint c.point precision → Spells c p →
+    IsLettered c.letter (flags_of c.marks) (number_of c.digits) precision p
 lettered_of c precision (Text t) h s = s
 lettered_of c precision (Signed f w p) h s = (s.0.flags_are, s.0.width_is, point-unique c.point p precision s.1 h, s.3)
 lettered_of c precision (Unsigned r f w p) h s = (s.0.flags_are, s.0.width_is, point-unique c.point p precision s.1 h, s.3)
@@ -88,7 +117,8 @@ allowed_of c (Byte f w) s = (s.4, s.5, s.1, s.2)
 allowed_of c (Cord f w p) s = (s.4, s.5, s.2)
 allowed_of c Percent s = (s.0, s.1, s.2, s.3)
 
-pub some_letter : (letter width : ℕ) (flags : Flags) (precision : Option ℕ) (p : Piece) → IsLettered letter flags width precision p → ¬ IsNoLetter letter
+pub some_letter : (letter width : ℕ) (flags : Flags) (precision : Option ℕ) (p : Piece) → IsLettered letter flags width precision p →
+    ¬ IsNoLetter letter
 some_letter letter width flags precision (Text t) l n = l
 some_letter letter width flags precision (Signed f w p) (a, b, d, inl e) n = n.0 e
 some_letter letter width flags precision (Signed f w p) (a, b, d, inr e) n = n.1 e
@@ -116,7 +146,8 @@ by_letter letter flags width precision =
     else if letter == 37 then Some Percent
     else None
 
-lettered-is : (letter width : ℕ) (flags : Flags) (precision : Option ℕ) (p : Piece) → IsLettered letter flags width precision p → by_letter letter flags width precision ≡ Some p
+lettered-is : (letter width : ℕ) (flags : Flags) (precision : Option ℕ) (p : Piece) → IsLettered letter flags width precision p →
+    by_letter letter flags width precision ≡ Some p
 unfolding by_letter
 lettered-is letter width flags precision (Text t) l = absurd l
 lettered-is letter width flags precision (Signed f w p) (a, b, d, inl e) = rw (e, a, b, d)
@@ -131,7 +162,8 @@ lettered-is letter width flags precision (Cord f w p) (a, b, d, inr e) = rw (e, 
 lettered-is letter width flags precision Percent e = rw e
 
 -- a letter stands for one piece
-pub lettered-unique : (letter width : ℕ) (flags : Flags) (precision : Option ℕ) (p q : Piece) → IsLettered letter flags width precision p → IsLettered letter flags width precision q → p ≡ q
+pub lettered-unique : (letter width : ℕ) (flags : Flags) (precision : Option ℕ) (p q : Piece) → IsLettered letter flags width precision p →
+    IsLettered letter flags width precision q → p ≡ q
 lettered-unique letter width flags precision p q h k =
     let one = lettered-is letter width flags precision p h in
     let two = lettered-is letter width flags precision q k in

@@ -9,5 +9,6 @@ number_after-push n [] b = refl
 number_after-push n (x ∷ bs) b = number_after-push (10 * n + (x - 48)) bs b
 
 -- one more digit of those that are there
-pub number_of-take : (bs : List ℕ) (i : ℕ) (d : ℕ) → i < length bs → number_of (take (i + 1) bs) ≡ 10 * number_of (take i bs) + (get_or bs i d - 48)
+pub number_of-take : (bs : List ℕ) (i : ℕ) (d : ℕ) → i < length bs → number_of (take (i + 1) bs) ≡ 10 * number_of (take i bs)
+    + (get_or bs i d - 48)
 number_of-take bs i d h = ap number_of (take_more bs i d h) ∙ number_after-push 0 (take i bs) (get_or bs i d)

@@ -1,5 +1,6 @@
 -- What a print makes of its own.
-use Rattle.std.proofs.Common.{◌≡◌, ℕ, ◌+◌, ◌-◌, ◌<◌, ◌≤◌, Option, Some, None, List, [], ◌∷◌, ◌++◌, length, map, replicate, drop, get_or, length-append, append-nil, append_assoc, refl, sym, ap, ◌∙◌, subst, arith}
+use Rattle.std.proofs.Common.{◌≡◌, ℕ, ◌+◌, ◌-◌, ◌<◌, ◌≤◌, Option, Some, None, List, [], ◌∷◌, ◌++◌, length, map, replicate, drop, get_or}
+use Rattle.std.proofs.Common.{length-append, append-nil, append_assoc, refl, sym, ap, ◌∙◌, subst, arith}
 use Rattle.std.proofs.lemmas.List.{length-map, length-replicate}
 use Rattle.std.specs.Prelude.{◌↔◌, Result, Ok, Err, IfOk, IsOk, OnOk, OnErr, is_ok, true, false, option_to_list}
 use Rattle.cord_node.specs.declared.Node.{Node}
@@ -9,7 +10,8 @@ use Rattle.cord_node.specs.Kept.{Part, leaf_part, run_part, func_part, IsSmall, 
 use Rattle.cord_core.specs.Cord.{parts_of}
 use Rattle.cord_core.specs.Forms.{IsRunOf}
 use Rattle.cord_ec.specs.Gathered.{leaf_bytes, leaf_parts, IsGathered, AreFromOr, MadeOf, Gathered}
-use Rattle.cord_ec.proofs.MadeLemmas.{IsOwn, are_both, are_left, are_right, are_self, are_kept, are_through, made_kept, made_self, made_through, made_more, made_beside, made_without, made_wider}
+use Rattle.cord_ec.proofs.MadeLemmas.{IsOwn, are_both, are_left, are_right, are_self, are_kept, are_through, made_kept, made_self}
+use Rattle.cord_ec.proofs.MadeLemmas.{made_through, made_more, made_beside, made_without, made_wider}
 use Rattle.cord_ec.proofs.Leaves.{gathered_own, tail_grown}
 use Rattle.cord_printf.specs.declared.errors.PrintError.{PrintError}
 use Rattle.cord_printf.specs.declared.shown.Layout.{Layout}
@@ -24,7 +26,8 @@ use Rattle.cord_printf.specs.Shown.{body_own, body_parts, body_taken, body_text,
 use Rattle.cord_printf.proofs.Prints.{piece_at}
 
 printed_range : (p q : Part) → IsRangeOf p q → IsPrinted q → IsPrinted p
-printed_range (leaf_part bytes start len) (leaf_part bytes' start' len') h k = gathered_own.range (leaf_part bytes start len) (leaf_part bytes' start' len') h k
+printed_range (leaf_part bytes start len) (leaf_part bytes' start' len') h k = gathered_own.range (leaf_part bytes start len)
+    (leaf_part bytes' start' len') h k
 printed_range (leaf_part bytes start len) (run_part byte' len') h k = absurd h
 printed_range (leaf_part bytes start len) (func_part id' start' len') h k = absurd k
 printed_range (run_part byte len) q h k = tt
@@ -73,7 +76,9 @@ beside_from m n a b c ps h k = made_through IsPrinted printed_own m n (a ++ ps) 
 pub start_from : (old ps qs new : List Part) → Kept ps qs → IsPrintedFrom 0 (old ++ qs) new → IsPrintedFrom 0 (old ++ ps) new
 start_from old ps qs new k h = record {
   no_more = omega (arith, k.no_more, h.no_more, length-append old ps, length-append old qs);
-  from_there = are_through IsPrinted printed_own new (old ++ qs) (old ++ ps) h.from_there (are_both IsPrinted printed_own old qs (old ++ ps) (are_left IsPrinted printed_own old old ps (are_self IsPrinted printed_own old)) (are_right IsPrinted printed_own qs old ps (are_kept IsPrinted printed_own qs ps k.from_there)));
+  from_there = are_through IsPrinted printed_own new (old ++ qs) (old ++ ps) h.from_there
+      (are_both IsPrinted printed_own old qs (old ++ ps) (are_left IsPrinted printed_own old old ps (are_self IsPrinted printed_own old))
+      (are_right IsPrinted printed_own qs old ps (are_kept IsPrinted printed_own qs ps k.from_there)));
 }
 
 -- a leaf that is gathered in the place of a cord of one part
@@ -98,14 +103,18 @@ one_run b n (Some (Run byte len)) h = omega arith
 one_run b n (Some (Func id start len)) h = absurd h
 one_run b n (Some (Cat' p left q right len depth mark)) h = absurd h
 
-pub run_from : (b n : ℕ) (c : Option Node) (old new : List Part) → IsRunOf b n c → 0 < n → IsPrintedFrom 0 (old ++ parts_of c) new → IsPrintedFrom n old new
+pub run_from : (b n : ℕ) (c : Option Node) (old new : List Part) → IsRunOf b n c → 0 < n → IsPrintedFrom 0 (old ++ parts_of c) new →
+    IsPrintedFrom n old new
 run_from b n c old new run some h =
     let few : length (parts_of c) + 0 ≤ n = omega (arith, one_run b n c run, some) in
-    made_more IsPrinted printed_own (length (parts_of c) + 0) n old new few (made_without IsPrinted printed_own 0 old (parts_of c) new (run_own b n c run) h)
+    made_more IsPrinted printed_own (length (parts_of c) + 0) n old new few
+    (made_without IsPrinted printed_own 0 old (parts_of c) new (run_own b n c run) h)
 
 -- gathered bytes that went into a cord
-pub put_from : (old new : List Part) (b : List ℕ) → length b ≤ 256 → ((k : ℕ) → length b ≤ leaf_bytes k → Gathered k old new) → IsPrintedFrom 0 (old ++ leaf_parts b) new
-put_from old new [] short h = subst (λ (ps : List Part). IsPrintedFrom 0 ps new) (sym (append-nil old)) (gathered_from 0 old new (h 0 (omega arith)))
+pub put_from : (old new : List Part) (b : List ℕ) → length b ≤ 256 → ((k : ℕ) → length b ≤ leaf_bytes k → Gathered k old new) →
+    IsPrintedFrom 0 (old ++ leaf_parts b) new
+put_from old new [] short h = subst (λ (ps : List Part). IsPrintedFrom 0 ps new) (sym (append-nil old))
+    (gathered_from 0 old new (h 0 (omega arith)))
 put_from old new (x ∷ b) short h = joined_from old (leaf_parts (x ∷ b)) new refl (gathered_from 1 old new (h 1 (omega (arith, short))))
 
 -- a call that was Ok where it says when
@@ -124,20 +133,29 @@ when_ok A B (Ok x) f h = f h
 when_ok A B (Err e) f h = tt
 
 -- bytes after those that are gathered
-pub tail_from : (ps : List Part) (a b : List ℕ) (k : ℕ) → length (a ++ b) ≤ 256 → length b ≤ leaf_bytes k → IsPrintedFrom k (ps ++ leaf_parts a) (ps ++ leaf_parts (a ++ b))
+pub tail_from : (ps : List Part) (a b : List ℕ) (k : ℕ) → length (a ++ b) ≤ 256 → length b ≤ leaf_bytes k →
+    IsPrintedFrom k (ps ++ leaf_parts a) (ps ++ leaf_parts (a ++ b))
 tail_from ps a b k short h = gathered_from k (ps ++ leaf_parts a) (ps ++ leaf_parts (a ++ b)) (tail_grown ps a b k (omega (arith, short)) h)
 
 -- bytes after those that went into a cord
-pub grown_from : (old middle new : List Part) (b : List ℕ) → IsPrintedFrom 0 old middle → ((k : ℕ) → length b ≤ leaf_bytes k → Gathered k middle new) → (k : ℕ) → length b ≤ leaf_bytes k → IsPrintedFrom k old (new ++ leaf_parts [])
-grown_from old middle new b h g k fits = subst (λ (ps : List Part). IsPrintedFrom k old ps) (sym (append-nil new)) (made_more IsPrinted printed_own (0 + k) k old new (omega arith) (made_through IsPrinted printed_own 0 k old middle new h (gathered_from k middle new (g k fits))))
+pub grown_from : (old middle new : List Part) (b : List ℕ) → IsPrintedFrom 0 old middle →
+    ((k : ℕ) → length b ≤ leaf_bytes k → Gathered k middle new) → (k : ℕ) → length b ≤ leaf_bytes k →
+    IsPrintedFrom k old (new ++ leaf_parts [])
+grown_from old middle new b h g k fits = subst (λ (ps : List Part). IsPrintedFrom k old ps) (sym (append-nil new))
+    (made_more IsPrinted printed_own (0 + k) k old new (omega arith)
+    (made_through IsPrinted printed_own 0 k old middle new h (gathered_from k middle new (g k fits))))
 
 -- a cord after those that went into a cord
-pub cord_from : (old middle new x : List Part) (b : List ℕ) → b ≡ [] → IsPrintedFrom 0 old middle → Kept (middle ++ x) new → IsPrintedFrom 0 (old ++ x) (new ++ leaf_parts b)
+pub cord_from : (old middle new x : List Part) (b : List ℕ) → b ≡ [] → IsPrintedFrom 0 old middle → Kept (middle ++ x) new →
+    IsPrintedFrom 0 (old ++ x) (new ++ leaf_parts b)
 cord_from old middle new x b none made k =
-    subst (λ (y : List ℕ). IsPrintedFrom 0 (old ++ x) (new ++ leaf_parts y)) (sym none) (subst (λ (ps : List Part). IsPrintedFrom 0 (old ++ x) ps) (sym (append-nil new)) (beside_from 0 0 old middle new x made (kept_from (middle ++ x) new k)))
+    subst (λ (y : List ℕ). IsPrintedFrom 0 (old ++ x) (new ++ leaf_parts y)) (sym none)
+    (subst (λ (ps : List Part). IsPrintedFrom 0 (old ++ x) ps) (sym (append-nil new))
+    (beside_from 0 0 old middle new x made (kept_from (middle ++ x) new k)))
 
 -- each byte in a leaf of its own would be enough
-pub each_byte : (n : ℕ) (b : List ℕ) (old new : List Part) → length b ≡ n → ((k : ℕ) → length b ≤ leaf_bytes k → IsPrintedFrom k old new) → IsPrintedFrom n old new
+pub each_byte : (n : ℕ) (b : List ℕ) (old new : List Part) → length b ≡ n → ((k : ℕ) → length b ≤ leaf_bytes k → IsPrintedFrom k old new) →
+    IsPrintedFrom n old new
 each_byte n b old new e h = h n (omega (arith, e))
 
 -- three texts, one after another
@@ -145,8 +163,10 @@ shown_split : (x y z : List Cell) → x ++ y ++ z ≡ x ++ (y ++ z)
 shown_split x y z = simp append_assoc
 
 -- what is shown beside a cord's text
-pub own_shown : (s : Shown) (p : Piece) (a : Option (PieceArgument Cell)) → shown_text s ≡ piece_text known p a → body_taken s.body ≡ taken_text p a → shown_own s ≡ own_bytes p a
-own_shown s p a text taken = own_length s ∙ ap (λ x. length x - length (body_taken s.body)) text ∙ ap (λ x. length (piece_text known p a) - length x) taken
+pub own_shown : (s : Shown) (p : Piece) (a : Option (PieceArgument Cell)) → shown_text s ≡ piece_text known p a →
+    body_taken s.body ≡ taken_text p a → shown_own s ≡ own_bytes p a
+own_shown s p a text taken = own_length s ∙ ap (λ x. length x - length (body_taken s.body)) text
+    ∙ ap (λ x. length (piece_text known p a) - length x) taken
   where
     body_length : (b : Body) → length (body_text b) ≡ body_own b + length (body_taken b)
     body_length (Bytes b) = omega (arith, length-map b.now known)
@@ -175,7 +195,8 @@ pub record IsPrinting (all : List Part) (own : ℕ) (made rest : List Part) (lef
 pub printing_start : (all : List Part) (own : ℕ) (made : List Part) → made ≡ [] → IsPrinting all own made all own
 printing_start all own made none = rw none (record { no_more = omega arith; from_there = are_self IsPrinted printed_own all })
 
-pub printing_step : (all : List Part) (own : ℕ) (made next given others ps rest : List Part) (n left after : ℕ) → IsPrinting all own made rest left → rest ≡ given ++ others → Kept given ps → left ≡ n + after
+pub printing_step : (all : List Part) (own : ℕ) (made next given others ps rest : List Part) (n left after : ℕ) →
+    IsPrinting all own made rest left → rest ≡ given ++ others → Kept given ps → left ≡ n + after
     → IsPrintedFrom n (made ++ ps) next → IsPrinting all own next others after
 printing_step all own made next given others ps rest n left after h split k count step =
     let own_laws = printed_own in
@@ -186,19 +207,32 @@ printing_step all own made next given others ps rest n left after h split k coun
     let grown : AreFromOr IsPrinted next (made ++ given) = are_through IsPrinted own_laws next (made ++ ps) (made ++ given) step.from_there kept_parts in
     let both : AreFromOr IsPrinted (next ++ others) ((made ++ given) ++ others) = are_both IsPrinted own_laws next others ((made ++ given) ++ others) (are_left IsPrinted own_laws next (made ++ given) others grown) (are_right IsPrinted own_laws others (made ++ given) others (are_self IsPrinted own_laws others)) in
     record {
-      no_more = omega (arith, h.no_more, ap length split, length-append given others, k.no_more, count, step.no_more, length-append made ps);
+      no_more = omega (
+        arith,
+        h.no_more,
+        ap length split,
+        length-append given others,
+        k.no_more,
+        count,
+        step.no_more,
+        length-append made ps,
+      );
       from_there = are_through IsPrinted own_laws (next ++ others) ((made ++ given) ++ others) all both there;
     }
 
-pub printing_end : (all : List Part) (own : ℕ) (made rest : List Part) (left : ℕ) (c : List Part) → IsPrinting all own made rest left → IsPrintedFrom 0 made c → IsPrintedFrom own all c
+pub printing_end : (all : List Part) (own : ℕ) (made rest : List Part) (left : ℕ) (c : List Part) → IsPrinting all own made rest left →
+    IsPrintedFrom 0 made c → IsPrintedFrom own all c
 printing_end all own made rest left c h k = record {
   no_more = omega (arith, h.no_more, k.no_more);
-  from_there = are_through IsPrinted printed_own c (made ++ rest) all (are_left IsPrinted printed_own c made rest k.from_there) h.from_there;
+  from_there = are_through IsPrinted printed_own c (made ++ rest) all (are_left IsPrinted printed_own c made rest k.from_there)
+      h.from_there;
 }
 
 -- the own bytes of the pieces that are left, one piece further
-pub own_next : (pieces : List Piece) (i : ℕ) (p : Piece) (args others : List (PieceArgument Cell)) (a : Option (PieceArgument Cell)) (n : ℕ) → i < length pieces → p ≡ get_or pieces i p
-    → a ≡ argument_if (wants p) args → others ≡ others_if (wants p) args → n ≡ own_bytes p a → all_own (drop i pieces) args ≡ n + all_own (drop (i + 1) pieces) others
+pub own_next : (pieces : List Piece) (i : ℕ) (p : Piece) (args others : List (PieceArgument Cell)) (a : Option (PieceArgument Cell))
+    (n : ℕ) → i < length pieces → p ≡ get_or pieces i p
+    → a ≡ argument_if (wants p) args → others ≡ others_if (wants p) args → n ≡ own_bytes p a →
+    all_own (drop i pieces) args ≡ n + all_own (drop (i + 1) pieces) others
 own_next pieces i p args others a n within is taken left own =
     let after : List Piece = drop (i + 1) pieces in
     let first : n ≡ own_bytes p (argument_if (wants p) args) = own ∙ ap (λ x. own_bytes p x) taken in
@@ -207,8 +241,14 @@ own_next pieces i p args others a n within is taken left own =
     ∙ ap (λ (os : List (PieceArgument Cell)). n + all_own after os) (sym left)
 
 -- the steps of a front, and of what is shown
-pub front_from : (l : Layout) (a b c d : List Part) → IsPrintedFrom l.before a b → IsPrintedFrom (length (option_to_list l.sign)) b c → IsPrintedFrom l.zeros c d → IsPrintedFrom (length (front_of l)) a d
-front_from l a b c d one two three = subst (λ (n : ℕ). IsPrintedFrom n a d) (sym (front_length l)) (twice_from l.before (length (option_to_list l.sign) + l.zeros) a b d one (twice_from (length (option_to_list l.sign)) l.zeros b c d two three))
+pub front_from : (l : Layout) (a b c d : List Part) → IsPrintedFrom l.before a b → IsPrintedFrom (length (option_to_list l.sign)) b c →
+    IsPrintedFrom l.zeros c d → IsPrintedFrom (length (front_of l)) a d
+front_from l a b c d one two three = subst (λ (n : ℕ). IsPrintedFrom n a d) (sym (front_length l))
+    (twice_from l.before (length (option_to_list l.sign) + l.zeros) a b d one
+    (twice_from (length (option_to_list l.sign)) l.zeros b c d two three))
 
-pub shown_from : (s : Shown) (a b c d : List Part) → IsPrintedFrom (length (front_of s.layout)) a b → IsPrintedFrom (body_own s.body) (b ++ body_parts s.body) c → IsPrintedFrom s.layout.after c d → IsPrintedFrom (shown_own s) (a ++ body_parts s.body) d
-shown_from s a b c d one two three = twice_from (length (front_of s.layout) + body_own s.body) s.layout.after (a ++ body_parts s.body) c d (beside_from (length (front_of s.layout)) (body_own s.body) a b c (body_parts s.body) one two) three
+pub shown_from : (s : Shown) (a b c d : List Part) → IsPrintedFrom (length (front_of s.layout)) a b →
+    IsPrintedFrom (body_own s.body) (b ++ body_parts s.body) c → IsPrintedFrom s.layout.after c d →
+    IsPrintedFrom (shown_own s) (a ++ body_parts s.body) d
+shown_from s a b c d one two three = twice_from (length (front_of s.layout) + body_own s.body) s.layout.after (a ++ body_parts s.body) c d
+    (beside_from (length (front_of s.layout)) (body_own s.body) a b c (body_parts s.body) one two) three

@@ -6,7 +6,8 @@ use Rattle.cord_printf.specs.Pieces.{IsMark, IsDigit, StartsNo}
 use Rattle.cord_printf.specs.inner.Reading.{AreParts, IsDotted}
 
 -- one span of a kind stands at the front
-pub span-unique : (P : ℕ → Type 0) (xs us ys vs : List ℕ) → All P xs → All P ys → StartsNo P us → StartsNo P vs → xs ++ us ≡ ys ++ vs → (xs ≡ ys) × (us ≡ vs)
+pub span-unique : (P : ℕ → Type 0) (xs us ys vs : List ℕ) → All P xs → All P ys → StartsNo P us → StartsNo P vs → xs ++ us ≡ ys ++ vs →
+    (xs ≡ ys) × (us ≡ vs)
 span-unique P [] us [] vs ax ay su sv e = (refl, e)
 span-unique P [] us (y ∷ ys) vs ax ay su sv e = absurd (subst (StartsNo P) e su (All-head P y ys ay))
 span-unique P (x ∷ xs) us [] vs ax ay su sv e = absurd (subst (StartsNo P) (sym e) sv (All-head P x xs ax))
@@ -19,8 +20,10 @@ span-unique P (x ∷ xs) us (y ∷ ys) vs ax ay su sv e =
 -- one point stands at the front
 pub dotted-unique : (b p r q s : List ℕ) → IsDotted b p r → IsDotted b q s → (p ≡ q) × (r ≡ s)
 dotted-unique b p r q s (e, inl h) (f, inl k) = (h.0 ∙ sym k.0, sym (e ∙ ap (λ x. x ++ r) h.0) ∙ f ∙ ap (λ x. x ++ s) k.0)
-dotted-unique b p r q s (e, inl h) (f, inr k) = absurd (subst (StartsNo (λ c. c ≡ 46)) (sym (e ∙ ap (λ x. x ++ r) h.0) ∙ f ∙ ap (λ x. x ++ s) k.1) h.1 refl)
-dotted-unique b p r q s (e, inr h) (f, inl k) = absurd (subst (StartsNo (λ c. c ≡ 46)) (sym (f ∙ ap (λ x. x ++ s) k.0) ∙ e ∙ ap (λ x. x ++ r) h.1) k.1 refl)
+dotted-unique b p r q s (e, inl h) (f, inr k) =
+    absurd (subst (StartsNo (λ c. c ≡ 46)) (sym (e ∙ ap (λ x. x ++ r) h.0) ∙ f ∙ ap (λ x. x ++ s) k.1) h.1 refl)
+dotted-unique b p r q s (e, inr h) (f, inl k) =
+    absurd (subst (StartsNo (λ c. c ≡ 46)) (sym (f ∙ ap (λ x. x ++ s) k.0) ∙ e ∙ ap (λ x. x ++ r) h.1) k.1 refl)
 dotted-unique b p r q s (e, inr h) (f, inr k) =
     let same : 46 ∷ h.0 ++ r ≡ 46 ∷ k.0 ++ s = sym (e ∙ ap (λ x. x ++ r) h.1) ∙ f ∙ ap (λ x. x ++ s) k.1 in
     let tails : h.0 ++ r ≡ k.0 ++ s = cc same in

@@ -1,5 +1,6 @@
 -- What is written for a piece, read in its longest spans.
-use Rattle.std.proofs.Common.{◌≡◌, ◌≢◌, ◌≤◌, ◌<◌, ℕ, List, [], ◌∷◌, ◌++◌, Option, Some, None, refl, sym, ◌∙◌, subst, inl, inr, ◌⊎◌, append_assoc, arith}
+use Rattle.std.proofs.Common.{◌≡◌, ◌≢◌, ◌≤◌, ◌<◌, ℕ, List, [], ◌∷◌, ◌++◌, Option, Some, None, refl, sym, ◌∙◌, subst, inl, inr, ◌⊎◌}
+use Rattle.std.proofs.Common.{append_assoc, arith}
 use Rattle.std.specs.Prelude.{All}
 use Rattle.std.proofs.lemmas.List.Elements.{All-head, All-nil, All-cons}
 use Rattle.cord_printf.specs.declared.pieces.Flags.{Flags}
@@ -41,8 +42,16 @@ longs m (inl h) = subst (All IsLong) (sym h) no_longs
 longs m (inr (inl h)) = subst (All IsLong) (sym h) (one_long [] no_longs)
 longs m (inr (inr h)) = subst (All IsLong) (sym h) (one_long (108 ∷ []) (one_long [] no_longs))
 
-spelled : (c : Conversion) (flags : Flags) (width : ℕ) → HasWidth c flags width → IsPointed c.point → All IsLong c.modifier → IsLast c.letter → IsSpelled c
-spelled c flags width h point modifier last = record { marks = h.marks; digits = h.digits; no_zero = h.no_zero; point = point; modifier = modifier; last = last }
+spelled : (c : Conversion) (flags : Flags) (width : ℕ) → HasWidth c flags width → IsPointed c.point → All IsLong c.modifier →
+    IsLast c.letter → IsSpelled c
+spelled c flags width h point modifier last = record {
+  marks = h.marks;
+  digits = h.digits;
+  no_zero = h.no_zero;
+  point = point;
+  modifier = modifier;
+  last = last;
+}
 
 signed_last : (b : ℕ) → (b ≡ 100) ⊎ (b ≡ 105) → IsLast b
 signed_last b (inl e) = inr (inl (omega arith, omega arith))
@@ -54,13 +63,20 @@ cord_last b (inr e) = inr (inr (omega arith))
 
 pub is_spelled : (c : Conversion) (p : Piece) → Spells c p → IsSpelled c
 is_spelled c (Text t) h = absurd h
-is_spelled c (Signed flags width precision) h = spelled c flags width h.0 (pointed c.point precision h.1) (longs c.modifier h.2) (signed_last c.letter h.3)
-is_spelled c (Unsigned Decimal flags width precision) h = spelled c flags width h.0 (pointed c.point precision h.1) (longs c.modifier h.2) (inr (inr (omega (arith, h.3))))
-is_spelled c (Unsigned Octal flags width precision) h = spelled c flags width h.0 (pointed c.point precision h.1) (longs c.modifier h.2) (inr (inr (omega (arith, h.3))))
-is_spelled c (Unsigned LowerHex flags width precision) h = spelled c flags width h.0 (pointed c.point precision h.1) (longs c.modifier h.2) (inr (inr (omega (arith, h.3))))
-is_spelled c (Unsigned UpperHex flags width precision) h = spelled c flags width h.0 (pointed c.point precision h.1) (longs c.modifier h.2) (inr (inl (omega (arith, h.3), omega (arith, h.3))))
-is_spelled c (Byte flags width) h = spelled c flags width h.0 (inl h.1) (subst (All IsLong) (sym h.2) no_longs) (inr (inl (omega (arith, h.3), omega (arith, h.3))))
-is_spelled c (Cord flags width precision) h = spelled c flags width h.0 (pointed c.point precision h.1) (subst (All IsLong) (sym h.2) no_longs) (cord_last c.letter h.3)
+is_spelled c (Signed flags width precision) h = spelled c flags width h.0 (pointed c.point precision h.1) (longs c.modifier h.2)
+    (signed_last c.letter h.3)
+is_spelled c (Unsigned Decimal flags width precision) h = spelled c flags width h.0 (pointed c.point precision h.1) (longs c.modifier h.2)
+    (inr (inr (omega (arith, h.3))))
+is_spelled c (Unsigned Octal flags width precision) h = spelled c flags width h.0 (pointed c.point precision h.1) (longs c.modifier h.2)
+    (inr (inr (omega (arith, h.3))))
+is_spelled c (Unsigned LowerHex flags width precision) h = spelled c flags width h.0 (pointed c.point precision h.1) (longs c.modifier h.2)
+    (inr (inr (omega (arith, h.3))))
+is_spelled c (Unsigned UpperHex flags width precision) h = spelled c flags width h.0 (pointed c.point precision h.1) (longs c.modifier h.2)
+    (inr (inl (omega (arith, h.3), omega (arith, h.3))))
+is_spelled c (Byte flags width) h = spelled c flags width h.0 (inl h.1) (subst (All IsLong) (sym h.2) no_longs)
+    (inr (inl (omega (arith, h.3), omega (arith, h.3))))
+is_spelled c (Cord flags width precision) h = spelled c flags width h.0 (pointed c.point precision h.1)
+    (subst (All IsLong) (sym h.2) no_longs) (cord_last c.letter h.3)
 is_spelled c Percent h = record {
   marks = subst (All IsMark) (sym h.0) (All-nil IsMark);
   digits = subst (All IsDigit) (sym h.1) (All-nil IsDigit);
@@ -107,7 +123,8 @@ after_digits P point rest (inl e) dot h = subst (λ x. StartsNo P (x ++ rest)) (
 after_digits P point rest (inr k) dot h = subst (λ x. StartsNo P (x ++ rest)) (sym k.1) dot
 
 -- after the marks with a digit that isn't 0
-after_marks : (digits rest : List ℕ) → All IsDigit digits → StartsNo (λ b. b ≡ 48) digits → StartsNo IsMark rest → StartsNo IsMark (digits ++ rest)
+after_marks : (digits rest : List ℕ) → All IsDigit digits → StartsNo (λ b. b ≡ 48) digits → StartsNo IsMark rest →
+    StartsNo IsMark (digits ++ rest)
 after_marks [] rest all nz h = h
 after_marks (b ∷ ds) rest all nz h =
     let digit : IsDigit b = All-head IsDigit b ds all in
@@ -118,7 +135,8 @@ dotted point rest (inl e) dot digit = (refl, inl (e, dot))
 dotted point rest (inr k) dot digit = (refl, inr (k.0, k.1, k.2, digit))
 
 -- a conversion's parts are the longest spans
-pub spelled_parts : (c : Conversion) (rest : List ℕ) → IsSpelled c → AreParts (c.marks ++ (c.digits ++ (c.point ++ (c.modifier ++ c.letter ∷ rest)))) c.marks c.digits c.point c.modifier (c.letter ∷ rest)
+pub spelled_parts : (c : Conversion) (rest : List ℕ) → IsSpelled c →
+    AreParts (c.marks ++ (c.digits ++ (c.point ++ (c.modifier ++ c.letter ∷ rest)))) c.marks c.digits c.point c.modifier (c.letter ∷ rest)
 spelled_parts c rest h =
     let three : List ℕ = c.modifier ++ c.letter ∷ rest in
     let two : List ℕ = c.point ++ three in
@@ -131,7 +149,8 @@ spelled_parts c rest h =
       after_point = three;
       marks_whole = refl;
       marks_all = h.marks;
-      marks_end = after_marks c.digits two h.digits h.no_zero (after_digits IsMark c.point three h.point (not_mark_of 46 (λ e. omega (arith, e)) (λ e. omega (arith, e)) (λ e. omega (arith, e))) three_mark);
+      marks_end = after_marks c.digits two h.digits h.no_zero (after_digits IsMark c.point three h.point
+          (not_mark_of 46 (λ e. omega (arith, e)) (λ e. omega (arith, e)) (λ e. omega (arith, e))) three_mark);
       digits_whole = refl;
       digits_all = h.digits;
       digits_end = after_digits IsDigit c.point three h.point (λ d. omega (arith, d)) three_digit;
@@ -142,11 +161,15 @@ spelled_parts c rest h =
     }
 
 -- a conversion as its parts
-pub spelling-append : (c : Conversion) (rest : List ℕ) → spelling c ++ rest ≡ 37 ∷ (c.marks ++ (c.digits ++ (c.point ++ (c.modifier ++ c.letter ∷ rest))))
+pub spelling-append : (c : Conversion) (rest : List ℕ) → spelling c ++ rest ≡ 37
+    ∷ (c.marks ++ (c.digits ++ (c.point ++ (c.modifier ++ c.letter ∷ rest))))
 spelling-append c rest = simp append_assoc
 
 -- the parts that the bytes have are those of each conversion that begins there
-pub same_parts : (b m d p l r rest : List ℕ) (c : Conversion) (q : Piece) → AreParts b m d p l r → Spells c q → 37 ∷ b ≡ spelling c ++ rest → SameParts m d p l r c.marks c.digits c.point c.modifier (c.letter ∷ rest)
+pub same_parts : (b m d p l r rest : List ℕ) (c : Conversion) (q : Piece) → AreParts b m d p l r → Spells c q →
+    37 ∷ b ≡ spelling c ++ rest → SameParts m d p l r c.marks c.digits c.point c.modifier (c.letter ∷ rest)
 same_parts b m d p l r rest c q parts spells e =
     let tails : b ≡ c.marks ++ (c.digits ++ (c.point ++ (c.modifier ++ c.letter ∷ rest))) = cc (e ∙ spelling-append c rest) in
-    parts-unique b m d p l r c.marks c.digits c.point c.modifier (c.letter ∷ rest) parts (subst (λ x. AreParts x c.marks c.digits c.point c.modifier (c.letter ∷ rest)) (sym tails) (spelled_parts c rest (is_spelled c q spells)))
+    parts-unique b m d p l r c.marks c.digits c.point c.modifier (c.letter ∷ rest) parts
+    (subst (λ x. AreParts x c.marks c.digits c.point c.modifier (c.letter ∷ rest)) (sym tails)
+    (spelled_parts c rest (is_spelled c q spells)))

@@ -1,5 +1,6 @@
 -- A print over a table of sources.
-use Rattle.std.proofs.Common.{◌≡◌, ℕ, zero, suc, ◌-◌, Bool, true, false, Option, Some, None, List, [], ◌∷◌, length, map, replicate, refl, sym, ap, ◌∙◌, subst}
+use Rattle.std.proofs.Common.{◌≡◌, ℕ, zero, suc, ◌-◌, Bool, true, false, Option, Some, None, List, [], ◌∷◌, length, map, replicate, refl}
+use Rattle.std.proofs.Common.{sym, ap, ◌∙◌, subst}
 use Rattle.std.proofs.lemmas.List.{length-map}
 use Rattle.cord_io.specs.Table.{Table, Lengths}
 use Rattle.cord_node.specs.declared.Node.{Node}
@@ -45,7 +46,8 @@ held-cut ls None x h = h
 held-cut ls (Some p) x h = AreHeldIn-take ls p x h
 
 -- a piece's text is held where its argument is
-held-piece : (ls : Lengths) (p : Piece) (args : List (PieceArgument Cell)) → AreHeldArguments ls args → AreHeldIn ls (piece_text known p (argument_if (wants p) args))
+held-piece : (ls : Lengths) (p : Piece) (args : List (PieceArgument Cell)) → AreHeldArguments ls args →
+    AreHeldIn ls (piece_text known p (argument_if (wants p) args))
 held-piece ls (Text t) args h = held-known ls t
 held-piece ls (Signed flags width precision) [] h = tt
 held-piece ls (Signed flags width precision) (number n ∷ args) h = held-known ls _
@@ -58,17 +60,22 @@ held-piece ls (Byte flags width) (number n ∷ args) h = held-known ls _
 held-piece ls (Byte flags width) (text x ∷ args) h = tt
 held-piece ls (Cord flags width precision) [] h = tt
 held-piece ls (Cord flags width precision) (number n ∷ args) h = tt
-held-piece ls (Cord flags width precision) (text x ∷ args) h = held-padded ls flags.left width (cut precision x) (held-cut ls precision x h.0)
+held-piece ls (Cord flags width precision) (text x ∷ args) h = held-padded ls flags.left width (cut precision x)
+    (held-cut ls precision x h.0)
 held-piece ls Percent args h = (tt, tt)
 
-held-others : (ls : Lengths) (k : Option ArgKind) (args : List (PieceArgument Cell)) → AreHeldArguments ls args → AreHeldArguments ls (others_if k args)
+held-others : (ls : Lengths) (k : Option ArgKind) (args : List (PieceArgument Cell)) → AreHeldArguments ls args →
+    AreHeldArguments ls (others_if k args)
 held-others ls None args h = h
 held-others ls (Some k) [] h = tt
 held-others ls (Some k) (a ∷ args) h = h.1
 
-held-printed : (ls : Lengths) (pieces : List Piece) (args : List (PieceArgument Cell)) → AreHeldArguments ls args → AreHeldIn ls (printed known pieces args)
+held-printed : (ls : Lengths) (pieces : List Piece) (args : List (PieceArgument Cell)) → AreHeldArguments ls args →
+    AreHeldIn ls (printed known pieces args)
 held-printed ls [] args h = tt
-held-printed ls (p ∷ pieces) args h = AreHeldIn-append ls (piece_text known p (argument_if (wants p) args)) (printed known pieces (others_if (wants p) args)) (held-piece ls p args h) (held-printed ls pieces (others_if (wants p) args) (held-others ls (wants p) args h))
+held-printed ls (p ∷ pieces) args h = AreHeldIn-append ls (piece_text known p (argument_if (wants p) args))
+    (printed known pieces (others_if (wants p) args)) (held-piece ls p args h)
+    (held-printed ls pieces (others_if (wants p) args) (held-others ls (wants p) args h))
 
 held-arguments : (ls : Lengths) (args : List Arg) → ArgumentsFitIn ls args → AreHeldArguments ls (arguments_of args)
 held-arguments ls [] h = tt
@@ -76,7 +83,8 @@ held-arguments ls (arguments.Num n ∷ args) h = (tt, held-arguments ls args h)
 held-arguments ls (arguments.Cord c ∷ args) h = (AreHeldIn-text ls c h.0, held-arguments ls args h.1)
 
 -- the cells of the arguments become their bytes
-arguments-over : (t : Table) (args : List Arg) → ArgumentsFitIn (lengths_of t) args → map (map_argument (byte_at t)) (arguments_of args) ≡ map (argument_over t) args
+arguments-over : (t : Table) (args : List Arg) → ArgumentsFitIn (lengths_of t) args → map (map_argument (byte_at t)) (arguments_of args)
+    ≡ map (argument_over t) args
 arguments-over t [] h = refl
 arguments-over t (arguments.Num n ∷ args) h = ap (λ x. number n ∷ x) (arguments-over t args h)
 arguments-over t (arguments.Cord c ∷ args) h =
@@ -84,17 +92,20 @@ arguments-over t (arguments.Cord c ∷ args) h =
     let rest = arguments-over t args h.1 in
     cc (first, rest)
 
-pub print_of : (pieces : List Piece) (args : List Arg) (xs : List Cell) (c : Option Node) → IsCordOf xs c → xs ≡ printed known pieces (arguments_of args) → IsPrintOf pieces args c
+pub print_of : (pieces : List Piece) (args : List Arg) (xs : List Cell) (c : Option Node) → IsCordOf xs c →
+    xs ≡ printed known pieces (arguments_of args) → IsPrintOf pieces args c
 print_of pieces args xs c h e = record {
   fits = λ ls fit. h.fits ls (subst (AreHeldIn ls) (sym e) (held-printed ls pieces (arguments_of args) (held-arguments ls args fit)));
   bytes = λ t fit.
-      h.bytes t (subst (AreHeldIn (lengths_of t)) (sym e) (held-printed (lengths_of t) pieces (arguments_of args) (held-arguments (lengths_of t) args fit)))
+      h.bytes t (subst (AreHeldIn (lengths_of t)) (sym e) (held-printed (lengths_of t) pieces (arguments_of args)
+      (held-arguments (lengths_of t) args fit)))
       ∙ ap (map (byte_at t)) e
       ∙ map-printed (byte_at t) known pieces (arguments_of args)
       ∙ ap (printed (λ b. b) pieces) (arguments-over t args fit);
 }
 
-pub length_of_print : (pieces : List Piece) (args : List Arg) (n : ℕ) → n ≡ length (printed known pieces (arguments_of args)) → IsLengthOfPrint pieces args n
+pub length_of_print : (pieces : List Piece) (args : List Arg) (n : ℕ) → n ≡ length (printed known pieces (arguments_of args)) →
+    IsLengthOfPrint pieces args n
 length_of_print pieces args n e = λ t fit.
     let cells : List Cell = printed known pieces (arguments_of args) in
     let bytes : map (byte_at t) cells ≡ printed (λ b. b) pieces (map (argument_over t) args) = map-printed (byte_at t) known pieces (arguments_of args) ∙ ap (printed (λ b. b) pieces) (arguments-over t args fit) in

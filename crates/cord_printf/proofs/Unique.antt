@@ -24,7 +24,14 @@ record StartsText (b : List ℕ) (p : Piece) (rest : List ℕ) : Type 0 where
 
 -- a piece is a text or a conversion
 either_way : (b w rest : List ℕ) (p : Piece) → b ≡ w ++ rest → IsPiece w p rest → StartsText b p rest ⊎ Converts b p rest
-either_way b w rest (Text t) e h = inl (record { text = t; is = refl; whole = e ∙ ap (λ x. x ++ rest) h.0; some = h.1; plain = h.2; ends = h.3 })
+either_way b w rest (Text t) e h = inl (record {
+  text = t;
+  is = refl;
+  whole = e ∙ ap (λ x. x ++ rest) h.0;
+  some = h.1;
+  plain = h.2;
+  ends = h.3;
+})
 either_way b w rest (Signed f wd p) e h = inr (h.0, h.2, e ∙ ap (λ x. x ++ rest) h.1)
 either_way b w rest (Unsigned r f wd p) e h = inr (h.0, h.2, e ∙ ap (λ x. x ++ rest) h.1)
 either_way b w rest (Byte f wd) e h = inr (h.0, h.2, e ∙ ap (λ x. x ++ rest) h.1)
@@ -56,7 +63,8 @@ conversions-unique b rest more p q h k =
     let d : Conversion = k.0 in
     let tail = begins b rest p h in
     let same : SameParts c.marks c.digits c.point c.modifier (c.letter ∷ rest) d.marks d.digits d.point d.modifier (d.letter ∷ more) =
-    same_parts tail.0 c.marks c.digits c.point c.modifier (c.letter ∷ rest) more d q (spelled_parts c rest (is_spelled c p h.1)) k.1 (sym tail.1 ∙ k.2) in
+    same_parts tail.0 c.marks c.digits c.point c.modifier (c.letter ∷ rest) more d q (spelled_parts c rest (is_spelled c p h.1)) k.1
+    (sym tail.1 ∙ k.2) in
     let point = point_of c p h.1 in
     let letters : c.letter ≡ d.letter = cc same.rest in
     let mine : IsLettered c.letter (flags_of c.marks) (number_of c.digits) point.0 p = lettered_of c point.0 p point.1 h.1 in
@@ -65,7 +73,8 @@ conversions-unique b rest more p q h k =
     (lettered-unique c.letter (number_of c.digits) (flags_of c.marks) point.0 p q mine theirs, cc same.rest)
 
 -- one piece stands at the front, before one rest
-piece-unique : (b rest more : List ℕ) (p q : Piece) → StartsText b p rest ⊎ Converts b p rest → StartsText b q more ⊎ Converts b q more → (p ≡ q) × (rest ≡ more)
+piece-unique : (b rest more : List ℕ) (p q : Piece) → StartsText b p rest ⊎ Converts b p rest → StartsText b q more ⊎ Converts b q more →
+    (p ≡ q) × (rest ≡ more)
 piece-unique b rest more p q (inl h) (inl k) = texts-unique b rest more p q h k
 piece-unique b rest more p q (inl h) (inr k) = let t = begins b more q k in absurd (not_text b rest t.0 p h t.1)
 piece-unique b rest more p q (inr h) (inl k) = let t = begins b rest p h in absurd (not_text b more t.0 q k t.1)
@@ -89,7 +98,8 @@ format-unique b (p ∷ ps) (q ∷ qs) h k =
     cc (one.0, rest)
 
 -- no piece begins with a `%` that begins no conversion
-bad_front : (b rest tail : List ℕ) (p : Piece) → b ≡ 37 ∷ tail → ¬ BeginsConversion (37 ∷ tail) → StartsText b p rest ⊎ Converts b p rest → ⊥
+bad_front : (b rest tail : List ℕ) (p : Piece) → b ≡ 37 ∷ tail → ¬ BeginsConversion (37 ∷ tail) → StartsText b p rest ⊎ Converts b p rest →
+    ⊥
 bad_front b rest tail p e bad (inl h) = not_text b rest tail p h e
 bad_front b rest tail p e bad (inr h) = bad (p, rest, (h.0, h.1, sym e ∙ h.2))
 
@@ -104,7 +114,8 @@ bad_format b tail (p ∷ ps) (q ∷ qs) h bad k =
 pub bad_no_format : BadIsNoFormat
 bad_no_format b offset h ps = bad_format b h.rest h.pieces ps h.read h.bad
 
-bad_tail : (b tail other : List ℕ) (ps qs : List Piece) → HasPieces b ps (37 ∷ tail) → ¬ BeginsConversion (37 ∷ tail) → HasPieces b qs (37 ∷ other) → ¬ BeginsConversion (37 ∷ other) → tail ≡ other
+bad_tail : (b tail other : List ℕ) (ps qs : List Piece) → HasPieces b ps (37 ∷ tail) → ¬ BeginsConversion (37 ∷ tail) →
+    HasPieces b qs (37 ∷ other) → ¬ BeginsConversion (37 ∷ other) → tail ≡ other
 bad_tail b tail other [] [] h bad k worse = cc (h, k)
 bad_tail b tail other [] (q ∷ qs) h bad k worse = absurd (bad_front b k.1 tail q h bad (either_way b k.0 k.1 q k.2 k.3))
 bad_tail b tail other (p ∷ ps) [] h bad k worse = absurd (bad_front b h.1 other p k worse (either_way b h.0 h.1 p h.2 h.3))

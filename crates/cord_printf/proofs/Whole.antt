@@ -16,15 +16,18 @@ spelled_piece c (Byte f w) rest s = (c, refl, s)
 spelled_piece c (Cord f w p) rest s = (c, refl, s)
 spelled_piece c Percent rest s = (c, refl, s)
 
-pub converted_piece : (b bytes rest : List ℕ) (p : Piece) → bytes ≡ 37 ∷ b → Converts (37 ∷ b) p rest → (w : List ℕ) × (bytes ≡ w ++ rest) × IsPiece w p rest
+pub converted_piece : (b bytes rest : List ℕ) (p : Piece) → bytes ≡ 37 ∷ b → Converts (37 ∷ b) p rest → (w : List ℕ) ×
+    (bytes ≡ w ++ rest) × IsPiece w p rest
 converted_piece b bytes rest p e h = (spelling h.0, e ∙ h.2, spelled_piece h.0 p rest h.1)
 
 -- one more piece at the end
-pub pieces_push : (b : List ℕ) (ps : List Piece) (p : Piece) (w middle after : List ℕ) → HasPieces b ps middle → middle ≡ w ++ after → IsPiece w p after → HasPieces b (ps ++ p ∷ []) after
+pub pieces_push : (b : List ℕ) (ps : List Piece) (p : Piece) (w middle after : List ℕ) → HasPieces b ps middle → middle ≡ w ++ after →
+    IsPiece w p after → HasPieces b (ps ++ p ∷ []) after
 pieces_push b [] p w middle after h e k = (w, after, h ∙ e, k, refl)
 pieces_push b (q ∷ ps) p w middle after h e k = (h.0, h.1, h.2, h.3, pieces_push h.1 ps p w middle after h.4 e k)
 
-pub more_read : (b rest : List ℕ) (ps new : List Piece) (p : Piece) (after : List ℕ) → (front : List ℕ) × (b ≡ front ++ rest) → HasPieces b ps rest → new ≡ ps ++ p ∷ []
+pub more_read : (b rest : List ℕ) (ps new : List Piece) (p : Piece) (after : List ℕ) → (front : List ℕ) × (b ≡ front ++ rest) →
+    HasPieces b ps rest → new ≡ ps ++ p ∷ []
     → (w : List ℕ) × (rest ≡ w ++ after) × IsPiece w p after
     → record { split : (front : List ℕ) × (b ≡ front ++ after); read : HasPieces b new after }
 more_read b rest ps new p after s h e k = record {
@@ -32,7 +35,8 @@ more_read b rest ps new p after s h e k = record {
   read = subst (λ x. HasPieces b x after) (sym e) (pieces_push b ps p k.0 rest after h k.1 k.2);
 }
 
-pub bad_at : (b rest : List ℕ) (ps : List Piece) (offset : ℕ) (e : FormatError) → (front : List ℕ) × (b ≡ front ++ rest) → HasPieces b ps rest → offset ≡ length b - length rest → IsBadHere rest offset e → IsRefusal b e
+pub bad_at : (b rest : List ℕ) (ps : List Piece) (offset : ℕ) (e : FormatError) → (front : List ℕ) × (b ≡ front ++ rest) →
+    HasPieces b ps rest → offset ≡ length b - length rest → IsBadHere rest offset e → IsRefusal b e
 bad_at b rest ps offset NoMemory s h o k = tt
 bad_at b rest ps offset (BadFormat n) s h o k =
     let starts = k.1 in

@@ -27,4 +27,5 @@ pub record IsPrintOf (pieces : List Piece) (args : List Arg) (cord : Option Node
 
 -- over every table that the arguments fit, the print of their bytes is so long
 abbrev pub IsLengthOfPrint : List Piece → List Arg → ℕ → Type 0
-IsLengthOfPrint pieces args len = (t : Table) → ArgumentsFitIn (lengths_of t) args → len ≡ length (printed (λ b. b) pieces (map (argument_over t) args))
+IsLengthOfPrint pieces args len = (t : Table) → ArgumentsFitIn (lengths_of t) args →
+    len ≡ length (printed (λ b. b) pieces (map (argument_over t) args))

@@ -1,6 +1,7 @@
 -- *piece text*: what a format's pieces print, over elements A into which bytes go by a function.
 -- Texts of plain bytes and of cords' cells are printed by the same words.
-use Rattle.std.specs.Prelude.{ℕ, ◌+◌, ◌-◌, Bool, not, ◌&&◌, if◌then◌else◌, Option, Some, None, unwrap_or, is_none, List, [], ◌∷◌, ◌++◌, length, map, replicate, take, drop, ℤ, pos, negsuc, unsigned_abs, nat_lt}
+use Rattle.std.specs.Prelude.{ℕ, ◌+◌, ◌-◌, Bool, not, ◌&&◌, if◌then◌else◌, Option, Some, None, unwrap_or, is_none, List, [], ◌∷◌, ◌++◌}
+use Rattle.std.specs.Prelude.{length, map, replicate, take, drop, ℤ, pos, negsuc, unsigned_abs, nat_lt}
 use Rattle.std.specs.Int.Digits.{digits_of}
 use Rattle.cord_printf.specs.declared.errors.PrintError.{PrintError}
 use Rattle.cord_printf.specs.declared.errors.PrintError.TheVariants.{Negative, BadByte}
@@ -64,8 +65,10 @@ cut (Some precision) x = take precision x
 -- the text of a piece with its argument, where it takes one
 abbrev pub piece_text : {A : Type 0} → (ℕ → A) → Piece → Option (PieceArgument A) → List A
 piece_text of_byte (Text t) a = map of_byte t
-piece_text of_byte (Signed flags width precision) (Some (number n)) = map of_byte (number_text flags width precision (sign_of flags.plus n) (digits_in Decimal precision (unsigned_abs n)))
-piece_text of_byte (Unsigned radix flags width precision) (Some (number n)) = map of_byte (number_text flags width precision [] (digits_in radix precision (unsigned_abs n)))
+piece_text of_byte (Signed flags width precision) (Some (number n)) =
+    map of_byte (number_text flags width precision (sign_of flags.plus n) (digits_in Decimal precision (unsigned_abs n)))
+piece_text of_byte (Unsigned radix flags width precision) (Some (number n)) =
+    map of_byte (number_text flags width precision [] (digits_in radix precision (unsigned_abs n)))
 piece_text of_byte (Byte flags width) (Some (number n)) = map of_byte (padded 32 flags.left width (unsigned_abs n ∷ []))
 piece_text of_byte (Cord flags width precision) (Some (text x)) = padded (of_byte 32) flags.left width (cut precision x)
 piece_text of_byte Percent a = of_byte 37 ∷ []
@@ -85,7 +88,8 @@ others_if (Some k) arguments = drop 1 arguments
 -- the text of a print: the texts of its pieces in order
 abbrev pub printed : {A : Type 0} → (ℕ → A) → List Piece → List (PieceArgument A) → List A
 printed of_byte [] arguments = []
-printed of_byte (p ∷ pieces) arguments = piece_text of_byte p (argument_if (wants p) arguments) ++ printed of_byte pieces (others_if (wants p) arguments)
+printed of_byte (p ∷ pieces) arguments = piece_text of_byte p (argument_if (wants p) arguments)
+    ++ printed of_byte pieces (others_if (wants p) arguments)
 
 -- why a piece refuses its argument, number k
 abbrev pub refusal : {A : Type 0} → ℕ → Piece → Option (PieceArgument A) → Option PrintError
@@ -106,7 +110,8 @@ count_if (Some k) = 1
 -- the first refusal from left to right, the arguments being counted from k
 abbrev pub first_refusal : {A : Type 0} → ℕ → List Piece → List (PieceArgument A) → Option PrintError
 first_refusal k [] arguments = None
-first_refusal k (p ∷ pieces) arguments = first_of (refusal k p (argument_if (wants p) arguments)) (first_refusal (k + count_if (wants p)) pieces (others_if (wants p) arguments))
+first_refusal k (p ∷ pieces) arguments = first_of (refusal k p (argument_if (wants p) arguments))
+    (first_refusal (k + count_if (wants p)) pieces (others_if (wants p) arguments))
 
 -- an argument with its elements changed
 abbrev pub map_argument : {A B : Type 0} → (A → B) → PieceArgument A → PieceArgument B

@@ -1,5 +1,6 @@
 -- What the pieces of a format are written as, and what they take.
-use Rattle.std.specs.Prelude.{option_to_list, ◌≡◌, ◌≢◌, ℕ, ◌+◌, ◌*◌, ◌-◌, ◌≤◌, ◌==◌, ◌⊎◌, false, Option, Some, None, List, [], ◌∷◌, ◌++◌, All}
+use Rattle.std.specs.Prelude.{option_to_list, ◌≡◌, ◌≢◌, ℕ, ◌+◌, ◌*◌, ◌-◌, ◌≤◌, ◌==◌, ◌⊎◌, false, Option, Some, None, List, [], ◌∷◌, ◌++◌}
+use Rattle.std.specs.Prelude.{All}
 use Rattle.std.specs.List.{list_any}
 use Rattle.cord_printf.specs.declared.TheConstants.{MAX_WIDTH}
 use Rattle.cord_printf.specs.declared.pieces.ArgKind.{ArgKind}
@@ -64,7 +65,8 @@ flags_of marks = record { left = list_any (λ b. b == 45) marks; zero = list_any
 -- nothing, or `.` and digits or none, of a value of at most MAX_WIDTH
 abbrev pub IsPoint : List ℕ → Option ℕ → Type 0
 IsPoint point None = point ≡ []
-IsPoint point (Some precision) = (digits : List ℕ) × (point ≡ 46 ∷ digits) × All IsDigit digits × (precision ≡ number_of digits) × (precision ≤ MAX_WIDTH)
+IsPoint point (Some precision) = (digits : List ℕ) × (point ≡ 46 ∷ digits) × All IsDigit digits × (precision ≡ number_of digits) ×
+    (precision ≤ MAX_WIDTH)
 
 -- nothing, `l` or `ll`
 abbrev pub IsModifier : List ℕ → Type 0
@@ -89,10 +91,14 @@ pub record HasWidth (c : Conversion) (flags : Flags) (width : ℕ) : Type 0 wher
 -- the conversion is written for the piece
 abbrev pub Spells : Conversion → Piece → Type 0
 Spells c (Text t) = ⊥
-Spells c (Signed flags width precision) = HasWidth c flags width × IsPoint c.point precision × IsModifier c.modifier × ((c.letter ≡ 100) ⊎ (c.letter ≡ 105))
-Spells c (Unsigned radix flags width precision) = HasWidth c flags width × IsPoint c.point precision × IsModifier c.modifier × (c.letter ≡ radix_letter radix) × (flags.plus ≡ false)
-Spells c (Byte flags width) = HasWidth c flags width × (c.point ≡ []) × (c.modifier ≡ []) × (c.letter ≡ 99) × (flags.zero ≡ false) × (flags.plus ≡ false)
-Spells c (Cord flags width precision) = HasWidth c flags width × IsPoint c.point precision × (c.modifier ≡ []) × ((c.letter ≡ 115) ⊎ (c.letter ≡ 114)) × (flags.zero ≡ false) × (flags.plus ≡ false)
+Spells c (Signed flags width precision) = HasWidth c flags width × IsPoint c.point precision × IsModifier c.modifier ×
+    ((c.letter ≡ 100) ⊎ (c.letter ≡ 105))
+Spells c (Unsigned radix flags width precision) = HasWidth c flags width × IsPoint c.point precision × IsModifier c.modifier ×
+    (c.letter ≡ radix_letter radix) × (flags.plus ≡ false)
+Spells c (Byte flags width) = HasWidth c flags width × (c.point ≡ []) × (c.modifier ≡ []) × (c.letter ≡ 99) × (flags.zero ≡ false) ×
+    (flags.plus ≡ false)
+Spells c (Cord flags width precision) = HasWidth c flags width × IsPoint c.point precision × (c.modifier ≡ []) ×
+    ((c.letter ≡ 115) ⊎ (c.letter ≡ 114)) × (flags.zero ≡ false) × (flags.plus ≡ false)
 Spells c Percent = (c.marks ≡ []) × (c.digits ≡ []) × (c.point ≡ []) × (c.modifier ≡ []) × (c.letter ≡ 37)
 
 -- the bytes are written for the piece, before these others

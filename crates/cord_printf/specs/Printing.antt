@@ -27,7 +27,8 @@ abbrev pub IsRefusedFor : ℕ → List Piece → List (PieceArgument Cell) → P
 IsRefusedFor limit pieces args WrongArgs = ¬ AreWanted pieces args
 IsRefusedFor limit pieces args (Negative k) = AreWanted pieces args × (first_refusal 0 pieces args ≡ Some (Negative k))
 IsRefusedFor limit pieces args (BadByte k) = AreWanted pieces args × (first_refusal 0 pieces args ≡ Some (BadByte k))
-IsRefusedFor limit pieces args TooLong = AreWanted pieces args × (first_refusal 0 pieces args ≡ None) × (limit < length (printed known pieces args))
+IsRefusedFor limit pieces args TooLong = AreWanted pieces args × (first_refusal 0 pieces args ≡ None) ×
+    (limit < length (printed known pieces args))
 IsRefusedFor limit pieces args NoMemory = ⊥
 
 -- the arguments are wanted and none is refused

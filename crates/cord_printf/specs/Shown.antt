@@ -1,5 +1,6 @@
 -- What a piece shows: blanks, a sign, zeros, its body, blanks.
-use Rattle.std.specs.Prelude.{unwrap_or, ◌≡◌, ℕ, ◌+◌, ◌-◌, Option, Some, None, List, [], ◌∷◌, ◌++◌, length, map, replicate, take, option_to_list}
+use Rattle.std.specs.Prelude.{unwrap_or, ◌≡◌, ℕ, ◌+◌, ◌-◌, Option, Some, None, List, [], ◌∷◌, ◌++◌, length, map, replicate, take}
+use Rattle.std.specs.Prelude.{option_to_list}
 use Rattle.cord_node.specs.Tree.{Cell, known}
 use Rattle.cord_node.specs.Kept.{Part}
 use Rattle.cord_core.specs.Cord.{text, parts_of}
@@ -22,7 +23,8 @@ framed l body = front_of l ++ body ++ replicate l.after 32
 -- the layout makes the text of a number from each run of so many digits
 abbrev pub IsNumberLayout : Flags → ℕ → Option ℕ → Option ℕ → ℕ → Layout → Type 0
 IsNumberLayout flags width precision sign count layout =
-    (digits : List ℕ) → length digits ≡ count → framed layout digits ≡ number_text flags width precision (option_to_list sign) (replicate (unwrap_or precision 1 - length digits) 48 ++ digits)
+    (digits : List ℕ) → length digits ≡ count → framed layout digits ≡ number_text flags width precision (option_to_list sign)
+    (replicate (unwrap_or precision 1 - length digits) 48 ++ digits)
 
 abbrev pub body_text : Body → List Cell
 body_text (Bytes b) = map known b.now

@@ -28,7 +28,8 @@ fn kind(arg: &Arg) -> ArgKind
 /// The argument of a piece, where it takes one, and those that are left.
 #[inline(always)]
 pub fn next_argument<'a>(piece: &Piece, args: &'a [Arg]) -> (Option<&'a Arg>, &'a [Arg])
-    ensures argument { option_map (λ a. argument_of a.now) result.0 ≡ argument_if (wants piece.now) (arguments_of args.now) }
+    ensures argument { option_map (λ a. argument_of a.now) result.0
+        ≡ argument_if (wants piece.now) (arguments_of args.now) }
     ensures others { arguments_of result.1.now ≡ others_if (wants piece.now) (arguments_of args.now) }
     ensures parts { parts_given args.now ≡ parts_if (option_map (λ a. a.now) result.0) ++ parts_given result.1.now }
 {

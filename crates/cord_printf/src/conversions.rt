@@ -46,7 +46,8 @@ fn piece_of(letter: u8, flags: Flags, width: u16, precision: Option<u16>) -> Opt
 
 // The piece may be written with these parts.
 fn is_allowed(piece: &Piece, parts: &Parts<'_>) -> bool
-    ensures { IsTrue result ↔ IsAllowed piece.now parts.now.marks.now parts.now.digits.now parts.now.point.now parts.now.modifier.now }
+    ensures { IsTrue result ↔ IsAllowed piece.now parts.now.marks.now parts.now.digits.now parts.now.point.now
+        parts.now.modifier.now }
 {
     match piece {
         Piece::Text(_) => false,

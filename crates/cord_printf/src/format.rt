@@ -74,7 +74,8 @@ impl Format {
 // What follows the piece at the front of the bytes, or `None` where a `%` that begins no conversion stands there.
 fn past_piece(bytes: &[u8]) -> Option<&[u8]>
     requires { bytes.now ≢ [] }
-    ensures piece { IfSome result (λ after. (p : Piece) × (w : List ℕ) × (bytes.now ≡ w ++ after.now) × IsPiece w p after.now) }
+    ensures piece { IfSome result (λ after. (p : Piece) × (w : List ℕ) × (bytes.now ≡ w ++ after.now) ×
+        IsPiece w p after.now) }
     ensures shorter { IfSome result (λ after. length after.now < length bytes.now) }
     ensures bad { IfNone result (((rest : List ℕ) × (bytes.now ≡ 37 ∷ rest)) × ¬ BeginsConversion bytes.now) }
 {

@@ -1,12 +1,14 @@
 // What pieces show, added to a text that grows. Each addition fits, so it is refused for want of memory alone.
-ghost use Rattle.std.specs.Prelude.{◌≡◌, ℕ, ◌+◌, ◌<◌, ◌≤◌, [], ◌++◌, IfOk, IfSome, IsOkUnless, length, option_to_list, map, replicate, take};
+ghost use Rattle.std.specs.Prelude.{◌≡◌, ℕ, ◌+◌, ◌<◌, ◌≤◌, [], ◌++◌, IfOk, IfSome, IsOkUnless, length, option_to_list};
+ghost use Rattle.std.specs.Prelude.{map, replicate, take};
 ghost use Rattle.cord_node.specs.Tree.{known};
 ghost use Rattle.cord_node.specs.Kept.{Kept};
 ghost use Rattle.cord_core.specs.Cord.{text as text_of, parts_of, IsCord};
 ghost use Rattle.cord_ec.specs.Gathered.{leaf_bytes, leaf_parts, Gathered};
 ghost use Rattle.cord_ec.specs.Grown.{IsCordOf};
 ghost use Rattle.cord_printf.specs.Own.{IsPrintedFrom};
-ghost use Rattle.cord_printf.specs.Shown.{body_own, body_parts, body_text, cells_of, front_of, parts_in, shown_own, shown_text};
+ghost use Rattle.cord_printf.specs.Shown.{body_own, body_parts, body_text, cells_of, front_of, parts_in, shown_own};
+ghost use Rattle.cord_printf.specs.Shown.{shown_text};
 
 use crate::PrintError;
 use crate::shown::{Body, Layout, Shown};
@@ -64,7 +66,8 @@ impl Output {
     pub fn add_shown(&mut self, alloc: Global, shown: &Shown<'_>) -> Result<(), PrintError>
         requires within_limit { length self.old.text + length (shown_text shown.now) ≤ MAX_LEN }
         ensures text { IfOk result (λ _. self.new.text ≡ self.old.text ++ shown_text shown.now) }
-        ensures made { IfOk result (λ _. IsPrintedFrom (shown_own shown.now) (self.old.parts ++ body_parts shown.now.body) self.new.parts) }
+        ensures made { IfOk result (λ _. IsPrintedFrom (shown_own shown.now)
+            (self.old.parts ++ body_parts shown.now.body) self.new.parts) }
         ensures refused { IsOkUnless result PrintError.NoMemory }
     {
         self.add_front(alloc, shown.layout)?;
@@ -115,7 +118,8 @@ impl Output {
     fn add_body(&mut self, alloc: Global, body: &Body<'_>) -> Result<(), PrintError>
         requires within_limit { length self.old.text + length (body_text body.now) ≤ MAX_LEN }
         ensures text { IfOk result (λ _. self.new.text ≡ self.old.text ++ body_text body.now) }
-        ensures made { IfOk result (λ _. IsPrintedFrom (body_own body.now) (self.old.parts ++ body_parts body.now) self.new.parts) }
+        ensures made { IfOk result (λ _. IsPrintedFrom (body_own body.now)
+            (self.old.parts ++ body_parts body.now) self.new.parts) }
         ensures refused { IsOkUnless result PrintError.NoMemory }
     {
         match body {
@@ -179,7 +183,8 @@ impl Output {
     fn add_bytes(&mut self, alloc: Global, bytes: &[u8]) -> Result<(), PrintError>
         requires within_limit { length self.old.text + length bytes.now ≤ MAX_LEN }
         ensures text { IfOk result (λ _. self.new.text ≡ self.old.text ++ map known bytes.now) }
-        ensures made { IfOk result (λ _. (k : ℕ) → length bytes.now ≤ leaf_bytes k → IsPrintedFrom k self.old.parts self.new.parts) }
+        ensures made { IfOk result (λ _. (k : ℕ) → length bytes.now ≤ leaf_bytes k →
+            IsPrintedFrom k self.old.parts self.new.parts) }
         ensures refused { IsOkUnless result PrintError.NoMemory }
     {
         if self.gathered.try_extend_from_slice(bytes).is_ok() {
@@ -281,7 +286,8 @@ fn put_in(
     requires within_limit { length (cells_of grown.old) + length gathered.old.items ≤ MAX_LEN }
     ensures text { IfOk result (λ _. cells_of grown.new ≡ cells_of grown.old ++ map known gathered.old.items) }
     ensures emptied { IfOk result (λ _. gathered.new.items ≡ []) }
-    ensures made { IfOk result (λ _. IsPrintedFrom 0 (parts_in grown.old ++ leaf_parts gathered.old.items) (parts_in grown.new)) }
+    ensures made { IfOk result (λ _. IsPrintedFrom 0 (parts_in grown.old ++ leaf_parts gathered.old.items)
+        (parts_in grown.new)) }
     ensures refused { IsOkUnless result PrintError.NoMemory }
 {
     grow(alloc, grown, gathered.as_slice())?;
@@ -293,7 +299,8 @@ fn put_in(
 fn grow(alloc: Global, grown: &mut Option<ExtCord>, bytes: &[u8]) -> Result<(), PrintError>
     requires within_limit { length (cells_of grown.old) + length bytes.now ≤ MAX_LEN }
     ensures text { IfOk result (λ _. cells_of grown.new ≡ cells_of grown.old ++ map known bytes.now) }
-    ensures gathered { IfOk result (λ _. (k : ℕ) → length bytes.now ≤ leaf_bytes k → Gathered k (parts_in grown.old) (parts_in grown.new)) }
+    ensures gathered { IfOk result (λ _. (k : ℕ) → length bytes.now ≤ leaf_bytes k →
+        Gathered k (parts_in grown.old) (parts_in grown.new)) }
     ensures refused { IsOkUnless result PrintError.NoMemory }
 {
     match grown {
@@ -341,7 +348,8 @@ fn begin(alloc: Global) -> Result<ExtCord, PrintError>
 fn append(alloc: Global, grown: &mut ExtCord, bytes: &[u8]) -> Result<(), PrintError>
     requires within_limit { length grown.old.text + length bytes.now ≤ MAX_LEN }
     ensures text { IfOk result (λ _. grown.new.text ≡ grown.old.text ++ map known bytes.now) }
-    ensures gathered { IfOk result (λ _. (k : ℕ) → length bytes.now ≤ leaf_bytes k → Gathered k grown.old.parts grown.new.parts) }
+    ensures gathered { IfOk result (λ _. (k : ℕ) → length bytes.now ≤ leaf_bytes k →
+        Gathered k grown.old.parts grown.new.parts) }
     ensures refused { IsOkUnless result PrintError.NoMemory }
 {
     match grown.append_bytes(alloc, bytes) {

@@ -52,9 +52,11 @@ pub fn sprintf(alloc: Global, format: &Format, args: &[Arg]) -> Result<Cord, Pri
     ensures taken { IfOk result (λ _. IsPrintable format.now (arguments_of args.now)) }
     ensures text { IfOk result (λ c. text c ≡ printed known format.now (arguments_of args.now)) }
     ensures over { IfOk result (IsPrintOf format.now args.now) }
-    ensures kept { IfOk result (λ c. IsPrintedFrom (all_own format.now (arguments_of args.now)) (parts_given args.now) (parts_of c)) }
+    ensures kept { IfOk result (λ c. IsPrintedFrom (all_own format.now (arguments_of args.now)) (parts_given args.now)
+        (parts_of c)) }
     ensures sound { IfOk result IsCord }
-    ensures refused { IfErr result (λ e. e ≢ PrintError.NoMemory → IsRefusedFor MAX_LEN format.now (arguments_of args.now) e) }
+    ensures refused { IfErr result (λ e. e ≢ PrintError.NoMemory →
+        IsRefusedFor MAX_LEN format.now (arguments_of args.now) e) }
 {
     sprintf_len(format, args)?;
     let mut output = Output::new();

@@ -1,5 +1,6 @@
 // Bytes of a format, read from left to right.
-ghost use Rattle.std.specs.Prelude.{◌≡◌, ◌<◌, ◌≤◌, ◌⊎◌, [], ◌∷◌, ◌++◌, All, length, take, drop, IfSome, IfNone, MatchOption, IsTrue, false};
+ghost use Rattle.std.specs.Prelude.{◌≡◌, ◌<◌, ◌≤◌, ◌⊎◌, [], ◌∷◌, ◌++◌, All, length, take, drop, IfSome, IfNone};
+ghost use Rattle.std.specs.Prelude.{MatchOption, IsTrue, false};
 ghost use Rattle.cord_printf.specs.Pieces.{IsDigit, StartsNo, number_of, flags_of};
 ghost use Rattle.cord_printf.specs.inner.Reading.{IsOf, AreParts, IsDotted};
 
@@ -86,7 +87,8 @@ fn point(bytes: &[u8]) -> (&[u8], &[u8])
 
 /// The parts of what may be a conversion, after its `%`.
 pub fn split_parts(bytes: &[u8]) -> Parts<'_>
-    ensures { AreParts bytes.now result.marks.now result.digits.now result.point.now result.modifier.now result.rest.now }
+    ensures { AreParts bytes.now result.marks.now result.digits.now result.point.now result.modifier.now
+        result.rest.now }
 {
     let (marks, rest) = span(Class::Mark, bytes);
     let (digits, rest) = span(Class::Digit, rest);

@@ -1,6 +1,8 @@
 // What a piece shows.
-ghost use Rattle.std.specs.Prelude.{◌≡◌, ◌≤◌, ◌-◌, ◌^◌, min, ◌&&◌, not, is_none, if◌then◌else◌, [], ◌∷◌, map, take, None, length, option_map, option_to_list, IfOk, IfErr, Some};
-ghost use Rattle.cord_printf.specs.PieceText.{PieceArgument, piece_text, refusal, sign_of, number_text, digits_in, padded, cut};
+ghost use Rattle.std.specs.Prelude.{◌≡◌, ◌≤◌, ◌-◌, ◌^◌, min, ◌&&◌, not, is_none, if◌then◌else◌, [], ◌∷◌, map, take};
+ghost use Rattle.std.specs.Prelude.{None, length, option_map, option_to_list, IfOk, IfErr, Some};
+ghost use Rattle.cord_printf.specs.PieceText.{PieceArgument, piece_text, refusal, sign_of, number_text, digits_in};
+ghost use Rattle.cord_printf.specs.PieceText.{padded, cut};
 ghost use Rattle.cord_printf.specs.Own.{parts_if, taken_text};
 ghost use Rattle.cord_printf.specs.Printing.{argument_of};
 ghost use Rattle.cord_printf.specs.Shown.{IsNumberLayout, body_parts, body_taken, body_text, shown_text};
@@ -127,7 +129,8 @@ fn show_digits<'a>(
     sign: Option<u8>,
     magnitude: u64,
 ) -> Shown<'a>
-    ensures text { shown_text result ≡ map known (number_text flags width precision (option_to_list sign) (digits_in radix precision magnitude)) }
+    ensures text { shown_text result ≡ map known (number_text flags width precision (option_to_list sign)
+        (digits_in radix precision magnitude)) }
     ensures own { (body_taken result.body ≡ []) × (body_parts result.body ≡ []) }
 {
     let digits = Digits::of(radix, magnitude);
@@ -202,7 +205,8 @@ fn show_number(place: u64, piece: &Piece, number: i64) -> Result<Shown<'_>, Prin
     ensures text { IfOk result (λ s. shown_text s ≡ piece_text known piece.now (Some (PieceArgument.number number))) }
     ensures own { IfOk result (λ s. (body_taken s.body ≡ []) × (body_parts s.body ≡ [])) }
     ensures taken { IfOk result (λ s. refusal {A = Cell} place piece.now (Some (PieceArgument.number number)) ≡ None) }
-    ensures refused { IfErr result (λ e. refusal {A = Cell} place piece.now (Some (PieceArgument.number number)) ≡ Some e) }
+    ensures refused { IfErr result (λ e. refusal {A = Cell} place piece.now (Some (PieceArgument.number number))
+        ≡ Some e) }
 {
     match piece {
         Piece::Signed {
@@ -258,11 +262,15 @@ pub fn show<'a>(
     piece: &'a Piece,
     argument: Option<&'a Arg>,
 ) -> Result<Shown<'a>, PrintError>
-    ensures text { IfOk result (λ s. shown_text s ≡ piece_text known piece.now (option_map (λ a. argument_of a.now) argument.entry)) }
-    ensures of_cord { IfOk result (λ s. body_taken s.body ≡ taken_text piece.now (option_map (λ a. argument_of a.now) argument.entry)) }
+    ensures text { IfOk result (λ s. shown_text s ≡ piece_text known piece.now
+        (option_map (λ a. argument_of a.now) argument.entry)) }
+    ensures of_cord { IfOk result (λ s. body_taken s.body
+        ≡ taken_text piece.now (option_map (λ a. argument_of a.now) argument.entry)) }
     ensures kept { IfOk result (λ s. Kept (parts_if (option_map (λ a. a.now) argument.entry)) (body_parts s.body)) }
-    ensures taken { IfOk result (λ s. refusal place piece.now (option_map (λ a. argument_of a.now) argument.entry) ≡ None) }
-    ensures refused { IfErr result (λ e. refusal place piece.now (option_map (λ a. argument_of a.now) argument.entry) ≡ Some e) }
+    ensures taken { IfOk result (λ s. refusal place piece.now (option_map (λ a. argument_of a.now) argument.entry)
+        ≡ None) }
+    ensures refused { IfErr result (λ e. refusal place piece.now (option_map (λ a. argument_of a.now) argument.entry)
+        ≡ Some e) }
 {
     match argument {
         None => Ok(show_text(piece)),

@@ -41,25 +41,32 @@ module _ {M : Type 1} {𝓤 : Ura M} (𝓛 : Logic 𝓤) where
   len_at n b o = fat full_share (ty_int w64) b (o + 8) (vint w64 n)
 
   pub bytes_apart : (x : Block) (b o : ℕ) → ent 𝓤 (sem 𝓛 (part_at block.the_row full_share x b o))
-      (⋆ 𝓛 (‵ (len_at x.len b o) ∷ ‵ (feq ℕ (length x.bytes) 128) ∷ ‵ (row u8 full_share x.bytes b (o + 16)) ∷ ‵ (part_at RawPtr full_share x.next b (o + 0)) ∷ raw (Back b o) ∷ []))
+      (⋆ 𝓛 (‵ (len_at x.len b o) ∷ ‵ (feq ℕ (length x.bytes) 128) ∷ ‵ (row u8 full_share x.bytes b (o + 16))
+      ∷ ‵ (part_at RawPtr full_share x.next b (o + 0)) ∷ raw (Back b o) ∷ []))
   bytes_apart x b o =
       qed 𝓛 (‵ (part_at block.the_row full_share x b o) ∷ []) ∵
       use1 𝓛 (‵ ftrue ⊛ ‵ (rest_at full_share members 0 (block.the_type.to x) b o 3) ⊛ raw (Back b o))
-      (record_field_out 𝓛 full_share block.struct.name members Block block.the_type.to block.the_type.to_one (lawfuls 𝓛 block.struct.parts block_laws.the_laws) x b o 3) $ split3 ! $ drop ! $
+      (record_field_out 𝓛 full_share block.struct.name members Block block.the_type.to block.the_type.to_one
+      (lawfuls 𝓛 block.struct.parts block_laws.the_laws) x b o 3) $ split3 ! $ drop ! $
       fsplit ! $ move ! (1 ∷ []) $ fsplit ! $ move ! (1 ∷ []) $ fsplit ! $
       -- [the bytes; nothing; the length; the pointer; the way back]
-      use1 𝓛 (‵ (feq ℕ (length x.bytes) 128) ⊛ ‵ (row u8 full_share x.bytes b (o + 16))) (Array-apart 𝓛 u8 full_share tt 128 x.bytes b (o + 16)) $ split ! $
+      use1 𝓛 (‵ (feq ℕ (length x.bytes) 128) ⊛ ‵ (row u8 full_share x.bytes b (o + 16)))
+      (Array-apart 𝓛 u8 full_share tt 128 x.bytes b (o + 16)) $ split ! $
       move ! (2 ∷ []) $ drop ! $ move ! (2 ∷ []) $ use1 𝓛 (‵ (len_at x.len b o)) (uint_out 𝓛 full_share w64 x.len b (o + 8)) $ done !
 
   pub bytes_back : (x : Block) (b o : ℕ)
-      → ent 𝓤 (⋆ 𝓛 (‵ (len_at x.len b o) ∷ ‵ (feq ℕ (length x.bytes) 128) ∷ ‵ (row u8 full_share x.bytes b (o + 16)) ∷ ‵ (part_at RawPtr full_share x.next b (o + 0)) ∷ raw (Back b o) ∷ []))
+      → ent 𝓤 (⋆ 𝓛 (‵ (len_at x.len b o) ∷ ‵ (feq ℕ (length x.bytes) 128) ∷ ‵ (row u8 full_share x.bytes b (o + 16))
+      ∷ ‵ (part_at RawPtr full_share x.next b (o + 0)) ∷ raw (Back b o) ∷ []))
       (sem 𝓛 (part_at block.the_row full_share x b o))
   bytes_back x b o =
-      qed 𝓛 (‵ (len_at x.len b o) ∷ ‵ (feq ℕ (length x.bytes) 128) ∷ ‵ (row u8 full_share x.bytes b (o + 16)) ∷ ‵ (part_at RawPtr full_share x.next b (o + 0)) ∷ raw (Back b o) ∷ []) ∵
-      use1 𝓛 (‵ (part_at usize full_share x.len b (o + 8))) (uint_in 𝓛 full_share w64 x.len b (o + 8)) $ nothing ! $ move ! (2 ∷ 3 ∷ []) $ join ! $
+      qed 𝓛 (‵ (len_at x.len b o) ∷ ‵ (feq ℕ (length x.bytes) 128) ∷ ‵ (row u8 full_share x.bytes b (o + 16))
+      ∷ ‵ (part_at RawPtr full_share x.next b (o + 0)) ∷ raw (Back b o) ∷ []) ∵
+      use1 𝓛 (‵ (part_at usize full_share x.len b (o + 8))) (uint_in 𝓛 full_share w64 x.len b (o + 8)) $ nothing ! $ move !
+      (2 ∷ 3 ∷ []) $ join ! $
       use1 𝓛 (‵ (part_at (Array u8 128) full_share x.bytes b (o + 16))) (Array-whole 𝓛 u8 full_share 128 x.bytes b (o + 16)) $ fjoin ! $
       move ! (1 ∷ 0 ∷ []) $ fjoin ! $ move ! (1 ∷ 0 ∷ []) $ fjoin ! $ nothing ! $
-      use3 𝓛 (‵ (part_at block.the_row full_share x b o)) (record_field_back 𝓛 full_share block.struct.name members Block block.the_type.to block.the_type.to_one x b o 3) $ done !
+      use3 𝓛 (‵ (part_at block.the_row full_share x b o)) (record_field_back 𝓛 full_share block.struct.name members Block block.the_type.to
+      block.the_type.to_one x b o 3) $ done !
 
   module _ (xs : List ℕ) (i x b o : ℕ) where
     abbrev pub rest : Fml
@@ -71,7 +78,8 @@ module _ {M : Type 1} {𝓤 : Ura M} (𝓛 : Logic 𝓤) where
     pub byte_out : i < length xs → ent 𝓤 (sem 𝓛 (row u8 full_share xs b o)) (⋆ 𝓛 (‵ (byte (get_or xs i 0)) ∷ ‵ rest ∷ []))
     byte_out inside =
         qed 𝓛 (‵ (row u8 full_share xs b o) ∷ []) ∵
-        use1 𝓛 (‵ (part_at u8 full_share (get_or xs i 0) b (nth 1 o i)) ⊛ ‵ rest) (takes (shares u8) full_share 𝓛 xs i 0 b o inside) $ split ! $
+        use1 𝓛 (‵ (part_at u8 full_share (get_or xs i 0) b (nth 1 o i)) ⊛ ‵ rest) (takes (shares u8) full_share 𝓛 xs i 0 b o inside) $
+        split ! $
         rewrite ! 0 (λ (k : ℕ). ‵ (part_at u8 full_share (get_or xs i 0) b k)) (place_byte o i) refl $
         use1 𝓛 (‵ (byte (get_or xs i 0))) (uint_out 𝓛 full_share w8 (get_or xs i 0) b (i + o)) $ done !
 

@@ -12,7 +12,8 @@ use contract.Monad.{Fun, fact, fact_i}
 use prog.Memory.{Memory}
 use prog.Routine.{Routine}
 use types.Logic.{Logic, sem}
-use types.Kit.{Item, mean, ‵, raw, ◌⊛◌, some, given, later, ◌$◌, ◌∵◌, !, qed, done, move, drop, use0, use1, split, join, fjoin, feq_i, feq_l, pick, await, updating, now as at_once, check, show, rewrite}
+use types.Kit.{Item, mean, ‵, raw, ◌⊛◌, some, given, later, ◌$◌, ◌∵◌, !, qed, done, move, drop, use0, use1, split, join, fjoin, feq_i}
+use types.Kit.{feq_l, pick, await, updating, now as at_once, check, show, rewrite}
 use denote.Builtin.{unit}
 use denote.Exit.{no}
 use denote.Param.{layout, arg}
@@ -93,7 +94,8 @@ module _ {M : Type 1} {𝓤 : Ura M} (𝓛 : Logic 𝓤) (at_mem : Memory → SP
   abbrev pub at_frees : Boxed.Denot → Val → Frees.Ghost
   at_frees d u = ((κs, (full_share, (full_share, tt)), tt, (d, tt), (u ∷ [], tt)), tt)
 
-  pub makes_asks : (x : Block) (b o : ℕ) → ent 𝓤 (sep 𝓤 (sem 𝓛 (block_owns (block_ptr b o) x)) (mean 𝓛 (tokens α β))) (Makes.pre (at_makes x b o))
+  pub makes_asks : (x : Block) (b o : ℕ) → ent 𝓤 (sep 𝓤 (sem 𝓛 (block_owns (block_ptr b o) x)) (mean 𝓛 (tokens α β)))
+      (Makes.pre (at_makes x b o))
   makes_asks x b o =
       qed 𝓛 (‵ (block_owns (block_ptr b o) x) ∷ tokens α β ∷ []) ∵
       use0 𝓛 (raw (fact 𝓤 (β ∷ [] ⊑ A.lives))) (fact_i 𝓤 (β ∷ [] ⊑ A.lives) (emp 𝓤) (⊑_static (β ∷ []))) $ join ! $
@@ -105,17 +107,21 @@ module _ {M : Type 1} {𝓤 : Ura M} (𝓛 : Logic 𝓤) (at_mem : Memory → SP
   abbrev Made : Val → Boxed.Denot → Item 𝓤
   Made u d = given (Good (layout Boxed) u) (‵ (Boxed.own_val d (u ∷ [])) ⊛ tokens α β)
 
-  pub makes_gives : (x : Block) (b o : ℕ) (u : Val) → ent 𝓤 (Makes.post (at_makes x b o) u) (H.⇛ (ex 𝓤 (λ (d : Boxed.Denot). mean 𝓛 (Made u d))))
+  pub makes_gives : (x : Block) (b o : ℕ) (u : Val) → ent 𝓤 (Makes.post (at_makes x b o) u)
+      (H.⇛ (ex 𝓤 (λ (d : Boxed.Denot). mean 𝓛 (Made u d))))
   makes_gives x b o u =
       qed 𝓛 (raw (Makes.post (at_makes x b o) u) ∷ []) ∵ updating ! $
-      use1 𝓛 (later (some (λ (d : Boxed.Denot). (tokens α β ⊛ ‵ (Boxed.own_val d (u ∷ []))) ⊛ some (λ (ws : Lasts Ended_makes κs (at_makes x b o).0.3).
+      use1 𝓛 (later (some (λ (d : Boxed.Denot). (tokens α β ⊛ ‵ (Boxed.own_val d (u ∷ []))) ⊛ some
+      (λ (ws : Lasts Ended_makes κs (at_makes x b o).0.3).
       ‵ (lasts Ended_makes κs (at_makes x b o).0.3 ws) ⊛ raw (fact 𝓤 (d.value ≡ x)) ⊛ raw (fact 𝓤 (d.alloc ≡ the_heap)))))) (id⊢ 𝓤 _) $
       await ! tt $ pick ! (λ d. split ! $ move ! (1 ∷ []) $ drop ! $ split ! $ move ! (1 ∷ []) $
       box_out form ! d (u ∷ []) (λ b' o' h e spelled fits. box_in form ! d b' o' d.value e refl $
       rewrite ! 0 (λ (us : List Val). ‵ (Boxed.own_val d us)) (sym spelled) refl $
-      at_once ! $ show ! (λ (d' : Boxed.Denot). mean 𝓛 (Made u d')) d $ check ! (subst (Good (layout Boxed)) (sym (ap only spelled)) (box.box_typed form h b' o' fits)) $ done !))
+      at_once ! $ show ! (λ (d' : Boxed.Denot). mean 𝓛 (Made u d')) d $ check !
+      (subst (Good (layout Boxed)) (sym (ap only spelled)) (box.box_typed form h b' o' fits)) $ done !))
 
-  pub frees_asks : (d : Boxed.Denot) (u : Val) → ent 𝓤 (sep 𝓤 (sem 𝓛 (Boxed.own_val d (u ∷ []))) (mean 𝓛 (tokens α β))) (Frees.pre (at_frees d u))
+  pub frees_asks : (d : Boxed.Denot) (u : Val) → ent 𝓤 (sep 𝓤 (sem 𝓛 (Boxed.own_val d (u ∷ []))) (mean 𝓛 (tokens α β)))
+      (Frees.pre (at_frees d u))
   frees_asks d u =
       qed 𝓛 (‵ (Boxed.own_val d (u ∷ [])) ∷ tokens α β ∷ []) ∵
       nothing ! $ move ! (1 ∷ 0 ∷ []) $ fjoin ! $ nothing ! $
@@ -126,5 +132,7 @@ module _ {M : Type 1} {𝓤 : Ura M} (𝓛 : Logic 𝓤) (at_mem : Memory → SP
   pub frees_gives : (d : Boxed.Denot) (u v : Val) → ent 𝓤 (Frees.post (at_frees d u) v) (H.⇛ (guard 𝓤 (v ≡ vunit) (mean 𝓛 (tokens α β))))
   frees_gives d u v =
       qed 𝓛 (raw (Frees.post (at_frees d u) v) ∷ []) ∵ updating ! $
-      use1 𝓛 (later (some (λ (r : Unit {0}). (tokens α β ⊛ ‵ (unit.own_val r (v ∷ []))) ⊛ some (λ (ws : Lasts Ended_frees κs (at_frees d u).0.3). ‵ (lasts Ended_frees κs (at_frees d u).0.3 ws) ⊛ ‵ ftrue)))) (id⊢ 𝓤 _) $
-      await ! tt $ pick ! (λ r. split ! $ move ! (1 ∷ []) $ drop ! $ split ! $ move ! (1 ∷ []) $ feq_l ! (λ is_unit. at_once ! $ check ! (ap only is_unit) $ done !))
+      use1 𝓛 (later (some (λ (r : Unit {0}). (tokens α β ⊛ ‵ (unit.own_val r (v ∷ []))) ⊛ some
+      (λ (ws : Lasts Ended_frees κs (at_frees d u).0.3). ‵ (lasts Ended_frees κs (at_frees d u).0.3 ws) ⊛ ‵ ftrue)))) (id⊢ 𝓤 _) $
+      await ! tt $ pick ! (λ r. split ! $ move ! (1 ∷ []) $ drop ! $ split ! $ move ! (1 ∷ []) $ feq_l !
+      (λ is_unit. at_once ! $ check ! (ap only is_unit) $ done !))

@@ -35,10 +35,12 @@ module _ {M : Type 1} {𝓤 : Ura M} (𝓛 : Logic 𝓤) (l : Lft) (inc : Incl l
 
   Lends-links : (p : Ptr) (bs : List Block) → Lends 𝓛 (links p bs) (links_lent p bs) l
   Lends-links p [] = Lends-nothing 𝓛 ftrue l
-  Lends-links p (b ∷ bs) = Lends-both 𝓛 (block_owns p b) (links b.next bs) (lent_at block.the_row p b) (links_lent b.next bs) l (Lends-block p b) (Lends-links b.next bs)
+  Lends-links p (b ∷ bs) = Lends-both 𝓛 (block_owns p b) (links b.next bs) (lent_at block.the_row p b) (links_lent b.next bs) l
+      (Lends-block p b) (Lends-links b.next bs)
 
   pub Lends-chain : (p : Ptr) (bs : List Block) (q : Ptr) (b : Block) → Lends 𝓛 (chain_owns p bs q b) (chain_lent p bs q b) l
-  Lends-chain p bs q b = Lends-both 𝓛 (links p bs) (block_owns q b) (links_lent p bs) (lent_at block.the_row q b) l (Lends-links p bs) (Lends-block q b)
+  Lends-chain p bs q b = Lends-both 𝓛 (links p bs) (block_owns q b) (links_lent p bs) (lent_at block.the_row q b) l (Lends-links p bs)
+      (Lends-block q b)
 
 -- where blocks lead that stand before others
 pub place_append : (p : Ptr) (xs ys : List Block) → place_after p (xs ++ ys) ≡ place_after (place_after p xs) ys
@@ -47,7 +49,8 @@ place_append p (x ∷ xs) ys = place_append x.next xs ys
 
 module _ {M : Type 1} {𝓤 : Ura M} (𝓛 : Logic 𝓤) where
   -- blocks linked after others
-  pub links_append : (p : Ptr) (xs ys : List Block) → ent 𝓤 (sep 𝓤 (sem 𝓛 (links p xs)) (sem 𝓛 (links (place_after p xs) ys))) (sem 𝓛 (links p (xs ++ ys)))
+  pub links_append : (p : Ptr) (xs ys : List Block) → ent 𝓤 (sep 𝓤 (sem 𝓛 (links p xs)) (sem 𝓛 (links (place_after p xs) ys)))
+      (sem 𝓛 (links p (xs ++ ys)))
   links_append p [] ys = qed 𝓛 (‵ (links p []) ∷ ‵ (links p ys) ∷ []) ∵ drop ! $ done !
   links_append p (x ∷ xs) ys = qed 𝓛 (‵ (links p (x ∷ xs)) ∷ ‵ (links (place_after p (x ∷ xs)) ys) ∷ []) ∵ fsplit ! $ move ! (1 ∷ 2 ∷ []) $
       use2 𝓛 (‵ (links x.next (xs ++ ys))) (links_append x.next xs ys) $ move ! (1 ∷ 0 ∷ []) $ fjoin ! $ done !
@@ -59,12 +62,16 @@ next_place p (b ∷ bs) zero x inside = refl
 next_place p (b ∷ bs) (suc i) x inside = next_place b.next bs i x (omega arith)
 
 -- what a `&` holds of the block at i
-pub lent_nth : {M : Type 1} {𝓤 : Ura M} (𝓛 : Logic 𝓤) (κ : Lft) (p : Ptr) (bs : List Block) (last : Block) (i : ℕ) (x : Block) → i ≤ length bs
-    → ent 𝓤 (sem 𝓛 (chain_lent p bs (place_after p bs) last κ)) (sem 𝓛 (lent_at block.the_row (place_after p (take i bs)) (get_or (bs ++ last ∷ []) i x) κ))
+pub lent_nth : {M : Type 1} {𝓤 : Ura M} (𝓛 : Logic 𝓤) (κ : Lft) (p : Ptr) (bs : List Block) (last : Block) (i : ℕ) (x : Block) →
+    i ≤ length bs
+    → ent 𝓤 (sem 𝓛 (chain_lent p bs (place_after p bs) last κ))
+    (sem 𝓛 (lent_at block.the_row (place_after p (take i bs)) (get_or (bs ++ last ∷ []) i x) κ))
 lent_nth 𝓛 κ p [] last zero x inside = qed 𝓛 (‵ (chain_lent p [] p last κ) ∷ []) ∵ fsplit ! $ keep ! (1 ∷ []) $ done !
 lent_nth 𝓛 κ p [] last (suc i) x inside = absurd (omega arith)
-lent_nth 𝓛 κ p (b ∷ bs) last zero x inside = qed 𝓛 (‵ (chain_lent p (b ∷ bs) (place_after b.next bs) last κ) ∷ []) ∵ fsplit ! $ fsplit ! $ keep ! (0 ∷ []) $ done !
-lent_nth 𝓛 κ p (b ∷ bs) last (suc i) x inside = qed 𝓛 (‵ (chain_lent p (b ∷ bs) (place_after b.next bs) last κ) ∷ []) ∵ fsplit ! $ fsplit ! $ move ! (1 ∷ 2 ∷ []) $ fjoin ! $ keep ! (0 ∷ []) $
+lent_nth 𝓛 κ p (b ∷ bs) last zero x inside = qed 𝓛 (‵ (chain_lent p (b ∷ bs) (place_after b.next bs) last κ) ∷ []) ∵ fsplit ! $ fsplit ! $
+    keep ! (0 ∷ []) $ done !
+lent_nth 𝓛 κ p (b ∷ bs) last (suc i) x inside = qed 𝓛 (‵ (chain_lent p (b ∷ bs) (place_after b.next bs) last κ) ∷ []) ∵ fsplit ! $ fsplit !
+    $ move ! (1 ∷ 2 ∷ []) $ fjoin ! $ keep ! (0 ∷ []) $
     by ! (lent_nth 𝓛 κ b.next bs last i x (omega arith))
 
 -- a list that is not empty

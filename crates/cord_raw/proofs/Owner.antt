@@ -26,9 +26,11 @@ abbrev pub words : ℕ → ℕ → Val → Val
 words b o h = vstruct (vcons (vptr b o) (vcons h vnil))
 
 -- machine values that are spelled by a pointer's and an allocator's are its two words
-pub spells : (vs ps hs : List Val) (p : Ptr) (b o : ℕ) (h : Val) → vs ≡ vstruct (of_list (ps ++ (hs ++ []))) ∷ [] → ps ≡ ptr_val p ∷ [] → p ≡ block_ptr b o → hs ≡ h ∷ [] → vs ≡ words b o h ∷ []
+pub spells : (vs ps hs : List Val) (p : Ptr) (b o : ℕ) (h : Val) → vs ≡ vstruct (of_list (ps ++ (hs ++ []))) ∷ [] → ps ≡ ptr_val p ∷ [] →
+    p ≡ block_ptr b o → hs ≡ h ∷ [] → vs ≡ words b o h ∷ []
 spells vs ps hs p b o h both first place second =
-    both ∙ ap (λ (us : List Val). vstruct (of_list (us ++ (hs ++ []))) ∷ []) first ∙ ap (λ (q : Ptr). vstruct (of_list (ptr_val q ∷ (hs ++ []))) ∷ []) place
+    both ∙ ap (λ (us : List Val). vstruct (of_list (us ++ (hs ++ []))) ∷ []) first
+    ∙ ap (λ (q : Ptr). vstruct (of_list (ptr_val q ∷ (hs ++ []))) ∷ []) place
     ∙ ap (λ (us : List Val). vstruct (of_list (vptr b o ∷ (us ++ []))) ∷ []) second
 
 module _ (T A : RattleType) (L : Laws T) (K : Laws A) (g : Ghosts A.Denot) where
@@ -51,7 +53,10 @@ module _ (T A : RattleType) (L : Laws T) (K : Laws A) (g : Ghosts A.Denot) where
   module _ {M : Type 1} {𝓤 : Ura M} {𝓛 : Logic 𝓤} {X : Type 0} {Γ : List (Item 𝓤)} {G : Goal 𝓤 𝓛.H} where
     -- an owner is made of the value at a place in memory, the right to free it, and its allocator
     pub packs : X → (b o : ℕ) (h : Val) (a : Z.Denot) (x : R.Denot)
-        → Step X 𝓛 (‵ (O.own_val (record { at = block_ptr b o; alloc = a; value = x }) (words b o h ∷ [])) ∷ Γ) G (‵ (box_owns (g.dealloc_token a) R (block_ptr b o) x) ∷ ‵ (Z.own_val a (h ∷ [])) ∷ Γ) G
+        → Step X 𝓛 (‵ (O.own_val (record { at = block_ptr b o; alloc = a; value = x }) (words b o h ∷ [])) ∷ Γ) G
+        (‵ (box_owns (g.dealloc_token a) R (block_ptr b o) x) ∷ ‵ (Z.own_val a (h ∷ [])) ∷ Γ) G
     packs t b o h a x = step (λ s.
-        nothing t $ move t (2 ∷ 0 ∷ []) $ fjoin t $ feq_i t (List Val) (vptr b o ∷ []) (vptr b o ∷ []) refl $ fjoin t $ feq_i t (List Val) (words b o h ∷ []) (words b o h ∷ []) refl $ fjoin t $
-        fpack t (Valss (RawPtr ∷ Z ∷ [])) (within (shape (owner.the_type R Z g)) (block_ptr b o, (a, tt)) (words b o h ∷ [])) (vptr b o ∷ [], (h ∷ [], tt)) $ fjoin t $ s)
+        nothing t $ move t (2 ∷ 0 ∷ []) $ fjoin t $ feq_i t (List Val) (vptr b o ∷ []) (vptr b o ∷ []) refl $ fjoin t $ feq_i t (List Val)
+        (words b o h ∷ []) (words b o h ∷ []) refl $ fjoin t $
+        fpack t (Valss (RawPtr ∷ Z ∷ [])) (within (shape (owner.the_type R Z g)) (block_ptr b o, (a, tt)) (words b o h ∷ []))
+        (vptr b o ∷ [], (h ∷ [], tt)) $ fjoin t $ s)

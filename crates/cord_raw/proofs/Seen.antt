@@ -33,15 +33,20 @@ module _ {M : Type 1} {𝓤 : Ura M} (𝓛 : Logic 𝓤) (κ : Lft) (b : ℕ) wh
   seen_to zero xs o = qed 𝓛 (‵ (seen xs o) ∷ []) ∵ keep ! [] $ nothing ! $ done !
   seen_to (suc n) [] o = id⊢ 𝓤 (sem 𝓛 (seen [] o))
   seen_to (suc n) (x ∷ xs) o =
-      qed 𝓛 (‵ (seen (x ∷ xs) o) ∷ []) ∵ fsplit ! $ move ! (1 ∷ []) $ use1 𝓛 (‵ (seen (take n xs) (o + 1))) (seen_to n xs (o + 1)) $ move ! (1 ∷ 0 ∷ []) $ fjoin ! $ done !
+      qed 𝓛 (‵ (seen (x ∷ xs) o) ∷ []) ∵ fsplit ! $ move ! (1 ∷ []) $ use1 𝓛 (‵ (seen (take n xs) (o + 1))) (seen_to n xs (o + 1)) $ move !
+      (1 ∷ 0 ∷ []) $ fjoin ! $ done !
 
   -- n bytes of the block x at (b, o), from the one at i on; and how many bytes it has room for
   pub run_seen : (x : Block) (o i n : ℕ) → i + n ≤ length x.bytes → Room u8 n
       → ent 𝓤 (sem 𝓛 (hidden_shr B κ x b o)) (⋆ 𝓛 (‵ (feq ℕ (length x.bytes) 128) ∷
-      ‵ ((ShrSlice (named 1) κ u8).own_val (record { ref_ptr = (b, i + (o + 16)); now = run_of x.bytes i n }) (shr_slice_vals (record { ref_ptr = (b, i + (o + 16)); now = run_of x.bytes i n }))) ∷ []))
+      ‵ ((ShrSlice (named 1) κ u8).own_val (record { ref_ptr = (b, i + (o + 16)); now = run_of x.bytes i n })
+      (shr_slice_vals (record { ref_ptr = (b, i + (o + 16)); now = run_of x.bytes i n }))) ∷ []))
   run_seen x o i n inside roomy =
       let at : ℕ = i + (o + 16) in let run = run_of x.bytes i n in
-      qed 𝓛 (‵ (hidden_shr B κ x b o) ∷ []) ∵ unhide ! $ fsplit ! $ fsplit ! $ move ! (1 ∷ []) $ fsplit ! $ move ! (1 ∷ []) $ fsplit ! $ keep ! (0 ∷ []) $ fsplit ! $ move ! (1 ∷ []) $
-      use1 𝓛 (‵ (seen (drop i x.bytes) at)) (seen_from i x.bytes (o + 16)) $ use1 𝓛 (‵ (seen run at)) (seen_to n (drop i x.bytes) at) $ hide ! $
-      pure_i ! (shr_slice_at u8 (record { ref_ptr = (b, at); now = run }) (shr_slice_vals (record { ref_ptr = (b, at); now = run }))) (tt, (tt, tt))
+      qed 𝓛 (‵ (hidden_shr B κ x b o) ∷ []) ∵ unhide ! $ fsplit ! $ fsplit ! $ move ! (1 ∷ []) $ fsplit ! $ move !
+      (1 ∷ []) $ fsplit ! $ keep ! (0 ∷ []) $ fsplit ! $ move ! (1 ∷ []) $
+      use1 𝓛 (‵ (seen (drop i x.bytes) at)) (seen_from i x.bytes (o + 16)) $ use1 𝓛 (‵ (seen run at))
+      (seen_to n (drop i x.bytes) at) $ hide ! $
+      pure_i ! (shr_slice_at u8 (record { ref_ptr = (b, at); now = run }) (shr_slice_vals (record { ref_ptr = (b, at); now = run })))
+      (tt, (tt, tt))
       (refl, subst (Room u8) (sym (run_length x.bytes i n inside)) roomy) $ fjoin ! $ move ! (1 ∷ 0 ∷ []) $ done !

@@ -1,5 +1,6 @@
 -- Lengths and ranges of the texts of blocks.
-use Rattle.std.proofs.Common.{◌≡◌, ℕ, zero, suc, ◌+◌, ◌-◌, ◌*◌, ◌≤◌, ◌<◌, List, [], ◌∷◌, ◌++◌, length, take, drop, get_or, slice_range, refl, sym, ap, ◌∙◌, subst, arith, length-append, append_assoc, append-nil}
+use Rattle.std.proofs.Common.{◌≡◌, ℕ, zero, suc, ◌+◌, ◌-◌, ◌*◌, ◌≤◌, ◌<◌, List, [], ◌∷◌, ◌++◌, length, take, drop, get_or, slice_range}
+use Rattle.std.proofs.Common.{refl, sym, ap, ◌∙◌, subst, arith, length-append, append_assoc, append-nil}
 use Rattle.std.proofs.lemmas.List.{length-drop, take-append-le, drop-append-le, drop_at}
 use Rattle.std.proofs.Math.Seq.{take-add, drop-append-add}
 use Rattle.cord_raw.specs.declared.block.TheConstants.{ROOM}
@@ -21,9 +22,11 @@ text_length [] full = refl
 text_length (x ∷ xs) full = omega (arith, length-append (text_of x) (text xs), full.0, text_length xs full.1)
 
 -- the text of two chains of which the first one's newest block was linked to the second
-pub linked_text : (xs : List Block) (x x' : Block) (ys : List Block) (y : Block) → text_of x' ≡ text_of x → text (xs ++ x' ∷ ys) ++ text_of y ≡ (text xs ++ text_of x) ++ (text ys ++ text_of y)
+pub linked_text : (xs : List Block) (x x' : Block) (ys : List Block) (y : Block) → text_of x' ≡ text_of x →
+    text (xs ++ x' ∷ ys) ++ text_of y ≡ (text xs ++ text_of x) ++ (text ys ++ text_of y)
 linked_text xs x x' ys y same =
-    ap (λ t. t ++ text_of y) (text_append xs (x' ∷ ys) ∙ ap (λ t. text xs ++ (t ++ text ys)) same ∙ sym (append_assoc (text xs) (text_of x) (text ys))) ∙ append_assoc (text xs ++ text_of x) (text ys) (text_of y)
+    ap (λ t. t ++ text_of y) (text_append xs (x' ∷ ys) ∙ ap (λ t. text xs ++ (t ++ text ys)) same
+    ∙ sym (append_assoc (text xs) (text_of x) (text ys))) ∙ append_assoc (text xs ++ text_of x) (text ys) (text_of y)
 
 -- the text from the block at i on
 text_from : (bs : List Block) (i : ℕ) (x : Block) → i < length bs → text (drop i bs) ≡ text_of (get_or bs i x) ++ text (drop (suc i) bs)
@@ -32,19 +35,22 @@ text_from (b ∷ bs) zero x inside = refl
 text_from (b ∷ bs) (suc i) x inside = text_from bs i x (omega arith)
 
 -- more than a block's bytes go on after the block at i, which is full then
-goes_on : (xs : List Block) (y : Block) (i k : ℕ) → length (text_of y) ≤ ROOM → i ≤ length xs → ROOM < k → k ≤ length (text (drop i (xs ++ y ∷ []))) → i < length xs
+goes_on : (xs : List Block) (y : Block) (i k : ℕ) → length (text_of y) ≤ ROOM → i ≤ length xs → ROOM < k →
+    k ≤ length (text (drop i (xs ++ y ∷ []))) → i < length xs
 goes_on [] y zero k small inside much there = absurd (let alone = length-append (text_of y) [] in omega arith)
 goes_on [] y (suc i) k small inside much there = absurd (omega arith)
 goes_on (x ∷ xs) y zero k small inside much there = omega arith
 goes_on (x ∷ xs) y (suc i) k small inside much there = let on = goes_on xs y i k small (omega arith) much there in omega arith
 
-full_at : (xs : List Block) (y : Block) (i : ℕ) (z : Block) → AreFull xs → i < length xs → length (text_of (get_or (xs ++ y ∷ []) i z)) ≡ ROOM
+full_at : (xs : List Block) (y : Block) (i : ℕ) (z : Block) → AreFull xs → i < length xs →
+    length (text_of (get_or (xs ++ y ∷ []) i z)) ≡ ROOM
 full_at [] y i z full inside = absurd (omega arith)
 full_at (x ∷ xs) y zero z full inside = full.0
 full_at (x ∷ xs) y (suc i) z full inside = full_at xs y i z full.1 (omega arith)
 
 -- bytes that a block has room for, and that stand from the block at i on, stand in it
-stands_in : (xs : List Block) (y : Block) (i k : ℕ) (z : Block) → AreFull xs → i ≤ length xs → k ≤ ROOM → k ≤ length (text (drop i (xs ++ y ∷ []))) → k ≤ length (text_of (get_or (xs ++ y ∷ []) i z))
+stands_in : (xs : List Block) (y : Block) (i k : ℕ) (z : Block) → AreFull xs → i ≤ length xs → k ≤ ROOM →
+    k ≤ length (text (drop i (xs ++ y ∷ []))) → k ≤ length (text_of (get_or (xs ++ y ∷ []) i z))
 stands_in [] y zero k z full inside small there = let alone = length-append (text_of y) [] in omega arith
 stands_in [] y (suc i) k z full inside small there = absurd (omega arith)
 stands_in (x ∷ xs) y zero k z full inside small there = let all = full.0 in omega arith
@@ -55,11 +61,14 @@ pub range_is : (xs : List ℕ) (start n : ℕ) → slice_range xs start (start +
 range_is xs start n = ap (λ k. take k (drop start xs)) (omega arith)
 
 -- a range that begins after the first text
-range_behind : (xs ys : List ℕ) (start i n : ℕ) → start ≡ length xs + i → slice_range ys i (i + n) ≡ slice_range (xs ++ ys) start (start + n)
-range_behind xs ys start i n at = range_is ys i n ∙ sym (range_is (xs ++ ys) start n ∙ ap (λ k. take n (drop k (xs ++ ys))) at ∙ ap (take n) (drop-append-add xs ys i))
+range_behind : (xs ys : List ℕ) (start i n : ℕ) → start ≡ length xs + i →
+    slice_range ys i (i + n) ≡ slice_range (xs ++ ys) start (start + n)
+range_behind xs ys start i n at = range_is ys i n ∙ sym (range_is (xs ++ ys) start n ∙ ap (λ k. take n (drop k (xs ++ ys))) at
+    ∙ ap (take n) (drop-append-add xs ys i))
 
 -- the first bytes of the second text
-rest_behind : (xs ys : List ℕ) (start below rest : ℕ) → start + below ≤ length xs → (0 < rest → start + below ≡ length xs) → take rest (drop below (drop start xs ++ ys)) ≡ take rest ys
+rest_behind : (xs ys : List ℕ) (start below rest : ℕ) → start + below ≤ length xs → (0 < rest → start + below ≡ length xs) →
+    take rest (drop below (drop start xs ++ ys)) ≡ take rest ys
 rest_behind xs ys start below zero inside tight = refl
 rest_behind xs ys start below (suc r) inside tight =
     let at_seam : length (drop start xs) ≡ below = length-drop start xs ∙ omega (arith, tight (omega arith)) in ap (take (suc r)) (drop_at (drop start xs) ys below at_seam)
@@ -73,42 +82,59 @@ range_over_seam xs ys start below rest inside tight =
     sym (range_is (xs ++ ys) start (below + rest) ∙ ap (take (below + rest)) from_start ∙ take-add below rest (drop start xs ++ ys)
     ∙ ap (λ front. front ++ take rest (drop below (drop start xs ++ ys))) (take-append-le below (drop start xs) ys some_left)
     ∙ ap (λ back. take below (drop start xs) ++ back) (rest_behind xs ys start below rest inside tight)
-    ∙ ap (λ front. front ++ take rest ys) (sym (range_is xs start below)) ∙ ap (λ back. slice_range xs start (start + below) ++ back) (sym (range_is ys 0 rest)))
+    ∙ ap (λ front. front ++ take rest ys) (sym (range_is xs start below)) ∙ ap (λ back. slice_range xs start (start + below) ++ back)
+    (sym (range_is ys 0 rest)))
 
 -- the text from the block at i on is that block's, and then the text from the next one on
-from_next : (c : Chain) (i j : ℕ) → i ≤ length c.older → j ≡ i + 1 → text (drop i (blocks_of c)) ≡ text_of (block_at c i) ++ text (drop j (blocks_of c))
+from_next : (c : Chain) (i j : ℕ) → i ≤ length c.older → j ≡ i + 1 → text (drop i (blocks_of c)) ≡ text_of (block_at c i)
+    ++ text (drop j (blocks_of c))
 from_next c i j within next =
     let inside : i < length (blocks_of c) = omega (arith, length-append c.older (c.newest ∷ [])) in let onward : suc i ≡ j = omega arith in
     text_from (blocks_of c) i c.newest inside ∙ ap (λ k. text_of (block_at c i) ++ text (drop k (blocks_of c))) onward
 
 -- where more than a block's bytes stand from the block at i on, it is full, and others are after it
-goes_behind : (c : Chain) (i k : ℕ) → IsFilled c → i ≤ length c.older → ROOM < k → k ≤ length (text (drop i (blocks_of c))) → (i < length c.older) × (length (text_of (block_at c i)) ≡ ROOM)
+goes_behind : (c : Chain) (i k : ℕ) → IsFilled c → i ≤ length c.older → ROOM < k → k ≤ length (text (drop i (blocks_of c))) →
+    (i < length c.older) × (length (text_of (block_at c i)) ≡ ROOM)
 goes_behind c i k filled within much there =
     let more = goes_on c.older c.newest i k (omega (arith, filled.1, filled.2)) within much there in (more, full_at c.older c.newest i c.newest filled.0 more)
 
 -- and all but a block's bytes stand in those
-pub left_behind : (c : Chain) (i j k : ℕ) → IsFilled c → i ≤ length c.older → j ≡ i + 1 → ROOM < k → k ≤ length (text (drop i (blocks_of c))) → k ≤ ROOM + length (text (drop j (blocks_of c)))
+pub left_behind : (c : Chain) (i j k : ℕ) → IsFilled c → i ≤ length c.older → j ≡ i + 1 → ROOM < k →
+    k ≤ length (text (drop i (blocks_of c))) → k ≤ ROOM + length (text (drop j (blocks_of c)))
 left_behind c i j k filled within next much there =
-    omega (arith, ap length (from_next c i j within next), length-append (text_of (block_at c i)) (text (drop j (blocks_of c))), (goes_behind c i k filled within much there).1, there)
+    omega (
+      arith,
+      ap length (from_next c i j within next),
+      length-append (text_of (block_at c i)) (text (drop j (blocks_of c))),
+      (goes_behind c i k filled within much there).1,
+      there,
+    )
 
 -- nothing of a range that begins after the block at i stands in it
-pub behind_block : (c : Chain) (i j start n : ℕ) → IsFilled c → i ≤ length c.older → j ≡ i + 1 → ROOM ≤ start → 0 < n → start + n ≤ length (text (drop i (blocks_of c)))
-    → slice_range (text (drop j (blocks_of c))) (start - ROOM) (start - ROOM + n) ≡ slice_range (text (drop i (blocks_of c))) start (start + n)
+pub behind_block : (c : Chain) (i j start n : ℕ) → IsFilled c → i ≤ length c.older → j ≡ i + 1 → ROOM ≤ start → 0 < n →
+    start + n ≤ length (text (drop i (blocks_of c)))
+    → slice_range (text (drop j (blocks_of c))) (start - ROOM) (start - ROOM + n) ≡ slice_range (text (drop i (blocks_of c))) start
+    (start + n)
 behind_block c i j start n filled within next over some there =
     let full = (goes_behind c i (start + n) filled within (omega arith) there).1 in
-    range_behind (text_of (block_at c i)) (text (drop j (blocks_of c))) start (start - ROOM) n (omega arith) ∙ ap (λ xs. slice_range xs start (start + n)) (sym (from_next c i j within next))
+    range_behind (text_of (block_at c i)) (text (drop j (blocks_of c))) start (start - ROOM) n (omega arith)
+    ∙ ap (λ xs. slice_range xs start (start + n)) (sym (from_next c i j within next))
 
 -- the block at i has the first bytes of a range that begins in it
-pub holds_run : (c : Chain) (i k : ℕ) → IsFilled c → i ≤ length c.older → k ≤ ROOM → k ≤ length (text (drop i (blocks_of c))) → k ≤ length (text_of (block_at c i))
+pub holds_run : (c : Chain) (i k : ℕ) → IsFilled c → i ≤ length c.older → k ≤ ROOM → k ≤ length (text (drop i (blocks_of c))) →
+    k ≤ length (text_of (block_at c i))
 holds_run c i k filled within fits there = stands_in c.older c.newest i k c.newest filled.0 within fits there
 
 -- a range that begins in the block at i, of which rest bytes stand after it
-pub from_block : (c : Chain) (i j start run rest : ℕ) → IsFilled c → i ≤ length c.older → j ≡ i + 1 → start + run ≤ ROOM → (0 < rest → start + run ≡ ROOM) → start + (run + rest) ≤ length (text (drop i (blocks_of c)))
-    → slice_range (text_of (block_at c i)) start (start + run) ++ slice_range (text (drop j (blocks_of c))) 0 (0 + rest) ≡ slice_range (text (drop i (blocks_of c))) start (start + (run + rest))
+pub from_block : (c : Chain) (i j start run rest : ℕ) → IsFilled c → i ≤ length c.older → j ≡ i + 1 → start + run ≤ ROOM →
+    (0 < rest → start + run ≡ ROOM) → start + (run + rest) ≤ length (text (drop i (blocks_of c)))
+    → slice_range (text_of (block_at c i)) start (start + run) ++ slice_range (text (drop j (blocks_of c))) 0 (0 + rest)
+    ≡ slice_range (text (drop i (blocks_of c))) start (start + (run + rest))
 from_block c i j start run rest filled within next fits tight there =
     let holds = holds_run c i (start + run) filled within fits (omega (arith, there)) in
     let full : 0 < rest → length (text_of (block_at c i)) ≡ ROOM = λ some. (goes_behind c i (start + (run + rest)) filled within (omega (arith, tight some, some)) there).1 in
-    range_over_seam (text_of (block_at c i)) (text (drop j (blocks_of c))) start run rest holds (λ some. tight some ∙ sym (full some)) ∙ ap (λ xs. slice_range xs start (start + (run + rest))) (sym (from_next c i j within next))
+    range_over_seam (text_of (block_at c i)) (text (drop j (blocks_of c))) start run rest holds (λ some. tight some ∙ sym (full some))
+    ∙ ap (λ xs. slice_range xs start (start + (run + rest))) (sym (from_next c i j within next))
 
 -- the text of all blocks is the chain's
 pub text_blocks : (c : Chain) → text (blocks_of c) ≡ chain_text c

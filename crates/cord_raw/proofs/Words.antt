@@ -86,7 +86,10 @@ fields_laws : RowLaws Fields
 fields_laws = Struct-row_laws (shape chain.the_type) (copy_row_laws chain.struct.parts (RawPtr-copy, (RawPtr-copy, (usize-copy, tt))))
 
 fields_are : (d : Chain) → d.count < 2 ^ 64 → Is Fields (fields_of d) (chain_val d ∷ [])
-fields_are d small = ((ptr_val d.first ∷ [], (ptr_val d.last ∷ [], (vint w64 d.count ∷ [], tt))), (refl, (refl, (refl, ((refl, small), tt)))))
+fields_are d small = (
+  (ptr_val d.first ∷ [], (ptr_val d.last ∷ [], (vint w64 d.count ∷ [], tt))),
+  (refl, (refl, (refl, ((refl, small), tt)))),
+)
 
 fields_pure : (d : Chain) (vs : List Val) → Pure (Fields.own_val (fields_of d) vs)
 fields_pure d vs = Struct-Pure (shape chain.the_type) (RawPtr-plain, (RawPtr-plain, (usize-plain, tt))) (fields_of d) vs
@@ -105,33 +108,40 @@ few_fit d = let few = d.few in omega arith
 module _ {M : Type 1} {𝓤 : Ura M} (𝓛 : Logic 𝓤) where
   -- the machine values of an owner and of a chain are of their types
   pub owner_typed : (r : Raw Block Global) → Yes (has_ty (lone Owner.mir) (owner_val r)) × WT (owner_val r)
-  owner_typed r = ((Struct-Lawful 𝓛 (shape owner_type) (lawfuls 𝓛 owner_type.parts owner_laws)).typed (to owner_type r) (owner_val r ∷ []) (owner_are r)).0
+  owner_typed r = ((Struct-Lawful 𝓛 (shape owner_type) (lawfuls 𝓛 owner_type.parts owner_laws)).typed (to owner_type r) (owner_val r ∷ [])
+      (owner_are r)).0
 
   pub place_typed : (p : Place) → Is place.the_row p (place_val p ∷ []) → Yes (has_ty place_laws.mir (place_val p)) × WT (place_val p)
   place_typed p is = ((lawful place.the_type place_laws.the_laws 𝓛).typed p (place_val p ∷ []) is).0
 
   pub chain_typed : (d : Chain) → d.count < 2 ^ 64 → Yes (has_ty (layout (shape chain.the_type)) (chain_val d)) × WT (chain_val d)
-  chain_typed d small = ((Struct-Lawful 𝓛 (shape chain.the_type) (lawfuls 𝓛 chain.struct.parts chain_laws.the_laws)).typed (fields_of d) (chain_val d ∷ []) (fields_are d small)).0
+  chain_typed d small = ((Struct-Lawful 𝓛 (shape chain.the_type) (lawfuls 𝓛 chain.struct.parts chain_laws.the_laws)).typed (fields_of d)
+      (chain_val d ∷ []) (fields_are d small)).0
 
 module _ {M : Type 1} {𝓤 : Ura M} {𝓛 : Logic 𝓤} {X : Type 0} {Γ : List (Item 𝓤)} {G : Goal 𝓤 𝓛.H} where
   -- a chain is made of the blocks that it owns
   pub packs : X → (d : Chain) → d.count < 2 ^ 64
       → Step X 𝓛 (‵ (chain.the_row.own_val d (chain_val d ∷ [])) ∷ Γ) G (‵ (chain_owns d.first d.older d.last d.newest) ∷ Γ) G
-  packs t d small = step (λ s. pure_i t (Fields.own_val (fields_of d) (chain_val d ∷ [])) (fields_pure d (chain_val d ∷ [])) (fields_are d small) $ fjoin t $ s)
+  packs t d small = step (λ s. pure_i t (Fields.own_val (fields_of d) (chain_val d ∷ [])) (fields_pure d (chain_val d ∷ []))
+      (fields_are d small) $ fjoin t $ s)
 
   -- a place is two words alone
   pub owns_place : X → (p : Place) → p.index < 2 ^ 64 → Step X 𝓛 (‵ (place.the_row.own_val p (place_val p ∷ [])) ∷ Γ) G Γ G
-  owns_place t p small = owned t place.the_row (Is place.the_row) (makes place.the_type (RawPtr-plain, (usize-plain, tt)) 𝓛) p (place_val p ∷ []) (place_is p small)
+  owns_place t p small = owned t place.the_row (Is place.the_row) (makes place.the_type (RawPtr-plain, (usize-plain, tt)) 𝓛) p
+      (place_val p ∷ []) (place_is p small)
 
   -- and taken apart to them
   pub unpacks : X → (d : Chain) (vs : List Val) → (vs ≡ chain_val d ∷ [] → Seq X 𝓛 (‵ (chain_owns d.first d.older d.last d.newest) ∷ Γ) G)
       → Seq X 𝓛 (‵ (chain.the_row.own_val d vs) ∷ Γ) G
-  unpacks t d vs rest = peeks t chain.the_row (Is chain.the_row) (shows 𝓛 chain.the_row) d vs (λ is. fsplit t $ drop t $ rest (chain_laws.lowers.val_is d vs is))
+  unpacks t d vs rest = peeks t chain.the_row (Is chain.the_row) (shows 𝓛 chain.the_row) d vs
+      (λ is. fsplit t $ drop t $ rest (chain_laws.lowers.val_is d vs is))
 
   -- a block lies somewhere
-  pub lies : X → (p : Ptr) (b : Block) → ((bl o : ℕ) → p ≡ block_ptr bl o → Seq X 𝓛 (‵ (part_at block.the_row full_share b bl o) ∷ ‵ (frees (bare (lone block.the_row.mir)) (block_ptr bl o)) ∷ Γ) G)
+  pub lies : X → (p : Ptr) (b : Block) → ((bl o : ℕ) → p ≡ block_ptr bl o →
+      Seq X 𝓛 (‵ (part_at block.the_row full_share b bl o) ∷ ‵ (frees (bare (lone block.the_row.mir)) (block_ptr bl o)) ∷ Γ) G)
       → Seq X 𝓛 (‵ (block_owns p b) ∷ Γ) G
-  lies t p b rest = in_a_block t p (λ q. block_owns q b) (fst∗ 𝓤 (never 𝓤) (sem 𝓛 (frees (bare (lone block.the_row.mir)) null_ptr))) (λ bl o e. fsplit t $ rest bl o e)
+  lies t p b rest = in_a_block t p (λ q. block_owns q b) (fst∗ 𝓤 (never 𝓤) (sem 𝓛 (frees (bare (lone block.the_row.mir)) null_ptr)))
+      (λ bl o e. fsplit t $ rest bl o e)
 
 module _ {M : Type 1} {𝓤 : Ura M} (𝓛 : Logic 𝓤) (κ : Lft) (b o : ℕ) (d : Chain) where
   -- a `&` to the three fields
@@ -139,18 +149,24 @@ module _ {M : Type 1} {𝓤 : Ura M} (𝓛 : Logic 𝓤) (κ : Lft) (b o : ℕ) 
   fields_lent = hidden_shr Fields κ (fields_of d) b o
 
   -- what a `&` to a chain lends: itself again, its fields, and its blocks
-  pub lends : ent 𝓤 (sem 𝓛 (hidden_shr chain.the_row κ d b o)) (sep 𝓤 (sem 𝓛 (hidden_shr chain.the_row κ d b o)) (sep 𝓤 (sem 𝓛 fields_lent) (sem 𝓛 (fhide (chain_lent d.first d.older d.last d.newest κ)))))
+  pub lends : ent 𝓤 (sem 𝓛 (hidden_shr chain.the_row κ d b o)) (sep 𝓤 (sem 𝓛 (hidden_shr chain.the_row κ d b o))
+      (sep 𝓤 (sem 𝓛 fields_lent) (sem 𝓛 (fhide (chain_lent d.first d.older d.last d.newest κ)))))
   lends = qed 𝓛 (‵ (hidden_shr chain.the_row κ d b o) ∷ []) ∵ shr_dup ! chain.the_row chain_laws.the_row_laws.shr_laws d b o κ $
-      use1 𝓛 (‵ fields_lent ⊛ ‵ (fhide (chain_lent d.first d.older d.last d.newest κ))) (lent_out 𝓛 chain.struct chain.the_codes chain.the_heap chain.the_lent κ d b o) $ split ! $
+      use1 𝓛 (‵ fields_lent ⊛ ‵ (fhide (chain_lent d.first d.older d.last d.newest κ)))
+      (lent_out 𝓛 chain.struct chain.the_codes chain.the_heap chain.the_lent κ d b o) $ split ! $
       move ! (2 ∷ 0 ∷ 1 ∷ []) $ done !
 
   -- the fields show the pointer to the first block, and the number of blocks
   pub shows_first : ent 𝓤 (sem 𝓛 fields_lent) (sep 𝓤 (sem 𝓛 (hidden_shr RawPtr κ d.first b (o + 0))) (sem 𝓛 fields_lent))
-  shows_first = qed 𝓛 (‵ fields_lent ∷ []) ∵ shr_dup ! Fields fields_laws (fields_of d) b o κ $ unhide ! $ fsplit ! $ fsplit ! $ hide ! $ keep ! (0 ∷ 3 ∷ []) $ done !
+  shows_first = qed 𝓛 (‵ fields_lent ∷ []) ∵ shr_dup ! Fields fields_laws (fields_of d) b o κ $ unhide ! $ fsplit ! $ fsplit ! $ hide ! $
+      keep ! (0 ∷ 3 ∷ []) $ done !
 
   pub shows_count : ent 𝓤 (sem 𝓛 fields_lent) (sep 𝓤 (sem 𝓛 (hidden_shr usize κ d.count b (o + 16))) (sem 𝓛 fields_lent))
-  shows_count = qed 𝓛 (‵ fields_lent ∷ []) ∵ shr_dup ! Fields fields_laws (fields_of d) b o κ $ unhide ! $ fsplit ! $ fsplit ! $ move ! (1 ∷ []) $ fsplit ! $ move ! (1 ∷ []) $ fsplit ! $ hide ! $ keep ! (0 ∷ 5 ∷ []) $ done !
+  shows_count = qed 𝓛 (‵ fields_lent ∷ []) ∵ shr_dup ! Fields fields_laws (fields_of d) b o κ $ unhide ! $ fsplit ! $ fsplit ! $ move !
+      (1 ∷ []) $ fsplit ! $ move ! (1 ∷ []) $ fsplit ! $ hide ! $ keep ! (0 ∷ 5 ∷ []) $ done !
 
   -- a `&` to a block shows its pointer
-  pub shows_next : (x : Block) → ent 𝓤 (sem 𝓛 (hidden_shr block.the_row κ x b o)) (sep 𝓤 (sem 𝓛 (hidden_shr RawPtr κ x.next b (o + 0))) (sem 𝓛 (hidden_shr block.the_row κ x b o)))
-  shows_next x = qed 𝓛 (‵ (hidden_shr block.the_row κ x b o) ∷ []) ∵ shr_dup ! block.the_row block_laws.the_row_laws.shr_laws x b o κ $ unhide ! $ fsplit ! $ fsplit ! $ hide ! $ keep ! (0 ∷ 3 ∷ []) $ done !
+  pub shows_next : (x : Block) → ent 𝓤 (sem 𝓛 (hidden_shr block.the_row κ x b o))
+      (sep 𝓤 (sem 𝓛 (hidden_shr RawPtr κ x.next b (o + 0))) (sem 𝓛 (hidden_shr block.the_row κ x b o)))
+  shows_next x = qed 𝓛 (‵ (hidden_shr block.the_row κ x b o) ∷ []) ∵ shr_dup ! block.the_row block_laws.the_row_laws.shr_laws x b o κ $
+      unhide ! $ fsplit ! $ fsplit ! $ hide ! $ keep ! (0 ∷ 3 ∷ []) $ done !

@@ -82,7 +82,8 @@ impl Chain {
     /// Writes a byte after the text of the newest block.
     pub(crate) fn put(&mut self, byte: u8)
         requires { self.old.newest.len < ROOM }
-        ensures { (self.new.older ≡ self.old.older) × (self.new.newest.len ≡ self.old.newest.len + 1) × (text_of self.new.newest ≡ text_of self.old.newest ++ byte ∷ []) }
+        ensures { (self.new.older ≡ self.old.older) × (self.new.newest.len ≡ self.old.newest.len + 1) ×
+            (text_of self.new.newest ≡ text_of self.old.newest ++ byte ∷ []) }
     {
         unsafe {
             let place = (*self.last).len;
@@ -94,7 +95,8 @@ impl Chain {
     /// Copies a run of bytes after the text of the newest block.
     pub(crate) fn put_run(&mut self, run: &[u8])
         requires { self.old.newest.len + length run.now ≤ ROOM }
-        ensures { (self.new.older ≡ self.old.older) × (self.new.newest.len ≡ self.old.newest.len + length run.now) × (text_of self.new.newest ≡ text_of self.old.newest ++ run.now) }
+        ensures { (self.new.older ≡ self.old.older) × (self.new.newest.len ≡ self.old.newest.len + length run.now) ×
+            (text_of self.new.newest ≡ text_of self.old.newest ++ run.now) }
     {
         unsafe {
             let start = (*self.last).len;
@@ -107,7 +109,8 @@ impl Chain {
     /// Links the blocks of another chain after the newest.
     pub(crate) fn link(&mut self, other: Chain)
         requires few { length self.old.older + length other.older + 2 ≤ MOST_BLOCKS }
-        ensures { (self.new.older ≡ self.old.older ++ pointing self.old.newest other.first ∷ other.older) × (self.new.newest ≡ other.newest) }
+        ensures { (self.new.older ≡ self.old.older ++ pointing self.old.newest other.first ∷ other.older) ×
+            (self.new.newest ≡ other.newest) }
     {
         let Chain { first, last, count } = other;
         unsafe { (*self.last).next = first };
@@ -118,7 +121,8 @@ impl Chain {
     /// Unlinks all blocks but the first.
     pub(crate) fn unlink(&mut self) -> Chain
         requires { 0 < length self.old.older }
-        ensures { (self.old.older ≡ self.new.newest ∷ result.older) × (self.new.older ≡ []) × (result.newest ≡ self.old.newest) }
+        ensures { (self.old.older ≡ self.new.newest ∷ result.older) × (self.new.older ≡ []) ×
+            (result.newest ≡ self.old.newest) }
     {
         let rest = Chain {
             first: unsafe { (*self.first).next },
@@ -153,7 +157,8 @@ impl Chain {
 
     /// Copies a run of bytes from `start` on out of the text of the block at `place`.
     pub(crate) fn get_run(&self, place: Place, start: usize, out: &mut [u8])
-        requires { IsPlaceOf self.now place × (start + length out.old ≤ length (text_of (block_at self.now place.index))) }
+        requires { IsPlaceOf self.now place ×
+            (start + length out.old ≤ length (text_of (block_at self.now place.index))) }
         ensures { out.new ≡ slice_range (text_of (block_at self.now place.index)) start (start + length out.old) }
     {
         let end = start + out.len();

@@ -1,14 +1,18 @@
 -- The operations of a plan read and put where the script's statements do.
 use Rattle.std.proofs.Common.{◌≡◌, ℕ, ◌+◌, List, [], ◌∷◌, Bool, true, false, ◌||◌, refl, sym, ◌∙◌, inl, inr}
 use Rattle.cord_syntax.specs.declared.statements.Statement.{Statement}
-use Rattle.cord_syntax.specs.declared.statements.Statement.TheVariants.{Let, File, Eager, Lazy, Chars, Nul, FromFn, Cat, Catn, Catc, Substr, Balance, EcToCord, Sprintf, Len, Fetch, Cmp, Ncmp, Str, Chr, Rchr, Assign, Add, Sub, EcInit, EcPut, EcCat, EcStr, Put, Repeat, If, Else, End}
+use Rattle.cord_syntax.specs.declared.statements.Statement.TheVariants.{Let, File, Eager, Lazy, Chars, Nul, FromFn, Cat, Catn, Catc, Substr}
+use Rattle.cord_syntax.specs.declared.statements.Statement.TheVariants.{Balance, EcToCord, Sprintf, Len, Fetch, Cmp, Ncmp, Str, Chr, Rchr}
+use Rattle.cord_syntax.specs.declared.statements.Statement.TheVariants.{Assign, Add, Sub, EcInit, EcPut, EcCat, EcStr, Put, Repeat, If}
+use Rattle.cord_syntax.specs.declared.statements.Statement.TheVariants.{Else, End}
 use Rattle.cord_meaning.specs.Ends.{IsPut, IsReading}
 use Rattle.cord_meaning.specs.Statements.{line_of}
 use Rattle.cord_plan.specs.Exprs.{Expr}
 use Rattle.cord_plan.specs.Forced.{Table, exprs, own}
 use Rattle.cord_plan.specs.Meaning.{operation_line}
 use Rattle.cord_plan.specs.Operands.{target_of}
-use Rattle.cord_plan.specs.Planned.{Made, Joined, Literal, OfFile, OfEager, OfLazy, OfFunction, Balanced, OfExtensible, Printed, Operation, gives, is_dead, is_first, operation, operations, or_nothing, planned, trivial}
+use Rattle.cord_plan.specs.Planned.{Made, Joined, Literal, OfFile, OfEager, OfLazy, OfFunction, Balanced, OfExtensible, Printed, Operation}
+use Rattle.cord_plan.specs.Planned.{gives, is_dead, is_first, operation, operations, or_nothing, planned, trivial}
 use Rattle.cord_run.specs.Failing.{FailsNowhereElse, IsFileMade, IsReader, IsWriter}
 
 gives_line : (m : Bool) (line : ℕ) (target : List ℕ) (made : Made) → operation_line (gives m line target made) ≡ line
@@ -31,7 +35,11 @@ record IsAlike (l : Statement) (o : Operation) : Type 0 where
 
 -- a name that is given what a file has
 of_file : (l : Statement) (m : Bool) (target : List ℕ) (made : Made) → IsReading l → IsAlike l (gives m (line_of l) target made)
-of_file l m target made reading = record { line = gives_line m (line_of l) target made; reads = λ h. reading; writes = λ h. absurd (gives_writes m (line_of l) target made h) }
+of_file l m target made reading = record {
+  line = gives_line m (line_of l) target made;
+  reads = λ h. reading;
+  writes = λ h. absurd (gives_writes m (line_of l) target made h);
+}
 
 -- or anything else
 of_other : (l : Statement) (m : Bool) (target : List ℕ) (made : Made) → (IsFileMade made → ⊥) → IsAlike l (gives m (line_of l) target made)
@@ -56,7 +64,8 @@ alike (Lazy line target path) e d p = of_file (Lazy line target path) d target (
 alike (FromFn line target function n) e d p = of_other (FromFn line target function n) d target (OfFunction function n) (λ h. h)
 alike (Balance line target operand) e d p = of_other (Balance line target operand) d target (Balanced operand) (λ h. h)
 alike (EcToCord line target extensible) e d p = of_other (EcToCord line target extensible) d target (OfExtensible extensible) (λ h. h)
-alike (Sprintf line target text format arguments) e d p = of_other (Sprintf line target text format arguments) d target (Printed text format arguments) (λ h. h)
+alike (Sprintf line target text format arguments) e d p = of_other (Sprintf line target text format arguments) d target
+    (Printed text format arguments) (λ h. h)
 alike (Len line target operand) e d p = record { line = refl; reads = λ h. h; writes = λ h. absurd h }
 alike (Fetch line target operand index) e d p = record { line = refl; reads = λ h. h; writes = λ h. absurd h }
 alike (Cmp line target left right) e d p = record { line = refl; reads = λ h. h; writes = λ h. absurd h }
@@ -77,7 +86,8 @@ alike (Else line) e d p = record { line = refl; reads = λ h. h; writes = λ h. 
 alike (End line) e d p = record { line = refl; reads = λ h. h; writes = λ h. absurd h }
 
 -- the first one, and the others
-with_first : (l : Statement) (o : Operation) (rest : List Statement) (os : List Operation) → IsAlike l o → FailsNowhereElse rest os → FailsNowhereElse (l ∷ rest) (o ∷ os)
+with_first : (l : Statement) (o : Operation) (rest : List Statement) (os : List Operation) → IsAlike l o → FailsNowhereElse rest os →
+    FailsNowhereElse (l ∷ rest) (o ∷ os)
 with_first l o rest os same more = record {
   reads = λ line at. elim at [ inl h ↦ inl (sym same.line ∙ h.0, same.reads h.1) | inr h ↦ inr (more.reads line h) ];
   writes = λ line at. elim at [ inl h ↦ inl (sym same.line ∙ h.0, same.writes h.1) | inr h ↦ inr (more.writes line h) ];
@@ -89,15 +99,18 @@ no_operations ss = record { reads = λ line at. absurd at; writes = λ line at. 
 -- those of the trivial plan
 pub trivial_alike : (s : List Statement) → FailsNowhereElse s (trivial s)
 trivial_alike [] = no_operations []
-trivial_alike (l ∷ rest) = with_first l (operation l (or_nothing (own l)) false false) rest (trivial rest) (alike l (or_nothing (own l)) false false) (trivial_alike rest)
+trivial_alike (l ∷ rest) = with_first l (operation l (or_nothing (own l)) false false) rest (trivial rest)
+    (alike l (or_nothing (own l)) false false) (trivial_alike rest)
 
-from_place : (later : List ℕ → ℕ → Bool) (table : Table) (p : ℕ) (s : List Statement) (entries : Table) → FailsNowhereElse s (operations later table p s entries)
+from_place : (later : List ℕ → ℕ → Bool) (table : Table) (p : ℕ) (s : List Statement) (entries : Table) →
+    FailsNowhereElse s (operations later table p s entries)
 from_place later table p [] entries = no_operations []
 from_place later table p (l ∷ rest) [] = no_operations (l ∷ rest)
 from_place later table p (l ∷ rest) (entry ∷ entries) =
     let dead = is_dead later p (target_of l) in
     let first = is_first p table in
-    with_first l (operation l (or_nothing entry.0) dead first) rest (operations later table (p + 1) rest entries) (alike l (or_nothing entry.0) dead first) (from_place later table (p + 1) rest entries)
+    with_first l (operation l (or_nothing entry.0) dead first) rest (operations later table (p + 1) rest entries)
+    (alike l (or_nothing entry.0) dead first) (from_place later table (p + 1) rest entries)
 
 -- those of its plan
 pub planned_alike : (s : List Statement) (later : List ℕ → ℕ → Bool) → FailsNowhereElse s (planned s later)

@@ -1,5 +1,6 @@
 -- How many paths a script has.
-use Rattle.std.proofs.Common.{◌≡◌, ◌+◌, ◌<◌, ◌≤◌, ◌⊎◌, ℕ, Bool, true, false, List, [], ◌∷◌, ◌++◌, map, length, inl, inr, refl, sym, subst, length-append, arith}
+use Rattle.std.proofs.Common.{◌≡◌, ◌+◌, ◌<◌, ◌≤◌, ◌⊎◌, ℕ, Bool, true, false, List, [], ◌∷◌, ◌++◌, map, length, inl, inr, refl, sym, subst}
+use Rattle.std.proofs.Common.{length-append, arith}
 use Rattle.std.specs.Prelude.{if◌then◌else◌}
 use Rattle.cord_file.specs.declared.TheConstants.{MAX_FILES}
 use Rattle.cord_operands.specs.declared.operands.Argument.{Argument}
@@ -10,7 +11,10 @@ use Rattle.cord_script.specs.Forms.{Grammar, argument_term, terms_of}
 use Rattle.cord_script.specs.Forms.Term.{Operand}
 use Rattle.cord_script.specs.Script.{AreAllowed, Before, LinesSay, ReadsBy, after, after_all, is_among, paths_after, start, with_path}
 use Rattle.cord_syntax.specs.declared.statements.Statement.{Statement}
-use Rattle.cord_syntax.specs.declared.statements.Statement.TheVariants.{Let, File, Eager, Lazy, Chars, Nul, FromFn, Cat, Catn, Catc, Substr, Balance, EcToCord, Sprintf, Len, Fetch, Cmp, Ncmp, Str, Chr, Rchr, Assign, Add, Sub, EcInit, EcPut, EcCat, EcStr, Put, Repeat, If, Else, End}
+use Rattle.cord_syntax.specs.declared.statements.Statement.TheVariants.{Let, File, Eager, Lazy, Chars, Nul, FromFn, Cat, Catn, Catc, Substr}
+use Rattle.cord_syntax.specs.declared.statements.Statement.TheVariants.{Balance, EcToCord, Sprintf, Len, Fetch, Cmp, Ncmp, Str, Chr, Rchr}
+use Rattle.cord_syntax.specs.declared.statements.Statement.TheVariants.{Assign, Add, Sub, EcInit, EcPut, EcCat, EcStr, Put, Repeat, If}
+use Rattle.cord_syntax.specs.declared.statements.Statement.TheVariants.{Else, End}
 
 -- names of cords and arguments of a format have no path
 names_leave : (names : List (List ℕ)) (paths : List (List ℕ)) → paths_after (map (Operand kinds.Cord) names) paths ≡ paths
@@ -23,7 +27,8 @@ arguments_leave (arguments.Number n ∷ args) paths = arguments_leave args paths
 arguments_leave (arguments.Cord name ∷ args) paths = arguments_leave args paths
 
 -- a path that is allowed
-path_few : (paths : List (List ℕ)) (path : List ℕ) → (is_among paths path ≡ true) ⊎ (length paths < MAX_PATHS) → length paths ≤ MAX_PATHS → length (with_path paths path) ≤ MAX_PATHS
+path_few : (paths : List (List ℕ)) (path : List ℕ) → (is_among paths path ≡ true) ⊎ (length paths < MAX_PATHS) → length paths ≤ MAX_PATHS →
+    length (with_path paths path) ≤ MAX_PATHS
 path_few paths path (inl h) few = subst (λ (b : Bool). length (if b then paths else paths ++ path ∷ []) ≤ MAX_PATHS) (sym h) few
 path_few paths path (inr h) few = by_test (is_among paths path)
   where
@@ -32,7 +37,8 @@ path_few paths path (inr h) few = by_test (is_among paths path)
     by_test false = omega (arith, length-append paths (path ∷ []), h)
 
 -- the paths after a statement
-few_after : (s : Statement) (before : Before) → AreAllowed before (terms_of s) → length before.paths ≤ MAX_PATHS → length (paths_after (terms_of s) before.paths) ≤ MAX_PATHS
+few_after : (s : Statement) (before : Before) → AreAllowed before (terms_of s) → length before.paths ≤ MAX_PATHS →
+    length (paths_after (terms_of s) before.paths) ≤ MAX_PATHS
 few_after (Let line target text) before allowed few = few
 few_after (File line target path) before allowed few = path_few before.paths path allowed.1.0 few
 few_after (Eager line target path) before allowed few = path_few before.paths path allowed.1.0 few
@@ -41,12 +47,14 @@ few_after (Chars line target byte count) before allowed few = few
 few_after (Nul line target count) before allowed few = few
 few_after (FromFn line target function count) before allowed few = few
 few_after (Cat line target left right) before allowed few = few
-few_after (Catn line target parts) before allowed few = subst (λ (paths : List (List ℕ)). length paths ≤ MAX_PATHS) (sym (names_leave parts before.paths)) few
+few_after (Catn line target parts) before allowed few = subst (λ (paths : List (List ℕ)). length paths ≤ MAX_PATHS)
+    (sym (names_leave parts before.paths)) few
 few_after (Catc line target operand byte) before allowed few = few
 few_after (Substr line target operand start count) before allowed few = few
 few_after (Balance line target operand) before allowed few = few
 few_after (EcToCord line target extensible) before allowed few = few
-few_after (Sprintf line target text format args) before allowed few = subst (λ (paths : List (List ℕ)). length paths ≤ MAX_PATHS) (sym (arguments_leave args before.paths)) few
+few_after (Sprintf line target text format args) before allowed few = subst (λ (paths : List (List ℕ)). length paths ≤ MAX_PATHS)
+    (sym (arguments_leave args before.paths)) few
 few_after (Len line target operand) before allowed few = few
 few_after (Fetch line target operand index) before allowed few = few
 few_after (Cmp line target left right) before allowed few = few
@@ -68,7 +76,8 @@ few_after (Else line) before allowed few = few
 few_after (End line) before allowed few = few
 
 -- and after the lines of a script
-few_said : (g : Grammar) (n : ℕ) (before : Before) (lines : List (List ℕ)) (ss : List Statement) → LinesSay g n before lines ss → length before.paths ≤ MAX_PATHS → length (after_all ss before).paths ≤ MAX_PATHS
+few_said : (g : Grammar) (n : ℕ) (before : Before) (lines : List (List ℕ)) (ss : List Statement) → LinesSay g n before lines ss →
+    length before.paths ≤ MAX_PATHS → length (after_all ss before).paths ≤ MAX_PATHS
 few_said g n before [] ss say few = subst (λ (k : List Statement). length (after_all k before).paths ≤ MAX_PATHS) (sym say) few
 few_said g n before (line ∷ lines) ss (inl idle) few = few_said g (n + 1) before lines ss idle.1 few
 few_said g n before (line ∷ lines) ss (inr said) few =

@@ -16,7 +16,8 @@ use Rattle.cord_operands.specs.declared.operands.Function.TheVariants.{Digits, B
 use Rattle.cord_run.specs.inner.Contents.{IsStartOf, IsTextOf, entry_of}
 
 -- an extensible cord of no bytes that has grown by a text
-pub gathered_text : (text : List ℕ) (before after : List Cell) (cord : Option Node) → before ≡ [] → length before + length text ≤ MAX_LEN → IsGrownBy before after text → IsCordOf after cord → IsCord cord → IsTextOf text cord
+pub gathered_text : (text : List ℕ) (before after : List Cell) (cord : Option Node) → before ≡ [] → length before + length text ≤ MAX_LEN →
+    IsGrownBy before after text → IsCordOf after cord → IsCord cord → IsTextOf text cord
 gathered_text text before after cord none short grown of sound = record {
   sound = sound;
   short = let more : length text ≤ length before + length text = omega arith in omega (arith, more, short);

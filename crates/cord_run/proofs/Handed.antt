@@ -1,5 +1,6 @@
 -- Cords that a sink is handed one after another.
-use Rattle.std.proofs.Common.{◌≡◌, ◌+◌, ◌<◌, ◌≤◌, ℕ, zero, suc, true, List, [], ◌∷◌, ◌++◌, length, take, drop, get_or, Result, Ok, Err, refl, sym, ap, subst, ◌∙◌, append-nil, arith}
+use Rattle.std.proofs.Common.{◌≡◌, ◌+◌, ◌<◌, ◌≤◌, ℕ, zero, suc, true, List, [], ◌∷◌, ◌++◌, length, take, drop, get_or, Result, Ok, Err}
+use Rattle.std.proofs.Common.{refl, sym, ap, subst, ◌∙◌, append-nil, arith}
 use Rattle.std.specs.Prelude.{Option}
 use Rattle.std.proofs.lemmas.List.{take_all}
 use Rattle.cord_io.specs.Table.{Table, Lengths, HasLengths}
@@ -25,7 +26,8 @@ use Rattle.cord_run.specs.inner.Whole.{AreWhole, IsUnbuilt}
 use Rattle.cord_run.proofs.Growing.{over_told}
 
 -- each of them fits
-pub fits_at : (lengths : Lengths) (ps : List (Option Node)) (i : ℕ) (d : Option Node) → AllFitIn lengths ps → i < length ps → CordFitsIn lengths (get_or ps i d)
+pub fits_at : (lengths : Lengths) (ps : List (Option Node)) (i : ℕ) (d : Option Node) → AllFitIn lengths ps → i < length ps →
+    CordFitsIn lengths (get_or ps i d)
 fits_at lengths [] i d all h = absurd (omega (arith, h))
 fits_at lengths (p ∷ ps) zero d all h = all.0
 fits_at lengths (p ∷ ps) (suc i) d all h = fits_at lengths ps i d all.1 (omega (arith, h))
@@ -42,7 +44,8 @@ module _ (t : Table) (ps : List (Option Node)) (i : ℕ) (p : Option Node) (insi
   front = all_bytes t (take i ps)
 
   next : all_bytes t (take (i + 1) ps) ≡ front ++ bytes_of t p
-  next = joined_next (λ (qs : List (Option Node)). all_bytes t qs) (λ (q : Option Node). bytes_of t q) ps i p (pieces_joined t) inside ∙ ap (λ (q : Option Node). front ++ bytes_of t q) (sym is)
+  next = joined_next (λ (qs : List (Option Node)). all_bytes t qs) (λ (q : Option Node). bytes_of t q) ps i p (pieces_joined t) inside
+      ∙ ap (λ (q : Option Node). front ++ bytes_of t q) (sym is)
 
   -- one more
   pub puts_next : c ≡ b ++ bytes_of t p → c ≡ a ++ all_bytes t (take (i + 1) ps)
@@ -54,12 +57,14 @@ module _ (t : Table) (ps : List (Option Node)) (i : ℕ) (p : Option Node) (insi
       let whole : all_bytes t ps ≡ all_bytes t (take (i + 1) ps) ++ all_bytes t (drop (i + 1) ps) = joined_all (λ (qs : List (Option Node)). all_bytes t qs) (λ (q : Option Node). bytes_of t q) ps (i + 1) (pieces_joined t) in
       record {
         out = front ++ took.out;
-        such = front_more (all_bytes t ps) (all_bytes t (take (i + 1) ps)) (all_bytes t (drop (i + 1) ps)) (front ++ took.out) whole (front_join (all_bytes t (take (i + 1) ps)) front (bytes_of t p) took.out next took.such);
+        such = front_more (all_bytes t ps) (all_bytes t (take (i + 1) ps)) (all_bytes t (drop (i + 1) ps)) (front ++ took.out) whole
+            (front_join (all_bytes t (take (i + 1) ps)) front (bytes_of t p) took.out next took.such);
         taken = appends_both a b c front took.out so_far took.taken;
       }
 
 -- all of them
-pub puts_all : (t : Table) (ps : List (Option Node)) (i : ℕ) (a b : List ℕ) → length ps ≤ i → b ≡ a ++ all_bytes t (take i ps) → b ≡ a ++ all_bytes t ps
+pub puts_all : (t : Table) (ps : List (Option Node)) (i : ℕ) (a b : List ℕ) → length ps ≤ i → b ≡ a ++ all_bytes t (take i ps) →
+    b ≡ a ++ all_bytes t ps
 puts_all t ps i a b h k = subst (λ (qs : List (Option Node)). b ≡ a ++ all_bytes t qs) (take_all i ps h) k
 
 -- ---- an expression
@@ -79,7 +84,8 @@ module _ (entries : List Entry) (e : Expr) (ls : Lengths) (over : IsOver ls entr
   wrote_whole ps whole h = (all_bytes t ps, whole.bytes t (over_told ls t told entries over) there, h)
 
   -- that was put in part
-  pub wrote_part : (ps : List (Option Node)) (error : CordError) → AreWhole entries e ps → Takes (IsFrontOf (all_bytes t ps)) a b → Wrote meant a b (Err (halt_of error))
+  pub wrote_part : (ps : List (Option Node)) (error : CordError) → AreWhole entries e ps → Takes (IsFrontOf (all_bytes t ps)) a b →
+      Wrote meant a b (Err (halt_of error))
   wrote_part ps NoMemory whole h = (all_bytes t ps, whole.bytes t (over_told ls t told entries over) there, h)
   wrote_part ps TooLong whole h = (all_bytes t ps, whole.bytes t (over_told ls t told entries over) there, h)
   wrote_part ps ReadFailed whole h = (all_bytes t ps, whole.bytes t (over_told ls t told entries over) there, h)
@@ -93,7 +99,8 @@ halt_counts ReadFailed n m h = h
 halt_counts WriteFailed n m h = h
 
 -- what was refused counted nothing
-pub unbuilt_counts : (entries : List Entry) (e : Expr) (halt : Halt) (n m : Counts) → IsUnbuilt entries e halt → m.source ≡ n.source → m.sink ≡ n.sink → CountsHalts n m (Err halt)
+pub unbuilt_counts : (entries : List Entry) (e : Expr) (halt : Halt) (n m : Counts) → IsUnbuilt entries e halt → m.source ≡ n.source →
+    m.sink ≡ n.sink → CountsHalts n m (Err halt)
 unbuilt_counts entries e (halts.Fault kind) n m h source sink = (source, sink)
 unbuilt_counts entries e halts.NoMemory n m h source sink = (source, sink)
 unbuilt_counts entries e halts.ReadFailed n m h source sink = absurd h

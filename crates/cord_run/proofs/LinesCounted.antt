@@ -1,5 +1,6 @@
 -- The members of a run stand on the lines of its statements, which are counted from 1.
-use Rattle.std.proofs.Common.{◌≡◌, ◌<◌, ℕ, zero, suc, ℤ, pos, negsuc, Bool, true, false, List, [], ◌∷◌, Result, Ok, Err, refl, sym, subst, nat_lt}
+use Rattle.std.proofs.Common.{◌≡◌, ◌<◌, ℕ, zero, suc, ℤ, pos, negsuc, Bool, true, false, List, [], ◌∷◌, Result, Ok, Err, refl, sym, subst}
+use Rattle.std.proofs.Common.{nat_lt}
 use Rattle.std.specs.Prelude.{Option, Some, None, All, slice_get, if◌then◌else◌}
 use Rattle.std.proofs.lemmas.List.Elements.{All-nil, All-push}
 use Rattle.std.proofs.lemmas.Option.{get_or_from_slice_get, slice_get_within}
@@ -7,7 +8,8 @@ use Rattle.cord_meaning.specs.declared.ends.End.{End}
 use Rattle.cord_meaning.specs.declared.ends.FaultKind.{FaultKind}
 use Rattle.cord_meaning.specs.declared.ends.FaultKind.TheVariants.{Negative, TooManyTurns}
 use Rattle.cord_meaning.specs.Blocks.{Shape, Simple, Loop, Branch, Otherwise, Close}
-use Rattle.cord_meaning.specs.Machine.{Rules, Block, Turns, Chosen, Config, acted, after, begins, chooses, closes, enough, faults, if_running, jump_from, notes, repeats, run_moments, runs, runs_shape, turned}
+use Rattle.cord_meaning.specs.Machine.{Rules, Block, Turns, Chosen, Config, acted, after, begins, chooses, closes, enough, faults}
+use Rattle.cord_meaning.specs.Machine.{if_running, jump_from, notes, repeats, run_moments, runs, runs_shape, turned}
 use Rattle.cord_meaning.proofs.Terminates.{ends, settles}
 
 -- the lines of the open blocks
@@ -23,7 +25,11 @@ record Counted {S : Type 0} (c : Config S) : Type 0 where
 
 module _ {S : Type 0} where
   noted : (c : Config S) (line : ℕ) (puts : List ℕ) → Counted c → 0 < line → Counted (notes c line puts)
-  noted c line puts h lt = record { seen = All-push (λ m. 0 < m.line) c.seen (record { line = line; turns = c.turns; before = c.state; puts = puts }) h.seen lt; blocks = h.blocks }
+  noted c line puts h lt =
+      record {
+        seen = All-push (λ m. 0 < m.line) c.seen (record { line = line; turns = c.turns; before = c.state; puts = puts }) h.seen lt;
+        blocks = h.blocks;
+      }
 
   faulty : (c : Config S) (line : ℕ) (kind : FaultKind) → Counted c → 0 < line → Counted (faults c line kind)
   faulty c line kind h lt = let k = noted c line [] h lt in record { seen = k.seen; blocks = k.blocks }
@@ -32,7 +38,8 @@ module _ {S : Type 0} where
   acts c line (Ok next) h lt = let k = noted c line next.1 h lt in record { seen = k.seen; blocks = k.blocks }
   acts c line (Err kind) h lt = faulty c line kind h lt
 
-  begin : (most : ℕ) (c : Config S) (place line left : ℕ) (blocks : List Block) → Counted c → 0 < line → AreCounted blocks → Counted (begins most c place line left blocks)
+  begin : (most : ℕ) (c : Config S) (place line left : ℕ) (blocks : List Block) → Counted c → 0 < line → AreCounted blocks →
+      Counted (begins most c place line left blocks)
   begin most c place line left blocks h lt bs = by_test (nat_lt c.turns most)
     where
       by_test : (v : Bool) → Counted (if v then turned c place line left blocks else faults c line TooManyTurns)
@@ -63,13 +70,15 @@ module _ {L S : Type 0} (rules : Rules L S) (most : ℕ) (statements : List L) (
   by_shape c l Close lt h = shuts most c c.blocks h h.blocks
 
   line_counted : (place : ℕ) (l : L) → slice_get statements place ≡ Some l → 0 < rules.line l
-  line_counted place l is = subst (λ (x : L). 0 < rules.line x) (get_or_from_slice_get statements place l l is) (counted place l (slice_get_within statements place l is))
+  line_counted place l is = subst (λ (x : L). 0 < rules.line x) (get_or_from_slice_get statements place l l is)
+      (counted place l (slice_get_within statements place l is))
 
   by_statement : (c : Config S) (o : Option L) → slice_get statements c.place ≡ o → Counted c → Counted (runs rules most statements c o)
   by_statement c None is h = record { seen = h.seen; blocks = h.blocks }
   by_statement c (Some l) is h = by_shape c l (rules.shape l) (line_counted c.place l is) h
 
-  by_end : (c : Config S) (o : Option End) → Counted c → Counted (if_running o c (runs rules most statements c (slice_get statements c.place)))
+  by_end : (c : Config S) (o : Option End) → Counted c → Counted
+      (if_running o c (runs rules most statements c (slice_get statements c.place)))
   by_end c None h = by_statement c (slice_get statements c.place) refl h
   by_end c (Some e) h = h
 
@@ -79,4 +88,6 @@ module _ {L S : Type 0} (rules : Rules L S) (most : ℕ) (statements : List L) (
 
   -- all members of the run
   pub members_counted : (state : S) → All (λ m. 0 < m.line) (run_moments rules most statements state)
-  members_counted state = subst (λ (c : Config S). All (λ m. 0 < m.line) c.seen) (sym (settles rules most statements state (enough most statements) (ends rules most statements state))) (after_steps state (enough most statements)).seen
+  members_counted state = subst (λ (c : Config S). All (λ m. 0 < m.line) c.seen)
+      (sym (settles rules most statements state (enough most statements) (ends rules most statements state)))
+      (after_steps state (enough most statements)).seen

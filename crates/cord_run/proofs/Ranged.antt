@@ -1,8 +1,10 @@
 -- What is wanted of expressions, among the cords of their parts.
-use Rattle.std.proofs.Common.{◌≡◌, ◌+◌, ◌-◌, ◌<◌, ◌≤◌, ℕ, Bool, true, false, ℤ, List, [], ◌∷◌, ◌++◌, length, take, drop, replicate, Result, Ok, Err, refl, sym, ap, subst, ◌∙◌, append-nil, append_assoc, length-take, arith}
+use Rattle.std.proofs.Common.{◌≡◌, ◌+◌, ◌-◌, ◌<◌, ◌≤◌, ℕ, Bool, true, false, ℤ, List, [], ◌∷◌, ◌++◌, length, take, drop, replicate, Result}
+use Rattle.std.proofs.Common.{Ok, Err, refl, sym, ap, subst, ◌∙◌, append-nil, append_assoc, length-take, arith}
 use Rattle.std.specs.Prelude.{IfOk, min, nat_le, Option}
 use Rattle.std.proofs.lemmas.Bool.{leb-true, leb-false}
-use Rattle.std.proofs.lemmas.List.{drop_all, drop-drop, drop-replicate, drop-take, length-replicate, take_all, take_min, take-replicate, take-take}
+use Rattle.std.proofs.lemmas.List.{drop_all, drop-drop, drop-replicate, drop-take, length-replicate, take_all, take_min, take-replicate}
+use Rattle.std.proofs.lemmas.List.{take-take}
 use Rattle.cord_io.specs.Table.{Table, Lengths}
 use Rattle.cord_io.specs.declared.TheConstants.{MAX_LEN}
 use Rattle.cord_node.specs.declared.Node.{Node}
@@ -21,19 +23,22 @@ use Rattle.cord_run.specs.declared.store.Entry.{Entry}
 use Rattle.cord_run.specs.inner.Extents.{extent_in, members_extent}
 use Rattle.cord_run.specs.inner.Held.{content_in, cord_in, operand_in}
 use Rattle.cord_run.specs.inner.Holdings.{holding_of, plain_of}
-use Rattle.cord_run.specs.inner.Ranges.{AddsPart, AddsCopies, AddsRun, AddsExpression, AddsMembers, AreFew, IsAfter, IsInside, IsOutside, IsPast}
+use Rattle.cord_run.specs.inner.Ranges.{AddsPart, AddsCopies, AddsRun, AddsExpression, AddsMembers, AreFew, IsAfter, IsInside, IsOutside}
+use Rattle.cord_run.specs.inner.Ranges.{IsPast}
 use Rattle.cord_run.specs.inner.Turns.{AddsPiece, AreCopies}
 use Rattle.cord_run.proofs.SoFar.{nothing_taken}
 use Rattle.cord_run.proofs.Told.{cord_fits, content_text, operand_value, length_passed}
 
 -- ---- one cord more
-all_fit_more : (lengths : Lengths) (old : List (Option Node)) (c : Option Node) → AllFitIn lengths old → CordFitsIn lengths c → AllFitIn lengths (old ++ c ∷ [])
+all_fit_more : (lengths : Lengths) (old : List (Option Node)) (c : Option Node) → AllFitIn lengths old → CordFitsIn lengths c →
+    AllFitIn lengths (old ++ c ∷ [])
 all_fit_more lengths [] c all one = (one, tt)
 all_fit_more lengths (x ∷ old) c all one = (all.0, all_fit_more lengths old c all.1 one)
 
 all_bytes_more : (t : Table) (old : List (Option Node)) (c : Option Node) → all_bytes t (old ++ c ∷ []) ≡ all_bytes t old ++ bytes_of t c
 all_bytes_more t [] c = append-nil (bytes_of t c)
-all_bytes_more t (x ∷ old) c = ap (λ (u : List ℕ). bytes_of t x ++ u) (all_bytes_more t old c) ∙ sym (append_assoc (bytes_of t x) (all_bytes t old) (bytes_of t c))
+all_bytes_more t (x ∷ old) c = ap (λ (u : List ℕ). bytes_of t x ++ u) (all_bytes_more t old c)
+    ∙ sym (append_assoc (bytes_of t x) (all_bytes t old) (bytes_of t c))
 
 pub all_len_more : (old : List (Option Node)) (c : Option Node) → all_len (old ++ c ∷ []) ≡ all_len old + text_len c
 all_len_more [] c = omega arith
@@ -41,42 +46,54 @@ all_len_more (x ∷ old) c = let rest = all_len_more old c in omega (arith, rest
 
 module _ (cord : Option Node) (wanted : Wanted) where
   -- what is wanted of a cord
-  pub part_added : (part : Option Node) (old new : List (Option Node)) → IsSubstring wanted.skip wanted.count cord part → new ≡ old ++ part ∷ [] → AddsPart cord wanted old new
+  pub part_added : (part : Option Node) (old new : List (Option Node)) → IsSubstring wanted.skip wanted.count cord part →
+      new ≡ old ++ part ∷ [] → AddsPart cord wanted old new
   part_added part old new is pushed = subst (AddsPart cord wanted old) (sym pushed) (record {
     fits = λ lengths one all. all_fit_more lengths old part all (is.fits lengths one);
     bytes = λ t one. all_bytes_more t old part ∙ ap (λ (u : List ℕ). all_bytes t old ++ u) (is.bytes t one);
   })
 
   -- nothing is
-  pub part_passed : (old : List (Option Node)) → ((t : Table) → CordFits t cord → min wanted.count (length (bytes_of t cord) - wanted.skip) ≡ 0) → AddsPart cord wanted old old
+  pub part_passed : (old : List (Option Node)) → ((t : Table) → CordFits t cord → min wanted.count (length (bytes_of t cord) - wanted.skip)
+      ≡ 0) → AddsPart cord wanted old old
   part_passed old none = record {
     fits = λ lengths one all. all;
-    bytes = λ t one. sym (append-nil (all_bytes t old)) ∙ ap (λ (u : List ℕ). all_bytes t old ++ u) (sym (nothing_taken (bytes_of t cord) wanted.skip wanted.count (none t one)));
+    bytes = λ t one. sym (append-nil (all_bytes t old)) ∙ ap (λ (u : List ℕ). all_bytes t old ++ u)
+        (sym (nothing_taken (bytes_of t cord) wanted.skip wanted.count (none t one)));
   }
 
 -- one piece more, of the bytes that are taken
-pub few_more : (wanted after : Wanted) (len : ℕ) (old new : List (Option Node)) (piece : Option Node) → IsPast len wanted after → text_len piece ≡ min wanted.count (len - wanted.skip) → new ≡ old ++ piece ∷ [] → AreFew wanted after old new
+pub few_more : (wanted after : Wanted) (len : ℕ) (old new : List (Option Node)) (piece : Option Node) → IsPast len wanted after →
+    text_len piece ≡ min wanted.count (len - wanted.skip) → new ≡ old ++ piece ∷ [] → AreFew wanted after old new
 few_more wanted after len old new piece past long pushed =
     let more : all_len new ≡ all_len old + text_len piece = ap all_len pushed ∙ all_len_more old piece in
     let left : after.count ≡ wanted.count - (len - wanted.skip) = past.count in
     omega (arith, more, long, left)
 
 -- copies of a byte
-pub copies_added : (z : ℤ) (b count : ℕ) (made : Option Node) (old new : List (Option Node)) → as_byte z ≡ Ok b → HasText (replicate count b) made → text_len made ≡ count → new ≡ old ++ made ∷ [] → AddsCopies z count old new
+pub copies_added : (z : ℤ) (b count : ℕ) (made : Option Node) (old new : List (Option Node)) → as_byte z ≡ Ok b →
+    HasText (replicate count b) made → text_len made ≡ count → new ≡ old ++ made ∷ [] → AddsCopies z count old new
 copies_added z b count made old new is text len pushed = subst (AddsCopies z count old) (sym pushed) (record {
   fits = λ lengths all. all_fit_more lengths old made all (text.fits lengths);
-  bytes = λ t a same. all_bytes_more t old made ∙ ap (λ (u : List ℕ). all_bytes t old ++ u) (text.bytes t ∙ ap (λ (x : ℕ). replicate count x) (same_byte a same));
+  bytes = λ t a same. all_bytes_more t old made ∙ ap (λ (u : List ℕ). all_bytes t old ++ u)
+      (text.bytes t ∙ ap (λ (x : ℕ). replicate count x) (same_byte a same));
   len = all_len_more old made ∙ ap (λ (n : ℕ). all_len old + n) len;
 })
   where
     same_byte : (a : ℕ) → as_byte z ≡ Ok a → b ≡ a
     same_byte a same = cc
 
-pub copies_piece : (z : ℤ) (b count : ℕ) (made : Option Node) (old new : List (Option Node)) → as_byte z ≡ Ok b → HasText (replicate count b) made → new ≡ old ++ made ∷ [] → AddsPiece (AreCopies z) old new
-copies_piece z b count made old new is text pushed = record { piece = made; is = pushed; holds = record { value = b; count = count; is = is; text = text } }
+pub copies_piece : (z : ℤ) (b count : ℕ) (made : Option Node) (old new : List (Option Node)) → as_byte z ≡ Ok b →
+    HasText (replicate count b) made → new ≡ old ++ made ∷ [] → AddsPiece (AreCopies z) old new
+copies_piece z b count made old new is text pushed = record {
+  piece = made;
+  is = pushed;
+  holds = record { value = b; count = count; is = is; text = text };
+}
 
 -- ---- a name
-pub name_added : (entries : List Entry) (x : List ℕ) (wanted : Wanted) (old new : List (Option Node)) → AddsPart (cord_in (content_in entries x)) wanted old new → AddsExpression entries (name x) wanted old new
+pub name_added : (entries : List Entry) (x : List ℕ) (wanted : Wanted) (old new : List (Option Node)) →
+    AddsPart (cord_in (content_in entries x)) wanted old new → AddsExpression entries (name x) wanted old new
 name_added entries x wanted old new part = record {
   fits = λ lengths over all. part.fits lengths (cord_fits lengths (content_in entries x) (over.contents x)) all;
   bytes = λ t over there whole is.
@@ -96,7 +113,8 @@ pub record IsRun (z w : ℤ) (len : ℕ) : Type 0 where
 pub run_measured : (z w : ℤ) (len : ℕ) → measured_copies MAX_LEN z w ≡ Ok len → IsRun z w len
 run_measured z w len h = by_checks (as_byte z) (as_index w) refl refl h
   where
-    by_checks : (rb rn : Result ℕ FaultKind) → as_byte z ≡ rb → as_index w ≡ rn → and_then rb (λ b. and_then rn (λ n. as_length MAX_LEN n)) ≡ Ok len → IsRun z w len
+    by_checks : (rb rn : Result ℕ FaultKind) → as_byte z ≡ rb → as_index w ≡ rn → and_then rb (λ b. and_then rn (λ n. as_length MAX_LEN n))
+        ≡ Ok len → IsRun z w len
     by_checks (Err kind) rn e f h = let bad : ⊥ = cc in absurd bad
     by_checks (Ok b) (Err kind) e f h = let bad : ⊥ = cc in absurd bad
     by_checks (Ok b) (Ok n) e f h =
@@ -114,7 +132,8 @@ pub record AreMade (z w : ℤ) (whole : List ℕ) : Type 0 where
 pub run_made : (z w : ℤ) (whole : List ℕ) → copies MAX_LEN z w ≡ Ok whole → AreMade z w whole
 run_made z w whole h = by_checks (as_byte z) (as_index w) refl refl h
   where
-    by_length : (b n : ℕ) (r : Result ℕ FaultKind) → as_byte z ≡ Ok b → as_index w ≡ Ok n → as_length MAX_LEN n ≡ r → and_then r (λ _. Ok (replicate n b)) ≡ Ok whole → AreMade z w whole
+    by_length : (b n : ℕ) (r : Result ℕ FaultKind) → as_byte z ≡ Ok b → as_index w ≡ Ok n → as_length MAX_LEN n ≡ r →
+        and_then r (λ _. Ok (replicate n b)) ≡ Ok whole → AreMade z w whole
     by_length b n (Err kind) e f g h = let bad : ⊥ = cc in absurd bad
     by_length b n (Ok k) e f g h =
         let passed = length_passed n k g in
@@ -122,7 +141,8 @@ run_made z w whole h = by_checks (as_byte z) (as_index w) refl refl h
         (λ i. and_then (e i) (λ b. and_then (f i) (λ m. as_length MAX_LEN m))) ∙ g ∙ ap (λ (m : ℕ). Ok m) (sym passed.0) in
         record { byte = b; count = n; is = e; told = told; same = cc }
 
-    by_checks : (rb rn : Result ℕ FaultKind) → as_byte z ≡ rb → as_index w ≡ rn → and_then rb (λ b. and_then rn (λ n. and_then (as_length MAX_LEN n) (λ _. Ok (replicate n b)))) ≡ Ok whole → AreMade z w whole
+    by_checks : (rb rn : Result ℕ FaultKind) → as_byte z ≡ rb → as_index w ≡ rn →
+        and_then rb (λ b. and_then rn (λ n. and_then (as_length MAX_LEN n) (λ _. Ok (replicate n b)))) ≡ Ok whole → AreMade z w whole
     by_checks (Err kind) rn e f h = let bad : ⊥ = cc in absurd bad
     by_checks (Ok b) (Err kind) e f h = let bad : ⊥ = cc in absurd bad
     by_checks (Ok b) (Ok n) e f h = by_length b n (as_length MAX_LEN n) e f refl h
@@ -139,15 +159,18 @@ range_of_copies skip count n b =
 
 module _ (z w : ℤ) (wanted : Wanted) (old : List (Option Node)) where
   -- what is wanted of copies
-  pub run_picked : (len taken : ℕ) (new : List (Option Node)) → measured_copies MAX_LEN z w ≡ Ok len → taken ≡ min wanted.count (len - wanted.skip) → AddsCopies z taken old new → AddsRun z w wanted old new
+  pub run_picked : (len taken : ℕ) (new : List (Option Node)) → measured_copies MAX_LEN z w ≡ Ok len →
+      taken ≡ min wanted.count (len - wanted.skip) → AddsCopies z taken old new → AddsRun z w wanted old new
   run_picked len taken new told some part = record {
     fits = part.fits;
     bytes = λ t whole is.
         let made = run_made z w whole is in
         let same : len ≡ made.count = let told_made = made.told in cc in
         part.bytes t made.byte made.is
-        ∙ ap (λ (u : List ℕ). all_bytes t old ++ u) (ap (λ (k : ℕ). replicate k made.byte) (some ∙ ap (λ (k : ℕ). min wanted.count (k - wanted.skip)) same)
-        ∙ range_of_copies wanted.skip wanted.count made.count made.byte ∙ ap (λ (u : List ℕ). take wanted.count (drop wanted.skip u)) made.same);
+        ∙ ap (λ (u : List ℕ). all_bytes t old ++ u) (ap (λ (k : ℕ). replicate k made.byte)
+        (some ∙ ap (λ (k : ℕ). min wanted.count (k - wanted.skip)) same)
+        ∙ range_of_copies wanted.skip wanted.count made.count made.byte
+        ∙ ap (λ (u : List ℕ). take wanted.count (drop wanted.skip u)) made.same);
   }
 
   -- nothing is
@@ -160,7 +183,8 @@ module _ (z w : ℤ) (wanted : Wanted) (old : List (Option Node)) where
         let empty : min wanted.count (made.count - wanted.skip) ≡ 0 = ap (λ (k : ℕ). min wanted.count (k - wanted.skip)) (sym same) ∙ none in
         sym (append-nil (all_bytes t old))
         ∙ ap (λ (u : List ℕ). all_bytes t old ++ u) (ap (λ (k : ℕ). replicate k made.byte) (sym empty)
-        ∙ range_of_copies wanted.skip wanted.count made.count made.byte ∙ ap (λ (u : List ℕ). take wanted.count (drop wanted.skip u)) made.same);
+        ∙ range_of_copies wanted.skip wanted.count made.count made.byte
+        ∙ ap (λ (u : List ℕ). take wanted.count (drop wanted.skip u)) made.same);
   }
 
   -- they have a fault
@@ -170,20 +194,24 @@ module _ (z w : ℤ) (wanted : Wanted) (old : List (Option Node)) where
     bytes = λ t whole is. let made = run_made z w whole is in let told_made = made.told in let bad : ⊥ = cc in absurd bad;
   }
 
-pub run_added : (entries : List Entry) (c n : Number) (wanted : Wanted) (old new : List (Option Node)) → AddsRun (operand_in entries c) (operand_in entries n) wanted old new → AddsExpression entries (run c n) wanted old new
+pub run_added : (entries : List Entry) (c n : Number) (wanted : Wanted) (old new : List (Option Node)) →
+    AddsRun (operand_in entries c) (operand_in entries n) wanted old new → AddsExpression entries (run c n) wanted old new
 run_added entries c n wanted old new part = record {
   fits = λ lengths over all. part.fits lengths all;
-  bytes = λ t over there whole is. part.bytes t whole ((λ i. copies MAX_LEN (operand_value t entries c i) (operand_value t entries n i)) ∙ is);
+  bytes = λ t over there whole is. part.bytes t whole ((λ i. copies MAX_LEN (operand_value t entries c i) (operand_value t entries n i))
+      ∙ is);
 }
 
 -- ---- a `cat`
-pub cat_added : (entries : List Entry) (es : Exprs) (wanted : Wanted) (old new : List (Option Node)) → AddsMembers entries es wanted old new → AddsExpression entries (cat es) wanted old new
+pub cat_added : (entries : List Entry) (es : Exprs) (wanted : Wanted) (old new : List (Option Node)) →
+    AddsMembers entries es wanted old new → AddsExpression entries (cat es) wanted old new
 cat_added entries es wanted old new part = record {
   fits = part.fits;
   bytes = λ t over there whole is. part.bytes t over there whole (cat_joined MAX_LEN (plain_of t entries) es whole is).joined;
 }
 
-pub cat_past : (entries : List Entry) (es : Exprs) (wanted after : Wanted) → IsAfter (members_extent entries es) wanted after → IsAfter (extent_in entries (cat es)) wanted after
+pub cat_past : (entries : List Entry) (es : Exprs) (wanted after : Wanted) → IsAfter (members_extent entries es) wanted after →
+    IsAfter (extent_in entries (cat es)) wanted after
 cat_past entries es wanted after h = by_members (members_extent entries es) h
   where
     by_length : (n : ℕ) (r : Result ℕ FaultKind) → as_length MAX_LEN n ≡ r → IsPast n wanted after → IsAfter r wanted after
@@ -196,7 +224,8 @@ cat_past entries es wanted after h = by_members (members_extent entries es) h
 
 -- ---- a `sub`
 -- a range of a range
-range_within : (xs : List ℕ) (start most skip count : ℕ) → take (min count (most - skip)) (drop (start + min skip most) xs) ≡ take count (drop skip (take most (drop start xs)))
+range_within : (xs : List ℕ) (start most skip count : ℕ) → take (min count (most - skip)) (drop (start + min skip most) xs)
+    ≡ take count (drop skip (take most (drop start xs)))
 range_within xs start most skip count = by_test (nat_le skip most) refl
   where
     by_count : (b : Bool) (m : ℕ) (ys : List ℕ) → nat_le count m ≡ b → take (min count m) ys ≡ take count (take m ys)
@@ -210,7 +239,8 @@ range_within xs start most skip count = by_test (nat_le skip most) refl
         let long : length (take m ys) ≡ min m (length ys) = length-take m ys in
         ap (λ (k : ℕ). take k ys) same ∙ sym (take_all count (take m ys) (omega (arith, long)))
 
-    by_test : (b : Bool) → nat_le skip most ≡ b → take (min count (most - skip)) (drop (start + min skip most) xs) ≡ take count (drop skip (take most (drop start xs)))
+    by_test : (b : Bool) → nat_le skip most ≡ b → take (min count (most - skip)) (drop (start + min skip most) xs)
+        ≡ take count (drop skip (take most (drop start xs)))
     by_test true e =
         let inside : skip ≤ most = leb-true skip most e in
         let first : start + min skip most ≡ start + skip = omega arith in
@@ -238,17 +268,25 @@ record IsPartOf (u : List ℕ) (z w : ℤ) (whole : List ℕ) : Type 0 where
 part_known : (u : List ℕ) (z w : ℤ) (whole : List ℕ) → part_of MAX_LEN u z w ≡ Ok whole → IsPartOf u z w whole
 part_known u z w whole h = by_checks (as_index z) (as_index w) refl refl h
   where
-    by_checks : (ri rn : Result ℕ FaultKind) → as_index z ≡ ri → as_index w ≡ rn → and_then ri (λ a. and_then rn (λ m. within MAX_LEN (take m (drop a u)))) ≡ Ok whole → IsPartOf u z w whole
+    by_checks : (ri rn : Result ℕ FaultKind) → as_index z ≡ ri → as_index w ≡ rn →
+        and_then ri (λ a. and_then rn (λ m. within MAX_LEN (take m (drop a u)))) ≡ Ok whole → IsPartOf u z w whole
     by_checks (Err kind) rn e f h = let bad : ⊥ = cc in absurd bad
     by_checks (Ok a) (Err kind) e f h = let bad : ⊥ = cc in absurd bad
-    by_checks (Ok a) (Ok m) e f h = record { first = a; most = m; start_is = e; count_is = f; same = (fits_within MAX_LEN (take m (drop a u)) whole h).same }
+    by_checks (Ok a) (Ok m) e f h = record {
+      first = a;
+      most = m;
+      start_is = e;
+      count_is = f;
+      same = (fits_within MAX_LEN (take m (drop a u)) whole h).same;
+    }
 
 -- what holds of the value of a result that is Ok
 pub ok_value : {A E : Type 0} (P : A → Type 0) (r : Result A E) (a : A) → IfOk r P → r ≡ Ok a → P a
 ok_value P r a h e = subst (λ q. IfOk q P) e h
 
 module _ (entries : List Entry) (e : Expr) (i n : Number) (start most : ℕ) (wanted inner : Wanted) (start_is : IfOk (as_index (operand_in entries i)) (λ k. start ≡ k)) (most_is : IfOk (as_index (operand_in entries n)) (λ k. most ≡ k)) (inside : IsInside start most wanted inner) where
-  pub sub_added : (old new : List (Option Node)) → AddsExpression entries e inner old new → AddsExpression entries (sub e i n) wanted old new
+  pub sub_added : (old new : List (Option Node)) → AddsExpression entries e inner old new →
+      AddsExpression entries (sub e i n) wanted old new
   sub_added old new part = record {
     fits = part.fits;
     bytes = λ t over there whole is.
@@ -277,12 +315,14 @@ module _ (entries : List Entry) (e : Expr) (i n : Number) (start most : ℕ) (wa
         by_length k (Err kind) f past = tt
         by_length k (Ok m) f past = subst (λ (x : ℕ). IsPast x wanted after) (length_passed k m f).0 past
 
-        by_checks : (r ri rn : Result ℕ FaultKind) → IsAfter r inner rest → IfOk ri (λ k. start ≡ k) → IfOk rn (λ k. most ≡ k) → IsAfter (and_then r (λ len. and_then ri (λ a. and_then rn (λ m. as_length MAX_LEN (min m (len - a)))))) wanted after
+        by_checks : (r ri rn : Result ℕ FaultKind) → IsAfter r inner rest → IfOk ri (λ k. start ≡ k) → IfOk rn (λ k. most ≡ k) →
+            IsAfter (and_then r (λ len. and_then ri (λ a. and_then rn (λ m. as_length MAX_LEN (min m (len - a)))))) wanted after
         by_checks (Err kind) ri rn past at up_to = tt
         by_checks (Ok len) (Err kind) rn past at up_to = tt
         by_checks (Ok len) (Ok a) (Err kind) past at up_to = tt
         by_checks (Ok len) (Ok a) (Ok m) past at up_to =
-            by_length (min m (len - a)) (as_length MAX_LEN (min m (len - a))) refl (subst (λ (x : ℕ). IsPast x wanted after) (λ j. min (up_to j) (len - at j)) (part_past len past))
+            by_length (min m (len - a)) (as_length MAX_LEN (min m (len - a))) refl
+            (subst (λ (x : ℕ). IsPast x wanted after) (λ j. min (up_to j) (len - at j)) (part_past len past))
 
     pub sub_few : (old new : List (Option Node)) → AreFew inner rest old new → AreFew wanted after old new
     sub_few old new few = omega (arith, few, inside.count, outside.count)

@@ -21,7 +21,8 @@ output_told (m ∷ ms) = ap (λ (out : List ℕ). m.puts ++ out) (output_told ms
 -- lines, from what is told
 told_lines : {S : Type 0} (ms : List (Moment S)) → All (λ (t : Told). 0 < t.0) (map told ms) → All (λ m. 0 < m.line) ms
 told_lines [] all = All-nil (λ m. 0 < m.line)
-told_lines (m ∷ ms) all = All-cons (λ m. 0 < m.line) m ms (All-head (λ (t : Told). 0 < t.0) (told m) (map told ms) all) (told_lines ms (All-tail (λ (t : Told). 0 < t.0) (told m) (map told ms) all))
+told_lines (m ∷ ms) all = All-cons (λ m. 0 < m.line) m ms (All-head (λ (t : Told). 0 < t.0) (told m) (map told ms) all)
+    (told_lines ms (All-tail (λ (t : Told). 0 < t.0) (told m) (map told ms) all))
 
 -- members that tell a list, split where the list is
 record Split {T : Type 0} (ns : List (Moment T)) (earlier : List Told) (one : Told) : Type 0 where
@@ -33,7 +34,8 @@ record Split {T : Type 0} (ns : List (Moment T)) (earlier : List Told) (one : To
   here_told : told here ≡ one
 
 module _ {T : Type 0} where
-  split : (ns : List (Moment T)) (earlier : List Told) (one : Told) (later : List Told) → map told ns ≡ earlier ++ one ∷ later → Split ns earlier one
+  split : (ns : List (Moment T)) (earlier : List Told) (one : Told) (later : List Told) → map told ns ≡ earlier ++ one ∷ later →
+      Split ns earlier one
   split [] [] one later e = let bad : ⊥ = cc in absurd bad
   split [] (t ∷ earlier) one later e = let bad : ⊥ = cc in absurd bad
   split (n ∷ ns) [] one later e = record { front = []; here = n; rest = ns; is = refl; front_told = refl; here_told = cc }
@@ -57,7 +59,8 @@ module _ {S T : Type 0} (ms : List (Moment S)) (ns : List (Moment T)) (same : ma
 
   -- lines that are counted from 1
   pub lines_same : All (λ m. 0 < m.line) ns → All (λ m. 0 < m.line) ms
-  lines_same all = told_lines ms (All-same (λ (t : Told). 0 < t.0) (map told ms) (map told ns) same (All-map (λ (t : Told). 0 < t.0) told ns all))
+  lines_same all = told_lines ms (All-same (λ (t : Told). 0 < t.0) (map told ms) (map told ns) same
+      (All-map (λ (t : Told). 0 < t.0) told ns all))
 
   -- a stop inside the same member
   stop_same : (line : ℕ) (out : List ℕ) → StopsAt ms line out → StopsAt ns line out
@@ -84,8 +87,14 @@ module _ {S T : Type 0} (ms : List (Moment S)) (ns : List (Moment T)) (same : ma
   honest_same meant other ends out (Fault line kind) h = complete_same meant other ends out (Fault line kind) h
   honest_same meant other ends out (NoMemory line) h = ⊎_elim (λ none. inl none) (λ some. inr (some.0, stop_same line out some.1)) h
   honest_same meant other ends out (ReadFailed line) h = (h.0, stop_same line out h.1)
-  honest_same meant other ends out (WriteFailed line) h = ⊎_elim (λ all. inl (all.0, all.1 ∙ outputs)) (λ some. inr (some.0, stop_same line out some.1)) h
+  honest_same meant other ends out (WriteFailed line) h = ⊎_elim (λ all. inl (all.0, all.1 ∙ outputs))
+      (λ some. inr (some.0, stop_same line out some.1)) h
 
   -- the same honest ends
-  pub ends_same : (meant other : End) → meant ≡ other → (before after : List ℕ) (e : End) → HonestOutput ms meant before after e → HonestOutput ns other before after e
-  ends_same meant other ends before after e h = record { out = h.out; taken = h.taken; honest = honest_same meant other ends h.out e h.honest }
+  pub ends_same : (meant other : End) → meant ≡ other → (before after : List ℕ) (e : End) → HonestOutput ms meant before after e →
+      HonestOutput ns other before after e
+  ends_same meant other ends before after e h = record {
+    out = h.out;
+    taken = h.taken;
+    honest = honest_same meant other ends h.out e h.honest;
+  }

@@ -24,7 +24,9 @@ module _ (entries : List Entry) (x slice : List ℕ) (is : IsSliceOf (cord_in (c
   name_is = λ t there. ap (λ (u : List ℕ). Ok u) (content_text t (content_in entries x) ∙ is t)
 
   -- a range of it
-  pub sub_is : (i n : Number) (range : List ℕ) → part_of MAX_LEN slice (operand_in entries i) (operand_in entries n) ≡ Ok range → IsTextIn entries (sub (name x) i n) range
+  pub sub_is : (i n : Number) (range : List ℕ) → part_of MAX_LEN slice (operand_in entries i) (operand_in entries n) ≡ Ok range →
+      IsTextIn entries (sub (name x) i n) range
   sub_is i n range part = λ t there.
-      ap (λ (r : Result (List ℕ) FaultKind). and_then r (λ u. part_of MAX_LEN u (number_value (plain_of t entries) i) (number_value (plain_of t entries) n))) (name_is t there)
+      ap (λ (r : Result (List ℕ) FaultKind). and_then r (λ u. part_of MAX_LEN u (number_value (plain_of t entries) i)
+      (number_value (plain_of t entries) n))) (name_is t there)
       ∙ sym (λ j. part_of MAX_LEN slice (operand_value t entries i j) (operand_value t entries n j)) ∙ part

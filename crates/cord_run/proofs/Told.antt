@@ -1,5 +1,6 @@
 -- The lengths told of expressions are those of their texts, over every table that the names fit.
-use Rattle.std.proofs.Common.{◌≡◌, ◌≤◌, ◌-◌, ℕ, Bool, true, false, ◌&&◌, List, [], ◌∷◌, ◌++◌, length, replicate, Result, Ok, Err, refl, sym, ap, subst, ◌∙◌, inl, inr, arith}
+use Rattle.std.proofs.Common.{◌≡◌, ◌≤◌, ◌-◌, ℕ, Bool, true, false, ◌&&◌, List, [], ◌∷◌, ◌++◌, length, replicate, Result, Ok, Err, refl, sym}
+use Rattle.std.proofs.Common.{ap, subst, ◌∙◌, inl, inr, arith}
 use Rattle.std.specs.Prelude.{nat_le, min, if◌then◌else◌, Some, None}
 use Rattle.std.proofs.lemmas.Bool.{leb-true}
 use Rattle.std.proofs.lemmas.List.{length-replicate}
@@ -117,7 +118,8 @@ length_passed n len e = by_test (nat_le n MAX_LEN) refl e
         (same, omega arith)
     by_test false t k = let bad : ⊥ = cc in absurd bad
 
-pub extent_short : (lengths : Lengths) (entries : List Entry) → IsOver lengths entries → (e : Expr) (len : ℕ) → extent_in entries e ≡ Ok len → len ≤ MAX_LEN
+pub extent_short : (lengths : Lengths) (entries : List Entry) → IsOver lengths entries → (e : Expr) (len : ℕ) →
+    extent_in entries e ≡ Ok len → len ≤ MAX_LEN
 extent_short lengths entries over (name x) len e =
     let same : length_in entries x ≡ len = cc in
     subst (λ (n : ℕ). n ≤ MAX_LEN) same (cord_short lengths (content_in entries x) (over.contents x))
@@ -132,9 +134,11 @@ extent_short lengths entries over (cat es) len e = by_checks (members_extent ent
     by_checks : (r : Result ℕ FaultKind) → and_then r (λ k. as_length MAX_LEN k) ≡ Ok len → len ≤ MAX_LEN
     by_checks (Err kind) h = let bad : ⊥ = cc in absurd bad
     by_checks (Ok k) h = (length_passed k len h).1
-extent_short lengths entries over (sub inner i n) len e = by_checks (extent_in entries inner) (as_index (operand_in entries i)) (as_index (operand_in entries n)) e
+extent_short lengths entries over (sub inner i n) len e = by_checks (extent_in entries inner) (as_index (operand_in entries i))
+    (as_index (operand_in entries n)) e
   where
-    by_checks : (r ri rn : Result ℕ FaultKind) → and_then r (λ k. and_then ri (λ a. and_then rn (λ m. as_length MAX_LEN (min m (k - a))))) ≡ Ok len → len ≤ MAX_LEN
+    by_checks : (r ri rn : Result ℕ FaultKind) → and_then r (λ k. and_then ri (λ a. and_then rn (λ m. as_length MAX_LEN (min m (k - a)))))
+        ≡ Ok len → len ≤ MAX_LEN
     by_checks (Err kind) ri rn h = let bad : ⊥ = cc in absurd bad
     by_checks (Ok k) (Err kind) rn h = let bad : ⊥ = cc in absurd bad
     by_checks (Ok k) (Ok a) (Err kind) h = let bad : ⊥ = cc in absurd bad

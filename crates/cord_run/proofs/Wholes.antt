@@ -51,7 +51,8 @@ module _ (entries : List Entry) (e : Expr) where
   })
 
   -- all its bytes
-  pub whole_range : (len : ℕ) (old pieces : List (Option Node)) → old ≡ [] → extent_in entries e ≡ Ok len → AddsExpression entries e (record { skip = 0; count = len }) old pieces → AreWhole entries e pieces
+  pub whole_range : (len : ℕ) (old pieces : List (Option Node)) → old ≡ [] → extent_in entries e ≡ Ok len →
+      AddsExpression entries e (record { skip = 0; count = len }) old pieces → AreWhole entries e pieces
   whole_range len old pieces none extent part = record {
     fits = λ lengths over. part.fits lengths over (subst (λ (ps : List (Option Node)). AllFitIn lengths ps) (sym none) tt);
     bytes = λ t over there.
@@ -64,13 +65,15 @@ module _ (entries : List Entry) (e : Expr) where
   }
 
   -- and they come from its names in turn
-  pub whole_in_turn : (old pieces : List (Option Node)) → old ≡ [] → AddsInTurn entries (origins e) old pieces → InTurn entries (origins e) pieces
+  pub whole_in_turn : (old pieces : List (Option Node)) → old ≡ [] → AddsInTurn entries (origins e) old pieces →
+      InTurn entries (origins e) pieces
   whole_in_turn old pieces none turns =
       let same : turns.added ≡ pieces = ap (λ (ps : List (Option Node)). ps ++ turns.added) (sym none) ∙ sym turns.is in
       subst (λ (ps : List (Option Node)). InTurn entries (origins e) ps) same turns.each
 
   -- one cord of them
-  pub whole_built : (pieces : List (Option Node)) (cord : Option Node) → AreWhole entries e pieces → InTurn entries (origins e) pieces → Kept (all_parts pieces) (parts_of cord) → IsAllOf pieces cord → IsCord cord → IsBuilt entries e cord
+  pub whole_built : (pieces : List (Option Node)) (cord : Option Node) → AreWhole entries e pieces → InTurn entries (origins e) pieces →
+      Kept (all_parts pieces) (parts_of cord) → IsAllOf pieces cord → IsCord cord → IsBuilt entries e cord
   whole_built pieces cord whole turns kept all sound = record {
     sound = sound;
     fits = λ lengths over. all.fits lengths (whole.fits lengths over);
@@ -82,5 +85,6 @@ module _ (entries : List Entry) (e : Expr) where
   }
 
   -- its fault
-  pub whole_faulty : (kind : FaultKind) → Err kind ≡ extent_in entries e → (t : Table) → IsOver (lengths_of t) entries → all_texts (holding_of t entries) (cords e) ≡ true → text_in MAX_LEN (plain_of t entries) e ≡ Err kind
+  pub whole_faulty : (kind : FaultKind) → Err kind ≡ extent_in entries e → (t : Table) → IsOver (lengths_of t) entries →
+      all_texts (holding_of t entries) (cords e) ≡ true → text_in MAX_LEN (plain_of t entries) e ≡ Err kind
   whole_faulty kind extent t over there = faulty (text_in MAX_LEN (plain_of t entries) e) kind (extent ∙ text_told t entries over e there)

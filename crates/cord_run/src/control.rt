@@ -71,7 +71,8 @@ impl Control {
 
     // Opens a block, for a statement at a line.
     fn open(&mut self, line: u32, block: Open) -> Result<(), Barred>
-        ensures opened { IfOk result (λ _. where_of self.new ≡ record (where_of self.old) { blocks = block_view block ∷ (where_of self.old).blocks }) }
+        ensures opened { IfOk result (λ _. where_of self.new
+            ≡ record (where_of self.old) { blocks = block_view block ∷ (where_of self.old).blocks }) }
         ensures refused { IfErr result (λ e. e ≡ Barred.NoMemory line) }
     {
         match self.inner {
@@ -87,7 +88,8 @@ impl Control {
 
     // Begins a turn of the `repeat` at a place, if the loops of the run may begin one more.
     fn begin(&mut self, place: usize, line: u32, left: u64) -> Result<(), Barred>
-        ensures { Goes (begun MAX_TURNS (where_of self.old) place line left (where_of self.old).blocks) (λ l. l ≡ line) (where_of self.new) result }
+        ensures { Goes (begun MAX_TURNS (where_of self.old) place line left (where_of self.old).blocks) (λ l. l ≡ line)
+            (where_of self.new) result }
     {
         if self.turns >= MAX_TURNS {
             return Err(Barred::Fault(line, FaultKind::TooManyTurns));
@@ -101,7 +103,8 @@ impl Control {
 
     /// A `repeat` that read this number; `behind` is the place after its `end`.
     pub(crate) fn repeat(&mut self, line: u32, behind: usize, count: i64) -> Result<(), Barred>
-        ensures { Goes (repeated MAX_TURNS (where_of self.old) line behind count) (λ l. l ≡ line) (where_of self.new) result }
+        ensures { Goes (repeated MAX_TURNS (where_of self.old) line behind count) (λ l. l ≡ line)
+            (where_of self.new) result }
     {
         match as_index(count) {
             Err(kind) => Err(Barred::Fault(line, kind)),
@@ -126,7 +129,8 @@ impl Control {
     /// An `end`: closes the innermost open block, or begins its next turn.
     pub(crate) fn close(&mut self) -> Result<(), Barred>
         requires { (where_of self.old).place < 2 ^ 64 - 1 }
-        ensures { Goes (closed MAX_TURNS (where_of self.old) (where_of self.old).blocks) (IsTurnAt (where_of self.old).blocks) (where_of self.new) result }
+        ensures { Goes (closed MAX_TURNS (where_of self.old) (where_of self.old).blocks)
+            (IsTurnAt (where_of self.old).blocks) (where_of self.new) result }
     {
         match self.inner {
             Some(Open::Turns { place, line, left }) if left > 0 => {
@@ -145,7 +149,8 @@ impl Control {
 
     // Begins the next turn of the innermost block, the `repeat` at a place.
     fn begin_next(&mut self, place: usize, line: u32, left: u64) -> Result<(), Barred>
-        ensures { Goes (begun MAX_TURNS (where_of self.old) place line left (map block_view (reverse self.old.outer.items))) (λ l. l ≡ line) (where_of self.new) result }
+        ensures { Goes (begun MAX_TURNS (where_of self.old) place line left
+            (map block_view (reverse self.old.outer.items))) (λ l. l ≡ line) (where_of self.new) result }
     {
         if self.turns >= MAX_TURNS {
             return Err(Barred::Fault(line, FaultKind::TooManyTurns));
@@ -160,7 +165,11 @@ impl Control {
     // Goes on after the innermost block.
     fn leave(&mut self)
         requires { self.old.place < 2 ^ 64 - 1 }
-        ensures { where_of self.new ≡ record { place = self.old.place + 1; turns = self.old.turns; blocks = map block_view (reverse self.old.outer.items) } }
+        ensures { where_of self.new ≡ record {
+          place = self.old.place + 1;
+          turns = self.old.turns;
+          blocks = map block_view (reverse self.old.outer.items);
+        } }
     {
         self.inner = self.outer.pop();
         self.place += 1;

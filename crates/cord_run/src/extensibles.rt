@@ -29,7 +29,8 @@ pub(crate) fn keep_extensible(
 ) -> Result<(), Halt>
     requires extending { IsExtending statement.now }
     ensures over { StaysOver store.old.entries.items store.new.entries.items result }
-    ensures kept { (t : Table) → IsOver (lengths_of t) store.old.entries.items → KeepsOver t statement.now store.old.entries.items store.new.entries.items result }
+    ensures kept { (t : Table) → IsOver (lengths_of t) store.old.entries.items →
+        KeepsOver t statement.now store.old.entries.items store.new.entries.items result }
     ensures counts { (n : ℕ) → CountsReads n n result }
 {
     match statement {
@@ -79,7 +80,8 @@ fn begin(alloc: Global, store: &mut Store, name: &[u8]) -> Result<(), Halt>
 // Lets the extensible cord of a name grow by a byte.
 fn grow_by_byte(alloc: Global, store: &mut Store, name: &[u8], byte: u8) -> Result<(), Halt>
     ensures over { StaysOver store.old.entries.items store.new.entries.items result }
-    ensures becomes { Becomes name.now (longer_text store.old.entries.items name.now (byte ∷ [])) store.old.entries.items store.new.entries.items result }
+    ensures becomes { Becomes name.now (longer_text store.old.entries.items name.now (byte ∷ []))
+        store.old.entries.items store.new.entries.items result }
 {
     match store.append(alloc, name, &[byte]) {
         Ok(()) => Ok(()),
@@ -90,7 +92,8 @@ fn grow_by_byte(alloc: Global, store: &mut Store, name: &[u8], byte: u8) -> Resu
 // Lets it grow by bytes.
 fn grow_by_bytes(alloc: Global, store: &mut Store, name: &[u8], bytes: &[u8]) -> Result<(), Halt>
     ensures over { StaysOver store.old.entries.items store.new.entries.items result }
-    ensures becomes { Becomes name.now (longer_text store.old.entries.items name.now bytes.now) store.old.entries.items store.new.entries.items result }
+    ensures becomes { Becomes name.now (longer_text store.old.entries.items name.now bytes.now) store.old.entries.items
+        store.new.entries.items result }
 {
     match store.append(alloc, name, bytes) {
         Ok(()) => Ok(()),
@@ -101,7 +104,8 @@ fn grow_by_bytes(alloc: Global, store: &mut Store, name: &[u8], bytes: &[u8]) ->
 // Lets it grow by the cord of another name.
 fn grow_by_cord(alloc: Global, store: &mut Store, name: &[u8], operand: &[u8]) -> Result<(), Halt>
     ensures over { StaysOver store.old.entries.items store.new.entries.items result }
-    ensures becomes { Becomes name.now (λ t. longer_text store.old.entries.items name.now (text_over t store.old.entries.items operand.now) t) store.old.entries.items store.new.entries.items result }
+    ensures becomes { Becomes name.now (λ t. longer_text store.old.entries.items name.now
+        (text_over t store.old.entries.items operand.now) t) store.old.entries.items store.new.entries.items result }
 {
     let empty = Cord::empty();
     let mut extensible = taken(alloc, store, name)?;
@@ -134,7 +138,8 @@ fn taken(alloc: Global, store: &mut Store, name: &[u8]) -> Result<ExtCord, Halt>
 
 // Gives a name its extensible cord.
 fn give(alloc: Global, store: &mut Store, name: &[u8], extensible: ExtCord) -> Result<(), Halt>
-    ensures given { IfOk result (λ _. HasExtensible name.now (Some extensible.text) store.old.entries.items store.new.entries.items) }
+    ensures given { IfOk result (λ _. HasExtensible name.now (Some extensible.text) store.old.entries.items
+        store.new.entries.items) }
     ensures refused { IfErr result (λ halt. halt ≡ Halt.NoMemory) }
 {
     store.assign_extensible(alloc, name, extensible)?;

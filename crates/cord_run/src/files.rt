@@ -20,9 +20,11 @@ pub(crate) fn whole_or_lazy<F: Files>(
 ) -> Result<Cord, Halt>
     ensures made { IfOk result (IsFileAt (F.keeps (device_in sources.new)) (opened_in sources.new) path.now) }
     ensures refused { IfErr result (IsNoFileAt (F.keeps (device_in sources.new)) path.now) }
-    ensures earlier { (folder : Folder) → F.keeps (device_in sources.new) folder → F.keeps (device_in sources.old) folder }
+    ensures earlier { (folder : Folder) → F.keeps (device_in sources.new) folder →
+        F.keeps (device_in sources.old) folder }
     ensures grows { Grows (opened_in sources.old) (opened_in sources.new) }
-    ensures counts { F.failures (device_in sources.new) ≡ count_after (has_failed result) (F.failures (device_in sources.old)) }
+    ensures counts { F.failures (device_in sources.new)
+        ≡ count_after (has_failed result) (F.failures (device_in sources.old)) }
 {
     let cord = sources.from_file(alloc, path.as_str())?;
     Ok(cord)
@@ -36,9 +38,11 @@ pub(crate) fn whole<F: Files>(
 ) -> Result<Cord, Halt>
     ensures made { IfOk result (IsFileAt (F.keeps (device_in sources.new)) (opened_in sources.new) path.now) }
     ensures refused { IfErr result (IsNoFileAt (F.keeps (device_in sources.new)) path.now) }
-    ensures earlier { (folder : Folder) → F.keeps (device_in sources.new) folder → F.keeps (device_in sources.old) folder }
+    ensures earlier { (folder : Folder) → F.keeps (device_in sources.new) folder →
+        F.keeps (device_in sources.old) folder }
     ensures grows { Grows (opened_in sources.old) (opened_in sources.new) }
-    ensures counts { F.failures (device_in sources.new) ≡ count_after (has_failed result) (F.failures (device_in sources.old)) }
+    ensures counts { F.failures (device_in sources.new)
+        ≡ count_after (has_failed result) (F.failures (device_in sources.old)) }
 {
     let cord = sources.eager(alloc, path.as_str())?;
     Ok(cord)
@@ -52,9 +56,11 @@ pub(crate) fn lazy<F: Files>(
 ) -> Result<Cord, Halt>
     ensures made { IfOk result (IsFileAt (F.keeps (device_in sources.new)) (opened_in sources.new) path.now) }
     ensures refused { IfErr result (IsNoFileAt (F.keeps (device_in sources.new)) path.now) }
-    ensures earlier { (folder : Folder) → F.keeps (device_in sources.new) folder → F.keeps (device_in sources.old) folder }
+    ensures earlier { (folder : Folder) → F.keeps (device_in sources.new) folder →
+        F.keeps (device_in sources.old) folder }
     ensures grows { Grows (opened_in sources.old) (opened_in sources.new) }
-    ensures counts { F.failures (device_in sources.new) ≡ count_after (has_failed result) (F.failures (device_in sources.old)) }
+    ensures counts { F.failures (device_in sources.new)
+        ≡ count_after (has_failed result) (F.failures (device_in sources.old)) }
 {
     let cord = sources.lazy(alloc, path.as_str())?;
     Ok(cord)
@@ -69,9 +75,11 @@ pub(crate) fn opened_length<F: Files>(
 ) -> Result<u64, Halt>
     ensures told { IfOk result (IsLengthAt (F.keeps (device_in sources.new)) path.now) }
     ensures refused { IfErr result (IsNoFileAt (F.keeps (device_in sources.new)) path.now) }
-    ensures earlier { (folder : Folder) → F.keeps (device_in sources.new) folder → F.keeps (device_in sources.old) folder }
+    ensures earlier { (folder : Folder) → F.keeps (device_in sources.new) folder →
+        F.keeps (device_in sources.old) folder }
     ensures grows { Grows (opened_in sources.old) (opened_in sources.new) }
-    ensures counts { F.failures (device_in sources.new) ≡ count_after (has_failed result) (F.failures (device_in sources.old)) }
+    ensures counts { F.failures (device_in sources.new)
+        ≡ count_after (has_failed result) (F.failures (device_in sources.old)) }
     ensures unopened { OnErr result (opened_in sources.new ≡ opened_in sources.old) }
 {
     let (_, len) = sources.open(alloc, path.as_str())?;

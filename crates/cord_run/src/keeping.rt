@@ -35,9 +35,11 @@ pub(crate) fn keep<F: Files>(
     requires kept { IsKept statement.now }
     requires over { IsOver (lengths_in (opened_in sources.old)) store.old.entries.items }
     ensures over { IfOk result (λ _. IsOver (lengths_in (opened_in sources.new)) store.new.entries.items) }
-    ensures earlier { (folder : Folder) → F.keeps (device_in sources.new) folder → F.keeps (device_in sources.old) folder }
+    ensures earlier { (folder : Folder) → F.keeps (device_in sources.new) folder →
+        F.keeps (device_in sources.old) folder }
     ensures gives { (folder : Folder) → F.keeps (device_in sources.new) folder → Gives
-        (keeps MAX_LEN folder statement.now (holding_of (table_in (opened_in sources.old) folder) store.old.entries.items))
+        (keeps MAX_LEN folder statement.now
+        (holding_of (table_in (opened_in sources.old) folder) store.old.entries.items))
         (holding_of (table_in (opened_in sources.new) folder) store.new.entries.items) result }
     ensures fails { IfErr result (FailsIn (plan.Keep statement.now)) }
     ensures counts { CountsReads (F.failures (device_in sources.old)) (F.failures (device_in sources.new)) result }
@@ -63,9 +65,11 @@ fn keep_searching<F: Files>(
     requires search { IsSearch statement.now }
     requires over { IsOver (lengths_in (opened_in sources.old)) store.old.entries.items }
     ensures over { IfOk result (λ _. IsOver (lengths_in (opened_in sources.new)) store.new.entries.items) }
-    ensures earlier { (folder : Folder) → F.keeps (device_in sources.new) folder → F.keeps (device_in sources.old) folder }
+    ensures earlier { (folder : Folder) → F.keeps (device_in sources.new) folder →
+        F.keeps (device_in sources.old) folder }
     ensures gives { (folder : Folder) → F.keeps (device_in sources.new) folder → Gives
-        (keeps MAX_LEN folder statement.now (holding_of (table_in (opened_in sources.old) folder) store.old.entries.items))
+        (keeps MAX_LEN folder statement.now
+        (holding_of (table_in (opened_in sources.old) folder) store.old.entries.items))
         (holding_of (table_in (opened_in sources.new) folder) store.new.entries.items) result }
     ensures fails { IfErr result (FailsIn (plan.Keep statement.now)) }
     ensures counts { CountsReads (F.failures (device_in sources.old)) (F.failures (device_in sources.new)) result }
@@ -78,7 +82,8 @@ fn keep_unread(alloc: Global, store: &mut Store, statement: &Statement) -> Resul
     requires kept { IsKeptUnread statement.now }
     requires short { (x : List ℕ) → length_in store.old.entries.items x ≤ MAX_LEN }
     ensures over { StaysOver store.old.entries.items store.new.entries.items result }
-    ensures kept { (t : Table) → IsOver (lengths_of t) store.old.entries.items → KeepsOver t statement.now store.old.entries.items store.new.entries.items result }
+    ensures kept { (t : Table) → IsOver (lengths_of t) store.old.entries.items →
+        KeepsOver t statement.now store.old.entries.items store.new.entries.items result }
     ensures counts { (n : ℕ) → CountsReads n n result }
 {
     match statement {

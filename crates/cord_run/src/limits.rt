@@ -9,5 +9,6 @@ ghost use Rattle.cord_syntax.specs.declared.statements.Statement.{Statement};
 /// A script that is read has no more paths than a run opens, so that a run never has too many files.
 pub fn runs_have_few_files()
     ensures limits { MAX_PATHS ≤ MAX_FILES }
-    ensures paths { (g : Grammar) (b : List ℕ) (statements : List Statement) → ReadsBy g b statements → length (after_all statements start).paths ≤ MAX_FILES }
+    ensures paths { (g : Grammar) (b : List ℕ) (statements : List Statement) → ReadsBy g b statements →
+        length (after_all statements start).paths ≤ MAX_FILES }
 {}

@@ -43,7 +43,8 @@ pub(crate) fn build(alloc: Global, expression: &Expr, store: &Store) -> Result<C
 /// Cords of the text of an expression, in order: each is a range of the cord of one of its names, or copies of a byte. Refused with its fault, or with `NoMemory`.
 pub(crate) fn pieces_of(alloc: Global, expression: &Expr, store: &Store) -> Result<Vec<Cord>, Halt>
     ensures whole { IfOk result (λ pieces. AreWhole store.now.entries.items (expr_view expression.now) pieces.items) }
-    ensures in_turn { IfOk result (λ pieces. InTurn store.now.entries.items (origins (expr_view expression.now)) pieces.items) }
+    ensures in_turn { IfOk result (λ pieces. InTurn store.now.entries.items
+        (origins (expr_view expression.now)) pieces.items) }
     ensures refused { IfErr result (IsUnbuilt store.now.entries.items (expr_view expression.now)) }
 {
     match length_of(expression, store) {
@@ -64,7 +65,8 @@ fn pieces_within(
 ) -> Result<Vec<Cord>, CordError>
     requires { extent_in store.now.entries.items (expr_view expression.now) ≡ Ok len }
     ensures whole { IfOk result (λ pieces. AreWhole store.now.entries.items (expr_view expression.now) pieces.items) }
-    ensures in_turn { IfOk result (λ pieces. InTurn store.now.entries.items (origins (expr_view expression.now)) pieces.items) }
+    ensures in_turn { IfOk result (λ pieces. InTurn store.now.entries.items
+        (origins (expr_view expression.now)) pieces.items) }
     ensures refused { IsOkUnless result CordError.NoMemory }
 {
     let mut pieces = Vec::new(alloc);

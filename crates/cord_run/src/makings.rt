@@ -8,7 +8,9 @@ ghost use Rattle.cord_file.specs.Sources.{device_in, opened_in};
 ghost use Rattle.cord_plan.specs.Meaning.{does};
 ghost use Rattle.cord_plan.specs.Planned as plan;
 ghost use Rattle.cord_plan.specs.Views.{made_view};
-ghost use Rattle.cord_run.specs.inner.Contents.{IsLength, IsLengthOfNames, IsMade, IsMadeOfNames, IsUnmade, IsUnmadeOfNames, IsUnmeasured, IsUnmeasuredOfNames, NeedsNoFile, TakesNoMemory, has_failed, halting};
+ghost use Rattle.cord_run.specs.inner.Contents.{IsLength, IsLengthOfNames, IsMade, IsMadeOfNames, IsUnmade};
+ghost use Rattle.cord_run.specs.inner.Contents.{IsUnmadeOfNames, IsUnmeasured, IsUnmeasuredOfNames, NeedsNoFile};
+ghost use Rattle.cord_run.specs.inner.Contents.{TakesNoMemory, has_failed, halting};
 ghost use Rattle.cord_run.specs.Failing.{FailsBy, FailsIn, IsFileMade};
 ghost use Rattle.cord_run.specs.inner.Held.{HasContent, IsOver, SameEntries};
 ghost use Rattle.cord_run.specs.inner.Holdings.{holding_of};
@@ -40,9 +42,11 @@ pub(crate) fn build_target<F: Files>(
 ) -> Result<(), Halt>
     requires over { IsOver (lengths_in (opened_in sources.old)) store.old.entries.items }
     ensures over { IfOk result (λ _. IsOver (lengths_in (opened_in sources.new)) store.new.entries.items) }
-    ensures earlier { (folder : Folder) → F.keeps (device_in sources.new) folder → F.keeps (device_in sources.old) folder }
+    ensures earlier { (folder : Folder) → F.keeps (device_in sources.new) folder →
+        F.keeps (device_in sources.old) folder }
     ensures gives { (folder : Folder) → F.keeps (device_in sources.new) folder → Gives
-        (does MAX_LEN folder (plan.Build 0 target.now (made_view made.now)) (holding_of (table_in (opened_in sources.old) folder) store.old.entries.items))
+        (does MAX_LEN folder (plan.Build 0 target.now (made_view made.now))
+        (holding_of (table_in (opened_in sources.old) folder) store.old.entries.items))
         (holding_of (table_in (opened_in sources.new) folder) store.new.entries.items) result }
     ensures fails { IfErr result (FailsIn (plan.Build 0 target.now (made_view made.now))) }
     ensures counts { CountsReads (F.failures (device_in sources.old)) (F.failures (device_in sources.new)) result }
@@ -61,9 +65,11 @@ pub(crate) fn measure_target<F: Files>(
 ) -> Result<(), Halt>
     requires over { IsOver (lengths_in (opened_in sources.old)) store.old.entries.items }
     ensures over { IfOk result (λ _. IsOver (lengths_in (opened_in sources.new)) store.new.entries.items) }
-    ensures earlier { (folder : Folder) → F.keeps (device_in sources.new) folder → F.keeps (device_in sources.old) folder }
+    ensures earlier { (folder : Folder) → F.keeps (device_in sources.new) folder →
+        F.keeps (device_in sources.old) folder }
     ensures gives { (folder : Folder) → F.keeps (device_in sources.new) folder → Gives
-        (does MAX_LEN folder (plan.Measure 0 target.now (made_view made.now)) (holding_of (table_in (opened_in sources.old) folder) store.old.entries.items))
+        (does MAX_LEN folder (plan.Measure 0 target.now (made_view made.now))
+        (holding_of (table_in (opened_in sources.old) folder) store.old.entries.items))
         (holding_of (table_in (opened_in sources.new) folder) store.new.entries.items) result }
     ensures fails { IfErr result (FailsIn (plan.Measure 0 target.now (made_view made.now))) }
     ensures counts { CountsReads (F.failures (device_in sources.old)) (F.failures (device_in sources.new)) result }
@@ -89,13 +95,17 @@ fn make<F: Files>(
     made: &Made,
 ) -> Result<Cord, Halt>
     requires over { IsOver (lengths_in (opened_in sources.old)) store.old.entries.items }
-    ensures built { IfOk result (IsMade (F.keeps (device_in sources.new)) (opened_in sources.old) (opened_in sources.new) store.old.entries.items (made_view made.now)) }
-    ensures refused { IfErr result (IsUnmade (F.keeps (device_in sources.new)) (opened_in sources.old) store.old.entries.items (made_view made.now)) }
+    ensures built { IfOk result (IsMade (F.keeps (device_in sources.new)) (opened_in sources.old)
+        (opened_in sources.new) store.old.entries.items (made_view made.now)) }
+    ensures refused { IfErr result (IsUnmade (F.keeps (device_in sources.new))
+        (opened_in sources.old) store.old.entries.items (made_view made.now)) }
     ensures same { IfOk result (λ _. SameEntries store.old.entries.items store.new.entries.items) }
-    ensures earlier { (folder : Folder) → F.keeps (device_in sources.new) folder → F.keeps (device_in sources.old) folder }
+    ensures earlier { (folder : Folder) → F.keeps (device_in sources.new) folder →
+        F.keeps (device_in sources.old) folder }
     ensures grows { Grows (opened_in sources.old) (opened_in sources.new) }
     ensures fails { IfErr result (FailsBy (IsFileMade (made_view made.now)) ⊥) }
-    ensures counts { F.failures (device_in sources.new) ≡ count_after (has_failed result) (F.failures (device_in sources.old)) }
+    ensures counts { F.failures (device_in sources.new)
+        ≡ count_after (has_failed result) (F.failures (device_in sources.old)) }
 {
     match made {
         Made::OfFile(path) => whole_or_lazy(alloc, sources, path),
@@ -141,12 +151,16 @@ fn measure<F: Files>(
     made: &Made,
 ) -> Result<u64, Halt>
     requires over { IsOver (lengths_in (opened_in sources.old)) store.now.entries.items }
-    ensures told { IfOk result (IsLength (F.keeps (device_in sources.new)) (opened_in sources.old) store.now.entries.items (made_view made.now)) }
-    ensures refused { IfErr result (IsUnmeasured (F.keeps (device_in sources.new)) (opened_in sources.old) store.now.entries.items (made_view made.now)) }
-    ensures earlier { (folder : Folder) → F.keeps (device_in sources.new) folder → F.keeps (device_in sources.old) folder }
+    ensures told { IfOk result (IsLength (F.keeps (device_in sources.new))
+        (opened_in sources.old) store.now.entries.items (made_view made.now)) }
+    ensures refused { IfErr result (IsUnmeasured (F.keeps (device_in sources.new))
+        (opened_in sources.old) store.now.entries.items (made_view made.now)) }
+    ensures earlier { (folder : Folder) → F.keeps (device_in sources.new) folder →
+        F.keeps (device_in sources.old) folder }
     ensures grows { Grows (opened_in sources.old) (opened_in sources.new) }
     ensures fails { IfErr result (FailsBy (IsFileMade (made_view made.now)) ⊥) }
-    ensures counts { F.failures (device_in sources.new) ≡ count_after (has_failed result) (F.failures (device_in sources.old)) }
+    ensures counts { F.failures (device_in sources.new)
+        ≡ count_after (has_failed result) (F.failures (device_in sources.old)) }
     ensures unread { OnErr result (opened_in sources.new ≡ opened_in sources.old) }
     ensures unbuilt { TakesNoMemory (made_view made.now) → result ≢ Err Halt.NoMemory }
 {

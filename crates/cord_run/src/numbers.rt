@@ -4,7 +4,8 @@ ghost use Rattle.cord_io.specs.Table.{Table};
 ghost use Rattle.cord_io.specs.declared.TheConstants.{MAX_LEN};
 ghost use Rattle.cord_node.specs.Tables.{lengths_of};
 ghost use Rattle.cord_plan.specs.Operands.{target_of};
-ghost use Rattle.cord_run.specs.inner.Finding.{CountsFinding, FindsOver, in_i64, IsComputed, IsLook, IsNumeric, IsPlace, IsSearch, or_halt};
+ghost use Rattle.cord_run.specs.inner.Finding.{CountsFinding, FindsOver, in_i64, IsComputed, IsLook, IsNumeric};
+ghost use Rattle.cord_run.specs.inner.Finding.{IsPlace, IsSearch, or_halt};
 ghost use Rattle.cord_run.specs.inner.Held.{content_in, cord_in, HasNumber, IsOver, length_in};
 ghost use Rattle.cord_run.specs.inner.Keeping.{KeepsOver, StaysOver};
 ghost use Rattle.cord_run.specs.inner.Served.{CountsReads};
@@ -28,7 +29,8 @@ pub(crate) fn keep_computed(
     requires computed { IsComputed statement.now }
     requires short { (x : List ℕ) → length_in store.old.entries.items x ≤ MAX_LEN }
     ensures over { StaysOver store.old.entries.items store.new.entries.items result }
-    ensures kept { (t : Table) → IsOver (lengths_of t) store.old.entries.items → KeepsOver t statement.now store.old.entries.items store.new.entries.items result }
+    ensures kept { (t : Table) → IsOver (lengths_of t) store.old.entries.items →
+        KeepsOver t statement.now store.old.entries.items store.new.entries.items result }
     ensures counts { (n : ℕ) → CountsReads n n result }
 {
     match computed(store, statement) {
@@ -47,7 +49,8 @@ pub(crate) fn keep_search<R: Source>(
     requires search { IsSearch statement.now }
     requires over { IsOver (R.lengths source.old) store.old.entries.items }
     ensures over { StaysOver store.old.entries.items store.new.entries.items result }
-    ensures kept { (folder : Folder) → R.keeps source.new folder → KeepsOver (R.table source.old folder) statement.now store.old.entries.items store.new.entries.items result }
+    ensures kept { (folder : Folder) → R.keeps source.new folder →
+        KeepsOver (R.table source.old folder) statement.now store.old.entries.items store.new.entries.items result }
     ensures counts { CountsReads (R.failures source.old) (R.failures source.new) result }
     ensures lengths { R.lengths source.new ≡ R.lengths source.old }
     ensures table { R.table source.new ≡ R.table source.old }
@@ -61,7 +64,8 @@ pub(crate) fn keep_search<R: Source>(
 fn computed(store: &Store, statement: &Statement) -> Result<i64, FaultKind>
     requires computed { IsComputed statement.now }
     requires short { (x : List ℕ) → length_in store.now.entries.items x ≤ MAX_LEN }
-    ensures { (t : Table) → IsOver (lengths_of t) store.now.entries.items → FindsOver t statement.now store.now.entries.items (or_halt result) }
+    ensures { (t : Table) → IsOver (lengths_of t) store.now.entries.items →
+        FindsOver t statement.now store.now.entries.items (or_halt result) }
 {
     match statement {
         Statement::Len { operand, .. } => Ok(told_length(store, operand.as_slice())),
@@ -78,7 +82,8 @@ fn computed(store: &Store, statement: &Statement) -> Result<i64, FaultKind>
 fn searched<R: Source>(store: &Store, source: &mut R, statement: &Statement) -> Result<i64, Halt>
     requires search { IsSearch statement.now }
     requires over { IsOver (R.lengths source.old) store.now.entries.items }
-    ensures found { (folder : Folder) → R.keeps source.new folder → FindsOver (R.table source.old folder) statement.now store.now.entries.items result }
+    ensures found { (folder : Folder) → R.keeps source.new folder →
+        FindsOver (R.table source.old folder) statement.now store.now.entries.items result }
     ensures counts { CountsFinding (R.failures source.old) (R.failures source.new) result }
     ensures lengths { R.lengths source.new ≡ R.lengths source.old }
     ensures table { R.table source.new ≡ R.table source.old }
@@ -96,7 +101,8 @@ fn searched<R: Source>(store: &Store, source: &mut R, statement: &Statement) -> 
 fn looked_at<R: Source>(store: &Store, source: &mut R, statement: &Statement) -> Result<i64, Halt>
     requires look { IsLook statement.now }
     requires over { IsOver (R.lengths source.old) store.now.entries.items }
-    ensures found { (folder : Folder) → R.keeps source.new folder → FindsOver (R.table source.old folder) statement.now store.now.entries.items result }
+    ensures found { (folder : Folder) → R.keeps source.new folder →
+        FindsOver (R.table source.old folder) statement.now store.now.entries.items result }
     ensures counts { CountsFinding (R.failures source.old) (R.failures source.new) result }
     ensures lengths { R.lengths source.new ≡ R.lengths source.old }
     ensures table { R.table source.new ≡ R.table source.old }
@@ -135,7 +141,8 @@ fn looked_at<R: Source>(store: &Store, source: &mut R, statement: &Statement) ->
 fn place_found<R: Source>(store: &Store, source: &mut R, statement: &Statement) -> Result<i64, Halt>
     requires place { IsPlace statement.now }
     requires over { IsOver (R.lengths source.old) store.now.entries.items }
-    ensures found { (folder : Folder) → R.keeps source.new folder → FindsOver (R.table source.old folder) statement.now store.now.entries.items result }
+    ensures found { (folder : Folder) → R.keeps source.new folder →
+        FindsOver (R.table source.old folder) statement.now store.now.entries.items result }
     ensures counts { CountsFinding (R.failures source.old) (R.failures source.new) result }
     ensures lengths { R.lengths source.new ≡ R.lengths source.old }
     ensures table { R.table source.new ≡ R.table source.old }

@@ -8,7 +8,8 @@ ghost use Rattle.cord_plan.specs.Values.{measured_copies};
 ghost use Rattle.cord_plan.specs.Views.{expr_view};
 ghost use Rattle.cord_run.specs.inner.Extents.{extent_in, members_extent, members_seen};
 ghost use Rattle.cord_run.specs.inner.Held.{content_in, cord_in, length_in, operand_in};
-ghost use Rattle.cord_run.specs.inner.Ranges.{AddsCopies, AddsExpression, AddsMembers, AddsPart, AddsRun, AreFew, IsAfter, IsInside, IsOutside, IsPast};
+ghost use Rattle.cord_run.specs.inner.Ranges.{AddsCopies, AddsExpression, AddsMembers, AddsPart, AddsRun, AreFew};
+ghost use Rattle.cord_run.specs.inner.Ranges.{IsAfter, IsInside, IsOutside, IsPast};
 ghost use Rattle.cord_run.specs.inner.Turns.{AddsAtMostOne, AddsInTurn, AreCopies, IsCutOf, origins, origins_of};
 
 use crate::checks::{as_byte, as_index};
@@ -90,8 +91,10 @@ pub(crate) fn add_range(
     wanted: Wanted,
     pieces: &mut Vec<Cord>,
 ) -> Result<Wanted, CordError>
-    ensures added { IfOk result (λ _. AddsExpression store.now.entries.items (expr_view expression.now) wanted pieces.old.items pieces.new.items) }
-    ensures in_turn { IfOk result (λ _. AddsInTurn store.now.entries.items (origins (expr_view expression.now)) pieces.old.items pieces.new.items) }
+    ensures added { IfOk result (λ _. AddsExpression store.now.entries.items
+        (expr_view expression.now) wanted pieces.old.items pieces.new.items) }
+    ensures in_turn { IfOk result (λ _. AddsInTurn store.now.entries.items
+        (origins (expr_view expression.now)) pieces.old.items pieces.new.items) }
     ensures past { IfOk result (IsAfter (extent_in store.now.entries.items (expr_view expression.now)) wanted) }
     ensures few { IfOk result (λ after. AreFew wanted after pieces.old.items pieces.new.items) }
     ensures refused { IsOkUnless result CordError.NoMemory }
@@ -122,8 +125,10 @@ fn add_members(
     wanted: Wanted,
     pieces: &mut Vec<Cord>,
 ) -> Result<Wanted, CordError>
-    ensures added { IfOk result (λ _. AddsMembers store.now.entries.items (members_seen members.now) wanted pieces.old.items pieces.new.items) }
-    ensures in_turn { IfOk result (λ _. AddsInTurn store.now.entries.items (origins_of (members_seen members.now)) pieces.old.items pieces.new.items) }
+    ensures added { IfOk result (λ _. AddsMembers store.now.entries.items
+        (members_seen members.now) wanted pieces.old.items pieces.new.items) }
+    ensures in_turn { IfOk result (λ _. AddsInTurn store.now.entries.items
+        (origins_of (members_seen members.now)) pieces.old.items pieces.new.items) }
     ensures past { IfOk result (IsAfter (members_extent store.now.entries.items (members_seen members.now)) wanted) }
     ensures few { IfOk result (λ after. AreFew wanted after pieces.old.items pieces.new.items) }
     ensures refused { IsOkUnless result CordError.NoMemory }
@@ -158,8 +163,10 @@ fn add_name(
     wanted: Wanted,
     pieces: &mut Vec<Cord>,
 ) -> Result<Wanted, CordError>
-    ensures added { IfOk result (λ _. AddsPart (cord_in (content_in store.now.entries.items name.now)) wanted pieces.old.items pieces.new.items) }
-    ensures in_turn { IfOk result (λ _. AddsAtMostOne (IsCutOf (cord_in (content_in store.now.entries.items name.now))) pieces.old.items pieces.new.items) }
+    ensures added { IfOk result (λ _. AddsPart (cord_in (content_in store.now.entries.items name.now)) wanted
+        pieces.old.items pieces.new.items) }
+    ensures in_turn { IfOk result (λ _. AddsAtMostOne (IsCutOf (cord_in (content_in store.now.entries.items name.now)))
+        pieces.old.items pieces.new.items) }
     ensures past { IfOk result (IsPast (length_in store.now.entries.items name.now) wanted) }
     ensures few { IfOk result (λ after. AreFew wanted after pieces.old.items pieces.new.items) }
     ensures refused { IsOkUnless result CordError.NoMemory }
@@ -202,9 +209,13 @@ fn add_run(
     wanted: Wanted,
     pieces: &mut Vec<Cord>,
 ) -> Result<Wanted, CordError>
-    ensures added { IfOk result (λ _. AddsRun (operand_in store.now.entries.items byte.now) (operand_in store.now.entries.items count.now) wanted pieces.old.items pieces.new.items) }
-    ensures in_turn { IfOk result (λ _. AddsAtMostOne (AreCopies (operand_in store.now.entries.items byte.now)) pieces.old.items pieces.new.items) }
-    ensures past { IfOk result (IsAfter (measured_copies MAX_LEN (operand_in store.now.entries.items byte.now) (operand_in store.now.entries.items count.now)) wanted) }
+    ensures added { IfOk result (λ _. AddsRun (operand_in store.now.entries.items byte.now)
+        (operand_in store.now.entries.items count.now) wanted pieces.old.items pieces.new.items) }
+    ensures in_turn { IfOk result (λ _. AddsAtMostOne (AreCopies (operand_in store.now.entries.items byte.now))
+        pieces.old.items pieces.new.items) }
+    ensures past { IfOk result
+        (IsAfter (measured_copies MAX_LEN (operand_in store.now.entries.items byte.now)
+        (operand_in store.now.entries.items count.now)) wanted) }
     ensures few { IfOk result (λ after. AreFew wanted after pieces.old.items pieces.new.items) }
     ensures refused { IsOkUnless result CordError.NoMemory }
 {

@@ -23,7 +23,8 @@ pub(crate) fn print(
     arguments: &[Argument],
 ) -> Result<Cord, Halt>
     ensures made { IfOk result (IsTextOver store.now.entries.items (λ s. format_text s format.now arguments.now)) }
-    ensures refused { IfErr result (IsFaultOver store.now.entries.items (λ s. and_then (format_text s format.now arguments.now) (λ t. within MAX_LEN t))) }
+    ensures refused { IfErr result (IsFaultOver store.now.entries.items
+        (λ s. and_then (format_text s format.now arguments.now) (λ t. within MAX_LEN t))) }
 {
     let args = given(alloc, store, arguments)?;
     let cord = sprintf(alloc, format, &args)?;
@@ -37,8 +38,10 @@ pub(crate) fn print_length(
     format: &Format,
     arguments: &[Argument],
 ) -> Result<u64, Halt>
-    ensures told { IfOk result (IsToldOver store.now.entries.items (λ s. and_then (format_text s format.now arguments.now) (λ t. within MAX_LEN t))) }
-    ensures refused { IfErr result (IsFaultOver store.now.entries.items (λ s. and_then (format_text s format.now arguments.now) (λ t. within MAX_LEN t))) }
+    ensures told { IfOk result (IsToldOver store.now.entries.items
+        (λ s. and_then (format_text s format.now arguments.now) (λ t. within MAX_LEN t))) }
+    ensures refused { IfErr result (IsFaultOver store.now.entries.items
+        (λ s. and_then (format_text s format.now arguments.now) (λ t. within MAX_LEN t))) }
 {
     let args = given(alloc, store, arguments)?;
     let len = sprintf_len(format, &args)?;
@@ -47,7 +50,8 @@ pub(crate) fn print_length(
 
 // The arguments of a print, of which cords are shared.
 fn given(alloc: Global, store: &Store, arguments: &[Argument]) -> Result<Vec<Arg>, CordError>
-    ensures given { IfOk result (λ args. args.items ≡ map (λ argument. argument_in store.now.entries.items argument) arguments.now) }
+    ensures given { IfOk result (λ args. args.items ≡ map (λ argument. argument_in store.now.entries.items argument)
+        arguments.now) }
     ensures refused { IsOkUnless result CordError.NoMemory }
 {
     let mut args = Vec::with_capacity(alloc, arguments.len())?;

@@ -31,11 +31,20 @@ fn run_over<F: Files, S: Sink>(
 ) -> End
     requires files_count { F.failures (device_in sources.old) < 2 ^ 64 - 1 }
     requires sink_count { S.failures sink.old < 2 ^ 64 - 1 }
-    ensures earlier { (folder : Folder) → F.keeps (device_in sources.new) folder → F.keeps (device_in sources.old) folder }
-    ensures honest { (folder : Folder) → F.keeps (device_in sources.new) folder → HonestPlan folder (map operation_view plan.now) (S.taken sink.old) (S.taken sink.new) result }
+    ensures earlier { (folder : Folder) → F.keeps (device_in sources.new) folder →
+        F.keeps (device_in sources.old) folder }
+    ensures honest { (folder : Folder) → F.keeps (device_in sources.new) folder →
+        HonestPlan folder (map operation_view plan.now) (S.taken sink.old) (S.taken sink.new) result }
     ensures fails { FailsAmong (map operation_view plan.now) result }
     ensures cause { NamesCause
-        (record { files_before = F.failures (device_in sources.old); files_after = F.failures (device_in sources.new); sink_before = S.failures sink.old; sink_after = S.failures sink.new; finished_before = S.finished sink.old; finished_after = S.finished sink.new }) result }
+        (record {
+          files_before = F.failures (device_in sources.old);
+          files_after = F.failures (device_in sources.new);
+          sink_before = S.failures sink.old;
+          sink_after = S.failures sink.new;
+          finished_before = S.finished sink.old;
+          finished_after = S.finished sink.new;
+        }) result }
 {
     let own = end_of_run(run_plan(alloc, plan, sources, sink));
     close_output(own, sink)
@@ -47,12 +56,29 @@ fn run_over<F: Files, S: Sink>(
 pub fn run<F: Files, S: Sink>(alloc: Global, plan: &Plan, files: F, sink: &mut S) -> (End, F)
     requires files_count { F.failures files < 2 ^ 64 - 1 }
     requires sink_count { S.failures sink.old < 2 ^ 64 - 1 }
-    ensures honest { (statements : List Statement) → IsPlanOf statements (map operation_view plan.now) → FailsNowhereElse statements (map operation_view plan.now) →
-        (g : Grammar) (script : List ℕ) → ReadsBy g script statements → (folder : Folder) → F.keeps result.1 folder → EndsHonestly statements folder (S.taken sink.old) (S.taken sink.new)
-        (record { files_before = F.failures files; files_after = F.failures result.1; sink_before = S.failures sink.old; sink_after = S.failures sink.new; finished_before = S.finished sink.old; finished_after = S.finished sink.new }) result.0 }
-    ensures fails { (statements : List Statement) → FailsNowhereElse statements (map operation_view plan.now) → FailsWhere statements result.0 }
+    ensures honest { (statements : List Statement) → IsPlanOf statements (map operation_view plan.now) →
+        FailsNowhereElse statements (map operation_view plan.now) →
+        (g : Grammar) (script : List ℕ) → ReadsBy g script statements → (folder : Folder) → F.keeps result.1 folder →
+        EndsHonestly statements folder (S.taken sink.old) (S.taken sink.new)
+        (record {
+          files_before = F.failures files;
+          files_after = F.failures result.1;
+          sink_before = S.failures sink.old;
+          sink_after = S.failures sink.new;
+          finished_before = S.finished sink.old;
+          finished_after = S.finished sink.new;
+        }) result.0 }
+    ensures fails { (statements : List Statement) → FailsNowhereElse statements (map operation_view plan.now) →
+        FailsWhere statements result.0 }
     ensures cause { NamesCause
-        (record { files_before = F.failures files; files_after = F.failures result.1; sink_before = S.failures sink.old; sink_after = S.failures sink.new; finished_before = S.finished sink.old; finished_after = S.finished sink.new }) result.0 }
+        (record {
+          files_before = F.failures files;
+          files_after = F.failures result.1;
+          sink_before = S.failures sink.old;
+          sink_after = S.failures sink.new;
+          finished_before = S.finished sink.old;
+          finished_after = S.finished sink.new;
+        }) result.0 }
     ensures earlier { (folder : Folder) → F.keeps result.1 folder → F.keeps files folder }
 {
     match Sources::new(alloc, files) {
@@ -78,12 +104,33 @@ pub fn run_text<F: Files, S: Sink>(
     requires files_count { F.failures files < 2 ^ 64 - 1 }
     requires sink_count { S.failures sink.old < 2 ^ 64 - 1 }
     ensures run { IfOk result.0 (Runs script.now (F.keeps result.1) (S.taken sink.old) (S.taken sink.new)
-        (record { files_before = F.failures files; files_after = F.failures result.1; sink_before = S.failures sink.old; sink_after = S.failures sink.new; finished_before = S.finished sink.old; finished_after = S.finished sink.new })) }
+        (record {
+          files_before = F.failures files;
+          files_after = F.failures result.1;
+          sink_before = S.failures sink.old;
+          sink_after = S.failures sink.new;
+          finished_before = S.finished sink.old;
+          finished_after = S.finished sink.new;
+        })) }
     ensures cause { IfOk result.0 (NamesCause
-        (record { files_before = F.failures files; files_after = F.failures result.1; sink_before = S.failures sink.old; sink_after = S.failures sink.new; finished_before = S.finished sink.old; finished_after = S.finished sink.new })) }
+        (record {
+          files_before = F.failures files;
+          files_after = F.failures result.1;
+          sink_before = S.failures sink.old;
+          sink_after = S.failures sink.new;
+          finished_before = S.finished sink.old;
+          finished_after = S.finished sink.new;
+        })) }
     ensures refused { OnErr result.0 (S.taken sink.new ≡ S.taken sink.old) }
     ensures unasked { OnErr result.0 (NothingCalled
-        (record { files_before = F.failures files; files_after = F.failures result.1; sink_before = S.failures sink.old; sink_after = S.failures sink.new; finished_before = S.finished sink.old; finished_after = S.finished sink.new })) }
+        (record {
+          files_before = F.failures files;
+          files_after = F.failures result.1;
+          sink_before = S.failures sink.old;
+          sink_after = S.failures sink.new;
+          finished_before = S.finished sink.old;
+          finished_after = S.finished sink.new;
+        })) }
     ensures flaw { IfErr result.0 (λ r. r.kind ≢ RefusalKind.NoMemory → Flaw script.now r.line r.kind) }
     ensures earlier { (folder : Folder) → F.keeps result.1 folder → F.keeps files folder }
 {
@@ -113,12 +160,33 @@ pub fn run_unplanned<F: Files, S: Sink>(
     requires files_count { F.failures files < 2 ^ 64 - 1 }
     requires sink_count { S.failures sink.old < 2 ^ 64 - 1 }
     ensures run { IfOk result.0 (Runs script.now (F.keeps result.1) (S.taken sink.old) (S.taken sink.new)
-        (record { files_before = F.failures files; files_after = F.failures result.1; sink_before = S.failures sink.old; sink_after = S.failures sink.new; finished_before = S.finished sink.old; finished_after = S.finished sink.new })) }
+        (record {
+          files_before = F.failures files;
+          files_after = F.failures result.1;
+          sink_before = S.failures sink.old;
+          sink_after = S.failures sink.new;
+          finished_before = S.finished sink.old;
+          finished_after = S.finished sink.new;
+        })) }
     ensures cause { IfOk result.0 (NamesCause
-        (record { files_before = F.failures files; files_after = F.failures result.1; sink_before = S.failures sink.old; sink_after = S.failures sink.new; finished_before = S.finished sink.old; finished_after = S.finished sink.new })) }
+        (record {
+          files_before = F.failures files;
+          files_after = F.failures result.1;
+          sink_before = S.failures sink.old;
+          sink_after = S.failures sink.new;
+          finished_before = S.finished sink.old;
+          finished_after = S.finished sink.new;
+        })) }
     ensures refused { OnErr result.0 (S.taken sink.new ≡ S.taken sink.old) }
     ensures unasked { OnErr result.0 (NothingCalled
-        (record { files_before = F.failures files; files_after = F.failures result.1; sink_before = S.failures sink.old; sink_after = S.failures sink.new; finished_before = S.finished sink.old; finished_after = S.finished sink.new })) }
+        (record {
+          files_before = F.failures files;
+          files_after = F.failures result.1;
+          sink_before = S.failures sink.old;
+          sink_after = S.failures sink.new;
+          finished_before = S.finished sink.old;
+          finished_after = S.finished sink.new;
+        })) }
     ensures flaw { IfErr result.0 (λ r. r.kind ≢ RefusalKind.NoMemory → Flaw script.now r.line r.kind) }
     ensures earlier { (folder : Folder) → F.keeps result.1 folder → F.keeps files folder }
 {

@@ -5,7 +5,8 @@ ghost use Rattle.cord_core.specs.Texts.{order};
 ghost use Rattle.cord_io.specs.declared.TheConstants.{MAX_LEN};
 ghost use Rattle.cord_meaning.specs.State as meant;
 ghost use Rattle.cord_meaning.specs.Statements as statements;
-ghost use Rattle.cord_run.specs.inner.Finding.{byte_place, CountsFinding, fetched, Finds, last_place, parts_order, Refuses, text_place};
+ghost use Rattle.cord_run.specs.inner.Finding.{byte_place, CountsFinding, fetched, Finds, last_place, parts_order};
+ghost use Rattle.cord_run.specs.inner.Finding.{Refuses, text_place};
 ghost use Rattle.cord_io.specs.Device.{Folder};
 
 use crate::checks::{as_byte, as_index};
@@ -17,7 +18,8 @@ use cord_meaning::FaultKind;
 /// The byte of a cord at a place.
 pub(crate) fn fetched<R: Source>(cord: &Cord, index: i64, source: &mut R) -> Result<i64, Halt>
     requires fits { CordFitsIn (R.lengths source.old) cord.now }
-    ensures found { (folder : Folder) → R.keeps source.new folder → Finds (fetched (bytes_of (R.table source.old folder) cord.now) index) result }
+    ensures found { (folder : Folder) → R.keeps source.new folder →
+        Finds (fetched (bytes_of (R.table source.old folder) cord.now) index) result }
     ensures counts { CountsFinding (R.failures source.old) (R.failures source.new) result }
     ensures lengths { R.lengths source.new ≡ R.lengths source.old }
     ensures table { R.table source.new ≡ R.table source.old }
@@ -37,7 +39,9 @@ pub(crate) fn fetched<R: Source>(cord: &Cord, index: i64, source: &mut R) -> Res
 pub(crate) fn compared<R: Source>(left: &Cord, right: &Cord, source: &mut R) -> Result<i64, Halt>
     requires left_fits { CordFitsIn (R.lengths source.old) left.now }
     requires right_fits { CordFitsIn (R.lengths source.old) right.now }
-    ensures found { (folder : Folder) → R.keeps source.new folder → Finds (Ok (order (bytes_of (R.table source.old folder) left.now) (bytes_of (R.table source.old folder) right.now))) result }
+    ensures found { (folder : Folder) → R.keeps source.new folder →
+        Finds (Ok (order (bytes_of (R.table source.old folder) left.now)
+        (bytes_of (R.table source.old folder) right.now))) result }
     ensures counts { CountsFinding (R.failures source.old) (R.failures source.new) result }
     ensures lengths { R.lengths source.new ≡ R.lengths source.old }
     ensures table { R.table source.new ≡ R.table source.old }
@@ -60,7 +64,9 @@ pub(crate) fn parts_compared<R: Source>(
 ) -> Result<i64, Halt>
     requires left_fits { CordFitsIn (R.lengths source.old) left.now }
     requires right_fits { CordFitsIn (R.lengths source.old) right.now }
-    ensures found { (folder : Folder) → R.keeps source.new folder → Finds (parts_order (bytes_of (R.table source.old folder) left.now) left_start (bytes_of (R.table source.old folder) right.now) right_start count) result }
+    ensures found { (folder : Folder) → R.keeps source.new folder →
+        Finds (parts_order (bytes_of (R.table source.old folder) left.now) left_start
+        (bytes_of (R.table source.old folder) right.now) right_start count) result }
     ensures counts { CountsFinding (R.failures source.old) (R.failures source.new) result }
     ensures lengths { R.lengths source.new ≡ R.lengths source.old }
     ensures table { R.table source.new ≡ R.table source.old }
@@ -84,7 +90,9 @@ pub(crate) fn text_found<R: Source>(
 ) -> Result<i64, Halt>
     requires fits { CordFitsIn (R.lengths source.old) cord.now }
     requires pattern_fits { CordFitsIn (R.lengths source.old) pattern.now }
-    ensures found { (folder : Folder) → R.keeps source.new folder → Finds (text_place (bytes_of (R.table source.old folder) cord.now) start (bytes_of (R.table source.old folder) pattern.now)) result }
+    ensures found { (folder : Folder) → R.keeps source.new folder →
+        Finds (text_place (bytes_of (R.table source.old folder) cord.now) start
+        (bytes_of (R.table source.old folder) pattern.now)) result }
     ensures counts { CountsFinding (R.failures source.old) (R.failures source.new) result }
     ensures lengths { R.lengths source.new ≡ R.lengths source.old }
     ensures table { R.table source.new ≡ R.table source.old }
@@ -106,7 +114,8 @@ pub(crate) fn byte_found<R: Source>(
     source: &mut R,
 ) -> Result<i64, Halt>
     requires fits { CordFitsIn (R.lengths source.old) cord.now }
-    ensures found { (folder : Folder) → R.keeps source.new folder → Finds (byte_place (bytes_of (R.table source.old folder) cord.now) start byte) result }
+    ensures found { (folder : Folder) → R.keeps source.new folder →
+        Finds (byte_place (bytes_of (R.table source.old folder) cord.now) start byte) result }
     ensures counts { CountsFinding (R.failures source.old) (R.failures source.new) result }
     ensures lengths { R.lengths source.new ≡ R.lengths source.old }
     ensures table { R.table source.new ≡ R.table source.old }
@@ -132,7 +141,8 @@ pub(crate) fn last_found<R: Source>(
     source: &mut R,
 ) -> Result<i64, Halt>
     requires fits { CordFitsIn (R.lengths source.old) cord.now }
-    ensures found { (folder : Folder) → R.keeps source.new folder → Finds (last_place (bytes_of (R.table source.old folder) cord.now) start byte) result }
+    ensures found { (folder : Folder) → R.keeps source.new folder →
+        Finds (last_place (bytes_of (R.table source.old folder) cord.now) start byte) result }
     ensures counts { CountsFinding (R.failures source.old) (R.failures source.new) result }
     ensures lengths { R.lengths source.new ≡ R.lengths source.old }
     ensures table { R.table source.new ≡ R.table source.old }

@@ -35,14 +35,17 @@ pub(crate) fn serve<F: Files, S: Sink>(
     requires kept { KeepsNoOther (operation_view operation.now) }
     requires over { IsOver (lengths_in (opened_in sources.old)) store.old.entries.items }
     ensures over { IfOk result (λ _. IsOver (lengths_in (opened_in sources.new)) store.new.entries.items) }
-    ensures earlier { (folder : Folder) → F.keeps (device_in sources.new) folder → F.keeps (device_in sources.old) folder }
+    ensures earlier { (folder : Folder) → F.keeps (device_in sources.new) folder →
+        F.keeps (device_in sources.old) folder }
     ensures serves { (folder : Folder) → F.keeps (device_in sources.new) folder → Serves
-        (does MAX_LEN folder (operation_view operation.now) (holding_of (table_in (opened_in sources.old) folder) store.old.entries.items))
+        (does MAX_LEN folder (operation_view operation.now)
+        (holding_of (table_in (opened_in sources.old) folder) store.old.entries.items))
         (holding_of (table_in (opened_in sources.new) folder) store.new.entries.items)
         (S.taken sink.old) (S.taken sink.new) result }
     ensures finished { S.finished sink.new ≡ S.finished sink.old }
     ensures fails { IfErr result (FailsIn (operation_view operation.now)) }
-    ensures counts { CountsHalts (record { source = F.failures (device_in sources.old); sink = S.failures sink.old }) (record { source = F.failures (device_in sources.new); sink = S.failures sink.new }) result }
+    ensures counts { CountsHalts (record { source = F.failures (device_in sources.old); sink = S.failures sink.old })
+        (record { source = F.failures (device_in sources.new); sink = S.failures sink.new }) result }
 {
     match operation {
         Operation::Build { target, made, .. } => {
@@ -66,13 +69,16 @@ fn put<F: Files, S: Sink>(
 ) -> Result<(), Halt>
     requires over { IsOver (lengths_in (opened_in sources.old)) store.now.entries.items }
     ensures over { IsOver (lengths_in (opened_in sources.new)) store.now.entries.items }
-    ensures earlier { (folder : Folder) → F.keeps (device_in sources.new) folder → F.keeps (device_in sources.old) folder }
+    ensures earlier { (folder : Folder) → F.keeps (device_in sources.new) folder →
+        F.keeps (device_in sources.old) folder }
     ensures serves { (folder : Folder) → F.keeps (device_in sources.new) folder → Serves
-        (does MAX_LEN folder (plan.Write 0 (expr_view expression.now)) (holding_of (table_in (opened_in sources.old) folder) store.now.entries.items))
+        (does MAX_LEN folder (plan.Write 0 (expr_view expression.now))
+        (holding_of (table_in (opened_in sources.old) folder) store.now.entries.items))
         (holding_of (table_in (opened_in sources.new) folder) store.now.entries.items)
         (S.taken sink.old) (S.taken sink.new) result }
     ensures finished { S.finished sink.new ≡ S.finished sink.old }
-    ensures counts { CountsHalts (record { source = F.failures (device_in sources.old); sink = S.failures sink.old }) (record { source = F.failures (device_in sources.new); sink = S.failures sink.new }) result }
+    ensures counts { CountsHalts (record { source = F.failures (device_in sources.old); sink = S.failures sink.old })
+        (record { source = F.failures (device_in sources.new); sink = S.failures sink.new }) result }
 {
     write(alloc, expression, store, sources, sink)
 }

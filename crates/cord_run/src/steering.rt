@@ -41,7 +41,8 @@ pub(crate) fn steer(
 ) -> Result<(), Barred>
     requires control { IsControl (shape_of statement.now) }
     requires place { (where_of control.old).place < 2 ^ 64 - 1 }
-    ensures { Goes (goal_of statement.now store.now.entries.items behind (where_of control.old)) (IsRefusedAt statement.now (where_of control.old)) (where_of control.new) result }
+    ensures { Goes (goal_of statement.now store.now.entries.items behind (where_of control.old))
+        (IsRefusedAt statement.now (where_of control.old)) (where_of control.new) result }
 {
     match statement {
         Statement::Repeat { line, count } => control.repeat(*line, behind, store.value_of(count)),

@@ -1,9 +1,12 @@
 // What the names of a run of a plan hold.
-ghost use Rattle.std.specs.Prelude.{◌≡◌, ◌+◌, ◌<◌, ◌≤◌, ◌∷◌, ℕ, ℤ, List, pos, true, false, [], length, IfOk, IfSome, IfNone, IsErr, OnOk, Err, None, Some};
+ghost use Rattle.std.specs.Prelude.{◌≡◌, ◌+◌, ◌<◌, ◌≤◌, ◌∷◌, ℕ, ℤ, List, pos, true, false, [], length, IfOk, IfSome};
+ghost use Rattle.std.specs.Prelude.{IfNone, IsErr, OnOk, Err, None, Some};
 ghost use Rattle.cord_core.specs.Cord.{text_len};
 ghost use Rattle.cord_ec.specs.Grown.{IsGrownBy};
 ghost use Rattle.cord_run.specs.inner.Extending.{cells_of, Grew, GrewTo};
-ghost use Rattle.cord_run.specs.inner.Held.{are_distinct, cells_in, content_in, cord_in, extensible_in, length_in, names_in, number_in, operand_in, HasContent, HasExtensible, HasNoEntry, HasNumber, IsEntryAt, SameEntries};
+ghost use Rattle.cord_run.specs.inner.Held.{are_distinct, cells_in, content_in, cord_in, extensible_in, length_in};
+ghost use Rattle.cord_run.specs.inner.Held.{names_in, number_in, operand_in, HasContent, HasExtensible, HasNoEntry};
+ghost use Rattle.cord_run.specs.inner.Held.{HasNumber, IsEntryAt, SameEntries};
 ghost use Rattle.cord_run.specs.inner.Places.{Begin};
 
 use cord_core::Cord;
@@ -254,7 +257,8 @@ impl Store {
     /// The number of the entry at a place.
     pub(crate) fn number_at(&self, place: usize) -> i64
         requires { place < length self.now.entries.items }
-        ensures { (name : List ℕ) → IsEntryAt self.now.entries.items name place → result ≡ number_in self.now.entries.items name }
+        ensures { (name : List ℕ) → IsEntryAt self.now.entries.items name place →
+            result ≡ number_in self.now.entries.items name }
     {
         self.entries[place].number
     }
@@ -262,7 +266,8 @@ impl Store {
     /// Gives the name of the entry at a place a number.
     pub(crate) fn set_number_at(&mut self, place: usize, number: i64)
         requires { place < length self.old.entries.items }
-        ensures set { (name : List ℕ) → IsEntryAt self.old.entries.items name place → HasNumber name number self.old.entries.items self.new.entries.items }
+        ensures set { (name : List ℕ) → IsEntryAt self.old.entries.items name place →
+            HasNumber name number self.old.entries.items self.new.entries.items }
         ensures names { names_in self.new.entries.items ≡ names_in self.old.entries.items }
     {
         set_number(&mut self.entries, place, number);
@@ -303,7 +308,8 @@ impl Store {
         name: &[u8],
         extensible: ExtCord,
     ) -> Result<(), AllocError>
-        ensures { IfOk result (λ _. HasExtensible name.now (Some extensible.text) self.old.entries.items self.new.entries.items) }
+        ensures { IfOk result (λ _. HasExtensible name.now (Some extensible.text) self.old.entries.items
+            self.new.entries.items) }
     {
         let place = place_for(alloc, &mut self.entries, &mut self.guesses, name)?;
         let _ = set_extensible(&mut self.entries, name, place, Some(extensible));
@@ -318,8 +324,10 @@ impl Store {
         bytes: &[u8],
     ) -> Result<(), CordError>
         ensures grown { IfOk result (λ _. Grew name.now bytes.now self.old.entries.items self.new.entries.items) }
-        ensures fits { OnOk result (length (cells_of (extensible_in self.old.entries.items name.now)) + length bytes.now ≤ MAX_LEN) }
-        ensures too_long { result ≡ Err CordError.TooLong → MAX_LEN < length (cells_of (extensible_in self.old.entries.items name.now)) + length bytes.now }
+        ensures fits { OnOk result (length (cells_of (extensible_in self.old.entries.items name.now))
+            + length bytes.now ≤ MAX_LEN) }
+        ensures too_long { result ≡ Err CordError.TooLong →
+            MAX_LEN < length (cells_of (extensible_in self.old.entries.items name.now)) + length bytes.now }
     {
         let place = place_for(alloc, &mut self.entries, &mut self.guesses, name)?;
         append_at(alloc, &mut self.entries, name, place, bytes)
@@ -328,8 +336,10 @@ impl Store {
     /// Lets the extensible cord of the name of the entry at a place grow by bytes. Answers whether it did: else nothing has changed.
     pub(crate) fn append_at(&mut self, alloc: Global, place: usize, bytes: &[u8]) -> bool
         requires { place < length self.old.entries.items }
-        ensures grown { result ≡ true → (name : List ℕ) → IsEntryAt self.old.entries.items name place → Grew name bytes.now self.old.entries.items self.new.entries.items }
-        ensures fits { result ≡ true → (name : List ℕ) → IsEntryAt self.old.entries.items name place → length (cells_of (extensible_in self.old.entries.items name)) + length bytes.now ≤ MAX_LEN }
+        ensures grown { result ≡ true → (name : List ℕ) → IsEntryAt self.old.entries.items name place →
+            Grew name bytes.now self.old.entries.items self.new.entries.items }
+        ensures fits { result ≡ true → (name : List ℕ) → IsEntryAt self.old.entries.items name place →
+            length (cells_of (extensible_in self.old.entries.items name)) + length bytes.now ≤ MAX_LEN }
         ensures left { result ≡ false → self.new.entries.items ≡ self.old.entries.items }
         ensures names { names_in self.new.entries.items ≡ names_in self.old.entries.items }
     {
@@ -392,8 +402,10 @@ fn set_extensible(
 // Lets the extensible cord in the entry at a place grow by bytes. Answers whether it did.
 fn append_bytes(alloc: Global, entries: &mut [Entry], place: usize, bytes: &[u8]) -> bool
     requires { place < length entries.old }
-    ensures grown { result ≡ true → (name : List ℕ) → IsEntryAt entries.old name place → Grew name bytes.now entries.old entries.new }
-    ensures fits { result ≡ true → (name : List ℕ) → IsEntryAt entries.old name place → length (cells_of (extensible_in entries.old name)) + length bytes.now ≤ MAX_LEN }
+    ensures grown { result ≡ true → (name : List ℕ) → IsEntryAt entries.old name place →
+        Grew name bytes.now entries.old entries.new }
+    ensures fits { result ≡ true → (name : List ℕ) → IsEntryAt entries.old name place →
+        length (cells_of (extensible_in entries.old name)) + length bytes.now ≤ MAX_LEN }
     ensures left { result ≡ false → entries.new ≡ entries.old }
     ensures names { names_in entries.new ≡ names_in entries.old }
     ensures distinct { are_distinct (names_in entries.old) ≡ true → are_distinct (names_in entries.new) ≡ true }
@@ -429,7 +441,8 @@ fn append_at(
     requires place { IsEntryAt entries.old name.now place }
     ensures grown { IfOk result (λ _. Grew name.now bytes.now entries.old entries.new) }
     ensures fits { OnOk result (length (cells_of (extensible_in entries.old name.now)) + length bytes.now ≤ MAX_LEN) }
-    ensures too_long { result ≡ Err CordError.TooLong → MAX_LEN < length (cells_of (extensible_in entries.old name.now)) + length bytes.now }
+    ensures too_long { result ≡ Err CordError.TooLong →
+        MAX_LEN < length (cells_of (extensible_in entries.old name.now)) + length bytes.now }
     ensures distinct { are_distinct (names_in entries.old) ≡ true → are_distinct (names_in entries.new) ≡ true }
 {
     let _ = name;
@@ -441,7 +454,8 @@ fn append_at(
 fn append_to(alloc: Global, extensible: &mut Option<ExtCord>, bytes: &[u8]) -> Result<(), CordError>
     ensures grown { IfOk result (λ _. GrewTo bytes.now extensible.old extensible.new) }
     ensures fits { OnOk result (length (cells_of (cells_in extensible.old)) + length bytes.now ≤ MAX_LEN) }
-    ensures too_long { result ≡ Err CordError.TooLong → MAX_LEN < length (cells_of (cells_in extensible.old)) + length bytes.now }
+    ensures too_long { result ≡ Err CordError.TooLong → MAX_LEN < length (cells_of (cells_in extensible.old))
+        + length bytes.now }
 {
     match extensible {
         Some(grown) => append(alloc, grown, bytes),

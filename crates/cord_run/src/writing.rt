@@ -33,8 +33,12 @@ pub(crate) fn write<R: Source, S: Sink>(
     sink: &mut S,
 ) -> Result<(), Halt>
     requires over { IsOver (R.lengths source.old) store.now.entries.items }
-    ensures wrote { (folder : Folder) → R.keeps source.new folder → all_texts (holding_of (R.table source.old folder) store.now.entries.items) (cords (expr_view expression.now)) ≡ true → Wrote (text_in MAX_LEN (plain_of (R.table source.old folder) store.now.entries.items) (expr_view expression.now)) (S.taken sink.old) (S.taken sink.new) result }
-    ensures counts { CountsHalts (record { source = R.failures source.old; sink = S.failures sink.old }) (record { source = R.failures source.new; sink = S.failures sink.new }) result }
+    ensures wrote { (folder : Folder) → R.keeps source.new folder →
+        all_texts (holding_of (R.table source.old folder) store.now.entries.items) (cords (expr_view expression.now))
+        ≡ true → Wrote (text_in MAX_LEN (plain_of (R.table source.old folder) store.now.entries.items)
+        (expr_view expression.now)) (S.taken sink.old) (S.taken sink.new) result }
+    ensures counts { CountsHalts (record { source = R.failures source.old; sink = S.failures sink.old })
+        (record { source = R.failures source.new; sink = S.failures sink.new }) result }
     ensures finished { S.finished sink.new ≡ S.finished sink.old }
     ensures lengths { R.lengths source.new ≡ R.lengths source.old }
     ensures table { R.table source.new ≡ R.table source.old }
@@ -58,8 +62,12 @@ fn write_parts<R: Source, S: Sink>(
     sink: &mut S,
 ) -> Result<(), Halt>
     requires over { IsOver (R.lengths source.old) store.now.entries.items }
-    ensures wrote { (folder : Folder) → R.keeps source.new folder → all_texts (holding_of (R.table source.old folder) store.now.entries.items) (cords (expr_view expression.now)) ≡ true → Wrote (text_in MAX_LEN (plain_of (R.table source.old folder) store.now.entries.items) (expr_view expression.now)) (S.taken sink.old) (S.taken sink.new) result }
-    ensures counts { CountsHalts (record { source = R.failures source.old; sink = S.failures sink.old }) (record { source = R.failures source.new; sink = S.failures sink.new }) result }
+    ensures wrote { (folder : Folder) → R.keeps source.new folder →
+        all_texts (holding_of (R.table source.old folder) store.now.entries.items) (cords (expr_view expression.now))
+        ≡ true → Wrote (text_in MAX_LEN (plain_of (R.table source.old folder) store.now.entries.items)
+        (expr_view expression.now)) (S.taken sink.old) (S.taken sink.new) result }
+    ensures counts { CountsHalts (record { source = R.failures source.old; sink = S.failures sink.old })
+        (record { source = R.failures source.new; sink = S.failures sink.new }) result }
     ensures finished { S.finished sink.new ≡ S.finished sink.old }
     ensures lengths { R.lengths source.new ≡ R.lengths source.old }
     ensures table { R.table source.new ≡ R.table source.old }
@@ -84,8 +92,12 @@ fn write_pieces<R: Source, S: Sink>(
     sink: &mut S,
 ) -> Result<(), Halt>
     requires over { IsOver (R.lengths source.old) store.now.entries.items }
-    ensures wrote { (folder : Folder) → R.keeps source.new folder → all_texts (holding_of (R.table source.old folder) store.now.entries.items) (cords (expr_view expression.now)) ≡ true → Wrote (text_in MAX_LEN (plain_of (R.table source.old folder) store.now.entries.items) (expr_view expression.now)) (S.taken sink.old) (S.taken sink.new) result }
-    ensures counts { CountsHalts (record { source = R.failures source.old; sink = S.failures sink.old }) (record { source = R.failures source.new; sink = S.failures sink.new }) result }
+    ensures wrote { (folder : Folder) → R.keeps source.new folder →
+        all_texts (holding_of (R.table source.old folder) store.now.entries.items) (cords (expr_view expression.now))
+        ≡ true → Wrote (text_in MAX_LEN (plain_of (R.table source.old folder) store.now.entries.items)
+        (expr_view expression.now)) (S.taken sink.old) (S.taken sink.new) result }
+    ensures counts { CountsHalts (record { source = R.failures source.old; sink = S.failures sink.old })
+        (record { source = R.failures source.new; sink = S.failures sink.new }) result }
     ensures finished { S.finished sink.new ≡ S.finished sink.old }
     ensures lengths { R.lengths source.new ≡ R.lengths source.old }
     ensures table { R.table source.new ≡ R.table source.old }
@@ -118,8 +130,10 @@ fn put_pieces<R: Source, S: Sink>(
     sink: &mut S,
 ) -> Result<(), CordError>
     requires fits { AllFitIn (R.lengths source.old) pieces.now }
-    ensures puts { (folder : Folder) → R.keeps source.new folder → Puts (all_bytes (R.table source.old folder) pieces.now) (S.taken sink.old) (S.taken sink.new) result }
-    ensures faults { CountsFaults (record { source = R.failures source.old; sink = S.failures sink.old }) (record { source = R.failures source.new; sink = S.failures sink.new }) result }
+    ensures puts { (folder : Folder) → R.keeps source.new folder →
+        Puts (all_bytes (R.table source.old folder) pieces.now) (S.taken sink.old) (S.taken sink.new) result }
+    ensures faults { CountsFaults (record { source = R.failures source.old; sink = S.failures sink.old })
+        (record { source = R.failures source.new; sink = S.failures sink.new }) result }
     ensures finished { S.finished sink.new ≡ S.finished sink.old }
     ensures lengths { R.lengths source.new ≡ R.lengths source.old }
     ensures table { R.table source.new ≡ R.table source.old }

@@ -20,7 +20,8 @@ use Rattle.cord_script.specs.Forms.Effect.{Stays, OpensRepeat, OpensIf, Turns, C
 use Rattle.cord_script.specs.Forms.Term.{Target, Operand, Value, Literal, FilePath, Applies, Compares, Formats}
 use Rattle.cord_script.specs.Script.{Before, Block, kind_of, is_among, IsTerm, AreTerms, IsAllowed, AreAllowed, FitsBlocks}
 use Rattle.cord_script.specs.Script.Block.{InRepeat, InIf, InElse}
-use Rattle.cord_script.specs.Flaws.{words_flaw, is_count, wants_of, HasFormat, HasFormFlaw, first_of, unless, first_pair, kind_flaw, operand_flaw, word_target_flaw, word_path_flaw, names_flaw, block_flaw}
+use Rattle.cord_script.specs.Flaws.{words_flaw, is_count, wants_of, HasFormat, HasFormFlaw, first_of, unless, first_pair, kind_flaw}
+use Rattle.cord_script.specs.Flaws.{operand_flaw, word_target_flaw, word_path_flaw, names_flaw, block_flaw}
 use Rattle.cord_script.specs.declared.parts.Part.{Part}
 use Rattle.cord_script.specs.Parted.{want_of, term_of, wanted_by, IsReadAs, IsFormatOf, IsParted, HasPartFlaw, IsChecked}
 use Rattle.cord_script.specs.inner.Leaves.{operand_term_flaw, target_term_flaw, path_term_flaw, first_term, terms_flaw}
@@ -32,7 +33,8 @@ operand_same : (names : List Known) (w : Word) (t : Term) → IsTerm w t → ope
 operand_same names w (Target kind name) h = refl
 operand_same names w (Operand kind name) h = ap (operand_flaw names (wants.Operand kind)) h.0
 operand_same names w (Value (Numeral v)) h = ap (operand_flaw names wants.Number) h.1 ∙ numeral_known names h.0 v h.2
-operand_same names w (Value (Named name)) h = ap (operand_flaw names wants.Number) h.0 ∙ ap (λ b. if b then None else kind_flaw (kind_of names name) kinds.Number) (name_begins name h.1)
+operand_same names w (Value (Named name)) h = ap (operand_flaw names wants.Number) h.0
+    ∙ ap (λ b. if b then None else kind_flaw (kind_of names name) kinds.Number) (name_begins name h.1)
 operand_same names w (Literal text) h = refl
 operand_same names w (FilePath path) h = refl
 operand_same names w (Applies function) h = refl
@@ -62,30 +64,40 @@ path_same paths w (Compares relation) h = refl
 path_same paths w (Formats text) h = refl
 
 -- the first word that is wrong is the first term that is
-first_same : (test : Want → Word → Option RefusalKind) (other : Term → Option RefusalKind) (ws : List Word) (ts : List Term) → ((w : Word) (t : Term) → IsTerm w t → test (want_of t) w ≡ other t) → AreTerms ws ts → first_pair test (map want_of ts) ws ≡ first_term other ts
+first_same : (test : Want → Word → Option RefusalKind) (other : Term → Option RefusalKind) (ws : List Word) (ts : List Term) →
+    ((w : Word) (t : Term) → IsTerm w t → test (want_of t) w ≡ other t) → AreTerms ws ts →
+    first_pair test (map want_of ts) ws ≡ first_term other ts
 first_same test other [] [] f h = refl
 first_same test other [] (t ∷ ts) f h = absurd h
 first_same test other (w ∷ ws) [] f h = absurd h
-first_same test other (w ∷ ws) (t ∷ ts) f h = ap (λ k. first_of k (first_pair test (map want_of ts) ws)) (f w t h.0) ∙ ap (first_of (other t)) (first_same test other ws ts f h.1)
+first_same test other (w ∷ ws) (t ∷ ts) f h = ap (λ k. first_of k (first_pair test (map want_of ts) ws)) (f w t h.0)
+    ∙ ap (first_of (other t)) (first_same test other ws ts f h.1)
 
 -- what is wrong with the names of a line is what is wrong with its terms
-pub names_same : (before : Before) (ws : List Word) (ts : List Term) → AreTerms ws ts → names_flaw before (map want_of ts) ws ≡ terms_flaw before ts
+pub names_same : (before : Before) (ws : List Word) (ts : List Term) → AreTerms ws ts →
+    names_flaw before (map want_of ts) ws ≡ terms_flaw before ts
 names_same before ws ts h =
     let o = first_same (operand_flaw before.names) (operand_term_flaw before.names) ws ts (λ w t k. operand_same before.names w t k) h in
     let t = first_same (word_target_flaw before.names) (target_term_flaw before.names) ws ts (λ w t k. target_same before.names w t k) h in
     let p = first_same (word_path_flaw before.paths) (path_term_flaw before.paths) ws ts (λ w t k. path_same before.paths w t k) h in
-    ap (λ k. first_of k (first_of (first_pair (word_target_flaw before.names) (map want_of ts) ws) (first_pair (word_path_flaw before.paths) (map want_of ts) ws))) o
-    ∙ ap (λ k. first_of (first_term (operand_term_flaw before.names) ts) (first_of k (first_pair (word_path_flaw before.paths) (map want_of ts) ws))) t
+    ap (λ k. first_of k (first_of (first_pair (word_target_flaw before.names) (map want_of ts) ws)
+    (first_pair (word_path_flaw before.paths) (map want_of ts) ws))) o
+    ∙ ap (λ k. first_of (first_term (operand_term_flaw before.names) ts)
+    (first_of k (first_pair (word_path_flaw before.paths) (map want_of ts) ws))) t
     ∙ ap (λ k. first_of (first_term (operand_term_flaw before.names) ts) (first_of (first_term (target_term_flaw before.names) ts) k)) p
 
-path_right : (paths : List (List ℕ)) (path : List ℕ) → unless (is_among paths path || nat_lt (length paths) MAX_PATHS) TooMany ≡ None → (is_among paths path ≡ true) ⊎ (length paths < MAX_PATHS)
-path_right paths path h = elim (either (is_among paths path) (nat_lt (length paths) MAX_PATHS) (holds (is_among paths path || nat_lt (length paths) MAX_PATHS) TooMany h)) [
-  | inl x ↦ inl x
-  | inr x ↦ inr (ltb-true (length paths) MAX_PATHS x)
-]
+path_right : (paths : List (List ℕ)) (path : List ℕ) → unless (is_among paths path || nat_lt (length paths) MAX_PATHS) TooMany ≡ None →
+    (is_among paths path ≡ true) ⊎ (length paths < MAX_PATHS)
+path_right paths path h =
+    elim (either (is_among paths path) (nat_lt (length paths) MAX_PATHS)
+    (holds (is_among paths path || nat_lt (length paths) MAX_PATHS) TooMany h)) [
+      | inl x ↦ inl x
+      | inr x ↦ inr (ltb-true (length paths) MAX_PATHS x)
+    ]
 
 -- a term without a flaw is allowed
-term_allowed : (before : Before) (t : Term) → operand_term_flaw before.names t ≡ None → target_term_flaw before.names t ≡ None → path_term_flaw before.paths t ≡ None → IsAllowed before t
+term_allowed : (before : Before) (t : Term) → operand_term_flaw before.names t ≡ None → target_term_flaw before.names t ≡ None →
+    path_term_flaw before.paths t ≡ None → IsAllowed before t
 term_allowed before (Target kind name) o t p = target_right (kind_of before.names name) kind (length before.names) t
 term_allowed before (Operand kind name) o t p = kind_right (kind_of before.names name) kind o
 term_allowed before (Value (Numeral v)) o t p = tt
@@ -96,7 +108,8 @@ term_allowed before (Applies function) o t p = tt
 term_allowed before (Compares relation) o t p = tt
 term_allowed before (Formats text) o t p = tt
 
-terms_allowed : (before : Before) (ts : List Term) → first_term (operand_term_flaw before.names) ts ≡ None → first_term (target_term_flaw before.names) ts ≡ None → first_term (path_term_flaw before.paths) ts ≡ None → AreAllowed before ts
+terms_allowed : (before : Before) (ts : List Term) → first_term (operand_term_flaw before.names) ts ≡ None →
+    first_term (target_term_flaw before.names) ts ≡ None → first_term (path_term_flaw before.paths) ts ≡ None → AreAllowed before ts
 terms_allowed before [] o t p = tt
 terms_allowed before (x ∷ xs) o t p =
     let a = neither (operand_term_flaw before.names x) (first_term (operand_term_flaw before.names) xs) o in
@@ -131,14 +144,20 @@ in_front None None c kind h = cc
 in_front None (Some k) c kind h = h
 in_front (Some k) b c kind h = h
 
-behind_two : (a b c d : Option RefusalKind) (kind : RefusalKind) → a ≡ None → b ≡ None → first_of c d ≡ Some kind → first_of a (first_of b (first_of c d)) ≡ Some kind
+behind_two : (a b c d : Option RefusalKind) (kind : RefusalKind) → a ≡ None → b ≡ None → first_of c d ≡ Some kind →
+    first_of a (first_of b (first_of c d)) ≡ Some kind
 behind_two None None c d kind p q h = h
 behind_two _ _ c d kind p q h = cc
 
 -- words that are wrong are a flaw of the form
-pub words_wrong : (before : Before) (form : Form) (ws : List Word) (kind : RefusalKind) → HasPartFlaw form.shape ws kind → HasFormFlaw before (Some form) ws kind
-words_wrong before form ws kind h =
-    (h.0, h.1, in_front (unless (is_count form.shape (length ws)) WrongCount) (words_flaw form.shape h.0 ws) (first_of (names_flaw before (wants_of form.shape h.0 ws) ws) (block_flaw form.effect before.blocks)) kind h.2)
+pub words_wrong : (before : Before) (form : Form) (ws : List Word) (kind : RefusalKind) → HasPartFlaw form.shape ws kind →
+    HasFormFlaw before (Some form) ws kind
+words_wrong before form ws kind h = (
+  h.0,
+  h.1,
+  in_front (unless (is_count form.shape (length ws)) WrongCount) (words_flaw form.shape h.0 ws)
+      (first_of (names_flaw before (wants_of form.shape h.0 ws) ws) (block_flaw form.effect before.blocks)) kind h.2,
+)
 
 read_converts : (text : List ℕ) (format : Option (List Piece)) → IsReadAs text format → Converts text (wanted_by format)
 read_converts text None h = h
@@ -148,7 +167,8 @@ none_wanted : (format : Option (List Piece)) → format ≡ None → wanted_by f
 none_wanted format h = ap wanted_by h
 
 -- what the conversions of the format want
-pub format_wants_are : (shape : Shape) (ws : List Word) (format : Option (List Piece)) → IsFormatOf shape ws format → HasFormat shape ws (wanted_by format)
+pub format_wants_are : (shape : Shape) (ws : List Word) (format : Option (List Piece)) → IsFormatOf shape ws format →
+    HasFormat shape ws (wanted_by format)
 format_wants_are (Words xs) ws format h = none_wanted format h
 format_wants_are Joined ws format h = none_wanted format h
 format_wants_are Printed [] format h = none_wanted format h
@@ -157,21 +177,36 @@ format_wants_are Printed (t ∷ Plain p ∷ ws) format h = none_wanted format h
 format_wants_are Printed (t ∷ Quoted text ∷ ws) format h = read_converts text format h
 
 -- what is wrong after right words is a flaw of the form
-later_wrong : (before : Before) (form : Form) (ws : List Word) (ps : List Part) (format : Option (List Piece)) (kind : RefusalKind) → IsParted form.shape ws ps format → first_of (terms_flaw before (map term_of ps)) (block_flaw form.effect before.blocks) ≡ Some kind → HasFormFlaw before (Some form) ws kind
+later_wrong : (before : Before) (form : Form) (ws : List Word) (ps : List Part) (format : Option (List Piece)) (kind : RefusalKind) →
+    IsParted form.shape ws ps format → first_of (terms_flaw before (map term_of ps)) (block_flaw form.effect before.blocks) ≡ Some kind →
+    HasFormFlaw before (Some form) ws kind
 later_wrong before form ws ps format kind h wrong =
-    let same = ap (λ k. names_flaw before k ws) h.wanted ∙ names_same before ws (map term_of ps) h.terms in
-    (wanted_by format, format_wants_are form.shape ws format h.has, behind_two (unless (is_count form.shape (length ws)) WrongCount) (words_flaw form.shape (wanted_by format) ws) (names_flaw before (wants_of form.shape (wanted_by format) ws) ws) (block_flaw form.effect before.blocks) kind (ap (λ b. unless b WrongCount) h.count) h.fit (ap (λ k. first_of k (block_flaw form.effect before.blocks)) same ∙ wrong))
+    let same = ap (λ k. names_flaw before k ws) h.wanted ∙ names_same before ws (map term_of ps) h.terms in (
+      wanted_by format,
+      format_wants_are form.shape ws format h.has,
+      behind_two (unless (is_count form.shape (length ws)) WrongCount)
+          (words_flaw form.shape (wanted_by format) ws) (names_flaw before (wants_of form.shape (wanted_by format) ws) ws)
+          (block_flaw form.effect before.blocks) kind (ap (λ b. unless b WrongCount) h.count) h.fit
+          (ap (λ k. first_of k (block_flaw form.effect before.blocks)) same ∙ wrong),
+    )
 
 -- names that are wrong
-pub names_wrong : (before : Before) (form : Form) (ws : List Word) (ps : List Part) (format : Option (List Piece)) (kind : RefusalKind) → IsParted form.shape ws ps format → terms_flaw before (map term_of ps) ≡ Some kind → HasFormFlaw before (Some form) ws kind
-names_wrong before form ws ps format kind h wrong = later_wrong before form ws ps format kind h (ap (λ k. first_of k (block_flaw form.effect before.blocks)) wrong)
+pub names_wrong : (before : Before) (form : Form) (ws : List Word) (ps : List Part) (format : Option (List Piece)) (kind : RefusalKind) →
+    IsParted form.shape ws ps format → terms_flaw before (map term_of ps) ≡ Some kind → HasFormFlaw before (Some form) ws kind
+names_wrong before form ws ps format kind h wrong = later_wrong before form ws ps format kind h
+    (ap (λ k. first_of k (block_flaw form.effect before.blocks)) wrong)
 
 -- a statement that the open blocks do not take
-pub blocks_wrong : (before : Before) (form : Form) (ws : List Word) (ps : List Part) (format : Option (List Piece)) (kind : RefusalKind) → IsParted form.shape ws ps format → terms_flaw before (map term_of ps) ≡ None → block_flaw form.effect before.blocks ≡ Some kind → HasFormFlaw before (Some form) ws kind
-blocks_wrong before form ws ps format kind h names wrong = later_wrong before form ws ps format kind h (ap (λ k. first_of k (block_flaw form.effect before.blocks)) names ∙ wrong)
+pub blocks_wrong : (before : Before) (form : Form) (ws : List Word) (ps : List Part) (format : Option (List Piece)) (kind : RefusalKind) →
+    IsParted form.shape ws ps format → terms_flaw before (map term_of ps) ≡ None → block_flaw form.effect before.blocks ≡ Some kind →
+    HasFormFlaw before (Some form) ws kind
+blocks_wrong before form ws ps format kind h names wrong = later_wrong before form ws ps format kind h
+    (ap (λ k. first_of k (block_flaw form.effect before.blocks)) names ∙ wrong)
 
 -- a line that is right
-pub checked : (before : Before) (form : Form) (ws : List Word) (ps : List Part) (format : Option (List Piece)) → IsParted form.shape ws ps format → terms_flaw before (map term_of ps) ≡ None → block_flaw form.effect before.blocks ≡ None → IsChecked form before ws ps format
+pub checked : (before : Before) (form : Form) (ws : List Word) (ps : List Part) (format : Option (List Piece)) →
+    IsParted form.shape ws ps format → terms_flaw before (map term_of ps) ≡ None → block_flaw form.effect before.blocks ≡ None →
+    IsChecked form before ws ps format
 checked before form ws ps format h names blocks = record {
   parted = h;
   allowed = all_allowed before (map term_of ps) names;

@@ -19,7 +19,8 @@ use Rattle.cord_script.proofs.Stated.{right_form}
 use Rattle.cord_script.proofs.Tabled.{form_is}
 
 -- a statement does to the blocks what its verb does
-pub same_effect : (v : Verb) (others : List Word) (s : Statement) → word_of s ≡ verb_word v → AreTerms others (terms_of s) → Suits s → effect_of s ≡ verb_effect v
+pub same_effect : (v : Verb) (others : List Word) (s : Statement) → word_of s ≡ verb_word v → AreTerms others (terms_of s) → Suits s →
+    effect_of s ≡ verb_effect v
 same_effect v others s word terms suits =
     let r = right_form others s terms suits in
     let found : Some r.form ≡ Some (verb_form v) = sym r.is ∙ ap form_of word ∙ form_is v in
@@ -27,13 +28,29 @@ same_effect v others s word terms suits =
     sym r.effect ∙ ap (λ f. f.effect) same
 
 -- what a statement leaves is what its parts leave
-same_left : (v : Verb) (n : ℕ) (ps : List Part) (old : Before) (s : Statement) → line_of s ≡ n → terms_of s ≡ map term_of ps → effect_of s ≡ verb_effect v → after s old ≡ left_after v n ps old
+same_left : (v : Verb) (n : ℕ) (ps : List Part) (old : Before) (s : Statement) → line_of s ≡ n → terms_of s ≡ map term_of ps →
+    effect_of s ≡ verb_effect v → after s old ≡ left_after v n ps old
 same_left v n ps old s line terms effect =
-    ap (λ ts. record { names = names_after ts old.names; paths = paths_after ts old.paths; blocks = blocks_after (effect_of s) (line_of s) old.blocks }) terms
-    ∙ ap (λ e. record { names = names_after (map term_of ps) old.names; paths = paths_after (map term_of ps) old.paths; blocks = blocks_after e (line_of s) old.blocks }) effect
-    ∙ ap (λ k. record { names = names_after (map term_of ps) old.names; paths = paths_after (map term_of ps) old.paths; blocks = blocks_after (verb_effect v) k old.blocks }) line
+    ap (λ ts. record {
+      names = names_after ts old.names;
+      paths = paths_after ts old.paths;
+      blocks = blocks_after (effect_of s) (line_of s) old.blocks;
+    }) terms
+    ∙ ap (λ e. record {
+      names = names_after (map term_of ps) old.names;
+      paths = paths_after (map term_of ps) old.paths;
+      blocks = blocks_after e (line_of s) old.blocks;
+    }) effect
+    ∙ ap (λ k. record {
+      names = names_after (map term_of ps) old.names;
+      paths = paths_after (map term_of ps) old.paths;
+      blocks = blocks_after (verb_effect v) k old.blocks;
+    }) line
 
-says : (v : Verb) (n : ℕ) (old new : Before) (word : List ℕ) (words others : List Word) (ps : List Part) (format : Option (List Piece)) (s : Statement) → words ≡ Plain word ∷ others → word ≡ verb_word v → IsChecked (verb_form v) old others ps format → new ≡ left_after v n ps old → word_of s ≡ verb_word v → line_of s ≡ n → terms_of s ≡ map term_of ps → Suits s → SaysBehind n old new words s
+says : (v : Verb) (n : ℕ) (old new : Before) (word : List ℕ) (words others : List Word) (ps : List Part) (format : Option (List Piece))
+    (s : Statement) → words ≡ Plain word ∷ others → word ≡ verb_word v → IsChecked (verb_form v) old others ps format →
+    new ≡ left_after v n ps old → word_of s ≡ verb_word v → line_of s ≡ n → terms_of s ≡ map term_of ps → Suits s →
+    SaysBehind n old new words s
 says v n old new word words others ps format s e spelled checked left named line terms suits =
     let are : AreTerms others (terms_of s) = subst (AreTerms others) (sym terms) checked.parted.terms in
     let effect = same_effect v others s named are suits in
@@ -52,10 +69,17 @@ says v n old new word words others ps format s e spelled checked left named line
     }
 
 -- the statement of words that were checked
-pub said : (v : Verb) (n : ℕ) (old new : Before) (word : List ℕ) (words others : List Word) (ps : List Part) (format : Option (List Piece)) (ts : List Term) (r : Result Statement RefusalKind) → words ≡ Plain word ∷ others → word ≡ verb_word v → IsChecked (verb_form v) old others ps format → new ≡ left_after v n ps old → ts ≡ map term_of ps → IfOk r (λ s. word_of s ≡ verb_word v) → IfOk r (λ s. line_of s ≡ n) → IfOk r (λ s. terms_of s ≡ ts) → IfOk r Suits → IfOk r (SaysBehind n old new words)
-said v n old new word words others ps format ts (Ok s) e spelled checked left same named line terms suits = says v n old new word words others ps format s e spelled checked left named line (terms ∙ same) suits
+pub said : (v : Verb) (n : ℕ) (old new : Before) (word : List ℕ) (words others : List Word) (ps : List Part) (format : Option (List Piece))
+    (ts : List Term) (r : Result Statement RefusalKind) → words ≡ Plain word ∷ others → word ≡ verb_word v →
+    IsChecked (verb_form v) old others ps format → new ≡ left_after v n ps old → ts ≡ map term_of ps →
+    IfOk r (λ s. word_of s ≡ verb_word v) → IfOk r (λ s. line_of s ≡ n) → IfOk r (λ s. terms_of s ≡ ts) → IfOk r Suits →
+    IfOk r (SaysBehind n old new words)
+said v n old new word words others ps format ts (Ok s) e spelled checked left same named line terms suits =
+    says v n old new word words others ps format s e spelled checked left named line (terms ∙ same) suits
 said v n old new word words others ps format ts (Err kind) e spelled checked left same named line terms suits = tt
 
 -- what is wrong with the words after a verb is wrong with all words
-pub bad_words : (v : Verb) (old : Before) (words others : List Word) (kind : RefusalKind) → words ≡ Plain (verb_word v) ∷ others → HasFormFlaw old (Some (verb_form v)) others kind → HasBadWords whole old words kind
-bad_words v old words others kind e h = subst (λ ws. HasBadWords whole old ws kind) (sym e) (subst (λ form. HasFormFlaw old form others kind) (sym (form_is v)) h)
+pub bad_words : (v : Verb) (old : Before) (words others : List Word) (kind : RefusalKind) → words ≡ Plain (verb_word v) ∷ others →
+    HasFormFlaw old (Some (verb_form v)) others kind → HasBadWords whole old words kind
+bad_words v old words others kind e h = subst (λ ws. HasBadWords whole old ws kind) (sym e)
+    (subst (λ form. HasFormFlaw old form others kind) (sym (form_is v)) h)

@@ -38,13 +38,15 @@ kinds_are_arguments (printed.Number ∷ ks) = kinds_are_arguments ks
 kinds_are_arguments (printed.Cord ∷ ks) = kinds_are_arguments ks
 
 -- the parts after a format
-others_same : (pieces : List Piece) (ts us vs : List Term) (name text : List ℕ) (h : IsPrintedAs pieces ts) → ts ≡ Target kinds.Cord name ∷ us → us ≡ Formats text ∷ vs → (h.text ≡ text) × (h.others ≡ vs)
+others_same : (pieces : List Piece) (ts us vs : List Term) (name text : List ℕ) (h : IsPrintedAs pieces ts) →
+    ts ≡ Target kinds.Cord name ∷ us → us ≡ Formats text ∷ vs → (h.text ≡ text) × (h.others ≡ vs)
 others_same pieces ts us vs name text h e f =
     let whole : Target kinds.Cord h.target ∷ Formats h.text ∷ h.others ≡ Target kinds.Cord name ∷ Formats text ∷ vs = sym h.is ∙ e ∙ ap (λ k. Target kinds.Cord name ∷ k) f in
     (cc, cc)
 
 -- what stands after a format are arguments
-pub printed_arguments : (pieces : List Piece) (ts us vs : List Term) (name text : List ℕ) → IsPrintedAs pieces ts → ts ≡ Target kinds.Cord name ∷ us → us ≡ Formats text ∷ vs → are_arguments (map want_of vs) ≡ true
+pub printed_arguments : (pieces : List Piece) (ts us vs : List Term) (name text : List ℕ) → IsPrintedAs pieces ts →
+    ts ≡ Target kinds.Cord name ∷ us → us ≡ Formats text ∷ vs → are_arguments (map want_of vs) ≡ true
 printed_arguments pieces ts us vs name text h e f =
     let same = others_same pieces ts us vs name text h e f in
     ap (λ k. are_arguments (map want_of k)) (sym same.1) ∙ ap are_arguments h.wanted ∙ kinds_are_arguments (wanted pieces)
@@ -56,7 +58,9 @@ arguments_want (arguments.Number n ∷ more) = ap (λ k. argument_want (argument
 arguments_want (arguments.Cord name ∷ more) = ap (λ k. argument_want (arguments.Cord name) ∷ k) (arguments_want more)
 
 -- a format and its arguments suit each other
-pub printed_suits : (pieces : List Piece) (ts us vs : List Term) (name text : List ℕ) (args : List Argument) → IsPrintedAs pieces ts → ts ≡ Target kinds.Cord name ∷ us → us ≡ Formats text ∷ vs → vs ≡ map argument_term args → IsFormat text pieces × (map argument_want args ≡ wants_of_pieces pieces)
+pub printed_suits : (pieces : List Piece) (ts us vs : List Term) (name text : List ℕ) (args : List Argument) → IsPrintedAs pieces ts →
+    ts ≡ Target kinds.Cord name ∷ us → us ≡ Formats text ∷ vs → vs ≡ map argument_term args → IsFormat text pieces ×
+    (map argument_want args ≡ wants_of_pieces pieces)
 printed_suits pieces ts us vs name text args h e f g =
     let same = others_same pieces ts us vs name text h e f in
     (subst (λ k. IsFormat k pieces) same.0 h.format, sym (arguments_want args) ∙ ap (map want_of) (sym (same.1 ∙ g)) ∙ h.wanted)
@@ -74,7 +78,8 @@ cords_only [] = refl
 cords_only (w ∷ ws) = cords_only ws
 
 -- the parts of a `catn`
-joined_parts : (ws : List Word) (ts : List Term) → is_count Joined (length ws) ≡ true → joined ws ≡ map want_of ts → AreTerms ws ts → IsJoined ts
+joined_parts : (ws : List Word) (ts : List Term) → is_count Joined (length ws) ≡ true → joined ws ≡ map want_of ts → AreTerms ws ts →
+    IsJoined ts
 joined_parts [] ts count wanted terms = cc
 joined_parts (w ∷ ws) [] count wanted terms = cc
 joined_parts (w ∷ ws) (t ∷ ts) count wanted terms =
@@ -94,7 +99,9 @@ joined_parts (w ∷ ws) (t ∷ ts) count wanted terms =
       high = omega arith;
     }
 
-printed_by : (w : Word) (text : List ℕ) (ws : List Word) (ts : List Term) (format : Option (List Piece)) → IsReadAs text format → first_of (first_misfit format_wants (w ∷ Quoted text ∷ ws)) (arguments_flaw (wanted_by format) ws) ≡ None → wants_of Printed (wanted_by format) (w ∷ Quoted text ∷ ws) ≡ map want_of ts → AreTerms (w ∷ Quoted text ∷ ws) ts → IsPrinted format ts
+printed_by : (w : Word) (text : List ℕ) (ws : List Word) (ts : List Term) (format : Option (List Piece)) → IsReadAs text format →
+    first_of (first_misfit format_wants (w ∷ Quoted text ∷ ws)) (arguments_flaw (wanted_by format) ws) ≡ None →
+    wants_of Printed (wanted_by format) (w ∷ Quoted text ∷ ws) ≡ map want_of ts → AreTerms (w ∷ Quoted text ∷ ws) ts → IsPrinted format ts
 printed_by w text ws ts None read fit wanted terms = let wrong = (neither (first_misfit format_wants (w ∷ Quoted text ∷ ws)) (Some BadFormat) fit).1 in cc
 printed_by w text ws [] (Some pieces) read fit wanted terms = cc
 printed_by w text ws (t ∷ []) (Some pieces) read fit wanted terms = cc
@@ -115,19 +122,24 @@ printed_by w text ws (t ∷ u ∷ ts) (Some pieces) read fit wanted terms =
       wanted = sym others;
     }
 
-unread_flaw : (ws : List Word) (o : Option RefusalKind) (format : Option (List Piece)) → format ≡ None → first_of o (arguments_flaw (wanted_by format) ws) ≡ None → ⊥
+unread_flaw : (ws : List Word) (o : Option RefusalKind) (format : Option (List Piece)) → format ≡ None →
+    first_of o (arguments_flaw (wanted_by format) ws) ≡ None → ⊥
 unread_flaw ws o None e h = let wrong = (neither o (Some BadFormat) h).1 in cc
 unread_flaw ws o (Some pieces) e h = cc
 
 -- the parts of a `sprintf`
-printed_parts : (ws : List Word) (ts : List Term) (format : Option (List Piece)) → is_count Printed (length ws) ≡ true → IsFormatOf Printed ws format → words_flaw Printed (wanted_by format) ws ≡ None → wants_of Printed (wanted_by format) ws ≡ map want_of ts → AreTerms ws ts → IsPrinted format ts
+printed_parts : (ws : List Word) (ts : List Term) (format : Option (List Piece)) → is_count Printed (length ws) ≡ true →
+    IsFormatOf Printed ws format → words_flaw Printed (wanted_by format) ws ≡ None →
+    wants_of Printed (wanted_by format) ws ≡ map want_of ts → AreTerms ws ts → IsPrinted format ts
 printed_parts [] ts format count has fit wanted terms = cc
 printed_parts (w ∷ []) ts format count has fit wanted terms = cc
-printed_parts (w ∷ Plain p ∷ ws) ts format count has fit wanted terms = absurd (unread_flaw ws (first_misfit format_wants (w ∷ Plain p ∷ ws)) format has fit)
+printed_parts (w ∷ Plain p ∷ ws) ts format count has fit wanted terms =
+    absurd (unread_flaw ws (first_misfit format_wants (w ∷ Plain p ∷ ws)) format has fit)
 printed_parts (w ∷ Quoted text ∷ ws) ts format count has fit wanted terms = printed_by w text ws ts format has fit wanted terms
 
 -- what the builder of a statement takes
-pub worded : (v : Verb) (ws : List Word) (ps : List Part) (format : Option (List Piece)) → IsParted (verb_shape v) ws ps format → IsWorded v (map term_of ps) format
+pub worded : (v : Verb) (ws : List Word) (ps : List Part) (format : Option (List Piece)) → IsParted (verb_shape v) ws ps format →
+    IsWorded v (map term_of ps) format
 worded verbs.Catn ws ps format h = joined_parts ws (map term_of ps) h.count h.wanted h.terms
 worded verbs.Sprintf ws ps format h = printed_parts ws (map term_of ps) format h.count h.has h.fit h.wanted h.terms
 worded _ ws ps format h = sym h.wanted

@@ -28,6 +28,7 @@ kind_right (Some kinds.Extensible) kinds.Extensible h = refl
 kind_right (Some _) _ h = cc
 
 -- a target of this kind
-pub target_right : (o : Option Kind) (kind : Kind) (n : ℕ) → assigned_flaw o kind n ≡ None → (o ≡ Some kind) ⊎ ((o ≡ None) × (n < MAX_NAMES))
+pub target_right : (o : Option Kind) (kind : Kind) (n : ℕ) → assigned_flaw o kind n ≡ None → (o ≡ Some kind) ⊎
+    ((o ≡ None) × (n < MAX_NAMES))
 target_right None kind n h = inr (refl, ltb-true n MAX_NAMES (holds (nat_lt n MAX_NAMES) TooMany h))
 target_right (Some has) kind n h = inl (kind_right (Some has) kind h)

@@ -28,7 +28,8 @@ abbrev LineOrBad : Grammar → ℕ → Before → List ℕ → Type 0
 LineOrBad g n before line = LineSays g n before line ⊎ ((kind : RefusalKind) × HasBadLine g n before line kind)
 
 -- a line that isn't idle says a statement, or is wrong
-line_or_bad : FormatOrBad → (g : Grammar) (n : ℕ) (before : Before) (line : List ℕ) → n ≤ MAX_LINES → ¬ IsIdle line → LineOrBad g n before line
+line_or_bad : FormatOrBad → (g : Grammar) (n : ℕ) (before : Before) (line : List ℕ) → n ≤ MAX_LINES → ¬ IsIdle line →
+    LineOrBad g n before line
 line_or_bad law g n before line few shows = elim (words_or_bad line) [
   | inr bad ↦ inr (bad.0, inr (few, shows, inl bad.1))
   | inl ws ↦ elim (says_or_bad law g n before ws.0 (some_words line ws.0 shows ws.1)) [
@@ -57,7 +58,8 @@ record Goes (g : Grammar) (n : ℕ) (before : Before) (lines : List (List ℕ)) 
 abbrev GoesOrStops : Grammar → ℕ → Before → List (List ℕ) → Type 0
 GoesOrStops g n before lines = Goes g n before lines ⊎ Stops g n before lines
 
-stops_here : (g : Grammar) (n : ℕ) (before : Before) (line : List ℕ) (lines : List (List ℕ)) (kind : RefusalKind) → HasBadLine g n before line kind → GoesOrStops g n before (line ∷ lines)
+stops_here : (g : Grammar) (n : ℕ) (before : Before) (line : List ℕ) (lines : List (List ℕ)) (kind : RefusalKind) →
+    HasBadLine g n before line kind → GoesOrStops g n before (line ∷ lines)
 stops_here g n before line lines kind wrong =
     let here : n ≡ n + 0 = omega arith in
     inr (record {
@@ -72,8 +74,10 @@ stops_here g n before line lines kind wrong =
     })
 
 -- after a line that says nothing
-behind_idle : (g : Grammar) (n : ℕ) (before : Before) (line : List ℕ) (lines : List (List ℕ)) → IsIdle line → GoesOrStops g (n + 1) before lines → GoesOrStops g n before (line ∷ lines)
-behind_idle g n before line lines idle (inl h) = inl (record { statements = h.statements; say = inl (idle, h.say); few = omega (arith, h.few) })
+behind_idle : (g : Grammar) (n : ℕ) (before : Before) (line : List ℕ) (lines : List (List ℕ)) → IsIdle line →
+    GoesOrStops g (n + 1) before lines → GoesOrStops g n before (line ∷ lines)
+behind_idle g n before line lines idle (inl h) =
+    inl (record { statements = h.statements; say = inl (idle, h.say); few = omega (arith, h.few) })
 behind_idle g n before line lines idle (inr h) =
     let number : (n + 1) + length h.front ≡ n + length (line ∷ h.front) = omega arith in
     inr (record {
@@ -88,9 +92,15 @@ behind_idle g n before line lines idle (inr h) =
     })
 
 -- after a line that says a statement
-behind_saying : (g : Grammar) (n : ℕ) (before : Before) (line : List ℕ) (lines : List (List ℕ)) → ¬ IsIdle line → (s : LineSays g n before line) → GoesOrStops g (n + 1) (after s.statement before) lines → GoesOrStops g n before (line ∷ lines)
+behind_saying : (g : Grammar) (n : ℕ) (before : Before) (line : List ℕ) (lines : List (List ℕ)) → ¬ IsIdle line →
+    (s : LineSays g n before line) → GoesOrStops g (n + 1) (after s.statement before) lines → GoesOrStops g n before (line ∷ lines)
 behind_saying g n before line lines shows s (inl h) =
-    inl (record { statements = s.statement ∷ h.statements; say = inr (shows, s.statement, s.words, h.statements, refl, s.has, s.says, h.say); few = omega (arith, h.few) })
+    inl (record {
+      statements = s.statement ∷ h.statements;
+      say =
+          inr (shows, s.statement, s.words, h.statements, refl, s.has, s.says, h.say);
+      few = omega (arith, h.few);
+    })
 behind_saying g n before line lines shows s (inr h) =
     let number : (n + 1) + length h.front ≡ n + length (line ∷ h.front) = omega arith in
     inr (record {
@@ -128,7 +138,8 @@ abbrev Either : Grammar → List ℕ → Type 0
 Either g b = ((ss : List Statement) × ReadsBy g b ss) ⊎ ((n : ℕ) × (kind : RefusalKind) × FlawBy g b n kind)
 
 -- all lines say something: each block is closed, or the innermost open one is a flaw
-closed_or_open : (g : Grammar) (b : List ℕ) (lines : List (List ℕ)) (blocks : List Block) → length b ≤ MAX_SCRIPT → IsSplit b lines → (h : Goes g 1 start lines) → (after_all h.statements start).blocks ≡ blocks → Either g b
+closed_or_open : (g : Grammar) (b : List ℕ) (lines : List (List ℕ)) (blocks : List Block) → length b ≤ MAX_SCRIPT → IsSplit b lines →
+    (h : Goes g 1 start lines) → (after_all h.statements start).blocks ≡ blocks → Either g b
 closed_or_open g b lines [] small split h e = inl (
   h.statements,
   record {
@@ -159,7 +170,8 @@ closed_or_open g b lines (block ∷ others) small split h e =
       })),
     )
 
-by_lines : (g : Grammar) (b : List ℕ) (lines : List (List ℕ)) → length b ≤ MAX_SCRIPT → IsSplit b lines → GoesOrStops g 1 start lines → Either g b
+by_lines : (g : Grammar) (b : List ℕ) (lines : List (List ℕ)) → length b ≤ MAX_SCRIPT → IsSplit b lines → GoesOrStops g 1 start lines →
+    Either g b
 by_lines g b lines small split (inl h) = closed_or_open g b lines (after_all h.statements start).blocks small split h refl
 by_lines g b lines small split (inr h) =
     inr (

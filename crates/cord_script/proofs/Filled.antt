@@ -1,5 +1,6 @@
 -- The words of a line say a statement, or have a first flaw.
-use Rattle.std.proofs.Common.{inl, inr, Some, None, ◌≡◌, ◌≢◌, ◌+◌, ◌⊎◌, ℕ, List, [], ◌∷◌, Bool, true, false, refl, sym, ◌∙◌, ap, subst, map, length, arith, eqb-true}
+use Rattle.std.proofs.Common.{inl, inr, Some, None, ◌≡◌, ◌≢◌, ◌+◌, ◌⊎◌, ℕ, List, [], ◌∷◌, Bool, true, false, refl, sym, ◌∙◌, ap, subst, map}
+use Rattle.std.proofs.Common.{length, arith, eqb-true}
 use Rattle.std.specs.Prelude.{Option, ◌==◌, ◌||◌, nat_le, is_some, codes, ℤ, if◌then◌else◌}
 use Rattle.std.specs.Str.{bytes_eq}
 use Rattle.std.proofs.lemmas.Bool.{leb-true}
@@ -28,7 +29,10 @@ use Rattle.cord_script.specs.declared.words.Word.TheVariants.{Plain, Quoted}
 use Rattle.cord_script.specs.declared.refusals.RefusalKind.{RefusalKind}
 use Rattle.cord_script.specs.declared.refusals.RefusalKind.TheVariants.{UnknownStatement, WrongCount, BadName, BadNumber, BadFormat}
 use Rattle.cord_syntax.specs.declared.statements.Statement.{Statement}
-use Rattle.cord_syntax.specs.declared.statements.Statement.TheVariants.{Let, File, Eager, Lazy, Chars, Nul, FromFn, Cat, Catn, Catc, Substr, Balance, EcToCord, Sprintf, Len, Fetch, Cmp, Ncmp, Str, Chr, Rchr, Assign, Add, Sub, EcInit, EcPut, EcCat, EcStr, Put, Repeat, If, Else, End}
+use Rattle.cord_syntax.specs.declared.statements.Statement.TheVariants.{Let, File, Eager, Lazy, Chars, Nul, FromFn, Cat, Catn, Catc, Substr}
+use Rattle.cord_syntax.specs.declared.statements.Statement.TheVariants.{Balance, EcToCord, Sprintf, Len, Fetch, Cmp, Ncmp, Str, Chr, Rchr}
+use Rattle.cord_syntax.specs.declared.statements.Statement.TheVariants.{Assign, Add, Sub, EcInit, EcPut, EcCat, EcStr, Put, Repeat, If}
+use Rattle.cord_syntax.specs.declared.statements.Statement.TheVariants.{Else, End}
 use Rattle.cord_syntax.specs.Lines.{line_of}
 use Rattle.cord_script.specs.Tests.{is_name, begins_numeral, numeral_of, is_path}
 use Rattle.cord_script.specs.Formats.{Converts, want_of_kind, wants_of_pieces}
@@ -36,7 +40,9 @@ use Rattle.cord_script.specs.Forms.{Grammar, Shape, Form, Term, form_of, form_in
 use Rattle.cord_script.specs.Forms.Shape.{Words, Joined, Printed}
 use Rattle.cord_script.specs.Forms.Term.{Target, Operand, Value, Literal, FilePath, Applies, Compares, Formats}
 use Rattle.cord_script.specs.Script.{Before, Says, Suits, IsTerm, AreTerms, FitsBlocks}
-use Rattle.cord_script.specs.Flaws.{first_of, unless, misfit, first_pair, first_misfit, name_misfit, is_count, cords, joined, format_wants, arguments_flaw, words_flaw, wants_of, names_flaw, block_flaw, form_flaw, HasFormat, HasFormFlaw, HasBadWords}
+use Rattle.cord_script.specs.Flaws.{first_of, unless, misfit, first_pair, first_misfit, name_misfit, is_count, cords, joined, format_wants}
+use Rattle.cord_script.specs.Flaws.{arguments_flaw, words_flaw, wants_of, names_flaw, block_flaw, form_flaw, HasFormat, HasFormFlaw}
+use Rattle.cord_script.specs.Flaws.{HasBadWords}
 use Rattle.cord_script.specs.Parted.{want_of}
 use Rattle.cord_script.specs.inner.Leaves.{terms_flaw}
 use Rattle.cord_script.specs.inner.Verbal.{verb_word, verb_shape, verb_effect, verb_form, find_verb, form_at}
@@ -107,19 +113,21 @@ a_number p h = elim (chosen (begins_numeral p) (unless (is_some (numeral_of p)) 
 ]
 
 a_function : (p : List ℕ) → misfit wants.Function (Plain p) ≡ None → (f : Function) × IsTerm (Plain p) (Applies f)
-a_function p h = elim (either (bytes_eq p (codes "digits")) (bytes_eq p (codes "bytes")) (holds (bytes_eq p (codes "digits") || bytes_eq p (codes "bytes")) BadName h)) [
-  | inl e ↦ (Digits, ap Plain (same_bytes p (codes "digits") e))
-  | inr e ↦ (Bytes, ap Plain (same_bytes p (codes "bytes") e))
-]
+a_function p h = elim (either (bytes_eq p (codes "digits")) (bytes_eq p (codes "bytes"))
+    (holds (bytes_eq p (codes "digits") || bytes_eq p (codes "bytes")) BadName h)) [
+      | inl e ↦ (Digits, ap Plain (same_bytes p (codes "digits") e))
+      | inr e ↦ (Bytes, ap Plain (same_bytes p (codes "bytes") e))
+    ]
 
 a_relation : (p : List ℕ) → misfit wants.Relation (Plain p) ≡ None → (r : Relation) × IsTerm (Plain p) (Compares r)
-a_relation p h = elim (either (bytes_eq p (codes "lt") || bytes_eq p (codes "eq")) (bytes_eq p (codes "gt")) (holds (bytes_eq p (codes "lt") || bytes_eq p (codes "eq") || bytes_eq p (codes "gt")) BadName h)) [
-  | inl x ↦ elim (either (bytes_eq p (codes "lt")) (bytes_eq p (codes "eq")) x) [
-    | inl e ↦ (Less, ap Plain (same_bytes p (codes "lt") e))
-    | inr e ↦ (Equal, ap Plain (same_bytes p (codes "eq") e))
-  ]
-  | inr e ↦ (Greater, ap Plain (same_bytes p (codes "gt") e))
-]
+a_relation p h = elim (either (bytes_eq p (codes "lt") || bytes_eq p (codes "eq")) (bytes_eq p (codes "gt"))
+    (holds (bytes_eq p (codes "lt") || bytes_eq p (codes "eq") || bytes_eq p (codes "gt")) BadName h)) [
+      | inl x ↦ elim (either (bytes_eq p (codes "lt")) (bytes_eq p (codes "eq")) x) [
+        | inl e ↦ (Less, ap Plain (same_bytes p (codes "lt") e))
+        | inr e ↦ (Equal, ap Plain (same_bytes p (codes "eq") e))
+      ]
+      | inr e ↦ (Greater, ap Plain (same_bytes p (codes "gt") e))
+    ]
 
 -- a word without a misfit says something
 word_says : (x : Want) (w : Word) → misfit x w ≡ None → (v : Said x) × IsTerm w (term x v)
@@ -139,7 +147,8 @@ word_says wants.Format (Plain p) h = cc
 word_says wants.Format (Quoted text) h = (text, refl)
 
 -- as many words as are wanted, without a misfit
-words_say : (xs : List Want) (ws : List Word) → length ws ≡ length xs → first_misfit xs ws ≡ None → (h : AllSaid xs) × AreTerms ws (terms xs h)
+words_say : (xs : List Want) (ws : List Word) → length ws ≡ length xs → first_misfit xs ws ≡ None → (h : AllSaid xs) ×
+    AreTerms ws (terms xs h)
 words_say [] [] e h = (tt, tt)
 words_say [] (w ∷ ws) e h = absurd (omega (arith, e))
 words_say (x ∷ xs) [] e h = absurd (omega (arith, e))
@@ -167,7 +176,8 @@ record IsFilled (word : List ℕ) (shape : Shape) (n : ℕ) (ws : List Word) (fo
   pub suits : Suits statement
 
 -- words of a fixed number
-fixed : {word : List ℕ} {xs : List Want} (n : ℕ) (ws : List Word) (formats : Option (List Want)) → (length ws == length xs) ≡ true → first_misfit xs ws ≡ None → ((h : AllSaid xs) → Made word n (terms xs h)) → IsFilled word (Words xs) n ws formats
+fixed : {word : List ℕ} {xs : List Want} (n : ℕ) (ws : List Word) (formats : Option (List Want)) → (length ws == length xs) ≡ true →
+    first_misfit xs ws ≡ None → ((h : AllSaid xs) → Made word n (terms xs h)) → IsFilled word (Words xs) n ws formats
 fixed {word = word} {xs = xs} n ws formats count fit make =
     let said = words_say xs ws (eqb-true (length ws) (length xs) count) fit in
     let made = make said.0 in
@@ -180,11 +190,13 @@ fixed {word = word} {xs = xs} n ws formats count fit make =
       suits = made.suits;
     }
 
-made : {word : List ℕ} {n : ℕ} {ts : List Term} (s : Statement) → word_of s ≡ word → line_of s ≡ n → terms_of s ≡ ts → Suits s → Made word n ts
+made : {word : List ℕ} {n : ℕ} {ts : List Term} (s : Statement) → word_of s ≡ word → line_of s ≡ n → terms_of s ≡ ts → Suits s →
+    Made word n ts
 made s named line says suits = record { statement = s; named = named; line = line; says = says; suits = suits }
 
 -- the names of cords
-cord_names : (ws : List Word) (h : AllSaid (cords ws)) → (names : List (List ℕ)) × (terms (cords ws) h ≡ map (Operand kinds.Cord) names) × (length names ≡ length ws)
+cord_names : (ws : List Word) (h : AllSaid (cords ws)) → (names : List (List ℕ)) × (terms (cords ws) h ≡ map (Operand kinds.Cord) names) ×
+    (length names ≡ length ws)
 cord_names [] h = ([], refl, refl)
 cord_names (w ∷ ws) h =
     let r = cord_names ws h.1 in
@@ -195,7 +207,8 @@ cords_count [] = refl
 cords_count (w ∷ ws) = omega (arith, cords_count ws)
 
 -- a target and 2 to 16 cords
-joined_filled : (n : ℕ) (ws : List Word) (formats : Option (List Want)) → is_count Joined (length ws) ≡ true → first_misfit (joined ws) ws ≡ None → IsFilled (codes "catn") Joined n ws formats
+joined_filled : (n : ℕ) (ws : List Word) (formats : Option (List Want)) → is_count Joined (length ws) ≡ true →
+    first_misfit (joined ws) ws ≡ None → IsFilled (codes "catn") Joined n ws formats
 joined_filled n [] formats count fit = cc
 joined_filled n (w ∷ ws) formats count fit =
     let r = neither (name_misfit w) (first_pair misfit (cords ws) ws) fit in
@@ -215,7 +228,8 @@ joined_filled n (w ∷ ws) formats count fit =
     }
 
 -- the arguments of conversions
-arguments_said : (ks : List ArgKind) (h : AllSaid (map want_of_kind ks)) → (args : List Argument) × (terms (map want_of_kind ks) h ≡ map argument_term args) × (map argument_want args ≡ map want_of_kind ks)
+arguments_said : (ks : List ArgKind) (h : AllSaid (map want_of_kind ks)) → (args : List Argument) ×
+    (terms (map want_of_kind ks) h ≡ map argument_term args) × (map argument_want args ≡ map want_of_kind ks)
 arguments_said [] h = ([], refl, refl)
 arguments_said (printed.Number ∷ ks) h =
     let r = arguments_said ks h.1 in
@@ -228,7 +242,8 @@ no_format : (o : Option RefusalKind) (ws : List Word) → first_of o (arguments_
 no_format o ws h = let wrong = (neither o (Some BadFormat) h).1 in cc
 
 -- a target, a format and what its conversions want
-printed_filled : (n : ℕ) (ws : List Word) (formats : Option (List Want)) → HasFormat Printed ws formats → is_count Printed (length ws) ≡ true → words_flaw Printed formats ws ≡ None → IsFilled (codes "sprintf") Printed n ws formats
+printed_filled : (n : ℕ) (ws : List Word) (formats : Option (List Want)) → HasFormat Printed ws formats →
+    is_count Printed (length ws) ≡ true → words_flaw Printed formats ws ≡ None → IsFilled (codes "sprintf") Printed n ws formats
 printed_filled n [] formats has count fit = cc
 printed_filled n (w ∷ []) formats has count fit = cc
 printed_filled n (w ∷ x ∷ ws) None has count fit = absurd (no_format (first_misfit format_wants (w ∷ x ∷ ws)) ws fit)
@@ -252,7 +267,9 @@ printed_filled n (w ∷ Quoted text ∷ ws) (Some xs) has count fit =
     }
 
 -- words after a statement's word, of the right number and without a misfit, say a statement
-filled : (v : Verb) (n : ℕ) (ws : List Word) (formats : Option (List Want)) → HasFormat (verb_shape v) ws formats → is_count (verb_shape v) (length ws) ≡ true → words_flaw (verb_shape v) formats ws ≡ None → IsFilled (verb_word v) (verb_shape v) n ws formats
+filled : (v : Verb) (n : ℕ) (ws : List Word) (formats : Option (List Want)) → HasFormat (verb_shape v) ws formats →
+    is_count (verb_shape v) (length ws) ≡ true → words_flaw (verb_shape v) formats ws ≡ None →
+    IsFilled (verb_word v) (verb_shape v) n ws formats
 filled verbs.Let n ws formats has count fit = fixed n ws formats count fit (λ h. made (Let n h.0 h.1.0) refl refl refl tt)
 filled verbs.File n ws formats has count fit = fixed n ws formats count fit (λ h. made (File n h.0 h.1.0) refl refl refl tt)
 filled verbs.Eager n ws formats has count fit = fixed n ws formats count fit (λ h. made (Eager n h.0 h.1.0) refl refl refl tt)
@@ -263,17 +280,20 @@ filled verbs.FromFn n ws formats has count fit = fixed n ws formats count fit (�
 filled verbs.Cat n ws formats has count fit = fixed n ws formats count fit (λ h. made (Cat n h.0 h.1.0 h.1.1.0) refl refl refl tt)
 filled verbs.Catn n ws formats has count fit = joined_filled n ws formats count fit
 filled verbs.Catc n ws formats has count fit = fixed n ws formats count fit (λ h. made (Catc n h.0 h.1.0 h.1.1.0) refl refl refl tt)
-filled verbs.Substr n ws formats has count fit = fixed n ws formats count fit (λ h. made (Substr n h.0 h.1.0 h.1.1.0 h.1.1.1.0) refl refl refl tt)
+filled verbs.Substr n ws formats has count fit = fixed n ws formats count fit
+    (λ h. made (Substr n h.0 h.1.0 h.1.1.0 h.1.1.1.0) refl refl refl tt)
 filled verbs.Balance n ws formats has count fit = fixed n ws formats count fit (λ h. made (Balance n h.0 h.1.0) refl refl refl tt)
 filled verbs.EcToCord n ws formats has count fit = fixed n ws formats count fit (λ h. made (EcToCord n h.0 h.1.0) refl refl refl tt)
 filled verbs.Sprintf n ws formats has count fit = printed_filled n ws formats has count fit
 filled verbs.Len n ws formats has count fit = fixed n ws formats count fit (λ h. made (Len n h.0 h.1.0) refl refl refl tt)
 filled verbs.Fetch n ws formats has count fit = fixed n ws formats count fit (λ h. made (Fetch n h.0 h.1.0 h.1.1.0) refl refl refl tt)
 filled verbs.Cmp n ws formats has count fit = fixed n ws formats count fit (λ h. made (Cmp n h.0 h.1.0 h.1.1.0) refl refl refl tt)
-filled verbs.Ncmp n ws formats has count fit = fixed n ws formats count fit (λ h. made (Ncmp n h.0 h.1.0 h.1.1.0 h.1.1.1.0 h.1.1.1.1.0 h.1.1.1.1.1.0) refl refl refl tt)
+filled verbs.Ncmp n ws formats has count fit = fixed n ws formats count fit
+    (λ h. made (Ncmp n h.0 h.1.0 h.1.1.0 h.1.1.1.0 h.1.1.1.1.0 h.1.1.1.1.1.0) refl refl refl tt)
 filled verbs.Str n ws formats has count fit = fixed n ws formats count fit (λ h. made (Str n h.0 h.1.0 h.1.1.0 h.1.1.1.0) refl refl refl tt)
 filled verbs.Chr n ws formats has count fit = fixed n ws formats count fit (λ h. made (Chr n h.0 h.1.0 h.1.1.0 h.1.1.1.0) refl refl refl tt)
-filled verbs.Rchr n ws formats has count fit = fixed n ws formats count fit (λ h. made (Rchr n h.0 h.1.0 h.1.1.0 h.1.1.1.0) refl refl refl tt)
+filled verbs.Rchr n ws formats has count fit = fixed n ws formats count fit
+    (λ h. made (Rchr n h.0 h.1.0 h.1.1.0 h.1.1.1.0) refl refl refl tt)
 filled verbs.Assign n ws formats has count fit = fixed n ws formats count fit (λ h. made (Assign n h.0 h.1.0) refl refl refl tt)
 filled verbs.Add n ws formats has count fit = fixed n ws formats count fit (λ h. made (Add n h.0 h.1.0 h.1.1.0) refl refl refl tt)
 filled verbs.Sub n ws formats has count fit = fixed n ws formats count fit (λ h. made (Sub n h.0 h.1.0 h.1.1.0) refl refl refl tt)
@@ -306,7 +326,9 @@ abbrev SaysOrBad : Grammar → ℕ → Before → List Word → Type 0
 SaysOrBad g n before words = ((s : Statement) × Says g n before words s) ⊎ ((kind : RefusalKind) × HasBadWords g before words kind)
 
 -- the words after a verb have no flaw
-well_said : (g : Grammar) (n : ℕ) (before : Before) (p : List ℕ) (ws : List Word) (v : Verb) (formats : Option (List Want)) → g.has p ≡ true → p ≡ verb_word v → HasFormat (verb_shape v) ws formats → form_flaw (verb_form v) before formats ws ≡ None → (s : Statement) × Says g n before (Plain p ∷ ws) s
+well_said : (g : Grammar) (n : ℕ) (before : Before) (p : List ℕ) (ws : List Word) (v : Verb) (formats : Option (List Want)) →
+    g.has p ≡ true → p ≡ verb_word v → HasFormat (verb_shape v) ws formats → form_flaw (verb_form v) before formats ws ≡ None →
+    (s : Statement) × Says g n before (Plain p ∷ ws) s
 well_said g n before p ws v formats has spelled format fine =
     let shape = verb_shape v in
     let names = names_flaw before (wants_of shape formats ws) ws in
@@ -331,15 +353,20 @@ well_said g n before p ws v formats has spelled format fine =
       },
     )
 
-bad_form : (g : Grammar) (before : Before) (p : List ℕ) (ws : List Word) (form : Option Form) (kind : RefusalKind) → form_in g p ≡ form → HasFormFlaw before form ws kind → HasBadWords g before (Plain p ∷ ws) kind
+bad_form : (g : Grammar) (before : Before) (p : List ℕ) (ws : List Word) (form : Option Form) (kind : RefusalKind) → form_in g p ≡ form →
+    HasFormFlaw before form ws kind → HasBadWords g before (Plain p ∷ ws) kind
 bad_form g before p ws form kind e h = subst (λ k. HasFormFlaw before k ws kind) (sym e) h
 
-verb_by : (g : Grammar) (n : ℕ) (before : Before) (p : List ℕ) (ws : List Word) (v : Verb) (formats : Option (List Want)) (flaw : Option RefusalKind) → g.has p ≡ true → p ≡ verb_word v → form_in g p ≡ Some (verb_form v) → HasFormat (verb_shape v) ws formats → form_flaw (verb_form v) before formats ws ≡ flaw → SaysOrBad g n before (Plain p ∷ ws)
+verb_by : (g : Grammar) (n : ℕ) (before : Before) (p : List ℕ) (ws : List Word) (v : Verb) (formats : Option (List Want))
+    (flaw : Option RefusalKind) → g.has p ≡ true → p ≡ verb_word v → form_in g p ≡ Some (verb_form v) →
+    HasFormat (verb_shape v) ws formats → form_flaw (verb_form v) before formats ws ≡ flaw → SaysOrBad g n before (Plain p ∷ ws)
 verb_by g n before p ws v formats None has spelled form format e = inl (well_said g n before p ws v formats has spelled format e)
-verb_by g n before p ws v formats (Some kind) has spelled form format e = inr (kind, bad_form g before p ws (Some (verb_form v)) kind form (formats, format, e))
+verb_by g n before p ws v formats (Some kind) has spelled form format e =
+    inr (kind, bad_form g before p ws (Some (verb_form v)) kind form (formats, format, e))
 
 -- the words after a verb say a statement, or have a flaw
-verb_says : FormatOrBad → (g : Grammar) (n : ℕ) (before : Before) (p : List ℕ) (ws : List Word) (v : Verb) → g.has p ≡ true → p ≡ verb_word v → form_in g p ≡ Some (verb_form v) → SaysOrBad g n before (Plain p ∷ ws)
+verb_says : FormatOrBad → (g : Grammar) (n : ℕ) (before : Before) (p : List ℕ) (ws : List Word) (v : Verb) → g.has p ≡ true →
+    p ≡ verb_word v → form_in g p ≡ Some (verb_form v) → SaysOrBad g n before (Plain p ∷ ws)
 verb_says law g n before p ws v has spelled form =
     let formats = formats_of law (verb_shape v) ws in
     verb_by g n before p ws v formats.0 (form_flaw (verb_form v) before formats.0 ws) has spelled form formats.1 refl
@@ -352,16 +379,20 @@ spelled_so (x ∷ xs) p v h = elim (chosen (bytes_eq p (verb_word x)) (Some x) (
   | inr y ↦ spelled_so xs p v y.1
 ]
 
-allowed_says : FormatOrBad → (g : Grammar) (n : ℕ) (before : Before) (p : List ℕ) (ws : List Word) (found : Option Verb) → g.has p ≡ true → find_verb VERBS p ≡ found → form_in g p ≡ form_of p → SaysOrBad g n before (Plain p ∷ ws)
+allowed_says : FormatOrBad → (g : Grammar) (n : ℕ) (before : Before) (p : List ℕ) (ws : List Word) (found : Option Verb) → g.has p ≡ true →
+    find_verb VERBS p ≡ found → form_in g p ≡ form_of p → SaysOrBad g n before (Plain p ∷ ws)
 allowed_says law g n before p ws None has e form =
     inr (UnknownStatement, bad_form g before p ws None UnknownStatement (form ∙ sym (form_found p) ∙ ap form_at e) refl)
 allowed_says law g n before p ws (Some v) has e form =
     let spelled = spelled_so VERBS p v e in
     verb_says law g n before p ws v has spelled (form ∙ ap form_of spelled ∙ form_is v)
 
-word_by : FormatOrBad → (g : Grammar) (n : ℕ) (before : Before) (p : List ℕ) (ws : List Word) (x : Bool) → g.has p ≡ x → SaysOrBad g n before (Plain p ∷ ws)
-word_by law g n before p ws true has = allowed_says law g n before p ws (find_verb VERBS p) has refl (ap (λ b. if b then form_of p else None) has)
-word_by law g n before p ws false has = inr (UnknownStatement, bad_form g before p ws None UnknownStatement (ap (λ b. if b then form_of p else None) has) refl)
+word_by : FormatOrBad → (g : Grammar) (n : ℕ) (before : Before) (p : List ℕ) (ws : List Word) (x : Bool) → g.has p ≡ x →
+    SaysOrBad g n before (Plain p ∷ ws)
+word_by law g n before p ws true has = allowed_says law g n before p ws (find_verb VERBS p) has refl
+    (ap (λ b. if b then form_of p else None) has)
+word_by law g n before p ws false has =
+    inr (UnknownStatement, bad_form g before p ws None UnknownStatement (ap (λ b. if b then form_of p else None) has) refl)
 
 -- words say a statement, or have a flaw
 pub says_or_bad : FormatOrBad → (g : Grammar) (n : ℕ) (before : Before) (words : List Word) → words ≢ [] → SaysOrBad g n before words

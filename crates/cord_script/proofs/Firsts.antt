@@ -1,5 +1,6 @@
 -- Tables whose entries are each the first with their name.
-use Rattle.std.proofs.Common.{◌≡◌, ◌⊎◌, ◌<◌, ℕ, zero, suc, List, [], ◌∷◌, ◌++◌, Bool, true, false, Some, None, drop, length, get_or, inl, inr, refl, sym, ap, ◌∙◌, if◌then◌else◌}
+use Rattle.std.proofs.Common.{◌≡◌, ◌⊎◌, ◌<◌, ℕ, zero, suc, List, [], ◌∷◌, ◌++◌, Bool, true, false, Some, None, drop, length, get_or, inl}
+use Rattle.std.proofs.Common.{inr, refl, sym, ap, ◌∙◌, if◌then◌else◌}
 use Rattle.std.specs.Prelude.{slice_get}
 use Rattle.std.specs.Str.{bytes_eq}
 use Rattle.std.proofs.Math.Seq.{drop-cons}
@@ -16,13 +17,15 @@ own_bytes : (x : List ℕ) → bytes_eq x x ≡ true
 own_bytes x = (bytes_eq-Decides x x).1 refl
 
 -- the kind of a name that is found at a place of the search
-pub found_here : (names : List Known) (i : ℕ) (entry : Known) (name : List ℕ) → i < length names → entry ≡ get_or names i entry → bytes_eq entry.name name ≡ true → kind_of names name ≡ kind_of (drop i names) name → kind_of names name ≡ Some entry.kind
+pub found_here : (names : List Known) (i : ℕ) (entry : Known) (name : List ℕ) → i < length names → entry ≡ get_or names i entry →
+    bytes_eq entry.name name ≡ true → kind_of names name ≡ kind_of (drop i names) name → kind_of names name ≡ Some entry.kind
 found_here names i entry name lt is same on =
     let here : kind_of (drop i names) name ≡ Some entry.kind = rw (drop-cons names i entry, ← is, same) refl in
     on ∙ here
 
 -- the kind of an entry's name
-pub kind_at : (names : List Known) (i : ℕ) (entry : Known) (name : List ℕ) → AreFirst names → slice_get names i ≡ Some entry → entry.name ≡ name → kind_of names name ≡ Some entry.kind
+pub kind_at : (names : List Known) (i : ℕ) (entry : Known) (name : List ℕ) → AreFirst names → slice_get names i ≡ Some entry →
+    entry.name ≡ name → kind_of names name ≡ Some entry.kind
 kind_at names i entry name first at same = ap (kind_of names) (sym same) ∙ first i entry at
 
 -- names that are added change no kind
@@ -30,7 +33,9 @@ kept : (names more : List Known) (name : List ℕ) (kind : Kind) → kind_of nam
 kept [] more name kind h = let bad : ⊥ = cc in absurd bad
 kept (k ∷ ks) more name kind h = by_name (bytes_eq k.name name) h (λ e. kept ks more name kind e)
   where
-    by_name : (b : Bool) → (if b then Some k.kind else kind_of ks name) ≡ Some kind → (kind_of ks name ≡ Some kind → kind_of (ks ++ more) name ≡ Some kind) → (if b then Some k.kind else kind_of (ks ++ more) name) ≡ Some kind
+    by_name : (b : Bool) → (if b then Some k.kind else kind_of ks name) ≡ Some kind →
+        (kind_of ks name ≡ Some kind → kind_of (ks ++ more) name ≡ Some kind) → (if b then Some k.kind else kind_of (ks ++ more) name)
+        ≡ Some kind
     by_name true e ih = e
     by_name false e ih = ih e
 
@@ -39,12 +44,15 @@ added : (names more : List Known) (name : List ℕ) → kind_of names name ≡ N
 added [] more name h = refl
 added (k ∷ ks) more name h = by_name (bytes_eq k.name name) h (λ e. added ks more name e)
   where
-    by_name : (b : Bool) → (if b then Some k.kind else kind_of ks name) ≡ None → (kind_of ks name ≡ None → kind_of (ks ++ more) name ≡ kind_of more name) → (if b then Some k.kind else kind_of (ks ++ more) name) ≡ kind_of more name
+    by_name : (b : Bool) → (if b then Some k.kind else kind_of ks name) ≡ None →
+        (kind_of ks name ≡ None → kind_of (ks ++ more) name ≡ kind_of more name) → (if b then Some k.kind else kind_of (ks ++ more) name)
+        ≡ kind_of more name
     by_name true e ih = let bad : ⊥ = cc in absurd bad
     by_name false e ih = ih e
 
 -- an entry stands among the others, or is the last
-at_push : (names : List Known) (last : Known) (i : ℕ) (entry : Known) → slice_get (names ++ last ∷ []) i ≡ Some entry → (slice_get names i ≡ Some entry) ⊎ (last ≡ entry)
+at_push : (names : List Known) (last : Known) (i : ℕ) (entry : Known) → slice_get (names ++ last ∷ []) i ≡ Some entry →
+    (slice_get names i ≡ Some entry) ⊎ (last ≡ entry)
 at_push [] last zero entry e = inr cc
 at_push [] last (suc i) entry e = let bad : ⊥ = cc in absurd bad
 at_push (k ∷ ks) last zero entry e = inl e

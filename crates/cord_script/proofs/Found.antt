@@ -1,5 +1,6 @@
 -- Each line is idle or isn't, and has words or a first flaw of its bytes.
-use Rattle.std.proofs.Common.{inl, inr, Some, None, ◌≡◌, ◌≢◌, ◌≤◌, ◌<◌, ◌⊎◌, ℕ, zero, suc, List, [], ◌∷◌, ◌++◌, refl, sym, ◌∙◌, ap, append_assoc, length, length-append, arith}
+use Rattle.std.proofs.Common.{inl, inr, Some, None, ◌≡◌, ◌≢◌, ◌≤◌, ◌<◌, ◌⊎◌, ℕ, zero, suc, List, [], ◌∷◌, ◌++◌, refl, sym, ◌∙◌, ap}
+use Rattle.std.proofs.Common.{append_assoc, length, length-append, arith}
 use Rattle.std.specs.Prelude.{All, Option}
 use Rattle.std.proofs.lemmas.Bool.{cases_eq, cases_lt}
 use Rattle.std.proofs.lemmas.List.Elements.{All-nil, All-cons}
@@ -8,7 +9,8 @@ use Rattle.cord_script.specs.declared.refusals.RefusalKind.{RefusalKind}
 use Rattle.cord_script.specs.declared.refusals.RefusalKind.TheVariants.{Unterminated, BadEscape, LiteralTooLong}
 use Rattle.cord_script.specs.declared.words.Word.{Word}
 use Rattle.cord_script.specs.declared.words.Word.TheVariants.{Plain, Quoted}
-use Rattle.cord_script.specs.Words.{IsBlank, IsIdle, IsPlain, EndsPlain, Stands, Spells, HasWord, HasWords, IsBadText, BeginsBadText, HasBadBytes}
+use Rattle.cord_script.specs.Words.{IsBlank, IsIdle, IsPlain, EndsPlain, Stands, Spells, HasWord, HasWords, IsBadText, BeginsBadText}
+use Rattle.cord_script.specs.Words.{HasBadBytes}
 use Rattle.cord_script.specs.inner.Reading.{unit_of}
 use Rattle.cord_script.proofs.Lines.{note_shows}
 use Rattle.cord_script.proofs.Spelled.{spells_push, unit_stands}
@@ -47,13 +49,23 @@ shown (c ∷ cs) = elim (blank_or_not c) [
   | inr shows ↦ inr (c, cs, record { front = []; blank = All-nil IsBlank; shows = shows; whole = refl })
   | inl b ↦ elim (shown cs) [
     | inl all ↦ inl (All-cons IsBlank c cs b all)
-    | inr h ↦ inr (h.0, h.1, record { front = c ∷ h.2.front; blank = All-cons IsBlank c h.2.front b h.2.blank; shows = h.2.shows; whole = ap (λ x. c ∷ x) h.2.whole })
+    | inr h ↦ inr (
+      h.0,
+      h.1,
+      record {
+        front = c ∷ h.2.front;
+        blank = All-cons IsBlank c h.2.front b h.2.blank;
+        shows = h.2.shows;
+        whole = ap (λ x. c ∷ x) h.2.whole;
+      },
+    )
   ]
 ]
 
 not_idle : (line rest : List ℕ) (c : ℕ) → Begins line c rest → c ≢ 35 → ¬ IsIdle line
 not_idle line rest c b n (inl all) = no_beginning line rest c b all
-not_idle line rest c b n (inr note) = n ((one_beginning line rest note.1 c 35 b (record { front = note.0; blank = note.2; shows = note_shows; whole = note.3 })).0)
+not_idle line rest c b n (inr note) =
+    n ((one_beginning line rest note.1 c 35 b (record { front = note.0; blank = note.2; shows = note_shows; whole = note.3 })).0)
 
 note_or_not : (line rest : List ℕ) (c : ℕ) → Begins line c rest → IsIdle line ⊎ (¬ IsIdle line)
 note_or_not line rest c b = elim (cases_eq c 35) [
@@ -89,7 +101,14 @@ unit_or_none : (rest : List ℕ) (o : Option (ℕ × List ℕ)) → unit_of rest
 unit_or_none rest None e = inr e
 unit_or_none rest (Some p) e =
     let s = unit_stands rest p.1 p.0 e in
-    inl (record { unit = s.0; behind = p.1; byte = p.0; whole = s.1; stands = s.2; shorter = omega (arith, ap length s.1, length-append s.0 p.1, stands_some s.0 p.0 s.2) })
+    inl (record {
+      unit = s.0;
+      behind = p.1;
+      byte = p.0;
+      whole = s.1;
+      stands = s.2;
+      shorter = omega (arith, ap length s.1, length-append s.0 p.1, stands_some s.0 p.0 s.2);
+    })
 
 no_some : (p : ℕ × List ℕ) → None ≡ Some p → ⊥
 no_some p e = cc
@@ -106,7 +125,8 @@ backslash c rest n none = elim (cases_eq c 92) [
 
 -- what stands after the first quote of a quoted word: its text and a quote, or a flaw
 abbrev Inside : List ℕ → Type 0
-Inside inner = ((w rest text : List ℕ) × (inner ≡ w ++ 34 ∷ rest) × Spells w text × (length text ≤ MAX_TEXT)) ⊎ ((kind : RefusalKind) × IsBadText inner kind)
+Inside inner = ((w rest text : List ℕ) × (inner ≡ w ++ 34 ∷ rest) × Spells w text × (length text ≤ MAX_TEXT)) ⊎
+    ((kind : RefusalKind) × IsBadText inner kind)
 
 -- what is read of it so far
 record SoFar (inner rest : List ℕ) : Type 0 where
@@ -131,10 +151,32 @@ inside zero inner (c ∷ rest) le h = absurd (omega (arith, le))
 inside (suc n) inner (c ∷ rest) le h = elim (cases_eq c 34) [
   | inl e ↦ inl (h.read, rest, h.text, h.whole ∙ ap (λ k. h.read ++ k ∷ rest) e, h.spells, h.few)
   | inr other ↦ elim (unit_or_none (c ∷ rest) (unit_of (c ∷ rest)) refl) [
-    | inr none ↦ inr (BadEscape, (h.read, c ∷ rest, h.text, h.whole, h.spells, h.few, inl (refl, (rest, ap (λ k. k ∷ rest) (backslash c rest other none)), none_stands (c ∷ rest) none)))
+    | inr none ↦ inr (
+      BadEscape,
+      (
+        h.read,
+        c ∷ rest,
+        h.text,
+        h.whole,
+        h.spells,
+        h.few,
+        inl (refl, (rest, ap (λ k. k ∷ rest) (backslash c rest other none)), none_stands (c ∷ rest) none),
+      ),
+    )
     | inl u ↦ elim (cases_lt (length h.text) MAX_TEXT) [
       | inl room ↦ inside n inner u.behind (omega (arith, le, u.shorter)) (one_more inner (c ∷ rest) h u room)
-      | inr full ↦ inr (LiteralTooLong, (h.read, c ∷ rest, h.text, h.whole, h.spells, h.few, inr (inl (refl, omega (arith, full, h.few), (u.unit, u.behind, u.byte, u.whole, u.stands)))))
+      | inr full ↦ inr (
+        LiteralTooLong,
+        (
+          h.read,
+          c ∷ rest,
+          h.text,
+          h.whole,
+          h.spells,
+          h.few,
+          inr (inl (refl, omega (arith, full, h.few), (u.unit, u.behind, u.byte, u.whole, u.stands))),
+        ),
+      )
     ]
   ]
 ]
@@ -152,7 +194,13 @@ plain_front [] = record { front = []; rest = []; whole = refl; all = All-nil IsP
 plain_front (c ∷ cs) = longer (plain_front cs) (plain_or_not c)
   where
     longer : PlainFront cs → IsPlain c ⊎ (¬ IsPlain c) → PlainFront (c ∷ cs)
-    longer l (inl h) = record { front = c ∷ l.front; rest = l.rest; whole = ap (λ x. c ∷ x) l.whole; all = All-cons IsPlain c l.front h l.all; ends = l.ends }
+    longer l (inl h) = record {
+      front = c ∷ l.front;
+      rest = l.rest;
+      whole = ap (λ x. c ∷ x) l.whole;
+      all = All-cons IsPlain c l.front h l.all;
+      ends = l.ends;
+    }
     longer l (inr n) = record { front = []; rest = c ∷ cs; whole = refl; all = All-nil IsPlain; ends = n }
 
 -- the next word
@@ -173,7 +221,8 @@ plain_first line rest c b n =
       shorter = omega (arith, ap length whole, length-append (b.front ++ (c ∷ l.front)) l.rest, length-append b.front (c ∷ l.front));
     }
 
-quoted_first : (line inner front : List ℕ) → All IsBlank front → line ≡ front ++ 34 ∷ inner → Inside inner → HasFirst line ⊎ ((kind : RefusalKind) × BeginsBadText line kind)
+quoted_first : (line inner front : List ℕ) → All IsBlank front → line ≡ front ++ 34 ∷ inner → Inside inner → HasFirst line ⊎
+    ((kind : RefusalKind) × BeginsBadText line kind)
 quoted_first line inner front blank e (inr bad) = inr (bad.0, (front, inner, blank, e, bad.1))
 quoted_first line inner front blank e (inl h) =
     let whole : line ≡ (front ++ 34 ∷ h.0) ++ 34 ∷ h.1 = e ∙ ap (λ x. front ++ 34 ∷ x) h.3 ∙ sym (append_assoc front (34 ∷ h.0) (34 ∷ h.1)) in
@@ -186,7 +235,8 @@ quoted_first line inner front blank e (inl h) =
 
 first_or_bad : (line rest : List ℕ) (c : ℕ) → Begins line c rest → HasFirst line ⊎ ((kind : RefusalKind) × BeginsBadText line kind)
 first_or_bad line rest c b = elim (cases_eq c 34) [
-  | inl e ↦ quoted_first line rest b.front b.blank (b.whole ∙ ap (λ k. b.front ++ k ∷ rest) e) (inside (length rest) rest rest (omega arith) (record { read = []; text = []; whole = refl; spells = refl; few = omega arith }))
+  | inl e ↦ quoted_first line rest b.front b.blank (b.whole ∙ ap (λ k. b.front ++ k ∷ rest) e)
+      (inside (length rest) rest rest (omega arith) (record { read = []; text = []; whole = refl; spells = refl; few = omega arith }))
   | inr n ↦ inl (plain_first line rest c b n)
 ]
 

@@ -1,5 +1,6 @@
 -- Lines of a script.
-use Rattle.std.proofs.Common.{inl, inr, ◌≡◌, ◌≢◌, ◌<◌, ◌+◌, ℕ, zero, suc, List, [], ◌∷◌, ◌++◌, refl, sym, ◌∙◌, ap, subst, take, drop, length, arith, Bool, true, false, Some, None, eq-eqb, eqb-true}
+use Rattle.std.proofs.Common.{inl, inr, ◌≡◌, ◌≢◌, ◌<◌, ◌+◌, ℕ, zero, suc, List, [], ◌∷◌, ◌++◌, refl, sym, ◌∙◌, ap, subst, take, drop}
+use Rattle.std.proofs.Common.{length, arith, Bool, true, false, Some, None, eq-eqb, eqb-true}
 use Rattle.std.proofs.lemmas.Bool.{eqb-false}
 use Rattle.std.proofs.lemmas.List.Elements.{All-nil, All-cons}
 use Rattle.std.specs.Prelude.{All, MatchBool, ◌==◌}
@@ -28,7 +29,8 @@ split_nil ((c ∷ cs) ∷ lines) (n, inr h) = cc
 before_end : (b : List ℕ) (end : ℕ) → Nowhere (Passes (is_byte 10) b) 0 end → All (λ c. c ≢ 10) (take end b)
 before_end b zero none = All-nil (λ c. c ≢ 10)
 before_end [] (suc end) none = All-nil (λ c. c ≢ 10)
-before_end (c ∷ cs) (suc end) none = All-cons (λ d. d ≢ 10) c (take end cs) (λ e. none zero (omega arith) (omega arith) (eq-eqb c 10 e)) (before_end cs end (λ k low high. none (suc k) (omega arith) (omega arith)))
+before_end (c ∷ cs) (suc end) none = All-cons (λ d. d ≢ 10) c (take end cs) (λ e. none zero (omega arith) (omega arith) (eq-eqb c 10 e))
+    (before_end cs end (λ k low high. none (suc k) (omega arith) (omega arith)))
 
 -- a byte 10, what is before it and what follows it
 at_end : (b : List ℕ) (end : ℕ) → end < length b → Passes (is_byte 10) b end → b ≡ take end b ++ 10 ∷ drop (suc end) b
@@ -37,14 +39,18 @@ at_end (c ∷ cs) zero lt h = ap (λ d. d ∷ cs) (eqb-true c 10 h)
 at_end (c ∷ cs) (suc end) lt h = ap (λ r. c ∷ r) (at_end cs end (omega arith) h)
 
 -- the first line ends at the first byte 10
-pub split_first : (b : List ℕ) (end : ℕ) (lines : List (List ℕ)) → IsFirstByte (is_byte 10) b (Some end) → IsSplit (drop (end + 1) b) lines → IsSplit b (take end b ∷ lines)
+pub split_first : (b : List ℕ) (end : ℕ) (lines : List (List ℕ)) → IsFirstByte (is_byte 10) b (Some end) →
+    IsSplit (drop (end + 1) b) lines → IsSplit b (take end b ∷ lines)
 split_first b end lines h s =
     let next : end + 1 ≡ suc end = omega arith in
     (before_end b end h.0.before, inr (drop (suc end) b, at_end b end h.0.high h.1, subst (λ n. IsSplit (drop n b) lines) next s))
 
 -- bytes without a byte 10 are one line
 pub split_last : (b : List ℕ) (lines : List (List ℕ)) → b ≢ [] → IsFirstByte (is_byte 10) b None → IsSplit [] lines → IsSplit b (b ∷ lines)
-split_last b lines some h s = (subst (All (λ c. c ≢ 10)) (take_all (length b) b (omega arith)) (before_end b (length b) h), inl (split_nil lines s, some, refl))
+split_last b lines some h s = (
+  subst (All (λ c. c ≢ 10)) (take_all (length b) b (omega arith)) (before_end b (length b) h),
+  inl (split_nil lines s, some, refl),
+)
 
 -- a note is no statement
 pub idle_note : (line inner : List ℕ) (b : ℕ) → drop b line ≡ 35 ∷ inner → All IsBlank (take b line) → IsIdle line
@@ -63,7 +69,8 @@ not_all_blank [] rest c h n = n (head_of IsBlank c rest h)
 not_all_blank (x ∷ xs) rest c h n = not_all_blank xs rest c (tail_of IsBlank x (xs ++ c ∷ rest) h) n
 
 -- the blanks at the front end at one place
-pub one_front : (f g : List ℕ) (c d : ℕ) (r s : List ℕ) → All IsBlank f → ¬ IsBlank c → All IsBlank g → ¬ IsBlank d → f ++ c ∷ r ≡ g ++ d ∷ s → (f ≡ g) × (c ≡ d) × (r ≡ s)
+pub one_front : (f g : List ℕ) (c d : ℕ) (r s : List ℕ) → All IsBlank f → ¬ IsBlank c → All IsBlank g → ¬ IsBlank d →
+    f ++ c ∷ r ≡ g ++ d ∷ s → (f ≡ g) × (c ≡ d) × (r ≡ s)
 one_front [] [] c d r s hf nc hg nd e = (refl, cc, cc)
 one_front [] (y ∷ g) c d r s hf nc hg nd e = let same : y ≡ c = cc in absurd (nc (subst IsBlank same (head_of IsBlank y g hg)))
 one_front (x ∷ f) [] c d r s hf nc hg nd e = let same : x ≡ d = cc in absurd (nd (subst IsBlank same (head_of IsBlank x f hf)))
@@ -77,7 +84,8 @@ one_front (x ∷ f) (y ∷ g) c d r s hf nc hg nd e =
 pub note_shows : ¬ IsBlank 35
 note_shows = λ h. elim h [ inl e ↦ omega arith | inr k ↦ elim k [ inl e ↦ omega arith | inr e ↦ omega arith ] ]
 
-note_by : (line inner : List ℕ) (b c : ℕ) (x : Bool) → (c == 35) ≡ x → drop b line ≡ c ∷ inner → All IsBlank (take b line) → ¬ IsBlank c → MatchBool x (IsIdle line) (¬ IsIdle line)
+note_by : (line inner : List ℕ) (b c : ℕ) (x : Bool) → (c == 35) ≡ x → drop b line ≡ c ∷ inner → All IsBlank (take b line) → ¬ IsBlank c →
+    MatchBool x (IsIdle line) (¬ IsIdle line)
 note_by line inner b c true t e h s = idle_note line inner b (e ∙ ap (λ k. k ∷ inner) (eqb-true c 35 t)) h
 note_by line inner b c false t e h s =
     let whole : line ≡ take b line ++ c ∷ inner = parts b line ∙ ap (λ k. take b line ++ k) e in
@@ -87,5 +95,6 @@ note_by line inner b c false t e h s =
     ]
 
 -- a line whose first other byte isn't `#` says something
-pub is_note : (line inner : List ℕ) (b c : ℕ) → drop b line ≡ c ∷ inner → All IsBlank (take b line) → StartsNoBlank (drop b line) → MatchBool (c == 35) (IsIdle line) (¬ IsIdle line)
+pub is_note : (line inner : List ℕ) (b c : ℕ) → drop b line ≡ c ∷ inner → All IsBlank (take b line) → StartsNoBlank (drop b line) →
+    MatchBool (c == 35) (IsIdle line) (¬ IsIdle line)
 is_note line inner b c e h s = note_by line inner b c (c == 35) refl e h (subst StartsNoBlank e s)

@@ -1,5 +1,6 @@
 -- Numerals and the digits that write them.
-use Rattle.std.proofs.Common.{Some, None, ◌≡◌, ◌≤◌, ◌<◌, ◌+◌, ◌*◌, ◌-◌, ◌^◌, ℕ, List, [], ◌∷◌, Bool, true, false, refl, sym, ◌∙◌, ap, arith, length, drop, get_or, suc, drop-cons}
+use Rattle.std.proofs.Common.{Some, None, ◌≡◌, ◌≤◌, ◌<◌, ◌+◌, ◌*◌, ◌-◌, ◌^◌, ℕ, List, [], ◌∷◌, Bool, true, false, refl, sym, ◌∙◌, ap, arith}
+use Rattle.std.proofs.Common.{length, drop, get_or, suc, drop-cons}
 use Rattle.std.specs.Prelude.{◌&&◌, nat_le, if◌then◌else◌}
 use Rattle.std.proofs.lemmas.Bool.{lt-leb}
 use Rattle.cord_script.specs.Tests.{is_digit, each, number_after}
@@ -25,8 +26,10 @@ pub one_too_many : (n d : ℕ) (ds : List ℕ) → 922337203685477580 < n → ma
 one_too_many n d ds h =
     let r = no_smaller (10 * n + (d - 48)) ds in
     let great : 2 ^ 63 < number_after n (d ∷ ds) = omega arith in
-    sym (neither_taken (is_digit d) (each is_digit ds) (nat_le (number_after n (d ∷ ds)) (2 ^ 63)) (number_after n (d ∷ ds)) (lt-leb (number_after n (d ∷ ds)) (2 ^ 63) great))
+    sym (neither_taken (is_digit d) (each is_digit ds) (nat_le (number_after n (d ∷ ds)) (2 ^ 63)) (number_after n (d ∷ ds))
+    (lt-leb (number_after n (d ∷ ds)) (2 ^ 63) great))
 
 -- the digits after a place hold one more than fits
-pub stops_at : (xs : List ℕ) (i n : ℕ) → i < length xs → 922337203685477580 < n → magnitude_from 0 xs ≡ magnitude_from n (drop i xs) → None ≡ magnitude_from 0 xs
+pub stops_at : (xs : List ℕ) (i n : ℕ) → i < length xs → 922337203685477580 < n → magnitude_from 0 xs ≡ magnitude_from n (drop i xs) →
+    None ≡ magnitude_from 0 xs
 stops_at xs i n lt great e = sym (e ∙ ap (magnitude_from n) (drop-cons xs i 0 lt) ∙ one_too_many n (get_or xs i 0) (drop (suc i) xs) great)

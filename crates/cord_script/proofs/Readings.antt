@@ -1,5 +1,6 @@
 -- The lines of a script and what they say, one after the other.
-use Rattle.std.proofs.Common.{inl, inr, Some, None, ◌≡◌, ◌≢◌, ◌≤◌, ◌<◌, ◌+◌, ℕ, zero, suc, List, [], ◌∷◌, ◌++◌, refl, sym, ◌∙◌, ap, subst, append_assoc, append-nil, length, length-append, arith, get_or, Bool, true, false, eqb-true}
+use Rattle.std.proofs.Common.{inl, inr, Some, None, ◌≡◌, ◌≢◌, ◌≤◌, ◌<◌, ◌+◌, ℕ, zero, suc, List, [], ◌∷◌, ◌++◌, refl, sym, ◌∙◌, ap, subst}
+use Rattle.std.proofs.Common.{append_assoc, append-nil, length, length-append, arith, get_or, Bool, true, false, eqb-true}
 use Rattle.std.specs.Prelude.{All, ◌==◌}
 use Rattle.std.proofs.lemmas.Bool.{eqb-false}
 use Rattle.cord_script.specs.declared.TheConstants.{MAX_SCRIPT, MAX_LINES}
@@ -16,7 +17,8 @@ use Rattle.cord_script.specs.Flaws.{FlawBy, HasBadLine}
 use Rattle.cord_script.specs.inner.Leaves.{IsInnermostLeft}
 use Rattle.cord_script.specs.inner.Steps.{Takes, HasWrong, HasRead}
 
-all_more_at : {X : Type 0} (P : X → Type 0) (x : X) (xs : List X) → P x → All P xs → (k : ℕ) (d : X) → k < length (x ∷ xs) → P (get_or (x ∷ xs) k d)
+all_more_at : {X : Type 0} (P : X → Type 0) (x : X) (xs : List X) → P x → All P xs → (k : ℕ) (d : X) → k < length (x ∷ xs) →
+    P (get_or (x ∷ xs) k d)
 all_more_at P x xs p h zero d lt = p
 all_more_at P x xs p h (suc k) d lt = h k d (omega arith)
 
@@ -26,11 +28,13 @@ all_more P x xs p h = λ k d lt. all_more_at P x xs p h k d lt
 
 -- a byte in front of lines
 with_byte : (c : ℕ) (cs : List ℕ) (lines : List (List ℕ)) → c ≢ 10 → IsSplit cs lines → (more : List (List ℕ)) × IsSplit (c ∷ cs) more
-with_byte c cs [] n h = ((c ∷ []) ∷ [], (all_more (λ x. x ≢ 10) c [] n (λ k d lt. absurd (omega arith)), inl (refl, (λ e. cc), ap (λ x. c ∷ x) h)))
+with_byte c cs [] n h =
+    ((c ∷ []) ∷ [], (all_more (λ x. x ≢ 10) c [] n (λ k d lt. absurd (omega arith)), inl (refl, (λ e. cc), ap (λ x. c ∷ x) h)))
 with_byte c cs (l ∷ ls) n (all, inl h) = ((c ∷ l) ∷ ls, (all_more (λ x. x ≢ 10) c l n all, inl (h.0, (λ e. cc), ap (λ x. c ∷ x) h.2)))
 with_byte c cs (l ∷ ls) n (all, inr h) = ((c ∷ l) ∷ ls, (all_more (λ x. x ≢ 10) c l n all, inr (h.0, ap (λ x. c ∷ x) h.1, h.2)))
 
-line_by : (c : ℕ) (cs : List ℕ) (x : Bool) (lines : List (List ℕ)) → (c == 10) ≡ x → IsSplit cs lines → (more : List (List ℕ)) × IsSplit (c ∷ cs) more
+line_by : (c : ℕ) (cs : List ℕ) (x : Bool) (lines : List (List ℕ)) → (c == 10) ≡ x → IsSplit cs lines → (more : List (List ℕ)) ×
+    IsSplit (c ∷ cs) more
 line_by c cs true lines e h = ([] ∷ lines, ((λ k d lt. absurd (omega arith)), inr (cs, ap (λ k. k ∷ cs) (eqb-true c 10 e), h)))
 line_by c cs false lines e h = with_byte c cs lines (eqb-false c 10 e) h
 
@@ -45,17 +49,30 @@ after_push [] more before = refl
 after_push (s ∷ ss) more before = after_push ss more (after s before)
 
 -- one more line that says nothing
-pub says_idle : (g : Grammar) (n : ℕ) (before : Before) (front : List (List ℕ)) (line : List ℕ) (ss : List Statement) → LinesSay g n before front ss → IsIdle line → LinesSay g n before (front ++ line ∷ []) ss
+pub says_idle : (g : Grammar) (n : ℕ) (before : Before) (front : List (List ℕ)) (line : List ℕ) (ss : List Statement) →
+    LinesSay g n before front ss → IsIdle line → LinesSay g n before (front ++ line ∷ []) ss
 says_idle g n before [] line ss h idle = inl (idle, h)
 says_idle g n before (x ∷ front) line ss (inl h) idle = inl (h.0, says_idle g (n + 1) before front line ss h.1 idle)
 says_idle g n before (x ∷ front) line ss (inr h) idle =
     inr (h.0, h.1, h.2, h.3, h.4, h.5, h.6, says_idle g (n + 1) (after h.1 before) front line h.3 h.7 idle)
 
 -- one more line that says a statement
-pub says_more : (g : Grammar) (n m : ℕ) (before : Before) (front : List (List ℕ)) (line : List ℕ) (ss : List Statement) (s : Statement) (words : List Word) → LinesSay g n before front ss → m ≡ n + length front → ¬ IsIdle line → HasWords line words → Says g m (after_all ss before) words s → LinesSay g n before (front ++ line ∷ []) (ss ++ s ∷ [])
+pub says_more : (g : Grammar) (n m : ℕ) (before : Before) (front : List (List ℕ)) (line : List ℕ) (ss : List Statement) (s : Statement)
+    (words : List Word) → LinesSay g n before front ss → m ≡ n + length front → ¬ IsIdle line → HasWords line words →
+    Says g m (after_all ss before) words s → LinesSay g n before (front ++ line ∷ []) (ss ++ s ∷ [])
 says_more g n m before [] line ss s words h e shows hw says =
     let same : m ≡ n = omega arith in
-    inr (shows, s, words, [], ap (λ x. x ++ s ∷ []) h, hw, subst (λ k. Says g k before words s) same (subst (λ x. Says g m (after_all x before) words s) h says), refl)
+    inr (
+      shows,
+      s,
+      words,
+      [],
+      ap (λ x. x ++ s ∷ []) h,
+      hw,
+      subst (λ k. Says g k before words s) same
+          (subst (λ x. Says g m (after_all x before) words s) h says),
+      refl,
+    )
 says_more g n m before (x ∷ front) line ss s words (inl h) e shows hw says =
     inl (h.0, says_more g (n + 1) m before front line ss s words h.1 (omega arith) shows hw says)
 says_more g n m before (x ∷ front) line ss s words (inr h) e shows hw says =
@@ -67,11 +84,14 @@ says_more g n m before (x ∷ front) line ss s words (inr h) e shows hw says =
       ap (λ x. x ++ s ∷ []) h.4,
       h.5,
       h.6,
-      says_more g (n + 1) m (after h.1 before) front line h.3 s words h.7 (omega arith) shows hw (subst (λ x. Says g m (after_all x before) words s) h.4 says),
+      says_more g (n + 1) m (after h.1 before) front line h.3 s words h.7 (omega arith) shows hw
+          (subst (λ x. Says g m (after_all x before) words s) h.4 says),
     )
 
 -- a line that was read is one of the lines in front
-pub reads_line : (b rest behind line : List ℕ) (n : ℕ) (old new : Before) (ss grown : List Statement) → HasRead b rest n old ss → ((lines : List (List ℕ)) → IsSplit behind lines → IsSplit rest (line ∷ lines)) → Takes n line old new ss grown → HasRead b behind (n + 1) new grown
+pub reads_line : (b rest behind line : List ℕ) (n : ℕ) (old new : Before) (ss grown : List Statement) → HasRead b rest n old ss →
+    ((lines : List (List ℕ)) → IsSplit behind lines → IsSplit rest (line ∷ lines)) → Takes n line old new ss grown →
+    HasRead b behind (n + 1) new grown
 reads_line b rest behind line n old new ss grown r first (None, t, e) =
     let same : grown ≡ ss = e ∙ append-nil ss in
     record {
@@ -85,13 +105,16 @@ reads_line b rest behind line n old new ss grown r first (Some s, t, e) =
     record {
       front = r.front ++ line ∷ [];
       split = λ later h. subst (IsSplit b) (sym (append_assoc r.front (line ∷ []) later)) (r.split (line ∷ later) (first later h));
-      say = subst (LinesSay whole 1 start (r.front ++ line ∷ [])) (sym e) (says_more whole 1 n start r.front line ss s t.1 r.say (omega (arith, r.number)) t.0 t.2 (subst (λ x. Says whole n x t.1 s) (sym r.leaves) t.3.says));
+      say = subst (LinesSay whole 1 start (r.front ++ line ∷ [])) (sym e)
+          (says_more whole 1 n start r.front line ss s t.1 r.say (omega (arith, r.number)) t.0 t.2
+          (subst (λ x. Says whole n x t.1 s) (sym r.leaves) t.3.says));
       number = omega (arith, r.number, length-append r.front (line ∷ []));
       leaves = ap (λ x. after_all x start) e ∙ after_push ss (s ∷ []) start ∙ ap (after s) r.leaves ∙ t.3.leaves;
     }
 
 -- the line that is being read
-pub reached : (b rest behind line : List ℕ) (n : ℕ) (before : Before) (ss : List Statement) → length b ≤ MAX_SCRIPT → n ≤ MAX_LINES → HasRead b rest n before ss → ((lines : List (List ℕ)) → IsSplit behind lines → IsSplit rest (line ∷ lines)) → ReadsUpTo b n
+pub reached : (b rest behind line : List ℕ) (n : ℕ) (before : Before) (ss : List Statement) → length b ≤ MAX_SCRIPT → n ≤ MAX_LINES →
+    HasRead b rest n before ss → ((lines : List (List ℕ)) → IsSplit behind lines → IsSplit rest (line ∷ lines)) → ReadsUpTo b n
 reached b rest behind line n before ss small few r first =
     let later = some_lines behind in
     record {
@@ -114,7 +137,9 @@ left_found (InIf line ∷ blocks) n kind h = λ e. cc
 left_found (InElse line ∷ blocks) n kind h = λ e. cc
 
 -- a line that is too much, or wrong
-pub stops : (b rest behind line : List ℕ) (n : ℕ) (before : Before) (ss : List Statement) (kind : RefusalKind) → length b ≤ MAX_SCRIPT → HasRead b rest n before ss → ((lines : List (List ℕ)) → IsSplit behind lines → IsSplit rest (line ∷ lines)) → HasBadLine whole n before line kind → FlawBy whole b n kind
+pub stops : (b rest behind line : List ℕ) (n : ℕ) (before : Before) (ss : List Statement) (kind : RefusalKind) → length b ≤ MAX_SCRIPT →
+    HasRead b rest n before ss → ((lines : List (List ℕ)) → IsSplit behind lines → IsSplit rest (line ∷ lines)) →
+    HasBadLine whole n before line kind → FlawBy whole b n kind
 stops b rest behind line n before ss kind small r first wrong =
     let later = some_lines behind in
     inr (inl (record {
@@ -129,7 +154,8 @@ stops b rest behind line n before ss kind small r first wrong =
       wrong = subst (λ x. HasBadLine whole n x line kind) (sym r.leaves) wrong;
     }))
 
-too_many_by : (b rest : List ℕ) (n : ℕ) (before : Before) (ss : List Statement) (lines : List (List ℕ)) → length b ≤ MAX_SCRIPT → HasRead b rest n before ss → rest ≢ [] → n ≡ MAX_LINES + 1 → IsSplit rest lines → FlawBy whole b n TooBig
+too_many_by : (b rest : List ℕ) (n : ℕ) (before : Before) (ss : List Statement) (lines : List (List ℕ)) → length b ≤ MAX_SCRIPT →
+    HasRead b rest n before ss → rest ≢ [] → n ≡ MAX_LINES + 1 → IsSplit rest lines → FlawBy whole b n TooBig
 too_many_by b rest n before ss [] small r some e h = absurd (some h)
 too_many_by b rest n before ss (line ∷ later) small r some e h =
     inr (inl (record {
@@ -145,15 +171,18 @@ too_many_by b rest n before ss (line ∷ later) small r some e h =
     }))
 
 -- more lines than there may be
-pub too_many : (b rest : List ℕ) (n : ℕ) (before : Before) (ss : List Statement) → length b ≤ MAX_SCRIPT → HasRead b rest n before ss → rest ≢ [] → n ≡ MAX_LINES + 1 → FlawBy whole b n TooBig
+pub too_many : (b rest : List ℕ) (n : ℕ) (before : Before) (ss : List Statement) → length b ≤ MAX_SCRIPT → HasRead b rest n before ss →
+    rest ≢ [] → n ≡ MAX_LINES + 1 → FlawBy whole b n TooBig
 too_many b rest n before ss small r some e = let later = some_lines rest in too_many_by b rest n before ss later.0 small r some e later.1
 
 -- a line that is wrong
-pub is_wrong : (n : ℕ) (line : List ℕ) (before : Before) (kind : RefusalKind) → n ≤ MAX_LINES → HasWrong line before kind → HasBadLine whole n before line kind
+pub is_wrong : (n : ℕ) (line : List ℕ) (before : Before) (kind : RefusalKind) → n ≤ MAX_LINES → HasWrong line before kind →
+    HasBadLine whole n before line kind
 is_wrong n line before kind few h = inr (few, h.0, h.1)
 
 -- the bytes are these statements, where no line and no block is left
-pub read_whole : (b rest : List ℕ) (n : ℕ) (before : Before) (ss : List Statement) → length b ≤ MAX_SCRIPT → n ≤ MAX_LINES + 1 → rest ≡ [] → HasRead b rest n before ss → before.blocks ≡ [] → ReadsBy whole b ss
+pub read_whole : (b rest : List ℕ) (n : ℕ) (before : Before) (ss : List Statement) → length b ≤ MAX_SCRIPT → n ≤ MAX_LINES + 1 →
+    rest ≡ [] → HasRead b rest n before ss → before.blocks ≡ [] → ReadsBy whole b ss
 read_whole b rest n before ss small few e r closed = record {
   size = small;
   lines = r.front;
@@ -163,7 +192,9 @@ read_whole b rest n before ss small few e r closed = record {
   closed = ap (λ x. x.blocks) r.leaves ∙ closed;
 }
 
-open_by : (b rest : List ℕ) (n at : ℕ) (before : Before) (ss : List Statement) (kind : RefusalKind) (blocks : List Block) → length b ≤ MAX_SCRIPT → n ≤ MAX_LINES + 1 → rest ≡ [] → HasRead b rest n before ss → before.blocks ≡ blocks → IsInnermostLeft blocks at kind → FlawBy whole b at kind
+open_by : (b rest : List ℕ) (n at : ℕ) (before : Before) (ss : List Statement) (kind : RefusalKind) (blocks : List Block) →
+    length b ≤ MAX_SCRIPT → n ≤ MAX_LINES + 1 → rest ≡ [] → HasRead b rest n before ss → before.blocks ≡ blocks →
+    IsInnermostLeft blocks at kind → FlawBy whole b at kind
 open_by b rest n at before ss kind [] small few e r same h = absurd h
 open_by b rest n at before ss kind (block ∷ others) small few e r same h =
     inr (inr (record {
@@ -180,7 +211,8 @@ open_by b rest n at before ss kind (block ∷ others) small few e r same h =
     }))
 
 -- a block that is open where no line is left
-pub leaves_open : (b rest : List ℕ) (n at : ℕ) (before : Before) (ss : List Statement) (kind : RefusalKind) → length b ≤ MAX_SCRIPT → n ≤ MAX_LINES + 1 → rest ≡ [] → HasRead b rest n before ss → IsInnermostLeft before.blocks at kind → FlawBy whole b at kind
+pub leaves_open : (b rest : List ℕ) (n at : ℕ) (before : Before) (ss : List Statement) (kind : RefusalKind) → length b ≤ MAX_SCRIPT →
+    n ≤ MAX_LINES + 1 → rest ≡ [] → HasRead b rest n before ss → IsInnermostLeft before.blocks at kind → FlawBy whole b at kind
 leaves_open b rest n at before ss kind small few e r h = open_by b rest n at before ss kind before.blocks small few e r refl h
 
 -- nothing is left
@@ -193,12 +225,15 @@ pub some_bytes : (xs : List ℕ) → (length xs == 0) ≡ false → xs ≢ []
 some_bytes xs h e = eqb-false (length xs) 0 h (ap length e)
 
 -- one more statement with a number
-pub numbered_push : (ss : List Statement) (s : Statement) → All (λ x. 1 ≤ line_of x) ss → 1 ≤ line_of s → All (λ x. 1 ≤ line_of x) (ss ++ s ∷ [])
+pub numbered_push : (ss : List Statement) (s : Statement) → All (λ x. 1 ≤ line_of x) ss → 1 ≤ line_of s →
+    All (λ x. 1 ≤ line_of x) (ss ++ s ∷ [])
 numbered_push [] s h l = all_more (λ x. 1 ≤ line_of x) s [] l h
-numbered_push (x ∷ xs) s h l = all_more (λ y. 1 ≤ line_of y) x (xs ++ s ∷ []) (h zero x (omega arith)) (numbered_push xs s (λ k d lt. h (suc k) d (omega arith)) l)
+numbered_push (x ∷ xs) s h l = all_more (λ y. 1 ≤ line_of y) x (xs ++ s ∷ []) (h zero x (omega arith))
+    (numbered_push xs s (λ k d lt. h (suc k) d (omega arith)) l)
 
 -- what a line adds has its number
-pub numbered_line : (n : ℕ) (line : List ℕ) (old new : Before) (ss grown : List Statement) → 1 ≤ n → All (λ x. 1 ≤ line_of x) ss → Takes n line old new ss grown → All (λ x. 1 ≤ line_of x) grown
+pub numbered_line : (n : ℕ) (line : List ℕ) (old new : Before) (ss grown : List Statement) → 1 ≤ n → All (λ x. 1 ≤ line_of x) ss →
+    Takes n line old new ss grown → All (λ x. 1 ≤ line_of x) grown
 numbered_line n line old new ss grown one h (None, t, e) = subst (All (λ x. 1 ≤ line_of x)) (sym (e ∙ append-nil ss)) h
 numbered_line n line old new ss grown one h (Some s, t, e) =
     let own : 1 ≤ line_of s = omega (arith, t.3.says.line) in

@@ -1,12 +1,14 @@
 -- Small texts with their words.
-use Rattle.std.proofs.Common.{inl, inr, ◌≡◌, ◌≢◌, ◌<◌, ℕ, zero, suc, List, [], ◌∷◌, ◌++◌, Bool, true, false, refl, sym, ◌∙◌, ap, length, get_or, arith, eqb-true}
+use Rattle.std.proofs.Common.{inl, inr, ◌≡◌, ◌≢◌, ◌<◌, ℕ, zero, suc, List, [], ◌∷◌, ◌++◌, Bool, true, false, refl, sym, ◌∙◌, ap, length}
+use Rattle.std.proofs.Common.{get_or, arith, eqb-true}
 use Rattle.std.specs.Prelude.{All, ◌==◌, ◌&&◌, ◌||◌, not, nat_le}
 use Rattle.std.proofs.lemmas.Bool.{eqb-false, ne_eqb, leb-true}
 use Rattle.cord_script.specs.declared.TheConstants.{MAX_TEXT}
 use Rattle.cord_script.specs.declared.refusals.RefusalKind.{RefusalKind}
 use Rattle.cord_script.specs.declared.words.Word.{Word}
 use Rattle.cord_script.specs.declared.words.Word.TheVariants.{Plain, Quoted}
-use Rattle.cord_script.specs.Words.{IsSplit, IsBlank, IsIdle, IsPlain, EndsPlain, Stands, Spells, HasWords, StartsWith, IsBadText, BeginsBadText}
+use Rattle.cord_script.specs.Words.{IsSplit, IsBlank, IsIdle, IsPlain, EndsPlain, Stands, Spells, HasWords, StartsWith, IsBadText}
+use Rattle.cord_script.specs.Words.{BeginsBadText}
 use Rattle.cord_script.specs.Tests.{each}
 use Rattle.cord_script.proofs.Spelled.{both}
 use Rattle.cord_script.proofs.Lines.{one_front, head_of, note_shows}
@@ -51,7 +53,8 @@ ends (c ∷ cs) = not (bare c)
 
 abbrev pub well_before : List Chunk → List ℕ → Bool
 well_before [] rest = true
-well_before (Bare front p ∷ cs) rest = each blank front && (some p && (each bare p && (ends (spelled_before cs rest) && well_before cs rest)))
+well_before (Bare front p ∷ cs) rest =
+    each blank front && (some p && (each bare p && (ends (spelled_before cs rest) && well_before cs rest)))
 well_before (Marked front t ∷ cs) rest = each blank front && (each own t && (nat_le (length t) MAX_TEXT && well_before cs rest))
 
 abbrev pub well : List Chunk → Bool
@@ -123,13 +126,26 @@ starts_well (Bare front p ∷ cs) rest h =
     let a = both (each blank front) (some p && (each bare p && (ends (spelled_before cs rest) && well_before cs rest))) h in
     let b = both (some p) (each bare p && (ends (spelled_before cs rest) && well_before cs rest)) a.1 in
     let c = both (each bare p) (ends (spelled_before cs rest) && well_before cs rest) b.1 in
-    let d = both (ends (spelled_before cs rest)) (well_before cs rest) c.1 in
-    (spelled_before cs rest, (front, all_by blank IsBlank blank_is front a.0, refl, some_is p b.0, all_by bare IsPlain bare_is p c.0, ends_is (spelled_before cs rest) d.0), starts_well cs rest d.1)
+    let d = both (ends (spelled_before cs rest)) (well_before cs rest) c.1 in (
+      spelled_before cs rest,
+      (
+        front,
+        all_by blank IsBlank blank_is front a.0,
+        refl,
+        some_is p b.0,
+        all_by bare IsPlain bare_is p c.0,
+        ends_is (spelled_before cs rest) d.0,
+      ),
+      starts_well cs rest d.1,
+    )
 starts_well (Marked front t ∷ cs) rest h =
     let a = both (each blank front) (each own t && (nat_le (length t) MAX_TEXT && well_before cs rest)) h in
     let b = both (each own t) (nat_le (length t) MAX_TEXT && well_before cs rest) a.1 in
-    let c = both (nat_le (length t) MAX_TEXT) (well_before cs rest) b.1 in
-    (spelled_before cs rest, (front, t, all_by blank IsBlank blank_is front a.0, refl, own_spells t b.0, leb-true (length t) MAX_TEXT c.0), starts_well cs rest c.1)
+    let c = both (nat_le (length t) MAX_TEXT) (well_before cs rest) b.1 in (
+      spelled_before cs rest,
+      (front, t, all_by blank IsBlank blank_is front a.0, refl, own_spells t b.0, leb-true (length t) MAX_TEXT c.0),
+      starts_well cs rest c.1,
+    )
 
 -- chunks have their words
 pub words_well : (cs : List Chunk) → well cs ≡ true → HasWords (spelled cs) (chunk_words cs)
@@ -145,7 +161,8 @@ not_idle c rest b n idle =
     let shows : ¬ IsBlank c = λ k. (let clash : true ≡ false = sym (is_blank c k) ∙ b in cc) in
     elim idle [
       | inl all ↦ shows (head_of IsBlank c rest all)
-      | inr note ↦ eqb-false c 35 n ((one_front [] note.0 c 35 rest note.1 (λ k d lt. absurd (omega arith)) shows note.2 note_shows note.3).1)
+      | inr note ↦ eqb-false c 35 n
+          ((one_front [] note.0 c 35 rest note.1 (λ k d lt. absurd (omega arith)) shows note.2 note_shows note.3).1)
     ]
 
 -- no byte 10

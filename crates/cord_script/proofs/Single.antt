@@ -13,7 +13,8 @@ use Rattle.cord_script.proofs.Unique.{one_words, good_bytes, one_bad_bytes, one_
 use Rattle.cord_script.proofs.Stated.{good_words, one_bad_words, one_statement}
 
 -- lines say one list of statements
-one_saying : OneFormat → BadIsNoFormat → (g : Grammar) (n : ℕ) (before : Before) (lines : List (List ℕ)) (ss more : List Statement) → LinesSay g n before lines ss → LinesSay g n before lines more → ss ≡ more
+one_saying : OneFormat → BadIsNoFormat → (g : Grammar) (n : ℕ) (before : Before) (lines : List (List ℕ)) (ss more : List Statement) →
+    LinesSay g n before lines ss → LinesSay g n before lines more → ss ≡ more
 one_saying one bad g n before [] ss more h k = h ∙ sym k
 one_saying one bad g n before (line ∷ lines) ss more (inl h) (inl k) = one_saying one bad g (n + 1) before lines ss more h.1 k.1
 one_saying one bad g n before (line ∷ lines) ss more (inl h) (inr k) = absurd (k.0 h.0)
@@ -25,7 +26,8 @@ one_saying one bad g n before (line ∷ lines) ss more (inr h) (inr k) =
     h.4 ∙ ap (λ x. x ∷ h.3) s ∙ ap (λ x. k.1 ∷ x) rest ∙ sym k.4
 
 -- a line that says something isn't wrong
-says_fine : OneFormat → BadIsNoFormat → (g : Grammar) (n : ℕ) (before : Before) (line : List ℕ) (lines : List (List ℕ)) (ss : List Statement) (kind : RefusalKind) → n ≤ MAX_LINES → LinesSay g n before (line ∷ lines) ss → HasBadLine g n before line kind → ⊥
+says_fine : OneFormat → BadIsNoFormat → (g : Grammar) (n : ℕ) (before : Before) (line : List ℕ) (lines : List (List ℕ))
+    (ss : List Statement) (kind : RefusalKind) → n ≤ MAX_LINES → LinesSay g n before (line ∷ lines) ss → HasBadLine g n before line kind → ⊥
 says_fine one bad g n before line lines ss kind few h (inl w) = omega (arith, w.0)
 says_fine one bad g n before line lines ss kind few (inl h) (inr w) = w.1 h.0
 says_fine one bad g n before line lines ss kind few (inr h) (inr (m, shows, inl w)) = good_bytes line h.2 kind h.5 w
@@ -34,32 +36,42 @@ says_fine one bad g n before line lines ss kind few (inr h) (inr (m, shows, inr 
     good_words one bad g n before h.2 h.1 kind h.6 (subst (λ ws. HasBadWords g before ws kind) (sym words) w.2)
 
 -- lines that all say something are none of them wrong
-no_stop : OneFormat → BadIsNoFormat → (g : Grammar) (n m : ℕ) (before : Before) (front : List (List ℕ)) (line : List ℕ) (later : List (List ℕ)) (ss more : List Statement) (kind : RefusalKind) → m ≡ n + length front → m ≤ MAX_LINES → LinesSay g n before (front ++ line ∷ later) ss → LinesSay g n before front more → HasBadLine g m (after_all more before) line kind → ⊥
+no_stop : OneFormat → BadIsNoFormat → (g : Grammar) (n m : ℕ) (before : Before) (front : List (List ℕ)) (line : List ℕ)
+    (later : List (List ℕ)) (ss more : List Statement) (kind : RefusalKind) → m ≡ n + length front → m ≤ MAX_LINES →
+    LinesSay g n before (front ++ line ∷ later) ss → LinesSay g n before front more → HasBadLine g m (after_all more before) line kind → ⊥
 no_stop one bad g n m before [] line later ss more kind e few h k w =
     let same : m ≡ n = omega arith in
-    says_fine one bad g n before line later ss kind (omega arith) h (subst (λ x. HasBadLine g x before line kind) same (subst (λ x. HasBadLine g m (after_all x before) line kind) k w))
-no_stop one bad g n m before (x ∷ front) line later ss more kind e few (inl h) (inl k) w = no_stop one bad g (n + 1) m before front line later ss more kind (omega arith) few h.1 k.1 w
+    says_fine one bad g n before line later ss kind (omega arith) h
+    (subst (λ x. HasBadLine g x before line kind) same (subst (λ x. HasBadLine g m (after_all x before) line kind) k w))
+no_stop one bad g n m before (x ∷ front) line later ss more kind e few (inl h) (inl k) w =
+    no_stop one bad g (n + 1) m before front line later ss more kind (omega arith) few h.1 k.1 w
 no_stop one bad g n m before (x ∷ front) line later ss more kind e few (inl h) (inr k) w = k.0 h.0
 no_stop one bad g n m before (x ∷ front) line later ss more kind e few (inr h) (inl k) w = h.0 k.0
 no_stop one bad g n m before (x ∷ front) line later ss more kind e few (inr h) (inr k) w =
     let words = one_words x h.2 k.2 h.5 k.5 in
     let s = one_statement one bad g n before h.2 h.1 k.1 h.6 (subst (λ ws. Says g n before ws k.1) (sym words) k.6) in
-    no_stop one bad g (n + 1) m (after k.1 before) front line later h.3 k.3 kind (omega arith) few (subst (λ y. LinesSay g (n + 1) (after y before) (front ++ line ∷ later) h.3) s h.7) k.7 (subst (λ y. HasBadLine g m (after_all y before) line kind) k.4 w)
+    no_stop one bad g (n + 1) m (after k.1 before) front line later h.3 k.3 kind (omega arith) few
+    (subst (λ y. LinesSay g (n + 1) (after y before) (front ++ line ∷ later) h.3) s h.7) k.7
+    (subst (λ y. HasBadLine g m (after_all y before) line kind) k.4 w)
 
-line_within : (front : List (List ℕ)) (line : List ℕ) (later lines : List (List ℕ)) (n : ℕ) → front ++ line ∷ later ≡ lines → n ≡ length front + 1 → length lines ≤ MAX_LINES → n ≤ MAX_LINES
+line_within : (front : List (List ℕ)) (line : List ℕ) (later lines : List (List ℕ)) (n : ℕ) → front ++ line ∷ later ≡ lines →
+    n ≡ length front + 1 → length lines ≤ MAX_LINES → n ≤ MAX_LINES
 line_within front line later lines n e m few =
     let lengths = length-append front (line ∷ later) in
     let same = ap length e in
     omega arith
 
 -- a script that is read stops at no line
-read_goes_on : OneFormat → BadIsNoFormat → (g : Grammar) (b : List ℕ) (lines : List (List ℕ)) (ss : List Statement) (n : ℕ) (kind : RefusalKind) → IsSplit b lines → length lines ≤ MAX_LINES → LinesSay g 1 start lines ss → StopsAt g b n kind → ⊥
+read_goes_on : OneFormat → BadIsNoFormat → (g : Grammar) (b : List ℕ) (lines : List (List ℕ)) (ss : List Statement) (n : ℕ)
+    (kind : RefusalKind) → IsSplit b lines → length lines ≤ MAX_LINES → LinesSay g 1 start lines ss → StopsAt g b n kind → ⊥
 read_goes_on one bad g b lines ss n kind split few say h =
     let same = one_split b (h.front ++ h.line ∷ h.later) lines h.split split in
-    no_stop one bad g 1 n start h.front h.line h.later ss h.statements kind (omega (arith, h.number)) (line_within h.front h.line h.later lines n same h.number few) (subst (λ x. LinesSay g 1 start x ss) (sym same) say) h.say h.wrong
+    no_stop one bad g 1 n start h.front h.line h.later ss h.statements kind (omega (arith, h.number))
+    (line_within h.front h.line h.later lines n same h.number few) (subst (λ x. LinesSay g 1 start x ss) (sym same) say) h.say h.wrong
 
 -- a script that is read has no flaw
-pub no_flaw : OneFormat → BadIsNoFormat → (g : Grammar) (b : List ℕ) (ss : List Statement) (n : ℕ) (kind : RefusalKind) → ReadsBy g b ss → FlawBy g b n kind → ⊥
+pub no_flaw : OneFormat → BadIsNoFormat → (g : Grammar) (b : List ℕ) (ss : List Statement) (n : ℕ) (kind : RefusalKind) → ReadsBy g b ss →
+    FlawBy g b n kind → ⊥
 no_flaw one bad g b ss n kind r (inl h) = omega (arith, r.size, h.size)
 no_flaw one bad g b ss n kind r (inr (inl h)) = read_goes_on one bad g b r.lines ss n kind r.split r.count r.say h
 no_flaw one bad g b ss n kind r (inr (inr h)) =
@@ -69,13 +81,15 @@ no_flaw one bad g b ss n kind r (inr (inr h)) =
     cc
 
 -- at most one script is read
-pub one_script : OneFormat → BadIsNoFormat → (g : Grammar) (b : List ℕ) (ss more : List Statement) → ReadsBy g b ss → ReadsBy g b more → ss ≡ more
+pub one_script : OneFormat → BadIsNoFormat → (g : Grammar) (b : List ℕ) (ss more : List Statement) → ReadsBy g b ss → ReadsBy g b more →
+    ss ≡ more
 one_script one bad g b ss more r q =
     let lines = one_split b q.lines r.lines q.split r.split in
     one_saying one bad g 1 start r.lines ss more r.say (subst (λ x. LinesSay g 1 start x more) lines q.say)
 
 -- a line has one first flaw
-one_bad_line : OneFormat → BadIsNoFormat → (g : Grammar) (n : ℕ) (before : Before) (line : List ℕ) (kind other : RefusalKind) → HasBadLine g n before line kind → HasBadLine g n before line other → kind ≡ other
+one_bad_line : OneFormat → BadIsNoFormat → (g : Grammar) (n : ℕ) (before : Before) (line : List ℕ) (kind other : RefusalKind) →
+    HasBadLine g n before line kind → HasBadLine g n before line other → kind ≡ other
 one_bad_line one bad g n before line kind other (inl h) (inl k) = h.1 ∙ sym k.1
 one_bad_line one bad g n before line kind other (inl h) (inr k) = absurd (omega (arith, h.0, k.0))
 one_bad_line one bad g n before line kind other (inr h) (inl k) = absurd (omega (arith, h.0, k.0))
@@ -86,12 +100,17 @@ one_bad_line one bad g n before line kind other (inr (m, shows, inr h)) (inr (m'
     let words = one_words line h.0 k.0 h.1 k.1 in
     one_bad_words one bad g before h.0 kind other h.2 (subst (λ ws. HasBadWords g before ws other) (sym words) k.2)
 
-bad_number : (g : Grammar) (n : ℕ) (before : Before) (line : List ℕ) (kind : RefusalKind) → HasBadLine g n before line kind → n ≤ MAX_LINES + 1
+bad_number : (g : Grammar) (n : ℕ) (before : Before) (line : List ℕ) (kind : RefusalKind) → HasBadLine g n before line kind →
+    n ≤ MAX_LINES + 1
 bad_number g n before line kind (inl h) = omega (arith, h.0)
 bad_number g n before line kind (inr h) = omega (arith, h.0)
 
 -- lines stop at one line
-one_stop : OneFormat → BadIsNoFormat → (g : Grammar) (n m k : ℕ) (before : Before) (front : List (List ℕ)) (line : List ℕ) (later : List (List ℕ)) (front' : List (List ℕ)) (line' : List ℕ) (later' : List (List ℕ)) (ss more : List Statement) (kind other : RefusalKind) → m ≡ n + length front → k ≡ n + length front' → front ++ line ∷ later ≡ front' ++ line' ∷ later' → LinesSay g n before front ss → LinesSay g n before front' more → HasBadLine g m (after_all ss before) line kind → HasBadLine g k (after_all more before) line' other → (m ≡ k) × (kind ≡ other)
+one_stop : OneFormat → BadIsNoFormat → (g : Grammar) (n m k : ℕ) (before : Before) (front : List (List ℕ)) (line : List ℕ)
+    (later : List (List ℕ)) (front' : List (List ℕ)) (line' : List ℕ) (later' : List (List ℕ)) (ss more : List Statement)
+    (kind other : RefusalKind) → m ≡ n + length front → k ≡ n + length front' → front ++ line ∷ later ≡ front' ++ line' ∷ later' →
+    LinesSay g n before front ss → LinesSay g n before front' more → HasBadLine g m (after_all ss before) line kind →
+    HasBadLine g k (after_all more before) line' other → (m ≡ k) × (kind ≡ other)
 one_stop one bad g n m k before [] line later [] line' later' ss more kind other e f lines h h' w w' =
     let same : line ≡ line' = cc in
     let numbers : k ≡ m = omega arith in
@@ -112,7 +131,8 @@ one_stop one bad g n m k before (x ∷ front) line later [] line' later' ss more
     absurd (says_fine one bad g n before x front ss other few h (subst (λ z. HasBadLine g n before z other) same there))
 one_stop one bad g n m k before (x ∷ front) line later (y ∷ front') line' later' ss more kind other e f lines (inl h) (inl h') w w' =
     let others : front ++ line ∷ later ≡ front' ++ line' ∷ later' = cc in
-    one_stop one bad g (n + 1) m k before front line later front' line' later' ss more kind other (omega arith) (omega arith) others h.1 h'.1 w w'
+    one_stop one bad g (n + 1) m k before front line later front' line' later' ss more kind other (omega arith)
+    (omega arith) others h.1 h'.1 w w'
 one_stop one bad g n m k before (x ∷ front) line later (y ∷ front') line' later' ss more kind other e f lines (inl h) (inr h') w w' =
     let first : x ≡ y = cc in
     absurd (h'.0 (subst IsIdle first h.0))
@@ -124,7 +144,11 @@ one_stop one bad g n m k before (x ∷ front) line later (y ∷ front') line' la
     let others : front ++ line ∷ later ≡ front' ++ line' ∷ later' = cc in
     let words = one_words x h.2 h'.2 h.5 (subst (λ z. HasWords z h'.2) (sym first) h'.5) in
     let s = one_statement one bad g n before h.2 h.1 h'.1 h.6 (subst (λ ws. Says g n before ws h'.1) (sym words) h'.6) in
-    one_stop one bad g (n + 1) m k (after h.1 before) front line later front' line' later' h.3 h'.3 kind other (omega arith) (omega arith) others h.7 (subst (λ z. LinesSay g (n + 1) (after z before) front' h'.3) (sym s) h'.7) (subst (λ z. HasBadLine g m (after_all z before) line kind) h.4 w) (subst (λ z. HasBadLine g k (after_all h'.3 (after z before)) line' other) (sym s) (subst (λ z. HasBadLine g k (after_all z before) line' other) h'.4 w'))
+    one_stop one bad g (n + 1) m k (after h.1 before) front line later front' line' later' h.3 h'.3 kind other (omega arith)
+    (omega arith) others h.7 (subst (λ z. LinesSay g (n + 1) (after z before) front' h'.3) (sym s) h'.7)
+    (subst (λ z. HasBadLine g m (after_all z before) line kind) h.4 w)
+    (subst (λ z. HasBadLine g k (after_all h'.3 (after z before)) line' other) (sym s)
+    (subst (λ z. HasBadLine g k (after_all z before) line' other) h'.4 w'))
 
 one_left : (block : Block) (m n : ℕ) (kind other : RefusalKind) → IsLeft block m kind → IsLeft block n other → (m ≡ n) × (kind ≡ other)
 one_left (InRepeat line) m n kind other h k = (h.0 ∙ sym k.0, h.1 ∙ sym k.1)
@@ -132,7 +156,8 @@ one_left (InIf line) m n kind other h k = (h.0 ∙ sym k.0, h.1 ∙ sym k.1)
 one_left (InElse line) m n kind other h k = (h.0 ∙ sym k.0, h.1 ∙ sym k.1)
 
 -- bytes have one first flaw
-pub one_flaw : OneFormat → BadIsNoFormat → (g : Grammar) (b : List ℕ) (m n : ℕ) (kind other : RefusalKind) → FlawBy g b m kind → FlawBy g b n other → (m ≡ n) × (kind ≡ other)
+pub one_flaw : OneFormat → BadIsNoFormat → (g : Grammar) (b : List ℕ) (m n : ℕ) (kind other : RefusalKind) → FlawBy g b m kind →
+    FlawBy g b n other → (m ≡ n) × (kind ≡ other)
 one_flaw one bad g b m n kind other (inl h) (inl k) = (h.line ∙ sym k.line, h.is ∙ sym k.is)
 one_flaw one bad g b m n kind other (inl h) (inr (inl k)) = absurd (omega (arith, h.size, k.size))
 one_flaw one bad g b m n kind other (inl h) (inr (inr k)) = absurd (omega (arith, h.size, k.size))
@@ -140,9 +165,12 @@ one_flaw one bad g b m n kind other (inr (inl h)) (inl k) = absurd (omega (arith
 one_flaw one bad g b m n kind other (inr (inr h)) (inl k) = absurd (omega (arith, h.size, k.size))
 one_flaw one bad g b m n kind other (inr (inl h)) (inr (inl k)) =
     let lines = one_split b (h.front ++ h.line ∷ h.later) (k.front ++ k.line ∷ k.later) h.split k.split in
-    one_stop one bad g 1 m n start h.front h.line h.later k.front k.line k.later h.statements k.statements kind other (omega (arith, h.number)) (omega (arith, k.number)) lines h.say k.say h.wrong k.wrong
-one_flaw one bad g b m n kind other (inr (inl h)) (inr (inr k)) = absurd (read_goes_on one bad g b k.lines k.statements m kind k.split k.count k.say h)
-one_flaw one bad g b m n kind other (inr (inr h)) (inr (inl k)) = absurd (read_goes_on one bad g b h.lines h.statements n other h.split h.count h.say k)
+    one_stop one bad g 1 m n start h.front h.line h.later k.front k.line k.later h.statements k.statements kind other
+    (omega (arith, h.number)) (omega (arith, k.number)) lines h.say k.say h.wrong k.wrong
+one_flaw one bad g b m n kind other (inr (inl h)) (inr (inr k)) =
+    absurd (read_goes_on one bad g b k.lines k.statements m kind k.split k.count k.say h)
+one_flaw one bad g b m n kind other (inr (inr h)) (inr (inl k)) =
+    absurd (read_goes_on one bad g b h.lines h.statements n other h.split h.count h.say k)
 one_flaw one bad g b m n kind other (inr (inr h)) (inr (inr k)) =
     let lines = one_split b k.lines h.lines k.split h.split in
     let same = one_saying one bad g 1 start h.lines k.statements h.statements (subst (λ x. LinesSay g 1 start x k.statements) lines k.say) h.say in
@@ -151,7 +179,8 @@ one_flaw one bad g b m n kind other (inr (inr h)) (inr (inr k)) =
     one_left h.block m n kind other h.left (subst (λ x. IsLeft x n other) (sym block) k.left)
 
 -- a line that says a statement without branches says it with them
-more_lines : (n : ℕ) (before : Before) (lines : List (List ℕ)) (ss : List Statement) → LinesSay without_branches n before lines ss → LinesSay whole n before lines ss
+more_lines : (n : ℕ) (before : Before) (lines : List (List ℕ)) (ss : List Statement) → LinesSay without_branches n before lines ss →
+    LinesSay whole n before lines ss
 more_lines n before [] ss h = h
 more_lines n before (line ∷ lines) ss (inl h) = inl (h.0, more_lines (n + 1) before lines ss h.1)
 more_lines n before (line ∷ lines) ss (inr h) =

@@ -1,5 +1,6 @@
 -- Quoted words and what they stand for.
-use Rattle.std.proofs.Common.{inl, inr, Some, None, ◌≡◌, ◌+◌, ◌-◌, ◌*◌, ◌⊎◌, ℕ, List, [], ◌∷◌, ◌++◌, Bool, true, false, refl, sym, ◌∙◌, ap, append_assoc, append-nil, arith, eqb-true}
+use Rattle.std.proofs.Common.{inl, inr, Some, None, ◌≡◌, ◌+◌, ◌-◌, ◌*◌, ◌⊎◌, ℕ, List, [], ◌∷◌, ◌++◌, Bool, true, false, refl, sym, ◌∙◌, ap}
+use Rattle.std.proofs.Common.{append_assoc, append-nil, arith, eqb-true}
 use Rattle.std.specs.Prelude.{Option, ◌==◌, ◌&&◌, nat_le, if◌then◌else◌}
 use Rattle.std.proofs.lemmas.Option.{same_Some}
 use Rattle.std.proofs.lemmas.Bool.{leb-true, eqb-false}
@@ -30,30 +31,33 @@ same_pair p q h =
 
 -- a digit has its value
 pub digit_stands : (c v : ℕ) → digit_of c ≡ Some v → HexDigit c v
-digit_stands c v h = elim (chosen (nat_le 48 c && nat_le c 57) (Some (c - 48)) (if nat_le 97 c && nat_le c 102 then Some (c - 87) else (if nat_le 65 c && nat_le c 70 then Some (c - 55) else None)) (Some v) h) [
-  | inl x ↦ let t = both (nat_le 48 c) (nat_le c 57) x.0 in
-      let low = leb-true 48 c t.0 in
-      let high = leb-true c 57 t.1 in
-      let same = same_Some (c - 48) v x.1 in
-      inl (low, high, omega arith)
-  | inr x ↦ elim (chosen (nat_le 97 c && nat_le c 102) (Some (c - 87)) (if nat_le 65 c && nat_le c 70 then Some (c - 55) else None) (Some v) x.1) [
-    | inl y ↦ let t = both (nat_le 97 c) (nat_le c 102) y.0 in
-        let low = leb-true 97 c t.0 in
-        let high = leb-true c 102 t.1 in
-        let same = same_Some (c - 87) v y.1 in
-        inr (inl (low, high, omega arith))
-    | inr y ↦ elim (chosen (nat_le 65 c && nat_le c 70) (Some (c - 55)) None (Some v) y.1) [
-      | inl z ↦ let t = both (nat_le 65 c) (nat_le c 70) z.0 in
-          let low = leb-true 65 c t.0 in
-          let high = leb-true c 70 t.1 in
-          let same = same_Some (c - 55) v z.1 in
-          inr (inr (low, high, omega arith))
-      | inr z ↦ absurd (let e = z.1 in cc)
+digit_stands c v h = elim (chosen (nat_le 48 c && nat_le c 57) (Some (c - 48))
+    (if nat_le 97 c && nat_le c 102 then Some (c - 87) else (if nat_le 65 c && nat_le c 70 then Some (c - 55) else None)) (Some v) h) [
+      | inl x ↦ let t = both (nat_le 48 c) (nat_le c 57) x.0 in
+          let low = leb-true 48 c t.0 in
+          let high = leb-true c 57 t.1 in
+          let same = same_Some (c - 48) v x.1 in
+          inl (low, high, omega arith)
+      | inr x ↦ elim (chosen (nat_le 97 c && nat_le c 102) (Some (c - 87)) (if nat_le 65 c && nat_le c 70 then Some (c - 55) else None)
+          (Some v) x.1) [
+            | inl y ↦ let t = both (nat_le 97 c) (nat_le c 102) y.0 in
+                let low = leb-true 97 c t.0 in
+                let high = leb-true c 102 t.1 in
+                let same = same_Some (c - 87) v y.1 in
+                inr (inl (low, high, omega arith))
+            | inr y ↦ elim (chosen (nat_le 65 c && nat_le c 70) (Some (c - 55)) None (Some v) y.1) [
+              | inl z ↦ let t = both (nat_le 65 c) (nat_le c 70) z.0 in
+                  let low = leb-true 65 c t.0 in
+                  let high = leb-true c 70 t.1 in
+                  let same = same_Some (c - 55) v z.1 in
+                  inr (inr (low, high, omega arith))
+              | inr z ↦ absurd (let e = z.1 in cc)
+            ]
+          ]
     ]
-  ]
-]
 
-byte_stands : (high low : Option ℕ) (h l : ℕ) (rest v : List ℕ) (b : ℕ) → digit_of h ≡ high → digit_of l ≡ low → byte_of high low rest ≡ Some (b, v) → (x y : ℕ) × (rest ≡ v) × HexDigit h x × HexDigit l y × (b ≡ 16 * x + y)
+byte_stands : (high low : Option ℕ) (h l : ℕ) (rest v : List ℕ) (b : ℕ) → digit_of h ≡ high → digit_of l ≡ low →
+    byte_of high low rest ≡ Some (b, v) → (x y : ℕ) × (rest ≡ v) × HexDigit h x × HexDigit l y × (b ≡ 16 * x + y)
 byte_stands None low h l rest v b eh el e = cc
 byte_stands (Some x) None h l rest v b eh el e = cc
 byte_stands (Some x) (Some y) h l rest v b eh el e =
@@ -61,7 +65,8 @@ byte_stands (Some x) (Some y) h l rest v b eh el e =
     (x, y, p.1, digit_stands h x eh, digit_stands l y el, sym p.0)
 
 -- two hexadecimal digits are read as what they stand for
-pub hex_stands : (rest v : List ℕ) (b : ℕ) → hex_of rest ≡ Some (b, v) → (h l x y : ℕ) × (rest ≡ h ∷ l ∷ v) × HexDigit h x × HexDigit l y × (b ≡ 16 * x + y)
+pub hex_stands : (rest v : List ℕ) (b : ℕ) → hex_of rest ≡ Some (b, v) → (h l x y : ℕ) × (rest ≡ h ∷ l ∷ v) × HexDigit h x × HexDigit l y ×
+    (b ≡ 16 * x + y)
 hex_stands [] v b h = cc
 hex_stands (c ∷ []) v b h = cc
 hex_stands (c ∷ d ∷ rest) v b h =
@@ -108,7 +113,11 @@ unit_stands (c ∷ rest) v b h = elim (chosen (c == 92) (escape_of rest) _ (Some
       (s.0, ap (λ k. k ∷ rest) (eqb-true c 92 x.0) ∙ s.1, s.2)
   | inr x ↦ elim (chosen (c == 34) None (Some (c, rest)) (Some (b, v)) x.1) [
     | inl y ↦ absurd (let e = y.1 in cc)
-    | inr y ↦ let p = same_pair (c, rest) (b, v) y.1 in
-        (b ∷ [], ap (λ k. k ∷ rest) p.0 ∙ ap (λ k. b ∷ k) p.1, inl (refl, (λ e. eqb-false c 34 y.0 (p.0 ∙ e)), (λ e. eqb-false c 92 x.0 (p.0 ∙ e))))
+    | inr y ↦ let p = same_pair (c, rest) (b, v) y.1 in (
+      b ∷ [],
+      ap (λ k. k ∷ rest) p.0 ∙ ap (λ k. b ∷ k) p.1,
+      inl
+          (refl, (λ e. eqb-false c 34 y.0 (p.0 ∙ e)), (λ e. eqb-false c 92 x.0 (p.0 ∙ e))),
+    )
   ]
 ]

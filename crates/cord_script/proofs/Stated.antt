@@ -1,5 +1,6 @@
 -- Words say one statement, and then have no flaw.
-use Rattle.std.proofs.Common.{Some, None, ◌≡◌, ◌≤◌, ◌+◌, ℕ, suc, List, [], ◌∷◌, Bool, true, refl, sym, ◌∙◌, ap, subst, length, arith, eq-eqb}
+use Rattle.std.proofs.Common.{Some, None, ◌≡◌, ◌≤◌, ◌+◌, ℕ, suc, List, [], ◌∷◌, Bool, true, refl, sym, ◌∙◌, ap, subst, length, arith}
+use Rattle.std.proofs.Common.{eq-eqb}
 use Rattle.std.specs.Prelude.{Option, ◌==◌, map, codes, if◌then◌else◌}
 use Rattle.std.proofs.lemmas.Bool.{le-leb}
 use Rattle.std.specs.Str.{bytes_eq}
@@ -15,17 +16,22 @@ use Rattle.cord_operands.specs.declared.operands.Argument.TheVariants as argumen
 use Rattle.cord_script.specs.declared.words.Word.{Word}
 use Rattle.cord_script.specs.declared.words.Word.TheVariants.{Plain, Quoted}
 use Rattle.cord_syntax.specs.declared.statements.Statement.{Statement}
-use Rattle.cord_syntax.specs.declared.statements.Statement.TheVariants.{Let, File, Eager, Lazy, Chars, Nul, FromFn, Cat, Catn, Catc, Substr, Balance, EcToCord, Sprintf, Len, Fetch, Cmp, Ncmp, Str, Chr, Rchr, Assign, Add, Sub, EcInit, EcPut, EcCat, EcStr, Put, Repeat, If, Else, End}
+use Rattle.cord_syntax.specs.declared.statements.Statement.TheVariants.{Let, File, Eager, Lazy, Chars, Nul, FromFn, Cat, Catn, Catc, Substr}
+use Rattle.cord_syntax.specs.declared.statements.Statement.TheVariants.{Balance, EcToCord, Sprintf, Len, Fetch, Cmp, Ncmp, Str, Chr, Rchr}
+use Rattle.cord_syntax.specs.declared.statements.Statement.TheVariants.{Assign, Add, Sub, EcInit, EcPut, EcCat, EcStr, Put, Repeat, If}
+use Rattle.cord_syntax.specs.declared.statements.Statement.TheVariants.{Else, End}
 use Rattle.cord_script.specs.declared.refusals.RefusalKind.{RefusalKind}
 use Rattle.cord_script.specs.declared.refusals.RefusalKind.TheVariants.{WrongCount, TooDeep}
 use Rattle.cord_syntax.specs.Lines.{line_of}
-use Rattle.cord_script.specs.Forms.{Grammar, Shape, Form, Effect, Term, form_of, form_in, word_of, terms_of, effect_of, argument_term, argument_want}
+use Rattle.cord_script.specs.Forms.{Grammar, Shape, Form, Effect, Term, form_of, form_in, word_of, terms_of, effect_of, argument_term}
+use Rattle.cord_script.specs.Forms.{argument_want}
 use Rattle.cord_script.specs.Forms.Shape.{Words, Joined, Printed}
 use Rattle.cord_script.specs.Forms.Effect.{Stays, OpensRepeat, OpensIf, Turns, Closes}
 use Rattle.cord_script.specs.Forms.Term.{Target, Operand, Value, Literal, FilePath, Applies, Compares, Formats}
 use Rattle.cord_script.specs.Formats.{Converts, want_of_kind}
 use Rattle.cord_script.specs.Script.{Before, Block, Says, Suits, AreTerms, FitsBlocks}
-use Rattle.cord_script.specs.Flaws.{first_of, unless, misfit, first_pair, operand_flaw, word_target_flaw, word_path_flaw, is_count, cords, wants_of, words_flaw, else_flaw, block_flaw, names_flaw, form_flaw, HasFormat, HasFormFlaw, HasBadWords}
+use Rattle.cord_script.specs.Flaws.{first_of, unless, misfit, first_pair, operand_flaw, word_target_flaw, word_path_flaw, is_count, cords}
+use Rattle.cord_script.specs.Flaws.{wants_of, words_flaw, else_flaw, block_flaw, names_flaw, form_flaw, HasFormat, HasFormFlaw, HasBadWords}
 use Rattle.cord_script.proofs.Checked.{neither}
 use Rattle.cord_script.proofs.Unique.{within}
 use Rattle.cord_script.specs.Parted.{want_of}
@@ -46,7 +52,8 @@ as_many : (ts : List Term) → length (map want_of ts) ≡ length ts
 as_many [] = refl
 as_many (t ∷ ts) = let r = as_many ts in omega arith
 
-right_words : (others : List Word) (s : Statement) → form_of (word_of s) ≡ Some (record { shape = Words (map want_of (terms_of s)); effect = effect_of s }) → AreTerms others (terms_of s) → IsRightForm others s
+right_words : (others : List Word) (s : Statement) → form_of (word_of s)
+    ≡ Some (record { shape = Words (map want_of (terms_of s)); effect = effect_of s }) → AreTerms others (terms_of s) → IsRightForm others s
 right_words others s is h =
     let number : length others ≡ length (map want_of (terms_of s)) = terms_count others (terms_of s) h ∙ sym (as_many (terms_of s)) in
     record {
@@ -60,7 +67,8 @@ right_words others s is h =
       words = λ m. m;
     }
 
-cords_are : (ws : List Word) (parts : List (List ℕ)) → AreTerms ws (map (Operand kinds.Cord) parts) → (cords ws ≡ map want_of (map (Operand kinds.Cord) parts)) × (length ws ≡ length parts)
+cords_are : (ws : List Word) (parts : List (List ℕ)) → AreTerms ws (map (Operand kinds.Cord) parts) →
+    (cords ws ≡ map want_of (map (Operand kinds.Cord) parts)) × (length ws ≡ length parts)
 cords_are [] [] h = (refl, refl)
 cords_are [] (p ∷ ps) h = absurd h
 cords_are (w ∷ ws) [] h = absurd h
@@ -69,7 +77,10 @@ cords_are (w ∷ ws) (p ∷ ps) h =
     let lengths = r.1 in
     (ap (λ k. wants.Operand kinds.Cord ∷ k) r.0, omega arith)
 
-right_catn : (others : List Word) (n : ℕ) (target : List ℕ) (parts : List (List ℕ)) → form_of (codes "catn") ≡ Some (record { shape = Joined; effect = Stays }) → AreTerms others (Target kinds.Cord target ∷ map (Operand kinds.Cord) parts) → Suits (Catn n target parts) → IsRightForm others (Catn n target parts)
+right_catn : (others : List Word) (n : ℕ) (target : List ℕ) (parts : List (List ℕ)) →
+    form_of (codes "catn") ≡ Some (record { shape = Joined; effect = Stays }) →
+    AreTerms others (Target kinds.Cord target ∷ map (Operand kinds.Cord) parts) → Suits (Catn n target parts) →
+    IsRightForm others (Catn n target parts)
 right_catn [] n target parts is h suits = absurd h
 right_catn (w ∷ ws) n target parts is h suits =
     let r = cords_are ws parts h.1 in
@@ -88,7 +99,8 @@ right_catn (w ∷ ws) n target parts is h suits =
       words = λ m. ap (λ xs. first_pair misfit xs (w ∷ ws)) same ∙ m;
     }
 
-arguments_are : (ws : List Word) (args : List Argument) → AreTerms ws (map argument_term args) → (map want_of (map argument_term args) ≡ map argument_want args) × (length ws ≡ length (map argument_want args))
+arguments_are : (ws : List Word) (args : List Argument) → AreTerms ws (map argument_term args) →
+    (map want_of (map argument_term args) ≡ map argument_want args) × (length ws ≡ length (map argument_want args))
 arguments_are [] [] h = (refl, refl)
 arguments_are [] (a ∷ more) h = absurd h
 arguments_are (w ∷ ws) [] h = absurd h
@@ -101,11 +113,15 @@ arguments_are (w ∷ ws) (arguments.Cord name ∷ more) h =
     let lengths = r.1 in
     (ap (λ k. wants.Operand kinds.Cord ∷ k) r.0, omega arith)
 
-print_none : (a b c d : Option RefusalKind) (x : Bool) → a ≡ None → b ≡ None → x ≡ true → c ≡ None → first_of (first_of a (first_of b None)) (first_of (unless x WrongCount) c) ≡ None
+print_none : (a b c d : Option RefusalKind) (x : Bool) → a ≡ None → b ≡ None → x ≡ true → c ≡ None →
+    first_of (first_of a (first_of b None)) (first_of (unless x WrongCount) c) ≡ None
 print_none None None None d true ea eb ex ec = refl
 print_none _ _ _ d _ ea eb ex ec = cc
 
-right_sprintf : (others : List Word) (n : ℕ) (target text : List ℕ) (format : List Piece) (args : List Argument) → form_of (codes "sprintf") ≡ Some (record { shape = Printed; effect = Stays }) → AreTerms others (Target kinds.Cord target ∷ Formats text ∷ map argument_term args) → Suits (Sprintf n target text format args) → IsRightForm others (Sprintf n target text format args)
+right_sprintf : (others : List Word) (n : ℕ) (target text : List ℕ) (format : List Piece) (args : List Argument) →
+    form_of (codes "sprintf") ≡ Some (record { shape = Printed; effect = Stays }) →
+    AreTerms others (Target kinds.Cord target ∷ Formats text ∷ map argument_term args) → Suits (Sprintf n target text format args) →
+    IsRightForm others (Sprintf n target text format args)
 right_sprintf [] n target text format args is h suits = absurd h
 right_sprintf (w ∷ []) n target text format args is h suits = absurd h.1
 right_sprintf (w ∷ x ∷ ws) n target text format args is h suits =
@@ -124,7 +140,8 @@ right_sprintf (w ∷ x ∷ ws) n target text format args is h suits =
       words = λ m.
           let p = neither (misfit (wants.Target kinds.Cord) w) (first_of (misfit wants.Format x) (first_pair misfit (map want_of (map argument_term args)) ws)) m in
           let q = neither (misfit wants.Format x) (first_pair misfit (map want_of (map argument_term args)) ws) p.1 in
-          print_none (misfit (wants.Target kinds.Cord) w) (misfit wants.Format x) (first_pair misfit xs ws) None (length ws == length xs) p.0 q.0 (eq-eqb (length ws) (length xs) r.1) (ap (λ k. first_pair misfit k ws) (sym r.0) ∙ q.1);
+          print_none (misfit (wants.Target kinds.Cord) w) (misfit wants.Format x) (first_pair misfit xs ws) None
+          (length ws == length xs) p.0 q.0 (eq-eqb (length ws) (length xs) r.1) (ap (λ k. first_pair misfit k ws) (sym r.0) ∙ q.1);
     }
 
 -- words that say a statement have the form of its word
@@ -145,7 +162,8 @@ right_form others (EcToCord n target extensible) h suits = right_words others (E
 right_form others (Len n target operand) h suits = right_words others (Len n target operand) refl h
 right_form others (Fetch n target operand index) h suits = right_words others (Fetch n target operand index) refl h
 right_form others (Cmp n target left right) h suits = right_words others (Cmp n target left right) refl h
-right_form others (Ncmp n target left left_start right right_start count) h suits = right_words others (Ncmp n target left left_start right right_start count) refl h
+right_form others (Ncmp n target left left_start right right_start count) h suits =
+    right_words others (Ncmp n target left left_start right right_start count) refl h
 right_form others (Str n target operand start pattern) h suits = right_words others (Str n target operand start pattern) refl h
 right_form others (Chr n target operand start byte) h suits = right_words others (Chr n target operand start byte) refl h
 right_form others (Rchr n target operand start byte) h suits = right_words others (Rchr n target operand start byte) refl h
@@ -181,7 +199,8 @@ block_none Closes [] h = absurd (h refl)
 block_none Closes (block ∷ blocks) h = refl
 
 -- words that say a statement have no flaw
-fine_form : (g : Grammar) (n : ℕ) (before : Before) (words : List Word) (s : Statement) (says : Says g n before words s) (r : IsRightForm says.others s) → form_flaw r.form before r.formats says.others ≡ None
+fine_form : (g : Grammar) (n : ℕ) (before : Before) (words : List Word) (s : Statement) (says : Says g n before words s)
+    (r : IsRightForm says.others s) → form_flaw r.form before r.formats says.others ≡ None
 fine_form g n before words s says r =
     let ts = terms_of s in
     let others = says.others in
@@ -190,20 +209,24 @@ fine_form g n before words s says r =
     let known : first_pair (operand_flaw before.names) xs others ≡ None = ap (λ k. first_pair (operand_flaw before.names) k others) r.wants ∙ pairs_none (operand_flaw before.names) before others ts (λ w t h a. term_known w t before h a) says.terms says.allowed in
     let assigned : first_pair (word_target_flaw before.names) xs others ≡ None = ap (λ k. first_pair (word_target_flaw before.names) k others) r.wants ∙ pairs_none (word_target_flaw before.names) before others ts (λ w t h a. term_assigned w t before h a) says.terms says.allowed in
     let opened : first_pair (word_path_flaw before.paths) xs others ≡ None = ap (λ k. first_pair (word_path_flaw before.paths) k others) r.wants ∙ pairs_none (word_path_flaw before.paths) before others ts (λ w t h a. term_opened w t before h a) says.terms says.allowed in
-    all_none (unless (is_count r.form.shape (length others)) WrongCount) (words_flaw r.form.shape r.formats others) (names_flaw before xs others) (block_flaw r.form.effect before.blocks)
+    all_none (unless (is_count r.form.shape (length others)) WrongCount) (words_flaw r.form.shape r.formats others)
+    (names_flaw before xs others) (block_flaw r.form.effect before.blocks)
     (ap (λ b. unless b WrongCount) r.count)
     fit
-    (three_none (first_pair (operand_flaw before.names) xs others) (first_pair (word_target_flaw before.names) xs others) (first_pair (word_path_flaw before.paths) xs others) known assigned opened)
+    (three_none (first_pair (operand_flaw before.names) xs others) (first_pair (word_target_flaw before.names) xs others)
+    (first_pair (word_path_flaw before.paths) xs others) known assigned opened)
     (ap (λ e. block_flaw e before.blocks) r.effect ∙ block_none (effect_of s) before.blocks says.blocks)
 
 -- a text is a format in one way
 one_conversion : OneFormat → BadIsNoFormat → (text : List ℕ) (f f' : Option (List Want)) → Converts text f → Converts text f' → f ≡ f'
-one_conversion one bad text (Some xs) (Some ys) h h' = ap Some (h.2 ∙ ap (λ k. map want_of_kind (Rattle.cord_printf.specs.Pieces.wanted k)) (one text h.0 h'.0 h.1 h'.1) ∙ sym h'.2)
+one_conversion one bad text (Some xs) (Some ys) h h' = ap Some (h.2 ∙ ap (λ k. map want_of_kind (Rattle.cord_printf.specs.Pieces.wanted k))
+    (one text h.0 h'.0 h.1 h'.1) ∙ sym h'.2)
 one_conversion one bad text (Some xs) None h h' = absurd (bad text h'.0 h'.1 h.0 h.1)
 one_conversion one bad text None (Some ys) h h' = absurd (bad text h.0 h.1 h'.0 h'.1)
 one_conversion one bad text None None h h' = refl
 
-pub one_format : OneFormat → BadIsNoFormat → (shape : Shape) (ws : List Word) (f f' : Option (List Want)) → HasFormat shape ws f → HasFormat shape ws f' → f ≡ f'
+pub one_format : OneFormat → BadIsNoFormat → (shape : Shape) (ws : List Word) (f f' : Option (List Want)) → HasFormat shape ws f →
+    HasFormat shape ws f' → f ≡ f'
 one_format one bad (Words xs) ws f f' h h' = h ∙ sym h'
 one_format one bad Joined ws f f' h h' = h ∙ sym h'
 one_format one bad Printed [] f f' h h' = h ∙ sym h'
@@ -214,11 +237,14 @@ one_format one bad Printed (t ∷ Quoted text ∷ ws) f f' h h' = one_conversion
 in_grammar : (g : Grammar) (w : List ℕ) → g.has w ≡ true → form_in g w ≡ form_of w
 in_grammar g w h = ap (λ b. if b then form_of w else None) h
 
-flaw_at : (before : Before) (f : Option Form) (form : Form) (ws : List Word) (kind : RefusalKind) → f ≡ Some form → HasFormFlaw before f ws kind → (formats : Option (List Want)) × HasFormat form.shape ws formats × (form_flaw form before formats ws ≡ Some kind)
+flaw_at : (before : Before) (f : Option Form) (form : Form) (ws : List Word) (kind : RefusalKind) → f ≡ Some form →
+    HasFormFlaw before f ws kind → (formats : Option (List Want)) × HasFormat form.shape ws formats ×
+    (form_flaw form before formats ws ≡ Some kind)
 flaw_at before f form ws kind e h = subst (λ k. HasFormFlaw before k ws kind) e h
 
 -- words that say a statement have no flaw
-pub good_words : OneFormat → BadIsNoFormat → (g : Grammar) (n : ℕ) (before : Before) (words : List Word) (s : Statement) (kind : RefusalKind) → Says g n before words s → HasBadWords g before words kind → ⊥
+pub good_words : OneFormat → BadIsNoFormat → (g : Grammar) (n : ℕ) (before : Before) (words : List Word) (s : Statement)
+    (kind : RefusalKind) → Says g n before words s → HasBadWords g before words kind → ⊥
 good_words one bad g n before words s kind says h =
     let r = right_form says.others s says.terms says.suits in
     let at = subst (λ ws. HasBadWords g before ws kind) says.word h in
@@ -227,7 +253,8 @@ good_words one bad g n before words s kind says h =
     let clash : None ≡ Some kind = sym (fine_form g n before words s says r) ∙ ap (λ k. form_flaw r.form before k says.others) (sym formats) ∙ f.2 in
     cc
 
-one_form_flaw : OneFormat → BadIsNoFormat → (before : Before) (f : Option Form) (ws : List Word) (kind kind' : RefusalKind) → HasFormFlaw before f ws kind → HasFormFlaw before f ws kind' → kind ≡ kind'
+one_form_flaw : OneFormat → BadIsNoFormat → (before : Before) (f : Option Form) (ws : List Word) (kind kind' : RefusalKind) →
+    HasFormFlaw before f ws kind → HasFormFlaw before f ws kind' → kind ≡ kind'
 one_form_flaw one bad before None ws kind kind' h h' = h ∙ sym h'
 one_form_flaw one bad before (Some form) ws kind kind' h h' =
     let formats = one_format one bad form.shape ws h.0 h'.0 h.1 h'.1 in
@@ -235,7 +262,8 @@ one_form_flaw one bad before (Some form) ws kind kind' h h' =
     cc
 
 -- words have one first flaw
-pub one_bad_words : OneFormat → BadIsNoFormat → (g : Grammar) (before : Before) (words : List Word) (kind kind' : RefusalKind) → HasBadWords g before words kind → HasBadWords g before words kind' → kind ≡ kind'
+pub one_bad_words : OneFormat → BadIsNoFormat → (g : Grammar) (before : Before) (words : List Word) (kind kind' : RefusalKind) →
+    HasBadWords g before words kind → HasBadWords g before words kind' → kind ≡ kind'
 one_bad_words one bad g before [] kind kind' h h' = absurd h
 one_bad_words one bad g before (Quoted text ∷ ws) kind kind' h h' = h ∙ sym h'
 one_bad_words one bad g before (Plain p ∷ ws) kind kind' h h' = one_form_flaw one bad before (form_in g p) ws kind kind' h h'
@@ -355,7 +383,8 @@ made_cmp n (Target k1 target ∷ Operand k2 left ∷ Operand k3 right ∷ []) = 
 made_cmp n _ = None
 
 abbrev made_ncmp : ℕ → List Term → Option Statement
-made_ncmp n (Target k1 target ∷ Operand k2 left ∷ Value left_start ∷ Operand k3 right ∷ Value right_start ∷ Value count ∷ []) = Some (Ncmp n target left left_start right right_start count)
+made_ncmp n (Target k1 target ∷ Operand k2 left ∷ Value left_start ∷ Operand k3 right ∷ Value right_start ∷ Value count ∷ []) =
+    Some (Ncmp n target left left_start right right_start count)
 made_ncmp n _ = None
 
 abbrev made_str : ℕ → List Term → Option Statement
@@ -522,7 +551,8 @@ made_is (Catn n target parts) = ap (λ k. Some (Catn n target k)) (names_back pa
 made_is (Sprintf n target text format arguments) = ap (λ k. Some (Sprintf n target text format k)) (arguments_back arguments)
 
 -- words say one statement
-pub one_statement : OneFormat → BadIsNoFormat → (g : Grammar) (n : ℕ) (before : Before) (words : List Word) (s s' : Statement) → Says g n before words s → Says g n before words s' → s ≡ s'
+pub one_statement : OneFormat → BadIsNoFormat → (g : Grammar) (n : ℕ) (before : Before) (words : List Word) (s s' : Statement) →
+    Says g n before words s → Says g n before words s' → s ≡ s'
 one_statement one bad g n before words s s' says says' =
     let whole : Plain (word_of s) ∷ says.others ≡ Plain (word_of s') ∷ says'.others = sym says.word ∙ says'.word in
     let word : word_of s ≡ word_of s' = cc in

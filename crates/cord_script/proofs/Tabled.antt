@@ -10,7 +10,8 @@ use Rattle.cord_script.specs.Script.{whole}
 use Rattle.cord_script.specs.inner.Verbal.{verb_word, verb_form, find_verb, form_at}
 
 -- a choice of verbs is a choice of forms
-chosen_form : (c : Bool) (v : Verb) (o : Option Verb) (f rest : Option Form) → form_at (Some v) ≡ f → form_at o ≡ rest → form_at (if c then Some v else o) ≡ (if c then f else rest)
+chosen_form : (c : Bool) (v : Verb) (o : Option Verb) (f rest : Option Form) → form_at (Some v) ≡ f → form_at o ≡ rest →
+    form_at (if c then Some v else o) ≡ (if c then f else rest)
 chosen_form true v o f rest p q = p
 chosen_form false v o f rest p q = q
 
@@ -95,6 +96,7 @@ pub found_verb : (w : List ℕ) (v : Verb) → w ≡ verb_word v → (w ≡ verb
 found_verb w v h = (h, ap form_of h ∙ form_is v)
 
 -- the form of the word that a verb was looked for
-pub found : (w : List ℕ) (r : Option Verb) → r ≡ find_verb VERBS w → IfSome r (λ v. w ≡ verb_word v) → MatchOption r (form_in whole w ≡ None) (λ v. (w ≡ verb_word v) × (form_in whole w ≡ Some (verb_form v)))
+pub found : (w : List ℕ) (r : Option Verb) → r ≡ find_verb VERBS w → IfSome r (λ v. w ≡ verb_word v) →
+    MatchOption r (form_in whole w ≡ None) (λ v. (w ≡ verb_word v) × (form_in whole w ≡ Some (verb_form v)))
 found w None e h = sym (form_found w) ∙ ap form_at (sym e)
 found w (Some v) e h = found_verb w v h

@@ -1,5 +1,6 @@
 -- What a word says, and what it has to be: one term for each want, and no misfit.
-use Rattle.std.proofs.Common.{inl, inr, Some, None, ◌≡◌, ◌≢◌, ◌<◌, ℕ, suc, List, [], ◌∷◌, Bool, true, false, refl, sym, ◌∙◌, ap, length, arith, eqb-true}
+use Rattle.std.proofs.Common.{inl, inr, Some, None, ◌≡◌, ◌≢◌, ◌<◌, ℕ, suc, List, [], ◌∷◌, Bool, true, false, refl, sym, ◌∙◌, ap, length}
+use Rattle.std.proofs.Common.{arith, eqb-true}
 use Rattle.std.specs.Prelude.{Option, ◌⊎◌, ◌==◌, ◌&&◌, ◌||◌, nat_le, nat_lt, is_some, map, if◌then◌else◌, ℤ, pos, ◌^◌}
 use Rattle.std.proofs.lemmas.Bool.{leb-true, le-leb, ne_eqb}
 use Rattle.cord_script.specs.declared.TheConstants.{MAX_NAMES, MAX_PATHS}
@@ -18,11 +19,14 @@ use Rattle.cord_script.specs.declared.words.Word.{Word}
 use Rattle.cord_script.specs.declared.words.Word.TheVariants.{Plain}
 use Rattle.cord_script.specs.declared.refusals.RefusalKind.{RefusalKind}
 use Rattle.cord_script.specs.declared.refusals.RefusalKind.TheVariants.{BadName, BadNumber, WrongKind, TooMany}
-use Rattle.cord_script.specs.Tests.{is_digit, is_letter, is_name, each, are_digits, number_after, begins_numeral, numeral_of, function_word, relation_word}
+use Rattle.cord_script.specs.Tests.{is_digit, is_letter, is_name, each, are_digits, number_after, begins_numeral, numeral_of, function_word}
+use Rattle.cord_script.specs.Tests.{relation_word}
 use Rattle.cord_script.specs.Forms.{Term}
 use Rattle.cord_script.specs.Forms.Term.{Target, Operand, Value, Literal, FilePath, Applies, Compares, Formats}
 use Rattle.cord_script.specs.Script.{Before, kind_of, is_among, IsTerm, AreTerms, IsAllowed, AreAllowed}
-use Rattle.cord_script.specs.Flaws.{first_of, unless, misfit, first_pair, kind_flaw, same_kind, operand_flaw, number_flaw, plain_number_misfit, function_misfit, relation_misfit, name_misfit, number_misfit, text_misfit, path_misfit, assigned_flaw, word_target_flaw, word_path_flaw}
+use Rattle.cord_script.specs.Flaws.{first_of, unless, misfit, first_pair, kind_flaw, same_kind, operand_flaw, number_flaw}
+use Rattle.cord_script.specs.Flaws.{plain_number_misfit, function_misfit, relation_misfit, name_misfit, number_misfit, text_misfit}
+use Rattle.cord_script.specs.Flaws.{path_misfit, assigned_flaw, word_target_flaw, word_path_flaw}
 use Rattle.cord_script.specs.Parted.{want_of}
 use Rattle.cord_script.proofs.Spelled.{both, chosen}
 use Rattle.cord_script.proofs.Unique.{above, head_or}
@@ -72,10 +76,11 @@ pub numeral_begins : (p : List ℕ) (v : ℤ) → numeral_of p ≡ Some v → be
 numeral_begins [] v h = cc
 numeral_begins (c ∷ cs) v h = elim (chosen (c == 45) _ _ (Some v) h) [
   | inl x ↦ either_right (is_digit c) (c == 45) x.0
-  | inr x ↦ elim (chosen (are_digits (c ∷ cs) && nat_lt (number_after 0 (c ∷ cs)) (2 ^ 63)) (Some (pos (number_after 0 (c ∷ cs)))) None (Some v) x.1) [
-    | inl y ↦ either_left (is_digit c) (c == 45) (digits_begin c cs (both (are_digits (c ∷ cs)) _ y.0).0)
-    | inr y ↦ absurd (let e = y.1 in cc)
-  ]
+  | inr x ↦ elim (chosen (are_digits (c ∷ cs) && nat_lt (number_after 0 (c ∷ cs)) (2 ^ 63)) (Some (pos (number_after 0 (c ∷ cs)))) None
+      (Some v) x.1) [
+        | inl y ↦ either_left (is_digit c) (c == 45) (digits_begin c cs (both (are_digits (c ∷ cs)) _ y.0).0)
+        | inr y ↦ absurd (let e = y.1 in cc)
+      ]
 ]
 
 pub same_kinds : (kind : Kind) → same_kind kind kind ≡ true
@@ -89,11 +94,13 @@ right_kind has kind h = ap (λ k. kind_flaw k kind) h ∙ ap (λ b. unless b Wro
 
 numeral_fits : (p : List ℕ) (v : ℤ) → numeral_of p ≡ Some v → plain_number_misfit p ≡ None
 numeral_fits p v h =
-    ap (λ b. if b then unless (is_some (numeral_of p)) BadNumber else unless (is_name p) BadName) (numeral_begins p v h) ∙ ap (λ o. unless (is_some o) BadNumber) h
+    ap (λ b. if b then unless (is_some (numeral_of p)) BadNumber else unless (is_name p) BadName) (numeral_begins p v h)
+    ∙ ap (λ o. unless (is_some o) BadNumber) h
 
 named_fits : (p : List ℕ) → is_name p ≡ true → plain_number_misfit p ≡ None
 named_fits p h =
-    ap (λ b. if b then unless (is_some (numeral_of p)) BadNumber else unless (is_name p) BadName) (name_begins p h) ∙ ap (λ b. unless b BadName) h
+    ap (λ b. if b then unless (is_some (numeral_of p)) BadNumber else unless (is_name p) BadName) (name_begins p h)
+    ∙ ap (λ b. unless b BadName) h
 
 function_fits : (f : Function) → function_misfit (Plain (function_word f)) ≡ None
 function_fits Digits = refl
@@ -123,12 +130,14 @@ pub numeral_known : (names : List Known) (p : List ℕ) (v : ℤ) → numeral_of
 numeral_known names p v h = ap (λ b. if b then None else kind_flaw (kind_of names p) kinds.Number) (numeral_begins p v h)
 
 named_known : (names : List Known) (p : List ℕ) → is_name p ≡ true → kind_of names p ≡ Some kinds.Number → number_flaw names p ≡ None
-named_known names p h k = ap (λ b. if b then None else kind_flaw (kind_of names p) kinds.Number) (name_begins p h) ∙ right_kind (kind_of names p) kinds.Number k
+named_known names p h k = ap (λ b. if b then None else kind_flaw (kind_of names p) kinds.Number) (name_begins p h)
+    ∙ right_kind (kind_of names p) kinds.Number k
 
 -- an operand that is allowed has no flaw
 pub term_known : (w : Word) (t : Term) (before : Before) → IsTerm w t → IsAllowed before t → operand_flaw before.names (want_of t) w ≡ None
 term_known w (Target kind name) before h a = refl
-term_known w (Operand kind name) before h a = ap (operand_flaw before.names (wants.Operand kind)) h.0 ∙ right_kind (kind_of before.names name) kind a
+term_known w (Operand kind name) before h a = ap (operand_flaw before.names (wants.Operand kind)) h.0
+    ∙ right_kind (kind_of before.names name) kind a
 term_known w (Value (Numeral v)) before h a = ap (operand_flaw before.names wants.Number) h.1 ∙ numeral_known before.names h.0 v h.2
 term_known w (Value (Named name)) before h a = ap (operand_flaw before.names wants.Number) h.0 ∙ named_known before.names name h.1 a
 term_known w (Literal text) before h a = refl
@@ -137,13 +146,17 @@ term_known w (Applies function) before h a = refl
 term_known w (Compares relation) before h a = refl
 term_known w (Formats text) before h a = refl
 
-target_fine : (names : List Known) (name : List ℕ) (kind : Kind) → (kind_of names name ≡ Some kind) ⊎ ((kind_of names name ≡ None) × (length names < MAX_NAMES)) → assigned_flaw (kind_of names name) kind (length names) ≡ None
+target_fine : (names : List Known) (name : List ℕ) (kind : Kind) → (kind_of names name ≡ Some kind) ⊎
+    ((kind_of names name ≡ None) × (length names < MAX_NAMES)) → assigned_flaw (kind_of names name) kind (length names) ≡ None
 target_fine names name kind (inl h) = ap (λ k. assigned_flaw k kind (length names)) h ∙ ap (λ b. unless b WrongKind) (same_kinds kind)
-target_fine names name kind (inr h) = ap (λ k. assigned_flaw k kind (length names)) h.0 ∙ ap (λ b. unless b TooMany) (le-leb (suc (length names)) MAX_NAMES h.1)
+target_fine names name kind (inr h) = ap (λ k. assigned_flaw k kind (length names)) h.0
+    ∙ ap (λ b. unless b TooMany) (le-leb (suc (length names)) MAX_NAMES h.1)
 
 -- a target that is allowed has no flaw
-pub term_assigned : (w : Word) (t : Term) (before : Before) → IsTerm w t → IsAllowed before t → word_target_flaw before.names (want_of t) w ≡ None
-term_assigned w (Target kind name) before h a = ap (word_target_flaw before.names (wants.Target kind)) h.0 ∙ target_fine before.names name kind a
+pub term_assigned : (w : Word) (t : Term) (before : Before) → IsTerm w t → IsAllowed before t →
+    word_target_flaw before.names (want_of t) w ≡ None
+term_assigned w (Target kind name) before h a = ap (word_target_flaw before.names (wants.Target kind)) h.0
+    ∙ target_fine before.names name kind a
 term_assigned w (Operand kind name) before h a = refl
 term_assigned w (Value number) before h a = refl
 term_assigned w (Literal text) before h a = refl
@@ -152,12 +165,15 @@ term_assigned w (Applies function) before h a = refl
 term_assigned w (Compares relation) before h a = refl
 term_assigned w (Formats text) before h a = refl
 
-path_fine : (paths : List (List ℕ)) (path : List ℕ) → (is_among paths path ≡ true) ⊎ (length paths < MAX_PATHS) → unless (is_among paths path || nat_lt (length paths) MAX_PATHS) TooMany ≡ None
+path_fine : (paths : List (List ℕ)) (path : List ℕ) → (is_among paths path ≡ true) ⊎ (length paths < MAX_PATHS) →
+    unless (is_among paths path || nat_lt (length paths) MAX_PATHS) TooMany ≡ None
 path_fine paths path (inl h) = ap (λ b. unless b TooMany) (either_left (is_among paths path) (nat_lt (length paths) MAX_PATHS) h)
-path_fine paths path (inr h) = ap (λ b. unless b TooMany) (either_right (is_among paths path) (nat_lt (length paths) MAX_PATHS) (le-leb (suc (length paths)) MAX_PATHS h))
+path_fine paths path (inr h) = ap (λ b. unless b TooMany) (either_right (is_among paths path) (nat_lt (length paths) MAX_PATHS)
+    (le-leb (suc (length paths)) MAX_PATHS h))
 
 -- a path that is allowed has no flaw
-pub term_opened : (w : Word) (t : Term) (before : Before) → IsTerm w t → IsAllowed before t → word_path_flaw before.paths (want_of t) w ≡ None
+pub term_opened : (w : Word) (t : Term) (before : Before) → IsTerm w t → IsAllowed before t →
+    word_path_flaw before.paths (want_of t) w ≡ None
 term_opened w (Target kind name) before h a = refl
 term_opened w (Operand kind name) before h a = refl
 term_opened w (Value number) before h a = refl
@@ -168,11 +184,14 @@ term_opened w (Compares relation) before h a = refl
 term_opened w (Formats text) before h a = refl
 
 -- terms of which none has a flaw
-pub pairs_none : (test : Want → Word → Option RefusalKind) (before : Before) (ws : List Word) (ts : List Term) → ((w : Word) (t : Term) → IsTerm w t → IsAllowed before t → test (want_of t) w ≡ None) → AreTerms ws ts → AreAllowed before ts → first_pair test (map want_of ts) ws ≡ None
+pub pairs_none : (test : Want → Word → Option RefusalKind) (before : Before) (ws : List Word) (ts : List Term) →
+    ((w : Word) (t : Term) → IsTerm w t → IsAllowed before t → test (want_of t) w ≡ None) → AreTerms ws ts → AreAllowed before ts →
+    first_pair test (map want_of ts) ws ≡ None
 pairs_none test before [] [] f h a = refl
 pairs_none test before [] (t ∷ ts) f h a = absurd h
 pairs_none test before (w ∷ ws) [] f h a = absurd h
-pairs_none test before (w ∷ ws) (t ∷ ts) f h a = ap (λ k. first_of k (first_pair test (map want_of ts) ws)) (f w t h.0 a.0) ∙ pairs_none test before ws ts f h.1 a.1
+pairs_none test before (w ∷ ws) (t ∷ ts) f h a = ap (λ k. first_of k (first_pair test (map want_of ts) ws)) (f w t h.0 a.0)
+    ∙ pairs_none test before ws ts f h.1 a.1
 
 -- as many words as terms
 pub terms_count : (ws : List Word) (ts : List Term) → AreTerms ws ts → length ws ≡ length ts
@@ -215,13 +234,15 @@ one_number w (Numeral v) (Named name) h k = absurd (numeral_or_name h.0 name v (
 one_number w (Named name) (Numeral v) h k = absurd (numeral_or_name k.0 name v (let e = sym k.1 ∙ h.0 in cc) k.2 h.1)
 one_number w (Named a) (Named b) h k = let same : a ≡ b = let e = sym h.0 ∙ k.0 in cc in ap Named same
 
-same_target : (w : Word) (k l : Kind) (a b : List ℕ) → IsTerm w (Target k a) → IsTerm w (Target l b) → wants.Target k ≡ wants.Target l → Target k a ≡ Target l b
+same_target : (w : Word) (k l : Kind) (a b : List ℕ) → IsTerm w (Target k a) → IsTerm w (Target l b) → wants.Target k ≡ wants.Target l →
+    Target k a ≡ Target l b
 same_target w k l a b h g e =
     let names : a ≡ b = let q = sym h.0 ∙ g.0 in cc in
     let kind : k ≡ l = cc in
     ap (λ x. Target x a) kind ∙ ap (Target l) names
 
-same_operand : (w : Word) (k l : Kind) (a b : List ℕ) → IsTerm w (Operand k a) → IsTerm w (Operand l b) → wants.Operand k ≡ wants.Operand l → Operand k a ≡ Operand l b
+same_operand : (w : Word) (k l : Kind) (a b : List ℕ) → IsTerm w (Operand k a) → IsTerm w (Operand l b) →
+    wants.Operand k ≡ wants.Operand l → Operand k a ≡ Operand l b
 same_operand w k l a b h g e =
     let names : a ≡ b = let q = sym h.0 ∙ g.0 in cc in
     let kind : k ≡ l = cc in

@@ -1,5 +1,6 @@
 -- Words that have become parts.
-use Rattle.std.proofs.Common.{Some, None, ◌≡◌, ◌<◌, ◌+◌, ℕ, suc, List, [], ◌∷◌, ◌++◌, map, refl, sym, ◌∙◌, ap, subst, append_assoc, append-nil, length, length-append, arith, get_or, drop, take, drop-cons, eq-eqb, add-one}
+use Rattle.std.proofs.Common.{Some, None, ◌≡◌, ◌<◌, ◌+◌, ℕ, suc, List, [], ◌∷◌, ◌++◌, map, refl, sym, ◌∙◌, ap, subst, append_assoc}
+use Rattle.std.proofs.Common.{append-nil, length, length-append, arith, get_or, drop, take, drop-cons, eq-eqb, add-one}
 use Rattle.std.proofs.lemmas.List.{take_more}
 use Rattle.cord_script.specs.declared.kinds.Want.{Want}
 use Rattle.cord_script.specs.declared.parts.Part.{Part}
@@ -12,7 +13,8 @@ use Rattle.cord_script.specs.Flaws.{first_of, first_pair, misfit, format_wants, 
 use Rattle.cord_script.proofs.Terms.{term_right, terms_count}
 use Rattle.cord_script.specs.Parted.{HasTaken, IsPart, IsParted, term_of, want_of}
 
-terms_append : (ws vs : List Word) (ps qs : List Part) → AreTerms ws (map term_of ps) → AreTerms vs (map term_of qs) → AreTerms (ws ++ vs) (map term_of (ps ++ qs))
+terms_append : (ws vs : List Word) (ps qs : List Part) → AreTerms ws (map term_of ps) → AreTerms vs (map term_of qs) →
+    AreTerms (ws ++ vs) (map term_of (ps ++ qs))
 terms_append [] vs [] qs h k = k
 terms_append [] vs (p ∷ ps) qs h k = absurd h
 terms_append (w ∷ ws) vs [] qs h k = absurd h
@@ -23,7 +25,8 @@ wanted_append [] qs = refl
 wanted_append (p ∷ ps) qs = ap (λ k. want_of (term_of p) ∷ k) (wanted_append ps qs)
 
 -- some words, and then others
-pub both_taken : (xs ys : List Want) (old new behind : List Word) (ps qs rs : List Part) → HasTaken xs old new ps qs → HasTaken ys new behind qs rs → HasTaken (xs ++ ys) old behind ps rs
+pub both_taken : (xs ys : List Want) (old new behind : List Word) (ps qs rs : List Part) → HasTaken xs old new ps qs →
+    HasTaken ys new behind qs rs → HasTaken (xs ++ ys) old behind ps rs
 both_taken xs ys old new behind ps qs rs h k = record {
   front = h.front ++ k.front;
   more = h.more ++ k.more;
@@ -34,7 +37,8 @@ both_taken xs ys old new behind ps qs rs h k = record {
 }
 
 -- one word
-one_taken : (new behind : List Word) (qs rs : List Part) (x : Want) (w : Word) (p : Part) → new ≡ w ∷ behind → rs ≡ qs ++ p ∷ [] → IsPart x w p → HasTaken (x ∷ []) new behind qs rs
+one_taken : (new behind : List Word) (qs rs : List Part) (x : Want) (w : Word) (p : Part) → new ≡ w ∷ behind → rs ≡ qs ++ p ∷ [] →
+    IsPart x w p → HasTaken (x ∷ []) new behind qs rs
 one_taken new behind qs rs x w p e f part = record {
   front = w ∷ [];
   more = p ∷ [];
@@ -49,22 +53,30 @@ part_fits : (x : Want) (w : Word) (p : Part) → IsPart x w p → misfit x w ≡
 part_fits x w p part = ap (λ k. misfit k w) (sym part.1) ∙ term_right w (term_of p) part.0
 
 -- one more of the wants
-pub step_taken : (xs : List Want) (i : ℕ) (d : Want) (old new behind : List Word) (ps qs rs : List Part) (w : Word) (p : Part) → i < length xs → HasTaken (take i xs) old new ps qs → new ≡ w ∷ behind → rs ≡ qs ++ p ∷ [] → IsPart (get_or xs i d) w p → HasTaken (take (i + 1) xs) old behind ps rs
+pub step_taken : (xs : List Want) (i : ℕ) (d : Want) (old new behind : List Word) (ps qs rs : List Part) (w : Word) (p : Part) →
+    i < length xs → HasTaken (take i xs) old new ps qs → new ≡ w ∷ behind → rs ≡ qs ++ p ∷ [] → IsPart (get_or xs i d) w p →
+    HasTaken (take (i + 1) xs) old behind ps rs
 step_taken xs i d old new behind ps qs rs w p lt h e f part =
-    subst (λ k. HasTaken k old behind ps rs) (sym (take_more xs i d lt)) (both_taken (take i xs) (get_or xs i d ∷ []) old new behind ps qs rs h (one_taken new behind qs rs (get_or xs i d) w p e f part))
+    subst (λ k. HasTaken k old behind ps rs) (sym (take_more xs i d lt))
+    (both_taken (take i xs) (get_or xs i d ∷ []) old new behind ps qs rs h (one_taken new behind qs rs (get_or xs i d) w p e f part))
 
 -- the first of the wants that are left
-pub next_pair : (xs : List Want) (i : ℕ) (d : Want) (ws behind : List Word) (w : Word) → i < length xs → ws ≡ w ∷ behind → first_pair misfit (drop i xs) ws ≡ first_of (misfit (get_or xs i d) w) (first_pair misfit (drop (i + 1) xs) behind)
+pub next_pair : (xs : List Want) (i : ℕ) (d : Want) (ws behind : List Word) (w : Word) → i < length xs → ws ≡ w ∷ behind →
+    first_pair misfit (drop i xs) ws ≡ first_of (misfit (get_or xs i d) w) (first_pair misfit (drop (i + 1) xs) behind)
 next_pair xs i d ws behind w lt e =
-    ap (λ k. first_pair misfit k ws) (drop-cons xs i d lt) ∙ ap (first_pair misfit (get_or xs i d ∷ drop (suc i) xs)) e ∙ ap (λ k. first_of (misfit (get_or xs i d) w) (first_pair misfit (drop k xs) behind)) (sym (add-one i))
+    ap (λ k. first_pair misfit k ws) (drop-cons xs i d lt) ∙ ap (first_pair misfit (get_or xs i d ∷ drop (suc i) xs)) e
+    ∙ ap (λ k. first_of (misfit (get_or xs i d) w) (first_pair misfit (drop k xs) behind)) (sym (add-one i))
 
 -- the first of them is right
-pub step_fit : (xs : List Want) (i : ℕ) (d : Want) (ws behind : List Word) (w : Word) (p : Part) → i < length xs → ws ≡ w ∷ behind → IsPart (get_or xs i d) w p → first_pair misfit (drop i xs) ws ≡ first_pair misfit (drop (i + 1) xs) behind
+pub step_fit : (xs : List Want) (i : ℕ) (d : Want) (ws behind : List Word) (w : Word) (p : Part) → i < length xs → ws ≡ w ∷ behind →
+    IsPart (get_or xs i d) w p → first_pair misfit (drop i xs) ws ≡ first_pair misfit (drop (i + 1) xs) behind
 step_fit xs i d ws behind w p lt e part =
-    next_pair xs i d ws behind w lt e ∙ ap (λ k. first_of k (first_pair misfit (drop (i + 1) xs) behind)) (part_fits (get_or xs i d) w p part)
+    next_pair xs i d ws behind w lt e ∙ ap (λ k. first_of k (first_pair misfit (drop (i + 1) xs) behind))
+    (part_fits (get_or xs i d) w p part)
 
 -- the first of them is wrong
-pub step_wrong : (xs : List Want) (i : ℕ) (d : Want) (ws behind : List Word) (w : Word) (kind : RefusalKind) → i < length xs → ws ≡ w ∷ behind → misfit (get_or xs i d) w ≡ Some kind → first_pair misfit (drop i xs) ws ≡ Some kind
+pub step_wrong : (xs : List Want) (i : ℕ) (d : Want) (ws behind : List Word) (w : Word) (kind : RefusalKind) → i < length xs →
+    ws ≡ w ∷ behind → misfit (get_or xs i d) w ≡ Some kind → first_pair misfit (drop i xs) ws ≡ Some kind
 step_wrong xs i d ws behind w kind lt e wrong =
     next_pair xs i d ws behind w lt e ∙ ap (λ k. first_of k (first_pair misfit (drop (i + 1) xs) behind)) wrong
 
@@ -84,11 +96,13 @@ front_count xs ws behind ps qs h =
     omega arith
 
 -- how many words are left
-pub left_count : (xs : List Want) (ws behind : List Word) (ps qs : List Part) → HasTaken xs ws behind ps qs → length ws ≡ length xs + length behind
+pub left_count : (xs : List Want) (ws behind : List Word) (ps qs : List Part) → HasTaken xs ws behind ps qs →
+    length ws ≡ length xs + length behind
 left_count xs ws behind ps qs h = omega (arith, ap length h.words, length-append h.front behind, front_count xs ws behind ps qs h)
 
 -- as many words as wants say the parts that are wanted
-pub whole_taken : (xs : List Want) (ws behind : List Word) (none ps : List Part) → length ws ≡ length xs → none ≡ [] → HasTaken xs ws behind none ps → AreTerms ws (map term_of ps) × (xs ≡ map want_of (map term_of ps))
+pub whole_taken : (xs : List Want) (ws behind : List Word) (none ps : List Part) → length ws ≡ length xs → none ≡ [] →
+    HasTaken xs ws behind none ps → AreTerms ws (map term_of ps) × (xs ≡ map want_of (map term_of ps))
 whole_taken xs ws behind none ps same empty h =
     let more : ps ≡ h.more = h.parts ∙ ap (λ k. k ++ h.more) empty in
     let whole = ap length h.words in
@@ -99,7 +113,8 @@ whole_taken xs ws behind none ps same empty h =
     )
 
 -- words of a fixed number are parted
-pub all_taken : (xs : List Want) (ws behind : List Word) (none ps : List Part) → length ws ≡ length xs → none ≡ [] → HasTaken xs ws behind none ps → first_pair misfit xs ws ≡ None → IsParted (Words xs) ws ps None
+pub all_taken : (xs : List Want) (ws behind : List Word) (none ps : List Part) → length ws ≡ length xs → none ≡ [] →
+    HasTaken xs ws behind none ps → first_pair misfit xs ws ≡ None → IsParted (Words xs) ws ps None
 all_taken xs ws behind none ps same empty h fit =
     let whole = whole_taken xs ws behind none ps same empty h in
     record {
@@ -110,16 +125,20 @@ all_taken xs ws behind none ps same empty h fit =
       terms = whole.0;
     }
 
-terms_passed : (front behind : List Word) (ts : List Term) (ys : List Want) → AreTerms front ts → first_pair misfit (map want_of ts ++ ys) (front ++ behind) ≡ first_pair misfit ys behind
+terms_passed : (front behind : List Word) (ts : List Term) (ys : List Want) → AreTerms front ts →
+    first_pair misfit (map want_of ts ++ ys) (front ++ behind) ≡ first_pair misfit ys behind
 terms_passed [] behind [] ys h = refl
 terms_passed [] behind (t ∷ ts) ys h = absurd h
 terms_passed (w ∷ ws) behind [] ys h = absurd h
-terms_passed (w ∷ ws) behind (t ∷ ts) ys h = ap (λ k. first_of k (first_pair misfit (map want_of ts ++ ys) (ws ++ behind))) (term_right w t h.0) ∙ terms_passed ws behind ts ys h.1
+terms_passed (w ∷ ws) behind (t ∷ ts) ys h = ap (λ k. first_of k (first_pair misfit (map want_of ts ++ ys) (ws ++ behind)))
+    (term_right w t h.0) ∙ terms_passed ws behind ts ys h.1
 
 -- what is wrong with words stands after those that are parts
-pub behind_taken : (xs ys : List Want) (ws behind : List Word) (ps qs : List Part) → HasTaken xs ws behind ps qs → first_pair misfit (xs ++ ys) ws ≡ first_pair misfit ys behind
+pub behind_taken : (xs ys : List Want) (ws behind : List Word) (ps qs : List Part) → HasTaken xs ws behind ps qs →
+    first_pair misfit (xs ++ ys) ws ≡ first_pair misfit ys behind
 behind_taken xs ys ws behind ps qs h =
-    ap (λ k. first_pair misfit (k ++ ys) ws) (sym h.wanted) ∙ ap (first_pair misfit (map want_of (map term_of h.more) ++ ys)) h.words ∙ terms_passed h.front behind (map term_of h.more) ys h.terms
+    ap (λ k. first_pair misfit (k ++ ys) ws) (sym h.wanted) ∙ ap (first_pair misfit (map want_of (map term_of h.more) ++ ys)) h.words
+    ∙ terms_passed h.front behind (map term_of h.more) ys h.terms
 
 two_in_front : (front behind ws : List Word) → length front ≡ 2 → ws ≡ front ++ behind → argument_words ws ≡ behind
 two_in_front [] behind ws h e = absurd (omega arith)

@@ -1,12 +1,14 @@
 -- A script has one list of lines, and a line one list of words or one first flaw of its bytes.
-use Rattle.std.proofs.Common.{inl, inr, Some, None, ◌≡◌, ◌≢◌, ◌≤◌, ◌<◌, ◌+◌, ◌-◌, ◌*◌, ℕ, List, [], ◌∷◌, ◌++◌, Bool, true, false, refl, sym, ◌∙◌, ap, subst, append_assoc, length, arith}
+use Rattle.std.proofs.Common.{inl, inr, Some, None, ◌≡◌, ◌≢◌, ◌≤◌, ◌<◌, ◌+◌, ◌-◌, ◌*◌, ℕ, List, [], ◌∷◌, ◌++◌, Bool, true, false, refl, sym}
+use Rattle.std.proofs.Common.{◌∙◌, ap, subst, append_assoc, length, arith}
 use Rattle.std.specs.Prelude.{Option, All, ◌==◌, ◌&&◌, nat_le, if◌then◌else◌}
 use Rattle.std.proofs.lemmas.Bool.{leb-true, le-leb, ne_eqb}
 use Rattle.cord_script.specs.declared.TheConstants.{MAX_TEXT}
 use Rattle.cord_script.specs.declared.refusals.RefusalKind.{RefusalKind}
 use Rattle.cord_script.specs.declared.words.Word.{Word}
 use Rattle.cord_script.specs.declared.words.Word.TheVariants.{Plain, Quoted}
-use Rattle.cord_script.specs.Words.{IsSplit, IsBlank, IsPlain, EndsPlain, Stands, Spells, HexDigit, HasWord, HasWords, StartsWith, IsBadEnd, IsBadText, BeginsBadText, HasBadBytes}
+use Rattle.cord_script.specs.Words.{IsSplit, IsBlank, IsPlain, EndsPlain, Stands, Spells, HexDigit, HasWord, HasWords, StartsWith, IsBadEnd}
+use Rattle.cord_script.specs.Words.{IsBadText, BeginsBadText, HasBadBytes}
 use Rattle.cord_script.specs.inner.Reading.{digit_of, byte_of, escape_of, unit_of}
 use Rattle.cord_script.proofs.Lines.{split_nil, head_of, tail_of, not_all_blank, one_front}
 use Rattle.cord_script.proofs.Spelled.{both, same_pair, unit_stands}
@@ -52,14 +54,18 @@ digit_read c v (inl h) =
 digit_read c v (inr (inl h)) =
     let e : c - 87 ≡ v = omega (arith, h.0, h.2) in
     let high : 57 < c = omega (arith, h.0) in
-    second_pick (nat_le 48 c && nat_le c 57) (Some (c - 48)) _ (above 48 57 c high) ∙ first_pick (nat_le 97 c && nat_le c 102) (Some (c - 87)) _ (within 97 102 c h.0 h.1) ∙ ap Some e
+    second_pick (nat_le 48 c && nat_le c 57) (Some (c - 48)) _ (above 48 57 c high)
+    ∙ first_pick (nat_le 97 c && nat_le c 102) (Some (c - 87)) _ (within 97 102 c h.0 h.1) ∙ ap Some e
 digit_read c v (inr (inr h)) =
     let e : c - 55 ≡ v = omega (arith, h.0, h.2) in
     let high : 57 < c = omega (arith, h.0) in
     let low : c < 97 = omega (arith, h.1) in
-    second_pick (nat_le 48 c && nat_le c 57) (Some (c - 48)) _ (above 48 57 c high) ∙ second_pick (nat_le 97 c && nat_le c 102) (Some (c - 87)) _ (below 97 102 c low) ∙ first_pick (nat_le 65 c && nat_le c 70) (Some (c - 55)) _ (within 65 70 c h.0 h.1) ∙ ap Some e
+    second_pick (nat_le 48 c && nat_le c 57) (Some (c - 48)) _ (above 48 57 c high)
+    ∙ second_pick (nat_le 97 c && nat_le c 102) (Some (c - 87)) _ (below 97 102 c low)
+    ∙ first_pick (nat_le 65 c && nat_le c 70) (Some (c - 55)) _ (within 65 70 c h.0 h.1) ∙ ap Some e
 
-self_by : (b : ℕ) (v : List ℕ) (x y : Bool) → x ≡ false → y ≡ false → (if x then escape_of v else (if y then None else Some (b, v))) ≡ Some (b, v)
+self_by : (b : ℕ) (v : List ℕ) (x y : Bool) → x ≡ false → y ≡ false → (if x then escape_of v else (if y then None else Some (b, v)))
+    ≡ Some (b, v)
 self_by b v false false p q = refl
 self_by b v false true p q = cc
 self_by b v true y p q = cc
@@ -75,14 +81,16 @@ stands_unit u v b (inr (inr (inl h))) = ap (λ x. unit_of (x ++ v)) h.0 ∙ ap (
 stands_unit u v b (inr (inr (inr (inl h)))) = ap (λ x. unit_of (x ++ v)) h.0 ∙ ap (λ k. Some (k, v)) (sym h.1)
 stands_unit u v b (inr (inr (inr (inr (inl h))))) = ap (λ x. unit_of (x ++ v)) h.0 ∙ ap (λ k. Some (k, v)) (sym h.1)
 stands_unit u v b (inr (inr (inr (inr (inr h))))) =
-    ap (λ x. unit_of (x ++ v)) h.4 ∙ byte_read (digit_of h.0) (digit_of h.1) h.2 h.3 v (digit_read h.0 h.2 h.5) (digit_read h.1 h.3 h.6) ∙ ap (λ k. Some (k, v)) (sym h.7)
+    ap (λ x. unit_of (x ++ v)) h.4 ∙ byte_read (digit_of h.0) (digit_of h.1) h.2 h.3 v (digit_read h.0 h.2 h.5) (digit_read h.1 h.3 h.6)
+    ∙ ap (λ k. Some (k, v)) (sym h.7)
 
 -- the first byte of a spelled text is read at its front
 whole_unit : (w u v rest : List ℕ) (b : ℕ) → w ≡ u ++ v → Stands u b → unit_of (w ++ rest) ≡ Some (b, v ++ rest)
 whole_unit w u v rest b e s = ap (λ x. unit_of (x ++ rest)) e ∙ ap unit_of (append_assoc u v rest) ∙ stands_unit u (v ++ rest) b s
 
 -- a text ends at one place
-pub one_text : (w w' rest rest' t t' : List ℕ) → Spells w t → Spells w' t' → w ++ rest ≡ w' ++ rest' → unit_of rest ≡ None → unit_of rest' ≡ None → (t ≡ t') × (rest ≡ rest')
+pub one_text : (w w' rest rest' t t' : List ℕ) → Spells w t → Spells w' t' → w ++ rest ≡ w' ++ rest' → unit_of rest ≡ None →
+    unit_of rest' ≡ None → (t ≡ t') × (rest ≡ rest')
 one_text w w' rest rest' [] [] s s' e n n' = (refl, sym (ap (λ x. x ++ rest) s) ∙ e ∙ ap (λ x. x ++ rest') s')
 one_text w w' rest rest' [] (b ∷ t') s s' e n n' =
     let read = whole_unit w' s'.0 s'.1 rest' b s'.2 s'.3 in
@@ -100,7 +108,8 @@ one_text w w' rest rest' (b ∷ t) (b' ∷ t') s s' e n n' =
     (ap (λ k. k ∷ t) p.0 ∙ ap (λ k. b' ∷ k) r.0, r.1)
 
 -- a text that goes on is shorter than the one that ends
-longer : (w w' rest rest' t t' : List ℕ) (p : ℕ × List ℕ) → Spells w t → Spells w' t' → w ++ rest ≡ w' ++ rest' → unit_of rest ≡ Some p → unit_of rest' ≡ None → length t < length t'
+longer : (w w' rest rest' t t' : List ℕ) (p : ℕ × List ℕ) → Spells w t → Spells w' t' → w ++ rest ≡ w' ++ rest' → unit_of rest ≡ Some p →
+    unit_of rest' ≡ None → length t < length t'
 longer w w' rest rest' [] [] p s s' e n n' =
     let same = ap unit_of (sym (ap (λ x. x ++ rest) s) ∙ e ∙ ap (λ x. x ++ rest') s') in
     absurd (let clash : None ≡ Some p = sym n' ∙ sym same ∙ n in cc)
@@ -125,7 +134,9 @@ stuck : (rest : List ℕ) → ((u v : List ℕ) (b : ℕ) → rest ≡ u ++ v �
 stuck rest h = none_of (unit_of rest) (λ p e. let s = unit_stands rest p.1 p.0 e in h s.0 p.1 p.0 s.1 s.2)
 
 -- a text that can't go on doesn't end too late
-not_long : (inner w w' rest rest' t t' : List ℕ) → inner ≡ w ++ rest → Spells w t → length t ≡ MAX_TEXT → ((u v : List ℕ) × (b : ℕ) × (rest ≡ u ++ v) × Stands u b) → inner ≡ w' ++ rest' → Spells w' t' → length t' ≤ MAX_TEXT → unit_of rest' ≡ None → ⊥
+not_long : (inner w w' rest rest' t t' : List ℕ) → inner ≡ w ++ rest → Spells w t → length t ≡ MAX_TEXT →
+    ((u v : List ℕ) × (b : ℕ) × (rest ≡ u ++ v) × Stands u b) → inner ≡ w' ++ rest' → Spells w' t' → length t' ≤ MAX_TEXT →
+    unit_of rest' ≡ None → ⊥
 not_long inner w w' rest rest' t t' e s full more e' s' few n =
     let read = ap unit_of more.3 ∙ stands_unit more.0 more.1 more.2 more.4 in
     let q = longer w w' rest rest' t t' (more.2, more.1) s s' (sym e ∙ e') read n in
@@ -143,18 +154,21 @@ no_quote_after r rest behind e h =
 quote_stuck : (r : List ℕ) → unit_of (34 ∷ r) ≡ None
 quote_stuck r = refl
 
-closed_by : (inner w r t w' rest t' : List ℕ) (kind : RefusalKind) → inner ≡ w ++ 34 ∷ r → Spells w t → length t ≤ MAX_TEXT → inner ≡ w' ++ rest → Spells w' t' → IsBadEnd t' rest kind → ⊥
+closed_by : (inner w r t w' rest t' : List ℕ) (kind : RefusalKind) → inner ≡ w ++ 34 ∷ r → Spells w t → length t ≤ MAX_TEXT →
+    inner ≡ w' ++ rest → Spells w' t' → IsBadEnd t' rest kind → ⊥
 closed_by inner w r t w' rest t' kind e s few e' s' (inl h) =
     let q = one_text w w' (34 ∷ r) rest t t' s s' (sym e ∙ e') (quote_stuck r) (stuck rest h.2) in
     no_quote_after r rest h.1.0 q.1 h.1.1
-closed_by inner w r t w' rest t' kind e s few e' s' (inr (inl h)) = not_long inner w' w rest (34 ∷ r) t' t e' s' h.1 h.2 e s few (quote_stuck r)
+closed_by inner w r t w' rest t' kind e s few e' s' (inr (inl h)) = not_long inner w' w rest (34 ∷ r) t' t e' s' h.1 h.2 e s few
+    (quote_stuck r)
 closed_by inner w r t w' rest t' kind e s few e' s' (inr (inr h)) =
     let q = one_text w w' (34 ∷ r) rest t t' s s' (sym e ∙ e') (quote_stuck r) (ap unit_of h.1) in
     let same : 34 ∷ r ≡ [] = q.1 ∙ h.1 in
     cc
 
 -- a closed text has no flaw
-closed_good : (inner w r t : List ℕ) (kind : RefusalKind) → inner ≡ w ++ 34 ∷ r → Spells w t → length t ≤ MAX_TEXT → IsBadText inner kind → ⊥
+closed_good : (inner w r t : List ℕ) (kind : RefusalKind) → inner ≡ w ++ 34 ∷ r → Spells w t → length t ≤ MAX_TEXT → IsBadText inner kind →
+    ⊥
 closed_good inner w r t kind e s few h = closed_by inner w r t h.0 h.1 h.2 kind e s few h.3 h.4 h.6
 
 -- a text has one flaw
@@ -216,13 +230,19 @@ plain_begins line (c ∷ cs) rest h =
     }
 
 quoted_begins : (line text rest : List ℕ) (h : HasWord line (Quoted text) rest) → Begins line 34 (h.1 ++ 34 ∷ rest)
-quoted_begins line text rest h = record { front = h.0; blank = h.2; shows = quote_shows; whole = h.3 ∙ append_assoc h.0 (34 ∷ h.1) (34 ∷ rest) }
+quoted_begins line text rest h = record {
+  front = h.0;
+  blank = h.2;
+  shows = quote_shows;
+  whole = h.3 ∙ append_assoc h.0 (34 ∷ h.1) (34 ∷ rest);
+}
 
 bad_begins : (line : List ℕ) (kind : RefusalKind) (h : BeginsBadText line kind) → Begins line 34 h.1
 bad_begins line kind h = record { front = h.0; blank = h.2; shows = quote_shows; whole = h.3 }
 
 -- a plain word ends at one place
-one_run : (p p' rest rest' : List ℕ) → All IsPlain p → EndsPlain rest → All IsPlain p' → EndsPlain rest' → p ++ rest ≡ p' ++ rest' → (p ≡ p') × (rest ≡ rest')
+one_run : (p p' rest rest' : List ℕ) → All IsPlain p → EndsPlain rest → All IsPlain p' → EndsPlain rest' → p ++ rest ≡ p' ++ rest' →
+    (p ≡ p') × (rest ≡ rest')
 one_run [] [] rest rest' a n a' n' e = (refl, e)
 one_run [] (y ∷ ys) rest rest' a n a' n' e = absurd (subst EndsPlain e n (head_of IsPlain y ys a'))
 one_run (x ∷ xs) [] rest rest' a n a' n' e = absurd (subst EndsPlain (sym e) n' (head_of IsPlain x xs a))
@@ -268,7 +288,8 @@ good_word line rest (Quoted t) kind h bad =
     closed_good bad.1 h.1 rest t kind (sym r.1) h.4 h.5 bad.4
 
 -- a line has one list of words
-starts_one : (line rest rest' : List ℕ) (ws ws' : List Word) → StartsWith line ws rest → All IsBlank rest → StartsWith line ws' rest' → All IsBlank rest' → ws ≡ ws'
+starts_one : (line rest rest' : List ℕ) (ws ws' : List Word) → StartsWith line ws rest → All IsBlank rest → StartsWith line ws' rest' →
+    All IsBlank rest' → ws ≡ ws'
 starts_one line rest rest' [] [] s b s' b' = refl
 starts_one line rest rest' [] (w' ∷ ws') s b s' b' = absurd (no_word line s'.0 w' s'.1 (subst (All IsBlank) (sym s) b))
 starts_one line rest rest' (w ∷ ws) [] s b s' b' = absurd (no_word line s.0 w s.1 (subst (All IsBlank) (sym s') b'))
@@ -280,7 +301,8 @@ starts_one line rest rest' (w ∷ ws) (w' ∷ ws') s b s' b' =
 pub one_words : (line : List ℕ) (ws ws' : List Word) → HasWords line ws → HasWords line ws' → ws ≡ ws'
 one_words line ws ws' h h' = starts_one line h.0 h'.0 ws ws' h.1 h.2 h'.1 h'.2
 
-starts_good : (line rest rest' : List ℕ) (ws ws' : List Word) (kind : RefusalKind) → StartsWith line ws rest → All IsBlank rest → StartsWith line ws' rest' → BeginsBadText rest' kind → ⊥
+starts_good : (line rest rest' : List ℕ) (ws ws' : List Word) (kind : RefusalKind) → StartsWith line ws rest → All IsBlank rest →
+    StartsWith line ws' rest' → BeginsBadText rest' kind → ⊥
 starts_good line rest rest' [] [] kind s b s' bad =
     let e : rest' ≡ rest = sym s' ∙ s in
     no_beginning rest' bad.1 34 (bad_begins rest' kind bad) (subst (All IsBlank) (sym e) b)
@@ -294,14 +316,17 @@ starts_good line rest rest' (w ∷ ws) (w' ∷ ws') kind s b s' bad =
 pub good_bytes : (line : List ℕ) (ws : List Word) (kind : RefusalKind) → HasWords line ws → HasBadBytes line kind → ⊥
 good_bytes line ws kind h bad = starts_good line h.0 bad.1 ws bad.0 kind h.1 h.2 bad.2 bad.3
 
-starts_bad : (line rest rest' : List ℕ) (ws ws' : List Word) (kind kind' : RefusalKind) → StartsWith line ws rest → BeginsBadText rest kind → StartsWith line ws' rest' → BeginsBadText rest' kind' → kind ≡ kind'
+starts_bad : (line rest rest' : List ℕ) (ws ws' : List Word) (kind kind' : RefusalKind) → StartsWith line ws rest →
+    BeginsBadText rest kind → StartsWith line ws' rest' → BeginsBadText rest' kind' → kind ≡ kind'
 starts_bad line rest rest' [] [] kind kind' s bad s' bad' =
     let at = subst (λ x. BeginsBadText x kind) (sym s) bad in
     let at' = subst (λ x. BeginsBadText x kind') (sym s') bad' in
     let r = one_beginning line at.1 at'.1 34 34 (bad_begins line kind at) (bad_begins line kind' at') in
     one_bad_text at.1 kind kind' at.4 (subst (λ x. IsBadText x kind') (sym r.1) at'.4)
-starts_bad line rest rest' [] (w' ∷ ws') kind kind' s bad s' bad' = absurd (good_word line s'.0 w' kind s'.1 (subst (λ x. BeginsBadText x kind) (sym s) bad))
-starts_bad line rest rest' (w ∷ ws) [] kind kind' s bad s' bad' = absurd (good_word line s.0 w kind' s.1 (subst (λ x. BeginsBadText x kind') (sym s') bad'))
+starts_bad line rest rest' [] (w' ∷ ws') kind kind' s bad s' bad' =
+    absurd (good_word line s'.0 w' kind s'.1 (subst (λ x. BeginsBadText x kind) (sym s) bad))
+starts_bad line rest rest' (w ∷ ws) [] kind kind' s bad s' bad' =
+    absurd (good_word line s.0 w kind' s.1 (subst (λ x. BeginsBadText x kind') (sym s') bad'))
 starts_bad line rest rest' (w ∷ ws) (w' ∷ ws') kind kind' s bad s' bad' =
     let r = one_word line s.0 s'.0 w w' s.1 s'.1 in
     starts_bad s.0 rest rest' ws ws' kind kind' s.2 bad (subst (λ x. StartsWith x ws' rest') (sym r.1) s'.2) bad'

@@ -1,5 +1,6 @@
 -- The worked rows.
-use Rattle.std.proofs.Common.{inl, inr, Some, None, ◌≡◌, ◌≢◌, ◌≤◌, ◌<◌, ◌+◌, ℕ, List, [], ◌∷◌, ◌++◌, true, false, refl, ◌∙◌, ap, arith, length, lit≤, lit<}
+use Rattle.std.proofs.Common.{inl, inr, Some, None, ◌≡◌, ◌≢◌, ◌≤◌, ◌<◌, ◌+◌, ℕ, List, [], ◌∷◌, ◌++◌, true, false, refl, ◌∙◌, ap, arith}
+use Rattle.std.proofs.Common.{length, lit≤, lit<}
 use Rattle.std.specs.Prelude.{◌==◌, codes, pos}
 use Rattle.cord_script.specs.declared.TheConstants.{MAX_SCRIPT, MAX_LINES, MAX_BLOCKS}
 use Rattle.cord_printf.specs.Pieces.{Conversion, HasWidth, flags_of}
@@ -11,7 +12,9 @@ use Rattle.cord_script.specs.declared.words.Word.TheVariants.{Plain, Quoted}
 use Rattle.cord_syntax.specs.declared.statements.Statement.{Statement}
 use Rattle.cord_syntax.specs.declared.statements.Statement.TheVariants.{Let, Put, Repeat, If, Else, End}
 use Rattle.cord_script.specs.declared.refusals.RefusalKind.{RefusalKind}
-use Rattle.cord_script.specs.declared.refusals.RefusalKind.TheVariants.{Unterminated, BadEscape, WrongCount, BadName, BadNumber, UnknownName, WrongKind, EndAlone, MissingEnd, ElseAlone, MissingIfEnd}
+use Rattle.cord_script.specs.declared.refusals.RefusalKind.TheVariants.{Unterminated, BadEscape, WrongCount, BadName, BadNumber}
+use Rattle.cord_script.specs.declared.refusals.RefusalKind.TheVariants.{UnknownName, WrongKind, EndAlone, MissingEnd, ElseAlone}
+use Rattle.cord_script.specs.declared.refusals.RefusalKind.TheVariants.{MissingIfEnd}
 use Rattle.cord_script.specs.Words.{IsSplit, IsIdle, Stands, IsBadText}
 use Rattle.cord_script.specs.Tests.{each}
 use Rattle.cord_script.specs.Formats.{Converts}
@@ -21,7 +24,8 @@ use Rattle.cord_script.specs.Script.{Before, Block, Says, LinesSay, ReadsBy, sta
 use Rattle.cord_script.specs.Script.Block.{InRepeat, InIf}
 use Rattle.cord_script.specs.Flaws.{HasBadWords, HasBadLine, FlawBy}
 use Rattle.cord_script.specs.Rows.{Rows, quote}
-use Rattle.cord_script.proofs.Samples.{Chunk, spelled_before, spelled, chunk_words, blank, some, well, no_end, own_spells, starts_well, words_well, begins_bad_text, not_idle, last_line, more_lines}
+use Rattle.cord_script.proofs.Samples.{Chunk, spelled_before, spelled, chunk_words, blank, some, well, no_end, own_spells, starts_well}
+use Rattle.cord_script.proofs.Samples.{words_well, begins_bad_text, not_idle, last_line, more_lines}
 use Rattle.cord_script.proofs.Samples.Chunk.{Bare, Marked}
 use Rattle.cord_script.proofs.Unique.{stands_unit}
 
@@ -44,11 +48,18 @@ says_something : (c : ℕ) (cs : List ℕ) (others : List Chunk) → IsLine c cs
 says_something c cs others h = not_idle c (cs ++ spelled others) h.shows h.no_note
 
 -- a line of which the words are wrong
-bad_line : (n : ℕ) (before : Before) (c : ℕ) (cs : List ℕ) (others : List Chunk) (kind : RefusalKind) → n ≤ MAX_LINES → IsLine c cs others → HasBadWords whole before (chunk_words (Bare [] (c ∷ cs) ∷ others)) kind → HasBadLine whole n before (spelled (Bare [] (c ∷ cs) ∷ others)) kind
-bad_line n before c cs others kind few h bad = inr (few, says_something c cs others h, inr (chunk_words (Bare [] (c ∷ cs) ∷ others), words_well (Bare [] (c ∷ cs) ∷ others) h.words, bad))
+bad_line : (n : ℕ) (before : Before) (c : ℕ) (cs : List ℕ) (others : List Chunk) (kind : RefusalKind) → n ≤ MAX_LINES →
+    IsLine c cs others → HasBadWords whole before (chunk_words (Bare [] (c ∷ cs) ∷ others)) kind →
+    HasBadLine whole n before (spelled (Bare [] (c ∷ cs) ∷ others)) kind
+bad_line n before c cs others kind few h bad = inr (
+  few,
+  says_something c cs others h,
+  inr (chunk_words (Bare [] (c ∷ cs) ∷ others), words_well (Bare [] (c ∷ cs) ∷ others) h.words, bad),
+)
 
 -- the first line is wrong
-first_bad : (b line : List ℕ) (later : List (List ℕ)) (kind : RefusalKind) → length b ≤ MAX_SCRIPT → IsSplit b (line ∷ later) → HasBadLine whole 1 start line kind → FlawBy whole b 1 kind
+first_bad : (b line : List ℕ) (later : List (List ℕ)) (kind : RefusalKind) → length b ≤ MAX_SCRIPT → IsSplit b (line ∷ later) →
+    HasBadLine whole 1 start line kind → FlawBy whole b 1 kind
 first_bad b line later kind small split wrong = inr (inl (record {
   size = small;
   front = [];
@@ -62,7 +73,9 @@ first_bad b line later kind small split wrong = inr (inl (record {
 }))
 
 -- the second line is wrong
-second_bad : (b first line : List ℕ) (later : List (List ℕ)) (ss : List Statement) (kind : RefusalKind) → length b ≤ MAX_SCRIPT → IsSplit b (first ∷ line ∷ later) → LinesSay whole 1 start (first ∷ []) ss → HasBadLine whole 2 (after_all ss start) line kind → FlawBy whole b 2 kind
+second_bad : (b first line : List ℕ) (later : List (List ℕ)) (ss : List Statement) (kind : RefusalKind) → length b ≤ MAX_SCRIPT →
+    IsSplit b (first ∷ line ∷ later) → LinesSay whole 1 start (first ∷ []) ss → HasBadLine whole 2 (after_all ss start) line kind →
+    FlawBy whole b 2 kind
 second_bad b first line later ss kind small split say wrong = inr (inl (record {
   size = small;
   front = first ∷ [];
@@ -76,32 +89,41 @@ second_bad b first line later ss kind small split say wrong = inr (inl (record {
 }))
 
 -- one line of plain words that is wrong
-one_bad : (c : ℕ) (cs : List ℕ) (ws : List (List ℕ)) (kind : RefusalKind) → length (spelled (plain c cs ws)) ≤ MAX_SCRIPT → each no_end (spelled (plain c cs ws)) ≡ true → IsLine c cs (behind ws) → HasBadWords whole start (chunk_words (plain c cs ws)) kind → FlawBy whole (spelled (plain c cs ws)) 1 kind
-one_bad c cs ws kind small l h bad = first_bad (spelled (plain c cs ws)) (spelled (plain c cs ws)) [] kind small (last_line (spelled (plain c cs ws)) l refl) (bad_line 1 start c cs (behind ws) kind (lit≤ tt) h bad)
+one_bad : (c : ℕ) (cs : List ℕ) (ws : List (List ℕ)) (kind : RefusalKind) → length (spelled (plain c cs ws)) ≤ MAX_SCRIPT →
+    each no_end (spelled (plain c cs ws)) ≡ true → IsLine c cs (behind ws) → HasBadWords whole start (chunk_words (plain c cs ws)) kind →
+    FlawBy whole (spelled (plain c cs ws)) 1 kind
+one_bad c cs ws kind small l h bad = first_bad (spelled (plain c cs ws)) (spelled (plain c cs ws)) [] kind small
+    (last_line (spelled (plain c cs ws)) l refl) (bad_line 1 start c cs (behind ws) kind (lit≤ tt) h bad)
 
 unknown_name : FlawBy whole (codes "put x") 1 UnknownName
 unfolding form_of
-unknown_name = one_bad 112 (codes "ut") (codes "x" ∷ []) UnknownName (lit≤ tt) refl (record { shows = refl; no_note = refl; words = refl }) (None, refl, refl)
+unknown_name = one_bad 112 (codes "ut") (codes "x" ∷ []) UnknownName (lit≤ tt) refl (record { shows = refl; no_note = refl; words = refl })
+    (None, refl, refl)
 
 cat_one_operand : FlawBy whole (codes "cat z x") 1 WrongCount
 unfolding form_of
-cat_one_operand = one_bad 99 (codes "at") (codes "z" ∷ codes "x" ∷ []) WrongCount (lit≤ tt) refl (record { shows = refl; no_note = refl; words = refl }) (None, refl, refl)
+cat_one_operand = one_bad 99 (codes "at") (codes "z" ∷ codes "x" ∷ []) WrongCount (lit≤ tt) refl
+    (record { shows = refl; no_note = refl; words = refl }) (None, refl, refl)
 
 put_two_words : FlawBy whole (codes "put x y") 1 WrongCount
 unfolding form_of
-put_two_words = one_bad 112 (codes "ut") (codes "x" ∷ codes "y" ∷ []) WrongCount (lit≤ tt) refl (record { shows = refl; no_note = refl; words = refl }) (None, refl, refl)
+put_two_words = one_bad 112 (codes "ut") (codes "x" ∷ codes "y" ∷ []) WrongCount (lit≤ tt) refl
+    (record { shows = refl; no_note = refl; words = refl }) (None, refl, refl)
 
 let_plain_word : FlawBy whole (codes "let x a") 1 WrongKind
 unfolding form_of
-let_plain_word = one_bad 108 (codes "et") (codes "x" ∷ codes "a" ∷ []) WrongKind (lit≤ tt) refl (record { shows = refl; no_note = refl; words = refl }) (None, refl, refl)
+let_plain_word = one_bad 108 (codes "et") (codes "x" ∷ codes "a" ∷ []) WrongKind (lit≤ tt) refl
+    (record { shows = refl; no_note = refl; words = refl }) (None, refl, refl)
 
 cat_of_itself_unknown : FlawBy whole (codes "cat x x x") 1 UnknownName
 unfolding form_of
-cat_of_itself_unknown = one_bad 99 (codes "at") (codes "x" ∷ codes "x" ∷ codes "x" ∷ []) UnknownName (lit≤ tt) refl (record { shows = refl; no_note = refl; words = refl }) (None, refl, refl)
+cat_of_itself_unknown = one_bad 99 (codes "at") (codes "x" ∷ codes "x" ∷ codes "x" ∷ []) UnknownName (lit≤ tt) refl
+    (record { shows = refl; no_note = refl; words = refl }) (None, refl, refl)
 
 chars_numeral_too_great : FlawBy whole (codes "chars a 0 99999999999999999999") 1 BadNumber
 unfolding form_of
-chars_numeral_too_great = one_bad 99 (codes "hars") (codes "a" ∷ codes "0" ∷ codes "99999999999999999999" ∷ []) BadNumber (lit≤ tt) refl (record { shows = refl; no_note = refl; words = refl }) (None, refl, refl)
+chars_numeral_too_great = one_bad 99 (codes "hars") (codes "a" ∷ codes "0" ∷ codes "99999999999999999999" ∷ []) BadNumber (lit≤ tt) refl
+    (record { shows = refl; no_note = refl; words = refl }) (None, refl, refl)
 
 end_alone : FlawBy whole (codes "end") 1 EndAlone
 unfolding form_of
@@ -109,13 +131,15 @@ end_alone = one_bad 101 (codes "nd") [] EndAlone (lit≤ tt) refl (record { show
 
 else_alone : FlawBy whole (codes "else") 1 ElseAlone
 unfolding form_of
-else_alone = one_bad 101 (codes "lse") [] ElseAlone (lit≤ tt) refl (record { shows = refl; no_note = refl; words = refl }) (None, refl, refl)
+else_alone = one_bad 101 (codes "lse") [] ElseAlone (lit≤ tt) refl (record { shows = refl; no_note = refl; words = refl })
+    (None, refl, refl)
 
 if_bad_relation : FlawBy whole (codes "if 1 ne 1" ++ 10 ∷ codes "end") 1 BadName
 unfolding form_of
 if_bad_relation = first_bad (codes "if 1 ne 1" ++ 10 ∷ codes "end") (codes "if 1 ne 1") (codes "end" ∷ []) BadName (lit≤ tt)
     (more_lines (codes "if 1 ne 1") (codes "end") (codes "end" ∷ []) refl (last_line (codes "end") refl refl))
-    (bad_line 1 start 105 (codes "f") (behind (codes "1" ∷ codes "ne" ∷ codes "1" ∷ [])) BadName (lit≤ tt) (record { shows = refl; no_note = refl; words = refl }) (None, refl, refl))
+    (bad_line 1 start 105 (codes "f") (behind (codes "1" ∷ codes "ne" ∷ codes "1" ∷ [])) BadName (lit≤ tt)
+    (record { shows = refl; no_note = refl; words = refl }) (None, refl, refl))
 
 -- the words of `let x "t"`
 abbrev let_chunks : List ℕ → List Chunk
@@ -143,15 +167,28 @@ let_first t h = inr (says_something 108 (codes "et") (let_chunks t) h, Let 1 (co
 abbrev let_open : List ℕ → List ℕ
 let_open inner = spelled_before (plain 108 (codes "et") (codes "x" ∷ [])) (32 ∷ 34 ∷ inner)
 
-let_bad : (inner : List ℕ) (kind : RefusalKind) → length (let_open inner) ≤ MAX_SCRIPT → each no_end (let_open inner) ≡ true → IsBadText inner kind → FlawBy whole (let_open inner) 1 kind
+let_bad : (inner : List ℕ) (kind : RefusalKind) → length (let_open inner) ≤ MAX_SCRIPT → each no_end (let_open inner) ≡ true →
+    IsBadText inner kind → FlawBy whole (let_open inner) 1 kind
 let_bad inner kind small l bad =
     let words = plain 108 (codes "et") (codes "x" ∷ []) in
     let rest = 32 ∷ 34 ∷ inner in
     first_bad (let_open inner) (let_open inner) [] kind small (last_line (let_open inner) l refl)
-    (inr (lit≤ tt, not_idle 108 (codes "et x " ++ 34 ∷ inner) refl refl, inl (chunk_words words, rest, starts_well words rest refl, begins_bad_text inner kind bad)))
+    (inr (
+      lit≤ tt,
+      not_idle 108 (codes "et x " ++ 34 ∷ inner) refl refl,
+      inl (chunk_words words, rest, starts_well words rest refl, begins_bad_text inner kind bad),
+    ))
 
 let_quote_open : FlawBy whole (codes "let x " ++ 34 ∷ codes "a") 1 Unterminated
-let_quote_open = let_bad (codes "a") Unterminated (lit≤ tt) refl (codes "a", [], codes "a", refl, own_spells (codes "a") refl, lit≤ tt, inr (inr (refl, refl)))
+let_quote_open = let_bad (codes "a") Unterminated (lit≤ tt) refl (
+  codes "a",
+  [],
+  codes "a",
+  refl,
+  own_spells (codes "a") refl,
+  lit≤ tt,
+  inr (inr (refl, refl)),
+)
 
 -- no escape begins so
 no_escape : (u v : List ℕ) (b : ℕ) → 92 ∷ codes "q" ++ 34 ∷ [] ≡ u ++ v → ¬ Stands u b
@@ -160,7 +197,8 @@ no_escape u v b e stands =
     cc
 
 let_bad_escape : FlawBy whole (codes "let x " ++ quote (92 ∷ codes "q")) 1 BadEscape
-let_bad_escape = let_bad (92 ∷ codes "q" ++ 34 ∷ []) BadEscape (lit≤ tt) refl ([], 92 ∷ codes "q" ++ 34 ∷ [], [], refl, refl, lit≤ tt, inl (refl, (codes "q" ++ 34 ∷ [], refl), no_escape))
+let_bad_escape = let_bad (92 ∷ codes "q" ++ 34 ∷ []) BadEscape (lit≤ tt) refl
+    ([], 92 ∷ codes "q" ++ 34 ∷ [], [], refl, refl, lit≤ tt, inl (refl, (codes "q" ++ 34 ∷ [], refl), no_escape))
 
 -- `%d` is one conversion, which wants a number
 abbrev decimal : Conversion
@@ -184,34 +222,45 @@ sprintf_argument_missing =
     let others = Bare (32 ∷ []) (codes "z") ∷ Marked (32 ∷ []) (codes "%d") ∷ [] in
     let line = spelled (Bare [] (codes "sprintf") ∷ others) in
     first_bad line line [] WrongCount (lit≤ tt) (last_line line refl refl)
-    (bad_line 1 start 115 (codes "printf") others WrongCount (lit≤ tt) (record { shows = refl; no_note = refl; words = refl }) (Some (wants.Number ∷ []), decimal_converts, refl))
+    (bad_line 1 start 115 (codes "printf") others WrongCount (lit≤ tt) (record { shows = refl; no_note = refl; words = refl })
+    (Some (wants.Number ∷ []), decimal_converts, refl))
 
 -- a line of plain words that is wrong after `let x "a"`
-bad_behind_let : (c : ℕ) (cs : List ℕ) (ws : List (List ℕ)) (kind : RefusalKind) → length (let_line (codes "a") ++ 10 ∷ spelled (plain c cs ws)) ≤ MAX_SCRIPT → each no_end (spelled (plain c cs ws)) ≡ true → IsLine c cs (behind ws) → HasBadWords whole (after_all (Let 1 (codes "x") (codes "a") ∷ []) start) (chunk_words (plain c cs ws)) kind → FlawBy whole (let_line (codes "a") ++ 10 ∷ spelled (plain c cs ws)) 2 kind
-bad_behind_let c cs ws kind small l h bad = second_bad (let_line (codes "a") ++ 10 ∷ spelled (plain c cs ws)) (let_line (codes "a")) (spelled (plain c cs ws)) [] (Let 1 (codes "x") (codes "a") ∷ []) kind small
-    (more_lines (let_line (codes "a")) (spelled (plain c cs ws)) (spelled (plain c cs ws) ∷ []) refl (last_line (spelled (plain c cs ws)) l refl))
+bad_behind_let : (c : ℕ) (cs : List ℕ) (ws : List (List ℕ)) (kind : RefusalKind) →
+    length (let_line (codes "a") ++ 10 ∷ spelled (plain c cs ws)) ≤ MAX_SCRIPT → each no_end (spelled (plain c cs ws)) ≡ true →
+    IsLine c cs (behind ws) → HasBadWords whole (after_all (Let 1 (codes "x") (codes "a") ∷ []) start) (chunk_words (plain c cs ws)) kind →
+    FlawBy whole (let_line (codes "a") ++ 10 ∷ spelled (plain c cs ws)) 2 kind
+bad_behind_let c cs ws kind small l h bad = second_bad (let_line (codes "a") ++ 10 ∷ spelled (plain c cs ws)) (let_line (codes "a"))
+    (spelled (plain c cs ws)) [] (Let 1 (codes "x") (codes "a") ∷ []) kind small
+    (more_lines (let_line (codes "a")) (spelled (plain c cs ws)) (spelled (plain c cs ws) ∷ []) refl
+    (last_line (spelled (plain c cs ws)) l refl))
     (let_first (codes "a") (record { shows = refl; no_note = refl; words = refl }))
     (bad_line 2 (after_all (Let 1 (codes "x") (codes "a") ∷ []) start) c cs (behind ws) kind (lit≤ tt) h bad)
 
 fetch_into_cord : FlawBy whole (codes "let x " ++ quote (codes "a") ++ 10 ∷ codes "fetch x x 0") 2 WrongKind
 unfolding form_of
-fetch_into_cord = bad_behind_let 102 (codes "etch") (codes "x" ∷ codes "x" ∷ codes "0" ∷ []) WrongKind (lit≤ tt) refl (record { shows = refl; no_note = refl; words = refl }) (None, refl, refl)
+fetch_into_cord = bad_behind_let 102 (codes "etch") (codes "x" ∷ codes "x" ∷ codes "0" ∷ []) WrongKind (lit≤ tt) refl
+    (record { shows = refl; no_note = refl; words = refl }) (None, refl, refl)
 
 len_into_cord : FlawBy whole (codes "let x " ++ quote (codes "a") ++ 10 ∷ codes "len x x") 2 WrongKind
 unfolding form_of
-len_into_cord = bad_behind_let 108 (codes "en") (codes "x" ∷ codes "x" ∷ []) WrongKind (lit≤ tt) refl (record { shows = refl; no_note = refl; words = refl }) (None, refl, refl)
+len_into_cord = bad_behind_let 108 (codes "en") (codes "x" ∷ codes "x" ∷ []) WrongKind (lit≤ tt) refl
+    (record { shows = refl; no_note = refl; words = refl }) (None, refl, refl)
 
 operand_before_target : FlawBy whole (codes "let x " ++ quote (codes "a") ++ 10 ∷ codes "len x y") 2 UnknownName
 unfolding form_of
-operand_before_target = bad_behind_let 108 (codes "en") (codes "x" ∷ codes "y" ∷ []) UnknownName (lit≤ tt) refl (record { shows = refl; no_note = refl; words = refl }) (None, refl, refl)
+operand_before_target = bad_behind_let 108 (codes "en") (codes "x" ∷ codes "y" ∷ []) UnknownName (lit≤ tt) refl
+    (record { shows = refl; no_note = refl; words = refl }) (None, refl, refl)
 
 wrong_kind_before_unknown : FlawBy whole (codes "let x " ++ quote (codes "a") ++ 10 ∷ codes "add n x y") 2 WrongKind
 unfolding form_of
-wrong_kind_before_unknown = bad_behind_let 97 (codes "dd") (codes "n" ∷ codes "x" ∷ codes "y" ∷ []) WrongKind (lit≤ tt) refl (record { shows = refl; no_note = refl; words = refl }) (None, refl, refl)
+wrong_kind_before_unknown = bad_behind_let 97 (codes "dd") (codes "n" ∷ codes "x" ∷ codes "y" ∷ []) WrongKind (lit≤ tt) refl
+    (record { shows = refl; no_note = refl; words = refl }) (None, refl, refl)
 
 unknown_before_wrong_kind : FlawBy whole (codes "let x " ++ quote (codes "a") ++ 10 ∷ codes "add n y x") 2 UnknownName
 unfolding form_of
-unknown_before_wrong_kind = bad_behind_let 97 (codes "dd") (codes "n" ∷ codes "y" ∷ codes "x" ∷ []) UnknownName (lit≤ tt) refl (record { shows = refl; no_note = refl; words = refl }) (None, refl, refl)
+unknown_before_wrong_kind = bad_behind_let 97 (codes "dd") (codes "n" ∷ codes "y" ∷ codes "x" ∷ []) UnknownName (lit≤ tt) refl
+    (record { shows = refl; no_note = refl; words = refl }) (None, refl, refl)
 
 hello : ReadsBy whole (codes "let x " ++ quote (codes "hello") ++ 10 ∷ codes "put x") (Let 1 (codes "x") (codes "hello") ∷ Put 2 (codes "x") ∷ [])
 hello = record {
@@ -263,7 +312,8 @@ else_chunks = plain 101 (codes "lse") []
 abbrev end_chunks : List Chunk
 end_chunks = plain 101 (codes "nd") []
 
-repeat_once : (n : ℕ) (before : Before) → length before.blocks < MAX_BLOCKS → Says whole n before (chunk_words (repeat_chunks (codes "1"))) (Repeat n (Numeral (pos 1)))
+repeat_once : (n : ℕ) (before : Before) → length before.blocks < MAX_BLOCKS →
+    Says whole n before (chunk_words (repeat_chunks (codes "1"))) (Repeat n (Numeral (pos 1)))
 repeat_once n before few = record {
   has = refl;
   line = refl;
@@ -275,7 +325,8 @@ repeat_once n before few = record {
   blocks = few;
 }
 
-repeat_twice : (n : ℕ) (before : Before) → length before.blocks < MAX_BLOCKS → Says whole n before (chunk_words (repeat_chunks (codes "2"))) (Repeat n (Numeral (pos 2)))
+repeat_twice : (n : ℕ) (before : Before) → length before.blocks < MAX_BLOCKS →
+    Says whole n before (chunk_words (repeat_chunks (codes "2"))) (Repeat n (Numeral (pos 2)))
 repeat_twice n before few = record {
   has = refl;
   line = refl;
@@ -287,7 +338,8 @@ repeat_twice n before few = record {
   blocks = few;
 }
 
-if_says : (n : ℕ) (before : Before) → length before.blocks < MAX_BLOCKS → Says whole n before (chunk_words if_chunks) (If n (Numeral (pos 1)) Equal (Numeral (pos 1)))
+if_says : (n : ℕ) (before : Before) → length before.blocks < MAX_BLOCKS →
+    Says whole n before (chunk_words if_chunks) (If n (Numeral (pos 1)) Equal (Numeral (pos 1)))
 if_says n before few = record {
   has = refl;
   line = refl;
@@ -299,7 +351,8 @@ if_says n before few = record {
   blocks = few;
 }
 
-else_says : (n m : ℕ) (before : Before) (blocks : List Block) → before.blocks ≡ InIf m ∷ blocks → Says whole n before (chunk_words else_chunks) (Else n)
+else_says : (n m : ℕ) (before : Before) (blocks : List Block) → before.blocks ≡ InIf m ∷ blocks →
+    Says whole n before (chunk_words else_chunks) (Else n)
 else_says n m before blocks e = record {
   has = refl;
   line = refl;
@@ -324,19 +377,36 @@ end_says n before some = record {
 }
 
 -- one more line that says a statement
-then_says : (n : ℕ) (before : Before) (c : ℕ) (cs : List ℕ) (ws : List (List ℕ)) (lines : List (List ℕ)) (s : Statement) (ss : List Statement) → IsLine c cs (behind ws) → Says whole n before (chunk_words (plain c cs ws)) s → LinesSay whole (n + 1) (after s before) lines ss → LinesSay whole n before (spelled (plain c cs ws) ∷ lines) (s ∷ ss)
-then_says n before c cs ws lines s ss h says rest = inr (says_something c cs (behind ws) h, s, chunk_words (plain c cs ws), ss, refl, words_well (plain c cs ws) h.words, says, rest)
+then_says : (n : ℕ) (before : Before) (c : ℕ) (cs : List ℕ) (ws : List (List ℕ)) (lines : List (List ℕ)) (s : Statement)
+    (ss : List Statement) → IsLine c cs (behind ws) → Says whole n before (chunk_words (plain c cs ws)) s →
+    LinesSay whole (n + 1) (after s before) lines ss → LinesSay whole n before (spelled (plain c cs ws) ∷ lines) (s ∷ ss)
+then_says n before c cs ws lines s ss h says rest = inr (
+  says_something c cs (behind ws) h,
+  s,
+  chunk_words (plain c cs ws),
+  ss,
+  refl,
+  words_well (plain c cs ws) h.words,
+  says,
+  rest,
+)
 
 outer_repeat_open : FlawBy whole (codes "repeat 1" ++ 10 ∷ codes "repeat 1" ++ 10 ∷ codes "end") 1 MissingEnd
 outer_repeat_open = inr (inr (record {
   size = lit≤ tt;
   lines = codes "repeat 1" ∷ codes "repeat 1" ∷ codes "end" ∷ [];
-  split = more_lines (codes "repeat 1") (codes "repeat 1" ++ 10 ∷ codes "end") (codes "repeat 1" ∷ codes "end" ∷ []) refl (more_lines (codes "repeat 1") (codes "end") (codes "end" ∷ []) refl (last_line (codes "end") refl refl));
+  split = more_lines (codes "repeat 1") (codes "repeat 1" ++ 10 ∷ codes "end") (codes "repeat 1" ∷ codes "end" ∷ []) refl
+      (more_lines (codes "repeat 1") (codes "end") (codes "end" ∷ []) refl (last_line (codes "end") refl refl));
   count = lit≤ tt;
   statements = Repeat 1 (Numeral (pos 1)) ∷ Repeat 2 (Numeral (pos 1)) ∷ End 3 ∷ [];
-  say = then_says 1 start 114 (codes "epeat") (codes "1" ∷ []) (codes "repeat 1" ∷ codes "end" ∷ []) (Repeat 1 (Numeral (pos 1))) (Repeat 2 (Numeral (pos 1)) ∷ End 3 ∷ []) (record { shows = refl; no_note = refl; words = refl }) (repeat_once 1 start (lit< tt))
-      (then_says 2 (after (Repeat 1 (Numeral (pos 1))) start) 114 (codes "epeat") (codes "1" ∷ []) (codes "end" ∷ []) (Repeat 2 (Numeral (pos 1))) (End 3 ∷ []) (record { shows = refl; no_note = refl; words = refl }) (repeat_once 2 (after (Repeat 1 (Numeral (pos 1))) start) (lit< tt))
-      (then_says 3 (after (Repeat 2 (Numeral (pos 1))) (after (Repeat 1 (Numeral (pos 1))) start)) 101 (codes "nd") [] [] (End 3) [] (record { shows = refl; no_note = refl; words = refl }) (end_says 3 (after (Repeat 2 (Numeral (pos 1))) (after (Repeat 1 (Numeral (pos 1))) start)) (λ e. cc)) refl));
+  say = then_says 1 start 114 (codes "epeat") (codes "1" ∷ []) (codes "repeat 1" ∷ codes "end" ∷ []) (Repeat 1 (Numeral (pos 1)))
+      (Repeat 2 (Numeral (pos 1)) ∷ End 3 ∷ []) (record { shows = refl; no_note = refl; words = refl }) (repeat_once 1 start (lit< tt))
+      (then_says 2 (after (Repeat 1 (Numeral (pos 1))) start) 114 (codes "epeat") (codes "1" ∷ []) (codes "end" ∷ [])
+      (Repeat 2 (Numeral (pos 1))) (End 3 ∷ []) (record { shows = refl; no_note = refl; words = refl })
+      (repeat_once 2 (after (Repeat 1 (Numeral (pos 1))) start) (lit< tt))
+      (then_says 3 (after (Repeat 2 (Numeral (pos 1))) (after (Repeat 1 (Numeral (pos 1))) start)) 101 (codes "nd") [] [] (End 3) []
+      (record { shows = refl; no_note = refl; words = refl })
+      (end_says 3 (after (Repeat 2 (Numeral (pos 1))) (after (Repeat 1 (Numeral (pos 1))) start)) (λ e. cc)) refl));
   block = InRepeat 1;
   others = [];
   blocks = refl;
@@ -347,12 +417,19 @@ if_open_round_repeat : FlawBy whole (codes "if 1 eq 1" ++ 10 ∷ codes "repeat 2
 if_open_round_repeat = inr (inr (record {
   size = lit≤ tt;
   lines = codes "if 1 eq 1" ∷ codes "repeat 2" ∷ codes "end" ∷ [];
-  split = more_lines (codes "if 1 eq 1") (codes "repeat 2" ++ 10 ∷ codes "end") (codes "repeat 2" ∷ codes "end" ∷ []) refl (more_lines (codes "repeat 2") (codes "end") (codes "end" ∷ []) refl (last_line (codes "end") refl refl));
+  split = more_lines (codes "if 1 eq 1") (codes "repeat 2" ++ 10 ∷ codes "end") (codes "repeat 2" ∷ codes "end" ∷ []) refl
+      (more_lines (codes "repeat 2") (codes "end") (codes "end" ∷ []) refl (last_line (codes "end") refl refl));
   count = lit≤ tt;
   statements = If 1 (Numeral (pos 1)) Equal (Numeral (pos 1)) ∷ Repeat 2 (Numeral (pos 2)) ∷ End 3 ∷ [];
-  say = then_says 1 start 105 (codes "f") (codes "1" ∷ codes "eq" ∷ codes "1" ∷ []) (codes "repeat 2" ∷ codes "end" ∷ []) (If 1 (Numeral (pos 1)) Equal (Numeral (pos 1))) (Repeat 2 (Numeral (pos 2)) ∷ End 3 ∷ []) (record { shows = refl; no_note = refl; words = refl }) (if_says 1 start (lit< tt))
-      (then_says 2 (after (If 1 (Numeral (pos 1)) Equal (Numeral (pos 1))) start) 114 (codes "epeat") (codes "2" ∷ []) (codes "end" ∷ []) (Repeat 2 (Numeral (pos 2))) (End 3 ∷ []) (record { shows = refl; no_note = refl; words = refl }) (repeat_twice 2 (after (If 1 (Numeral (pos 1)) Equal (Numeral (pos 1))) start) (lit< tt))
-      (then_says 3 (after (Repeat 2 (Numeral (pos 2))) (after (If 1 (Numeral (pos 1)) Equal (Numeral (pos 1))) start)) 101 (codes "nd") [] [] (End 3) [] (record { shows = refl; no_note = refl; words = refl }) (end_says 3 (after (Repeat 2 (Numeral (pos 2))) (after (If 1 (Numeral (pos 1)) Equal (Numeral (pos 1))) start)) (λ e. cc)) refl));
+  say = then_says 1 start 105 (codes "f") (codes "1" ∷ codes "eq" ∷ codes "1" ∷ []) (codes "repeat 2" ∷ codes "end" ∷ [])
+      (If 1 (Numeral (pos 1)) Equal (Numeral (pos 1))) (Repeat 2 (Numeral (pos 2)) ∷ End 3 ∷ [])
+      (record { shows = refl; no_note = refl; words = refl }) (if_says 1 start (lit< tt))
+      (then_says 2 (after (If 1 (Numeral (pos 1)) Equal (Numeral (pos 1))) start) 114 (codes "epeat") (codes "2" ∷ []) (codes "end" ∷ [])
+      (Repeat 2 (Numeral (pos 2))) (End 3 ∷ []) (record { shows = refl; no_note = refl; words = refl })
+      (repeat_twice 2 (after (If 1 (Numeral (pos 1)) Equal (Numeral (pos 1))) start) (lit< tt))
+      (then_says 3 (after (Repeat 2 (Numeral (pos 2))) (after (If 1 (Numeral (pos 1)) Equal (Numeral (pos 1))) start)) 101
+      (codes "nd") [] [] (End 3) [] (record { shows = refl; no_note = refl; words = refl })
+      (end_says 3 (after (Repeat 2 (Numeral (pos 2))) (after (If 1 (Numeral (pos 1)) Equal (Numeral (pos 1))) start)) (λ e. cc)) refl));
   block = InIf 1;
   others = [];
   blocks = refl;
@@ -361,10 +438,14 @@ if_open_round_repeat = inr (inr (record {
 
 else_in_repeat : FlawBy whole (codes "repeat 1" ++ 10 ∷ codes "else" ++ 10 ∷ codes "end") 2 ElseAlone
 unfolding form_of
-else_in_repeat = second_bad (codes "repeat 1" ++ 10 ∷ codes "else" ++ 10 ∷ codes "end") (codes "repeat 1") (codes "else") (codes "end" ∷ []) (Repeat 1 (Numeral (pos 1)) ∷ []) ElseAlone (lit≤ tt)
-    (more_lines (codes "repeat 1") (codes "else" ++ 10 ∷ codes "end") (codes "else" ∷ codes "end" ∷ []) refl (more_lines (codes "else") (codes "end") (codes "end" ∷ []) refl (last_line (codes "end") refl refl)))
-    (then_says 1 start 114 (codes "epeat") (codes "1" ∷ []) [] (Repeat 1 (Numeral (pos 1))) [] (record { shows = refl; no_note = refl; words = refl }) (repeat_once 1 start (lit< tt)) refl)
-    (bad_line 2 (after (Repeat 1 (Numeral (pos 1))) start) 101 (codes "lse") [] ElseAlone (lit≤ tt) (record { shows = refl; no_note = refl; words = refl }) (None, refl, refl))
+else_in_repeat = second_bad (codes "repeat 1" ++ 10 ∷ codes "else" ++ 10 ∷ codes "end") (codes "repeat 1") (codes "else")
+    (codes "end" ∷ []) (Repeat 1 (Numeral (pos 1)) ∷ []) ElseAlone (lit≤ tt)
+    (more_lines (codes "repeat 1") (codes "else" ++ 10 ∷ codes "end") (codes "else" ∷ codes "end" ∷ []) refl
+    (more_lines (codes "else") (codes "end") (codes "end" ∷ []) refl (last_line (codes "end") refl refl)))
+    (then_says 1 start 114 (codes "epeat") (codes "1" ∷ []) [] (Repeat 1 (Numeral (pos 1))) []
+    (record { shows = refl; no_note = refl; words = refl }) (repeat_once 1 start (lit< tt)) refl)
+    (bad_line 2 (after (Repeat 1 (Numeral (pos 1))) start) 101 (codes "lse") [] ElseAlone (lit≤ tt)
+    (record { shows = refl; no_note = refl; words = refl }) (None, refl, refl))
 
 else_twice : FlawBy whole (codes "if 1 eq 1" ++ 10 ∷ codes "else" ++ 10 ∷ codes "else" ++ 10 ∷ codes "end") 3 ElseAlone
 unfolding form_of
@@ -373,12 +454,20 @@ else_twice = inr (inl (record {
   front = codes "if 1 eq 1" ∷ codes "else" ∷ [];
   line = codes "else";
   later = codes "end" ∷ [];
-  split = more_lines (codes "if 1 eq 1") (codes "else" ++ 10 ∷ codes "else" ++ 10 ∷ codes "end") (codes "else" ∷ codes "else" ∷ codes "end" ∷ []) refl (more_lines (codes "else") (codes "else" ++ 10 ∷ codes "end") (codes "else" ∷ codes "end" ∷ []) refl (more_lines (codes "else") (codes "end") (codes "end" ∷ []) refl (last_line (codes "end") refl refl)));
+  split = more_lines (codes "if 1 eq 1") (codes "else" ++ 10 ∷ codes "else" ++ 10 ∷ codes "end")
+      (codes "else" ∷ codes "else" ∷ codes "end" ∷ []) refl (more_lines (codes "else") (codes "else" ++ 10 ∷ codes "end")
+      (codes "else" ∷ codes "end" ∷ []) refl (more_lines (codes "else") (codes "end") (codes "end" ∷ []) refl
+      (last_line (codes "end") refl refl)));
   number = refl;
   statements = If 1 (Numeral (pos 1)) Equal (Numeral (pos 1)) ∷ Else 2 ∷ [];
-  say = then_says 1 start 105 (codes "f") (codes "1" ∷ codes "eq" ∷ codes "1" ∷ []) (codes "else" ∷ []) (If 1 (Numeral (pos 1)) Equal (Numeral (pos 1))) (Else 2 ∷ []) (record { shows = refl; no_note = refl; words = refl }) (if_says 1 start (lit< tt))
-      (then_says 2 (after (If 1 (Numeral (pos 1)) Equal (Numeral (pos 1))) start) 101 (codes "lse") [] [] (Else 2) [] (record { shows = refl; no_note = refl; words = refl }) (else_says 2 1 (after (If 1 (Numeral (pos 1)) Equal (Numeral (pos 1))) start) [] refl) refl);
-  wrong = bad_line 3 (after (Else 2) (after (If 1 (Numeral (pos 1)) Equal (Numeral (pos 1))) start)) 101 (codes "lse") [] ElseAlone (lit≤ tt) (record { shows = refl; no_note = refl; words = refl }) (None, refl, refl);
+  say = then_says 1 start 105 (codes "f") (codes "1" ∷ codes "eq" ∷ codes "1" ∷ []) (codes "else" ∷ [])
+      (If 1 (Numeral (pos 1)) Equal (Numeral (pos 1))) (Else 2 ∷ []) (record { shows = refl; no_note = refl; words = refl })
+      (if_says 1 start (lit< tt))
+      (then_says 2 (after (If 1 (Numeral (pos 1)) Equal (Numeral (pos 1))) start) 101 (codes "lse") [] [] (Else 2) []
+      (record { shows = refl; no_note = refl; words = refl })
+      (else_says 2 1 (after (If 1 (Numeral (pos 1)) Equal (Numeral (pos 1))) start) [] refl) refl);
+  wrong = bad_line 3 (after (Else 2) (after (If 1 (Numeral (pos 1)) Equal (Numeral (pos 1))) start)) 101 (codes "lse") [] ElseAlone
+      (lit≤ tt) (record { shows = refl; no_note = refl; words = refl }) (None, refl, refl);
 }))
 
 -- all rows

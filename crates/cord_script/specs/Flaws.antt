@@ -1,5 +1,6 @@
 -- What is wrong first with a script, by the order of the refusals.
-use Rattle.std.specs.Prelude.{◌≡◌, ℕ, ◌+◌, ◌<◌, ◌≤◌, ◌⊎◌, List, [], ◌∷◌, ◌++◌, length, Bool, true, false, ◌&&◌, ◌||◌, ◌==◌, nat_le, nat_lt, Option, Some, None, is_some, if◌then◌else◌, codes}
+use Rattle.std.specs.Prelude.{◌≡◌, ℕ, ◌+◌, ◌<◌, ◌≤◌, ◌⊎◌, List, [], ◌∷◌, ◌++◌, length, Bool, true, false, ◌&&◌, ◌||◌, ◌==◌, nat_le, nat_lt}
+use Rattle.std.specs.Prelude.{Option, Some, None, is_some, if◌then◌else◌, codes}
 use Rattle.std.specs.Str.{bytes_eq}
 use Rattle.cord_script.specs.declared.TheConstants.{MAX_SCRIPT, MAX_LINES, MAX_NAMES, MAX_PATHS, MAX_BLOCKS, MIN_PARTS, MAX_PARTS}
 use Rattle.cord_script.specs.declared.kinds.Kind.{Kind}
@@ -11,7 +12,9 @@ use Rattle.cord_script.specs.declared.words.Word.{Word}
 use Rattle.cord_script.specs.declared.words.Word.TheVariants.{Plain, Quoted}
 use Rattle.cord_syntax.specs.declared.statements.Statement.{Statement}
 use Rattle.cord_script.specs.declared.refusals.RefusalKind.{RefusalKind}
-use Rattle.cord_script.specs.declared.refusals.RefusalKind.TheVariants.{TooBig, UnknownStatement, WrongCount, BadName, BadNumber, UnknownName, WrongKind, BadFormat, TooDeep, EndAlone, MissingEnd, TooMany, ElseAlone, MissingIfEnd}
+use Rattle.cord_script.specs.declared.refusals.RefusalKind.TheVariants.{TooBig, UnknownStatement, WrongCount, BadName, BadNumber}
+use Rattle.cord_script.specs.declared.refusals.RefusalKind.TheVariants.{UnknownName, WrongKind, BadFormat, TooDeep, EndAlone, MissingEnd}
+use Rattle.cord_script.specs.declared.refusals.RefusalKind.TheVariants.{TooMany, ElseAlone, MissingIfEnd}
 use Rattle.cord_script.specs.Words.{IsSplit, IsIdle, HasWords, HasBadBytes}
 use Rattle.cord_script.specs.Formats.{Converts}
 use Rattle.cord_script.specs.Tests.{is_name, begins_numeral, numeral_of, is_path}
@@ -203,7 +206,8 @@ block_flaw Closes blocks = end_flaw blocks
 
 -- what is wrong with the names of a line: the operands, the target, the path
 abbrev pub names_flaw : Before → List Want → List Word → Option RefusalKind
-names_flaw before xs ws = first_of (operands_flaw before.names xs ws) (first_of (target_flaw before.names xs ws) (path_flaw before.paths xs ws))
+names_flaw before xs ws = first_of (operands_flaw before.names xs ws)
+    (first_of (target_flaw before.names xs ws) (path_flaw before.paths xs ws))
 
 -- What is wrong with the words after a statement's word, in order: their number, the words, the names, the blocks.
 abbrev pub form_flaw : Form → Before → Option (List Want) → List Word → Option RefusalKind
@@ -221,7 +225,8 @@ HasFormat _ ws formats = formats ≡ None
 -- Kind 4 where a plain word is no statement's word; else what is wrong with the words after it.
 abbrev pub HasFormFlaw : Before → Option Form → List Word → RefusalKind → Type 0
 HasFormFlaw before None ws kind = kind ≡ UnknownStatement
-HasFormFlaw before (Some form) ws kind = (formats : Option (List Want)) × HasFormat form.shape ws formats × (form_flaw form before formats ws ≡ Some kind)
+HasFormFlaw before (Some form) ws kind = (formats : Option (List Want)) × HasFormat form.shape ws formats ×
+    (form_flaw form before formats ws ≡ Some kind)
 
 -- What is wrong with the words of a line. Kind 4 where the first word is quoted or no statement's word.
 abbrev pub HasBadWords : Grammar → Before → List Word → RefusalKind → Type 0
@@ -233,7 +238,8 @@ HasBadWords g before (Plain p ∷ ws) kind = HasFormFlaw before (form_in g p) ws
 abbrev pub HasBadLine : Grammar → ℕ → Before → List ℕ → RefusalKind → Type 0
 HasBadLine g n before line kind =
     ((n ≡ MAX_LINES + 1) × (kind ≡ TooBig))
-    ⊎ ((n ≤ MAX_LINES) × (¬ IsIdle line) × (HasBadBytes line kind ⊎ ((words : List Word) × HasWords line words × HasBadWords g before words kind)))
+    ⊎ ((n ≤ MAX_LINES) × (¬ IsIdle line) × (HasBadBytes line kind ⊎
+    ((words : List Word) × HasWords line words × HasBadWords g before words kind)))
 
 -- First the size of the script.
 pub record IsTooBig (b : List ℕ) (n : ℕ) (kind : RefusalKind) : Type 0 where

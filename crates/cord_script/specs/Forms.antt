@@ -11,7 +11,10 @@ use Rattle.cord_operands.specs.declared.operands.Relation.{Relation}
 use Rattle.cord_operands.specs.declared.operands.Argument.{Argument}
 use Rattle.cord_operands.specs.declared.operands.Argument.TheVariants as arguments
 use Rattle.cord_syntax.specs.declared.statements.Statement.{Statement}
-use Rattle.cord_syntax.specs.declared.statements.Statement.TheVariants.{Let, File, Eager, Lazy, Chars, Nul, FromFn, Cat, Catn, Catc, Substr, Balance, EcToCord, Sprintf, Len, Fetch, Cmp, Ncmp, Str, Chr, Rchr, Assign, Add, Sub, EcInit, EcPut, EcCat, EcStr, Put, Repeat, If, Else, End}
+use Rattle.cord_syntax.specs.declared.statements.Statement.TheVariants.{Let, File, Eager, Lazy, Chars, Nul, FromFn, Cat, Catn, Catc, Substr}
+use Rattle.cord_syntax.specs.declared.statements.Statement.TheVariants.{Balance, EcToCord, Sprintf, Len, Fetch, Cmp, Ncmp, Str, Chr, Rchr}
+use Rattle.cord_syntax.specs.declared.statements.Statement.TheVariants.{Assign, Add, Sub, EcInit, EcPut, EcCat, EcStr, Put, Repeat, If}
+use Rattle.cord_syntax.specs.declared.statements.Statement.TheVariants.{Else, End}
 
 -- The words after a statement's word: these; a target and 2 to 16 cords; a target, a format and what its conversions want.
 pub data Shape : Type 0 where
@@ -49,17 +52,22 @@ form_of w =
     else if bytes_eq w (codes "cat") then plain_form (wants.Target kinds.Cord ∷ wants.Operand kinds.Cord ∷ wants.Operand kinds.Cord ∷ [])
     else if bytes_eq w (codes "catn") then Some (record { shape = Joined; effect = Stays })
     else if bytes_eq w (codes "catc") then plain_form (wants.Target kinds.Cord ∷ wants.Operand kinds.Cord ∷ wants.Number ∷ [])
-    else if bytes_eq w (codes "substr") then plain_form (wants.Target kinds.Cord ∷ wants.Operand kinds.Cord ∷ wants.Number ∷ wants.Number ∷ [])
+    else if bytes_eq w (codes "substr") then plain_form (wants.Target kinds.Cord ∷ wants.Operand kinds.Cord ∷ wants.Number ∷ wants.Number
+    ∷ [])
     else if bytes_eq w (codes "balance") then plain_form (wants.Target kinds.Cord ∷ wants.Operand kinds.Cord ∷ [])
     else if bytes_eq w (codes "ectocord") then plain_form (wants.Target kinds.Cord ∷ wants.Operand kinds.Extensible ∷ [])
     else if bytes_eq w (codes "sprintf") then Some (record { shape = Printed; effect = Stays })
     else if bytes_eq w (codes "len") then plain_form (wants.Target kinds.Number ∷ wants.Operand kinds.Cord ∷ [])
     else if bytes_eq w (codes "fetch") then plain_form (wants.Target kinds.Number ∷ wants.Operand kinds.Cord ∷ wants.Number ∷ [])
     else if bytes_eq w (codes "cmp") then plain_form (wants.Target kinds.Number ∷ wants.Operand kinds.Cord ∷ wants.Operand kinds.Cord ∷ [])
-    else if bytes_eq w (codes "ncmp") then plain_form (wants.Target kinds.Number ∷ wants.Operand kinds.Cord ∷ wants.Number ∷ wants.Operand kinds.Cord ∷ wants.Number ∷ wants.Number ∷ [])
-    else if bytes_eq w (codes "str") then plain_form (wants.Target kinds.Number ∷ wants.Operand kinds.Cord ∷ wants.Number ∷ wants.Operand kinds.Cord ∷ [])
-    else if bytes_eq w (codes "chr") then plain_form (wants.Target kinds.Number ∷ wants.Operand kinds.Cord ∷ wants.Number ∷ wants.Number ∷ [])
-    else if bytes_eq w (codes "rchr") then plain_form (wants.Target kinds.Number ∷ wants.Operand kinds.Cord ∷ wants.Number ∷ wants.Number ∷ [])
+    else if bytes_eq w (codes "ncmp") then plain_form (wants.Target kinds.Number ∷ wants.Operand kinds.Cord ∷ wants.Number
+    ∷ wants.Operand kinds.Cord ∷ wants.Number ∷ wants.Number ∷ [])
+    else if bytes_eq w (codes "str") then plain_form (wants.Target kinds.Number ∷ wants.Operand kinds.Cord ∷ wants.Number
+    ∷ wants.Operand kinds.Cord ∷ [])
+    else if bytes_eq w (codes "chr") then plain_form (wants.Target kinds.Number ∷ wants.Operand kinds.Cord ∷ wants.Number ∷ wants.Number
+    ∷ [])
+    else if bytes_eq w (codes "rchr") then plain_form (wants.Target kinds.Number ∷ wants.Operand kinds.Cord ∷ wants.Number ∷ wants.Number
+    ∷ [])
     else if bytes_eq w (codes "set") then plain_form (wants.Target kinds.Number ∷ wants.Number ∷ [])
     else if bytes_eq w (codes "add") then plain_form (wants.Target kinds.Number ∷ wants.Number ∷ wants.Number ∷ [])
     else if bytes_eq w (codes "sub") then plain_form (wants.Target kinds.Number ∷ wants.Number ∷ wants.Number ∷ [])
@@ -68,7 +76,10 @@ form_of w =
     else if bytes_eq w (codes "eccat") then plain_form (wants.Operand kinds.Extensible ∷ wants.Operand kinds.Cord ∷ [])
     else if bytes_eq w (codes "ecstr") then plain_form (wants.Operand kinds.Extensible ∷ wants.Text ∷ [])
     else if bytes_eq w (codes "repeat") then Some (record { shape = Words (wants.Number ∷ []); effect = OpensRepeat })
-    else if bytes_eq w (codes "if") then Some (record { shape = Words (wants.Number ∷ wants.Relation ∷ wants.Number ∷ []); effect = OpensIf })
+    else if bytes_eq w (codes "if") then Some (record {
+      shape = Words (wants.Number ∷ wants.Relation ∷ wants.Number ∷ []);
+      effect = OpensIf;
+    })
     else if bytes_eq w (codes "else") then Some (record { shape = Words []; effect = Turns })
     else if bytes_eq w (codes "end") then Some (record { shape = Words []; effect = Closes })
     else None
@@ -157,8 +168,10 @@ terms_of (Sprintf line target text format arguments) = Target kinds.Cord target 
 terms_of (Len line target operand) = Target kinds.Number target ∷ Operand kinds.Cord operand ∷ []
 terms_of (Fetch line target operand index) = Target kinds.Number target ∷ Operand kinds.Cord operand ∷ Value index ∷ []
 terms_of (Cmp line target left right) = Target kinds.Number target ∷ Operand kinds.Cord left ∷ Operand kinds.Cord right ∷ []
-terms_of (Ncmp line target left left_start right right_start count) = Target kinds.Number target ∷ Operand kinds.Cord left ∷ Value left_start ∷ Operand kinds.Cord right ∷ Value right_start ∷ Value count ∷ []
-terms_of (Str line target operand start pattern) = Target kinds.Number target ∷ Operand kinds.Cord operand ∷ Value start ∷ Operand kinds.Cord pattern ∷ []
+terms_of (Ncmp line target left left_start right right_start count) = Target kinds.Number target ∷ Operand kinds.Cord left
+    ∷ Value left_start ∷ Operand kinds.Cord right ∷ Value right_start ∷ Value count ∷ []
+terms_of (Str line target operand start pattern) = Target kinds.Number target ∷ Operand kinds.Cord operand ∷ Value start
+    ∷ Operand kinds.Cord pattern ∷ []
 terms_of (Chr line target operand start byte) = Target kinds.Number target ∷ Operand kinds.Cord operand ∷ Value start ∷ Value byte ∷ []
 terms_of (Rchr line target operand start byte) = Target kinds.Number target ∷ Operand kinds.Cord operand ∷ Value start ∷ Value byte ∷ []
 terms_of (Assign line target value) = Target kinds.Number target ∷ Value value ∷ []

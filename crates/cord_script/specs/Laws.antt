@@ -20,7 +20,8 @@ OneScript = (g : Grammar) (b : List ℕ) (ss more : List Statement) → ReadsBy 
 
 -- Bytes have at most one first flaw.
 abbrev pub OneFlaw : Type 0
-OneFlaw = (g : Grammar) (b : List ℕ) (m n : ℕ) (kind other : RefusalKind) → FlawBy g b m kind → FlawBy g b n other → (m ≡ n) × (kind ≡ other)
+OneFlaw = (g : Grammar) (b : List ℕ) (m n : ℕ) (kind other : RefusalKind) → FlawBy g b m kind → FlawBy g b n other → (m ≡ n) ×
+    (kind ≡ other)
 
 -- A script that is read without branches is read with the same statements with them.
 abbrev pub BranchesKeep : Type 0

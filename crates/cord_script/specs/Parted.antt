@@ -1,5 +1,6 @@
 -- What the parts of a statement say, and what the builders take.
-use Rattle.std.specs.Prelude.{◌≡◌, ℕ, List, [], ◌∷◌, ◌++◌, map, Bool, true, ◌&&◌, ◌||◌, not, ◌==◌, nat_le, nat_lt, Option, Some, None, length}
+use Rattle.std.specs.Prelude.{◌≡◌, ℕ, List, [], ◌∷◌, ◌++◌, map, Bool, true, ◌&&◌, ◌||◌, not, ◌==◌, nat_le, nat_lt, Option, Some, None}
+use Rattle.std.specs.Prelude.{length}
 use Rattle.cord_printf.specs.declared.pieces.Piece.{Piece}
 use Rattle.cord_printf.specs.Format.{IsFormat, IsBadAt}
 use Rattle.cord_script.specs.declared.TheConstants.{MAX_PATH}
@@ -100,7 +101,8 @@ pub record IsParted (shape : Shape) (ws : List Word) (ps : List Part) (format : 
 
 -- the number of the words or the words are wrong
 abbrev pub HasPartFlaw : Shape → List Word → RefusalKind → Type 0
-HasPartFlaw shape ws kind = (formats : Option (List Want)) × HasFormat shape ws formats × (first_of (unless (is_count shape (length ws)) WrongCount) (words_flaw shape formats ws) ≡ Some kind)
+HasPartFlaw shape ws kind = (formats : Option (List Want)) × HasFormat shape ws formats ×
+    (first_of (unless (is_count shape (length ws)) WrongCount) (words_flaw shape formats ws) ≡ Some kind)
 
 -- nothing is wrong with the words after a statement's word, which say these parts
 pub record IsChecked (form : Form) (before : Before) (ws : List Word) (ps : List Part) (format : Option (List Piece)) : Type 0 where

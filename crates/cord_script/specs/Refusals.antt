@@ -1,7 +1,10 @@
 -- The numbers and texts of the kinds of refusal.
 use Rattle.std.specs.Prelude.{ℕ, List, codes}
 use Rattle.cord_script.specs.declared.refusals.RefusalKind.{RefusalKind}
-use Rattle.cord_script.specs.declared.refusals.RefusalKind.TheVariants.{TooBig, Unterminated, BadEscape, UnknownStatement, WrongCount, BadName, BadNumber, UnknownName, WrongKind, BadFormat, TooDeep, EndAlone, MissingEnd, TooMany, LiteralTooLong, NoMemory, ElseAlone, MissingIfEnd}
+use Rattle.cord_script.specs.declared.refusals.RefusalKind.TheVariants.{TooBig, Unterminated, BadEscape, UnknownStatement, WrongCount}
+use Rattle.cord_script.specs.declared.refusals.RefusalKind.TheVariants.{BadName, BadNumber, UnknownName, WrongKind, BadFormat, TooDeep}
+use Rattle.cord_script.specs.declared.refusals.RefusalKind.TheVariants.{EndAlone, MissingEnd, TooMany, LiteralTooLong, NoMemory, ElseAlone}
+use Rattle.cord_script.specs.declared.refusals.RefusalKind.TheVariants.{MissingIfEnd}
 
 -- the number of a kind
 abbrev pub code_of : RefusalKind → ℕ

@@ -1,7 +1,9 @@
 -- Worked rows of the grammar with all statements: what is read, and what is wrong first.
 use Rattle.std.specs.Prelude.{ℕ, List, [], ◌∷◌, ◌++◌, codes}
 use Rattle.cord_syntax.specs.declared.statements.Statement.TheVariants.{Let, Put}
-use Rattle.cord_script.specs.declared.refusals.RefusalKind.TheVariants.{Unterminated, BadEscape, WrongCount, BadName, BadNumber, UnknownName, WrongKind, EndAlone, MissingEnd, ElseAlone, MissingIfEnd}
+use Rattle.cord_script.specs.declared.refusals.RefusalKind.TheVariants.{Unterminated, BadEscape, WrongCount, BadName, BadNumber}
+use Rattle.cord_script.specs.declared.refusals.RefusalKind.TheVariants.{UnknownName, WrongKind, EndAlone, MissingEnd, ElseAlone}
+use Rattle.cord_script.specs.declared.refusals.RefusalKind.TheVariants.{MissingIfEnd}
 use Rattle.cord_script.specs.Script.{ReadsBy, whole}
 use Rattle.cord_script.specs.Flaws.{FlawBy}
 

@@ -1,5 +1,6 @@
 -- What a script's bytes say: kinds of names, paths, open blocks, statements.
-use Rattle.std.specs.Prelude.{◌≡◌, ◌≢◌, ℕ, ◌+◌, ◌<◌, ◌≤◌, ◌⊎◌, List, [], ◌∷◌, ◌++◌, map, length, Bool, true, false, not, ◌||◌, Option, Some, None, is_some, if◌then◌else◌}
+use Rattle.std.specs.Prelude.{◌≡◌, ◌≢◌, ℕ, ◌+◌, ◌<◌, ◌≤◌, ◌⊎◌, List, [], ◌∷◌, ◌++◌, map, length, Bool, true, false, not, ◌||◌, Option, Some}
+use Rattle.std.specs.Prelude.{None, is_some, if◌then◌else◌}
 use Rattle.std.specs.Str.{bytes_eq}
 use Rattle.cord_printf.specs.Format.{IsFormat}
 use Rattle.cord_script.specs.declared.TheConstants.{MAX_SCRIPT, MAX_LINES, MAX_NAMES, MAX_PATHS, MAX_BLOCKS, MIN_PARTS, MAX_PARTS}
@@ -117,7 +118,8 @@ AreTerms (w ∷ ws) (t ∷ ts) = IsTerm w t × AreTerms ws ts
 -- An operand that is a name is assigned by an earlier line and has the wanted kind; a target has it, or is new where
 -- fewer than 256 names are known; a path is known, or new where fewer than 64 are.
 abbrev pub IsAllowed : Before → Term → Type 0
-IsAllowed before (Target kind name) = (kind_of before.names name ≡ Some kind) ⊎ ((kind_of before.names name ≡ None) × (length before.names < MAX_NAMES))
+IsAllowed before (Target kind name) = (kind_of before.names name ≡ Some kind) ⊎
+    ((kind_of before.names name ≡ None) × (length before.names < MAX_NAMES))
 IsAllowed before (Operand kind name) = kind_of before.names name ≡ Some kind
 IsAllowed before (Value (numbers.Numeral v)) = Unit {0}
 IsAllowed before (Value (numbers.Named name)) = kind_of before.names name ≡ Some kinds.Number
@@ -158,7 +160,8 @@ abbrev pub LinesSay : Grammar → ℕ → Before → List (List ℕ) → List St
 LinesSay g n before [] ss = ss ≡ []
 LinesSay g n before (line ∷ lines) ss =
     (IsIdle line × LinesSay g (n + 1) before lines ss)
-    ⊎ ((¬ IsIdle line) × (s : Statement) × (words : List Word) × (rest : List Statement) × (ss ≡ s ∷ rest) × HasWords line words × Says g n before words s × LinesSay g (n + 1) (after s before) lines rest)
+    ⊎ ((¬ IsIdle line) × (s : Statement) × (words : List Word) × (rest : List Statement) × (ss ≡ s ∷ rest) × HasWords line words ×
+    Says g n before words s × LinesSay g (n + 1) (after s before) lines rest)
 
 -- The script's bytes are these statements, by a grammar: at most 1,048,576 bytes and 65,536 lines, each block closed.
 pub record ReadsBy (g : Grammar) (b : List ℕ) (ss : List Statement) : Type 0 where

@@ -1,5 +1,6 @@
 -- Tests on the words of a statement: names, numerals, paths.
-use Rattle.std.specs.Prelude.{ℕ, ◌+◌, ◌*◌, ◌-◌, ◌^◌, List, [], ◌∷◌, length, Bool, true, false, ◌&&◌, ◌||◌, not, ◌==◌, nat_le, nat_lt, Option, Some, None, ℤ, pos, neg_ℤ, if◌then◌else◌, codes}
+use Rattle.std.specs.Prelude.{ℕ, ◌+◌, ◌*◌, ◌-◌, ◌^◌, List, [], ◌∷◌, length, Bool, true, false, ◌&&◌, ◌||◌, not, ◌==◌, nat_le, nat_lt}
+use Rattle.std.specs.Prelude.{Option, Some, None, ℤ, pos, neg_ℤ, if◌then◌else◌, codes}
 use Rattle.std.specs.Str.{is_utf8}
 use Rattle.cord_script.specs.declared.TheConstants.{MAX_NAME, MAX_PATH}
 use Rattle.cord_operands.specs.declared.operands.Function.{Function}

@@ -9,7 +9,8 @@ use Rattle.cord_script.specs.declared.refusals.RefusalKind.TheVariants.{Untermin
 -- The lines are what stands between the bytes 10; what follows the last byte 10 is a line where it isn't empty.
 abbrev pub IsSplit : List ℕ → List (List ℕ) → Type 0
 IsSplit b [] = b ≡ []
-IsSplit b (line ∷ lines) = All (λ c. c ≢ 10) line × (((lines ≡ []) × (line ≢ []) × (b ≡ line)) ⊎ ((rest : List ℕ) × (b ≡ line ++ 10 ∷ rest) × IsSplit rest lines))
+IsSplit b (line ∷ lines) = All (λ c. c ≢ 10) line × (((lines ≡ []) × (line ≢ []) × (b ≡ line)) ⊎
+    ((rest : List ℕ) × (b ≡ line ++ 10 ∷ rest) × IsSplit rest lines))
 
 -- Blanks are the bytes 32, 9 and 13.
 abbrev pub IsBlank : ℕ → Type 0
@@ -51,7 +52,8 @@ EndsPlain (c ∷ rest) = ¬ IsPlain c
 -- One word stands after blanks, before the rest: a plain word as its bytes, a quoted one as the text that it spells.
 abbrev pub HasWord : List ℕ → Word → List ℕ → Type 0
 HasWord line (Plain p) rest = (front : List ℕ) × All IsBlank front × (line ≡ front ++ p ++ rest) × (p ≢ []) × All IsPlain p × EndsPlain rest
-HasWord line (Quoted text) rest = (front w : List ℕ) × All IsBlank front × (line ≡ front ++ 34 ∷ w ++ 34 ∷ rest) × Spells w text × (length text ≤ MAX_TEXT)
+HasWord line (Quoted text) rest = (front w : List ℕ) × All IsBlank front × (line ≡ front ++ 34 ∷ w ++ 34 ∷ rest) × Spells w text ×
+    (length text ≤ MAX_TEXT)
 
 -- These words stand at the front of a line, before the rest.
 abbrev pub StartsWith : List ℕ → List Word → List ℕ → Type 0

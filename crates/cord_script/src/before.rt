@@ -1,7 +1,8 @@
 // What the lines before a line leave, and what is wrong with a line after them.
 ghost use Rattle.std.specs.Prelude.{◌≡◌, map, IfErr, OnOk};
 ghost use Rattle.cord_script.specs.Script.{start, is_among, with_path, names_after, paths_after};
-ghost use Rattle.cord_script.specs.inner.Leaves.{before_of, operand_term_flaw, target_term_flaw, path_term_flaw, term_flaw, first_term, terms_flaw};
+ghost use Rattle.cord_script.specs.inner.Leaves.{before_of, operand_term_flaw, target_term_flaw, path_term_flaw};
+ghost use Rattle.cord_script.specs.inner.Leaves.{term_flaw, first_term, terms_flaw};
 ghost use Rattle.cord_script.specs.Parted.{term_of};
 
 use crate::blocks::Open;

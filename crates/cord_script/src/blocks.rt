@@ -63,7 +63,8 @@ fn turn(blocks: &mut VecDeque<Open>) -> Result<(), RefusalKind>
 
 /// The open blocks after a statement at a line.
 pub fn set_blocks(verb: Verb, line: u32, blocks: &mut VecDeque<Open>) -> Result<(), RefusalKind>
-    ensures blocks { OnOk result (map block_of blocks.new.items ≡ blocks_after (verb_effect verb) line (map block_of blocks.old.items)) }
+    ensures blocks { OnOk result (map block_of blocks.new.items
+        ≡ blocks_after (verb_effect verb) line (map block_of blocks.old.items)) }
     ensures flaw { IfErr result (λ kind. kind ≡ RefusalKind.NoMemory) }
 {
     match verb {
@@ -80,7 +81,8 @@ pub fn set_blocks(verb: Verb, line: u32, blocks: &mut VecDeque<Open>) -> Result<
 
 /// What is wrong at the end of a script after these open blocks.
 pub fn open_flaw(blocks: &VecDeque<Open>) -> Option<Refusal>
-    ensures { MatchOption result (map block_of blocks.now.items ≡ []) (λ r. IsInnermostLeft (map block_of blocks.now.items) r.line r.kind) }
+    ensures { MatchOption result (map block_of blocks.now.items ≡ [])
+        (λ r. IsInnermostLeft (map block_of blocks.now.items) r.line r.kind) }
 {
     match blocks.front() {
         None => None,

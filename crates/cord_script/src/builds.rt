@@ -4,7 +4,8 @@ ghost use Rattle.cord_syntax.specs.Lines.{line_of};
 ghost use Rattle.cord_script.specs.Forms.{word_of, terms_of};
 ghost use Rattle.cord_script.specs.Script.{Suits};
 ghost use Rattle.cord_script.specs.Parted.{want_of};
-ghost use Rattle.cord_script.specs.inner.Verbal.{verb_word, verb_wants, is_source, is_simple, is_growth, is_look, is_search, is_count, is_control};
+ghost use Rattle.cord_script.specs.inner.Verbal.{verb_word, verb_wants, is_source, is_simple, is_growth, is_look};
+ghost use Rattle.cord_script.specs.inner.Verbal.{is_search, is_count, is_control};
 ghost use Rattle.cord_script.specs.inner.Built.{IsJoined, IsPrinted, IsWorded};
 
 use crate::cursor::Parts;

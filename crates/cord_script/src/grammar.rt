@@ -151,7 +151,8 @@ fn likely_verb(word: &[u8]) -> Option<Verb>
 
 /// The verb of a word, if it is a statement's word.
 pub fn verb_of(word: &[u8]) -> Option<Verb>
-    ensures { MatchOption result (form_in whole word.now ≡ None) (λ verb. (word.now ≡ verb_word verb) × (form_in whole word.now ≡ Some (verb_form verb))) }
+    ensures { MatchOption result (form_in whole word.now ≡ None) (λ verb. (word.now ≡ verb_word verb) ×
+        (form_in whole word.now ≡ Some (verb_form verb))) }
 {
     match likely_verb(word) {
         Some(verb) => Some(verb),

@@ -1,6 +1,7 @@
 // The limits as numerals, which no contract takes from the code.
 ghost use Rattle.std.specs.Prelude.{◌≡◌};
-ghost use Rattle.cord_script.specs.declared.TheConstants.{MAX_SCRIPT, MAX_LINES, MAX_NAMES, MAX_NAME, MAX_PATHS, MAX_PATH, MAX_BLOCKS, MAX_TEXT, MIN_PARTS, MAX_PARTS};
+ghost use Rattle.cord_script.specs.declared.TheConstants.{MAX_SCRIPT, MAX_LINES, MAX_NAMES, MAX_NAME, MAX_PATHS};
+ghost use Rattle.cord_script.specs.declared.TheConstants.{MAX_PATH, MAX_BLOCKS, MAX_TEXT, MIN_PARTS, MAX_PARTS};
 
 /// The limits of scripts, as numerals.
 pub fn limits_are()

@@ -1,5 +1,6 @@
 // The parser.
-ghost use Rattle.std.specs.Prelude.{◌≡◌, ◌≢◌, ◌≤◌, ◌<◌, [], ◌∷◌, ◌++◌, List, ℕ, All, IfOk, IfErr, OnOk, MatchBool, length};
+ghost use Rattle.std.specs.Prelude.{◌≡◌, ◌≢◌, ◌≤◌, ◌<◌, [], ◌∷◌, ◌++◌, List, ℕ, All, IfOk, IfErr, OnOk, MatchBool};
+ghost use Rattle.std.specs.Prelude.{length};
 ghost use Rattle.cord_script.specs.Words.{IsIdle, IsSplit};
 ghost use Rattle.cord_syntax.specs.Lines.{line_of};
 ghost use Rattle.cord_script.specs.Script.{Reads, ReadsUpTo};
@@ -72,7 +73,8 @@ fn take_line(
     left: &mut Left,
     statements: &mut Vec<Statement>,
 ) -> Result<(), RefusalKind>
-    ensures takes { OnOk result (Takes number line.now (before_of left.old) (before_of left.new) statements.old.items statements.new.items) }
+    ensures takes { OnOk result (Takes number line.now (before_of left.old) (before_of left.new) statements.old.items
+        statements.new.items) }
     ensures flaw { IfErr result (λ kind. kind ≢ RefusalKind.NoMemory → HasWrong line.now (before_of left.old) kind) }
 {
     let Some(statement) = line_statement(alloc, number, line, left)? else {

@@ -4,7 +4,8 @@ ghost use Rattle.std.specs.Str.{is_utf8};
 ghost use Rattle.cord_script.specs.Tests.{each, is_name, is_path, begins_numeral, function_word, relation_word};
 ghost use Rattle.cord_script.specs.Forms.Term.{Value};
 ghost use Rattle.cord_script.specs.Script.{IsTerm};
-ghost use Rattle.cord_script.specs.Flaws.{misfit, name_misfit, number_misfit, text_misfit, path_misfit, function_misfit, relation_misfit};
+ghost use Rattle.cord_script.specs.Flaws.{misfit, name_misfit, number_misfit, text_misfit, path_misfit};
+ghost use Rattle.cord_script.specs.Flaws.{function_misfit, relation_misfit};
 ghost use Rattle.cord_script.specs.Parted.{IsPart, is_path_text, is_no_zero};
 
 use crate::checks::is_name;

@@ -26,8 +26,10 @@ fn checked_parts(
     verb: Verb,
     words: VecDeque<Word>,
 ) -> Result<Worded, RefusalKind>
-    ensures parts { IfOk result (λ worded. IsChecked (verb_form verb) (before_of left.now) words.entry.items worded.parts.items worded.format) }
-    ensures flaw { IfErr result (λ kind. kind ≢ RefusalKind.NoMemory → HasFormFlaw (before_of left.now) (Some (verb_form verb)) words.entry.items kind) }
+    ensures parts { IfOk result (λ worded. IsChecked (verb_form verb)
+        (before_of left.now) words.entry.items worded.parts.items worded.format) }
+    ensures flaw { IfErr result (λ kind. kind ≢ RefusalKind.NoMemory →
+        HasFormFlaw (before_of left.now) (Some (verb_form verb)) words.entry.items kind) }
 {
     let worded = parts_of(alloc, &left.names, verb, words)?;
     if let Some(kind) = names_flaw(left, &worded.parts) {
@@ -52,7 +54,8 @@ fn leave(verb: Verb, number: u32, left: &mut Left, parts: &[Part]) -> Result<(),
 // The verb of the first word, which is taken.
 fn verb_in(words: &mut VecDeque<Word>) -> Option<Verb>
     requires { words.old.items ≢ [] }
-    ensures { MatchOption result ((before : Before) → HasBadWords whole before words.old.items RefusalKind.UnknownStatement) (λ verb. words.old.items ≡ Word.Plain (verb_word verb) ∷ words.new.items) }
+    ensures { MatchOption result ((before : Before) → HasBadWords whole before words.old.items
+        RefusalKind.UnknownStatement) (λ verb. words.old.items ≡ Word.Plain (verb_word verb) ∷ words.new.items) }
 {
     match words.pop_front() {
         Some(Word::Plain(word)) => verb_of(word.as_slice()),
@@ -70,7 +73,8 @@ pub fn said(
 ) -> Result<Statement, RefusalKind>
     requires { words.items ≢ [] }
     ensures said { IfOk result (SaysBehind number (before_of left.old) (before_of left.new) words.entry.items) }
-    ensures flaw { IfErr result (λ kind. kind ≢ RefusalKind.NoMemory → HasBadWords whole (before_of left.old) words.entry.items kind) }
+    ensures flaw { IfErr result (λ kind. kind ≢ RefusalKind.NoMemory →
+        HasBadWords whole (before_of left.old) words.entry.items kind) }
 {
     let mut words = VecDeque::from_vec(words);
     let Some(verb) = verb_in(&mut words) else {

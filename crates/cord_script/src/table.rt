@@ -1,5 +1,6 @@
 // The names that the lines before assign.
-ghost use Rattle.std.specs.Prelude.{◌≡◌, ◌<◌, [], ◌∷◌, ◌++◌, Some, None, length, IfErr, IfOk, IfSome, MatchOption, OnOk};
+ghost use Rattle.std.specs.Prelude.{◌≡◌, ◌<◌, [], ◌∷◌, ◌++◌, Some, None, length, IfErr, IfOk, IfSome, MatchOption};
+ghost use Rattle.std.specs.Prelude.{OnOk};
 ghost use Rattle.cord_script.specs.Script.{kind_of, with_name};
 
 use crate::kinds::Kind;
@@ -62,7 +63,8 @@ fn slot_of(name: &[u8]) -> usize
 #[cold]
 #[inline(never)]
 fn search<'a>(known: &'a [Known], name: &[u8]) -> Option<&'a Known>
-    ensures { MatchOption result (kind_of known.now name.now ≡ None) (λ found. (found.now.name ≡ name.now) × (kind_of known.now name.now ≡ Some found.now.kind)) }
+    ensures { MatchOption result (kind_of known.now name.now ≡ None) (λ found. (found.now.name ≡ name.now) ×
+        (kind_of known.now name.now ≡ Some found.now.kind)) }
 {
     for entry in known {
         if is_same(entry.name.as_slice(), name) {
@@ -92,7 +94,8 @@ impl Table {
 
     // The entry at a place, if it has the name.
     fn at(&self, place: usize, name: &[u8]) -> Option<&Known>
-        ensures { IfSome result (λ found. (found.now.name ≡ name.now) × (kind_of self.now name.now ≡ Some found.now.kind)) }
+        ensures { IfSome result (λ found. (found.now.name ≡ name.now) ×
+            (kind_of self.now name.now ≡ Some found.now.kind)) }
     {
         match self.known.get(place) {
             Some(entry) if is_same(entry.name.as_slice(), name) => Some(entry),
@@ -102,7 +105,8 @@ impl Table {
 
     // The entry that a guess leads to.
     fn guessed(&self, name: &[u8]) -> Option<&Known>
-        ensures { IfSome result (λ found. (found.now.name ≡ name.now) × (kind_of self.now name.now ≡ Some found.now.kind)) }
+        ensures { IfSome result (λ found. (found.now.name ≡ name.now) ×
+            (kind_of self.now name.now ≡ Some found.now.kind)) }
     {
         let slot = slot_of(name);
         for probe in 0..PROBES {
@@ -119,7 +123,8 @@ impl Table {
 
     // The first entry with the name.
     fn find(&self, name: &[u8]) -> Option<&Known>
-        ensures { MatchOption result (kind_of self.now name.now ≡ None) (λ found. (found.now.name ≡ name.now) × (kind_of self.now name.now ≡ Some found.now.kind)) }
+        ensures { MatchOption result (kind_of self.now name.now ≡ None) (λ found. (found.now.name ≡ name.now) ×
+            (kind_of self.now name.now ≡ Some found.now.kind)) }
     {
         match self.guessed(name) {
             Some(entry) => Some(entry),

@@ -43,7 +43,8 @@ fn take_parts(
     requires { length wants.now ≤ length words.old.items }
     ensures taken { OnOk result (HasTaken wants.now words.old.items words.new.items parts.old.items parts.new.items) }
     ensures fit { OnOk result (first_pair misfit wants.now words.old.items ≡ None) }
-    ensures flaw { IfErr result (λ kind. kind ≢ RefusalKind.NoMemory → first_pair misfit wants.now words.old.items ≡ Some kind) }
+    ensures flaw { IfErr result (λ kind. kind ≢ RefusalKind.NoMemory → first_pair misfit wants.now words.old.items
+        ≡ Some kind) }
 {
     for want in wants {
         let Some(word) = words.pop_front() else {
@@ -66,7 +67,8 @@ fn take_all(
     ensures count { OnOk result (length words.old.items ≡ length wants.now) }
     ensures taken { OnOk result (HasTaken wants.now words.old.items words.new.items parts.old.items parts.new.items) }
     ensures fit { OnOk result (first_pair misfit wants.now words.old.items ≡ None) }
-    ensures flaw { IfErr result (λ kind. kind ≢ RefusalKind.NoMemory → counted_misfit wants.now words.old.items ≡ Some kind) }
+    ensures flaw { IfErr result (λ kind. kind ≢ RefusalKind.NoMemory → counted_misfit wants.now words.old.items
+        ≡ Some kind) }
 {
     if words.len() != wants.len() {
         return Err(RefusalKind::WrongCount);
@@ -81,8 +83,10 @@ fn plain_parts(
     wants: &[Want],
     mut words: VecDeque<Word>,
 ) -> Result<Worded, RefusalKind>
-    ensures parts { IfOk result (λ worded. IsParted (Words wants.now) words.entry.items worded.parts.items worded.format) }
-    ensures flaw { IfErr result (λ kind. kind ≢ RefusalKind.NoMemory → HasPartFlaw (Words wants.now) words.entry.items kind) }
+    ensures parts { IfOk result (λ worded. IsParted (Words wants.now) words.entry.items worded.parts.items
+        worded.format) }
+    ensures flaw { IfErr result (λ kind. kind ≢ RefusalKind.NoMemory →
+        HasPartFlaw (Words wants.now) words.entry.items kind) }
 {
     let mut parts = Vec::with_capacity(alloc, wants.len())?;
     take_all(alloc, names, wants, &mut words, &mut parts)?;
@@ -186,8 +190,10 @@ pub fn parts_of(
     verb: Verb,
     words: VecDeque<Word>,
 ) -> Result<Worded, RefusalKind>
-    ensures parts { IfOk result (λ worded. IsParted (verb_shape verb) words.entry.items worded.parts.items worded.format) }
-    ensures flaw { IfErr result (λ kind. kind ≢ RefusalKind.NoMemory → HasPartFlaw (verb_shape verb) words.entry.items kind) }
+    ensures parts { IfOk result (λ worded. IsParted (verb_shape verb) words.entry.items worded.parts.items
+        worded.format) }
+    ensures flaw { IfErr result (λ kind. kind ≢ RefusalKind.NoMemory →
+        HasPartFlaw (verb_shape verb) words.entry.items kind) }
 {
     match verb {
         Verb::Catn => joined_parts(alloc, names, words),

@@ -1,6 +1,8 @@
 // The words of a line.
-ghost use Rattle.std.specs.Prelude.{◌≡◌, ◌≢◌, ◌<◌, ◌≤◌, ℕ, List, [], ◌∷◌, ◌++◌, length, take, drop, All, IfOk, IfErr, IfSome, MatchOption, option_map, IsTrue, false};
-ghost use Rattle.cord_script.specs.Words.{IsBlank, IsPlain, EndsPlain, StartsNoBlank, Spells, IsBadText, HasNext, BeginsBadText, HasWords, HasBadBytes};
+ghost use Rattle.std.specs.Prelude.{◌≡◌, ◌≢◌, ◌<◌, ◌≤◌, ℕ, List, [], ◌∷◌, ◌++◌, length, take, drop, All, IfOk, IfErr};
+ghost use Rattle.std.specs.Prelude.{IfSome, MatchOption, option_map, IsTrue, false};
+ghost use Rattle.cord_script.specs.Words.{IsBlank, IsPlain, EndsPlain, StartsNoBlank, Spells, IsBadText, HasNext};
+ghost use Rattle.cord_script.specs.Words.{BeginsBadText, HasWords, HasBadBytes};
 ghost use Rattle.std.specs.Str.{bytes_eq};
 ghost use Rattle.cord_script.specs.inner.Reading.{digit_of, hex_of, escape_of, unit_of};
 
@@ -173,7 +175,8 @@ fn unit(bytes: &[u8]) -> Option<(u8, &[u8])>
 
 // The text of a quoted word whose first quote is read, and what follows the word.
 fn quoted(alloc: Global, inner: &[u8]) -> Result<(Text, &[u8]), RefusalKind>
-    ensures text { IfOk result (λ r. (w : List ℕ) × (inner.now ≡ w ++ 34 ∷ r.1.now) × Spells w r.0 × (length r.0 ≤ MAX_TEXT)) }
+    ensures text { IfOk result (λ r. (w : List ℕ) × (inner.now ≡ w ++ 34 ∷ r.1.now) × Spells w r.0 ×
+        (length r.0 ≤ MAX_TEXT)) }
     ensures flaw { IfErr result (λ kind. kind ≢ RefusalKind.NoMemory → IsBadText inner.now kind) }
 {
     let mut text = Vec::new(alloc);

@@ -1,5 +1,6 @@
 -- Comparisons by pieces: the first difference decides, and else the lengths.
-use Rattle.std.proofs.Common.{◌==◌, Bool, true, false, append_assoc, to_z, of_z, w8, ◌≡◌, ℕ, ◌+◌, ◌-◌, ◌<◌, ◌≤◌, zero, suc, List, [], ◌∷◌, ◌++◌, length, take, drop, None, Some, refl, sym, ◌∙◌, ap, arith, length-drop}
+use Rattle.std.proofs.Common.{◌==◌, Bool, true, false, append_assoc, to_z, of_z, w8, ◌≡◌, ℕ, ◌+◌, ◌-◌, ◌<◌, ◌≤◌, zero, suc, List, [], ◌∷◌}
+use Rattle.std.proofs.Common.{◌++◌, length, take, drop, None, Some, refl, sym, ◌∙◌, ap, arith, length-drop}
 use Rattle.std.specs.Prelude.{Option, min, ℤ, pos, negsuc, nat_lt, if◌then◌else◌, cond}
 use Rattle.std.specs.Ordering.{nat_cmp, ordering_then, MatchOrdering}
 use Rattle.std.specs.Cmp.{ranked, nat_cmp_is}
@@ -37,13 +38,17 @@ cmp_front [] u v = refl
 cmp_front (b ∷ f) u v = ap (λ (r : Ordering). ordering_then r (slice_cmp nat_cmp (f ++ u) (f ++ v))) (same_byte b) ∙ cmp_front f u v
 
 -- a difference in front
-cmp_decided : (u v u' v' : List ℕ) (r : Ordering) → length u ≡ length v → slice_cmp nat_cmp u v ≡ r → (r ≡ Equal → ⊥) → slice_cmp nat_cmp (u ++ u') (v ++ v') ≡ r
+cmp_decided : (u v u' v' : List ℕ) (r : Ordering) → length u ≡ length v → slice_cmp nat_cmp u v ≡ r → (r ≡ Equal → ⊥) →
+    slice_cmp nat_cmp (u ++ u') (v ++ v') ≡ r
 cmp_decided [] [] u' v' r e h not = absurd (not (sym h))
 cmp_decided [] (c ∷ v) u' v' r e h not = absurd (omega arith)
 cmp_decided (b ∷ u) [] u' v' r e h not = absurd (omega arith)
-cmp_decided (b ∷ u) (c ∷ v) u' v' r e h not = pick (nat_cmp b c) h (λ (k : slice_cmp nat_cmp u v ≡ r). cmp_decided u v u' v' r (omega arith) k not)
+cmp_decided (b ∷ u) (c ∷ v) u' v' r e h not = pick (nat_cmp b c) h
+    (λ (k : slice_cmp nat_cmp u v ≡ r). cmp_decided u v u' v' r (omega arith) k not)
   where
-    pick : (s : Ordering) → ordering_then s (slice_cmp nat_cmp u v) ≡ r → (slice_cmp nat_cmp u v ≡ r → slice_cmp nat_cmp (u ++ u') (v ++ v') ≡ r) → ordering_then s (slice_cmp nat_cmp (u ++ u') (v ++ v')) ≡ r
+    pick : (s : Ordering) → ordering_then s (slice_cmp nat_cmp u v) ≡ r →
+        (slice_cmp nat_cmp u v ≡ r → slice_cmp nat_cmp (u ++ u') (v ++ v') ≡ r) → ordering_then s (slice_cmp nat_cmp (u ++ u') (v ++ v'))
+        ≡ r
     pick Less h ih = h
     pick Equal h ih = ih h
     pick Greater h ih = h
@@ -60,13 +65,15 @@ cmp_equal [] (c ∷ v) h = cc
 cmp_equal (b ∷ u) [] h = cc
 cmp_equal (b ∷ u) (c ∷ v) h = pick (nat_cmp b c) refl h (λ (k : slice_cmp nat_cmp u v ≡ Equal). cmp_equal u v k)
   where
-    pick : (s : Ordering) → s ≡ nat_cmp b c → ordering_then s (slice_cmp nat_cmp u v) ≡ Equal → (slice_cmp nat_cmp u v ≡ Equal → u ≡ v) → b ∷ u ≡ c ∷ v
+    pick : (s : Ordering) → s ≡ nat_cmp b c → ordering_then s (slice_cmp nat_cmp u v) ≡ Equal → (slice_cmp nat_cmp u v ≡ Equal → u ≡ v) →
+        b ∷ u ≡ c ∷ v
     pick Less is h ih = cc
     pick Equal is h ih = let one : b ≡ c = ranked b c Equal is in let two : u ≡ v = ih h in cc (one, two)
     pick Greater is h ih = cc
 
 -- one text is a prefix of the other: their lengths decide
-cmp_lengths : (xs ys : List ℕ) (m : ℕ) → min (length xs) (length ys) ≤ m → take m xs ≡ take m ys → nat_cmp (length xs) (length ys) ≡ slice_cmp nat_cmp xs ys
+cmp_lengths : (xs ys : List ℕ) (m : ℕ) → min (length xs) (length ys) ≤ m → take m xs ≡ take m ys →
+    nat_cmp (length xs) (length ys) ≡ slice_cmp nat_cmp xs ys
 cmp_lengths [] [] m h e = refl
 cmp_lengths [] (c ∷ ys) m h e = sym (nat_cmp_is 0 (suc (length ys)) Less (omega arith))
 cmp_lengths (b ∷ xs) [] m h e = sym (nat_cmp_is (suc (length xs)) 0 Greater (omega arith))
@@ -74,45 +81,68 @@ cmp_lengths (b ∷ xs) (c ∷ ys) zero h e = absurd (omega arith)
 cmp_lengths (b ∷ xs) (c ∷ ys) (suc m) h e =
     let one : b ≡ c = cc e in
     let two : take m xs ≡ take m ys = cc e in
-    sym (nat_cmp_suc (length xs) (length ys)) ∙ cmp_lengths xs ys m (omega arith) two ∙ sym (ap (λ (r : Ordering). ordering_then r (slice_cmp nat_cmp xs ys)) (ap (λ (k : ℕ). nat_cmp k c) one ∙ same_byte c))
+    sym (nat_cmp_suc (length xs) (length ys)) ∙ cmp_lengths xs ys m (omega arith) two
+    ∙ sym (ap (λ (r : Ordering). ordering_then r (slice_cmp nat_cmp xs ys)) (ap (λ (k : ℕ). nat_cmp k c) one ∙ same_byte c))
 
 -- the front of a piece, as a range of what is compared
-pub piece_front : (x piece : List ℕ) (i done n : ℕ) → piece ≡ take (length piece) (drop (i + done) x) → n ≤ length piece → take n piece ≡ take n (drop done (drop i x))
-piece_front x piece i done n e h = ap (λ (ys : List ℕ). take n ys) e ∙ take-take n (length piece) (drop (i + done) x) h ∙ ap (λ (ys : List ℕ). take n ys) (sym (drop-drop done i x))
+pub piece_front : (x piece : List ℕ) (i done n : ℕ) → piece ≡ take (length piece) (drop (i + done) x) → n ≤ length piece →
+    take n piece ≡ take n (drop done (drop i x))
+piece_front x piece i done n e h = ap (λ (ys : List ℕ). take n ys) e ∙ take-take n (length piece) (drop (i + done) x) h
+    ∙ ap (λ (ys : List ℕ). take n ys) (sym (drop-drop done i x))
 
 -- the next bytes are the same too
-pub same_on : (t : Table) (x : Option Node) (i : ℕ) (y : Option Node) (j done n : ℕ) (piece other : List ℕ) → n ≤ length piece → n ≤ length other → IsPieceOf t x (i + done) piece → IsPieceOf t y (j + done) other → Equal ≡ slice_cmp nat_cmp (take n piece) (take n other) → AreSame t x i y j done → AreSame t x i y j (done + n)
+pub same_on : (t : Table) (x : Option Node) (i : ℕ) (y : Option Node) (j done n : ℕ) (piece other : List ℕ) → n ≤ length piece →
+    n ≤ length other → IsPieceOf t x (i + done) piece → IsPieceOf t y (j + done) other →
+    Equal ≡ slice_cmp nat_cmp (take n piece) (take n other) → AreSame t x i y j done → AreSame t x i y j (done + n)
 same_on t x i y j done n piece other p q e f h s =
     let u = drop i (bytes_of t x) in
     let v = drop j (bytes_of t y) in
     let next : take n (drop done u) ≡ take n (drop done v) = sym (piece_front (bytes_of t x) piece i done n e p) ∙ cmp_equal (take n piece) (take n other) (sym h) ∙ piece_front (bytes_of t y) other j done n f q in
-    take-add done n u ∙ ap (λ (zs : List ℕ). zs ++ take n (drop done u)) s ∙ ap (λ (zs : List ℕ). take done v ++ zs) next ∙ sym (take-add done n v)
+    take-add done n u ∙ ap (λ (zs : List ℕ). zs ++ take n (drop done u)) s ∙ ap (λ (zs : List ℕ). take done v ++ zs) next
+    ∙ sym (take-add done n v)
 
 -- the next bytes are not the same
-pub different : (t : Table) (x : Option Node) (i a : ℕ) (y : Option Node) (j b done n : ℕ) (piece other : List ℕ) (r : Ordering) → done + n ≤ a → done + n ≤ b → n ≤ length piece → n ≤ length other → IsPieceOf t x (i + done) piece → IsPieceOf t y (j + done) other → r ≡ slice_cmp nat_cmp (take n piece) (take n other) → (r ≡ Equal → ⊥) → AreSame t x i y j done → IsOrderOf t x i a y j b r
+pub different : (t : Table) (x : Option Node) (i a : ℕ) (y : Option Node) (j b done n : ℕ) (piece other : List ℕ) (r : Ordering) →
+    done + n ≤ a → done + n ≤ b → n ≤ length piece → n ≤ length other → IsPieceOf t x (i + done) piece → IsPieceOf t y (j + done) other →
+    r ≡ slice_cmp nat_cmp (take n piece) (take n other) → (r ≡ Equal → ⊥) → AreSame t x i y j done → IsOrderOf t x i a y j b r
 different t x i a y j b done n piece other r k m p q e f h not s =
     let u = drop i (bytes_of t x) in
     let v = drop j (bytes_of t y) in
     let l : length (take n piece) ≡ length (take n other) = length-take-le n piece p ∙ sym (length-take-le n other q) in
     let left = split u a k (take n piece) (piece_front (bytes_of t x) piece i done n e p) in
     let right = split v b m (take n other) (piece_front (bytes_of t y) other j done n f q) in
-    sym (ap (λ (zs : List ℕ). slice_cmp nat_cmp zs (take b v)) left ∙ ap (λ (zs : List ℕ). slice_cmp nat_cmp (take done u ++ (take n piece ++ take (a - (done + n)) (drop (done + n) u))) zs) right ∙ ap (λ (zs : List ℕ). slice_cmp nat_cmp (zs ++ (take n piece ++ take (a - (done + n)) (drop (done + n) u))) (take done v ++ (take n other ++ take (b - (done + n)) (drop (done + n) v)))) s ∙ cmp_front (take done v) (take n piece ++ take (a - (done + n)) (drop (done + n) u)) (take n other ++ take (b - (done + n)) (drop (done + n) v)) ∙ cmp_decided (take n piece) (take n other) (take (a - (done + n)) (drop (done + n) u)) (take (b - (done + n)) (drop (done + n) v)) r l (sym h) not)
+    sym (ap (λ (zs : List ℕ). slice_cmp nat_cmp zs (take b v)) left
+    ∙ ap (λ (zs : List ℕ). slice_cmp nat_cmp (take done u ++ (take n piece ++ take (a - (done + n)) (drop (done + n) u))) zs) right
+    ∙ ap (λ (zs : List ℕ). slice_cmp nat_cmp (zs ++ (take n piece ++ take (a - (done + n)) (drop (done + n) u)))
+    (take done v ++ (take n other ++ take (b - (done + n)) (drop (done + n) v)))) s
+    ∙ cmp_front (take done v) (take n piece ++ take (a - (done + n)) (drop (done + n) u))
+    (take n other ++ take (b - (done + n)) (drop (done + n) v))
+    ∙ cmp_decided (take n piece) (take n other) (take (a - (done + n)) (drop (done + n) u))
+    (take (b - (done + n)) (drop (done + n) v)) r l (sym h) not)
   where
-    split : (u : List ℕ) (a : ℕ) → done + n ≤ a → (zs : List ℕ) → zs ≡ take n (drop done u) → take a u ≡ take done u ++ (zs ++ take (a - (done + n)) (drop (done + n) u))
+    split : (u : List ℕ) (a : ℕ) → done + n ≤ a → (zs : List ℕ) → zs ≡ take n (drop done u) →
+        take a u ≡ take done u ++ (zs ++ take (a - (done + n)) (drop (done + n) u))
     split u a k zs e =
         let whole : a ≡ (done + n) + (a - (done + n)) = omega arith in
-        ap (λ (m : ℕ). take m u) whole ∙ take-add (done + n) (a - (done + n)) u ∙ ap (λ (ws : List ℕ). ws ++ take (a - (done + n)) (drop (done + n) u)) (take-add done n u) ∙ append_assoc (take done u) (take n (drop done u)) (take (a - (done + n)) (drop (done + n) u)) ∙ ap (λ (ws : List ℕ). take done u ++ (ws ++ take (a - (done + n)) (drop (done + n) u))) (sym e)
+        ap (λ (m : ℕ). take m u) whole ∙ take-add (done + n) (a - (done + n)) u
+        ∙ ap (λ (ws : List ℕ). ws ++ take (a - (done + n)) (drop (done + n) u)) (take-add done n u)
+        ∙ append_assoc (take done u) (take n (drop done u)) (take (a - (done + n)) (drop (done + n) u))
+        ∙ ap (λ (ws : List ℕ). take done u ++ (ws ++ take (a - (done + n)) (drop (done + n) u))) (sym e)
 
 -- all of the shorter one is the same
-pub no_different : (t : Table) (x : Option Node) (i a : ℕ) (y : Option Node) (j b done : ℕ) → done ≤ min a b → min a b ≤ done → length (take a (drop i (bytes_of t x))) ≡ a → length (take b (drop j (bytes_of t y))) ≡ b → AreSame t x i y j done → IsOrderOf t x i a y j b (nat_cmp a b)
+pub no_different : (t : Table) (x : Option Node) (i a : ℕ) (y : Option Node) (j b done : ℕ) → done ≤ min a b → min a b ≤ done →
+    length (take a (drop i (bytes_of t x))) ≡ a → length (take b (drop j (bytes_of t y))) ≡ b → AreSame t x i y j done →
+    IsOrderOf t x i a y j b (nat_cmp a b)
 no_different t x i a y j b done low high p q s =
     let u = drop i (bytes_of t x) in
     let v = drop j (bytes_of t y) in
     let same : take done (take a u) ≡ take done (take b v) = take-take done a u (omega (arith, low)) ∙ s ∙ sym (take-take done b v (omega (arith, low))) in
-    ap (λ (k : ℕ). nat_cmp k b) (sym p) ∙ ap (λ (k : ℕ). nat_cmp (length (take a u)) k) (sym q) ∙ cmp_lengths (take a u) (take b v) done (omega (arith, p, q, high)) same
+    ap (λ (k : ℕ). nat_cmp k b) (sym p) ∙ ap (λ (k : ℕ). nat_cmp (length (take a u)) k) (sym q)
+    ∙ cmp_lengths (take a u) (take b v) done (omega (arith, p, q, high)) same
 
 -- a range that lies inside is as long as was asked
-pub range_len : (t : Table) (x : Option Node) (i a : ℕ) → length (bytes_of t x) ≡ text_len x → (0 < a → i + a ≤ text_len x) → length (take a (drop i (bytes_of t x))) ≡ a
+pub range_len : (t : Table) (x : Option Node) (i a : ℕ) → length (bytes_of t x) ≡ text_len x → (0 < a → i + a ≤ text_len x) →
+    length (take a (drop i (bytes_of t x))) ≡ a
 range_len t x i zero len inside = refl
 range_len t x i (suc a) len inside = let fits : i + suc a ≤ text_len x = inside (omega arith) in length-take-le (suc a) (drop i (bytes_of t x)) (omega (arith, fits, len, length-drop i (bytes_of t x)))
 
@@ -123,7 +153,9 @@ order_sign [] (c ∷ ys) = refl
 order_sign (b ∷ xs) [] = refl
 order_sign (b ∷ xs) (c ∷ ys) = pick (nat_lt b c) (nat_lt c b) (b == c) refl refl refl (order_sign xs ys)
   where
-    pick : (v w e : Bool) → nat_lt b c ≡ v → nat_lt c b ≡ w → (b == c) ≡ e → sign_of (slice_cmp nat_cmp xs ys) ≡ order xs ys → sign_of (ordering_then (cond v Less (cond e Equal Greater)) (slice_cmp nat_cmp xs ys)) ≡ (if v then negsuc 0 else if w then pos 1 else order xs ys)
+    pick : (v w e : Bool) → nat_lt b c ≡ v → nat_lt c b ≡ w → (b == c) ≡ e → sign_of (slice_cmp nat_cmp xs ys) ≡ order xs ys →
+        sign_of (ordering_then (cond v Less (cond e Equal Greater)) (slice_cmp nat_cmp xs ys))
+        ≡ (if v then negsuc 0 else if w then pos 1 else order xs ys)
     pick true w e p q r ih = refl
     pick false true true p q r ih = let more : c < b = ltb-true c b q in let same : b ≡ c = eqb-true b c r in absurd (omega arith)
     pick false true false p q r ih = refl
@@ -137,20 +169,27 @@ signed Equal = refl
 signed Greater = refl
 
 -- the order of two cords
-pub sign_whole : (t : Table) (x y : Option Node) (a b : ℕ) (r : Ordering) (s : ℤ) → length (bytes_of t x) ≡ text_len x → length (bytes_of t y) ≡ text_len y → a ≡ text_len x → b ≡ text_len y → s ≡ sign_of r → IsOrderOf t x 0 a y 0 b r → to_z w8 (of_z w8 s) ≡ order (bytes_of t x) (bytes_of t y)
+pub sign_whole : (t : Table) (x y : Option Node) (a b : ℕ) (r : Ordering) (s : ℤ) → length (bytes_of t x) ≡ text_len x →
+    length (bytes_of t y) ≡ text_len y → a ≡ text_len x → b ≡ text_len y → s ≡ sign_of r → IsOrderOf t x 0 a y 0 b r →
+    to_z w8 (of_z w8 s) ≡ order (bytes_of t x) (bytes_of t y)
 sign_whole t x y a b r s p q d e f h =
     let left : take a (bytes_of t x) ≡ bytes_of t x = take_all a (bytes_of t x) (omega (arith, p, d)) in
     let right : take b (bytes_of t y) ≡ bytes_of t y = take_all b (bytes_of t y) (omega (arith, q, e)) in
-    ap (λ (z : ℤ). to_z w8 (of_z w8 z)) f ∙ signed r ∙ ap sign_of h ∙ order_sign (take a (bytes_of t x)) (take b (bytes_of t y)) ∙ ap (λ (zs : List ℕ). order zs (take b (bytes_of t y))) left ∙ ap (λ (zs : List ℕ). order (bytes_of t x) zs) right
+    ap (λ (z : ℤ). to_z w8 (of_z w8 z)) f ∙ signed r ∙ ap sign_of h ∙ order_sign (take a (bytes_of t x)) (take b (bytes_of t y))
+    ∙ ap (λ (zs : List ℕ). order zs (take b (bytes_of t y))) left ∙ ap (λ (zs : List ℕ). order (bytes_of t x) zs) right
 
 -- the order of two ranges
-pub sign_ranges : (t : Table) (x : Option Node) (i : ℕ) (y : Option Node) (j k a b : ℕ) (r : Ordering) (s : ℤ) → length (bytes_of t x) ≡ text_len x → length (bytes_of t y) ≡ text_len y → a ≡ min k (text_len x - i) → b ≡ min k (text_len y - j) → s ≡ sign_of r → IsOrderOf t x i a y j b r → to_z w8 (of_z w8 s) ≡ order (take k (drop i (bytes_of t x))) (take k (drop j (bytes_of t y)))
+pub sign_ranges : (t : Table) (x : Option Node) (i : ℕ) (y : Option Node) (j k a b : ℕ) (r : Ordering) (s : ℤ) →
+    length (bytes_of t x) ≡ text_len x → length (bytes_of t y) ≡ text_len y → a ≡ min k (text_len x - i) → b ≡ min k (text_len y - j) →
+    s ≡ sign_of r → IsOrderOf t x i a y j b r → to_z w8 (of_z w8 s)
+    ≡ order (take k (drop i (bytes_of t x))) (take k (drop j (bytes_of t y)))
 sign_ranges t x i y j k a b r s p q d e f h =
     let u = drop i (bytes_of t x) in
     let v = drop j (bytes_of t y) in
     let left : take a u ≡ take k u = ap (λ (m : ℕ). take m u) d ∙ range_min (bytes_of t x) i k (text_len x) p in
     let right : take b v ≡ take k v = ap (λ (m : ℕ). take m v) e ∙ range_min (bytes_of t y) j k (text_len y) q in
-    ap (λ (z : ℤ). to_z w8 (of_z w8 z)) f ∙ signed r ∙ ap sign_of h ∙ order_sign (take a u) (take b v) ∙ ap (λ (zs : List ℕ). order zs (take b v)) left ∙ ap (λ (zs : List ℕ). order (take k u) zs) right
+    ap (λ (z : ℤ). to_z w8 (of_z w8 z)) f ∙ signed r ∙ ap sign_of h ∙ order_sign (take a u) (take b v)
+    ∙ ap (λ (zs : List ℕ). order zs (take b v)) left ∙ ap (λ (zs : List ℕ). order (take k u) zs) right
 
 -- no cord is longer than the limit
 pub cord_limit : (c : Option Node) → IsCord c → text_len c ≤ MAX_LEN

@@ -1,5 +1,6 @@
 -- Places of a byte: those in a piece are those in the text.
-use Rattle.std.proofs.Common.{◌≡◌, ◌≢◌, ℕ, ◌+◌, ◌-◌, ◌<◌, ◌≤◌, List, [], ◌∷◌, length, take, drop, get_or, None, Some, refl, sym, ◌∙◌, ap, arith, ⊎_elim, eq-eqb, length-drop}
+use Rattle.std.proofs.Common.{◌≡◌, ◌≢◌, ℕ, ◌+◌, ◌-◌, ◌<◌, ◌≤◌, List, [], ◌∷◌, length, take, drop, get_or, None, Some, refl, sym, ◌∙◌, ap}
+use Rattle.std.proofs.Common.{arith, ⊎_elim, eq-eqb, length-drop}
 use Rattle.std.specs.Prelude.{Option, slice_get}
 use Rattle.std.proofs.lemmas.Bool.{cases_lt, eqb-true}
 use Rattle.std.proofs.lemmas.List.{get_or-take, get_or-drop, length-take, length-take-le}
@@ -68,30 +69,36 @@ pub byte_of_range : (x xs : List ℕ) (p : ℕ) → xs ≡ take (length xs) (dro
 byte_of_range x xs p e some =
     let inside : p + length xs ≤ length x = range_inside x xs p e some in
     let here : p + 0 ≡ p = omega arith in
-    slice_get-get_or x p 0 (omega (arith, inside, some)) ∙ ap (λ (b : ℕ). Some b) (sym (range_at x xs p 0 e some ∙ ap (λ (k : ℕ). get_or x k 0) here))
+    slice_get-get_or x p 0 (omega (arith, inside, some)) ∙ ap (λ (b : ℕ). Some b)
+    (sym (range_at x xs p 0 e some ∙ ap (λ (k : ℕ). get_or x k 0) here))
 
 -- a byte of the text is found in the range that holds its place
-passes : (x xs : List ℕ) (c p q : ℕ) → xs ≡ take (length xs) (drop p x) → p ≤ q → q < p + length xs → slice_get x q ≡ Some c → Passes (is_byte c) xs (q - p)
+passes : (x xs : List ℕ) (c p q : ℕ) → xs ≡ take (length xs) (drop p x) → p ≤ q → q < p + length xs → slice_get x q ≡ Some c →
+    Passes (is_byte c) xs (q - p)
 passes x xs c p q e from to h =
     let m : p + (q - p) ≡ q = omega arith in
     let there : get_or xs (q - p) 0 ≡ c = range_at x xs p (q - p) e (omega arith) ∙ ap (λ (k : ℕ). get_or x k 0) m ∙ get_or_from_slice_get x q c 0 h in
     eq-eqb (get_or xs (q - p) 0) c there
 
 -- a byte that is found in a range stands in the text
-found : (x xs : List ℕ) (c p k : ℕ) → xs ≡ take (length xs) (drop p x) → k < length xs → Passes (is_byte c) xs k → slice_get x (p + k) ≡ Some c
+found : (x xs : List ℕ) (c p k : ℕ) → xs ≡ take (length xs) (drop p x) → k < length xs → Passes (is_byte c) xs k →
+    slice_get x (p + k) ≡ Some c
 found x xs c p k e lt h =
     let inside : p + length xs ≤ length x = range_inside x xs p e (omega arith) in
     slice_get-get_or x (p + k) 0 (omega arith) ∙ ap (λ (b : ℕ). Some b) (sym (range_at x xs p k e lt) ∙ eqb-true (get_or xs k 0) c h)
 
 -- a search by pieces goes on
-pub first_on : (t : Table) (n : Node) (xs : List ℕ) (c from p : ℕ) (r : Option ℕ) → r ≡ None → IsFirstByte (is_byte c) xs r → IsPieceAt t n p xs → NotFound t n (c ∷ []) from p → NotFound t n (c ∷ []) from (p + length xs)
+pub first_on : (t : Table) (n : Node) (xs : List ℕ) (c from p : ℕ) (r : Option ℕ) → r ≡ None → IsFirstByte (is_byte c) xs r →
+    IsPieceAt t n p xs → NotFound t n (c ∷ []) from p → NotFound t n (c ∷ []) from (p + length xs)
 first_on t n xs c from p r is h e none =
     let nowhere : Nowhere (Passes (is_byte c) xs) 0 (length xs) = rw is at h in
     let x = bytes_over t n in
-    λ q low to at. ⊎_elim (λ (lt : q < p). none q low lt at) (λ (le : p ≤ q). nowhere (q - p) (omega arith) (omega arith) (passes x xs c p q e le to (byte_there x c q at))) (cases_lt q p)
+    λ q low to at. ⊎_elim (λ (lt : q < p). none q low lt at) (λ (le : p ≤ q).
+    nowhere (q - p) (omega arith) (omega arith) (passes x xs c p q e le to (byte_there x c q at))) (cases_lt q p)
 
 -- and ends where the byte is found
-pub first_found : (t : Table) (n : Node) (xs : List ℕ) (c from p k : ℕ) (r : Option ℕ) → r ≡ Some k → IsFirstByte (is_byte c) xs r → from ≤ p → IsPieceAt t n p xs → NotFound t n (c ∷ []) from p → Some (p + k) ≡ first (bytes_over t n) from (c ∷ [])
+pub first_found : (t : Table) (n : Node) (xs : List ℕ) (c from p k : ℕ) (r : Option ℕ) → r ≡ Some k → IsFirstByte (is_byte c) xs r →
+    from ≤ p → IsPieceAt t n p xs → NotFound t n (c ∷ []) from p → Some (p + k) ≡ first (bytes_over t n) from (c ∷ [])
 first_found t n xs c from p k r is h low e none =
     let x = bytes_over t n in
     let here : NoneBefore (Passes (is_byte c) xs) 0 (length xs) k × Passes (is_byte c) xs k = rw is at h in
@@ -99,19 +106,23 @@ first_found t n xs c from p k r is h low e none =
     first_only x (c ∷ []) from (Some (p + k)) (omega arith, byte_here x c (p + k) (found x xs c p k e here.0.high here.1), before)
 
 -- or at the end of the text
-pub first_none : (t : Table) (n : Node) (c from p : ℕ) → len_of n ≤ p → length (bytes_over t n) ≡ len_of n → NotFound t n (c ∷ []) from p → None ≡ first (bytes_over t n) from (c ∷ [])
+pub first_none : (t : Table) (n : Node) (c from p : ℕ) → len_of n ≤ p → length (bytes_over t n) ≡ len_of n → NotFound t n (c ∷ []) from p →
+    None ≡ first (bytes_over t n) from (c ∷ [])
 first_none t n c from p end len none =
     let x = bytes_over t n in
     first_only x (c ∷ []) from None (λ q low at. let inside : q < length x = slice_get_within x q c (byte_there x c q at) in none q low (omega (arith, len, inside)) at)
 
 -- the same from after
-pub last_on : (t : Table) (n : Node) (xs : List ℕ) (c at p end : ℕ) (r : Option ℕ) → r ≡ None → IsLastByte (is_byte c) xs r → p + length xs ≡ end → IsPieceAt t n p xs → HasNot t n c end (at + 1) → HasNot t n c p (at + 1)
+pub last_on : (t : Table) (n : Node) (xs : List ℕ) (c at p end : ℕ) (r : Option ℕ) → r ≡ None → IsLastByte (is_byte c) xs r →
+    p + length xs ≡ end → IsPieceAt t n p xs → HasNot t n c end (at + 1) → HasNot t n c p (at + 1)
 last_on t n xs c at p end r is h seam e none =
     let nowhere : Nowhere (Passes (is_byte c) xs) 0 (length xs) = rw is at h in
     let x = bytes_over t n in
-    λ q low to here. ⊎_elim (λ (lt : q < end). nowhere (q - p) (omega arith) (omega arith) (passes x xs c p q e low (omega arith) here)) (λ (le : end ≤ q). none q le to here) (cases_lt q end)
+    λ q low to here. ⊎_elim (λ (lt : q < end). nowhere (q - p) (omega arith) (omega arith) (passes x xs c p q e low (omega arith) here))
+    (λ (le : end ≤ q). none q le to here) (cases_lt q end)
 
-pub last_found : (t : Table) (n : Node) (xs : List ℕ) (c at p k end : ℕ) (r : Option ℕ) → r ≡ Some k → IsLastByte (is_byte c) xs r → p + length xs ≡ end → end ≤ at + 1 → IsPieceAt t n p xs → HasNot t n c end (at + 1) → Some (p + k) ≡ last (bytes_over t n) at c
+pub last_found : (t : Table) (n : Node) (xs : List ℕ) (c at p k end : ℕ) (r : Option ℕ) → r ≡ Some k → IsLastByte (is_byte c) xs r →
+    p + length xs ≡ end → end ≤ at + 1 → IsPieceAt t n p xs → HasNot t n c end (at + 1) → Some (p + k) ≡ last (bytes_over t n) at c
 last_found t n xs c at p k end r is h seam high e none =
     let x = bytes_over t n in
     let here : NoneAfter (Passes (is_byte c) xs) 0 (length xs) k × Passes (is_byte c) xs k = rw is at h in
@@ -123,7 +134,8 @@ pub last_none : (t : Table) (n : Node) (c at end : ℕ) → end ≤ 0 → HasNot
 last_none t n c at end low none = last_only (bytes_over t n) at c None (λ q to there. none q (omega arith) (omega arith) there)
 
 -- a byte of the text is one of the stretch that holds its place
-in_stretch : (t : Table) (n : Node) (p : ℕ) (s : Stretch) (c q : ℕ) → Fits t n → IsSound n → IsStretchAt n p s → p ≤ q → q < p + stretch_len s → slice_get (bytes_over t n) q ≡ Some c → slice_get (stretch_bytes t s) (q - p) ≡ Some c
+in_stretch : (t : Table) (n : Node) (p : ℕ) (s : Stretch) (c q : ℕ) → Fits t n → IsSound n → IsStretchAt n p s → p ≤ q →
+    q < p + stretch_len s → slice_get (bytes_over t n) q ≡ Some c → slice_get (stretch_bytes t s) (q - p) ≡ Some c
 in_stretch t n p s c q fits sound h from to there =
     let x = bytes_over t n in
     let xs = stretch_bytes t s in
@@ -131,13 +143,20 @@ in_stretch t n p s c q fits sound h from to there =
     let long : length xs ≡ stretch_len s = ap (λ (ys : List ℕ). length ys) (h.text t fits) ∙ length-take-le (stretch_len s) (drop p x) (omega (arith, len, h.inside, length-drop p x)) in
     let range : xs ≡ take (length xs) (drop p x) = h.text t fits ∙ ap (λ (k : ℕ). take k (drop p x)) (sym long) in
     let m : p + (q - p) ≡ q = omega arith in
-    slice_get-get_or xs (q - p) 0 (omega (arith, long, from, to)) ∙ ap (λ (b : ℕ). Some b) (range_at x xs p (q - p) range (omega (arith, long, from, to)) ∙ ap (λ (k : ℕ). get_or x k 0) m ∙ get_or_from_slice_get x q c 0 there)
+    slice_get-get_or xs (q - p) 0 (omega (arith, long, from, to))
+    ∙ ap (λ (b : ℕ). Some b) (range_at x xs p (q - p) range (omega (arith, long, from, to)) ∙ ap (λ (k : ℕ). get_or x k 0) m
+    ∙ get_or_from_slice_get x q c 0 there)
 
 -- a search goes on after a stretch that hasn't the byte
-pub first_past : (ls : Lengths) (t : Table) (n : Node) (s : Stretch) (c from p : ℕ) → HasLengths ls t → FitsIn ls n → IsSound n → IsStretchAt n p s → IsWithout s c → NotFound t n (c ∷ []) from p → NotFound t n (c ∷ []) from (p + stretch_len s)
+pub first_past : (ls : Lengths) (t : Table) (n : Node) (s : Stretch) (c from p : ℕ) → HasLengths ls t → FitsIn ls n → IsSound n →
+    IsStretchAt n p s → IsWithout s c → NotFound t n (c ∷ []) from p → NotFound t n (c ∷ []) from (p + stretch_len s)
 first_past ls t n s c from p told f sound h not none =
-    λ q low to at. ⊎_elim (λ (lt : q < p). none q low lt at) (λ (le : p ≤ q). not t (q - p) (in_stretch t n p s c q (Fits-told ls t n told f) sound h le to (byte_there (bytes_over t n) c q at))) (cases_lt q p)
+    λ q low to at. ⊎_elim (λ (lt : q < p). none q low lt at) (λ (le : p ≤ q).
+    not t (q - p) (in_stretch t n p s c q (Fits-told ls t n told f) sound h le to (byte_there (bytes_over t n) c q at))) (cases_lt q p)
 
-pub last_past : (ls : Lengths) (t : Table) (n : Node) (s : Stretch) (c at p end : ℕ) → HasLengths ls t → FitsIn ls n → IsSound n → p + stretch_len s ≡ end → IsStretchAt n p s → IsWithout s c → HasNot t n c end (at + 1) → HasNot t n c p (at + 1)
+pub last_past : (ls : Lengths) (t : Table) (n : Node) (s : Stretch) (c at p end : ℕ) → HasLengths ls t → FitsIn ls n → IsSound n →
+    p + stretch_len s ≡ end → IsStretchAt n p s → IsWithout s c → HasNot t n c end (at + 1) → HasNot t n c p (at + 1)
 last_past ls t n s c at p end told f sound seam h not none =
-    λ q low to here. ⊎_elim (λ (lt : q < end). not t (q - p) (in_stretch t n p s c q (Fits-told ls t n told f) sound h low (omega arith) here)) (λ (le : end ≤ q). none q le to here) (cases_lt q end)
+    λ q low to here. ⊎_elim
+    (λ (lt : q < end). not t (q - p) (in_stretch t n p s c q (Fits-told ls t n told f) sound h low (omega arith) here))
+    (λ (le : end ≤ q). none q le to here) (cases_lt q end)

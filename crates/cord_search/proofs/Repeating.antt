@@ -15,53 +15,79 @@ use Rattle.cord_search.proofs.Comparing.{piece_front}
 use Rattle.cord_search.proofs.Standing.{stands_get, stands_inside}
 
 -- the same bytes at one place
-same_at : (t : Table) (x : Option Node) (i : ℕ) (y : Option Node) (j n k : ℕ) → AreSame t x i y j n → k < n → get_or (bytes_of t x) (i + k) 0 ≡ get_or (bytes_of t y) (j + k) 0
+same_at : (t : Table) (x : Option Node) (i : ℕ) (y : Option Node) (j n k : ℕ) → AreSame t x i y j n → k < n →
+    get_or (bytes_of t x) (i + k) 0 ≡ get_or (bytes_of t y) (j + k) 0
 same_at t x i y j n k same lt =
     let u = bytes_of t x in
     let v = bytes_of t y in
-    sym (get_or-drop i u k 0) ∙ sym (get_or-take n (drop i u) k 0 lt) ∙ ap (λ (ys : List ℕ). get_or ys k 0) same ∙ get_or-take n (drop j v) k 0 lt ∙ get_or-drop j v k 0
+    sym (get_or-drop i u k 0) ∙ sym (get_or-take n (drop i u) k 0 lt) ∙ ap (λ (ys : List ℕ). get_or ys k 0) same
+    ∙ get_or-take n (drop j v) k 0 lt ∙ get_or-drop j v k 0
 
 -- one more place with the same bytes
-pub agree_on : (xs ys : List ℕ) (p : ℕ) → p < length xs → p < length ys → get_or xs p 0 ≡ get_or ys p 0 → take p xs ≡ take p ys → take (p + 1) xs ≡ take (p + 1) ys
-agree_on xs ys p l r e same = take_more xs p 0 l ∙ ap (λ (zs : List ℕ). zs ++ get_or xs p 0 ∷ []) same ∙ ap (λ (b : ℕ). take p ys ++ b ∷ []) e ∙ sym (take_more ys p 0 r)
+pub agree_on : (xs ys : List ℕ) (p : ℕ) → p < length xs → p < length ys → get_or xs p 0 ≡ get_or ys p 0 → take p xs ≡ take p ys →
+    take (p + 1) xs ≡ take (p + 1) ys
+agree_on xs ys p l r e same = take_more xs p 0 l ∙ ap (λ (zs : List ℕ). zs ++ get_or xs p 0 ∷ []) same
+    ∙ ap (λ (b : ℕ). take p ys ++ b ∷ []) e ∙ sym (take_more ys p 0 r)
 
 -- the next bytes are the same too
-pub common_on : (t : Table) (x : Option Node) (i : ℕ) (y : Option Node) (j done n : ℕ) (piece other : List ℕ) → n ≤ length piece → n ≤ length other → IsPieceOf t x (i + done) piece → IsPieceOf t y (j + done) other → take n piece ≡ take n other → AreSame t x i y j done → AreSame t x i y j (done + n)
+pub common_on : (t : Table) (x : Option Node) (i : ℕ) (y : Option Node) (j done n : ℕ) (piece other : List ℕ) → n ≤ length piece →
+    n ≤ length other → IsPieceOf t x (i + done) piece → IsPieceOf t y (j + done) other → take n piece ≡ take n other →
+    AreSame t x i y j done → AreSame t x i y j (done + n)
 common_on t x i y j done n piece other p q e f h s =
     let u = drop i (bytes_of t x) in
     let v = drop j (bytes_of t y) in
     let next : take n (drop done u) ≡ take n (drop done v) = sym (piece_front (bytes_of t x) piece i done n e p) ∙ h ∙ piece_front (bytes_of t y) other j done n f q in
-    take-add done n u ∙ ap (λ (zs : List ℕ). zs ++ take n (drop done u)) s ∙ ap (λ (zs : List ℕ). take done v ++ zs) next ∙ sym (take-add done n v)
+    take-add done n u ∙ ap (λ (zs : List ℕ). zs ++ take n (drop done u)) s ∙ ap (λ (zs : List ℕ). take done v ++ zs) next
+    ∙ sym (take-add done n v)
 
 -- and then they differ
-pub common_end : (t : Table) (x : Option Node) (i : ℕ) (y : Option Node) (j most done n : ℕ) (piece other : List ℕ) → done + n ≤ most → n < length piece → n < length other → IsPieceOf t x (i + done) piece → IsPieceOf t y (j + done) other → take n piece ≡ take n other → get_or piece n 0 ≢ get_or other n 0 → AreSame t x i y j done → IsCommon t x i y j most (done + n)
+pub common_end : (t : Table) (x : Option Node) (i : ℕ) (y : Option Node) (j most done n : ℕ) (piece other : List ℕ) → done + n ≤ most →
+    n < length piece → n < length other → IsPieceOf t x (i + done) piece → IsPieceOf t y (j + done) other → take n piece ≡ take n other →
+    get_or piece n 0 ≢ get_or other n 0 → AreSame t x i y j done → IsCommon t x i y j most (done + n)
 common_end t x i y j most done n piece other le p q e f h not s = record {
   within = le;
   same = common_on t x i y j done n piece other (omega arith) (omega arith) e f h s;
   differ = λ _ same.
       let left : i + done + n ≡ i + (done + n) = omega arith in
       let right : j + done + n ≡ j + (done + n) = omega arith in
-      not (range_at (bytes_of t x) piece (i + done) n e p ∙ ap (λ (k : ℕ). get_or (bytes_of t x) k 0) left ∙ same ∙ sym (range_at (bytes_of t y) other (j + done) n f q ∙ ap (λ (k : ℕ). get_or (bytes_of t y) k 0) right));
+      not (range_at (bytes_of t x) piece (i + done) n e p ∙ ap (λ (k : ℕ). get_or (bytes_of t x) k 0) left ∙ same
+      ∙ sym (range_at (bytes_of t y) other (j + done) n f q ∙ ap (λ (k : ℕ). get_or (bytes_of t y) k 0) right));
 }
 
-pub common_all : (t : Table) (x : Option Node) (i : ℕ) (y : Option Node) (j most done : ℕ) → done ≤ most → most ≤ done → AreSame t x i y j done → IsCommon t x i y j most done
+pub common_all : (t : Table) (x : Option Node) (i : ℕ) (y : Option Node) (j most done : ℕ) → done ≤ most → most ≤ done →
+    AreSame t x i y j done → IsCommon t x i y j most done
 common_all t x i y j most done le ge s = record { within = le; same = s; differ = λ lt. absurd (omega (arith, lt, ge)) }
 
 module _ (t : Table) (x s : Option Node) (place period count run : ℕ) (len : length (bytes_of t x) ≡ text_len x) (pattern_len : length (bytes_of t s) ≡ text_len s) (inside : period ≤ text_len s) (repeats : IsCommon t s 0 s period (text_len s - period) count) (runs : IsCommon t x place x (place + period) (text_len x - (place + period)) run) where
   -- what the text has at two places of the pattern, one a period after the other
-  here : (q k : ℕ) → StandsAt (bytes_of t x) (bytes_of t s) q → k + period < text_len s → get_or (bytes_of t x) (q + k) 0 ≡ get_or (bytes_of t s) k 0
+  here : (q k : ℕ) → StandsAt (bytes_of t x) (bytes_of t s) q → k + period < text_len s →
+      get_or (bytes_of t x) (q + k) 0 ≡ get_or (bytes_of t s) k 0
   here q k at lt = stands_get (bytes_of t x) (bytes_of t s) q k at (omega (arith, lt, pattern_len))
 
-  there : (q k m : ℕ) → StandsAt (bytes_of t x) (bytes_of t s) q → k + period < text_len s → m ≡ q + k + period → get_or (bytes_of t x) m 0 ≡ get_or (bytes_of t s) (period + k) 0
+  there : (q k m : ℕ) → StandsAt (bytes_of t x) (bytes_of t s) q → k + period < text_len s → m ≡ q + k + period →
+      get_or (bytes_of t x) m 0 ≡ get_or (bytes_of t s) (period + k) 0
   there q k m at lt e =
       let one : m ≡ q + (period + k) = omega (arith, e) in
-      ap (λ (p : ℕ). get_or (bytes_of t x) p 0) one ∙ stands_get (bytes_of t x) (bytes_of t s) q (period + k) at (omega (arith, lt, pattern_len))
+      ap (λ (p : ℕ). get_or (bytes_of t x) p 0) one ∙ stands_get (bytes_of t x) (bytes_of t s) q (period + k) at
+      (omega (arith, lt, pattern_len))
 
   -- where the pattern repeats itself as far as the text or further, it stands nowhere over the end of that
   pub passed_short : run ≤ count → StandsNot t x (bytes_of t s) (place + 1) (place + (run + 1))
-  passed_short le = λ q low to at. ⊎_elim (λ (lt : run < text_len x - (place + period)). over q low to at lt) (λ (end : text_len x - (place + period) ≤ run). omega (arith, low, end, le, repeats.within, len, pattern_len, inside, stands_inside (bytes_of t x) (bytes_of t s) q at)) (cases_lt run (text_len x - (place + period)))
+  passed_short le = λ q low to at. ⊎_elim (λ (lt : run < text_len x - (place + period)). over q low to at lt)
+      (λ (end : text_len x - (place + period) ≤ run). omega (
+        arith,
+        low,
+        end,
+        le,
+        repeats.within,
+        len,
+        pattern_len,
+        inside,
+        stands_inside (bytes_of t x) (bytes_of t s) q at,
+      )) (cases_lt run (text_len x - (place + period)))
     where
-      over : (q : ℕ) → place + 1 ≤ q → q < place + (run + 1) → StandsAt (bytes_of t x) (bytes_of t s) q → run < text_len x - (place + period) → ⊥
+      over : (q : ℕ) → place + 1 ≤ q → q < place + (run + 1) → StandsAt (bytes_of t x) (bytes_of t s) q →
+          run < text_len x - (place + period) → ⊥
       over q low to at lt =
           let k = place + run - q in
           let below : k + period < text_len s = omega (arith, low, to, le, repeats.within, inside) in
@@ -83,12 +109,15 @@ module _ (t : Table) (x s : Option Node) (place period count run : ℕ) (len : l
       let one = here q count at below in
       let two = there q count (place + period + k) at below next in
       let same = same_at t x place x (place + period) run k runs.same (omega (arith, low, to, lt)) in
-      repeats.differ ends (ap (λ (p : ℕ). get_or (bytes_of t s) p 0) zero ∙ sym one ∙ ap (λ (p : ℕ). get_or (bytes_of t x) p 0) from ∙ same ∙ two)
+      repeats.differ ends (ap (λ (p : ℕ). get_or (bytes_of t s) p 0) zero ∙ sym one ∙ ap (λ (p : ℕ). get_or (bytes_of t x) p 0) from ∙ same
+      ∙ two)
 
 -- no place is passed over
 pub passed_none : (t : Table) (x : Option Node) (s : List ℕ) (place : ℕ) → StandsNot t x s (place + 1) (place + 1)
 passed_none t x s place = λ q low to at. omega (arith, low, to)
 
 -- a search goes on after what it passes over
-pub passed_on : (t : Table) (x : Option Node) (s : List ℕ) (start place next : ℕ) → StandsNot t x s start (place + 1) → StandsNot t x s (place + 1) next → StandsNot t x s start next
-passed_on t x s start place next before behind = λ q low to at. ⊎_elim (λ (lt : q < place + 1). before q low lt at) (λ (le : place + 1 ≤ q). behind q le to at) (cases_lt q (place + 1))
+pub passed_on : (t : Table) (x : Option Node) (s : List ℕ) (start place next : ℕ) → StandsNot t x s start (place + 1) →
+    StandsNot t x s (place + 1) next → StandsNot t x s start next
+passed_on t x s start place next before behind = λ q low to at. ⊎_elim (λ (lt : q < place + 1). before q low lt at)
+    (λ (le : place + 1 ≤ q). behind q le to at) (cases_lt q (place + 1))

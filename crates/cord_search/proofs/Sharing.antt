@@ -17,33 +17,41 @@ use Rattle.cord_search.specs.declared.stretches.Stretch.{Stretch}
 use Rattle.cord_search.proofs.Ranges.{cord_told}
 
 -- what holds of a spot's node and place holds of the cord's
-pub on_cord : (c : Option Node) (place : ℕ) (s : Spot) (P : Option Node → ℕ → Type 0) → IsSpotOf c place s → P (Some s.node.now) s.place → P c place
+pub on_cord : (c : Option Node) (place : ℕ) (s : Spot) (P : Option Node → ℕ → Type 0) → IsSpotOf c place s → P (Some s.node.now) s.place →
+    P c place
 on_cord c place s P is h =
     let Q : Option Node → Type 0 = λ d. P d place in
     let R : ℕ → Type 0 = λ i. P (Some s.node.now) i in
     subst Q (sym is.0) (subst R is.1 h)
 
 -- the bytes from a place of a node are those of what is within
-within_bytes : (n : Node) (place : ℕ) (m : Node) (at k : ℕ) (t : Table) → (w : IsWithin n place m at) → Fits t n → at + k ≤ len_of m → take k (drop place (bytes_over t n)) ≡ take k (drop at (bytes_over t m))
+within_bytes : (n : Node) (place : ℕ) (m : Node) (at k : ℕ) (t : Table) → (w : IsWithin n place m at) → Fits t n → at + k ≤ len_of m →
+    take k (drop place (bytes_over t n)) ≡ take k (drop at (bytes_over t m))
 within_bytes n place m at k t w f h = ap (λ (j : ℕ). take k (drop j (bytes_over t n))) w.here ∙ w.text t f at k h
 
 -- one place of two nodes that have one text
-pub spots_alike : (n : Node) (i : ℕ) (m : Node) (a : ℕ) (o : Node) (j : ℕ) (l : Node) (b k : ℕ) → IsWithin n i m a → IsWithin o j l b → a ≡ b → len_of m ≡ len_of l → cells m ≡ cells l → a + k ≤ len_of m → AreAlike (Some n) i (Some o) j k
+pub spots_alike : (n : Node) (i : ℕ) (m : Node) (a : ℕ) (o : Node) (j : ℕ) (l : Node) (b k : ℕ) → IsWithin n i m a → IsWithin o j l b →
+    a ≡ b → len_of m ≡ len_of l → cells m ≡ cells l → a + k ≤ len_of m → AreAlike (Some n) i (Some o) j k
 spots_alike n i m a o j l b k v w here long one h = λ t f g.
     let same : bytes_over t m ≡ bytes_over t l = bytes-cells t m (v.fits (lengths_of t) f) ∙ ap (λ (xs : List Cell). map (byte_at t) xs) one ∙ sym (bytes-cells t l (w.fits (lengths_of t) g)) in
-    within_bytes n i m a k t v f h ∙ ap (λ (xs : List ℕ). take k (drop a xs)) same ∙ ap (λ (q : ℕ). take k (drop q (bytes_over t l))) here ∙ sym (within_bytes o j l b k t w g (omega (arith, here, long, h)))
+    within_bytes n i m a k t v f h ∙ ap (λ (xs : List ℕ). take k (drop a xs)) same ∙ ap (λ (q : ℕ). take k (drop q (bytes_over t l))) here
+    ∙ sym (within_bytes o j l b k t w g (omega (arith, here, long, h)))
 
 -- the first bytes of a stretch
-front : (t : Table) (c : Option Node) (place : ℕ) (s : Stretch) (k : ℕ) → CordFits t c → IsStretchOf c place s → k ≤ stretch_len s → take k (drop place (bytes_of t c)) ≡ take k (stretch_bytes t s)
-front t c place s k f h le = sym (take-take k (stretch_len s) (drop place (bytes_of t c)) le) ∙ ap (λ (ys : List ℕ). take k ys) (sym (h.text t f))
+front : (t : Table) (c : Option Node) (place : ℕ) (s : Stretch) (k : ℕ) → CordFits t c → IsStretchOf c place s → k ≤ stretch_len s →
+    take k (drop place (bytes_of t c)) ≡ take k (stretch_bytes t s)
+front t c place s k f h le = sym (take-take k (stretch_len s) (drop place (bytes_of t c)) le)
+    ∙ ap (λ (ys : List ℕ). take k ys) (sym (h.text t f))
 
 -- stretches that begin alike
-pub stretches_alike : (c : Option Node) (i : ℕ) (d : Option Node) (j : ℕ) (s other : Stretch) (k : ℕ) → IsStretchOf c i s → IsStretchOf d j other → BeginAlike s other → k ≤ stretch_len s → k ≤ stretch_len other → AreAlike c i d j k
+pub stretches_alike : (c : Option Node) (i : ℕ) (d : Option Node) (j : ℕ) (s other : Stretch) (k : ℕ) → IsStretchOf c i s →
+    IsStretchOf d j other → BeginAlike s other → k ≤ stretch_len s → k ≤ stretch_len other → AreAlike c i d j k
 stretches_alike c i d j s other k h g alike le more = λ t f e.
     front t c i s k f h le ∙ alike t k le more ∙ sym (front t d j other k e g more)
 
 -- the front of a stretch is one
-pub front_stretch : (c : Option Node) (place : ℕ) (s first : Stretch) (k : ℕ) → 0 < k → k ≤ stretch_len s → IsStretchOf c place s → IsFrontOf s k first → IsStretchOf c place first
+pub front_stretch : (c : Option Node) (place : ℕ) (s first : Stretch) (k : ℕ) → 0 < k → k ≤ stretch_len s → IsStretchOf c place s →
+    IsFrontOf s k first → IsStretchOf c place first
 front_stretch c place s first k some le h f = record {
   some = omega (arith, some, f.len);
   inside = omega (arith, le, f.len, h.inside);
@@ -52,9 +60,11 @@ front_stretch c place s first k some le h f = record {
 }
 
 -- the next bytes are the same too
-pub alike_on : (ls : Lengths) (t : Table) (x : Option Node) (i : ℕ) (y : Option Node) (j done n : ℕ) → HasLengths ls t → CordFitsIn ls x → CordFitsIn ls y → AreAlike x (i + done) y (j + done) n → AreSame t x i y j done → AreSame t x i y j (done + n)
+pub alike_on : (ls : Lengths) (t : Table) (x : Option Node) (i : ℕ) (y : Option Node) (j done n : ℕ) → HasLengths ls t → CordFitsIn ls x →
+    CordFitsIn ls y → AreAlike x (i + done) y (j + done) n → AreSame t x i y j done → AreSame t x i y j (done + n)
 alike_on ls t x i y j done n told f g alike same =
     let u = drop i (bytes_of t x) in
     let v = drop j (bytes_of t y) in
     let next : take n (drop done u) ≡ take n (drop done v) = ap (λ (ys : List ℕ). take n ys) (drop-drop done i (bytes_of t x)) ∙ alike t (cord_told ls t x told f) (cord_told ls t y told g) ∙ ap (λ (ys : List ℕ). take n ys) (sym (drop-drop done j (bytes_of t y))) in
-    take-add done n u ∙ ap (λ (zs : List ℕ). zs ++ take n (drop done u)) same ∙ ap (λ (zs : List ℕ). take done v ++ zs) next ∙ sym (take-add done n v)
+    take-add done n u ∙ ap (λ (zs : List ℕ). zs ++ take n (drop done u)) same ∙ ap (λ (zs : List ℕ). take done v ++ zs) next
+    ∙ sym (take-add done n v)

@@ -1,5 +1,6 @@
 -- Places of a text in another, by windows.
-use Rattle.std.proofs.Common.{◌≡◌, ℕ, ◌+◌, ◌-◌, ◌<◌, ◌≤◌, true, false, List, [], ◌∷◌, ◌++◌, length, take, drop, get_or, None, Some, refl, sym, ◌∙◌, ap, subst, arith, ⊎_elim, append_assoc, length-drop, length-append}
+use Rattle.std.proofs.Common.{◌≡◌, ℕ, ◌+◌, ◌-◌, ◌<◌, ◌≤◌, true, false, List, [], ◌∷◌, ◌++◌, length, take, drop, get_or, None, Some, refl}
+use Rattle.std.proofs.Common.{sym, ◌∙◌, ap, subst, arith, ⊎_elim, append_assoc, length-drop, length-append}
 use Rattle.std.specs.Prelude.{Option}
 use Rattle.std.specs.Ordering.{nat_cmp}
 use Rattle.std.specs.Cmp.Lexicographic.{slice_cmp}
@@ -25,11 +26,13 @@ use Rattle.cord_search.proofs.Finding.{range_at, range_inside, first_only}
 use Rattle.cord_search.proofs.Comparing.{cmp_same, cmp_equal, piece_front}
 
 -- bytes were copied after what was filled
-pub filled_on : (t : Table) (c : Option Node) (place done k n : ℕ) (out part : List ℕ) → IsFilled t c place done out → IsPieceOf t c (place + done) part → length part ≡ n → done ≤ length out → IsFilled t c place (done + n) (put_mid done k out part)
+pub filled_on : (t : Table) (c : Option Node) (place done k n : ℕ) (out part : List ℕ) → IsFilled t c place done out →
+    IsPieceOf t c (place + done) part → length part ≡ n → done ≤ length out → IsFilled t c place (done + n) (put_mid done k out part)
 filled_on t c place done k n out part h e long q =
     let x = drop place (bytes_of t c) in
     let next : part ≡ take n (drop done x) = sym (take_all n part (omega (arith, long))) ∙ piece_front (bytes_of t c) part place done n e (omega (arith, long)) in
-    take-put_mid done k out part (done + n) (omega (arith, long)) q ∙ ap (λ (ys : List ℕ). ys ++ part) h ∙ ap (λ (ys : List ℕ). take done x ++ ys) next ∙ sym (take-add done n x)
+    take-put_mid done k out part (done + n) (omega (arith, long)) q ∙ ap (λ (ys : List ℕ). ys ++ part) h
+    ∙ ap (λ (ys : List ℕ). take done x ++ ys) next ∙ sym (take-add done n x)
 
 -- and lie inside
 pub filled_inside : (done k n : ℕ) (out part : List ℕ) → length part ≡ n → done ≤ length out → done + n ≤ length (put_mid done k out part)
@@ -46,7 +49,8 @@ pub stands_get : (x s : List ℕ) (q j : ℕ) → StandsAt x s q → j < length 
 stands_get x s q j at lt = sym (get_or-drop q x j 0) ∙ ap (λ (ys : List ℕ). get_or ys j 0) at.here ∙ get_or_append_left s at.rest 0 j lt
 
 -- a text that stands in another occurs in a window that holds it
-occurs : (x window head : List ℕ) (place q : ℕ) → window ≡ take (length window) (drop place x) → place ≤ q → q + length head ≤ place + length window → StandsAt x head q → OccursAt window head (q - place)
+occurs : (x window head : List ℕ) (place q : ℕ) → window ≡ take (length window) (drop place x) → place ≤ q →
+    q + length head ≤ place + length window → StandsAt x head q → OccursAt window head (q - place)
 occurs x window head place q e from to at =
     record {
       fits = omega arith;
@@ -56,7 +60,8 @@ occurs x window head place q e from to at =
     }
 
 -- and stands where it occurs in a window
-occurred : (x window head : List ℕ) (place k : ℕ) → 0 < length head → window ≡ take (length window) (drop place x) → OccursAt window head k → StandsAt x head (place + k)
+occurred : (x window head : List ℕ) (place k : ℕ) → 0 < length head → window ≡ take (length window) (drop place x) →
+    OccursAt window head k → StandsAt x head (place + k)
 occurred x window head place k some e h =
     let inside : place + length window ≤ length x = range_inside x window place e (omega (arith, some, h.fits)) in
     let there : OccursAt x head (place + k) = record {
@@ -67,28 +72,44 @@ occurred x window head place k some e h =
     } in
     record { within = omega (arith, there.fits); rest = drop (place + k + length head) x; here = OccursAt-split x head (place + k) there }
 
-window_on : (t : Table) (x : Option Node) (start place next m : ℕ) (window head : List ℕ) → Nowhere (OccursAt window head) 0 m → next ≤ place + m → next + length head ≤ place + length window + 1 → IsPieceOf t x place window → StandsNot t x head start place → StandsNot t x head start next
+window_on : (t : Table) (x : Option Node) (start place next m : ℕ) (window head : List ℕ) → Nowhere (OccursAt window head) 0 m →
+    next ≤ place + m → next + length head ≤ place + length window + 1 → IsPieceOf t x place window → StandsNot t x head start place →
+    StandsNot t x head start next
 window_on t x start place next m window head h p q e none =
-    λ k low to at. ⊎_elim (λ (lt : k < place). none k low lt at) (λ (le : place ≤ k). h (k - place) (omega arith) (omega arith) (occurs (bytes_of t x) window head place k e le (omega arith) at)) (cases_lt k place)
+    λ k low to at. ⊎_elim (λ (lt : k < place). none k low lt at)
+    (λ (le : place ≤ k). h (k - place) (omega arith) (omega arith) (occurs (bytes_of t x) window head place k e le (omega arith) at))
+    (cases_lt k place)
 
 -- bytes that don't occur in a window stand at none of its places at which they would lie inside
-pub window_none : (t : Table) (x : Option Node) (start place : ℕ) (window head : List ℕ) (r : Option ℕ) → r ≡ None → FindsNeedle window head 0 r → length head ≤ length window → IsPieceOf t x place window → StandsNot t x head start place → StandsNot t x head start (place + (length window - length head + 1))
+pub window_none : (t : Table) (x : Option Node) (start place : ℕ) (window head : List ℕ) (r : Option ℕ) → r ≡ None →
+    FindsNeedle window head 0 r → length head ≤ length window → IsPieceOf t x place window → StandsNot t x head start place →
+    StandsNot t x head start (place + (length window - length head + 1))
 window_none t x start place window head r is h enough e none =
     let nowhere : Nowhere (OccursAt window head) 0 (length window + 1) = rw is at h in
-    window_on t x start place (place + (length window - length head + 1)) (length window + 1) window head nowhere (omega arith) (omega (arith, enough)) e none
+    window_on t x start place (place + (length window - length head + 1)) (length window + 1) window head nowhere (omega arith)
+    (omega (arith, enough)) e none
 
 -- or stand first where they occur first in it
-pub window_some : (t : Table) (x : Option Node) (start place k : ℕ) (window head : List ℕ) (r : Option ℕ) → r ≡ Some k → 0 < length head → FindsNeedle window head 0 r → start ≤ place → IsPieceOf t x place window → StandsNot t x head start place → Some (place + k) ≡ first (bytes_of t x) start head
+pub window_some : (t : Table) (x : Option Node) (start place k : ℕ) (window head : List ℕ) (r : Option ℕ) → r ≡ Some k → 0 < length head →
+    FindsNeedle window head 0 r → start ≤ place → IsPieceOf t x place window → StandsNot t x head start place →
+    Some (place + k) ≡ first (bytes_of t x) start head
 window_some t x start place k window head r is some h low e none =
     let here : NoneBefore (OccursAt window head) 0 (length window + 1) k × OccursAt window head k = rw is at h in
     let fits : k + length head ≤ length window = here.1.fits in
     let before = window_on t x start place (place + k) k window head here.0.before (omega arith) (omega arith) e none in
-    first_only (bytes_of t x) head start (Some (place + k)) (omega (arith, low), occurred (bytes_of t x) window head place k some e here.1, before)
+    first_only (bytes_of t x) head start (Some (place + k)) (
+      omega (arith, low),
+      occurred (bytes_of t x) window head place k some e here.1,
+      before,
+    )
 
 -- they stand at none of the places that do not fit
-pub misfit_on : (ls : Lengths) (t : Table) (x : Option Node) (start place n : ℕ) (stretch : Stretch) (head : List ℕ) → HasLengths ls t → IsCord x → CordFitsIn ls x → IsStretchOf x place stretch → IsMisfit stretch head n → StandsNot t x head start place → StandsNot t x head start (place + n)
+pub misfit_on : (ls : Lengths) (t : Table) (x : Option Node) (start place n : ℕ) (stretch : Stretch) (head : List ℕ) → HasLengths ls t →
+    IsCord x → CordFitsIn ls x → IsStretchOf x place stretch → IsMisfit stretch head n → StandsNot t x head start place →
+    StandsNot t x head start (place + n)
 misfit_on ls t x start place n stretch head told sound fits h misfit none =
-    λ q low to at. ⊎_elim (λ (lt : q < place). none q low lt at) (λ (le : place ≤ q). differ q at le (misfit t (q - place) (omega arith))) (cases_lt q place)
+    λ q low to at. ⊎_elim (λ (lt : q < place). none q low lt at) (λ (le : place ≤ q). differ q at le (misfit t (q - place) (omega arith)))
+    (cases_lt q place)
   where
     differ : (q : ℕ) → StandsAt (bytes_of t x) head q → place ≤ q → DoesNotFit t stretch head (q - place) → ⊥
     differ q at le d =
@@ -97,40 +118,52 @@ misfit_on ls t x start place n stretch head told sound fits h misfit none =
         let long : length (stretch_bytes t stretch) ≡ stretch_len stretch = ap (λ (ys : List ℕ). length ys) text ∙ length-take-le (stretch_len stretch) (drop place xs) (omega (arith, h.inside, cord_len ls t x told sound fits, length-drop place xs)) in
         let range : stretch_bytes t stretch ≡ take (length (stretch_bytes t stretch)) (drop place xs) = text ∙ ap (λ (k : ℕ). take k (drop place xs)) (sym long) in
         let here : place + (q - place + d.at) ≡ q + d.at = omega (arith, le) in
-        d.differs (range_at xs (stretch_bytes t stretch) place (q - place + d.at) range (omega (arith, long, d.within)) ∙ ap (λ (k : ℕ). get_or xs k 0) here ∙ stands_get xs head q d.at at d.inside)
+        d.differs (range_at xs (stretch_bytes t stretch) place (q - place + d.at) range (omega (arith, long, d.within))
+        ∙ ap (λ (k : ℕ). get_or xs k 0) here ∙ stands_get xs head q d.at at d.inside)
 
 -- a place where they don't stand
-pub stands_on : (t : Table) (x s : Option Node) (start place : ℕ) → IsStanding t x place s false → StandsNot t x (bytes_of t s) start place → StandsNot t x (bytes_of t s) start (place + 1)
+pub stands_on : (t : Table) (x s : Option Node) (start place : ℕ) → IsStanding t x place s false →
+    StandsNot t x (bytes_of t s) start place → StandsNot t x (bytes_of t s) start (place + 1)
 stands_on t x s start place h none =
     λ k low to at. ⊎_elim (λ (lt : k < place). none k low lt at) (λ (le : place ≤ k). let same : k ≡ place = omega arith in h (subst (λ (n : ℕ). StandsAt (bytes_of t x) (bytes_of t s) n) same at)) (cases_lt k place)
 
 -- the first place
-pub stands_first : (t : Table) (x s : Option Node) (start place : ℕ) → start ≤ place → IsStanding t x place s true → StandsNot t x (bytes_of t s) start place → Some place ≡ first (bytes_of t x) start (bytes_of t s)
+pub stands_first : (t : Table) (x s : Option Node) (start place : ℕ) → start ≤ place → IsStanding t x place s true →
+    StandsNot t x (bytes_of t s) start place → Some place ≡ first (bytes_of t x) start (bytes_of t s)
 stands_first t x s start place low h none = first_only (bytes_of t x) (bytes_of t s) start (Some place) (low, h, none)
 
 -- no place is left
-pub stands_none : (t : Table) (x : Option Node) (s : List ℕ) (start place : ℕ) → text_len x < place + length s → length (bytes_of t x) ≡ text_len x → StandsNot t x s start place → None ≡ first (bytes_of t x) start s
+pub stands_none : (t : Table) (x : Option Node) (s : List ℕ) (start place : ℕ) → text_len x < place + length s →
+    length (bytes_of t x) ≡ text_len x → StandsNot t x s start place → None ≡ first (bytes_of t x) start s
 stands_none t x s start place past p none =
-    first_only (bytes_of t x) s start None (λ k low at. ⊎_elim (λ (lt : k < place). none k low lt at) (λ (le : place ≤ k). omega (arith, past, p, stands_inside (bytes_of t x) s k at)) (cases_lt k place))
+    first_only (bytes_of t x) s start None (λ k low at. ⊎_elim (λ (lt : k < place). none k low lt at)
+    (λ (le : place ≤ k). omega (arith, past, p, stands_inside (bytes_of t x) s k at)) (cases_lt k place))
 
 -- the front of a text stands where the text stands
 front_stands : (x s head : List ℕ) (q : ℕ) → head ≡ take (length head) s → StandsAt x s q → StandsAt x head q
 front_stands x s head q f at = record {
   within = at.within;
   rest = drop (length head) s ++ at.rest;
-  here = at.here ∙ ap (λ (ys : List ℕ). ys ++ at.rest) (sym (take-append-drop (length head) s)) ∙ append_assoc (take (length head) s) (drop (length head) s) at.rest ∙ ap (λ (ys : List ℕ). ys ++ (drop (length head) s ++ at.rest)) (sym f);
+  here = at.here ∙ ap (λ (ys : List ℕ). ys ++ at.rest) (sym (take-append-drop (length head) s))
+      ∙ append_assoc (take (length head) s) (drop (length head) s) at.rest ∙ ap (λ (ys : List ℕ). ys ++ (drop (length head) s ++ at.rest))
+      (sym f);
 }
 
 -- a text stands at no place at which its front doesn't
-pub front_on : (t : Table) (x s : Option Node) (start place q : ℕ) (head : List ℕ) → Some q ≡ first (bytes_of t x) place head → IsPieceOf t s 0 head → StandsNot t x (bytes_of t s) start place → StandsNot t x (bytes_of t s) start q
+pub front_on : (t : Table) (x s : Option Node) (start place q : ℕ) (head : List ℕ) → Some q ≡ first (bytes_of t x) place head →
+    IsPieceOf t s 0 head → StandsNot t x (bytes_of t s) start place → StandsNot t x (bytes_of t s) start q
 front_on t x s start place q head is f none =
     let least : IsFirst (bytes_of t x) place head (Some q) = subst (λ (r : Option ℕ). IsFirst (bytes_of t x) place head r) (sym is) (first_is_least (bytes_of t x) head place) in
-    λ k low to at. ⊎_elim (λ (lt : k < place). none k low lt at) (λ (le : place ≤ k). least.2 k le to (front_stands (bytes_of t x) (bytes_of t s) head k f at)) (cases_lt k place)
+    λ k low to at. ⊎_elim (λ (lt : k < place). none k low lt at)
+    (λ (le : place ≤ k). least.2 k le to (front_stands (bytes_of t x) (bytes_of t s) head k f at)) (cases_lt k place)
 
-pub front_none : (t : Table) (x s : Option Node) (start place : ℕ) (head : List ℕ) → None ≡ first (bytes_of t x) place head → IsPieceOf t s 0 head → StandsNot t x (bytes_of t s) start place → None ≡ first (bytes_of t x) start (bytes_of t s)
+pub front_none : (t : Table) (x s : Option Node) (start place : ℕ) (head : List ℕ) → None ≡ first (bytes_of t x) place head →
+    IsPieceOf t s 0 head → StandsNot t x (bytes_of t s) start place → None ≡ first (bytes_of t x) start (bytes_of t s)
 front_none t x s start place head is f none =
     let least : IsFirst (bytes_of t x) place head None = subst (λ (r : Option ℕ). IsFirst (bytes_of t x) place head r) (sym is) (first_is_least (bytes_of t x) head place) in
-    first_only (bytes_of t x) (bytes_of t s) start None (λ k low at. ⊎_elim (λ (lt : k < place). none k low lt at) (λ (le : place ≤ k). least k le (front_stands (bytes_of t x) (bytes_of t s) head k f at)) (cases_lt k place))
+    first_only (bytes_of t x) (bytes_of t s) start None (λ k low at.
+    ⊎_elim (λ (lt : k < place). none k low lt at) (λ (le : place ≤ k).
+    least k le (front_stands (bytes_of t x) (bytes_of t s) head k f at)) (cases_lt k place))
 
 pub front_low : (x : List ℕ) (place q : ℕ) (head : List ℕ) → Some q ≡ first x place head → place ≤ q
 front_low x place q head is =
@@ -138,7 +171,8 @@ front_low x place q head is =
     least.0
 
 -- a text that was copied whole
-pub whole_text : (t : Table) (s : Option Node) (xs : List ℕ) → IsPieceOf t s 0 xs → length xs ≡ text_len s → length (bytes_of t s) ≡ text_len s → xs ≡ bytes_of t s
+pub whole_text : (t : Table) (s : Option Node) (xs : List ℕ) → IsPieceOf t s 0 xs → length xs ≡ text_len s →
+    length (bytes_of t s) ≡ text_len s → xs ≡ bytes_of t s
 whole_text t s xs e long len = e ∙ take_all (length xs) (bytes_of t s) (omega (arith, long, len))
 
 -- nothing was searched yet
@@ -146,24 +180,37 @@ pub stands_start : (t : Table) (x : Option Node) (s : List ℕ) (start : ℕ) �
 stands_start t x s start = λ k low to at. omega arith
 
 -- nothing stands at each place up to the end
-pub nothing_stands : (t : Table) (x s : Option Node) (place : ℕ) → place ≤ text_len x → text_len s ≡ 0 → length (bytes_of t x) ≡ text_len x → length (bytes_of t s) ≡ text_len s → IsStanding t x place s true
-nothing_stands t x s place low e p q = record { within = omega (arith, p); rest = drop place (bytes_of t x); here = sym (ap (λ (ys : List ℕ). ys ++ drop place (bytes_of t x)) (empty (bytes_of t s) (q ∙ e))) }
+pub nothing_stands : (t : Table) (x s : Option Node) (place : ℕ) → place ≤ text_len x → text_len s ≡ 0 →
+    length (bytes_of t x) ≡ text_len x → length (bytes_of t s) ≡ text_len s → IsStanding t x place s true
+nothing_stands t x s place low e p q = record {
+  within = omega (arith, p);
+  rest = drop place (bytes_of t x);
+  here = sym (ap (λ (ys : List ℕ). ys ++ drop place (bytes_of t x)) (empty (bytes_of t s) (q ∙ e)));
+}
   where
     empty : (xs : List ℕ) → length xs ≡ 0 → xs ≡ []
     empty [] h = refl
     empty (b ∷ xs) h = absurd (omega arith)
 
 -- the order tells whether a text stands in another
-pub order_stands : (t : Table) (x s : Option Node) (place n m : ℕ) (r : Ordering) → r ≡ Equal → place + text_len s ≤ text_len x → n ≡ text_len s → m ≡ text_len s → length (bytes_of t x) ≡ text_len x → length (bytes_of t s) ≡ text_len s → IsOrderOf t x place n s 0 m r → IsStanding t x place s true
+pub order_stands : (t : Table) (x s : Option Node) (place n m : ℕ) (r : Ordering) → r ≡ Equal → place + text_len s ≤ text_len x →
+    n ≡ text_len s → m ≡ text_len s → length (bytes_of t x) ≡ text_len x → length (bytes_of t s) ≡ text_len s →
+    IsOrderOf t x place n s 0 m r → IsStanding t x place s true
 order_stands t x s place n m r is inside d e p q h =
     let y = drop place (bytes_of t x) in
     let same : take n y ≡ bytes_of t s = cmp_equal (take n y) (take m (bytes_of t s)) (sym h ∙ is) ∙ take_all m (bytes_of t s) (omega (arith, e, q)) in
-    record { within = omega (arith, p, inside); rest = drop n y; here = sym (take-append-drop n y) ∙ ap (λ (ys : List ℕ). ys ++ drop n y) same }
+    record {
+      within = omega (arith, p, inside);
+      rest = drop n y;
+      here = sym (take-append-drop n y) ∙ ap (λ (ys : List ℕ). ys ++ drop n y) same;
+    }
 
-pub order_stands_not : (t : Table) (x s : Option Node) (place n m : ℕ) (r : Ordering) → (r ≡ Equal → ⊥) → n ≡ text_len s → m ≡ text_len s → length (bytes_of t s) ≡ text_len s → IsOrderOf t x place n s 0 m r → IsStanding t x place s false
+pub order_stands_not : (t : Table) (x s : Option Node) (place n m : ℕ) (r : Ordering) → (r ≡ Equal → ⊥) → n ≡ text_len s → m ≡ text_len s →
+    length (bytes_of t s) ≡ text_len s → IsOrderOf t x place n s 0 m r → IsStanding t x place s false
 order_stands_not t x s place n m r not d e q h =
     λ at.
     let text = bytes_of t s in
     let left : take n (drop place (bytes_of t x)) ≡ text = ap (λ (ys : List ℕ). take n ys) at.here ∙ take_at text at.rest n (q ∙ sym d) in
     let right : take m text ≡ text = take_all m text (omega (arith, e, q)) in
-    not (h ∙ ap (λ (ys : List ℕ). slice_cmp nat_cmp ys (take m text)) left ∙ ap (λ (ys : List ℕ). slice_cmp nat_cmp text ys) right ∙ cmp_same text)
+    not (h ∙ ap (λ (ys : List ℕ). slice_cmp nat_cmp ys (take m text)) left ∙ ap (λ (ys : List ℕ). slice_cmp nat_cmp text ys) right
+    ∙ cmp_same text)

@@ -62,7 +62,8 @@ pub(crate) fn passed<S: Source>(
     requires fits { CordFitsIn (S.lengths src.old) x.now }
     requires pattern_fits { CordFitsIn (S.lengths src.old) s.now }
     requires period { IfSome repeats (λ r. r.period ≤ text_len s.now) }
-    requires repeats { (folder : Folder) → S.keeps src.old folder → IfSome repeats (IsRepeated (S.table src.old folder) s.now) }
+    requires repeats { (folder : Folder) → S.keeps src.old folder →
+        IfSome repeats (IsRepeated (S.table src.old folder) s.now) }
     ensures some { IfOk result (λ n. 0 < n) }
     ensures most { IfOk result (λ n. n ≤ text_len x.now + 1) }
     ensures none { (folder : Folder) → S.keeps src.new folder → IfOk result (λ n.
@@ -138,7 +139,8 @@ fn agreeing(left: &[u8], right: &[u8]) -> usize
     ensures left { result ≤ length left.now }
     ensures right { result ≤ length right.now }
     ensures same { take result left.now ≡ take result right.now }
-    ensures differ { result < length left.now → result < length right.now → slice_index left.now result ≢ slice_index right.now result }
+    ensures differ { result < length left.now → result < length right.now →
+        slice_index left.now result ≢ slice_index right.now result }
 {
     let both = left.len().min(right.len());
     for place in 0..both {

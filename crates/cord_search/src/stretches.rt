@@ -2,7 +2,8 @@
 ghost use Rattle.std.specs.Prelude.{◌≡◌, ◌≢◌, ◌-◌, ◌<◌, ◌≤◌, length, slice_index, true, is_some, IfSome};
 ghost use Rattle.cord_core.specs.Cord.{text_len};
 ghost use Rattle.cord_node.specs.Tree.{len_of, IsSound};
-ghost use Rattle.cord_search.specs.inner.Stretches.{stretch_len, is_other_run, IsStretchOf, IsStretchAt, IsWithout, IsMisfit, BeginAlike, IsFrontOf};
+ghost use Rattle.cord_search.specs.inner.Stretches.{stretch_len, is_other_run, IsStretchOf, IsStretchAt, IsWithout};
+ghost use Rattle.cord_search.specs.inner.Stretches.{IsMisfit, BeginAlike, IsFrontOf};
 
 use crate::PIECE_LEN;
 use cord_core::{Cord, Node};

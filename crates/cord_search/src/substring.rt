@@ -263,7 +263,8 @@ fn first_confirmed<S: Source>(
     requires room { length front.now ≤ length room.old }
     requires front { (folder : Folder) → S.keeps src.old folder → IsPieceOf (S.table src.old folder) s.now 0 front.now }
     requires period { IfSome repeats (λ r. r.period ≤ text_len s.now) }
-    requires repeats { (folder : Folder) → S.keeps src.old folder → IfSome repeats (IsRepeated (S.table src.old folder) s.now) }
+    requires repeats { (folder : Folder) → S.keeps src.old folder →
+        IfSome repeats (IsRepeated (S.table src.old folder) s.now) }
     requires fits { CordFitsIn (S.lengths src.old) x.now }
     requires pattern_fits { CordFitsIn (S.lengths src.old) s.now }
     ensures first { (folder : Folder) → S.keeps src.new folder → IfOk result (λ place.

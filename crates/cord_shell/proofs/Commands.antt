@@ -1,10 +1,13 @@
 -- What clap tells of the program's words.
-use Rattle.std.proofs.Common.{◌≡◌, ◌∙◌, ℕ, List, [], ◌∷◌, zero, suc, Option, Some, None, codes, ap, sym, subst, refl, inl, inr, arith, is_some, true, false, true≢false}
+use Rattle.std.proofs.Common.{◌≡◌, ◌∙◌, ℕ, List, [], ◌∷◌, zero, suc, Option, Some, None, codes, ap, sym, subst, refl, inl, inr, arith}
+use Rattle.std.proofs.Common.{is_some, true, false, true≢false}
 use Rattle.std.specs.Prelude.{IfSome, IfOk}
 use Rattle.std.specs.Option.{ok_or}
 use Rattle.std.specs.List.{All}
 use Rattle.std.specs.Str.{bytes_eq}
-use Rattle.clap.specs.Words.{App, Rule, rule_of, AddsArg, HasMatchesOf, HasKind, IsAmong, IsParsedFrom, IsPlainArg, args_of, groups_of, fault_of, first_of, first_value, found_of, is_simple, is_simple_and_free, kind_of, matches_of, one_of, one_text, rows_of}
+use Rattle.clap.specs.Words.{App, Rule, rule_of, AddsArg, HasMatchesOf, HasKind, IsAmong, IsParsedFrom, IsPlainArg, args_of, groups_of}
+use Rattle.clap.specs.Words.{fault_of, first_of, first_value, found_of, is_simple, is_simple_and_free, kind_of, matches_of, one_of}
+use Rattle.clap.specs.Words.{one_text, rows_of}
 use Rattle.clap.specs.Built.{FitsChain, HasDistinctIds, TakesValue}
 use Rattle.clap.specs.declared.builder.arg.Arg.{Arg}
 use Rattle.clap.specs.declared.builder.command.Command.{Command}
@@ -50,7 +53,8 @@ asked app words m (Some q) is faults matches script unplanned show_plan =
 -- clap's error is one of those that the words have
 pub not_asked : (app : App) (words : List (List ℕ)) (e : Error) (why : NoRequest) → app ≡ command
     → (is_simple_and_free app ≡ true → HasKind (fault_of app words) e) → IsKindOf (kind_of e) why → IsNoRequest words why
-not_asked app words e why is faults told = go why told (subst (λ (a : App). is_simple_and_free a ≡ true → HasKind (fault_of a words) e) is faults free)
+not_asked app words e why is faults told =
+    go why told (subst (λ (a : App). is_simple_and_free a ≡ true → HasKind (fault_of a words) e) is faults free)
   where
     go : (w : NoRequest) → IsKindOf (kind_of e) w → HasKind (fault_of command words) e → IsNoRequest words w
     go (Help text) k (inl memory) =
@@ -82,7 +86,8 @@ three_ids a b c ab ac ba bc ca cb (suc zero) (suc (suc (suc k))) d e lt below sa
 three_ids a b c ab ac ba bc ca cb (suc (suc zero)) (suc (suc (suc k))) d e lt below same = absurd (omega arith)
 
 -- an argument with an id of the program's own
-fits : (a : Arg) (id : List ℕ) → a.id.now ≡ id → (id ≡ [] → ⊥) → (id ≡ codes "help" → ⊥) → (id ≡ codes "version" → ⊥) → IsPlainArg a → a.global ≡ false → FitsChain a
+fits : (a : Arg) (id : List ℕ) → a.id.now ≡ id → (id ≡ [] → ⊥) → (id ≡ codes "help" → ⊥) → (id ≡ codes "version" → ⊥) → IsPlainArg a →
+    a.global ≡ false → FitsChain a
 fits a id is empty help version plain local = (
   plain,
   local,
@@ -120,8 +125,10 @@ pub named : (a : Arg) (rule : Rule) → rule_of a ≡ rule → IsPlainArg a → 
 named a rule is plain local = (plain, local, ap (λ (r : Rule). r.id) is)
 
 -- where the program's command takes the words, it finds the script's path
-pub finds_script : (start one two three : Command) (unplanned show_plan script : Arg) → AddsArg start unplanned one → AddsArg one show_plan two → AddsArg two script three
-    → IsBare start → IsNamed unplanned (codes "unplanned") → IsNamed show_plan (codes "show-plan") → IsNamed script (codes "SCRIPT") → TakesValue script
+pub finds_script : (start one two three : Command) (unplanned show_plan script : Arg) → AddsArg start unplanned one →
+    AddsArg one show_plan two → AddsArg two script three
+    → IsBare start → IsNamed unplanned (codes "unplanned") → IsNamed show_plan (codes "show-plan") → IsNamed script (codes "SCRIPT") →
+    TakesValue script
     → (m : ArgMatches) → IsParsedFrom three m → is_some (first_value (found_of m) (codes "SCRIPT")) ≡ true
 finds_script start one two three unplanned show_plan script first second third bare u p s value m parsed =
     let all = unplanned ∷ show_plan ∷ script ∷ [] in

@@ -15,12 +15,16 @@ use Rattle.cord_script.specs.Laws.{OneScript, ReadHasNoFlaw}
 use Rattle.cord_script.specs.Script.{Reads, whole}
 use Rattle.cord_script.specs.declared.refusals.Refusal.{Refusal}
 use Rattle.cord_script.specs.declared.refusals.RefusalKind.{RefusalKind}
-use Rattle.cord_script.specs.declared.refusals.RefusalKind.TheVariants.{TooBig, Unterminated, BadEscape, UnknownStatement, WrongCount, BadName, BadNumber, UnknownName, WrongKind, BadFormat, TooDeep, EndAlone, MissingEnd, TooMany, LiteralTooLong, NoMemory, ElseAlone, MissingIfEnd}
+use Rattle.cord_script.specs.declared.refusals.RefusalKind.TheVariants.{TooBig, Unterminated, BadEscape, UnknownStatement, WrongCount}
+use Rattle.cord_script.specs.declared.refusals.RefusalKind.TheVariants.{BadName, BadNumber, UnknownName, WrongKind, BadFormat, TooDeep}
+use Rattle.cord_script.specs.declared.refusals.RefusalKind.TheVariants.{EndAlone, MissingEnd, TooMany, LiteralTooLong, NoMemory, ElseAlone}
+use Rattle.cord_script.specs.declared.refusals.RefusalKind.TheVariants.{MissingIfEnd}
 use Rattle.cord_syntax.specs.declared.statements.Statement.{Statement}
 use Rattle.cord_script.specs.Refusals.{text_of}
 use Rattle.cord_shell.specs.CommandLine.{AsksFor, command}
 use Rattle.cord_shell.specs.Drives.{ComesTo, IsPlan, IsPlanText, IsWrong, Serves}
-use Rattle.cord_shell.specs.Headline.{Answer, AnswersEnd, counts_of, err_counts_of, IsOut, IsStopped, MissesOver, RefusesOver, RunsOver, ShowsOver, StopsBefore}
+use Rattle.cord_shell.specs.Headline.{Answer, AnswersEnd, counts_of, err_counts_of, IsOut, IsStopped, MissesOver, RefusesOver, RunsOver}
+use Rattle.cord_shell.specs.Headline.{ShowsOver, StopsBefore}
 use Rattle.cord_shell.specs.Outcomes.{line_text, message_of, status_of_outcome, status_of_refusal}
 use Rattle.cord_shell.specs.Tells.{SinkCounts, Tells}
 use Rattle.cord_shell.specs.declared.outcome.Outcome.{Outcome}
@@ -57,18 +61,22 @@ no_kind : (words : List (List ℕ)) (kind : ErrorKind) → fault_of command word
 no_kind words kind none among = subst (IsAmong kind) none among
 
 -- the words ask for one thing
-asked_once : (words : List (List ℕ)) (p q : List ℕ) (u v s t : Bool) → AsksFor words p u s → AsksFor words q v t → (p ≡ q) × (u ≡ v) × (s ≡ t)
+asked_once : (words : List (List ℕ)) (p q : List ℕ) (u v s t : Bool) → AsksFor words p u s → AsksFor words q v t → (p ≡ q) × (u ≡ v) ×
+    (s ≡ t)
 asked_once words p q u v s t one two = (same_some (sym one.1 ∙ two.1), one.2 ∙ sym two.2, one.3 ∙ sym two.3)
 
 module _ (keeps : Folder → Type 0) (words : List (List ℕ)) (path : List ℕ) (u s : Bool) (asks : AsksFor words path u s) (a : Answer) where
-  served_as : (outcome : Outcome) → (q : List ℕ) (v t : Bool) → AsksFor words q v t → Serves keeps q v t [] a.out.taken (counts_of a) outcome → Serves keeps path u s [] a.out.taken (counts_of a) outcome
+  served_as : (outcome : Outcome) → (q : List ℕ) (v t : Bool) → AsksFor words q v t →
+      Serves keeps q v t [] a.out.taken (counts_of a) outcome → Serves keeps path u s [] a.out.taken (counts_of a) outcome
   served_as outcome q v t other h =
       let same = asked_once words q path v u t s other asks in
-      subst (λ (x : Bool). Serves keeps path u x [] a.out.taken (counts_of a) outcome) same.2 (subst (λ (x : Bool). Serves keeps path x t [] a.out.taken (counts_of a) outcome) same.1
+      subst (λ (x : Bool). Serves keeps path u x [] a.out.taken (counts_of a) outcome) same.2
+      (subst (λ (x : Bool). Serves keeps path x t [] a.out.taken (counts_of a) outcome) same.1
       (subst (λ (x : List ℕ). Serves keeps x v t [] a.out.taken (counts_of a) outcome) same.0 h))
 
   -- words that ask for a script come to what that comes to
-  pub served : (outcome : Outcome) → ComesTo keeps words [] a.out.taken (counts_of a) outcome → Serves keeps path u s [] a.out.taken (counts_of a) outcome
+  pub served : (outcome : Outcome) → ComesTo keeps words [] a.out.taken (counts_of a) outcome →
+      Serves keeps path u s [] a.out.taken (counts_of a) outcome
   served (outcomes.Ended end_) h = served_as (outcomes.Ended end_) h.0 h.1 h.2 h.3 h.4
   served (outcomes.Refused refusal) h = served_as (outcomes.Refused refusal) h.0 h.1 h.2 h.3 h.4
   served outcomes.NoScript h = served_as outcomes.NoScript h.0 h.1 h.2 h.3 h.4
@@ -83,8 +91,11 @@ module _ (keeps : Folder → Type 0) (words : List (List ℕ)) (path : List ℕ)
 -- a refusal for want of memory stopped it
 refused_memory : (a : Answer) (refusal : Refusal) → refusal.kind ≡ NoMemory → a.status ≡ status_of_refusal refusal.kind
     → Tells [] a.err.taken (err_counts_of a) (line_text refusal.line (text_of refusal.kind)) → AnswersEnd a (ends.NoMemory refusal.line)
-refused_memory a refusal is status tells =
-    (status ∙ ap status_of_refusal is, subst (λ (k : RefusalKind). Tells [] a.err.taken (err_counts_of a) (line_text refusal.line (text_of k))) is tells)
+refused_memory a refusal is status tells = (
+  status ∙ ap status_of_refusal is,
+  subst (λ (k : RefusalKind).
+      Tells [] a.err.taken (err_counts_of a) (line_text refusal.line (text_of k))) is tells,
+)
 
 module _ (keeps : Folder → Type 0) (folder : Folder) (kept : keeps folder) (path : List ℕ) (u : Bool) (a : Answer) where
   module _ (one : OneScript) (sound : ReadHasNoFlaw) (b : List ℕ) (ss : List Statement) (at : file_at folder path ≡ Some b) (reads : Reads b ss) where
@@ -95,7 +106,8 @@ module _ (keeps : Folder → Type 0) (folder : Folder) (kept : keeps folder) (pa
     memory_refused : (refusal : Refusal) → (c : List ℕ) → file_at folder path ≡ Some c → IsWrong c refusal → refusal.kind ≡ NoMemory
     memory_refused refusal c other wrong = elim (memory_or_not refusal.kind) [
       | inl is ↦ is
-      | inr isnt ↦ absurd (sound whole b ss refusal.line refusal.kind reads (subst (λ (x : List ℕ). IsWrong x refusal) (same_bytes c other) wrong isnt))
+      | inr isnt ↦ absurd (sound whole b ss refusal.line refusal.kind reads
+          (subst (λ (x : List ℕ). IsWrong x refusal) (same_bytes c other) wrong isnt))
     ]
 
     pub runs : (outcome : Outcome) → Serves keeps path u false [] a.out.taken (counts_of a) outcome → a.status ≡ status_of_outcome outcome
@@ -103,7 +115,12 @@ module _ (keeps : Folder → Type 0) (folder : Folder) (kept : keeps folder) (pa
     runs (outcomes.Ended end_) h status tells =
         let run = h.2.0 in
         let is : run.0 ≡ ss = one whole b run.0 ss (subst (λ (x : List ℕ). Reads x run.0) (same_bytes h.0 (h.1 folder kept)) run.1) reads in
-        record { told = end_; answers = (status, tells); honest = inl (subst (λ (x : List Statement). EndsHonestly x folder [] a.out.taken (counts_of a) end_) is (run.2 folder kept)) }
+        record {
+          told = end_;
+          answers = (status, tells);
+          honest =
+              inl (subst (λ (x : List Statement). EndsHonestly x folder [] a.out.taken (counts_of a) end_) is (run.2 folder kept));
+        }
     runs (outcomes.Refused refusal) h status tells =
         let wrong = h.1 folder kept in
         let is = memory_refused refusal wrong.0 wrong.1 wrong.2 in
@@ -124,7 +141,8 @@ module _ (keeps : Folder → Type 0) (folder : Folder) (kept : keeps folder) (pa
         let is : plan.0 ≡ ss = one whole b plan.0 ss (subst (λ (x : List ℕ). Reads x plan.0) (same_bytes c other) plan.1) reads in
         (plan.2, subst (λ (x : List Statement). IsPlan u x plan.2) is plan.3, subst (λ (x : List ℕ). IsOut x a told) plan.4 out)
 
-    pub shows_plan : (outcome : Outcome) → Serves keeps path u true [] a.out.taken (counts_of a) outcome → a.status ≡ status_of_outcome outcome
+    pub shows_plan : (outcome : Outcome) → Serves keeps path u true [] a.out.taken (counts_of a) outcome →
+        a.status ≡ status_of_outcome outcome
         → Tells [] a.err.taken (err_counts_of a) (message_of outcome) → ShowsOver u ss a
     shows_plan (outcomes.Ended end_) h status tells = absurd h.2.0
     shows_plan (outcomes.Refused refusal) h status tells =
@@ -132,14 +150,26 @@ module _ (keeps : Folder → Type 0) (folder : Folder) (kept : keeps folder) (pa
         let is = memory_refused refusal wrong.0 wrong.1 wrong.2 in
         record { told = ends.NoMemory refusal.line; answers = refused_memory a refusal is status tells; shows = inr h.0 }
     shows_plan outcomes.NoScript h status tells = there (file_at folder path) (h.1 folder kept) at
-    shows_plan outcomes.Unreadable h status tells = record { told = ends.ReadFailed 0; answers = (status, tells); shows = inr (refl, h.0, h.1) }
+    shows_plan outcomes.Unreadable h status tells = record {
+      told = ends.ReadFailed 0;
+      answers = (status, tells);
+      shows = inr (refl, h.0, h.1);
+    }
     shows_plan outcomes.NoMemory h status tells = record { told = ends.NoMemory 0; answers = (status, tells); shows = inr h }
     shows_plan outcomes.PlanShown h status tells =
         let plan = h.2.0 in
-        record { told = ends.Done; answers = (status, tells); shows = inl (planned_so plan.0 h.0 (h.1 folder kept) plan.1 ends.Done plan.2) }
+        record {
+          told = ends.Done;
+          answers = (status, tells);
+          shows = inl (planned_so plan.0 h.0 (h.1 folder kept) plan.1 ends.Done plan.2);
+        }
     shows_plan outcomes.PlanUnwritten h status tells =
         let plan = h.2.0 in
-        record { told = ends.WriteFailed 0; answers = (status, tells); shows = inl (planned_so plan.0 h.0 (h.1 folder kept) plan.1 (ends.WriteFailed 0) (refl, plan.2)) }
+        record {
+          told = ends.WriteFailed 0;
+          answers = (status, tells);
+          shows = inl (planned_so plan.0 h.0 (h.1 folder kept) plan.1 (ends.WriteFailed 0) (refl, plan.2));
+        }
     shows_plan outcomes.HelpShown h status tells = absurd h.2.0
     shows_plan outcomes.HelpUnwritten h status tells = absurd h.2.0
     shows_plan outcomes.BadCommandLine h status tells = absurd h.2.0
@@ -149,7 +179,8 @@ module _ (keeps : Folder → Type 0) (folder : Folder) (kept : keeps folder) (pa
     unread : {P : Type 0} (c : List ℕ) → file_at folder path ≡ Some c → (ss : List Statement) → Reads c ss → P
     unread c other ss reads = absurd (none ss (subst (λ (x : List ℕ). Reads x ss) (same_some (sym other ∙ at)) reads))
 
-    pub refuses : (s : Bool) (outcome : Outcome) → Serves keeps path u s [] a.out.taken (counts_of a) outcome → a.status ≡ status_of_outcome outcome
+    pub refuses : (s : Bool) (outcome : Outcome) → Serves keeps path u s [] a.out.taken (counts_of a) outcome →
+        a.status ≡ status_of_outcome outcome
         → Tells [] a.err.taken (err_counts_of a) (message_of outcome) → RefusesOver b a
     refuses true (outcomes.Ended end_) h status tells = absurd h.2.0
     refuses false (outcomes.Ended end_) h status tells = unread h.0 (h.1 folder kept) h.2.0.0 h.2.0.1
@@ -172,7 +203,8 @@ module _ (keeps : Folder → Type 0) (folder : Folder) (kept : keeps folder) (pa
 
   -- there is no file
   module _ (gone : file_at folder path ≡ None) where
-    pub misses : (s : Bool) (outcome : Outcome) → Serves keeps path u s [] a.out.taken (counts_of a) outcome → a.status ≡ status_of_outcome outcome
+    pub misses : (s : Bool) (outcome : Outcome) → Serves keeps path u s [] a.out.taken (counts_of a) outcome →
+        a.status ≡ status_of_outcome outcome
         → Tells [] a.err.taken (err_counts_of a) (message_of outcome) → MissesOver a
     misses s (outcomes.Ended end_) h status tells = there (file_at folder path) gone (h.1 folder kept)
     misses s (outcomes.Refused refusal) h status tells = there (file_at folder path) gone (h.1 folder kept).1
@@ -202,7 +234,8 @@ comes_of_new keeps words outcome out old n files failed finished taken h =
     (subst (λ (k : ℕ). ComesTo keeps words old out (record n { files_before = 0; sink_before = k }) outcome) failed
     (subst (λ (k : ℕ). ComesTo keeps words old out (record n { files_before = k }) outcome) files h)))
 
-pub tells_of_new : (message said old : List ℕ) (n : SinkCounts) → n.failed_before ≡ 0 → n.ended_before ≡ 0 → old ≡ [] → Tells old said n message
+pub tells_of_new : (message said old : List ℕ) (n : SinkCounts) → n.failed_before ≡ 0 → n.ended_before ≡ 0 → old ≡ [] →
+    Tells old said n message
     → Tells [] said (record n { failed_before = 0; ended_before = 0 }) message
 tells_of_new message said old n failed ended taken h =
     subst (λ (x : List ℕ). Tells x said (record n { failed_before = 0; ended_before = 0 }) message) taken
@@ -213,18 +246,22 @@ module _ (keeps : Folder → Type 0) (words : List (List ℕ)) (a : Answer) (dro
   pub runs_over : OneScript → ReadHasNoFlaw → (b : List ℕ) (unplanned : Bool) (ss : List Statement) → AsksFor words path unplanned false
       → file_at folder path ≡ Some b → Reads b ss → RunsOver ss folder a
   runs_over one sound b unplanned ss asks at reads =
-      runs keeps folder kept path unplanned a one sound b ss at reads drove.outcome (served keeps words path unplanned false asks a drove.outcome drove.comes) drove.status drove.tells
+      runs keeps folder kept path unplanned a one sound b ss at reads drove.outcome
+      (served keeps words path unplanned false asks a drove.outcome drove.comes) drove.status drove.tells
 
   pub shows_over : OneScript → ReadHasNoFlaw → (b : List ℕ) (unplanned : Bool) (ss : List Statement) → AsksFor words path unplanned true
       → file_at folder path ≡ Some b → Reads b ss → ShowsOver unplanned ss a
   shows_over one sound b unplanned ss asks at reads =
-      shows_plan keeps folder kept path unplanned a one sound b ss at reads drove.outcome (served keeps words path unplanned true asks a drove.outcome drove.comes) drove.status drove.tells
+      shows_plan keeps folder kept path unplanned a one sound b ss at reads drove.outcome
+      (served keeps words path unplanned true asks a drove.outcome drove.comes) drove.status drove.tells
 
   pub refuses_over : (b : List ℕ) (unplanned show_plan : Bool) → AsksFor words path unplanned show_plan → file_at folder path ≡ Some b
       → ((ss : List Statement) → Reads b ss → ⊥) → RefusesOver b a
   refuses_over b unplanned show_plan asks at none =
-      refuses keeps folder kept path unplanned a b at none show_plan drove.outcome (served keeps words path unplanned show_plan asks a drove.outcome drove.comes) drove.status drove.tells
+      refuses keeps folder kept path unplanned a b at none show_plan drove.outcome
+      (served keeps words path unplanned show_plan asks a drove.outcome drove.comes) drove.status drove.tells
 
   pub misses_over : (unplanned show_plan : Bool) → AsksFor words path unplanned show_plan → file_at folder path ≡ None → MissesOver a
   misses_over unplanned show_plan asks gone =
-      misses keeps folder kept path unplanned a gone show_plan drove.outcome (served keeps words path unplanned show_plan asks a drove.outcome drove.comes) drove.status drove.tells
+      misses keeps folder kept path unplanned a gone show_plan drove.outcome
+      (served keeps words path unplanned show_plan asks a drove.outcome drove.comes) drove.status drove.tells

@@ -5,7 +5,8 @@ use Rattle.std.proofs.lemmas.List.{take-append-le, length-take}
 use Rattle.std.proofs.Math.Seq.{take-add}
 
 -- so many bytes of a text, and the next ones
-pub more_read : (text old new : List ℕ) (k : ℕ) → old ≡ take (length old) text → new ≡ old ++ take k (drop (length old) text) → length new ≡ length old + k → new ≡ take (length new) text
+pub more_read : (text old new : List ℕ) (k : ℕ) → old ≡ take (length old) text → new ≡ old ++ take k (drop (length old) text) →
+    length new ≡ length old + k → new ≡ take (length new) text
 more_read text old new k before more size =
     more ∙ ap (λ xs. xs ++ take k (drop (length old) text)) before ∙ sym (take-add (length old) k text) ∙ ap (λ n. take n text) (sym size)
 
@@ -18,4 +19,5 @@ more_of_told text None old new piece rest k before read inside more = before
 more_of_told text (Some t) old new piece rest k before read inside more =
     let front = take-append-le k piece rest inside in
     let size = ap (λ (xs : List ℕ). length xs) more ∙ length-append old (take k (piece ++ rest)) in
-    more_read (text t.0) old new k before (more ∙ ap (λ xs. old ++ xs) (front ∙ read)) (omega (arith, size, ap (λ (xs : List ℕ). length xs) front, length-take k piece, inside))
+    more_read (text t.0) old new k before (more ∙ ap (λ xs. old ++ xs) (front ∙ read))
+    (omega (arith, size, ap (λ (xs : List ℕ). length xs) front, length-take k piece, inside))

@@ -7,10 +7,12 @@ use Rattle.cord_shell.specs.Outcomes.{line_text}
 use Rattle.cord_shell.specs.Tells.{SinkCounts, IsCut, IsWritten, Says, Tells}
 
 -- what was told of a message
-pub said : (a c message : List ℕ) (n : SinkCounts) (r : Result (Unit {0}) WriteFault) → OnOk r (IsWritten message a c n) → OnErr r (IsCut message a c n) → Says a c n message
+pub said : (a c message : List ℕ) (n : SinkCounts) (r : Result (Unit {0}) WriteFault) → OnOk r (IsWritten message a c n) →
+    OnErr r (IsCut message a c n) → Says a c n message
 said a c message n (Ok x) ok err = inl ok
 said a c message n (Err e) ok err = inr err
 
 -- a message that names a line is the one that was wanted
-pub told_at : (a c : List ℕ) (n : SinkCounts) (line : ℕ) (text told message : List ℕ) → Says a c n (line_text line text) → text ≡ told → message ≡ line_text line told → Tells a c n message
+pub told_at : (a c : List ℕ) (n : SinkCounts) (line : ℕ) (text told message : List ℕ) → Says a c n (line_text line text) → text ≡ told →
+    message ≡ line_text line told → Tells a c n message
 told_at a c n line text told message h e is = subst (Tells a c n) (sym is) (subst (λ (t : List ℕ). Says a c n (line_text line t)) e h)

@@ -21,7 +21,8 @@ answered keeps b before after n (Err refusal) runs cause same unasked wrong = ((
 
 module _ (keeps : Folder → Type 0) (path : List ℕ) (unplanned : Bool) (b before after : List ℕ) where
   module _ (n : Counts) (at : (folder : Folder) → keeps folder → file_at folder path ≡ Some b) where
-    shows : (outcome : Outcome) → IsShown unplanned b before after (sink_of n) outcome → FilesKept n → Serves keeps path unplanned true before after n outcome
+    shows : (outcome : Outcome) → IsShown unplanned b before after (sink_of n) outcome → FilesKept n →
+        Serves keeps path unplanned true before after n outcome
     shows (outcomes.Ended end_) h kept = absurd h
     shows (outcomes.Refused refusal) h kept = ((h.0, kept), (λ folder keeping. (b, at folder keeping, h.1)))
     shows outcomes.NoScript h kept = absurd h
@@ -46,12 +47,15 @@ module _ (keeps : Folder → Type 0) (path : List ℕ) (unplanned : Bool) (b bef
     went outcomes.BadCommandLine h = absurd h
 
     -- a plan that was shown
-    pub shown_at : (show_plan : Bool) (outcome : Outcome) → show_plan ≡ true → IsShown unplanned b before after (sink_of n) outcome → FilesKept n
+    pub shown_at : (show_plan : Bool) (outcome : Outcome) → show_plan ≡ true → IsShown unplanned b before after (sink_of n) outcome →
+        FilesKept n
         → Serves keeps path unplanned show_plan before after n outcome
-    shown_at show_plan outcome is h kept = subst (λ (s : Bool). Serves keeps path unplanned s before after n outcome) (sym is) (shows outcome h kept)
+    shown_at show_plan outcome is h kept = subst (λ (s : Bool). Serves keeps path unplanned s before after n outcome) (sym is)
+        (shows outcome h kept)
 
     -- a script that was run, after a reading that didn't fail
-    pub run_at : (show_plan : Bool) (outcome : Outcome) → show_plan ≡ false → (k : ℕ) → k ≡ n.files_before → IsRun keeps b before after (record n { files_before = k }) outcome
+    pub run_at : (show_plan : Bool) (outcome : Outcome) → show_plan ≡ false → (k : ℕ) → k ≡ n.files_before →
+        IsRun keeps b before after (record n { files_before = k }) outcome
         → Serves keeps path unplanned show_plan before after n outcome
     run_at show_plan outcome is k count h = subst (λ (s : Bool). Serves keeps path unplanned s before after n outcome) (sym is)
         (went outcome (subst (λ (j : ℕ). IsRun keeps b before after (record n { files_before = j }) outcome) count h))

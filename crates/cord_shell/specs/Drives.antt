@@ -69,17 +69,20 @@ Serves keeps path unplanned show_plan before after n outcomes.NoMemory = IsQuiet
 Serves keeps path unplanned show_plan before after n (outcomes.Refused refusal) =
     IsQuiet before after n × ((folder : Folder) → keeps folder → (b : List ℕ) × (file_at folder path ≡ Some b) × IsWrong b refusal)
 Serves keeps path unplanned show_plan before after n outcome =
-    (b : List ℕ) × ((folder : Folder) → keeps folder → file_at folder path ≡ Some b) × Does keeps unplanned show_plan b before after n outcome
+    (b : List ℕ) × ((folder : Folder) → keeps folder → file_at folder path ≡ Some b) ×
+    Does keeps unplanned show_plan b before after n outcome
 
 -- the words ask for a script, and this is what it comes to
 abbrev pub IsServed : (Folder → Type 0) → List (List ℕ) → List ℕ → List ℕ → Counts → Outcome → Type 0
 IsServed keeps words before after n outcome =
-    (path : List ℕ) × (unplanned show_plan : Bool) × AsksFor words path unplanned show_plan × Serves keeps path unplanned show_plan before after n outcome
+    (path : List ℕ) × (unplanned show_plan : Bool) × AsksFor words path unplanned show_plan ×
+    Serves keeps path unplanned show_plan before after n outcome
 
 -- what the words come to
 abbrev pub ComesTo : (Folder → Type 0) → List (List ℕ) → List ℕ → List ℕ → Counts → Outcome → Type 0
 ComesTo keeps words before after n outcomes.HelpShown = AsksForHelp words × IsHelp before after (sink_of n) outcomes.HelpShown × FilesKept n
-ComesTo keeps words before after n outcomes.HelpUnwritten = AsksForHelp words × IsHelp before after (sink_of n) outcomes.HelpUnwritten × FilesKept n
+ComesTo keeps words before after n outcomes.HelpUnwritten = AsksForHelp words × IsHelp before after (sink_of n) outcomes.HelpUnwritten ×
+    FilesKept n
 ComesTo keeps words before after n outcomes.BadCommandLine = IsQuiet before after n × IsRefused words
 ComesTo keeps words before after n outcomes.NoMemory = IsQuiet before after n
 ComesTo keeps words before after n outcome = IsServed keeps words before after n outcome

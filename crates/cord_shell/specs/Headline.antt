@@ -77,7 +77,8 @@ IsOut text a _ = ⊥
 pub record ShowsOver (unplanned : Bool) (statements : List Statement) (a : Answer) : Type 0 where
   pub told : End
   pub answers : AnswersEnd a told
-  pub shows : ((operations : List Operation) × IsPlan unplanned statements operations × IsOut (shown operations) a told) ⊎ StopsBefore a told
+  pub shows : ((operations : List Operation) × IsPlan unplanned statements operations × IsOut (shown operations) a told) ⊎
+      StopsBefore a told
 
 -- nothing is out, and status and line tell what is wrong with the bytes first, or want of memory; or it was stopped before
 abbrev pub RefusesOver : List ℕ → Answer → Type 0

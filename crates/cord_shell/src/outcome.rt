@@ -1,6 +1,7 @@
 //! What a script came to, and what the program tells of it.
 ghost use Rattle.std.specs.Prelude.{◌≡◌, ◌≤◌, ◌∷◌, ◌++◌, [], codes, decimal, length, OnOk, OnErr};
-ghost use Rattle.cord_shell.specs.Outcomes.{line_text, message_of, message_of_end, outcome_of, status_of_end, status_of_outcome};
+ghost use Rattle.cord_shell.specs.Outcomes.{line_text, message_of, message_of_end, outcome_of, status_of_end};
+ghost use Rattle.cord_shell.specs.Outcomes.{status_of_outcome};
 ghost use Rattle.cord_shell.specs.Tells.{SinkCounts, IsCut, IsWritten, Says, Tells};
 
 use arrayvec::ArrayString;

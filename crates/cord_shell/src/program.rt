@@ -118,7 +118,8 @@ fn serve<F: Files, S: Sink>(
 ) -> (Outcome, F)
     requires files_count { F.failures files < 2 ^ 64 - 1 }
     requires out_count { S.failures out.old < 2 ^ 64 - 1 }
-    ensures run { Serves (F.keeps result.1) request.now.script.now request.now.unplanned request.now.show_plan (S.taken out.old) (S.taken out.new)
+    ensures run { Serves (F.keeps result.1) request.now.script.now request.now.unplanned request.now.show_plan
+        (S.taken out.old) (S.taken out.new)
         (record {
           files_before = F.failures files;
           files_after = F.failures result.1;

@@ -4,7 +4,8 @@ ghost use Rattle.std.specs.String.{string_bytes};
 ghost use Rattle.clap.specs.declared.parser.matches.ArgMatches.{ArgMatches};
 ghost use Rattle.clap.specs.Words.{IsParsedFrom, IsPlainArg, app_of, first_value, found_of, kind_of, one_text, rule_of};
 ghost use Rattle.clap.specs.Built.{TakesValue};
-ghost use Rattle.cord_shell.specs.CommandLine.{IsKindOf, IsNoRequest, IsRequest, command, flag_rule, is_given, script_rule};
+ghost use Rattle.cord_shell.specs.CommandLine.{IsKindOf, IsNoRequest, IsRequest, command, flag_rule, is_given};
+ghost use Rattle.cord_shell.specs.CommandLine.{script_rule};
 
 use clap::error::ErrorKind;
 use clap::{Arg, ArgAction, ArgMatches, Command, Error};
@@ -67,7 +68,8 @@ fn script_word<'a>(alloc: Global) -> Arg<'a>
 fn program_command<'a>(alloc: Global) -> Result<Command<'a>, AllocError>
     ensures command { IfOk result (λ c. app_of c ≡ command) }
     // Where it takes the words, it finds the script's path.
-    ensures required { IfOk result (λ c. (m : ArgMatches) → IsParsedFrom c m → is_some (first_value (found_of m) (codes "SCRIPT")) ≡ true) }
+    ensures required { IfOk result (λ c. (m : ArgMatches) → IsParsedFrom c m →
+        is_some (first_value (found_of m) (codes "SCRIPT")) ≡ true) }
 {
     let unplanned = flag(alloc, "unplanned", "Run the statements as they stand");
     let show_plan = flag(alloc, "show-plan", "Write the plan, and run nothing");
@@ -88,8 +90,10 @@ fn is_set(matches: &ArgMatches<'_>, flag: &str) -> bool
 // The request that clap's matches are.
 fn request_of<'a>(matches: &ArgMatches<'a>) -> Option<Request<'a>>
     ensures script { IfSome result (λ r. first_value (found_of matches.now) (codes "SCRIPT") ≡ Some r.script.now) }
-    ensures unplanned { IfSome result (λ r. r.unplanned ≡ is_given (one_text (found_of matches.now) (codes "unplanned"))) }
-    ensures show_plan { IfSome result (λ r. r.show_plan ≡ is_given (one_text (found_of matches.now) (codes "show-plan"))) }
+    ensures unplanned { IfSome result (λ r. r.unplanned
+        ≡ is_given (one_text (found_of matches.now) (codes "unplanned"))) }
+    ensures show_plan { IfSome result (λ r. r.show_plan
+        ≡ is_given (one_text (found_of matches.now) (codes "show-plan"))) }
     ensures none { IfNone result (first_value (found_of matches.now) (codes "SCRIPT") ≡ None) }
 {
     Some(Request {

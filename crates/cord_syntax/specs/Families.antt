@@ -3,7 +3,9 @@ use Rattle.std.specs.Prelude.{⊤}
 use Rattle.cord_syntax.specs.declared.copies.Family.{Family}
 use Rattle.cord_syntax.specs.declared.copies.Family.TheVariants.{Growth, Look, Search, Count, Control, Other}
 use Rattle.cord_syntax.specs.declared.statements.Statement.{Statement}
-use Rattle.cord_syntax.specs.declared.statements.Statement.TheVariants.{Balance, EcToCord, Sprintf, Len, Fetch, Cmp, Ncmp, Str, Chr, Rchr, Assign, Add, Sub, EcInit, EcPut, EcCat, EcStr, Put, Repeat, If, Else, End}
+use Rattle.cord_syntax.specs.declared.statements.Statement.TheVariants.{Balance, EcToCord, Sprintf, Len, Fetch, Cmp, Ncmp, Str, Chr, Rchr}
+use Rattle.cord_syntax.specs.declared.statements.Statement.TheVariants.{Assign, Add, Sub, EcInit, EcPut, EcCat, EcStr, Put, Repeat, If}
+use Rattle.cord_syntax.specs.declared.statements.Statement.TheVariants.{Else, End}
 
 -- a statement that balances or prints a cord, or takes it from an extensible one
 abbrev pub IsPrint : Statement → Type 0

@@ -9,4 +9,5 @@ abbrev pub IsEdited : Edit → List ℕ → List ℕ → Type 0
 IsEdited (Append line) old new = new ≡ old ++ line.now ++ 10 ∷ []
 IsEdited (Insert place added) old new = (place ≤ length old) × (new ≡ take place old ++ added.now ++ drop place old)
 IsEdited (Delete place count) old new = (place + count ≤ length old) × (new ≡ take place old ++ drop (place + count) old)
-IsEdited (Replace wanted other) old new = (place : ℕ) × (first old 0 wanted.now ≡ Some place) × (new ≡ take place old ++ other.now ++ drop (place + length wanted.now) old)
+IsEdited (Replace wanted other) old new = (place : ℕ) × (first old 0 wanted.now ≡ Some place) ×
+    (new ≡ take place old ++ other.now ++ drop (place + length wanted.now) old)

@@ -26,7 +26,9 @@ loop-rope-preserved c =
     let e : drop c.loop-rope.rope-index c.args.ropes.now ≡ c.rope-item.result ∷ drop (c.loop-rope.rope-index + 1) c.args.ropes.now = rw c.rope-item.is (drop_more c.args.ropes.now c.loop-rope.rope-index c.rope-item.result (omega arith)) in
     let i : IsFilling c.args.ropes.now (c.rope-item.result ∷ drop (c.loop-rope.rope-index + 1) c.args.ropes.now) c.loop-rope.forest.items = rw (← e) c.loop-rope.invariant.filling in
     record {
-      filling = filling_step c.args.ropes.now c.rope-item.result (drop (c.loop-rope.rope-index + 1) c.args.ropes.now) c.loop-rope.forest.items c.insert_once.new.forest.items i c.in_ok-insert_once.ensures.rest c.in_ok-insert_once.ensures.text c.in_ok-insert_once.ensures.len c.in_ok-insert_once.ensures.kept;
+      filling = filling_step c.args.ropes.now c.rope-item.result (drop (c.loop-rope.rope-index + 1) c.args.ropes.now)
+          c.loop-rope.forest.items c.insert_once.new.forest.items i c.in_ok-insert_once.ensures.rest c.in_ok-insert_once.ensures.text
+          c.in_ok-insert_once.ensures.len c.in_ok-insert_once.ensures.kept;
       known = c.in_ok-insert_once.ensures.known;
     }
 
@@ -34,25 +36,31 @@ pub unreachable-requires : goal.unreachable-requires
 unreachable-requires c =
     let e : drop c.loop-rope.rope-index c.args.ropes.now ≡ [] = drop_all c.loop-rope.rope-index c.args.ropes.now (omega arith) in
     let i : IsFilling c.args.ropes.now [] c.loop-rope.forest.items = rw (← e) c.loop-rope.invariant.filling in
-    filling_none c.args.ropes.now c.loop-rope.forest.items c.gather.new.forest.items i c.requires.within_limit c.requires.not_empty c.requires.sound c.in_ok-node.ensures.rest c.in_ok-node.ensures.from (rw c.in-None.is at c.in_ok-node.ensures.len)
+    filling_none c.args.ropes.now c.loop-rope.forest.items c.gather.new.forest.items i c.requires.within_limit c.requires.not_empty
+    c.requires.sound c.in_ok-node.ensures.rest c.in_ok-node.ensures.from (rw c.in-None.is at c.in_ok-node.ensures.len)
 
 pub returns-clause-text : goal.returns-clause-text
 returns-clause-text c =
     let e : drop c.loop-rope.rope-index c.args.ropes.now ≡ [] = drop_all c.loop-rope.rope-index c.args.ropes.now (omega arith) in
     let i : IsFilling c.args.ropes.now [] c.loop-rope.forest.items = rw (← e) c.loop-rope.invariant.filling in
-    filling_text c.args.ropes.now c.loop-rope.forest.items c.gather.new.forest.items c.in-Some.node i c.requires.within_limit c.in_ok-node.ensures.rest c.in_ok-node.ensures.from (rw c.in-Some.is at c.in_ok-node.ensures.len) (rw c.in-Some.is at c.in_ok-node.ensures.text)
+    filling_text c.args.ropes.now c.loop-rope.forest.items c.gather.new.forest.items c.in-Some.node i c.requires.within_limit
+    c.in_ok-node.ensures.rest c.in_ok-node.ensures.from (rw c.in-Some.is at c.in_ok-node.ensures.len)
+    (rw c.in-Some.is at c.in_ok-node.ensures.text)
 
 pub returns-clause-kept : goal.returns-clause-kept
 returns-clause-kept c =
     let e : drop c.loop-rope.rope-index c.args.ropes.now ≡ [] = drop_all c.loop-rope.rope-index c.args.ropes.now (omega arith) in
     let i : IsFilling c.args.ropes.now [] c.loop-rope.forest.items = rw (← e) c.loop-rope.invariant.filling in
-    filling_kept c.args.ropes.now c.loop-rope.forest.items c.gather.new.forest.items c.in-Some.node i c.requires.within_limit c.in_ok-node.ensures.rest c.in_ok-node.ensures.from (rw c.in-Some.is at c.in_ok-node.ensures.len) (rw c.in-Some.is at c.in_ok-node.ensures.kept)
+    filling_kept c.args.ropes.now c.loop-rope.forest.items c.gather.new.forest.items c.in-Some.node i c.requires.within_limit
+    c.in_ok-node.ensures.rest c.in_ok-node.ensures.from (rw c.in-Some.is at c.in_ok-node.ensures.len)
+    (rw c.in-Some.is at c.in_ok-node.ensures.kept)
 
 pub returns-clause-len : goal.returns-clause-len
 returns-clause-len c =
     let e : drop c.loop-rope.rope-index c.args.ropes.now ≡ [] = drop_all c.loop-rope.rope-index c.args.ropes.now (omega arith) in
     let i : IsFilling c.args.ropes.now [] c.loop-rope.forest.items = rw (← e) c.loop-rope.invariant.filling in
-    filling_len c.args.ropes.now c.loop-rope.forest.items c.gather.new.forest.items c.in-Some.node i c.requires.within_limit c.in_ok-node.ensures.rest c.in_ok-node.ensures.from (rw c.in-Some.is at c.in_ok-node.ensures.len)
+    filling_len c.args.ropes.now c.loop-rope.forest.items c.gather.new.forest.items c.in-Some.node i c.requires.within_limit
+    c.in_ok-node.ensures.rest c.in_ok-node.ensures.from (rw c.in-Some.is at c.in_ok-node.ensures.len)
 
 pub returns-clause-slot : goal.returns-clause-slot
 returns-clause-slot c = λ (n : ℕ) (i : IsSlotOf (len_of c.in-Some.node.value) n).

@@ -4,7 +4,8 @@ ghost use Rattle.std.specs.Option.{ForSome};
 ghost use Rattle.cord_node.specs.Tree.{cells, len_of, depth_of, IsSound};
 ghost use Rattle.cord_node.specs.Kept.{parts, Kept};
 ghost use Rattle.cord_balance.specs.Fib.{fib_of, IsSlotOf};
-ghost use Rattle.cord_balance.specs.inner.Forest.{IsPiece, AllFrom, IsForest, forest_cells, forest_parts, forest_len, piece_cells, piece_parts, piece_len, IsGathered};
+ghost use Rattle.cord_balance.specs.inner.Forest.{IsPiece, AllFrom, IsForest, forest_cells, forest_parts, forest_len};
+ghost use Rattle.cord_balance.specs.inner.Forest.{piece_cells, piece_parts, piece_len, IsGathered};
 
 use super::Piece;
 use crate::{MAX_INDEX, slot_of};
@@ -46,7 +47,8 @@ fn put_left(alloc: Global, left: Rc<Node>, right: Option<Rc<Node>>) -> Result<Rc
     ensures kept { IfOk result (λ node. Kept (parts left.value ++ piece_parts right) (parts node.value)) }
     ensures shallow { IfOk result (λ node. fib_of (depth_of node.value) ≤ len_of node.value) }
     ensures alone { IfNone right (IfOk result (λ node. depth_of node.value ≡ depth_of left.value)) }
-    ensures depth { IfSome right (λ r. IfOk result (λ node. depth_of node.value ≤ max (depth_of left.value) (depth_of r.value) + 1)) }
+    ensures depth { IfSome right
+        (λ r. IfOk result (λ node. depth_of node.value ≤ max (depth_of left.value) (depth_of r.value) + 1)) }
 {
     let Some(right) = right else {
         return Ok(left);
@@ -67,7 +69,8 @@ pub fn gather(
     ensures from { OnOk result (AllFrom below forest.new.items) }
     ensures text { IfOk result (λ o. forest_cells forest.old.items ≡ forest_cells forest.new.items ++ piece_cells o) }
     ensures len { IfOk result (λ o. forest_len forest.old.items ≡ forest_len forest.new.items + piece_len o) }
-    ensures kept { IfOk result (λ o. Kept (forest_parts forest.old.items) (forest_parts forest.new.items ++ piece_parts o)) }
+    ensures kept { IfOk result (λ o. Kept (forest_parts forest.old.items)
+        (forest_parts forest.new.items ++ piece_parts o)) }
     ensures gathered { IfOk result (λ o. IsGathered below o) }
 {
     let mut joined: Option<Rc<Node>> = None;
@@ -103,7 +106,8 @@ pub fn merge(alloc: Global, forest: &mut Vec<Piece>, node: Rc<Node>) -> Result<(
     ensures rest { OnOk result (IsForest forest.new.items) }
     ensures text { OnOk result (forest_cells forest.new.items ≡ forest_cells forest.old.items ++ cells node.value) }
     ensures len { OnOk result (forest_len forest.new.items ≡ forest_len forest.old.items + len_of node.value) }
-    ensures kept { OnOk result (Kept (forest_parts forest.old.items ++ parts node.value) (forest_parts forest.new.items)) }
+    ensures kept { OnOk result (Kept (forest_parts forest.old.items ++ parts node.value)
+        (forest_parts forest.new.items)) }
 {
     let mut joined = node;
     let mut slot = slot_of(joined.len());
@@ -129,7 +133,8 @@ fn put_right(alloc: Global, left: Option<Rc<Node>>, right: Rc<Node>) -> Result<R
     ensures kept { IfOk result (λ node. Kept (piece_parts left ++ parts right.value) (parts node.value)) }
     ensures shallow { IfOk result (λ node. fib_of (depth_of node.value + 1) ≤ len_of node.value) }
     ensures alone { IfNone left (IfOk result (λ node. depth_of node.value ≡ depth_of right.value)) }
-    ensures depth { IfSome left (λ l. IfOk result (λ node. depth_of node.value ≤ max (depth_of l.value) (depth_of right.value) + 1)) }
+    ensures depth { IfSome left
+        (λ l. IfOk result (λ node. depth_of node.value ≤ max (depth_of l.value) (depth_of right.value) + 1)) }
 {
     let Some(left) = left else {
         return Ok(right);
@@ -147,7 +152,8 @@ pub fn insert(alloc: Global, forest: &mut Vec<Piece>, node: Rc<Node>) -> Result<
     ensures rest { OnOk result (IsForest forest.new.items) }
     ensures text { OnOk result (forest_cells forest.new.items ≡ forest_cells forest.old.items ++ cells node.value) }
     ensures len { OnOk result (forest_len forest.new.items ≡ forest_len forest.old.items + len_of node.value) }
-    ensures kept { OnOk result (Kept (forest_parts forest.old.items ++ parts node.value) (forest_parts forest.new.items)) }
+    ensures kept { OnOk result (Kept (forest_parts forest.old.items ++ parts node.value)
+        (forest_parts forest.new.items)) }
 {
     let slot = slot_of(node.len());
     let small = gather(alloc, forest, slot)?;

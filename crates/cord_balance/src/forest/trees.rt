@@ -39,7 +39,8 @@ pub fn insert_tree(
     ensures rest { OnOk result (IsForest forest.new.items) }
     ensures text { OnOk result (forest_cells forest.new.items ≡ forest_cells forest.old.items ++ cells node.now.value) }
     ensures len { OnOk result (forest_len forest.new.items ≡ forest_len forest.old.items + len_of node.now.value) }
-    ensures kept { OnOk result (Kept (forest_parts forest.old.items ++ parts node.now.value) (forest_parts forest.new.items)) }
+    ensures kept { OnOk result (Kept (forest_parts forest.old.items ++ parts node.now.value)
+        (forest_parts forest.new.items)) }
 {
     if is_balanced(node) {
         let whole = node.clone()?;
@@ -75,7 +76,8 @@ pub fn insert_once(
     ensures rest { OnOk result (IsForest forest.new.items) }
     ensures text { OnOk result (forest_cells forest.new.items ≡ forest_cells forest.old.items ++ cells node.now.value) }
     ensures len { OnOk result (forest_len forest.new.items ≡ forest_len forest.old.items + len_of node.now.value) }
-    ensures kept { OnOk result (Kept (forest_parts forest.old.items ++ parts node.now.value) (forest_parts forest.new.items)) }
+    ensures kept { OnOk result (Kept (forest_parts forest.old.items ++ parts node.now.value)
+        (forest_parts forest.new.items)) }
 {
     let Node::Cat { left, right, .. } = node.as_ref() else {
         return insert_tree(alloc, forest, node);

@@ -1,5 +1,6 @@
 -- What the code that plans goes by.
-use Rattle.std.specs.Prelude.{◌≡◌, ℕ, zero, suc, ◌+◌, ◌-◌, Bool, not, ◌&&◌, ◌||◌, ◌==◌, nat_le, List, [], ◌∷◌, map, drop, length, sum_by, if◌then◌else◌, Option, Some, None, slice_get}
+use Rattle.std.specs.Prelude.{◌≡◌, ℕ, zero, suc, ◌+◌, ◌-◌, Bool, not, ◌&&◌, ◌||◌, ◌==◌, nat_le, List, [], ◌∷◌, map, drop, length, sum_by}
+use Rattle.std.specs.Prelude.{if◌then◌else◌, Option, Some, None, slice_get}
 use Rattle.cord_syntax.specs.declared.statements.Statement.{Statement}
 use Rattle.cord_syntax.specs.declared.statements.Statement.TheVariants.{Chars, Nul, Cat, Catn, Catc, Substr, Put}
 use Rattle.cord_plan.specs.Exprs.{Expr, name, names, parts}
@@ -72,14 +73,17 @@ module _ (s : List Statement) (later : List ℕ → ℕ → Bool) where
   abbrev pub is_spare : ℕ → Statement → List (List ℕ) → List ℕ → Bool
   is_spare b l xs x = (count x xs == 1) && (assigns l x || not (later x b))
 
-  -- e, the expression of the line at a, may stand for x in the line l at b, whose operands are xs, where the lines between are no blocks and don't read x
+  -- e, the expression of the line at a, may stand for x in the line l at b, whose operands are xs, where the lines between are no blocks
+  -- and don't read x
   abbrev pub stands : Expr → ℕ → ℕ → Statement → List (List ℕ) → List ℕ → Bool
-  stands e a b l xs x = (count x xs == 1) && ((assigns l x || not (later x b)) && plain.each_from (λ m. plain.keeps (slice_get s m) (names e)) (b - a) a)
+  stands e a b l xs x = (count x xs == 1) && ((assigns l x || not (later x b)) && plain.each_from
+      (λ m. plain.keeps (slice_get s m) (names e)) (b - a) a)
 
   -- what stands for the next operand x after those that were chosen for
   abbrev pub IsChoice : ℕ → Statement → List (List ℕ) → List ℕ → List (Option Expr) → List plain.Choice → plain.Choice → Type 0
   IsChoice b l xs x table done c =
-      (t : plain.Table) → Has table t → c ≡ plain.chosen_of s later t b l x (map (λ d. plain.expr_of d) done) (map (λ y. name y) (drop (length done + 1) xs)) (plain.setter s x b)
+      (t : plain.Table) → Has table t → c ≡ plain.chosen_of s later t b l x (map (λ d. plain.expr_of d) done)
+      (map (λ y. name y) (drop (length done + 1) xs)) (plain.setter s x b)
 
   -- what stands for each operand of a line
   abbrev pub AreChoices : ℕ → Statement → List (Option Expr) → List plain.Choice → Type 0

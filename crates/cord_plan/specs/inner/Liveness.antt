@@ -1,5 +1,6 @@
 -- What the code that finds what is read later goes by.
-use Rattle.std.specs.Prelude.{◌≡◌, ℕ, zero, suc, ◌<◌, ◌/◌, ◌%◌, Bool, true, false, not, ◌&&◌, ◌||◌, List, [], ◌∷◌, map, length, get_or, Option, Some, None, slice_get}
+use Rattle.std.specs.Prelude.{◌≡◌, ℕ, zero, suc, ◌<◌, ◌/◌, ◌%◌, Bool, true, false, not, ◌&&◌, ◌||◌, List, [], ◌∷◌, map, length, get_or}
+use Rattle.std.specs.Prelude.{Option, Some, None, slice_get}
 use Rattle.std.specs.Option.{option_to_list}
 use Rattle.cord_syntax.specs.declared.statements.Statement.{Statement}
 use Rattle.cord_meaning.specs.Blocks as blocks
@@ -119,4 +120,5 @@ LiveTo s t k groups = (g : ℕ) → g < k → (group : Group) × (slice_get grou
 
 -- the group of each name is live
 abbrev pub AllLive : List Statement → Numbering → List Group → Type 0
-AllLive s t groups = (n : ℕ) → n < length (names_of t) → (group : Group) × (slice_get groups (n / 128) ≡ Some group) × AreLive s t (n / 128) group.words.items
+AllLive s t groups = (n : ℕ) → n < length (names_of t) → (group : Group) × (slice_get groups (n / 128) ≡ Some group) ×
+    AreLive s t (n / 128) group.words.items

@@ -12,7 +12,8 @@ use std::rc::Rc;
 // Hands a sink the text of an expression.
 #[cycle(shown_expressions)]
 pub(crate) fn put_expression<W: Sink>(expression: &Expr, sink: &mut W) -> Result<(), WriteFault>
-    ensures { Writes (expr (expr_view expression.now)) (W.taken sink.old) (W.taken sink.new) (W.failures sink.old) (W.failures sink.new) (W.finished sink.old) (W.finished sink.new) result }
+    ensures { Writes (expr (expr_view expression.now)) (W.taken sink.old) (W.taken sink.new) (W.failures sink.old)
+        (W.failures sink.new) (W.finished sink.old) (W.finished sink.new) result }
 {
     match expression {
         Expr::Name(name) => put_text(name.as_slice(), sink),
@@ -53,7 +54,8 @@ pub(crate) fn put_expression<W: Sink>(expression: &Expr, sink: &mut W) -> Result
 // The members of a `cat`, separated by one blank.
 #[cycle(shown_expressions)]
 fn put_members<W: Sink>(members: &[Rc<Expr>], sink: &mut W) -> Result<(), WriteFault>
-    ensures { Writes (exprs (members_of (map shared_view members.now))) (W.taken sink.old) (W.taken sink.new) (W.failures sink.old) (W.failures sink.new) (W.finished sink.old) (W.finished sink.new) result }
+    ensures { Writes (exprs (members_of (map shared_view members.now))) (W.taken sink.old) (W.taken sink.new)
+        (W.failures sink.old) (W.failures sink.new) (W.finished sink.old) (W.finished sink.new) result }
 {
     let mut blank: &[u8] = b"";
     for member in members {

@@ -11,7 +11,8 @@ use cord_script::{Relation, Statement};
 
 // Hands a sink the text of a statement that is kept; of any other, nothing.
 pub(crate) fn put_statement<W: Sink>(kept: &Statement, sink: &mut W) -> Result<(), WriteFault>
-    ensures { Writes (statement kept.now) (W.taken sink.old) (W.taken sink.new) (W.failures sink.old) (W.failures sink.new) (W.finished sink.old) (W.finished sink.new) result }
+    ensures { Writes (statement kept.now) (W.taken sink.old) (W.taken sink.new) (W.failures sink.old)
+        (W.failures sink.new) (W.finished sink.old) (W.finished sink.new) result }
 {
     match kept {
         Statement::Len { .. }
@@ -39,7 +40,8 @@ pub(crate) fn put_statement<W: Sink>(kept: &Statement, sink: &mut W) -> Result<(
 // The text of a statement that measures, looks into or compares cords.
 fn put_look<W: Sink>(kept: &Statement, sink: &mut W) -> Result<(), WriteFault>
     requires { IsLook kept.now }
-    ensures { Writes (statement kept.now) (W.taken sink.old) (W.taken sink.new) (W.failures sink.old) (W.failures sink.new) (W.finished sink.old) (W.finished sink.new) result }
+    ensures { Writes (statement kept.now) (W.taken sink.old) (W.taken sink.new) (W.failures sink.old)
+        (W.failures sink.new) (W.finished sink.old) (W.finished sink.new) result }
 {
     match kept {
         Statement::Len {
@@ -84,7 +86,8 @@ fn put_look<W: Sink>(kept: &Statement, sink: &mut W) -> Result<(), WriteFault>
 // The text of a statement that searches a cord.
 fn put_search<W: Sink>(kept: &Statement, sink: &mut W) -> Result<(), WriteFault>
     requires { IsSearch kept.now }
-    ensures { Writes (statement kept.now) (W.taken sink.old) (W.taken sink.new) (W.failures sink.old) (W.failures sink.new) (W.finished sink.old) (W.finished sink.new) result }
+    ensures { Writes (statement kept.now) (W.taken sink.old) (W.taken sink.new) (W.failures sink.old)
+        (W.failures sink.new) (W.finished sink.old) (W.finished sink.new) result }
 {
     match kept {
         Statement::Str {
@@ -130,7 +133,8 @@ fn put_search<W: Sink>(kept: &Statement, sink: &mut W) -> Result<(), WriteFault>
 // The text of a statement that reckons with numbers.
 fn put_count<W: Sink>(kept: &Statement, sink: &mut W) -> Result<(), WriteFault>
     requires { IsCount kept.now }
-    ensures { Writes (statement kept.now) (W.taken sink.old) (W.taken sink.new) (W.failures sink.old) (W.failures sink.new) (W.finished sink.old) (W.finished sink.new) result }
+    ensures { Writes (statement kept.now) (W.taken sink.old) (W.taken sink.new) (W.failures sink.old)
+        (W.failures sink.new) (W.finished sink.old) (W.finished sink.new) result }
 {
     match kept {
         Statement::Assign { target, value, .. } => put_counted(
@@ -158,7 +162,8 @@ fn put_count<W: Sink>(kept: &Statement, sink: &mut W) -> Result<(), WriteFault>
 // The text of a statement that changes an extensible cord.
 fn put_growth<W: Sink>(kept: &Statement, sink: &mut W) -> Result<(), WriteFault>
     requires { IsGrowth kept.now }
-    ensures { Writes (statement kept.now) (W.taken sink.old) (W.taken sink.new) (W.failures sink.old) (W.failures sink.new) (W.finished sink.old) (W.finished sink.new) result }
+    ensures { Writes (statement kept.now) (W.taken sink.old) (W.taken sink.new) (W.failures sink.old)
+        (W.failures sink.new) (W.finished sink.old) (W.finished sink.new) result }
 {
     match kept {
         Statement::EcInit { target, .. } => put_words(
@@ -196,7 +201,9 @@ fn put_grown<'a, W: Sink>(
     operand: Fragment<'a>,
     sink: &mut W,
 ) -> Result<(), WriteFault>
-    ensures { Writes (grows extensible.now (called what.now (fragment_text operand.entry))) (W.taken sink.old) (W.taken sink.new) (W.failures sink.old) (W.failures sink.new) (W.finished sink.old) (W.finished sink.new) result }
+    ensures { Writes (grows extensible.now (called what.now (fragment_text operand.entry))) (W.taken sink.old)
+        (W.taken sink.new) (W.failures sink.old) (W.failures sink.new) (W.finished sink.old)
+        (W.finished sink.new) result }
 {
     put_fragments(
         &[
@@ -215,7 +222,8 @@ fn put_grown<'a, W: Sink>(
 // The text of a statement that leads the run.
 fn put_control<W: Sink>(kept: &Statement, sink: &mut W) -> Result<(), WriteFault>
     requires { IsControl kept.now }
-    ensures { Writes (statement kept.now) (W.taken sink.old) (W.taken sink.new) (W.failures sink.old) (W.failures sink.new) (W.finished sink.old) (W.finished sink.new) result }
+    ensures { Writes (statement kept.now) (W.taken sink.old) (W.taken sink.new) (W.failures sink.old)
+        (W.failures sink.new) (W.finished sink.old) (W.finished sink.new) result }
 {
     match kept {
         Statement::Repeat { count, .. } => put_words(&[Plain(b"repeat"), Number(count)], sink),
@@ -246,7 +254,9 @@ fn put_counted<'a, W: Sink>(
     operands: &[Fragment],
     sink: &mut W,
 ) -> Result<(), WriteFault>
-    ensures { Writes (counted target.now word.now (map fragment_text operands.now)) (W.taken sink.old) (W.taken sink.new) (W.failures sink.old) (W.failures sink.new) (W.finished sink.old) (W.finished sink.new) result }
+    ensures { Writes (counted target.now word.now (map fragment_text operands.now)) (W.taken sink.old)
+        (W.taken sink.new) (W.failures sink.old) (W.failures sink.new) (W.finished sink.old)
+        (W.finished sink.new) result }
 {
     put_fragments(
         &[

@@ -1,5 +1,6 @@
 -- The way from a root to the part that holds an index, and how it is left and taken again.
-use Rattle.std.specs.Prelude.{◌≡◌, ℕ, ◌+◌, ◌-◌, ◌^◌, min, ◌<◌, nat_lt, nat_le, ◌&&◌, Bool, true, false, if◌then◌else◌, List, [], ◌∷◌, ◌++◌, map, Option, Some, None, ⊤}
+use Rattle.std.specs.Prelude.{◌≡◌, ℕ, ◌+◌, ◌-◌, ◌^◌, min, ◌<◌, nat_lt, nat_le, ◌&&◌, Bool, true, false, if◌then◌else◌, List, [], ◌∷◌, ◌++◌}
+use Rattle.std.specs.Prelude.{map, Option, Some, None, ⊤}
 use Rattle.std.specs.Option.{option_map}
 use Rattle.cord_node.specs.declared.Node.{Node}
 use Rattle.cord_node.specs.declared.Node.TheVariants.{Leaf, Run, Func, Cat'}
@@ -36,7 +37,8 @@ abbrev pub below : Node → ℕ → ℕ → List Place
 below (Leaf bytes s len mark) start i = []
 below (Run byte len) start i = []
 below (Func id s len) start i = []
-below (Cat' p left q right len depth mark) start i = if nat_lt i (len_of left) then (Some left, start) ∷ below left start i else (Some right, start + len_of left) ∷ below right (start + len_of left) (i - len_of left)
+below (Cat' p left q right len depth mark) start i = if nat_lt i (len_of left) then (Some left, start)
+    ∷ below left start i else (Some right, start + len_of left) ∷ below right (start + len_of left) (i - len_of left)
 
 -- the same, with the node's own place first
 abbrev pub way : Node → ℕ → ℕ → List Place
@@ -47,7 +49,8 @@ abbrev pub part_at : Node → ℕ → ℕ → Node × ℕ
 part_at (Leaf bytes s len mark) start i = (Leaf bytes s len mark, start)
 part_at (Run byte len) start i = (Run byte len, start)
 part_at (Func id s len) start i = (Func id s len, start)
-part_at (Cat' p left q right len depth mark) start i = if nat_lt i (len_of left) then part_at left start i else part_at right (start + len_of left) (i - len_of left)
+part_at (Cat' p left q right len depth mark) start i = if nat_lt i (len_of left) then part_at left start i else part_at right
+    (start + len_of left) (i - len_of left)
 
 -- the node at a place holds this index of the root's text
 abbrev pub holds : ℕ → Place → Bool
@@ -87,4 +90,5 @@ pub record IsTaken (root : Node) (from at : ℕ) (new : List Place) (node : Node
 
 -- the same, whatever root the way began at
 abbrev pub IsTakenTo : List Place → ℕ → List Place → Node → ℕ → ℕ → ℕ → Type 0
-IsTakenTo old at new node start old_visits visits = (root : Node) → (from : ℕ) → IsSound root → at < len_of root → old ≡ way root 0 from → IsTaken root from at new node start old_visits visits
+IsTakenTo old at new node start old_visits visits = (root : Node) → (from : ℕ) → IsSound root → at < len_of root → old ≡ way root 0 from →
+    IsTaken root from at new node start old_visits visits

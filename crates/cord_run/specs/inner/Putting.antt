@@ -13,7 +13,8 @@ abbrev pub Puts : List ℕ → List ℕ → List ℕ → Result (Unit {0}) CordE
 Puts text old new (Ok x) = new ≡ old ++ text
 Puts text old new (Err e) = Takes (IsFrontOf text) old new
 
--- a sink took the text that is meant; after a fault of the text, or where memory was refused, nothing; after a failure of a device a prefix of the text
+-- a sink took the text that is meant; after a fault of the text, or where memory was refused, nothing; after a failure of a device a prefix
+-- of the text
 abbrev pub Wrote : Result (List ℕ) FaultKind → List ℕ → List ℕ → Result (Unit {0}) Halt → Type 0
 Wrote meant old new (Ok x) = (text : List ℕ) × (meant ≡ Ok text) × (new ≡ old ++ text)
 Wrote meant old new (Err (halts.Fault kind)) = (meant ≡ Err kind) × (new ≡ old)

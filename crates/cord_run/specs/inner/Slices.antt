@@ -18,7 +18,8 @@ IsSliceOf cord bytes = (t : Table) → bytes_of t cord ≡ bytes
 
 -- where all the names of an expression hold texts, these bytes are its text
 abbrev pub IsTextIn : List Entry → Expr → List ℕ → Type 0
-IsTextIn entries e bytes = (t : Table) → all_texts (holding_of t entries) (cords e) ≡ true → text_in MAX_LEN (plain_of t entries) e ≡ Ok bytes
+IsTextIn entries e bytes = (t : Table) → all_texts (holding_of t entries) (cords e) ≡ true →
+    text_in MAX_LEN (plain_of t entries) e ≡ Ok bytes
 
 -- the texts of members in a state, joined
 abbrev pub texts_in : ℕ → State → Exprs → Result (List ℕ) FaultKind
@@ -26,4 +27,5 @@ texts_in limit s es = values limit s.texts (λ n. number_value s n) es
 
 -- where all the names of members hold texts, these bytes are their texts, joined
 abbrev pub AreTextsIn : List Entry → Exprs → List ℕ → Type 0
-AreTextsIn entries es bytes = (t : Table) → all_texts (holding_of t entries) (cords_of es) ≡ true → texts_in MAX_LEN (plain_of t entries) es ≡ Ok bytes
+AreTextsIn entries es bytes = (t : Table) → all_texts (holding_of t entries) (cords_of es) ≡ true →
+    texts_in MAX_LEN (plain_of t entries) es ≡ Ok bytes

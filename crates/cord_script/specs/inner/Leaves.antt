@@ -61,4 +61,5 @@ first_term test (t ∷ ts) = first_of (test t) (first_term test ts)
 
 -- what is wrong with the names of a line: the operands, the target, the path
 abbrev pub terms_flaw : Before → List Term → Option RefusalKind
-terms_flaw before ts = first_of (first_term (term_flaw passes.Operands before) ts) (first_of (first_term (term_flaw passes.Target before) ts) (first_term (term_flaw passes.Paths before) ts))
+terms_flaw before ts = first_of (first_term (term_flaw passes.Operands before) ts)
+    (first_of (first_term (term_flaw passes.Target before) ts) (first_term (term_flaw passes.Paths before) ts))

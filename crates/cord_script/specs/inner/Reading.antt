@@ -4,7 +4,8 @@ use Rattle.cord_script.specs.Tests.{is_digit, each, number_after}
 
 -- the value of a hexadecimal digit
 abbrev pub digit_of : ℕ → Option ℕ
-digit_of c = if nat_le 48 c && nat_le c 57 then Some (c - 48) else (if nat_le 97 c && nat_le c 102 then Some (c - 87) else (if nat_le 65 c && nat_le c 70 then Some (c - 55) else None))
+digit_of c = if nat_le 48 c && nat_le c 57 then Some (c - 48) else
+    (if nat_le 97 c && nat_le c 102 then Some (c - 87) else (if nat_le 65 c && nat_le c 70 then Some (c - 55) else None))
 
 -- the byte of two hexadecimal digits, and what follows them
 abbrev pub byte_of : Option ℕ → Option ℕ → List ℕ → Option (ℕ × List ℕ)

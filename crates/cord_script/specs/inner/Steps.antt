@@ -19,7 +19,8 @@ Takes n line old new ss grown = (found : Option Statement) × Tells n line old n
 
 -- what is wrong with a line after the lines before it
 abbrev pub HasWrong : List ℕ → Before → RefusalKind → Type 0
-HasWrong line before kind = (¬ IsIdle line) × (HasBadBytes line kind ⊎ ((words : List Word) × HasWords line words × HasBadWords whole before words kind))
+HasWrong line before kind = (¬ IsIdle line) × (HasBadBytes line kind ⊎
+    ((words : List Word) × HasWords line words × HasBadWords whole before words kind))
 
 -- the lines that were read in front of the rest, what they say, and what they leave
 pub record HasRead (b rest : List ℕ) (n : ℕ) (before : Before) (statements : List Statement) : Type 0 where

@@ -17,7 +17,8 @@ pub record IsWithin (n : Node) (place : ℕ) (m : Node) (at : ℕ) : Type 0 wher
   pub inside : offset + len_of m ≤ len_of n
   pub sound : IsSound m
   pub fits : (lengths : Lengths) → FitsIn lengths n → FitsIn lengths m
-  pub text : (t : Table) → Fits t n → (i k : ℕ) → i + k ≤ len_of m → take k (drop (offset + i) (bytes_over t n)) ≡ take k (drop i (bytes_over t m))
+  pub text : (t : Table) → Fits t n → (i k : ℕ) → i + k ≤ len_of m →
+      take k (drop (offset + i) (bytes_over t n)) ≡ take k (drop i (bytes_over t m))
 
 -- the place is one of the node's, which is sound
 abbrev pub IsSpot : Spot → Type 0
@@ -38,4 +39,5 @@ AreAlike c i d j n = (t : Table) → CordFits t c → CordFits t d → take n (d
 -- what two cords have at two places: up to `most` bytes that are the same, or stretches of one length
 abbrev pub IsAhead : Option Node → ℕ → Option Node → ℕ → ℕ → Ahead → Type 0
 IsAhead c i d j most (Same n) = (0 < n) × (n ≤ most) × AreAlike c i d j n
-IsAhead c i d j most (Apart s other) = IsStretchOf c i s × IsStretchOf d j other × (stretch_len other ≡ stretch_len s) × (stretch_len s ≤ most)
+IsAhead c i d j most (Apart s other) = IsStretchOf c i s × IsStretchOf d j other × (stretch_len other ≡ stretch_len s) ×
+    (stretch_len s ≤ most)

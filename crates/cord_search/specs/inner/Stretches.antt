@@ -1,5 +1,6 @@
 -- Stretches: texts that lie in one part of a node.
-use Rattle.std.specs.Prelude.{◌≡◌, ◌≢◌, ℕ, ◌+◌, ◌<◌, ◌≤◌, List, length, take, drop, replicate, slice_get, slice_index, Bool, false, not, ◌==◌, Option, Some, ⊤}
+use Rattle.std.specs.Prelude.{◌≡◌, ◌≢◌, ℕ, ◌+◌, ◌<◌, ◌≤◌, List, length, take, drop, replicate, slice_get, slice_index, Bool, false, not}
+use Rattle.std.specs.Prelude.{◌==◌, Option, Some, ⊤}
 use Rattle.cord_io.specs.Table.{Table, Lengths, length_at}
 use Rattle.cord_io.specs.declared.TheConstants.{MAX_LEN}
 use Rattle.cord_node.specs.declared.Node.{Node}
@@ -51,7 +52,8 @@ is_other_run _ c = false
 
 -- the two begin with the same bytes, up to the end of the shorter one
 abbrev pub BeginAlike : Stretch → Stretch → Type 0
-BeginAlike s other = (t : Table) → (n : ℕ) → n ≤ stretch_len s → n ≤ stretch_len other → take n (stretch_bytes t s) ≡ take n (stretch_bytes t other)
+BeginAlike s other = (t : Table) → (n : ℕ) → n ≤ stretch_len s → n ≤ stretch_len other →
+    take n (stretch_bytes t s) ≡ take n (stretch_bytes t other)
 
 -- the first n bytes of a stretch
 pub record IsFrontOf (s : Stretch) (n : ℕ) (front : Stretch) : Type 0 where

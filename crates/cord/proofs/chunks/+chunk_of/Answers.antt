@@ -20,7 +20,9 @@ returns-in-Leaf t c =
     let inside : place ≤ len = omega (arith, below) in
     let count : (start + len) - (start + place) ≡ len - place = omega arith in
     chunk_rest (bytes_over no_table node) place _ (omega (arith, c.requires.inside, node_len node c.requires.sound c.requires.plain))
-    (ap (λ (k : ℕ). take k (drop (start + place) slice)) count ∙ range_rest slice start len place inside ∙ ap (λ (xs : List ℕ). drop place (take len (drop start xs))) c.as_slice.ensures.value ∙ ap (λ (n : Node). drop place (bytes_over no_table n)) (sym c.in-Leaf.is))
+    (ap (λ (k : ℕ). take k (drop (start + place) slice)) count ∙ range_rest slice start len place inside
+    ∙ ap (λ (xs : List ℕ). drop place (take len (drop start xs))) c.as_slice.ensures.value
+    ∙ ap (λ (n : Node). drop place (bytes_over no_table n)) (sym c.in-Leaf.is))
 
 pub returns-in-Run : goal.returns-in-Run
 returns-in-Run t c =

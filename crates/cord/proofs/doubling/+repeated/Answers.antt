@@ -8,10 +8,16 @@ use Rattle.cord.proofs.Repeating.{twice, once_more, even_len, odd_len, most_len}
 use Rattle.cord.proofs.doubling.+repeated.Goals as goal
 
 pub returns-in_err-twice-clause-too_long : goal.returns-in_err-twice-clause-too_long
-returns-in_err-twice-clause-too_long t c = handed_on _ TooLong c.in_err-twice.field-0.0 c.from_residual-in_err-twice.result c.from_residual-in_err-twice.ensures.1 (λ h.
+returns-in_err-twice-clause-too_long t c = handed_on _ TooLong c.in_err-twice.field-0.0 c.from_residual-in_err-twice.result
+    c.from_residual-in_err-twice.ensures.1 (λ h.
     let half = c.args.times / 2 in
     let le : half + half ≤ c.args.times = omega arith in
-    omega (arith, c.in_err-twice.ensures.too_long (ap (λ (y : CordError). Err y) h), c.in_ok-half.ensures.len, most_len c.args.times half (text_len c.args.cord.now) le))
+    omega (
+      arith,
+      c.in_err-twice.ensures.too_long (ap (λ (y : CordError). Err y) h),
+      c.in_ok-half.ensures.len,
+      most_len c.args.times half (text_len c.args.cord.now) le,
+    ))
 
 pub returns-then-times-eq0-2-clause-over : goal.returns-then-times-eq0-2-clause-over
 returns-then-times-eq0-2-clause-over t c =
@@ -21,7 +27,8 @@ returns-then-times-eq0-2-clause-over t c =
     twice c.args.times half c.args.cord.now c.in_ok-half.half c.in_ok-twice.twice e c.in_ok-half.ensures.over c.in_ok-twice.ensures.over
 
 pub returns-then-times-eq0-2-clause-means : goal.returns-then-times-eq0-2-clause-means
-returns-then-times-eq0-2-clause-means t c = λ ls bytes copies m e. means_repeated ls bytes copies c.args.times c.args.cord.now c.in_ok-twice.twice m e (returns-then-times-eq0-2-clause-over t c)
+returns-then-times-eq0-2-clause-means t c = λ ls bytes copies m e.
+    means_repeated ls bytes copies c.args.times c.args.cord.now c.in_ok-twice.twice m e (returns-then-times-eq0-2-clause-over t c)
 
 pub returns-then-times-eq0-2-clause-len : goal.returns-then-times-eq0-2-clause-len
 returns-then-times-eq0-2-clause-len t c =
@@ -38,11 +45,18 @@ returns-then-times-eq0-2-clause-within_limit t c =
     omega (arith, c.in_ok-twice.ensures.within_limit, c.in_ok-half.ensures.len, even_len c.args.times half (text_len c.args.cord.now) e)
 
 pub returns-in_err-odd-clause-too_long : goal.returns-in_err-odd-clause-too_long
-returns-in_err-odd-clause-too_long t c = handed_on _ TooLong c.in_err-odd.field-0.0 c.from_residual-in_err-odd.result c.from_residual-in_err-odd.ensures.1 (λ h.
+returns-in_err-odd-clause-too_long t c = handed_on _ TooLong c.in_err-odd.field-0.0 c.from_residual-in_err-odd.result
+    c.from_residual-in_err-odd.ensures.1 (λ h.
     let odd = c.if-times-eq0-2.false in
     let half = c.args.times / 2 in
     let e : c.args.times ≡ half + half + 1 = omega (arith, odd) in
-    omega (arith, c.in_err-odd.ensures.too_long (ap (λ (y : CordError). Err y) h), c.in_ok-twice.ensures.len, c.in_ok-half.ensures.len, odd_len c.args.times half (text_len c.args.cord.now) e))
+    omega (
+      arith,
+      c.in_err-odd.ensures.too_long (ap (λ (y : CordError). Err y) h),
+      c.in_ok-twice.ensures.len,
+      c.in_ok-half.ensures.len,
+      odd_len c.args.times half (text_len c.args.cord.now) e,
+    ))
 
 pub returns-clause-over : goal.returns-clause-over
 returns-clause-over t c =
@@ -53,18 +67,31 @@ returns-clause-over t c =
     once_more c.args.times (half + half) c.args.cord.now c.in_ok-twice.twice c.in_ok-odd.odd e even c.in_ok-odd.ensures.over
 
 pub returns-clause-means : goal.returns-clause-means
-returns-clause-means t c = λ ls bytes copies m e. means_repeated ls bytes copies c.args.times c.args.cord.now c.in_ok-odd.odd m e (returns-clause-over t c)
+returns-clause-means t c = λ ls bytes copies m e. means_repeated ls bytes copies c.args.times c.args.cord.now c.in_ok-odd.odd m e
+    (returns-clause-over t c)
 
 pub returns-clause-len : goal.returns-clause-len
 returns-clause-len t c =
     let odd = c.if-times-eq0-2.false in
     let half = c.args.times / 2 in
     let e : c.args.times ≡ half + half + 1 = omega (arith, odd) in
-    omega (arith, c.in_ok-odd.ensures.len, c.in_ok-twice.ensures.len, c.in_ok-half.ensures.len, odd_len c.args.times half (text_len c.args.cord.now) e)
+    omega (
+      arith,
+      c.in_ok-odd.ensures.len,
+      c.in_ok-twice.ensures.len,
+      c.in_ok-half.ensures.len,
+      odd_len c.args.times half (text_len c.args.cord.now) e,
+    )
 
 pub returns-clause-within_limit : goal.returns-clause-within_limit
 returns-clause-within_limit t c =
     let odd = c.if-times-eq0-2.false in
     let half = c.args.times / 2 in
     let e : c.args.times ≡ half + half + 1 = omega (arith, odd) in
-    omega (arith, c.in_ok-odd.ensures.within_limit, c.in_ok-twice.ensures.len, c.in_ok-half.ensures.len, odd_len c.args.times half (text_len c.args.cord.now) e)
+    omega (
+      arith,
+      c.in_ok-odd.ensures.within_limit,
+      c.in_ok-twice.ensures.len,
+      c.in_ok-half.ensures.len,
+      odd_len c.args.times half (text_len c.args.cord.now) e,
+    )

@@ -10,4 +10,5 @@ pub returns-in_default-clause-kept : goal.returns-in_default-clause-kept
 returns-in_default-clause-kept c = let e : parts_of c.if-is_some.cord ≡ parts_of c.args.left.now ++ parts_of c.args.right.now = grind (arith, common_steps) in Kept_same _ _ e
 
 pub returns-clause-over : goal.returns-clause-over
-returns-clause-over c = cat_over c.args.left.now c.args.right.now (Some c.in_ok-node.node.value) c.in_ok-node.ensures.sound (grind (arith, common_steps))
+returns-clause-over c = cat_over c.args.left.now c.args.right.now (Some c.in_ok-node.node.value) c.in_ok-node.ensures.sound
+    (grind (arith, common_steps))

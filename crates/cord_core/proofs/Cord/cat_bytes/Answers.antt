@@ -5,7 +5,13 @@ pub returns-clause-text : goal.returns-clause-text
 returns-clause-text c = rw (← c.in_ok-tail.ensures.text) c.in_ok-cord.ensures.text
 
 pub returns-clause-over : goal.returns-clause-over
-returns-clause-over c = appended_over c.args.cord.now c.in_ok-tail.tail c.in_ok-cord.cord c.args.bytes.now c.in_ok-tail.ensures.over c.in_ok-cord.ensures.over
+returns-clause-over c = appended_over c.args.cord.now c.in_ok-tail.tail c.in_ok-cord.cord c.args.bytes.now c.in_ok-tail.ensures.over
+    c.in_ok-cord.ensures.over
 
 pub returns-clause-cat : goal.returns-clause-cat
-returns-clause-cat c = record { tail = c.in_ok-tail.tail; form = c.in_ok-tail.ensures.form; depth_is = c.in_ok-cord.ensures.depth; kept = c.in_ok-cord.ensures.kept }
+returns-clause-cat c = record {
+  tail = c.in_ok-tail.tail;
+  form = c.in_ok-tail.ensures.form;
+  depth_is = c.in_ok-cord.ensures.depth;
+  kept = c.in_ok-cord.ensures.kept;
+}

@@ -11,7 +11,8 @@ pub loop-cord-preserved : goal.loop-cord-preserved
 loop-cord-preserved c =
     let e : drop c.loop-cord.cord-index c.args.cords.now ≡ c.cord-item.result ∷ drop (c.loop-cord.cord-index + 1) c.args.cords.now = rw c.cord-item.is (drop_more c.args.cords.now c.loop-cord.cord-index c.cord-item.result (omega arith)) in
     let i : IsCatting c.args.cords.now (c.cord-item.result ∷ drop (c.loop-cord.cord-index + 1) c.args.cords.now) c.loop-cord.all = rw (← e) c.loop-cord.invariant in
-    catting_step c.args.cords.now c.cord-item.result (drop (c.loop-cord.cord-index + 1) c.args.cords.now) c.loop-cord.all c.in_ok-all.all i c.in_ok-all.ensures.sound c.in_ok-all.ensures.text c.in_ok-all.ensures.len c.in_ok-all.ensures.kept
+    catting_step c.args.cords.now c.cord-item.result (drop (c.loop-cord.cord-index + 1) c.args.cords.now) c.loop-cord.all c.in_ok-all.all i
+    c.in_ok-all.ensures.sound c.in_ok-all.ensures.text c.in_ok-all.ensures.len c.in_ok-all.ensures.kept
 
 pub returns-clause-over : goal.returns-clause-over
 returns-clause-over c =

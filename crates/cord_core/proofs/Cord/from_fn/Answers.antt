@@ -6,7 +6,8 @@ use Rattle.cord_core.proofs.Parts.{range_over}
 use Rattle.cord_core.proofs.Cord.from_fn.Goals as goal
 
 pub returns-clause-form : goal.returns-clause-form
-returns-clause-form c = subst (λ node. IsFuncOf c.args.id.0 c.args.start c.args.n (Some node)) (sym c.in_ok-node.ensures.form) (refl, refl, refl)
+returns-clause-form c = subst (λ node. IsFuncOf c.args.id.0 c.args.start c.args.n (Some node)) (sym c.in_ok-node.ensures.form)
+    (refl, refl, refl)
 
 pub returns-clause-text : goal.returns-clause-text
 returns-clause-text c = ap cells c.in_ok-node.ensures.form

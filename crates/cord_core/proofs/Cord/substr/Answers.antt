@@ -18,4 +18,5 @@ pub returns-clause-text : goal.returns-clause-text
 returns-clause-text c = grind (arith, common_steps, ranges)
 
 pub returns-clause-over : goal.returns-clause-over
-returns-clause-over c = substring_over c.args.i c.args.n c.args.self.now (Some c.in_ok-part.part.value) c.in_ok-part.ensures.sound (returns-clause-text c)
+returns-clause-over c = substring_over c.args.i c.args.n c.args.self.now (Some c.in_ok-part.part.value) c.in_ok-part.ensures.sound
+    (returns-clause-text c)

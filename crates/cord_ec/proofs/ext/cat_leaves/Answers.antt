@@ -20,10 +20,15 @@ loop-rest-preserved-in_ok-longer c =
     let sum : length run + length left ≡ length rest = omega (arith, c.split_at.ensures.front_len, c.split_at.ensures.back_len, c.min.ensures) in
     let most : length run ≡ min (length rest) CAP = omega (arith, c.split_at.ensures.front_len, c.min.ensures) in
     record {
-      text_is = leaf_text (text c.loop-rest.longer) (text c.in_ok-leaf.leaf) (text c.in_ok-longer.longer) (text c.args.cord ++ map known c.args.bytes.now) b run rest left c.min.result c.in_ok-longer.ensures.text c.in_ok-leaf.ensures.text bytes_are c.split_at.ensures.front c.split_at.ensures.back c.loop-rest.invariant.text_is;
+      text_is = leaf_text (text c.loop-rest.longer) (text c.in_ok-leaf.leaf) (text c.in_ok-longer.longer)
+          (text c.args.cord ++ map known c.args.bytes.now) b run rest left c.min.result c.in_ok-longer.ensures.text
+          c.in_ok-leaf.ensures.text bytes_are c.split_at.ensures.front c.split_at.ensures.back c.loop-rest.invariant.text_is;
       len_is = omega (arith, c.in_ok-longer.ensures.len, c.in_ok-leaf.ensures.len, ap length bytes_are, sum, c.loop-rest.invariant.len_is);
-      gathering = gathering_step (parts_of c.args.cord) (parts_of c.loop-rest.longer) (parts_of c.in_ok-longer.longer) b (length c.args.bytes.now) (length rest) (length run) (length left) sum most some c.in_ok-leaf.ensures.small (rw (← c.in_ok-leaf.ensures.parts) c.in_ok-longer.ensures.kept) c.loop-rest.invariant.gathering;
+      gathering = gathering_step (parts_of c.args.cord) (parts_of c.loop-rest.longer) (parts_of c.in_ok-longer.longer) b
+          (length c.args.bytes.now) (length rest) (length run) (length left) sum most some c.in_ok-leaf.ensures.small
+          (rw (← c.in_ok-leaf.ensures.parts) c.in_ok-longer.ensures.kept) c.loop-rest.invariant.gathering;
     }
 
 pub returns-clause-gathered : goal.returns-clause-gathered
-returns-clause-gathered c = gathering_end (parts_of c.args.cord) (parts_of c.loop-rest.longer) (length c.args.bytes.now) (length c.loop-rest.rest.now) c.loop-rest.invariant.gathering
+returns-clause-gathered c = gathering_end (parts_of c.args.cord) (parts_of c.loop-rest.longer) (length c.args.bytes.now)
+    (length c.loop-rest.rest.now) c.loop-rest.invariant.gathering

@@ -10,7 +10,9 @@ use Rattle.cord_ec.proofs.ext.whole.Goals as goal
 pub returns-then-len-eq0-clause-kept : goal.returns-then-len-eq0-clause-kept
 returns-then-len-eq0-clause-kept c =
     let none : length c.args.buffer.now ≡ 0 = omega (arith, c.len.ensures.value) in
-    subst (λ (n : Option Node). Kept (parts_of c.args.cord.now ++ leaf_parts c.args.buffer.now) (parts_of n)) (sym c.in_ok-same.ensures.same) (nothing_added (parts_of c.args.cord.now) c.args.buffer.now none)
+    subst (λ (n : Option Node). Kept (parts_of c.args.cord.now ++ leaf_parts c.args.buffer.now) (parts_of n))
+    (sym c.in_ok-same.ensures.same) (nothing_added (parts_of c.args.cord.now) c.args.buffer.now none)
 
 pub returns-clause-kept : goal.returns-clause-kept
-returns-clause-kept c = subst (λ (ps : List Part). Kept (parts_of c.args.cord.now ++ ps) (parts_of c.in_ok-longer.longer)) c.in_ok-leaf.ensures.parts c.in_ok-longer.ensures.kept
+returns-clause-kept c = subst (λ (ps : List Part). Kept (parts_of c.args.cord.now ++ ps) (parts_of c.in_ok-longer.longer))
+    c.in_ok-leaf.ensures.parts c.in_ok-longer.ensures.kept

@@ -20,5 +20,6 @@ loop-done-preserved c =
       again = λ more.
           let whole : count ≡ done = search (rules, same) in
           rw whole (again_twice byte done again);
-      bytes = copies_behind byte c.args.start done count old new few again c.loop-done.invariant.bytes c.copy_behind.ensures.front c.copy_behind.ensures.behind;
+      bytes = copies_behind byte c.args.start done count old new few again c.loop-done.invariant.bytes c.copy_behind.ensures.front
+          c.copy_behind.ensures.behind;
     }

@@ -17,6 +17,8 @@ loop-done-preserved g c =
       count = search rules;
       bytes = λ folder kept.
           let Piece : Option (List ℕ × ℕ) → Type 0 = λ told. IsSomeAnd told (λ file. take k part ≡ take k (drop (c.args.start + loop.done) (bytes_at folder file.0))) in
-          more_read (λ file. file.0) folder (g.F.Files.opened c.args.files.now no) loop.done k _ c.args.start loop.out part loop.invariant.done c.in_ok-done.ensures.some.1
-          (loop.invariant.bytes folder (c.in_ok-done.ensures.earlier folder kept)) (subst Piece (loop.invariant.opened no) (c.in_ok-done.ensures.bytes folder kept));
+          more_read (λ file. file.0) folder (g.F.Files.opened c.args.files.now no) loop.done k _ c.args.start loop.out part
+          loop.invariant.done c.in_ok-done.ensures.some.1
+          (loop.invariant.bytes folder (c.in_ok-done.ensures.earlier folder kept))
+          (subst Piece (loop.invariant.opened no) (c.in_ok-done.ensures.bytes folder kept));
     }

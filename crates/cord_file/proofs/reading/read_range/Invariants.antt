@@ -10,7 +10,8 @@ invariant-loop-done g l = record {
   earlier : (folder : Folder) → g.F.Files.keeps l.files folder → g.F.Files.keeps l.initial.files folder;
   opened : (n : ℕ) → g.F.Files.opened l.files n ≡ g.F.Files.opened l.initial.files n;
   count : g.F.Files.failures l.files ≡ g.F.Files.failures l.initial.files;
-  bytes : (folder : Folder) → g.F.Files.keeps l.files folder → IsSomeAnd (g.F.Files.opened l.initial.files l.no.0) (λ told. take l.done l.out ≡ take l.done (drop l.start (bytes_at folder told.0)));
+  bytes : (folder : Folder) → g.F.Files.keeps l.files folder → IsSomeAnd (g.F.Files.opened l.initial.files l.no.0)
+      (λ told. take l.done l.out ≡ take l.done (drop l.start (bytes_at folder told.0)));
 }
 
 abbrev pub decreases-loop-done : goal.decreases-loop-done

@@ -8,7 +8,8 @@ returns-then-len-eq0-clause-walked g c folder kept =
     let t = g.S.Source.table c.args.src.now folder in
     let told = g.met.S.Source.lengths_of_table c.args.src.now folder kept in
     let len = cord_len (g.S.Source.lengths c.args.src.now) t c.args.cord.now told c.len-len.ensures.sound c.requires.fits in
-    empty_walk g.V.Visitor.step (g.V.Visitor.state c.args.visitor.now) t c.args.cord.now len (sym c.len-len.ensures.stored ∙ c.if-len-eq0.true)
+    empty_walk g.V.Visitor.step (g.V.Visitor.state c.args.visitor.now) t c.args.cord.now len
+    (sym c.len-len.ensures.stored ∙ c.if-len-eq0.true)
 
 pub returns-in_err-stopped-clause-prefix : goal.returns-in_err-stopped-clause-prefix
 returns-in_err-stopped-clause-prefix g c folder kept =
@@ -16,7 +17,9 @@ returns-in_err-stopped-clause-prefix g c folder kept =
     let told = g.met.S.Source.lengths_of_table c.args.src.now folder (c.riter4.ensures.earlier folder kept) in
     let len = cord_len (g.S.Source.lengths c.args.src.now) t c.args.cord.now told c.len-len.ensures.sound c.requires.fits in
     let some : 0 < c.len-len.result = omega (arith, c.if-len-eq0.false) in
-    on_err c.from_residual.result (all_front g.V.Visitor.step (g.V.Visitor.state c.args.visitor.now) (g.V.Visitor.state c.riter4.new.visitor) t c.args.cord.now c.len-len.result len c.len-len.ensures.stored some (c.in_err-stopped.ensures.prefix folder kept))
+    on_err c.from_residual.result (all_front g.V.Visitor.step (g.V.Visitor.state c.args.visitor.now)
+    (g.V.Visitor.state c.riter4.new.visitor) t c.args.cord.now c.len-len.result len c.len-len.ensures.stored some
+    (c.in_err-stopped.ensures.prefix folder kept))
 
 pub returns-clause-walked : goal.returns-clause-walked
 returns-clause-walked g c folder kept =
@@ -24,4 +27,5 @@ returns-clause-walked g c folder kept =
     let told = g.met.S.Source.lengths_of_table c.args.src.now folder (c.riter4.ensures.earlier folder kept) in
     let len = cord_len (g.S.Source.lengths c.args.src.now) t c.args.cord.now told c.len-len.ensures.sound c.requires.fits in
     let some : 0 < c.len-len.result = omega (arith, c.if-len-eq0.false) in
-    all_walk g.V.Visitor.step (g.V.Visitor.state c.args.visitor.now) _ t c.args.cord.now c.len-len.result len c.len-len.ensures.stored some (c.in_ok-stopped.ensures.walked folder kept)
+    all_walk g.V.Visitor.step (g.V.Visitor.state c.args.visitor.now) _ t c.args.cord.now c.len-len.result len c.len-len.ensures.stored some
+    (c.in_ok-stopped.ensures.walked folder kept)

@@ -8,7 +8,8 @@ pub returns-in_err-byte-clause-prefix : goal.returns-in_err-byte-clause-prefix
 returns-in_err-byte-clause-prefix g c folder kept =
     let state = g.V.Visitor.state in
     let walked = c.loop-position.invariant.walked folder (c.fetch.ensures.earlier folder kept) in
-    on_err c.from_residual.result (back_front g.V.Visitor.step (state c.args.visitor.now) (state c.loop-position.visitor) (g.S.Source.table c.args.src.now folder) c.args.cord.now c.args.i _ walked)
+    on_err c.from_residual.result (back_front g.V.Visitor.step (state c.args.visitor.now) (state c.loop-position.visitor)
+    (g.S.Source.table c.args.src.now folder) c.args.cord.now c.args.i _ walked)
 
 pub returns-then-byte-clause-walked : goal.returns-then-byte-clause-walked
 returns-then-byte-clause-walked g c folder kept =
@@ -22,7 +23,9 @@ returns-then-byte-clause-walked g c folder kept =
     let len = cord_len (g.S.Source.lengths c.args.src.now) t cord told c.set-position.ensures.sound c.requires.fits in
     let byte : IsByteAt t cord index c.in_ok-byte.byte = rw (c.loop-position.invariant.table, c.loop-position.invariant.cord) at c.in_ok-byte.ensures.byte folder kept in
     let stop : (state c.byte.new.self, true) ≡ step (state c.loop-position.visitor) c.in_ok-byte.byte = rw c.if-byte.true at c.byte.ensures in
-    back_stop step (state c.args.visitor.now) (state c.loop-position.visitor) (state c.byte.new.self) t cord c.args.i index c.in_ok-byte.byte len c.requires.inside c.loop-position.invariant.below byte stop (c.loop-position.invariant.walked folder before)
+    back_stop step (state c.args.visitor.now) (state c.loop-position.visitor)
+    (state c.byte.new.self) t cord c.args.i index c.in_ok-byte.byte len c.requires.inside c.loop-position.invariant.below byte stop
+    (c.loop-position.invariant.walked folder before)
 
 pub loop-position-preserved : goal.loop-position-preserved
 loop-position-preserved g c =
@@ -42,7 +45,9 @@ loop-position-preserved g c =
           let told = g.met.S.Source.lengths_of_table c.args.src.now folder (c.loop-position.invariant.earlier folder before) in
           let len = cord_len (g.S.Source.lengths c.args.src.now) t cord told c.set-position.ensures.sound c.requires.fits in
           let byte : IsByteAt t cord index c.in_ok-byte.byte = rw (c.loop-position.invariant.table, c.loop-position.invariant.cord) at c.in_ok-byte.ensures.byte folder kept in
-          rw to (back_on step (state c.args.visitor.now) (state c.loop-position.visitor) (state c.byte.new.self) t cord c.args.i index c.in_ok-byte.byte len c.requires.inside c.loop-position.invariant.below byte on (c.loop-position.invariant.walked folder before));
+          rw to (back_on step (state c.args.visitor.now) (state c.loop-position.visitor)
+          (state c.byte.new.self) t cord c.args.i index c.in_ok-byte.byte len c.requires.inside c.loop-position.invariant.below byte on
+          (c.loop-position.invariant.walked folder before));
       reads = c.in_ok-byte.ensures.count ∙ c.loop-position.invariant.reads;
       lengths = c.fetch.ensures.lengths ∙ c.loop-position.invariant.lengths;
       table = c.fetch.ensures.table ∙ c.loop-position.invariant.table;

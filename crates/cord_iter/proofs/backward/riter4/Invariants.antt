@@ -11,7 +11,9 @@ abbrev pub invariant-loop-position : goal.invariant-loop-position
 invariant-loop-position g l = record {
   cord : l.position.cord ≡ l.cord;
   below : left_of l.position.index ≤ l.i + 1;
-  walked : (folder : Folder) → g.S.Source.keeps l.src folder → walk g.V.Visitor.step (g.V.Visitor.state l.initial.visitor) (take (l.i + 1 - left_of l.position.index) (reverse (take (l.i + 1) (bytes_of (g.S.Source.table l.initial.src folder) l.cord)))) ≡ (g.V.Visitor.state l.visitor, false);
+  walked : (folder : Folder) → g.S.Source.keeps l.src folder → walk g.V.Visitor.step (g.V.Visitor.state l.initial.visitor)
+      (take (l.i + 1 - left_of l.position.index) (reverse (take (l.i + 1) (bytes_of (g.S.Source.table l.initial.src folder) l.cord))))
+      ≡ (g.V.Visitor.state l.visitor, false);
   reads : g.S.Source.failures l.src ≡ g.S.Source.failures l.initial.src;
   lengths : g.S.Source.lengths l.src ≡ g.S.Source.lengths l.initial.src;
   table : g.S.Source.table l.src ≡ g.S.Source.table l.initial.src;

@@ -24,7 +24,8 @@ returns-in_err-walk_node-in-Cat-clause-prefix g t c folder kept =
     let cut : IsCut text left right node = cut_of (g.S.Source.lengths c.args.src.now) text _ left _ right _ _ _ node c.in-Cat.is c.requires.sound c.requires.fits told in
     let seam : c.len-seam.result ≡ len_of left = c.len-seam.ensures.stored ∙ ap len_of c.deref.ensures in
     let inside : c.args.from ≤ len_of left = omega (arith, seam, c.if-seam-from.false) in
-    on_err c.from_residual.result (cut_front step (state c.args.visitor.now) (state c.walk_node-else-seam-from.new.visitor) text left right node c.args.from cut inside (rw c.as_ref-else-seam-from.ensures at c.in_err-walk_node-in-Cat.ensures.prefix folder kept))
+    on_err c.from_residual.result (cut_front step (state c.args.visitor.now) (state c.walk_node-else-seam-from.new.visitor) text left right
+    node c.args.from cut inside (rw c.as_ref-else-seam-from.ensures at c.in_err-walk_node-in-Cat.ensures.prefix folder kept))
 
 pub returns-in-Leaf-clause-walked : goal.returns-in-Leaf-clause-walked
 returns-in-Leaf-clause-walked g t c folder kept =
@@ -38,8 +39,11 @@ returns-in-Leaf-clause-walked g t c folder kept =
     let slice = c.as_slice.result.now in
     let inside : from ≤ len = rw c.in-Leaf.is at c.requires.inside in
     let count : (start + len) - (start + from) ≡ len - from = omega arith in
-    same_walk step (state c.args.visitor.now) _ (take ((start + len) - (start + from)) (drop (start + from) slice)) (drop from (bytes_over text node))
-    (ap (λ (k : ℕ). take k (drop (start + from) slice)) count ∙ range_rest slice start len from inside ∙ ap (λ (xs : List ℕ). drop from (take len (drop start xs))) c.as_slice.ensures.value ∙ ap (λ (n : Node). drop from (bytes_over text n)) (sym c.in-Leaf.is))
+    same_walk step (state c.args.visitor.now) _ (take ((start + len) - (start + from)) (drop (start + from) slice))
+    (drop from (bytes_over text node))
+    (ap (λ (k : ℕ). take k (drop (start + from) slice)) count ∙ range_rest slice start len from inside
+    ∙ ap (λ (xs : List ℕ). drop from (take len (drop start xs))) c.as_slice.ensures.value
+    ∙ ap (λ (n : Node). drop from (bytes_over text n)) (sym c.in-Leaf.is))
     (sym c.bytes.ensures)
 
 pub returns-in-Run-clause-walked : goal.returns-in-Run-clause-walked
@@ -65,7 +69,8 @@ returns-then-branch-clause-walked g t c folder kept =
     let cut : IsCut text left right node = cut_of (g.S.Source.lengths c.args.src.now) text _ left _ right _ _ _ node c.in-Cat.is c.requires.sound c.requires.fits told in
     let seam : c.len-seam.result ≡ len_of left = c.len-seam.ensures.stored ∙ ap len_of c.deref.ensures in
     let inside : c.args.from ≤ len_of left = omega (arith, seam, c.if-seam-from.false) in
-    cut_stop step (state c.args.visitor.now) (state c.walk_node-else-seam-from.new.visitor) text left right node c.args.from cut inside (rw (c.as_ref-else-seam-from.ensures, c.if-branch.true) at c.in_ok-walk_node-in-Cat.ensures.walked folder kept)
+    cut_stop step (state c.args.visitor.now) (state c.walk_node-else-seam-from.new.visitor) text left right node c.args.from cut inside
+    (rw (c.as_ref-else-seam-from.ensures, c.if-branch.true) at c.in_ok-walk_node-in-Cat.ensures.walked folder kept)
 
 pub returns-in-Func-clause-walked : goal.returns-in-Func-clause-walked
 returns-in-Func-clause-walked g t c folder kept =
@@ -75,7 +80,8 @@ returns-in-Func-clause-walked g t c folder kept =
     let node = c.args.node.now in
     let inside : c.args.from ≤ c.in-Func.len = rw c.in-Func.is at c.requires.inside in
     let rest = range_rest (text c.in-Func.id.0) c.in-Func.start c.in-Func.len c.args.from inside ∙ ap (λ (n : Node). drop c.args.from (bytes_over text n)) (sym c.in-Func.is) in
-    subst (λ xs. IfOk c.walk_func.result (λ stopped. walk step (state c.args.visitor.now) xs ≡ (state c.walk_func.new.visitor, stopped))) rest (c.walk_func.ensures.walked folder kept)
+    subst (λ xs. IfOk c.walk_func.result (λ stopped. walk step (state c.args.visitor.now) xs ≡ (state c.walk_func.new.visitor, stopped)))
+    rest (c.walk_func.ensures.walked folder kept)
 
 pub returns-in-Func-clause-prefix : goal.returns-in-Func-clause-prefix
 returns-in-Func-clause-prefix g t c folder kept =
@@ -85,7 +91,8 @@ returns-in-Func-clause-prefix g t c folder kept =
     let node = c.args.node.now in
     let inside : c.args.from ≤ c.in-Func.len = rw c.in-Func.is at c.requires.inside in
     let rest = range_rest (text c.in-Func.id.0) c.in-Func.start c.in-Func.len c.args.from inside ∙ ap (λ (n : Node). drop c.args.from (bytes_over text n)) (sym c.in-Func.is) in
-    subst (λ xs. OnErr c.walk_func.result (WalkedFront step (state c.args.visitor.now) (state c.walk_func.new.visitor) xs)) rest (c.walk_func.ensures.prefix folder kept)
+    subst (λ xs. OnErr c.walk_func.result (WalkedFront step (state c.args.visitor.now) (state c.walk_func.new.visitor) xs)) rest
+    (c.walk_func.ensures.prefix folder kept)
 
 pub returns-then-seam-from-clause-walked : goal.returns-then-seam-from-clause-walked
 returns-then-seam-from-clause-walked g t c folder kept =
@@ -99,7 +106,9 @@ returns-then-seam-from-clause-walked g t c folder kept =
     let cut : IsCut text left right node = cut_of (g.S.Source.lengths c.args.src.now) text _ left _ right _ _ _ node c.in-Cat.is c.requires.sound c.requires.fits told in
     let seam : c.len-seam.result ≡ len_of left = c.len-seam.ensures.stored ∙ ap len_of c.deref.ensures in
     let inside : len_of left ≤ c.args.from = subst (λ k. k ≤ c.args.from) seam c.if-seam-from.true in
-    cut_past (λ xs. IfOk c.walk_node.result (λ stopped. walk step (state c.args.visitor.now) xs ≡ (state c.walk_node.new.visitor, stopped))) text left right node c.args.from cut inside (rw (c.as_ref.ensures, seam) at c.walk_node.ensures.walked folder kept)
+    cut_past (λ xs. IfOk c.walk_node.result (λ stopped. walk step (state c.args.visitor.now) xs
+    ≡ (state c.walk_node.new.visitor, stopped))) text left right node c.args.from cut inside
+    (rw (c.as_ref.ensures, seam) at c.walk_node.ensures.walked folder kept)
 
 pub returns-then-seam-from-clause-prefix : goal.returns-then-seam-from-clause-prefix
 returns-then-seam-from-clause-prefix g t c folder kept =
@@ -113,7 +122,8 @@ returns-then-seam-from-clause-prefix g t c folder kept =
     let cut : IsCut text left right node = cut_of (g.S.Source.lengths c.args.src.now) text _ left _ right _ _ _ node c.in-Cat.is c.requires.sound c.requires.fits told in
     let seam : c.len-seam.result ≡ len_of left = c.len-seam.ensures.stored ∙ ap len_of c.deref.ensures in
     let inside : len_of left ≤ c.args.from = subst (λ k. k ≤ c.args.from) seam c.if-seam-from.true in
-    cut_past (λ xs. OnErr c.walk_node.result (WalkedFront step (state c.args.visitor.now) (state c.walk_node.new.visitor) xs)) text left right node c.args.from cut inside (rw (c.as_ref.ensures, seam) at c.walk_node.ensures.prefix folder kept)
+    cut_past (λ xs. OnErr c.walk_node.result (WalkedFront step (state c.args.visitor.now) (state c.walk_node.new.visitor) xs)) text left
+    right node c.args.from cut inside (rw (c.as_ref.ensures, seam) at c.walk_node.ensures.prefix folder kept)
 
 pub returns-else-branch-clause-walked : goal.returns-else-branch-clause-walked
 returns-else-branch-clause-walked g t c folder kept =
@@ -129,7 +139,10 @@ returns-else-branch-clause-walked g t c folder kept =
     let seam : c.len-seam.result ≡ len_of left = c.len-seam.ensures.stored ∙ ap len_of c.deref.ensures in
     let inside : c.args.from ≤ len_of left = omega (arith, seam, c.if-seam-from.false) in
     let stays = rw (c.as_ref-else-seam-from.ensures, c.if-branch.false) at c.in_ok-walk_node-in-Cat.ensures.walked folder before in
-    IfOk-weaker c.walk_node-else-branch.result _ _ (λ stopped on. cut_on step (state c.args.visitor.now) (state c.walk_node-else-seam-from.new.visitor) _ text left right node c.args.from cut inside stays on) (rw (c.as_ref-else-branch.ensures, c.walk_node-else-seam-from.ensures.table) at c.walk_node-else-branch.ensures.walked folder kept)
+    IfOk-weaker c.walk_node-else-branch.result _ _ (λ stopped on.
+    cut_on step (state c.args.visitor.now) (state c.walk_node-else-seam-from.new.visitor) _ text left right node c.args.from cut inside
+    stays on) (rw (c.as_ref-else-branch.ensures, c.walk_node-else-seam-from.ensures.table) at c.walk_node-else-branch.ensures.walked
+    folder kept)
 
 pub returns-else-branch-clause-prefix : goal.returns-else-branch-clause-prefix
 returns-else-branch-clause-prefix g t c folder kept =
@@ -145,4 +158,7 @@ returns-else-branch-clause-prefix g t c folder kept =
     let seam : c.len-seam.result ≡ len_of left = c.len-seam.ensures.stored ∙ ap len_of c.deref.ensures in
     let inside : c.args.from ≤ len_of left = omega (arith, seam, c.if-seam-from.false) in
     let stays = rw (c.as_ref-else-seam-from.ensures, c.if-branch.false) at c.in_ok-walk_node-in-Cat.ensures.walked folder before in
-    on_err_weaker c.walk_node-else-branch.result (λ front. cut_on_front step (state c.args.visitor.now) (state c.walk_node-else-seam-from.new.visitor) (state c.walk_node-else-branch.new.visitor) text left right node c.args.from cut inside stays front) (rw (c.as_ref-else-branch.ensures, c.walk_node-else-seam-from.ensures.table) at c.walk_node-else-branch.ensures.prefix folder kept)
+    on_err_weaker c.walk_node-else-branch.result (λ front. cut_on_front step (state c.args.visitor.now)
+    (state c.walk_node-else-seam-from.new.visitor) (state c.walk_node-else-branch.new.visitor) text left right node c.args.from cut
+    inside stays front) (rw (c.as_ref-else-branch.ensures, c.walk_node-else-seam-from.ensures.table) at
+    c.walk_node-else-branch.ensures.prefix folder kept)

@@ -7,7 +7,8 @@ use Rattle.cord_iter.proofs.forward.walk_func.Given as goal
 abbrev pub invariant-loop-done : goal.invariant-loop-done
 invariant-loop-done g l = record {
   in_range : l.done ≤ l.len;
-  walked : (folder : Folder) → g.S.Source.keeps l.src folder → walk g.V.Visitor.step (g.V.Visitor.state l.initial.visitor) (take l.done (drop l.start (g.S.Source.table l.initial.src folder l.id.0))) ≡ (g.V.Visitor.state l.visitor, false);
+  walked : (folder : Folder) → g.S.Source.keeps l.src folder → walk g.V.Visitor.step (g.V.Visitor.state l.initial.visitor)
+      (take l.done (drop l.start (g.S.Source.table l.initial.src folder l.id.0))) ≡ (g.V.Visitor.state l.visitor, false);
   reads : g.S.Source.failures l.src ≡ g.S.Source.failures l.initial.src;
   lengths : g.S.Source.lengths l.src ≡ g.S.Source.lengths l.initial.src;
   table : g.S.Source.table l.src ≡ g.S.Source.table l.initial.src;

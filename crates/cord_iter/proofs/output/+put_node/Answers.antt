@@ -23,7 +23,8 @@ returns-in_err-put_node-in-Cat-2-clause-prefix g t c =
     let sides : AreSides left right node = cat_sides _ left _ right _ _ _ node c.in-Cat.is c.requires.sound in
     let first : Takes (IsTextOver (keeps c.put_node.new.src) table left) (g.W.Sink.taken c.args.sink.now) (g.W.Sink.taken c.put_node.new.sink) = rw c.as_ref.ensures at c.in_ok-put_node-in-Cat.ensures.text in
     let second : Takes (IsPrefixOver (keeps c.put_node-in-Cat.new.src) table right) (g.W.Sink.taken c.put_node.new.sink) (g.W.Sink.taken c.put_node-in-Cat.new.sink) = rw (c.as_ref-in-Cat.ensures, c.put_node.ensures.table) at c.in_err-put_node-in-Cat-2.ensures.prefix in
-    on_err c.from_residual-in_err-put_node-in-Cat-2.result (takes_both first second (λ x y. cat_right table left right node x y sides c.put_node-in-Cat.ensures.earlier))
+    on_err c.from_residual-in_err-put_node-in-Cat-2.result (takes_both first second
+    (λ x y. cat_right table left right node x y sides c.put_node-in-Cat.ensures.earlier))
 
 pub returns-in_ok-put_node-in-Cat-2-clause-text : goal.returns-in_ok-put_node-in-Cat-2-clause-text
 returns-in_ok-put_node-in-Cat-2-clause-text g t c =

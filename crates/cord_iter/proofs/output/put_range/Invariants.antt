@@ -9,7 +9,8 @@ abbrev pub invariant-loop-done : goal.invariant-loop-done
 invariant-loop-done g l = record {
   in_range : l.done ≤ l.len;
   room : length l.buffer ≡ g.row.N;
-  taken : Takes (IsTextOver (g.S.Source.keeps l.src) (g.S.Source.table l.initial.src) (Func l.id l.start l.done)) (g.W.Sink.taken l.initial.sink) (g.W.Sink.taken l.sink);
+  taken : Takes (IsTextOver (g.S.Source.keeps l.src) (g.S.Source.table l.initial.src) (Func l.id l.start l.done))
+      (g.W.Sink.taken l.initial.sink) (g.W.Sink.taken l.sink);
   reads : g.S.Source.failures l.src ≡ g.S.Source.failures l.initial.src;
   puts : g.W.Sink.failures l.sink ≡ g.W.Sink.failures l.initial.sink;
   lengths : g.S.Source.lengths l.src ≡ g.S.Source.lengths l.initial.src;

@@ -17,7 +17,8 @@ pub returns-clause-end : goal.returns-clause-end
 returns-clause-end c = λ small great most statements files le none. end_agrees small great le files most statements none
 
 pub returns-clause-output_of_32_bits : goal.returns-clause-output_of_32_bits
-returns-clause-output_of_32_bits c = λ statements files none. ap (λ (ms : List (Moment State)). output ms) (moments_agree (2 ^ 32 - 1) MAX_LEN less files MAX_TURNS statements none)
+returns-clause-output_of_32_bits c = λ statements files none. ap (λ (ms : List (Moment State)). output ms)
+    (moments_agree (2 ^ 32 - 1) MAX_LEN less files MAX_TURNS statements none)
 
 pub returns-clause-end_of_32_bits : goal.returns-clause-end_of_32_bits
 returns-clause-end_of_32_bits c = λ statements files none. end_agrees (2 ^ 32 - 1) MAX_LEN less files MAX_TURNS statements none

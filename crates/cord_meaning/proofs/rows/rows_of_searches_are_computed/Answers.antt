@@ -39,7 +39,8 @@ pub returns-clause-cmp_unsigned : goal.returns-clause-cmp_unsigned
 returns-clause-cmp_unsigned c = means_after MAX_LEN MAX_TURNS (Rows.compared (128 ∷ []) (codes "a")) [] (codes "1") Done 6 refl refl
 
 pub returns-clause-cmp_prefix_is_less : goal.returns-clause-cmp_prefix_is_less
-returns-clause-cmp_prefix_is_less c = means_after MAX_LEN MAX_TURNS (Rows.compared (codes "ab") (codes "abc")) [] (codes "-1") Done 6 refl refl
+returns-clause-cmp_prefix_is_less c = means_after MAX_LEN MAX_TURNS (Rows.compared (codes "ab") (codes "abc")) []
+    (codes "-1") Done 6 refl refl
 
 pub returns-clause-ncmp_equal_part : goal.returns-clause-ncmp_equal_part
 returns-clause-ncmp_equal_part c = means_after MAX_LEN MAX_TURNS (Rows.parts_compared 3) [] (codes "0") Done 6 refl refl

@@ -27,7 +27,8 @@ returns-clause-too_little_put c = λ n h.
     bad
 
 -- nothing is put before the second member, whose line is 2
-nothing_at_first : (ms earlier later : List (Moment State)) (m one two : Moment State) (front rest : List ℕ) → ms ≡ one ∷ two ∷ [] → one.puts ≡ [] → two.line ≡ 2 → ms ≡ earlier ++ m ∷ later → m.line ≡ 1 → m.puts ≡ front ++ rest → codes "h" ≡ output earlier ++ front → ⊥
+nothing_at_first : (ms earlier later : List (Moment State)) (m one two : Moment State) (front rest : List ℕ) → ms ≡ one ∷ two ∷ [] →
+    one.puts ≡ [] → two.line ≡ 2 → ms ≡ earlier ++ m ∷ later → m.line ≡ 1 → m.puts ≡ front ++ rest → codes "h" ≡ output earlier ++ front → ⊥
 nothing_at_first ms [] later m one two [] rest is puts line run at_line put took = let bad : ⊥ = cc in bad
 nothing_at_first ms [] later m one two (b ∷ front) rest is puts line run at_line put took = let bad : ⊥ = cc in bad
 nothing_at_first ms (x ∷ []) later m one two front rest is puts line run at_line put took = let bad : ⊥ = cc in bad
@@ -37,7 +38,9 @@ nothing_at_first ms (x ∷ y ∷ z ∷ earlier) later m one two front rest is pu
 pub returns-clause-put_too_early : goal.returns-clause-put_too_early
 returns-clause-put_too_early c = λ n h.
     ⊎_elim (λ none. let bad : ⊥ = cc in bad)
-    (λ some. nothing_at_first (moments Rows.hello []) some.1.earlier some.1.later some.1.moment _ _ some.1.front some.1.rest (moments_when_ended (rules MAX_LEN []) MAX_TURNS Rows.hello start_state 3 Done refl) refl refl some.1.run some.1.line some.1.puts (h.puts.taken ∙ some.1.taken))
+    (λ some. nothing_at_first (moments Rows.hello []) some.1.earlier some.1.later some.1.moment _ _ some.1.front some.1.rest
+    (moments_when_ended (rules MAX_LEN []) MAX_TURNS Rows.hello start_state 3 Done refl) refl refl some.1.run some.1.line some.1.puts
+    (h.puts.taken ∙ some.1.taken))
     h.puts.honest
 
 pub returns-clause-later_line : goal.returns-clause-later_line

@@ -11,7 +11,8 @@ returns-in_ok-node-in-Some-Some-clause-over c =
     join_over c.args.left.now.value c.args.right.now.value c.in_ok-node-in-Some-Some.node.value c.in_ok-node-in-Some-Some.ensures.sound e
 
 pub returns-in_ok-node-in_default-clause-over : goal.returns-in_ok-node-in_default-clause-over
-returns-in_ok-node-in_default-clause-over c = join_over c.args.left.now.value c.args.right.now.value c.in_ok-node-in_default.node.value c.in_ok-node-in_default.ensures.sound c.in_ok-node-in_default.ensures.text
+returns-in_ok-node-in_default-clause-over c = join_over c.args.left.now.value c.args.right.now.value c.in_ok-node-in_default.node.value
+    c.in_ok-node-in_default.ensures.sound c.in_ok-node-in_default.ensures.text
 
 pub returns-in_ok-node-in_default-clause-kept : goal.returns-in_ok-node-in_default-clause-kept
 returns-in_ok-node-in_default-clause-kept c = Kept_same _ _ c.in_ok-node-in_default.ensures.parts

@@ -26,15 +26,18 @@ loop-operand-preserved c =
     let x = c.operand-item.result in
     let done = map choice_view c.loop-operand.chosen.items in
     let made : IsChoice s later b l xs x (map (option_map expr_view) c.args.table.now) done (choice_view c.choose-choice.result) =
-    subst (λ (cs : List Choice). IsChoice s later b l xs x (map (option_map expr_view) c.args.table.now) (map choice_view cs) (choice_view c.choose-choice.result)) c.deref.ensures.value c.choose-choice.ensures in
+    subst (λ (cs : List Choice). IsChoice s later b l xs x (map (option_map expr_view) c.args.table.now) (map choice_view cs)
+    (choice_view c.choose-choice.result)) c.deref.ensures.value c.choose-choice.ensures in
     let size : length done ≡ i = length-map c.loop-operand.chosen.items choice_view ∙ c.loop-operand.invariant.size in
     let long : length c.push.new.self.items ≡ length c.loop-operand.chosen.items + 1 = ap length c.in_ok-push.ensures.items ∙ length-append c.loop-operand.chosen.items (c.choose-choice.result ∷ []) in
     record {
       size = omega arith;
       so_far = λ t has.
           ap (λ (cs : List Choice). plain.choices s later t b l (map choice_view cs) (drop (i + 1) xs)) c.in_ok-push.ensures.items
-          ∙ (ap (λ (ds : List plain.Choice). plain.choices s later t b l ds (drop (i + 1) xs)) (map-append choice_view c.loop-operand.chosen.items (c.choose-choice.result ∷ []))
-          ∙ (more_chosen s later t b l xs done (choice_view c.choose-choice.result) i x c.loop-operand-test.true c.operand-item.is size (made t has)
+          ∙ (ap (λ (ds : List plain.Choice). plain.choices s later t b l ds (drop (i + 1) xs))
+          (map-append choice_view c.loop-operand.chosen.items (c.choose-choice.result ∷ []))
+          ∙ (more_chosen s later t b l xs done (choice_view c.choose-choice.result) i x c.loop-operand-test.true c.operand-item.is size
+          (made t has)
           ∙ c.loop-operand.invariant.so_far t has));
     }
 
@@ -48,6 +51,7 @@ returns c =
     let xs = line.operands.now in
     let done = map choice_view c.loop-operand.chosen.items in
     λ t has.
-    sym (at_drop_all (λ (ys : List (List ℕ)). plain.choices s later t b l done ys) xs c.loop-operand.operand-index c.loop-operand-test.false)
+    sym (at_drop_all (λ (ys : List (List ℕ)). plain.choices s later t b l done ys) xs c.loop-operand.operand-index
+    c.loop-operand-test.false)
     ∙ (c.loop-operand.invariant.so_far t has
     ∙ ap (λ (ys : List (List ℕ)). plain.choices s later t b l [] ys) (sym (simple_reads l xs c.requires.operands)))

@@ -9,15 +9,20 @@ use Rattle.cord_plan.proofs.choosing.stays_small.Goals as goal
 pub returns-in-None : goal.returns-in-None
 returns-in-None c =
     let line = c.args.line.now in
-    small_none line.statement.now line.operands.now (map choice_view c.args.chosen.now) (expr_view c.args.expression.now) (length c.args.chosen.now) c.requires.operands (length-map c.args.chosen.now choice_view) c.requires.more c.in-None.ensures
+    small_none line.statement.now line.operands.now (map choice_view c.args.chosen.now) (expr_view c.args.expression.now)
+    (length c.args.chosen.now) c.requires.operands (length-map c.args.chosen.now choice_view) c.requires.more c.in-None.ensures
 
 pub returns-in-None-room_behind : goal.returns-in-None-room_behind
 returns-in-None-room_behind c =
     let line = c.args.line.now in
-    small_some_none line.statement.now line.operands.now (map choice_view c.args.chosen.now) (expr_view c.args.expression.now) (length c.args.chosen.now) c.requires.operands (length-map c.args.chosen.now choice_view) c.requires.more c.in-Some.room c.in-Some.ensures c.in-None-room_behind.ensures
+    small_some_none line.statement.now line.operands.now (map choice_view c.args.chosen.now) (expr_view c.args.expression.now)
+    (length c.args.chosen.now) c.requires.operands (length-map c.args.chosen.now choice_view) c.requires.more c.in-Some.room
+    c.in-Some.ensures c.in-None-room_behind.ensures
 
 pub returns-in-Some-room_behind : goal.returns-in-Some-room_behind
 returns-in-Some-room_behind c =
     let line = c.args.line.now in
     ap (λ (n : ℕ). nat_le (length line.operands.now - length c.args.chosen.now - 1 + n) c.in-Some-room_behind.left) c.parts_beside.ensures
-    ∙ small_some_some line.statement.now line.operands.now (map choice_view c.args.chosen.now) (expr_view c.args.expression.now) (length c.args.chosen.now) c.requires.operands (length-map c.args.chosen.now choice_view) c.requires.more c.in-Some.room c.in-Some-room_behind.left c.in-Some.ensures c.in-Some-room_behind.ensures
+    ∙ small_some_some line.statement.now line.operands.now (map choice_view c.args.chosen.now) (expr_view c.args.expression.now)
+    (length c.args.chosen.now) c.requires.operands (length-map c.args.chosen.now choice_view) c.requires.more c.in-Some.room
+    c.in-Some-room_behind.left c.in-Some.ensures c.in-Some-room_behind.ensures

@@ -9,4 +9,5 @@ returns-clause-flattened c = λ limit s es text h. flattened limit s es text h
 
 pub returns-clause-replaced : goal.returns-clause-replaced
 returns-clause-replaced c = λ limit s l es e o texts is own_is.
-    subst (λ (q : Option Expr). MeanSame limit s (Some e) q) own_is (subst (λ (q : Option Expr). MeanSame limit s q (own l)) is (replaced_means limit s l es texts))
+    subst (λ (q : Option Expr). MeanSame limit s (Some e) q) own_is
+    (subst (λ (q : Option Expr). MeanSame limit s q (own l)) is (replaced_means limit s l es texts))

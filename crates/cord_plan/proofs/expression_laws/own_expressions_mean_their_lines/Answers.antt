@@ -6,8 +6,10 @@ use Rattle.cord_plan.proofs.expression_laws.own_expressions_mean_their_lines.Goa
 
 pub returns-clause-gives : goal.returns-clause-gives
 returns-clause-gives c = λ limit files l s e target is to.
-    subst (λ (t : Option (List ℕ)). Means limit s files l (Some e) t) to (subst (λ (o : Option Expr). Means limit s files l o (target_of l)) is (own_means limit s files l))
+    subst (λ (t : Option (List ℕ)). Means limit s files l (Some e) t) to
+    (subst (λ (o : Option Expr). Means limit s files l o (target_of l)) is (own_means limit s files l))
 
 pub returns-clause-puts : goal.returns-clause-puts
 returns-clause-puts c = λ limit files l s e is to.
-    subst (λ (t : Option (List ℕ)). Means limit s files l (Some e) t) to (subst (λ (o : Option Expr). Means limit s files l o (target_of l)) is (own_means limit s files l))
+    subst (λ (t : Option (List ℕ)). Means limit s files l (Some e) t) to
+    (subst (λ (o : Option Expr). Means limit s files l o (target_of l)) is (own_means limit s files l))

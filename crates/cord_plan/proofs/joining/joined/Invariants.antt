@@ -7,4 +7,5 @@ use Rattle.cord_plan.proofs.joining.joined.Given as goal
 
 -- the members of the choices so far
 abbrev pub invariant-choices : goal.invariant-choices
-invariant-choices l = members_of (map shared_view l.members.items) ≡ members (map (λ c. expr_of c) (map choice_view (take l.choice-index l.choices)))
+invariant-choices l = members_of (map shared_view l.members.items)
+    ≡ members (map (λ c. expr_of c) (map choice_view (take l.choice-index l.choices)))

@@ -11,7 +11,8 @@ use Rattle.cord_plan.proofs.Pushed.{told_more, size_more}
 use Rattle.cord_plan.proofs.jumps.jumps.Goals as goal
 
 -- as many shapes as operations
-as_many : (shapes : List Shape) (operations : List Operation) → map shape_view shapes ≡ map operation_shape (map operation_view operations) → length shapes ≡ length operations
+as_many : (shapes : List Shape) (operations : List Operation) →
+    map shape_view shapes ≡ map operation_shape (map operation_view operations) → length shapes ≡ length operations
 as_many shapes operations same =
     sym (length-map shapes shape_view) ∙ (ap (λ (xs : List blocks.Shape). length xs) same
     ∙ (length-map (map operation_view operations) operation_shape ∙ length-map operations operation_view))
@@ -21,8 +22,10 @@ loop-place-preserved c =
     let shapes = c.in_ok-shapes.shapes.items in
     let is : c.jump.result ≡ jump (map shape_view shapes) c.loop-place.place = c.jump.ensures ∙ ap (λ (xs : List Shape). jump (map shape_view xs) c.loop-place.place) c.deref.ensures.value in
     record {
-      size = size_more c.loop-place.places.items c.push.new.self.items c.jump.result c.loop-place.place c.in_ok-push.ensures.items c.loop-place.invariant.size;
-      told = told_more (λ k. jump (map shape_view shapes) k) c.loop-place.places.items c.push.new.self.items c.jump.result c.loop-place.place c.in_ok-push.ensures.items c.loop-place.invariant.size is c.loop-place.invariant.told;
+      size = size_more c.loop-place.places.items c.push.new.self.items c.jump.result c.loop-place.place c.in_ok-push.ensures.items
+          c.loop-place.invariant.size;
+      told = told_more (λ k. jump (map shape_view shapes) k) c.loop-place.places.items c.push.new.self.items c.jump.result
+          c.loop-place.place c.in_ok-push.ensures.items c.loop-place.invariant.size is c.loop-place.invariant.told;
     }
 
 pub returns-clause-size : goal.returns-clause-size

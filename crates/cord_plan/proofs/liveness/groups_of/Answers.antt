@@ -8,7 +8,8 @@ loop-group-preserved c =
     let group : Group = record { words = c.in_ok-words.words } in
     record {
       size = rw c.in_ok-push.ensures.items (groups_more c.loop-group.groups.items group c.loop-group.group c.loop-group.invariant.size);
-      live = rw c.in_ok-push.ensures.items (live_more c.args.statements.now c.args.numbering.now c.loop-group.group c.loop-group.groups.items group c.loop-group.invariant.size c.loop-group.invariant.live c.in_ok-words.ensures);
+      live = rw c.in_ok-push.ensures.items (live_more c.args.statements.now c.args.numbering.now c.loop-group.group
+          c.loop-group.groups.items group c.loop-group.invariant.size c.loop-group.invariant.live c.in_ok-words.ensures);
     }
 
 pub returns : goal.returns

@@ -14,10 +14,13 @@ is_some p s None same = absurd same
 is_some p s (Some h) same = refl
 
 pub returns-clause-never_stuck : goal.returns-clause-never_stuck
-returns-clause-never_stuck c = λ limit most s files nested. each_related (rules limit files) (plan_rules limit files) most s (trivial s) Same (trivial_simulates limit files s) (λ t. IsSome t) is_some nested start_state (Some start_holding) refl
+returns-clause-never_stuck c = λ limit most s files nested. each_related (rules limit files) (plan_rules limit files) most s
+    (trivial s) Same (trivial_simulates limit files s) (λ t. IsSome t) is_some nested start_state (Some start_holding) refl
 
 pub returns-clause-members : goal.returns-clause-members
-returns-clause-members c = λ limit most s files nested. told_same (rules limit files) (plan_rules limit files) most s (trivial s) Same (trivial_simulates limit files s) nested start_state (Some start_holding) refl
+returns-clause-members c = λ limit most s files nested. told_same (rules limit files) (plan_rules limit files) most s (trivial s) Same
+    (trivial_simulates limit files s) nested start_state (Some start_holding) refl
 
 pub returns-clause-end : goal.returns-clause-end
-returns-clause-end c = λ limit most s files nested. end_same (rules limit files) (plan_rules limit files) most s (trivial s) Same (trivial_simulates limit files s) nested start_state (Some start_holding) refl
+returns-clause-end c = λ limit most s files nested. end_same (rules limit files) (plan_rules limit files) most s (trivial s) Same
+    (trivial_simulates limit files s) nested start_state (Some start_holding) refl

@@ -21,23 +21,35 @@ pub all_lack-returns-then-not-lacking : goal.all_lack-returns-then-not-lacking
 all_lack-returns-then-not-lacking t c =
     let x = c.args.name.now in
     let told : c.match-expression.lacking ≡ lacks (names (shared_view c.member-item.result)) x = elim c.match-expression.branch [
-      | all_lack-in-Name w ↦ w.lacking-is ∙ (w.differs-lacking.ensures ∙ (ap (λ (y : List ℕ). lacks (y ∷ []) x) w.as_slice.ensures ∙ sym (ap (λ (e : plain.Expr). lacks (names e) x) (ap expr_view (sym c.as_ref-expression.ensures ∙ w.in-Name.is) ∙ view-Name w.in-Name.known))))
-      | all_lack-in_default w ↦ w.lacking-is ∙ (w.lacks-lacking.ensures ∙ ap (λ (e : Expr). lacks (names (expr_view e)) x) c.as_ref-expression.ensures)
+      | all_lack-in-Name w ↦ w.lacking-is ∙ (w.differs-lacking.ensures
+          ∙ (ap (λ (y : List ℕ). lacks (y ∷ []) x) w.as_slice.ensures
+          ∙ sym (ap (λ (e : plain.Expr). lacks (names e) x) (ap expr_view (sym c.as_ref-expression.ensures ∙ w.in-Name.is)
+          ∙ view-Name w.in-Name.known))))
+      | all_lack-in_default w ↦ w.lacking-is ∙ (w.lacks-lacking.ensures
+          ∙ ap (λ (e : Expr). lacks (names (expr_view e)) x) c.as_ref-expression.ensures)
     ] in
     let here : lacks (names (shared_view c.member-item.result)) x ≡ false = sym told ∙ c.if-not-lacking.true in
-    sym (c.loop-member.invariant ∙ (lacks_member x c.args.members.now c.loop-member.member-index c.member-item.result c.loop-member-test.true c.member-item.is
-    ∙ ap (λ (v : Bool). v && lacks (names_of (members_of (map shared_view (drop (c.loop-member.member-index + 1) c.args.members.now)))) x) here))
+    sym (c.loop-member.invariant
+    ∙ (lacks_member x c.args.members.now c.loop-member.member-index c.member-item.result c.loop-member-test.true c.member-item.is
+    ∙ ap (λ (v : Bool). v && lacks (names_of (members_of (map shared_view (drop (c.loop-member.member-index + 1) c.args.members.now)))) x)
+    here))
 
 pub all_lack-loop-member-preserved : goal.all_lack-loop-member-preserved
 all_lack-loop-member-preserved t c =
     let x = c.args.name.now in
     let told : c.match-expression.lacking ≡ lacks (names (shared_view c.member-item.result)) x = elim c.match-expression.branch [
-      | all_lack-in-Name w ↦ w.lacking-is ∙ (w.differs-lacking.ensures ∙ (ap (λ (y : List ℕ). lacks (y ∷ []) x) w.as_slice.ensures ∙ sym (ap (λ (e : plain.Expr). lacks (names e) x) (ap expr_view (sym c.as_ref-expression.ensures ∙ w.in-Name.is) ∙ view-Name w.in-Name.known))))
-      | all_lack-in_default w ↦ w.lacking-is ∙ (w.lacks-lacking.ensures ∙ ap (λ (e : Expr). lacks (names (expr_view e)) x) c.as_ref-expression.ensures)
+      | all_lack-in-Name w ↦ w.lacking-is ∙ (w.differs-lacking.ensures
+          ∙ (ap (λ (y : List ℕ). lacks (y ∷ []) x) w.as_slice.ensures
+          ∙ sym (ap (λ (e : plain.Expr). lacks (names e) x) (ap expr_view (sym c.as_ref-expression.ensures ∙ w.in-Name.is)
+          ∙ view-Name w.in-Name.known))))
+      | all_lack-in_default w ↦ w.lacking-is ∙ (w.lacks-lacking.ensures
+          ∙ ap (λ (e : Expr). lacks (names (expr_view e)) x) c.as_ref-expression.ensures)
     ] in
     let here : lacks (names (shared_view c.member-item.result)) x ≡ true = sym told ∙ c.if-not-lacking.false in
-    c.loop-member.invariant ∙ (lacks_member x c.args.members.now c.loop-member.member-index c.member-item.result c.loop-member-test.true c.member-item.is
-    ∙ ap (λ (v : Bool). v && lacks (names_of (members_of (map shared_view (drop (c.loop-member.member-index + 1) c.args.members.now)))) x) here)
+    c.loop-member.invariant
+    ∙ (lacks_member x c.args.members.now c.loop-member.member-index c.member-item.result c.loop-member-test.true c.member-item.is
+    ∙ ap (λ (v : Bool). v && lacks (names_of (members_of (map shared_view (drop (c.loop-member.member-index + 1) c.args.members.now)))) x)
+    here)
 
 pub lacks-returns-then-lacks : goal.lacks-returns-then-lacks
 lacks-returns-then-lacks t c =
@@ -64,4 +76,5 @@ lacks-returns-else-lacks t c =
 pub all_lack-returns : goal.all_lack-returns
 all_lack-returns t c =
     sym (c.loop-member.invariant
-    ∙ at_drop_all (λ (es : List Shared). lacks (names_of (members_of (map shared_view es))) c.args.name.now) c.args.members.now c.loop-member.member-index c.loop-member-test.false)
+    ∙ at_drop_all (λ (es : List Shared). lacks (names_of (members_of (map shared_view es))) c.args.name.now) c.args.members.now
+    c.loop-member.member-index c.loop-member-test.false)

@@ -12,4 +12,5 @@ abbrev pub decreases-all_lack : goal.decreases-all_lack
 decreases-all_lack l = weights (members_of (map shared_view l.members.now))
 
 abbrev pub invariant-all_lack-loop-member : goal.invariant-all_lack-loop-member
-invariant-all_lack-loop-member l = lacks (names_of (members_of (map shared_view l.members))) l.name ≡ lacks (names_of (members_of (map shared_view (drop l.member-index l.members)))) l.name
+invariant-all_lack-loop-member l = lacks (names_of (members_of (map shared_view l.members))) l.name
+    ≡ lacks (names_of (members_of (map shared_view (drop l.member-index l.members)))) l.name

@@ -16,4 +16,5 @@ returns-in-Some c =
     ∙ ap (λ (o : Option (List ℕ)). is_name o c.args.name.now) (sym there)
 
 pub returns-in-None : goal.returns-in-None
-returns-in-None c = ap (λ (o : Option (List ℕ)). is_name o c.args.name.now) (sym (slice_get_past c.args.names.now c.args.place (search rules)))
+returns-in-None c = ap (λ (o : Option (List ℕ)). is_name o c.args.name.now)
+    (sym (slice_get_past c.args.names.now c.args.place (search rules)))

@@ -20,20 +20,24 @@ pub room_behind_all-returns-in-None : goal.room_behind_all-returns-in-None
 room_behind_all-returns-in-None t c =
     let told : c.match-expression.behind ≡ room_left (parts (shared_view c.member-item.result)) c.loop-member.left = elim c.match-expression.branch [
       | room_behind_all-in-Name w ↦ let view : shared_view c.member-item.result ≡ plain.name w.in-Name.field-0 = ap expr_view (sym c.as_ref-expression.ensures ∙ w.in-Name.is) ∙ view-Name w.in-Name.field-0 in search (rules, view)
-      | room_behind_all-in_default w ↦ w.behind-is ∙ (w.room_behind-behind.ensures ∙ ap (λ (e : Expr). room_left (parts (expr_view e)) c.loop-member.left) c.as_ref-expression.ensures)
+      | room_behind_all-in_default w ↦ w.behind-is ∙ (w.room_behind-behind.ensures
+          ∙ ap (λ (e : Expr). room_left (parts (expr_view e)) c.loop-member.left) c.as_ref-expression.ensures)
     ] in
     let rest = parts_of (members_of (map shared_view (drop (c.loop-member.member-index + 1) c.args.members.now))) in
     let first : room_left (parts_of (members_of (map shared_view c.args.members.now))) c.args.room ≡ room_left (parts (shared_view c.member-item.result) + rest) c.loop-member.left =
-    c.loop-member.invariant ∙ ap (λ (n : ℕ). room_left n c.loop-member.left) (parts_member c.args.members.now c.loop-member.member-index c.member-item.result c.loop-member-test.true c.member-item.is) in
+    c.loop-member.invariant ∙ ap (λ (n : ℕ). room_left n c.loop-member.left)
+    (parts_member c.args.members.now c.loop-member.member-index c.member-item.result c.loop-member-test.true c.member-item.is) in
     none_for_more (parts (shared_view c.member-item.result)) rest c.loop-member.left (sym c.in-None.is ∙ told) ∙ sym first
 
 pub room_behind_all-loop-member-preserved : goal.room_behind_all-loop-member-preserved
 room_behind_all-loop-member-preserved t c =
     let told : c.match-expression.behind ≡ room_left (parts (shared_view c.member-item.result)) c.loop-member.left = elim c.match-expression.branch [
       | room_behind_all-in-Name w ↦ let view : shared_view c.member-item.result ≡ plain.name w.in-Name.field-0 = ap expr_view (sym c.as_ref-expression.ensures ∙ w.in-Name.is) ∙ view-Name w.in-Name.field-0 in search (rules, view)
-      | room_behind_all-in_default w ↦ w.behind-is ∙ (w.room_behind-behind.ensures ∙ ap (λ (e : Expr). room_left (parts (expr_view e)) c.loop-member.left) c.as_ref-expression.ensures)
+      | room_behind_all-in_default w ↦ w.behind-is ∙ (w.room_behind-behind.ensures
+          ∙ ap (λ (e : Expr). room_left (parts (expr_view e)) c.loop-member.left) c.as_ref-expression.ensures)
     ] in
     let rest = parts_of (members_of (map shared_view (drop (c.loop-member.member-index + 1) c.args.members.now))) in
     let first : room_left (parts_of (members_of (map shared_view c.args.members.now))) c.args.room ≡ room_left (parts (shared_view c.member-item.result) + rest) c.loop-member.left =
-    c.loop-member.invariant ∙ ap (λ (n : ℕ). room_left n c.loop-member.left) (parts_member c.args.members.now c.loop-member.member-index c.member-item.result c.loop-member-test.true c.member-item.is) in
+    c.loop-member.invariant ∙ ap (λ (n : ℕ). room_left n c.loop-member.left)
+    (parts_member c.args.members.now c.loop-member.member-index c.member-item.result c.loop-member-test.true c.member-item.is) in
     first ∙ room_for_more (parts (shared_view c.member-item.result)) rest c.loop-member.left c.in-Some.less (sym c.in-Some.is ∙ told)

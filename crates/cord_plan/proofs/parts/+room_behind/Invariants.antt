@@ -12,4 +12,5 @@ abbrev pub decreases-room_behind_all : goal.decreases-room_behind_all
 decreases-room_behind_all l = weights (members_of (map shared_view l.members.now))
 
 abbrev pub invariant-room_behind_all-loop-member : goal.invariant-room_behind_all-loop-member
-invariant-room_behind_all-loop-member l = room_left (parts_of (members_of (map shared_view l.members))) l.room ≡ room_left (parts_of (members_of (map shared_view (drop l.member-index l.members)))) l.left
+invariant-room_behind_all-loop-member l = room_left (parts_of (members_of (map shared_view l.members))) l.room
+    ≡ room_left (parts_of (members_of (map shared_view (drop l.member-index l.members)))) l.left

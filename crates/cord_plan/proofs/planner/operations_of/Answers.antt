@@ -14,7 +14,8 @@ use Rattle.cord_plan.proofs.planner.operations_of.Goals as goal
 pub loop-place-init : goal.loop-place-init
 loop-place-init c = record {
   so_far = rw c.in_ok-operations.ensures.items refl;
-  size = sym (length-map c.args.table.expressions.items (option_map expr_view)) ∙ whole_long c.args.statements.now (tells c.args.later) (map (option_map expr_view) c.args.table.expressions.items) c.args.table.firsts.items c.requires;
+  size = sym (length-map c.args.table.expressions.items (option_map expr_view)) ∙ whole_long c.args.statements.now (tells c.args.later)
+      (map (option_map expr_view) c.args.table.expressions.items) c.args.table.firsts.items c.requires;
   left = λ k le. refl;
 }
 
@@ -34,17 +35,24 @@ loop-place-preserved c =
     let alive : p < length c.in_ok-dead.dead.items = omega (arith, c.loop-place-test.true, c.in_ok-dead.ensures.size) in
     let within : p < length c.args.table.firsts.items = omega (arith, c.loop-place-test.true, c.requires.size) in
     let dead : c.index.result.now ≡ plan.is_dead later p (target_of l) =
-    at_read c.in_ok-dead.dead.items p c.index.result.now alive c.index.ensures ∙ c.in_ok-dead.ensures.told p l alive (slice_get_read s (length s) p l refl c.loop-place-test.true c.index-statements-place.is) in
+    at_read c.in_ok-dead.dead.items p c.index.result.now alive c.index.ensures
+    ∙ c.in_ok-dead.ensures.told p l alive (slice_get_read s (length s) p l refl c.loop-place-test.true c.index-statements-place.is) in
     let made : operation_view c.in_ok-operation_of.field-0 ≡ plan.operation l (plan.or_nothing (option_map expr_view e)) (plan.is_dead later p (target_of l)) (at c.args.table.firsts.items p) =
     c.in_ok-operation_of.ensures.made
     ∙ (ap (λ (v : Bool). plan.operation l (plan.or_nothing (option_map expr_view e)) v c.index-in-loop-place.result.now) dead
-    ∙ ap (λ (first : Bool). plan.operation l (plan.or_nothing (option_map expr_view e)) (plan.is_dead later p (target_of l)) first) (at_read c.args.table.firsts.items p c.index-in-loop-place.result.now within c.index-in-loop-place.ensures)) in
+    ∙ ap (λ (first : Bool). plan.operation l (plan.or_nothing (option_map expr_view e)) (plan.is_dead later p (target_of l)) first)
+    (at_read c.args.table.firsts.items p c.index-in-loop-place.result.now within c.index-in-loop-place.ensures)) in
     rw (written_back c.loop-place.expressions.len new c.loop-place.expressions.items size)
     (record {
-      so_far = rw c.in_ok-push.ensures.items (line_more s later (map (option_map expr_view) all) c.args.table.firsts.items c.requires p l (option_map expr_view e) c.loop-place.operations.items c.in_ok-operation_of.field-0 c.loop-place-test.true c.index-statements-place.is there c.loop-place.invariant.so_far made);
+      so_far = rw c.in_ok-push.ensures.items (line_more s later (map (option_map expr_view) all) c.args.table.firsts.items c.requires p l
+          (option_map expr_view e) c.loop-place.operations.items c.in_ok-operation_of.field-0 c.loop-place-test.true
+          c.index-statements-place.is there c.loop-place.invariant.so_far made);
       size = c.take_at-expression.ensures.size ∙ (ap (λ (es : List (Option Expr)). length es) was ∙ c.loop-place.invariant.size);
-      left = λ k le. c.take_at-expression.ensures.left k (omega (arith, le)) ∙ (ap (λ (es : List (Option Expr)). slice_get es k) was ∙ c.loop-place.invariant.left k (omega (arith, le)));
+      left = λ k le. c.take_at-expression.ensures.left k (omega (arith, le))
+          ∙ (ap (λ (es : List (Option Expr)). slice_get es k) was ∙ c.loop-place.invariant.left k (omega (arith, le)));
     })
 
 pub returns-clause-made : goal.returns-clause-made
-returns-clause-made c = lines_done c.args.statements.now (tells c.args.later) (map (option_map expr_view) c.args.table.expressions.items) c.args.table.firsts.items c.requires c.loop-place.place c.loop-place.operations.items c.loop-place-test.false c.loop-place.invariant.so_far
+returns-clause-made c = lines_done c.args.statements.now (tells c.args.later) (map (option_map expr_view) c.args.table.expressions.items)
+    c.args.table.firsts.items c.requires c.loop-place.place c.loop-place.operations.items c.loop-place-test.false
+    c.loop-place.invariant.so_far

@@ -9,7 +9,8 @@ use Rattle.cord_plan.proofs.planner.operations_of.Given as goal
 -- the operations so far, and the expressions that are left
 abbrev pub invariant-loop-place : goal.invariant-loop-place
 invariant-loop-place l = record {
-  so_far : map operation_view l.operations.items ++ decided_from (decisions l.statements (tells l.fn.later)) l.place (drop l.place l.statements) ≡ decided (decisions l.statements (tells l.fn.later)) l.statements;
+  so_far : map operation_view l.operations.items ++ decided_from (decisions l.statements (tells l.fn.later)) l.place
+      (drop l.place l.statements) ≡ decided (decisions l.statements (tells l.fn.later)) l.statements;
   size : length l.expressions.items ≡ length l.statements;
   left : (k : ℕ) → l.place ≤ k → slice_get l.expressions.items k ≡ slice_get l.fn.table.expressions.items k;
 }

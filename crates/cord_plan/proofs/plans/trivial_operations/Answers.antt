@@ -10,7 +10,8 @@ use Rattle.cord_plan.specs.Views.{operation_view}
 use Rattle.cord_plan.proofs.plans.trivial_operations.Goals as goal
 
 -- the trivial plan of one line more
-trivial_then : (xs : List Statement) (l : Statement) → trivial (xs ++ l ∷ []) ≡ trivial xs ++ operation l (or_nothing (own l)) false false ∷ []
+trivial_then : (xs : List Statement) (l : Statement) → trivial (xs ++ l ∷ []) ≡ trivial xs ++ operation l (or_nothing (own l)) false false
+    ∷ []
 trivial_then [] l = refl
 trivial_then (x ∷ xs) l = ap (λ os. operation x (or_nothing (own x)) false false ∷ os) (trivial_then xs l)
 
@@ -29,4 +30,5 @@ one_more xs i l e before o within at so_far owned made =
 pub lines-preserved : goal.lines-preserved
 lines-preserved c =
     ap (map operation_view) (pushed (c.in_ok-operation_of.field-0 ∷ []) refl c.in_ok-push.was c.push.ensures.items)
-    ∙ one_more _ _ _ _ _ _ c.lines-test.true c.statement-item.is c.lines.invariant c.in_ok-expression.ensures.made c.in_ok-operation_of.ensures.made
+    ∙ one_more _ _ _ _ _ _ c.lines-test.true c.statement-item.is c.lines.invariant c.in_ok-expression.ensures.made
+    c.in_ok-operation_of.ensures.made

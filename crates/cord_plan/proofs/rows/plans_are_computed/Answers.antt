@@ -17,7 +17,8 @@ pub returns-clause-show_trivial_plan : goal.returns-clause-show_trivial_plan
 returns-clause-show_trivial_plan c = refl
 
 pub returns-clause-substr_of_unread_cat_too_long : goal.returns-clause-substr_of_unread_cat_too_long
-returns-clause-substr_of_unread_cat_too_long c = unread_cat_shows (plan_of 5 substr_of_unread_cat_too_long) 1099511627775 (codes "1099511627775") refl greatest_length
+returns-clause-substr_of_unread_cat_too_long c = unread_cat_shows (plan_of 5 substr_of_unread_cat_too_long) 1099511627775
+    (codes "1099511627775") refl greatest_length
 
 pub returns-clause-operand_assigned_between : goal.returns-clause-operand_assigned_between
 returns-clause-operand_assigned_between c = refl

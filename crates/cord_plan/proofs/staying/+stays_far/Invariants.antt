@@ -12,4 +12,5 @@ abbrev pub decreases-all_stay_far : goal.decreases-all_stay_far
 decreases-all_stay_far l = weights (members_of (map shared_view l.members.now))
 
 abbrev pub invariant-all_stay_far-loop-member : goal.invariant-all_stay_far-loop-member
-invariant-all_stay_far-loop-member l = stay l.line.statements.now l.from l.line.place (names_of (members_of (map shared_view l.members))) ≡ stay l.line.statements.now l.from l.line.place (names_of (members_of (map shared_view (drop l.member-index l.members))))
+invariant-all_stay_far-loop-member l = stay l.line.statements.now l.from l.line.place (names_of (members_of (map shared_view l.members)))
+    ≡ stay l.line.statements.now l.from l.line.place (names_of (members_of (map shared_view (drop l.member-index l.members))))

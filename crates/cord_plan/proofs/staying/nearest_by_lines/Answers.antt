@@ -14,7 +14,8 @@ returns-then-assigns c =
     let l = c.index-statements-p.result in
     let within : c.loop-p.p ≤ length s = omega arith in
     sym (c.loop-p.invariant ∙ (near_here s x c.loop-p.p l c.loop-p-test.true within c.index-statements-p.is
-    ∙ ap (λ (v : Bool). if v then Some (c.loop-p.p - 1) else (if is_block (shape_of l) || reads l x then None else nearest s x (c.loop-p.p - 1))) (sym c.assigns.ensures ∙ c.if-assigns.true)))
+    ∙ ap (λ (v : Bool). if v then Some (c.loop-p.p - 1) else (if is_block (shape_of l) || reads l x then None else nearest s x
+    (c.loop-p.p - 1))) (sym c.assigns.ensures ∙ c.if-assigns.true)))
 
 pub returns-then-bars : goal.returns-then-bars
 returns-then-bars c =
@@ -23,7 +24,8 @@ returns-then-bars c =
     let l = c.index-statements-p.result in
     let within : c.loop-p.p ≤ length s = omega arith in
     sym (c.loop-p.invariant ∙ (near_here s x c.loop-p.p l c.loop-p-test.true within c.index-statements-p.is
-    ∙ (ap (λ (v : Bool). if v then Some (c.loop-p.p - 1) else (if is_block (shape_of l) || reads l x then None else nearest s x (c.loop-p.p - 1))) (sym c.assigns.ensures ∙ c.if-assigns.false)
+    ∙ (ap (λ (v : Bool). if v then Some (c.loop-p.p - 1) else (if is_block (shape_of l) || reads l x then None else nearest s x
+    (c.loop-p.p - 1))) (sym c.assigns.ensures ∙ c.if-assigns.false)
     ∙ ap (λ (v : Bool). if v then None else nearest s x (c.loop-p.p - 1)) (sym c.bars.ensures ∙ c.if-bars.true))))
 
 pub loop-p-preserved : goal.loop-p-preserved
@@ -33,5 +35,6 @@ loop-p-preserved c =
     let l = c.index-statements-p.result in
     let within : c.loop-p.p ≤ length s = omega arith in
     c.loop-p.invariant ∙ (near_here s x c.loop-p.p l c.loop-p-test.true within c.index-statements-p.is
-    ∙ (ap (λ (v : Bool). if v then Some (c.loop-p.p - 1) else (if is_block (shape_of l) || reads l x then None else nearest s x (c.loop-p.p - 1))) (sym c.assigns.ensures ∙ c.if-assigns.false)
+    ∙ (ap (λ (v : Bool). if v then Some (c.loop-p.p - 1) else (if is_block (shape_of l) || reads l x then None else nearest s x
+    (c.loop-p.p - 1))) (sym c.assigns.ensures ∙ c.if-assigns.false)
     ∙ ap (λ (v : Bool). if v then None else nearest s x (c.loop-p.p - 1)) (sym c.bars.ensures ∙ c.if-bars.false)))

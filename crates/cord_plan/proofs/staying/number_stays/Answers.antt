@@ -8,4 +8,5 @@ use Rattle.cord_plan.proofs.staying.number_stays.Goals as goal
 pub returns-in-Numeral : goal.returns-in-Numeral
 returns-in-Numeral c =
     let line = c.args.line.now in
-    sym (ap (λ (n : Number). stay line.statements.now c.args.from line.place (number_names n)) c.in-Numeral.is ∙ stay_nothing line.statements.now c.args.from line.place)
+    sym (ap (λ (n : Number). stay line.statements.now c.args.from line.place (number_names n)) c.in-Numeral.is
+    ∙ stay_nothing line.statements.now c.args.from line.place)

@@ -16,5 +16,6 @@ pub returns-else-number_stays : goal.returns-else-number_stays
 returns-else-number_stays c =
     let line = c.args.line.now in
     let kept = stay line.statements.now c.args.from line.place in
-    c.if-number_stays.false ∙ sym (stay_append line.statements.now c.args.from line.place (number_names c.args.first.now) (number_names c.args.second.now)
+    c.if-number_stays.false ∙ sym (stay_append line.statements.now c.args.from line.place (number_names c.args.first.now)
+    (number_names c.args.second.now)
     ∙ ap (λ (v : Bool). v && kept (number_names c.args.second.now)) (sym c.number_stays.ensures ∙ c.if-number_stays.false))

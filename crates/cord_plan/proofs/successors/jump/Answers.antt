@@ -6,7 +6,8 @@ use Rattle.cord_plan.proofs.Followers.{shape_there, shapes_behind, jump_simple, 
 use Rattle.cord_plan.proofs.successors.jump.Goals as goal
 
 pub returns-in-Simple : goal.returns-in-Simple
-returns-in-Simple c = jump_simple (map shape_view c.args.shapes.now) c.args.place (shape_there c.args.shapes.now c.args.place Simple Simple c.requires c.in-Simple.is)
+returns-in-Simple c = jump_simple (map shape_view c.args.shapes.now) c.args.place
+    (shape_there c.args.shapes.now c.args.place Simple Simple c.requires c.in-Simple.is)
 
 pub returns-in-Loop : goal.returns-in-Loop
 returns-in-Loop c =
@@ -27,4 +28,5 @@ returns-in-Otherwise c =
     (c.to_end-in-Otherwise.ensures.count ∙ ap (to_end 0) (shapes_behind c.args.shapes.now (c.args.place + 1)))
 
 pub returns-in-Close : goal.returns-in-Close
-returns-in-Close c = jump_close (map shape_view c.args.shapes.now) c.args.place (shape_there c.args.shapes.now c.args.place Close Simple c.requires c.in-Close.is)
+returns-in-Close c = jump_close (map shape_view c.args.shapes.now) c.args.place
+    (shape_there c.args.shapes.now c.args.place Close Simple c.requires c.in-Close.is)

@@ -1,7 +1,8 @@
 use Rattle.std.proofs.Common.{map, ◌∙◌, sym, ◌<◌, arith}
 use Rattle.cord_plan.specs.declared.successors.Shape.TheVariants.{Simple, Loop, Branch, Otherwise, Close}
 use Rattle.cord_plan.specs.inner.Liveness.{shape_view}
-use Rattle.cord_plan.proofs.Followers.{shape_there, behind_simple, behind_loop, behind_branch, behind_otherwise, behind_branch_end, behind_loop_end, block_below}
+use Rattle.cord_plan.proofs.Followers.{shape_there, behind_simple, behind_loop, behind_branch, behind_otherwise, behind_branch_end}
+use Rattle.cord_plan.proofs.Followers.{behind_loop_end, block_below}
 use Rattle.cord_plan.proofs.successors.places_behind.Goals as goal
 
 pub overflow_add-repeat : goal.overflow_add-repeat

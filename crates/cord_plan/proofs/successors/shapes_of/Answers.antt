@@ -6,4 +6,5 @@ use Rattle.cord_plan.proofs.successors.shapes_of.Goals as goal
 pub loop-statement-preserved : goal.loop-statement-preserved
 loop-statement-preserved c =
     made_more shape_view shape_of c.args.statements.now c.loop-statement.shapes.items c.push.new.self.items c.shape_of.result
-    c.loop-statement.statement-index c.statement-item.result c.loop-statement-test.true c.statement-item.is c.loop-statement.invariant c.in_ok-push.ensures.items c.shape_of.ensures
+    c.loop-statement.statement-index c.statement-item.result c.loop-statement-test.true c.statement-item.is c.loop-statement.invariant
+    c.in_ok-push.ensures.items c.shape_of.ensures

@@ -22,7 +22,10 @@ returns-clause-made c =
     let cs = map choice_view c.in_ok-choices.choices.items in
     let simple : simple_operands l ≡ Some (operands_view c.in-Some.operands) = sym c.in_ok-operands.ensures.made ∙ ap (option_map operands_view) c.in-Some.is in
     let marks : IsMarked cs old new = subst (λ (ds : List Choice). IsMarked (map choice_view ds) old new) c.deref.ensures.value c.mark.ensures in
-    IfOk-weaker c.expression_with.result (λ e. option_map expr_view e ≡ expr_with l (map (λ d. expr_of d) (map choice_view c.deref-2.result.now))) (λ e. IsNext s later b l table old new (option_map expr_view e))
-    (λ e h. next_chosen s later b l table (operands_view c.in-Some.operands) cs old new (option_map expr_view e) simple c.in_ok-choices.ensures marks
+    IfOk-weaker c.expression_with.result (λ e. option_map expr_view e
+    ≡ expr_with l (map (λ d. expr_of d) (map choice_view c.deref-2.result.now)))
+    (λ e. IsNext s later b l table old new (option_map expr_view e))
+    (λ e h. next_chosen s later b l table (operands_view c.in-Some.operands) cs old new
+    (option_map expr_view e) simple c.in_ok-choices.ensures marks
     (h ∙ ap (λ (ds : List Choice). expr_with l (map (λ d. expr_of d) (map choice_view ds))) c.deref-2.ensures.value))
     c.expression_with.ensures.made

@@ -1,7 +1,8 @@
 use Rattle.std.proofs.Common.{◌≡◌, ◌+◌, ◌<◌, Some, arith}
 use Rattle.cord_core.specs.Cord.{text_len}
 use Rattle.cord_pos.specs.Position.{move_visits, next_visits}
-use Rattle.cord_pos.proofs.Standings.{position_cord, next_still, next_still_index, next_still_visits, move_bound, move_one_part, next_move, next_no_earlier}
+use Rattle.cord_pos.proofs.Standings.{position_cord, next_still, next_still_index, next_still_visits, move_bound, move_one_part, next_move}
+use Rattle.cord_pos.proofs.Standings.{next_no_earlier}
 use Rattle.cord_pos.proofs.Position.next.Goals as goal
 
 pub invariant_of-self : goal.invariant_of-self
@@ -32,7 +33,12 @@ pub returns-then-index-len-clause-bound : goal.returns-then-index-len-clause-bou
 returns-then-index-len-clause-bound c =
     let on = rw c.in-Some.is at c.self.invariant in
     let v = rw (← c.self.view_is, c.in-Some.is) at c.go_to.ensures.visits in
-    rw (← c.self.view_is) (omega (arith, v, move_bound c.self.inside.tree.cord.now c.in-Some.spot.index (c.in-Some.spot.index + 1) (position_cord _ _ _ on)))
+    rw (← c.self.view_is) (omega (
+      arith,
+      v,
+      move_bound c.self.inside.tree.cord.now c.in-Some.spot.index (c.in-Some.spot.index + 1)
+          (position_cord _ _ _ on),
+    ))
 
 pub returns-then-index-len-clause-one_part : goal.returns-then-index-len-clause-one_part
 returns-then-index-len-clause-one_part c =

@@ -16,7 +16,12 @@ pub returns-then-spot-gt0-clause-bound : goal.returns-then-spot-gt0-clause-bound
 returns-then-spot-gt0-clause-bound c =
     let on = rw c.in-Some.is at c.self.invariant in
     let v = rw (← c.self.view_is, c.in-Some.is) at c.go_to.ensures.visits in
-    rw (← c.self.view_is) (omega (arith, v, move_bound c.self.inside.tree.cord.now c.in-Some.spot.index (c.in-Some.spot.index - 1) (position_cord _ _ _ on)))
+    rw (← c.self.view_is) (omega (
+      arith,
+      v,
+      move_bound c.self.inside.tree.cord.now c.in-Some.spot.index (c.in-Some.spot.index - 1)
+          (position_cord _ _ _ on),
+    ))
 
 pub returns-then-spot-gt0-clause-one_part : goal.returns-then-spot-gt0-clause-one_part
 returns-then-spot-gt0-clause-one_part c =

@@ -9,4 +9,5 @@ returns-then-len-eq0-clause-visits c =
     c.set.ensures.visits ∙ walk_empty c.args.cord.now c.len-len.ensures.sound k
 
 pub returns-clause-visits : goal.returns-clause-visits
-returns-clause-visits c = c.walk_to.ensures.visits ∙ walk_last c.args.cord.now (c.len-len.result - 1) c.len-len.ensures.sound (omega (arith, c.len-len.ensures.stored))
+returns-clause-visits c = c.walk_to.ensures.visits ∙ walk_last c.args.cord.now (c.len-len.result - 1) c.len-len.ensures.sound
+    (omega (arith, c.len-len.ensures.stored))

@@ -8,4 +8,5 @@ pub write_digits-start-requires : goal.write_digits-start-requires
 write_digits-start-requires c = (length-decimal-le 22 c.args.number (omega arith) (omega arith) c.ranges.number.fits, omega arith)
 
 pub returns : goal.returns
-returns c = c.write_digits-start.ensures.written ∙ append-nil (decimal c.args.number) ∙ sym (decimal-figures c.args.number (omega arith) c.ranges.number.fits)
+returns c = c.write_digits-start.ensures.written ∙ append-nil (decimal c.args.number)
+    ∙ sym (decimal-figures c.args.number (omega arith) c.ranges.number.fits)

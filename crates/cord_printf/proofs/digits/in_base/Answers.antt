@@ -17,7 +17,12 @@ pub digits-preserved : goal.digits-preserved
 digits-preserved c =
     let all = map (figure c.args.radix) (digits_of (base_of c.args.radix) c.args.number) in
     let step = figures_before c.args.radix c.digits.rest c.base-base.result c.figure_of.result c.digits.start c.digits.bytes all c.base-base.ensures c.figure_of.ensures c.digits-test.true c.digits.invariant.within c.digits.invariant.room c.digits.invariant.written in
-    record { written = step.written; room = step.room; within = omega (arith, length-set {A = ℕ}); size = omega (arith, length-set {A = ℕ}, c.digits.invariant.size) }
+    record {
+      written = step.written;
+      room = step.room;
+      within = omega (arith, length-set {A = ℕ});
+      size = omega (arith, length-set {A = ℕ}, c.digits.invariant.size);
+    }
 
 pub overflow_sub-start : goal.overflow_sub-start
 overflow_sub-start c = omega (arith, digits_shorter c.args.radix c.digits.rest c.digits-test.true)

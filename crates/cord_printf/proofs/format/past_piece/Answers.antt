@@ -9,4 +9,9 @@ returns-in-Some-eq37-default-clause-piece c =
     (c.in_ok-after.field-0-0, h.0, h.1, h.2)
 
 pub returns-clause-piece : goal.returns-clause-piece
-returns-clause-piece c = (Text c.span.result.0.now, c.span.result.0.now, c.span.ensures.whole, (refl, search rules, c.span.ensures.all, c.span.ensures.ends))
+returns-clause-piece c = (
+  Text c.span.result.0.now,
+  c.span.result.0.now,
+  c.span.ensures.whole,
+  (refl, search rules, c.span.ensures.all, c.span.ensures.ends),
+)

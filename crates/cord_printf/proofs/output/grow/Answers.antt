@@ -6,9 +6,13 @@ use Rattle.cord_printf.specs.Shown.{parts_in}
 use Rattle.cord_printf.proofs.output.grow.Goals as goal
 
 pub returns-in-Some-clause-gathered : goal.returns-in-Some-clause-gathered
-returns-in-Some-clause-gathered c = subst (λ (o : Option Growth). IfOk c.append.result (λ _. (k : ℕ) → length c.args.bytes.now ≤ leaf_bytes k → Gathered k (parts_in o) c.append.new.grown.parts)) (sym c.in-Some.is) c.append.ensures.gathered
+returns-in-Some-clause-gathered c = subst (λ (o : Option Growth).
+    IfOk c.append.result (λ _. (k : ℕ) → length c.args.bytes.now ≤ leaf_bytes k → Gathered k (parts_in o) c.append.new.grown.parts))
+    (sym c.in-Some.is) c.append.ensures.gathered
 
 pub returns-in_ok-append-in-None-clause-gathered : goal.returns-in_ok-append-in-None-clause-gathered
 returns-in_ok-append-in-None-clause-gathered c = λ k few.
     let after : List Part = c.append-in-None.new.grown.parts in
-    subst (λ (o : Option Growth). Gathered k (parts_in o) after) (sym c.in-None.is) (subst (λ (ps : List Part). Gathered k ps after) c.in_ok-begun-in-None.ensures.parts (c.in_ok-append-in-None.ensures.gathered k few))
+    subst (λ (o : Option Growth). Gathered k (parts_in o) after) (sym c.in-None.is)
+    (subst (λ (ps : List Part). Gathered k ps after) c.in_ok-begun-in-None.ensures.parts
+    (c.in_ok-append-in-None.ensures.gathered k few))

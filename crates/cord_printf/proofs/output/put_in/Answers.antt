@@ -10,4 +10,5 @@ pub returns-clause-made : goal.returns-clause-made
 returns-clause-made c =
     let old : List Part = parts_in c.args.grown.now in
     let new : List Part = parts_in c.grow.new.grown in
-    subst (λ (b : List ℕ). IsPrintedFrom 0 (old ++ leaf_parts b) new) c.as_slice.ensures.value (put_from old new c.as_slice.result.now (omega (arith, c.as_slice.ensures.fits)) c.in_ok-grow.ensures.gathered)
+    subst (λ (b : List ℕ). IsPrintedFrom 0 (old ++ leaf_parts b) new) c.as_slice.ensures.value
+    (put_from old new c.as_slice.result.now (omega (arith, c.as_slice.ensures.fits)) c.in_ok-grow.ensures.gathered)

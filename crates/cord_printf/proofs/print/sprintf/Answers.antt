@@ -21,9 +21,14 @@ loop-piece-init c =
     record {
       wanted_are = subst (λ (ps : List Piece). AreWanted ps (arguments_of args)) (sym are) c.in_ok-sprintf_len.ensures.taken.wanted_are;
       fewer = omega arith;
-      written = ap (λ (x : List Cell). x ++ printed known pieces (arguments_of args)) c.new-output.ensures.text ∙ ap (λ (ps : List Piece). printed known ps (arguments_of args)) are;
-      printing = subst (λ (left : ℕ). IsPrinting (parts_given args) (all_own c.args.format.now (arguments_of args)) c.new-output.result.parts (parts_given args) left) (sym (ap (λ (ps : List Piece). all_own ps (arguments_of args)) are)) (printing_start (parts_given args) (all_own c.args.format.now (arguments_of args)) c.new-output.result.parts c.new-output.ensures.parts);
-      refused = ap (λ (k : ℕ). first_refusal k pieces (arguments_of args)) none ∙ ap (λ (ps : List Piece). first_refusal 0 ps (arguments_of args)) are;
+      written = ap (λ (x : List Cell). x ++ printed known pieces (arguments_of args)) c.new-output.ensures.text
+          ∙ ap (λ (ps : List Piece). printed known ps (arguments_of args)) are;
+      printing = subst (λ (left : ℕ). IsPrinting (parts_given args) (all_own c.args.format.now (arguments_of args))
+          c.new-output.result.parts (parts_given args) left) (sym (ap (λ (ps : List Piece). all_own ps (arguments_of args)) are))
+          (printing_start (parts_given args) (all_own c.args.format.now (arguments_of args)) c.new-output.result.parts
+          c.new-output.ensures.parts);
+      refused = ap (λ (k : ℕ). first_refusal k pieces (arguments_of args)) none
+          ∙ ap (λ (ps : List Piece). first_refusal 0 ps (arguments_of args)) are;
     }
 
 pub loop-piece-preserved : goal.loop-piece-preserved
@@ -39,16 +44,29 @@ loop-piece-preserved c =
     record {
       wanted_are = step.wanted_are;
       fewer = step.fewer;
-      written = ap (λ x. x ++ after) c.in_ok-add_shown.ensures.text ∙ append_assoc c.loop-piece.output.text shown after ∙ ap (λ x. c.loop-piece.output.text ++ x) (sym step.text) ∙ c.loop-piece.invariant.written;
-      printing = printing_step (parts_given c.args.args.now) (all_own c.args.format.now (arguments_of c.args.args.now)) c.loop-piece.output.parts c.add_shown.new.self.parts (parts_if taken) (parts_given others) (body_parts c.in_ok-shown.shown.body) (parts_given rest) (shown_own c.in_ok-shown.shown)
-          (all_own (drop c.loop-piece.piece-index pieces) (arguments_of rest)) (all_own (drop (c.loop-piece.piece-index + 1) pieces) (arguments_of others)) c.loop-piece.invariant.printing c.next_argument.ensures.parts c.in_ok-shown.ensures.kept
-          (own_next pieces c.loop-piece.piece-index c.piece-item.result (arguments_of rest) (arguments_of others) argument (shown_own c.in_ok-shown.shown) c.loop-piece-test.true c.piece-item.is c.next_argument.ensures.argument c.next_argument.ensures.others (own_shown c.in_ok-shown.shown c.piece-item.result argument c.in_ok-shown.ensures.text c.in_ok-shown.ensures.of_cord))
+      written = ap (λ x. x ++ after) c.in_ok-add_shown.ensures.text ∙ append_assoc c.loop-piece.output.text shown after
+          ∙ ap (λ x. c.loop-piece.output.text ++ x) (sym step.text) ∙ c.loop-piece.invariant.written;
+      printing = printing_step (parts_given c.args.args.now) (all_own c.args.format.now (arguments_of c.args.args.now))
+          c.loop-piece.output.parts c.add_shown.new.self.parts (parts_if taken) (parts_given others) (body_parts c.in_ok-shown.shown.body)
+          (parts_given rest) (shown_own c.in_ok-shown.shown)
+          (all_own (drop c.loop-piece.piece-index pieces) (arguments_of rest))
+          (all_own (drop (c.loop-piece.piece-index + 1) pieces) (arguments_of others)) c.loop-piece.invariant.printing
+          c.next_argument.ensures.parts c.in_ok-shown.ensures.kept
+          (own_next pieces c.loop-piece.piece-index c.piece-item.result (arguments_of rest) (arguments_of others) argument
+          (shown_own c.in_ok-shown.shown) c.loop-piece-test.true c.piece-item.is c.next_argument.ensures.argument
+          c.next_argument.ensures.others (own_shown c.in_ok-shown.shown c.piece-item.result argument c.in_ok-shown.ensures.text
+          c.in_ok-shown.ensures.of_cord))
           c.in_ok-add_shown.ensures.made;
       refused = sym step.refused ∙ c.loop-piece.invariant.refused;
     }
 
 pub returns-clause-over : goal.returns-clause-over
-returns-clause-over c = print_of c.args.format.now c.args.args.now c.loop-piece.output.text c.in_ok-cord.cord c.in_ok-cord.ensures.over (all_written c.pieces-piece-items.result.now c.loop-piece.piece-index (arguments_of c.loop-piece.rest.now) c.loop-piece.output.text (printed known c.args.format.now (arguments_of c.args.args.now)) c.loop-piece-test.false c.loop-piece.invariant.written)
+returns-clause-over c = print_of c.args.format.now c.args.args.now c.loop-piece.output.text c.in_ok-cord.cord c.in_ok-cord.ensures.over
+    (all_written c.pieces-piece-items.result.now c.loop-piece.piece-index (arguments_of c.loop-piece.rest.now) c.loop-piece.output.text
+    (printed known c.args.format.now (arguments_of c.args.args.now)) c.loop-piece-test.false c.loop-piece.invariant.written)
 
 pub returns-clause-kept : goal.returns-clause-kept
-returns-clause-kept c = printing_end (parts_given c.args.args.now) (all_own c.args.format.now (arguments_of c.args.args.now)) c.loop-piece.output.parts (parts_given c.loop-piece.rest.now) (all_own (drop c.loop-piece.piece-index c.pieces-piece-items.result.now) (arguments_of c.loop-piece.rest.now)) (parts_of c.in_ok-cord.cord) c.loop-piece.invariant.printing c.in_ok-cord.ensures.made
+returns-clause-kept c = printing_end (parts_given c.args.args.now) (all_own c.args.format.now (arguments_of c.args.args.now))
+    c.loop-piece.output.parts (parts_given c.loop-piece.rest.now)
+    (all_own (drop c.loop-piece.piece-index c.pieces-piece-items.result.now) (arguments_of c.loop-piece.rest.now))
+    (parts_of c.in_ok-cord.cord) c.loop-piece.invariant.printing c.in_ok-cord.ensures.made

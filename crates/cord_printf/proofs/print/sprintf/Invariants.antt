@@ -11,7 +11,10 @@ abbrev pub invariant-loop-piece : goal.invariant-loop-piece
 invariant-loop-piece l = record {
   wanted_are : AreWanted (drop l.piece-index l.piece-items) (arguments_of l.rest);
   fewer : length l.rest ≤ length l.args;
-  written : l.output.text ++ printed known (drop l.piece-index l.piece-items) (arguments_of l.rest) ≡ printed known l.format (arguments_of l.args);
-  printing : IsPrinting (parts_given l.args) (all_own l.format (arguments_of l.args)) l.output.parts (parts_given l.rest) (all_own (drop l.piece-index l.piece-items) (arguments_of l.rest));
-  refused : first_refusal (length l.args - length l.rest) (drop l.piece-index l.piece-items) (arguments_of l.rest) ≡ first_refusal 0 l.format (arguments_of l.args);
+  written : l.output.text ++ printed known (drop l.piece-index l.piece-items) (arguments_of l.rest)
+      ≡ printed known l.format (arguments_of l.args);
+  printing : IsPrinting (parts_given l.args) (all_own l.format (arguments_of l.args)) l.output.parts (parts_given l.rest)
+      (all_own (drop l.piece-index l.piece-items) (arguments_of l.rest));
+  refused : first_refusal (length l.args - length l.rest) (drop l.piece-index l.piece-items) (arguments_of l.rest)
+      ≡ first_refusal 0 l.format (arguments_of l.args);
 }

@@ -18,7 +18,10 @@ loop-piece-preserved c =
     record {
       wanted_are = step.wanted_are;
       fewer = step.fewer;
-      counted = counted_more (2 ^ 64 - 1) c.loop-piece.total c.saturating_add-total.result c.len.result shown (printed known (drop (c.loop-piece.piece-index + 1) pieces) (arguments_of others)) (printed known (drop c.loop-piece.piece-index pieces) (arguments_of rest)) _ step.text c.len.ensures c.saturating_add-total.ensures c.loop-piece.invariant.counted;
+      counted = counted_more (2 ^ 64 - 1) c.loop-piece.total c.saturating_add-total.result c.len.result shown
+          (printed known (drop (c.loop-piece.piece-index + 1) pieces) (arguments_of others))
+          (printed known (drop c.loop-piece.piece-index pieces) (arguments_of rest)) _ step.text c.len.ensures
+          c.saturating_add-total.ensures c.loop-piece.invariant.counted;
       refused = sym step.refused ∙ c.loop-piece.invariant.refused;
     }
 

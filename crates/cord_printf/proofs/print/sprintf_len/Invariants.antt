@@ -9,6 +9,8 @@ abbrev pub invariant-loop-piece : goal.invariant-loop-piece
 invariant-loop-piece l = record {
   wanted_are : AreWanted (drop l.piece-index l.piece-items) (arguments_of l.rest);
   fewer : length l.rest ≤ length l.args;
-  counted : min (l.total + length (printed known (drop l.piece-index l.piece-items) (arguments_of l.rest))) (2 ^ 64 - 1) ≡ min (length (printed known l.format (arguments_of l.args))) (2 ^ 64 - 1);
-  refused : first_refusal (length l.args - length l.rest) (drop l.piece-index l.piece-items) (arguments_of l.rest) ≡ first_refusal 0 l.format (arguments_of l.args);
+  counted : min (l.total + length (printed known (drop l.piece-index l.piece-items) (arguments_of l.rest))) (2 ^ 64 - 1)
+      ≡ min (length (printed known l.format (arguments_of l.args))) (2 ^ 64 - 1);
+  refused : first_refusal (length l.args - length l.rest) (drop l.piece-index l.piece-items) (arguments_of l.rest)
+      ≡ first_refusal 0 l.format (arguments_of l.args);
 }

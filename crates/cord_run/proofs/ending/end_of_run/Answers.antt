@@ -13,4 +13,5 @@ pub returns-in-ReadFailed : goal.returns-in-ReadFailed
 returns-in-ReadFailed c = ap (λ (halt : Halt). end_at c.in-Err.stopped.line halt) (sym c.in-ReadFailed.is) ∙ ap end_of_run (sym c.in-Err.is)
 
 pub returns-in-WriteFailed : goal.returns-in-WriteFailed
-returns-in-WriteFailed c = ap (λ (halt : Halt). end_at c.in-Err.stopped.line halt) (sym c.in-WriteFailed.is) ∙ ap end_of_run (sym c.in-Err.is)
+returns-in-WriteFailed c = ap (λ (halt : Halt). end_at c.in-Err.stopped.line halt) (sym c.in-WriteFailed.is)
+    ∙ ap end_of_run (sym c.in-Err.is)

@@ -9,9 +9,13 @@ pub loop-member-preserved : goal.loop-member-preserved
 loop-member-preserved c =
     let short : length c.try_extend_from_slice.new.self.items ≤ 256 = search rules in
     record {
-      gathered = gathered_more c.args.store.now.entries.items c.args.members.now c.loop-member.member-index c.member-item.result c.loop-member-test.true c.member-item.is c.loop-member.text.items c.in-Some.slice.now c.try_extend_from_slice.new.self.items (subst (λ (e : Expr). IsTextIn c.args.store.now.entries.items (expr_view e) c.in-Some.slice.now) c.as_ref.ensures c.in-Some.ensures) c.in-Ok.ensures.ok c.loop-member.invariant.gathered;
+      gathered = gathered_more c.args.store.now.entries.items c.args.members.now c.loop-member.member-index c.member-item.result
+          c.loop-member-test.true c.member-item.is c.loop-member.text.items c.in-Some.slice.now c.try_extend_from_slice.new.self.items
+          (subst (λ (e : Expr). IsTextIn c.args.store.now.entries.items (expr_view e) c.in-Some.slice.now) c.as_ref.ensures
+          c.in-Some.ensures) c.in-Ok.ensures.ok c.loop-member.invariant.gathered;
       short = short;
     }
 
 pub returns-clause-texts : goal.returns-clause-texts
-returns-clause-texts c = λ done. gathered_all c.args.store.now.entries.items c.args.members.now c.loop-member.member-index c.loop-member.text.items c.loop-member-test.false c.loop-member.invariant.gathered
+returns-clause-texts c = λ done. gathered_all c.args.store.now.entries.items c.args.members.now c.loop-member.member-index
+    c.loop-member.text.items c.loop-member-test.false c.loop-member.invariant.gathered

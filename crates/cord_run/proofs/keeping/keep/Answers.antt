@@ -14,7 +14,9 @@ returns-in_default g c =
     record {
       over = stays_there ls old new c.keep_unread.result c.keep_unread.ensures.over c.requires.over;
       earlier = λ folder kept. kept;
-      gives = λ folder kept. gives_unread c.args.statement.now old new c.keep_unread.result (opened_in sources) folder ls (as_long_as_told (g.F.Files.keeps (device_in sources)) sources.entries.items sources.sound.as_long folder kept) c.requires.over c.keep_unread.ensures.kept;
+      gives = λ folder kept. gives_unread c.args.statement.now old new c.keep_unread.result (opened_in sources) folder ls
+          (as_long_as_told (g.F.Files.keeps (device_in sources)) sources.entries.items sources.sound.as_long folder kept) c.requires.over
+          c.keep_unread.ensures.kept;
       fails = unread_fails _ _ c.keep_unread.result c.keep_unread.ensures.counts;
       counts = c.keep_unread.ensures.counts (g.F.Files.failures (device_in sources));
     }

@@ -20,7 +20,8 @@ returns-clause-earlier g c = c.keep_search.ensures.earlier
 
 pub returns-clause-gives : goal.returns-clause-gives
 returns-clause-gives g c = λ folder kept.
-    gives_read c.args.statement.now c.args.store.now.entries.items c.keep_search.new.store.entries.items c.keep_search.result (opened_in c.args.sources.now) folder
+    gives_read c.args.statement.now c.args.store.now.entries.items c.keep_search.new.store.entries.items c.keep_search.result
+    (opened_in c.args.sources.now) folder
     (opened_in c.keep_search.new.source) c.keep_search.ensures.table (c.keep_search.ensures.kept folder kept)
 
 pub returns-clause-fails : goal.returns-clause-fails

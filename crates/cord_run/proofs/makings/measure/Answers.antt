@@ -13,8 +13,10 @@ returns-in_default g c =
     let keeps : Folder → Type 0 = g.F.Files.keeps (device_in s) in
     let told = as_long_as_told keeps s.entries.items s.sound.as_long in
     record {
-      told = names_told keeps (opened_in s) told c.args.store.now.entries.items c.requires.over (made_view c.args.made.now) c.measure_of_names.result c.measure_of_names.ensures.told;
-      refused = names_untold keeps (opened_in s) told c.args.store.now.entries.items c.requires.over (made_view c.args.made.now) c.measure_of_names.result c.measure_of_names.ensures.refused;
+      told = names_told keeps (opened_in s) told c.args.store.now.entries.items c.requires.over
+          (made_view c.args.made.now) c.measure_of_names.result c.measure_of_names.ensures.told;
+      refused = names_untold keeps (opened_in s) told c.args.store.now.entries.items c.requires.over
+          (made_view c.args.made.now) c.measure_of_names.result c.measure_of_names.ensures.refused;
       earlier = λ folder kept. kept;
       grows = search rules;
       fails = never_fails _ _ _ c.measure_of_names.result c.measure_of_names.ensures.refused;

@@ -23,8 +23,12 @@ length_of_all-length_of-requires-in_default t c =
 
 pub length_of_all-returns-in-Err : goal.length_of_all-returns-in-Err
 length_of_all-returns-in-Err t c =
-    sym (c.loop-member.invariant.extent ∙ member_faulty c.args.store.now.entries.items c.args.members.now c.loop-member.member-index c.member-item.result c.loop-member-test.true c.member-item.is c.loop-member.total c.in-Err.kind (ap (λ (e : Expr). extent_in c.args.store.now.entries.items (expr_view e)) (sym c.as_ref-expression.ensures) ∙ sym c.in-Err.ensures))
+    sym (c.loop-member.invariant.extent ∙ member_faulty c.args.store.now.entries.items c.args.members.now c.loop-member.member-index
+    c.member-item.result c.loop-member-test.true c.member-item.is c.loop-member.total c.in-Err.kind
+    (ap (λ (e : Expr). extent_in c.args.store.now.entries.items (expr_view e)) (sym c.as_ref-expression.ensures)
+    ∙ sym c.in-Err.ensures))
 
 pub length_of_all-returns : goal.length_of_all-returns
 length_of_all-returns t c =
-    sym (c.loop-member.invariant.extent ∙ all_counted c.args.store.now.entries.items c.args.members.now c.loop-member.member-index c.loop-member.total c.loop-member-test.false c.loop-member.invariant.small)
+    sym (c.loop-member.invariant.extent ∙ all_counted c.args.store.now.entries.items c.args.members.now c.loop-member.member-index
+    c.loop-member.total c.loop-member-test.false c.loop-member.invariant.small)

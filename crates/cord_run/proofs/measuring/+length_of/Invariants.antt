@@ -12,6 +12,7 @@ decreases-length_of_all l = weights (members_seen l.members.now)
 
 abbrev pub invariant-length_of_all-loop-member : goal.invariant-length_of_all-loop-member
 invariant-length_of_all-loop-member l = record {
-  extent : counted 0 (members_extent l.store.entries.items (members_seen l.members)) ≡ counted l.total (members_extent l.store.entries.items (members_seen (drop l.member-index l.members)));
+  extent : counted 0 (members_extent l.store.entries.items (members_seen l.members))
+      ≡ counted l.total (members_extent l.store.entries.items (members_seen (drop l.member-index l.members)));
   small : l.total < 2 ^ 64;
 }

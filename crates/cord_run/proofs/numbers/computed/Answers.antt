@@ -12,4 +12,5 @@ returns-in-Len c = λ t over.
     let z : ℤ = to_z w64 (of_z w64 c.told_length.result) in
     let fits : FitsSigned w64 c.told_length.result = search rules in
     let told : z ≡ pos (length_in entries c.in-Len.operand) = to_z-of_z w64 c.told_length.result fits ∙ c.told_length.ensures ∙ ap (λ x. pos (length_in entries x)) c.as_slice.ensures in
-    subst (λ (l : Statement). FindsOver t l entries (Ok z)) (sym c.in-Len.is) (len_finds t entries c.in-Len.line c.in-Len.target (Ok z) over c.in-Len.operand (ap (λ v. Ok v) (sym told)))
+    subst (λ (l : Statement). FindsOver t l entries (Ok z)) (sym c.in-Len.is)
+    (len_finds t entries c.in-Len.line c.in-Len.target (Ok z) over c.in-Len.operand (ap (λ v. Ok v) (sym told)))

@@ -15,4 +15,5 @@ returns-in-Ok-clause-kept c = λ t over.
     let new = c.give_number.new.store.entries.items in
     let has = subst (λ (v : ℤ). IfOk c.give_number.result (λ _. HasNumber c.target_name.result.now v old new)) (to_z-of_z w64 z fits) c.give_number.ensures.given in
     let found = subst (λ (r : Result ℤ FaultKind). FindsOver t c.args.statement.now old (or_halt r)) c.in-Ok.is (c.computed.ensures t over) in
-    kept_giving c.args.statement.now c.target_name.result.now z old new t c.give_number.result found c.target_name.ensures has c.give_number.ensures.refused
+    kept_giving c.args.statement.now c.target_name.result.now z old new t c.give_number.result found c.target_name.ensures has
+    c.give_number.ensures.refused

@@ -12,4 +12,5 @@ returns-clause-kept g c = λ folder kept.
     let old = c.args.store.now.entries.items in
     let new = c.give_number.new.store.entries.items in
     let has = subst (λ (v : ℤ). IfOk c.give_number.result (λ _. HasNumber c.target_name.result.now v old new)) (to_z-of_z w64 z fits) c.give_number.ensures.given in
-    kept_giving c.args.statement.now c.target_name.result.now z old new (g.R.Source.table c.args.source.now folder) c.give_number.result (c.in_ok-number.ensures.found folder kept) c.target_name.ensures has c.give_number.ensures.refused
+    kept_giving c.args.statement.now c.target_name.result.now z old new (g.R.Source.table c.args.source.now folder) c.give_number.result
+    (c.in_ok-number.ensures.found folder kept) c.target_name.ensures has c.give_number.ensures.refused

@@ -15,8 +15,10 @@ decreases-add_members l = weights (members_seen l.members.now)
 
 abbrev pub invariant-add_members-loop-member : goal.invariant-add_members-loop-member
 invariant-add_members-loop-member l = record {
-  added : SoFar l.store.entries.items (members_seen l.members) l.fn.wanted l.initial.pieces.items (members_seen (drop l.member-index l.members)) l.left l.pieces.items;
-  in_turn : TurnsSoFar l.store.entries.items (members_seen l.members) l.initial.pieces.items (members_seen (drop l.member-index l.members)) l.pieces.items;
+  added : SoFar l.store.entries.items (members_seen l.members) l.fn.wanted l.initial.pieces.items
+      (members_seen (drop l.member-index l.members)) l.left l.pieces.items;
+  in_turn : TurnsSoFar l.store.entries.items (members_seen l.members) l.initial.pieces.items (members_seen (drop l.member-index l.members))
+      l.pieces.items;
   past : WantedSoFar l.store.entries.items (members_seen l.members) l.fn.wanted (members_seen (drop l.member-index l.members)) l.left;
   few : AreFew l.fn.wanted l.left l.initial.pieces.items l.pieces.items;
 }

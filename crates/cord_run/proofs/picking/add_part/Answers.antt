@@ -12,10 +12,12 @@ returns-then-of-eq0-clause-added c =
 pub returns-clause-added : goal.returns-clause-added
 returns-clause-added c =
     let pushed : c.push.new.self.items ≡ c.args.pieces.now.items ++ c.in_ok-part.part ∷ [] = search rules in
-    part_added c.args.cord.now c.args.wanted c.in_ok-part.part c.args.pieces.now.items c.push.new.self.items c.in_ok-part.ensures.over pushed
+    part_added c.args.cord.now c.args.wanted c.in_ok-part.part c.args.pieces.now.items c.push.new.self.items c.in_ok-part.ensures.over
+    pushed
 
 pub returns-clause-few : goal.returns-clause-few
 returns-clause-few c =
     let pushed : c.push.new.self.items ≡ c.args.pieces.now.items ++ c.in_ok-part.part ∷ [] = search rules in
-    few_more c.args.wanted c.after-after.result c.len-len.result c.args.pieces.now.items c.push.new.self.items c.in_ok-part.part c.after-after.ensures
+    few_more c.args.wanted c.after-after.result c.len-len.result c.args.pieces.now.items c.push.new.self.items c.in_ok-part.part
+    c.after-after.ensures
     (c.in_ok-part.ensures.len ∙ ap (λ (n : ℕ). min c.args.wanted.count (n - c.args.wanted.skip)) (sym c.len-len.ensures.stored)) pushed

@@ -10,8 +10,13 @@ use Rattle.cord_run.proofs.prints.print_length.Goals as goal
 
 pub returns-in_err-len-clause-refused : goal.returns-in_err-len-clause-refused
 returns-in_err-len-clause-refused c =
-    passed_on (IsFaultOver c.args.store.now.entries.items (λ s. and_then (format_text s c.args.format.now c.args.arguments.now) (λ t. within MAX_LEN t))) (halt_of_print c.in_err-len.field-0.0) c.from_residual-in_err-len.result c.from_residual-in_err-len.ensures.1
-    (unprinted c.args.store.now.entries.items c.args.format.now c.args.arguments.now c.deref.result.now (c.deref.ensures.value ∙ c.in_ok-args.ensures.given) c.in_err-len.field-0.0 c.in_err-len.ensures.refused)
+    passed_on (IsFaultOver c.args.store.now.entries.items (λ s. and_then (format_text s c.args.format.now c.args.arguments.now)
+    (λ t. within MAX_LEN t))) (halt_of_print c.in_err-len.field-0.0) c.from_residual-in_err-len.result
+    c.from_residual-in_err-len.ensures.1
+    (unprinted c.args.store.now.entries.items c.args.format.now c.args.arguments.now c.deref.result.now
+    (c.deref.ensures.value ∙ c.in_ok-args.ensures.given) c.in_err-len.field-0.0 c.in_err-len.ensures.refused)
 
 pub returns-clause-told : goal.returns-clause-told
-returns-clause-told c = printed_length c.args.store.now.entries.items c.args.format.now c.args.arguments.now c.deref.result.now (c.deref.ensures.value ∙ c.in_ok-args.ensures.given) c.in_ok-len.len c.in_ok-len.ensures.taken c.in_ok-len.ensures.length c.in_ok-len.ensures.within_limit
+returns-clause-told c = printed_length c.args.store.now.entries.items c.args.format.now c.args.arguments.now c.deref.result.now
+    (c.deref.ensures.value ∙ c.in_ok-args.ensures.given) c.in_ok-len.len c.in_ok-len.ensures.taken c.in_ok-len.ensures.length
+    c.in_ok-len.ensures.within_limit

@@ -27,7 +27,8 @@ returns-clause-honest g c = λ folder kept fit.
     let ms = plan_moments MAX_LEN MAX_TURNS operations folder in
     let meant = plan_end MAX_LEN MAX_TURNS operations folder in
     subst (λ (after : List ℕ). HonestOutput ms meant before after told) (sym c.close_output.ensures.taken)
-    (closed_honest ms meant before (g.S.Sink.taken c.run_plan.new.sink) n (end_of_run c.run_plan.result) told closes (c.run_plan.ensures.honest folder kept fit))
+    (closed_honest ms meant before (g.S.Sink.taken c.run_plan.new.sink) n (end_of_run c.run_plan.result) told closes
+    (c.run_plan.ensures.honest folder kept fit))
 
 pub returns-clause-fails : goal.returns-clause-fails
 returns-clause-fails g c =
@@ -52,6 +53,8 @@ returns-clause-cause g c =
       finished_after = g.S.Sink.finished c.close_output.new.sink;
     } in
     let closes = subst (λ (e : End). Closes n e told) c.end_of_run-own.ensures c.close_output.ensures.closes in
-    closed_cause (g.F.Files.failures (device_in c.args.sources.now)) (g.F.Files.failures (device_in c.run_plan.new.sources)) (g.S.Sink.failures c.args.sink.now)
-    (g.S.Sink.failures c.run_plan.new.sink) (g.S.Sink.failures c.close_output.new.sink) (g.S.Sink.finished c.args.sink.now) (g.S.Sink.finished c.run_plan.new.sink) (g.S.Sink.finished c.close_output.new.sink)
+    closed_cause (g.F.Files.failures (device_in c.args.sources.now)) (g.F.Files.failures (device_in c.run_plan.new.sources))
+    (g.S.Sink.failures c.args.sink.now)
+    (g.S.Sink.failures c.run_plan.new.sink) (g.S.Sink.failures c.close_output.new.sink) (g.S.Sink.finished c.args.sink.now)
+    (g.S.Sink.finished c.run_plan.new.sink) (g.S.Sink.finished c.close_output.new.sink)
     c.requires.files_count c.requires.sink_count c.run_plan.ensures.finished c.run_plan.result c.run_plan.ensures.counts told closes

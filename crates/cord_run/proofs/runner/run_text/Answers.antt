@@ -10,8 +10,12 @@ returns-in-Ok-plan-clause-run g c =
     let means = c.in-Ok-plan.ensures.means in
     let made = c.in-Ok-plan.ensures.made in
     let alike = subst (FailsNowhereElse s) (sym made.2) (planned_alike s made.0) in
-    let reads = c.in-Ok.ensures.reads in
-    (s, reads, (λ folder kept. c.run-end.ensures.honest s means alike whole c.args.script.now reads folder kept), c.run-end.ensures.fails s alike)
+    let reads = c.in-Ok.ensures.reads in (
+      s,
+      reads,
+      (λ folder kept. c.run-end.ensures.honest s means alike whole c.args.script.now reads folder kept),
+      c.run-end.ensures.fails s alike,
+    )
 
 pub returns-in-Err-clause-flaw : goal.returns-in-Err-clause-flaw
 returns-in-Err-clause-flaw g c = c.in-Err.ensures.flaw

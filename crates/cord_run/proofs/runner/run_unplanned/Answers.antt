@@ -10,8 +10,12 @@ returns-in-Ok-trivial-clause-run g c =
     let means = c.in-Ok-trivial.ensures.means in
     let made = c.in-Ok-trivial.ensures.made in
     let alike = subst (FailsNowhereElse s) (sym made) (trivial_alike s) in
-    let reads = c.in-Ok.ensures.reads in
-    (s, reads, (λ folder kept. c.run-end.ensures.honest s means alike whole c.args.script.now reads folder kept), c.run-end.ensures.fails s alike)
+    let reads = c.in-Ok.ensures.reads in (
+      s,
+      reads,
+      (λ folder kept. c.run-end.ensures.honest s means alike whole c.args.script.now reads folder kept),
+      c.run-end.ensures.fails s alike,
+    )
 
 pub returns-in-Err-clause-flaw : goal.returns-in-Err-clause-flaw
 returns-in-Err-clause-flaw g c = c.in-Err.ensures.flaw

@@ -19,5 +19,6 @@ returns-clause-serves g c = λ folder kept.
     let entries = c.args.store.now.entries.items in
     let old = opened_in c.args.sources.now in
     let new = opened_in c.write.new.source in
-    wrote_serves (table_in old folder) entries (expr_view c.args.expression.now) (g.S.Sink.taken c.args.sink.now) (g.S.Sink.taken c.write.new.sink) c.write.result folder (holding_of (table_in new folder) entries)
+    wrote_serves (table_in old folder) entries (expr_view c.args.expression.now) (g.S.Sink.taken c.args.sink.now)
+    (g.S.Sink.taken c.write.new.sink) c.write.result folder (holding_of (table_in new folder) entries)
     (held_read old new entries folder c.write.ensures.table) (c.write.ensures.wrote folder kept)

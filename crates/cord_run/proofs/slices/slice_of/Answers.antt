@@ -33,4 +33,5 @@ returns-in-Some c =
     let count : to_z w64 (of_z w64 c.value_of-in-Some.result) ≡ operand_in entries n = to_z-of_z w64 c.value_of-in-Some.result count_fits ∙ c.value_of-in-Some.ensures in
     subst (λ (e : plain.Expr). IfSome c.range_of.result (λ range. IsTextIn entries e range.now)) (sym view)
     (still_some c.range_of.result (λ range is. sub_is entries x whole c.in-Some.ensures i n range.now
-    (subst (λ (z : ℤ). part_of MAX_LEN whole z (operand_in entries n) ≡ Ok range.now) start (subst (λ (z : ℤ). part_of MAX_LEN whole (to_z w64 (of_z w64 c.value_of.result)) z ≡ Ok range.now) count is))) c.range_of.ensures)
+    (subst (λ (z : ℤ). part_of MAX_LEN whole z (operand_in entries n) ≡ Ok range.now) start
+    (subst (λ (z : ℤ). part_of MAX_LEN whole (to_z w64 (of_z w64 c.value_of.result)) z ≡ Ok range.now) count is))) c.range_of.ensures)

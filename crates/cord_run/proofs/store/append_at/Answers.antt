@@ -13,15 +13,23 @@ returns-clause-grown c =
     let entries = c.args.entries.now in
     let from : Entry = get_or entries c.args.place c.index-entries-place.result in
     let to : Entry = record { name = from.name; content = from.content; number = from.number; extensible = c.append_to.new.extensible } in
-    if_grew (GrewTo c.args.bytes.now from.extensible to.extensible) (Grew c.args.name.now c.args.bytes.now entries (slice_set entries c.args.place to)) c.append_to.result
-    (λ g. grew_set c.args.name.now c.args.bytes.now c.index-entries-place.result to entries c.args.place c.requires.place (name_at_place entries c.args.name.now c.args.place c.index-entries-place.result c.requires.place) refl refl g) c.append_to.ensures.grown
+    if_grew (GrewTo c.args.bytes.now from.extensible to.extensible)
+    (Grew c.args.name.now c.args.bytes.now entries (slice_set entries c.args.place to)) c.append_to.result
+    (λ g. grew_set c.args.name.now c.args.bytes.now c.index-entries-place.result to entries c.args.place c.requires.place
+    (name_at_place entries c.args.name.now c.args.place c.index-entries-place.result c.requires.place) refl refl g)
+    c.append_to.ensures.grown
 
 pub returns-clause-fits : goal.returns-clause-fits
-returns-clause-fits c = subst (λ (o : Option (List Cell)). OnOk c.append_to.result (length (cells_of o) + length c.args.bytes.now ≤ MAX_LEN)) (value_at_place (λ entry. cells_in entry.extensible) None c.args.entries.now c.args.name.now c.args.place c.index-entries-place.result c.requires.place) c.append_to.ensures.fits
+returns-clause-fits c =
+    subst (λ (o : Option (List Cell)). OnOk c.append_to.result (length (cells_of o) + length c.args.bytes.now ≤ MAX_LEN))
+    (value_at_place (λ entry. cells_in entry.extensible) None c.args.entries.now c.args.name.now c.args.place c.index-entries-place.result
+    c.requires.place) c.append_to.ensures.fits
 
 pub returns-clause-too_long : goal.returns-clause-too_long
 returns-clause-too_long c = λ is.
-    subst (λ (o : Option (List Cell)). MAX_LEN < length (cells_of o) + length c.args.bytes.now) (value_at_place (λ entry. cells_in entry.extensible) None c.args.entries.now c.args.name.now c.args.place c.index-entries-place.result c.requires.place) (c.append_to.ensures.too_long is)
+    subst (λ (o : Option (List Cell)). MAX_LEN < length (cells_of o) + length c.args.bytes.now)
+    (value_at_place (λ entry. cells_in entry.extensible) None c.args.entries.now c.args.name.now c.args.place
+    c.index-entries-place.result c.requires.place) (c.append_to.ensures.too_long is)
 
 pub returns-clause-distinct : goal.returns-clause-distinct
 returns-clause-distinct c = λ distinct.

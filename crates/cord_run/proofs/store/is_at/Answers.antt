@@ -8,4 +8,5 @@ pub returns-clause-place : goal.returns-clause-place
 returns-clause-place c = λ is.
     let inside : c.args.place < length c.args.entries.now = omega arith in
     let same = ap (λ (n : List ℕ). bytes_eq c.args.name.now n) (sym c.as_slice.ensures.value) ∙ sym c.is_same.ensures ∙ is in
-    entry_there c.args.entries.now c.args.name.now c.args.place c.index-entries-place.result c.requires inside (ap (λ (e : Entry). bytes_eq c.args.name.now e.name.items) (sym c.index-entries-place.is) ∙ same)
+    entry_there c.args.entries.now c.args.name.now c.args.place c.index-entries-place.result c.requires inside
+    (ap (λ (e : Entry). bytes_eq c.args.name.now e.name.items) (sym c.index-entries-place.is) ∙ same)

@@ -10,8 +10,10 @@ pub returns-clause-set : goal.returns-clause-set
 returns-clause-set c = λ name here.
     let from : Entry = get_or c.args.entries.now c.args.place c.index-entries-place.result in
     let to : Entry = record { name = from.name; content = from.content; number = to_z w64 (of_z w64 c.args.number); extensible = from.extensible } in
-    subst (λ (z : ℤ). HasNumber name z c.args.entries.now (slice_set c.args.entries.now c.args.place to)) (to_z-of_z w64 c.args.number c.ranges.number)
-    (number_set name c.index-entries-place.result to c.args.entries.now c.args.place here (name_at_place c.args.entries.now name c.args.place c.index-entries-place.result here) refl refl)
+    subst (λ (z : ℤ). HasNumber name z c.args.entries.now (slice_set c.args.entries.now c.args.place to))
+    (to_z-of_z w64 c.args.number c.ranges.number)
+    (number_set name c.index-entries-place.result to c.args.entries.now c.args.place here
+    (name_at_place c.args.entries.now name c.args.place c.index-entries-place.result here) refl refl)
 
 pub returns-clause-names : goal.returns-clause-names
 returns-clause-names c =

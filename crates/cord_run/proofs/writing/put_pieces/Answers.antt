@@ -13,7 +13,11 @@ put-requires g c =
     let ps = c.args.pieces.now in
     let i = c.loop-piece.piece-index in
     let piece = c.piece-item.result in
-    record { fits = subst (λ (ls : Lengths). CordFitsIn ls piece) (sym c.loop-piece.invariant.lengths) (subst (λ (p : Option Node). CordFitsIn (g.R.Source.lengths c.args.source.now) p) (sym c.piece-item.is) (fits_at (g.R.Source.lengths c.args.source.now) ps i piece c.requires.fits c.loop-piece-test.true)) }
+    record {
+      fits = subst (λ (ls : Lengths). CordFitsIn ls piece) (sym c.loop-piece.invariant.lengths)
+          (subst (λ (p : Option Node). CordFitsIn (g.R.Source.lengths c.args.source.now) p) (sym c.piece-item.is)
+          (fits_at (g.R.Source.lengths c.args.source.now) ps i piece c.requires.fits c.loop-piece-test.true));
+    }
 
 pub loop-piece-init : goal.loop-piece-init
 loop-piece-init g c = record {
@@ -33,13 +37,19 @@ returns-in-Err-clause-puts g c = λ folder kept.
     let b = g.S.Sink.taken c.loop-piece.sink in
     let d = g.S.Sink.taken c.put.new.sink in
     let before = c.in-Err.ensures.earlier folder kept in
-    puts_cut (g.R.Source.table c.args.source.now folder) c.args.pieces.now c.loop-piece.piece-index piece c.loop-piece-test.true c.piece-item.is a b d (c.loop-piece.invariant.puts folder before)
-    (subst (λ (table : Folder → Table). Takes (IsFrontOf (bytes_of (table folder) piece)) b d) c.loop-piece.invariant.table (c.in-Err.ensures.prefix folder kept))
+    puts_cut (g.R.Source.table c.args.source.now folder) c.args.pieces.now c.loop-piece.piece-index piece c.loop-piece-test.true
+    c.piece-item.is a b d (c.loop-piece.invariant.puts folder before)
+    (subst (λ (table : Folder → Table). Takes (IsFrontOf (bytes_of (table folder) piece)) b d) c.loop-piece.invariant.table
+    (c.in-Err.ensures.prefix folder kept))
 
 pub returns-in-Err-clause-faults : goal.returns-in-Err-clause-faults
 returns-in-Err-clause-faults g c =
-    subst (λ (n : ℕ). CountsFaults {T = Unit {0}} (record { source = n; sink = g.S.Sink.failures c.args.sink.now }) (record { source = g.R.Source.failures c.put.new.src; sink = g.S.Sink.failures c.put.new.sink }) (Err c.in-Err.error)) c.loop-piece.invariant.source
-    (subst (λ (n : ℕ). CountsFaults {T = Unit {0}} (record { source = g.R.Source.failures c.loop-piece.source; sink = n }) (record { source = g.R.Source.failures c.put.new.src; sink = g.S.Sink.failures c.put.new.sink }) (Err c.in-Err.error)) c.loop-piece.invariant.sink c.in-Err.ensures.faults)
+    subst (λ (n : ℕ). CountsFaults {T = Unit {0}} (record { source = n; sink = g.S.Sink.failures c.args.sink.now })
+    (record { source = g.R.Source.failures c.put.new.src; sink = g.S.Sink.failures c.put.new.sink }) (Err c.in-Err.error))
+    c.loop-piece.invariant.source
+    (subst (λ (n : ℕ). CountsFaults {T = Unit {0}} (record { source = g.R.Source.failures c.loop-piece.source; sink = n })
+    (record { source = g.R.Source.failures c.put.new.src; sink = g.S.Sink.failures c.put.new.sink }) (Err c.in-Err.error))
+    c.loop-piece.invariant.sink c.in-Err.ensures.faults)
 
 pub loop-piece-preserved : goal.loop-piece-preserved
 loop-piece-preserved g c =
@@ -56,9 +66,12 @@ loop-piece-preserved g c =
       finished = c.in-Ok.ensures.finished ∙ c.loop-piece.invariant.finished;
       puts = λ folder kept.
           let before = c.in-Ok.ensures.earlier folder kept in
-          puts_next (g.R.Source.table c.args.source.now folder) c.args.pieces.now c.loop-piece.piece-index piece c.loop-piece-test.true c.piece-item.is a b d (c.loop-piece.invariant.puts folder before)
-          (subst (λ (table : Folder → Table). d ≡ b ++ bytes_of (table folder) piece) c.loop-piece.invariant.table (c.in-Ok.ensures.text folder kept));
+          puts_next (g.R.Source.table c.args.source.now folder) c.args.pieces.now c.loop-piece.piece-index piece c.loop-piece-test.true
+          c.piece-item.is a b d (c.loop-piece.invariant.puts folder before)
+          (subst (λ (table : Folder → Table). d ≡ b ++ bytes_of (table folder) piece) c.loop-piece.invariant.table
+          (c.in-Ok.ensures.text folder kept));
     }
 
 pub returns-clause-puts : goal.returns-clause-puts
-returns-clause-puts g c = λ folder kept. puts_all (g.R.Source.table c.args.source.now folder) c.args.pieces.now c.loop-piece.piece-index (g.S.Sink.taken c.args.sink.now) (g.S.Sink.taken c.loop-piece.sink) c.loop-piece-test.false (c.loop-piece.invariant.puts folder kept)
+returns-clause-puts g c = λ folder kept. puts_all (g.R.Source.table c.args.source.now folder) c.args.pieces.now c.loop-piece.piece-index
+    (g.S.Sink.taken c.args.sink.now) (g.S.Sink.taken c.loop-piece.sink) c.loop-piece-test.false (c.loop-piece.invariant.puts folder kept)

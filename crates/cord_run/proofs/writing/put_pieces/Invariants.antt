@@ -11,5 +11,6 @@ invariant-loop-piece g l = record {
   source : g.R.Source.failures l.source ≡ g.R.Source.failures l.initial.source;
   sink : g.S.Sink.failures l.sink ≡ g.S.Sink.failures l.initial.sink;
   finished : g.S.Sink.finished l.sink ≡ g.S.Sink.finished l.initial.sink;
-  puts : (folder : Folder) → g.R.Source.keeps l.source folder → g.S.Sink.taken l.sink ≡ g.S.Sink.taken l.initial.sink ++ all_bytes (g.R.Source.table l.initial.source folder) (take l.piece-index l.pieces);
+  puts : (folder : Folder) → g.R.Source.keeps l.source folder → g.S.Sink.taken l.sink ≡ g.S.Sink.taken l.initial.sink
+      ++ all_bytes (g.R.Source.table l.initial.source folder) (take l.piece-index l.pieces);
 }

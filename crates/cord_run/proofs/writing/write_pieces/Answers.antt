@@ -14,7 +14,9 @@ use Rattle.cord_run.proofs.writing.write_pieces.Goals as goal
 
 pub returns-in-Err-clause-wrote : goal.returns-in-Err-clause-wrote
 returns-in-Err-clause-wrote g c = λ folder kept there.
-    wrote_nothing c.args.store.now.entries.items (expr_view c.args.expression.now) (g.R.Source.lengths c.args.source.now) c.requires.over (g.S.Sink.taken c.args.sink.now) (g.S.Sink.taken c.args.sink.now) (g.R.Source.table c.args.source.now folder) (g.met.R.Source.lengths_of_table c.args.source.now folder kept) there c.in-Err.halt c.in-Err.ensures.refused refl
+    wrote_nothing c.args.store.now.entries.items (expr_view c.args.expression.now) (g.R.Source.lengths c.args.source.now) c.requires.over
+    (g.S.Sink.taken c.args.sink.now) (g.S.Sink.taken c.args.sink.now) (g.R.Source.table c.args.source.now folder)
+    (g.met.R.Source.lengths_of_table c.args.source.now folder kept) there c.in-Err.halt c.in-Err.ensures.refused refl
 
 pub returns-in-Err-clause-counts : goal.returns-in-Err-clause-counts
 returns-in-Err-clause-counts g c =
@@ -26,7 +28,9 @@ returns-in-Ok-put_pieces-clause-wrote g c = λ folder kept there.
     let t = g.R.Source.table c.args.source.now folder in
     let a = g.S.Sink.taken c.args.sink.now in
     let b = g.S.Sink.taken c.put_pieces.new.sink in
-    wrote_whole c.args.store.now.entries.items (expr_view c.args.expression.now) (g.R.Source.lengths c.args.source.now) c.requires.over a b t (g.met.R.Source.lengths_of_table c.args.source.now folder (c.in-Ok-put_pieces.ensures.earlier folder kept)) there c.in-Ok.pieces.items c.in-Ok.ensures.whole
+    wrote_whole c.args.store.now.entries.items (expr_view c.args.expression.now) (g.R.Source.lengths c.args.source.now) c.requires.over a b
+    t (g.met.R.Source.lengths_of_table c.args.source.now folder (c.in-Ok-put_pieces.ensures.earlier folder kept)) there
+    c.in-Ok.pieces.items c.in-Ok.ensures.whole
     (subst (λ (ps : List (Option Node)). b ≡ a ++ all_bytes t ps) c.deref.ensures.value (c.in-Ok-put_pieces.ensures.puts folder kept))
 
 pub returns-clause-wrote : goal.returns-clause-wrote
@@ -34,12 +38,17 @@ returns-clause-wrote g c = λ folder kept there.
     let t = g.R.Source.table c.args.source.now folder in
     let a = g.S.Sink.taken c.args.sink.now in
     let b = g.S.Sink.taken c.put_pieces.new.sink in
-    subst (λ (halt : Halt). Wrote (text_in MAX_LEN (plain_of t c.args.store.now.entries.items) (expr_view c.args.expression.now)) a b (Err halt)) (sym c.halted.ensures)
-    (wrote_part c.args.store.now.entries.items (expr_view c.args.expression.now) (g.R.Source.lengths c.args.source.now) c.requires.over a b t (g.met.R.Source.lengths_of_table c.args.source.now folder (c.in-Err-put_pieces.ensures.earlier folder kept)) there c.in-Ok.pieces.items c.in-Err-put_pieces.error c.in-Ok.ensures.whole
-    (subst (λ (ps : List (Option Node)). Takes (IsFrontOf (all_bytes t ps)) a b) c.deref.ensures.value (c.in-Err-put_pieces.ensures.puts folder kept)))
+    subst (λ (halt : Halt). Wrote (text_in MAX_LEN (plain_of t c.args.store.now.entries.items) (expr_view c.args.expression.now)) a b
+    (Err halt)) (sym c.halted.ensures)
+    (wrote_part c.args.store.now.entries.items (expr_view c.args.expression.now) (g.R.Source.lengths c.args.source.now) c.requires.over a b
+    t (g.met.R.Source.lengths_of_table c.args.source.now folder (c.in-Err-put_pieces.ensures.earlier folder kept)) there
+    c.in-Ok.pieces.items c.in-Err-put_pieces.error c.in-Ok.ensures.whole
+    (subst (λ (ps : List (Option Node)). Takes (IsFrontOf (all_bytes t ps)) a b) c.deref.ensures.value
+    (c.in-Err-put_pieces.ensures.puts folder kept)))
 
 pub returns-clause-counts : goal.returns-clause-counts
 returns-clause-counts g c =
     let n : Counts = record { source = g.R.Source.failures c.args.source.now; sink = g.S.Sink.failures c.args.sink.now } in
     let m : Counts = record { source = g.R.Source.failures c.put_pieces.new.source; sink = g.S.Sink.failures c.put_pieces.new.sink } in
-    subst (λ (halt : Halt). CountsHalts n m (Err halt)) (sym c.halted.ensures) (halt_counts c.in-Err-put_pieces.error n m c.in-Err-put_pieces.ensures.faults)
+    subst (λ (halt : Halt). CountsHalts n m (Err halt)) (sym c.halted.ensures)
+    (halt_counts c.in-Err-put_pieces.error n m c.in-Err-put_pieces.ensures.faults)

@@ -4,4 +4,5 @@ use Rattle.cord_script.specs.Parted.{term_of}
 use Rattle.cord_script.proofs.before.add_paths.Given as goal
 
 abbrev pub invariant-loop-part : goal.invariant-loop-part
-invariant-loop-part l = paths_after (map term_of l.parts) l.initial.paths.items ≡ paths_after (map term_of (drop l.part-index l.parts)) l.paths.items
+invariant-loop-part l = paths_after (map term_of l.parts) l.initial.paths.items
+    ≡ paths_after (map term_of (drop l.part-index l.parts)) l.paths.items

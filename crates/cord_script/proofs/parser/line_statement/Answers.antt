@@ -10,4 +10,11 @@ returns-in_err-words-clause-flaw c =
 pub returns-in_err-statement-clause-flaw : goal.returns-in_err-statement-clause-flaw
 returns-in_err-statement-clause-flaw c =
     let p = err_from_is_err_and c.from_residual-in_err-statement.result c.from_residual-in_err-statement.ensures.1 in
-    rw (p.1, p.2) (λ n. (c.if-is_idle.ensures, inr (c.in_ok-words.words.items, c.in_ok-words.ensures.words, c.in_err-statement.ensures.flaw n)))
+    rw (p.1, p.2) (λ n. (
+      c.if-is_idle.ensures,
+      inr (
+        c.in_ok-words.words.items,
+        c.in_ok-words.ensures.words,
+        c.in_err-statement.ensures.flaw n,
+      ),
+    ))

@@ -19,14 +19,16 @@ zero_later false rest e = refl
 
 none_is : (bytes : List ℕ) → Nowhere (Passes (is_byte 0) bytes) 0 (length bytes) → true ≡ each is_no_zero bytes
 none_is [] h = refl
-none_is (c ∷ cs) h = other_first (c == 0) (each is_no_zero cs) (h zero (omega arith) (omega arith)) (none_is cs (λ k low high. h (suc k) (omega arith) (omega arith)))
+none_is (c ∷ cs) h = other_first (c == 0) (each is_no_zero cs) (h zero (omega arith) (omega arith))
+    (none_is cs (λ k low high. h (suc k) (omega arith) (omega arith)))
 
 one_is : (bytes : List ℕ) (k : ℕ) → k < length bytes → Passes (is_byte 0) bytes k → false ≡ each is_no_zero bytes
 one_is [] k lt p = absurd (omega arith)
 one_is (c ∷ cs) zero lt p = zero_first (c == 0) (each is_no_zero cs) p
 one_is (c ∷ cs) (suc k) lt p = zero_later (is_no_zero c) (each is_no_zero cs) (one_is cs k (omega arith) p)
 
-found : (bytes : List ℕ) (place : Option ℕ) (answer : Bool) → IsFirstByte (is_byte 0) bytes place → is_some place ≡ not answer → answer ≡ each is_no_zero bytes
+found : (bytes : List ℕ) (place : Option ℕ) (answer : Bool) → IsFirstByte (is_byte 0) bytes place → is_some place ≡ not answer →
+    answer ≡ each is_no_zero bytes
 found bytes None true h e = none_is bytes h
 found bytes None false h e = cc
 found bytes (Some k) true h e = cc

@@ -11,7 +11,8 @@ use Rattle.cord_script.proofs.saying.said.Goals as goal
 pub returns-in_err-parts-clause-flaw : goal.returns-in_err-parts-clause-flaw
 returns-in_err-parts-clause-flaw c =
     let p = err_from_is_err_and c.from_residual.result c.from_residual.ensures.1 in
-    rw (p.1, p.2) (λ n. bad_words c.in-Some.verb (before_of c.args.left.now) c.args.words.items c.verb_in.new.words.items c.in_err-parts.field-0.0 (sym c.from_vec-words.ensures.items ∙ c.in-Some.ensures) (c.in_err-parts.ensures.flaw n))
+    rw (p.1, p.2) (λ n. bad_words c.in-Some.verb (before_of c.args.left.now) c.args.words.items c.verb_in.new.words.items
+    c.in_err-parts.field-0.0 (sym c.from_vec-words.ensures.items ∙ c.in-Some.ensures) (c.in_err-parts.ensures.flaw n))
 
 pub statement_of-requires : goal.statement_of-requires
 statement_of-requires c =

@@ -6,7 +6,9 @@ use Rattle.cord_script.proofs.taking.take_parts.Goals as goal
 pub returns-in_err-part-clause-flaw : goal.returns-in_err-part-clause-flaw
 returns-in_err-part-clause-flaw c =
     let p = err_from_is_err_and c.from_residual.result c.from_residual.ensures.1 in
-    rw (p.1, p.2) (λ n. c.loop-want.invariant.fit ∙ step_wrong c.args.wants.now c.loop-want.want-index _ c.loop-want.words.items c.pop_front.new.self.items c.in-Some.word c.in_err-part.field-0.0 (omega arith) c.in-Some.ensures.items (c.in_err-part.ensures.flaw n))
+    rw (p.1, p.2) (λ n. c.loop-want.invariant.fit ∙ step_wrong c.args.wants.now c.loop-want.want-index _ c.loop-want.words.items
+    c.pop_front.new.self.items c.in-Some.word c.in_err-part.field-0.0 (omega arith) c.in-Some.ensures.items
+    (c.in_err-part.ensures.flaw n))
 
 pub loop-want-preserved : goal.loop-want-preserved
 loop-want-preserved c =
@@ -15,7 +17,10 @@ loop-want-preserved c =
     let grown = c.in_ok-push.ensures.items in
     let says = c.in_ok-part.ensures.part in
     record {
-      taken = step_taken c.args.wants.now c.loop-want.want-index _ c.args.words.now.items c.loop-want.words.items c.pop_front.new.self.items c.args.parts.now.items old c.push.new.self.items c.in-Some.word part (omega arith) c.loop-want.invariant.taken c.in-Some.ensures.items grown says;
-      fit = c.loop-want.invariant.fit ∙ step_fit c.args.wants.now c.loop-want.want-index _ c.loop-want.words.items c.pop_front.new.self.items c.in-Some.word part (omega arith) c.in-Some.ensures.items says;
+      taken = step_taken c.args.wants.now c.loop-want.want-index _ c.args.words.now.items c.loop-want.words.items
+          c.pop_front.new.self.items c.args.parts.now.items old c.push.new.self.items c.in-Some.word part
+          (omega arith) c.loop-want.invariant.taken c.in-Some.ensures.items grown says;
+      fit = c.loop-want.invariant.fit ∙ step_fit c.args.wants.now c.loop-want.want-index _ c.loop-want.words.items
+          c.pop_front.new.self.items c.in-Some.word part (omega arith) c.in-Some.ensures.items says;
       enough = omega (arith, c.loop-want.invariant.enough, ap length c.in-Some.ensures.items);
     }

@@ -8,8 +8,15 @@ pub returns-then-len-eq-MAX_TEXT-clause-flaw : goal.returns-then-len-eq-MAX_TEXT
 returns-then-len-eq-MAX_TEXT-clause-flaw c = λ n.
     let inv = c.units.invariant in
     let s = unit_stands c.units.rest.now c.in-Some-unit.behind.now c.in-Some-unit.byte (sym c.in-Some-unit.ensures) in
-    let full : length c.units.text.items ≡ MAX_TEXT = omega (arith, c.len.ensures) in
-    (inv.read, c.units.rest.now, c.units.text.items, inv.whole, inv.spelled, inv.few, inr (inl (refl, full, (s.0, c.in-Some-unit.behind.now, c.in-Some-unit.byte, s.1, s.2))))
+    let full : length c.units.text.items ≡ MAX_TEXT = omega (arith, c.len.ensures) in (
+      inv.read,
+      c.units.rest.now,
+      c.units.text.items,
+      inv.whole,
+      inv.spelled,
+      inv.few,
+      inr (inl (refl, full, (s.0, c.in-Some-unit.behind.now, c.in-Some-unit.byte, s.1, s.2))),
+    )
 
 pub units-preserved : goal.units-preserved
 units-preserved c =
@@ -21,6 +28,7 @@ units-preserved c =
     record {
       read = inv.read ++ s.0;
       whole = inv.whole ∙ ap (λ x. inv.read ++ x) s.1 ∙ sym (append_assoc inv.read s.0 c.in-Some-unit.behind.now);
-      spelled = subst (Spells (inv.read ++ s.0)) (sym grown) (spells_push inv.read s.0 c.units.text.items c.in-Some-unit.byte inv.spelled s.2);
+      spelled = subst (Spells (inv.read ++ s.0)) (sym grown) (spells_push inv.read s.0 c.units.text.items c.in-Some-unit.byte inv.spelled
+          s.2);
       few = few;
     }

@@ -18,7 +18,8 @@ returns-then-is_same c =
     let alike : AreAlike (Some s.node.now) s.place (Some o.node.now) o.place k = spots_alike s.node.now s.place u.node.now u.place o.node.now o.place v.node.now v.place k c.meet.ensures.left c.meet.ensures.right one.0 one.1 one.2 fits in (
       omega (arith, c.min.ensures, c.requires.some, c.len.ensures.stored, c.meet.ensures.spot.1),
       omega (arith, c.min.ensures),
-      on_cord c.args.x.now c.args.i s (λ e p. AreAlike e p c.args.y.now c.args.j k) c.spot_at.ensures.cord (on_cord c.args.y.now c.args.j o (λ e p. AreAlike (Some s.node.now) s.place e p k) c.spot_at-2.ensures.cord alike),
+      on_cord c.args.x.now c.args.i s (λ e p. AreAlike e p c.args.y.now c.args.j k) c.spot_at.ensures.cord
+          (on_cord c.args.y.now c.args.j o (λ e p. AreAlike (Some s.node.now) s.place e p k) c.spot_at-2.ensures.cord alike),
     )
 
 pub returns-then-begins_like : goal.returns-then-begins_like
@@ -36,7 +37,8 @@ returns-then-begins_like c =
     let right : IsStretchOf c.args.y.now c.args.j next = on_cord c.args.y.now c.args.j o (λ e p. IsStretchOf e p next) c.spot_at-2.ensures.cord (stretch_on o.node.now o.place v.node.now v.place next c.meet.ensures.right c.stretch_at-next.ensures) in (
       omega (arith, c.min-count.ensures, c.min-2.ensures, c.len-2.ensures, c.len-3.ensures, c.requires.some, left.some, right.some),
       omega (arith, c.min-count.ensures, c.min-2.ensures),
-      stretches_alike c.args.x.now c.args.i c.args.y.now c.args.j stretch next k left right (c.begins_like.ensures c.if-begins_like.true) le more,
+      stretches_alike c.args.x.now c.args.i c.args.y.now c.args.j stretch next k left right
+          (c.begins_like.ensures c.if-begins_like.true) le more,
     )
 
 pub returns : goal.returns

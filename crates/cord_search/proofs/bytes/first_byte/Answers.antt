@@ -6,7 +6,8 @@ use Rattle.cord_search.proofs.Finding.{node_len, first_on, first_past, first_fou
 use Rattle.cord_search.proofs.bytes.first_byte.Goals as goal
 
 pub first_piece-requires-clause-fits : goal.first_piece-requires-clause-fits
-first_piece-requires-clause-fits g c = rw c.loop-place.invariant.lengths (c.block_at-stretch.ensures.fits (g.S.Source.lengths c.args.src.now) c.requires.fits)
+first_piece-requires-clause-fits g c = rw c.loop-place.invariant.lengths
+    (c.block_at-stretch.ensures.fits (g.S.Source.lengths c.args.src.now) c.requires.fits)
 
 pub loop-place-preserved-in-Some : goal.loop-place-preserved-in-Some
 loop-place-preserved-in-Some g c =
@@ -34,7 +35,8 @@ returns-in-Some-memchr-clause-first g c = λ folder kept.
     let before = c.in_ok-piece.ensures.earlier folder kept in
     let told = g.met.S.Source.lengths_of_table c.args.src.now folder (c.loop-place.invariant.earlier folder before) in
     let text : IsPieceAt t node place piece = piece_within (g.S.Source.lengths c.args.src.now) t (Some node) place c.block_at-stretch.result 0 place piece told c.requires.fits c.block_at-stretch.ensures (omega (arith, c.in_ok-piece.ensures.inside)) (omega arith) (rw c.loop-place.invariant.table at c.in_ok-piece.ensures.text folder kept) in
-    first_found t node piece c.args.byte c.args.from place c.in-Some-memchr.found _ c.in-Some-memchr.is c.memchr.ensures c.loop-place.invariant.low text (c.loop-place.invariant.none folder before)
+    first_found t node piece c.args.byte c.args.from place c.in-Some-memchr.found _ c.in-Some-memchr.is c.memchr.ensures
+    c.loop-place.invariant.low text (c.loop-place.invariant.none folder before)
 
 pub loop-place-preserved : goal.loop-place-preserved
 loop-place-preserved g c = record {
@@ -60,4 +62,5 @@ returns-clause-first g c = λ folder kept.
     let t = g.S.Source.table c.args.src.now folder in
     let told = g.met.S.Source.lengths_of_table c.args.src.now folder (c.loop-place.invariant.earlier folder kept) in
     let len = node_len (g.S.Source.lengths c.args.src.now) t c.args.node.now told c.requires.sound c.requires.fits in
-    first_none t c.args.node.now c.args.byte c.args.from c.loop-place.place (omega (arith, c.loop-place-test.false, c.len-len.ensures.stored)) len (c.loop-place.invariant.none folder kept)
+    first_none t c.args.node.now c.args.byte c.args.from c.loop-place.place
+    (omega (arith, c.loop-place-test.false, c.len-len.ensures.stored)) len (c.loop-place.invariant.none folder kept)

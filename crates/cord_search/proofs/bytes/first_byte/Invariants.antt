@@ -8,7 +8,8 @@ abbrev pub invariant-loop-place : goal.invariant-loop-place
 invariant-loop-place g l = record {
   low : l.from ≤ l.place;
   high : l.place ≤ l.len;
-  none : (folder : Folder) → g.S.Source.keeps l.src folder → NotFound (g.S.Source.table l.initial.src folder) l.node (l.byte ∷ []) l.from l.place;
+  none : (folder : Folder) → g.S.Source.keeps l.src folder → NotFound (g.S.Source.table l.initial.src folder) l.node
+      (l.byte ∷ []) l.from l.place;
   reads : g.S.Source.failures l.src ≡ g.S.Source.failures l.initial.src;
   lengths : g.S.Source.lengths l.src ≡ g.S.Source.lengths l.initial.src;
   table : g.S.Source.table l.src ≡ g.S.Source.table l.initial.src;

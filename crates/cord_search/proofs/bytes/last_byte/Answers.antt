@@ -6,7 +6,8 @@ use Rattle.cord_search.proofs.Finding.{last_on, last_past, last_found, last_none
 use Rattle.cord_search.proofs.bytes.last_byte.Goals as goal
 
 pub last_piece-requires-clause-fits : goal.last_piece-requires-clause-fits
-last_piece-requires-clause-fits g c = rw c.loop-end.invariant.lengths (c.stretch_before-stretch.ensures.stretch.fits (g.S.Source.lengths c.args.src.now) c.requires.fits)
+last_piece-requires-clause-fits g c = rw c.loop-end.invariant.lengths
+    (c.stretch_before-stretch.ensures.stretch.fits (g.S.Source.lengths c.args.src.now) c.requires.fits)
 
 pub loop-end-preserved-in-Some : goal.loop-end-preserved-in-Some
 loop-end-preserved-in-Some g c =
@@ -40,7 +41,8 @@ returns-in-Some-memrchr-clause-last g c = λ folder kept.
     let before = c.in_ok-piece.ensures.earlier folder kept in
     let told = g.met.S.Source.lengths_of_table c.args.src.now folder (c.loop-end.invariant.earlier folder before) in
     let text : IsPieceAt t node (end - length piece) piece = piece_within (g.S.Source.lengths c.args.src.now) t (Some node) (end - long) stretch (long - length piece) (end - length piece) piece told c.requires.fits c.stretch_before-stretch.ensures.stretch (omega (arith, short)) (omega (arith, short, inside)) (rw c.loop-end.invariant.table at c.in_ok-piece.ensures.text folder kept) in
-    last_found t node piece c.args.byte c.args.at (end - length piece) c.in-Some-memrchr.found end _ c.in-Some-memrchr.is c.memrchr.ensures (omega (arith, short, inside)) c.loop-end.invariant.high text (c.loop-end.invariant.none folder before)
+    last_found t node piece c.args.byte c.args.at (end - length piece) c.in-Some-memrchr.found end _ c.in-Some-memrchr.is c.memrchr.ensures
+    (omega (arith, short, inside)) c.loop-end.invariant.high text (c.loop-end.invariant.none folder before)
 
 pub loop-end-preserved : goal.loop-end-preserved
 loop-end-preserved g c =
@@ -58,7 +60,8 @@ loop-end-preserved g c =
           let before = c.in_ok-piece.ensures.earlier folder kept in
           let told = g.met.S.Source.lengths_of_table c.args.src.now folder (c.loop-end.invariant.earlier folder before) in
           let text : IsPieceAt t node (end - length piece) piece = piece_within (g.S.Source.lengths c.args.src.now) t (Some node) (end - long) stretch (long - length piece) (end - length piece) piece told c.requires.fits c.stretch_before-stretch.ensures.stretch (omega (arith, short)) (omega (arith, short, inside)) (rw c.loop-end.invariant.table at c.in_ok-piece.ensures.text folder kept) in
-          last_on t node piece c.args.byte c.args.at (end - length piece) end _ c.in-None.is c.memrchr.ensures (omega (arith, short, inside)) text (c.loop-end.invariant.none folder before);
+          last_on t node piece c.args.byte c.args.at (end - length piece) end _ c.in-None.is c.memrchr.ensures
+          (omega (arith, short, inside)) text (c.loop-end.invariant.none folder before);
       reads = c.in_ok-piece.ensures.count ∙ c.loop-end.invariant.reads;
       lengths = c.last_piece.ensures.lengths ∙ c.loop-end.invariant.lengths;
       table = c.last_piece.ensures.table ∙ c.loop-end.invariant.table;
@@ -66,4 +69,5 @@ loop-end-preserved g c =
     }
 
 pub returns-clause-last : goal.returns-clause-last
-returns-clause-last g c = λ folder kept. last_none (g.S.Source.table c.args.src.now folder) c.args.node.now c.args.byte c.args.at c.loop-end.end c.loop-end-test.false (c.loop-end.invariant.none folder kept)
+returns-clause-last g c = λ folder kept. last_none (g.S.Source.table c.args.src.now folder) c.args.node.now c.args.byte c.args.at
+    c.loop-end.end c.loop-end-test.false (c.loop-end.invariant.none folder kept)

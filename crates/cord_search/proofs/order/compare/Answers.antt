@@ -20,17 +20,21 @@ overflow_add-j g c =
     omega (arith, inside, below, cord_limit c.args.y.now c.requires.right_sound)
 
 pub first_piece-requires-clause-fits : goal.first_piece-requires-clause-fits
-first_piece-requires-clause-fits g c = rw c.loop-done.invariant.lengths (c.in-Apart.ensures.0.fits (g.S.Source.lengths c.args.src.now) c.requires.left_fits)
+first_piece-requires-clause-fits g c = rw c.loop-done.invariant.lengths
+    (c.in-Apart.ensures.0.fits (g.S.Source.lengths c.args.src.now) c.requires.left_fits)
 
 pub first_piece-requires-in-Apart-clause-fits : goal.first_piece-requires-in-Apart-clause-fits
-first_piece-requires-in-Apart-clause-fits g c = rw (c.first_piece.ensures.lengths, c.loop-done.invariant.lengths) (c.in-Apart.ensures.1.fits (g.S.Source.lengths c.args.src.now) c.requires.right_fits)
+first_piece-requires-in-Apart-clause-fits g c = rw (c.first_piece.ensures.lengths, c.loop-done.invariant.lengths)
+    (c.in-Apart.ensures.1.fits (g.S.Source.lengths c.args.src.now) c.requires.right_fits)
 
 pub loop-done-preserved-in-Same : goal.loop-done-preserved-in-Same
 loop-done-preserved-in-Same g c = record {
   in_range = omega (arith, c.in-Same.ensures.1, c.loop-done-test.true, c.loop-done.invariant.in_range);
   same = λ folder kept.
       let told = g.met.S.Source.lengths_of_table c.args.src.now folder (c.loop-done.invariant.earlier folder kept) in
-      alike_on (g.S.Source.lengths c.args.src.now) (g.S.Source.table c.args.src.now folder) c.args.x.now c.args.i c.args.y.now c.args.j c.loop-done.done c.in-Same.count told c.requires.left_fits c.requires.right_fits c.in-Same.ensures.2 (c.loop-done.invariant.same folder kept);
+      alike_on (g.S.Source.lengths c.args.src.now) (g.S.Source.table c.args.src.now folder) c.args.x.now c.args.i c.args.y.now c.args.j
+      c.loop-done.done c.in-Same.count told c.requires.left_fits c.requires.right_fits c.in-Same.ensures.2
+      (c.loop-done.invariant.same folder kept);
   reads = c.loop-done.invariant.reads;
   lengths = c.loop-done.invariant.lengths;
   table = c.loop-done.invariant.table;
@@ -54,11 +58,14 @@ loop-done-preserved g c = record {
       let other_from = c.args.j + done in
       let text : IsPieceOf t c.args.x.now from piece = piece_within lengths t c.args.x.now from c.in-Apart.stretch 0 from piece told c.requires.left_fits c.in-Apart.ensures.0 (omega (arith, c.in_ok-piece-in-Apart.ensures.inside)) (omega arith) (rw c.loop-done.invariant.table at c.in_ok-piece-in-Apart.ensures.text folder after) in
       let other_text : IsPieceOf t c.args.y.now other_from other = piece_within lengths t c.args.y.now other_from c.in-Apart.other 0 other_from other told c.requires.right_fits c.in-Apart.ensures.1 (omega (arith, c.in_ok-other-in-Apart.ensures.inside)) (omega arith) (rw (c.first_piece.ensures.table, c.loop-done.invariant.table) at c.in_ok-other-in-Apart.ensures.text folder kept) in
-      same_on t c.args.x.now c.args.i c.args.y.now c.args.j done n piece other (omega (arith, c.min-count.ensures)) (omega (arith, c.min-count.ensures)) text other_text (sym c.in-Equal.is ∙ c.cmp.ensures) (c.loop-done.invariant.same folder before);
+      same_on t c.args.x.now c.args.i c.args.y.now c.args.j done n piece other (omega (arith, c.min-count.ensures))
+      (omega (arith, c.min-count.ensures)) text other_text (sym c.in-Equal.is ∙ c.cmp.ensures)
+      (c.loop-done.invariant.same folder before);
   reads = c.in_ok-other-in-Apart.ensures.count ∙ (c.in_ok-piece-in-Apart.ensures.count ∙ c.loop-done.invariant.reads);
   lengths = c.first_piece-in-Apart.ensures.lengths ∙ (c.first_piece.ensures.lengths ∙ c.loop-done.invariant.lengths);
   table = c.first_piece-in-Apart.ensures.table ∙ (c.first_piece.ensures.table ∙ c.loop-done.invariant.table);
-  earlier = λ folder kept. c.loop-done.invariant.earlier folder (c.in_ok-piece-in-Apart.ensures.earlier folder (c.in_ok-other-in-Apart.ensures.earlier folder kept));
+  earlier = λ folder kept. c.loop-done.invariant.earlier folder
+      (c.in_ok-piece-in-Apart.ensures.earlier folder (c.in_ok-other-in-Apart.ensures.earlier folder kept));
 }
 
 pub returns-in_default-clause-order : goal.returns-in_default-clause-order
@@ -76,7 +83,23 @@ returns-in_default-clause-order g c = λ folder kept.
     let other_from = c.args.j + done in
     let text : IsPieceOf t c.args.x.now from piece = piece_within lengths t c.args.x.now from c.in-Apart.stretch 0 from piece told c.requires.left_fits c.in-Apart.ensures.0 (omega (arith, c.in_ok-piece-in-Apart.ensures.inside)) (omega arith) (rw c.loop-done.invariant.table at c.in_ok-piece-in-Apart.ensures.text folder after) in
     let other_text : IsPieceOf t c.args.y.now other_from other = piece_within lengths t c.args.y.now other_from c.in-Apart.other 0 other_from other told c.requires.right_fits c.in-Apart.ensures.1 (omega (arith, c.in_ok-other-in-Apart.ensures.inside)) (omega arith) (rw (c.first_piece.ensures.table, c.loop-done.invariant.table) at c.in_ok-other-in-Apart.ensures.text folder kept) in
-    different t c.args.x.now c.args.i c.args.left c.args.y.now c.args.j c.args.right done n piece other c.cmp.result (omega (arith, c.min-count.ensures, c.in_ok-piece-in-Apart.ensures.inside, c.in-Apart.ensures.3, c.min-both.ensures, c.loop-done-test.true)) (omega (arith, c.min-count.ensures, c.in_ok-piece-in-Apart.ensures.inside, c.in-Apart.ensures.3, c.min-both.ensures, c.loop-done-test.true)) (omega (arith, c.min-count.ensures)) (omega (arith, c.min-count.ensures)) text other_text c.cmp.ensures c.in_default.not-Equal (c.loop-done.invariant.same folder before)
+    different t c.args.x.now c.args.i c.args.left c.args.y.now c.args.j c.args.right done n piece other c.cmp.result
+    (omega (
+      arith,
+      c.min-count.ensures,
+      c.in_ok-piece-in-Apart.ensures.inside,
+      c.in-Apart.ensures.3,
+      c.min-both.ensures,
+      c.loop-done-test.true,
+    )) (omega (
+      arith,
+      c.min-count.ensures,
+      c.in_ok-piece-in-Apart.ensures.inside,
+      c.in-Apart.ensures.3,
+      c.min-both.ensures,
+      c.loop-done-test.true,
+    )) (omega (arith, c.min-count.ensures))
+    (omega (arith, c.min-count.ensures)) text other_text c.cmp.ensures c.in_default.not-Equal (c.loop-done.invariant.same folder before)
 
 pub returns-clause-order : goal.returns-clause-order
 returns-clause-order g c = λ folder kept.
@@ -85,4 +108,6 @@ returns-clause-order g c = λ folder kept.
     let told = g.met.S.Source.lengths_of_table c.args.src.now folder (c.loop-done.invariant.earlier folder kept) in
     let left = range_len t c.args.x.now c.args.i c.args.left (cord_len lengths t c.args.x.now told c.requires.left_sound c.requires.left_fits) c.requires.left_inside in
     let right = range_len t c.args.y.now c.args.j c.args.right (cord_len lengths t c.args.y.now told c.requires.right_sound c.requires.right_fits) c.requires.right_inside in
-    rw c.cmp-2.ensures (no_different t c.args.x.now c.args.i c.args.left c.args.y.now c.args.j c.args.right c.loop-done.done (omega (arith, c.min-both.ensures, c.loop-done.invariant.in_range)) (omega (arith, c.min-both.ensures, c.loop-done-test.false)) left right (c.loop-done.invariant.same folder kept))
+    rw c.cmp-2.ensures (no_different t c.args.x.now c.args.i c.args.left c.args.y.now c.args.j c.args.right c.loop-done.done
+    (omega (arith, c.min-both.ensures, c.loop-done.invariant.in_range)) (omega (arith, c.min-both.ensures, c.loop-done-test.false))
+    left right (c.loop-done.invariant.same folder kept))

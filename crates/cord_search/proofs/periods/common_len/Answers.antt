@@ -13,17 +13,21 @@ pub overflow_add-j : goal.overflow_add-j
 overflow_add-j g c = omega (arith, c.requires.right_inside, c.loop-done-test.true, cord_limit c.args.y.now c.requires.right_sound)
 
 pub first_piece-requires-clause-fits : goal.first_piece-requires-clause-fits
-first_piece-requires-clause-fits g c = rw c.loop-done.invariant.lengths (c.in-Apart.ensures.0.fits (g.S.Source.lengths c.args.src.now) c.requires.left_fits)
+first_piece-requires-clause-fits g c = rw c.loop-done.invariant.lengths
+    (c.in-Apart.ensures.0.fits (g.S.Source.lengths c.args.src.now) c.requires.left_fits)
 
 pub first_piece-requires-in-Apart-clause-fits : goal.first_piece-requires-in-Apart-clause-fits
-first_piece-requires-in-Apart-clause-fits g c = rw (c.first_piece.ensures.lengths, c.loop-done.invariant.lengths) (c.in-Apart.ensures.1.fits (g.S.Source.lengths c.args.src.now) c.requires.right_fits)
+first_piece-requires-in-Apart-clause-fits g c = rw (c.first_piece.ensures.lengths, c.loop-done.invariant.lengths)
+    (c.in-Apart.ensures.1.fits (g.S.Source.lengths c.args.src.now) c.requires.right_fits)
 
 pub loop-done-preserved-in-Same : goal.loop-done-preserved-in-Same
 loop-done-preserved-in-Same g c = record {
   in_range = omega (arith, c.in-Same.ensures.1, c.loop-done-test.true, c.loop-done.invariant.in_range);
   same = λ folder kept.
       let told = g.met.S.Source.lengths_of_table c.args.src.now folder (c.loop-done.invariant.earlier folder kept) in
-      alike_on (g.S.Source.lengths c.args.src.now) (g.S.Source.table c.args.src.now folder) c.args.x.now c.args.i c.args.y.now c.args.j c.loop-done.done c.in-Same.count told c.requires.left_fits c.requires.right_fits c.in-Same.ensures.2 (c.loop-done.invariant.same folder kept);
+      alike_on (g.S.Source.lengths c.args.src.now) (g.S.Source.table c.args.src.now folder) c.args.x.now c.args.i c.args.y.now c.args.j
+      c.loop-done.done c.in-Same.count told c.requires.left_fits c.requires.right_fits c.in-Same.ensures.2
+      (c.loop-done.invariant.same folder kept);
   reads = c.loop-done.invariant.reads;
   lengths = c.loop-done.invariant.lengths;
   table = c.loop-done.invariant.table;
@@ -32,7 +36,13 @@ loop-done-preserved-in-Same g c = record {
 
 pub loop-done-preserved : goal.loop-done-preserved
 loop-done-preserved g c = record {
-  in_range = omega (arith, c.agreeing-count.ensures.left, c.in_ok-piece-in-Apart.ensures.inside, c.in-Apart.ensures.3, c.loop-done-test.true);
+  in_range = omega (
+    arith,
+    c.agreeing-count.ensures.left,
+    c.in_ok-piece-in-Apart.ensures.inside,
+    c.in-Apart.ensures.3,
+    c.loop-done-test.true,
+  );
   same = λ folder kept.
       let t = g.S.Source.table c.args.src.now folder in
       let done = c.loop-done.done in
@@ -47,11 +57,13 @@ loop-done-preserved g c = record {
       let other_from = c.args.j + done in
       let text : IsPieceOf t c.args.x.now from piece = piece_within lengths t c.args.x.now from c.in-Apart.stretch 0 from piece told c.requires.left_fits c.in-Apart.ensures.0 (omega (arith, c.in_ok-piece-in-Apart.ensures.inside)) (omega arith) (rw c.loop-done.invariant.table at c.in_ok-piece-in-Apart.ensures.text folder after) in
       let other_text : IsPieceOf t c.args.y.now other_from other = piece_within lengths t c.args.y.now other_from c.in-Apart.other 0 other_from other told c.requires.right_fits c.in-Apart.ensures.1 (omega (arith, c.in_ok-other-in-Apart.ensures.inside)) (omega arith) (rw (c.first_piece.ensures.table, c.loop-done.invariant.table) at c.in_ok-other-in-Apart.ensures.text folder kept) in
-      common_on t c.args.x.now c.args.i c.args.y.now c.args.j done n piece other c.agreeing-count.ensures.left c.agreeing-count.ensures.right text other_text c.agreeing-count.ensures.same (c.loop-done.invariant.same folder before);
+      common_on t c.args.x.now c.args.i c.args.y.now c.args.j done n piece other c.agreeing-count.ensures.left
+      c.agreeing-count.ensures.right text other_text c.agreeing-count.ensures.same (c.loop-done.invariant.same folder before);
   reads = c.in_ok-other-in-Apart.ensures.count ∙ (c.in_ok-piece-in-Apart.ensures.count ∙ c.loop-done.invariant.reads);
   lengths = c.first_piece-in-Apart.ensures.lengths ∙ (c.first_piece.ensures.lengths ∙ c.loop-done.invariant.lengths);
   table = c.first_piece-in-Apart.ensures.table ∙ (c.first_piece.ensures.table ∙ c.loop-done.invariant.table);
-  earlier = λ folder kept. c.loop-done.invariant.earlier folder (c.in_ok-piece-in-Apart.ensures.earlier folder (c.in_ok-other-in-Apart.ensures.earlier folder kept));
+  earlier = λ folder kept. c.loop-done.invariant.earlier folder
+      (c.in_ok-piece-in-Apart.ensures.earlier folder (c.in_ok-other-in-Apart.ensures.earlier folder kept));
 }
 
 pub returns-then-count-both-clause-common : goal.returns-then-count-both-clause-common
@@ -71,8 +83,11 @@ returns-then-count-both-clause-common g c = λ folder kept.
     let right : n < length other = omega (arith, c.if-count-both.true, c.min-both.ensures) in
     let text : IsPieceOf t c.args.x.now from piece = piece_within lengths t c.args.x.now from c.in-Apart.stretch 0 from piece told c.requires.left_fits c.in-Apart.ensures.0 (omega (arith, c.in_ok-piece-in-Apart.ensures.inside)) (omega arith) (rw c.loop-done.invariant.table at c.in_ok-piece-in-Apart.ensures.text folder after) in
     let other_text : IsPieceOf t c.args.y.now other_from other = piece_within lengths t c.args.y.now other_from c.in-Apart.other 0 other_from other told c.requires.right_fits c.in-Apart.ensures.1 (omega (arith, c.in_ok-other-in-Apart.ensures.inside)) (omega arith) (rw (c.first_piece.ensures.table, c.loop-done.invariant.table) at c.in_ok-other-in-Apart.ensures.text folder kept) in
-    common_end t c.args.x.now c.args.i c.args.y.now c.args.j c.args.most done n piece other (omega (arith, left, c.in_ok-piece-in-Apart.ensures.inside, c.in-Apart.ensures.3, c.loop-done-test.true)) left right text other_text c.agreeing-count.ensures.same (c.agreeing-count.ensures.differ left right) (c.loop-done.invariant.same folder before)
+    common_end t c.args.x.now c.args.i c.args.y.now c.args.j c.args.most done n piece other
+    (omega (arith, left, c.in_ok-piece-in-Apart.ensures.inside, c.in-Apart.ensures.3, c.loop-done-test.true)) left right text
+    other_text c.agreeing-count.ensures.same (c.agreeing-count.ensures.differ left right) (c.loop-done.invariant.same folder before)
 
 pub returns-clause-common : goal.returns-clause-common
 returns-clause-common g c = λ folder kept.
-    common_all (g.S.Source.table c.args.src.now folder) c.args.x.now c.args.i c.args.y.now c.args.j c.args.most c.loop-done.done c.loop-done.invariant.in_range (omega (arith, c.loop-done-test.false)) (c.loop-done.invariant.same folder kept)
+    common_all (g.S.Source.table c.args.src.now folder) c.args.x.now c.args.i c.args.y.now c.args.j c.args.most c.loop-done.done
+    c.loop-done.invariant.in_range (omega (arith, c.loop-done-test.false)) (c.loop-done.invariant.same folder kept)

@@ -6,12 +6,16 @@ use Rattle.cord_search.proofs.Ranges.{leaf_part, run_part}
 use Rattle.cord_search.proofs.pieces.copy_front.Goals as goal
 
 pub returns-in-Bytes-clause-text : goal.returns-in-Bytes-clause-text
-returns-in-Bytes-clause-text g c = λ folder kept. leaf_part (g.S.Source.table c.args.src.now folder) c.args.stretch c.copy_from_slice.new.self c.in-Bytes.bytes.now _ (λ t. ap (λ (s : Stretch). stretch_bytes t s) c.in-Bytes.is) c.copy_from_slice.ensures.after
+returns-in-Bytes-clause-text g c = λ folder kept. leaf_part (g.S.Source.table c.args.src.now folder) c.args.stretch
+    c.copy_from_slice.new.self c.in-Bytes.bytes.now _ (λ t. ap (λ (s : Stretch). stretch_bytes t s) c.in-Bytes.is)
+    c.copy_from_slice.ensures.after
 
 pub returns-in-Run-clause-text : goal.returns-in-Run-clause-text
 returns-in-Run-clause-text g c = λ folder kept.
     let whole : stretch_len c.args.stretch ≡ c.in-Run.len = ap stretch_len c.in-Run.is in
-    run_part (g.S.Source.table c.args.src.now folder) c.args.stretch _ c.in-Run.byte c.in-Run.len 0 _ (λ t. ap (λ (s : Stretch). stretch_bytes t s) c.in-Run.is) (omega (arith, whole, c.requires.inside)) (c.fill.ensures.after (λ y e. e))
+    run_part (g.S.Source.table c.args.src.now folder) c.args.stretch _ c.in-Run.byte c.in-Run.len 0 _
+    (λ t. ap (λ (s : Stretch). stretch_bytes t s) c.in-Run.is) (omega (arith, whole, c.requires.inside))
+    (c.fill.ensures.after (λ y e. e))
 
 pub read-requires : goal.read-requires
 read-requires g c =

@@ -5,10 +5,16 @@ use Rattle.cord_search.proofs.Ranges.{whole_part, run_part, func_part}
 use Rattle.cord_search.proofs.pieces.first_piece.Goals as goal
 
 pub returns-in-Bytes-clause-text : goal.returns-in-Bytes-clause-text
-returns-in-Bytes-clause-text g c = λ folder kept. whole_part (g.S.Source.table c.args.src.now folder) c.args.stretch c.in-Bytes.bytes.now 0 (λ t. ap (λ (s : Stretch). stretch_bytes t s) c.in-Bytes.is) refl
+returns-in-Bytes-clause-text g c = λ folder kept. whole_part (g.S.Source.table c.args.src.now folder) c.args.stretch c.in-Bytes.bytes.now 0
+    (λ t. ap (λ (s : Stretch). stretch_bytes t s) c.in-Bytes.is) refl
 
 pub returns-in-Run-clause-text : goal.returns-in-Run-clause-text
-returns-in-Run-clause-text g c = λ folder kept. run_part (g.S.Source.table c.args.src.now folder) c.args.stretch _ c.in-Run.byte c.in-Run.len 0 _ (λ t. ap (λ (s : Stretch). stretch_bytes t s) c.in-Run.is) (omega (arith, c.piece_len.ensures.inside)) (c.fill.ensures.after (λ y e. e))
+returns-in-Run-clause-text g c = λ folder kept. run_part (g.S.Source.table c.args.src.now folder) c.args.stretch _ c.in-Run.byte
+    c.in-Run.len 0 _ (λ t. ap (λ (s : Stretch). stretch_bytes t s) c.in-Run.is) (omega (arith, c.piece_len.ensures.inside))
+    (c.fill.ensures.after (λ y e. e))
 
 pub returns-in_ok-read-in-Func-clause-text : goal.returns-in_ok-read-in-Func-clause-text
-returns-in_ok-read-in-Func-clause-text g c = λ folder kept. func_part (g.S.Source.table c.args.src.now folder) c.args.stretch c.read.new.out c.in-Func.id.0 c.in-Func.start c.in-Func.len c.in-Func.start 0 (λ t. ap (λ (s : Stretch). stretch_bytes t s) c.in-Func.is) (omega arith) (omega (arith, c.piece_len-in-Func.ensures.inside)) (c.in_ok-read-in-Func.ensures.bytes folder kept)
+returns-in_ok-read-in-Func-clause-text g c = λ folder kept. func_part (g.S.Source.table c.args.src.now folder) c.args.stretch
+    c.read.new.out c.in-Func.id.0 c.in-Func.start c.in-Func.len c.in-Func.start 0
+    (λ t. ap (λ (s : Stretch). stretch_bytes t s) c.in-Func.is) (omega arith) (omega (arith, c.piece_len-in-Func.ensures.inside))
+    (c.in_ok-read-in-Func.ensures.bytes folder kept)

@@ -7,10 +7,17 @@ use Rattle.cord_search.proofs.Standing.{filled_on, filled_inside}
 use Rattle.cord_search.proofs.pieces.gather.Goals as goal
 
 pub overflow_add-place : goal.overflow_add-place
-overflow_add-place g c = omega (arith, c.requires.inside, c.loop-done-test.true, c.loop-done.auto.out, cord_limit c.args.cord.now c.requires.sound)
+overflow_add-place g c = omega (
+  arith,
+  c.requires.inside,
+  c.loop-done-test.true,
+  c.loop-done.auto.out,
+  cord_limit c.args.cord.now c.requires.sound,
+)
 
 pub copy_front-requires-clause-fits : goal.copy_front-requires-clause-fits
-copy_front-requires-clause-fits g c = rw c.loop-done.invariant.lengths (c.cord_stretch_at-stretch.ensures.fits (g.S.Source.lengths c.args.src.now) c.requires.fits)
+copy_front-requires-clause-fits g c = rw c.loop-done.invariant.lengths
+    (c.cord_stretch_at-stretch.ensures.fits (g.S.Source.lengths c.args.src.now) c.requires.fits)
 
 pub loop-done-preserved : goal.loop-done-preserved
 loop-done-preserved g c =
@@ -27,7 +34,8 @@ loop-done-preserved g c =
           let before = c.in_ok-copy_front.ensures.earlier folder kept in
           let told = g.met.S.Source.lengths_of_table c.args.src.now folder (c.loop-done.invariant.earlier folder before) in
           let text : IsPieceOf t c.args.cord.now (c.args.place + done) part = piece_within lengths t c.args.cord.now (c.args.place + done) c.cord_stretch_at-stretch.result 0 (c.args.place + done) part told c.requires.fits c.cord_stretch_at-stretch.ensures (omega (arith, long, c.min-count.ensures, c.len.ensures)) (omega arith) (rw c.loop-done.invariant.table at c.in_ok-copy_front.ensures.text folder kept) in
-          filled_on t c.args.cord.now c.args.place done _ n c.loop-done.out part (c.loop-done.invariant.filled folder before) text long c.loop-done.invariant.in_range;
+          filled_on t c.args.cord.now c.args.place done _ n c.loop-done.out part (c.loop-done.invariant.filled folder before) text long
+          c.loop-done.invariant.in_range;
       reads = c.in_ok-copy_front.ensures.count ∙ c.loop-done.invariant.reads;
       lengths = c.copy_front.ensures.lengths ∙ c.loop-done.invariant.lengths;
       table = c.copy_front.ensures.table ∙ c.loop-done.invariant.table;

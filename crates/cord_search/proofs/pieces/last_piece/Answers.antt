@@ -10,7 +10,8 @@ pub returns-in-Bytes-clause-text : goal.returns-in-Bytes-clause-text
 returns-in-Bytes-clause-text g c = λ folder kept.
     let s = c.args.stretch in
     let long : stretch_len s ≡ length c.in-Bytes.bytes.now = ap stretch_len c.in-Bytes.is in
-    whole_part (g.S.Source.table c.args.src.now folder) s c.in-Bytes.bytes.now (stretch_len s - length c.in-Bytes.bytes.now) (λ t. ap (λ (s : Stretch). stretch_bytes t s) c.in-Bytes.is) (omega (arith, long))
+    whole_part (g.S.Source.table c.args.src.now folder) s c.in-Bytes.bytes.now (stretch_len s - length c.in-Bytes.bytes.now)
+    (λ t. ap (λ (s : Stretch). stretch_bytes t s) c.in-Bytes.is) (omega (arith, long))
 
 pub returns-in-Run-clause-text : goal.returns-in-Run-clause-text
 returns-in-Run-clause-text g c = λ folder kept.
@@ -18,7 +19,9 @@ returns-in-Run-clause-text g c = λ folder kept.
     let count = c.piece_len.result in
     let long : length (take count c.args.buffer.now) ≡ min count (length c.args.buffer.now) = length-take count c.args.buffer.now in
     let whole : stretch_len s ≡ c.in-Run.len = ap stretch_len c.in-Run.is in
-    run_part (g.S.Source.table c.args.src.now folder) s c.fill.new.self c.in-Run.byte c.in-Run.len (stretch_len s - length c.fill.new.self) (length (take count c.args.buffer.now)) (λ t. ap (λ (s : Stretch). stretch_bytes t s) c.in-Run.is) (omega (arith, whole, c.fill.ensures.len, long, c.piece_len.ensures.inside)) (c.fill.ensures.after (λ y e. e))
+    run_part (g.S.Source.table c.args.src.now folder) s c.fill.new.self c.in-Run.byte c.in-Run.len (stretch_len s - length c.fill.new.self)
+    (length (take count c.args.buffer.now)) (λ t. ap (λ (s : Stretch). stretch_bytes t s) c.in-Run.is)
+    (omega (arith, whole, c.fill.ensures.len, long, c.piece_len.ensures.inside)) (c.fill.ensures.after (λ y e. e))
 
 pub returns-in_ok-read-in-Func-clause-text : goal.returns-in_ok-read-in-Func-clause-text
 returns-in_ok-read-in-Func-clause-text g c = λ folder kept.
@@ -30,4 +33,6 @@ returns-in_ok-read-in-Func-clause-text g c = λ folder kept.
     let whole : stretch_len s ≡ len = ap stretch_len c.in-Func.is in
     let room : count ≤ length c.args.buffer.now = omega (arith, c.piece_len-count.ensures.most, c.told-buffer) in
     let long : length out ≡ count = c.read.auto.out ∙ length-take-le count c.args.buffer.now room in
-    func_part (g.S.Source.table c.args.src.now folder) s out c.in-Func.id.0 start len (start + (len - count)) (stretch_len s - length out) (λ t. ap (λ (s : Stretch). stretch_bytes t s) c.in-Func.is) (omega (arith, whole, long)) (omega (arith, whole, long, c.piece_len-count.ensures.inside)) (c.in_ok-read-in-Func.ensures.bytes folder kept)
+    func_part (g.S.Source.table c.args.src.now folder) s out c.in-Func.id.0 start len (start + (len - count)) (stretch_len s - length out)
+    (λ t. ap (λ (s : Stretch). stretch_bytes t s) c.in-Func.is) (omega (arith, whole, long))
+    (omega (arith, whole, long, c.piece_len-count.ensures.inside)) (c.in_ok-read-in-Func.ensures.bytes folder kept)

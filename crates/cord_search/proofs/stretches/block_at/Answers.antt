@@ -22,5 +22,7 @@ returns-in-Func c =
       some = omega (arith, len, some);
       inside = omega (arith, len, few, whole.inside);
       fits = λ lengths fits. front.fits lengths (whole.fits lengths fits);
-      text = λ t fits. front.text t ∙ (ap (take count) (whole.text t fits) ∙ take-take count c.in-Func.len (drop place (bytes_of t (Some top))) few ∙ ap (λ n. take n (drop place (bytes_of t (Some top)))) (sym len));
+      text = λ t fits. front.text t ∙ (ap (take count) (whole.text t fits)
+          ∙ take-take count c.in-Func.len (drop place (bytes_of t (Some top))) few ∙ ap (λ n. take n (drop place (bytes_of t (Some top))))
+          (sym len));
     }

@@ -52,7 +52,10 @@ returns-in-Leaf c =
     let w = c.loop-node.invariant.within in
     let inside : at < len = rw c.in-Leaf.is at c.loop-node.invariant.inside in
     let sound : (0 < len) × (start + len ≤ length (rc_slice_items c.in-Leaf.bytes)) × (len ≤ MAX_LEN) × (c.in-Leaf.mark ≡ leaf_part (rc_slice_items c.in-Leaf.bytes) start len ∷ []) = rw c.in-Leaf.is at w.sound in
-    stretch_on c.args.top.now c.args.place node at _ w (leaf_stretch node _ slice (take count (drop (start + at) slice)) start len (start + at) at count (λ t. ap (λ (n : Node). bytes_over t n) c.in-Leaf.is ∙ ap (λ (xs : List ℕ). take len (drop start xs)) (sym c.as_slice.ensures.value)) (ap len_of c.in-Leaf.is) (omega (arith, sound.1, c.as_slice.ensures.len)) refl (omega (arith, inside)) (omega (arith, inside)) refl refl (λ t. refl) (λ lengths. tt))
+    stretch_on c.args.top.now c.args.place node at _ w (leaf_stretch node _ slice (take count (drop (start + at) slice)) start len
+    (start + at) at count (λ t. ap (λ (n : Node). bytes_over t n) c.in-Leaf.is ∙ ap (λ (xs : List ℕ). take len (drop start xs))
+    (sym c.as_slice.ensures.value)) (ap len_of c.in-Leaf.is) (omega (arith, sound.1, c.as_slice.ensures.len)) refl
+    (omega (arith, inside)) (omega (arith, inside)) refl refl (λ t. refl) (λ lengths. tt))
 
 pub returns-in-Run : goal.returns-in-Run
 returns-in-Run c =
@@ -60,7 +63,9 @@ returns-in-Run c =
     let at = c.loop-node.place in
     let len = c.in-Run.len in
     let inside : at < len = rw c.in-Run.is at c.loop-node.invariant.inside in
-    stretch_on c.args.top.now c.args.place node at _ c.loop-node.invariant.within (run_stretch node _ c.in-Run.byte len at (len - at) c.in-Run.is (omega (arith, inside)) (omega (arith, inside)) refl (λ t. refl) (λ lengths. tt))
+    stretch_on c.args.top.now c.args.place node at _ c.loop-node.invariant.within
+    (run_stretch node _ c.in-Run.byte len at (len - at) c.in-Run.is (omega (arith, inside)) (omega (arith, inside)) refl (λ t. refl)
+    (λ lengths. tt))
 
 pub returns-in-Func : goal.returns-in-Func
 returns-in-Func c =
@@ -70,4 +75,5 @@ returns-in-Func c =
     let len = c.in-Func.len in
     let w = c.loop-node.invariant.within in
     let inside : at < len = rw c.in-Func.is at c.loop-node.invariant.inside in
-    stretch_on c.args.top.now c.args.place node at _ w (func_stretch node _ c.in-Func.id start len (start + at) at (len - at) c.in-Func.is w.sound refl (omega (arith, inside)) (omega (arith, inside)) refl (λ t. refl) (λ lengths held. held))
+    stretch_on c.args.top.now c.args.place node at _ w (func_stretch node _ c.in-Func.id start len (start + at) at
+    (len - at) c.in-Func.is w.sound refl (omega (arith, inside)) (omega (arith, inside)) refl (λ t. refl) (λ lengths held. held))

@@ -58,7 +58,11 @@ returns-in-Leaf c =
     let long : length (take count (drop start slice)) ≡ count = length-take-le count (drop start slice) behind in
     record {
       inside = omega (arith, long, w.here);
-      stretch = stretch_back c.args.top.now c.args.end node end 0 _ (omega (arith, long)) w (leaf_stretch node _ slice (take count (drop start slice)) start len start 0 count (λ t. ap (λ (n : Node). bytes_over t n) c.in-Leaf.is ∙ ap (λ (xs : List ℕ). take len (drop start xs)) (sym c.as_slice.ensures.value)) (ap len_of c.in-Leaf.is) (omega (arith, sound.1, c.as_slice.ensures.len)) (omega arith) (omega (arith, inside)) (omega (arith, c.loop-node.invariant.some)) refl refl (λ t. refl) (λ lengths. tt));
+      stretch = stretch_back c.args.top.now c.args.end node end 0 _ (omega (arith, long)) w
+          (leaf_stretch node _ slice (take count (drop start slice)) start len start 0 count
+          (λ t. ap (λ (n : Node). bytes_over t n) c.in-Leaf.is ∙ ap (λ (xs : List ℕ). take len (drop start xs))
+          (sym c.as_slice.ensures.value)) (ap len_of c.in-Leaf.is) (omega (arith, sound.1, c.as_slice.ensures.len)) (omega arith)
+          (omega (arith, inside)) (omega (arith, c.loop-node.invariant.some)) refl refl (λ t. refl) (λ lengths. tt));
     }
 
 pub returns-in-Run : goal.returns-in-Run
@@ -69,7 +73,9 @@ returns-in-Run c =
     let inside : end ≤ c.in-Run.len = rw c.in-Run.is at c.loop-node.invariant.inside in
     record {
       inside = omega (arith, w.here);
-      stretch = stretch_back c.args.top.now c.args.end node end 0 _ (omega arith) w (run_stretch node _ c.in-Run.byte c.in-Run.len 0 end c.in-Run.is (omega (arith, inside)) c.loop-node.invariant.some refl (λ t. refl) (λ lengths. tt));
+      stretch = stretch_back c.args.top.now c.args.end node end 0 _ (omega arith) w
+          (run_stretch node _ c.in-Run.byte c.in-Run.len 0 end c.in-Run.is (omega (arith, inside)) c.loop-node.invariant.some refl
+          (λ t. refl) (λ lengths. tt));
     }
 
 pub returns-in-Func : goal.returns-in-Func
@@ -81,5 +87,7 @@ returns-in-Func c =
     let inside : end ≤ c.in-Func.len = rw c.in-Func.is at c.loop-node.invariant.inside in
     record {
       inside = omega (arith, w.here);
-      stretch = stretch_back c.args.top.now c.args.end node end 0 _ (omega arith) w (func_stretch node _ c.in-Func.id start c.in-Func.len start 0 end c.in-Func.is w.sound (omega arith) (omega (arith, inside)) c.loop-node.invariant.some refl (λ t. refl) (λ lengths held. held));
+      stretch = stretch_back c.args.top.now c.args.end node end 0 _ (omega arith) w
+          (func_stretch node _ c.in-Func.id start c.in-Func.len start 0 end c.in-Func.is w.sound (omega arith)
+          (omega (arith, inside)) c.loop-node.invariant.some refl (λ t. refl) (λ lengths held. held));
     }

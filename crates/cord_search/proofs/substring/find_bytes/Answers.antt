@@ -8,4 +8,7 @@ returns-then-not-lies_inside-clause-first g c = λ folder kept.
     let t = g.S.Source.table c.args.src.now folder in
     let lengths = g.S.Source.lengths c.args.src.now in
     let told = g.met.S.Source.lengths_of_table c.args.src.now folder kept in
-    stands_none t c.args.x.now c.args.bytes.now c.args.start c.args.start (omega (arith, c.lies_inside.ensures.outside c.if-not-lies_inside.true, c.len.ensures.stored)) (cord_len lengths t c.args.x.now told c.len.ensures.sound c.requires.fits) (stands_start t c.args.x.now c.args.bytes.now c.args.start)
+    stands_none t c.args.x.now c.args.bytes.now c.args.start c.args.start
+    (omega (arith, c.lies_inside.ensures.outside c.if-not-lies_inside.true, c.len.ensures.stored))
+    (cord_len lengths t c.args.x.now told c.len.ensures.sound c.requires.fits)
+    (stands_start t c.args.x.now c.args.bytes.now c.args.start)

@@ -8,7 +8,8 @@ use Rattle.cord_search.proofs.substring.first_confirmed.Given as goal
 abbrev pub invariant-loop-place : goal.invariant-loop-place
 invariant-loop-place g l = record {
   low : l.start ≤ l.place;
-  none : (folder : Folder) → g.S.Source.keeps l.src folder → StandsNot (g.S.Source.table l.initial.src folder) l.x (bytes_of (g.S.Source.table l.initial.src folder) l.s) l.start l.place;
+  none : (folder : Folder) → g.S.Source.keeps l.src folder → StandsNot (g.S.Source.table l.initial.src folder) l.x
+      (bytes_of (g.S.Source.table l.initial.src folder) l.s) l.start l.place;
   reads : g.S.Source.failures l.src ≡ g.S.Source.failures l.initial.src;
   lengths : g.S.Source.lengths l.src ≡ g.S.Source.lengths l.initial.src;
   table : g.S.Source.table l.src ≡ g.S.Source.table l.initial.src;

@@ -13,7 +13,9 @@ loop-head-preserved-then-misfits-gt0 g c = record {
       let lengths = g.S.Source.lengths c.args.src.now in
       let head = c.args.finder.now in
       let told : HasLengths lengths t = g.met.S.Source.lengths_of_table c.args.src.now folder (c.loop-head.invariant.earlier folder kept) in
-      misfit_on lengths t c.args.x.now c.args.start c.loop-head.place c.misfits-misfits.result c.cord_stretch_at-stretch.result head told c.requires.sound c.requires.fits c.cord_stretch_at-stretch.ensures (rw c.needle-head.ensures at c.misfits-misfits.ensures.misfit) (c.loop-head.invariant.none folder kept);
+      misfit_on lengths t c.args.x.now c.args.start c.loop-head.place c.misfits-misfits.result c.cord_stretch_at-stretch.result head told
+      c.requires.sound c.requires.fits c.cord_stretch_at-stretch.ensures (rw c.needle-head.ensures at c.misfits-misfits.ensures.misfit)
+      (c.loop-head.invariant.none folder kept);
   reads = c.loop-head.invariant.reads;
   lengths = c.loop-head.invariant.lengths;
   table = c.loop-head.invariant.table;
@@ -30,7 +32,8 @@ loop-head-preserved g c = record {
       let before = c.in_ok-window.ensures.earlier folder kept in
       let text : IsPieceOf t c.args.x.now c.loop-head.place window = rw c.loop-head.invariant.table at c.in_ok-window.ensures.text folder kept in
       let enough : length head ≤ length window = rw c.needle-head.ensures at c.in_ok-window.ensures.enough in
-      rw c.needle-head.ensures (window_none t c.args.x.now c.args.start c.loop-head.place window head c.find.result c.in-None.is c.find.ensures enough text (c.loop-head.invariant.none folder before));
+      rw c.needle-head.ensures (window_none t c.args.x.now c.args.start c.loop-head.place window head c.find.result c.in-None.is
+      c.find.ensures enough text (c.loop-head.invariant.none folder before));
   reads = c.in_ok-window.ensures.count ∙ c.loop-head.invariant.reads;
   lengths = c.window_at.ensures.lengths ∙ c.loop-head.invariant.lengths;
   table = c.window_at.ensures.table ∙ c.loop-head.invariant.table;
@@ -44,7 +47,8 @@ returns-in-Some-clause-first g c = λ folder kept.
     let head = c.args.finder.now in
     let before = c.in_ok-window.ensures.earlier folder kept in
     let text : IsPieceOf t c.args.x.now c.loop-head.place window = rw c.loop-head.invariant.table at c.in_ok-window.ensures.text folder kept in
-    window_some t c.args.x.now c.args.start c.loop-head.place c.in-Some.found window head c.find.result c.in-Some.is c.requires.some c.find.ensures c.loop-head.invariant.low text (c.loop-head.invariant.none folder before)
+    window_some t c.args.x.now c.args.start c.loop-head.place c.in-Some.found window head c.find.result c.in-Some.is c.requires.some
+    c.find.ensures c.loop-head.invariant.low text (c.loop-head.invariant.none folder before)
 
 pub returns-clause-first : goal.returns-clause-first
 returns-clause-first g c = λ folder kept.
@@ -52,4 +56,6 @@ returns-clause-first g c = λ folder kept.
     let lengths = g.S.Source.lengths c.args.src.now in
     let told = g.met.S.Source.lengths_of_table c.args.src.now folder (c.loop-head.invariant.earlier folder kept) in
     let long : length c.needle-head.result.now ≡ length c.args.finder.now = ap (λ (ys : List ℕ). length ys) c.needle-head.ensures in
-    stands_none t c.args.x.now c.args.finder.now c.args.start c.loop-head.place (omega (arith, c.lies_inside.ensures.outside c.loop-head-test.false, c.len.ensures.stored, long)) (cord_len lengths t c.args.x.now told c.requires.sound c.requires.fits) (c.loop-head.invariant.none folder kept)
+    stands_none t c.args.x.now c.args.finder.now c.args.start c.loop-head.place
+    (omega (arith, c.lies_inside.ensures.outside c.loop-head-test.false, c.len.ensures.stored, long))
+    (cord_len lengths t c.args.x.now told c.requires.sound c.requires.fits) (c.loop-head.invariant.none folder kept)

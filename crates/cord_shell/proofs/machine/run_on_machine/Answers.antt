@@ -22,8 +22,16 @@ module _ (g : Over) (c : goal.After-drive-status g) where
   answer = record {
     status = c.drive-status.result.0;
     files_failed = c.drive-status.result.1.failures;
-    out = record { taken = c.drive-status.new.out.tally.bytes; failures = c.drive-status.new.out.failures; ends = c.drive-status.new.out.tally.ends };
-    err = record { taken = c.drive-status.new.err.tally.bytes; failures = c.drive-status.new.err.failures; ends = c.drive-status.new.err.tally.ends };
+    out = record {
+      taken = c.drive-status.new.out.tally.bytes;
+      failures = c.drive-status.new.out.failures;
+      ends = c.drive-status.new.out.tally.ends;
+    };
+    err = record {
+      taken = c.drive-status.new.err.tally.bytes;
+      failures = c.drive-status.new.err.failures;
+      ends = c.drive-status.new.err.tally.ends;
+    };
   }
 
   drove : Drove keeps words answer
@@ -47,18 +55,22 @@ module _ (g : Over) (c : goal.After-drive-status g) where
       } in
       record {
         outcome = drives.0;
-        comes = comes_of_new keeps words drives.0 answer.out.taken c.new-out.result.tally.bytes counts c.new-files.ensures.count out.count out.finished out.taken drives.1;
+        comes = comes_of_new keeps words drives.0 answer.out.taken c.new-out.result.tally.bytes counts c.new-files.ensures.count out.count
+            out.finished out.taken drives.1;
         status = drives.2;
-        tells = tells_of_new (message_of drives.0) answer.err.taken c.new-err.result.tally.bytes said err.count err.finished err.taken drives.3;
+        tells = tells_of_new (message_of drives.0) answer.err.taken c.new-err.result.tally.bytes said err.count err.finished err.taken
+            drives.3;
       }
 
 pub returns-clause-run : goal.returns-clause-run
 returns-clause-run g c = λ folder kept path b unplanned statements asks at reads.
-    runs_over (keeps g c) (words g c) (answer g c) (drove g c) folder kept path c.bytes_are_one_script.ensures c.read_scripts_have_no_flaw.ensures b unplanned statements asks at reads
+    runs_over (keeps g c) (words g c) (answer g c) (drove g c) folder kept path c.bytes_are_one_script.ensures
+    c.read_scripts_have_no_flaw.ensures b unplanned statements asks at reads
 
 pub returns-clause-shown : goal.returns-clause-shown
 returns-clause-shown g c = λ folder kept path b unplanned statements asks at reads.
-    shows_over (keeps g c) (words g c) (answer g c) (drove g c) folder kept path c.bytes_are_one_script.ensures c.read_scripts_have_no_flaw.ensures b unplanned statements asks at reads
+    shows_over (keeps g c) (words g c) (answer g c) (drove g c) folder kept path c.bytes_are_one_script.ensures
+    c.read_scripts_have_no_flaw.ensures b unplanned statements asks at reads
 
 pub returns-clause-refused : goal.returns-clause-refused
 returns-clause-refused g c = λ folder kept path b unplanned show_plan asks at none.

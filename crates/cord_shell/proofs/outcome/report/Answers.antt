@@ -14,7 +14,8 @@ returns-in-Refused g c =
     let new = c.tell_at.new.err in
     let counts : SinkCounts = record { failed_before = sink.failures old; failed_after = sink.failures new; ended_before = sink.finished old; ended_after = sink.finished new } in
     let refusal = c.in-Refused.refusal in
-    told_at (sink.taken old) (sink.taken new) counts refusal.line c.text.result.now (text_of refusal.kind) (message_of c.args.outcome.now) c.tell_at.ensures c.text.ensures (ap message_of c.in-Refused.is)
+    told_at (sink.taken old) (sink.taken new) counts refusal.line c.text.result.now (text_of refusal.kind)
+    (message_of c.args.outcome.now) c.tell_at.ensures c.text.ensures (ap message_of c.in-Refused.is)
 
 pub returns-in-NoScript : goal.returns-in-NoScript
 returns-in-NoScript g c =
@@ -22,7 +23,8 @@ returns-in-NoScript g c =
     let old = c.args.err.now in
     let new = c.tell_at-in-NoScript.new.err in
     let counts : SinkCounts = record { failed_before = sink.failures old; failed_after = sink.failures new; ended_before = sink.finished old; ended_after = sink.finished new } in
-    told_at (sink.taken old) (sink.taken new) counts 0 c.text-in-NoScript.result.now (fault_text NoFile) (message_of c.args.outcome.now) c.tell_at-in-NoScript.ensures c.text-in-NoScript.ensures (ap message_of c.in-NoScript.is)
+    told_at (sink.taken old) (sink.taken new) counts 0 c.text-in-NoScript.result.now (fault_text NoFile)
+    (message_of c.args.outcome.now) c.tell_at-in-NoScript.ensures c.text-in-NoScript.ensures (ap message_of c.in-NoScript.is)
 
 pub returns-in-Unreadable : goal.returns-in-Unreadable
 returns-in-Unreadable g c =
@@ -30,4 +32,5 @@ returns-in-Unreadable g c =
     let old = c.args.err.now in
     let new = c.tell_at-in-Unreadable.new.err in
     let counts : SinkCounts = record { failed_before = sink.failures old; failed_after = sink.failures new; ended_before = sink.finished old; ended_after = sink.finished new } in
-    told_at (sink.taken old) (sink.taken new) counts 0 (codes "read failed") (codes "read failed") (message_of c.args.outcome.now) c.tell_at-in-Unreadable.ensures refl (ap message_of c.in-Unreadable.is)
+    told_at (sink.taken old) (sink.taken new) counts 0 (codes "read failed") (codes "read failed")
+    (message_of c.args.outcome.now) c.tell_at-in-Unreadable.ensures refl (ap message_of c.in-Unreadable.is)

@@ -11,4 +11,5 @@ returns-in-Fault g c =
     let old = c.args.err.now in
     let new = c.tell_at.new.err in
     let counts : SinkCounts = record { failed_before = sink.failures old; failed_after = sink.failures new; ended_before = sink.finished old; ended_after = sink.finished new } in
-    told_at (sink.taken old) (sink.taken new) counts c.in-Fault.line c.text.result.now (fault_text c.in-Fault.kind) (message_of_end c.args.end.now) c.tell_at.ensures c.text.ensures (ap message_of_end c.in-Fault.is)
+    told_at (sink.taken old) (sink.taken new) counts c.in-Fault.line c.text.result.now (fault_text c.in-Fault.kind)
+    (message_of_end c.args.end.now) c.tell_at.ensures c.text.ensures (ap message_of_end c.in-Fault.is)

@@ -15,7 +15,8 @@ returns-then-unplanned-clause-run g c =
       finished_before = sink.finished c.args.out.now;
       finished_after = sink.finished run.new.sink;
     } in
-    rw c.of_run.ensures (answered (g.F.Files.keeps run.result.1) c.args.script.now (sink.taken c.args.out.now) (sink.taken run.new.sink) counts run.result.0 told.run told.cause told.refused told.unasked told.flaw)
+    rw c.of_run.ensures (answered (g.F.Files.keeps run.result.1) c.args.script.now (sink.taken c.args.out.now)
+    (sink.taken run.new.sink) counts run.result.0 told.run told.cause told.refused told.unasked told.flaw)
 
 pub returns-else-unplanned-clause-run : goal.returns-else-unplanned-clause-run
 returns-else-unplanned-clause-run g c =
@@ -30,4 +31,5 @@ returns-else-unplanned-clause-run g c =
       finished_before = sink.finished c.args.out.now;
       finished_after = sink.finished run.new.sink;
     } in
-    rw c.of_run-else-unplanned.ensures (answered (g.F.Files.keeps run.result.1) c.args.script.now (sink.taken c.args.out.now) (sink.taken run.new.sink) counts run.result.0 told.run told.cause told.refused told.unasked told.flaw)
+    rw c.of_run-else-unplanned.ensures (answered (g.F.Files.keeps run.result.1) c.args.script.now (sink.taken c.args.out.now)
+    (sink.taken run.new.sink) counts run.result.0 told.run told.cause told.refused told.unasked told.flaw)

@@ -17,7 +17,8 @@ returns-then-request-clause-run g c =
       finished_before = sink.finished c.args.out.now;
       finished_after = sink.finished c.show_script.new.out;
     } in
-    shown_at (g.F.Files.keeps c.read_whole.new.files) path request.unplanned c.deref.result.now (sink.taken c.args.out.now) (sink.taken c.show_script.new.out) counts
+    shown_at (g.F.Files.keeps c.read_whole.new.files) path request.unplanned c.deref.result.now (sink.taken c.args.out.now)
+    (sink.taken c.show_script.new.out) counts
     (λ folder kept. subst (λ (b : List ℕ). file_at folder path ≡ Some b) (sym c.deref.ensures.value) (c.in-Ok.ensures.found folder kept))
     request.show_plan c.show_script.result c.if-request.true c.show_script.ensures c.in-Ok.ensures.count
 
@@ -35,6 +36,8 @@ returns-clause-run g c =
       finished_before = sink.finished c.args.out.now;
       finished_after = sink.finished run.new.out;
     } in
-    run_at (g.F.Files.keeps run.result.1) path request.unplanned c.deref-else-request.result.now (sink.taken c.args.out.now) (sink.taken run.new.out) counts
-    (λ folder kept. subst (λ (b : List ℕ). file_at folder path ≡ Some b) (sym c.deref-else-request.ensures.value) (c.in-Ok.ensures.found folder (run.ensures.earlier folder kept)))
+    run_at (g.F.Files.keeps run.result.1) path request.unplanned c.deref-else-request.result.now (sink.taken c.args.out.now)
+    (sink.taken run.new.out) counts
+    (λ folder kept. subst (λ (b : List ℕ). file_at folder path ≡ Some b) (sym c.deref-else-request.ensures.value)
+    (c.in-Ok.ensures.found folder (run.ensures.earlier folder kept)))
     request.show_plan run.result.0 c.if-request.false (g.F.Files.failures c.read_whole.new.files) c.in-Ok.ensures.count run.ensures.run

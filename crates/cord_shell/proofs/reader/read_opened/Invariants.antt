@@ -11,7 +11,8 @@ invariant-reading g l =
       earlier : (folder : Folder) → keeps l.files folder → keeps l.initial.files folder;
       kept : (n : ℕ) → opened l.files n ≡ opened l.initial.files n;
       count : g.F.Files.failures l.files ≡ g.F.Files.failures l.initial.files;
-      read : (folder : Folder) → keeps l.files folder → IsSomeAnd (opened l.initial.files l.no.0) (λ told. l.bytes.items ≡ take (length l.bytes.items) (bytes_at folder told.0));
+      read : (folder : Folder) → keeps l.files folder → IsSomeAnd (opened l.initial.files l.no.0)
+          (λ told. l.bytes.items ≡ take (length l.bytes.items) (bytes_at folder told.0));
     }
 
 abbrev pub decreases-reading : goal.decreases-reading

@@ -15,7 +15,8 @@ returns-clause-required c =
     let show_plan = c.flag-show_plan.ensures in
     let script = c.script_word-script.ensures in
     IfOk-weaker c.arg-3.result _ _
-    (λ three third. finds_script c.after_help-bare.result c.in_ok-arg.field-0 c.in_ok-arg-2.field-0 three c.flag-unplanned.result c.flag-show_plan.result c.script_word-script.result
+    (λ three third. finds_script c.after_help-bare.result c.in_ok-arg.field-0 c.in_ok-arg-2.field-0 three c.flag-unplanned.result
+    c.flag-show_plan.result c.script_word-script.result
     c.in_ok-arg.ensures c.in_ok-arg-2.ensures third bare
     (named c.flag-unplanned.result (flag_rule (codes "unplanned")) unplanned.rule unplanned.plain unplanned.local)
     (named c.flag-show_plan.result (flag_rule (codes "show-plan")) show_plan.rule show_plan.plain show_plan.local)

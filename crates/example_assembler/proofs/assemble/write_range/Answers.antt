@@ -11,4 +11,5 @@ pub put-requires : goal.put-requires
 put-requires g c = record { fits = c.in_ok-range.ensures.over.fits (g.S.Source.lengths c.args.src.now) c.loop-part.invariant.fits }
 
 pub returns : goal.returns
-returns g c folder kept = joined_written _ _ _ _ c.loop-part-test.false c.loop-part.invariant c.in_ok-range.ensures.over (g.met.S.Source.lengths_of_table c.args.src.now folder (c.put.ensures.earlier folder kept)) (c.put.ensures.text folder kept)
+returns g c folder kept = joined_written _ _ _ _ c.loop-part-test.false c.loop-part.invariant c.in_ok-range.ensures.over
+    (g.met.S.Source.lengths_of_table c.args.src.now folder (c.put.ensures.earlier folder kept)) (c.put.ensures.text folder kept)

@@ -6,4 +6,5 @@ pub invariant_of-self-2 : goal.invariant_of-self-2
 invariant_of-self-2 c = growth_by_text _ _ _ _ c.self.invariant c.as_cord.ensures.text c.in_ok-append_cord.ensures.over
 
 pub returns-clause-text : goal.returns-clause-text
-returns-clause-text c = bytes_by_text _ _ _ _ c.self.invariant c.as_cord.ensures.text c.in_ok-append_cord.ensures.over ∙ (rw c.self.view_is refl)
+returns-clause-text c = bytes_by_text _ _ _ _ c.self.invariant c.as_cord.ensures.text c.in_ok-append_cord.ensures.over
+    ∙ (rw c.self.view_is refl)

@@ -4,4 +4,5 @@ use Rattle.cord.proofs.ChunkingBack.{run_joined_back}
 use Rattle.cord.proofs.text.Text.chunks_back.Goals as goal
 
 pub returns-clause-joined : goal.returns-clause-joined
-returns-clause-joined c = λ p seen from whole. run_joined_back p whole ∙ from ∙ take_all c.len.result c.args.self.now (omega (arith, c.len.ensures.value))
+returns-clause-joined c = λ p seen from whole. run_joined_back p whole ∙ from
+    ∙ take_all c.len.result c.args.self.now (omega (arith, c.len.ensures.value))

@@ -17,4 +17,7 @@ returns-clause-first c =
     ∙ ap (λ (s : List ℕ). first c.args.self.now c.args.start s) c.pattern.view_is
 
 pub returns-clause-inside : goal.returns-clause-inside
-returns-clause-inside c = rw (plain_len c.self.inside.cord c.args.self.now c.self.invariant c.self.view_is, plain_len c.pattern.inside.cord c.args.pattern.now c.pattern.invariant c.pattern.view_is) at c.in-Ok.ensures.within
+returns-clause-inside c = rw (
+  plain_len c.self.inside.cord c.args.self.now c.self.invariant c.self.view_is,
+  plain_len c.pattern.inside.cord c.args.pattern.now c.pattern.invariant c.pattern.view_is,
+) at c.in-Ok.ensures.within

@@ -16,4 +16,5 @@ returns-clause-line c =
     let start = c.line_start-start.result in
     let end = c.line_end-end.result in
     let i : IsLineStart x c.args.n start = record { inside = c.line_start-start.ensures.inside; rest = c.line_start-start.ensures.line } in
-    ap (λ (y : List ℕ). Some y) c.in_ok-line.ensures.text ∙ sym (line_there x c.args.n start i (take (end.0 - start) (drop start x)) (bare_lines (drop end.1 x)) c.line_end-end.ensures.line)
+    ap (λ (y : List ℕ). Some y) c.in_ok-line.ensures.text ∙ sym
+    (line_there x c.args.n start i (take (end.0 - start) (drop start x)) (bare_lines (drop end.1 x)) c.line_end-end.ensures.line)

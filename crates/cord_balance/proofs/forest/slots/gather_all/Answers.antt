@@ -7,7 +7,8 @@ use Rattle.cord_balance.proofs.Forms.{all_taken, some_taken}
 use Rattle.cord_balance.proofs.forest.slots.gather_all.Goals as goal
 
 pub unreachable-requires : goal.unreachable-requires
-unreachable-requires c = some_taken c.args.forest.now.items c.gather.new.forest.items c.in_ok-node.ensures.rest c.in_ok-node.ensures.from c.requires.within_limit c.requires.some (rw c.in-None.is at c.in_ok-node.ensures.len)
+unreachable-requires c = some_taken c.args.forest.now.items c.gather.new.forest.items c.in_ok-node.ensures.rest c.in_ok-node.ensures.from
+    c.requires.within_limit c.requires.some (rw c.in-None.is at c.in_ok-node.ensures.len)
 
 pub returns-clause-text : goal.returns-clause-text
 returns-clause-text c =

@@ -24,4 +24,7 @@ merge-requires-clause-behind c =
     AllFrom-lower (depth_of c.in_ok-joined.joined.value) c.slot_of-slot.result c.gather.new.forest.items d c.in_ok-small.ensures.from
 
 pub returns-clause-kept : goal.returns-clause-kept
-returns-clause-kept c = on_ok_weaker c.merge.result (λ k. kept_insert (forest_parts c.args.forest.now.items) (forest_parts c.gather.new.forest.items) (piece_parts c.in_ok-small.small) (parts c.args.node.value) (parts c.in_ok-joined.joined.value) (forest_parts c.merge.new.forest.items) c.in_ok-small.ensures.kept c.in_ok-joined.ensures.kept k) c.merge.ensures.kept
+returns-clause-kept c = on_ok_weaker c.merge.result (λ k. kept_insert (forest_parts c.args.forest.now.items)
+    (forest_parts c.gather.new.forest.items) (piece_parts c.in_ok-small.small) (parts c.args.node.value)
+    (parts c.in_ok-joined.joined.value) (forest_parts c.merge.new.forest.items) c.in_ok-small.ensures.kept c.in_ok-joined.ensures.kept k)
+    c.merge.ensures.kept

@@ -7,10 +7,13 @@ use Rattle.cord_balance.proofs.forest.slots.put_left.Goals as goal
 
 pub join-requires-clause-shallow : goal.join-requires-clause-shallow
 join-requires-clause-shallow c =
-    join_fits (depth_of c.args.left.value) (depth_of c.in-Some.right.value) (len_of c.args.left.value) c.requires.shallow (c.requires.right_shallow c.in-Some.right c.in-Some.is) (len_limit c.args.left.value c.requires.left_sound)
+    join_fits (depth_of c.args.left.value) (depth_of c.in-Some.right.value) (len_of c.args.left.value) c.requires.shallow
+    (c.requires.right_shallow c.in-Some.right c.in-Some.is) (len_limit c.args.left.value c.requires.left_sound)
 
 pub returns-clause-shallow : goal.returns-clause-shallow
 returns-clause-shallow c =
     let k : fib_of (depth_of c.in_ok-joined.joined.value) ≤ len_of c.args.left.value =
-    join_shallow (depth_of c.in_ok-joined.joined.value) (depth_of c.args.left.value) (depth_of c.in-Some.right.value) (len_of c.args.left.value) c.requires.shallow (c.requires.right_shallow c.in-Some.right c.in-Some.is) c.in_ok-joined.ensures.depth_bound in
+    join_shallow (depth_of c.in_ok-joined.joined.value) (depth_of c.args.left.value) (depth_of c.in-Some.right.value)
+    (len_of c.args.left.value) c.requires.shallow (c.requires.right_shallow c.in-Some.right c.in-Some.is)
+    c.in_ok-joined.ensures.depth_bound in
     omega (arith, c.in_ok-joined.ensures.len)

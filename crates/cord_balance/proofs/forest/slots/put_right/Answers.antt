@@ -4,10 +4,15 @@ use Rattle.cord_node.proofs.KeptLemmas.{Kept-self}
 use Rattle.cord_balance.proofs.forest.slots.put_right.Goals as goal
 
 pub join-requires-clause-shallow : goal.join-requires-clause-shallow
-join-requires-clause-shallow c = right_depth (depth_of c.in-Some.left.value) (depth_of c.args.right.value) (len_of c.in-Some.left.value) (len_of c.args.right.value) (c.requires.left_shallow c.in-Some.left c.in-Some.is) (c.requires.left_fits c.in-Some.left c.in-Some.is) c.requires.balanced (rw c.in-Some.is at c.requires.within_limit)
+join-requires-clause-shallow c = right_depth (depth_of c.in-Some.left.value) (depth_of c.args.right.value) (len_of c.in-Some.left.value)
+    (len_of c.args.right.value) (c.requires.left_shallow c.in-Some.left c.in-Some.is) (c.requires.left_fits c.in-Some.left c.in-Some.is)
+    c.requires.balanced (rw c.in-Some.is at c.requires.within_limit)
 
 pub returns-clause-shallow : goal.returns-clause-shallow
-returns-clause-shallow c = rw c.in_ok-node.ensures.len (right_joined (depth_of c.in_ok-node.node.value) (depth_of c.in-Some.left.value) (depth_of c.args.right.value) (len_of c.in-Some.left.value) (len_of c.args.right.value) (c.requires.left_shallow c.in-Some.left c.in-Some.is) (c.requires.left_fits c.in-Some.left c.in-Some.is) c.requires.balanced c.in_ok-node.ensures.depth_bound)
+returns-clause-shallow c = rw c.in_ok-node.ensures.len (right_joined (depth_of c.in_ok-node.node.value) (depth_of c.in-Some.left.value)
+    (depth_of c.args.right.value) (len_of c.in-Some.left.value) (len_of c.args.right.value)
+    (c.requires.left_shallow c.in-Some.left c.in-Some.is) (c.requires.left_fits c.in-Some.left c.in-Some.is) c.requires.balanced
+    c.in_ok-node.ensures.depth_bound)
 
 pub returns-in_default-clause-kept : goal.returns-in_default-clause-kept
 returns-in_default-clause-kept c = rw c.in_default.is (Kept-self _)

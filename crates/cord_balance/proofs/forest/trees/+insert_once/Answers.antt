@@ -12,7 +12,11 @@ use Rattle.cord_balance.proofs.Forms.{IsPut, form_put, cat_put, form_of_put, rig
 use Rattle.cord_balance.proofs.forest.trees.+insert_once.Goals as goal
 
 pub returns-then-strong_count-alone-clause-kept : goal.returns-then-strong_count-alone-clause-kept
-returns-then-strong_count-alone-clause-kept t c = rw (← c.as_ref.ensures, c.in-Cat.is) (on_ok_weaker c.insert_once-then-strong_count-alone.result (λ k. kept_two (forest_parts c.args.forest.now.items) (parts c.in-Cat.left.value) (parts c.in-Cat.right.value) (forest_parts c.insert_once.new.forest.items) (forest_parts c.insert_once-then-strong_count-alone.new.forest.items) c.in_ok-insert_once.ensures.kept k) c.insert_once-then-strong_count-alone.ensures.kept)
+returns-then-strong_count-alone-clause-kept t c = rw (← c.as_ref.ensures, c.in-Cat.is)
+    (on_ok_weaker c.insert_once-then-strong_count-alone.result (λ k. kept_two (forest_parts c.args.forest.now.items)
+    (parts c.in-Cat.left.value) (parts c.in-Cat.right.value) (forest_parts c.insert_once.new.forest.items)
+    (forest_parts c.insert_once-then-strong_count-alone.new.forest.items) c.in_ok-insert_once.ensures.kept k)
+    c.insert_once-then-strong_count-alone.ensures.kept)
 
 pub returns-in-Some-clause-kept : goal.returns-in-Some-clause-kept
 returns-in-Some-clause-kept t c =
@@ -54,7 +58,8 @@ returns-clause-known t c =
     let is : IsForm n form = form_of_put own all n form c.new-own.ensures.items both c.in_ok-form.ensures.sound c.in_ok-form.ensures.text c.in_ok-form.ensures.len c.in_ok-form.ensures.kept in
     let same : c.in_ok-node.node.value ≡ n = c.in_ok-node.ensures.cases in
     let pair : IsSound c.in_ok-node.node.value × IsForm c.in_ok-node.node.value form = subst (λ (m : Node). IsSound m × IsForm m form) (sym same) (c.requires.sound, is) in
-    subst (λ (ks : List Known). All IsKnown ks) (sym c.in_ok-push.ensures.items) (All-push IsKnown c.insert_once-3.new.known.items _ c.in_ok-insert_once-3.ensures.known pair)
+    subst (λ (ks : List Known). All IsKnown ks) (sym c.in_ok-push.ensures.items)
+    (All-push IsKnown c.insert_once-3.new.known.items _ c.in_ok-insert_once-3.ensures.known pair)
 
 pub returns-clause-kept : goal.returns-clause-kept
 returns-clause-kept t c =

@@ -5,4 +5,7 @@ use Rattle.cord_balance.proofs.Inserting.{kept_two}
 use Rattle.cord_balance.proofs.forest.trees.+insert_tree.Goals as goal
 
 pub returns-clause-kept : goal.returns-clause-kept
-returns-clause-kept t c = rw (← c.as_ref.ensures, c.in-Cat.is) (on_ok_weaker c.insert_tree-in-Cat.result (λ k. kept_two (forest_parts c.args.forest.now.items) (parts c.in-Cat.left.value) (parts c.in-Cat.right.value) (forest_parts c.insert_tree.new.forest.items) (forest_parts c.insert_tree-in-Cat.new.forest.items) c.in_ok-insert_tree-in-Cat.ensures.kept k) c.insert_tree-in-Cat.ensures.kept)
+returns-clause-kept t c = rw (← c.as_ref.ensures, c.in-Cat.is) (on_ok_weaker c.insert_tree-in-Cat.result
+    (λ k. kept_two (forest_parts c.args.forest.now.items) (parts c.in-Cat.left.value) (parts c.in-Cat.right.value)
+    (forest_parts c.insert_tree.new.forest.items) (forest_parts c.insert_tree-in-Cat.new.forest.items)
+    c.in_ok-insert_tree-in-Cat.ensures.kept k) c.insert_tree-in-Cat.ensures.kept)

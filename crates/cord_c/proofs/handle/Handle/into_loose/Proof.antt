@@ -56,10 +56,12 @@ module _ {M : Type 1} (𝓤 : Ura M) (𝓛 : Logic 𝓤) (𝓜 : Model 𝓤 𝓛
   as_if p t = record { at = p; alloc = h.alloc; text = h.text; testable = t }
 
   -- by the pointer's form
-  at : (p : Ptr) → Testable p → ent 𝓤 (sem 𝓛 (handle_owns p h.text)) (WpFn 𝓤 𝓛.H (tables 𝓤 𝓛.H 𝓜 𝓡 𝓡.env).C (tables 𝓤 𝓛.H 𝓜 𝓡 𝓡.env).Λ code.function (word p ∷ []) Post)
+  at : (p : Ptr) → Testable p → ent 𝓤 (sem 𝓛 (handle_owns p h.text))
+      (WpFn 𝓤 𝓛.H (tables 𝓤 𝓛.H 𝓜 𝓡 𝓡.env).C (tables 𝓤 𝓛.H 𝓜 𝓡 𝓡.env).Λ code.function (word p ∷ []) Post)
   at null_ptr t =
       qed 𝓛 (‵ (feq (List ℕ) h.text []) ∷ []) ∵ feq_l ! (λ none.
-      enter ! (tables 𝓤 𝓛.H 𝓜 𝓡 𝓡.env).C (tables 𝓤 𝓛.H 𝓜 𝓡 𝓡.env).Λ code.function (word null_ptr ∷ []) Post $ alloc_all ! (λ l. pass_all ! refl (handle_typed 𝓛 (as_if null_ptr t), tt) $
+      enter ! (tables 𝓤 𝓛.H 𝓜 𝓡 𝓡.env).C (tables 𝓤 𝓛.H 𝓜 𝓡 𝓡.env).Λ code.function (word null_ptr ∷ []) Post $ alloc_all !
+      (λ l. pass_all ! refl (handle_typed 𝓛 (as_if null_ptr t), tt) $
       sets ! (of_opd ! (get_in ! (fld ! refl (stop !)) (sub ! 0 refl (whole !)))) refl (Ptr-Good null_ptr) $
       sets ! (of_opd ! (get_in ! (fld ! refl (stop !)) (sub ! 1 refl (whole !)))) refl heap_typed $
       sets ! (bin ! (get ! refl) (lit ! tt) (tests_null null_ptr t)) refl (tt, tt) $
@@ -73,18 +75,22 @@ module _ {M : Type 1} (𝓤 : Ura M) (𝓛 : Logic 𝓤) (𝓜 : Model 𝓤 𝓛
   at (block_ptr b o) t =
       let En = env code.function.locals in let made : Loose (List ℕ) Global = record { at = block_ptr b o; alloc = h.alloc; value = h.text } in
       qed 𝓛 (‵ (box_owns frees text.the_row (block_ptr b o) h.text) ∷ []) ∵
-      enter ! (tables 𝓤 𝓛.H 𝓜 𝓡 𝓡.env).C (tables 𝓤 𝓛.H 𝓜 𝓡 𝓡.env).Λ code.function (word (block_ptr b o) ∷ []) Post $ alloc_all ! (λ l. pass_all ! refl (handle_typed 𝓛 (as_if (block_ptr b o) t), tt) $
+      enter ! (tables 𝓤 𝓛.H 𝓜 𝓡 𝓡.env).C (tables 𝓤 𝓛.H 𝓜 𝓡 𝓡.env).Λ code.function (word (block_ptr b o) ∷ []) Post $ alloc_all !
+      (λ l. pass_all ! refl (handle_typed 𝓛 (as_if (block_ptr b o) t), tt) $
       sets ! (of_opd ! (get_in ! (fld ! refl (stop !)) (sub ! 0 refl (whole !)))) refl (Ptr-Good (block_ptr b o)) $
       sets ! (of_opd ! (get_in ! (fld ! refl (stop !)) (sub ! 1 refl (whole !)))) refl heap_typed $
       sets ! (bin ! (get ! refl) (lit ! tt) (tests_null (block_ptr b o) t)) refl (tt, tt) $
       first ! $ branches ! (get ! refl) (λ yes. absurd yes)
-      (λ no. skips ! $ exec ! (tables 𝓤 𝓛.H 𝓜 𝓡 𝓡.env).C (tables 𝓤 𝓛.H 𝓜 𝓡 𝓡.env).Λ (En l) (after 4 code.function.body) (at_ret (En l) Post) $
+      (λ no. skips ! $ exec ! (tables 𝓤 𝓛.H 𝓜 𝓡 𝓡.env).C (tables 𝓤 𝓛.H 𝓜 𝓡 𝓡.env).Λ (En l) (after 4 code.function.body)
+      (at_ret (En l) Post) $
       sets ! (of_opd ! (get ! refl)) refl (Ptr-Good (block_ptr b o)) $
       sets ! (agg ! (and_then ! (get ! refl) (and_then ! (get ! refl) (no_more !)))) refl (loose_typed 𝓛 made) $
-      sets ! (agg ! (and_then ! (lit ! tt) (and_then ! (get ! refl) (no_more !)))) refl (tt, (record { fits = lit< tt }, ((loose_typed 𝓛 made).1, tt))) $
+      sets ! (agg ! (and_then ! (lit ! tt) (and_then ! (get ! refl) (no_more !)))) refl
+      (tt, (record { fits = lit< tt }, ((loose_typed 𝓛 made).1, tt))) $
       returns ! (look_at ! 0 refl) $ free_all ! refl $ packs_loose ! b o h.alloc h.text $
       use1 𝓛 (‵ ((OP.the_row LooseText).own_val (Some made) (live 1 (of_list (loose_val made ∷ [])) ∷ []))) (Some-of 𝓛 LooseText made (loose_val made)) $
-      suffices ! _ (ends_at 𝓛 f.ended stayed (f.clauses 𝓛 𝓜.mem 𝓡.returns) y (live 1 (of_list (loose_val made ∷ []))) (Some made) (tt, tt) (tt, tt)) $ says ! refl $
+      suffices ! _ (ends_at 𝓛 f.ended stayed (f.clauses 𝓛 𝓜.mem 𝓡.returns) y (live 1 (of_list (loose_val made ∷ []))) (Some made) (tt, tt)
+      (tt, tt)) $ says ! refl $
       nothing ! $ nothing ! $ join ! $ nothing ! $ done !))
 
 pub into_loose_spec : {M : Type 1} → statement M

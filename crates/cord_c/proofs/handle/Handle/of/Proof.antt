@@ -33,7 +33,8 @@ of_spec 𝓤 𝓛 𝓜 𝓡 wired =
     f.Key.name code.function (code.unfolded 𝓤 𝓛.H 𝓜 𝓡 wired)
     (λ κs. ((λ r. loose_val r ∷ []), tt)) (λ κs. (loose_tells, tt)) (λ κs qs bounds a g are.
     let r = a.0 in let y : W.Ghost = ((κs, qs, bounds, a, (loose_val r ∷ [], tt)), g) in
-    qed 𝓛 ((‵ ftrue ⊛ ‵ (LooseText.own_val r (loose_val r ∷ [])) ⊛ ‵ ftrue) ∷ ‵ ftrue ∷ []) ∵ split ! $ drop ! $ split ! $ fsplit ! $ keep ! (1 ∷ []) $
+    qed 𝓛 ((‵ ftrue ⊛ ‵ (LooseText.own_val r (loose_val r ∷ [])) ⊛ ‵ ftrue) ∷ ‵ ftrue ∷ []) ∵ split ! $ drop ! $ split ! $ fsplit ! $ keep
+    ! (1 ∷ []) $
     use1 𝓛 (given (Testable r.at) (‵ (box_owns frees text.the_row r.at r.value))) (tested 𝓛 r.at r.value) $ learn ! (λ t.
     use1 𝓛 (‵ (handle_owns r.at r.value)) (held 𝓛 r.at r.value) $
     let made : Handle = record { at = r.at; alloc = r.alloc; text = r.value; testable = t } in

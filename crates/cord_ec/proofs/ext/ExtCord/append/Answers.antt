@@ -15,7 +15,8 @@ returns-then-len-lt-CAP-clause-over c =
     let before : List Cell = text c.self.inside.cord ++ map known c.self.inside.buffer in
     let after : List Cell = text c.self.inside.cord ++ map known c.push.new.self in
     let grown : after ≡ before ++ known c.args.byte ∷ [] = grind (arith, common_steps) in
-    subst (λ (xs : List Cell). IsGrownBy xs after (c.args.byte ∷ [])) (ap (λ (g : Growth). g.text) c.self.view_is) (grown_by before after (c.args.byte ∷ []) grown)
+    subst (λ (xs : List Cell). IsGrownBy xs after (c.args.byte ∷ [])) (ap (λ (g : Growth). g.text) c.self.view_is)
+    (grown_by before after (c.args.byte ∷ []) grown)
 
 pub returns-then-len-lt-CAP-clause-gathered : goal.returns-then-len-lt-CAP-clause-gathered
 returns-then-len-lt-CAP-clause-gathered c =
@@ -23,14 +24,16 @@ returns-then-len-lt-CAP-clause-gathered c =
     let buffer : List ℕ = c.self.inside.buffer in
     let fits : length (buffer ++ c.args.byte ∷ []) ≤ CAP = omega (arith, length-append buffer (c.args.byte ∷ [])) in
     let longer : Gathered 1 (ps ++ leaf_parts buffer) (ps ++ leaf_parts c.push.new.self) = rw c.in_ok-push.ensures.added (tail_grown ps buffer (c.args.byte ∷ []) 1 fits (omega arith)) in
-    subst (λ (before : List Part). Gathered 1 before (ps ++ leaf_parts c.push.new.self)) (ap (λ (g : Growth). g.parts) c.self.view_is) longer
+    subst (λ (before : List Part). Gathered 1 before (ps ++ leaf_parts c.push.new.self))
+    (ap (λ (g : Growth). g.parts) c.self.view_is) longer
 
 pub returns-clause-over : goal.returns-clause-over
 returns-clause-over c =
     let before : List Cell = text c.self.inside.cord ++ map known c.self.inside.buffer in
     let after : List Cell = text c.in_ok-longer.longer ++ map known c.in_ok-next.next in
     let grown : after ≡ before ++ known c.args.byte ∷ [] = grind (arith, common_steps) in
-    subst (λ (xs : List Cell). IsGrownBy xs after (c.args.byte ∷ [])) (ap (λ (g : Growth). g.text) c.self.view_is) (grown_by before after (c.args.byte ∷ []) grown)
+    subst (λ (xs : List Cell). IsGrownBy xs after (c.args.byte ∷ [])) (ap (λ (g : Growth). g.text) c.self.view_is)
+    (grown_by before after (c.args.byte ∷ []) grown)
 
 pub returns-clause-gathered : goal.returns-clause-gathered
 returns-clause-gathered c =

@@ -15,7 +15,8 @@ returns-then-bytes-len-clause-over c =
     let before : List Cell = text c.self.inside.cord ++ map known c.self.inside.buffer in
     let after : List Cell = text c.self.inside.cord ++ map known c.extend.new.self in
     let grown : after ≡ before ++ map known c.args.bytes.now = grind (arith, common_steps) in
-    subst (λ (xs : List Cell). IsGrownBy xs after c.args.bytes.now) (ap (λ (g : Growth). g.text) c.self.view_is) (grown_by before after c.args.bytes.now grown)
+    subst (λ (xs : List Cell). IsGrownBy xs after c.args.bytes.now) (ap (λ (g : Growth). g.text) c.self.view_is)
+    (grown_by before after c.args.bytes.now grown)
 
 pub returns-then-bytes-len-clause-gathered : goal.returns-then-bytes-len-clause-gathered
 returns-then-bytes-len-clause-gathered c = λ k few.
@@ -23,17 +24,21 @@ returns-then-bytes-len-clause-gathered c = λ k few.
     let buffer : List ℕ = c.self.inside.buffer in
     let fits : length (buffer ++ c.args.bytes.now) ≤ CAP = omega (arith, length-append buffer c.args.bytes.now) in
     let longer : Gathered k (ps ++ leaf_parts buffer) (ps ++ leaf_parts c.extend.new.self) = rw c.in_ok-extend.ensures.added (tail_grown ps buffer c.args.bytes.now k fits few) in
-    subst (λ (before : List Part). Gathered k before (ps ++ leaf_parts c.extend.new.self)) (ap (λ (g : Growth). g.parts) c.self.view_is) longer
+    subst (λ (before : List Part). Gathered k before (ps ++ leaf_parts c.extend.new.self))
+    (ap (λ (g : Growth). g.parts) c.self.view_is) longer
 
 pub returns-clause-over : goal.returns-clause-over
 returns-clause-over c =
     let before : List Cell = text c.self.inside.cord ++ map known c.self.inside.buffer in
     let after : List Cell = text c.in_ok-longer.longer ++ map known c.clear.new.self in
     let grown : after ≡ before ++ map known c.args.bytes.now = grind (arith, common_steps) in
-    subst (λ (xs : List Cell). IsGrownBy xs after c.args.bytes.now) (ap (λ (g : Growth). g.text) c.self.view_is) (grown_by before after c.args.bytes.now grown)
+    subst (λ (xs : List Cell). IsGrownBy xs after c.args.bytes.now) (ap (λ (g : Growth). g.text) c.self.view_is)
+    (grown_by before after c.args.bytes.now grown)
 
 pub returns-clause-gathered : goal.returns-clause-gathered
 returns-clause-gathered c = λ k few.
     let before : List Part = parts_of c.self.inside.cord ++ leaf_parts c.self.inside.buffer in
     let longer : List Part = parts_of c.in_ok-longer.longer in
-    subst (λ (old : List Part). Gathered k old (longer ++ leaf_parts c.clear.new.self)) (ap (λ (g : Growth). g.parts) c.self.view_is) (leaves_added before (parts_of c.in_ok-so_far.so_far) longer c.clear.new.self k c.clear.ensures c.in_ok-so_far.ensures.kept (c.in_ok-longer.ensures.gathered k few))
+    subst (λ (old : List Part). Gathered k old (longer ++ leaf_parts c.clear.new.self)) (ap (λ (g : Growth). g.parts) c.self.view_is)
+    (leaves_added before (parts_of c.in_ok-so_far.so_far) longer c.clear.new.self k c.clear.ensures c.in_ok-so_far.ensures.kept
+    (c.in_ok-longer.ensures.gathered k few))

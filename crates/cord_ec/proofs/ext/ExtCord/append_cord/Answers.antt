@@ -14,11 +14,14 @@ returns-clause-over c =
     let before : List Cell = text c.self.inside.cord ++ map known c.self.inside.buffer in
     let after : List Cell = text c.in_ok-longer.longer ++ map known c.clear.new.self in
     let grown : after ≡ before ++ text c.args.cord.now = grind (arith, common_steps) in
-    subst (λ (xs : List Cell). IsGrownByCord xs after c.args.cord.now) (ap (λ (g : Growth). g.text) c.self.view_is) (grown_by_cord before after c.args.cord.now grown)
+    subst (λ (xs : List Cell). IsGrownByCord xs after c.args.cord.now) (ap (λ (g : Growth). g.text) c.self.view_is)
+    (grown_by_cord before after c.args.cord.now grown)
 
 pub returns-clause-kept : goal.returns-clause-kept
 returns-clause-kept c =
     let before : List Part = parts_of c.self.inside.cord ++ leaf_parts c.self.inside.buffer in
     let x : List Part = parts_of c.args.cord.now in
     let longer : List Part = parts_of c.in_ok-longer.longer in
-    subst (λ (old : List Part). Kept (old ++ x) (longer ++ leaf_parts c.clear.new.self)) (ap (λ (g : Growth). g.parts) c.self.view_is) (cord_added before (parts_of c.in_ok-so_far.so_far) x longer c.clear.new.self c.clear.ensures c.in_ok-so_far.ensures.kept c.in_ok-longer.ensures.kept)
+    subst (λ (old : List Part). Kept (old ++ x) (longer ++ leaf_parts c.clear.new.self)) (ap (λ (g : Growth). g.parts) c.self.view_is)
+    (cord_added before (parts_of c.in_ok-so_far.so_far) x longer c.clear.new.self c.clear.ensures c.in_ok-so_far.ensures.kept
+    c.in_ok-longer.ensures.kept)

@@ -11,17 +11,23 @@ use Rattle.cord_ec.proofs.ext.ExtCord.to_cord.Goals as goal
 pub returns-clause-kept : goal.returns-clause-kept
 returns-clause-kept c =
     subst (λ (old : List Part). Kept old (parts_of c.in_ok-cord.cord)) (ap (λ (g : Growth). g.parts) c.self.view_is)
-    (subst (λ (n : Option Node). Kept (parts_of c.self.inside.cord ++ leaf_parts c.self.inside.buffer) (parts_of n)) (sym c.in_ok-cord.ensures.same) c.in_ok-flush.ensures.kept)
+    (subst (λ (n : Option Node). Kept (parts_of c.self.inside.cord ++ leaf_parts c.self.inside.buffer) (parts_of n))
+    (sym c.in_ok-cord.ensures.same) c.in_ok-flush.ensures.kept)
 
 pub returns-clause-stays : goal.returns-clause-stays
 returns-clause-stays c =
     let cord : List Part = parts_of c.flush.new.cord in
-    subst (λ (old : List Part). Kept old (cord ++ leaf_parts c.flush.new.buffer)) (ap (λ (g : Growth). g.parts) c.self.view_is) (flushed (parts_of c.self.inside.cord ++ leaf_parts c.self.inside.buffer) cord c.flush.new.buffer c.in_ok-flush.ensures.emptied c.in_ok-flush.ensures.kept)
+    subst (λ (old : List Part). Kept old (cord ++ leaf_parts c.flush.new.buffer)) (ap (λ (g : Growth). g.parts) c.self.view_is)
+    (flushed (parts_of c.self.inside.cord ++ leaf_parts c.self.inside.buffer) cord c.flush.new.buffer c.in_ok-flush.ensures.emptied
+    c.in_ok-flush.ensures.kept)
 
 pub returns-in_err-flush-clause-stays : goal.returns-in_err-flush-clause-stays
 returns-in_err-flush-clause-stays c =
     let before : List Part = parts_of c.self.inside.cord ++ leaf_parts c.self.inside.buffer in
     let cord : parts_of c.flush.new.cord ≡ parts_of c.self.inside.cord = ap parts_of (c.in_err-flush.ensures.cord_unchanged refl) in
     let buffer : leaf_parts c.flush.new.buffer ≡ leaf_parts c.self.inside.buffer = ap leaf_parts (c.in_err-flush.ensures.buffer_unchanged refl) in
-    subst (λ (old : List Part). Kept old (parts_of c.flush.new.cord ++ leaf_parts c.flush.new.buffer)) (ap (λ (g : Growth). g.parts) c.self.view_is)
-    (Kept_same before (parts_of c.flush.new.cord ++ leaf_parts c.flush.new.buffer) (ap (λ (ps : List Part). ps ++ leaf_parts c.flush.new.buffer) cord ∙ ap (λ (ps : List Part). parts_of c.self.inside.cord ++ ps) buffer))
+    subst (λ (old : List Part). Kept old (parts_of c.flush.new.cord ++ leaf_parts c.flush.new.buffer))
+    (ap (λ (g : Growth). g.parts) c.self.view_is)
+    (Kept_same before (parts_of c.flush.new.cord ++ leaf_parts c.flush.new.buffer)
+    (ap (λ (ps : List Part). ps ++ leaf_parts c.flush.new.buffer) cord
+    ∙ ap (λ (ps : List Part). parts_of c.self.inside.cord ++ ps) buffer))

@@ -18,7 +18,9 @@ invariant_of-self g c =
     let old = c.args.self.now in
     record {
       few = old.few;
-      sound = sound_moved (g.F.Files.keeps old.files) (g.F.Files.keeps c.open.new.self) (g.F.Files.opened old.files) (g.F.Files.opened c.open.new.self) old.entries.items old.cache.entries c.open.ensures.earlier (λ n h. c.in_err-no.ensures.none_opened n) old.sound;
+      sound = sound_moved (g.F.Files.keeps old.files) (g.F.Files.keeps c.open.new.self) (g.F.Files.opened old.files)
+          (g.F.Files.opened c.open.new.self) old.entries.items old.cache.entries c.open.ensures.earlier
+          (λ n h. c.in_err-no.ensures.none_opened n) old.sound;
     }
 
 pub invariant_of-self-then-len-gt-MAX_LEN : goal.invariant_of-self-then-len-gt-MAX_LEN
@@ -26,7 +28,9 @@ invariant_of-self-then-len-gt-MAX_LEN g c =
     let old = c.args.self.now in
     record {
       few = old.few;
-      sound = sound_moved (g.F.Files.keeps old.files) (g.F.Files.keeps c.open.new.self) (g.F.Files.opened old.files) (g.F.Files.opened c.open.new.self) old.entries.items old.cache.entries c.open.ensures.earlier c.in_ok-no.ensures.opened.kept old.sound;
+      sound = sound_moved (g.F.Files.keeps old.files) (g.F.Files.keeps c.open.new.self) (g.F.Files.opened old.files)
+          (g.F.Files.opened c.open.new.self) old.entries.items old.cache.entries c.open.ensures.earlier c.in_ok-no.ensures.opened.kept
+          old.sound;
     }
 
 pub invariant_of-self-2 : goal.invariant_of-self-2
@@ -42,17 +46,23 @@ invariant_of-self-2 g c =
     record {
       few = search rules;
       sound = record {
-        handed_out = each_pushed (λ f. g.F.Files.opened c.open.new.self f.no.0 ≡ Some (told_of f)) files _ file (is_ok c.push.result) c.push.ensures.items
+        handed_out = each_pushed (λ f. g.F.Files.opened c.open.new.self f.no.0 ≡ Some (told_of f)) files _ file
+            (is_ok c.push.result) c.push.ensures.items
             (λ k f h. let was = old.sound.handed_out k f h in hands.kept f.no.0 (ap is_some was) ∙ was)
             (hands.told ∙ ap (λ p. Some (p, file.len)) (sym path));
-        short_enough = each_pushed (λ f. f.len ≤ MAX_LEN) files _ file (is_ok c.push.result) c.push.ensures.items old.sound.short_enough (search rules);
-        there = each_pushed (λ f. (folder : Folder) → Keeps folder → file_at folder (string_bytes f.path) ≡ Some (bytes_at folder (string_bytes f.path))) files _ file (is_ok c.push.result) c.push.ensures.items
+        short_enough = each_pushed (λ f. f.len ≤ MAX_LEN) files _ file (is_ok c.push.result) c.push.ensures.items old.sound.short_enough
+            (search rules);
+        there = each_pushed (λ f. (folder : Folder) → Keeps folder →
+            file_at folder (string_bytes f.path) ≡ Some (bytes_at folder (string_bytes f.path))) files _ file
+            (is_ok c.push.result) c.push.ensures.items
             (λ k f h folder kept. old.sound.there k f h folder (earlier folder kept))
             (λ folder kept. (found folder kept).0);
-        as_long = each_pushed (λ f. (folder : Folder) → Keeps folder → length (bytes_at folder (string_bytes f.path)) ≡ f.len) files _ file (is_ok c.push.result) c.push.ensures.items
+        as_long = each_pushed (λ f. (folder : Folder) → Keeps folder → length (bytes_at folder (string_bytes f.path)) ≡ f.len) files _ file
+            (is_ok c.push.result) c.push.ensures.items
             (λ k f h folder kept. old.sound.as_long k f h folder (earlier folder kept))
             (λ folder kept. (found folder kept).1);
-        kept = kept_behind Keeps files _ file (is_ok c.push.result) _ c.push.ensures.items (kept_earlier (g.F.Files.keeps old.files) Keeps files old.cache.entries earlier old.sound.kept);
+        kept = kept_behind Keeps files _ file (is_ok c.push.result) _ c.push.ensures.items
+            (kept_earlier (g.F.Files.keeps old.files) Keeps files old.cache.entries earlier old.sound.kept);
       };
     }
 
@@ -82,4 +92,5 @@ returns-clause-file g c = λ folder kept.
     let id : c.len-2.result + 2 ≡ suc (suc (length (opened_of files))) = search rules in
     let slot : slice_get (opened_of c.push.new.self.items) (length (opened_of files)) ≡ Some (c.args.path.now, file.len) =
     ap (λ xs. slice_get xs (length (opened_of files))) more ∙ last_place (opened_of files) (c.args.path.now, file.len) in
-    holds_file folder (opened_of c.push.new.self.items) c.args.path.now (c.len-2.result + 2) file.len (length (opened_of files)) id slot (found_there folder _ _ (c.in_ok-no.ensures.found folder kept))
+    holds_file folder (opened_of c.push.new.self.items) c.args.path.now (c.len-2.result + 2) file.len (length (opened_of files)) id slot
+    (found_there folder _ _ (c.in_ok-no.ensures.found folder kept))

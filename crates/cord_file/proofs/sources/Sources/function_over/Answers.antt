@@ -12,9 +12,12 @@ from_fn-requires g c =
     omega (arith, limit)
 
 pub returns-clause-cord : goal.returns-clause-cord
-returns-clause-cord g c = func_over c.args.self.now.entries.items c.args.id.0 c.args.len _ c.requires.len c.in_ok-cord.ensures.form c.in_ok-cord.ensures.over
+returns-clause-cord g c = func_over c.args.self.now.entries.items c.args.id.0 c.args.len _ c.requires.len c.in_ok-cord.ensures.form
+    c.in_ok-cord.ensures.over
 
 pub returns-clause-text : goal.returns-clause-text
 returns-clause-text g c = λ folder kept.
     let self = c.args.self.now in
-    text_over folder self.entries.items c.args.id.0 c.args.len _ (as_long_as_told (g.F.Files.keeps self.files) self.entries.items self.sound.as_long folder kept) c.requires.len c.in_ok-cord.ensures.over
+    text_over folder self.entries.items c.args.id.0 c.args.len _
+    (as_long_as_told (g.F.Files.keeps self.files) self.entries.items self.sound.as_long folder kept) c.requires.len
+    c.in_ok-cord.ensures.over

@@ -17,7 +17,8 @@ invariant_of-result g c = record {
     short_enough = subst (Each _) (sym c.new-entries.ensures.items) (each_none _);
     there = subst (Each _) (sym c.new-entries.ensures.items) (each_none _);
     as_long = subst (Each _) (sym c.new-entries.ensures.items) (each_none _);
-    kept = subst (λ b. AreKept (g.F.Files.keeps c.args.files) c.new-entries.result.items b.entries) (sym c.in-Ok.ensures) (kept_none (g.F.Files.keeps c.args.files) c.new-entries.result.items);
+    kept = subst (λ b. AreKept (g.F.Files.keeps c.args.files) c.new-entries.result.items b.entries) (sym c.in-Ok.ensures)
+        (kept_none (g.F.Files.keeps c.args.files) c.new-entries.result.items);
   };
 }
 

@@ -16,7 +16,8 @@ some_inj : {a b : OpenFile} → Some a ≡ Some b → a ≡ b
 some_inj h = cc
 
 -- the table grows in either case
-grown : {A E : Type 0} (old new : Opened) (path : List ℕ) (r : Result A E) (id len : A → ℕ) → IfOk r (λ x. Opens old new path (id x) (len x)) → OnErr r (new ≡ old) → Grows old new
+grown : {A E : Type 0} (old new : Opened) (path : List ℕ) (r : Result A E) (id len : A → ℕ) →
+    IfOk r (λ x. Opens old new path (id x) (len x)) → OnErr r (new ≡ old) → Grows old new
 grown old new path (Ok x) id len opens same = grows_opened old new path (id x) (len x) opens
 grown old new path (Err e) id len opens same = subst (Grows old) (sym same) (grows_same old)
 

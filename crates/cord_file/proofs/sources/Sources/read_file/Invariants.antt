@@ -11,7 +11,9 @@ invariant-loop-done g l = record {
   earlier : (folder : Folder) → g.F.Files.keeps l.self.files folder → g.F.Files.keeps l.initial.self.files folder;
   entries : l.self.entries.items ≡ l.initial.self.entries.items;
   count : g.F.Files.failures l.self.files ≡ g.F.Files.failures l.initial.self.files;
-  bytes : (folder : Folder) → g.F.Files.keeps l.self.files folder → IsSomeAnd (slice_get l.initial.self.entries.items l.place) (λ file. take l.done l.out ≡ take l.done (drop l.start (bytes_at folder (string_bytes file.path))));
+  bytes : (folder : Folder) → g.F.Files.keeps l.self.files folder →
+      IsSomeAnd (slice_get l.initial.self.entries.items l.place)
+      (λ file. take l.done l.out ≡ take l.done (drop l.start (bytes_at folder (string_bytes file.path))));
 }
 
 abbrev pub decreases-loop-done : goal.decreases-loop-done

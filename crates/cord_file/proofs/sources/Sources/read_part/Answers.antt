@@ -8,13 +8,15 @@ use Rattle.std.specs.Box.{with_value}
 use Rattle.cord_file.specs.Blocks.{HeapBlock, IsKept, AreKept}
 use Rattle.cord_file.specs.Soundness.{IsSound}
 use Rattle.cord_file.proofs.EntryBytes.{of_told}
-use Rattle.cord_file.proofs.BlockParts.{inside_opened, of_slot, kept_of_read, read_of_kept, kept_with, kept_earlier, sound_moved, sound_keeping}
+use Rattle.cord_file.proofs.BlockParts.{inside_opened, of_slot, kept_of_read, read_of_kept, kept_with, kept_earlier, sound_moved}
+use Rattle.cord_file.proofs.BlockParts.{sound_keeping}
 use Rattle.cord_file.proofs.sources.Sources.read_part.Goals as goal
 
 pub invariant_of-self-clause-sound : goal.invariant_of-self-clause-sound
 invariant_of-self-clause-sound g c =
     let self = c.args.self.now in
-    sound_keeping (g.F.Files.keeps self.files) (g.F.Files.opened self.files) self.entries.items self.cache.entries c.copy_kept.new.cache.entries (λ e h. self.sound.kept e (c.copy_kept.ensures.kept e h)) self.sound
+    sound_keeping (g.F.Files.keeps self.files) (g.F.Files.opened self.files) self.entries.items self.cache.entries
+    c.copy_kept.new.cache.entries (λ e h. self.sound.kept e (c.copy_kept.ensures.kept e h)) self.sound
 
 pub returns-then-copy_kept-clause-bytes : goal.returns-then-copy_kept-clause-bytes
 returns-then-copy_kept-clause-bytes g c = λ folder kept.
@@ -25,7 +27,9 @@ returns-then-copy_kept-clause-bytes g c = λ folder kept.
     let key : BlockKey = record { place = c.args.place; number = c.args.start / BLOCK } in
     let block = c.copy_kept.ensures.copied c.if-copy_kept.true in
     let part : c.args.start % BLOCK + length out ≤ BLOCK = omega (arith, same, c.requires.part) in
-    read_of_kept (g.F.Files.keeps self.files) files key block.0 out c.args.start (self.sound.kept (key, block.0) block.1) refl (subst (λ n. IsSomeAnd (slice_get files c.args.place) (λ file. c.args.start + n ≤ file.len)) (sym same) c.requires.inside) part block.2 folder kept
+    read_of_kept (g.F.Files.keeps self.files) files key block.0 out c.args.start (self.sound.kept (key, block.0) block.1) refl
+    (subst (λ n. IsSomeAnd (slice_get files c.args.place) (λ file. c.args.start + n ≤ file.len)) (sym same) c.requires.inside) part
+    block.2 folder kept
 
 pub index-file-requires : goal.index-file-requires
 index-file-requires g c =
@@ -65,7 +69,9 @@ invariant_of-self-in-Break-1 g c =
     let sound : IsSound (g.F.Files.keeps self.files) (g.F.Files.opened self.files) files c.copy_kept.new.cache.entries = sound_keeping (g.F.Files.keeps self.files) (g.F.Files.opened self.files) files self.cache.entries c.copy_kept.new.cache.entries (λ e h. self.sound.kept e (c.copy_kept.ensures.kept e h)) self.sound in
     record {
       few = self.few;
-      sound = sound_moved (g.F.Files.keeps self.files) (g.F.Files.keeps c.read_block.new.files) (g.F.Files.opened self.files) (g.F.Files.opened c.read_block.new.files) files c.copy_kept.new.cache.entries c.read_block.ensures.earlier (λ n h. c.read_block.ensures.opened n) sound;
+      sound = sound_moved (g.F.Files.keeps self.files) (g.F.Files.keeps c.read_block.new.files) (g.F.Files.opened self.files)
+          (g.F.Files.opened c.read_block.new.files) files c.copy_kept.new.cache.entries c.read_block.ensures.earlier
+          (λ n h. c.read_block.ensures.opened n) sound;
     }
 
 pub invariant_of-self-2-clause-sound : goal.invariant_of-self-2-clause-sound
@@ -80,8 +86,11 @@ invariant_of-self-2-clause-sound g c =
     let kept : IsKept (g.F.Files.keeps c.read_block.new.files) files (key, block) = kept_of_read (g.F.Files.keeps c.read_block.new.files) (g.F.Files.opened self.files file.no.0) files key file block here (self.sound.handed_out c.args.place file here) c.in_ok-read_block.ensures.block in
     let before : AreKept (g.F.Files.keeps c.read_block.new.files) files c.copy_kept.new.cache.entries = kept_earlier (g.F.Files.keeps self.files) (g.F.Files.keeps c.read_block.new.files) files c.copy_kept.new.cache.entries c.read_block.ensures.earlier (λ e h. self.sound.kept e (c.copy_kept.ensures.kept e h)) in
     let all : AreKept (g.F.Files.keeps c.read_block.new.files) files c.keep.new.cache.entries = kept_with (g.F.Files.keeps c.read_block.new.files) files c.copy_kept.new.cache.entries c.keep.new.cache.entries (key, block) before kept c.keep.ensures in
-    sound_keeping (g.F.Files.keeps c.read_block.new.files) (g.F.Files.opened c.read_block.new.files) files self.cache.entries c.keep.new.cache.entries all
-    (sound_moved (g.F.Files.keeps self.files) (g.F.Files.keeps c.read_block.new.files) (g.F.Files.opened self.files) (g.F.Files.opened c.read_block.new.files) files self.cache.entries c.read_block.ensures.earlier (λ n h. c.read_block.ensures.opened n) self.sound)
+    sound_keeping (g.F.Files.keeps c.read_block.new.files) (g.F.Files.opened c.read_block.new.files) files self.cache.entries
+    c.keep.new.cache.entries all
+    (sound_moved (g.F.Files.keeps self.files) (g.F.Files.keeps c.read_block.new.files) (g.F.Files.opened self.files)
+    (g.F.Files.opened c.read_block.new.files) files self.cache.entries c.read_block.ensures.earlier
+    (λ n h. c.read_block.ensures.opened n) self.sound)
 
 pub returns-clause-bytes : goal.returns-clause-bytes
 returns-clause-bytes g c = λ folder is.
@@ -98,9 +107,13 @@ returns-clause-bytes g c = λ folder is.
     let count : (c.args.start % BLOCK + length c.copy_kept.new.out) - c.args.start % BLOCK ≡ length out = search rules in
     let part : c.args.start % BLOCK + length out ≤ BLOCK = omega (arith, same, c.requires.part) in
     let lent : c.deref.result.now ≡ block.value = search rules in
-    read_of_kept (g.F.Files.keeps c.read_block.new.files) files key block out c.args.start kept refl (subst (λ n. IsSomeAnd (slice_get files c.args.place) (λ f. c.args.start + n ≤ f.len)) (sym same) c.requires.inside) part (c.copy_from_slice.ensures.after ∙ ap (λ t. take ((c.args.start % BLOCK + length c.copy_kept.new.out) - c.args.start % BLOCK) (drop (c.args.start % BLOCK) t)) lent ∙ ap (λ n. take n (drop (c.args.start % BLOCK) block.value)) count) folder is
+    read_of_kept (g.F.Files.keeps c.read_block.new.files) files key block out c.args.start kept refl
+    (subst (λ n. IsSomeAnd (slice_get files c.args.place) (λ f. c.args.start + n ≤ f.len)) (sym same) c.requires.inside) part
+    (c.copy_from_slice.ensures.after ∙ ap (λ t. take ((c.args.start % BLOCK + length c.copy_kept.new.out) - c.args.start % BLOCK)
+    (drop (c.args.start % BLOCK) t)) lent ∙ ap (λ n. take n (drop (c.args.start % BLOCK) block.value)) count) folder is
 
 pub invariant_of-self-in_default-clause-sound : goal.invariant_of-self-in_default-clause-sound
 invariant_of-self-in_default-clause-sound g c =
     let self = c.args.self.now in
-    sound_keeping (g.F.Files.keeps self.files) (g.F.Files.opened self.files) self.entries.items self.cache.entries c.copy_kept.new.cache.entries (λ e h. self.sound.kept e (c.copy_kept.ensures.kept e h)) self.sound
+    sound_keeping (g.F.Files.keeps self.files) (g.F.Files.opened self.files) self.entries.items self.cache.entries
+    c.copy_kept.new.cache.entries (λ e h. self.sound.kept e (c.copy_kept.ensures.kept e h)) self.sound

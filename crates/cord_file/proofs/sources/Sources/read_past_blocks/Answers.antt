@@ -21,7 +21,8 @@ read_range-requires-clause-inside g c =
     let file : OpenFile = c.index-file.result.now in
     let inside : c.args.place < length files = inside_opened files c.args.place (λ f. c.args.start + length c.args.out.now ≤ f.len) c.requires.inside in
     let here : slice_get files c.args.place ≡ Some file = slice_get_read files (length files) c.args.place file refl inside c.index-file.ensures in
-    of_told (λ n. c.args.start + length c.args.out.now ≤ n) (g.F.Files.opened self.files file.no.0) file (self.sound.handed_out c.args.place file here) (of_slot (λ f. c.args.start + length c.args.out.now ≤ f.len) here c.requires.inside)
+    of_told (λ n. c.args.start + length c.args.out.now ≤ n) (g.F.Files.opened self.files file.no.0) file
+    (self.sound.handed_out c.args.place file here) (of_slot (λ f. c.args.start + length c.args.out.now ≤ f.len) here c.requires.inside)
 
 pub read_range-requires-clause-limit : goal.read_range-requires-clause-limit
 read_range-requires-clause-limit g c =
@@ -37,7 +38,9 @@ read_range-requires-clause-limit g c =
 pub invariant_of-self-clause-sound : goal.invariant_of-self-clause-sound
 invariant_of-self-clause-sound g c =
     let self = c.args.self.now in
-    sound_moved (g.F.Files.keeps self.files) (g.F.Files.keeps c.read_range.new.files) (g.F.Files.opened self.files) (g.F.Files.opened c.read_range.new.files) self.entries.items self.cache.entries c.read_range.ensures.earlier (λ n h. c.read_range.ensures.opened n) self.sound
+    sound_moved (g.F.Files.keeps self.files) (g.F.Files.keeps c.read_range.new.files) (g.F.Files.opened self.files)
+    (g.F.Files.opened c.read_range.new.files) self.entries.items self.cache.entries c.read_range.ensures.earlier
+    (λ n h. c.read_range.ensures.opened n) self.sound
 
 pub returns-clause-bytes : goal.returns-clause-bytes
 returns-clause-bytes g c = λ folder kept.
@@ -46,4 +49,5 @@ returns-clause-bytes g c = λ folder kept.
     let file : OpenFile = c.index-file.result.now in
     let inside : c.args.place < length files = inside_opened files c.args.place (λ f. c.args.start + length c.args.out.now ≤ f.len) c.requires.inside in
     let here : slice_get files c.args.place ≡ Some file = slice_get_read files (length files) c.args.place file refl inside c.index-file.ensures in
-    read_of_told c.read_range.result folder (g.F.Files.opened self.files file.no.0) (slice_get files c.args.place) file c.args.start c.read_range.new.out (self.sound.handed_out c.args.place file here) here (c.read_range.ensures.bytes folder kept)
+    read_of_told c.read_range.result folder (g.F.Files.opened self.files file.no.0) (slice_get files c.args.place) file c.args.start
+    c.read_range.new.out (self.sound.handed_out c.args.place file here) here (c.read_range.ensures.bytes folder kept)

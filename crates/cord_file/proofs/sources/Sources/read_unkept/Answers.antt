@@ -43,7 +43,9 @@ invariant_of-self g c =
     let self = c.args.self.now in
     record {
       few = self.few;
-      sound = sound_moved (g.F.Files.keeps self.files) (g.F.Files.keeps c.read_block.new.files) (g.F.Files.opened self.files) (g.F.Files.opened c.read_block.new.files) self.entries.items self.cache.entries c.read_block.ensures.earlier (λ n h. c.read_block.ensures.opened n) self.sound;
+      sound = sound_moved (g.F.Files.keeps self.files) (g.F.Files.keeps c.read_block.new.files) (g.F.Files.opened self.files)
+          (g.F.Files.opened c.read_block.new.files) self.entries.items self.cache.entries c.read_block.ensures.earlier
+          (λ n h. c.read_block.ensures.opened n) self.sound;
     }
 
 pub returns-clause-bytes : goal.returns-clause-bytes
@@ -58,4 +60,8 @@ returns-clause-bytes g c = λ folder is.
     let same : length out ≡ length c.args.out.now = search rules in
     let count : (c.args.start % BLOCK + length c.args.out.now) - c.args.start % BLOCK ≡ length out = search rules in
     let part : c.args.start % BLOCK + length out ≤ BLOCK = omega (arith, same, c.requires.part) in
-    read_of_block files c.args.place (c.args.start / BLOCK) block out c.args.start folder (λ f e. block_of_read (g.F.Files.opened self.files file.no.0) files c.args.place (c.args.start / BLOCK) file f block folder here (self.sound.handed_out c.args.place file here) (c.in_ok-read_block.ensures.block folder is) e) refl (subst (λ n. IsSomeAnd (slice_get files c.args.place) (λ f. c.args.start + n ≤ f.len)) (sym same) c.requires.inside) part (c.copy_from_slice.ensures.after ∙ ap (λ n. take n (drop (c.args.start % BLOCK) block)) count)
+    read_of_block files c.args.place (c.args.start / BLOCK) block out c.args.start folder
+    (λ f e. block_of_read (g.F.Files.opened self.files file.no.0) files c.args.place (c.args.start / BLOCK) file f block folder here
+    (self.sound.handed_out c.args.place file here) (c.in_ok-read_block.ensures.block folder is) e) refl
+    (subst (λ n. IsSomeAnd (slice_get files c.args.place) (λ f. c.args.start + n ≤ f.len)) (sym same) c.requires.inside) part
+    (c.copy_from_slice.ensures.after ∙ ap (λ n. take n (drop (c.args.start % BLOCK) block)) count)

@@ -47,10 +47,12 @@ returns-clause-text g c = λ folder kept.
     let items : rc_slice_items c.in_ok-shared.shared ≡ out = c.in_ok-shared.ensures ∙ written c.in_ok-bytes.bytes.len out c.in_ok-bytes.bytes.items c.in_ok-bytes.bytes.ok.0 long in
     let told = as_long_as_told (g.F.Files.keeps self.files) files self.sound.as_long folder (c.in_ok-read_past_blocks.ensures.earlier folder kept) in
     c.in_ok-cord.ensures.over.bytes (table_in (opened_of files) folder) ∙ items
-    ∙ entry_bytes folder files c.args.id.0 c.args.len out c.requires.file told c.requires.len count (c.in_ok-read_past_blocks.ensures.bytes folder kept)
+    ∙ entry_bytes folder files c.args.id.0 c.args.len out c.requires.file told c.requires.len count
+    (c.in_ok-read_past_blocks.ensures.bytes folder kept)
 
 -- bytes that aren't too long for a cord are refused for want of memory alone
-refusal : {A : Type 0} (r : Result A FileError) (e : CordError) → IsErrAnd r (λ f. f ≡ file_error_of e) → IsRefusal e → (e ≡ TooLong → ⊥) → IfErr r IsReadRefusal
+refusal : {A : Type 0} (r : Result A FileError) (e : CordError) → IsErrAnd r (λ f. f ≡ file_error_of e) → IsRefusal e → (e ≡ TooLong → ⊥) →
+    IfErr r IsReadRefusal
 refusal (Ok x) e gives known short = tt
 refusal (Err f) e gives known short = subst IsReadRefusal (sym gives) (cases e known short) where
   cases : (e : CordError) → IsRefusal e → (e ≡ TooLong → ⊥) → IsReadRefusal (file_error_of e)

@@ -7,7 +7,10 @@ use Rattle.cord_file.proofs.sources.SourcesSource.read.Goals as goal
 pub read_file-requires : goal.read_file-requires
 read_file-requires g c =
     let past : 2 ≤ c.args.id.0 = search rules in
-    record { inside = in_slot (λ len. c.args.start + length c.args.out.now ≤ len) c.args.self.now.entries.items c.args.id.0 past c.requires.inside }
+    record {
+      inside = in_slot (λ len. c.args.start + length c.args.out.now ≤ len) c.args.self.now.entries.items c.args.id.0 past
+          c.requires.inside;
+    }
 
 pub returns-in-0-clause-bytes : goal.returns-in-0-clause-bytes
 returns-in-0-clause-bytes g c = λ folder kept.
@@ -22,4 +25,5 @@ pub returns-in_default-clause-bytes : goal.returns-in_default-clause-bytes
 returns-in_default-clause-bytes g c = λ folder kept.
     let self = c.args.self.now in
     let past : 2 ≤ c.args.id.0 = search rules in
-    entry_read_ok c.read_file.result folder self.entries.items c.args.id.0 c.args.start c.read_file.new.out past (c.read_file.ensures.bytes folder kept)
+    entry_read_ok c.read_file.result folder self.entries.items c.args.id.0 c.args.start c.read_file.new.out past
+    (c.read_file.ensures.bytes folder kept)

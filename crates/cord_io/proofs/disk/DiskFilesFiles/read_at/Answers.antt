@@ -17,7 +17,8 @@ returns-in-Ok-clause-told g c =
     let before = c.args.self.now.trace.told in
     let here : slice_get files c.args.no.0 ≡ Some old = has_number files c.args.no.0 old _ c.requires.inside c.index_mut-opened.ensures.value in
     let told : c.then-self.result.told ≡ has_bytes (string_bytes old.reader.path) c.args.start (take c.in-Ok.count c.read.new.out) ∷ before = search rules in
-    subst (λ o. c.then-self.result.told ≡ after_reading {E = ReadFault} (option_map told_of o) c.args.start c.read.new.out (Ok c.in-Ok.count) before) (sym here) told
+    subst (λ o. c.then-self.result.told ≡ after_reading {E = ReadFault} (option_map told_of o) c.args.start c.read.new.out
+    (Ok c.in-Ok.count) before) (sym here) told
 
 pub returns-in-Ok-clause-bytes : goal.returns-in-Ok-clause-bytes
 returns-in-Ok-clause-bytes g c = λ folder agrees.
@@ -26,7 +27,8 @@ returns-in-Ok-clause-bytes g c = λ folder agrees.
     let before = c.args.self.now.trace.told in
     let here : slice_get files c.args.no.0 ≡ Some old = has_number files c.args.no.0 old _ c.requires.inside c.index_mut-opened.ensures.value in
     let told : c.then-self.result.told ≡ has_bytes (string_bytes old.reader.path) c.args.start (take c.in-Ok.count c.read.new.out) ∷ before = search rules in
-    told_read folder files c.args.no.0 old c.in-Ok.count c.args.start c.read.new.out before here c.in-Ok.ensures.some.1 (subst (Agrees folder) told agrees)
+    told_read folder files c.args.no.0 old c.in-Ok.count c.args.start c.read.new.out before here c.in-Ok.ensures.some.1
+    (subst (Agrees folder) told agrees)
 
 pub returns-in-Ok-clause-given_earlier : goal.returns-in-Ok-clause-given_earlier
 returns-in-Ok-clause-given_earlier g c = λ folder.

@@ -9,7 +9,9 @@ returns-then-byte g c =
     let bytes = c.args.bytes.now in
     let i = c.loop-byte.byte-index in
     let stop : (state c.byte.new.self, true) ≡ step (state c.loop-byte.self) (get_or bytes i 0) = rw c.if-byte.true at c.byte.ensures in
-    sym (walk_stop_in step (state c.args.self.now) (state c.byte.new.self) bytes (i + 1) (walk_next step (state c.args.self.now) (state c.loop-byte.self) (state c.byte.new.self) true bytes i c.loop-byte-test.true c.loop-byte.invariant stop))
+    sym (walk_stop_in step (state c.args.self.now) (state c.byte.new.self) bytes (i + 1)
+    (walk_next step (state c.args.self.now) (state c.loop-byte.self) (state c.byte.new.self) true bytes i c.loop-byte-test.true
+    c.loop-byte.invariant stop))
 
 pub loop-byte-preserved : goal.loop-byte-preserved
 loop-byte-preserved g c =
@@ -18,4 +20,5 @@ loop-byte-preserved g c =
     let bytes = c.args.bytes.now in
     let i = c.loop-byte.byte-index in
     let on : (state c.byte.new.self, false) ≡ step (state c.loop-byte.self) (get_or bytes i 0) = rw c.if-byte.false at c.byte.ensures in
-    walk_next step (state c.args.self.now) (state c.loop-byte.self) (state c.byte.new.self) false bytes i c.loop-byte-test.true c.loop-byte.invariant on
+    walk_next step (state c.args.self.now) (state c.loop-byte.self) (state c.byte.new.self) false bytes i c.loop-byte-test.true
+    c.loop-byte.invariant on

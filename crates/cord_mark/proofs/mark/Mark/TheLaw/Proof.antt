@@ -26,7 +26,8 @@ shares = record {
   shares = λ M 𝓤 𝓛 d κ ts b o inc sp.
       let P : Fml = part_at C.the_written full_share d b o in
       qed 𝓛 (‵ (fbor κ P) ∷ raw (lfts 𝓛 ts) ∷ []) ∵ updating ! $
-      use0 𝓛 (later (some (λ (γ : GName). ‵ (told γ d b o)))) (via 𝓤 _ (own_new 𝓛 telling (d, (b, o))) (basic 𝓛 _)) $ await ! tt $ pick ! (λ γ. move ! (1 ∷ []) $
+      use0 𝓛 (later (some (λ (γ : GName). ‵ (told γ d b o)))) (via 𝓤 _ (own_new 𝓛 telling (d, (b, o))) (basic 𝓛 _)) $ await ! tt $ pick !
+      (λ γ. move ! (1 ∷ []) $
       use1 𝓛 (later (‵ (na_bor κ (γ, 0) P))) (bor_na 𝓛 κ (γ, 0) P) $ await ! tt $ move ! (1 ∷ 0 ∷ []) $ fjoin ! $
       fpack ! GName (λ (g : GName). fsep (told g d b o) (na_bor κ (g, 0) P)) γ $ now ! $ done !);
 }

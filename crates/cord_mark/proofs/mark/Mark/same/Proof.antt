@@ -1,4 +1,5 @@
--- `same` turns the one flag and reads the other. If two names reach the marks, both are open and the other flag stays; if one does, the marks are one. Assumes `Logic`.
+-- `same` turns the one flag and reads the other. If two names reach the marks, both are open and the other flag stays; if one does, the
+-- marks are one. Assumes `Logic`.
 use Rattle.std.proofs.Common.{◌≡◌, ℕ, Bool, true, false, not, List, [], ◌∷◌, ◌++◌, refl, sym, true≢false}
 use mathlib.Core.Bool.{beq}
 use mir.Syntax.{Fn}
@@ -8,7 +9,8 @@ use base.Fml.{GName, Key, Lft, Mask, Share, ftrue, flft, ftok}
 use base.Mask.{every, less, less_other, Key-Dec}
 use prog.Wp.{Env, WpFn}
 use contract.Monad.{fact, fact_i}
-use types.Kit.{‵, raw, ⋆, ◌⊛◌, prop, at_ret, ◌$◌, ◌∵◌, !, qed, by, move, keep, use0, use2, split, split3, join, rewrite, regoal, fsplit, fjoin, feq_i}
+use types.Kit.{‵, raw, ⋆, ◌⊛◌, prop, at_ret, ◌$◌, ◌∵◌, !, qed, by, move, keep, use0, use2, split, split3, join, rewrite, regoal, fsplit}
+use types.Kit.{fjoin, feq_i}
 use types.Na.{na_bor}
 use types.Part.{whole, sub, look_in, store_in}
 use types.Run.{stop, fld, load, addr, un, bin, of_opd, assigns, first, blocks, exec, returns, enter}
@@ -43,7 +45,11 @@ same_spec 𝓤 𝓛 𝓜 𝓡 wired =
     let fn : Fn = compiled.function in
     let stays : Stays ended.signature.params ended.kept = (stay_dropped (parameter ended.signature.params 0) ended.kept.0, (stay_dropped (parameter ended.signature.params 1) ended.kept.1.0, tt)) in
     let c = held 𝓛 ended stays c₀ in
-    met_with_token 𝓛 ended stays c₀ 𝓜 𝓡 (Goes-dropped 𝓛 2 (parameter ended.signature.params 0) ended.kept.0 (λ κs x f. refl), (Goes-dropped 𝓛 2 (parameter ended.signature.params 1) ended.kept.1.0 (λ κs x f. refl), tt)) #self fn (wired.0.0 #self refl) (λ C Λ z are.
+    met_with_token 𝓛 ended stays c₀ 𝓜 𝓡 (
+      Goes-dropped 𝓛 2 (parameter ended.signature.params 0) ended.kept.0 (λ κs x f. refl),
+      (Goes-dropped 𝓛 2 (parameter ended.signature.params 1) ended.kept.1.0 (λ κs x f. refl), tt),
+    ) #self fn (wired.0.0 #self refl)
+    (λ C Λ z are.
     let Post : Val → SProp 𝓤 = (walk_of 𝓛 ended stays c).post z in
     let a = z.0.3 in
     let vss = z.0.4 in
@@ -85,7 +91,8 @@ same_spec 𝓤 𝓛 𝓜 𝓡 wired =
     -- two names
     let two_marks : (γ δ : GName) → ¬ (◌≡◌ {A = Key} (γ, 0) (δ, 0)) → ent 𝓤 (⋆ 𝓛 (‵ (na_bor κ (γ, 0) (fields_at Fields b o)) ∷ ‵ (flft κ q) ∷ ‵ (ftok every) ∷ ‵ (na_bor μ (δ, 0) (fields_at Fields d e)) ∷ ‵ (flft μ r) ∷ []))
     (WpFn 𝓤 H C Λ fn (vptr b o ∷ vptr d e ∷ []) Post) = λ γ δ apart. let E : Mask = less every (γ, 0) in
-    qed 𝓛 (‵ (na_bor κ (γ, 0) (fields_at Fields b o)) ∷ ‵ (flft κ q) ∷ ‵ (ftok every) ∷ ‵ (na_bor μ (δ, 0) (fields_at Fields d e)) ∷ ‵ (flft μ r) ∷ []) ∵
+    qed 𝓛 (‵ (na_bor κ (γ, 0) (fields_at Fields b o)) ∷ ‵ (flft κ q) ∷ ‵ (ftok every) ∷ ‵ (na_bor μ (δ, 0) (fields_at Fields d e))
+    ∷ ‵ (flft μ r) ∷ []) ∵
     enter ! C Λ fn (vptr b o ∷ vptr d e ∷ []) Post $
     alloc_all ! (λ l. pass_all ! refl ((tt, tt), ((tt, tt), tt)) $ let En : Env 𝓤 H = env fn.locals l in
     opens_mark b o ! tt every (γ, 0) refl (λ x. move ! (3 ∷ 4 ∷ 1 ∷ []) $
@@ -103,16 +110,20 @@ same_spec 𝓤 𝓛 𝓜 𝓡 wired =
     sets ! (of_opd ! (get ! refl)) refl (tt, tt) $
     shuts_mark d e ! tt E (δ, 0) y $ move ! (2 ∷ 1 ∷ 3 ∷ []) $ shuts_mark b o ! tt every (γ, 0) (not y) $
     returns ! (look_at ! 0 refl) $ free_all ! refl $ keep ! (0 ∷ 1 ∷ 2 ∷ []) $ by ! (exits (not (beq y y)) (still y))))) in
-    qed 𝓛 (((‵ (flft κ q) ⊛ ‵ (flft μ r) ⊛ ‵ ftrue) ⊛ ‵ (owns (types_at ended.signature.params z.0.0) a vss)) ∷ (‵ (ftok every) ⊛ ‵ ftrue) ∷ []) ∵
-    split ! $ split3 ! $ move ! (3 ∷ []) $ fsplit ! $ fsplit ! $ move ! (2 ∷ []) $ fsplit ! $ fsplit ! $ move ! (8 ∷ []) $ split ! $ keep ! (6 ∷ 3 ∷ 7 ∷ 0 ∷ 8 ∷ []) $
+    qed 𝓛 (((‵ (flft κ q) ⊛ ‵ (flft μ r) ⊛ ‵ ftrue) ⊛ ‵ (owns (types_at ended.signature.params z.0.0) a vss)) ∷ (‵ (ftok every) ⊛ ‵ ftrue)
+    ∷ []) ∵
+    split ! $ split3 ! $ move ! (3 ∷ []) $ fsplit ! $ fsplit ! $ move ! (2 ∷ []) $ fsplit ! $ fsplit ! $ move ! (8 ∷ []) $ split ! $ keep !
+    (6 ∷ 3 ∷ 7 ∷ 0 ∷ 8 ∷ []) $
     -- [what this & holds; what the other holds; the token of κ, the thread's, that of μ]
     regoal ! (λ (us : List Val). prop (WpFn 𝓤 H C Λ fn us Post)) (λ i. are.0.0 i ++ (are.1.0.0 i ++ [])) refl $
     named b o ! s (λ γ. move ! (2 ∷ []) $ named d e ! t (λ δ.
     -- [the other's word, and what reaches it; this one's; the tokens]
     elim (Key-Dec (γ, 0) (δ, 0)) [
       | yes one ↦ let Both : Type 0 = ◌≡◌ {A = Told} (s, (b, o)) (t, (d, e)) in
-          rewrite ! 0 (λ (g : GName). ‵ (told g t d e)) (λ i. (sym one i).0) refl $ move ! (2 ∷ 0 ∷ []) $ use2 𝓛 (raw (fact 𝓤 Both)) (told_same 𝓛 γ s t b o d e) $
+          rewrite ! 0 (λ (g : GName). ‵ (told g t d e)) (λ i. (sym one i).0) refl $ move ! (2 ∷ 0 ∷ []) $ use2 𝓛 (raw (fact 𝓤 Both))
+          (told_same 𝓛 γ s t b o d e) $
           heard ! Both (λ both. keep ! (1 ∷ 2 ∷ 3 ∷ 4 ∷ []) $
-          regoal ! (λ (k : Told). prop (WpFn 𝓤 H C Λ fn (vptr b o ∷ vptr k.1.0 k.1.1 ∷ []) Post)) (sym both) refl $ by ! (one_mark γ (λ i. (both i).0)))
+          regoal ! (λ (k : Told). prop (WpFn 𝓤 H C Λ fn (vptr b o ∷ vptr k.1.0 k.1.1 ∷ []) Post)) (sym both) refl $ by !
+          (one_mark γ (λ i. (both i).0)))
       | no apart ↦ keep ! (3 ∷ 4 ∷ 5 ∷ 1 ∷ 6 ∷ []) $ by ! (two_marks γ δ apart)
     ])))

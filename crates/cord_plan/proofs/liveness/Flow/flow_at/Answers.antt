@@ -12,7 +12,10 @@ pub returns-clause-bits : goal.returns-clause-bits
 returns-clause-bits c = λ x i b.
     c.flowed.ensures.bits i b.within
     ∙ flow_same (bit c.word_at-here.result i) (bit c.word_behind_at-behind.result i) (bit c.word_at-kill.result i)
-    (at (column c.args.words.now i) c.args.place) (some_of (λ q. at (column c.args.words.now i) q) (behind (map shape_of c.args.self.now.statements.now) c.args.place)) (assigns_at (slice_get c.args.self.now.statements.now c.args.place) x)
+    (at (column c.args.words.now i) c.args.place) (some_of (λ q. at (column c.args.words.now i) q)
+    (behind (map shape_of c.args.self.now.statements.now) c.args.place))
+    (assigns_at (slice_get c.args.self.now.statements.now c.args.place) x)
     (c.word_at-here.ensures.bits i)
-    (c.word_behind_at-behind.ensures i ∙ ap (λ (qs : List ℕ). some_of (λ q. at (column c.args.words.now i) q) qs) (c.requires.behinds.told c.args.place))
+    (c.word_behind_at-behind.ensures i ∙ ap (λ (qs : List ℕ). some_of (λ q. at (column c.args.words.now i) q) qs)
+    (c.requires.behinds.told c.args.place))
     (c.word_at-kill.ensures.bits i ∙ c.requires.assigned.told x i b c.args.place)

@@ -26,7 +26,9 @@ loop-p-preserved-then-word-here c =
     record {
       partly = record {
         size = length-set c.loop-p.words (c.loop-p.p - 1) c.flow_at-word.result ∙ c.loop-p.invariant.partly.size;
-        told = λ x i b. rw (map-set (λ w. bit w i) c.loop-p.words (c.loop-p.p - 1) c.flow_at-word.result) (flow_partly c.args.self.now.statements.now x (column c.loop-p.words i) (c.loop-p.p - 1) (c.loop-p.invariant.partly.told x i b) (bit c.flow_at-word.result i) (c.flow_at-word.ensures.bits x i b));
+        told = λ x i b. rw (map-set (λ w. bit w i) c.loop-p.words (c.loop-p.p - 1) c.flow_at-word.result)
+            (flow_partly c.args.self.now.statements.now x (column c.loop-p.words i) (c.loop-p.p - 1) (c.loop-p.invariant.partly.told x i b)
+            (bit c.flow_at-word.result i) (c.flow_at-word.ensures.bits x i b));
       };
       resting = λ e x i b k le. let bad : ⊥ = cc in absurd bad;
       few = omega arith;
@@ -38,8 +40,10 @@ loop-p-preserved c =
     let same : c.flow_at-word.result ≡ c.word_at-here.result = let h = c.if-word-here.false in cc in
     record {
       partly = c.loop-p.invariant.partly;
-      resting = λ e x i b k le. rests_from (λ (n : ℕ). finds c.args.self.now.statements.now x (column c.loop-p.words i) n ≡ false) c.loop-p.p c.loop-p-test.true (c.loop-p.invariant.resting e x i b)
-          (flow_resting c.args.self.now.statements.now x (column c.loop-p.words i) (c.loop-p.p - 1) (sym (c.flow_at-word.ensures.bits x i b) ∙ ap (λ (w : ℕ). bit w i) same ∙ c.word_at-here.ensures.bits i)) k le;
+      resting = λ e x i b k le. rests_from (λ (n : ℕ). finds c.args.self.now.statements.now x (column c.loop-p.words i) n ≡ false)
+          c.loop-p.p c.loop-p-test.true (c.loop-p.invariant.resting e x i b)
+          (flow_resting c.args.self.now.statements.now x (column c.loop-p.words i) (c.loop-p.p - 1)
+          (sym (c.flow_at-word.ensures.bits x i b) ∙ ap (λ (w : ℕ). bit w i) same ∙ c.word_at-here.ensures.bits i)) k le;
       few = c.loop-p.invariant.few;
       fewer = c.loop-p.invariant.fewer;
     }
@@ -47,6 +51,9 @@ loop-p-preserved c =
 pub returns : goal.returns
 returns c = record {
   partly = c.loop-p.invariant.partly;
-  live = λ e x i b. record { partly = c.loop-p.invariant.partly.told x i b; resting = λ p. c.loop-p.invariant.resting e x i b p (omega arith) };
+  live = λ e x i b. record {
+    partly = c.loop-p.invariant.partly.told x i b;
+    resting = λ p. c.loop-p.invariant.resting e x i b p (omega arith);
+  };
   fewer = c.loop-p.invariant.fewer;
 }

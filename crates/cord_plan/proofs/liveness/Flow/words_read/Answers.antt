@@ -9,8 +9,12 @@ use Rattle.cord_plan.proofs.liveness.Flow.words_read.Goals as goal
 
 pub loop-statement-preserved : goal.loop-statement-preserved
 loop-statement-preserved c = record {
-  size = rw c.in_ok-push.ensures.items (size_more c.loop-statement.words.items c.mark_read.result c.loop-statement.statement-index c.loop-statement.invariant.size);
-  columns = λ x i b. rw c.in_ok-push.ensures.items (told_more (λ m. reads m x) c.args.self.now.statements.now c.loop-statement.statement-index c.statement-item.result c.loop-statement.words.items c.mark_read.result i c.loop-statement-test.true c.statement-item.is (c.loop-statement.invariant.columns x i b) (c.mark_read.ensures x i b));
+  size = rw c.in_ok-push.ensures.items (size_more c.loop-statement.words.items c.mark_read.result c.loop-statement.statement-index
+      c.loop-statement.invariant.size);
+  columns = λ x i b. rw c.in_ok-push.ensures.items
+      (told_more (λ m. reads m x) c.args.self.now.statements.now c.loop-statement.statement-index c.statement-item.result
+      c.loop-statement.words.items c.mark_read.result i c.loop-statement-test.true c.statement-item.is
+      (c.loop-statement.invariant.columns x i b) (c.mark_read.ensures x i b));
 }
 
 pub returns : goal.returns
@@ -18,5 +22,7 @@ returns c =
     let over : length c.args.self.now.statements.now ≤ c.loop-statement.statement-index = omega arith in
     record {
       size = c.loop-statement.invariant.size ∙ omega arith;
-      told = λ x i b. readers_partly c.args.self.now.statements.now x (column c.loop-statement.words.items i) (c.loop-statement.invariant.columns x i b ∙ ap (λ (ls : List Statement). map (λ m. reads m x) ls) (take_all c.loop-statement.statement-index c.args.self.now.statements.now over));
+      told = λ x i b. readers_partly c.args.self.now.statements.now x (column c.loop-statement.words.items i)
+          (c.loop-statement.invariant.columns x i b ∙ ap (λ (ls : List Statement). map (λ m. reads m x) ls)
+          (take_all c.loop-statement.statement-index c.args.self.now.statements.now over));
     }

@@ -6,5 +6,6 @@ use Rattle.cord_plan.proofs.liveness.Flow.words_read.Given as goal
 abbrev pub invariant-loop-statement : goal.invariant-loop-statement
 invariant-loop-statement l = record {
   size : length l.words.items ≡ l.statement-index;
-  columns : (x : List ℕ) (i : ℕ) → IsBit l.self.numbering.now l.self.group x i → column l.words.items i ≡ map (λ m. reads m x) (take l.statement-index l.self.statements.now);
+  columns : (x : List ℕ) (i : ℕ) → IsBit l.self.numbering.now l.self.group x i →
+      column l.words.items i ≡ map (λ m. reads m x) (take l.statement-index l.self.statements.now);
 }

@@ -7,4 +7,5 @@ pub returns : goal.returns
 returns c =
     let same : c.in_ok-copy.copy ≡ c.args.name.now = let h = c.in_ok-copy.ensures in search rules in
     let is : c.push.new.self.items ≡ names_of c.args.self.now ++ c.args.name.now ∷ [] = c.in_ok-push.ensures.items ∙ ap (λ (x : List ℕ). names_of c.args.self.now ++ x ∷ []) same in
-    subst (λ (ys : List (List ℕ)). Adds (c.args.name.now ∷ []) (names_of c.args.self.now) ys) (sym is) (name_added c.args.name.now (names_of c.args.self.now))
+    subst (λ (ys : List (List ℕ)). Adds (c.args.name.now ∷ []) (names_of c.args.self.now) ys) (sym is)
+    (name_added c.args.name.now (names_of c.args.self.now))

@@ -13,8 +13,12 @@ returns-then-is_block-clause-recent c =
     let assigned : Notes t (λ x. assigns l x) b c.args.self.now.assigned.items c.note_assigned.new.places = rw (← c.deref_mut.ensures.value) c.note_assigned.ensures in
     let read : Notes t (λ x. reads l x) b c.args.self.now.read.items c.note_read.new.places = rw (← c.deref_mut-2.ensures.value) c.note_read.ensures in
     λ s here old. record {
-      assigned = rw (written_back c.args.self.now.assigned.len c.note_assigned.new.places c.args.self.now.assigned.items (c.note_assigned.auto.places ∙ c.deref_mut.ensures.len)) (assigned_then s t b l here c.args.self.now.assigned.items c.note_assigned.new.places assigned old.assigned);
-      read = rw (written_back c.args.self.now.read.len c.note_read.new.places c.args.self.now.read.items (c.note_read.auto.places ∙ c.deref_mut-2.ensures.len)) (read_then s t b l here c.args.self.now.read.items c.note_read.new.places read old.read);
+      assigned = rw (written_back c.args.self.now.assigned.len c.note_assigned.new.places c.args.self.now.assigned.items
+          (c.note_assigned.auto.places ∙ c.deref_mut.ensures.len))
+          (assigned_then s t b l here c.args.self.now.assigned.items c.note_assigned.new.places assigned old.assigned);
+      read = rw (written_back c.args.self.now.read.len c.note_read.new.places c.args.self.now.read.items
+          (c.note_read.auto.places ∙ c.deref_mut-2.ensures.len))
+          (read_then s t b l here c.args.self.now.read.items c.note_read.new.places read old.read);
       block = block_then s t b l here c.args.self.now.block _ (sym c.if-is_block.true ∙ c.is_block.ensures) old.block;
     }
 
@@ -26,7 +30,11 @@ returns-else-is_block-clause-recent c =
     let assigned : Notes t (λ x. assigns l x) b c.args.self.now.assigned.items c.note_assigned.new.places = rw (← c.deref_mut.ensures.value) c.note_assigned.ensures in
     let read : Notes t (λ x. reads l x) b c.args.self.now.read.items c.note_read.new.places = rw (← c.deref_mut-2.ensures.value) c.note_read.ensures in
     λ s here old. record {
-      assigned = rw (written_back c.args.self.now.assigned.len c.note_assigned.new.places c.args.self.now.assigned.items (c.note_assigned.auto.places ∙ c.deref_mut.ensures.len)) (assigned_then s t b l here c.args.self.now.assigned.items c.note_assigned.new.places assigned old.assigned);
-      read = rw (written_back c.args.self.now.read.len c.note_read.new.places c.args.self.now.read.items (c.note_read.auto.places ∙ c.deref_mut-2.ensures.len)) (read_then s t b l here c.args.self.now.read.items c.note_read.new.places read old.read);
+      assigned = rw (written_back c.args.self.now.assigned.len c.note_assigned.new.places c.args.self.now.assigned.items
+          (c.note_assigned.auto.places ∙ c.deref_mut.ensures.len))
+          (assigned_then s t b l here c.args.self.now.assigned.items c.note_assigned.new.places assigned old.assigned);
+      read = rw (written_back c.args.self.now.read.len c.note_read.new.places c.args.self.now.read.items
+          (c.note_read.auto.places ∙ c.deref_mut-2.ensures.len))
+          (read_then s t b l here c.args.self.now.read.items c.note_read.new.places read old.read);
       block = block_then s t b l here c.args.self.now.block _ (sym c.if-is_block.false ∙ c.is_block.ensures) old.block;
     }

@@ -28,28 +28,33 @@ pub put_expression-returns-in_err-put_text-in-Cat : goal.put_expression-returns-
 put_expression-returns-in_err-put_text-in-Cat g t c =
     let view : expr_view c.args.expression.now ≡ plain.cat (members_view c.in-Cat.members) = ap expr_view c.in-Cat.is ∙ view-Cat c.in-Cat.members in
     let text : expr (expr_view c.args.expression.now) ≡ cat_open ++ (exprs (members_view c.in-Cat.members) ++ 41 ∷ []) = ap expr view in
-    writes_failed c.from_residual.ensures.0 (writes_same (sym text) (writes_stopped (exprs (members_view c.in-Cat.members) ++ 41 ∷ []) c.in_err-put_text-in-Cat.ensures))
+    writes_failed c.from_residual.ensures.0 (writes_same (sym text)
+    (writes_stopped (exprs (members_view c.in-Cat.members) ++ 41 ∷ []) c.in_err-put_text-in-Cat.ensures))
 
 pub put_expression-returns-in_err-put_members-in-Cat : goal.put_expression-returns-in_err-put_members-in-Cat
 put_expression-returns-in_err-put_members-in-Cat g t c =
     let view : expr_view c.args.expression.now ≡ plain.cat (members_view c.in-Cat.members) = ap expr_view c.in-Cat.is ∙ view-Cat c.in-Cat.members in
     let text : expr (expr_view c.args.expression.now) ≡ cat_open ++ (exprs (members_view c.in-Cat.members) ++ 41 ∷ []) = ap expr view in
     let same = ap exprs (sym c.as_slice-in-Cat.ensures) in
-    writes_failed c.from_residual-in_err-put_members-in-Cat.ensures.0 (writes_same (sym text) (writes_then c.in_ok-put_text-in-Cat.ensures (writes_stopped (41 ∷ []) (writes_same same c.in_err-put_members-in-Cat.ensures))))
+    writes_failed c.from_residual-in_err-put_members-in-Cat.ensures.0
+    (writes_same (sym text) (writes_then c.in_ok-put_text-in-Cat.ensures
+    (writes_stopped (41 ∷ []) (writes_same same c.in_err-put_members-in-Cat.ensures))))
 
 pub put_expression-returns-in_ok-put_members-in-Cat : goal.put_expression-returns-in_ok-put_members-in-Cat
 put_expression-returns-in_ok-put_members-in-Cat g t c =
     let view : expr_view c.args.expression.now ≡ plain.cat (members_view c.in-Cat.members) = ap expr_view c.in-Cat.is ∙ view-Cat c.in-Cat.members in
     let text : expr (expr_view c.args.expression.now) ≡ cat_open ++ (exprs (members_view c.in-Cat.members) ++ 41 ∷ []) = ap expr view in
     let same = ap exprs (sym c.as_slice-in-Cat.ensures) in
-    writes_same (sym text) (writes_then c.in_ok-put_text-in-Cat.ensures (writes_then (writes_same same c.in_ok-put_members-in-Cat.ensures) c.put_text-in-Cat-2.ensures))
+    writes_same (sym text) (writes_then c.in_ok-put_text-in-Cat.ensures
+    (writes_then (writes_same same c.in_ok-put_members-in-Cat.ensures) c.put_text-in-Cat-2.ensures))
 
 pub put_expression-returns-in_err-put_text-in-Sub : goal.put_expression-returns-in_err-put_text-in-Sub
 put_expression-returns-in_err-put_text-in-Sub g t c =
     let inner = expr (expr_view c.in-Sub.expression.value) in
     let view : expr_view c.args.expression.now ≡ plain.sub (expr_view c.in-Sub.expression.value) c.in-Sub.start c.in-Sub.count = ap expr_view c.in-Sub.is ∙ view-Sub c.in-Sub.expression c.in-Sub.start c.in-Sub.count in
     let text : expr (expr_view c.args.expression.now) ≡ sub_open ++ (inner ++ behind c.in-Sub.start c.in-Sub.count) = ap expr view ∙ sub_text inner c.in-Sub.start c.in-Sub.count in
-    writes_failed c.from_residual-in_err-put_text-in-Sub.ensures.0 (writes_same (sym text) (writes_stopped (inner ++ behind c.in-Sub.start c.in-Sub.count) c.in_err-put_text-in-Sub.ensures))
+    writes_failed c.from_residual-in_err-put_text-in-Sub.ensures.0
+    (writes_same (sym text) (writes_stopped (inner ++ behind c.in-Sub.start c.in-Sub.count) c.in_err-put_text-in-Sub.ensures))
 
 pub put_expression-returns-in_err-put_expression-in-Sub : goal.put_expression-returns-in_err-put_expression-in-Sub
 put_expression-returns-in_err-put_expression-in-Sub g t c =
@@ -57,7 +62,9 @@ put_expression-returns-in_err-put_expression-in-Sub g t c =
     let view : expr_view c.args.expression.now ≡ plain.sub (expr_view c.in-Sub.expression.value) c.in-Sub.start c.in-Sub.count = ap expr_view c.in-Sub.is ∙ view-Sub c.in-Sub.expression c.in-Sub.start c.in-Sub.count in
     let text : expr (expr_view c.args.expression.now) ≡ sub_open ++ (inner ++ behind c.in-Sub.start c.in-Sub.count) = ap expr view ∙ sub_text inner c.in-Sub.start c.in-Sub.count in
     let same = ap (λ e. expr (expr_view e)) c.as_ref.ensures in
-    writes_failed c.from_residual-in_err-put_expression-in-Sub.ensures.0 (writes_same (sym text) (writes_then c.in_ok-put_text-in-Sub.ensures (writes_stopped (behind c.in-Sub.start c.in-Sub.count) (writes_same same c.in_err-put_expression-in-Sub.ensures))))
+    writes_failed c.from_residual-in_err-put_expression-in-Sub.ensures.0
+    (writes_same (sym text) (writes_then c.in_ok-put_text-in-Sub.ensures
+    (writes_stopped (behind c.in-Sub.start c.in-Sub.count) (writes_same same c.in_err-put_expression-in-Sub.ensures))))
 
 pub put_expression-returns-in_ok-put_expression-in-Sub : goal.put_expression-returns-in_ok-put_expression-in-Sub
 put_expression-returns-in_ok-put_expression-in-Sub g t c =
@@ -65,7 +72,8 @@ put_expression-returns-in_ok-put_expression-in-Sub g t c =
     let view : expr_view c.args.expression.now ≡ plain.sub (expr_view c.in-Sub.expression.value) c.in-Sub.start c.in-Sub.count = ap expr_view c.in-Sub.is ∙ view-Sub c.in-Sub.expression c.in-Sub.start c.in-Sub.count in
     let text : expr (expr_view c.args.expression.now) ≡ sub_open ++ (inner ++ behind c.in-Sub.start c.in-Sub.count) = ap expr view ∙ sub_text inner c.in-Sub.start c.in-Sub.count in
     let same = ap (λ e. expr (expr_view e)) c.as_ref.ensures in
-    writes_same (sym text) (writes_then c.in_ok-put_text-in-Sub.ensures (writes_then (writes_same same c.in_ok-put_expression-in-Sub.ensures) c.put_fragments-in-Sub.ensures))
+    writes_same (sym text) (writes_then c.in_ok-put_text-in-Sub.ensures
+    (writes_then (writes_same same c.in_ok-put_expression-in-Sub.ensures) c.put_fragments-in-Sub.ensures))
 
 pub put_expression-returns-in-Run : goal.put_expression-returns-in-Run
 put_expression-returns-in-Run g t c =
@@ -88,7 +96,8 @@ put_members-returns-in_err-put_text g t c =
     let i = c.loop-member.member-index in
     let item = c.member-item.result in
     let next = spaced_next members_text more_text member_text members_spaced ms i item c.loop-member-test.true ∙ ap (λ (x : Shared). members_text (take i ms) ++ (blank_at i ++ expr (shared_view x))) (sym c.member-item.is) in
-    writes_failed c.from_residual.ensures.0 (writes_cut (rest_of members_text more_text member_text members_spaced (i + 1) ms) (spaced_all members_text more_text member_text members_spaced ms (i + 1)) next c.loop-member.invariant.taken
+    writes_failed c.from_residual.ensures.0 (writes_cut (rest_of members_text more_text member_text members_spaced (i + 1) ms)
+    (spaced_all members_text more_text member_text members_spaced ms (i + 1)) next c.loop-member.invariant.taken
     (writes_stopped (expr (shared_view item)) (writes_same c.loop-member.invariant.blank c.in_err-put_text.ensures)))
 
 pub put_members-returns-in_err-put_expression : goal.put_members-returns-in_err-put_expression
@@ -97,8 +106,11 @@ put_members-returns-in_err-put_expression g t c =
     let i = c.loop-member.member-index in
     let item = c.member-item.result in
     let next = spaced_next members_text more_text member_text members_spaced ms i item c.loop-member-test.true ∙ ap (λ (x : Shared). members_text (take i ms) ++ (blank_at i ++ expr (shared_view x))) (sym c.member-item.is) in
-    writes_failed c.from_residual-in_err-put_expression.ensures.0 (writes_cut (rest_of members_text more_text member_text members_spaced (i + 1) ms) (spaced_all members_text more_text member_text members_spaced ms (i + 1)) next c.loop-member.invariant.taken
-    (writes_then (writes_same c.loop-member.invariant.blank c.in_ok-put_text.ensures) (writes_same (ap (λ e. expr (expr_view e)) c.as_ref.ensures) c.in_err-put_expression.ensures)))
+    writes_failed c.from_residual-in_err-put_expression.ensures.0
+    (writes_cut (rest_of members_text more_text member_text members_spaced (i + 1) ms)
+    (spaced_all members_text more_text member_text members_spaced ms (i + 1)) next c.loop-member.invariant.taken
+    (writes_then (writes_same c.loop-member.invariant.blank c.in_ok-put_text.ensures)
+    (writes_same (ap (λ e. expr (expr_view e)) c.as_ref.ensures) c.in_err-put_expression.ensures)))
 
 pub put_members-loop-member-preserved : goal.put_members-loop-member-preserved
 put_members-loop-member-preserved g t c =
@@ -107,6 +119,8 @@ put_members-loop-member-preserved g t c =
     let item = c.member-item.result in
     let next = spaced_next members_text more_text member_text members_spaced ms i item c.loop-member-test.true ∙ ap (λ (x : Shared). members_text (take i ms) ++ (blank_at i ++ expr (shared_view x))) (sym c.member-item.is) in
     record {
-      taken = writes_same (sym next) (writes_then c.loop-member.invariant.taken (writes_then (writes_same c.loop-member.invariant.blank c.in_ok-put_text.ensures) (writes_same (ap (λ e. expr (expr_view e)) c.as_ref.ensures) c.in_ok-put_expression.ensures)));
+      taken = writes_same (sym next) (writes_then c.loop-member.invariant.taken
+          (writes_then (writes_same c.loop-member.invariant.blank c.in_ok-put_text.ensures)
+          (writes_same (ap (λ e. expr (expr_view e)) c.as_ref.ensures) c.in_ok-put_expression.ensures)));
       blank = blank_later i;
     }

@@ -13,6 +13,7 @@ decreases-put_members g l = weights (members_of (map shared_view l.members.now))
 
 abbrev pub invariant-put_members-loop-member : goal.invariant-put_members-loop-member
 invariant-put_members-loop-member g l = record {
-  taken : Writes (members_text (take l.member-index l.members)) (g.W.Sink.taken l.initial.sink) (g.W.Sink.taken l.sink) (g.W.Sink.failures l.initial.sink) (g.W.Sink.failures l.sink) (g.W.Sink.finished l.initial.sink) (g.W.Sink.finished l.sink) (Ok tt);
+  taken : Writes (members_text (take l.member-index l.members)) (g.W.Sink.taken l.initial.sink) (g.W.Sink.taken l.sink)
+      (g.W.Sink.failures l.initial.sink) (g.W.Sink.failures l.sink) (g.W.Sink.finished l.initial.sink) (g.W.Sink.finished l.sink) (Ok tt);
   blank : l.blank ≡ blank_at l.member-index;
 }

@@ -14,17 +14,21 @@ joined = record { nil = refl; cons = λ a rest. refl }
 pub returns-in_err-put_text : goal.returns-in_err-put_text
 returns-in_err-put_text g c =
     let item = c.argument-item.result in
-    writes_failed c.from_residual.ensures.0 (writes_broken argument_words word joined c.args.arguments.now c.loop-argument.argument-index item c.loop-argument-test.true c.loop-argument.invariant
+    writes_failed c.from_residual.ensures.0 (writes_broken argument_words word joined c.args.arguments.now c.loop-argument.argument-index
+    item c.loop-argument-test.true c.loop-argument.invariant
     (writes_same (ap word c.argument-item.is) (writes_stopped (argument item) c.in_err-put_text.ensures)))
 
 pub returns-in_err-put_argument : goal.returns-in_err-put_argument
 returns-in_err-put_argument g c =
     let item = c.argument-item.result in
-    writes_failed c.from_residual-in_err-put_argument.ensures.0 (writes_broken argument_words word joined c.args.arguments.now c.loop-argument.argument-index item c.loop-argument-test.true c.loop-argument.invariant
+    writes_failed c.from_residual-in_err-put_argument.ensures.0
+    (writes_broken argument_words word joined c.args.arguments.now c.loop-argument.argument-index item c.loop-argument-test.true
+    c.loop-argument.invariant
     (writes_same (ap word c.argument-item.is) (writes_then c.in_ok-put_text.ensures c.in_err-put_argument.ensures)))
 
 pub loop-argument-preserved : goal.loop-argument-preserved
 loop-argument-preserved g c =
     let item = c.argument-item.result in
-    writes_next argument_words word joined c.args.arguments.now c.loop-argument.argument-index item c.loop-argument-test.true c.loop-argument.invariant
+    writes_next argument_words word joined c.args.arguments.now c.loop-argument.argument-index item c.loop-argument-test.true
+    c.loop-argument.invariant
     (writes_same (ap word c.argument-item.is) (writes_then c.in_ok-put_text.ensures c.in_ok-put_argument.ensures))

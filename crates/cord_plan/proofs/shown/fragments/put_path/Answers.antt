@@ -4,12 +4,14 @@ use Rattle.cord_plan.proofs.Writing.{writes_same, writes_then, writes_stopped, w
 use Rattle.cord_plan.proofs.shown.fragments.put_path.Goals as goal
 
 pub returns-in_err-put_text : goal.returns-in_err-put_text
-returns-in_err-put_text g c = writes_failed c.from_residual.ensures.0 (writes_stopped (flat_map path_byte c.args.path.now ++ 34 ∷ []) c.in_err-put_text.ensures)
+returns-in_err-put_text g c = writes_failed c.from_residual.ensures.0
+    (writes_stopped (flat_map path_byte c.args.path.now ++ 34 ∷ []) c.in_err-put_text.ensures)
 
 pub returns-in_err-put_path_bytes : goal.returns-in_err-put_path_bytes
 returns-in_err-put_path_bytes g c =
     let same = ap (flat_map path_byte) (c.as_bytes.ensures.value ∙ c.as_str.ensures) in
-    writes_failed c.from_residual-in_err-put_path_bytes.ensures.0 (writes_then c.in_ok-put_text.ensures (writes_stopped (34 ∷ []) (writes_same same c.in_err-put_path_bytes.ensures)))
+    writes_failed c.from_residual-in_err-put_path_bytes.ensures.0
+    (writes_then c.in_ok-put_text.ensures (writes_stopped (34 ∷ []) (writes_same same c.in_err-put_path_bytes.ensures)))
 
 pub returns : goal.returns
 returns g c =

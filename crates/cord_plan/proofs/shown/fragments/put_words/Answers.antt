@@ -21,7 +21,8 @@ returns-in_err-put_text g c =
     let i = c.loop-word.word-index in
     let item = c.word-item.result in
     let next = spaced_next text more fragment_text spaces fs i item c.loop-word-test.true ∙ ap (λ (x : Fragment). text (take i fs) ++ (blank_at i ++ fragment_text x)) (sym c.word-item.is) in
-    writes_failed c.from_residual.ensures.0 (writes_cut (rest_of text more fragment_text spaces (i + 1) fs) (spaced_all text more fragment_text spaces fs (i + 1)) next c.loop-word.invariant.taken
+    writes_failed c.from_residual.ensures.0 (writes_cut (rest_of text more fragment_text spaces (i + 1) fs)
+    (spaced_all text more fragment_text spaces fs (i + 1)) next c.loop-word.invariant.taken
     (writes_stopped (fragment_text item) (writes_same c.loop-word.invariant.blank c.in_err-put_text.ensures)))
 
 pub returns-in_err-put_fragment : goal.returns-in_err-put_fragment
@@ -30,7 +31,9 @@ returns-in_err-put_fragment g c =
     let i = c.loop-word.word-index in
     let item = c.word-item.result in
     let next = spaced_next text more fragment_text spaces fs i item c.loop-word-test.true ∙ ap (λ (x : Fragment). text (take i fs) ++ (blank_at i ++ fragment_text x)) (sym c.word-item.is) in
-    writes_failed c.from_residual-in_err-put_fragment.ensures.0 (writes_cut (rest_of text more fragment_text spaces (i + 1) fs) (spaced_all text more fragment_text spaces fs (i + 1)) next c.loop-word.invariant.taken
+    writes_failed c.from_residual-in_err-put_fragment.ensures.0
+    (writes_cut (rest_of text more fragment_text spaces (i + 1) fs) (spaced_all text more fragment_text spaces fs (i + 1)) next
+    c.loop-word.invariant.taken
     (writes_then (writes_same c.loop-word.invariant.blank c.in_ok-put_text.ensures) c.in_err-put_fragment.ensures))
 
 pub loop-word-preserved : goal.loop-word-preserved
@@ -40,6 +43,7 @@ loop-word-preserved g c =
     let item = c.word-item.result in
     let next = spaced_next text more fragment_text spaces fs i item c.loop-word-test.true ∙ ap (λ (x : Fragment). text (take i fs) ++ (blank_at i ++ fragment_text x)) (sym c.word-item.is) in
     record {
-      taken = writes_same (sym next) (writes_then c.loop-word.invariant.taken (writes_then (writes_same c.loop-word.invariant.blank c.in_ok-put_text.ensures) c.in_ok-put_fragment.ensures));
+      taken = writes_same (sym next) (writes_then c.loop-word.invariant.taken
+          (writes_then (writes_same c.loop-word.invariant.blank c.in_ok-put_text.ensures) c.in_ok-put_fragment.ensures));
       blank = blank_later i;
     }

@@ -6,6 +6,7 @@ use Rattle.cord_plan.proofs.shown.fragments.put_words.Given as goal
 
 abbrev pub invariant-loop-word : goal.invariant-loop-word
 invariant-loop-word g l = record {
-  taken : Writes (spaced (map fragment_text (take l.word-index l.words))) (g.W.Sink.taken l.initial.sink) (g.W.Sink.taken l.sink) (g.W.Sink.failures l.initial.sink) (g.W.Sink.failures l.sink) (g.W.Sink.finished l.initial.sink) (g.W.Sink.finished l.sink) (Ok tt);
+  taken : Writes (spaced (map fragment_text (take l.word-index l.words))) (g.W.Sink.taken l.initial.sink) (g.W.Sink.taken l.sink)
+      (g.W.Sink.failures l.initial.sink) (g.W.Sink.failures l.sink) (g.W.Sink.finished l.initial.sink) (g.W.Sink.finished l.sink) (Ok tt);
   blank : l.blank ≡ blank_at l.word-index;
 }

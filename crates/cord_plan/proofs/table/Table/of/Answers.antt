@@ -22,8 +22,13 @@ loop-place-preserved c =
     let next : IsNext s later b l table old new (option_map expr_view e) = rw (← c.loop-place.invariant.later, ← c.deref.ensures.value, ← c.deref_mut.ensures.value) c.in_ok-expression.ensures.made in
     let here : slice_get s b ≡ Some l = slice_get_read s (length s) b l refl c.loop-place-test.true c.index-statements-place.is in
     record {
-      grown = rw (written_back c.loop-place.firsts.len new old size, c.in_ok-push.ensures.items, map-append (option_map expr_view) c.loop-place.expressions.items (e ∷ []))
-          (grown_then s later b l table (option_map expr_view e) old new c.loop-place-test.true c.index-statements-place.is c.loop-place.invariant.grown next);
+      grown = rw (
+        written_back c.loop-place.firsts.len new old size,
+        c.in_ok-push.ensures.items,
+        map-append (option_map expr_view) c.loop-place.expressions.items (e ∷ []),
+      )
+          (grown_then s later b l table (option_map expr_view e) old new c.loop-place-test.true c.index-statements-place.is
+          c.loop-place.invariant.grown next);
       later = c.note.ensures.later ∙ c.loop-place.invariant.later;
       recent = c.note.ensures.recent s here c.loop-place.invariant.recent;
     }
@@ -42,4 +47,5 @@ loop-place-init c =
 
 pub returns-clause-made : goal.returns-clause-made
 returns-clause-made c =
-    all_grown c.args.statements.now (tells c.args.later.now) c.loop-place.place (map (option_map expr_view) c.loop-place.expressions.items) c.loop-place.firsts.items c.loop-place-test.false c.loop-place.invariant.grown
+    all_grown c.args.statements.now (tells c.args.later.now) c.loop-place.place (map (option_map expr_view) c.loop-place.expressions.items)
+    c.loop-place.firsts.items c.loop-place-test.false c.loop-place.invariant.grown

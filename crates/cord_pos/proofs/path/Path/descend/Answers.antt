@@ -16,7 +16,8 @@ loop-side-preserved c =
       inside = s.inside;
       fits = omega (arith, s.to, i.fits);
       room = omega (arith, s.depth, i.room, c.keep.ensures.len);
-      places = rw (c.keep.ensures.places, append_assoc) (ap (λ (ps : List Place). places c.loop-side.self.stops.items ++ ps) (sym (s.below c.loop-side.start)) ∙ i.places);
+      places = rw (c.keep.ensures.places, append_assoc) (ap (λ (ps : List Place). places c.loop-side.self.stops.items ++ ps)
+          (sym (s.below c.loop-side.start)) ∙ i.places);
       counted = omega (arith, c.in-Some.ensures.count, c.keep.ensures.visits);
       visits = omega (arith, i.visits, s.level, c.in-Some.ensures.count, c.keep.ensures.visits);
       part = sym (s.part c.loop-side.start) ∙ i.part;

@@ -14,9 +14,11 @@ invariant-loop-side l = record {
   inside : l.index < len_of (node_of l.node);
   fits : l.start + len_of (node_of l.node) ≤ MAX_LEN;
   room : array_vec_len l.self.stops + depth_of (node_of l.node) ≤ PATH_LEN;
-  places : places l.self.stops.items ++ below (node_of l.node) l.start l.index ≡ places l.fn.self.stops.items ++ below (node_of l.fn.top) l.fn.start l.fn.index;
+  places : places l.self.stops.items ++ below (node_of l.node) l.start l.index ≡ places l.fn.self.stops.items
+      ++ below (node_of l.fn.top) l.fn.start l.fn.index;
   counted : l.self.visits.count ≤ 2 ^ 64 - 1;
-  visits : min (l.self.visits.count + level (node_of l.node) l.index) (2 ^ 64 - 1) ≡ min (l.fn.self.visits.count + level (node_of l.fn.top) l.fn.index) (2 ^ 64 - 1);
+  visits : min (l.self.visits.count + level (node_of l.node) l.index) (2 ^ 64 - 1)
+      ≡ min (l.fn.self.visits.count + level (node_of l.fn.top) l.fn.index) (2 ^ 64 - 1);
   part : part_at (node_of l.node) l.start l.index ≡ part_at (node_of l.fn.top) l.fn.start l.fn.index;
 }
 

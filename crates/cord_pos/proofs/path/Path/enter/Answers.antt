@@ -11,4 +11,13 @@ returns-clause-visits c =
     let sound = c.root-root.ensures.sound in
     let inside : c.args.index < len_of root = rw c.root-root.ensures.root at c.requires.inside in
     let more = set_inside c.args.tree.cord.now root c.args.index c.root-root.ensures.root inside in
-    omega (arith, more, c.descend.ensures.visits, c.keep.ensures.visits, c.root-root.ensures.count, c.requires.start, level_depth root c.args.index sound, depth_limit root sound)
+    omega (
+      arith,
+      more,
+      c.descend.ensures.visits,
+      c.keep.ensures.visits,
+      c.root-root.ensures.count,
+      c.requires.start,
+      level_depth root c.args.index sound,
+      depth_limit root sound,
+    )

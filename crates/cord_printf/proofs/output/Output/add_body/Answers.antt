@@ -15,7 +15,8 @@ returns-in-Bytes-clause-made c =
     let bytes : List ℕ = c.in-Bytes.bytes.now in
     let fits : Type 0 = (k : ℕ) → length bytes ≤ leaf_bytes k → IsPrintedFrom k old new in
     subst (λ (b : Body). IfOk c.add_bytes.result (λ _. IsPrintedFrom (body_own b) (old ++ body_parts b) new)) (sym c.in-Bytes.is)
-    (when_ok fits (IsPrintedFrom (length bytes) (old ++ []) new) c.add_bytes.result (λ m. bare_from (length bytes) old new (each_byte (length bytes) bytes old new refl m)) c.add_bytes.ensures.made)
+    (when_ok fits (IsPrintedFrom (length bytes) (old ++ []) new) c.add_bytes.result
+    (λ m. bare_from (length bytes) old new (each_byte (length bytes) bytes old new refl m)) c.add_bytes.ensures.made)
 
 pub returns-in-Byte-clause-made : goal.returns-in-Byte-clause-made
 returns-in-Byte-clause-made c =
@@ -24,7 +25,8 @@ returns-in-Byte-clause-made c =
     let bytes : List ℕ = c.in-Byte.byte ∷ [] in
     let fits : Type 0 = (k : ℕ) → length bytes ≤ leaf_bytes k → IsPrintedFrom k old new in
     subst (λ (b : Body). IfOk c.add_bytes-in-Byte.result (λ _. IsPrintedFrom (body_own b) (old ++ body_parts b) new)) (sym c.in-Byte.is)
-    (when_ok fits (IsPrintedFrom 1 (old ++ []) new) c.add_bytes-in-Byte.result (λ m. bare_from 1 old new (each_byte 1 bytes old new refl m)) c.add_bytes-in-Byte.ensures.made)
+    (when_ok fits (IsPrintedFrom 1 (old ++ []) new) c.add_bytes-in-Byte.result
+    (λ m. bare_from 1 old new (each_byte 1 bytes old new refl m)) c.add_bytes-in-Byte.ensures.made)
 
 pub returns-in-Digits-clause-made : goal.returns-in-Digits-clause-made
 returns-in-Digits-clause-made c =
@@ -34,4 +36,6 @@ returns-in-Digits-clause-made c =
     let count : ℕ = length c.in-Digits.digits in
     let fits : Type 0 = (k : ℕ) → length bytes ≤ leaf_bytes k → IsPrintedFrom k old new in
     subst (λ (b : Body). IfOk c.add_bytes-in-Digits.result (λ _. IsPrintedFrom (body_own b) (old ++ body_parts b) new)) (sym c.in-Digits.is)
-    (when_ok fits (IsPrintedFrom count (old ++ []) new) c.add_bytes-in-Digits.result (λ m. bare_from count old new (each_byte count bytes old new (ap length (c.as_slice.ensures ∙ c.text.ensures)) m)) c.add_bytes-in-Digits.ensures.made)
+    (when_ok fits (IsPrintedFrom count (old ++ []) new) c.add_bytes-in-Digits.result
+    (λ m. bare_from count old new (each_byte count bytes old new (ap length (c.as_slice.ensures ∙ c.text.ensures)) m))
+    c.add_bytes-in-Digits.ensures.made)

@@ -13,8 +13,10 @@ returns-then-is_ok-clause-made c = λ k few.
     let g : List ℕ = c.self.inside.gathered.items in
     let both = went_well c.try_extend_from_slice.result _ _ (sym c.is_ok.ensures.value ∙ c.if-is_ok.true) c.try_extend_from_slice.ensures.ok c.try_extend_from_slice.ensures.variant in
     let short : length (g ++ c.args.bytes.now) ≤ 256 = omega (arith, length-append g c.args.bytes.now, both.1) in
-    subst (λ (old : List Part). IsPrintedFrom k old (ps ++ leaf_parts c.try_extend_from_slice.new.self.items)) (ap (λ (x : Growth). x.parts) c.self.view_is)
-    (subst (λ (b : List ℕ). IsPrintedFrom k (ps ++ leaf_parts g) (ps ++ leaf_parts b)) (sym both.0) (tail_from ps g c.args.bytes.now k short few))
+    subst (λ (old : List Part). IsPrintedFrom k old (ps ++ leaf_parts c.try_extend_from_slice.new.self.items))
+    (ap (λ (x : Growth). x.parts) c.self.view_is)
+    (subst (λ (b : List ℕ). IsPrintedFrom k (ps ++ leaf_parts g) (ps ++ leaf_parts b)) (sym both.0)
+    (tail_from ps g c.args.bytes.now k short few))
 
 pub returns-clause-made : goal.returns-clause-made
 returns-clause-made c =
@@ -26,6 +28,8 @@ returns-clause-made c =
     let gathers : Type 0 = (k : ℕ) → length c.args.bytes.now ≤ leaf_bytes k → Gathered k middle new in
     let makes : Type 0 = (k : ℕ) → length c.args.bytes.now ≤ leaf_bytes k → IsPrintedFrom k c.args.self.now.parts (new ++ leaf_parts c.put_in.new.gathered.items) in
     let made : gathers → makes = λ g k few.
-    subst (λ (old : List Part). IsPrintedFrom k old (new ++ leaf_parts c.put_in.new.gathered.items)) (ap (λ (x : Growth). x.parts) c.self.view_is)
-    (subst (λ (b : List ℕ). IsPrintedFrom k before (new ++ leaf_parts b)) (sym c.in_ok-put_in.ensures.emptied) (grown_from before middle new c.args.bytes.now put g k few)) in
+    subst (λ (old : List Part). IsPrintedFrom k old (new ++ leaf_parts c.put_in.new.gathered.items))
+    (ap (λ (x : Growth). x.parts) c.self.view_is)
+    (subst (λ (b : List ℕ). IsPrintedFrom k before (new ++ leaf_parts b)) (sym c.in_ok-put_in.ensures.emptied)
+    (grown_from before middle new c.args.bytes.now put g k few)) in
     when_ok gathers makes c.grow.result made c.grow.ensures.gathered

@@ -5,7 +5,11 @@ use Rattle.cord_printf.proofs.Owned.{front_from}
 use Rattle.cord_printf.proofs.output.Output.add_front.Goals as goal
 
 pub returns-clause-text : goal.returns-clause-text
-returns-clause-text c = IfOk-equal _ _ _ _ c.add_run-2.ensures.text (front_added c.args.layout c.args.self.now.text c.add_run.new.self.text c.add_sign.new.self.text _ c.in_ok-add_run.ensures.text c.in_ok-add_sign.ensures.text refl)
+returns-clause-text c = IfOk-equal _ _ _ _ c.add_run-2.ensures.text
+    (front_added c.args.layout c.args.self.now.text c.add_run.new.self.text c.add_sign.new.self.text _ c.in_ok-add_run.ensures.text
+    c.in_ok-add_sign.ensures.text refl)
 
 pub returns-clause-made : goal.returns-clause-made
-returns-clause-made c = IfOk-weaker _ _ _ (λ _ m. front_from c.args.layout c.args.self.now.parts c.add_run.new.self.parts c.add_sign.new.self.parts c.add_run-2.new.self.parts c.in_ok-add_run.ensures.made c.in_ok-add_sign.ensures.made m) c.add_run-2.ensures.made
+returns-clause-made c =
+    IfOk-weaker _ _ _ (λ _ m. front_from c.args.layout c.args.self.now.parts c.add_run.new.self.parts c.add_sign.new.self.parts
+    c.add_run-2.new.self.parts c.in_ok-add_run.ensures.made c.in_ok-add_sign.ensures.made m) c.add_run-2.ensures.made

@@ -14,4 +14,5 @@ returns-clause-made c =
     let old : List Part = c.args.self.now.parts in
     let new : List Part = c.add_bytes.new.self.parts in
     let fits : Type 0 = (k : ℕ) → length (c.in-Some.sign ∷ []) ≤ leaf_bytes k → IsPrintedFrom k old new in
-    subst (λ (o : Option ℕ). IfOk c.add_bytes.result (λ _. IsPrintedFrom (length (option_to_list o)) old new)) (sym c.in-Some.is) (when_ok fits (IsPrintedFrom 1 old new) c.add_bytes.result (λ m. m 1 (omega arith)) c.add_bytes.ensures.made)
+    subst (λ (o : Option ℕ). IfOk c.add_bytes.result (λ _. IsPrintedFrom (length (option_to_list o)) old new)) (sym c.in-Some.is)
+    (when_ok fits (IsPrintedFrom 1 old new) c.add_bytes.result (λ m. m 1 (omega arith)) c.add_bytes.ensures.made)

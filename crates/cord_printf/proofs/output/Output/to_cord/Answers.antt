@@ -12,4 +12,6 @@ pub returns-clause-made : goal.returns-clause-made
 returns-clause-made c =
     let before : List Part = parts_in c.self.inside.grown ++ leaf_parts c.self.inside.gathered.items in
     let middle : List Part = parts_in c.put_in.new.grown in
-    IfOk-weaker _ _ _ (λ cord k. subst (λ (old : List Part). IsPrintedFrom 0 old (parts_of cord)) (ap (λ (g : Growth). g.parts) c.self.view_is) (twice_from 0 0 before middle (parts_of cord) c.in_ok-put_in.ensures.made (kept_from middle (parts_of cord) k))) c.cord_of.ensures.kept
+    IfOk-weaker _ _ _ (λ cord k. subst (λ (old : List Part). IsPrintedFrom 0 old (parts_of cord))
+    (ap (λ (g : Growth). g.parts) c.self.view_is) (twice_from 0 0 before middle (parts_of cord) c.in_ok-put_in.ensures.made
+    (kept_from middle (parts_of cord) k))) c.cord_of.ensures.kept

@@ -11,4 +11,5 @@ copy_out-requires-clause-within c =
 pub returns : goal.returns
 returns c =
     let chain = c.self.inside.chain in let from_first = ap (λ k. text (drop k (blocks_of chain))) c.first.ensures.1 in
-    c.copy_out.ensures ∙ ap (λ xs. slice_range xs c.args.start (c.args.start + length c.args.out.now)) (from_first ∙ text_blocks chain ∙ c.self.view_is)
+    c.copy_out.ensures ∙ ap (λ xs. slice_range xs c.args.start (c.args.start + length c.args.out.now))
+    (from_first ∙ text_blocks chain ∙ c.self.view_is)

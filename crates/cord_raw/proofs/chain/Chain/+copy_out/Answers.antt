@@ -18,8 +18,11 @@ returns-then-start-ge-ROOM t c =
 
 pub get_run-requires : goal.get_run-requires
 get_run-requires t c =
-    let least : c.min-run.result ≡ min (length c.args.out.now) (ROOM - c.args.start) = c.min-run.ensures in let front = c.split_at_mut-front.ensures.front_len in let low = c.if-start-ge-ROOM.false in let within = c.requires.within in
-    (c.requires.place, holds_run c.args.self.now c.args.place.index (c.args.start + length c.split_at_mut-front.result.0.now) c.requires.filled c.requires.place.1 (omega arith) (omega arith))
+    let least : c.min-run.result ≡ min (length c.args.out.now) (ROOM - c.args.start) = c.min-run.ensures in let front = c.split_at_mut-front.ensures.front_len in let low = c.if-start-ge-ROOM.false in let within = c.requires.within in (
+      c.requires.place,
+      holds_run c.args.self.now c.args.place.index (c.args.start + length c.split_at_mut-front.result.0.now)
+          c.requires.filled c.requires.place.1 (omega arith) (omega arith),
+    )
 
 pub copy_out-requires-then-run-wanted : goal.copy_out-requires-then-run-wanted
 copy_out-requires-then-run-wanted t c =
@@ -37,5 +40,6 @@ returns-then-run-wanted t c =
     let all : run + length back ≡ n = omega arith in let within = c.requires.within in
     ap (λ xs. xs ++ c.copy_out-then-run-wanted.new.out) (c.get_run.ensures ∙ ap (λ k. slice_range (text_of b) start (start + k)) front_is)
     ∙ ap (λ xs. slice_range (text_of b) start (start + run) ++ xs) c.copy_out-then-run-wanted.ensures
-    ∙ from_block self i j start run (length back) c.requires.filled c.requires.place.1 c.next-then-run-wanted.ensures.1 (omega arith) (λ some. omega arith) (omega arith)
+    ∙ from_block self i j start run (length back) c.requires.filled c.requires.place.1 c.next-then-run-wanted.ensures.1 (omega arith)
+    (λ some. omega arith) (omega arith)
     ∙ ap (λ k. slice_range (text (drop i (blocks_of self))) start (start + k)) all

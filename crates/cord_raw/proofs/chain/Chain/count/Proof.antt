@@ -3,7 +3,8 @@ use Rattle.std.proofs.Common.{◌+◌, ◌^◌, List, [], ◌∷◌, refl, w64}
 use mir.Syntax.{named}
 use mir.Val.{Val, vptr, vint}
 use base.Fml.{ftrue, fhide, flft}
-use types.Kit.{‵, ◌⊛◌, ◌$◌, ◌∵◌, !, qed, move, keep, use1, drop, split, split3, join, fsplit, fjoin, feq_i, flt_i, raw, suffices, frame, done}
+use types.Kit.{‵, ◌⊛◌, ◌$◌, ◌∵◌, !, qed, move, keep, use1, drop, split, split3, join, fsplit, fjoin, feq_i, flt_i, raw, suffices, frame}
+use types.Kit.{done}
 use types.Run.{look, load, stop, fld, of_opd, returns, enter}
 use types.ByLocal.{alloc_all, pass_all, free_all, look_at, through, sets}
 use denote.Exit.{yes}
@@ -35,7 +36,8 @@ count_spec 𝓤 𝓛 𝓜 𝓡 wired =
     let y : W.Ghost = ((κs, qs, bounds, a, (vptr b o ∷ [], tt)), tt) in
     qed 𝓛 (((‵ (flft κ q) ⊛ ‵ ftrue) ⊛ ‵ (owns (ShrRef (named 0) κ C ∷ []) a (vptr b o ∷ [], tt))) ∷ raw ((c κs a).requires tt) ∷ []) ∵
     split ! $ move ! (1 ∷ []) $ fsplit ! $ fsplit ! $ drop ! $ move ! (2 ∷ []) $ split ! $ move ! (2 ∷ []) $
-    use1 𝓛 (‵ (hidden_shr C κ d b o) ⊛ ‵ (fields_lent 𝓛 κ b o d) ⊛ ‵ (fhide (chain_lent d.first d.older d.last d.newest κ))) (lends 𝓛 κ b o d) $ split3 ! $
+    use1 𝓛 (‵ (hidden_shr C κ d b o) ⊛ ‵ (fields_lent 𝓛 κ b o d) ⊛ ‵ (fhide (chain_lent d.first d.older d.last d.newest κ)))
+    (lends 𝓛 κ b o d) $ split3 ! $
     -- [a `&` to the chain; one to its fields; its blocks, lent; the token; ..]
     enter ! _ _ _ _ _ $ alloc_all ! (λ l. pass_all ! refl ((tt, tt), tt) $ move ! (1 ∷ 3 ∷ []) $
     word_in ! tt d.count b (o + 16) (shows_count 𝓛 κ b o d) (λ q' fits.
@@ -44,5 +46,6 @@ count_spec 𝓤 𝓛 𝓜 𝓡 wired =
     -- [the token; its fields; a `&` to the chain; its blocks; the other tokens; ..]
     keep ! (0 ∷ 4 ∷ 2 ∷ []) $
     suffices ! _ (ends_at 𝓛 f.ended stayed c y (vint w64 d.count) d.count (tt, tt) (tt, tt)) $ says ! d.counted $
-    join ! $ frame ! $ feq_i ! (List Val) (vptr b o ∷ []) (vptr b o ∷ []) refl $ fjoin ! $ nothing ! $ move ! (1 ∷ 0 ∷ []) $ fjoin ! $ frame ! $
+    join ! $ frame ! $ feq_i ! (List Val) (vptr b o ∷ []) (vptr b o ∷ []) refl $ fjoin ! $ nothing ! $ move !
+    (1 ∷ 0 ∷ []) $ fjoin ! $ frame ! $
     flt_i ! d.count (2 ^ 64) (few_fit d) $ feq_i ! (List Val) (vint w64 d.count ∷ []) (vint w64 d.count ∷ []) refl $ fjoin ! $ done !)))

@@ -45,7 +45,8 @@ first_spec 𝓤 𝓛 𝓜 𝓡 wired =
     let y : W.Ghost = ((κs, qs, bounds, a, (vptr b o ∷ [], tt)), tt) in let p : Ptr = d.first in
     qed 𝓛 (((‵ (flft κ q) ⊛ ‵ ftrue) ⊛ ‵ (owns (ShrRef (named 0) κ C ∷ []) a (vptr b o ∷ [], tt))) ∷ raw ((c κs a).requires tt) ∷ []) ∵
     split ! $ split ! $ move ! (2 ∷ []) $ fsplit ! $ fsplit ! $ drop ! $ keep ! (0 ∷ 2 ∷ []) $
-    use1 𝓛 (‵ (hidden_shr C κ d b o) ⊛ ‵ (fields_lent 𝓛 κ b o d) ⊛ ‵ (fhide (chain_lent d.first d.older d.last d.newest κ))) (lends 𝓛 κ b o d) $ split3 ! $
+    use1 𝓛 (‵ (hidden_shr C κ d b o) ⊛ ‵ (fields_lent 𝓛 κ b o d) ⊛ ‵ (fhide (chain_lent d.first d.older d.last d.newest κ)))
+    (lends 𝓛 κ b o d) $ split3 ! $
     move ! (2 ∷ []) $ unhide ! $ rewrite ! 0 (λ (r : Ptr). ‵ (chain_lent d.first d.older r d.newest κ)) d.leads refl $
     use1 𝓛 (‵ (lent_at B p (block_at d 0) κ)) (lent_nth 𝓛 κ d.first d.older d.newest 0 d.newest (omega arith)) $
     fsplit ! $ use1 𝓛 (raw (fact 𝓤 (InBlock p))) (in_block_says 𝓛 p) $ heard ! (InBlock p) (λ inside. keep ! (2 ∷ 3 ∷ []) $
@@ -55,5 +56,6 @@ first_spec 𝓤 𝓛 𝓜 𝓡 wired =
     sets ! (of_opd ! (load ! (through ! refl (fld ! refl (stop !))) (look ! 1 refl))) refl (tt, tt) $ pointer_out ! tt p inside b (o + 0) $
     sets ! (agg ! (and_then ! (get ! refl) (and_then ! (lit ! tt) (no_more !)))) refl (place_typed 𝓛 place (place_is place small)) $
     returns ! (look_at ! 0 refl) $ free_all ! refl $ keep ! (0 ∷ []) $
-    suffices ! _ (ends_at 𝓛 f.ended stayed c y (place_val place) place (tt, tt) (tt, tt)) $ says ! ((sym (at_block p inside), omega arith), refl) $
+    suffices ! _ (ends_at 𝓛 f.ended stayed c y (place_val place) place (tt, tt) (tt, tt)) $ says !
+    ((sym (at_block p inside), omega arith), refl) $
     nothing ! $ move ! (1 ∷ 0 ∷ []) $ join ! $ frame ! $ nothing ! $ nothing ! $ fjoin ! $ frame ! $ owns_place ! place small $ done !))))

@@ -1,5 +1,6 @@
 -- `free` follows the pointers from the first block on: of each block it reads where it leads, and then frees it.
-use Rattle.std.proofs.Common.{◌≡◌, ℕ, zero, suc, ◌-◌, ◌≤◌, ◌<◌, ◌^◌, List, [], ◌∷◌, ◌++◌, length, refl, subst, arith, nltb→le, w64, length-append}
+use Rattle.std.proofs.Common.{◌≡◌, ℕ, zero, suc, ◌-◌, ◌≤◌, ◌<◌, ◌^◌, List, [], ◌∷◌, ◌++◌, length, refl, subst, arith, nltb→le, w64}
+use Rattle.std.proofs.Common.{length-append}
 use mathlib.Core.WellFounded.InvImage
 use lib.WfN.{lt-wf_rel}
 use seplogic.Ra.Ura.{Ura}
@@ -14,10 +15,13 @@ use prog.Wired.{Wired}
 use prog.Wp.{Env, Out, Tables, Wp, at_return, after_seq, after_block, after_turn}
 use types.Logic.{Logic}
 use types.Tokens.{lft_new}
-use types.Kit.{Item, Sq, ‵, raw, ◌⊛◌, some, given, later, at_ret, any_q, runs, ◌$◌, ◌∵◌, !, qed, by, done, move, keep, drop, use1, use2, split, join, fsplit, fjoin, feq_i, pick, learn, await, rewrite, suffices, group}
+use types.Kit.{Item, Sq, ‵, raw, ◌⊛◌, some, given, later, at_ret, any_q, runs, ◌$◌, ◌∵◌, !, qed, by, done, move, keep, drop, use1, use2}
+use types.Kit.{split, join, fsplit, fjoin, feq_i, pick, learn, await, rewrite, suffices, group}
 use types.Part.{whole, sub}
-use types.Run.{enter, of_opd, unit_lit, bin, lit, and_then, no_more, load, look, stop, fld, first, blocks, branches, skips, jumps, exec, returns, loops, again, Below}
-use types.ByLocal.{alloc_all, pass_all, free_all, look_at, get, get_in, through, sets, sets_last, lands_as, lands_last, env, holding, forget_but, take_at, give_at}
+use types.Run.{enter, of_opd, unit_lit, bin, lit, and_then, no_more, load, look, stop, fld, first, blocks, branches, skips, jumps, exec}
+use types.Run.{returns, loops, again, Below}
+use types.ByLocal.{alloc_all, pass_all, free_all, look_at, get, get_in, through, sets, sets_last, lands_as, lands_last, env, holding}
+use types.ByLocal.{forget_but, take_at, give_at}
 use denote.Exit.{yes}
 use denote.Memory.{part_at}
 use denote.Param.{layout}
@@ -46,7 +50,8 @@ use Rattle.cord_raw.specs.contracts.chain.Chain.{the_row as C}
 use Rattle.cord_raw.proofs.chain.Chain.TheLaws as chain_laws
 use Rattle.cord_raw.proofs.Destruct++none.drop.Code as none
 use Rattle.cord_raw.proofs.Fields.{pointer, Rest, pointer_apart, pointer_back}
-use Rattle.cord_raw.proofs.Freeing.{A, B, A_laws, B_laws, bare_drop, goes, Boxed, Makes, Frees, tokens, at_makes, at_frees, makes_asks, makes_gives, frees_asks, frees_gives}
+use Rattle.cord_raw.proofs.Freeing.{A, B, A_laws, B_laws, bare_drop, goes, Boxed, Makes, Frees, tokens, at_makes, at_frees, makes_asks}
+use Rattle.cord_raw.proofs.Freeing.{makes_gives, frees_asks, frees_gives}
 use Rattle.cord_raw.proofs.Links.{links_append}
 use Rattle.cord_raw.proofs.Words.{handle_val, handle_typed, chain_val, chain_typed, unpacks, few_fit}
 use Rattle.cord_raw.specs.contracts.chain.Chain.free as f
@@ -83,9 +88,11 @@ module _ {M : Type 1} (𝓤 : Ura M) (𝓛 : Logic 𝓤) (𝓜 : Model 𝓤 𝓛
     Now t = ‵ (links t.0 t.1) ∷ tokens α β ∷ holding 𝓛 En ((2, handle_val) ∷ (5, ptr_val t.0) ∷ (6, vint w64 (length t.1)) ∷ [])
 
     abbrev Turned : Left → Out → SProp 𝓤
-    Turned t = after_turn 𝓤 H (Below 𝓛 Nearer Now t) (after_block 𝓤 H (after_seq 𝓤 H (Wp 𝓤 H 𝓣.C 𝓣.Λ En (after 5 code.function.body) (at_return 𝓤 H En Post)) (at_return 𝓤 H En Post)))
+    Turned t = after_turn 𝓤 H (Below 𝓛 Nearer Now t)
+        (after_block 𝓤 H (after_seq 𝓤 H (Wp 𝓤 H 𝓣.C 𝓣.Λ En (after 5 code.function.body) (at_return 𝓤 H En Post)) (at_return 𝓤 H En Post)))
 
-    turns : (p : Ptr) (bs : List Block) (few : length bs < 2 ^ 64) → Sq 𝓛 (Now (p, bs, few)) (runs 𝓣.C 𝓣.Λ En turn (any_q (Turned (p, bs, few))))
+    turns : (p : Ptr) (bs : List Block) (few : length bs < 2 ^ 64) →
+        Sq 𝓛 (Now (p, bs, few)) (runs 𝓣.C 𝓣.Λ En turn (any_q (Turned (p, bs, few))))
     unfolding after_turn tables_of none.code
     turns p [] few =
         sets ! (of_opd ! (get ! refl)) refl (tt, record { fits = few }) $ sets ! (bin ! (lit ! tt) (get ! refl) tt) refl (tt, tt) $
@@ -93,7 +100,8 @@ module _ {M : Type 1} (𝓤 : Ura M) (𝓛 : Logic 𝓤) (𝓜 : Model 𝓤 𝓛
         (λ over. jumps ! $ exec ! 𝓣.C 𝓣.Λ En (after 5 code.function.body) (at_ret En Post) $
         sets ! (of_opd ! (unit_lit !)) refl (tt, tt) $ returns ! (look_at ! 0 refl) $ free_all ! refl $ keep ! [] $
         suffices ! _ (ends_at 𝓛 f.ended stayed (f.clauses 𝓛 𝓜.mem 𝓡.returns) y vunit tt (tt, (tt, tt)) (tt, (tt, tt))) $
-        nothing ! $ feq_i ! (List Val) (vunit ∷ []) (vunit ∷ []) refl $ nothing ! $ nothing ! $ join ! $ nothing ! $ join ! $ nothing ! $ group ! 3 $ done !)
+        nothing ! $ feq_i ! (List Val) (vunit ∷ []) (vunit ∷ []) refl $ nothing ! $ nothing ! $ join ! $ nothing ! $ join ! $ nothing ! $
+        group ! 3 $ done !)
     turns null_ptr (x ∷ xs) few = fsplit ! $ fsplit ! $ keep ! (0 ∷ []) $ by ! (never_e 𝓤 _)
     turns (block_ptr b o) (x ∷ xs) few =
         let here : Left = (block_ptr b o, x ∷ xs, few) in let many : ℕ = suc (length xs) in let one : 1 ≤ many = omega arith in
@@ -117,7 +125,8 @@ module _ {M : Type 1} (𝓤 : Ura M) (𝓛 : Logic 𝓤) (𝓜 : Model 𝓤 𝓛
         first ! $ blocks ! $ sets ! (of_opd ! (get ! refl)) refl handle_typed $ sets ! (of_opd ! (get ! refl)) refl (tt, tt) $
         let z = at_makes 𝓛 mem run α β x b o in use2 𝓛 (raw ((Makes 𝓛 mem run α β).pre z)) (makes_asks 𝓛 mem run α β x b o) $
         calls_at_last ! fm (Makes 𝓛 mem run α β) boxes z (and_then ! (get ! refl) (and_then ! (get ! refl) (no_more !))) (λ u.
-        use1 𝓛 (later (some (λ (d : Boxed.Denot). given (Good (layout Boxed) u) (‵ (Boxed.own_val d (u ∷ [])) ⊛ tokens α β)))) (makes_gives 𝓛 mem run α β x b o u) $
+        use1 𝓛 (later (some (λ (d : Boxed.Denot). given (Good (layout Boxed) u) (‵ (Boxed.own_val d (u ∷ [])) ⊛ tokens α β))))
+        (makes_gives 𝓛 mem run α β x b o u) $
         await ! tt $ pick ! (λ d. learn ! (λ good. split ! $
         -- [the box; the tokens; the blocks after it]
         lands_last ! refl good $ exec ! 𝓣.C 𝓣.Λ En (after 6 turn) (any_q (Turned here)) $ sets ! (of_opd ! (get ! refl)) refl good $
@@ -128,7 +137,8 @@ module _ {M : Type 1} (𝓤 : Ura M) (𝓛 : Logic 𝓤) (𝓜 : Model 𝓤 𝓛
         lands_as ! is_unit refl (tt, tt) $
         sets ! (of_opd ! (get ! refl)) refl (Ptr-Good x.next) $ sets ! (of_opd ! (get ! refl)) refl (tt, record { fits = few }) $
         sets_last ! (bin ! (get ! refl) (lit ! tt) one) refl (tt, record { fits = fits }) $
-        forget_but ! En (2 ∷ 5 ∷ 6 ∷ []) refl $ take_at ! 6 $ rewrite ! 0 (λ (k : ℕ). ‵ (fat full_share (ty_int w64) (l 6) zero (vint w64 k))) less refl $ give_at ! 6 $
+        forget_but ! En (2 ∷ 5 ∷ 6 ∷ []) refl $ take_at ! 6 $ rewrite ! 0
+        (λ (k : ℕ). ‵ (fat full_share (ty_int w64) (l 6) zero (vint w64 k))) less refl $ give_at ! 6 $
         move ! (1 ∷ 0 ∷ []) $ again ! Nearer Now here (x.next, xs, fewer) (omega arith)))))))
         (λ over. let none_left : many ≤ 0 = nltb→le 0 many over in absurd (omega arith))
 
@@ -136,9 +146,13 @@ pub free_spec : {M : Type 1} → statement M
 unfolding tables_of
 free_spec 𝓤 𝓛 𝓜 𝓡 wired =
     let c = f.clauses 𝓛 𝓜.mem 𝓡.returns in let W = walk_of 𝓛 f.ended stayed c in let fn = code.function in
-    proved 𝓛 f.ended stayed c 𝓜 𝓡 (Goes-blank 𝓛 0 (plain (λ _. C)) yes (λ κs x w. tt), (Goes-dropped 𝓛 0 (plain (λ _. heap.the_row)) yes (λ κs x w. refl), tt))
+    proved 𝓛 f.ended stayed c 𝓜 𝓡 (
+      Goes-blank 𝓛 0 (plain (λ _. C)) yes (λ κs x w. tt),
+      (Goes-dropped 𝓛 0 (plain (λ _. heap.the_row)) yes (λ κs x w. refl), tt),
+    )
     f.Key.name fn (code.unfolded 𝓤 𝓛.H 𝓜 𝓡 wired)
-    (λ κs. ((λ d. chain_val d ∷ []), ((λ h. handle_val ∷ []), tt))) (λ κs. (chain_laws.lowers.val_is, (heap_laws.lowers.val_is, tt))) (λ κs qs bounds a g are.
+    (λ κs. ((λ d. chain_val d ∷ []), ((λ h. handle_val ∷ []), tt))) (λ κs. (chain_laws.lowers.val_is, (heap_laws.lowers.val_is, tt)))
+    (λ κs qs bounds a g are.
     let d = a.0 in let y : W.Ghost = ((κs, qs, bounds, a, (chain_val d ∷ [], (handle_val ∷ [], tt))), g) in
     let all : List Block = d.older ++ d.newest ∷ [] in
     let many : d.count ≡ length all = let here = d.counted in let more = length-append d.older (d.newest ∷ []) in omega arith in
@@ -154,5 +168,7 @@ free_spec 𝓤 𝓛 𝓜 𝓡 wired =
     sets ! (of_opd ! (get_in ! (fld ! refl (stop !)) (sub ! 0 refl (whole !)))) refl (Ptr-Good d.first) $
     sets ! (of_opd ! (get_in ! (fld ! refl (stop !)) (sub ! 2 refl (whole !)))) refl (tt, record { fits = few_fit d }) $
     sets ! (of_opd ! (get ! refl)) refl (Ptr-Good d.first) $ sets ! (of_opd ! (get ! refl)) refl (tt, record { fits = few_fit d }) $
-    forget_but ! (env fn.locals l) (2 ∷ 5 ∷ 6 ∷ []) refl $ take_at ! 6 $ rewrite ! 0 (λ (k : ℕ). ‵ (fat full_share (ty_int w64) (l 6) zero (vint w64 k))) many refl $ give_at ! 6 $
-    first ! $ blocks ! $ loops ! (𝓣 𝓤 𝓛 𝓜 𝓡 wired) Nearer (InvImage.wf (λ (t : Left). length t.1) lt-wf_rel.wf) (Now 𝓤 𝓛 𝓜 𝓡 wired y l α β) (λ t. turns 𝓤 𝓛 𝓜 𝓡 wired y l α β t.0 t.1 t.2) (d.first, all, few))))))
+    forget_but ! (env fn.locals l) (2 ∷ 5 ∷ 6 ∷ []) refl $ take_at ! 6 $ rewrite ! 0
+    (λ (k : ℕ). ‵ (fat full_share (ty_int w64) (l 6) zero (vint w64 k))) many refl $ give_at ! 6 $
+    first ! $ blocks ! $ loops ! (𝓣 𝓤 𝓛 𝓜 𝓡 wired) Nearer (InvImage.wf (λ (t : Left). length t.1) lt-wf_rel.wf) (Now 𝓤 𝓛 𝓜 𝓡 wired y l α β)
+    (λ t. turns 𝓤 𝓛 𝓜 𝓡 wired y l α β t.0 t.1 t.2) (d.first, all, few))))))

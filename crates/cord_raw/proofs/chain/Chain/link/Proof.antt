@@ -4,7 +4,8 @@ use mir.Syntax.{named}
 use mir.Val.{Val, vunit}
 use base.Fraction.{full_share}
 use base.Fml.{ftrue, flft}
-use types.Kit.{at_ret, ‵, raw, ◌⊛◌, ◌$◌, ◌∵◌, !, qed, done, move, keep, use1, use2, split, join, fsplit, fsplit3, fjoin, feq_i, rewrite, suffices, frame, group}
+use types.Kit.{at_ret, ‵, raw, ◌⊛◌, ◌$◌, ◌∵◌, !, qed, done, move, keep, use1, use2, split, join, fsplit, fsplit3, fjoin, feq_i, rewrite}
+use types.Kit.{suffices, frame, group}
 use types.Part.{whole, sub, look_in, store_in}
 use types.Run.{enter, of_opd, unit_lit, bin, load, store, stop, fld, hop, assigns, assigns_last, first, blocks, exec, returns}
 use types.ByLocal.{alloc_all, pass_all, free_all, look_at, get, get_in, through, sets, env}
@@ -57,37 +58,49 @@ link_spec 𝓤 𝓛 𝓜 𝓡 wired =
     let c = f.clauses 𝓛 𝓜.mem 𝓡.returns in let W = walk_of 𝓛 f.ended stayed c in let 𝓣 = tables 𝓤 𝓛.H 𝓜 𝓡 𝓡.env in let fn = code.function in
     proved 𝓛 f.ended stayed c 𝓜 𝓡 (Goes-ref 𝓛 1 0 tt (plain (λ _. C)), (Goes-blank 𝓛 1 (plain (λ _. C)) yes (λ κs x w. tt), tt))
     f.Key.name fn (code.unfolded 𝓤 𝓛.H 𝓜 𝓡 wired)
-    (λ κs. (mut_vals, ((λ d. chain_val d ∷ []), tt))) (λ κs. (mut_Tells (named 0) κs.0 C, (chain_laws.lowers.val_is, tt))) (λ κs qs bounds a g are.
+    (λ κs. (mut_vals, ((λ d. chain_val d ∷ []), tt))) (λ κs. (mut_Tells (named 0) κs.0 C, (chain_laws.lowers.val_is, tt)))
+    (λ κs qs bounds a g are.
     let κ = κs.0 in let q = qs.0 in let ab = a.0.ref_ptr.0 in let ao = a.0.ref_ptr.1 in let d = a.0.now in let other = a.1.0 in let vs = mut_vals a.0 in
     let y : W.Ghost = ((κs, qs, bounds, a, (vs, (chain_val other ∷ [], tt))), g) in
-    qed 𝓛 (((‵ (flft κ q) ⊛ ‵ ftrue) ⊛ ‵ (owns (MutRef (named 0) κ C ∷ C ∷ []) a (vs, (chain_val other ∷ [], tt)))) ∷ raw (fact 𝓤 (length d.older + length other.older + 2 ≤ MOST_BLOCKS)) ∷ []) ∵
-    move ! (1 ∷ []) $ heard ! (length d.older + length other.older + 2 ≤ MOST_BLOCKS) (λ few. split ! $ split ! $ move ! (2 ∷ []) $ fsplit ! $ move ! (1 ∷ []) $ fsplit ! $ keep ! (2 ∷ 3 ∷ 0 ∷ []) $
+    qed 𝓛 (((‵ (flft κ q) ⊛ ‵ ftrue) ⊛ ‵ (owns (MutRef (named 0) κ C ∷ C ∷ []) a (vs, (chain_val other ∷ [], tt))))
+    ∷ raw (fact 𝓤 (length d.older + length other.older + 2 ≤ MOST_BLOCKS)) ∷ []) ∵
+    move ! (1 ∷ []) $ heard ! (length d.older + length other.older + 2 ≤ MOST_BLOCKS)
+    (λ few. split ! $ split ! $ move ! (2 ∷ []) $ fsplit ! $ move ! (1 ∷ []) $ fsplit ! $ keep ! (2 ∷ 3 ∷ 0 ∷ []) $
     -- [self; the token; the other chain]
     let new = linked d other few in
     enter ! _ _ _ _ _ $ alloc_all ! (λ l. pass_all ! refl ((tt, tt), (chain_typed 𝓛 other (few_fit other), tt)) $
-    fsplit3 ! $ move ! (1 ∷ 2 ∷ 3 ∷ []) $ opens ! tt C ab ao (λ us. move ! (1 ∷ []) $ unpacks ! d us (λ word. fsplit ! $ move ! (1 ∷ []) $ lies ! d.last d.newest (λ b o e.
+    fsplit3 ! $ move ! (1 ∷ 2 ∷ 3 ∷ []) $ opens ! tt C ab ao (λ us.
+    move ! (1 ∷ []) $ unpacks ! d us (λ word. fsplit ! $ move ! (1 ∷ []) $ lies ! d.last d.newest (λ b o e.
     use1 𝓛 (‵ (pointer 𝓛 d.newest.next b o) ⊛ raw (Rest 𝓛 d.newest b o)) (pointer_apart 𝓛 d.newest b o) $ split ! $
     let Cell = λ (ws : List Val). ‵ (cell_at full_share C.mir ws ab ao) in
     rewrite ! 4 Cell word refl $ rewrite ! 4 (λ (p : Ptr). Cell (words d.first p d.count ∷ [])) e refl $
-    -- [its pointer; the rest of the block; the right to free it; the older ones; the chain's cell; the open borrow, in three entries; self's first part; the other chain]
+    -- [its pointer; the rest of the block; the right to free it; the older ones; the chain's cell; the open borrow, in three entries;
+    -- self's first part; the other chain]
     sets ! (of_opd ! (get_in ! (fld ! refl (stop !)) (sub ! 0 refl (whole !)))) refl (Ptr-Good other.first) $
     sets ! (of_opd ! (get_in ! (fld ! refl (stop !)) (sub ! 1 refl (whole !)))) refl (Ptr-Good other.last) $
     sets ! (of_opd ! (get_in ! (fld ! refl (stop !)) (sub ! 2 refl (whole !)))) refl (tt, record { fits = few_fit other }) $
     first ! $ blocks ! $
-    assigns_last ! (of_opd ! (get ! refl)) (through ! refl (fld ! refl (hop ! (look_in ! 4 (sub ! 1 refl (whole !))) (fld ! refl (stop !))))) (store ! 0 refl (Ptr-Good other.first)) $
+    assigns_last ! (of_opd ! (get ! refl))
+    (through ! refl (fld ! refl (hop ! (look_in ! 4 (sub ! 1 refl (whole !))) (fld ! refl (stop !)))))
+    (store ! 0 refl (Ptr-Good other.first)) $
     exec ! 𝓣.C 𝓣.Λ (env fn.locals l) (after 4 fn.body) (at_ret _ (W.post y)) $
     assigns ! (of_opd ! (get ! refl)) (through ! refl (fld ! refl (stop !))) (store_in ! 4 (sub ! 1 refl (whole !)) (Ptr-Good other.last)) $
-    sets ! (of_opd ! (load ! (through ! refl (fld ! refl (stop !))) (look_in ! 4 (sub ! 2 refl (whole !))))) refl (tt, record { fits = few_fit d }) $
+    sets ! (of_opd ! (load ! (through ! refl (fld ! refl (stop !))) (look_in ! 4 (sub ! 2 refl (whole !))))) refl
+    (tt, record { fits = few_fit d }) $
     sets ! (bin ! (get ! refl) (get ! refl) (record { fits = few_fit new })) refl (tt, record { fits = few_fit new }) $
-    assigns ! (of_opd ! (get ! refl)) (through ! refl (fld ! refl (stop !))) (store_in ! 4 (sub ! 2 refl (whole !)) (tt, record { fits = few_fit new })) $
+    assigns ! (of_opd ! (get ! refl)) (through ! refl (fld ! refl (stop !)))
+    (store_in ! 4 (sub ! 2 refl (whole !)) (tt, record { fits = few_fit new })) $
     sets ! (of_opd ! (unit_lit !)) refl (tt, tt) $
     use2 𝓛 (‵ (part_at B full_share (pointing d.newest other.first) b o)) (pointer_back 𝓛 d.newest other.first b o) $ fjoin ! $
     rewrite ! 0 (λ (p : Ptr). ‵ (block_owns p (pointing d.newest other.first))) (sym e ∙ d.leads) refl $
     move ! (7 ∷ []) $ unpacks ! other (chain_val other ∷ []) (λ _. fsplit ! $
-    -- [the other chain's older blocks; its newest; the block that leads to them; the older ones; the chain's cell; the open borrow, in three entries; self's first part]
-    move ! (2 ∷ 0 ∷ []) $ fjoin ! $ move ! (2 ∷ 0 ∷ []) $ use2 𝓛 (‵ (links d.first new.older)) (links_append 𝓛 d.first d.older (pointing d.newest other.first ∷ other.older)) $
+    -- [the other chain's older blocks; its newest; the block that leads to them; the older ones; the chain's cell; the open borrow, in
+    -- three entries; self's first part]
+    move ! (2 ∷ 0 ∷ []) $ fjoin ! $ move ! (2 ∷ 0 ∷ []) $ use2 𝓛 (‵ (links d.first new.older))
+    (links_append 𝓛 d.first d.older (pointing d.newest other.first ∷ other.older)) $
     fjoin ! $ packs ! new (few_fit new) $ move ! (1 ∷ 0 ∷ []) $ closes ! tt C new (chain_val new ∷ []) ab ao $
     returns ! (look_at ! 0 refl) $ free_all ! refl $ move ! (3 ∷ []) $
     suffices ! _ (ends_at 𝓛 f.ended stayed c y vunit tt (new, (tt, tt)) (tt, (tt, tt))) $ says ! (refl, refl) $
-    group ! 3 $ nothing ! $ nothing ! $ join ! $ move ! (1 ∷ 0 ∷ []) $ join ! $ nothing ! $ move ! (2 ∷ 0 ∷ []) $ join ! $ frame ! $ frame ! $
+    group ! 3 $ nothing ! $ nothing ! $ join ! $ move ! (1 ∷ 0 ∷ []) $ join ! $ nothing ! $ move !
+    (2 ∷ 0 ∷ []) $ join ! $ frame ! $ frame ! $
     feq_i ! _ (vunit ∷ []) _ refl $ done !)))))))

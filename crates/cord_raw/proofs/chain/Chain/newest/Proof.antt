@@ -8,7 +8,8 @@ use base.Fraction.{full_share}
 use base.Logic.{ent, sep, id⊢}
 use base.Fml.{Fml, GName, ftrue, flft, fsep}
 use types.Logic.{Logic, sem}
-use types.Kit.{at_ret, ‵, ◌⊛◌, some, later, ◌$◌, ◌∵◌, !, qed, move, keep, use1, drop, split, split3, join, pick, await, group, fsplit, fsplit3, fjoin, fpack, rewrite, raw, suffices, frame, done}
+use types.Kit.{at_ret, ‵, ◌⊛◌, some, later, ◌$◌, ◌∵◌, !, qed, move, keep, use1, drop, split, split3, join, pick, await, group, fsplit}
+use types.Kit.{fsplit3, fjoin, fpack, rewrite, raw, suffices, frame, done}
 use types.Part.{whole, sub, look_in}
 use types.Run.{stop, hop, fld, of_opd, first, blocks, exec, returns, enter, addr}
 use types.ByLocal.{alloc_all, pass_all, free_all, look_at, get, through, sets, sets_last, env}
@@ -38,14 +39,17 @@ use Rattle.cord_raw.proofs.chain.Chain.newest.Code as code
 module _ {M : Type 1} {𝓤 : Ura M} (𝓛 : Logic 𝓤) (at_b at_o : ℕ) (c : Chain) (b o : ℕ) where
   -- the chain at (at_b, at_o) without its newest block, while that is lent
   abbrev Kept : Fml
-  Kept = fsep (fsep (frees (bare (lone B.mir)) (block_ptr b o)) (links c.first c.older)) (cell_at full_share C.mir (words c.first (block_ptr b o) c.count ∷ []) at_b at_o)
+  Kept = fsep (fsep (frees (bare (lone B.mir)) (block_ptr b o)) (links c.first c.older))
+      (cell_at full_share C.mir (words c.first (block_ptr b o) c.count ∷ []) at_b at_o)
 
   -- the chain with the block that came back
-  returned : c.last ≡ block_ptr b o → (w : Block) → ent 𝓤 (sep 𝓤 (sem 𝓛 ((mem B).own_at w b o)) (sem 𝓛 Kept)) (sem 𝓛 ((mem C).own_at (with_newest c w) at_b at_o))
+  returned : c.last ≡ block_ptr b o → (w : Block) → ent 𝓤 (sep 𝓤 (sem 𝓛 ((mem B).own_at w b o)) (sem 𝓛 Kept))
+      (sem 𝓛 ((mem C).own_at (with_newest c w) at_b at_o))
   unfolding part_of
   returned e w =
       qed 𝓛 (‵ (part_at B full_share w b o) ∷ ‵ Kept ∷ []) ∵ move ! (1 ∷ []) $ fsplit ! $ fsplit ! $ move ! (3 ∷ 0 ∷ []) $ fjoin ! $
-      rewrite ! 0 (λ (p : Ptr). ‵ (block_owns p w)) (sym e) refl $ move ! (1 ∷ 0 ∷ []) $ fjoin ! $ packs ! (with_newest c w) (few_fit c) $ move ! (1 ∷ []) $
+      rewrite ! 0 (λ (p : Ptr). ‵ (block_owns p w)) (sym e) refl $ move ! (1 ∷ 0 ∷ []) $ fjoin ! $ packs ! (with_newest c w)
+      (few_fit c) $ move ! (1 ∷ []) $
       rewrite ! 0 (λ (p : Ptr). ‵ (cell_at full_share C.mir (words c.first p c.count ∷ []) at_b at_o)) (sym e) refl $ fjoin ! $
       fpack ! (List Val) (λ us. fsep (cell_at full_share C.mir us at_b at_o) (C.own_val (with_newest c w) us)) (chain_val c ∷ []) $ done !
 
@@ -63,18 +67,23 @@ newest_spec 𝓤 𝓛 𝓜 𝓡 wired =
     qed 𝓛 (((‵ (flft κ q) ⊛ ‵ ftrue) ⊛ ‵ (owns (MutRef (named 0) κ C ∷ []) a (vptr ab ao ∷ [], tt))) ∷ raw ((c κs a).requires tt) ∷ []) ∵
     split ! $ move ! (1 ∷ []) $ fsplit ! $ fsplit3 ! $ drop ! $ move ! (3 ∷ []) $ split ! $
     enter ! _ _ _ _ _ $ alloc_all ! (λ l. pass_all ! refl ((tt, tt), tt) $
-    move ! (2 ∷ 3 ∷ 0 ∷ []) $ opens ! tt C ab ao (λ us. move ! (1 ∷ []) $ unpacks ! d us (λ word. fsplit ! $ move ! (1 ∷ []) $ lies ! d.last d.newest (λ b o e.
-    rewrite ! 3 (λ (ws : List Val). ‵ (cell_at full_share C.mir ws ab ao)) word refl $ rewrite ! 3 (λ (p : Ptr). ‵ (cell_at full_share C.mir (words d.first p d.count ∷ []) ab ao)) e refl $
+    move ! (2 ∷ 3 ∷ 0 ∷ []) $ opens ! tt C ab ao (λ us. move ! (1 ∷ []) $ unpacks ! d us
+    (λ word. fsplit ! $ move ! (1 ∷ []) $ lies ! d.last d.newest (λ b o e.
+    rewrite ! 3 (λ (ws : List Val). ‵ (cell_at full_share C.mir ws ab ao)) word refl $ rewrite ! 3
+    (λ (p : Ptr). ‵ (cell_at full_share C.mir (words d.first p d.count ∷ []) ab ao)) e refl $
     -- [the newest block; the right to free it; the older ones; the chain's cell; the open borrow, in three entries; ..]
     first ! $ blocks ! $
     sets_last ! (addr ! (through ! refl (fld ! refl (hop ! (look_in ! 3 (sub ! 1 refl (whole !))) (stop !))))) refl (tt, tt) $
     exec ! 𝓣.C 𝓣.Λ (env fn.locals l) (after 1 fn.body) (at_ret _ Post) $
     sets ! (of_opd ! (get ! refl)) refl (tt, tt) $
     move ! (1 ∷ 2 ∷ []) $ fjoin ! $ move ! (0 ∷ 2 ∷ []) $ fjoin ! $ move ! (2 ∷ 3 ∷ 4 ∷ 1 ∷ 0 ∷ []) $ group ! 5 $
-    use1 𝓛 (later (some (λ (γ' : GName). raw (Part 𝓛 C B (with_newest d) (named 0) κ q ab ao b o γ (sem 𝓛 (Kept 𝓛 ab ao d b o)) (returned 𝓛 ab ao d b o e) d.newest γ'))))
-    (lends_Part 𝓛 C B (with_newest d) (named 0) κ q ab ao b o γ (sem 𝓛 (Kept 𝓛 ab ao d b o)) (returned 𝓛 ab ao d b o e) (C.coded.code d) (C.coded.code d) d.newest) $ await ! tt $ pick ! (λ γ'.
+    use1 𝓛 (later (some (λ (γ' : GName). raw (Part 𝓛 C B (with_newest d) (named 0) κ q ab ao b o γ (sem 𝓛 (Kept 𝓛 ab ao d b o))
+    (returned 𝓛 ab ao d b o e) d.newest γ'))))
+    (lends_Part 𝓛 C B (with_newest d) (named 0) κ q ab ao b o γ (sem 𝓛 (Kept 𝓛 ab ao d b o)) (returned 𝓛 ab ao d b o e) (C.coded.code d)
+    (C.coded.code d) d.newest) $ await ! tt $ pick ! (λ γ'.
     let loan : MutBor Block = record { ref_ptr = (b, o); ghost_name = γ'; now = d.newest } in
-    use1 𝓛 (‵ ((MutRef (named 0) κ B).own_val loan (vptr b o ∷ [])) ⊛ ‵ (flft κ q) ⊛ ‵ (follows C B γ γ' (with_newest d))) (id⊢ 𝓤 _) $ split3 ! $
+    use1 𝓛 (‵ ((MutRef (named 0) κ B).own_val loan (vptr b o ∷ [])) ⊛ ‵ (flft κ q) ⊛ ‵ (follows C B γ γ' (with_newest d)))
+    (id⊢ 𝓤 _) $ split3 ! $
     returns ! (look_at ! 0 refl) $ free_all ! refl $
     -- [the loan; the token; what gives the chain back; the other tokens]
     keep ! (0 ∷ 1 ∷ 2 ∷ 3 ∷ []) $ suffices ! _ (ends_at 𝓛 f.ended stayed c y (vptr b o) loan (tt, tt) (tt, tt)) $

@@ -4,9 +4,11 @@ use mir.Syntax.{named}
 use mir.Val.{Val, vunit}
 use base.Fraction.{full_share}
 use base.Fml.{ftrue, feq, flft}
-use types.Kit.{at_ret, ‵, raw, ◌⊛◌, ◌$◌, ◌∵◌, !, qed, done, move, keep, use1, use2, split, join, fsplit, fsplit3, fjoin, feq_i, feq_l, rewrite, suffices, frame, group}
+use types.Kit.{at_ret, ‵, raw, ◌⊛◌, ◌$◌, ◌∵◌, !, qed, done, move, keep, use1, use2, split, join, fsplit, fsplit3, fjoin, feq_i, feq_l}
+use types.Kit.{rewrite, suffices, frame, group}
 use types.Part.{whole, sub, look_in}
-use types.Run.{enter, of_opd, lit, unit_lit, bin, addr, load, look, store, stop, fld, hop, assigns, assigns_last, first, blocks, exec, returns}
+use types.Run.{enter, of_opd, lit, unit_lit, bin, addr, load, look, store, stop, fld, hop, assigns, assigns_last, first, blocks, exec}
+use types.Run.{returns}
 use types.ByLocal.{alloc_all, pass_all, free_all, look_at, get, through, sets, env}
 use contract.Monad.{fact}
 use contract.Running.{tables}
@@ -50,34 +52,45 @@ put_spec 𝓤 𝓛 𝓜 𝓡 wired =
     (λ κs. (mut_vals, (uint_vals w8, tt))) (λ κs. (mut_Tells (named 0) κs.0 C, (uint_Tells w8, tt))) (λ κs qs bounds a g are.
     let κ = κs.0 in let q = qs.0 in let ab = a.0.ref_ptr.0 in let ao = a.0.ref_ptr.1 in let d = a.0.now in let n = a.1.0 in let vs = mut_vals a.0 in let x : Block = d.newest in
     let y : W.Ghost = ((κs, qs, bounds, a, (vs, (uint_vals w8 n, tt))), g) in
-    qed 𝓛 (((‵ (flft κ q) ⊛ ‵ ftrue) ⊛ ‵ (owns (MutRef (named 0) κ C ∷ u8 ∷ []) a (vs, (uint_vals w8 n, tt)))) ∷ raw (fact 𝓤 (x.len < ROOM)) ∷ []) ∵
+    qed 𝓛 (((‵ (flft κ q) ⊛ ‵ ftrue) ⊛ ‵ (owns (MutRef (named 0) κ C ∷ u8 ∷ []) a (vs, (uint_vals w8 n, tt))))
+    ∷ raw (fact 𝓤 (x.len < ROOM)) ∷ []) ∵
     move ! (1 ∷ []) $ heard ! (x.len < ROOM) (λ low. split ! $ split ! $ move ! (2 ∷ []) $ fsplit ! $ keep ! (0 ∷ 2 ∷ []) $
     -- [self; the token]
     let new = with_newest d (with_byte x n) in let place : x.len < 2 ^ 64 = omega arith in let more : x.len + 1 < 2 ^ 64 = omega arith in
     enter ! _ _ _ _ _ $ alloc_all ! (λ l. pass_all ! refl ((tt, tt), ((tt, record { fits = are.1.0.1 }), tt)) $
-    fsplit3 ! $ move ! (1 ∷ 2 ∷ 3 ∷ []) $ opens ! tt C ab ao (λ us. move ! (1 ∷ []) $ unpacks ! d us (λ word. fsplit ! $ move ! (1 ∷ []) $ lies ! d.last x (λ b o e.
-    use1 𝓛 (‵ (len_at 𝓛 x.len b o) ⊛ ‵ (feq ℕ (length x.bytes) 128) ⊛ ‵ (row u8 full_share x.bytes b (o + 16)) ⊛ ‵ (part_at RawPtr full_share x.next b (o + 0)) ⊛ raw (Back 𝓛 b o)) (bytes_apart 𝓛 x b o) $
+    fsplit3 ! $ move ! (1 ∷ 2 ∷ 3 ∷ []) $ opens ! tt C ab ao (λ us.
+    move ! (1 ∷ []) $ unpacks ! d us (λ word. fsplit ! $ move ! (1 ∷ []) $ lies ! d.last x (λ b o e.
+    use1 𝓛 (‵ (len_at 𝓛 x.len b o) ⊛ ‵ (feq ℕ (length x.bytes) 128) ⊛ ‵ (row u8 full_share x.bytes b (o + 16)) ⊛ ‵
+    (part_at RawPtr full_share x.next b (o + 0)) ⊛ raw (Back 𝓛 b o)) (bytes_apart 𝓛 x b o) $
     split ! $ move ! (1 ∷ []) $ split ! $ move ! (1 ∷ []) $ split ! $ move ! (1 ∷ []) $ split ! $ move ! (3 ∷ 2 ∷ 4 ∷ []) $ feq_l ! (λ all.
     let inside : x.len < length x.bytes = subst (λ (k : ℕ). x.len < k) (sym all) low in
-    use1 𝓛 (‵ (byte 𝓛 x.bytes x.len n b (o + 16) (get_or x.bytes x.len 0)) ⊛ ‵ (rest 𝓛 x.bytes x.len n b (o + 16))) (byte_out 𝓛 x.bytes x.len n b (o + 16) inside) $ split ! $
+    use1 𝓛 (‵ (byte 𝓛 x.bytes x.len n b (o + 16) (get_or x.bytes x.len 0)) ⊛ ‵ (rest 𝓛 x.bytes x.len n b (o + 16)))
+    (byte_out 𝓛 x.bytes x.len n b (o + 16) inside) $ split ! $
     let Cell = λ (ws : List Val). ‵ (cell_at full_share C.mir ws ab ao) in
     rewrite ! 7 Cell word refl $ rewrite ! 7 (λ (p : Ptr). Cell (words d.first p d.count ∷ [])) e refl $
-    -- [the byte; the other bytes; the length; the pointer; the way back; the right to free; the older ones; the chain's cell; the open borrow, in three entries; self's first part]
+    -- [the byte; the other bytes; the length; the pointer; the way back; the right to free; the older ones; the chain's cell; the open
+    -- borrow, in three entries; self's first part]
     first ! $ blocks ! $
-    sets ! (of_opd ! (load ! (through ! refl (fld ! refl (hop ! (look_in ! 7 (sub ! 1 refl (whole !))) (fld ! refl (stop !))))) (look ! 2 refl))) refl (tt, record { fits = place }) $
+    sets ! (of_opd ! (load ! (through ! refl (fld ! refl (hop ! (look_in ! 7 (sub ! 1 refl (whole !))) (fld ! refl (stop !)))))
+    (look ! 2 refl))) refl (tt, record { fits = place }) $
     sets ! (addr ! (through ! refl (fld ! refl (hop ! (look_in ! 7 (sub ! 1 refl (whole !))) (fld ! refl (stop !)))))) refl (tt, tt) $
     sets ! (bin ! (get ! refl) (get ! refl) tt) refl (tt, tt) $
     assigns ! (of_opd ! (get ! refl)) (through ! refl (stop !)) (store ! 0 refl (tt, record { fits = are.1.0.1 })) $
     sets ! (bin ! (get ! refl) (lit ! tt) (record { fits = more })) refl (tt, record { fits = more }) $
-    assigns_last ! (of_opd ! (get ! refl)) (through ! refl (fld ! refl (hop ! (look_in ! 7 (sub ! 1 refl (whole !))) (fld ! refl (stop !))))) (store ! 2 refl (tt, record { fits = more })) $
+    assigns_last ! (of_opd ! (get ! refl))
+    (through ! refl (fld ! refl (hop ! (look_in ! 7 (sub ! 1 refl (whole !))) (fld ! refl (stop !)))))
+    (store ! 2 refl (tt, record { fits = more })) $
     exec ! 𝓣.C 𝓣.Λ (env fn.locals l) (after 1 fn.body) (at_ret _ (W.post y)) $
     sets ! (of_opd ! (unit_lit !)) refl (tt, tt) $
     use2 𝓛 (‵ (row u8 full_share (set x.bytes x.len n) b (o + 16))) (byte_back 𝓛 x.bytes x.len n b (o + 16) inside) $
     feq_i ! ℕ (length (set x.bytes x.len n)) 128 (length-set x.bytes x.len n ∙ all) $ move ! (2 ∷ 0 ∷ 1 ∷ []) $ group ! 5 $
     use1 𝓛 (‵ (part_at B full_share (with_byte x n) b o)) (bytes_back 𝓛 (with_byte x n) b o) $ fjoin ! $
-    rewrite ! 0 (λ (p : Ptr). ‵ (block_owns p (with_byte x n))) (sym e) refl $ move ! (1 ∷ 0 ∷ []) $ fjoin ! $ packs ! new (few_fit new) $ move ! (1 ∷ []) $
+    rewrite ! 0 (λ (p : Ptr). ‵ (block_owns p (with_byte x n))) (sym e) refl $ move ! (1 ∷ 0 ∷ []) $ fjoin ! $ packs ! new
+    (few_fit new) $ move ! (1 ∷ []) $
     rewrite ! 0 (λ (p : Ptr). Cell (words d.first p d.count ∷ [])) (sym e) refl $ closes ! tt C new (chain_val new ∷ []) ab ao $
     returns ! (look_at ! 0 refl) $ free_all ! refl $ move ! (3 ∷ []) $
-    suffices ! _ (ends_at 𝓛 f.ended stayed c y vunit tt (new, (tt, tt)) (tt, (tt, tt))) $ says ! (refl, refl, take_set x.bytes x.len n inside) $
-    group ! 3 $ nothing ! $ nothing ! $ join ! $ move ! (1 ∷ 0 ∷ []) $ join ! $ nothing ! $ move ! (2 ∷ 0 ∷ []) $ join ! $ frame ! $ frame ! $
+    suffices ! _ (ends_at 𝓛 f.ended stayed c y vunit tt (new, (tt, tt)) (tt, (tt, tt))) $ says !
+    (refl, refl, take_set x.bytes x.len n inside) $
+    group ! 3 $ nothing ! $ nothing ! $ join ! $ move ! (1 ∷ 0 ∷ []) $ join ! $ nothing ! $ move !
+    (2 ∷ 0 ∷ []) $ join ! $ frame ! $ frame ! $
     feq_i ! _ (vunit ∷ []) _ refl $ done !)))))))

@@ -5,7 +5,8 @@ use mir.Syntax.{named}
 use mir.Val.{Val}
 use base.Fraction.{full_share}
 use base.Fml.{ftrue, flft}
-use types.Kit.{at_ret, ‵, raw, ◌⊛◌, ◌$◌, ◌∵◌, !, qed, done, move, keep, use1, use2, split, join, fsplit, fsplit3, fjoin, rewrite, suffices, frame, group}
+use types.Kit.{at_ret, ‵, raw, ◌⊛◌, ◌$◌, ◌∵◌, !, qed, done, move, keep, use1, use2, split, join, fsplit, fsplit3, fjoin, rewrite, suffices}
+use types.Kit.{frame, group}
 use types.Part.{agg, whole, sub, look_in, store_in}
 use types.Run.{enter, of_opd, bin, lit, and_then, no_more, load, look, stop, fld, hop, assigns, first, blocks, exec, returns}
 use types.ByLocal.{alloc_all, pass_all, free_all, look_at, get, through, sets, sets_last, env}
@@ -73,23 +74,29 @@ unlink_spec 𝓤 𝓛 𝓜 𝓡 wired =
     use1 𝓛 (‵ (pointer 𝓛 x.next b o) ⊛ raw (Rest 𝓛 x b o)) (pointer_apart 𝓛 x b o) $ split ! $
     let Cell = λ (ws : List Val). ‵ (cell_at full_share C.mir ws ab ao) in
     rewrite ! 5 Cell word refl $ rewrite ! 5 (λ (p : Ptr). Cell (words p d.last d.count ∷ [])) e refl $
-    -- [its pointer; the rest of the block; the right to free it; the blocks between; the newest; the chain's cell; the open borrow, in three entries; self's first part]
+    -- [its pointer; the rest of the block; the right to free it; the blocks between; the newest; the chain's cell; the open borrow, in
+    -- three entries; self's first part]
     first ! $ blocks ! $
-    sets_last ! (of_opd ! (load ! (through ! refl (fld ! refl (hop ! (look_in ! 5 (sub ! 0 refl (whole !))) (fld ! refl (stop !))))) (look ! 0 refl))) refl (Ptr-Good x.next) $
+    sets_last ! (of_opd ! (load ! (through ! refl (fld ! refl (hop ! (look_in ! 5 (sub ! 0 refl (whole !))) (fld ! refl (stop !)))))
+    (look ! 0 refl))) refl (Ptr-Good x.next) $
     exec ! 𝓣.C 𝓣.Λ (env fn.locals l) (after 1 fn.body) (at_ret _ (W.post y)) $
     sets ! (of_opd ! (get ! refl)) refl (Ptr-Good x.next) $
     sets ! (of_opd ! (load ! (through ! refl (fld ! refl (stop !))) (look_in ! 5 (sub ! 1 refl (whole !))))) refl (Ptr-Good d.last) $
-    sets ! (of_opd ! (load ! (through ! refl (fld ! refl (stop !))) (look_in ! 5 (sub ! 2 refl (whole !))))) refl (tt, record { fits = few_fit d }) $
+    sets ! (of_opd ! (load ! (through ! refl (fld ! refl (stop !))) (look_in ! 5 (sub ! 2 refl (whole !))))) refl
+    (tt, record { fits = few_fit d }) $
     sets ! (bin ! (get ! refl) (lit ! tt) least) refl (tt, record { fits = few_fit given }) $
-    sets ! (agg ! (and_then ! (get ! refl) (and_then ! (get ! refl) (and_then ! (get ! refl) (no_more !))))) refl (chain_typed 𝓛 given (few_fit given)) $
+    sets ! (agg ! (and_then ! (get ! refl) (and_then ! (get ! refl) (and_then ! (get ! refl) (no_more !))))) refl
+    (chain_typed 𝓛 given (few_fit given)) $
     sets ! (of_opd ! (load ! (through ! refl (fld ! refl (stop !))) (look_in ! 5 (sub ! 0 refl (whole !))))) refl (tt, tt) $
     assigns ! (of_opd ! (get ! refl)) (through ! refl (fld ! refl (stop !))) (store_in ! 5 (sub ! 1 refl (whole !)) (tt, tt)) $
-    assigns ! (of_opd ! (lit ! tt)) (through ! refl (fld ! refl (stop !))) (store_in ! 5 (sub ! 2 refl (whole !)) (tt, record { fits = lit< tt })) $
+    assigns ! (of_opd ! (lit ! tt)) (through ! refl (fld ! refl (stop !)))
+    (store_in ! 5 (sub ! 2 refl (whole !)) (tt, record { fits = lit< tt })) $
     sets ! (of_opd ! (get ! refl)) refl (chain_typed 𝓛 given (few_fit given)) $
     use2 𝓛 (‵ (part_at B full_share x b o)) (pointer_back 𝓛 x x.next b o) $ fjoin ! $
     rewrite ! 0 (λ (p : Ptr). ‵ (block_owns p x)) (sym e) refl $ nothing ! $ fjoin ! $ packs ! kept (few_fit kept) $
     move ! (1 ∷ 2 ∷ []) $ fjoin ! $ packs ! given (few_fit given) $ move ! (2 ∷ []) $
-    rewrite ! 0 (λ (p : Ptr). Cell (words p p 1 ∷ [])) (sym e) refl $ move ! (0 ∷ 2 ∷ 3 ∷ 4 ∷ 5 ∷ []) $ closes ! tt C kept (chain_val kept ∷ []) ab ao $
+    rewrite ! 0 (λ (p : Ptr). Cell (words p p 1 ∷ [])) (sym e) refl $ move ! (0 ∷ 2 ∷ 3 ∷ 4 ∷ 5 ∷ []) $ closes ! tt C kept
+    (chain_val kept ∷ []) ab ao $
     -- [two parts of self; the token; the other blocks; self's first part]
     returns ! (look_at ! 0 refl) $ free_all ! refl $ move ! (4 ∷ 0 ∷ 1 ∷ 2 ∷ []) $
     suffices ! _ (ends_at 𝓛 f.ended stayed c y (chain_val given) given (kept, tt) (tt, tt)) $ says ! (e', refl, refl) $

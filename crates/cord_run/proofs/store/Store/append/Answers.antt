@@ -15,11 +15,17 @@ returns-clause-grown c =
     let same : SameEntries old middle = subst (λ (es : List Entry). SameEntries old es) (sym c.deref_mut.ensures.value) c.in_ok-place.ensures.same in
     let grown : IfOk c.append_at.result (λ _. Grew c.args.name.now c.args.bytes.now old c.append_at.new.entries) = if_grew (Grew c.args.name.now c.args.bytes.now middle c.append_at.new.entries) (Grew c.args.name.now c.args.bytes.now old c.append_at.new.entries) c.append_at.result
     (λ g. grew_after c.args.name.now c.args.bytes.now old middle c.append_at.new.entries same g) c.append_at.ensures.grown in
-    subst (λ (es : List Entry). IfOk c.append_at.result (λ _. Grew c.args.name.now c.args.bytes.now old es)) (sym (come_back _ c.append_at.new.entries _ (c.append_at.auto.entries ∙ c.deref_mut.ensures.len))) grown
+    subst (λ (es : List Entry). IfOk c.append_at.result (λ _. Grew c.args.name.now c.args.bytes.now old es))
+    (sym (come_back _ c.append_at.new.entries _ (c.append_at.auto.entries ∙ c.deref_mut.ensures.len))) grown
 
 pub returns-clause-fits : goal.returns-clause-fits
-returns-clause-fits c = subst (λ (o : Option (List Cell)). OnOk c.append_at.result (length (cells_of o) + length c.args.bytes.now ≤ MAX_LEN)) (ap (λ (es : List Entry). extensible_in es c.args.name.now) c.deref_mut.ensures.value ∙ c.in_ok-place.ensures.same.extensibles c.args.name.now) c.append_at.ensures.fits
+returns-clause-fits c =
+    subst (λ (o : Option (List Cell)). OnOk c.append_at.result (length (cells_of o) + length c.args.bytes.now ≤ MAX_LEN))
+    (ap (λ (es : List Entry). extensible_in es c.args.name.now) c.deref_mut.ensures.value
+    ∙ c.in_ok-place.ensures.same.extensibles c.args.name.now) c.append_at.ensures.fits
 
 pub returns-clause-too_long : goal.returns-clause-too_long
 returns-clause-too_long c = λ is.
-    subst (λ (o : Option (List Cell)). MAX_LEN < length (cells_of o) + length c.args.bytes.now) (ap (λ (es : List Entry). extensible_in es c.args.name.now) c.deref_mut.ensures.value ∙ c.in_ok-place.ensures.same.extensibles c.args.name.now) (c.append_at.ensures.too_long is)
+    subst (λ (o : Option (List Cell)). MAX_LEN < length (cells_of o) + length c.args.bytes.now)
+    (ap (λ (es : List Entry). extensible_in es c.args.name.now) c.deref_mut.ensures.value
+    ∙ c.in_ok-place.ensures.same.extensibles c.args.name.now) (c.append_at.ensures.too_long is)

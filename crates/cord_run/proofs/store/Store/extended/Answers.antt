@@ -6,12 +6,15 @@ use Rattle.cord_run.proofs.Shares.{extended_name, extended_none}
 use Rattle.cord_run.proofs.store.Store.extended.Goals as goal
 
 pub returns-in-None-clause-made : goal.returns-in-None-clause-made
-returns-in-None-clause-made c = extended_none c.args.self.now.entries.items c.args.name.now (none_there (λ entry. cells_in entry.extensible) None c.args.self.now.entries.items c.args.self.now.entries.items c.args.name.now refl c.in-None.ensures.none) c.empty.result c.empty.ensures
+returns-in-None-clause-made c = extended_none c.args.self.now.entries.items c.args.name.now
+    (none_there (λ entry. cells_in entry.extensible) None c.args.self.now.entries.items c.args.self.now.entries.items c.args.name.now refl
+    c.in-None.ensures.none) c.empty.result c.empty.ensures
 
 pub returns-in-Some-clause-made : goal.returns-in-Some-clause-made
 returns-in-Some-clause-made c =
     extended_name c.args.self.now.entries.items c.args.name.now (cells_in c.index_mut.result.now.extensible)
-    (value_there (λ entry. cells_in entry.extensible) None c.args.self.now.entries.items c.args.self.now.entries.items c.args.name.now c.in-Some.place c.index_mut.result.now refl c.in-Some.ensures.some c.index_mut.ensures.value)
+    (value_there (λ entry. cells_in entry.extensible) None c.args.self.now.entries.items c.args.self.now.entries.items c.args.name.now
+    c.in-Some.place c.index_mut.result.now refl c.in-Some.ensures.some c.index_mut.ensures.value)
     c.cord_of.result c.cord_of.ensures.made
 
 pub returns-in-Some-clause-same : goal.returns-in-Some-clause-same
@@ -20,10 +23,16 @@ returns-in-Some-clause-same c =
     let from : Entry = c.index_mut.result.now in
     let to : Entry = record { name = from.name; content = from.content; number = from.number; extensible = c.cord_of.new.extensible } in
     let is = c.index_mut.ensures.value in
-    extensible_same c.args.name.now from to entries c.in-Some.place c.in-Some.ensures.some (ap (λ (e : Entry). e.name.items) is ∙ name_at_place entries c.args.name.now c.in-Some.place from c.in-Some.ensures.some) (ap (λ (e : Entry). e.content) is) (ap (λ (e : Entry). e.number) is) (c.cord_of.ensures.same ∙ ap (λ (e : Entry). cells_in e.extensible) is)
+    extensible_same c.args.name.now from to entries c.in-Some.place c.in-Some.ensures.some
+    (ap (λ (e : Entry). e.name.items) is ∙ name_at_place entries c.args.name.now c.in-Some.place from c.in-Some.ensures.some)
+    (ap (λ (e : Entry). e.content) is) (ap (λ (e : Entry). e.number) is)
+    (c.cord_of.ensures.same ∙ ap (λ (e : Entry). cells_in e.extensible) is)
 
 pub invariant_of-self : goal.invariant_of-self
 invariant_of-self c =
     let from : Entry = c.index_mut.result.now in
     let to : Entry = record { name = from.name; content = from.content; number = from.number; extensible = c.cord_of.new.extensible } in
-    record { distinct = distinct_set c.args.self.now.entries.items c.in-Some.place from to (ap (λ (e : Entry). e.name.items) c.index_mut.ensures.value) c.args.self.now.distinct }
+    record {
+      distinct = distinct_set c.args.self.now.entries.items c.in-Some.place from to
+          (ap (λ (e : Entry). e.name.items) c.index_mut.ensures.value) c.args.self.now.distinct;
+    }

@@ -5,10 +5,16 @@ use Rattle.cord_run.proofs.Entries.{none_there, value_there}
 use Rattle.cord_run.proofs.store.Store.extended_length.Goals as goal
 
 pub returns-in-None : goal.returns-in-None
-returns-in-None c = sym (ap extensible_length (none_there (λ entry. cells_in entry.extensible) None c.args.self.now.entries.items c.args.self.now.entries.items c.args.name.now refl c.in-None.ensures.none))
+returns-in-None c = sym
+    (ap extensible_length (none_there (λ entry. cells_in entry.extensible) None c.args.self.now.entries.items c.args.self.now.entries.items
+    c.args.name.now refl c.in-None.ensures.none))
 
 pub returns-in-None-extensible : goal.returns-in-None-extensible
-returns-in-None-extensible c = ap extensible_length (ap cells_in (sym c.in-None-extensible.is) ∙ value_there (λ entry. cells_in entry.extensible) None c.args.self.now.entries.items c.args.self.now.entries.items c.args.name.now c.in-Some.place c.index.result.now refl c.in-Some.ensures.some c.index.ensures)
+returns-in-None-extensible c = ap extensible_length (ap cells_in (sym c.in-None-extensible.is)
+    ∙ value_there (λ entry. cells_in entry.extensible) None c.args.self.now.entries.items c.args.self.now.entries.items c.args.name.now
+    c.in-Some.place c.index.result.now refl c.in-Some.ensures.some c.index.ensures)
 
 pub returns-in-Some-extensible : goal.returns-in-Some-extensible
-returns-in-Some-extensible c = c.len.ensures.value ∙ ap extensible_length (ap cells_in (sym c.in-Some-extensible.is) ∙ value_there (λ entry. cells_in entry.extensible) None c.args.self.now.entries.items c.args.self.now.entries.items c.args.name.now c.in-Some.place c.index.result.now refl c.in-Some.ensures.some c.index.ensures)
+returns-in-Some-extensible c = c.len.ensures.value ∙ ap extensible_length
+    (ap cells_in (sym c.in-Some-extensible.is) ∙ value_there (λ entry. cells_in entry.extensible) None c.args.self.now.entries.items
+    c.args.self.now.entries.items c.args.name.now c.in-Some.place c.index.result.now refl c.in-Some.ensures.some c.index.ensures)

@@ -4,9 +4,12 @@ use Rattle.cord_run.proofs.Entries.{none_there, value_there}
 use Rattle.cord_run.proofs.store.Store.number_of.Goals as goal
 
 pub returns-in-None : goal.returns-in-None
-returns-in-None c = sym (none_there (λ entry. entry.number) (pos 0) c.args.self.now.entries.items c.args.self.now.entries.items c.args.name.now refl c.in-None.ensures.none)
+returns-in-None c = sym (none_there (λ entry. entry.number) (pos 0) c.args.self.now.entries.items c.args.self.now.entries.items
+    c.args.name.now refl c.in-None.ensures.none)
 
 pub returns-in-Some : goal.returns-in-Some
 returns-in-Some c =
     let fits : FitsSigned w64 c.index.result.now.number = search rules in
-    to_z-of_z w64 c.index.result.now.number fits ∙ value_there (λ entry. entry.number) (pos 0) c.args.self.now.entries.items c.args.self.now.entries.items c.args.name.now c.in-Some.place c.index.result.now refl c.in-Some.ensures.some c.index.ensures
+    to_z-of_z w64 c.index.result.now.number fits ∙ value_there (λ entry. entry.number)
+    (pos 0) c.args.self.now.entries.items c.args.self.now.entries.items c.args.name.now c.in-Some.place c.index.result.now refl
+    c.in-Some.ensures.some c.index.ensures

@@ -12,7 +12,8 @@ returns-then-self-seam-clause-within c =
     rw c.as_ref.ensures within
 
 pub returns-then-self-seam-clause-shorter : goal.returns-then-self-seam-clause-shorter
-returns-then-self-seam-clause-shorter c = rw c.as_ref.ensures (left_shorter c.args.self.node.now _ c.in-Cat.left.value _ c.in-Cat.right.value _ _ _ c.in-Cat.is c.requires.0)
+returns-then-self-seam-clause-shorter c =
+    rw c.as_ref.ensures (left_shorter c.args.self.node.now _ c.in-Cat.left.value _ c.in-Cat.right.value _ _ _ c.in-Cat.is c.requires.0)
 
 pub returns-clause-within : goal.returns-clause-within
 returns-clause-within c =
@@ -25,4 +26,5 @@ returns-clause-within c =
     rw c.as_ref-2.ensures within
 
 pub returns-clause-shorter : goal.returns-clause-shorter
-returns-clause-shorter c = rw c.as_ref-2.ensures (right_shorter c.args.self.node.now _ c.in-Cat.left.value _ c.in-Cat.right.value _ _ _ c.in-Cat.is c.requires.0)
+returns-clause-shorter c =
+    rw c.as_ref-2.ensures (right_shorter c.args.self.node.now _ c.in-Cat.left.value _ c.in-Cat.right.value _ _ _ c.in-Cat.is c.requires.0)
