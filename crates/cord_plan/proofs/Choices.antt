@@ -1,6 +1,6 @@
 -- The choices for a line's operands, from left to right.
-use Rattle.std.proofs.Common.{◌≡◌, ℕ, ◌+◌, ◌<◌, Bool, List, [], ◌∷◌, ◌++◌, map, drop, length, get_or, Option, Some, None, refl, sym, ap}
-use Rattle.std.proofs.Common.{◌∙◌}
+use Rattle.std.proofs.Common.{◌≡◌, ℕ, ◌+◌, ◌<◌, ◌≤◌, arith, Bool, List, [], ◌∷◌, ◌++◌, map, drop, length, get_or, Option, Some, None, refl}
+use Rattle.std.proofs.Common.{sym, ap, ◌∙◌}
 use Rattle.std.proofs.lemmas.List.{at_drop_more}
 use Rattle.cord_syntax.specs.declared.statements.Statement.{Statement}
 use Rattle.cord_syntax.specs.declared.statements.Statement.TheVariants.{Chars, Nul, Cat, Catn, Catc, Substr, Put}
@@ -8,6 +8,15 @@ use Rattle.cord_plan.specs.Exprs.{Expr, name}
 use Rattle.cord_plan.specs.Operands.{read_by}
 use Rattle.cord_plan.specs.Forced.{Choice, Table, expr_of, setter, chosen_of, choices, entry, operands_chosen, own}
 use Rattle.cord_plan.specs.inner.Choices.{simple_operands}
+
+-- a list of two
+pub two_long : (xs : List (List ℕ)) (x y : List ℕ) → 2 ≤ length xs → length xs < 3 → x ≡ get_or xs 0 x → y ≡ get_or xs 1 y →
+    xs ≡ x ∷ y ∷ []
+two_long [] x y more less first second = let bad : ⊥ = omega arith in absurd bad
+two_long (a ∷ []) x y more less first second = let bad : ⊥ = omega arith in absurd bad
+two_long (a ∷ b ∷ []) x y more less first second = ap (λ (z : List ℕ). z ∷ b ∷ []) (sym first)
+    ∙ ap (λ (z : List ℕ). x ∷ z ∷ []) (sym second)
+two_long (a ∷ b ∷ c ∷ cs) x y more less first second = let bad : ⊥ = omega arith in absurd bad
 
 -- a simple line reads its operands
 pub simple_reads : (l : Statement) (xs : List (List ℕ)) → simple_operands l ≡ Some xs → read_by l ≡ xs
@@ -35,6 +44,15 @@ module _ (s : List Statement) (later : List ℕ → ℕ → Bool) (t : Table) (b
           ≡ chosen_of s later t b l x (map (λ d. expr_of d) done) (map (λ y. name y) (drop (length done + 1) xs)) (setter s x b)
       here = ap (λ (n : ℕ). chosen_of s later t b l x (map (λ d. expr_of d) done) (map (λ y. name y) (drop (n + 1) xs)) (setter s x b))
           (sym size)
+
+  -- a line with two operands
+  pub two_chosen : (x y : List ℕ) (c d : Choice) → simple_operands l ≡ Some (x ∷ y ∷ []) →
+      c ≡ chosen_of s later t b l x [] (name y ∷ []) (setter s x b) →
+      d ≡ chosen_of s later t b l y (expr_of c ∷ []) [] (setter s y b) → c ∷ d ∷ [] ≡ choices s later t b l [] (read_by l)
+  two_chosen x y c d e first second =
+      ap (λ (z : Choice). c ∷ z ∷ []) second
+      ∙ ap (λ (z : Choice). z ∷ chosen_of s later t b l y (expr_of z ∷ []) [] (setter s y b) ∷ []) first
+      ∙ sym (ap (λ (ys : List (List ℕ)). choices s later t b l [] ys) (simple_reads l (x ∷ y ∷ []) e))
 
   -- the line's entry, by its operands
   abbrev pub entry_of : Option (List (List ℕ)) → Option Expr × List Choice

@@ -1,5 +1,6 @@
 -- The equations of `expr_view`, one for each variant, and of `members_view`.
-use Rattle.std.proofs.Common.{◌≡◌, ℕ, List, [], ◌∷◌, map, Box, Global, refl, sym, ap, ◌∙◌}
+use Rattle.std.proofs.Common.{◌≡◌, ℕ, List, [], ◌∷◌, map, Global, refl, sym, ap, ◌∙◌}
+use Rattle.std.specs.declared.rc.Rc.{Rc}
 use Rattle.cord_operands.specs.declared.operands.Number.{Number}
 use Rattle.cord_plan.specs.Exprs as plain
 use Rattle.cord_plan.specs.Views.{expr_view, expr_step, members_of, members_view, members_step, shared_view}
@@ -19,7 +20,7 @@ view-Run c n = ap expr_view (sym (rolls-Run c n)) ∙ fold-roll-Expr plain.Expr 
 pub view-Cat : (ms : Members) → expr_view (Cat ms) ≡ plain.cat (members_view ms)
 view-Cat ms = ap expr_view (sym (rolls-Cat ms)) ∙ fold-roll-Expr plain.Expr plain.Exprs expr_step members_step (Expr-F.Cat ms)
 
-pub view-Sub : (e : Box Expr Global) (i n : Number) → expr_view (Sub e i n) ≡ plain.sub (expr_view e.value) i n
+pub view-Sub : (e : Rc Expr Global) (i n : Number) → expr_view (Sub e i n) ≡ plain.sub (expr_view e.value) i n
 view-Sub e i n = ap expr_view (sym (rolls-Sub e i n)) ∙ fold-roll-Expr plain.Expr plain.Exprs expr_step members_step (Expr-F.Sub e i n)
 
 map_twice : {A B C : Type 0} (f : A → B) (g : B → C) (xs : List A) → map g (map f xs) ≡ map (λ x. g (f x)) xs

@@ -163,8 +163,8 @@ fn expression_at<'a>(table: &'a [Option<Expr>], place: usize) -> Option<&'a Expr
     }
 }
 
-// What stands for the next operand of a line after those that were chosen for, where the lines before it have these expressions.
-fn choose<'a>(
+/// What stands for the next operand of a line after those that were chosen for, where the lines before it have these expressions.
+pub(crate) fn choose<'a>(
     line: &Line,
     operand: &'a Name,
     table: &'a [Option<Expr>],

@@ -5,7 +5,7 @@ ghost use Rattle.cord_plan.specs.Views.{members_of, members_view, shared_view};
 use cord_script::{Name, Number};
 use std::rc::Rc;
 
-/// An expression of a plan: what a line makes of names of cords and of runs of a byte.
+/// An expression of a plan: what a line makes of names of cords and of runs of a byte. Expressions share what stands in them.
 #[derive(Drop)]
 #[cycle(expressions)]
 pub enum Expr {
@@ -20,7 +20,7 @@ pub enum Expr {
     Cat(Members),
     /// `sub(E i n)`: at most n bytes of E from i on.
     Sub {
-        expression: Box<Expr>,
+        expression: Rc<Expr>,
         start: Number,
         count: Number,
     },

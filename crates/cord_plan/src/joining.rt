@@ -10,7 +10,7 @@ ghost use Rattle.cord_plan.specs.Views.{expr_view, members_of, shared_view};
 use crate::Expr;
 use crate::choosing::Choice;
 use crate::interning::Interner;
-use crate::own::{cat, named, run, run_of, shared_byte, sub_of};
+use crate::own::{cat, named, run, run_of, sub_of};
 use crate::parts::{copy, share_onto};
 use cord_io::CordError;
 use cord_script::{Number, Statement};
@@ -126,16 +126,37 @@ fn joined_with(
     ensures refused { IsOkUnless result CordError.NoMemory }
 {
     let mut members = joined(alloc, interner, choices, 1)?;
-    members.push(shared_byte(alloc, byte)?)?;
+    members.push(interner.byte(alloc, byte)?)?;
     Ok(cat(members))
 }
 
+// An expression that stands for an operand, to be shared.
+fn shared_expression(
+    alloc: Global,
+    interner: &mut Interner,
+    choice: &Choice,
+) -> Result<Rc<Expr>, CordError>
+    ensures made { IfOk result (λ e. shared_view e ≡ expr_of (choice_view choice.now)) }
+    ensures refused { IsOkUnless result CordError.NoMemory }
+{
+    match choice {
+        Choice::Kept(name) => interner.name(alloc, name),
+        Choice::Replaced(_, expression) => shared_copy(alloc, expression),
+    }
+}
+
 // `sub` of what stands for an operand.
-fn part(alloc: Global, choice: &Choice, start: &Number, count: &Number) -> Result<Expr, CordError>
+fn part(
+    alloc: Global,
+    interner: &mut Interner,
+    choice: &Choice,
+    start: &Number,
+    count: &Number,
+) -> Result<Expr, CordError>
     ensures made { IfOk result (λ e. expr_view e ≡ plain.sub (expr_of (choice_view choice.now)) start.now count.now) }
     ensures refused { IsOkUnless result CordError.NoMemory }
 {
-    sub_of(alloc, expression_of(alloc, choice)?, start, count)
+    sub_of(shared_expression(alloc, interner, choice)?, start, count)
 }
 
 /// The expression of a simple line, where these stand for its operands; of any other line there is none.
@@ -161,7 +182,7 @@ pub(crate) fn expression_with(
         }
         Statement::Substr { start, count, .. } => match choices {
             [] => Ok(None),
-            [choice, ..] => Ok(Some(part(alloc, choice, start, count)?)),
+            [choice, ..] => Ok(Some(part(alloc, interner, choice, start, count)?)),
         },
         Statement::Put { .. } => match choices {
             [] => Ok(None),

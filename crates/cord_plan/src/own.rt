@@ -42,7 +42,10 @@ pub(crate) fn own_expression(
             start,
             count,
             ..
-        } => Ok(Some(sub_of(alloc, named(operand)?, start, count)?)),
+        } => {
+            let operand = interner.name(alloc, operand)?;
+            Ok(Some(sub_of(operand, start, count)?))
+        }
         Statement::Put { operand, .. } => Ok(Some(named(operand)?)),
         _ => Ok(None),
     }
@@ -75,7 +78,7 @@ fn with_byte(
         (members_of (plain.name operand.now ∷ plain.run byte.now (Numeral (pos 1)) ∷ []))) }
     ensures refused { IsOkUnless result CordError.NoMemory }
 {
-    let (operand, last) = (interner.name(alloc, operand)?, shared_byte(alloc, byte)?);
+    let (operand, last) = (interner.name(alloc, operand)?, interner.byte(alloc, byte)?);
     let operands = vec![in alloc; operand, last]?;
     Ok(cat(operands))
 }
@@ -113,18 +116,18 @@ pub(crate) fn run_of(byte: &Number, count: &Number) -> Result<Expr, CordError>
 
 /// `sub(expression start count)`.
 pub(crate) fn sub_of(
-    alloc: Global,
-    expression: Expr,
+    expression: Rc<Expr>,
     start: &Number,
     count: &Number,
 ) -> Result<Expr, CordError>
-    ensures made { IfOk result (λ e. expr_view e ≡ plain.sub (expr_view expression) start.now count.now) }
+    ensures made { IfOk result (λ e. expr_view e ≡ plain.sub (shared_view expression) start.now count.now) }
     ensures refused { IsOkUnless result CordError.NoMemory }
 {
+    let (start, count) = (start.clone()?, count.clone()?);
     Ok(Expr::Sub {
-        expression: Box::new(alloc, expression)?,
-        start: start.clone()?,
-        count: count.clone()?,
+        expression,
+        start,
+        count,
     })
 }
 

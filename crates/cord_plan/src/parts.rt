@@ -45,8 +45,7 @@ pub(crate) fn room_behind_all(members: &[Rc<Expr>], room: u32) -> Option<u32>
     Some(left)
 }
 
-/// A copy of an expression, which shares the members of a `cat`. Refused only with `NoMemory`.
-#[cycle(copy)]
+/// A copy of an expression, which shares the members of a `cat` and what a `sub` is of. Refused only with `NoMemory`.
 pub(crate) fn copy(alloc: Global, expression: &Expr) -> Result<Expr, CordError>
     ensures made { IfOk result (λ e. expr_view e ≡ expr_view expression.now) }
     ensures refused { IsOkUnless result CordError.NoMemory }
@@ -64,8 +63,8 @@ pub(crate) fn copy(alloc: Global, expression: &Expr) -> Result<Expr, CordError>
             start,
             count,
         } => {
-            let inner = copy(alloc, expression.as_ref())?;
-            sub_of(alloc, inner, start, count)
+            let shared = expression.clone()?;
+            sub_of(shared, start, count)
         }
     }
 }

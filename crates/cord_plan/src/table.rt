@@ -1,13 +1,14 @@
 // The expressions of all lines of a script, and which lines are the first of a forced pair.
-ghost use Rattle.std.specs.Prelude.{◌≡◌, ◌≤◌, IfOk, IsOkUnless, length, map, option_map};
-ghost use Rattle.cord_plan.specs.inner.Choices.{choice_view};
+ghost use Rattle.std.specs.Prelude.{◌≡◌, ◌≤◌, Some, IfOk, IsOkUnless, length, map, option_map};
+ghost use Rattle.cord_plan.specs.inner.Choices.{choice_view, simple_operands};
+ghost use Rattle.cord_plan.specs.Forced.{expr_of, expr_with};
 ghost use Rattle.cord_plan.specs.inner.Liveness.{tells};
 ghost use Rattle.cord_plan.specs.inner.Recent.{IsRecent};
 ghost use Rattle.cord_plan.specs.inner.Tables.{IsMarked, IsNext, IsTableOf};
 ghost use Rattle.cord_plan.specs.Views.{expr_view};
 
 use crate::Expr;
-use crate::choosing::{Choice, Line, choose_all, operands_of};
+use crate::choosing::{Choice, Line, choose, choose_all, operands_of};
 use crate::interning::Interner;
 use crate::joining::expression_with;
 use crate::liveness::Later;
@@ -41,6 +42,58 @@ fn mark(firsts: &mut [bool], choices: &[Choice])
     }
 }
 
+// The expression of a line with what was chosen for its operands; the lines that it takes are marked.
+fn expression_by(
+    alloc: Global,
+    interner: &mut Interner,
+    statement: &Statement,
+    choices: &[Choice],
+    firsts: &mut [bool],
+) -> Result<Option<Expr>, CordError>
+    ensures marked { IsMarked (map choice_view choices.now) firsts.old firsts.new }
+    ensures made { IfOk result (λ e. option_map expr_view e
+        ≡ expr_with statement.now (map expr_of (map choice_view choices.now))) }
+    ensures refused { IsOkUnless result CordError.NoMemory }
+{
+    mark(firsts, choices);
+    expression_with(alloc, interner, statement, choices)
+}
+
+// The expression of a simple line; the lines that it takes are marked. What is chosen for at most two operands takes no memory.
+fn expression_over<'a>(
+    alloc: Global,
+    interner: &mut Interner,
+    line: &Line<'a>,
+    expressions: &'a [Option<Expr>],
+    firsts: &mut [bool],
+) -> Result<Option<Expr>, CordError>
+    requires place { line.now.place ≤ length line.now.statements.now }
+    requires recent { IsRecent line.now.statements.now line.now.place line.now.recent.now }
+    requires operands { simple_operands line.now.statement.now ≡ Some line.now.operands.now }
+    ensures made { IfOk result (λ e. IsNext line.now.statements.now
+        (tells line.now.recent.now.later.now) line.now.place line.now.statement.now
+        (map (option_map expr_view) expressions.now) firsts.old firsts.new (option_map expr_view e)) }
+    ensures refused { IsOkUnless result CordError.NoMemory }
+{
+    let statement = line.statement;
+    match line.operands {
+        [] => expression_by(alloc, interner, statement, &[], firsts),
+        [operand] => {
+            let choice = choose(line, operand, expressions, &[]);
+            expression_by(alloc, interner, statement, &[choice], firsts)
+        }
+        [left, right] => {
+            let first = choose(line, left, expressions, &[]);
+            let second = choose(line, right, expressions, &[first]);
+            expression_by(alloc, interner, statement, &[first, second], firsts)
+        }
+        _ => {
+            let choices = choose_all(alloc, line, expressions)?;
+            expression_by(alloc, interner, statement, &choices, firsts)
+        }
+    }
+}
+
 // The expression of the next line after those that have these; the lines that it takes are marked.
 fn next_expression<'a>(
     alloc: Global,
@@ -68,9 +121,7 @@ fn next_expression<'a>(
         operands: operands.as_slice(),
         recent,
     };
-    let choices = choose_all(alloc, &line, expressions)?;
-    mark(firsts, &choices);
-    expression_with(alloc, interner, statement, &choices)
+    expression_over(alloc, interner, &line, expressions, firsts)
 }
 
 impl Table {

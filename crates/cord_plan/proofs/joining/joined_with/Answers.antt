@@ -8,5 +8,5 @@ use Rattle.cord_plan.proofs.joining.joined_with.Goals as goal
 pub returns-clause-made : goal.returns-clause-made
 returns-clause-made c =
     c.cat.ensures ∙ joined_more (map (λ d. expr_of d) (map choice_view c.args.choices.now)) c.in_ok-members.members.items
-    c.push.new.self.items c.in_ok-shared_byte.field-0 c.args.byte.now (Numeral (pos 1)) c.in_ok-members.ensures.made
-    c.in_ok-push.ensures.items c.in_ok-shared_byte.ensures.made
+    c.push.new.self.items c.in_ok-byte.field-0 c.args.byte.now (Numeral (pos 1)) c.in_ok-members.ensures.made
+    c.in_ok-push.ensures.items c.in_ok-byte.ensures.made
