@@ -4,13 +4,14 @@
  *
  * A command a line: 'i PLACE TEXT' inserts, 'd PLACE COUNT' deletes, 'f TEXT' tells where the text stands first,
  * 'u' takes the last change back, 's PATH' saves. */
+#define _POSIX_C_SOURCE 200809L
 #include <inttypes.h>
 #include <stdio.h>
 #include <stdlib.h>
 #include <string.h>
 #include <zomtsje.h>
 
-enum { MOST_VERSIONS = 1000, BLOCK = 65536, LONGEST_LINE = 4096 };
+enum { MOST_VERSIONS = 1000, LONGEST_LINE = 4096 };
 
 static zc_cord versions[MOST_VERSIONS]; /* zeros are cords of no bytes */
 static int current = 0;
@@ -58,33 +59,11 @@ static void find(const char *text) {
         printf("%" PRIu64 "\n", place);
 }
 
-static void open_file(const char *path) {
-    static char block[BLOCK];
-    zc_cord longer = ZC_EMPTY;
-    FILE *file = fopen(path, "rb");
-    if (file == NULL) must(ZC_READ_FAILED);
-    for (size_t count; (count = fread(block, 1, BLOCK, file)) > 0;) {
-        must(zc_cat_bytes(&versions[0], block, count, &longer));
-        zc_cord old = versions[0];
-        versions[0] = longer, longer = old;
-    }
-    if (ferror(file)) must(ZC_READ_FAILED);
-    fclose(file);
-    zc_free(&longer);
-}
-
 static void save(const char *path) {
-    static char block[BLOCK];
-    zc_cord *text = &versions[current];
-    uint64_t len = zc_len(text);
     FILE *file = fopen(path, "wb");
-    int worked = file != NULL;
-    for (uint64_t at = 0; worked && at < len; at += BLOCK) {
-        size_t count = len - at < BLOCK ? (size_t)(len - at) : BLOCK;
-        must(zc_to_bytes(text, at, block, count));
-        worked = fwrite(block, 1, count, file) == count;
-    }
-    if (!worked || fclose(file) != 0) must(ZC_WRITE_FAILED);
+    if (file == NULL) must(ZC_WRITE_FAILED);
+    must(zc_put(&versions[current], fileno(file)));
+    if (fclose(file) != 0) must(ZC_WRITE_FAILED);
 }
 
 static void run(char *line) {
@@ -110,7 +89,7 @@ int main(int words, char **word) {
         fprintf(stderr, "usage: editor FILE\n");
         return 2;
     }
-    open_file(word[1]);
+    must(zc_from_path(word[1], &versions[0]));
     while (fgets(line, sizeof line, stdin) != NULL) {
         line[strcspn(line, "\n")] = 0;
         run(line);

@@ -101,6 +101,90 @@ static void makes(void) {
     zc_free(&c);
 }
 
+static void joins(void) {
+    zc_cord parts[3] = {ZC_EMPTY, ZC_EMPTY, ZC_EMPTY}, out = ZC_EMPTY;
+    DO(zc_catn(parts, 3, &out));
+    EXPECT_TEXT(&out, "");
+    DO(zc_from_bytes("one ", 4, &parts[0]));
+    DO(zc_from_bytes("two ", 4, &parts[1]));
+    DO(zc_chars('3', 3, &parts[2]));
+    DO(zc_catn(parts, 3, &out));
+    EXPECT_TEXT(&out, "one two 333");
+    DO(zc_catn(parts + 1, 2, &out));
+    EXPECT_TEXT(&out, "two 333");
+    DO(zc_catn(parts, 1, &out));
+    EXPECT_TEXT(&out, "one ");
+    EXPECT_TEXT(&parts[1], "two ");
+    EXPECT_TEXT(&parts[2], "333");
+    zc_free(&parts[1]);
+    DO(zc_catn(parts, 3, &out));
+    EXPECT_TEXT(&out, "one 333");
+    DO(zc_chars('m', ZC_MAX_LEN, &parts[1]));
+    EXPECT(zc_catn(parts, 3, &out) == ZC_TOO_LONG || may_want);
+    EXPECT_TEXT(&out, "one 333");
+    DO(zc_catn(NULL, 0, &out));
+    EXPECT_TEXT(&out, "");
+    for (int i = 0; i < 3; i++) zc_free(&parts[i]);
+    zc_free(&out);
+}
+
+static int format(const char *text, zc_arg *args, size_t count, zc_cord *out) {
+    return zc_sprintf(text, strlen(text), args, count, out);
+}
+
+static void formats(void) {
+    zc_arg args[3] = {ZC_TEXT, ZC_NUMBER(-7), ZC_NUMBER(65)}, one = ZC_NUMBER(255);
+    zc_cord out = ZC_EMPTY;
+    DO(format("no argument", NULL, 0, &out));
+    EXPECT_TEXT(&out, "no argument");
+    DO(format("%%", args, 0, &out));
+    EXPECT_TEXT(&out, "%");
+    DO(format("[%s]|%03d|%c\n", args, 3, &out));
+    EXPECT_TEXT(&out, "[]|-07|A\n");
+    DO(zc_from_bytes("he\0lo", 5, &args[0].text));
+    DO(format("%-8s|%+d|%c", args, 3, &out));
+    EXPECT_TEXT(&out, "he\0lo   |-7|A");
+    DO(format("%7.4s|%.3ld|%3c", args, 3, &out));
+    EXPECT_TEXT(&out, "   he\0l|-007|  A");
+    EXPECT_TEXT(&args[0].text, "he\0lo");
+    DO(format("%x", &one, 1, &out));
+    EXPECT_TEXT(&out, "ff");
+    DO(format("%08o", &one, 1, &out));
+    EXPECT_TEXT(&out, "00000377");
+    one.number = INT64_MIN;
+    DO(format("%d", &one, 1, &out));
+    EXPECT_TEXT(&out, "-9223372036854775808");
+    zc_free(&args[0].text);
+    zc_free(&out);
+}
+
+/* Each is refused and leaves the result as it was; where memory is wanted, that may be said first. */
+static void formats_refused(void) {
+    zc_arg args[2] = {ZC_TEXT, ZC_NUMBER(-1)}, many[2] = {ZC_TEXT, ZC_TEXT};
+    zc_cord out = ZC_EMPTY;
+    DO(zc_from_bytes("old", 3, &out));
+    if (!may_want) {
+        EXPECT(format("%", args, 0, &out) == ZC_BAD_ARGUMENT);
+        EXPECT(format("%f", args + 1, 1, &out) == ZC_BAD_ARGUMENT);
+        EXPECT(format("%+s", args, 1, &out) == ZC_BAD_ARGUMENT);
+        EXPECT(format("%s", args, 0, &out) == ZC_BAD_ARGUMENT);
+        EXPECT(format("%s", args, 2, &out) == ZC_BAD_ARGUMENT);
+        EXPECT(format("%d", args, 1, &out) == ZC_BAD_ARGUMENT);
+        EXPECT(format("%s", args + 1, 1, &out) == ZC_BAD_ARGUMENT);
+        EXPECT(format("%u", args + 1, 1, &out) == ZC_BAD_ARGUMENT);
+        EXPECT(format("%c", args + 1, 1, &out) == ZC_BAD_ARGUMENT);
+        args[1].number = 256;
+        EXPECT(format("%c", args + 1, 1, &out) == ZC_BAD_ARGUMENT);
+    }
+    DO(zc_chars('m', ZC_MAX_LEN, &many[0].text));
+    DO(zc_chars('m', 1, &many[1].text));
+    EXPECT(format("%s%s", many, 2, &out) == ZC_TOO_LONG || may_want);
+    EXPECT_TEXT(&out, "old");
+    zc_free(&many[0].text);
+    zc_free(&many[1].text);
+    zc_free(&out);
+}
+
 static void cuts(void) {
     zc_cord a = ZC_EMPTY, b = ZC_EMPTY, c = ZC_EMPTY;
     DO(zc_from_bytes("the quick brown fox", 19, &a));
@@ -537,6 +621,39 @@ static void files(void) {
     zc_free(&c);
 }
 
+static void read_path(const char *path, zc_cord *out) {
+    int code = zc_from_path(path, out);
+    if (code == ZC_NO_MEMORY && may_want) {
+        wants++;
+        code = zc_from_path(path, out);
+    }
+    EXPECT(code == ZC_OK);
+}
+
+static void paths(void) {
+    char path[] = "/tmp/zomtsje_XXXXXX";
+    zc_cord a = ZC_EMPTY, b = ZC_EMPTY;
+    int fd = mkstemp(path);
+    EXPECT(fd >= 0);
+    read_path(path, &b);
+    EXPECT_TEXT(&b, "");
+    EXPECT(write(fd, "a\0b\n", 4) == 4);
+    read_path(path, &b);
+    EXPECT_TEXT(&b, "a\0b\n");
+    DO(zc_chars('y', 70000, &a));
+    put_at(&a, fd, 4);
+    read_path(path, &b);
+    EXPECT(zc_len(&b) == 70004 && zc_count(&b, 'y') == 70000);
+    EXPECT(close(fd) == 0 && unlink(path) == 0);
+    EXPECT(zc_from_path(path, &b) == ZC_READ_FAILED);
+    EXPECT(zc_from_path("/", &b) == ZC_READ_FAILED);
+    EXPECT(zc_from_path(NULL, &b) == ZC_BAD_ARGUMENT);
+    EXPECT(zc_from_path("/dev/null", NULL) == ZC_BAD_ARGUMENT);
+    EXPECT(zc_len(&b) == 70004);
+    zc_free(&a);
+    zc_free(&b);
+}
+
 static void nulls_of_the_rest(void) {
     zc_cord *volatile none = NULL;
     zc_ext *volatile no_ext = NULL;
@@ -545,6 +662,8 @@ static void nulls_of_the_rest(void) {
     zc_ext grown = ZC_EXT_EMPTY;
     zc_pos position = ZC_POS_NOWHERE;
     zc_cord a = ZC_EMPTY;
+    EXPECT(zc_catn(&a, 1, none) == ZC_BAD_ARGUMENT);
+    EXPECT(zc_sprintf("", 0, NULL, 0, none) == ZC_BAD_ARGUMENT);
     EXPECT(zc_put(none, 1) == ZC_BAD_ARGUMENT);
     EXPECT(zc_ext_char(no_ext, 'a') == ZC_BAD_ARGUMENT);
     EXPECT(zc_ext_bytes(no_ext, "a", 1) == ZC_BAD_ARGUMENT);
@@ -579,6 +698,7 @@ int main(int count, char **words) {
     (void)words;
     may_want = count > 1;
     makes();
+    joins();
     cuts();
     lines();
     limits();
@@ -591,6 +711,9 @@ int main(int count, char **words) {
     grows_no_longer();
     walks();
     files();
+    paths();
+    formats();
+    formats_refused();
     nulls();
     nulls_of_the_rest();
     messages();

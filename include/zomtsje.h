@@ -33,6 +33,7 @@
 #include <stdint.h>
 #ifndef _WIN32
 #include <errno.h>
+#include <fcntl.h>
 #include <unistd.h>
 #endif
 
@@ -87,6 +88,9 @@ int zc_chars(unsigned char byte, uint64_t count, zc_cord *out);
 /* The bytes of x and then those of y. ZC_TOO_LONG, ZC_NO_MEMORY.
    O(1); where the tree would be deeper than ZC_MAX_DEPTH, it is balanced first. */
 int zc_cat(zc_cord *x, zc_cord *y, zc_cord *out);
+
+/* The bytes of all count cords at parts, in order. ZC_TOO_LONG, ZC_NO_MEMORY. O(count), and as so many calls of zc_cat. */
+int zc_catn(zc_cord *parts, size_t count, zc_cord *out);
 
 /* The bytes of x and then these, of which it takes a copy. ZC_TOO_LONG, ZC_NO_MEMORY. O(count), and as zc_cat. */
 int zc_cat_bytes(zc_cord *x, const void *bytes, size_t count, zc_cord *out);
@@ -230,9 +234,30 @@ void zc_pos_prev(zc_pos *position);
 /* Frees what it owns; it then stands nowhere in the cord of no bytes, and may be set or freed again. Null is fine. */
 void zc_pos_free(zc_pos *position);
 
+/* ---- formats ---- */
+
+/* What a conversion of a format is given: the cord in text where is_text isn't 0, else the number. It owns the cord: a
+   share of another, made by zc_share(&x, &argument.text), which zc_free(&argument.text) gives back. */
+typedef struct zc_arg {
+    zc_cord text;
+    int64_t number;
+    uint32_t is_text;
+} zc_arg;
+
+#define ZC_NUMBER(number) {ZC_EMPTY, (number), 0}
+#define ZC_TEXT {ZC_EMPTY, 0, 1}
+
+/* The text of a format with these arguments, after C's printf. A conversion is % and d or i (a number), u, o, x or X (a
+   number from 0 on), c (the byte of a number), s (a cord) or %. In front of the letter may stand the flags -, with d to X
+   also 0, with d and i also +; a width; with all but c a precision, for s the most bytes of the cord; and with numbers l
+   or ll, which change nothing. %% takes none of these. Width and precision are at most 9,999. Trees of cords are shared.
+   ZC_BAD_ARGUMENT where the bytes are no format, or don't take these arguments; ZC_TOO_LONG, ZC_NO_MEMORY.
+   O(format_count + count), and O(d) for each cord. */
+int zc_sprintf(const void *format, size_t format_count, zc_arg *args, size_t count, zc_cord *out);
+
 /* ---- files, by the descriptors of POSIX ---- */
 
-/* These two are in C here, over the calls above: no proof speaks of them. */
+/* These three are in C here, over the calls above: no proof speaks of them. */
 #ifndef _WIN32
 
 /* Writes all bytes of x to the descriptor fd. ZC_WRITE_FAILED, ZC_NO_MEMORY: then a prefix of them is written.
@@ -268,6 +293,19 @@ static inline int zc_from_fd(int fd, zc_cord *out) {
     }
     if (code == ZC_OK) code = zc_ext_to_cord(&all, out);
     zc_ext_free(&all);
+    return code;
+}
+
+/* The bytes of the file at path, a string that ends with 0, which is read to its end now and closed. ZC_READ_FAILED, also
+   where it can't be opened; ZC_TOO_LONG, ZC_NO_MEMORY. As zc_from_fd. */
+static inline int zc_from_path(const char *path, zc_cord *out) {
+    int fd, code;
+    if (path == NULL || out == NULL) return ZC_BAD_ARGUMENT;
+    do fd = open(path, O_RDONLY);
+    while (fd < 0 && errno == EINTR);
+    if (fd < 0) return ZC_READ_FAILED;
+    code = zc_from_fd(fd, out);
+    close(fd);
     return code;
 }
 

@@ -4,15 +4,14 @@ use lib.Dec.{T as Yes}
 use mir.Raw.{raw as bare}
 use mir.Val.{Val, vunit, vstruct, vcons, vnil, has_ty, WT}
 use seplogic.Ra.Ura.{Ura}
-use base.Fml.{Lft, Incl, feq}
 use base.Fraction.{full_share}
-use base.Logic.{ent, sep, via, fst∗, snd∗, never, never_e, guard, guard_i, id⊢}
+use base.Logic.{ent, via, fst∗, snd∗, never, never_e, guard, guard_i, id⊢}
 use contract.Monad.{fact_use}
 use types.Logic.{Logic, sem}
 use types.Kit.{Item, Goal, Seq, Step, step, ‵, ◌$◌, move, drop, fsplit, fjoin}
 use denote.Laws.{Is, shows}
 use denote.Memory.{lone}
-use denote.RattleType.{RattleType, RowLaws}
+use denote.RattleType.{RattleType}
 use denote.RawPtr.{Ptr, block_ptr, null_ptr, ptr_val, lies_at, Testable}
 use denote.Shadow.{pure_i, Pure}
 use denote.Steps.{peeks}

@@ -1,2 +1,4 @@
 pub mod Values
 pub mod Handles
+pub mod Lists
+pub mod Arguments

@@ -2,4 +2,6 @@ pub mod Answers
 pub mod Codes
 pub mod Grown
 pub mod Handles
+pub mod Lists
 pub mod Positions
+pub mod Prints

@@ -1,18 +1,22 @@
 //! Cords for programs in C: each exported function is one call of the library. The header is `include/zomtsje.h`.
 #![tactic(auto)]
 
+mod argument;
 mod ask;
 mod code;
 mod edit;
 mod extend;
 mod extensible;
 mod handle;
+mod list;
 mod loose;
 mod make;
 mod pointer;
 mod position;
+mod print;
 mod walk;
 
+pub use argument::Argument;
 pub use code::{BAD_ARGUMENT, NO_MEMORY, NOT_FOUND, OK, TOO_LONG};
 pub use extensible::{Extensible, ROOM};
 pub use handle::Handle;

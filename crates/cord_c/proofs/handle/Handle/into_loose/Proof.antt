@@ -1,5 +1,5 @@
 -- `into_loose` keeps pointer and allocator, where the pointer isn't null.
-use Rattle.std.proofs.Common.{◌≡◌, ℕ, List, [], ◌∷◌, refl, Global}
+use Rattle.std.proofs.Common.{ℕ, List, [], ◌∷◌, refl, Global}
 use lib.Dec.{lit<}
 use seplogic.Ra.Ura.{Ura}
 use mir.Val.{Val, vstruct, vcons, vnil, of_list}
@@ -7,10 +7,9 @@ use base.Fml.{ftrue, feq}
 use base.Logic.{SProp, ent}
 use contract.Running.{Running, tables}
 use prog.Model.{Model}
-use prog.Wired.{Wired}
 use prog.Wp.{WpFn}
 use types.Logic.{Logic, sem}
-use types.Kit.{at_ret, ‵, ◌⊛◌, ◌$◌, ◌∵◌, !, qed, by, done, keep, drop, use0, use1, split, join, fsplit, feq_l, suffices}
+use types.Kit.{at_ret, ‵, ◌⊛◌, ◌$◌, ◌∵◌, !, qed, by, done, keep, drop, use0, use1, split, join, feq_l, suffices}
 use types.Match.{live}
 use types.Run.{bin, lit, stop, fld, of_opd, no_more, and_then, first, branches, skips, exec, returns, returns_within, enter}
 use types.ByLocal.{alloc_all, pass_all, free_all, look_at, get, get_in, sets, env}

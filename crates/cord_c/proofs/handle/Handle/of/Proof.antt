@@ -1,7 +1,7 @@
 -- `of` keeps the pointer and the allocator of a text on the heap.
 use Rattle.std.proofs.Common.{[], ◌∷◌, refl}
 use base.Fml.{ftrue}
-use types.Kit.{‵, ◌⊛◌, given, learn, ◌$◌, ◌∵◌, !, qed, done, keep, drop, use1, split, join, fsplit, fjoin, suffices}
+use types.Kit.{‵, ◌⊛◌, given, learn, ◌$◌, ◌∵◌, !, qed, done, keep, drop, use1, split, join, fsplit, suffices}
 use types.Run.{stop, fld, of_opd, no_more, and_then, returns, enter}
 use types.ByLocal.{alloc_all, pass_all, free_all, look_at, get, get_in, sets}
 use types.Part.{agg, sub, whole}

@@ -1,0 +1,47 @@
+-- Formats with arguments of C.
+use Rattle.std.specs.Prelude.{◌≡◌, ◌⊎◌, ◌<◌, ◌==◌, ℕ, ℤ, if◌then◌else◌, None, List, length, map}
+use Rattle.cord_io.specs.declared.TheConstants.{MAX_LEN}
+use Rattle.cord_printf.specs.declared.pieces.Piece.{Piece}
+use Rattle.cord_printf.specs.Format.{IsFormat, IsBadAt}
+use Rattle.cord_printf.specs.Pieces.{wanted}
+use Rattle.cord_printf.specs.PieceText.{PieceArgument, number, text, kind_of, printed, first_refusal}
+use Rattle.cord_c.specs.declared.argument.Argument.{Argument}
+use Rattle.cord_c.specs.declared.code.TheConstants.{TOO_LONG, NO_MEMORY, BAD_ARGUMENT}
+
+-- what a conversion is given
+abbrev pub given_by : Argument → PieceArgument ℕ
+given_by a = if a.is_text == 0 then number a.number else text a.text.text
+
+abbrev pub given : List Argument → List (PieceArgument ℕ)
+given args = map given_by args
+
+-- the bytes of their texts
+abbrev pub texts_in : List Argument → List (List ℕ)
+texts_in args = map (λ a. a.text.text) args
+
+-- the arguments are as many as the pieces take, and of their kinds, and each piece takes its own
+pub record Takes (pieces : List Piece) (args : List (PieceArgument ℕ)) : Type 0 where
+  pub kinds : map kind_of args ≡ wanted pieces
+  pub taken : first_refusal 0 pieces args ≡ None
+
+-- the bytes that a format prints of arguments
+pub record IsPrint (format : List ℕ) (args : List (PieceArgument ℕ)) (bytes : List ℕ) : Type 0 where
+  pub pieces : List Piece
+  pub read : IsFormat format pieces
+  pub takes : Takes pieces args
+  pub bytes_are : bytes ≡ printed (λ b. b) pieces args
+
+-- what would be printed is too long
+pub record IsLongPrint (format : List ℕ) (args : List (PieceArgument ℕ)) : Type 0 where
+  pub pieces : List Piece
+  pub read : IsFormat format pieces
+  pub takes : Takes pieces args
+  pub long : MAX_LEN < length (printed (λ b. b) pieces args)
+
+-- the bytes are no format, or one that doesn't take the arguments
+abbrev pub IsNoPrint : List ℕ → List (PieceArgument ℕ) → Type 0
+IsNoPrint format args = ((offset : ℕ) × IsBadAt format offset) ⊎ ((pieces : List Piece) × IsFormat format pieces × ¬ Takes pieces args)
+
+-- the code of a refusal, with what it says
+abbrev pub IsRefusedPrint : List ℕ → List (PieceArgument ℕ) → ℤ → Type 0
+IsRefusedPrint format args c = ((c ≡ TOO_LONG) × IsLongPrint format args) ⊎ (c ≡ NO_MEMORY) ⊎ ((c ≡ BAD_ARGUMENT) × IsNoPrint format args)
