@@ -1,8 +1,8 @@
 -- Leaves that a buffer was made into.
-use Rattle.std.proofs.Common.{◌≡◌, ℕ, ◌+◌, ◌*◌, ◌<◌, ◌≤◌, min, List, [], ◌∷◌, ◌++◌, length, map, take, drop, append-nil, append_assoc}
-use Rattle.std.proofs.Common.{take-append-drop, refl, sym, ap, ◌∙◌, subst, arith}
+use Rattle.std.proofs.Common.{◌≡◌, ℕ, ◌+◌, ◌*◌, ◌<◌, ◌≤◌, min, List, [], ◌∷◌, ◌++◌, length, length-append, map, take, drop, append-nil}
+use Rattle.std.proofs.Common.{append_assoc, take-append-drop, refl, sym, ap, ◌∙◌, subst, arith}
 use Rattle.std.specs.Prelude.{Option, Some, None}
-use Rattle.std.proofs.lemmas.List.{map-append}
+use Rattle.std.proofs.lemmas.List.{length-map, map-append}
 use Rattle.cord_node.specs.declared.Node.{Node}
 use Rattle.cord_node.specs.Tree.{Cell, known}
 use Rattle.cord_node.specs.declared.Node.TheVariants.{Leaf, Run, Func, Cat'}
@@ -139,3 +139,7 @@ gathering_step start longer next b all rest run left sum is some fits k h =
 pub gathering_end : (start longer : List Part) (all rest : ℕ) → IsGathering start longer all rest → (k : ℕ) → all ≤ k * CAP →
     Gathered k start longer
 gathering_end start longer all rest h k fits = record { no_more = omega (arith, h.few, fits); from_there = h.from_there }
+
+-- the length of a text and of the buffer after it
+pub length_both : (xs : List Cell) (b : List ℕ) → length (xs ++ map known b) ≡ length xs + length b
+length_both xs b = length-append xs (map known b) ∙ ap (λ (n : ℕ). length xs + n) (length-map b known)

@@ -23,11 +23,14 @@ use std::marker::Model;
 pub struct ExtCord {
     cord: Cord,
     buffer: RawBuf,
+    // So many bytes the buffer may hold after the cord, so that an append need not look at the cord.
+    room: u64,
 }
 
 impl Model for ExtCord {
     ghost use Rattle.std.specs.Prelude.{◌≤◌, ◌+◌, ◌++◌, length, map};
     ghost use Rattle.cord_io.specs.declared.TheConstants.{MAX_LEN};
+    ghost use Rattle.cord_raw.specs.declared.buffer.TheConstants.RawBuf.{CAP};
     ghost use Rattle.cord_node.specs.Tree.{known};
     ghost use Rattle.cord_core.specs.Cord.{text, text_len, parts_of};
     ghost use Rattle.cord_ec.specs.Gathered.{Growth, coded_growth, leaf_parts};
@@ -39,7 +42,7 @@ impl Model for ExtCord {
     // The buffer's bytes are a leaf after the cord's parts.
     ghost view = { λ e. record { text = text e.cord ++ map known e.buffer; parts = parts_of e.cord ++ leaf_parts e.buffer } };
 
-    ghost invariant = { λ e. text_len e.cord + length e.buffer ≤ MAX_LEN };
+    ghost invariant = { λ e. (text_len e.cord + length e.buffer ≤ MAX_LEN) × (text_len e.cord + e.room ≤ MAX_LEN) × (length (text e.cord) + e.room ≤ MAX_LEN) × (e.room ≤ CAP) };
 }
 
 impl ExtCord {
@@ -53,6 +56,7 @@ impl ExtCord {
         Ok(ExtCord {
             cord: Cord::empty(),
             buffer,
+            room: RawBuf::CAP,
         })
     }
 
@@ -77,17 +81,15 @@ impl ExtCord {
         ensures within_limit { OnOk result (length self.old.text + 1 ≤ MAX_LEN) }
         ensures refused { IfErr result IsRefusal }
     {
-        if len_of(&self.cord, &self.buffer) == MAX_LEN {
-            return Err(CordError::TooLong);
-        }
-        if self.buffer.len() < RawBuf::CAP {
+        if self.buffer.len() < self.room {
             self.buffer.push(alloc, byte)?;
             return Ok(());
         }
-        let longer = whole(alloc, &self.cord, &self.buffer)?;
-        let next = buffer_of(alloc, byte)?;
-        self.cord = longer;
-        self.buffer = next;
+        if len_of(&self.cord, &self.buffer) == MAX_LEN {
+            return Err(CordError::TooLong);
+        }
+        begin_next(alloc, &mut self.cord, &mut self.buffer, byte)?;
+        self.room = room_behind(&self.cord);
         Ok(())
     }
 
@@ -104,17 +106,18 @@ impl ExtCord {
         ensures within_limit { OnOk result (length self.old.text + length bytes.now ≤ MAX_LEN) }
         ensures refused { IfErr result IsRefusal }
     {
-        if bytes.len() as u64 > MAX_LEN - len_of(&self.cord, &self.buffer) {
-            return Err(CordError::TooLong);
-        }
-        if bytes.len() as u64 <= RawBuf::CAP - self.buffer.len() {
+        if self.buffer.len().saturating_add(bytes.len() as u64) <= self.room {
             self.buffer.extend(alloc, bytes)?;
             return Ok(());
+        }
+        if bytes.len() as u64 > MAX_LEN - len_of(&self.cord, &self.buffer) {
+            return Err(CordError::TooLong);
         }
         let so_far = whole(alloc, &self.cord, &self.buffer)?;
         let longer = cat_leaves(alloc, so_far, bytes)?;
         self.cord = longer;
         self.buffer.clear();
+        self.room = room_behind(&self.cord);
         Ok(())
     }
 
@@ -137,6 +140,7 @@ impl ExtCord {
         let longer = cat_within(alloc, &so_far, cord)?;
         self.cord = longer;
         self.buffer.clear();
+        self.room = room_behind(&self.cord);
         Ok(())
     }
 
@@ -153,6 +157,7 @@ impl ExtCord {
         ensures refused { IsOkUnless result CordError.NoMemory }
     {
         flush(alloc, &mut self.cord, &mut self.buffer)?;
+        self.room = room_behind(&self.cord);
         let cord = self.cord.share(alloc)?;
         Ok(cord)
     }
@@ -167,7 +172,18 @@ fn len_of(cord: &Cord, buffer: &RawBuf) -> u64
     cord.len() + buffer.len()
 }
 
+// How many bytes the buffer after a cord may hold.
+fn room_behind(cord: &Cord) -> u64
+    ensures stored { text_len cord.now + result ≤ MAX_LEN }
+    ensures text { length (text cord.now) + result ≤ MAX_LEN }
+    ensures most { result ≤ RawBuf.CAP }
+{
+    RawBuf::CAP.min(MAX_LEN - cord.len())
+}
+
 // The text of a cord and of the buffer after it, as one cord: the buffer's bytes, where it has any, are a leaf.
+#[cold]
+#[inline(never)]
 fn whole(alloc: Global, cord: &Cord, buffer: &RawBuf) -> Result<Cord, CordError>
     requires within_limit { text_len cord.now + length buffer.now ≤ MAX_LEN }
     ensures text { IfOk result (λ c. text c ≡ text cord.now ++ map known buffer.now) }
@@ -212,6 +228,31 @@ fn flush(alloc: Global, cord: &mut Cord, buffer: &mut RawBuf) -> Result<(), Cord
     Ok(())
 }
 
+// Puts the bytes of the buffer into the cord, and a byte into the next buffer. It is seldom called, and what it needs stands apart
+// from the short way of an append.
+#[cold]
+#[inline(never)]
+fn begin_next(
+    alloc: Global,
+    cord: &mut Cord,
+    buffer: &mut RawBuf,
+    byte: u8,
+) -> Result<(), CordError>
+    requires within_limit { text_len cord.old + length buffer.old ≤ MAX_LEN }
+    ensures text { IfOk result (λ _. text cord.new ≡ text cord.old ++ map known buffer.old) }
+    ensures len { IfOk result (λ _. text_len cord.new ≡ text_len cord.old + length buffer.old) }
+    ensures kept { IfOk result (λ _. Kept (parts_of cord.old ++ leaf_parts buffer.old) (parts_of cord.new)) }
+    ensures begun { IfOk result (λ _. buffer.new ≡ byte ∷ []) }
+    ensures cord_unchanged { IsErr result → cord.new ≡ cord.old }
+    ensures buffer_unchanged { IsErr result → buffer.new ≡ buffer.old }
+    ensures refused { IsOkUnless result CordError.NoMemory }
+{
+    let next = buffer_of(alloc, byte)?;
+    flush(alloc, cord, buffer)?;
+    *buffer = next;
+    Ok(())
+}
+
 // The text of one cord and then of another, which are short enough together.
 fn cat_within(alloc: Global, left: &Cord, right: &Cord) -> Result<Cord, CordError>
     requires within_limit { text_len left.now + text_len right.now ≤ MAX_LEN }
@@ -241,6 +282,8 @@ fn leaf_of(alloc: Global, buffer: &RawBuf) -> Result<Cord, CordError>
 }
 
 // The text of a cord and then these bytes, as leaves that are gathered in a buffer of their own.
+#[cold]
+#[inline(never)]
 fn cat_leaves(alloc: Global, cord: Cord, bytes: &[u8]) -> Result<Cord, CordError>
     requires within_limit { text_len cord + length bytes.now ≤ MAX_LEN }
     ensures text { IfOk result (λ c. text c ≡ text cord ++ map known bytes.now) }

@@ -1,5 +1,5 @@
 -- The operations of a plan read and put where the script's statements do.
-use Rattle.std.proofs.Common.{◌≡◌, ℕ, ◌+◌, List, [], ◌∷◌, Bool, true, false, ◌||◌, refl, sym, ◌∙◌, inl, inr}
+use Rattle.std.proofs.Common.{◌≡◌, ℕ, ◌+◌, List, [], ◌∷◌, Bool, true, false, ◌||◌, refl, sym, ◌∙◌, subst, inl, inr}
 use Rattle.cord_syntax.specs.declared.statements.Statement.{Statement}
 use Rattle.cord_syntax.specs.declared.statements.Statement.TheVariants.{Let, File, Eager, Lazy, Chars, Nul, FromFn, Cat, Catn, Catc, Substr}
 use Rattle.cord_syntax.specs.declared.statements.Statement.TheVariants.{Balance, EcToCord, Sprintf, Len, Fetch, Cmp, Ncmp, Str, Chr, Rchr}
@@ -14,6 +14,7 @@ use Rattle.cord_plan.specs.Operands.{target_of}
 use Rattle.cord_plan.specs.Planned.{Made, Joined, Literal, OfFile, OfEager, OfLazy, OfFunction, Balanced, OfExtensible, Printed, Operation}
 use Rattle.cord_plan.specs.Planned.{gives, is_dead, is_first, operation, operations, or_nothing, planned, trivial}
 use Rattle.cord_run.specs.Failing.{FailsNowhereElse, IsFileMade, IsReader, IsWriter}
+use Rattle.cord_run.specs.Runs.{IsPlanBy, Way, ByPlan, AsWritten}
 
 gives_line : (m : Bool) (line : ℕ) (target : List ℕ) (made : Made) → operation_line (gives m line target made) ≡ line
 gives_line true line target made = refl
@@ -97,7 +98,7 @@ no_operations : (ss : List Statement) → FailsNowhereElse ss []
 no_operations ss = record { reads = λ line at. absurd at; writes = λ line at. absurd at }
 
 -- those of the trivial plan
-pub trivial_alike : (s : List Statement) → FailsNowhereElse s (trivial s)
+trivial_alike : (s : List Statement) → FailsNowhereElse s (trivial s)
 trivial_alike [] = no_operations []
 trivial_alike (l ∷ rest) = with_first l (operation l (or_nothing (own l)) false false) rest (trivial rest)
     (alike l (or_nothing (own l)) false false) (trivial_alike rest)
@@ -113,5 +114,10 @@ from_place later table p (l ∷ rest) (entry ∷ entries) =
     (alike l (or_nothing entry.0) dead first) (from_place later table (p + 1) rest entries)
 
 -- those of its plan
-pub planned_alike : (s : List Statement) (later : List ℕ → ℕ → Bool) → FailsNowhereElse s (planned s later)
+planned_alike : (s : List Statement) (later : List ℕ → ℕ → Bool) → FailsNowhereElse s (planned s later)
 planned_alike s later = from_place later (exprs s later) 0 s (exprs s later)
+
+-- those of either
+pub plan_alike : (way : Way) (s : List Statement) (operations : List Operation) → IsPlanBy way s operations → FailsNowhereElse s operations
+plan_alike ByPlan s operations h = subst (FailsNowhereElse s) (sym h.2) (planned_alike s h.0)
+plan_alike AsWritten s operations h = subst (FailsNowhereElse s) (sym h) (trivial_alike s)

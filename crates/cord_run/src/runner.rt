@@ -6,20 +6,20 @@ ghost use Rattle.cord_meaning.specs.Ends.{EndsHonestly, FailsWhere, NamesCause};
 ghost use Rattle.cord_plan.specs.Meaning.{IsPlanOf};
 ghost use Rattle.cord_plan.specs.Views.{operation_view};
 ghost use Rattle.cord_run.specs.Failing.{FailsAmong, FailsNowhereElse};
-ghost use Rattle.cord_run.specs.Runs.{NothingCalled, Runs};
+ghost use Rattle.cord_run.specs.Runs.{IsPlanBy, NothingCalled, Runs, Way};
 ghost use Rattle.cord_run.specs.inner.Steps.{HonestPlan};
 ghost use Rattle.cord_script.specs.Flaws.{Flaw};
 ghost use Rattle.cord_script.specs.Forms.{Grammar};
-ghost use Rattle.cord_script.specs.Script.{ReadsBy};
+ghost use Rattle.cord_script.specs.Script.{Reads, ReadsBy};
 ghost use Rattle.cord_syntax.specs.declared.statements.Statement.{Statement};
 
 use crate::ending::{close_output, end_of_run};
 use crate::running::run_plan;
 use cord_file::Sources;
-use cord_io::{Files, Sink};
+use cord_io::{CordError, Files, Sink};
 use cord_meaning::End;
 use cord_plan::{Plan, plan};
-use cord_script::{Refusal, RefusalKind, parse};
+use cord_script::{Refusal, RefusalKind, Script, parse};
 use std::alloc::Global;
 
 // Runs a plan over sources, and ends the output.
@@ -93,6 +93,49 @@ pub fn run<F: Files, S: Sink>(alloc: Global, plan: &Plan, files: F, sink: &mut S
     }
 }
 
+// Runs a script by the plan that was made of it this way. Where there was no memory for one the end is `NoMemory(0)`.
+fn run_by<F: Files, S: Sink>(
+    alloc: Global,
+    read: &Script,
+    made: Result<Plan, CordError>,
+    files: F,
+    sink: &mut S,
+) -> (End, F)
+    ghost way: { Way }
+    requires chosen { IfOk made (λ plan. IsPlanBy way read.now (map operation_view plan)) }
+    requires means { IfOk made (λ plan. IsPlanOf read.now (map operation_view plan)) }
+    requires files_count { F.failures files < 2 ^ 64 - 1 }
+    requires sink_count { S.failures sink.old < 2 ^ 64 - 1 }
+    ensures run { (script : List ℕ) → Reads script read.now →
+        Runs script (F.keeps result.1) (S.taken sink.old) (S.taken sink.new)
+        (record {
+          files_before = F.failures files;
+          files_after = F.failures result.1;
+          sink_before = S.failures sink.old;
+          sink_after = S.failures sink.new;
+          finished_before = S.finished sink.old;
+          finished_after = S.finished sink.new;
+        }) result.0 }
+    ensures cause { NamesCause
+        (record {
+          files_before = F.failures files;
+          files_after = F.failures result.1;
+          sink_before = S.failures sink.old;
+          sink_after = S.failures sink.new;
+          finished_before = S.finished sink.old;
+          finished_after = S.finished sink.new;
+        }) result.0 }
+    ensures earlier { (folder : Folder) → F.keeps result.1 folder → F.keeps files folder }
+{
+    match made {
+        Ok(plan) => run(alloc, &plan, files, sink),
+        Err(_) => {
+            let _ = sink.finish();
+            (End::NoMemory(0), files)
+        }
+    }
+}
+
 /// Parses a script and runs it by its plan. A script that is refused writes nothing, and the files are handed back. Where no memory
 /// is found for the plan the end is `NoMemory(0)`.
 pub fn run_text<F: Files, S: Sink>(
@@ -136,16 +179,10 @@ pub fn run_text<F: Files, S: Sink>(
 {
     match parse(alloc, script) {
         Err(refusal) => (Err(refusal), files),
-        Ok(read) => match plan(alloc, &read) {
-            Ok(plan) => {
-                let (end, files) = run(alloc, &plan, files, sink);
-                (Ok(end), files)
-            }
-            Err(_) => {
-                let _ = sink.finish();
-                (Ok(End::NoMemory(0)), files)
-            }
-        },
+        Ok(read) => {
+            let (end, files) = run_by(alloc, &read, plan(alloc, &read), files, sink);
+            (Ok(end), files)
+        }
     }
 }
 
@@ -194,14 +231,6 @@ pub fn run_unplanned<F: Files, S: Sink>(
         Ok(read) => read,
         Err(refusal) => return (Err(refusal), files),
     };
-    match Plan::trivial(alloc, &read) {
-        Ok(plan) => {
-            let (end, files) = run(alloc, &plan, files, sink);
-            (Ok(end), files)
-        }
-        Err(_) => {
-            let _ = sink.finish();
-            (Ok(End::NoMemory(0)), files)
-        }
-    }
+    let (end, files) = run_by(alloc, &read, Plan::trivial(alloc, &read), files, sink);
+    (Ok(end), files)
 }

@@ -1,15 +1,13 @@
 use Rattle.std.proofs.Common.{◌≡◌, ◌<◌, ◌+◌, ℕ, List, drop, sym, ap, subst, ◌∙◌, rules, arith}
-use Rattle.std.specs.Prelude.{IfOk, Option}
+use Rattle.std.specs.Prelude.{IfOk}
 use Rattle.std.proofs.lemmas.List.{drop_all}
-use Rattle.cord_node.specs.declared.Node.{Node}
 use Rattle.cord_plan.specs.Exprs as plain
 use Rattle.cord_plan.specs.declared.expressions.Expr.{Expr}
 use Rattle.cord_plan.specs.Views.{expr_view, shared_view}
 use Rattle.cord_plan.proofs.ExprViews.{view-Name, view-Run, view-Cat, view-Sub}
-use Rattle.cord_run.specs.declared.picking.Wanted.{Wanted}
 use Rattle.cord_run.specs.inner.Extents.{extent_in, members_extent, members_seen}
-use Rattle.cord_run.specs.inner.Ranges.{AddsExpression, AddsMembers, IsAfter}
-use Rattle.cord_run.specs.inner.Turns.{AddsInTurn, origins, origins_of}
+use Rattle.cord_run.specs.inner.Ranges.{AddsExpression, IsAfter}
+use Rattle.cord_run.specs.inner.Turns.{AddsInTurn, origins}
 use Rattle.cord_run.proofs.Members.{weight, weights, member_smaller, members_left}
 use Rattle.cord_run.proofs.Ranged.{name_added, run_added, cat_added, cat_past, sub_added, sub_past, still_ok, still_ok_by}
 use Rattle.cord_run.proofs.SoFar.{SoFar, WantedSoFar, starts, goes_on, ends_early, ends_last, wanted_goes_on, wanted_ends_early}

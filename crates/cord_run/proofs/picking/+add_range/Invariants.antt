@@ -1,4 +1,4 @@
-use Rattle.std.proofs.Common.{◌+◌, drop}
+use Rattle.std.proofs.Common.{drop}
 use Rattle.cord_plan.specs.Views.{expr_view}
 use Rattle.cord_run.specs.inner.Extents.{members_seen}
 use Rattle.cord_run.specs.inner.Ranges.{AreFew}

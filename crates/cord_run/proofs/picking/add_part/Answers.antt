@@ -1,6 +1,5 @@
-use Rattle.std.proofs.Common.{◌≡◌, ◌-◌, ◌++◌, ◌∷◌, [], ℕ, length, ap, sym, ◌∙◌, rules}
+use Rattle.std.proofs.Common.{◌≡◌, ◌-◌, ◌++◌, ◌∷◌, [], ℕ, ap, sym, ◌∙◌, rules}
 use Rattle.std.specs.Prelude.{min}
-use Rattle.cord_core.specs.Cord.{bytes_of}
 use Rattle.cord_run.proofs.Ranged.{few_more, part_added, part_passed}
 use Rattle.cord_run.proofs.picking.add_part.Goals as goal
 

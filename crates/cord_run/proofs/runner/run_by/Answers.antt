@@ -1,0 +1,17 @@
+use Rattle.std.proofs.Common.{map, subst}
+use Rattle.std.specs.Prelude.{IfOk}
+use Rattle.cord_plan.specs.Meaning.{IsPlanOf}
+use Rattle.cord_plan.specs.Views.{operation_view}
+use Rattle.cord_run.specs.Runs.{IsPlanBy}
+use Rattle.cord_script.specs.Script.{whole}
+use Rattle.cord_run.proofs.Alike.{plan_alike}
+use Rattle.cord_run.proofs.runner.run_by.Goals as goal
+
+pub returns-in-Ok-clause-run : goal.returns-in-Ok-clause-run
+returns-in-Ok-clause-run g c = λ script reads.
+    let s = c.args.read.now in
+    let operations = map operation_view c.in-Ok.plan in
+    let chosen : IsPlanBy g.way s operations = subst (λ made. IfOk made (λ plan. IsPlanBy g.way s (map operation_view plan))) c.in-Ok.is c.requires.1.1.0 in
+    let means : IsPlanOf s operations = subst (λ made. IfOk made (λ plan. IsPlanOf s (map operation_view plan))) c.in-Ok.is c.requires.1.1.1.0 in
+    let alike = plan_alike g.way s operations chosen in
+    (s, reads, (λ folder kept. c.run.ensures.honest s means alike whole script reads folder kept), c.run.ensures.fails s alike)
