@@ -39,7 +39,7 @@ part_of lengths (Cat' p left q right len depth mark) s i h =
     (cases_lt i (len_of left))
 
 -- a sound node that fits has as many bytes as it stores
-length_bytes : (t : Table) (n : Node) → IsSound n → Fits t n → length (bytes_over t n) ≡ len_of n
+pub length_bytes : (t : Table) (n : Node) → IsSound n → Fits t n → length (bytes_over t n) ≡ len_of n
 length_bytes t n h f = ap length (bytes-cells t n f) ∙ length-map (cells n) (byte_at t) ∙ length-cells n h
 
 -- an element of the first of two lists

@@ -6,4 +6,5 @@ pub mod SamePart
 pub mod Taking
 pub mod Standings
 pub mod Bytes
+pub mod Within
 pub mod SpotBytes

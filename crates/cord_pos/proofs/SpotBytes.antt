@@ -1,6 +1,6 @@
--- The part at which a position stands has the byte at its index.
-use Rattle.std.proofs.Common.{◌≡◌, ℕ, ◌-◌, ◌<◌, ◌≤◌, ap, arith, Some, None, true}
-use Rattle.std.specs.Prelude.{Option}
+-- The part at which a position stands has the byte at its index, and the bytes around it.
+use Rattle.std.proofs.Common.{◌≡◌, ℕ, ◌+◌, ◌-◌, ◌<◌, ◌≤◌, ap, arith, Some, None, true, false, refl, sym, ◌∙◌}
+use Rattle.std.specs.Prelude.{Option, is_some, IfSome}
 use Rattle.cord_io.specs.Table.{Table, Lengths, HasLengths}
 use Rattle.cord_node.specs.declared.Node.{Node}
 use Rattle.cord_node.specs.Tree.{len_of, IsSound}
@@ -13,7 +13,10 @@ use Rattle.cord_pos.specs.inner.Path.{node_of, places, part_at}
 use Rattle.cord_pos.specs.inner.Parts.{is_part, HasByte}
 use Rattle.cord_pos.specs.Position.{IsByteAt}
 use Rattle.cord_pos.specs.inner.Invariant.{IsOnPart, IsPosition}
+use Rattle.cord_pos.specs.Stretches.{stretch_len, IsStretchAt, IsAheadOf, IsBehindOf}
+use Rattle.cord_pos.specs.declared.stretch.Stretch.{Stretch}
 use Rattle.cord_pos.proofs.Bytes.{IsPartOf, part_of, part_byte}
+use Rattle.cord_pos.proofs.Within.{part_within, within_end, stretch_on, stretch_back}
 use Rattle.cord_pos.proofs.SamePart.{has_range}
 
 -- what the part at which a valid position stands is good for
@@ -54,3 +57,40 @@ spot_byte lengths t (Some n) spot path b on told fits e =
     let node : (node_of spot.part.node) ≡ (part_at n 0 spot.index).0 = ap (λ (x : Node × ℕ). x.0) p.holder in
     let e' : HasByte t (part_at n 0 spot.index).0 (spot.index - (part_at n 0 spot.index).1) b = rw (node, start) at e in
     part_byte t n 0 spot.index spot.index b (omega arith) p.sound p.inside (Fits-told lengths t n told fits) e'
+
+-- what the part has from the index on is what the cord has there
+pub spot_ahead : (c : Option Node) (spot : Spot) (path : Path) (r : Option Stretch) → IsPosition c (Some spot) path → is_some r ≡ true →
+    IfSome r (IsStretchAt (node_of spot.part.node) (spot.index - spot.part.start)) → IsAheadOf c (Some spot.index) r
+spot_ahead None spot path r on is h = absurd on.on_spot
+spot_ahead (Some n) spot path None on is h = let bad : false ≡ true = is in cc
+spot_ahead (Some n) spot path (Some s) on is h =
+    let p : IsOnPart n spot.index spot.part (places path.stops.items) = on.on_spot in
+    let start : spot.part.start ≡ (part_at n 0 spot.index).1 = ap (λ (x : Node × ℕ). x.1) p.holder in
+    let node : (node_of spot.part.node) ≡ (part_at n 0 spot.index).0 = ap (λ (x : Node × ℕ). x.0) p.holder in
+    let own : IsStretchAt (part_at n 0 spot.index).0 (spot.index - (part_at n 0 spot.index).1) s = rw (node, start) at h in
+    stretch_on n spot.index _ _ s (part_within n 0 spot.index spot.index (omega arith) p.sound p.inside) own
+
+-- and what it has up to the index
+pub spot_behind : (c : Option Node) (spot : Spot) (path : Path) (r : Option Stretch) → IsPosition c (Some spot) path → is_some r ≡ true →
+    IfSome r (IsStretchAt (node_of spot.part.node) 0) → IfSome r (λ s. stretch_len s ≡ spot.index - spot.part.start + 1 - 0) →
+    IsBehindOf c (Some spot.index) r
+spot_behind None spot path r on is h long = absurd on.on_spot
+spot_behind (Some n) spot path None on is h long = let bad : false ≡ true = is in cc
+spot_behind (Some n) spot path (Some s) on is h long =
+    let p : IsOnPart n spot.index spot.part (places path.stops.items) = on.on_spot in
+    let start : spot.part.start ≡ (part_at n 0 spot.index).1 = ap (λ (x : Node × ℕ). x.1) p.holder in
+    let node : (node_of spot.part.node) ≡ (part_at n 0 spot.index).0 = ap (λ (x : Node × ℕ). x.0) p.holder in
+    let own : IsStretchAt (part_at n 0 spot.index).0 0 s = rw node at h in
+    let w = within_end n spot.index _ _ (part_within n 0 spot.index spot.index (omega arith) p.sound p.inside) in
+    record { inside = omega (arith, long); stretch = stretch_back n (spot.index + 1) _ _ 0 s (omega (arith, long, start)) w own }
+
+-- a stretch of a valid position's part is there
+pub part_some : (r : Option Stretch) (n : Node) → (r ≡ None → is_part n ≡ false) → is_part n ≡ true → is_some r ≡ true
+part_some None n none part = let e : false ≡ true = sym (none refl) ∙ part in cc
+part_some (Some s) n none part = refl
+
+-- how long the part at which a valid position stands is
+pub end_is : (c : Option Node) (spot : Spot) (path : Path) → IsPosition c (Some spot) path →
+    spot.part.end ≡ spot.part.start + len_of (node_of spot.part.node)
+end_is None spot path on = absurd on.on_spot
+end_is (Some n) spot path on = on.on_spot.end

@@ -12,8 +12,8 @@ use Rattle.cord_pos.specs.declared.path.Path.{Path}
 use Rattle.cord_pos.specs.declared.Spot.{Spot}
 use Rattle.cord_pos.specs.declared.path.Part.{Part}
 use Rattle.cord_pos.specs.inner.Path.{Place, node_of, places, part_at}
-use Rattle.cord_pos.specs.Position.{set_visits, move_visits, number_at, occurrences, index_at, next_index, next_visits, prev_visits}
-use Rattle.cord_pos.specs.Position.{IsNoEarlier, IsOnePart}
+use Rattle.cord_pos.specs.Position.{set_visits, move_visits, number_at, occurrences, index_at, moved_index, moved_visits, next_index}
+use Rattle.cord_pos.specs.Position.{next_visits, prev_visits, IsNoEarlier, IsOnePart}
 use Rattle.cord_pos.specs.inner.Invariant.{IsOnPart, IsOnCord, IsPosition}
 use Rattle.cord_pos.proofs.Sides.{not_less}
 use Rattle.cord_pos.proofs.Counts.{level_depth, depth_limit, preorder_first, preorder_last, preorder_below, preorder_next, shared_same}
@@ -180,3 +180,26 @@ walk_empty (Some n) h k = absurd (omega (arith, len_positive n h))
 -- an index below the length is one of the cord
 pub index_inside : (c : Option Node) (i : ℕ) → i < text_len c → index_at c i ≡ Some i
 index_inside c i h = rw (lt-ltb i (text_len c) h) refl
+
+-- a move inside one part goes to an index of the cord, and visits nothing
+pub moved_still_index : (c : Option Node) (spot : Spot) (path : Path) (j : ℕ) → IsPosition c (Some spot) path → spot.part.start ≤ j →
+    j < spot.part.end → Some j ≡ moved_index c (Some spot.index) j
+moved_still_index c spot path j on a b = sym (index_inside c j (still c spot path j on a b).inside)
+
+pub moved_still_visits : (c : Option Node) (spot : Spot) (path : Path) (j : ℕ) → IsPosition c (Some spot) path → spot.part.start ≤ j →
+    j < spot.part.end → path.visits.count ≡ min (path.visits.count + moved_visits c (Some spot.index) j) (2 ^ 64 - 1)
+moved_still_visits c spot path j on a b =
+    let m : IsStill c spot path j = still c spot path j on a b in
+    let z : moved_visits c (Some spot.index) j ≡ 0 = grind (arith, nat_tests, m.visits_none, m.inside) in
+    rw z (omega (arith, on.counted))
+
+-- a move to an index of the cord takes as many visits as there are below what holds both indices
+pub moved_inside : (c : Option Node) (i j : ℕ) → j < text_len c → moved_visits c (Some i) j ≡ move_visits c i j
+moved_inside c i j h = rw (lt-ltb j (text_len c) h) refl
+
+-- and one past the end none
+pub moved_past : (c : Option Node) (i j : ℕ) → text_len c ≤ j → moved_visits c (Some i) j ≡ 0
+moved_past c i j h = rw (not_less j (text_len c) h) refl
+
+pub index_past : (c : Option Node) (i j : ℕ) → text_len c ≤ j → moved_index c (Some i) j ≡ None
+index_past c i j h = rw (not_less j (text_len c) h) refl

@@ -27,6 +27,11 @@ prev_index None = None
 prev_index (Some zero) = None
 prev_index (Some (suc i)) = Some i
 
+-- an index to which one moves: none past the end, and none stays none
+abbrev pub moved_index : Option Node → Option ℕ → ℕ → Option ℕ
+moved_index c None j = None
+moved_index c (Some i) j = index_at c j
+
 -- the byte of the cord's text over a table at the index
 abbrev pub IsByteAt : Table → Option Node → Option ℕ → ℕ → Type 0
 IsByteAt t c None b = ⊥
@@ -72,3 +77,8 @@ abbrev pub prev_visits : Option Node → Option ℕ → ℕ
 prev_visits c None = 0
 prev_visits c (Some zero) = 0
 prev_visits c (Some (suc i)) = move_visits c (suc i) i
+
+-- the visits of a move to an index: as from one index of the cord to another, and none where it becomes or is invalid
+abbrev pub moved_visits : Option Node → Option ℕ → ℕ → ℕ
+moved_visits c None j = 0
+moved_visits c (Some i) j = if nat_lt j (text_len c) then move_visits c i j else 0

@@ -10,12 +10,15 @@ use cord_core::Cord;
 use cord_io::MAX_DEPTH;
 use path::{Part, Path};
 use std::marker::Model;
+pub use stretch::Stretch;
 use visited::Tree;
 
 mod fetch;
 mod next;
+mod parts;
 mod path;
 mod prev;
+mod stretch;
 mod visited;
 mod walk;
 

@@ -1,14 +1,17 @@
-// Nodes that were visited. No other file of the crate has a node in its hands: elsewhere a node is a `Visited`, and a cord that is
-// gone into a `Tree`. Their fields are private to this file, and so is what makes a `Visited`, which counts it. So the one way to
-// a root, or from a node to its child, is a step that is counted.
-ghost use Rattle.std.specs.Prelude.{◌≡◌, ◌+◌, ◌<◌, min, true, is_err, IfOk, Some, None, MatchOption};
+// Nodes that were visited. Elsewhere in the crate a node is a `Visited`, and a cord that is gone into a `Tree`; `stretch.rt` alone
+// is given a node, a part whose bytes it lends, and gives none out. The fields of the two are private to this file, and so is
+// what makes a `Visited`, which counts it. So the one way to a root, or from a node to its child, is a step that is counted.
+ghost use Rattle.std.specs.Prelude.{◌≡◌, ◌+◌, ◌-◌, ◌<◌, ◌≤◌, min, true, is_err, is_some, IfOk, IfSome, Some, None};
+ghost use Rattle.std.specs.Prelude.{MatchOption};
 ghost use Rattle.cord_io.specs.Device.{Folder, count_after};
 ghost use Rattle.cord_node.specs.Tree.{len_of, IsSound};
 ghost use Rattle.cord_node.specs.Tables.{FitsIn};
 ghost use Rattle.cord_core.specs.Cord.{text_len, IsCord};
 ghost use Rattle.cord_pos.specs.inner.Path.{node_of, side_at};
 ghost use Rattle.cord_pos.specs.inner.Parts.{is_part, HasByte};
+ghost use Rattle.cord_pos.specs.Stretches.{stretch_len, IsStretchAt};
 
+use crate::stretch::Stretch;
 use cord_core::Cord;
 use cord_io::{ReadFault, Source};
 use cord_node::Node;
@@ -127,6 +130,19 @@ impl<'a> Visited<'a> {
         }
         let node = visits.visit(right.as_ref());
         Some(Side { node, offset: seam })
+    }
+
+    /// What a part has from one place on, up to another: the caller gets no node.
+    pub(crate) fn stretch(self, from: u64, to: u64) -> Option<Stretch<'a>>
+        requires part { is_part (node_of self) ≡ true }
+        requires sound { IsSound (node_of self) }
+        requires some { from < to }
+        requires inside { to ≤ len_of (node_of self) }
+        ensures is { is_some result ≡ true }
+        ensures stretch { IfSome result (IsStretchAt (node_of self.entry) from) }
+        ensures len { IfSome result (λ s. stretch_len s ≡ to - from) }
+    {
+        Stretch::of_part(self.node, from, to)
     }
 
     /// The byte of a part's text at a place, of a function part by one read of one byte.

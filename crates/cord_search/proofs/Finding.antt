@@ -8,20 +8,16 @@ use Rattle.std.proofs.lemmas.Option.{slice_get_within, get_or_from_slice_get, sl
 use Rattle.memchr.specs.Find.{Nowhere, NoneBefore, NoneAfter, Passes, IsFirstByte, IsLastByte, is_byte}
 use Rattle.cord_io.specs.Table.{Table, Lengths, HasLengths}
 use Rattle.cord_node.specs.declared.Node.{Node}
-use Rattle.cord_node.specs.Tree.{len_of, IsSound}
-use Rattle.cord_node.specs.Tables.{bytes_over, FitsIn, Fits}
-use Rattle.cord_node.proofs.TableLemmas.{Fits-told}
+use Rattle.cord_core.specs.Cord.{text_len, bytes_of, IsCord, CordFitsIn, CordFits}
+use Rattle.cord_core.proofs.OverLemmas.{length-bytes}
 use Rattle.cord_core.specs.Texts.{StandsAt, first, IsFirst, last, IsLast}
 use Rattle.cord_core.proofs.Places.{at_here, some_here}
 use Rattle.cord_core.proofs.Searches.{first_is_least, last_is_greatest}
-use Rattle.cord_iter.proofs.Lengths.{length-bytes_over}
-use Rattle.cord_search.specs.inner.Pieces.{IsPieceAt, NotFound, HasNot}
-use Rattle.cord_search.specs.inner.Stretches.{stretch_len, stretch_bytes, IsStretchAt, IsWithout}
-use Rattle.cord_search.specs.declared.stretches.Stretch.{Stretch}
-
--- a node that fits a table has as long a text there as it stores
-pub node_len : (ls : Lengths) (t : Table) (n : Node) → HasLengths ls t → IsSound n → FitsIn ls n → length (bytes_over t n) ≡ len_of n
-node_len ls t n told s f = length-bytes_over t n s (Fits-told ls t n told f)
+use Rattle.cord_search.specs.inner.Pieces.{IsPieceOf, StandsNot, HasNot}
+use Rattle.cord_pos.specs.Stretches.{stretch_len, stretch_bytes, IsStretchOf}
+use Rattle.cord_search.specs.inner.Stretches.{IsWithout}
+use Rattle.cord_search.proofs.Ranges.{cord_told}
+use Rattle.cord_pos.specs.declared.stretch.Stretch.{Stretch}
 
 -- there is one first place
 same_first : (x s : List ℕ) (i : ℕ) (a b : Option ℕ) → IsFirst x i s a → IsFirst x i s b → a ≡ b
@@ -88,75 +84,75 @@ found x xs c p k e lt h =
     slice_get-get_or x (p + k) 0 (omega arith) ∙ ap (λ (b : ℕ). Some b) (sym (range_at x xs p k e lt) ∙ eqb-true (get_or xs k 0) c h)
 
 -- a search by pieces goes on
-pub first_on : (t : Table) (n : Node) (xs : List ℕ) (c from p : ℕ) (r : Option ℕ) → r ≡ None → IsFirstByte (is_byte c) xs r →
-    IsPieceAt t n p xs → NotFound t n (c ∷ []) from p → NotFound t n (c ∷ []) from (p + length xs)
-first_on t n xs c from p r is h e none =
+pub first_on : (t : Table) (x : Option Node) (xs : List ℕ) (c from p : ℕ) (r : Option ℕ) → r ≡ None → IsFirstByte (is_byte c) xs r →
+    IsPieceOf t x p xs → StandsNot t x (c ∷ []) from p → StandsNot t x (c ∷ []) from (p + length xs)
+first_on t x xs c from p r is h e none =
     let nowhere : Nowhere (Passes (is_byte c) xs) 0 (length xs) = rw is at h in
-    let x = bytes_over t n in
+    let text = bytes_of t x in
     λ q low to at. ⊎_elim (λ (lt : q < p). none q low lt at) (λ (le : p ≤ q).
-    nowhere (q - p) (omega arith) (omega arith) (passes x xs c p q e le to (byte_there x c q at))) (cases_lt q p)
+    nowhere (q - p) (omega arith) (omega arith) (passes text xs c p q e le to (byte_there text c q at))) (cases_lt q p)
 
 -- and ends where the byte is found
-pub first_found : (t : Table) (n : Node) (xs : List ℕ) (c from p k : ℕ) (r : Option ℕ) → r ≡ Some k → IsFirstByte (is_byte c) xs r →
-    from ≤ p → IsPieceAt t n p xs → NotFound t n (c ∷ []) from p → Some (p + k) ≡ first (bytes_over t n) from (c ∷ [])
-first_found t n xs c from p k r is h low e none =
-    let x = bytes_over t n in
+pub first_found : (t : Table) (x : Option Node) (xs : List ℕ) (c from p k : ℕ) (r : Option ℕ) → r ≡ Some k → IsFirstByte (is_byte c) xs r →
+    from ≤ p → IsPieceOf t x p xs → StandsNot t x (c ∷ []) from p → Some (p + k) ≡ first (bytes_of t x) from (c ∷ [])
+first_found t x xs c from p k r is h low e none =
+    let text = bytes_of t x in
     let here : NoneBefore (Passes (is_byte c) xs) 0 (length xs) k × Passes (is_byte c) xs k = rw is at h in
-    let before : (q : ℕ) → from ≤ q → q < p + k → StandsAt x (c ∷ []) q → ⊥ = λ q low' to at. ⊎_elim (λ (lt : q < p). none q low' lt at) (λ (le : p ≤ q). let below : k < length xs = here.0.high in here.0.before (q - p) (omega arith) (omega arith) (passes x xs c p q e le (omega arith) (byte_there x c q at))) (cases_lt q p) in
-    first_only x (c ∷ []) from (Some (p + k)) (omega arith, byte_here x c (p + k) (found x xs c p k e here.0.high here.1), before)
+    let before : (q : ℕ) → from ≤ q → q < p + k → StandsAt text (c ∷ []) q → ⊥ = λ q low' to at. ⊎_elim (λ (lt : q < p). none q low' lt at) (λ (le : p ≤ q). let below : k < length xs = here.0.high in here.0.before (q - p) (omega arith) (omega arith) (passes text xs c p q e le (omega arith) (byte_there text c q at))) (cases_lt q p) in
+    first_only text (c ∷ []) from (Some (p + k)) (omega arith, byte_here text c (p + k) (found text xs c p k e here.0.high here.1), before)
 
 -- or at the end of the text
-pub first_none : (t : Table) (n : Node) (c from p : ℕ) → len_of n ≤ p → length (bytes_over t n) ≡ len_of n → NotFound t n (c ∷ []) from p →
-    None ≡ first (bytes_over t n) from (c ∷ [])
-first_none t n c from p end len none =
-    let x = bytes_over t n in
-    first_only x (c ∷ []) from None (λ q low at. let inside : q < length x = slice_get_within x q c (byte_there x c q at) in none q low (omega (arith, len, inside)) at)
+pub first_none : (t : Table) (x : Option Node) (c from p : ℕ) → text_len x ≤ p → length (bytes_of t x) ≡ text_len x →
+    StandsNot t x (c ∷ []) from p → None ≡ first (bytes_of t x) from (c ∷ [])
+first_none t x c from p end len none =
+    let text = bytes_of t x in
+    first_only text (c ∷ []) from None (λ q low at. let inside : q < length text = slice_get_within text q c (byte_there text c q at) in none q low (omega (arith, len, inside)) at)
 
 -- the same from after
-pub last_on : (t : Table) (n : Node) (xs : List ℕ) (c at p end : ℕ) (r : Option ℕ) → r ≡ None → IsLastByte (is_byte c) xs r →
-    p + length xs ≡ end → IsPieceAt t n p xs → HasNot t n c end (at + 1) → HasNot t n c p (at + 1)
-last_on t n xs c at p end r is h seam e none =
+pub last_on : (t : Table) (x : Option Node) (xs : List ℕ) (c at p end : ℕ) (r : Option ℕ) → r ≡ None → IsLastByte (is_byte c) xs r →
+    p + length xs ≡ end → IsPieceOf t x p xs → HasNot t x c end (at + 1) → HasNot t x c p (at + 1)
+last_on t x xs c at p end r is h seam e none =
     let nowhere : Nowhere (Passes (is_byte c) xs) 0 (length xs) = rw is at h in
-    let x = bytes_over t n in
-    λ q low to here. ⊎_elim (λ (lt : q < end). nowhere (q - p) (omega arith) (omega arith) (passes x xs c p q e low (omega arith) here))
+    let text = bytes_of t x in
+    λ q low to here. ⊎_elim (λ (lt : q < end). nowhere (q - p) (omega arith) (omega arith) (passes text xs c p q e low (omega arith) here))
     (λ (le : end ≤ q). none q le to here) (cases_lt q end)
 
-pub last_found : (t : Table) (n : Node) (xs : List ℕ) (c at p k end : ℕ) (r : Option ℕ) → r ≡ Some k → IsLastByte (is_byte c) xs r →
-    p + length xs ≡ end → end ≤ at + 1 → IsPieceAt t n p xs → HasNot t n c end (at + 1) → Some (p + k) ≡ last (bytes_over t n) at c
-last_found t n xs c at p k end r is h seam high e none =
-    let x = bytes_over t n in
+pub last_found : (t : Table) (x : Option Node) (xs : List ℕ) (c at p k end : ℕ) (r : Option ℕ) → r ≡ Some k → IsLastByte (is_byte c) xs r →
+    p + length xs ≡ end → end ≤ at + 1 → IsPieceOf t x p xs → HasNot t x c end (at + 1) → Some (p + k) ≡ last (bytes_of t x) at c
+last_found t x xs c at p k end r is h seam high e none =
+    let text = bytes_of t x in
     let here : NoneAfter (Passes (is_byte c) xs) 0 (length xs) k × Passes (is_byte c) xs k = rw is at h in
     let below : k < length xs = here.0.high in
-    let behind : (q : ℕ) → p + k < q → q ≤ at → slice_get x q ≢ Some c = λ q low to there. ⊎_elim (λ (lt : q < end). here.0.after (q - p) (omega arith) (omega arith) (passes x xs c p q e (omega arith) (omega arith) there)) (λ (le : end ≤ q). none q le (omega arith) there) (cases_lt q end) in
-    last_only x at c (Some (p + k)) (omega arith, found x xs c p k e below here.1, behind)
+    let behind : (q : ℕ) → p + k < q → q ≤ at → slice_get text q ≢ Some c = λ q low to there. ⊎_elim (λ (lt : q < end). here.0.after (q - p) (omega arith) (omega arith) (passes text xs c p q e (omega arith) (omega arith) there)) (λ (le : end ≤ q). none q le (omega arith) there) (cases_lt q end) in
+    last_only text at c (Some (p + k)) (omega arith, found text xs c p k e below here.1, behind)
 
-pub last_none : (t : Table) (n : Node) (c at end : ℕ) → end ≤ 0 → HasNot t n c end (at + 1) → None ≡ last (bytes_over t n) at c
-last_none t n c at end low none = last_only (bytes_over t n) at c None (λ q to there. none q (omega arith) (omega arith) there)
+pub last_none : (t : Table) (x : Option Node) (c at end : ℕ) → end ≤ 0 → HasNot t x c end (at + 1) → None ≡ last (bytes_of t x) at c
+last_none t x c at end low none = last_only (bytes_of t x) at c None (λ q to there. none q (omega arith) (omega arith) there)
 
 -- a byte of the text is one of the stretch that holds its place
-in_stretch : (t : Table) (n : Node) (p : ℕ) (s : Stretch) (c q : ℕ) → Fits t n → IsSound n → IsStretchAt n p s → p ≤ q →
-    q < p + stretch_len s → slice_get (bytes_over t n) q ≡ Some c → slice_get (stretch_bytes t s) (q - p) ≡ Some c
-in_stretch t n p s c q fits sound h from to there =
-    let x = bytes_over t n in
+in_stretch : (t : Table) (x : Option Node) (p : ℕ) (s : Stretch) (c q : ℕ) → CordFits t x → IsCord x → IsStretchOf x p s → p ≤ q →
+    q < p + stretch_len s → slice_get (bytes_of t x) q ≡ Some c → slice_get (stretch_bytes t s) (q - p) ≡ Some c
+in_stretch t x p s c q fits sound h from to there =
+    let text = bytes_of t x in
     let xs = stretch_bytes t s in
-    let len : length x ≡ len_of n = length-bytes_over t n sound fits in
-    let long : length xs ≡ stretch_len s = ap (λ (ys : List ℕ). length ys) (h.text t fits) ∙ length-take-le (stretch_len s) (drop p x) (omega (arith, len, h.inside, length-drop p x)) in
-    let range : xs ≡ take (length xs) (drop p x) = h.text t fits ∙ ap (λ (k : ℕ). take k (drop p x)) (sym long) in
+    let len : length text ≡ text_len x = sym (length-bytes t x sound fits) in
+    let long : length xs ≡ stretch_len s = ap (λ (ys : List ℕ). length ys) (h.text t fits) ∙ length-take-le (stretch_len s) (drop p text) (omega (arith, len, h.inside, length-drop p text)) in
+    let range : xs ≡ take (length xs) (drop p text) = h.text t fits ∙ ap (λ (k : ℕ). take k (drop p text)) (sym long) in
     let m : p + (q - p) ≡ q = omega arith in
     slice_get-get_or xs (q - p) 0 (omega (arith, long, from, to))
-    ∙ ap (λ (b : ℕ). Some b) (range_at x xs p (q - p) range (omega (arith, long, from, to)) ∙ ap (λ (k : ℕ). get_or x k 0) m
-    ∙ get_or_from_slice_get x q c 0 there)
+    ∙ ap (λ (b : ℕ). Some b) (range_at text xs p (q - p) range (omega (arith, long, from, to)) ∙ ap (λ (k : ℕ). get_or text k 0) m
+    ∙ get_or_from_slice_get text q c 0 there)
 
 -- a search goes on after a stretch that hasn't the byte
-pub first_past : (ls : Lengths) (t : Table) (n : Node) (s : Stretch) (c from p : ℕ) → HasLengths ls t → FitsIn ls n → IsSound n →
-    IsStretchAt n p s → IsWithout s c → NotFound t n (c ∷ []) from p → NotFound t n (c ∷ []) from (p + stretch_len s)
-first_past ls t n s c from p told f sound h not none =
+pub first_past : (ls : Lengths) (t : Table) (x : Option Node) (s : Stretch) (c from p : ℕ) → HasLengths ls t → CordFitsIn ls x → IsCord x →
+    IsStretchOf x p s → IsWithout s c → StandsNot t x (c ∷ []) from p → StandsNot t x (c ∷ []) from (p + stretch_len s)
+first_past ls t x s c from p told f sound h not none =
     λ q low to at. ⊎_elim (λ (lt : q < p). none q low lt at) (λ (le : p ≤ q).
-    not t (q - p) (in_stretch t n p s c q (Fits-told ls t n told f) sound h le to (byte_there (bytes_over t n) c q at))) (cases_lt q p)
+    not t (q - p) (in_stretch t x p s c q (cord_told ls t x told f) sound h le to (byte_there (bytes_of t x) c q at))) (cases_lt q p)
 
-pub last_past : (ls : Lengths) (t : Table) (n : Node) (s : Stretch) (c at p end : ℕ) → HasLengths ls t → FitsIn ls n → IsSound n →
-    p + stretch_len s ≡ end → IsStretchAt n p s → IsWithout s c → HasNot t n c end (at + 1) → HasNot t n c p (at + 1)
-last_past ls t n s c at p end told f sound seam h not none =
+pub last_past : (ls : Lengths) (t : Table) (x : Option Node) (s : Stretch) (c at p end : ℕ) → HasLengths ls t → CordFitsIn ls x →
+    IsCord x → p + stretch_len s ≡ end → IsStretchOf x p s → IsWithout s c → HasNot t x c end (at + 1) → HasNot t x c p (at + 1)
+last_past ls t x s c at p end told f sound seam h not none =
     λ q low to here. ⊎_elim
-    (λ (lt : q < end). not t (q - p) (in_stretch t n p s c q (Fits-told ls t n told f) sound h low (omega arith) here))
+    (λ (lt : q < end). not t (q - p) (in_stretch t x p s c q (cord_told ls t x told f) sound h low (omega arith) here))
     (λ (le : end ≤ q). none q le to here) (cases_lt q end)

@@ -4,3 +4,4 @@ pub mod Finding
 pub mod Comparing
 pub mod Standing
 pub mod Repeating
+pub mod Moving

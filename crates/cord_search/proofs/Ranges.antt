@@ -1,182 +1,21 @@
--- Where stretches and pieces stand in the text of a node.
-use Rattle.std.proofs.Common.{◌≡◌, ℕ, ◌+◌, ◌-◌, ◌<◌, ◌≤◌, List, length, take, drop, None, Some, sym, ◌∙◌, ap, arith, length-drop}
+-- Where stretches and pieces stand in the text of a cord.
+use Rattle.std.proofs.Common.{◌≡◌, ℕ, ◌+◌, ◌-◌, ◌≤◌, List, length, take, drop, None, Some, sym, ◌∙◌, ap, arith}
 use Rattle.std.specs.Prelude.{Option, replicate}
-use Rattle.std.specs.declared.rc.Rc.{Rc}
-use Rattle.std.specs.Global.{Global}
-use Rattle.std.proofs.lemmas.List.{take_min, drop-replicate, take-replicate, length-take, length-take-le, take_all}
-use Rattle.cord_io.specs.declared.SourceId.{SourceId}
-use Rattle.cord_io.specs.Table.{Table, Lengths, HasLengths, length_at}
-use Rattle.cord_io.specs.declared.TheConstants.{MAX_LEN}
-use Rattle.cord_node.specs.Kept.{Part}
+use Rattle.std.proofs.lemmas.List.{take_min, take-take, drop-replicate, take-replicate, length-take, take_all}
+use Rattle.cord_io.specs.Table.{Table, Lengths, HasLengths}
 use Rattle.cord_node.specs.declared.Node.{Node}
-use Rattle.cord_node.specs.declared.Node.TheVariants.{Run, Func, Cat'}
-use Rattle.cord_node.specs.Tree.{len_of, IsSound}
-use Rattle.cord_node.specs.Tables.{bytes_over, lengths_of}
-use Rattle.cord_node.proofs.Ranges.{range_of_range, range_left, range_right}
-use Rattle.cord_node.proofs.TreeLemmas.{len_positive}
+use Rattle.cord_node.proofs.Ranges.{range_of_range}
 use Rattle.cord_node.proofs.TableLemmas.{Fits-told}
-use Rattle.cord_iter.proofs.Lengths.{length-bytes_over}
 use Rattle.cord_core.specs.Cord.{text_len, bytes_of, IsCord, CordFitsIn, CordFits}
 use Rattle.cord_core.proofs.OverLemmas.{length-bytes}
-use Rattle.cord_search.specs.inner.Ahead.{IsWithin}
+use Rattle.cord_pos.specs.Stretches.{stretch_len, stretch_bytes, IsStretchOf, IsFrontOf}
+use Rattle.cord_pos.specs.declared.stretch.Stretch.{Stretch}
 use Rattle.cord_search.specs.inner.Pieces.{IsPieceOf}
-use Rattle.cord_search.specs.inner.Stretches.{stretch_len, stretch_bytes, StretchFitsIn, IsStretchOf, IsStretchAt, IsPartOf}
-use Rattle.cord_search.specs.declared.stretches.Stretch.{Stretch}
+use Rattle.cord_search.specs.inner.Stretches.{IsPartOf}
 
 -- a range is its own first bytes
 own_range : (xs ys : List ℕ) (k : ℕ) → xs ≡ take k ys → xs ≡ take (length xs) ys
 own_range xs ys k e = e ∙ sym (take_min k ys) ∙ ap (λ (m : ℕ). take m ys) (sym (ap (λ (zs : List ℕ). length zs) e ∙ length-take k ys))
-
--- a place of a node is one of that node
-pub within_self : (n : Node) (place : ℕ) → IsSound n → IsWithin n place n place
-within_self n place s = record {
-  offset = 0;
-  here = omega arith;
-  inside = omega arith;
-  sound = s;
-  fits = λ lengths f. f;
-  text = λ t f i k h. ap (λ (j : ℕ). take k (drop j (bytes_over t n))) (let e : 0 + i ≡ i = omega arith in e);
-}
-
--- what is within what is within
-pub within_on : (n : Node) (place : ℕ) (m : Node) (at : ℕ) (l : Node) (to : ℕ) → IsWithin n place m at → IsWithin m at l to →
-    IsWithin n place l to
-within_on n place m at l to v w = record {
-  offset = v.offset + w.offset;
-  here = omega (arith, v.here, w.here);
-  inside = omega (arith, v.inside, w.inside);
-  sound = w.sound;
-  fits = λ lengths f. w.fits lengths (v.fits lengths f);
-  text = λ t f i k h.
-      let from : v.offset + w.offset + i ≡ v.offset + (w.offset + i) = omega arith in
-      ap (λ (j : ℕ). take k (drop j (bytes_over t n))) from ∙ v.text t f (w.offset + i) k (omega (arith, h, w.inside))
-      ∙ w.text t (v.fits (lengths_of t) f) i k h;
-}
-
--- a concatenation is as long as its two sides
-pub cat_len : (m : Node) (p : Rc (Unit {0}) Global) (l : Node) (q : Rc (Unit {0}) Global) (r : Node) (len depth : ℕ) (mark : List Part) →
-    m ≡ Cat' p l q r len depth mark → IsSound m → len_of m ≡ len_of l + len_of r
-cat_len m p l q r len depth mark e s = let v : IsSound (Cat' p l q r len depth mark) = rw e at s in ap len_of e ∙ v.2
-
--- each side is shorter
-pub left_shorter : (m : Node) (p : Rc (Unit {0}) Global) (l : Node) (q : Rc (Unit {0}) Global) (r : Node) (len depth : ℕ)
-    (mark : List Part) → m ≡ Cat' p l q r len depth mark → IsSound m → len_of l < len_of m
-left_shorter m p l q r len depth mark e s =
-    let v : IsSound (Cat' p l q r len depth mark) = rw e at s in
-    let some : 0 < len_of r = len_positive r v.1 in
-    let both : len_of m ≡ len_of l + len_of r = cat_len m p l q r len depth mark e s in
-    omega (arith, some, both)
-
-pub right_shorter : (m : Node) (p : Rc (Unit {0}) Global) (l : Node) (q : Rc (Unit {0}) Global) (r : Node) (len depth : ℕ)
-    (mark : List Part) → m ≡ Cat' p l q r len depth mark → IsSound m → len_of r < len_of m
-right_shorter m p l q r len depth mark e s =
-    let v : IsSound (Cat' p l q r len depth mark) = rw e at s in
-    let some : 0 < len_of l = len_positive l v.0 in
-    let both : len_of m ≡ len_of l + len_of r = cat_len m p l q r len depth mark e s in
-    omega (arith, some, both)
-
--- and so is the left side of what is within
-pub within_left : (n : Node) (place : ℕ) (m : Node) (at : ℕ) (p : Rc (Unit {0}) Global) (l : Node) (q : Rc (Unit {0}) Global) (r : Node)
-    (len depth : ℕ) (mark : List Part) → m ≡ Cat' p l q r len depth mark → IsWithin n place m at → IsWithin n place l at
-within_left n place m at p l q r len depth mark e w =
-    let v : IsWithin n place (Cat' p l q r len depth mark) at = rw e at w in
-    let long : len ≡ len_of l + len_of r = v.sound.2 in
-    record {
-      offset = v.offset;
-      here = v.here;
-      inside = omega (arith, v.inside, long);
-      sound = v.sound.0;
-      fits = λ lengths f. (v.fits lengths f).0;
-      text = λ t f i k h.
-          let len : length (bytes_over t l) ≡ len_of l = length-bytes_over t l v.sound.0 (v.fits (lengths_of t) f).0 in
-          v.text t f i k (omega (arith, h, long)) ∙ range_left (bytes_over t l) (bytes_over t r) i k (omega (arith, h, len));
-    }
-
--- and the right side
-pub within_right : (n : Node) (place : ℕ) (m : Node) (at next : ℕ) (p : Rc (Unit {0}) Global) (l : Node) (q : Rc (Unit {0}) Global)
-    (r : Node) (len depth : ℕ) (mark : List Part) → m ≡ Cat' p l q r len depth mark → at ≡ len_of l + next → IsWithin n place m at →
-    IsWithin n place r next
-within_right n place m at next p l q r len depth mark e seam w =
-    let v : IsWithin n place (Cat' p l q r len depth mark) at = rw e at w in
-    let long : len ≡ len_of l + len_of r = v.sound.2 in
-    record {
-      offset = v.offset + len_of l;
-      here = omega (arith, v.here, seam);
-      inside = omega (arith, v.inside, long);
-      sound = v.sound.1;
-      fits = λ lengths f. (v.fits lengths f).1;
-      text = λ t f i k h.
-          let len : length (bytes_over t l) ≡ len_of l = length-bytes_over t l v.sound.0 (v.fits (lengths_of t) f).0 in
-          let from : v.offset + len_of l + i ≡ v.offset + (len_of l + i) = omega arith in
-          let to : len_of l + i - length (bytes_over t l) ≡ i = omega (arith, len) in
-          ap (λ (j : ℕ). take k (drop j (bytes_over t n))) from ∙ v.text t f (len_of l + i) k (omega (arith, h, long))
-          ∙ range_right (bytes_over t l) (bytes_over t r) (len_of l + i) k (omega (arith, len))
-          ∙ ap (λ (j : ℕ). take k (drop j (bytes_over t r))) to;
-    }
-
--- a stretch of what is within is one of the node
-within_stretch : (n : Node) (place : ℕ) (m : Node) (at i j : ℕ) (s : Stretch) (w : IsWithin n place m at) → j ≡ w.offset + i →
-    IsStretchAt m i s → IsStretchAt n j s
-within_stretch n place m at i j s w e h = record {
-  some = h.some;
-  inside = omega (arith, e, h.inside, w.inside);
-  fits = λ lengths f. h.fits lengths (w.fits lengths f);
-  text = λ t f. h.text t (w.fits (lengths_of t) f) ∙ sym (w.text t f i (stretch_len s) h.inside)
-      ∙ ap (λ (k : ℕ). take (stretch_len s) (drop k (bytes_over t n))) (sym e);
-}
-
-pub stretch_on : (n : Node) (place : ℕ) (m : Node) (at : ℕ) (s : Stretch) → IsWithin n place m at → IsStretchAt m at s →
-    IsStretchAt n place s
-stretch_on n place m at s w h = within_stretch n place m at at place s w w.here h
-
-pub stretch_back : (n : Node) (place : ℕ) (m : Node) (at i : ℕ) (s : Stretch) → at ≡ i + stretch_len s → IsWithin n place m at →
-    IsStretchAt m i s → IsStretchAt n (place - stretch_len s) s
-stretch_back n place m at i s e w h = within_stretch n place m at i (place - stretch_len s) s w (omega (arith, e, w.here)) h
-
--- a range of a leaf
-pub leaf_stretch : (m : Node) (s : Stretch) (items xs : List ℕ) (start len from at k : ℕ) →
-    ((t : Table) → bytes_over t m ≡ take len (drop start items)) → len_of m ≡ len → start + len ≤ length items → from ≡ start + at →
-    at + k ≤ len → 0 < k → xs ≡ take k (drop from items) → stretch_len s ≡ length xs → ((t : Table) → stretch_bytes t s ≡ xs) →
-    ((lengths : Lengths) → StretchFitsIn lengths s) → IsStretchAt m at s
-leaf_stretch m s items xs start len from at k e long behind f h some is count bytes fits =
-    let whole : stretch_len s ≡ k = count ∙ ap (λ (ys : List ℕ). length ys) is ∙ length-take-le k (drop from items) (omega (arith, f, h, behind, length-drop from items)) in
-    record {
-      some = omega (arith, whole, some);
-      inside = omega (arith, whole, long, h);
-      fits = λ lengths _. fits lengths;
-      text = λ t _. bytes t ∙ is ∙ ap (λ (j : ℕ). take k (drop j items)) f ∙ sym (range_of_range items at k start len h)
-          ∙ ap (λ (ys : List ℕ). take k (drop at ys)) (sym (e t)) ∙ ap (λ (j : ℕ). take j (drop at (bytes_over t m))) (sym whole);
-    }
-
--- a part of a run
-pub run_stretch : (m : Node) (s : Stretch) (byte len at k : ℕ) → m ≡ Run byte len → at + k ≤ len → 0 < k → stretch_len s ≡ k →
-    ((t : Table) → stretch_bytes t s ≡ replicate k byte) → ((lengths : Lengths) → StretchFitsIn lengths s) → IsStretchAt m at s
-run_stretch m s byte len at k e h some count bytes fits =
-    let inside : k ≤ len - at = omega arith in
-    let long : len_of m ≡ len = ap len_of e in
-    record {
-      some = omega (arith, count, some);
-      inside = omega (arith, count, long, h);
-      fits = λ lengths _. fits lengths;
-      text = λ t _. bytes t ∙ sym (take-replicate k (len - at) byte inside)
-          ∙ ap (λ (ys : List ℕ). take k ys) (sym (drop-replicate at len byte)) ∙ ap (λ (n : Node). take k (drop at (bytes_over t n)))
-          (sym e) ∙ ap (λ (j : ℕ). take j (drop at (bytes_over t m))) (sym count);
-    }
-
--- a range of an entry
-pub func_stretch : (m : Node) (s : Stretch) (id : SourceId) (start len from at k : ℕ) → m ≡ Func id start len → IsSound m →
-    from ≡ start + at → at + k ≤ len → 0 < k → stretch_len s ≡ k → ((t : Table) → stretch_bytes t s ≡ take k (drop from (t id.0))) →
-    ((lengths : Lengths) → (from + k ≤ length_at lengths id.0) × (from + k ≤ MAX_LEN) → StretchFitsIn lengths s) → IsStretchAt m at s
-func_stretch m s id start len from at k e sound f h some count bytes fits =
-    let limit : (0 < len) × (start + len ≤ MAX_LEN) = rw e at sound in
-    let long : len_of m ≡ len = ap len_of e in
-    record {
-      some = omega (arith, count, some);
-      inside = omega (arith, count, long, h);
-      fits = λ lengths held. let held' : start + len ≤ length_at lengths id.0 = rw e at held in fits lengths (omega (arith, held', f, h), omega (arith, limit.1, f, h));
-      text = λ t _. bytes t ∙ ap (λ (j : ℕ). take k (drop j (t id.0))) f ∙ sym (range_of_range (t id.0) at k start len h)
-          ∙ ap (λ (n : Node). take k (drop at (bytes_over t n))) (sym e) ∙ ap (λ (j : ℕ). take j (drop at (bytes_over t m))) (sym count);
-    }
 
 -- so many times the byte of a run
 pub run_part : (t : Table) (s : Stretch) (xs : List ℕ) (byte len i k : ℕ) → ((t : Table) → stretch_bytes t s ≡ replicate len byte) →
@@ -221,3 +60,8 @@ piece_within ls t c place s i j xs told f h inside e p =
     p ∙ ap (λ (ys : List ℕ). take (length xs) (drop i ys)) (h.text t (cord_told ls t c told f))
     ∙ range_of_range (bytes_of t c) i (length xs) place (stretch_len s) inside
     ∙ ap (λ (m : ℕ). take (length xs) (drop m (bytes_of t c))) (sym e)
+
+-- what stands at the front of a stretch's front stands at its own
+pub front_part : (t : Table) (s front : Stretch) (n : ℕ) (xs : List ℕ) → IsFrontOf s n front → length xs ≤ n → IsPartOf t front 0 xs →
+    IsPartOf t s 0 xs
+front_part t s front n xs f le e = e ∙ ap (λ (ys : List ℕ). take (length xs) ys) (f.text t) ∙ take-take (length xs) n (stretch_bytes t s) le

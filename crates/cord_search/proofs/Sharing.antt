@@ -9,11 +9,12 @@ use Rattle.cord_node.specs.Tree.{Cell, cells, len_of}
 use Rattle.cord_node.specs.Tables.{bytes_over, lengths_of, Fits, byte_at}
 use Rattle.cord_node.proofs.TableLemmas.{bytes-cells}
 use Rattle.cord_core.specs.Cord.{bytes_of, CordFitsIn, CordFits}
-use Rattle.cord_search.specs.inner.Ahead.{IsSpotOf, IsWithin, AreAlike}
+use Rattle.cord_pos.specs.Stretches.{IsWithin, stretch_len, stretch_bytes, IsStretchOf, IsFrontOf}
+use Rattle.cord_search.specs.inner.Ahead.{IsSpotOf, AreAlike}
 use Rattle.cord_search.specs.inner.Pieces.{AreSame}
-use Rattle.cord_search.specs.inner.Stretches.{stretch_len, stretch_bytes, IsStretchOf, BeginAlike, IsFrontOf}
+use Rattle.cord_search.specs.inner.Stretches.{BeginAlike}
 use Rattle.cord_search.specs.declared.ahead.Spot.{Spot}
-use Rattle.cord_search.specs.declared.stretches.Stretch.{Stretch}
+use Rattle.cord_pos.specs.declared.stretch.Stretch.{Stretch}
 use Rattle.cord_search.proofs.Ranges.{cord_told}
 
 -- what holds of a spot's node and place holds of the cord's

@@ -19,8 +19,9 @@ use Rattle.cord_core.specs.Cord.{text_len, bytes_of, IsCord, CordFitsIn}
 use Rattle.cord_core.specs.Texts.{StandsAt, first, IsFirst}
 use Rattle.cord_core.proofs.Searches.{first_is_least}
 use Rattle.cord_search.specs.inner.Pieces.{IsPieceOf, IsFilled, IsOrderOf, IsStanding, StandsNot}
-use Rattle.cord_search.specs.inner.Stretches.{stretch_len, stretch_bytes, IsStretchOf, IsMisfit, DoesNotFit}
-use Rattle.cord_search.specs.declared.stretches.Stretch.{Stretch}
+use Rattle.cord_pos.specs.Stretches.{stretch_len, stretch_bytes, IsStretchOf}
+use Rattle.cord_search.specs.inner.Stretches.{IsMisfit, DoesNotFit}
+use Rattle.cord_pos.specs.declared.stretch.Stretch.{Stretch}
 use Rattle.cord_search.proofs.Ranges.{cord_told, cord_len}
 use Rattle.cord_search.proofs.Finding.{range_at, range_inside, first_only}
 use Rattle.cord_search.proofs.Comparing.{cmp_same, cmp_equal, piece_front}

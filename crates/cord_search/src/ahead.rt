@@ -2,10 +2,12 @@
 ghost use Rattle.std.specs.Prelude.{◌≡◌, ◌<◌, true, IfSome};
 ghost use Rattle.cord_core.specs.Cord.{text_len};
 ghost use Rattle.cord_node.specs.Tree.{len_of};
-ghost use Rattle.cord_search.specs.inner.Ahead.{IsSpot, IsSpotOf, AreOneSpot, IsWithin, IsAhead};
+ghost use Rattle.cord_pos.specs.Stretches.{IsWithin};
+ghost use Rattle.cord_search.specs.inner.Ahead.{IsSpot, IsSpotOf, AreOneSpot, IsAhead};
 
-use crate::stretches::{Stretch, stretch_at};
+use crate::stretches::{begin_alike, stretch_at};
 use cord_core::{Cord, Node};
+use cord_pos::Stretch;
 
 /// A place of a node's text.
 #[derive(Clone, Copy)]
@@ -108,7 +110,7 @@ pub(crate) fn look_ahead<'a>(x: &'a Cord, i: u64, y: &'a Cord, j: u64, most: u64
     let stretch = stretch_at(spot.node, spot.place);
     let next = stretch_at(other.node, other.place);
     let count = most.min(stretch.len()).min(next.len());
-    if stretch.begins_like(next) {
+    if begin_alike(stretch, next) {
         return Ahead::Same(count);
     }
     Ahead::Apart(stretch.up_to(count), next.up_to(count))

@@ -1,16 +1,18 @@
 // The byte at a place, and the places of a byte.
 ghost use Rattle.std.specs.Prelude.{◌≡◌, ◌+◌, ◌<◌, ◌≤◌, [], ◌∷◌, Some, slice_get, is_err, IsOk, IfOk, IfErr, IfSome};
 ghost use Rattle.cord_io.specs.Device.{Folder, count_after};
-ghost use Rattle.cord_node.specs.Tree.{len_of, IsSound};
-ghost use Rattle.cord_node.specs.Tables.{bytes_over, FitsIn};
 ghost use Rattle.cord_core.specs.Cord.{text_len, bytes_of, CordFitsIn};
 ghost use Rattle.cord_core.specs.Texts.{first, last};
+ghost use Rattle.cord_search.specs.inner.Pieces.{StandsNot, HasNot};
 
 use crate::PIECE_LEN;
-use crate::pieces::{copy_front, first_piece, last_piece};
-use crate::stretches::{block_at, cord_stretch_at, stretch_before};
-use cord_core::{Cord, Node};
+use crate::pieces::{copy_front, first_block, last_piece};
+use crate::stretches::{
+    cord_stretch_at, cord_stretch_to, run_without, stretch_from, stretch_up_to,
+};
+use cord_core::Cord;
 use cord_io::{CordError, ReadFault, Source};
+use cord_pos::Position;
 use memchr::{memchr, memrchr};
 
 /// The byte of a cord at place `i`, after `CORD_fetch` of `cord.h`. The place is below the length, and each function
@@ -49,8 +51,7 @@ pub fn chr<S: Source>(x: &Cord, i: u64, c: u8, src: &mut S) -> Result<Option<u64
     ensures table { S.table src.new ≡ S.table src.old }
     ensures earlier { (folder : Folder) → S.keeps src.new folder → S.keeps src.old folder }
 {
-    let Some(root) = x.root() else { unreachable!() };
-    let place = first_byte(root.as_ref(), i, c, src)?;
+    let place = first_byte(x, i, c, src)?;
     Ok(place)
 }
 
@@ -71,40 +72,80 @@ pub fn rchr<S: Source>(x: &Cord, i: u64, c: u8, src: &mut S) -> Result<Option<u6
     ensures table { S.table src.new ≡ S.table src.old }
     ensures earlier { (folder : Folder) → S.keeps src.new folder → S.keeps src.old folder }
 {
-    let Some(root) = x.root() else { unreachable!() };
-    let place = last_byte(root.as_ref(), i, c, src)?;
+    let place = last_byte(x, i, c, src)?;
     Ok(place)
 }
 
-// The first place of a byte in a node's text, from a place on.
+// The first place of a byte, from a place on: in the first bytes from there, or after them.
 fn first_byte<S: Source>(
-    node: &Node,
+    x: &Cord,
     from: u64,
     byte: u8,
     src: &mut S,
 ) -> Result<Option<u64>, ReadFault>
-    requires sound { IsSound node.now }
-    requires inside { from ≤ len_of node.now }
-    requires fits { FitsIn (S.lengths src.old) node.now }
+    requires inside { from < text_len x.now }
+    requires fits { CordFitsIn (S.lengths src.old) x.now }
     ensures first { (folder : Folder) → S.keeps src.new folder →
-        IfOk result (λ place. place ≡ first (bytes_over (S.table src.old folder) node.now) from (byte ∷ [])) }
+        IfOk result (λ place. place ≡ first (bytes_of (S.table src.old folder) x.now) from (byte ∷ [])) }
     ensures from { IfOk result (λ found. IfSome found (λ place. from ≤ place)) }
-    ensures within { IfOk result (λ found. IfSome found (λ place. place < len_of node.now)) }
+    ensures within { IfOk result (λ found. IfSome found (λ place. place < text_len x.now)) }
     ensures count { S.failures src.new ≡ count_after (is_err result) (S.failures src.old) }
     ensures lengths { S.lengths src.new ≡ S.lengths src.old }
     ensures table { S.table src.new ≡ S.table src.old }
     ensures earlier { (folder : Folder) → S.keeps src.new folder → S.keeps src.old folder }
 {
     let mut buffer = [0; PIECE_LEN];
-    let len = node.len();
-    let mut place = from;
+    let len = x.len();
+    let stretch = cord_stretch_at(x, from);
+    let piece = first_block(stretch, &mut buffer, src)?;
+    match memchr(byte, piece) {
+        Some(found) => Ok(Some(from + found as u64)),
+        None => {
+            let after = from + piece.len() as u64;
+            if len <= after {
+                return Ok(None);
+            }
+            first_after(x, from, after, byte, src)
+        }
+    }
+}
+
+// The same where the byte stands nowhere before `after`: from there on part by part. It stands apart, so that a search which ends
+// in its first bytes keeps no path.
+#[inline(never)]
+fn first_after<S: Source>(
+    x: &Cord,
+    from: u64,
+    after: u64,
+    byte: u8,
+    src: &mut S,
+) -> Result<Option<u64>, ReadFault>
+    requires start { from < text_len x.now }
+    requires low { from ≤ after }
+    requires inside { after ≤ text_len x.now }
+    requires none { (folder : Folder) → S.keeps src.old folder →
+        StandsNot (S.table src.old folder) x.now (byte ∷ []) from after }
+    requires fits { CordFitsIn (S.lengths src.old) x.now }
+    ensures first { (folder : Folder) → S.keeps src.new folder →
+        IfOk result (λ place. place ≡ first (bytes_of (S.table src.old folder) x.now) from (byte ∷ [])) }
+    ensures from { IfOk result (λ found. IfSome found (λ place. from ≤ place)) }
+    ensures within { IfOk result (λ found. IfSome found (λ place. place < text_len x.now)) }
+    ensures count { S.failures src.new ≡ count_after (is_err result) (S.failures src.old) }
+    ensures lengths { S.lengths src.new ≡ S.lengths src.old }
+    ensures table { S.table src.new ≡ S.table src.old }
+    ensures earlier { (folder : Folder) → S.keeps src.new folder → S.keeps src.old folder }
+{
+    let mut buffer = [0; PIECE_LEN];
+    let len = x.len();
+    let mut place = after;
+    let mut position = Position::set(x, from);
     while place < len {
-        let stretch = block_at(node, place);
-        if let Some(count) = stretch.run_without(byte) {
+        let stretch = stretch_from(&mut position, place);
+        if let Some(count) = run_without(stretch, byte) {
             place += count;
             continue;
         }
-        let piece = first_piece(stretch, &mut buffer, src)?;
+        let piece = first_block(stretch, &mut buffer, src)?;
         match memchr(byte, piece) {
             Some(found) => return Ok(Some(place + found as u64)),
             None => place += piece.len() as u64,
@@ -113,18 +154,12 @@ fn first_byte<S: Source>(
     Ok(None)
 }
 
-// The last place of a byte in a node's text, at a place or earlier.
-fn last_byte<S: Source>(
-    node: &Node,
-    at: u64,
-    byte: u8,
-    src: &mut S,
-) -> Result<Option<u64>, ReadFault>
-    requires sound { IsSound node.now }
-    requires inside { at < len_of node.now }
-    requires fits { FitsIn (S.lengths src.old) node.now }
+// The last place of a byte, at a place or earlier: in the last bytes up to there, or before them.
+fn last_byte<S: Source>(x: &Cord, at: u64, byte: u8, src: &mut S) -> Result<Option<u64>, ReadFault>
+    requires inside { at < text_len x.now }
+    requires fits { CordFitsIn (S.lengths src.old) x.now }
     ensures last { (folder : Folder) → S.keeps src.new folder →
-        IfOk result (λ place. place ≡ last (bytes_over (S.table src.old folder) node.now) at byte) }
+        IfOk result (λ place. place ≡ last (bytes_of (S.table src.old folder) x.now) at byte) }
     ensures up_to { IfOk result (λ found. IfSome found (λ place. place ≤ at)) }
     ensures count { S.failures src.new ≡ count_after (is_err result) (S.failures src.old) }
     ensures lengths { S.lengths src.new ≡ S.lengths src.old }
@@ -132,10 +167,48 @@ fn last_byte<S: Source>(
     ensures earlier { (folder : Folder) → S.keeps src.new folder → S.keeps src.old folder }
 {
     let mut buffer = [0; PIECE_LEN];
-    let mut end = at + 1;
+    let stretch = cord_stretch_to(x, at);
+    let piece = last_piece(stretch, &mut buffer, src)?;
+    let start = at - (piece.len() as u64 - 1);
+    match memrchr(byte, piece) {
+        Some(found) => Ok(Some(start + found as u64)),
+        None => {
+            if start == 0 {
+                return Ok(None);
+            }
+            last_before(x, at, start, byte, src)
+        }
+    }
+}
+
+// The same where the byte stands nowhere from `before` on: before that part by part.
+#[inline(never)]
+fn last_before<S: Source>(
+    x: &Cord,
+    at: u64,
+    before: u64,
+    byte: u8,
+    src: &mut S,
+) -> Result<Option<u64>, ReadFault>
+    requires inside { at < text_len x.now }
+    requires high { before ≤ at + 1 }
+    requires none { (folder : Folder) → S.keeps src.old folder →
+        HasNot (S.table src.old folder) x.now byte before (at + 1) }
+    requires fits { CordFitsIn (S.lengths src.old) x.now }
+    ensures last { (folder : Folder) → S.keeps src.new folder →
+        IfOk result (λ place. place ≡ last (bytes_of (S.table src.old folder) x.now) at byte) }
+    ensures up_to { IfOk result (λ found. IfSome found (λ place. place ≤ at)) }
+    ensures count { S.failures src.new ≡ count_after (is_err result) (S.failures src.old) }
+    ensures lengths { S.lengths src.new ≡ S.lengths src.old }
+    ensures table { S.table src.new ≡ S.table src.old }
+    ensures earlier { (folder : Folder) → S.keeps src.new folder → S.keeps src.old folder }
+{
+    let mut buffer = [0; PIECE_LEN];
+    let mut end = before;
+    let mut position = Position::set(x, at);
     while 0 < end {
-        let stretch = stretch_before(node, end);
-        if let Some(count) = stretch.run_without(byte) {
+        let stretch = stretch_up_to(&mut position, end);
+        if let Some(count) = run_without(stretch, byte) {
             end -= count;
             continue;
         }

@@ -1,34 +1,40 @@
 // Texts in pieces: slices of leaves as they are, runs and function parts through a buffer.
-ghost use Rattle.std.specs.Prelude.{◌≡◌, ◌+◌, ◌-◌, ◌<◌, ◌≤◌, length, is_err, IfOk, OnOk};
+ghost use Rattle.std.specs.Prelude.{◌≡◌, ◌+◌, ◌-◌, ◌<◌, ◌≤◌, length, is_err, IfOk, IsSome, OnOk};
 ghost use Rattle.cord_io.specs.Device.{Folder, count_after};
 ghost use Rattle.cord_core.specs.Cord.{text_len, IsCord, CordFitsIn};
 ghost use Rattle.cord_search.specs.inner.Pieces.{IsPieceOf};
-ghost use Rattle.cord_search.specs.inner.Stretches.{stretch_len, StretchFitsIn, IsStretchOf, IsPartOf};
+ghost use Rattle.cord_pos.specs.Stretches.{stretch_len, StretchFitsIn, IsStretchOf};
+ghost use Rattle.cord_search.specs.inner.Stretches.{IsPartOf};
 
 use crate::PIECE_LEN;
-use crate::stretches::{Stretch, cord_stretch_at};
+use crate::stretches::{block_len, cord_stretch_at, stretch_from};
 use cord_core::Cord;
 use cord_io::{ReadFault, Source};
+use cord_pos::{Position, Stretch};
 
-// At least `count` bytes of a cord's text from a place on, which it has, where this stretch begins: the rest of a leaf where
+// At least `count` bytes of a position's cord from a place on, which it has, where this stretch begins: the rest of a leaf where
 // that is enough. Else they are copied, some times as many where there are, so that a search which goes on after them
-// copies no byte often.
+// copies no byte often. The position is moved on over the parts that are copied.
 pub(crate) fn window_at<'a, S: Source>(
-    cord: &Cord,
+    position: &mut Position,
     place: u64,
     stretch: Stretch<'a>,
     count: usize,
     room: &'a mut [u8],
     src: &mut S,
 ) -> Result<&'a [u8], ReadFault>
-    requires stretch { IsStretchOf cord.now place stretch }
+    requires sound { IsCord position.old.cord }
+    requires stretch { IsStretchOf position.old.cord place stretch }
+    requires valid { IsSome position.old.index }
     requires most { count ≤ length room.old }
-    requires inside { place + count ≤ text_len cord.now }
-    requires fits { CordFitsIn (S.lengths src.old) cord.now }
+    requires inside { place + count ≤ text_len position.old.cord }
+    requires fits { CordFitsIn (S.lengths src.old) position.old.cord }
     ensures enough { IfOk result (λ window. count ≤ length window.now) }
-    ensures inside { IfOk result (λ window. place + length window.now ≤ text_len cord.now) }
+    ensures inside { IfOk result (λ window. place + length window.now ≤ text_len position.old.cord) }
     ensures text { (folder : Folder) → S.keeps src.new folder →
-        IfOk result (λ window. IsPieceOf (S.table src.old folder) cord.now place window.now) }
+        IfOk result (λ window. IsPieceOf (S.table src.old folder) position.old.cord place window.now) }
+    ensures cord { position.new.cord ≡ position.old.cord }
+    ensures valid { IsSome position.new.index }
     ensures count { S.failures src.new ≡ count_after (is_err result) (S.failures src.old) }
     ensures lengths { S.lengths src.new ≡ S.lengths src.old }
     ensures table { S.table src.new ≡ S.table src.old }
@@ -40,20 +46,20 @@ pub(crate) fn window_at<'a, S: Source>(
         }
     }
     let most = count.saturating_mul(4).max(PIECE_LEN).min(room.len());
-    let len = (most as u64).min(cord.len() - place);
+    let len = (most as u64).min(position.cord().len() - place);
     let window = &mut room[..len as usize];
-    gather(cord, place, window, src)?;
+    gather_by(position, place, window, src)?;
     Ok(window)
 }
 
-// Copies the bytes of a cord's text from a place on.
+// Copies the bytes of a cord's text from a place on: those of one part without a position.
 pub(crate) fn gather<S: Source>(
     cord: &Cord,
     place: u64,
     out: &mut [u8],
     src: &mut S,
 ) -> Result<(), ReadFault>
-    requires sound { IsCord cord.now }
+    requires some { 0 < length out.old }
     requires inside { place + length out.old ≤ text_len cord.now }
     requires fits { CordFitsIn (S.lengths src.old) cord.now }
     ensures text { (folder : Folder) → S.keeps src.new folder →
@@ -63,9 +69,39 @@ pub(crate) fn gather<S: Source>(
     ensures table { S.table src.new ≡ S.table src.old }
     ensures earlier { (folder : Folder) → S.keeps src.new folder → S.keeps src.old folder }
 {
+    let stretch = cord_stretch_at(cord, place);
+    if out.len() as u64 <= stretch.len() {
+        copy_front(stretch, out, src)?;
+        return Ok(());
+    }
+    let mut position = Position::set(cord, place);
+    gather_by(&mut position, place, out, src)?;
+    Ok(())
+}
+
+// The same by a position, which is moved on over the parts.
+fn gather_by<S: Source>(
+    position: &mut Position,
+    place: u64,
+    out: &mut [u8],
+    src: &mut S,
+) -> Result<(), ReadFault>
+    requires sound { IsCord position.old.cord }
+    requires valid { IsSome position.old.index }
+    requires inside { place + length out.old ≤ text_len position.old.cord }
+    requires fits { CordFitsIn (S.lengths src.old) position.old.cord }
+    ensures text { (folder : Folder) → S.keeps src.new folder →
+        OnOk result (IsPieceOf (S.table src.old folder) position.old.cord place out.new) }
+    ensures cord { position.new.cord ≡ position.old.cord }
+    ensures valid { IsSome position.new.index }
+    ensures count { S.failures src.new ≡ count_after (is_err result) (S.failures src.old) }
+    ensures lengths { S.lengths src.new ≡ S.lengths src.old }
+    ensures table { S.table src.new ≡ S.table src.old }
+    ensures earlier { (folder : Folder) → S.keeps src.new folder → S.keeps src.old folder }
+{
     let mut done = 0;
     while done < out.len() {
-        let stretch = cord_stretch_at(cord, place + done as u64);
+        let stretch = stretch_from(position, place + done as u64);
         let count = stretch.len().min((out.len() - done) as u64) as usize;
         copy_front(stretch, &mut out[done..done + count], src)?;
         done += count;
@@ -133,6 +169,28 @@ pub(crate) fn first_piece<'a, S: Source>(
             Ok(piece)
         }
     }
+}
+
+// The same, but of a range of an entry no more than the block has in which it begins.
+pub(crate) fn first_block<'a, S: Source>(
+    stretch: Stretch<'a>,
+    buffer: &'a mut [u8; PIECE_LEN],
+    src: &mut S,
+) -> Result<&'a [u8], ReadFault>
+    requires some { 0 < stretch_len stretch }
+    requires fits { StretchFitsIn (S.lengths src.old) stretch }
+    ensures some { IfOk result (λ piece. 0 < length piece.now) }
+    ensures inside { IfOk result (λ piece. length piece.now ≤ stretch_len stretch.entry) }
+    ensures text { (folder : Folder) → S.keeps src.new folder →
+        IfOk result (λ piece. IsPartOf (S.table src.old folder) stretch.entry 0 piece.now) }
+    ensures count { S.failures src.new ≡ count_after (is_err result) (S.failures src.old) }
+    ensures lengths { S.lengths src.new ≡ S.lengths src.old }
+    ensures table { S.table src.new ≡ S.table src.old }
+    ensures earlier { (folder : Folder) → S.keeps src.new folder → S.keeps src.old folder }
+{
+    let block = stretch.up_to(block_len(stretch));
+    let piece = first_piece(block, buffer, src)?;
+    Ok(piece)
 }
 
 // The last bytes of a stretch: all of a leaf's, or at most `PIECE_LEN` of another part's.

@@ -1,93 +1,56 @@
 // Stretches of a node's text: what lies in one part, from a place on or up to a place.
-ghost use Rattle.std.specs.Prelude.{◌≡◌, ◌≢◌, ◌-◌, ◌<◌, ◌≤◌, length, slice_index, true, is_some, IfSome};
+ghost use Rattle.std.specs.Prelude.{◌≡◌, ◌≢◌, ◌-◌, ◌<◌, ◌≤◌, length, slice_index, true, is_some, IsSome, IfSome};
 ghost use Rattle.cord_core.specs.Cord.{text_len};
 ghost use Rattle.cord_node.specs.Tree.{len_of, IsSound};
-ghost use Rattle.cord_search.specs.inner.Stretches.{stretch_len, is_other_run, IsStretchOf, IsStretchAt, IsWithout};
-ghost use Rattle.cord_search.specs.inner.Stretches.{IsMisfit, BeginAlike, IsFrontOf};
+ghost use Rattle.cord_pos.specs.Stretches.{stretch_len, IsStretchOf, IsStretchAt, EndsAt};
+ghost use Rattle.cord_search.specs.inner.Stretches.{is_other_run, IsWithout, IsMisfit, BeginAlike};
 
 use crate::PIECE_LEN;
 use cord_core::{Cord, Node};
-use cord_io::SourceId;
+use cord_pos::{Position, Stretch};
 
-/// A text that lies in one part: bytes of a leaf, a run, or a range of an entry of a source.
-#[derive(Clone, Copy)]
-pub(crate) enum Stretch<'a> {
-    Bytes(&'a [u8]),
-    Run { byte: u8, len: u64 },
-    Func { id: SourceId, start: u64, len: u64 },
+/// The length of a run of another byte.
+pub(crate) fn run_without(stretch: Stretch, wanted: u8) -> Option<u64>
+    ensures found { is_some result ≡ is_other_run stretch.entry wanted }
+    ensures len { IfSome result (λ count. count ≡ stretch_len stretch.entry) }
+    ensures without { IfSome result (λ count. IsWithout stretch.entry wanted) }
+{
+    match stretch {
+        Stretch::Run { byte, len } if byte != wanted => Some(len),
+        _ => None,
+    }
 }
 
-impl<'a> Stretch<'a> {
-    /// The length of a run of another byte.
-    pub(crate) fn run_without(self, wanted: u8) -> Option<u64>
-        ensures found { is_some result ≡ is_other_run self.entry wanted }
-        ensures len { IfSome result (λ count. count ≡ stretch_len self.entry) }
-        ensures without { IfSome result (λ count. IsWithout self.entry wanted) }
-    {
-        match self {
-            Stretch::Run { byte, len } if byte != wanted => Some(len),
-            _ => None,
-        }
+/// At how many places of a stretch, from its first one on, no text that begins with these bytes can stand, for it is a run that
+/// still goes on where they have another byte.
+pub(crate) fn misfits(stretch: Stretch, front: &[u8]) -> u64
+    ensures inside { result ≤ stretch_len stretch.entry }
+    ensures misfit { IsMisfit stretch.entry front.now result }
+{
+    match stretch {
+        Stretch::Run { byte, len } => match other_in(front, byte) {
+            Some(place) => len.saturating_sub(place as u64),
+            None => 0,
+        },
+        _ => 0,
     }
+}
 
-    /// At how many places from its first one on no text that begins with these bytes can stand, for this is a run that still
-    /// goes on where they have another byte.
-    pub(crate) fn misfits(self, front: &[u8]) -> u64
-        ensures inside { result ≤ stretch_len self.entry }
-        ensures misfit { IsMisfit self.entry front.now result }
-    {
-        match self {
-            Stretch::Run { byte, len } => match other_in(front, byte) {
-                Some(place) => len.saturating_sub(place as u64),
-                None => 0,
+/// Whether two stretches are runs of one byte, or ranges of one entry from one place on: then all of the shorter one is the same.
+pub(crate) fn begin_alike(stretch: Stretch, other: Stretch) -> bool
+    ensures { result ≡ true → BeginAlike stretch.entry other.entry }
+{
+    match (stretch, other) {
+        (Stretch::Run { byte, .. }, Stretch::Run { byte: b, .. }) => byte == b,
+        (
+            Stretch::Func { id, start, .. },
+            Stretch::Func {
+                id: i,
+                start: s,
+                ..
             },
-            _ => 0,
-        }
-    }
-
-    /// Whether the two are runs of one byte, or ranges of one entry from one place on: then all of the shorter one is the same.
-    pub(crate) fn begins_like(self, other: Stretch) -> bool
-        ensures { result ≡ true → BeginAlike self.entry other.entry }
-    {
-        match (self, other) {
-            (Stretch::Run { byte, .. }, Stretch::Run { byte: b, .. }) => byte == b,
-            (
-                Stretch::Func { id, start, .. },
-                Stretch::Func {
-                    id: i,
-                    start: s,
-                    ..
-                },
-            ) => { id == i && start == s }
-            _ => false,
-        }
-    }
-
-    /// The length.
-    pub(crate) fn len(self) -> u64
-        ensures { result ≡ stretch_len self.entry }
-    {
-        match self {
-            Stretch::Bytes(bytes) => bytes.len() as u64,
-            Stretch::Run { len, .. } => len,
-            Stretch::Func { len, .. } => len,
-        }
-    }
-
-    /// Its first `count` bytes.
-    pub(crate) fn up_to(self, count: u64) -> Stretch<'a>
-        requires { count ≤ stretch_len self }
-        ensures { IsFrontOf self.entry count result }
-    {
-        match self {
-            Stretch::Bytes(bytes) => Stretch::Bytes(&bytes[..count as usize]),
-            Stretch::Run { byte, .. } => Stretch::Run { byte, len: count },
-            Stretch::Func { id, start, .. } => Stretch::Func {
-                id,
-                start,
-                len: count,
-            },
-        }
+        ) => { id == i && start == s }
+        _ => false,
     }
 }
 
@@ -131,46 +94,71 @@ pub(crate) fn stretch_at(top: &Node, mut place: u64) -> Stretch
             node = right.as_ref();
         }
     }
-    match node {
-        Node::Leaf {
-            bytes,
-            start,
-            len,
-            ..
-        } => {
-            Stretch::Bytes(&bytes.as_slice()[(*start + place) as usize..(*start + *len) as usize])
-        }
-        Node::Run { byte, len } => Stretch::Run {
-            byte: *byte,
-            len: *len - place,
-        },
-        Node::Func { id, start, len } => Stretch::Func {
-            id: *id,
-            start: *start + place,
-            len: *len - place,
-        },
-        Node::Cat { .. } => unreachable!(),
+    let Some(stretch) = Stretch::of_part(node, place, node.len()) else {
+        unreachable!()
+    };
+    stretch
+}
+
+/// What is left of a part of a position's cord from a place on, to which the position is moved: so a walk over the parts takes
+/// constant time for each, taken over all of them, and no descent from the root.
+pub(crate) fn stretch_from<'a>(position: &mut Position<'a>, place: u64) -> Stretch<'a>
+    requires valid { IsSome position.old.index }
+    requires inside { place < text_len position.old.cord }
+    ensures stretch { IsStretchOf position.old.cord place result }
+    ensures cord { position.new.cord ≡ position.old.cord }
+    ensures valid { IsSome position.new.index }
+{
+    position.move_to(place);
+    let Some(stretch) = position.ahead() else {
+        unreachable!()
+    };
+    stretch
+}
+
+/// What a part of a position's cord has up to a place, before which the position is moved.
+pub(crate) fn stretch_up_to<'a>(position: &mut Position<'a>, end: u64) -> Stretch<'a>
+    requires valid { IsSome position.old.index }
+    requires some { 0 < end }
+    requires inside { end ≤ text_len position.old.cord }
+    ensures inside { stretch_len result ≤ end }
+    ensures stretch { IsStretchOf position.old.cord (end - stretch_len result) result }
+    ensures cord { position.new.cord ≡ position.old.cord }
+    ensures valid { IsSome position.new.index }
+{
+    position.move_to(end - 1);
+    let Some(stretch) = position.behind() else {
+        unreachable!()
+    };
+    stretch
+}
+
+/// How many bytes of a stretch the block of `PIECE_LEN` bytes has in which it begins, where it is a range of an entry; else all.
+pub(crate) fn block_len(stretch: Stretch) -> u64
+    requires some { 0 < stretch_len stretch }
+    ensures some { 0 < result }
+    ensures few { result ≤ stretch_len stretch.entry }
+{
+    let size = PIECE_LEN as u64;
+    match stretch {
+        Stretch::Func { start, len, .. } => len.min(size - start % size),
+        _ => stretch.len(),
     }
 }
 
-/// The same, but of a range of an entry no more than the block of `PIECE_LEN` bytes has in which it begins.
-pub(crate) fn block_at(top: &Node, place: u64) -> Stretch
-    requires sound { IsSound top.now }
-    requires inside { place < len_of top.now }
-    ensures { IsStretchAt top.now place result }
+/// What a part of a cord's text has up to a place, with the byte there.
+pub(crate) fn cord_stretch_to(cord: &Cord, at: u64) -> Stretch
+    requires { at < text_len cord.now }
+    ensures { EndsAt cord.now at result }
 {
-    let stretch = stretch_at(top, place);
-    match stretch {
-        Stretch::Func { start, len, .. } => {
-            let size = PIECE_LEN as u64;
-            stretch.up_to(len.min(size - start % size))
-        }
-        _ => stretch,
-    }
+    let Some(root) = cord.root() else {
+        unreachable!()
+    };
+    stretch_before(root.as_ref(), at + 1)
 }
 
 /// What a part of a node's text has up to a place.
-pub(crate) fn stretch_before(top: &Node, mut end: u64) -> Stretch
+fn stretch_before(top: &Node, mut end: u64) -> Stretch
     requires sound { IsSound top.now }
     requires some { 0 < end }
     requires inside { end ≤ len_of top.now }
@@ -187,19 +175,8 @@ pub(crate) fn stretch_before(top: &Node, mut end: u64) -> Stretch
             node = right.as_ref();
         }
     }
-    match node {
-        Node::Leaf { bytes, start, .. } => {
-            Stretch::Bytes(&bytes.as_slice()[*start as usize..(*start + end) as usize])
-        }
-        Node::Run { byte, .. } => Stretch::Run {
-            byte: *byte,
-            len: end,
-        },
-        Node::Func { id, start, .. } => Stretch::Func {
-            id: *id,
-            start: *start,
-            len: end,
-        },
-        Node::Cat { .. } => unreachable!(),
-    }
+    let Some(stretch) = Stretch::of_part(node, 0, end) else {
+        unreachable!()
+    };
+    stretch
 }

@@ -3,16 +3,17 @@ ghost use Rattle.std.specs.Prelude.{◌≡◌, ◌+◌, ◌<◌, ◌≤◌, leng
 ghost use Rattle.cord_io.specs.Device.{Folder, count_after};
 ghost use Rattle.cord_core.specs.Cord.{text_len, bytes_of, IsCord, CordFitsIn};
 ghost use Rattle.cord_core.specs.Texts.{first};
-ghost use Rattle.cord_search.specs.inner.Pieces.{IsPieceOf, IsStanding};
+ghost use Rattle.cord_search.specs.inner.Pieces.{IsPieceOf, IsStanding, StandsNot};
 ghost use Rattle.cord_search.specs.inner.Periods.{IsRepeated};
 
 use crate::PIECE_LEN;
 use crate::order::compare;
 use crate::periods::{Repeats, passed, repeats_of};
 use crate::pieces::{gather, window_at};
-use crate::stretches::cord_stretch_at;
+use crate::stretches::{cord_stretch_at, misfits, stretch_from};
 use cord_core::Cord;
 use cord_io::{CordError, ReadFault, Source};
+use cord_pos::{Position, Stretch};
 use memchr::memmem::Finder;
 use std::cmp::Ordering;
 
@@ -294,8 +295,7 @@ fn first_confirmed<S: Source>(
     Ok(None)
 }
 
-// The first place of some bytes in a text, from a place on. A leaf is searched where it lies, as far as it goes on for their
-// length, and else a window of some times that length: so it takes linear time, whatever the parts are.
+// The first place of some bytes in a text, from a place on: in what is left of the leaf that holds it, or after that.
 fn first_of<S: Source>(
     x: &Cord,
     start: u64,
@@ -317,15 +317,63 @@ fn first_of<S: Source>(
     ensures earlier { (folder : Folder) → S.keeps src.new folder → S.keeps src.old folder }
 {
     let head = finder.needle();
-    let mut place = start;
+    if !lies_inside(start, head.len() as u64, x.len()) {
+        return Ok(None);
+    }
+    let Stretch::Bytes(leaf) = cord_stretch_at(x, start) else {
+        return first_behind(x, start, start, finder, room, src);
+    };
+    if leaf.len() < head.len() {
+        return first_behind(x, start, start, finder, room, src);
+    }
+    match finder.find(leaf) {
+        Some(found) => Ok(Some(start + found as u64)),
+        None => {
+            let after = start + (leaf.len() - head.len() + 1) as u64;
+            first_behind(x, start, after, finder, room, src)
+        }
+    }
+}
+
+// The same where they stand at no place before `after`. A leaf is searched where it lies, as far as it goes on for their length, and
+// else a window of some times that length: so it takes linear time, whatever the parts are. It stands apart, so that a search
+// which ends in its first leaf keeps no path.
+#[inline(never)]
+fn first_behind<S: Source>(
+    x: &Cord,
+    start: u64,
+    after: u64,
+    finder: &Finder,
+    room: &mut [u8],
+    src: &mut S,
+) -> Result<Option<u64>, ReadFault>
+    requires some { 0 < length finder.now }
+    requires room { length finder.now ≤ length room.old }
+    requires low { start ≤ after }
+    requires inside { start < text_len x.now }
+    requires none { (folder : Folder) → S.keeps src.old folder →
+        StandsNot (S.table src.old folder) x.now finder.now start after }
+    requires fits { CordFitsIn (S.lengths src.old) x.now }
+    ensures first { (folder : Folder) → S.keeps src.new folder → IfOk result (λ place.
+        place ≡ first (bytes_of (S.table src.old folder) x.now) start finder.now) }
+    ensures from { IfOk result (λ found. IfSome found (λ place. start ≤ place)) }
+    ensures within { IfOk result (λ found. IfSome found (λ place. place + length finder.now ≤ text_len x.now)) }
+    ensures count { S.failures src.new ≡ count_after (is_err result) (S.failures src.old) }
+    ensures lengths { S.lengths src.new ≡ S.lengths src.old }
+    ensures table { S.table src.new ≡ S.table src.old }
+    ensures earlier { (folder : Folder) → S.keeps src.new folder → S.keeps src.old folder }
+{
+    let head = finder.needle();
+    let mut place = after;
+    let mut position = Position::set(x, start);
     while lies_inside(place, head.len() as u64, x.len()) {
-        let stretch = cord_stretch_at(x, place);
-        let misfits = stretch.misfits(head);
-        if 0 < misfits {
-            place += misfits;
+        let stretch = stretch_from(&mut position, place);
+        let skipped = misfits(stretch, head);
+        if 0 < skipped {
+            place += skipped;
             continue;
         }
-        let window = window_at(x, place, stretch, head.len(), room, src)?;
+        let window = window_at(&mut position, place, stretch, head.len(), room, src)?;
         match finder.find(window) {
             Some(found) => return Ok(Some(place + found as u64)),
             None => place += (window.len() - head.len() + 1) as u64,

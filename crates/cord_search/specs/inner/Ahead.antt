@@ -1,24 +1,13 @@
 -- Places of nodes, and what two texts have at two places.
-use Rattle.std.specs.Prelude.{◌≡◌, ℕ, ◌+◌, ◌<◌, ◌≤◌, take, drop, Option, Some}
-use Rattle.cord_io.specs.Table.{Table, Lengths}
+use Rattle.std.specs.Prelude.{◌≡◌, ℕ, ◌<◌, ◌≤◌, take, drop, Option, Some}
+use Rattle.cord_io.specs.Table.{Table}
 use Rattle.cord_node.specs.declared.Node.{Node}
 use Rattle.cord_node.specs.Tree.{cells, len_of, IsSound}
-use Rattle.cord_node.specs.Tables.{bytes_over, FitsIn, Fits}
 use Rattle.cord_core.specs.Cord.{bytes_of, CordFits}
-use Rattle.cord_search.specs.inner.Stretches.{stretch_len, IsStretchOf}
+use Rattle.cord_pos.specs.Stretches.{stretch_len, IsStretchOf}
 use Rattle.cord_search.specs.declared.ahead.Spot.{Spot}
 use Rattle.cord_search.specs.declared.ahead.Ahead.{Ahead}
 use Rattle.cord_search.specs.declared.ahead.Ahead.TheVariants.{Same, Apart}
-
--- a place of a node is the place `at` of another one, whose text stands in the node's
-pub record IsWithin (n : Node) (place : ℕ) (m : Node) (at : ℕ) : Type 0 where
-  pub offset : ℕ
-  pub here : place ≡ offset + at
-  pub inside : offset + len_of m ≤ len_of n
-  pub sound : IsSound m
-  pub fits : (lengths : Lengths) → FitsIn lengths n → FitsIn lengths m
-  pub text : (t : Table) → Fits t n → (i k : ℕ) → i + k ≤ len_of m →
-      take k (drop (offset + i) (bytes_over t n)) ≡ take k (drop i (bytes_over t m))
 
 -- the place is one of the node's, which is sound
 abbrev pub IsSpot : Spot → Type 0

@@ -6,13 +6,8 @@ use Rattle.std.specs.declared.cmp.Ordering.{Ordering}
 use Rattle.std.specs.declared.cmp.Ordering.TheVariants.{Less, Equal, Greater}
 use Rattle.cord_io.specs.Table.{Table}
 use Rattle.cord_node.specs.declared.Node.{Node}
-use Rattle.cord_node.specs.Tables.{bytes_over}
 use Rattle.cord_core.specs.Cord.{bytes_of}
 use Rattle.cord_core.specs.Texts.{StandsAt}
-
--- the bytes stand in the node's text from the place on
-abbrev pub IsPieceAt : Table → Node → ℕ → List ℕ → Type 0
-IsPieceAt t n place xs = xs ≡ take (length xs) (drop place (bytes_over t n))
 
 -- the bytes stand in the cord's text from the place on
 abbrev pub IsPieceOf : Table → Option Node → ℕ → List ℕ → Type 0
@@ -45,10 +40,6 @@ sign_of Less = negsuc 0
 sign_of Equal = pos 0
 sign_of Greater = pos 1
 
--- s stands in the text over the table at no place from i on and below j
-abbrev pub NotFound : Table → Node → List ℕ → ℕ → ℕ → Type 0
-NotFound t n s i j = (q : ℕ) → i ≤ q → q < j → StandsAt (bytes_over t n) s q → ⊥
-
 -- the text over the table has the byte c at no place from i on and below j
-abbrev pub HasNot : Table → Node → ℕ → ℕ → ℕ → Type 0
-HasNot t n c i j = (q : ℕ) → i ≤ q → q < j → slice_get (bytes_over t n) q ≢ Some c
+abbrev pub HasNot : Table → Option Node → ℕ → ℕ → ℕ → Type 0
+HasNot t x c i j = (q : ℕ) → i ≤ q → q < j → slice_get (bytes_of t x) q ≢ Some c

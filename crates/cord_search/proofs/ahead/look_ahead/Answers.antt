@@ -1,8 +1,8 @@
 use Rattle.std.proofs.Common.{◌+◌, ◌<◌, ◌≤◌, Some, arith}
 use Rattle.cord_node.specs.Tree.{len_of}
 use Rattle.cord_search.specs.inner.Ahead.{AreOneSpot, AreAlike}
-use Rattle.cord_search.specs.inner.Stretches.{stretch_len, IsStretchOf}
-use Rattle.cord_search.proofs.Ranges.{stretch_on}
+use Rattle.cord_pos.specs.Stretches.{stretch_len, IsStretchOf}
+use Rattle.cord_pos.proofs.Within.{stretch_on}
 use Rattle.cord_search.proofs.Sharing.{on_cord, spots_alike, stretches_alike, front_stretch}
 use Rattle.cord_search.proofs.ahead.look_ahead.Goals as goal
 
@@ -22,8 +22,8 @@ returns-then-is_same c =
           (on_cord c.args.y.now c.args.j o (λ e p. AreAlike (Some s.node.now) s.place e p k) c.spot_at-2.ensures.cord alike),
     )
 
-pub returns-then-begins_like : goal.returns-then-begins_like
-returns-then-begins_like c =
+pub returns-then-begin_alike : goal.returns-then-begin_alike
+returns-then-begin_alike c =
     let k = c.min-count.result in
     let s = c.spot_at.result in
     let o = c.spot_at-2.result in
@@ -38,7 +38,7 @@ returns-then-begins_like c =
       omega (arith, c.min-count.ensures, c.min-2.ensures, c.len-2.ensures, c.len-3.ensures, c.requires.some, left.some, right.some),
       omega (arith, c.min-count.ensures, c.min-2.ensures),
       stretches_alike c.args.x.now c.args.i c.args.y.now c.args.j stretch next k left right
-          (c.begins_like.ensures c.if-begins_like.true) le more,
+          (c.begin_alike.ensures c.if-begin_alike.true) le more,
     )
 
 pub returns : goal.returns

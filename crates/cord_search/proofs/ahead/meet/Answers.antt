@@ -1,4 +1,4 @@
-use Rattle.cord_search.proofs.Ranges.{within_on}
+use Rattle.cord_pos.proofs.Within.{within_on}
 use Rattle.cord_search.proofs.ahead.meet.Goals as goal
 
 pub loop-spot-preserved-then-len : goal.loop-spot-preserved-then-len

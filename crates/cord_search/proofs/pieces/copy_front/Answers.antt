@@ -1,7 +1,7 @@
 use Rattle.std.proofs.Common.{◌≡◌, ◌+◌, ◌≤◌, ap, arith, rules}
 use Rattle.cord_io.specs.Table.{length_at}
-use Rattle.cord_search.specs.inner.Stretches.{stretch_len, stretch_bytes}
-use Rattle.cord_search.specs.declared.stretches.Stretch.{Stretch}
+use Rattle.cord_pos.specs.Stretches.{stretch_len, stretch_bytes}
+use Rattle.cord_pos.specs.declared.stretch.Stretch.{Stretch}
 use Rattle.cord_search.proofs.Ranges.{leaf_part, run_part}
 use Rattle.cord_search.proofs.pieces.copy_front.Goals as goal
 

@@ -1,6 +1,6 @@
 use Rattle.std.proofs.Common.{refl, ap, arith}
-use Rattle.cord_search.specs.inner.Stretches.{stretch_bytes}
-use Rattle.cord_search.specs.declared.stretches.Stretch.{Stretch}
+use Rattle.cord_pos.specs.Stretches.{stretch_bytes}
+use Rattle.cord_pos.specs.declared.stretch.Stretch.{Stretch}
 use Rattle.cord_search.proofs.Ranges.{whole_part, run_part, func_part}
 use Rattle.cord_search.proofs.pieces.first_piece.Goals as goal
 

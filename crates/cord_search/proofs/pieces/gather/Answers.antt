@@ -1,43 +1,23 @@
-use Rattle.std.proofs.Common.{◌≡◌, ◌+◌, ◌-◌, ◌∙◌, length, drop, arith, length-drop}
-use Rattle.std.proofs.lemmas.List.{length-take-le}
-use Rattle.cord_search.specs.inner.Pieces.{IsPieceOf}
-use Rattle.cord_search.proofs.Comparing.{cord_limit}
+use Rattle.std.proofs.Common.{arith}
 use Rattle.cord_search.proofs.Ranges.{piece_within}
-use Rattle.cord_search.proofs.Standing.{filled_on, filled_inside}
+use Rattle.cord_search.proofs.Moving.{set_valid}
 use Rattle.cord_search.proofs.pieces.gather.Goals as goal
 
-pub overflow_add-place : goal.overflow_add-place
-overflow_add-place g c = omega (
-  arith,
-  c.requires.inside,
-  c.loop-done-test.true,
-  c.loop-done.auto.out,
-  cord_limit c.args.cord.now c.requires.sound,
-)
-
 pub copy_front-requires-clause-fits : goal.copy_front-requires-clause-fits
-copy_front-requires-clause-fits g c = rw c.loop-done.invariant.lengths
-    (c.cord_stretch_at-stretch.ensures.fits (g.S.Source.lengths c.args.src.now) c.requires.fits)
+copy_front-requires-clause-fits g c = c.cord_stretch_at-stretch.ensures.fits (g.S.Source.lengths c.args.src.now) c.requires.fits
 
-pub loop-done-preserved : goal.loop-done-preserved
-loop-done-preserved g c =
-    let done = c.loop-done.done in
-    let n = c.min-count.result in
-    let part = c.copy_front.new.out in
-    let cut = length-take-le (done + n - done) (drop done c.loop-done.out) (omega (arith, c.min-count.ensures, length-drop done c.loop-done.out)) in
-    let long : length part ≡ n = omega (arith, c.copy_front.auto.out ∙ cut) in
-    record {
-      in_range = filled_inside done _ n c.loop-done.out part long c.loop-done.invariant.in_range;
-      filled = λ folder kept.
-          let t = g.S.Source.table c.args.src.now folder in
-          let lengths = g.S.Source.lengths c.args.src.now in
-          let before = c.in_ok-copy_front.ensures.earlier folder kept in
-          let told = g.met.S.Source.lengths_of_table c.args.src.now folder (c.loop-done.invariant.earlier folder before) in
-          let text : IsPieceOf t c.args.cord.now (c.args.place + done) part = piece_within lengths t c.args.cord.now (c.args.place + done) c.cord_stretch_at-stretch.result 0 (c.args.place + done) part told c.requires.fits c.cord_stretch_at-stretch.ensures (omega (arith, long, c.min-count.ensures, c.len.ensures)) (omega arith) (rw c.loop-done.invariant.table at c.in_ok-copy_front.ensures.text folder kept) in
-          filled_on t c.args.cord.now c.args.place done _ n c.loop-done.out part (c.loop-done.invariant.filled folder before) text long
-          c.loop-done.invariant.in_range;
-      reads = c.in_ok-copy_front.ensures.count ∙ c.loop-done.invariant.reads;
-      lengths = c.copy_front.ensures.lengths ∙ c.loop-done.invariant.lengths;
-      table = c.copy_front.ensures.table ∙ c.loop-done.invariant.table;
-      earlier = λ folder kept. c.loop-done.invariant.earlier folder (c.in_ok-copy_front.ensures.earlier folder kept);
-    }
+pub gather_by-requires-clause-sound : goal.gather_by-requires-clause-sound
+gather_by-requires-clause-sound g c = rw c.set-position.ensures.cord c.set-position.ensures.sound
+
+pub gather_by-requires-clause-valid : goal.gather_by-requires-clause-valid
+gather_by-requires-clause-valid g c = rw c.set-position.ensures.index
+    (set_valid c.args.cord.now c.args.place (omega (arith, c.requires.some, c.requires.inside)))
+
+pub returns-then-out-len-clause-text : goal.returns-then-out-len-clause-text
+returns-then-out-len-clause-text g c = λ folder kept.
+    let t = g.S.Source.table c.args.src.now folder in
+    let out = c.copy_front.new.out in
+    let told = g.met.S.Source.lengths_of_table c.args.src.now folder (c.in_ok-copy_front.ensures.earlier folder kept) in
+    piece_within (g.S.Source.lengths c.args.src.now) t c.args.cord.now c.args.place c.cord_stretch_at-stretch.result 0 c.args.place out
+    told c.requires.fits c.cord_stretch_at-stretch.ensures (omega (arith, c.copy_front.auto.out, c.if-out-len.true, c.len.ensures))
+    (omega arith) (c.in_ok-copy_front.ensures.text folder kept)

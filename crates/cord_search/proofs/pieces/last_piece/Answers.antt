@@ -1,8 +1,8 @@
 use Rattle.std.proofs.Common.{◌≡◌, ◌+◌, ◌-◌, ◌≤◌, ◌∙◌, length, take, ap, arith}
 use Rattle.std.specs.Prelude.{min}
 use Rattle.std.proofs.lemmas.List.{length-take, length-take-le}
-use Rattle.cord_search.specs.inner.Stretches.{stretch_len, stretch_bytes}
-use Rattle.cord_search.specs.declared.stretches.Stretch.{Stretch}
+use Rattle.cord_pos.specs.Stretches.{stretch_len, stretch_bytes}
+use Rattle.cord_pos.specs.declared.stretch.Stretch.{Stretch}
 use Rattle.cord_search.proofs.Ranges.{whole_part, run_part, func_part}
 use Rattle.cord_search.proofs.pieces.last_piece.Goals as goal
 

@@ -1,13 +1,7 @@
-use mathlib.Core.List.{[], ◌∷◌}
-use Rattle.std.proofs.Common.{◌≡◌, List, ℕ, ◌+◌, ◌-◌, ◌<◌, ◌≤◌, ◌∙◌, length, take, drop, sym, ap, refl, arith}
-use Rattle.std.specs.Rc.{rc_slice_items}
-use Rattle.cord_io.specs.declared.TheConstants.{MAX_LEN}
-use Rattle.cord_node.specs.Kept.{leaf_part}
-use Rattle.cord_node.specs.declared.Node.{Node}
+use Rattle.std.proofs.Common.{◌≡◌, ◌+◌, ◌-◌, ◌<◌, ◌∙◌, ap, arith}
 use Rattle.cord_node.specs.Tree.{len_of}
-use Rattle.cord_node.specs.Tables.{bytes_over}
-use Rattle.cord_search.specs.inner.Ahead.{IsWithin}
-use Rattle.cord_search.proofs.Ranges.{cat_len, within_left, within_right, stretch_on, leaf_stretch, run_stretch, func_stretch}
+use Rattle.cord_pos.specs.Stretches.{IsWithin}
+use Rattle.cord_pos.proofs.Within.{cat_len, within_left, within_right, stretch_on}
 use Rattle.cord_search.proofs.stretches.stretch_at.Goals as goal
 
 pub loop-node-preserved-then-place-seam : goal.loop-node-preserved-then-place-seam
@@ -41,39 +35,6 @@ loop-node-preserved c =
       within = rw c.as_ref-node-else-place-seam.ensures within;
     }
 
-pub returns-in-Leaf : goal.returns-in-Leaf
-returns-in-Leaf c =
-    let node = c.loop-node.node.now in
-    let at = c.loop-node.place in
-    let start = c.in-Leaf.start in
-    let len = c.in-Leaf.len in
-    let slice = c.as_slice.result.now in
-    let count = start + len - (start + at) in
-    let w = c.loop-node.invariant.within in
-    let inside : at < len = rw c.in-Leaf.is at c.loop-node.invariant.inside in
-    let sound : (0 < len) × (start + len ≤ length (rc_slice_items c.in-Leaf.bytes)) × (len ≤ MAX_LEN) × (c.in-Leaf.mark ≡ leaf_part (rc_slice_items c.in-Leaf.bytes) start len ∷ []) = rw c.in-Leaf.is at w.sound in
-    stretch_on c.args.top.now c.args.place node at _ w (leaf_stretch node _ slice (take count (drop (start + at) slice)) start len
-    (start + at) at count (λ t. ap (λ (n : Node). bytes_over t n) c.in-Leaf.is ∙ ap (λ (xs : List ℕ). take len (drop start xs))
-    (sym c.as_slice.ensures.value)) (ap len_of c.in-Leaf.is) (omega (arith, sound.1, c.as_slice.ensures.len)) refl
-    (omega (arith, inside)) (omega (arith, inside)) refl refl (λ t. refl) (λ lengths. tt))
-
-pub returns-in-Run : goal.returns-in-Run
-returns-in-Run c =
-    let node = c.loop-node.node.now in
-    let at = c.loop-node.place in
-    let len = c.in-Run.len in
-    let inside : at < len = rw c.in-Run.is at c.loop-node.invariant.inside in
-    stretch_on c.args.top.now c.args.place node at _ c.loop-node.invariant.within
-    (run_stretch node _ c.in-Run.byte len at (len - at) c.in-Run.is (omega (arith, inside)) (omega (arith, inside)) refl (λ t. refl)
-    (λ lengths. tt))
-
-pub returns-in-Func : goal.returns-in-Func
-returns-in-Func c =
-    let node = c.loop-node.node.now in
-    let at = c.loop-node.place in
-    let start = c.in-Func.start in
-    let len = c.in-Func.len in
-    let w = c.loop-node.invariant.within in
-    let inside : at < len = rw c.in-Func.is at c.loop-node.invariant.inside in
-    stretch_on c.args.top.now c.args.place node at _ w (func_stretch node _ c.in-Func.id start len (start + at) at
-    (len - at) c.in-Func.is w.sound refl (omega (arith, inside)) (omega (arith, inside)) refl (λ t. refl) (λ lengths held. held))
+pub returns : goal.returns
+returns c = stretch_on c.args.top.now c.args.place c.loop-node.node.now c.loop-node.place _ c.loop-node.invariant.within
+    c.in-Some.ensures.stretch

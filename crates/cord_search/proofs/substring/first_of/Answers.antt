@@ -1,61 +1,49 @@
-use Rattle.std.proofs.Common.{◌≡◌, ℕ, ◌≤◌, ◌∙◌, ap, List, length, arith}
-use Rattle.cord_io.specs.Table.{HasLengths}
-use Rattle.cord_search.proofs.Ranges.{cord_len}
+use Rattle.std.proofs.Common.{◌≡◌, ℕ, ◌≤◌, List, length, refl, ap, arith}
+use Rattle.cord_pos.specs.Stretches.{stretch_len, stretch_bytes}
+use Rattle.cord_pos.specs.declared.stretch.Stretch.{Stretch}
 use Rattle.cord_search.specs.inner.Pieces.{IsPieceOf}
-use Rattle.cord_search.proofs.Standing.{misfit_on, window_none, window_some, stands_none}
+use Rattle.cord_search.proofs.Ranges.{cord_len, piece_within, whole_part}
+use Rattle.cord_search.proofs.Standing.{window_none, window_some, stands_none, stands_start}
 use Rattle.cord_search.proofs.substring.first_of.Goals as goal
 
-pub loop-head-preserved-then-misfits-gt0 : goal.loop-head-preserved-then-misfits-gt0
-loop-head-preserved-then-misfits-gt0 g c = record {
-  low = omega (arith, c.loop-head.invariant.low);
-  none = λ folder kept.
-      let t = g.S.Source.table c.args.src.now folder in
-      let lengths = g.S.Source.lengths c.args.src.now in
-      let head = c.args.finder.now in
-      let told : HasLengths lengths t = g.met.S.Source.lengths_of_table c.args.src.now folder (c.loop-head.invariant.earlier folder kept) in
-      misfit_on lengths t c.args.x.now c.args.start c.loop-head.place c.misfits-misfits.result c.cord_stretch_at-stretch.result head told
-      c.requires.sound c.requires.fits c.cord_stretch_at-stretch.ensures (rw c.needle-head.ensures at c.misfits-misfits.ensures.misfit)
-      (c.loop-head.invariant.none folder kept);
-  reads = c.loop-head.invariant.reads;
-  lengths = c.loop-head.invariant.lengths;
-  table = c.loop-head.invariant.table;
-  earlier = c.loop-head.invariant.earlier;
-}
+pub returns-then-not-lies_inside-clause-first : goal.returns-then-not-lies_inside-clause-first
+returns-then-not-lies_inside-clause-first g c = λ folder kept.
+    let t = g.S.Source.table c.args.src.now folder in
+    let lengths = g.S.Source.lengths c.args.src.now in
+    let told = g.met.S.Source.lengths_of_table c.args.src.now folder kept in
+    let long : length c.needle-head.result.now ≡ length c.args.finder.now = ap (λ (ys : List ℕ). length ys) c.needle-head.ensures in
+    stands_none t c.args.x.now c.args.finder.now c.args.start c.args.start
+    (omega (arith, long, c.lies_inside.ensures.outside c.if-not-lies_inside.true, c.len.ensures.stored))
+    (cord_len lengths t c.args.x.now told c.requires.sound c.requires.fits) (stands_start t c.args.x.now c.args.finder.now c.args.start)
 
-pub loop-head-preserved : goal.loop-head-preserved
-loop-head-preserved g c = record {
-  low = omega (arith, c.loop-head.invariant.low);
-  none = λ folder kept.
-      let t = g.S.Source.table c.args.src.now folder in
-      let window = c.in_ok-window.window.now in
-      let head = c.args.finder.now in
-      let before = c.in_ok-window.ensures.earlier folder kept in
-      let text : IsPieceOf t c.args.x.now c.loop-head.place window = rw c.loop-head.invariant.table at c.in_ok-window.ensures.text folder kept in
-      let enough : length head ≤ length window = rw c.needle-head.ensures at c.in_ok-window.ensures.enough in
-      rw c.needle-head.ensures (window_none t c.args.x.now c.args.start c.loop-head.place window head c.find.result c.in-None.is
-      c.find.ensures enough text (c.loop-head.invariant.none folder before));
-  reads = c.in_ok-window.ensures.count ∙ c.loop-head.invariant.reads;
-  lengths = c.window_at.ensures.lengths ∙ c.loop-head.invariant.lengths;
-  table = c.window_at.ensures.table ∙ c.loop-head.invariant.table;
-  earlier = λ folder kept. c.loop-head.invariant.earlier folder (c.in_ok-window.ensures.earlier folder kept);
-}
+pub first_behind-requires-in-None-clause-none : goal.first_behind-requires-in-None-clause-none
+first_behind-requires-in-None-clause-none g c = λ folder kept.
+    let t = g.S.Source.table c.args.src.now folder in
+    let lengths = g.S.Source.lengths c.args.src.now in
+    let told = g.met.S.Source.lengths_of_table c.args.src.now folder kept in
+    let x = c.args.x.now in
+    let start = c.args.start in
+    let head = c.args.finder.now in
+    let s = c.cord_stretch_at.result in
+    let leaf = c.in-Bytes.leaf.now in
+    let whole : stretch_len s ≡ length leaf = ap stretch_len c.in-Bytes.is in
+    let long : length c.needle-head.result.now ≡ length head = ap (λ (ys : List ℕ). length ys) c.needle-head.ensures in
+    let enough : length head ≤ length leaf = omega (arith, long, c.if-leaf-head.false) in
+    let text : IsPieceOf t x start leaf = piece_within lengths t x start s 0 start leaf told c.requires.fits c.cord_stretch_at.ensures (omega (arith, whole)) (omega arith) (whole_part t s leaf 0 (λ t. ap (λ (r : Stretch). stretch_bytes t r) c.in-Bytes.is) refl) in
+    rw c.needle-head.ensures (window_none t x start start leaf head c.find.result c.in-None.is c.find.ensures enough text
+    (stands_start t x head start))
 
 pub returns-in-Some-clause-first : goal.returns-in-Some-clause-first
 returns-in-Some-clause-first g c = λ folder kept.
     let t = g.S.Source.table c.args.src.now folder in
-    let window = c.in_ok-window.window.now in
-    let head = c.args.finder.now in
-    let before = c.in_ok-window.ensures.earlier folder kept in
-    let text : IsPieceOf t c.args.x.now c.loop-head.place window = rw c.loop-head.invariant.table at c.in_ok-window.ensures.text folder kept in
-    window_some t c.args.x.now c.args.start c.loop-head.place c.in-Some.found window head c.find.result c.in-Some.is c.requires.some
-    c.find.ensures c.loop-head.invariant.low text (c.loop-head.invariant.none folder before)
-
-pub returns-clause-first : goal.returns-clause-first
-returns-clause-first g c = λ folder kept.
-    let t = g.S.Source.table c.args.src.now folder in
     let lengths = g.S.Source.lengths c.args.src.now in
-    let told = g.met.S.Source.lengths_of_table c.args.src.now folder (c.loop-head.invariant.earlier folder kept) in
-    let long : length c.needle-head.result.now ≡ length c.args.finder.now = ap (λ (ys : List ℕ). length ys) c.needle-head.ensures in
-    stands_none t c.args.x.now c.args.finder.now c.args.start c.loop-head.place
-    (omega (arith, c.lies_inside.ensures.outside c.loop-head-test.false, c.len.ensures.stored, long))
-    (cord_len lengths t c.args.x.now told c.requires.sound c.requires.fits) (c.loop-head.invariant.none folder kept)
+    let told = g.met.S.Source.lengths_of_table c.args.src.now folder kept in
+    let x = c.args.x.now in
+    let start = c.args.start in
+    let head = c.args.finder.now in
+    let s = c.cord_stretch_at.result in
+    let leaf = c.in-Bytes.leaf.now in
+    let whole : stretch_len s ≡ length leaf = ap stretch_len c.in-Bytes.is in
+    let text : IsPieceOf t x start leaf = piece_within lengths t x start s 0 start leaf told c.requires.fits c.cord_stretch_at.ensures (omega (arith, whole)) (omega arith) (whole_part t s leaf 0 (λ t. ap (λ (r : Stretch). stretch_bytes t r) c.in-Bytes.is) refl) in
+    window_some t x start start c.in-Some.found leaf head c.find.result c.in-Some.is c.requires.some c.find.ensures (omega arith) text
+    (stands_start t x head start)

@@ -1,13 +1,16 @@
 use Rattle.std.proofs.Common.{◌≡◌, ◌+◌, ◌≤◌}
+use Rattle.std.specs.Prelude.{IsSome}
 use Rattle.cord_io.specs.Device.{Folder}
 use Rattle.cord_search.specs.inner.Pieces.{HasNot}
-use Rattle.cord_search.proofs.bytes.last_byte.Given as goal
+use Rattle.cord_search.proofs.bytes.last_before.Given as goal
 
--- the byte stands at no place from the end on, and no read has failed
+-- the byte stands at no place from the end on, the position is one of the text, and no read has failed
 abbrev pub invariant-loop-end : goal.invariant-loop-end
 invariant-loop-end g l = record {
   high : l.end ≤ l.at + 1;
-  none : (folder : Folder) → g.S.Source.keeps l.src folder → HasNot (g.S.Source.table l.initial.src folder) l.node l.byte l.end (l.at + 1);
+  none : (folder : Folder) → g.S.Source.keeps l.src folder → HasNot (g.S.Source.table l.initial.src folder) l.x l.byte l.end (l.at + 1);
+  cord : l.position.cord ≡ l.x;
+  valid : IsSome l.position.index;
   reads : g.S.Source.failures l.src ≡ g.S.Source.failures l.initial.src;
   lengths : g.S.Source.lengths l.src ≡ g.S.Source.lengths l.initial.src;
   table : g.S.Source.table l.src ≡ g.S.Source.table l.initial.src;

@@ -1,13 +1,17 @@
 use Rattle.std.proofs.Common.{◌≡◌, ◌-◌, ◌≤◌, length}
+use Rattle.std.specs.Prelude.{IsSome}
 use Rattle.cord_io.specs.Device.{Folder}
 use Rattle.cord_search.specs.inner.Pieces.{IsFilled}
-use Rattle.cord_search.proofs.pieces.gather.Given as goal
+use Rattle.cord_search.proofs.pieces.gather_by.Given as goal
 
--- the first `done` bytes are filled, and no read has failed
+-- the first `done` bytes are filled, the position is one of the text, and no read has failed
 abbrev pub invariant-loop-done : goal.invariant-loop-done
 invariant-loop-done g l = record {
   in_range : l.done ≤ length l.out;
-  filled : (folder : Folder) → g.S.Source.keeps l.src folder → IsFilled (g.S.Source.table l.initial.src folder) l.cord l.place l.done l.out;
+  filled : (folder : Folder) → g.S.Source.keeps l.src folder → IsFilled (g.S.Source.table l.initial.src folder) l.initial.position.cord
+      l.place l.done l.out;
+  cord : l.position.cord ≡ l.initial.position.cord;
+  valid : IsSome l.position.index;
   reads : g.S.Source.failures l.src ≡ g.S.Source.failures l.initial.src;
   lengths : g.S.Source.lengths l.src ≡ g.S.Source.lengths l.initial.src;
   table : g.S.Source.table l.src ≡ g.S.Source.table l.initial.src;

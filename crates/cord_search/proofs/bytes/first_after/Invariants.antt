@@ -1,15 +1,18 @@
 use Rattle.std.proofs.Common.{◌≡◌, ◌-◌, ◌≤◌, [], ◌∷◌}
+use Rattle.std.specs.Prelude.{IsSome}
 use Rattle.cord_io.specs.Device.{Folder}
-use Rattle.cord_search.specs.inner.Pieces.{NotFound}
-use Rattle.cord_search.proofs.bytes.first_byte.Given as goal
+use Rattle.cord_search.specs.inner.Pieces.{StandsNot}
+use Rattle.cord_search.proofs.bytes.first_after.Given as goal
 
--- the byte stands at no place before, and no read has failed
+-- the byte stands at no place before, the position is one of the text, and no read has failed
 abbrev pub invariant-loop-place : goal.invariant-loop-place
 invariant-loop-place g l = record {
   low : l.from ≤ l.place;
   high : l.place ≤ l.len;
-  none : (folder : Folder) → g.S.Source.keeps l.src folder → NotFound (g.S.Source.table l.initial.src folder) l.node
+  none : (folder : Folder) → g.S.Source.keeps l.src folder → StandsNot (g.S.Source.table l.initial.src folder) l.x
       (l.byte ∷ []) l.from l.place;
+  cord : l.position.cord ≡ l.x;
+  valid : IsSome l.position.index;
   reads : g.S.Source.failures l.src ≡ g.S.Source.failures l.initial.src;
   lengths : g.S.Source.lengths l.src ≡ g.S.Source.lengths l.initial.src;
   table : g.S.Source.table l.src ≡ g.S.Source.table l.initial.src;

@@ -1,0 +1,29 @@
+use Rattle.std.proofs.Common.{arith}
+use Rattle.cord_pos.proofs.Standings.{position_cord, still, moved_still_index, moved_still_visits, move_bound}
+use Rattle.cord_pos.proofs.Position.move_to.Goals as goal
+
+pub invariant_of-self : goal.invariant_of-self
+invariant_of-self c =
+    let on = rw c.in-Some.is at c.self.invariant in
+    (still _ _ _ c.args.index on c.if-spot-index.true c.if-index-spot.true).position
+
+pub returns-then-index-spot-clause-index : goal.returns-then-index-spot-clause-index
+returns-then-index-spot-clause-index c =
+    let on = rw c.in-Some.is at c.self.invariant in
+    rw (← c.self.view_is, c.in-Some.is) (moved_still_index _ _ _ c.args.index on c.if-spot-index.true c.if-index-spot.true)
+
+pub returns-then-index-spot-clause-visits : goal.returns-then-index-spot-clause-visits
+returns-then-index-spot-clause-visits c =
+    let on = rw c.in-Some.is at c.self.invariant in
+    rw (← c.self.view_is, c.in-Some.is) (moved_still_visits _ _ _ c.args.index on c.if-spot-index.true c.if-index-spot.true)
+
+pub returns-then-index-len-clause-bound : goal.returns-then-index-len-clause-bound
+returns-then-index-len-clause-bound c =
+    let on = rw c.in-Some.is at c.self.invariant in
+    let v = rw (← c.self.view_is, c.in-Some.is) at c.go_to.ensures.visits in
+    rw (← c.self.view_is) (omega (
+      arith,
+      v,
+      move_bound c.self.inside.tree.cord.now c.in-Some.spot.index c.args.index
+          (position_cord _ _ _ on),
+    ))

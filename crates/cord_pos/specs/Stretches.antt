@@ -1,0 +1,72 @@
+-- Stretches: texts that lie in one part of a cord.
+use Rattle.std.specs.Prelude.{◌≡◌, ℕ, ◌+◌, ◌-◌, ◌<◌, ◌≤◌, List, length, take, drop, replicate, Option, Some, None, ⊤}
+use Rattle.cord_io.specs.Table.{Table, Lengths, length_at}
+use Rattle.cord_io.specs.declared.TheConstants.{MAX_LEN}
+use Rattle.cord_node.specs.declared.Node.{Node}
+use Rattle.cord_node.specs.Tree.{len_of, IsSound}
+use Rattle.cord_node.specs.Tables.{bytes_over, FitsIn, Fits}
+use Rattle.cord_core.specs.Cord.{text_len, bytes_of, CordFitsIn, CordFits}
+use Rattle.cord_pos.specs.declared.stretch.Stretch.{Stretch}
+use Rattle.cord_pos.specs.declared.stretch.Stretch.TheVariants.{Bytes, Run, Func}
+
+-- its length
+abbrev pub stretch_len : Stretch → ℕ
+stretch_len (Bytes bytes) = length bytes.now
+stretch_len (Run byte len) = len
+stretch_len (Func id start len) = len
+
+-- its text over a table
+abbrev pub stretch_bytes : Table → Stretch → List ℕ
+stretch_bytes t (Bytes bytes) = bytes.now
+stretch_bytes t (Run byte len) = replicate len byte
+stretch_bytes t (Func id start len) = take len (drop start (t id.0))
+
+-- a range of an entry lies inside an entry of this length
+abbrev pub StretchFitsIn : Lengths → Stretch → Type 0
+StretchFitsIn lengths (Bytes bytes) = ⊤
+StretchFitsIn lengths (Run byte len) = ⊤
+StretchFitsIn lengths (Func id start len) = (start + len ≤ length_at lengths id.0) × (start + len ≤ MAX_LEN)
+
+-- it isn't empty, and is what the cord's text has from the place on
+pub record IsStretchOf (c : Option Node) (place : ℕ) (s : Stretch) : Type 0 where
+  pub some : 0 < stretch_len s
+  pub inside : place + stretch_len s ≤ text_len c
+  pub fits : (lengths : Lengths) → CordFitsIn lengths c → StretchFitsIn lengths s
+  pub text : (t : Table) → CordFits t c → stretch_bytes t s ≡ take (stretch_len s) (drop place (bytes_of t c))
+
+-- the same of a node
+abbrev pub IsStretchAt : Node → ℕ → Stretch → Type 0
+IsStretchAt n place s = IsStretchOf (Some n) place s
+
+-- the first n bytes of a stretch
+pub record IsFrontOf (s : Stretch) (n : ℕ) (front : Stretch) : Type 0 where
+  pub len : stretch_len front ≡ n
+  pub fits : (lengths : Lengths) → StretchFitsIn lengths s → StretchFitsIn lengths front
+  pub text : (t : Table) → stretch_bytes t front ≡ take n (stretch_bytes t s)
+
+-- a stretch that begins at the index, and none where there is no index
+abbrev pub IsAheadOf : Option Node → Option ℕ → Option Stretch → Type 0
+IsAheadOf c None s = s ≡ None
+IsAheadOf c (Some i) None = ⊥
+IsAheadOf c (Some i) (Some s) = IsStretchOf c i s
+
+-- a stretch of which the byte at the index is the last one
+pub record EndsAt (c : Option Node) (i : ℕ) (s : Stretch) : Type 0 where
+  pub inside : stretch_len s ≤ i + 1
+  pub stretch : IsStretchOf c (i + 1 - stretch_len s) s
+
+-- the same, and none where there is no index
+abbrev pub IsBehindOf : Option Node → Option ℕ → Option Stretch → Type 0
+IsBehindOf c None s = s ≡ None
+IsBehindOf c (Some i) None = ⊥
+IsBehindOf c (Some i) (Some s) = EndsAt c i s
+
+-- a place of a node is the place `at` of another one, whose text stands in the node's
+pub record IsWithin (n : Node) (place : ℕ) (m : Node) (at : ℕ) : Type 0 where
+  pub offset : ℕ
+  pub here : place ≡ offset + at
+  pub inside : offset + len_of m ≤ len_of n
+  pub sound : IsSound m
+  pub fits : (lengths : Lengths) → FitsIn lengths n → FitsIn lengths m
+  pub text : (t : Table) → Fits t n → (i k : ℕ) → i + k ≤ len_of m →
+      take k (drop (offset + i) (bytes_over t n)) ≡ take k (drop i (bytes_over t m))

@@ -1,0 +1,95 @@
+use Rattle.std.proofs.Common.{◌≡◌, ◌∙◌, refl, arith}
+use Rattle.cord_pos.specs.Stretches.{stretch_len, IsStretchOf}
+use Rattle.cord_search.specs.inner.Pieces.{IsPieceOf}
+use Rattle.cord_search.proofs.Ranges.{cord_len, piece_within}
+use Rattle.cord_search.proofs.Finding.{first_on, first_past, first_found, first_none}
+use Rattle.cord_search.proofs.Moving.{set_valid}
+use Rattle.cord_search.proofs.bytes.first_after.Goals as goal
+
+pub loop-place-init : goal.loop-place-init
+loop-place-init g c = record {
+  low = c.requires.low;
+  high = omega (arith, c.requires.inside, c.len-len.ensures.stored);
+  none = c.requires.none;
+  cord = c.set-position.ensures.cord;
+  valid = rw c.set-position.ensures.index (set_valid c.args.x.now c.args.from c.requires.start);
+  reads = refl;
+  lengths = refl;
+  table = refl;
+  earlier = λ folder kept. kept;
+}
+
+pub stretch_from-stretch-requires-clause-inside : goal.stretch_from-stretch-requires-clause-inside
+stretch_from-stretch-requires-clause-inside g c = rw c.loop-place.invariant.cord
+    (omega (arith, c.loop-place-test.true, c.len-len.ensures.stored))
+
+pub first_block-requires-clause-fits : goal.first_block-requires-clause-fits
+first_block-requires-clause-fits g c =
+    let x = c.args.x.now in
+    let stretch : IsStretchOf x c.loop-place.place c.stretch_from-stretch.result = rw c.loop-place.invariant.cord at c.stretch_from-stretch.ensures.stretch in
+    rw c.loop-place.invariant.lengths (stretch.fits (g.S.Source.lengths c.args.src.now) c.requires.fits)
+
+pub loop-place-preserved-in-Some : goal.loop-place-preserved-in-Some
+loop-place-preserved-in-Some g c =
+    let x = c.args.x.now in
+    let s = c.stretch_from-stretch.result in
+    let stretch : IsStretchOf x c.loop-place.place s = rw c.loop-place.invariant.cord at c.stretch_from-stretch.ensures.stretch in
+    let whole : c.in-Some.count ≡ stretch_len s = c.in-Some.ensures.len in
+    record {
+      low = omega (arith, c.loop-place.invariant.low);
+      high = omega (arith, whole, stretch.inside, c.len-len.ensures.stored);
+      none = λ folder kept.
+          let told = g.met.S.Source.lengths_of_table c.args.src.now folder (c.loop-place.invariant.earlier folder kept) in
+          let none = first_past (g.S.Source.lengths c.args.src.now) (g.S.Source.table c.args.src.now folder) x s c.args.byte c.args.from c.loop-place.place told c.requires.fits c.set-position.ensures.sound stretch c.in-Some.ensures.without (c.loop-place.invariant.none folder kept) in
+          rw whole none;
+      cord = c.stretch_from-stretch.ensures.cord ∙ c.loop-place.invariant.cord;
+      valid = c.stretch_from-stretch.ensures.valid;
+      reads = c.loop-place.invariant.reads;
+      lengths = c.loop-place.invariant.lengths;
+      table = c.loop-place.invariant.table;
+      earlier = c.loop-place.invariant.earlier;
+    }
+
+pub returns-in-Some-memchr-clause-first : goal.returns-in-Some-memchr-clause-first
+returns-in-Some-memchr-clause-first g c = λ folder kept.
+    let t = g.S.Source.table c.args.src.now folder in
+    let x = c.args.x.now in
+    let place = c.loop-place.place in
+    let piece = c.in_ok-piece.piece.now in
+    let before = c.in_ok-piece.ensures.earlier folder kept in
+    let told = g.met.S.Source.lengths_of_table c.args.src.now folder (c.loop-place.invariant.earlier folder before) in
+    let stretch : IsStretchOf x place c.stretch_from-stretch.result = rw c.loop-place.invariant.cord at c.stretch_from-stretch.ensures.stretch in
+    let text : IsPieceOf t x place piece = piece_within (g.S.Source.lengths c.args.src.now) t x place c.stretch_from-stretch.result 0 place piece told c.requires.fits stretch (omega (arith, c.in_ok-piece.ensures.inside)) (omega arith) (rw c.loop-place.invariant.table at c.in_ok-piece.ensures.text folder kept) in
+    first_found t x piece c.args.byte c.args.from place c.in-Some-memchr.found _ c.in-Some-memchr.is c.memchr.ensures
+    c.loop-place.invariant.low text (c.loop-place.invariant.none folder before)
+
+pub loop-place-preserved : goal.loop-place-preserved
+loop-place-preserved g c =
+    let x = c.args.x.now in
+    let place = c.loop-place.place in
+    let stretch : IsStretchOf x place c.stretch_from-stretch.result = rw c.loop-place.invariant.cord at c.stretch_from-stretch.ensures.stretch in
+    record {
+      low = omega (arith, c.loop-place.invariant.low);
+      high = omega (arith, c.in_ok-piece.ensures.inside, stretch.inside, c.len-len.ensures.stored);
+      none = λ folder kept.
+          let t = g.S.Source.table c.args.src.now folder in
+          let piece = c.in_ok-piece.piece.now in
+          let before = c.in_ok-piece.ensures.earlier folder kept in
+          let told = g.met.S.Source.lengths_of_table c.args.src.now folder (c.loop-place.invariant.earlier folder before) in
+          let text : IsPieceOf t x place piece = piece_within (g.S.Source.lengths c.args.src.now) t x place c.stretch_from-stretch.result 0 place piece told c.requires.fits stretch (omega (arith, c.in_ok-piece.ensures.inside)) (omega arith) (rw c.loop-place.invariant.table at c.in_ok-piece.ensures.text folder kept) in
+          first_on t x piece c.args.byte c.args.from place _ c.in-None.is c.memchr.ensures text (c.loop-place.invariant.none folder before);
+      cord = c.stretch_from-stretch.ensures.cord ∙ c.loop-place.invariant.cord;
+      valid = c.stretch_from-stretch.ensures.valid;
+      reads = c.in_ok-piece.ensures.count ∙ c.loop-place.invariant.reads;
+      lengths = c.first_block.ensures.lengths ∙ c.loop-place.invariant.lengths;
+      table = c.first_block.ensures.table ∙ c.loop-place.invariant.table;
+      earlier = λ folder kept. c.loop-place.invariant.earlier folder (c.in_ok-piece.ensures.earlier folder kept);
+    }
+
+pub returns-clause-first : goal.returns-clause-first
+returns-clause-first g c = λ folder kept.
+    let t = g.S.Source.table c.args.src.now folder in
+    let told = g.met.S.Source.lengths_of_table c.args.src.now folder (c.loop-place.invariant.earlier folder kept) in
+    let len = cord_len (g.S.Source.lengths c.args.src.now) t c.args.x.now told c.set-position.ensures.sound c.requires.fits in
+    first_none t c.args.x.now c.args.byte c.args.from c.loop-place.place (omega (arith, c.loop-place-test.false, c.len-len.ensures.stored))
+    len (c.loop-place.invariant.none folder kept)

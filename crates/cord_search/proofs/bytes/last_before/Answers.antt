@@ -1,0 +1,98 @@
+use Rattle.std.proofs.Common.{◌≡◌, ◌+◌, ◌-◌, ◌≤◌, ◌∙◌, refl, length, arith}
+use Rattle.cord_pos.specs.Stretches.{stretch_len, IsStretchOf}
+use Rattle.cord_search.specs.inner.Pieces.{IsPieceOf, HasNot}
+use Rattle.cord_search.proofs.Ranges.{piece_within}
+use Rattle.cord_search.proofs.Finding.{last_on, last_past, last_found, last_none}
+use Rattle.cord_search.proofs.Moving.{set_valid}
+use Rattle.cord_search.proofs.bytes.last_before.Goals as goal
+
+pub loop-end-init : goal.loop-end-init
+loop-end-init g c = record {
+  high = c.requires.high;
+  none = c.requires.none;
+  cord = c.set-position.ensures.cord;
+  valid = rw c.set-position.ensures.index (set_valid c.args.x.now c.args.at c.requires.inside);
+  reads = refl;
+  lengths = refl;
+  table = refl;
+  earlier = λ folder kept. kept;
+}
+
+pub stretch_up_to-stretch-requires-clause-inside : goal.stretch_up_to-stretch-requires-clause-inside
+stretch_up_to-stretch-requires-clause-inside g c = rw c.loop-end.invariant.cord
+    (omega (arith, c.loop-end.invariant.high, c.requires.inside))
+
+pub last_piece-requires-clause-fits : goal.last_piece-requires-clause-fits
+last_piece-requires-clause-fits g c =
+    let s = c.stretch_up_to-stretch.result in
+    let stretch : IsStretchOf c.args.x.now (c.loop-end.end - stretch_len s) s = rw c.loop-end.invariant.cord at c.stretch_up_to-stretch.ensures.stretch in
+    rw c.loop-end.invariant.lengths (stretch.fits (g.S.Source.lengths c.args.src.now) c.requires.fits)
+
+pub loop-end-preserved-in-Some : goal.loop-end-preserved-in-Some
+loop-end-preserved-in-Some g c =
+    let x = c.args.x.now in
+    let end = c.loop-end.end in
+    let s = c.stretch_up_to-stretch.result in
+    let stretch : IsStretchOf x (end - stretch_len s) s = rw c.loop-end.invariant.cord at c.stretch_up_to-stretch.ensures.stretch in
+    let whole : c.in-Some.count ≡ stretch_len s = c.in-Some.ensures.len in
+    let inside : stretch_len s ≤ end = c.stretch_up_to-stretch.ensures.inside in
+    record {
+      high = omega (arith, c.loop-end.invariant.high);
+      none = λ folder kept.
+          let t = g.S.Source.table c.args.src.now folder in
+          let told = g.met.S.Source.lengths_of_table c.args.src.now folder (c.loop-end.invariant.earlier folder kept) in
+          let none : HasNot t x c.args.byte (end - stretch_len s) (c.args.at + 1) = last_past (g.S.Source.lengths c.args.src.now) t x s c.args.byte c.args.at (end - stretch_len s) end told c.requires.fits c.set-position.ensures.sound (omega (arith, inside)) stretch c.in-Some.ensures.without (c.loop-end.invariant.none folder kept) in
+          rw whole none;
+      cord = c.stretch_up_to-stretch.ensures.cord ∙ c.loop-end.invariant.cord;
+      valid = c.stretch_up_to-stretch.ensures.valid;
+      reads = c.loop-end.invariant.reads;
+      lengths = c.loop-end.invariant.lengths;
+      table = c.loop-end.invariant.table;
+      earlier = c.loop-end.invariant.earlier;
+    }
+
+pub returns-in-Some-memrchr-clause-last : goal.returns-in-Some-memrchr-clause-last
+returns-in-Some-memrchr-clause-last g c = λ folder kept.
+    let t = g.S.Source.table c.args.src.now folder in
+    let x = c.args.x.now in
+    let piece = c.in_ok-piece.piece.now in
+    let end = c.loop-end.end in
+    let s = c.stretch_up_to-stretch.result in
+    let stretch : IsStretchOf x (end - stretch_len s) s = rw c.loop-end.invariant.cord at c.stretch_up_to-stretch.ensures.stretch in
+    let inside : stretch_len s ≤ end = c.stretch_up_to-stretch.ensures.inside in
+    let short : length piece ≤ stretch_len s = c.in_ok-piece.ensures.inside in
+    let before = c.in_ok-piece.ensures.earlier folder kept in
+    let told = g.met.S.Source.lengths_of_table c.args.src.now folder (c.loop-end.invariant.earlier folder before) in
+    let text : IsPieceOf t x (end - length piece) piece = piece_within (g.S.Source.lengths c.args.src.now) t x (end - stretch_len s) s (stretch_len s - length piece) (end - length piece) piece told c.requires.fits stretch (omega (arith, short)) (omega (arith, short, inside)) (rw c.loop-end.invariant.table at c.in_ok-piece.ensures.text folder kept) in
+    last_found t x piece c.args.byte c.args.at (end - length piece) c.in-Some-memrchr.found end _ c.in-Some-memrchr.is c.memrchr.ensures
+    (omega (arith, short, inside)) c.loop-end.invariant.high text (c.loop-end.invariant.none folder before)
+
+pub loop-end-preserved : goal.loop-end-preserved
+loop-end-preserved g c =
+    let x = c.args.x.now in
+    let piece = c.in_ok-piece.piece.now in
+    let end = c.loop-end.end in
+    let s = c.stretch_up_to-stretch.result in
+    let stretch : IsStretchOf x (end - stretch_len s) s = rw c.loop-end.invariant.cord at c.stretch_up_to-stretch.ensures.stretch in
+    let inside : stretch_len s ≤ end = c.stretch_up_to-stretch.ensures.inside in
+    let short : length piece ≤ stretch_len s = c.in_ok-piece.ensures.inside in
+    record {
+      high = omega (arith, c.loop-end.invariant.high);
+      none = λ folder kept.
+          let t = g.S.Source.table c.args.src.now folder in
+          let before = c.in_ok-piece.ensures.earlier folder kept in
+          let told = g.met.S.Source.lengths_of_table c.args.src.now folder (c.loop-end.invariant.earlier folder before) in
+          let text : IsPieceOf t x (end - length piece) piece = piece_within (g.S.Source.lengths c.args.src.now) t x (end - stretch_len s) s (stretch_len s - length piece) (end - length piece) piece told c.requires.fits stretch (omega (arith, short)) (omega (arith, short, inside)) (rw c.loop-end.invariant.table at c.in_ok-piece.ensures.text folder kept) in
+          last_on t x piece c.args.byte c.args.at (end - length piece) end _ c.in-None.is c.memrchr.ensures
+          (omega (arith, short, inside)) text (c.loop-end.invariant.none folder before);
+      cord = c.stretch_up_to-stretch.ensures.cord ∙ c.loop-end.invariant.cord;
+      valid = c.stretch_up_to-stretch.ensures.valid;
+      reads = c.in_ok-piece.ensures.count ∙ c.loop-end.invariant.reads;
+      lengths = c.last_piece.ensures.lengths ∙ c.loop-end.invariant.lengths;
+      table = c.last_piece.ensures.table ∙ c.loop-end.invariant.table;
+      earlier = λ folder kept. c.loop-end.invariant.earlier folder (c.in_ok-piece.ensures.earlier folder kept);
+    }
+
+pub returns-clause-last : goal.returns-clause-last
+returns-clause-last g c = λ folder kept. last_none (g.S.Source.table c.args.src.now folder) c.args.x.now c.args.byte c.args.at
+    c.loop-end.end c.loop-end-test.false (c.loop-end.invariant.none folder kept)
