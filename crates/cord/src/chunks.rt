@@ -125,11 +125,19 @@ impl<'a> Iterator for Chunks<'a> {
 
 /// No read fails, and one gives bytes of one chunk.
 impl<'a> Read for Chunks<'a> {
-    ghost use Rattle.std.specs.Prelude.{Some};
+    ghost use Rattle.std.specs.Prelude.{IsOk, Some};
+    ghost use Rattle.std.specs.Io.{ReadsAtMost};
+    ghost use Rattle.std.specs.Io.KnownBytes.{ReadConsumes};
 
     ghost remaining = { λ left. Some left };
 
-    fn read(&mut self, buf: &mut [u8]) -> io::Result<usize> {
+    fn read(&mut self, buf: &mut [u8]) -> io::Result<usize>
+        ensures bound { ReadsAtMost result buf.new }
+        ensures bytes { ReadConsumes (Some self.old) (Some self.new) result buf.new }
+
+        // Memory answers each time.
+        ensures reads { IsOk result }
+    {
         if self.start == self.text.len() {
             return Ok(0);
         }

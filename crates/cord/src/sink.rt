@@ -1,5 +1,6 @@
 // A sink whose bytes become a text.
-ghost use Rattle.std.specs.Prelude.{◌≡◌, [], IfOk, IsOkUnless};
+ghost use Rattle.std.specs.Prelude.{◌≡◌, ◌<◌, ◌≤◌, ◌++◌, [], length, take, is_err, is_ok, IfOk, IsOkUnless, OnErr};
+ghost use Rattle.cord_io.specs.Device.{count_after, finished_after};
 
 use crate::{Text, TextBuilder};
 use cord_io::{CordError, Sink, WriteFault};
@@ -72,7 +73,19 @@ impl Sink for TextSink {
         self.failures
     }
 
-    fn put(&mut self, bytes: &[u8]) -> Result<usize, WriteFault> {
+    fn put(&mut self, bytes: &[u8]) -> Result<usize, WriteFault>
+        requires { 0 < length bytes.now }
+        ensures some { IfOk result (λ k. (0 < k) × (k ≤ length bytes.now)) }
+        ensures taken { IfOk result (λ k. ⟦<TextSink as Sink>⟧.taken self.new
+            ≡ ⟦<TextSink as Sink>⟧.taken self.old ++ take k bytes.now) }
+        ensures refused { OnErr result (⟦<TextSink as Sink>⟧.taken self.new ≡ ⟦<TextSink as Sink>⟧.taken self.old) }
+        ensures finished { ⟦<TextSink as Sink>⟧.finished self.new ≡ ⟦<TextSink as Sink>⟧.finished self.old }
+        ensures count { ⟦<TextSink as Sink>⟧.failures self.new
+            ≡ count_after (is_err result) (⟦<TextSink as Sink>⟧.failures self.old) }
+
+        // It takes all that it is offered.
+        ensures whole { IfOk result (λ k. k ≡ length bytes.now) }
+    {
         if self.text.push_bytes(self.alloc, bytes).is_err() {
             self.failures = self.failures.saturating_add(1);
             return Err(WriteFault);
@@ -80,8 +93,16 @@ impl Sink for TextSink {
         Ok(bytes.len())
     }
 
-    // It can be told 2^64 - 1 times.
-    fn finish(&mut self) -> Result<(), WriteFault> {
+    fn finish(&mut self) -> Result<(), WriteFault>
+        ensures taken { ⟦<TextSink as Sink>⟧.taken self.new ≡ ⟦<TextSink as Sink>⟧.taken self.old }
+        ensures finished { ⟦<TextSink as Sink>⟧.finished self.new
+            ≡ finished_after (is_ok result) (⟦<TextSink as Sink>⟧.finished self.old) }
+        ensures count { ⟦<TextSink as Sink>⟧.failures self.new
+            ≡ count_after (is_err result) (⟦<TextSink as Sink>⟧.failures self.old) }
+
+        // It can be told 2^64 - 1 times.
+        ensures ends { OnErr result (⟦<TextSink as Sink>⟧.finished self.old ≡ u64.MAX) }
+    {
         if self.ends == u64::MAX {
             self.failures = self.failures.saturating_add(1);
             return Err(WriteFault);

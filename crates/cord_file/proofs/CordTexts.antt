@@ -1,8 +1,7 @@
 -- Cords over the entries of a table of files.
-use Rattle.std.proofs.Common.{◌≡◌, ℕ, ◌-◌, ◌≤◌, List, ◌++◌, length, take, drop, Some, sym, ap, ◌∙◌, inl, arith}
+use Rattle.std.proofs.Common.{◌≡◌, ℕ, ◌-◌, ◌≤◌, List, length, Some, ap, ◌∙◌, inl, arith}
 use Rattle.std.specs.Prelude.{unwrap_or, Option, slice_get}
 use Rattle.std.proofs.lemmas.List.{take_all}
-use Rattle.std.proofs.Math.Seq.{take-append_seam}
 use Rattle.cord_io.specs.Device.{Folder}
 use Rattle.cord_io.specs.Table.{HasLengths, length_at}
 use Rattle.cord_node.specs.declared.Node.{Node}
@@ -31,12 +30,6 @@ pub func_over : (files : List OpenFile) (id len : ℕ) (cord : Option Node) → 
 func_over files id len cord told form range =
     let all : length_at (lengths_in (opened_of files)) id ≡ len = ap (λ o. unwrap_or o 0) told in
     record { form = form; fits = range.fits (lengths_in (opened_of files)) (inl (omega (arith, all))) }
-
--- what a list has whose first elements were written over
-pub written : (len : ℕ) (new old : List ℕ) → len ≡ length old → length new ≡ length old → take len (new ++ drop (length new) old) ≡ new
-written len new old stored count =
-    let all : len ≡ length new = stored ∙ sym count in
-    ap (λ n. take n (new ++ drop (length new) old)) all ∙ take-append_seam new (drop (length new) old)
 
 -- the bytes that were read of a whole entry
 pub entry_bytes : (folder : Folder) (files : List OpenFile) (id len : ℕ) (bytes : List ℕ) → 2 ≤ id →

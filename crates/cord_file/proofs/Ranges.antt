@@ -1,13 +1,13 @@
 -- Ranges that are read piece by piece.
-use Rattle.std.proofs.Common.{◌≡◌, ℕ, ◌+◌, ◌≤◌, List, ◌++◌, length, take, drop, Result, Ok, Err, sym, ap, subst, ◌∙◌}
-use Rattle.std.specs.Prelude.{IsSomeAnd, OnOk, Some, None}
+use Rattle.std.proofs.Common.{◌≡◌, ℕ, ◌+◌, ◌≤◌, List, ◌++◌, length, take, drop, Result, Ok, Err, sym, ap, subst, ◌∙◌, arith}
+use Rattle.std.specs.Prelude.{IsSomeAnd, IfOk, OnOk, Some, None, ◌<◌}
 use Rattle.std.specs.declared.option.Option.{Option}
 use Rattle.std.proofs.lemmas.List.{drop-drop, length-take-le, take-append-le}
 use Rattle.std.proofs.Math.Seq.{take-add, take-append-add, take-length}
 use borrow.Rule.Slice.PartMut.{put_mid}
 use Rattle.std.specs.String.{string_bytes}
 use Rattle.cord_io.specs.Device.{Folder, bytes_at}
-use Rattle.cord_file.specs.Blocks.{AreRead}
+use Rattle.cord_file.specs.Blocks.{AreRead, BeginsWithFile}
 use Rattle.cord_file.specs.Files.{told_of}
 use Rattle.cord_file.specs.declared.files.OpenFile.{OpenFile}
 
@@ -36,6 +36,17 @@ more_read path folder None done k room start out part fits inside before more = 
 more_read path folder (Some file) done k room start out part fits inside before more =
     more_bytes done k room start out part (bytes_at folder (path file)) fits inside before more
 
+-- the same of the front of a file, where a read may have failed
+pub more_after : {E : Type 0} (r : Result ℕ E) (folder : Folder) (told : Option (List ℕ × ℕ)) (done room : ℕ) (out part : List ℕ) →
+    done ≤ length out → IfOk r (λ k. (0 < k) × (k ≤ length part)) → BeginsWithFile folder told done out →
+    IfOk r (λ k. IsSomeAnd told (λ t. take k part ≡ take k (drop done (bytes_at folder t.0)))) →
+    IfOk r (λ k. BeginsWithFile folder told (done + k) (put_mid done room out part))
+more_after (Err e) folder told done room out part fits some before more = tt
+more_after (Ok k) folder told done room out part fits some before more =
+    let place : done ≡ 0 + done = omega arith in
+    more_read (λ t. t.0) folder told done k room 0 out part fits some.1 before
+    (subst (λ n. IsSomeAnd told (λ t. take k part ≡ take k (drop n (bytes_at folder t.0)))) place more)
+
 -- bytes that were read are as many as they are
 pub all_read : (folder : Folder) (slot : Option OpenFile) (start k : ℕ) (part : List ℕ) → k ≡ length part →
     AreRead folder slot start part → IsSomeAnd slot (λ file. take k part ≡ take k (drop start (bytes_at folder (string_bytes file.path))))
@@ -51,3 +62,12 @@ read_of_told (Err e) folder told slot file start out same here read = tt
 read_of_told (Ok x) folder told slot file start out same here read =
     let text : Option (List ℕ × ℕ) → Type 0 = λ o. IsSomeAnd o (λ t. out ≡ take (length out) (drop start (bytes_at folder t.0))) in
     subst (λ o. AreRead folder o start out) (sym here) (subst text same read)
+
+-- the file in its place was read whole
+pub whole_read : (folder : Folder) (told : Option (List ℕ × ℕ)) (slot : Option OpenFile) (file : OpenFile) (len : ℕ) (out : List ℕ) →
+    told ≡ Some (told_of file) → slot ≡ Some file → length out ≡ len → BeginsWithFile folder told len out → AreRead folder slot 0 out
+whole_read folder told slot file len out same here count read =
+    let bytes : List ℕ = bytes_at folder (string_bytes file.path) in
+    let front : take len out ≡ take len bytes = subst (λ o. BeginsWithFile folder o len out) same read in
+    subst (λ o. AreRead folder o 0 out) (sym here) (sym (take-length out) ∙ ap (λ n. take n out) count ∙ front
+    ∙ ap (λ n. take n bytes) (sym count))

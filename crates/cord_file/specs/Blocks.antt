@@ -38,3 +38,7 @@ AreKept keeps files entries = (entry : Entry) → Contains entries entry → IsK
 abbrev pub AreRead : Folder → Option OpenFile → ℕ → List ℕ → Type 0
 AreRead folder slot start bytes = IsSomeAnd slot (λ file. bytes
     ≡ take (length bytes) (drop start (bytes_at folder (string_bytes file.path))))
+
+-- the list begins with so many bytes of the file of which this was told
+abbrev pub BeginsWithFile : Folder → Option (List ℕ × ℕ) → ℕ → List ℕ → Type 0
+BeginsWithFile folder opened count bytes = IsSomeAnd opened (λ told. take count bytes ≡ take count (bytes_at folder told.0))

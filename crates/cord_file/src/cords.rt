@@ -94,8 +94,7 @@ impl<F: Files> Sources<F> {
             bytes_of (table_in (opened_in self.old) folder) cord ≡ table_in (opened_in self.old) folder id.0) }
         ensures refused { IfErr result IsReadRefusal }
     {
-        let mut bytes = vec![in alloc; 0; len as usize]?;
-        self.read_past_blocks(id.0 as usize - 2, 0, &mut bytes)?;
+        let bytes = self.read_file_whole(alloc, id.0 as usize - 2, len)?;
         let shared = RcSlice::from_vec(bytes)?;
         let cord = Cord::from_shared(alloc, shared)?;
         Ok(cord)

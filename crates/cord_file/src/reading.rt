@@ -1,12 +1,21 @@
 // Reading ranges of files.
-ghost use Rattle.std.specs.Prelude.{◌≡◌, ◌+◌, ◌%◌, ◌<◌, ◌≤◌, ℕ, length, take, drop, is_err, slice_get, OnOk, IsSomeAnd};
+ghost use Rattle.std.specs.Prelude.{◌≡◌, ◌+◌, ◌%◌, ◌<◌, ◌≤◌, ℕ, length, take, drop, is_err, slice_get, vec_len, IfErr};
+ghost use Rattle.std.specs.Prelude.{IfOk, OnOk, IsSomeAnd};
 ghost use Rattle.cord_io.specs.Device.{Folder, bytes_at, count_after};
-ghost use Rattle.cord_file.specs.Blocks.{AreRead};
+ghost use Rattle.cord_file.specs.Blocks.{AreRead, BeginsWithFile};
+ghost use Rattle.cord_file.specs.Faults.{has_failed};
+ghost use Rattle.cord_file.specs.Making.{IsReadRefusal};
 ghost use Rattle.cord_file.specs.declared.blocks.TheConstants.{BLOCK};
 
-use crate::Sources;
 use crate::blocks::{BLOCK, BlockKey, MAX_BLOCKS, copy_kept, keep, read_block, room_for};
+use crate::{FileError, Sources};
 use cord_io::{FileNo, Files, MAX_LEN, ReadFault};
+use std::alloc::{AllocError, Global};
+
+// For how many bytes room is made where a whole file is read: at first, and later at least.
+const FIRST_ROOM: usize = 1_048_576;
+
+const LEAST_ROOM: usize = 65_536;
 
 // Fills `out` with the bytes of an opened file from a place on. The range lies inside the file.
 pub(crate) fn read_range<F: Files>(
@@ -31,8 +40,98 @@ pub(crate) fn read_range<F: Files>(
     Ok(())
 }
 
+// Reads at least one byte of an opened file into `out`, after the first `done` bytes of both, and answers how many.
+fn read_after<F: Files>(
+    files: &mut F,
+    no: FileNo,
+    done: usize,
+    out: &mut [u8],
+) -> Result<usize, ReadFault>
+    requires room { done < length out.old }
+    requires inside { IsSomeAnd (F.opened files.old no.0) (λ told. done < told.1) }
+    ensures some { IfOk result (λ k. (0 < k) × (done + k ≤ length out.new)) }
+    ensures len { length out.new ≡ length out.old }
+    ensures earlier { (folder : Folder) → F.keeps files.new folder → F.keeps files.old folder }
+    ensures opened { (n : ℕ) → F.opened files.new n ≡ F.opened files.old n }
+    ensures count { F.failures files.new ≡ count_after (is_err result) (F.failures files.old) }
+    ensures bytes { (folder : Folder) → F.keeps files.new folder →
+        BeginsWithFile folder (F.opened files.old no.0) done out.old →
+        IfOk result (λ k. BeginsWithFile folder (F.opened files.old no.0) (done + k) out.new) }
+{
+    files.read_at(no, done as u64, &mut out[done..])
+}
+
+// Makes room in a vector after its first `done` bytes, for `room` more: what was made before is used first.
+fn make_room(bytes: &mut Vec<u8>, done: usize, room: usize, len: usize) -> Result<(), AllocError>
+    requires done { done ≤ vec_len bytes.old }
+    requires some { 0 < room }
+    requires inside { done + room ≤ len }
+    requires most { vec_len bytes.old ≤ len }
+    ensures front { take done bytes.new.items ≡ take done bytes.old.items }
+    ensures some { OnOk result (done < vec_len bytes.new) }
+    ensures most { vec_len bytes.new ≤ len }
+{
+    if done < bytes.len() {
+        return Ok(());
+    }
+    bytes.resize(done + room, 0)
+}
+
+// Fills a vector with the bytes of an opened file, by calls that have room for more than the device gave last. So what
+// is cleared for a device that gives little at once is still near the processor where the device writes over it.
+fn read_all<F: Files>(
+    files: &mut F,
+    no: FileNo,
+    len: usize,
+    bytes: &mut Vec<u8>,
+) -> Result<(), FileError>
+    requires inside { IsSomeAnd (F.opened files.old no.0) (λ told. len ≤ told.1) }
+    requires empty { vec_len bytes.old ≡ 0 }
+    ensures earlier { (folder : Folder) → F.keeps files.new folder → F.keeps files.old folder }
+    ensures opened { (n : ℕ) → F.opened files.new n ≡ F.opened files.old n }
+    ensures count { F.failures files.new ≡ count_after (has_failed result) (F.failures files.old) }
+    ensures len { OnOk result (vec_len bytes.new ≡ len) }
+    ensures bytes { (folder : Folder) → F.keeps files.new folder →
+        OnOk result (BeginsWithFile folder (F.opened files.old no.0) len bytes.new.items) }
+    ensures refused { IfErr result IsReadRefusal }
+{
+    let mut done = 0;
+    let mut room = FIRST_ROOM;
+    while done < len {
+        make_room(bytes, done, room.min(len - done), len)?;
+        let count = read_after(files, no, done, bytes)?;
+        done += count;
+        room = count.saturating_mul(2).max(LEAST_ROOM);
+    }
+    Ok(())
+}
+
 impl<F: Files> Sources<F> {
     ghost use Rattle.cord_file.specs.Sources.{device_in};
+
+    // The bytes of an opened file, past the kept blocks.
+    pub(crate) fn read_file_whole(
+        &mut self,
+        alloc: Global,
+        place: usize,
+        len: u64,
+    ) -> Result<Vec<u8>, FileError>
+        requires file { IsSomeAnd (slice_get self.old.entries.items place) (λ file. file.len ≡ len) }
+        ensures earlier { (folder : Folder) →
+            F.keeps (device_in self.new) folder → F.keeps (device_in self.old) folder }
+        ensures entries { self.new.entries.items ≡ self.old.entries.items }
+        ensures count { F.failures (device_in self.new)
+            ≡ count_after (has_failed result) (F.failures (device_in self.old)) }
+        ensures len { IfOk result (λ bytes. length bytes.items ≡ len) }
+        ensures bytes { (folder : Folder) → F.keeps (device_in self.new) folder →
+            IfOk result (λ bytes. AreRead folder (slice_get self.old.entries.items place) 0 bytes.items) }
+        ensures refused { IfErr result IsReadRefusal }
+    {
+        let mut bytes = Vec::with_capacity(alloc, len as usize)?;
+        let file = &self.entries[place];
+        read_all(&mut self.files, file.no, len as usize, &mut bytes)?;
+        Ok(bytes)
+    }
 
     // Fills `out` with an opened file's bytes from a place on, block by block. Where they are more than all kept blocks
     // hold, the whole blocks among them go past those that are kept, which stay.

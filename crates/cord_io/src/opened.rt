@@ -11,6 +11,10 @@ use crate::span::Span;
 use std::alloc::Global;
 use std::io::{self, Read, Seek};
 
+// How many bytes the machine is asked for at once at most, where they are many: so few that the processor still has
+// them at hand where they are used next.
+const MAX_READ: usize = 65_536;
+
 // A file of the machine that was opened, with its length, and the span of it that is read. The first `count` of `bytes`
 // are those that the machine gave of it ahead, from `start` on.
 #[derive(Drop)]
@@ -57,7 +61,8 @@ impl<F: Read + Seek> OpenedFile<F> {
             self.span.grow(count);
             return Ok(count);
         }
-        let count = self.reader.ask(start, out)?;
+        let wanted = out.len().min(MAX_READ);
+        let count = self.reader.ask_front(start, wanted, out)?;
         self.span.grow(count);
         Ok(count)
     }

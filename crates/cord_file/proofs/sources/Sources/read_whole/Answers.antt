@@ -1,4 +1,4 @@
-use Rattle.std.proofs.Common.{◌≡◌, ℕ, ◌+◌, ◌<◌, ◌≤◌, List, Result, Ok, Err, refl, sym, ap, ◌∙◌, subst, length, arith}
+use Rattle.std.proofs.Common.{◌≡◌, ◌<◌, ◌≤◌, Result, Ok, Err, refl, sym, ap, ◌∙◌, subst, length, arith}
 use Rattle.std.specs.Prelude.{IsSomeAnd, IfErr, IsErrAnd}
 use Rattle.std.specs.Rc.{rc_slice_items}
 use Rattle.cord_io.specs.declared.TheConstants.{MAX_LEN}
@@ -13,42 +13,34 @@ use Rattle.cord_file.specs.declared.faults.FileError.{FileError}
 use Rattle.cord_file.specs.Entries.{lengths_in, table_in}
 use Rattle.cord_file.specs.Files.{opened_of, as_long_as_told}
 use Rattle.cord_file.proofs.EntryBytes.{in_slot, entry_limit}
-use Rattle.cord_file.proofs.CordTexts.{written, entry_bytes}
+use Rattle.cord_file.proofs.CordTexts.{entry_bytes}
 use Rattle.cord_file.proofs.sources.Sources.read_whole.Goals as goal
 
-pub read_past_blocks-requires : goal.read_past_blocks-requires
-read_past_blocks-requires g c =
+pub read_file_whole-requires : goal.read_file_whole-requires
+read_file_whole-requires g c =
     let files = c.args.self.now.entries.items in
-    let count : length c.deref_mut.result.now ≡ c.args.len = c.deref_mut.ensures.len ∙ c.in_ok-bytes.ensures.len in
-    let within : IsSomeAnd (lengths_in (opened_of files) c.args.id.0) (λ n. 0 + length c.deref_mut.result.now ≤ n) = subst (λ o. IsSomeAnd o (λ n. 0 + length c.deref_mut.result.now ≤ n)) (sym c.requires.len) (omega (arith, count)) in
-    record { inside = in_slot (λ n. 0 + length c.deref_mut.result.now ≤ n) files c.args.id.0 c.requires.file within }
+    let told : IsSomeAnd (lengths_in (opened_of files) c.args.id.0) (λ n. n ≡ c.args.len) = subst (λ o. IsSomeAnd o (λ n. n ≡ c.args.len)) (sym c.requires.len) refl in
+    record { file = in_slot (λ n. n ≡ c.args.len) files c.args.id.0 c.requires.file told }
 
 pub returns-clause-cord : goal.returns-clause-cord
 returns-clause-cord g c =
-    let out : List ℕ = c.read_past_blocks.new.out in
-    let value : c.deref_mut.result.now ≡ c.in_ok-bytes.bytes.items = c.deref_mut.ensures.value in
-    let long : length out ≡ length c.in_ok-bytes.bytes.items = c.read_past_blocks.auto.out ∙ ap length value in
-    let items : rc_slice_items c.in_ok-shared.shared ≡ out = c.in_ok-shared.ensures ∙ written c.in_ok-bytes.bytes.len out c.in_ok-bytes.bytes.items c.in_ok-bytes.bytes.ok.0 long in
+    let items : rc_slice_items c.in_ok-shared.shared ≡ c.in_ok-bytes.bytes.items = c.in_ok-shared.ensures in
     record {
-      bytes = out;
+      bytes = c.in_ok-bytes.bytes.items;
       form = subst (λ xs. IsLeafOf xs c.in_ok-cord.cord) items c.in_ok-cord.ensures.form;
       text = subst (λ xs. HasText xs c.in_ok-cord.cord) items c.in_ok-cord.ensures.over;
-      count = c.read_past_blocks.auto.out ∙ c.deref_mut.ensures.len ∙ c.in_ok-bytes.ensures.len;
+      count = c.in_ok-bytes.ensures.len;
     }
 
 pub returns-clause-text : goal.returns-clause-text
 returns-clause-text g c = λ folder kept.
     let self = c.args.self.now in
     let files = self.entries.items in
-    let out : List ℕ = c.read_past_blocks.new.out in
-    let value : c.deref_mut.result.now ≡ c.in_ok-bytes.bytes.items = c.deref_mut.ensures.value in
-    let long : length out ≡ length c.in_ok-bytes.bytes.items = c.read_past_blocks.auto.out ∙ ap length value in
-    let count : length out ≡ c.args.len = c.read_past_blocks.auto.out ∙ c.deref_mut.ensures.len ∙ c.in_ok-bytes.ensures.len in
-    let items : rc_slice_items c.in_ok-shared.shared ≡ out = c.in_ok-shared.ensures ∙ written c.in_ok-bytes.bytes.len out c.in_ok-bytes.bytes.items c.in_ok-bytes.bytes.ok.0 long in
-    let told = as_long_as_told (g.F.Files.keeps self.files) files self.sound.as_long folder (c.in_ok-read_past_blocks.ensures.earlier folder kept) in
+    let items : rc_slice_items c.in_ok-shared.shared ≡ c.in_ok-bytes.bytes.items = c.in_ok-shared.ensures in
+    let told = as_long_as_told (g.F.Files.keeps self.files) files self.sound.as_long folder (c.in_ok-bytes.ensures.earlier folder kept) in
     c.in_ok-cord.ensures.over.bytes (table_in (opened_of files) folder) ∙ items
-    ∙ entry_bytes folder files c.args.id.0 c.args.len out c.requires.file told c.requires.len count
-    (c.in_ok-read_past_blocks.ensures.bytes folder kept)
+    ∙ entry_bytes folder files c.args.id.0 c.args.len c.in_ok-bytes.bytes.items c.requires.file told c.requires.len
+    c.in_ok-bytes.ensures.len (c.in_ok-bytes.ensures.bytes folder kept)
 
 -- bytes that aren't too long for a cord are refused for want of memory alone
 refusal : {A : Type 0} (r : Result A FileError) (e : CordError) → IsErrAnd r (λ f. f ≡ file_error_of e) → IsRefusal e → (e ≡ TooLong → ⊥) →
@@ -64,12 +56,8 @@ refusal (Err f) e gives known short = subst IsReadRefusal (sym gives) (cases e k
 pub returns-in_err-cord-clause-refused : goal.returns-in_err-cord-clause-refused
 returns-in_err-cord-clause-refused g c =
     let self = c.args.self.now in
-    let out : List ℕ = c.read_past_blocks.new.out in
-    let value : c.deref_mut.result.now ≡ c.in_ok-bytes.bytes.items = c.deref_mut.ensures.value in
-    let long : length out ≡ length c.in_ok-bytes.bytes.items = c.read_past_blocks.auto.out ∙ ap length value in
-    let count : length out ≡ c.args.len = c.read_past_blocks.auto.out ∙ c.deref_mut.ensures.len ∙ c.in_ok-bytes.ensures.len in
-    let items : rc_slice_items c.in_ok-shared.shared ≡ out = c.in_ok-shared.ensures ∙ written c.in_ok-bytes.bytes.len out c.in_ok-bytes.bytes.items c.in_ok-bytes.bytes.ok.0 long in
+    let items : rc_slice_items c.in_ok-shared.shared ≡ c.in_ok-bytes.bytes.items = c.in_ok-shared.ensures in
     let limit : c.args.len ≤ MAX_LEN = entry_limit self.entries.items self.sound.short_enough c.args.id.0 c.args.len c.requires.len in
-    let same : length (rc_slice_items c.in_ok-shared.shared) ≡ c.args.len = ap length items ∙ count in
+    let same : length (rc_slice_items c.in_ok-shared.shared) ≡ c.args.len = ap length items ∙ c.in_ok-bytes.ensures.len in
     refusal c.from_residual-in_err-cord.result c.in_err-cord.field-0.0 c.from_residual-in_err-cord.ensures.1 c.in_err-cord.ensures.refused
     (λ e. let over : MAX_LEN < length (rc_slice_items c.in_ok-shared.shared) = c.in_err-cord.ensures.too_long (ap (λ x. Err x) e) in absurd (omega (arith, over, same, limit)))
