@@ -16,7 +16,7 @@ const SLOTS: usize = 4_096;
 pub(crate) struct Numbering {
     names: Vec<Name>,
     // For each slot the number of a name of that slot: of two names of one slot the second is looked for.
-    guesses: Vec<usize>,
+    guesses: Vec<u16>,
 }
 
 /// The slot of a name.
@@ -56,10 +56,12 @@ fn is_at(names: &[Name], place: usize, name: &[u8]) -> bool
 }
 
 // The number that is guessed for the names of a slot.
-fn set_guess(guesses: &mut [usize], slot: usize, number: usize)
+fn set_guess(guesses: &mut [u16], slot: usize, number: usize)
     ensures { length guesses.new ≡ length guesses.old }
 {
-    if slot < guesses.len() {
+    if let Ok(number) = u16::try_from(number)
+        && slot < guesses.len()
+    {
         guesses[slot] = number;
     }
 }
@@ -91,7 +93,9 @@ impl Numbering {
         ensures { result ≡ number_of self.now name.now }
     {
         match self.guesses.get(slot_of(name)) {
-            Some(guess) if is_at(&self.names, *guess, name) => Some(*guess),
+            Some(guess) if is_at(&self.names, usize::from(*guess), name) => {
+                Some(usize::from(*guess))
+            }
             _ => place_of(&self.names, name),
         }
     }
