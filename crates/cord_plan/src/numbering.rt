@@ -11,6 +11,9 @@ use std::alloc::{AllocError, Global};
 /// The number of slots that guess a name's number.
 const SLOTS: usize = 4_096;
 
+// In a script of fewer statements names are looked for without guesses: clearing them would cost more.
+const LEAST_GUESSED: usize = 64;
+
 /// Names, each with a number: its place in the list.
 #[derive(Drop)]
 pub(crate) struct Numbering {
@@ -71,9 +74,14 @@ impl Numbering {
     pub(crate) fn of(alloc: Global, statements: &[Statement]) -> Result<Self, AllocError>
         ensures { IfOk result (λ t. Covers statements.now t) }
     {
+        let slots = if statements.len() < LEAST_GUESSED {
+            0
+        } else {
+            SLOTS
+        };
         let mut numbering = Numbering {
             names: Vec::new(alloc),
-            guesses: vec![in alloc; 0; SLOTS]?,
+            guesses: vec![in alloc; 0; slots]?,
         };
         for statement in statements {
             numbering.add_names(alloc, statement)?;
