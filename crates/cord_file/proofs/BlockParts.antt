@@ -9,7 +9,7 @@ use Rattle.cord_io.specs.Device.{Folder, bytes_at}
 use Rattle.cord_file.specs.declared.blocks.TheConstants.{BLOCK}
 use Rattle.cord_file.specs.declared.blocks.BlockKey.{BlockKey}
 use Rattle.cord_file.specs.declared.files.OpenFile.{OpenFile}
-use Rattle.cord_file.specs.Blocks.{HeapBlock, Entry, block_size, IsBlock, IsKept, AreKept, AreRead}
+use Rattle.cord_file.specs.Blocks.{HeapBlock, Entry, Slotted, block_size, IsBlock, IsKept, AreKept, AreRead}
 use Rattle.cord_file.specs.Files.{told_of}
 use Rattle.cord_file.specs.Soundness.{IsSound}
 use Rattle.cord_file.proofs.Growing.{place_inside}
@@ -75,8 +75,8 @@ read_of_kept keeps files key block out start kept number inside part copied fold
     read_of_block files key.place key.number block.value out start folder (λ file e. kept.block file e folder is) number inside part copied
 
 -- one more block is kept
-pub kept_with : (keeps : Folder → Type 0) (files : List OpenFile) (old new : List Entry) (entry : Entry) → AreKept keeps files old →
-    IsKept keeps files entry → ((e : Entry) → Contains new e → Contains old e ⊎ (e ≡ entry)) → AreKept keeps files new
+pub kept_with : (keeps : Folder → Type 0) (files : List OpenFile) (old new : List Slotted) (entry : Entry) → AreKept keeps files old →
+    IsKept keeps files entry → ((e : Slotted) → Contains new e → Contains old e ⊎ (e.1 ≡ entry)) → AreKept keeps files new
 kept_with keeps files old new entry all one among e h = elim (among e h) [
   | inl was ↦ all e was
   | inr same ↦ subst (IsKept keeps files) (sym same) one
@@ -94,10 +94,10 @@ pub of_slot : (P : OpenFile → Type 0) {o : Option OpenFile} {file : OpenFile} 
 of_slot P e h = subst (λ o. IsSomeAnd o P) e h
 
 -- kept blocks stay so where one more file is opened, and memory was found for it
-pub kept_behind : (keeps : Folder → Type 0) (files new : List OpenFile) (file : OpenFile) (b : Bool) (entries : List Entry) →
+pub kept_behind : (keeps : Folder → Type 0) (files new : List OpenFile) (file : OpenFile) (b : Bool) (entries : List Slotted) →
     new ≡ (if b then files ++ file ∷ [] else files) → AreKept keeps files entries → AreKept keeps new entries
 kept_behind keeps files new file false entries same all = subst (λ xs. AreKept keeps xs entries) (sym same) all
-kept_behind keeps files new file true entries same all = subst (λ xs. AreKept keeps xs entries) (sym same) (λ e h. more e (all e h)) where
+kept_behind keeps files new file true entries same all = subst (λ xs. AreKept keeps xs entries) (sym same) (λ e h. more e.1 (all e h)) where
   more : (e : Entry) → IsKept keeps files e → IsKept keeps (files ++ file ∷ []) e
   more e kept = record {
     opened = omega (arith, kept.opened, length-append files (file ∷ []));
@@ -109,14 +109,14 @@ pub kept_none : (keeps : Folder → Type 0) (files : List OpenFile) → AreKept 
 kept_none keeps files e h = absurd (omega (arith, h.1))
 
 -- kept blocks stay so where no other folder is kept
-pub kept_earlier : (old new : Folder → Type 0) (files : List OpenFile) (entries : List Entry) →
+pub kept_earlier : (old new : Folder → Type 0) (files : List OpenFile) (entries : List Slotted) →
     ((folder : Folder) → new folder → old folder) → AreKept old files entries → AreKept new files entries
 kept_earlier old new files entries earlier all e h =
     let was = all e h in
     record { opened = was.opened; block = λ f here folder kept. was.block f here folder (earlier folder kept) }
 
 -- the table stays sound where no other folder is kept, and the numbers that were handed out stay
-pub sound_moved : (old new : Folder → Type 0) (before after : ℕ → Option (List ℕ × ℕ)) (files : List OpenFile) (blocks : List Entry) →
+pub sound_moved : (old new : Folder → Type 0) (before after : ℕ → Option (List ℕ × ℕ)) (files : List OpenFile) (blocks : List Slotted) →
     ((folder : Folder) → new folder → old folder) → ((n : ℕ) → IsSome (before n) → after n ≡ before n) → IsSound old before files blocks →
     IsSound new after files blocks
 sound_moved old new before after files blocks earlier stays sound = record {
@@ -128,7 +128,7 @@ sound_moved old new before after files blocks earlier stays sound = record {
 }
 
 -- and where other blocks are kept
-pub sound_keeping : (keeps : Folder → Type 0) (told : ℕ → Option (List ℕ × ℕ)) (files : List OpenFile) (old new : List Entry) →
+pub sound_keeping : (keeps : Folder → Type 0) (told : ℕ → Option (List ℕ × ℕ)) (files : List OpenFile) (old new : List Slotted) →
     AreKept keeps files new → IsSound keeps told files old → IsSound keeps told files new
 sound_keeping keeps told files old new kept sound = record {
   handed_out = sound.handed_out;

@@ -30,9 +30,13 @@ pub record IsKept (keeps : Folder → Type 0) (files : List OpenFile) (entry : E
   pub block : (file : OpenFile) → slice_get files entry.0.place ≡ Some file → (folder : Folder) → keeps folder →
       IsBlock file.len (bytes_at folder (string_bytes file.path)) entry.0.number entry.1.value
 
--- the same of each kept block
-abbrev pub AreKept : (Folder → Type 0) → List OpenFile → List Entry → Type 0
-AreKept keeps files entries = (entry : Entry) → Contains entries entry → IsKept keeps files entry
+-- the same with the number of the slot that it lies in
+abbrev pub Slotted : Type 0
+Slotted = ℕ × Entry
+
+-- each kept block is one of a file that was opened
+abbrev pub AreKept : (Folder → Type 0) → List OpenFile → List Slotted → Type 0
+AreKept keeps files entries = (entry : Slotted) → Contains entries entry → IsKept keeps files entry.1
 
 -- the bytes are those of a file from a place on
 abbrev pub AreRead : Folder → Option OpenFile → ℕ → List ℕ → Type 0

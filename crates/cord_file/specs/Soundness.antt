@@ -3,11 +3,11 @@ use Rattle.std.specs.Prelude.{ℕ, List}
 use Rattle.std.specs.declared.option.Option.{Option}
 use Rattle.cord_io.specs.Device.{Folder}
 use Rattle.cord_file.specs.declared.files.OpenFile.{OpenFile}
-use Rattle.cord_file.specs.Blocks.{Entry, AreKept}
+use Rattle.cord_file.specs.Blocks.{Slotted, AreKept}
 use Rattle.cord_file.specs.Files.{AreHandedOut, AreShortEnough, AreThere, AreAsLong}
 
 -- the opened files are as the device told, and the kept blocks are theirs
-pub record IsSound (keeps : Folder → Type 0) (told : ℕ → Option (List ℕ × ℕ)) (files : List OpenFile) (blocks : List Entry) : Type 0 where
+pub record IsSound (keeps : Folder → Type 0) (told : ℕ → Option (List ℕ × ℕ)) (files : List OpenFile) (blocks : List Slotted) : Type 0 where
   pub handed_out : AreHandedOut told files
   pub short_enough : AreShortEnough files
   pub there : AreThere keeps files

@@ -1,10 +1,11 @@
 // Blocks of files, and those that are kept.
 ghost use Rattle.std.specs.Prelude.{◌≡◌, ◌+◌, ◌*◌, ◌<◌, ◌≤◌, ℕ, List, length, take, drop, true, is_err, Contains, OnOk};
-ghost use Rattle.std.specs.Prelude.{IsSomeAnd, ◌⊎◌};
+ghost use Rattle.std.specs.Prelude.{IsSomeAnd, IfSome, ◌⊎◌};
 ghost use Rattle.cord_io.specs.Device.{Folder, bytes_at, count_after};
-ghost use Rattle.cord_file.specs.Blocks.{HeapBlock, Entry, IsBlock};
+ghost use Rattle.cord_file.specs.Blocks.{HeapBlock, Slotted, IsBlock};
 
 use crate::reading::read_range;
+use crate::slots::Slots;
 use cord_io::{FileNo, Files, MAX_LEN, ReadFault};
 use lru::LruCache;
 use std::alloc::{AllocFailed, Global};
@@ -28,8 +29,12 @@ pub(crate) type Block = Box<[u8; BLOCK]>;
 // A kept block and its key.
 type KeptBlock = (BlockKey, Block);
 
-// Kept blocks. A new one takes the place of the one used least recently.
-pub(crate) type Blocks = LruCache<BlockKey, Block>;
+// The number of a slot, and the block in it.
+type SlottedBlock = (usize, KeptBlock);
+
+// Kept blocks, each under the number of its slot. A new one takes the slot of the one used least recently, so that no
+// slot is taken out or put in once all are used.
+pub(crate) type Blocks = LruCache<usize, KeptBlock>;
 
 // Reads one block of an opened file into the room for one, whose bytes after the last one are left as they are.
 pub(crate) fn read_block<F: Files>(
@@ -61,57 +66,109 @@ pub(crate) fn room_for(spare: &mut Option<Block>, alloc: Global) -> Option<Block
     }
 }
 
-// Copies a part of a block into `out`, where the block is the one used last, and answers whether it is.
-fn copy_newest(cache: &Blocks, key: BlockKey, from: usize, out: &mut [u8]) -> bool
-    requires { from + length out.old ≤ BLOCK }
-    ensures { result ≡ true → (block : HeapBlock) × Contains cache.now.entries (key, block)
-        × (out.new ≡ take (length out.new) (drop from block.value)) }
+// The block used last.
+fn newest(cache: &Blocks) -> Option<&KeptBlock>
+    ensures { IfSome result (λ kept. (slot : ℕ) × Contains cache.now.entries (slot, kept.now)) }
 {
     match cache.peek_mru() {
-        Some((newest, block)) if *newest == key => {
-            out.copy_from_slice(&block[from..from + out.len()]);
-            true
-        }
-        _ => false,
+        Some((_, kept)) => Some(kept),
+        None => None,
+    }
+}
+
+// Copies a part of a kept block into `out`, where it has this key, and answers whether it does.
+fn copy_of(kept: &KeptBlock, key: BlockKey, from: usize, out: &mut [u8]) -> bool
+    requires { from + length out.old ≤ BLOCK }
+    ensures { result ≡ true → (kept.now.0 ≡ key) × (out.new ≡ take (length out.new) (drop from kept.now.1.value)) }
+{
+    let (own, block) = kept;
+    if *own != key {
+        return false;
+    }
+    out.copy_from_slice(&block[from..from + out.len()]);
+    true
+}
+
+// Copies a part of a block into `out`, where it is the one used last, and answers whether it is.
+fn copy_newest(cache: &Blocks, key: BlockKey, from: usize, out: &mut [u8]) -> bool
+    requires { from + length out.old ≤ BLOCK }
+    ensures { result ≡ true → (slot : ℕ) × (block : HeapBlock) × Contains cache.now.entries (slot, (key, block))
+        × (out.new ≡ take (length out.new) (drop from block.value)) }
+{
+    match newest(cache) {
+        Some(kept) => copy_of(kept, key, from, out),
+        None => false,
+    }
+}
+
+// Copies a part of a block into `out`, where it lies in a slot, and answers whether it does.
+fn copy_slot(cache: &mut Blocks, slot: usize, key: BlockKey, from: usize, out: &mut [u8]) -> bool
+    requires { from + length out.old ≤ BLOCK }
+    ensures kept { (e : Slotted) → Contains cache.new.entries e → Contains cache.old.entries e }
+    ensures copied { result ≡ true → (slot : ℕ) × (block : HeapBlock)
+        × Contains cache.old.entries (slot, (key, block)) × (out.new ≡ take (length out.new) (drop from block.value)) }
+{
+    match cache.get(&slot) {
+        Some(kept) => copy_of(kept, key, from, out),
+        None => false,
     }
 }
 
 // Copies a part of a block into `out`, where the block is kept, and answers whether it is. Reading mostly goes on in the
 // block used last, which is found without a look-up.
-pub(crate) fn copy_kept(cache: &mut Blocks, key: BlockKey, from: usize, out: &mut [u8]) -> bool
+pub(crate) fn copy_kept(
+    cache: &mut Blocks,
+    slots: &mut Slots,
+    key: BlockKey,
+    from: usize,
+    out: &mut [u8],
+) -> bool
     requires { from + length out.old ≤ BLOCK }
-    ensures kept { (e : Entry) → Contains cache.new.entries e → Contains cache.old.entries e }
-    ensures copied { result ≡ true → (block : HeapBlock) × Contains cache.old.entries (key, block)
-        × (out.new ≡ take (length out.new) (drop from block.value)) }
+    ensures kept { (e : Slotted) → Contains cache.new.entries e → Contains cache.old.entries e }
+    ensures copied { result ≡ true → (slot : ℕ) × (block : HeapBlock)
+        × Contains cache.old.entries (slot, (key, block)) × (out.new ≡ take (length out.new) (drop from block.value)) }
 {
     if copy_newest(cache, key, from, out) {
         return true;
     }
-    match cache.get(&key) {
-        Some(block) => {
-            out.copy_from_slice(&block[from..from + out.len()]);
-            true
-        }
+    match slots.find(key) {
+        Some(slot) => copy_slot(cache, slot, key, from, out),
         None => false,
     }
 }
 
+// The slot for one more block: one that isn't used yet, or that of the block used least recently.
+fn next_slot(cache: &Blocks) -> usize {
+    let len = cache.len();
+    match cache.peek_lru() {
+        Some((slot, _)) if len == MAX_BLOCKS => *slot,
+        _ => len,
+    }
+}
+
 // Which block isn't kept after one was put among them: the one that it took the place of, or itself.
-fn spare_after(put: Result<Option<KeptBlock>, AllocFailed<KeptBlock>>) -> Option<Block> {
+fn spare_after(put: Result<Option<SlottedBlock>, AllocFailed<SlottedBlock>>) -> Option<Block> {
     match put {
         Ok(None) => None,
-        Ok(Some((_, block))) => Some(block),
+        Ok(Some((_, (_, block)))) => Some(block),
         Err(refused) => {
-            let (_, block) = refused.value;
+            let (_, (_, block)) = refused.value;
             Some(block)
         }
     }
 }
 
 // Keeps a block, where memory is found for it, and gives back the one that isn't kept any more.
-pub(crate) fn keep(cache: &mut Blocks, key: BlockKey, block: Block) -> Option<Block>
-    ensures { (e : Entry) → Contains cache.new.entries e →
-        Contains cache.old.entries e ⊎ (e ≡ (key, block)) }
+pub(crate) fn keep(
+    cache: &mut Blocks,
+    slots: &mut Slots,
+    key: BlockKey,
+    block: Block,
+) -> Option<Block>
+    ensures { (e : Slotted) → Contains cache.new.entries e →
+        Contains cache.old.entries e ⊎ (e.1 ≡ (key, block)) }
 {
-    spare_after(cache.push(key, block))
+    let slot = next_slot(cache);
+    slots.fill(slot, key);
+    spare_after(cache.push(slot, (key, block)))
 }

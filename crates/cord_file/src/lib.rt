@@ -9,6 +9,7 @@ mod functions;
 mod limits;
 mod opening;
 mod reading;
+mod slots;
 mod sources;
 
 pub use faults::FileError;

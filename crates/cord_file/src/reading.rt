@@ -17,6 +17,17 @@ const FIRST_ROOM: usize = 1_048_576;
 
 const LEAST_ROOM: usize = 65_536;
 
+// How the blocks of a range are read.
+#[derive(Clone, Copy)]
+enum Way {
+    // They are more than can be kept, so whole ones go past those that are.
+    Past,
+    // None of them is kept yet, so none is looked for.
+    New,
+    // Some may be kept.
+    Kept,
+}
+
 // Fills `out` with the bytes of an opened file from a place on. The range lies inside the file.
 pub(crate) fn read_range<F: Files>(
     files: &mut F,
@@ -133,8 +144,22 @@ impl<F: Files> Sources<F> {
         Ok(bytes)
     }
 
-    // Fills `out` with an opened file's bytes from a place on, block by block. Where they are more than all kept blocks
-    // hold, the whole blocks among them go past those that are kept, which stay.
+    // How a range of a file is read.
+    fn way_of(&self, place: usize, start: u64, len: usize) -> Way {
+        let end = start.saturating_add(len as u64);
+        if len > MAX_BLOCKS * BLOCK {
+            Way::Past
+        } else if self
+            .slots
+            .has_none(place, start / BLOCK as u64, end / BLOCK as u64)
+        {
+            Way::New
+        } else {
+            Way::Kept
+        }
+    }
+
+    // Fills `out` with an opened file's bytes from a place on.
     pub(crate) fn read_file(
         &mut self,
         place: usize,
@@ -151,14 +176,36 @@ impl<F: Files> Sources<F> {
         ensures bytes { (folder : Folder) → F.keeps (device_in self.new) folder →
             OnOk result (AreRead folder (slice_get self.old.entries.items place) start out.new) }
     {
-        let is_long = out.len() > MAX_BLOCKS * BLOCK;
+        let left = BLOCK - (start % BLOCK as u64) as usize;
+        if !out.is_empty() && out.len() <= left {
+            self.read_part(place, start, out)
+        } else {
+            self.read_blocks(place, start, out)
+        }
+    }
+
+    // Fills `out` with an opened file's bytes from a place on, block by block. Where they are more than all kept blocks
+    // hold, the whole blocks among them go past those that are kept, which stay. It stands apart, so that a read inside
+    // one block needs nothing of it.
+    #[inline(never)]
+    fn read_blocks(&mut self, place: usize, start: u64, out: &mut [u8]) -> Result<(), ReadFault>
+        requires inside { IsSomeAnd (slice_get self.old.entries.items place) (λ file.
+            start + length out.old ≤ file.len) }
+        ensures earlier { (folder : Folder) →
+            F.keeps (device_in self.new) folder → F.keeps (device_in self.old) folder }
+        ensures entries { self.new.entries.items ≡ self.old.entries.items }
+        ensures count { F.failures (device_in self.new)
+            ≡ count_after (is_err result) (F.failures (device_in self.old)) }
+        ensures bytes { (folder : Folder) → F.keeps (device_in self.new) folder →
+            OnOk result (AreRead folder (slice_get self.old.entries.items place) start out.new) }
+    {
+        let way = self.way_of(place, start, out.len());
         let mut done = 0;
         while done < out.len() {
             let from = start + done as u64;
             let left = BLOCK - (from % BLOCK as u64) as usize;
             let size = left.min(out.len() - done);
-            let is_past = is_long && size == BLOCK;
-            self.read_one(place, from, &mut out[done..done + size], is_past)?;
+            self.read_one(place, from, &mut out[done..done + size], way)?;
             done += size;
         }
         Ok(())
@@ -185,13 +232,13 @@ impl<F: Files> Sources<F> {
         read_range(&mut self.files, file.no, start, out)
     }
 
-    // Fills `out` with bytes of one block of an opened file: past the kept blocks, or by them.
+    // Fills `out` with bytes of one block of an opened file.
     fn read_one(
         &mut self,
         place: usize,
         start: u64,
         out: &mut [u8],
-        is_past: bool,
+        way: Way,
     ) -> Result<(), ReadFault>
         requires inside { IsSomeAnd (slice_get self.old.entries.items place) (λ file.
             start + length out.old ≤ file.len) }
@@ -205,10 +252,10 @@ impl<F: Files> Sources<F> {
         ensures bytes { (folder : Folder) → F.keeps (device_in self.new) folder →
             OnOk result (AreRead folder (slice_get self.old.entries.items place) start out.new) }
     {
-        if is_past {
-            self.read_past_blocks(place, start, out)
-        } else {
-            self.read_part(place, start, out)
+        match way {
+            Way::Past if out.len() == BLOCK => self.read_past_blocks(place, start, out),
+            Way::New => self.read_new(place, start, out),
+            _ => self.read_part(place, start, out),
         }
     }
 
@@ -230,16 +277,36 @@ impl<F: Files> Sources<F> {
         let number = start / BLOCK as u64;
         let from = (start % BLOCK as u64) as usize;
         let key = BlockKey { place, number };
-        if copy_kept(&mut self.cache, key, from, out) {
+        if copy_kept(&mut self.cache, &mut self.slots, key, from, out) {
             return Ok(());
         }
+        self.read_new(place, start, out)
+    }
+
+    // Fills `out` with bytes of one block of an opened file, which is read and then kept.
+    fn read_new(&mut self, place: usize, start: u64, out: &mut [u8]) -> Result<(), ReadFault>
+        requires inside { IsSomeAnd (slice_get self.old.entries.items place) (λ file.
+            start + length out.old ≤ file.len) }
+        requires some { 0 < length out.old }
+        requires part { start % BLOCK + length out.old ≤ BLOCK }
+        ensures earlier { (folder : Folder) →
+            F.keeps (device_in self.new) folder → F.keeps (device_in self.old) folder }
+        ensures entries { self.new.entries.items ≡ self.old.entries.items }
+        ensures count { F.failures (device_in self.new)
+            ≡ count_after (is_err result) (F.failures (device_in self.old)) }
+        ensures bytes { (folder : Folder) → F.keeps (device_in self.new) folder →
+            OnOk result (AreRead folder (slice_get self.old.entries.items place) start out.new) }
+    {
+        let number = start / BLOCK as u64;
+        let from = (start % BLOCK as u64) as usize;
+        let key = BlockKey { place, number };
         let Some(mut block) = room_for(&mut self.spare, *self.cache.allocator()) else {
             return self.read_unkept(place, start, out);
         };
         let file = &self.entries[place];
         read_block(&mut self.files, file.no, file.len, number, &mut block)?;
         out.copy_from_slice(&block[from..from + out.len()]);
-        self.spare = keep(&mut self.cache, key, block);
+        self.spare = keep(&mut self.cache, &mut self.slots, key, block);
         Ok(())
     }
 

@@ -8,6 +8,7 @@ ghost use Rattle.cord_file.specs.Soundness.{IsSound};
 use crate::blocks::{Block, Blocks, MAX_BLOCKS};
 use crate::files::OpenFile;
 use crate::functions::fill;
+use crate::slots::Slots;
 use cord_io::{CordError, Files, MAX_LEN, ReadFault, Source, SourceId};
 use lru::LruCache;
 use std::alloc::Global;
@@ -23,6 +24,7 @@ pub struct Sources<F: Files> {
     pub(crate) files: F,
     pub(crate) entries: Vec<OpenFile>,
     pub(crate) cache: Blocks,
+    pub(crate) slots: Slots,
     pub(crate) spare: Option<Block>,
     ghost few: { vec_len entries ≤ MAX_FILES },
     ghost sound: { IsSound (F.keeps files) (F.opened files) entries.items cache.entries },
@@ -67,6 +69,7 @@ impl<F: Files> Sources<F> {
             files,
             entries,
             cache,
+            slots: Slots::new(),
             spare: None,
         })
     }
@@ -79,6 +82,7 @@ impl<F: Files> Sources<F> {
             files,
             entries: _,
             cache: _,
+            slots: _,
             spare: _,
         } = self;
         files

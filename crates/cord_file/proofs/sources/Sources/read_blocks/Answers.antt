@@ -4,7 +4,7 @@ use Rattle.std.specs.String.{string_bytes}
 use Rattle.cord_file.specs.Blocks.{AreRead}
 use Rattle.cord_file.specs.declared.files.OpenFile.{OpenFile}
 use Rattle.cord_file.proofs.Ranges.{more_read, all_read}
-use Rattle.cord_file.proofs.sources.Sources.read_file.Goals as goal
+use Rattle.cord_file.proofs.sources.Sources.read_blocks.Goals as goal
 
 pub loop-done-preserved : goal.loop-done-preserved
 loop-done-preserved g c =

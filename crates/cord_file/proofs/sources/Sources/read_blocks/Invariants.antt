@@ -2,7 +2,7 @@ use Rattle.std.proofs.Common.{length, ◌-◌, ◌≡◌, ◌≤◌, take, drop}
 use Rattle.std.specs.Prelude.{slice_get, IsSomeAnd}
 use Rattle.std.specs.String.{string_bytes}
 use Rattle.cord_io.specs.Device.{Folder, bytes_at}
-use Rattle.cord_file.proofs.sources.Sources.read_file.Given as goal
+use Rattle.cord_file.proofs.sources.Sources.read_blocks.Given as goal
 
 -- so many bytes are read, of the file in each folder that the files keep now
 abbrev pub invariant-loop-done : goal.invariant-loop-done
