@@ -22,10 +22,8 @@ const LEAST_ROOM: usize = 65_536;
 enum Way {
     // They are more than can be kept, so whole ones go past those that are.
     Past,
-    // None of them is kept yet, so none is looked for.
-    New,
-    // Some may be kept.
-    Kept,
+    // From the one of this number on none is kept yet, so none is looked for.
+    NewFrom(u64),
 }
 
 // Fills `out` with the bytes of an opened file from a place on. The range lies inside the file.
@@ -146,17 +144,12 @@ impl<F: Files> Sources<F> {
 
     // How a range of a file is read.
     fn way_of(&self, place: usize, start: u64, len: usize) -> Way {
-        let end = start.saturating_add(len as u64);
         if len > MAX_BLOCKS * BLOCK {
-            Way::Past
-        } else if self
-            .slots
-            .has_none(place, start / BLOCK as u64, end / BLOCK as u64)
-        {
-            Way::New
-        } else {
-            Way::Kept
+            return Way::Past;
         }
+        let first = start / BLOCK as u64;
+        let last = start.saturating_add(len as u64).saturating_sub(1) / BLOCK as u64;
+        Way::NewFrom(self.slots.new_from(place, first, last))
     }
 
     // Fills `out` with an opened file's bytes from a place on.
@@ -254,7 +247,9 @@ impl<F: Files> Sources<F> {
     {
         match way {
             Way::Past if out.len() == BLOCK => self.read_past_blocks(place, start, out),
-            Way::New => self.read_new(place, start, out),
+            Way::NewFrom(number) if number <= start / BLOCK as u64 => {
+                self.read_new(place, start, out)
+            }
             _ => self.read_part(place, start, out),
         }
     }

@@ -43,12 +43,14 @@ impl Slots {
         }
     }
 
-    // Whether none of the blocks of a file from one to another lies in any slot.
-    pub(crate) fn has_none(&self, place: usize, first: u64, last: u64) -> bool {
-        let mut is_none = true;
+    // From which block of a file on none lies in any slot, up to the last one: the first one, or one after it.
+    pub(crate) fn new_from(&self, place: usize, first: u64, last: u64) -> u64 {
+        let mut from = first;
         for key in &self.keys {
-            is_none &= key.place != place || key.number < first || last < key.number;
+            if key.place == place && from <= key.number && key.number <= last {
+                from = key.number.saturating_add(1);
+            }
         }
-        is_none
+        from
     }
 }
