@@ -44,6 +44,27 @@ front : (t : Table) (c : Option Node) (place : ℕ) (s : Stretch) (k : ℕ) → 
 front t c place s k f h le = sym (take-take k (stretch_len s) (drop place (bytes_of t c)) le)
     ∙ ap (λ (ys : List ℕ). take k ys) (sym (h.text t f))
 
+-- what two nodes have in common that are within two others, those have too
+pub within_alike : (n : Node) (i : ℕ) (m : Node) (a : ℕ) (o : Node) (j : ℕ) (l : Node) (b k : ℕ) → IsWithin n i m a → IsWithin o j l b →
+    a + k ≤ len_of m → b + k ≤ len_of l → AreAlike (Some m) a (Some l) b k → AreAlike (Some n) i (Some o) j k
+within_alike n i m a o j l b k v w p q h = λ t f g.
+    within_bytes n i m a k t v f p ∙ h t (v.fits (lengths_of t) f) (w.fits (lengths_of t) g) ∙ sym (within_bytes o j l b k t w g q)
+
+-- the first bytes are the same, and the next ones too
+pub alike_add : (c : Option Node) (i : ℕ) (d : Option Node) (j k n : ℕ) → AreAlike c i d j k → AreAlike c (i + k) d (j + k) n →
+    AreAlike c i d j (k + n)
+alike_add c i d j k n h g = λ t f e.
+    let u = drop i (bytes_of t c) in
+    let v = drop j (bytes_of t d) in
+    let next : take n (drop k u) ≡ take n (drop k v) = ap (λ (ys : List ℕ). take n ys) (drop-drop k i (bytes_of t c)) ∙ g t f e ∙ ap (λ (ys : List ℕ). take n ys) (sym (drop-drop k j (bytes_of t d))) in
+    take-add k n u ∙ ap (λ (zs : List ℕ). zs ++ take n (drop k u)) (h t f e) ∙ ap (λ (zs : List ℕ). take k v ++ zs) next
+    ∙ sym (take-add k n v)
+
+-- two stretches of the same bytes
+pub same_begin : (s other : Stretch) (xs ys : List ℕ) → ((t : Table) → stretch_bytes t s ≡ xs) → ((t : Table) → stretch_bytes t other ≡ ys) →
+    xs ≡ ys → BeginAlike s other
+same_begin s other xs ys e f h = λ t n le more. ap (λ (zs : List ℕ). take n zs) (e t ∙ h ∙ sym (f t))
+
 -- stretches that begin alike
 pub stretches_alike : (c : Option Node) (i : ℕ) (d : Option Node) (j : ℕ) (s other : Stretch) (k : ℕ) → IsStretchOf c i s →
     IsStretchOf d j other → BeginAlike s other → k ≤ stretch_len s → k ≤ stretch_len other → AreAlike c i d j k

@@ -6,8 +6,9 @@ ghost use Rattle.cord_core.specs.Texts.{order};
 ghost use Rattle.cord_search.specs.inner.Pieces.{IsOrderOf, sign_of};
 
 use crate::PIECE_LEN;
-use crate::ahead::{Ahead, look_ahead};
+use crate::ahead::{Ahead, common_behind, look_ahead};
 use crate::pieces::first_piece;
+use crate::stretches::are_leaves;
 use cord_core::Cord;
 use cord_io::{CordError, ReadFault, Source};
 use std::cmp::Ordering;
@@ -90,6 +91,7 @@ pub(crate) fn compare<S: Source>(
         match look_ahead(x, i + done, y, j + done, both - done) {
             Ahead::Same(count) => done += count,
             Ahead::Apart(stretch, other) => {
+                let leaves = are_leaves(stretch, other);
                 let piece = first_piece(stretch, &mut buffer, src)?;
                 let other = first_piece(other, &mut other_buffer, src)?;
                 let count = piece.len().min(other.len());
@@ -97,6 +99,7 @@ pub(crate) fn compare<S: Source>(
                     Ordering::Equal => done += count as u64,
                     ordering => return Ok(ordering),
                 }
+                done += common_behind(leaves, x, i + done, y, j + done, both - done);
             }
         }
     }

@@ -8,6 +8,7 @@ ghost use Rattle.cord_search.specs.inner.Stretches.{is_other_run, IsWithout, IsM
 use crate::PIECE_LEN;
 use cord_core::{Cord, Node};
 use cord_pos::{Position, Stretch};
+use std::cmp::Ordering;
 
 /// The length of a run of another byte.
 pub(crate) fn run_without(stretch: Stretch, wanted: u8) -> Option<u64>
@@ -50,6 +51,27 @@ pub(crate) fn begin_alike(stretch: Stretch, other: Stretch) -> bool
                 ..
             },
         ) => { id == i && start == s }
+        _ => false,
+    }
+}
+
+/// Whether two stretches are bytes of leaves.
+pub(crate) fn are_leaves(stretch: Stretch, other: Stretch) -> bool {
+    match (stretch, other) {
+        (Stretch::Bytes(_), Stretch::Bytes(_)) => true,
+        _ => false,
+    }
+}
+
+/// Whether two stretches are bytes of leaves, and the same ones.
+pub(crate) fn hold_same(stretch: Stretch, other: Stretch) -> bool
+    ensures { result ≡ true → BeginAlike stretch.entry other.entry }
+{
+    match (stretch, other) {
+        (Stretch::Bytes(left), Stretch::Bytes(right)) => match left.cmp(right) {
+            Ordering::Equal => true,
+            _ => false,
+        },
         _ => false,
     }
 }

@@ -1,7 +1,7 @@
 use Rattle.std.proofs.Common.{◌+◌, ◌≤◌, ◌<◌, ◌∙◌, sym, arith}
 use Rattle.std.specs.Prelude.{min}
 use Rattle.cord_core.specs.Cord.{text_len}
-use Rattle.cord_search.specs.inner.Pieces.{IsPieceOf}
+use Rattle.cord_search.specs.inner.Pieces.{IsPieceOf, AreSame}
 use Rattle.cord_search.proofs.Ranges.{cord_len, piece_within}
 use Rattle.cord_search.proofs.Sharing.{alike_on}
 use Rattle.cord_search.proofs.Comparing.{same_on, different, no_different, range_len, cord_limit}
@@ -43,7 +43,14 @@ loop-done-preserved-in-Same g c = record {
 
 pub loop-done-preserved : goal.loop-done-preserved
 loop-done-preserved g c = record {
-  in_range = omega (arith, c.min-count.ensures, c.in_ok-piece-in-Apart.ensures.inside, c.in-Apart.ensures.3, c.loop-done-test.true);
+  in_range = omega (
+    arith,
+    c.min-count.ensures,
+    c.in_ok-piece-in-Apart.ensures.inside,
+    c.in-Apart.ensures.3,
+    c.loop-done-test.true,
+    c.common_behind-done.ensures.most,
+  );
   same = λ folder kept.
       let t = g.S.Source.table c.args.src.now folder in
       let done = c.loop-done.done in
@@ -58,9 +65,9 @@ loop-done-preserved g c = record {
       let other_from = c.args.j + done in
       let text : IsPieceOf t c.args.x.now from piece = piece_within lengths t c.args.x.now from c.in-Apart.stretch 0 from piece told c.requires.left_fits c.in-Apart.ensures.0 (omega (arith, c.in_ok-piece-in-Apart.ensures.inside)) (omega arith) (rw c.loop-done.invariant.table at c.in_ok-piece-in-Apart.ensures.text folder after) in
       let other_text : IsPieceOf t c.args.y.now other_from other = piece_within lengths t c.args.y.now other_from c.in-Apart.other 0 other_from other told c.requires.right_fits c.in-Apart.ensures.1 (omega (arith, c.in_ok-other-in-Apart.ensures.inside)) (omega arith) (rw (c.first_piece.ensures.table, c.loop-done.invariant.table) at c.in_ok-other-in-Apart.ensures.text folder kept) in
-      same_on t c.args.x.now c.args.i c.args.y.now c.args.j done n piece other (omega (arith, c.min-count.ensures))
-      (omega (arith, c.min-count.ensures)) text other_text (sym c.in-Equal.is ∙ c.cmp.ensures)
-      (c.loop-done.invariant.same folder before);
+      let first : AreSame t c.args.x.now c.args.i c.args.y.now c.args.j (done + n) = same_on t c.args.x.now c.args.i c.args.y.now c.args.j done n piece other (omega (arith, c.min-count.ensures)) (omega (arith, c.min-count.ensures)) text other_text (sym c.in-Equal.is ∙ c.cmp.ensures) (c.loop-done.invariant.same folder before) in
+      alike_on lengths t c.args.x.now c.args.i c.args.y.now c.args.j (done + n) c.common_behind-done.result told c.requires.left_fits
+      c.requires.right_fits c.common_behind-done.ensures.alike first;
   reads = c.in_ok-other-in-Apart.ensures.count ∙ (c.in_ok-piece-in-Apart.ensures.count ∙ c.loop-done.invariant.reads);
   lengths = c.first_piece-in-Apart.ensures.lengths ∙ (c.first_piece.ensures.lengths ∙ c.loop-done.invariant.lengths);
   table = c.first_piece-in-Apart.ensures.table ∙ (c.first_piece.ensures.table ∙ c.loop-done.invariant.table);

@@ -1,0 +1,14 @@
+use Rattle.cord_node.specs.Tree.{len_of}
+use Rattle.cord_pos.specs.Stretches.{IsWithin}
+use Rattle.cord_search.specs.inner.Ahead.{IsSpot}
+use Rattle.cord_search.proofs.ahead.near.Given as goal
+
+-- the spot is the first one, in the same node or one below it
+abbrev pub invariant-loop-spot : goal.invariant-loop-spot
+invariant-loop-spot l = record {
+  spot : IsSpot l.spot;
+  within : IsWithin l.fn.spot.node.now l.fn.spot.place l.spot.node.now l.spot.place;
+}
+
+abbrev pub decreases-loop-spot : goal.decreases-loop-spot
+decreases-loop-spot l = len_of l.spot.node.now
