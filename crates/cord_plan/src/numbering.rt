@@ -1,5 +1,5 @@
 // Names with numbers.
-ghost use Rattle.std.specs.Prelude.{◌≡◌, ◌<◌, [], ◌∷◌, IfOk, OnOk, length, slice_get};
+ghost use Rattle.std.specs.Prelude.{◌≡◌, ◌+◌, ◌*◌, ◌%◌, ◌<◌, [], ◌∷◌, IfOk, OnOk, length, slice_get};
 ghost use Rattle.cord_plan.specs.Operands.{cord_arguments, is_name, read_by};
 ghost use Rattle.cord_plan.specs.inner.Readings.{read_names};
 ghost use Rattle.cord_plan.specs.inner.Numbering.{slot_of, place_of, number_of, names_of, Adds, Covers};
@@ -22,16 +22,42 @@ pub(crate) struct Numbering {
     guesses: Vec<u16>,
 }
 
-/// The slot of a name.
-pub(crate) fn slot_of(name: &[u8]) -> usize
+// The slot after one more byte.
+fn slot_behind(slot: usize, byte: u8) -> usize
+    requires { slot < 4096 }
+    ensures slot { result ≡ (slot * 31 + byte) % 4096 }
+    ensures within { result < 4096 }
+{
+    (slot * 31 + byte as usize) % SLOTS
+}
+
+// The slot of a name of any length.
+fn slot_by_bytes(name: &[u8]) -> usize
     ensures slot { result ≡ slot_of name.now }
     ensures within { result < 4096 }
 {
     let mut slot: usize = 0;
     for byte in name {
-        slot = (slot * 31 + *byte as usize) % SLOTS;
+        slot = slot_behind(slot, *byte);
     }
     slot
+}
+
+/// The slot of a name. Most names have at most four bytes: a loop would cost more.
+pub(crate) fn slot_of(name: &[u8]) -> usize
+    ensures slot { result ≡ slot_of name.now }
+    ensures within { result < 4096 }
+{
+    match name {
+        [a] => slot_behind(0, *a),
+        [a, b] => slot_behind(slot_behind(0, *a), *b),
+        [a, b, c] => slot_behind(slot_behind(slot_behind(0, *a), *b), *c),
+        [a, b, c, d] => {
+            let slot = slot_behind(slot_behind(0, *a), *b);
+            slot_behind(slot_behind(slot, *c), *d)
+        }
+        _ => slot_by_bytes(name),
+    }
 }
 
 // The first place of a name among others.

@@ -1,6 +1,6 @@
 use Rattle.std.proofs.Common.{◌≡◌, ◌<◌, drop}
 use Rattle.cord_plan.specs.inner.Numbering.{slot_from, slot_of}
-use Rattle.cord_plan.proofs.numbering.slot_of.Given as goal
+use Rattle.cord_plan.proofs.numbering.slot_by_bytes.Given as goal
 
 abbrev pub invariant-loop-byte : goal.invariant-loop-byte
 invariant-loop-byte l = record {
