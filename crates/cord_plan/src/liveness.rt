@@ -75,7 +75,7 @@ impl Flow<'_> {
     {
         let mut words = Vec::with_capacity(alloc, self.statements.len())?;
         for statement in self.statements {
-            words.push(mark_read(self.numbering, self.group, statement))?;
+            words.push_reserved(mark_read(self.numbering, self.group, statement));
         }
         Ok(words)
     }
@@ -86,7 +86,7 @@ impl Flow<'_> {
     {
         let mut words = Vec::with_capacity(alloc, self.statements.len())?;
         for statement in self.statements {
-            words.push(mark_assigned(self.numbering, self.group, statement))?;
+            words.push_reserved(mark_assigned(self.numbering, self.group, statement));
         }
         Ok(words)
     }

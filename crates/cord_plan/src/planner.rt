@@ -38,7 +38,7 @@ fn dead_lines(
 {
     let mut dead = Vec::with_capacity(alloc, statements.len())?;
     for (place, statement) in statements.iter().enumerate() {
-        dead.push(is_dead(statement, place, later))?;
+        dead.push_reserved(is_dead(statement, place, later));
     }
     Ok(dead)
 }
@@ -74,7 +74,7 @@ fn operations_of(
     for (place, statement) in statements.iter().enumerate() {
         let expression = take_at(&mut expressions, place);
         let (dead, first) = (dead[place], firsts[place]);
-        operations.push(operation_of(alloc, statement, expression, dead, first)?)?;
+        operations.push_reserved(operation_of(alloc, statement, expression, dead, first)?);
     }
     Ok(operations)
 }

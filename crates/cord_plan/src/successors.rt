@@ -189,7 +189,7 @@ fn behinds(alloc: Global, shapes: &[Shape]) -> Result<Vec<Behind>, AllocError>
     let mut found = Vec::with_capacity(alloc, shapes.len())?;
     for (p, shape) in shapes.iter().enumerate() {
         let block = innermost(&blocks);
-        found.push(places_behind(shapes, p, block))?;
+        found.push_reserved(places_behind(shapes, p, block));
         open_behind(&mut blocks, p, *shape)?;
     }
     Ok(found)
@@ -200,7 +200,7 @@ fn shapes_of(alloc: Global, statements: &[Statement]) -> Result<Vec<Shape>, Allo
 {
     let mut shapes = Vec::with_capacity(alloc, statements.len())?;
     for statement in statements {
-        shapes.push(shape_of(statement))?;
+        shapes.push_reserved(shape_of(statement));
     }
     Ok(shapes)
 }

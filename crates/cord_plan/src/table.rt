@@ -149,7 +149,7 @@ impl Table {
                 &expressions,
                 &mut firsts,
             )?;
-            expressions.push(expression)?;
+            expressions.push_reserved(expression);
             recent.note(statement, place);
         }
         Ok(Table {

@@ -5,8 +5,9 @@ use Rattle.cord_plan.proofs.planner.dead_lines.Goals as goal
 
 pub loop-place-preserved : goal.loop-place-preserved
 loop-place-preserved c = record {
-  size = rw c.in_ok-push.ensures.items (longer c.loop-place.dead.items c.is_dead.result c.loop-place.place c.loop-place.invariant.size);
-  told = rw c.in_ok-push.ensures.items (dead_more c.args.statements.now (tells c.args.later.now) c.loop-place.dead.items c.loop-place.place
+  size = rw c.push_reserved.ensures.items (longer c.loop-place.dead.items c.is_dead.result c.loop-place.place c.loop-place.invariant.size);
+  room = omega (arith, c.loop-place-test.true, c.loop-place.invariant.room, c.push_reserved.ensures.len, c.push_reserved.ensures.capacity);
+  told = rw c.push_reserved.ensures.items (dead_more c.args.statements.now (tells c.args.later.now) c.loop-place.dead.items c.loop-place.place
       c.index-statements-place.result c.is_dead.result c.loop-place.invariant.size c.loop-place-test.true c.index-statements-place.is
       c.is_dead.ensures c.loop-place.invariant.told);
 }

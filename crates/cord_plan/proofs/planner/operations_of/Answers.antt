@@ -14,6 +14,7 @@ use Rattle.cord_plan.proofs.planner.operations_of.Goals as goal
 pub loop-place-init : goal.loop-place-init
 loop-place-init c = record {
   so_far = rw c.in_ok-operations.ensures.items refl;
+  room = omega (arith, c.in_ok-operations.ensures.len, c.in_ok-operations.ensures.capacity);
   size = sym (length-map c.args.table.expressions.items (option_map expr_view)) ∙ whole_long c.args.statements.now (tells c.args.later)
       (map (option_map expr_view) c.args.table.expressions.items) c.args.table.firsts.items c.requires;
   left = λ k le. refl;
@@ -44,9 +45,10 @@ loop-place-preserved c =
     (at_read c.args.table.firsts.items p c.index-in-loop-place.result.now within c.index-in-loop-place.ensures)) in
     rw (written_back c.loop-place.expressions.len new c.loop-place.expressions.items size)
     (record {
-      so_far = rw c.in_ok-push.ensures.items (line_more s later (map (option_map expr_view) all) c.args.table.firsts.items c.requires p l
+      so_far = rw c.push_reserved.ensures.items (line_more s later (map (option_map expr_view) all) c.args.table.firsts.items c.requires p l
           (option_map expr_view e) c.loop-place.operations.items c.in_ok-operation_of.field-0 c.loop-place-test.true
           c.index-statements-place.is there c.loop-place.invariant.so_far made);
+      room = omega (arith, c.loop-place-test.true, c.loop-place.invariant.room, c.push_reserved.ensures.len, c.push_reserved.ensures.capacity);
       size = c.take_at-expression.ensures.size ∙ (ap (λ (es : List (Option Expr)). length es) was ∙ c.loop-place.invariant.size);
       left = λ k le. c.take_at-expression.ensures.left k (omega (arith, le))
           ∙ (ap (λ (es : List (Option Expr)). slice_get es k) was ∙ c.loop-place.invariant.left k (omega (arith, le)));

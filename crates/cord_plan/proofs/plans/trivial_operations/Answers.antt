@@ -1,6 +1,5 @@
-use Rattle.std.proofs.Common.{◌≡◌, ℕ, ◌+◌, ◌<◌, false, List, [], ◌∷◌, ◌++◌, length, get_or, take, map, Option, refl, sym, ap, ◌∙◌}
+use Rattle.std.proofs.Common.{◌≡◌, ℕ, ◌+◌, ◌<◌, false, List, [], ◌∷◌, ◌++◌, length, get_or, take, map, Option, refl, sym, ap, ◌∙◌, arith}
 use Rattle.std.proofs.lemmas.List.{map-append, take_more}
-use Rattle.std.proofs.lemmas.Slice.{pushed}
 use Rattle.cord_syntax.specs.declared.statements.Statement.{Statement}
 use Rattle.cord_plan.specs.Exprs.{Expr}
 use Rattle.cord_plan.specs.Forced.{own}
@@ -28,7 +27,9 @@ one_more xs i l e before o within at so_far owned made =
     ∙ ap trivial (ap (λ m. take i xs ++ m ∷ []) at ∙ sym (take_more xs i l within)))))
 
 pub lines-preserved : goal.lines-preserved
-lines-preserved c =
-    ap (map operation_view) (pushed (c.in_ok-operation_of.field-0 ∷ []) refl c.in_ok-push.was c.push.ensures.items)
-    ∙ one_more _ _ _ _ _ _ c.lines-test.true c.statement-item.is c.lines.invariant c.in_ok-expression.ensures.made
-    c.in_ok-operation_of.ensures.made
+lines-preserved c = record {
+  so_far = ap (map operation_view) c.push_reserved.ensures.items
+      ∙ one_more _ _ _ _ _ _ c.lines-test.true c.statement-item.is c.lines.invariant.so_far c.in_ok-expression.ensures.made
+      c.in_ok-operation_of.ensures.made;
+  room = omega (arith, c.lines-test.true, c.lines.invariant.room, c.push_reserved.ensures.len, c.push_reserved.ensures.capacity);
+}

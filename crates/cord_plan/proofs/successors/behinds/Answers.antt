@@ -10,9 +10,10 @@ pub loop-p-preserved : goal.loop-p-preserved
 loop-p-preserved c = record {
   opened = open_more c.args.shapes.now c.loop-p.p Simple (reverse c.loop-p.blocks.items)
       (reverse c.open_behind.new.blocks.items) c.loop-p-test.true c.loop-p.invariant.opened c.in_ok-open_behind.ensures;
-  size = omega (arith, c.loop-p.invariant.size, simp length-append at (ap length c.in_ok-push.ensures.items));
-  told = told_more c.loop-p.found.items c.push.new.self.items c.places_behind.result (behind (map shape_view c.args.shapes.now)) c.loop-p.p
-      c.loop-p.invariant.size c.in_ok-push.ensures.items c.loop-p.invariant.told c.places_behind.ensures;
+  size = omega (arith, c.loop-p.invariant.size, simp length-append at (ap length c.push_reserved.ensures.items));
+  room = omega (arith, c.loop-p-test.true, c.loop-p.invariant.room, c.push_reserved.ensures.len, c.push_reserved.ensures.capacity);
+  told = told_more c.loop-p.found.items c.push_reserved.new.self.items c.places_behind.result (behind (map shape_view c.args.shapes.now)) c.loop-p.p
+      c.loop-p.invariant.size c.push_reserved.ensures.items c.loop-p.invariant.told c.places_behind.ensures;
 }
 
 pub returns : goal.returns

@@ -9,9 +9,10 @@ use Rattle.cord_plan.proofs.liveness.Flow.words_read.Goals as goal
 
 pub loop-statement-preserved : goal.loop-statement-preserved
 loop-statement-preserved c = record {
-  size = rw c.in_ok-push.ensures.items (size_more c.loop-statement.words.items c.mark_read.result c.loop-statement.statement-index
+  size = rw c.push_reserved.ensures.items (size_more c.loop-statement.words.items c.mark_read.result c.loop-statement.statement-index
       c.loop-statement.invariant.size);
-  columns = λ x i b. rw c.in_ok-push.ensures.items
+  room = omega (arith, c.loop-statement-test.true, c.loop-statement.invariant.room, c.push_reserved.ensures.len, c.push_reserved.ensures.capacity);
+  columns = λ x i b. rw c.push_reserved.ensures.items
       (told_more (λ m. reads m x) c.args.self.now.statements.now c.loop-statement.statement-index c.statement-item.result
       c.loop-statement.words.items c.mark_read.result i c.loop-statement-test.true c.statement-item.is
       (c.loop-statement.invariant.columns x i b) (c.mark_read.ensures x i b));

@@ -1,4 +1,4 @@
-use Rattle.std.proofs.Common.{◌≡◌, false, [], ◌∷◌, Some, map, length, refl, ◌∙◌, rules}
+use Rattle.std.proofs.Common.{◌≡◌, false, [], ◌∷◌, Some, map, length, refl, ◌∙◌, arith, rules}
 use Rattle.std.specs.Prelude.{option_map, replicate, slice_get}
 use Rattle.std.proofs.lemmas.Option.{slice_get_read}
 use Rattle.std.proofs.lemmas.List.{map-append}
@@ -24,11 +24,12 @@ loop-place-preserved c =
     record {
       grown = rw (
         written_back c.loop-place.firsts.len new old size,
-        c.in_ok-push.ensures.items,
+        c.push_reserved.ensures.items,
         map-append (option_map expr_view) c.loop-place.expressions.items (e ∷ []),
       )
           (grown_then s later b l table (option_map expr_view e) old new c.loop-place-test.true c.index-statements-place.is
           c.loop-place.invariant.grown next);
+      room = omega (arith, c.loop-place-test.true, c.loop-place.invariant.room, c.push_reserved.ensures.len, c.push_reserved.ensures.capacity);
       later = c.note.ensures.later ∙ c.loop-place.invariant.later;
       recent = c.note.ensures.recent s here c.loop-place.invariant.recent;
     }
@@ -41,6 +42,7 @@ loop-place-init c =
     let size : length firsts ≡ length s = search rules in
     record {
       grown = rw c.in_ok-expressions.ensures.items (grown_none s (tells c.args.later.now) firsts none size);
+      room = omega (arith, c.in_ok-expressions.ensures.len, c.in_ok-expressions.ensures.capacity);
       later = c.in_ok-recent.ensures.later;
       recent = c.in_ok-recent.ensures.recent s;
     }
