@@ -11,6 +11,7 @@ pub mod Magnitudes
 pub mod Readings
 pub mod Samples
 pub mod Same
+pub mod Settled
 pub mod Single
 pub mod Spelled
 pub mod Stated

@@ -1,5 +1,5 @@
 // Whether a word is a name, and what is wrong with the kind of a name.
-ghost use Rattle.std.specs.Prelude.{◌≡◌};
+ghost use Rattle.std.specs.Prelude.{◌≡◌, true, Some};
 ghost use Rattle.cord_script.specs.Tests.{is_letter, is_name, each};
 ghost use Rattle.cord_script.specs.Flaws.{kind_flaw, assigned_flaw, same_kind};
 ghost use Rattle.cord_script.specs.Parted.{is_inner};
@@ -51,6 +51,16 @@ fn is_same(a: Kind, b: Kind) -> bool
             | (Kind::Number, Kind::Number)
             | (Kind::Extensible, Kind::Extensible)
     )
+}
+
+/// Whether a name has this kind.
+pub fn has_kind(has: Option<Kind>, kind: Kind) -> bool
+    ensures { result ≡ true → has ≡ Some kind }
+{
+    match has {
+        Some(known) => is_same(known, kind),
+        None => false,
+    }
 }
 
 /// What is wrong with an operand of this kind.

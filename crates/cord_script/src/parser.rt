@@ -11,10 +11,11 @@ ghost use Rattle.cord_script.specs.inner.Steps.{Tells, Takes, HasWrong};
 use crate::before::Left;
 use crate::blocks::open_flaw;
 use crate::saying::said;
-use crate::words::{blanks, head, tail, uncons, words_of};
+use crate::words::{Word, blanks, head, tail, uncons, words_of};
 use crate::{MAX_LINES, MAX_SCRIPT, Refusal, RefusalKind, Script, Statement};
 use memchr::memchr;
 use std::alloc::Global;
+use std::collections::VecDeque;
 
 // No statement stands on the line.
 fn is_idle(line: &[u8]) -> bool
@@ -39,10 +40,11 @@ fn first_line(bytes: &[u8]) -> (&[u8], &[u8])
 }
 
 // The statement of a line, if it has one.
-fn line_statement(
+fn line_statement<'a>(
     alloc: Global,
     number: u32,
-    line: &[u8],
+    line: &'a [u8],
+    words: &mut VecDeque<Word<'a>>,
     left: &mut Left,
 ) -> Result<Option<Statement>, RefusalKind>
     ensures tells { IfOk result (Tells number line.now (before_of left.old) (before_of left.new)) }
@@ -51,7 +53,7 @@ fn line_statement(
     if is_idle(line) {
         return Ok(None);
     }
-    let words = words_of(alloc, line)?;
+    words_of(alloc, line, words)?;
     let statement = said(alloc, number, left, words)?;
     Ok(Some(statement))
 }
@@ -66,10 +68,11 @@ fn add(statements: &mut Vec<Statement>, statement: Statement) -> Result<(), Refu
 }
 
 // Adds the statement of a line, if it has one.
-fn take_line(
+fn take_line<'a>(
     alloc: Global,
     number: u32,
-    line: &[u8],
+    line: &'a [u8],
+    words: &mut VecDeque<Word<'a>>,
     left: &mut Left,
     statements: &mut Vec<Statement>,
 ) -> Result<(), RefusalKind>
@@ -77,7 +80,7 @@ fn take_line(
         statements.new.items) }
     ensures flaw { IfErr result (λ kind. kind ≢ RefusalKind.NoMemory → HasWrong line.now (before_of left.old) kind) }
 {
-    let Some(statement) = line_statement(alloc, number, line, left)? else {
+    let Some(statement) = line_statement(alloc, number, line, words, left)? else {
         return Ok(());
     };
     add(statements, statement)
@@ -107,6 +110,7 @@ pub fn parse(alloc: Global, script: &[u8]) -> Result<Script, Refusal>
         });
     }
     let mut statements = Vec::new(alloc);
+    let mut words = VecDeque::new(alloc);
     let mut left = Left::nothing(alloc);
     let mut rest = script;
     let mut number = 1u32;
@@ -118,7 +122,7 @@ pub fn parse(alloc: Global, script: &[u8]) -> Result<Script, Refusal>
             });
         }
         let (line, after) = first_line(rest);
-        if let Err(kind) = take_line(alloc, number, line, &mut left, &mut statements) {
+        if let Err(kind) = take_line(alloc, number, line, &mut words, &mut left, &mut statements) {
             return Err(Refusal { line: number, kind });
         }
         rest = after;

@@ -3,12 +3,13 @@ ghost use Rattle.std.specs.Prelude.{◌≡◌, ◌≢◌, true, false, Some, IfO
 ghost use Rattle.std.specs.Str.{is_utf8};
 ghost use Rattle.cord_script.specs.Tests.{each, is_name, is_path, begins_numeral, function_word, relation_word};
 ghost use Rattle.cord_script.specs.Forms.Term.{Value};
-ghost use Rattle.cord_script.specs.Script.{IsTerm};
+ghost use Rattle.cord_script.specs.Script.{IsTerm, kind_of};
 ghost use Rattle.cord_script.specs.Flaws.{misfit, name_misfit, number_misfit, text_misfit, path_misfit};
 ghost use Rattle.cord_script.specs.Flaws.{function_misfit, relation_misfit};
-ghost use Rattle.cord_script.specs.Parted.{IsPart, is_path_text, is_no_zero};
+ghost use Rattle.cord_script.specs.Parted.{IsPart, is_path_text, is_no_zero, term_of};
+ghost use Rattle.cord_script.specs.inner.Settled.{IsSettled};
 
-use crate::checks::is_name;
+use crate::checks::{has_kind, is_name};
 use crate::kinds::{Kind, Want};
 use crate::numerals::{is_digit, numeral_of};
 use crate::table::Table;
@@ -39,8 +40,9 @@ pub enum Part {
 }
 
 // Where a name is wanted.
-fn name_of(alloc: Global, names: &Table, word: Word) -> Result<Name, RefusalKind>
-    ensures name { IfOk result (λ name. (word.entry ≡ Word.Plain name) × (is_name name ≡ true)) }
+fn name_of(alloc: Global, names: &Table, word: Word) -> Result<(Name, Option<Kind>), RefusalKind>
+    ensures name { IfOk result (λ r. (word.entry ≡ Word.Plain r.0) × (is_name r.0 ≡ true)) }
+    ensures kind { IfOk result (λ r. IfSome r.1 (λ kind. kind_of names.now r.0 ≡ Some kind)) }
     ensures flaw { IfErr result (λ kind. kind ≢ RefusalKind.NoMemory → name_misfit word.entry ≡ Some kind) }
 {
     let Word::Plain(name) = word else {
@@ -63,8 +65,9 @@ fn begins_numeral(word: &[u8]) -> bool
 }
 
 // Where a number operand is wanted.
-fn number_of(alloc: Global, names: &Table, word: Word) -> Result<Number, RefusalKind>
-    ensures number { IfOk result (λ number. IsTerm word.entry (Value number)) }
+fn number_of(alloc: Global, names: &Table, word: Word) -> Result<(Number, bool), RefusalKind>
+    ensures number { IfOk result (λ r. IsTerm word.entry (Value r.0)) }
+    ensures settled { IfOk result (λ r. r.1 ≡ true → IsSettled names.now (Value r.0)) }
     ensures flaw { IfErr result (λ kind. kind ≢ RefusalKind.NoMemory → number_misfit word.entry ≡ Some kind) }
 {
     let Word::Plain(name) = word else {
@@ -73,13 +76,14 @@ fn number_of(alloc: Global, names: &Table, word: Word) -> Result<Number, Refusal
     if begins_numeral(name.as_slice()) {
         return match numeral_of(name.as_slice()) {
             None => Err(RefusalKind::BadNumber),
-            Some(value) => Ok(Number::Numeral(value)),
+            Some(value) => Ok((Number::Numeral(value), true)),
         };
     }
     if !is_name(name.as_slice()) {
         return Err(RefusalKind::BadName);
     }
-    Ok(Number::Named(names.name_of(alloc, name.as_slice())?))
+    let (name, has) = names.name_of(alloc, name.as_slice())?;
+    Ok((Number::Named(name), has_kind(has, Kind::Number)))
 }
 
 // Where a quoted word is wanted.
@@ -172,19 +176,35 @@ fn relation_of(word: &Word) -> Result<Relation, RefusalKind>
     Err(RefusalKind::BadName)
 }
 
-/// What a word says where this is wanted, or what is wrong with it.
-pub fn part_of(alloc: Global, names: &Table, want: Want, word: Word) -> Result<Part, RefusalKind>
-    ensures part { IfOk result (IsPart want word.entry) }
+/// What a word says where this is wanted, or what is wrong with it; and whether it is settled: it is no path, and a name in
+/// it is known and of its kind.
+pub fn part_of(
+    alloc: Global,
+    names: &Table,
+    want: Want,
+    word: Word,
+) -> Result<(Part, bool), RefusalKind>
+    ensures part { IfOk result (λ r. IsPart want word.entry r.0) }
+    ensures settled { IfOk result (λ r. r.1 ≡ true → IsSettled names.now (term_of r.0)) }
     ensures flaw { IfErr result (λ kind. kind ≢ RefusalKind.NoMemory → misfit want word.entry ≡ Some kind) }
 {
     match want {
-        Want::Target(kind) => Ok(Part::Target(kind, name_of(alloc, names, word)?)),
-        Want::Operand(kind) => Ok(Part::Operand(kind, name_of(alloc, names, word)?)),
-        Want::Number => Ok(Part::Value(number_of(alloc, names, word)?)),
-        Want::Text => Ok(Part::Literal(text_of(word)?)),
-        Want::Path => Ok(Part::FilePath(path_of(word)?)),
-        Want::Function => Ok(Part::Applies(function_of(&word)?)),
-        Want::Relation => Ok(Part::Compares(relation_of(&word)?)),
-        Want::Format => Ok(Part::Formats(text_of(word)?)),
+        Want::Target(kind) => {
+            let (name, has) = name_of(alloc, names, word)?;
+            Ok((Part::Target(kind, name), has_kind(has, kind)))
+        }
+        Want::Operand(kind) => {
+            let (name, has) = name_of(alloc, names, word)?;
+            Ok((Part::Operand(kind, name), has_kind(has, kind)))
+        }
+        Want::Number => {
+            let (number, settled) = number_of(alloc, names, word)?;
+            Ok((Part::Value(number), settled))
+        }
+        Want::Text => Ok((Part::Literal(text_of(word)?), true)),
+        Want::Path => Ok((Part::FilePath(path_of(word)?), false)),
+        Want::Function => Ok((Part::Applies(function_of(&word)?), true)),
+        Want::Relation => Ok((Part::Compares(relation_of(&word)?), true)),
+        Want::Format => Ok((Part::Formats(text_of(word)?), true)),
     }
 }

@@ -1,9 +1,10 @@
 // What a line says after the lines before it.
-ghost use Rattle.std.specs.Prelude.{◌≡◌, ◌≢◌, [], ◌∷◌, Some, IfOk, IfErr, MatchOption, OnOk};
+ghost use Rattle.std.specs.Prelude.{◌≡◌, ◌≢◌, [], ◌∷◌, Some, map, IfOk, IfErr, MatchOption, OnOk};
 ghost use Rattle.cord_script.specs.Flaws.{HasFormFlaw, HasBadWords};
 ghost use Rattle.cord_script.specs.Script.{Before, whole};
-ghost use Rattle.cord_script.specs.inner.Leaves.{before_of};
-ghost use Rattle.cord_script.specs.Parted.{IsChecked};
+ghost use Rattle.cord_script.specs.inner.Leaves.{before_of, terms_flaw};
+ghost use Rattle.cord_script.specs.inner.Settled.{AreSettled};
+ghost use Rattle.cord_script.specs.Parted.{IsChecked, term_of};
 ghost use Rattle.cord_script.specs.inner.Behind.{left_after, SaysBehind};
 ghost use Rattle.cord_script.specs.inner.Verbal.{verb_form, verb_word};
 
@@ -19,20 +20,32 @@ use crate::{RefusalKind, Statement};
 use std::alloc::Global;
 use std::collections::VecDeque;
 
+// What is wrong with the names of a line, which are looked at only where they aren't settled.
+fn unsettled_flaw(left: &Left, settled: bool, parts: &[Part]) -> Option<RefusalKind>
+    requires { AreSettled settled left.now.names parts.now }
+    ensures { result ≡ terms_flaw (before_of left.now) (map term_of parts.now) }
+{
+    if settled {
+        return None;
+    }
+    names_flaw(left, parts)
+}
+
 // The parts of the words after a statement's word, with nothing wrong in them, their names or the open blocks.
 fn checked_parts(
     alloc: Global,
     left: &Left,
     verb: Verb,
-    words: VecDeque<Word>,
+    words: &mut VecDeque<Word>,
 ) -> Result<Worded, RefusalKind>
     ensures parts { IfOk result (λ worded. IsChecked (verb_form verb)
-        (before_of left.now) words.entry.items worded.parts.items worded.format) }
+        (before_of left.now) words.old.items worded.parts.items worded.format) }
     ensures flaw { IfErr result (λ kind. kind ≢ RefusalKind.NoMemory →
-        HasFormFlaw (before_of left.now) (Some (verb_form verb)) words.entry.items kind) }
+        HasFormFlaw (before_of left.now) (Some (verb_form verb)) words.old.items kind) }
+    ensures settled { IfOk result (λ worded. AreSettled worded.settled left.now.names worded.parts.items) }
 {
     let worded = parts_of(alloc, &left.names, verb, words)?;
-    if let Some(kind) = names_flaw(left, &worded.parts) {
+    if let Some(kind) = unsettled_flaw(left, worded.settled, &worded.parts) {
         return Err(kind);
     }
     if let Some(kind) = block_flaw(verb, &left.blocks) {
@@ -41,11 +54,21 @@ fn checked_parts(
     Ok(worded)
 }
 
-// What a line leaves after what the lines before it leave.
-fn leave(verb: Verb, number: u32, left: &mut Left, parts: &[Part]) -> Result<(), RefusalKind>
+// What a line leaves after what the lines before it leave: only open blocks, where its parts are settled.
+fn leave(
+    verb: Verb,
+    number: u32,
+    left: &mut Left,
+    settled: bool,
+    parts: &[Part],
+) -> Result<(), RefusalKind>
+    requires { AreSettled settled left.old.names parts.now }
     ensures left { OnOk result (before_of left.new ≡ left_after verb number parts.now (before_of left.old)) }
     ensures flaw { IfErr result (λ kind. kind ≡ RefusalKind.NoMemory) }
 {
+    if settled {
+        return set_blocks(verb, number, &mut left.blocks);
+    }
     add_names(&mut left.names, parts)?;
     add_paths(&mut left.paths, parts)?;
     set_blocks(verb, number, &mut left.blocks)
@@ -69,18 +92,21 @@ pub fn said(
     alloc: Global,
     number: u32,
     left: &mut Left,
-    words: Vec<Word>,
+    words: &mut VecDeque<Word>,
 ) -> Result<Statement, RefusalKind>
-    requires { words.items ≢ [] }
-    ensures said { IfOk result (SaysBehind number (before_of left.old) (before_of left.new) words.entry.items) }
+    requires { words.old.items ≢ [] }
+    ensures said { IfOk result (SaysBehind number (before_of left.old) (before_of left.new) words.old.items) }
     ensures flaw { IfErr result (λ kind. kind ≢ RefusalKind.NoMemory →
-        HasBadWords whole (before_of left.old) words.entry.items kind) }
+        HasBadWords whole (before_of left.old) words.old.items kind) }
 {
-    let mut words = VecDeque::from_vec(words);
-    let Some(verb) = verb_in(&mut words) else {
+    let Some(verb) = verb_in(words) else {
         return Err(RefusalKind::UnknownStatement);
     };
-    let Worded { parts, format } = checked_parts(alloc, left, verb, words)?;
-    leave(verb, number, left, &parts)?;
+    let Worded {
+        parts,
+        format,
+        settled,
+    } = checked_parts(alloc, left, verb, words)?;
+    leave(verb, number, left, settled, &parts)?;
     statement_of(alloc, verb, number, format, Parts::of(parts))
 }

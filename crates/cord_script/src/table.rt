@@ -142,13 +142,14 @@ impl Table {
         }
     }
 
-    /// The name of these bytes, which it shares with the table where it is known.
-    pub fn name_of(&self, alloc: Global, bytes: &[u8]) -> Result<Name, AllocError>
-        ensures { IfOk result (λ name. name ≡ bytes.now) }
+    /// The name of these bytes, which it shares with the table where it is known, and the kind that it has there.
+    pub fn name_of(&self, alloc: Global, bytes: &[u8]) -> Result<(Name, Option<Kind>), AllocError>
+        ensures name { IfOk result (λ r. r.0 ≡ bytes.now) }
+        ensures kind { IfOk result (λ r. IfSome r.1 (λ kind. kind_of self.now bytes.now ≡ Some kind)) }
     {
         match self.find(bytes) {
-            Some(entry) => entry.name.clone(),
-            None => Name::of(alloc, bytes),
+            Some(entry) => Ok((entry.name.clone()?, Some(entry.kind))),
+            None => Ok((Name::of(alloc, bytes)?, None)),
         }
     }
 

@@ -1,9 +1,11 @@
 // What the words after a statement's word say.
-ghost use Rattle.std.specs.Prelude.{◌≡◌, ◌≢◌, ◌≤◌, length, IfOk, IfErr, OnOk};
+ghost use Rattle.std.specs.Prelude.{◌≡◌, ◌≢◌, ◌≤◌, true, length, map, IfOk, IfErr, OnOk};
 ghost use Rattle.cord_script.specs.Forms.Shape.{Words, Joined, Printed};
 ghost use Rattle.cord_script.specs.Formats.{want_of_kind, wants_of_pieces};
 ghost use Rattle.cord_script.specs.Flaws.{first_pair, misfit};
 ghost use Rattle.cord_script.specs.Parted.{HasTaken, counted_misfit, IsFormatOf, IsParted, HasPartFlaw};
+ghost use Rattle.cord_script.specs.Parted.{term_of};
+ghost use Rattle.cord_script.specs.inner.Settled.{AllSettled, AreSettled};
 ghost use Rattle.cord_script.specs.inner.Verbal.{verb_shape};
 
 use crate::grammar::{Verb, wants_of};
@@ -16,11 +18,20 @@ use cord_printf::{ArgKind, Format, FormatError, Piece};
 use std::alloc::Global;
 use std::collections::VecDeque;
 
-/// The parts of a statement, and what the text of a `sprintf` is read as.
+/// The parts of a statement, what the text of a `sprintf` is read as, and whether all parts are settled: none is a path, and
+/// each name is known and of its kind.
 #[derive(Drop)]
 pub struct Worded {
     pub parts: Vec<Part>,
     pub format: Option<Format>,
+    pub settled: bool,
+}
+
+// Whether both hold.
+fn both(a: bool, b: bool) -> bool
+    ensures { result ≡ true → (a ≡ true) × (b ≡ true) }
+{
+    a && b
 }
 
 // The target of a `catn`.
@@ -32,28 +43,32 @@ const CORDS: [Want; MAX_PARTS] = [Want::Operand(Kind::Cord); MAX_PARTS];
 // The target and the format of a `sprintf`.
 const FORMAT: [Want; 2] = [Want::Target(Kind::Cord), Want::Format];
 
-// Takes a word for each want, from left to right.
+// Takes a word for each want, from left to right, and tells whether all that they say is settled.
 fn take_parts(
     alloc: Global,
     names: &Table,
     wants: &[Want],
     words: &mut VecDeque<Word>,
     parts: &mut Vec<Part>,
-) -> Result<(), RefusalKind>
+) -> Result<bool, RefusalKind>
     requires { length wants.now ≤ length words.old.items }
     ensures taken { OnOk result (HasTaken wants.now words.old.items words.new.items parts.old.items parts.new.items) }
     ensures fit { OnOk result (first_pair misfit wants.now words.old.items ≡ None) }
+    ensures settled { IfOk result (λ settled. settled ≡ true → AllSettled names.now (map term_of parts.old.items) →
+        AllSettled names.now (map term_of parts.new.items)) }
     ensures flaw { IfErr result (λ kind. kind ≢ RefusalKind.NoMemory → first_pair misfit wants.now words.old.items
         ≡ Some kind) }
 {
+    let mut settled = true;
     for want in wants {
         let Some(word) = words.pop_front() else {
             unreachable!()
         };
-        let part = part_of(alloc, names, *want, word)?;
+        let (part, told) = part_of(alloc, names, *want, word)?;
         parts.push(part)?;
+        settled = both(settled, told);
     }
-    Ok(())
+    Ok(settled)
 }
 
 // Takes all words, one for each want.
@@ -63,10 +78,12 @@ fn take_all(
     wants: &[Want],
     words: &mut VecDeque<Word>,
     parts: &mut Vec<Part>,
-) -> Result<(), RefusalKind>
+) -> Result<bool, RefusalKind>
     ensures count { OnOk result (length words.old.items ≡ length wants.now) }
     ensures taken { OnOk result (HasTaken wants.now words.old.items words.new.items parts.old.items parts.new.items) }
     ensures fit { OnOk result (first_pair misfit wants.now words.old.items ≡ None) }
+    ensures settled { IfOk result (λ settled. settled ≡ true → AllSettled names.now (map term_of parts.old.items) →
+        AllSettled names.now (map term_of parts.new.items)) }
     ensures flaw { IfErr result (λ kind. kind ≢ RefusalKind.NoMemory → counted_misfit wants.now words.old.items
         ≡ Some kind) }
 {
@@ -81,18 +98,20 @@ fn plain_parts(
     alloc: Global,
     names: &Table,
     wants: &[Want],
-    mut words: VecDeque<Word>,
+    words: &mut VecDeque<Word>,
 ) -> Result<Worded, RefusalKind>
-    ensures parts { IfOk result (λ worded. IsParted (Words wants.now) words.entry.items worded.parts.items
+    ensures parts { IfOk result (λ worded. IsParted (Words wants.now) words.old.items worded.parts.items
         worded.format) }
+    ensures settled { IfOk result (λ worded. AreSettled worded.settled names.now worded.parts.items) }
     ensures flaw { IfErr result (λ kind. kind ≢ RefusalKind.NoMemory →
-        HasPartFlaw (Words wants.now) words.entry.items kind) }
+        HasPartFlaw (Words wants.now) words.old.items kind) }
 {
     let mut parts = Vec::with_capacity(alloc, wants.len())?;
-    take_all(alloc, names, wants, &mut words, &mut parts)?;
+    let settled = take_all(alloc, names, wants, words, &mut parts)?;
     Ok(Worded {
         parts,
         format: None,
+        settled,
     })
 }
 
@@ -100,21 +119,23 @@ fn plain_parts(
 fn joined_parts(
     alloc: Global,
     names: &Table,
-    mut words: VecDeque<Word>,
+    words: &mut VecDeque<Word>,
 ) -> Result<Worded, RefusalKind>
-    ensures parts { IfOk result (λ worded. IsParted Joined words.entry.items worded.parts.items worded.format) }
-    ensures flaw { IfErr result (λ kind. kind ≢ RefusalKind.NoMemory → HasPartFlaw Joined words.entry.items kind) }
+    ensures parts { IfOk result (λ worded. IsParted Joined words.old.items worded.parts.items worded.format) }
+    ensures settled { IfOk result (λ worded. AreSettled worded.settled names.now worded.parts.items) }
+    ensures flaw { IfErr result (λ kind. kind ≢ RefusalKind.NoMemory → HasPartFlaw Joined words.old.items kind) }
 {
     let count = words.len();
     if count < 1 + MIN_PARTS || count > 1 + MAX_PARTS {
         return Err(RefusalKind::WrongCount);
     }
     let mut parts = Vec::with_capacity(alloc, count)?;
-    take_parts(alloc, names, &TARGET, &mut words, &mut parts)?;
-    take_parts(alloc, names, &CORDS[..count - 1], &mut words, &mut parts)?;
+    let target = take_parts(alloc, names, &TARGET, words, &mut parts)?;
+    let cords = take_parts(alloc, names, &CORDS[..count - 1], words, &mut parts)?;
     Ok(Worded {
         parts,
         format: None,
+        settled: both(target, cords),
     })
 }
 
@@ -160,26 +181,28 @@ fn wants_of_pieces(alloc: Global, pieces: &[Piece]) -> Result<Vec<Want>, Refusal
 fn printed_parts(
     alloc: Global,
     names: &Table,
-    mut words: VecDeque<Word>,
+    words: &mut VecDeque<Word>,
 ) -> Result<Worded, RefusalKind>
-    ensures parts { IfOk result (λ worded. IsParted Printed words.entry.items worded.parts.items worded.format) }
-    ensures flaw { IfErr result (λ kind. kind ≢ RefusalKind.NoMemory → HasPartFlaw Printed words.entry.items kind) }
+    ensures parts { IfOk result (λ worded. IsParted Printed words.old.items worded.parts.items worded.format) }
+    ensures settled { IfOk result (λ worded. AreSettled worded.settled names.now worded.parts.items) }
+    ensures flaw { IfErr result (λ kind. kind ≢ RefusalKind.NoMemory → HasPartFlaw Printed words.old.items kind) }
 {
     if words.len() < 2 {
         return Err(RefusalKind::WrongCount);
     }
     // Before `take_parts` takes the text.
-    let read = format_in(alloc, &words)?;
+    let read = format_in(alloc, words)?;
     let mut parts = Vec::new(alloc);
-    take_parts(alloc, names, &FORMAT, &mut words, &mut parts)?;
+    let front = take_parts(alloc, names, &FORMAT, words, &mut parts)?;
     let Some(format) = read else {
         return Err(RefusalKind::BadFormat);
     };
     let wants = wants_of_pieces(alloc, format.pieces())?;
-    take_all(alloc, names, &wants, &mut words, &mut parts)?;
+    let arguments = take_all(alloc, names, &wants, words, &mut parts)?;
     Ok(Worded {
         parts,
         format: Some(format),
+        settled: both(front, arguments),
     })
 }
 
@@ -188,12 +211,13 @@ pub fn parts_of(
     alloc: Global,
     names: &Table,
     verb: Verb,
-    words: VecDeque<Word>,
+    words: &mut VecDeque<Word>,
 ) -> Result<Worded, RefusalKind>
-    ensures parts { IfOk result (λ worded. IsParted (verb_shape verb) words.entry.items worded.parts.items
+    ensures parts { IfOk result (λ worded. IsParted (verb_shape verb) words.old.items worded.parts.items
         worded.format) }
+    ensures settled { IfOk result (λ worded. AreSettled worded.settled names.now worded.parts.items) }
     ensures flaw { IfErr result (λ kind. kind ≢ RefusalKind.NoMemory →
-        HasPartFlaw (verb_shape verb) words.entry.items kind) }
+        HasPartFlaw (verb_shape verb) words.old.items kind) }
 {
     match verb {
         Verb::Catn => joined_parts(alloc, names, words),

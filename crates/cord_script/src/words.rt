@@ -1,6 +1,6 @@
 // The words of a line.
 ghost use Rattle.std.specs.Prelude.{◌≡◌, ◌≢◌, ◌<◌, ◌≤◌, ℕ, List, [], ◌∷◌, ◌++◌, length, take, drop, All, IfOk, IfErr};
-ghost use Rattle.std.specs.Prelude.{IfSome, MatchOption, option_map, IsTrue, false};
+ghost use Rattle.std.specs.Prelude.{OnOk, IfSome, MatchOption, option_map, IsTrue, false};
 ghost use Rattle.cord_script.specs.Words.{IsBlank, IsPlain, EndsPlain, StartsNoBlank, Spells, IsBadText, HasNext};
 ghost use Rattle.cord_script.specs.Words.{BeginsBadText, HasWords, HasBadBytes};
 ghost use Rattle.std.specs.Str.{bytes_eq};
@@ -8,6 +8,7 @@ ghost use Rattle.cord_script.specs.inner.Reading.{digit_of, hex_of, escape_of, u
 
 use crate::{MAX_TEXT, RefusalKind, Text};
 use std::alloc::Global;
+use std::collections::VecDeque;
 use std::marker::Model;
 
 /// The bytes of a plain word, which stand in the script.
@@ -215,21 +216,22 @@ fn next_word(alloc: Global, line: &[u8]) -> Result<Option<(Word<'_>, &[u8])>, Re
     Ok(Some((word, tail(rest, len))))
 }
 
-// As many words as most lines have at the most.
-const USUAL: usize = 8;
-
-/// The words of a line, in order.
-pub fn words_of(alloc: Global, line: &[u8]) -> Result<Vec<Word<'_>>, RefusalKind>
-    ensures words { IfOk result (λ ws. HasWords line.now ws.items) }
+/// Puts the words of a line, in order, in the place of those that were there, whose room they take.
+pub fn words_of<'a>(
+    alloc: Global,
+    line: &'a [u8],
+    words: &mut VecDeque<Word<'a>>,
+) -> Result<(), RefusalKind>
+    ensures words { OnOk result (HasWords line.now words.new.items) }
     ensures flaw { IfErr result (λ kind. kind ≢ RefusalKind.NoMemory → HasBadBytes line.now kind) }
 {
-    let mut words = Vec::with_capacity(alloc, USUAL)?;
+    words.clear();
     let mut rest = line;
     'words: loop {
         match next_word(alloc, rest)? {
-            None => return Ok(words),
+            None => return Ok(()),
             Some((word, behind)) => {
-                words.push(word)?;
+                words.push_back(word)?;
                 rest = behind;
             }
         }

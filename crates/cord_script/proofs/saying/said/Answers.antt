@@ -1,6 +1,7 @@
 use Rattle.std.proofs.Common.{◌∙◌, refl, sym, ap, subst}
 use Rattle.std.proofs.lemmas.Result.{err_from_is_err_and}
 use Rattle.cord_script.specs.inner.Leaves.{before_of}
+use Rattle.cord_script.specs.inner.Settled.{AreSettled}
 use Rattle.cord_script.specs.inner.Behind.{left_after}
 use Rattle.cord_script.specs.inner.Built.{IsWorded}
 use Rattle.cord_script.specs.inner.Verbal.{verb_word}
@@ -11,8 +12,8 @@ use Rattle.cord_script.proofs.saying.said.Goals as goal
 pub returns-in_err-parts-clause-flaw : goal.returns-in_err-parts-clause-flaw
 returns-in_err-parts-clause-flaw c =
     let p = err_from_is_err_and c.from_residual.result c.from_residual.ensures.1 in
-    rw (p.1, p.2) (λ n. bad_words c.in-Some.verb (before_of c.args.left.now) c.args.words.items c.verb_in.new.words.items
-    c.in_err-parts.field-0.0 (sym c.from_vec-words.ensures.items ∙ c.in-Some.ensures) (c.in_err-parts.ensures.flaw n))
+    rw (p.1, p.2) (λ n. bad_words c.in-Some.verb (before_of c.args.left.now) c.args.words.now.items c.verb_in.new.words.items
+    c.in_err-parts.field-0.0 (c.in-Some.ensures) (c.in_err-parts.ensures.flaw n))
 
 pub statement_of-requires : goal.statement_of-requires
 statement_of-requires c =
@@ -25,5 +26,10 @@ returns-clause-said c =
     let verb = c.in-Some.verb in
     let old = before_of c.args.left.now in
     let left = c.in_ok-leave.ensures.left ∙ ap (λ ps. left_after verb c.args.number ps old) c.deref.ensures.value in
-    let words = sym c.from_vec-words.ensures.items ∙ c.in-Some.ensures in
-    said verb c.args.number old (before_of c.leave.new.left) (verb_word verb) c.args.words.items c.verb_in.new.words.items found.parts.items found.format c.of.result c.statement_of.result words refl c.in_ok-parts.ensures.parts left c.of.ensures c.statement_of.ensures.word c.statement_of.ensures.line c.statement_of.ensures.terms c.statement_of.ensures.suits
+    let words = c.in-Some.ensures in
+    said verb c.args.number old (before_of c.leave.new.left) (verb_word verb) c.args.words.now.items c.verb_in.new.words.items found.parts.items found.format c.of.result c.statement_of.result words refl c.in_ok-parts.ensures.parts left c.of.ensures c.statement_of.ensures.word c.statement_of.ensures.line c.statement_of.ensures.terms c.statement_of.ensures.suits
+
+pub leave-requires : goal.leave-requires
+leave-requires c =
+    let found = c.in_ok-parts.field-0 in
+    subst (AreSettled found.settled c.args.left.now.names) (sym c.deref.ensures.value) c.in_ok-parts.ensures.settled

@@ -18,11 +18,11 @@ plain_shape _ joined printed = refl
 pub returns-in_default-clause-parts : goal.returns-in_default-clause-parts
 returns-in_default-clause-parts c =
     let shape = ap Words c.wants_of.ensures ∙ plain_shape c.args.verb c.in_default.not-Catn c.in_default.not-Sprintf in
-    subst (λ (s : Shape). IfOk c.plain_parts.result (λ worded. IsParted s c.args.words.items worded.parts.items worded.format)) shape
+    subst (λ (s : Shape). IfOk c.plain_parts.result (λ worded. IsParted s c.args.words.now.items worded.parts.items worded.format)) shape
     c.plain_parts.ensures.parts
 
 pub returns-in_default-clause-flaw : goal.returns-in_default-clause-flaw
 returns-in_default-clause-flaw c =
     let shape = ap Words c.wants_of.ensures ∙ plain_shape c.args.verb c.in_default.not-Catn c.in_default.not-Sprintf in
-    subst (λ (s : Shape). IfErr c.plain_parts.result (λ kind. kind ≢ NoMemory → HasPartFlaw s c.args.words.items kind)) shape
+    subst (λ (s : Shape). IfErr c.plain_parts.result (λ kind. kind ≢ NoMemory → HasPartFlaw s c.args.words.now.items kind)) shape
     c.plain_parts.ensures.flaw

@@ -1,5 +1,6 @@
 use Rattle.std.proofs.Common.{◌∙◌, ap, arith, length}
 use Rattle.std.proofs.lemmas.Result.{err_from_is_err_and}
+use Rattle.cord_script.proofs.Settled.{settled_push}
 use Rattle.cord_script.proofs.Took.{step_taken, step_fit, step_wrong}
 use Rattle.cord_script.proofs.taking.take_parts.Goals as goal
 
@@ -23,4 +24,8 @@ loop-want-preserved c =
       fit = c.loop-want.invariant.fit ∙ step_fit c.args.wants.now c.loop-want.want-index _ c.loop-want.words.items
           c.pop_front.new.self.items c.in-Some.word part (omega arith) c.in-Some.ensures.items says;
       enough = omega (arith, c.loop-want.invariant.enough, ap length c.in-Some.ensures.items);
+      settled = λ h front.
+          let two = c.both-settled.ensures h in
+          settled_push c.args.names.now old c.push.new.self.items part grown (c.loop-want.invariant.settled two.0 front)
+          (c.in_ok-part.ensures.settled two.1);
     }

@@ -1,0 +1,142 @@
+-- What the names that are known settle.
+use Rattle.std.proofs.Common.{Some, None, ◌≡◌, ℕ, List, [], ◌∷◌, ◌++◌, true, refl, sym, ◌∙◌, ap, subst, length, map}
+use Rattle.std.specs.Prelude.{Option, IfSome, is_some, if◌then◌else◌}
+use Rattle.cord_script.specs.declared.kinds.Kind.{Kind}
+use Rattle.cord_script.specs.declared.kinds.Kind.TheVariants as kinds
+use Rattle.cord_operands.specs.declared.operands.Number.TheVariants.{Numeral, Named}
+use Rattle.cord_script.specs.declared.table.Known.{Known}
+use Rattle.cord_script.specs.declared.grammar.Verb.{Verb}
+use Rattle.cord_script.specs.declared.parts.Part.{Part}
+use Rattle.cord_script.specs.declared.refusals.RefusalKind.{RefusalKind}
+use Rattle.cord_script.specs.Forms.{Term}
+use Rattle.cord_script.specs.Forms.Term.{Target, Operand, Value, Literal, FilePath, Applies, Compares, Formats}
+use Rattle.cord_script.specs.Script.{Before, Block, kind_of, names_after, paths_after, blocks_after}
+use Rattle.cord_script.specs.declared.refusals.RefusalKind.TheVariants.{WrongKind}
+use Rattle.cord_script.specs.Flaws.{first_of, unless, same_kind, assigned_flaw}
+use Rattle.cord_script.specs.Parted.{term_of}
+use Rattle.cord_script.specs.inner.Behind.{left_after}
+use Rattle.cord_script.specs.inner.Settled.{IsSettled, AllSettled}
+use Rattle.cord_script.specs.inner.Leaves.{operand_term_flaw, target_term_flaw, path_term_flaw}
+use Rattle.cord_script.specs.inner.Leaves.{first_term, terms_flaw}
+use Rattle.cord_script.specs.inner.Verbal.{verb_effect}
+use Rattle.cord_script.proofs.Terms.{right_kind, same_kinds}
+
+-- one kind is the other
+pub kind_is : (a b : Kind) → same_kind a b ≡ true → a ≡ b
+kind_is kinds.Cord kinds.Cord h = refl
+kind_is kinds.Number kinds.Number h = refl
+kind_is kinds.Extensible kinds.Extensible h = refl
+kind_is _ _ h = cc
+
+operand_settled : (names : List Known) (t : Term) → IsSettled names t → operand_term_flaw names t ≡ None
+operand_settled names (Operand kind name) h = right_kind (kind_of names name) kind h
+operand_settled names (Value (Named name)) h = right_kind (kind_of names name) kinds.Number h
+operand_settled names (Value (Numeral v)) h = refl
+operand_settled names (Target kind name) h = refl
+operand_settled names (Literal text) h = refl
+operand_settled names (FilePath path) h = refl
+operand_settled names (Applies function) h = refl
+operand_settled names (Compares relation) h = refl
+operand_settled names (Formats text) h = refl
+
+target_settled : (names : List Known) (t : Term) → IsSettled names t → target_term_flaw names t ≡ None
+target_settled names (Target kind name) h =
+    ap (λ k. assigned_flaw k kind (length names)) h ∙ ap (λ b. unless b WrongKind) (same_kinds kind)
+target_settled names (Operand kind name) h = refl
+target_settled names (Value number) h = refl
+target_settled names (Literal text) h = refl
+target_settled names (FilePath path) h = refl
+target_settled names (Applies function) h = refl
+target_settled names (Compares relation) h = refl
+target_settled names (Formats text) h = refl
+
+path_settled : (names : List Known) (paths : List (List ℕ)) (t : Term) → IsSettled names t → path_term_flaw paths t ≡ None
+path_settled names paths (FilePath path) h = absurd h
+path_settled names paths (Target kind name) h = refl
+path_settled names paths (Operand kind name) h = refl
+path_settled names paths (Value number) h = refl
+path_settled names paths (Literal text) h = refl
+path_settled names paths (Applies function) h = refl
+path_settled names paths (Compares relation) h = refl
+path_settled names paths (Formats text) h = refl
+
+first_settled : (test : Term → Option RefusalKind) (names : List Known) (ts : List Term) →
+    ((t : Term) → IsSettled names t → test t ≡ None) → AllSettled names ts → first_term test ts ≡ None
+first_settled test names [] f h = refl
+first_settled test names (t ∷ ts) f h = ap (λ k. first_of k (first_term test ts)) (f t h.0) ∙ first_settled test names ts f h.1
+
+-- nothing is wrong with settled terms
+pub settled_right : (before : Before) (ts : List Term) → AllSettled before.names ts → terms_flaw before ts ≡ None
+settled_right before ts h =
+    let o = first_settled (operand_term_flaw before.names) before.names ts (λ t k. operand_settled before.names t k) h in
+    let t = first_settled (target_term_flaw before.names) before.names ts (λ t k. target_settled before.names t k) h in
+    let p = first_settled (path_term_flaw before.paths) before.names ts (λ t k. path_settled before.names before.paths t k) h in
+    ap (λ k. first_of k (first_of (first_term (target_term_flaw before.names) ts) (first_term (path_term_flaw before.paths) ts))) o
+    ∙ ap (λ k. first_of k (first_term (path_term_flaw before.paths) ts)) t ∙ p
+
+-- the names with one more, where it isn't known
+abbrev grown : List Known → List ℕ → Kind → Option Kind → List Known
+grown names name kind known = if is_some known then names else names ++ record { name = name; kind = kind } ∷ []
+
+-- a settled term adds no name
+names_stay : (names : List Known) (t : Term) (ts : List Term) → IsSettled names t → names_after (t ∷ ts) names ≡ names_after ts names
+names_stay names (Target kind name) ts h = ap (λ k. names_after ts (grown names name kind k)) h
+names_stay names (Operand kind name) ts h = refl
+names_stay names (Value number) ts h = refl
+names_stay names (Literal text) ts h = refl
+names_stay names (FilePath path) ts h = refl
+names_stay names (Applies function) ts h = refl
+names_stay names (Compares relation) ts h = refl
+names_stay names (Formats text) ts h = refl
+
+settled_names : (names : List Known) (ts : List Term) → AllSettled names ts → names_after ts names ≡ names
+settled_names names [] h = refl
+settled_names names (t ∷ ts) h = names_stay names t ts h.0 ∙ settled_names names ts h.1
+
+-- a settled term adds no path
+paths_stay : (names : List Known) (paths : List (List ℕ)) (t : Term) (ts : List Term) → IsSettled names t →
+    paths_after (t ∷ ts) paths ≡ paths_after ts paths
+paths_stay names paths (FilePath path) ts h = absurd h
+paths_stay names paths (Target kind name) ts h = refl
+paths_stay names paths (Operand kind name) ts h = refl
+paths_stay names paths (Value number) ts h = refl
+paths_stay names paths (Literal text) ts h = refl
+paths_stay names paths (Applies function) ts h = refl
+paths_stay names paths (Compares relation) ts h = refl
+paths_stay names paths (Formats text) ts h = refl
+
+settled_paths : (names : List Known) (paths : List (List ℕ)) (ts : List Term) → AllSettled names ts → paths_after ts paths ≡ paths
+settled_paths names paths [] h = refl
+settled_paths names paths (t ∷ ts) h = paths_stay names paths t ts h.0 ∙ settled_paths names paths ts h.1
+
+-- the lines before with other open blocks
+abbrev with_blocks : Before → List Block → Before
+with_blocks old blocks = record { names = old.names; paths = old.paths; blocks = blocks }
+
+-- settled parts leave the blocks alone
+pub settled_left : (verb : Verb) (n : ℕ) (ps : List Part) (old : Before) (blocks : List Block) →
+    AllSettled old.names (map term_of ps) → blocks ≡ blocks_after (verb_effect verb) n old.blocks →
+    with_blocks old blocks ≡ left_after verb n ps old
+settled_left verb n ps old blocks h b =
+    let names = settled_names old.names (map term_of ps) h in
+    let paths = settled_paths old.names old.paths (map term_of ps) h in
+    cc
+
+settled_more : (names : List Known) (ps : List Part) (p : Part) → AllSettled names (map term_of ps) → IsSettled names (term_of p) →
+    AllSettled names (map term_of (ps ++ p ∷ []))
+settled_more names [] p h k = (k, tt)
+settled_more names (q ∷ ps) p h k = (h.0, settled_more names ps p h.1 k)
+
+-- one more settled part
+pub settled_push : (names : List Known) (ps qs : List Part) (p : Part) → qs ≡ ps ++ p ∷ [] → AllSettled names (map term_of ps) →
+    IsSettled names (term_of p) → AllSettled names (map term_of qs)
+settled_push names ps qs p e h k = subst (λ xs. AllSettled names (map term_of xs)) (sym e) (settled_more names ps p h k)
+
+-- no part is settled
+pub none_settled : (names : List Known) (ps : List Part) → ps ≡ [] → AllSettled names (map term_of ps)
+none_settled names ps e = subst (λ xs. AllSettled names (map term_of xs)) (sym e) tt
+
+-- the kind that is told of a name
+pub told_kind : (names : List Known) (name bytes : List ℕ) (has : Option Kind) (kind : Kind) → name ≡ bytes →
+    IfSome has (λ k. kind_of names bytes ≡ Some k) → has ≡ Some kind → kind_of names name ≡ Some kind
+told_kind names name bytes has kind e h k = ap (kind_of names) e ∙ subst (λ o. IfSome o (λ x. kind_of names bytes ≡ Some x)) k h

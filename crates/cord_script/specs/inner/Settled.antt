@@ -1,0 +1,27 @@
+-- What the names that are known settle of a line.
+use Rattle.std.specs.Prelude.{◌≡◌, List, [], ◌∷◌, Bool, true, Some, map}
+use Rattle.cord_script.specs.declared.kinds.Kind.TheVariants as kinds
+use Rattle.cord_operands.specs.declared.operands.Number.TheVariants as numbers
+use Rattle.cord_script.specs.declared.table.Known.{Known}
+use Rattle.cord_script.specs.declared.parts.Part.{Part}
+use Rattle.cord_script.specs.Forms.{Term}
+use Rattle.cord_script.specs.Forms.Term.{Target, Operand, Value, FilePath}
+use Rattle.cord_script.specs.Script.{kind_of}
+use Rattle.cord_script.specs.Parted.{term_of}
+
+-- a name in the term is known and of its kind, and the term is no path
+abbrev pub IsSettled : List Known → Term → Type 0
+IsSettled names (Target kind name) = kind_of names name ≡ Some kind
+IsSettled names (Operand kind name) = kind_of names name ≡ Some kind
+IsSettled names (Value (numbers.Named name)) = kind_of names name ≡ Some kinds.Number
+IsSettled names (FilePath path) = ⊥
+IsSettled names _ = Unit {0}
+
+-- all of these terms are settled
+abbrev pub AllSettled : List Known → List Term → Type 0
+AllSettled names [] = Unit {0}
+AllSettled names (t ∷ ts) = IsSettled names t × AllSettled names ts
+
+-- where it is told so, all of these parts are settled
+abbrev pub AreSettled : Bool → List Known → List Part → Type 0
+AreSettled told names ps = told ≡ true → AllSettled names (map term_of ps)
