@@ -1,6 +1,7 @@
 // What the names of a run of a plan hold.
 ghost use Rattle.std.specs.Prelude.{◌≡◌, ◌+◌, ◌<◌, ◌≤◌, ◌∷◌, ℕ, ℤ, List, pos, true, false, [], length, IfOk, IfSome};
 ghost use Rattle.std.specs.Prelude.{IfNone, IsErr, OnOk, Err, None, Some};
+ghost use Rattle.std.specs.Str.{bytes_eq};
 ghost use Rattle.cord_core.specs.Cord.{text_len};
 ghost use Rattle.cord_ec.specs.Grown.{IsGrownBy};
 ghost use Rattle.cord_run.specs.inner.Extending.{cells_of, Grew, GrewTo};
@@ -58,6 +59,17 @@ fn slot_of(name: &[u8], slots: usize) -> usize {
         slot = slot.wrapping_mul(31).wrapping_add(*byte as usize);
     }
     slot & slots.wrapping_sub(1)
+}
+
+// Whether two names are the same. Most are of one byte, and are compared without a loop.
+#[inline(always)]
+fn are_same(left: &[u8], right: &[u8]) -> bool
+    ensures { result ≡ bytes_eq left.now right.now }
+{
+    match (left, right) {
+        ([byte], [other]) => byte == other,
+        _ => is_same(left, right),
+    }
 }
 
 // Whether this is the name at a place.
@@ -171,7 +183,7 @@ fn begin(entries: &[Entry], names: &[Name]) -> bool
         return false;
     }
     for (place, name) in names.iter().enumerate() {
-        if !is_same(name.as_slice(), entries[place].name.as_slice()) {
+        if !are_same(name.as_slice(), entries[place].name.as_slice()) {
             return false;
         }
     }
