@@ -22,7 +22,8 @@
  * there is the caller's fault, as is a handle that was copied.
  *
  * Use by one thread at a time: cords that have parts in common count them together, so they all stay on one thread.
- * Memory comes from malloc and realloc, and goes to free. No call ends the program where memory is refused.
+ * Memory comes from malloc and realloc, and goes to free. No call ends the program where memory is refused. A handle that
+ * owns a cord keeps its block of a few bytes for the next one; zc_free gives it back.
  *
  * In costs, n is the length of a cord in bytes and d its depth, which is never more than 60.
  */
@@ -161,12 +162,12 @@ int zc_ncmp(zc_cord *x, uint64_t i, zc_cord *y, uint64_t j, uint64_t count, int3
 /* How many bytes of x are this one; 0 of null. O(n), and O(d) for each part. */
 uint64_t zc_count(zc_cord *x, unsigned char byte);
 
-/* Copies count bytes of x from start on to bytes. ZC_BAD_ARGUMENT where x has fewer, ZC_NO_MEMORY; then bytes stays.
+/* Copies count bytes of x from start on to bytes. ZC_BAD_ARGUMENT where x has fewer: then bytes stays. It takes no memory.
    O(count + d). */
 int zc_to_bytes(zc_cord *x, uint64_t start, void *bytes, size_t count);
 
 /* Copies bytes of x from start on to bytes, as many as there are and at most count, and writes their number to *got:
-   0 at or past the end. The rest of bytes stays. ZC_NO_MEMORY: all of bytes and *got stay. O(count + d). */
+   0 at or past the end. The rest of bytes stays. It takes no memory. O(count + d). */
 int zc_read(zc_cord *x, uint64_t start, void *bytes, size_t count, size_t *got);
 
 /* ---- extensible cords ---- */
@@ -260,7 +261,7 @@ int zc_sprintf(const void *format, size_t format_count, zc_arg *args, size_t cou
 /* These three are in C here, over the calls above: no proof speaks of them. */
 #ifndef _WIN32
 
-/* Writes all bytes of x to the descriptor fd. ZC_WRITE_FAILED, ZC_NO_MEMORY: then a prefix of them is written.
+/* Writes all bytes of x to the descriptor fd. ZC_WRITE_FAILED: then a prefix of them is written. It takes no memory.
    O(n), and O(d) for each 16,384 bytes. */
 static inline int zc_put(zc_cord *x, int fd) {
     unsigned char bytes[16384];

@@ -13,8 +13,9 @@ ghost use Rattle.core.specs.Ptr.{as_mut_ptr};
 
 use crate::Handle;
 use crate::code::{BAD_ARGUMENT, NO_MEMORY, NOT_FOUND, OK};
+use crate::copy::copy_from;
 use crate::pointer::missing;
-use cord::{MAX_DEPTH, Text};
+use cord::MAX_DEPTH;
 use std::alloc::Global;
 use std::cmp::Ordering;
 
@@ -28,11 +29,9 @@ pub extern "C" fn zc_len(alloc: Global, x: &mut Handle) -> u64
     if missing(x) {
         return 0;
     }
-    let Some(text) = x.lift(alloc) else {
-        return 0;
-    };
-    let answer = text.len();
-    x.lower(text);
+    let text = x.lift(alloc);
+    let answer = text.text().len();
+    x.lower(alloc, text);
     answer
 }
 
@@ -46,11 +45,9 @@ pub extern "C" fn zc_depth(alloc: Global, x: &mut Handle) -> u32
     if missing(x) {
         return 0;
     }
-    let Some(text) = x.lift(alloc) else {
-        return 0;
-    };
-    let answer = text.as_cord().depth();
-    x.lower(text);
+    let text = x.lift(alloc);
+    let answer = text.text().as_cord().depth();
+    x.lower(alloc, text);
     answer
 }
 
@@ -84,11 +81,9 @@ pub extern "C" fn zc_chr(alloc: Global, x: &mut Handle, start: u64, byte: u8) ->
     if missing(x) {
         return NOT_FOUND;
     }
-    let Some(text) = x.lift(alloc) else {
-        return NOT_FOUND;
-    };
-    let answer = text.find_byte(byte, start).unwrap_or(NOT_FOUND);
-    x.lower(text);
+    let text = x.lift(alloc);
+    let answer = text.text().find_byte(byte, start).unwrap_or(NOT_FOUND);
+    x.lower(alloc, text);
     answer
 }
 
@@ -102,11 +97,9 @@ pub extern "C" fn zc_rchr(alloc: Global, x: &mut Handle, end: u64, byte: u8) -> 
     if missing(x) {
         return NOT_FOUND;
     }
-    let Some(text) = x.lift(alloc) else {
-        return Text::empty().rfind_byte(byte, end).unwrap_or(NOT_FOUND);
-    };
-    let answer = text.rfind_byte(byte, end).unwrap_or(NOT_FOUND);
-    x.lower(text);
+    let text = x.lift(alloc);
+    let answer = text.text().rfind_byte(byte, end).unwrap_or(NOT_FOUND);
+    x.lower(alloc, text);
     answer
 }
 
@@ -159,10 +152,10 @@ pub extern "C" fn zc_find(
     if missing(x) || missing(place) {
         return BAD_ARGUMENT;
     }
-    let Ok(text) = x.read(alloc) else {
-        return NO_MEMORY;
-    };
-    let Ok(found) = text.find(alloc, bytes, start) else {
+    let text = x.lift(alloc);
+    let found = text.text().find(alloc, bytes, start);
+    x.lower(alloc, text);
+    let Ok(found) = found else {
         return NO_MEMORY;
     };
     *place = found.unwrap_or(NOT_FOUND);
@@ -246,39 +239,35 @@ pub extern "C" fn zc_count(alloc: Global, x: &mut Handle, byte: u8) -> u64
     if missing(x) {
         return 0;
     }
-    let Some(text) = x.lift(alloc) else {
-        return 0;
-    };
-    let answer = text.count_of(byte);
-    x.lower(text);
+    let text = x.lift(alloc);
+    let answer = text.text().count_of(byte);
+    x.lower(alloc, text);
     answer
 }
 
-/// Copies as many bytes of `x` from `start` on as `bytes` has: `BAD_ARGUMENT` where there are fewer, `NO_MEMORY` where
-/// memory was refused, and then `bytes` stays.
+/// Copies as many bytes of `x` from `start` on as `bytes` has: `BAD_ARGUMENT` where there are fewer, and then `bytes` stays.
 #[unsafe(no_mangle)]
 pub extern "C" fn zc_to_bytes(alloc: Global, x: &mut Handle, start: u64, bytes: &mut [u8]) -> i32
     requires places { Testable (as_mut_ptr x) }
     ensures bytes { result ≡ OK → bytes.new ≡ take (length bytes.old) (drop start x.old.text) }
     ensures few { result ≡ BAD_ARGUMENT → length x.old.text - start < length bytes.old }
     ensures kept { (result ≡ OK) ⊎ (bytes.new ≡ bytes.old) }
-    ensures code { (result ≡ OK) ⊎ (result ≡ NO_MEMORY) ⊎ (result ≡ BAD_ARGUMENT) }
+    ensures code { (result ≡ OK) ⊎ (result ≡ BAD_ARGUMENT) }
     ensures x { x.new.text ≡ x.old.text }
 {
     if missing(x) {
         return BAD_ARGUMENT;
     }
-    let Ok(part) = x.part(alloc, start, bytes.len() as u64) else {
-        return NO_MEMORY;
+    let text = x.lift(alloc);
+    let left = text.text().len().saturating_sub(start);
+    let code = if left < bytes.len() as u64 {
+        BAD_ARGUMENT
+    } else {
+        copy_from(text.text(), start, bytes);
+        OK
     };
-    if part.len() < bytes.len() as u64 {
-        return BAD_ARGUMENT;
-    }
-    let Ok(copy) = part.to_vec(alloc) else {
-        return NO_MEMORY;
-    };
-    bytes.copy_from_slice(&copy);
-    OK
+    x.lower(alloc, text);
+    code
 }
 
 /// Copies bytes of `x` from `start` on, as many as there are and `bytes` has room for, and writes how many to `got`.
@@ -295,21 +284,15 @@ pub extern "C" fn zc_read(
     ensures bytes { result ≡ OK → take got.new bytes.new ≡ take (length bytes.old) (drop start x.old.text) }
     ensures rest { result ≡ OK → drop got.new bytes.new ≡ drop got.new bytes.old }
     ensures kept { (result ≡ OK) ⊎ ((got.new ≡ got.old) × (bytes.new ≡ bytes.old)) }
-    ensures code { IsKeeping result }
+    ensures code { result ≡ OK }
     ensures x { x.new.text ≡ x.old.text }
 {
     if missing(x) || missing(got) {
         return BAD_ARGUMENT;
     }
-    let room = bytes.len() as u64;
-    let Ok(part) = x.part(alloc, start, room) else {
-        return NO_MEMORY;
-    };
-    let Ok(copy) = part.to_vec(alloc) else {
-        return NO_MEMORY;
-    };
-    let count = copy.len();
-    bytes[..count].copy_from_slice(&copy);
+    let text = x.lift(alloc);
+    let count = copy_from(text.text(), start, bytes);
+    x.lower(alloc, text);
     *got = count;
     OK
 }

@@ -2,7 +2,7 @@
 ghost use Rattle.std.specs.Prelude.{◌≡◌, ◌⊎◌, ℕ, List, [], take, drop, IfOk, IsOkUnless, MatchOption, slice_get};
 ghost use denote.RawPtr.{Testable};
 ghost use Rattle.cord_c.specs.Codes.{IsKeeping};
-ghost use Rattle.cord_c.specs.Handles.{handle_owns};
+ghost use Rattle.cord_c.specs.Handles.{handle_owns, lifted, IsLifted};
 
 use crate::code::{NO_MEMORY, OK};
 use crate::loose::Loose;
@@ -68,8 +68,20 @@ impl Handle {
         })
     }
 
-    /// Takes the text away, and leaves none of the bytes; nothing where the pointer is null.
-    pub(crate) fn lift(&mut self, alloc: Global) -> Option<Box<Text, Global>>
+    /// Takes the text away, and leaves none of the bytes.
+    pub(crate) fn lift(&mut self, alloc: Global) -> Lifted
+        ensures text { lifted result ≡ self.old.text }
+        ensures form { IsLifted result }
+        ensures left { self.new.text ≡ [] }
+    {
+        match self.lift_box(alloc) {
+            None => Lifted::Nothing(Text::empty()),
+            Some(text) => Lifted::Held(text),
+        }
+    }
+
+    // As `lift`: nothing where the pointer is null.
+    fn lift_box(&mut self, alloc: Global) -> Option<Box<Text, Global>>
         ensures text { MatchOption result (self.old.text ≡ []) (λ b. b.value ≡ self.old.text) }
         ensures left { self.new.text ≡ [] }
     {
@@ -86,9 +98,10 @@ impl Handle {
         ensures same { self.new.text ≡ self.old.text }
         ensures refused { IsOkUnless result CordError.NoMemory }
     {
-        let whole = self.read(alloc)?;
-        let part = whole.substr(alloc, start, count)?;
-        Ok(part)
+        let whole = self.lift(alloc);
+        let part = whole.text().substr(alloc, start, count);
+        self.lower(alloc, whole);
+        part
     }
 
     /// Its byte at a place, nothing at or past the end.
@@ -96,17 +109,21 @@ impl Handle {
         ensures byte { result ≡ slice_get self.old.text place }
         ensures same { self.new.text ≡ self.old.text }
     {
-        let text = self.lift(alloc)?;
-        let found = text.get(place);
-        self.lower(text);
+        let text = self.lift(alloc);
+        let found = text.text().get(place);
+        self.lower(alloc, text);
         found
     }
 
-    /// Holds this text on the heap from now on.
-    pub(crate) fn lower(&mut self, text: Box<Text, Global>)
-        ensures { self.new.text ≡ text.value }
+    /// Holds a lifted text from now on.
+    pub(crate) fn lower(&mut self, alloc: Global, text: Lifted)
+        requires { IsLifted text }
+        ensures { self.new.text ≡ lifted text }
     {
-        *self = Handle::of(Loose::of(text));
+        match text {
+            Lifted::Nothing(_) => *self = Handle::empty(alloc),
+            Lifted::Held(text) => *self = Handle::of(Loose::of(text)),
+        }
     }
 
     /// The text once more, which shares its tree. Refused for want of memory alone.
@@ -115,24 +132,51 @@ impl Handle {
         ensures same { self.new.text ≡ self.old.text }
         ensures refused { IsOkUnless result CordError.NoMemory }
     {
-        let Some(text) = self.lift(alloc) else {
-            return Ok(Text::empty());
-        };
-        let shared = text.share(alloc);
-        self.lower(text);
+        let text = self.lift(alloc);
+        let shared = text.text().share(alloc);
+        self.lower(alloc, text);
         shared
     }
 
-    /// Holds this text from now on, and frees the one that it held. Refused for want of memory alone: then it stays.
+    /// Holds this text from now on, and frees the one that it held, whose place on the heap it takes. Refused for want of
+    /// memory alone, where the pointer is null: then it stays.
     pub(crate) fn hold(&mut self, alloc: Global, text: Text) -> i32
         ensures held { result ≡ OK → self.new.text ≡ text }
         ensures kept { (result ≡ OK) ⊎ (self.new.text ≡ self.old.text) }
         ensures code { IsKeeping result }
     {
-        let Ok(text) = Box::new(alloc, text) else {
-            return NO_MEMORY;
+        let held = match self.lift_box(alloc) {
+            Some(mut held) => {
+                *held = text;
+                held
+            }
+            None => match Box::new(alloc, text) {
+                Ok(held) => held,
+                Err(_) => return NO_MEMORY,
+            },
         };
-        self.lower(text);
+        self.lower(alloc, Lifted::Held(held));
         OK
+    }
+}
+
+/// A text that is out of its handle while a call uses it.
+#[derive(Drop)]
+pub(crate) enum Lifted {
+    /// That of a null pointer, which has no bytes.
+    Nothing(Text),
+    /// One on the heap.
+    Held(Box<Text, Global>),
+}
+
+impl Lifted {
+    /// The text.
+    pub(crate) fn text(&self) -> &Text
+        ensures { result.now ≡ lifted self.now }
+    {
+        match self {
+            Lifted::Nothing(empty) => empty,
+            Lifted::Held(text) => text.as_ref(),
+        }
     }
 }

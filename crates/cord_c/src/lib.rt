@@ -4,6 +4,7 @@
 mod argument;
 mod ask;
 mod code;
+mod copy;
 mod edit;
 mod extend;
 mod extensible;

@@ -89,10 +89,10 @@ pub extern "C" fn zc_cat_bytes(alloc: Global, x: &mut Handle, bytes: &[u8], out:
     if missing(x) || missing(out) {
         return BAD_ARGUMENT;
     }
-    let Ok(old) = x.read(alloc) else {
-        return NO_MEMORY;
-    };
-    match old.append_bytes(alloc, bytes) {
+    let old = x.lift(alloc);
+    let longer = old.text().append_bytes(alloc, bytes);
+    x.lower(alloc, old);
+    match longer {
         Ok(text) => out.hold(alloc, text),
         Err(refusal) => code_of(refusal),
     }
@@ -112,10 +112,10 @@ pub extern "C" fn zc_cat_char(alloc: Global, x: &mut Handle, byte: u8, out: &mut
     if missing(x) || missing(out) {
         return BAD_ARGUMENT;
     }
-    let Ok(old) = x.read(alloc) else {
-        return NO_MEMORY;
-    };
-    match old.append_bytes(alloc, &[byte]) {
+    let old = x.lift(alloc);
+    let longer = old.text().append_bytes(alloc, &[byte]);
+    x.lower(alloc, old);
+    match longer {
         Ok(text) => out.hold(alloc, text),
         Err(refusal) => code_of(refusal),
     }
