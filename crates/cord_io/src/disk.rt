@@ -12,6 +12,7 @@ use crate::{FileNo, Files, OpenFault, ReadFault};
 use std::alloc::{AllocError, Global};
 use std::fs::OpenFile;
 use std::io::{self, ErrorKind, Seek, SeekFrom};
+use std::os::unix::fs::FileExt;
 use std::{fs, rt};
 
 /// The machine's files. They keep each folder with which all that they told agrees: a trace, which only proofs read and which
@@ -47,7 +48,10 @@ fn len_of<F: Seek + OpenFile>(file: &mut F) -> io::Result<u64> {
     file.seek(SeekFrom::End(0))
 }
 
-impl<R: rt::Files> DiskFiles<R> {
+impl<R: rt::Files> DiskFiles<R>
+where
+    R::File: FileExt,
+{
     ghost use Rattle.cord_io.specs.DiskTold.{told_by};
 
     /// The machine's files, as the runtime opens them, with none opened yet.
@@ -94,7 +98,10 @@ impl<R: rt::Files> DiskFiles<R> {
     }
 }
 
-impl<R: rt::Files> Files for DiskFiles<R> {
+impl<R: rt::Files> Files for DiskFiles<R>
+where
+    R::File: FileExt,
+{
     ghost use Rattle.cord_io.specs.inner.Disk.{opened_of};
     ghost use Rattle.cord_io.specs.DiskTold.{told_by, after_opening, after_reading, AgreesWithMachine};
     ghost use Rattle.cord_io.specs.Told.{Agrees};

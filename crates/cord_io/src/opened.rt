@@ -9,7 +9,8 @@ use crate::memory::copy_from;
 use crate::reader::Reader;
 use crate::span::Span;
 use std::alloc::Global;
-use std::io::{self, Read, Seek};
+use std::io;
+use std::os::unix::fs::FileExt;
 
 // How many bytes the machine is asked for at once at most, where they are many: so few that the processor still has
 // them at hand where they are used next.
@@ -28,7 +29,7 @@ pub(crate) struct OpenedFile<F> {
     ghost ahead: { IsAhead reader.given.told (string_bytes reader.path) start count bytes.items },
 }
 
-impl<F: Read + Seek> OpenedFile<F> {
+impl<F: FileExt> OpenedFile<F> {
     // A file that was opened, and of which nothing is read.
     pub(crate) fn new(alloc: Global, file: F, path: String, len: u64) -> Self
         ensures path { result.reader.path ≡ path }
@@ -36,7 +37,7 @@ impl<F: Read + Seek> OpenedFile<F> {
         ensures given { result.reader.given.told ≡ [] }
     {
         OpenedFile {
-            reader: Reader::new(file, path, len),
+            reader: Reader::new(file, path),
             len,
             bytes: Vec::new(alloc),
             start: 0,

@@ -6,28 +6,26 @@ ghost use Rattle.cord_io.specs.Told.{Agrees};
 ghost use Rattle.cord_io.specs.Given.{after_asking};
 
 use crate::trace::{Answer, Trace};
-use std::io::{self, ErrorKind, Read, Seek, SeekFrom};
+use std::io::{self, ErrorKind};
+use std::os::unix::fs::FileExt;
 
-// An opened file of the machine: its path, the place where its next read begins, where that is known, and all that it
-// gave, which only proofs read.
+// An opened file of the machine: its path, and all that it gave, which only proofs read.
 #[derive(Drop)]
 pub(crate) struct Reader<F> {
     file: F,
     pub(crate) path: String,
-    place: Option<u64>,
     pub(crate) given: Trace,
 }
 
-impl<F: Read + Seek> Reader<F> {
-    // A file that has given nothing, and whose next read begins at a place.
-    pub(crate) fn new(file: F, path: String, place: u64) -> Self
+impl<F: FileExt> Reader<F> {
+    // A file that has given nothing.
+    pub(crate) fn new(file: F, path: String) -> Self
         ensures path { result.path ≡ path }
         ensures given { result.given.told ≡ [] }
     {
         Reader {
             file,
             path,
-            place: Some(place),
             given: Trace::new(),
         }
     }
@@ -67,20 +65,14 @@ impl<F: Read + Seek> Reader<F> {
         self.ask(start, &mut out[..wanted])
     }
 
-    // The machine's own answer. It seeks only where the last read ended elsewhere: reading on is one system call.
-    fn read_some(&mut self, start: u64, out: &mut [u8]) -> io::Result<usize>
+    // The machine's own answer, by one system call.
+    fn read_some(&self, start: u64, out: &mut [u8]) -> io::Result<usize>
         ensures some { IfOk result (λ k. (0 < k) × (k ≤ length out.new)) }
-        ensures path { self.new.path ≡ self.old.path }
-        ensures given { self.new.given.told ≡ self.old.given.told }
     {
-        if self.place.take() != Some(start) {
-            self.file.seek(SeekFrom::Start(start))?;
-        }
-        let count = self.file.read(out)?;
+        let count = self.file.read_at(out, start)?;
         if count == 0 {
             return Err(io::Error::from(ErrorKind::UnexpectedEof));
         }
-        self.place = start.checked_add(count as u64);
         Ok(count)
     }
 }

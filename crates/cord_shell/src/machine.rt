@@ -14,6 +14,7 @@ use cord_io::{DiskFiles, Files, Sink, StdSink};
 use cord_script::{bytes_are_one_script, read_scripts_have_no_flaw};
 use std::alloc::Global;
 use std::io::Write;
+use std::os::unix::fs::FileExt;
 use std::rt;
 
 /// What came of the program: its exit status, and the machine's devices, which have told all that they were asked.
@@ -48,6 +49,8 @@ pub fn run_on_machine<R: rt::Files, O: Write, E: Write>(
     stdout: O,
     stderr: E,
 ) -> Ran<R, O, E>
+where
+    R::File: FileExt,
     ensures run { (folder : Folder) → Agrees folder (told_by result.files) →
         (path b : List ℕ) (unplanned : Bool) (statements : List Statement) →
         AsksFor (map string_bytes words.now) path unplanned false → file_at folder path ≡ Some b → Reads b statements →

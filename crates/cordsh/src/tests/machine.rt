@@ -2,6 +2,7 @@
 use super::{HELLO, lines, numbered, words_of};
 use cord_shell::run_on_machine;
 use std::io::{self, ErrorKind, Write};
+use std::os::unix::fs::FileExt;
 use std::process::Abort;
 use std::{fs, rt};
 
@@ -54,7 +55,10 @@ fn run_over<R: rt::Files + AllocGlobal + Abort + Clone, O: Write + Drop>(
     rt: &R,
     words: &[&str],
     out: O,
-) -> (u8, Vec<u8>) {
+) -> (u8, Vec<u8>)
+where
+    R::File: FileExt,
+{
     let words = words_of(rt, words);
     let runtime = rt.clone().expect(rt, "no runtime");
     let mut err: Vec<u8> = Vec::new(rt.alloc());
@@ -69,7 +73,10 @@ fn expect_run<R: rt::Files + AllocGlobal + Abort + Clone>(
     status: u8,
     written: &[u8],
     told: &[u8],
-) {
+)
+where
+    R::File: FileExt,
+{
     let mut out: Vec<u8> = Vec::new(rt.alloc());
     let (answered, err) = run_over(rt, words, &mut out);
     assert!(rt; answered == status);

@@ -8,8 +8,10 @@ use super::Ask::{self, Failures, Fault, Open, Read as Reads};
 use super::{expect_all, expect_answer, expect_answers, expect_no_file, opened};
 use cord_io::{DiskFiles, FileNo, Files, OpenFault, ReadFault};
 use std::alloc::{Allocator, Global};
+use std::cell::Cell;
 use std::fs::{self, Metadata, OpenFile};
 use std::io::{self, ErrorKind, Read, Seek, SeekFrom, Write};
+use std::os::unix::fs::FileExt;
 use std::process::Abort;
 use std::rt;
 
@@ -28,20 +30,17 @@ enum Trouble {
     InterruptedOnce,
 }
 
-// A machine that has ten digits at each path. Its files fail after so many seeks, and after so many reads.
+// A machine that has ten digits at each path. Its files can be sought in or not, and fail after so many reads.
 #[derive(Drop)]
 struct Machine {
     trouble: Trouble,
-    seeks: u8,
     reads: u8,
 }
 
 #[derive(Drop)]
 struct MachineFile {
     trouble: Trouble,
-    seeks: u8,
-    reads: u8,
-    place: usize,
+    reads: Cell<u8>,
 }
 
 fn unsupported<T>() -> io::Result<T>
@@ -50,25 +49,36 @@ fn unsupported<T>() -> io::Result<T>
     Err(io::Error::from(ErrorKind::Unsupported))
 }
 
-impl Read for MachineFile {
-    fn read(&mut self, buf: &mut [u8]) -> io::Result<usize> {
-        if self.reads == 0 {
+impl FileExt for MachineFile {
+    fn read_at(&self, buf: &mut [u8], offset: u64) -> io::Result<usize> {
+        let reads = self.reads.get();
+        if reads == 0 {
             return match self.trouble {
                 Trouble::EmptyRead => Ok(0),
                 Trouble::InterruptedOnce => {
-                    self.reads = 1;
+                    self.reads.set(1);
                     Err(io::Error::from(ErrorKind::Interrupted))
                 }
                 _ => Err(io::Error::from(ErrorKind::Interrupted)),
             };
         }
-        self.reads -= 1;
-        let place = self.place.min(DIGITS.len());
+        self.reads.set(reads - 1);
+        let place = offset.min(DIGITS.len() as u64) as usize;
         let rest = &DIGITS[place..];
         let count = rest.len().min(buf.len());
         buf[..count].copy_from_slice(&rest[..count]);
-        self.place = place + count;
         Ok(count)
+    }
+
+    fn write_at(&self, _buf: &[u8], _offset: u64) -> io::Result<usize> {
+        unsupported()
+    }
+}
+
+// Files are read by their places alone.
+impl Read for MachineFile {
+    fn read(&mut self, _buf: &mut [u8]) -> io::Result<usize> {
+        unsupported()
     }
 }
 
@@ -84,19 +94,9 @@ impl Write for MachineFile {
 
 impl Seek for MachineFile {
     fn seek(&mut self, to: SeekFrom) -> io::Result<u64> {
-        if self.seeks == 0 {
-            return unsupported();
-        }
-        self.seeks -= 1;
         match to {
-            SeekFrom::Start(place) => {
-                self.place = place as usize;
-                Ok(place)
-            }
-            _ => {
-                self.place = 10;
-                Ok(10)
-            }
+            SeekFrom::End(0) if self.trouble != Trouble::NoSeek => Ok(10),
+            _ => unsupported(),
         }
     }
 }
@@ -133,9 +133,7 @@ impl rt::Files for Machine {
             Trouble::Forbidden => Err(io::Error::from(ErrorKind::PermissionDenied)),
             trouble => Ok(MachineFile {
                 trouble,
-                seeks: self.seeks,
-                reads: self.reads,
-                place: 0,
+                reads: Cell::new(self.reads),
             }),
         }
     }
@@ -182,12 +180,11 @@ fn expect_asked(rt: &impl Abort, alloc: Global, machine: Machine, asks: &[Ask]) 
     expect_all(rt, &mut DiskFiles::new(machine, alloc), "digits", asks);
 }
 
-// Reading on needs no seek and no call for each part: one seek to the end and one back, a read and one of the rest.
+// Reading on needs no call for each part: a read and one of the rest.
 #[test]
-fn reads_on_ahead_without_a_seek(rt: HostRuntime) {
+fn reads_on_ahead(rt: HostRuntime) {
     let machine = Machine {
         trouble: Trouble::Nothing,
-        seeks: 2,
         reads: 2,
     };
     let asks = [
@@ -234,7 +231,6 @@ fn read_in_turn<F: Files>(rt: &impl Abort, files: &mut F) {
 fn reads_two_files_ahead(rt: HostRuntime) {
     let machine = Machine {
         trouble: Trouble::Nothing,
-        seeks: 2,
         reads: 2,
     };
     read_in_turn(&rt, &mut DiskFiles::new(machine, rt.alloc()));
@@ -246,7 +242,6 @@ fn reads_two_files_ahead(rt: HostRuntime) {
 fn reads_elsewhere_as_they_are(rt: HostRuntime) {
     let machine = Machine {
         trouble: Trouble::InterruptedOnce,
-        seeks: 3,
         reads: 2,
     };
     let asks = [
@@ -264,7 +259,6 @@ fn reads_elsewhere_as_they_are(rt: HostRuntime) {
 fn reads_a_range_elsewhere_in_one_call(rt: HostRuntime) {
     let machine = Machine {
         trouble: Trouble::Nothing,
-        seeks: 3,
         reads: 2,
     };
     let asks = [
@@ -281,7 +275,6 @@ fn reads_a_range_elsewhere_in_one_call(rt: HostRuntime) {
 fn reads_ahead_over_gaps(rt: HostRuntime) {
     let machine = Machine {
         trouble: Trouble::Nothing,
-        seeks: 3,
         reads: 2,
     };
     let asks = [
@@ -298,22 +291,17 @@ fn reads_ahead_over_gaps(rt: HostRuntime) {
 fn a_fault_ahead_is_no_fault(rt: HostRuntime) {
     let machine = Machine {
         trouble: Trouble::InterruptedOnce,
-        seeks: 3,
         reads: 1,
     };
     let asks = [Reads(0, 4, b"0123"), Reads(4, 4, b"4567"), Failures(0)];
     expect_asked(&rt, rt.alloc(), machine, &asks);
 }
 
-// After a fault the place of the machine's file is not known, so that the next read seeks.
+// A read after a fault asks the machine again.
 #[test]
 fn faults_in_mid_stream_are_counted(rt: HostRuntime) {
     for trouble in [Trouble::EmptyRead, Trouble::Interrupted] {
-        let machine = Machine {
-            trouble,
-            seeks: 4,
-            reads: 1,
-        };
+        let machine = Machine { trouble, reads: 1 };
         let asks = [Reads(2, 4, b"2345"), Fault(6), Fault(6), Failures(2)];
         expect_asked(&rt, rt.alloc(), machine, &asks);
     }
@@ -328,11 +316,7 @@ fn only_a_missing_path_is_not_found(rt: HostRuntime) {
         (Trouble::NoSeek, OpenFault::Failed, 1),
     ];
     for (trouble, fault, failures) in rows {
-        let machine = Machine {
-            trouble,
-            seeks: 0,
-            reads: 0,
-        };
+        let machine = Machine { trouble, reads: 0 };
         let mut files = DiskFiles::new(machine, rt.alloc());
         assert!(rt; files.open("digits") == Err(fault));
         assert!(rt; files.failures() == failures);
@@ -349,7 +333,10 @@ fn remove(rt: &(impl rt::Files + Abort), path: &str) {
 }
 
 // The files of the machine that runs the test.
-fn real<R: rt::Files + AllocGlobal + Abort + Clone>(rt: &R) -> DiskFiles<R> {
+fn real<R: rt::Files + AllocGlobal + Abort + Clone>(rt: &R) -> DiskFiles<R>
+where
+    R::File: FileExt,
+{
     DiskFiles::new(rt.clone().expect(rt, "no runtime"), rt.alloc())
 }
 
@@ -387,6 +374,8 @@ fn read_told<R: rt::Files>(
     start: u64,
     out: &mut [u8],
 ) -> Result<usize, ReadFault>
+where
+    R::File: FileExt,
     requires { 0 < length out.old }
     ensures { (folder : Folder) → Agrees folder (told_by files.new) → IfOk result (λ k.
         take k out.new ≡ take k (drop start (bytes_at folder path.now))) }
@@ -407,14 +396,20 @@ fn expect_told<R: rt::Files>(
     path: &str,
     start: u64,
     bytes: &[u8],
-) {
+)
+where
+    R::File: FileExt,
+{
     let mut out = [0u8; 4];
     assert!(rt; read_told(files, path, start, &mut out) == Ok(bytes.len()));
     assert!(rt; out.starts_with(bytes), "from {start}");
 }
 
 // That nothing is read of a path from a place on.
-fn expect_untold<R: rt::Files>(rt: &impl Abort, files: &mut DiskFiles<R>, path: &str, start: u64) {
+fn expect_untold<R: rt::Files>(rt: &impl Abort, files: &mut DiskFiles<R>, path: &str, start: u64)
+where
+    R::File: FileExt,
+{
     let mut out = [0u8; 4];
     assert!(rt;
         read_told(files, path, start, &mut out) == Err(ReadFault),
