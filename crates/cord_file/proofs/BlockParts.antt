@@ -1,7 +1,7 @@
 -- Parts of blocks, and what is kept.
 use Rattle.std.proofs.Common.{◌≡◌, ℕ, ◌+◌, ◌*◌, ◌/◌, ◌%◌, ◌<◌, ◌≤◌, ◌⊎◌, inl, inr, List, [], ◌∷◌, ◌++◌, Bool, true, false, length}
-use Rattle.std.proofs.Common.{length-append, take, drop, Contains, Option, Some, None, refl, sym, ap, subst, ◌∙◌, arith}
-use Rattle.std.specs.Prelude.{slice_get, is_some, IsSome, IsSomeAnd, if◌then◌else◌}
+use Rattle.std.proofs.Common.{length-append, take, drop, Contains, Option, Some, None, Result, Ok, Err, refl, sym, ap, subst, ◌∙◌, arith}
+use Rattle.std.specs.Prelude.{slice_get, is_some, IsSome, IsSomeAnd, OnOk, if◌then◌else◌}
 use Rattle.std.specs.String.{string_bytes}
 use Rattle.std.proofs.lemmas.Option.{slice_get_within}
 use Rattle.std.proofs.lemmas.List.{drop-take, take-take, drop-drop}
@@ -9,7 +9,7 @@ use Rattle.cord_io.specs.Device.{Folder, bytes_at}
 use Rattle.cord_file.specs.declared.blocks.TheConstants.{BLOCK}
 use Rattle.cord_file.specs.declared.blocks.BlockKey.{BlockKey}
 use Rattle.cord_file.specs.declared.files.OpenFile.{OpenFile}
-use Rattle.cord_file.specs.Blocks.{HeapBlock, Entry, Slotted, block_size, IsBlock, IsKept, AreKept, AreRead}
+use Rattle.cord_file.specs.Blocks.{HeapBlock, Entry, Slotted, block_size, IsBlock, IsBlockIn, IsKept, AreKept, AreRead}
 use Rattle.cord_file.specs.Files.{told_of}
 use Rattle.cord_file.specs.Soundness.{IsSound}
 use Rattle.cord_file.proofs.Growing.{place_inside}
@@ -29,59 +29,6 @@ part_of_block len number from count text block inside within is =
     same_part (block_size len number) from count block (drop (number * BLOCK) text) fits is
     ∙ ap (take count) (drop-drop from (number * BLOCK) text)
 
--- what was read as a block of an opened file is a block of it
-pub block_of_read : (told : Option (List ℕ × ℕ)) (files : List OpenFile) (place number : ℕ) (file f : OpenFile) (block : List ℕ)
-    (folder : Folder) → slice_get files place ≡ Some file → told ≡ Some (told_of file) →
-    IsSomeAnd told (λ t. IsBlock file.len (bytes_at folder t.0) number block) → slice_get files place ≡ Some f →
-    IsBlock f.len (bytes_at folder (string_bytes f.path)) number block
-block_of_read told files place number file f block folder here same read there = subst (λ x. IsBlock x.len (bytes_at folder (string_bytes x.path)) number block) (one_file file f (sym here ∙ there)) (subst (λ o. IsSomeAnd o (λ t. IsBlock file.len (bytes_at folder t.0) number block)) same read) where
-  one_file : (f g : OpenFile) → Some f ≡ Some g → f ≡ g
-  one_file f g e = cc
-
--- a block that was read of an opened file can be kept
-pub kept_of_read : (keeps : Folder → Type 0) (told : Option (List ℕ × ℕ)) (files : List OpenFile) (key : BlockKey) (file : OpenFile)
-    (block : HeapBlock) → slice_get files key.place ≡ Some file → told ≡ Some (told_of file) →
-    ((folder : Folder) → keeps folder → IsSomeAnd told (λ t. IsBlock file.len (bytes_at folder t.0) key.number block.value)) →
-    IsKept keeps files (key, block)
-kept_of_read keeps told files key file block here same read = record {
-  opened = slice_get_within files key.place file here;
-  block = λ f e folder kept. block_of_read told files key.place key.number file f block.value folder here same (read folder kept) e;
-}
-
--- what is copied of a block is the file's
-pub read_of_block : (files : List OpenFile) (place number : ℕ) (block out : List ℕ) (start : ℕ) (folder : Folder) →
-    ((file : OpenFile) → slice_get files place ≡ Some file → IsBlock file.len (bytes_at folder (string_bytes file.path)) number block) →
-    number ≡ start / BLOCK → IsSomeAnd (slice_get files place) (λ file. start + length out ≤ file.len) →
-    start % BLOCK + length out ≤ BLOCK → out ≡ take (length out) (drop (start % BLOCK) block) →
-    AreRead folder (slice_get files place) start out
-read_of_block files place number block out start folder is same inside part copied = at (slice_get files place) refl inside where
-  at : (o : Option OpenFile) → slice_get files place ≡ o → IsSomeAnd o (λ file. start + length out ≤ file.len) →
-      IsSomeAnd o (λ file. out ≡ take (length out) (drop start (bytes_at folder (string_bytes file.path))))
-  at None e h = absurd h
-  at (Some file) e within =
-      let place : number * BLOCK + start % BLOCK ≡ start = omega (arith, same) in
-      let range : number * BLOCK + start % BLOCK + length out ≤ file.len = omega (arith, place, within) in
-      let text : List ℕ = bytes_at folder (string_bytes file.path) in
-      copied ∙ part_of_block file.len number (start % BLOCK) (length out) text block part range (is file e)
-      ∙ ap (λ n. take (length out) (drop n text)) place
-
--- what is copied of a kept block is the file's
-pub read_of_kept : (keeps : Folder → Type 0) (files : List OpenFile) (key : BlockKey) (block : HeapBlock) (out : List ℕ) (start : ℕ) →
-    IsKept keeps files (key, block) → key.number ≡ start / BLOCK →
-    IsSomeAnd (slice_get files key.place) (λ file. start + length out ≤ file.len) → start % BLOCK + length out ≤ BLOCK →
-    out ≡ take (length out) (drop (start % BLOCK) block.value) → (folder : Folder) → keeps folder →
-    AreRead folder (slice_get files key.place) start out
-read_of_kept keeps files key block out start kept number inside part copied folder is =
-    read_of_block files key.place key.number block.value out start folder (λ file e. kept.block file e folder is) number inside part copied
-
--- one more block is kept
-pub kept_with : (keeps : Folder → Type 0) (files : List OpenFile) (old new : List Slotted) (entry : Entry) → AreKept keeps files old →
-    IsKept keeps files entry → ((e : Slotted) → Contains new e → Contains old e ⊎ (e.1 ≡ entry)) → AreKept keeps files new
-kept_with keeps files old new entry all one among e h = elim (among e h) [
-  | inl was ↦ all e was
-  | inr same ↦ subst (IsKept keeps files) (sym same) one
-]
-
 -- a place that has a file lies among those opened
 pub inside_opened : (files : List OpenFile) (place : ℕ) (P : OpenFile → Type 0) → IsSomeAnd (slice_get files place) P → place < length files
 inside_opened files place P h = at (slice_get files place) refl h where
@@ -92,6 +39,67 @@ inside_opened files place P h = at (slice_get files place) refl h where
 -- what holds at a place holds of its file
 pub of_slot : (P : OpenFile → Type 0) {o : Option OpenFile} {file : OpenFile} → o ≡ Some file → IsSomeAnd o P → P file
 of_slot P e h = subst (λ o. IsSomeAnd o P) e h
+
+-- what was read as a block of the file that the device told is one of the file in its place, where the read didn't fail
+pub block_of_told : {A E : Type 0} (r : Result A E) (folder : Folder) (told : Option (List ℕ × ℕ)) (slot : Option OpenFile) (file : OpenFile)
+    (number : ℕ) (block : List ℕ) → told ≡ Some (told_of file) → slot ≡ Some file →
+    OnOk r (IsSomeAnd told (λ t. IsBlock file.len (bytes_at folder t.0) number block)) → OnOk r (IsBlockIn folder slot number block)
+block_of_told (Err e) folder told slot file number block same here read = tt
+block_of_told (Ok x) folder told slot file number block same here read =
+    let is : Option (List ℕ × ℕ) → Type 0 = λ o. IsSomeAnd o (λ t. IsBlock file.len (bytes_at folder t.0) number block) in
+    subst (λ o. IsBlockIn folder o number block) (sym here) (subst is same read)
+
+-- the block of a range lies inside the file
+pub begins_inside : (o : Option OpenFile) (start count : ℕ) → 0 < count → IsSomeAnd o (λ file. start + count ≤ file.len) →
+    IsSomeAnd o (λ file. start / BLOCK * BLOCK < file.len)
+begins_inside None start count some h = absurd h
+begins_inside (Some file) start count some h = omega (arith, some, h)
+
+-- what holds of the file at a place, where there is one, holds there
+in_slot : (P Q : OpenFile → Type 0) (o : Option OpenFile) → IsSomeAnd o P → ((f : OpenFile) → o ≡ Some f → Q f) → IsSomeAnd o Q
+in_slot P Q None h each = absurd h
+in_slot P Q (Some f) h each = each f refl
+
+-- a block that was read of an opened file can be kept
+pub kept_of_read : (keeps : Folder → Type 0) (files : List OpenFile) (key : BlockKey) (block : HeapBlock) → key.place < length files →
+    ((folder : Folder) → keeps folder → IsBlockIn folder (slice_get files key.place) key.number block.value) → IsKept keeps files (key, block)
+kept_of_read keeps files key block opened read = record {
+  opened = opened;
+  block = λ f e folder kept. of_slot (λ f. IsBlock f.len (bytes_at folder (string_bytes f.path)) key.number block.value) e (read folder kept);
+}
+
+-- what is copied of a block is the file's
+pub read_of_block : (files : List OpenFile) (place number : ℕ) (block out : List ℕ) (start : ℕ) (folder : Folder) →
+    IsBlockIn folder (slice_get files place) number block → number ≡ start / BLOCK → IsSomeAnd (slice_get files place) (λ file. start + length out ≤ file.len) →
+    start % BLOCK + length out ≤ BLOCK → out ≡ take (length out) (drop (start % BLOCK) block) →
+    AreRead folder (slice_get files place) start out
+read_of_block files place number block out start folder is same inside part copied = at (slice_get files place) refl inside where
+  at : (o : Option OpenFile) → slice_get files place ≡ o → IsSomeAnd o (λ file. start + length out ≤ file.len) →
+      IsSomeAnd o (λ file. out ≡ take (length out) (drop start (bytes_at folder (string_bytes file.path))))
+  at None e h = absurd h
+  at (Some file) e within =
+      let place : number * BLOCK + start % BLOCK ≡ start = omega (arith, same) in
+      let range : number * BLOCK + start % BLOCK + length out ≤ file.len = omega (arith, place, within) in
+      let text : List ℕ = bytes_at folder (string_bytes file.path) in
+      copied ∙ part_of_block file.len number (start % BLOCK) (length out) text block part range (of_slot (λ f. IsBlock f.len (bytes_at folder (string_bytes f.path)) number block) e is)
+      ∙ ap (λ n. take (length out) (drop n text)) place
+
+-- what is copied of a kept block is the file's
+pub read_of_kept : (keeps : Folder → Type 0) (files : List OpenFile) (key : BlockKey) (block : HeapBlock) (out : List ℕ) (start : ℕ) →
+    IsKept keeps files (key, block) → key.number ≡ start / BLOCK →
+    IsSomeAnd (slice_get files key.place) (λ file. start + length out ≤ file.len) → start % BLOCK + length out ≤ BLOCK →
+    out ≡ take (length out) (drop (start % BLOCK) block.value) → (folder : Folder) → keeps folder →
+    AreRead folder (slice_get files key.place) start out
+read_of_kept keeps files key block out start kept number inside part copied folder is =
+    read_of_block files key.place key.number block.value out start folder (in_slot _ _ (slice_get files key.place) inside (λ f e. kept.block f e folder is)) number inside part copied
+
+-- one more block is kept
+pub kept_with : (keeps : Folder → Type 0) (files : List OpenFile) (old new : List Slotted) (entry : Entry) → AreKept keeps files old →
+    IsKept keeps files entry → ((e : Slotted) → Contains new e → Contains old e ⊎ (e.1 ≡ entry)) → AreKept keeps files new
+kept_with keeps files old new entry all one among e h = elim (among e h) [
+  | inl was ↦ all e was
+  | inr same ↦ subst (IsKept keeps files) (sym same) one
+]
 
 -- kept blocks stay so where one more file is opened, and memory was found for it
 pub kept_behind : (keeps : Folder → Type 0) (files new : List OpenFile) (file : OpenFile) (b : Bool) (entries : List Slotted) →

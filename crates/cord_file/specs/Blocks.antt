@@ -16,6 +16,10 @@ block_size len number = min (len - number * BLOCK) BLOCK
 abbrev pub IsBlock : ℕ → List ℕ → ℕ → List ℕ → Type 0
 IsBlock len text number block = take (block_size len number) block ≡ take (block_size len number) (drop (number * BLOCK) text)
 
+-- the same of an opened file over a folder
+abbrev pub IsBlockIn : Folder → Option OpenFile → ℕ → List ℕ → Type 0
+IsBlockIn folder slot number block = IsSomeAnd slot (λ file. IsBlock file.len (bytes_at folder (string_bytes file.path)) number block)
+
 -- a block on the heap
 abbrev pub HeapBlock : Type 0
 HeapBlock = Box (List ℕ)

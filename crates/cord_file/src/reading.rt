@@ -1,8 +1,8 @@
 // Reading ranges of files.
-ghost use Rattle.std.specs.Prelude.{◌≡◌, ◌+◌, ◌%◌, ◌<◌, ◌≤◌, ℕ, length, take, drop, is_err, slice_get, vec_len, IfErr};
+ghost use Rattle.std.specs.Prelude.{◌≡◌, ◌+◌, ◌*◌, ◌%◌, ◌<◌, ◌≤◌, ℕ, length, take, drop, is_err, slice_get, vec_len, IfErr};
 ghost use Rattle.std.specs.Prelude.{IfOk, OnOk, IsSomeAnd};
 ghost use Rattle.cord_io.specs.Device.{Folder, bytes_at, count_after};
-ghost use Rattle.cord_file.specs.Blocks.{AreRead, BeginsWithFile};
+ghost use Rattle.cord_file.specs.Blocks.{AreRead, BeginsWithFile, IsBlockIn};
 ghost use Rattle.cord_file.specs.Faults.{has_failed};
 ghost use Rattle.cord_file.specs.Making.{IsReadRefusal};
 ghost use Rattle.cord_file.specs.declared.blocks.TheConstants.{BLOCK};
@@ -294,13 +294,12 @@ impl<F: Files> Sources<F> {
     {
         let number = start / BLOCK as u64;
         let from = (start % BLOCK as u64) as usize;
-        let key = BlockKey { place, number };
         let Some(mut block) = room_for(&mut self.spare, *self.cache.allocator()) else {
             return self.read_unkept(place, start, out);
         };
-        let file = &self.entries[place];
-        read_block(&mut self.files, file.no, file.len, number, &mut block)?;
+        self.read_block(place, number, &mut block)?;
         out.copy_from_slice(&block[from..from + out.len()]);
+        let key = BlockKey { place, number };
         self.spare = keep(&mut self.cache, &mut self.slots, key, block);
         Ok(())
     }
@@ -319,12 +318,30 @@ impl<F: Files> Sources<F> {
         ensures bytes { (folder : Folder) → F.keeps (device_in self.new) folder →
             OnOk result (AreRead folder (slice_get self.old.entries.items place) start out.new) }
     {
-        let number = start / BLOCK as u64;
         let from = (start % BLOCK as u64) as usize;
-        let file = &self.entries[place];
         let mut block = [0; BLOCK];
-        read_block(&mut self.files, file.no, file.len, number, &mut block)?;
+        self.read_block(place, start / BLOCK as u64, &mut block)?;
         out.copy_from_slice(&block[from..from + out.len()]);
         Ok(())
+    }
+
+    // Reads one block of an opened file into the room for one.
+    fn read_block(
+        &mut self,
+        place: usize,
+        number: u64,
+        block: &mut [u8; BLOCK],
+    ) -> Result<(), ReadFault>
+        requires inside { IsSomeAnd (slice_get self.old.entries.items place) (λ file. number * BLOCK < file.len) }
+        ensures earlier { (folder : Folder) →
+            F.keeps (device_in self.new) folder → F.keeps (device_in self.old) folder }
+        ensures entries { self.new.entries.items ≡ self.old.entries.items }
+        ensures count { F.failures (device_in self.new)
+            ≡ count_after (is_err result) (F.failures (device_in self.old)) }
+        ensures block { (folder : Folder) → F.keeps (device_in self.new) folder →
+            OnOk result (IsBlockIn folder (slice_get self.old.entries.items place) number block.new) }
+    {
+        let file = &self.entries[place];
+        read_block(&mut self.files, file.no, file.len, number, block)
     }
 }
