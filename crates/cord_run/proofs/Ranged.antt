@@ -3,7 +3,7 @@ use Rattle.std.proofs.Common.{◌≡◌, ◌+◌, ◌-◌, ◌<◌, ◌≤◌, �
 use Rattle.std.proofs.Common.{Ok, Err, refl, sym, ap, subst, ◌∙◌, append-nil, append_assoc, length-take, arith}
 use Rattle.std.specs.Prelude.{IfOk, min, nat_le, Option}
 use Rattle.std.proofs.lemmas.Bool.{leb-true, leb-false}
-use Rattle.std.proofs.lemmas.List.{drop_all, drop-drop, drop-replicate, drop-take, length-replicate, take_all, take_min, take-replicate}
+use Rattle.std.proofs.lemmas.List.{drop-drop, drop-replicate, drop-take, length-replicate, take_all, take_min, take-replicate}
 use Rattle.std.proofs.lemmas.List.{take-take}
 use Rattle.cord_io.specs.Table.{Table, Lengths}
 use Rattle.cord_io.specs.declared.TheConstants.{MAX_LEN}
@@ -16,7 +16,7 @@ use Rattle.cord_meaning.specs.declared.ends.FaultKind.{FaultKind}
 use Rattle.cord_meaning.specs.State.{number_value, and_then, as_index, as_byte, as_length}
 use Rattle.cord_plan.specs.Exprs.{Expr, name, run, cat, sub, Exprs}
 use Rattle.cord_plan.specs.Meaning.{held_text}
-use Rattle.cord_plan.specs.Values.{within, copies, part_of, measured_copies, measured_part, text_in}
+use Rattle.cord_plan.specs.Values.{within, copies, part_of, measured_copies, text_in}
 use Rattle.cord_plan.proofs.Values.{passes, fits_within, cat_joined}
 use Rattle.cord_run.specs.declared.picking.Wanted.{Wanted}
 use Rattle.cord_run.specs.declared.store.Entry.{Entry}

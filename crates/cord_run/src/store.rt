@@ -1,21 +1,22 @@
 // What the names of a run of a plan hold.
 ghost use Rattle.std.specs.Prelude.{◌≡◌, ◌+◌, ◌<◌, ◌≤◌, ◌∷◌, ℕ, ℤ, List, pos, true, false, [], length, IfOk, IfSome};
 ghost use Rattle.std.specs.Prelude.{IfNone, IsErr, OnOk, Err, None, Some};
-ghost use Rattle.std.specs.Str.{bytes_eq};
 ghost use Rattle.cord_core.specs.Cord.{text_len};
 ghost use Rattle.cord_ec.specs.Grown.{IsGrownBy};
 ghost use Rattle.cord_run.specs.inner.Extending.{cells_of, Grew, GrewTo};
 ghost use Rattle.cord_run.specs.inner.Held.{are_distinct, cells_in, content_in, cord_in, extensible_in, length_in};
 ghost use Rattle.cord_run.specs.inner.Held.{names_in, number_in, operand_in, HasContent, HasExtensible, HasNoEntry};
 ghost use Rattle.cord_run.specs.inner.Held.{HasNumber, IsEntryAt, SameEntries};
-ghost use Rattle.cord_run.specs.inner.Places.{Begin};
+ghost use Rattle.cord_run.specs.inner.Places.{Begin, Begin-prop, StayFirst, names_fixed, names_told};
 
 use cord_core::Cord;
 use cord_ec::ExtCord;
 use cord_io::{CordError, MAX_LEN};
-use cord_script::{Name, Number, is_same};
+use cord_mark::Mark;
+use cord_script::{Number, is_same};
 use std::alloc::{AllocError, Global};
 use std::mem::replace;
+use std::rc::Rc;
 
 /// What the name of a cord holds: its cord, or a length alone.
 #[derive(Drop)]
@@ -42,14 +43,18 @@ const FEW_SLOTS: usize = 256;
 /// The same where they are many.
 const SLOTS: usize = 4_096;
 
-/// What the names hold: a name that was not assigned is empty or 0. No two entries have one name.
+/// What the names hold: a name that was not assigned is empty or 0. No two entries have one name. Names that were fixed
+/// stay those of the first entries.
 #[derive(Drop)]
 pub(crate) struct Store {
     pub(crate) entries: Vec<Entry>,
     // For each slot the place of a name of that slot: where it is another name's, the name is looked for. Empty before there is
     // an entry.
     guesses: Vec<usize>,
+    // Tells the names that were fixed.
+    marked: Option<Rc<Mark>>,
     ghost distinct: { are_distinct (names_in entries.items) ≡ true },
+    ghost first: { Begin (names_fixed marked) (names_in entries.items) } by { Begin-prop (names_fixed marked) (names_in entries.items) },
 }
 
 // The slot of a name, of so many.
@@ -59,17 +64,6 @@ fn slot_of(name: &[u8], slots: usize) -> usize {
         slot = slot.wrapping_mul(31).wrapping_add(*byte as usize);
     }
     slot & slots.wrapping_sub(1)
-}
-
-// Whether two names are the same. Most are of one byte, and are compared without a loop.
-#[inline(always)]
-fn are_same(left: &[u8], right: &[u8]) -> bool
-    ensures { result ≡ bytes_eq left.now right.now }
-{
-    match (left, right) {
-        ([byte], [other]) => byte == other,
-        _ => is_same(left, right),
-    }
 }
 
 // Whether this is the name at a place.
@@ -175,21 +169,6 @@ fn place_of(entries: &[Entry], name: &[u8]) -> Option<usize>
     None
 }
 
-// Whether the first entries are those of these names, in this order.
-fn begin(entries: &[Entry], names: &[Name]) -> bool
-    ensures { result ≡ true → Begin names.now (names_in entries.now) }
-{
-    if entries.len() < names.len() {
-        return false;
-    }
-    for (place, name) in names.iter().enumerate() {
-        if !are_same(name.as_slice(), entries[place].name.as_slice()) {
-            return false;
-        }
-    }
-    true
-}
-
 impl Store {
     /// No name has been assigned.
     pub(crate) fn empty(alloc: Global) -> Self
@@ -198,6 +177,7 @@ impl Store {
         Store {
             entries: Vec::new(alloc),
             guesses: Vec::new(alloc),
+            marked: None,
         }
     }
 
@@ -259,11 +239,24 @@ impl Store {
         }
     }
 
-    /// Whether the first entries are those of these names, in this order.
-    pub(crate) fn begins(&self, names: &[Name]) -> bool
-        ensures { result ≡ true → Begin names.now (names_in self.now.entries.items) }
+    /// Fixes the names that have entries now, in their order. Answers the mark that tells them.
+    pub(crate) fn fix_names(&mut self, alloc: Global) -> Result<Rc<Mark>, AllocError>
+        ensures told { IfOk result (λ mark. names_told mark.value ≡ names_in self.old.entries.items) }
+        ensures same { self.new.entries.items ≡ self.old.entries.items }
     {
-        begin(self.entries.as_slice(), names)
+        let mark = Rc::new(alloc, Mark::new(&self.entries, &()))?;
+        self.marked = Some(mark.clone()?);
+        Ok(mark)
+    }
+
+    /// Whether this mark tells the names that were fixed. Then they are those of the first entries, in this order.
+    pub(crate) fn begins(&self, mark: &Option<Rc<Mark>>) -> bool
+        ensures { result ≡ true → Begin (names_fixed mark.now) (names_in self.now.entries.items) }
+    {
+        match (&self.marked, mark) {
+            (Some(mine), Some(other)) => mine.same(other),
+            _ => false,
+        }
     }
 
     /// The number of the entry at a place.
@@ -376,6 +369,7 @@ fn set_content(entries: &mut [Entry], name: &[u8], place: usize, content: Conten
     requires place { IsEntryAt entries.old name.now place }
     ensures set { HasContent name.now content entries.old entries.new }
     ensures distinct { are_distinct (names_in entries.old) ≡ true → are_distinct (names_in entries.new) ≡ true }
+    ensures first { StayFirst entries.old entries.new }
 {
     let _ = name;
     let entry = &mut entries[place];
@@ -388,6 +382,7 @@ fn set_number(entries: &mut [Entry], place: usize, number: i64)
     ensures set { (name : List ℕ) → IsEntryAt entries.old name place → HasNumber name number entries.old entries.new }
     ensures names { names_in entries.new ≡ names_in entries.old }
     ensures distinct { are_distinct (names_in entries.old) ≡ true → are_distinct (names_in entries.new) ≡ true }
+    ensures first { StayFirst entries.old entries.new }
 {
     let entry = &mut entries[place];
     entry.number = number;
@@ -405,6 +400,7 @@ fn set_extensible(
     ensures before { cells_in result ≡ extensible_in entries.old name.now }
     ensures set { HasExtensible name.now (cells_in extensible) entries.old entries.new }
     ensures distinct { are_distinct (names_in entries.old) ≡ true → are_distinct (names_in entries.new) ≡ true }
+    ensures first { StayFirst entries.old entries.new }
 {
     let _ = name;
     let entry = &mut entries[place];
@@ -421,6 +417,7 @@ fn append_bytes(alloc: Global, entries: &mut [Entry], place: usize, bytes: &[u8]
     ensures left { result ≡ false → entries.new ≡ entries.old }
     ensures names { names_in entries.new ≡ names_in entries.old }
     ensures distinct { are_distinct (names_in entries.old) ≡ true → are_distinct (names_in entries.new) ≡ true }
+    ensures first { StayFirst entries.old entries.new }
 {
     let entry = &mut entries[place];
     append_begun(alloc, &mut entry.extensible, bytes)
@@ -456,6 +453,7 @@ fn append_at(
     ensures too_long { result ≡ Err CordError.TooLong →
         MAX_LEN < length (cells_of (extensible_in entries.old name.now)) + length bytes.now }
     ensures distinct { are_distinct (names_in entries.old) ≡ true → are_distinct (names_in entries.new) ≡ true }
+    ensures first { StayFirst entries.old entries.new }
 {
     let _ = name;
     let entry = &mut entries[place];
@@ -507,6 +505,7 @@ fn place_for(
     ensures place { IfOk result (IsEntryAt entries.new.items name.now) }
     ensures same { IfOk result (λ _. SameEntries entries.old.items entries.new.items) }
     ensures distinct { are_distinct (names_in entries.new.items) ≡ true }
+    ensures first { StayFirst entries.old.items entries.new.items }
 {
     match place_by(entries, guesses, name) {
         Some(place) => Ok(place),
@@ -529,6 +528,7 @@ fn new_place(
     ensures place { IfOk result (IsEntryAt entries.new.items name.now) }
     ensures same { IfOk result (λ _. SameEntries entries.old.items entries.new.items) }
     ensures distinct { are_distinct (names_in entries.new.items) ≡ true }
+    ensures first { StayFirst entries.old.items entries.new.items }
 {
     guess_place(alloc, entries, guesses, name, entries.len())?;
     let name = Vec::from_slice(alloc, name)?;
@@ -543,6 +543,7 @@ fn add(entries: &mut Vec<Entry>, name: Vec<u8>) -> Result<usize, AllocError>
     ensures place { IfOk result (IsEntryAt entries.new.items name.items) }
     ensures same { IfOk result (λ _. SameEntries entries.old.items entries.new.items) }
     ensures distinct { are_distinct (names_in entries.new.items) ≡ true }
+    ensures first { StayFirst entries.old.items entries.new.items }
 {
     let place = entries.len();
     entries.push(Entry {
