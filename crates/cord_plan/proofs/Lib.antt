@@ -29,6 +29,7 @@ pub mod Followers
 pub mod Words
 pub mod Numbers
 pub mod MarkedNames
+pub mod KeptNumbers
 pub mod Sweeps
 pub mod Told
 pub mod Writing

@@ -7,6 +7,7 @@ ghost use Rattle.cord_plan.specs.Forced.{is_small, expr_of, expr_with};
 ghost use Rattle.cord_plan.specs.inner.Choices.{simple_operands, parts_beside, expression_in, is_spare, room_left_by};
 ghost use Rattle.cord_plan.specs.inner.Choices.{choice_view, operands_view, IsChoice, AreChoices};
 ghost use Rattle.cord_plan.specs.inner.Liveness.{tells};
+ghost use Rattle.cord_plan.specs.inner.Numbering.{number_of};
 ghost use Rattle.cord_plan.specs.inner.Recent.{IsRecent};
 ghost use Rattle.cord_plan.specs.Views.{expr_view};
 
@@ -91,20 +92,22 @@ fn is_named_once(operands: &[Name], name: &[u8]) -> bool
 }
 
 // Whether no line after a line reads the name that it has as an operand, but for what the line itself assigns.
-fn is_free(line: &Line, name: &[u8]) -> bool
+fn is_free(line: &Line, name: &[u8], number: Option<usize>) -> bool
+    requires { number ≡ number_of line.now.recent.now.later.now.numbering name.now }
     ensures { result ≡ (assigns line.now.statement.now name.now || not
         (tells line.now.recent.now.later.now name.now line.now.place)) }
 {
-    assigns(line.statement, name) || !line.recent.later.is_later(name, line.place)
+    assigns(line.statement, name) || !line.recent.later.is_later(number, line.place)
 }
 
 // Whether nothing but a line itself needs the text of an operand: the line names it once, and assigns it or it isn't read later.
-fn is_spare(line: &Line, operand: &Name) -> bool
+fn is_spare(line: &Line, operand: &Name, number: Option<usize>) -> bool
+    requires { number ≡ number_of line.now.recent.now.later.now.numbering operand.now }
     ensures { result ≡ is_spare line.now.statements.now (tells line.now.recent.now.later.now) line.now.place
         line.now.statement.now line.now.operands.now operand.now }
 {
     let name = operand.as_slice();
-    is_named_once(line.operands, name) && is_free(line, name)
+    is_named_once(line.operands, name) && is_free(line, name, number)
 }
 
 // The parts of a line's expression beside those of its operands.
@@ -178,10 +181,12 @@ pub(crate) fn choose<'a>(
         line.now.statement.now line.now.operands.now operand.now (map (option_map expr_view) table.now)
         (map choice_view chosen.now) (choice_view result) }
 {
-    if !is_spare(line, operand) {
+    let name = operand.as_slice();
+    let number = line.recent.later.numbering.number_of(name);
+    if !is_spare(line, operand, number) {
         return Choice::Kept(operand);
     }
-    match nearest(line, operand.as_slice()) {
+    match nearest(line, name, number) {
         None => Choice::Kept(operand),
         Some(source) => match expression_at(table, source) {
             None => Choice::Kept(operand),

@@ -9,6 +9,7 @@ mod joining;
 mod jumps;
 mod laws;
 mod limits;
+mod line_numbers;
 mod lines;
 mod liveness;
 mod marks;

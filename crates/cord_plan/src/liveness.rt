@@ -5,10 +5,11 @@ ghost use Rattle.cord_meaning.specs.Statements.{shape_of};
 ghost use Rattle.cord_plan.specs.Operands.{assigns_at};
 ghost use Rattle.cord_plan.specs.Unread.{IsLater, behind, some_of};
 ghost use Rattle.cord_plan.specs.inner.Marks.{bit, column, room, IsBit};
-ghost use Rattle.cord_plan.specs.inner.Numbering.{names_of};
-ghost use Rattle.cord_plan.specs.inner.Liveness.{places, places_at, AreBehind, at, tells, flow, AreAssigned, ArePartly};
+ghost use Rattle.cord_plan.specs.inner.Numbering.{AllKept, names_of};
+ghost use Rattle.cord_plan.specs.inner.Liveness.{places, places_at, AreBehind, at, tells, tells_of, flow, AreAssigned, ArePartly};
 ghost use Rattle.cord_plan.specs.inner.Liveness.{AreLive, AllLive, column_of};
 
+use crate::line_numbers::{LineNumbers, numbers_at, numbers_of};
 use crate::marks::{GROUP, has_bit, mark_assigned, mark_read};
 use crate::numbering::Numbering;
 use crate::successors::{Behind, successors};
@@ -26,6 +27,7 @@ struct Group {
 pub(crate) struct Later {
     behinds: Vec<Behind>,
     pub(crate) numbering: Numbering,
+    pub(crate) numbers: Vec<LineNumbers>,
     groups: Vec<Group>,
 }
 
@@ -35,6 +37,7 @@ struct Flow<'a> {
     statements: &'a [Statement],
     behinds: &'a [Behind],
     numbering: &'a Numbering,
+    numbers: &'a [LineNumbers],
     group: usize,
 }
 
@@ -71,22 +74,26 @@ fn flowed(word: u128, behind: u128, assigned: u128) -> u128
 impl Flow<'_> {
     // For each line the word of the names that it reads.
     fn words_read(&self, alloc: Global) -> Result<Vec<u128>, AllocError>
+        requires { AllKept self.now.statements.now self.now.numbering.now self.now.numbers.now }
         ensures { IfOk result (λ v. ArePartly self.now.statements.now self.now.numbering.now self.now.group v.items) }
     {
         let mut words = Vec::with_capacity(alloc, self.statements.len())?;
-        for statement in self.statements {
-            words.push_reserved(mark_read(self.numbering, self.group, statement));
+        for (place, statement) in self.statements.iter().enumerate() {
+            let numbers = numbers_at(self.numbers, place);
+            words.push_reserved(mark_read(self.numbering, self.group, statement, numbers));
         }
         Ok(words)
     }
 
     // For each line the word of the name that it assigns.
     fn words_assigned(&self, alloc: Global) -> Result<Vec<u128>, AllocError>
+        requires { AllKept self.now.statements.now self.now.numbering.now self.now.numbers.now }
         ensures { IfOk result (λ v. AreAssigned self.now.statements.now self.now.numbering.now self.now.group v.items) }
     {
         let mut words = Vec::with_capacity(alloc, self.statements.len())?;
-        for statement in self.statements {
-            words.push_reserved(mark_assigned(self.numbering, self.group, statement));
+        for (place, statement) in self.statements.iter().enumerate() {
+            let numbers = numbers_at(self.numbers, place);
+            words.push_reserved(mark_assigned(self.numbering, self.group, statement, numbers));
         }
         Ok(words)
     }
@@ -142,7 +149,8 @@ impl Flow<'_> {
 
     // For each place the names of the group that a path from there reads before a line assigns them.
     fn live_words(&self, alloc: Global) -> Result<Vec<u128>, AllocError>
-        requires { AreBehind (map shape_of self.now.statements.now) self.now.behinds.now }
+        requires behinds { AreBehind (map shape_of self.now.statements.now) self.now.behinds.now }
+        requires kept { AllKept self.now.statements.now self.now.numbering.now self.now.numbers.now }
         ensures { IfOk result (λ v. AreLive self.now.statements.now self.now.numbering.now self.now.group v.items) }
     {
         let assigned = self.words_assigned(alloc)?;
@@ -158,8 +166,10 @@ fn groups_of(
     statements: &[Statement],
     behinds: &[Behind],
     numbering: &Numbering,
+    numbers: &[LineNumbers],
 ) -> Result<Vec<Group>, AllocError>
-    requires { AreBehind (map shape_of statements.now) behinds.now }
+    requires behinds { AreBehind (map shape_of statements.now) behinds.now }
+    requires kept { AllKept statements.now numbering.now numbers.now }
     ensures { IfOk result (λ v. AllLive statements.now numbering.now v.items) }
 {
     let mut groups = Vec::new(alloc);
@@ -168,6 +178,7 @@ fn groups_of(
             statements,
             behinds,
             numbering,
+            numbers,
             group,
         };
         let words = flow.live_words(alloc)?;
@@ -191,14 +202,17 @@ fn group_count(numbering: &Numbering) -> usize
 impl Later {
     /// What is read later in a script of these statements.
     pub(crate) fn of(alloc: Global, statements: &[Statement]) -> Result<Self, AllocError>
-        ensures { IfOk result (λ t. IsLater statements.now (tells t)) }
+        ensures later { IfOk result (λ t. IsLater statements.now (tells t)) }
+        ensures kept { IfOk result (λ t. AllKept statements.now t.numbering t.numbers.items) }
     {
         let behinds = successors(alloc, statements)?;
         let numbering = Numbering::of(alloc, statements)?;
-        let groups = groups_of(alloc, statements, &behinds, &numbering)?;
+        let numbers = numbers_of(alloc, statements, &numbering)?;
+        let groups = groups_of(alloc, statements, &behinds, &numbering, &numbers)?;
         Ok(Later {
             behinds,
             numbering,
+            numbers,
             groups,
         })
     }
@@ -213,16 +227,13 @@ impl Later {
         }
     }
 
-    /// Whether a name is read later than the line at a place.
-    pub(crate) fn is_later(&self, name: &[u8], place: usize) -> bool
-        ensures { result ≡ tells self.now name.now place }
+    /// Whether the name of a number is read later than the line at a place.
+    pub(crate) fn is_later(&self, number: Option<usize>, place: usize) -> bool
+        ensures { result ≡ tells_of self.now number place }
     {
-        match self.behinds.get(place) {
-            None => false,
-            Some(behind) => match self.numbering.number_of(name) {
-                None => false,
-                Some(number) => self.is_live_behind(number, *behind),
-            },
+        match (self.behinds.get(place), number) {
+            (Some(behind), Some(number)) => self.is_live_behind(number, *behind),
+            _ => false,
         }
     }
 }

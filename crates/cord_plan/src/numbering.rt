@@ -2,7 +2,7 @@
 ghost use Rattle.std.specs.Prelude.{◌≡◌, ◌+◌, ◌*◌, ◌%◌, ◌<◌, [], ◌∷◌, IfOk, OnOk, length, slice_get};
 ghost use Rattle.cord_plan.specs.Operands.{cord_arguments, is_name, read_by};
 ghost use Rattle.cord_plan.specs.inner.Readings.{read_names};
-ghost use Rattle.cord_plan.specs.inner.Numbering.{slot_of, place_of, number_of, names_of, Adds, Covers};
+ghost use Rattle.cord_plan.specs.inner.Numbering.{slot_of, place_of, number_of, names_of, Adds, Covers, Keeps};
 
 use crate::readings::{Reading, reading_of, target_of};
 use cord_script::{Argument, Name, Statement, is_same};
@@ -131,6 +131,17 @@ impl Numbering {
                 Some(usize::from(*guess))
             }
             _ => place_of(&self.names, name),
+        }
+    }
+
+    /// The number of a name, of which this is kept.
+    pub(crate) fn number_with(&self, name: &[u8], kept: Option<u8>) -> Option<usize>
+        requires { Keeps self.now name.now kept }
+        ensures { result ≡ number_of self.now name.now }
+    {
+        match kept {
+            Some(number) => Some(usize::from(number)),
+            None => self.number_of(name),
         }
     }
 

@@ -2,6 +2,7 @@
 ghost use Rattle.std.specs.Prelude.{◌≡◌, ◌<◌, ℕ, Bool, List, Some, IfOk, IsOkUnless, length, map, option_map};
 ghost use Rattle.std.specs.Prelude.{slice_get};
 ghost use Rattle.cord_plan.specs.inner.Liveness.{tells};
+ghost use Rattle.cord_plan.specs.inner.Numbering.{AllKept, AreKept};
 ghost use Rattle.cord_plan.specs.Meaning.{IsPlanOf};
 ghost use Rattle.cord_plan.specs.Operands.{target_of};
 ghost use Rattle.cord_plan.specs.Planned as plan;
@@ -9,6 +10,7 @@ ghost use Rattle.cord_plan.specs.inner.Tables.{AreDead, IsTableOf};
 ghost use Rattle.cord_plan.specs.Unread.{IsLater};
 ghost use Rattle.cord_plan.specs.Views.{operation_view};
 
+use crate::line_numbers::{LineNumbers, numbers_at};
 use crate::lines::operation_of;
 use crate::liveness::Later;
 use crate::readings::target_of;
@@ -19,12 +21,17 @@ use cord_script::{Script, Statement};
 use std::alloc::{AllocError, Global};
 
 // Whether a line has a target that isn't read later.
-fn is_dead(statement: &Statement, place: usize, later: &Later) -> bool
+fn is_dead(statement: &Statement, numbers: LineNumbers, place: usize, later: &Later) -> bool
+    requires { AreKept later.now.numbering statement.now numbers }
     ensures { result ≡ plan.is_dead (tells later.now) place (target_of statement.now) }
 {
     match target_of(statement) {
         None => false,
-        Some(target) => !later.is_later(target.as_slice(), place),
+        Some(target) => {
+            let numbering = &later.numbering;
+            let number = numbering.number_with(target.as_slice(), numbers.target);
+            !later.is_later(number, place)
+        }
     }
 }
 
@@ -34,11 +41,13 @@ fn dead_lines(
     statements: &[Statement],
     later: &Later,
 ) -> Result<Vec<bool>, AllocError>
+    requires { AllKept statements.now later.now.numbering later.now.numbers.items }
     ensures { IfOk result (λ v. AreDead statements.now (tells later.now) v.items) }
 {
     let mut dead = Vec::with_capacity(alloc, statements.len())?;
     for (place, statement) in statements.iter().enumerate() {
-        dead.push_reserved(is_dead(statement, place, later));
+        let numbers = numbers_at(&later.numbers, place);
+        dead.push_reserved(is_dead(statement, numbers, place, later));
     }
     Ok(dead)
 }
@@ -60,7 +69,8 @@ fn operations_of(
     later: Later,
     table: Table,
 ) -> Result<Vec<Operation>, CordError>
-    requires { IsTableOf statements.now later table }
+    requires kept { AllKept statements.now later.numbering later.numbers.items }
+    requires table { IsTableOf statements.now later table }
     ensures made { IfOk result (λ os. map operation_view os.items ≡ plan.planned statements.now (tells later)) }
     ensures refused { IsOkUnless result CordError.NoMemory }
 {

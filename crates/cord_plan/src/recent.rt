@@ -5,9 +5,11 @@ ghost use Rattle.cord_syntax.specs.declared.statements.Statement.{Statement};
 ghost use Rattle.cord_meaning.specs.Statements.{shape_of};
 ghost use Rattle.cord_plan.specs.Forced.{is_block};
 ghost use Rattle.cord_plan.specs.Operands.{assigns, cord_arguments, has, reads};
+ghost use Rattle.cord_plan.specs.inner.Numbering.{AreKept, Keeps};
 ghost use Rattle.cord_plan.specs.inner.Recent.{IsRecent, Notes, entry_at, entry_of, is_before, is_behind};
 ghost use Rattle.cord_plan.specs.inner.Recent.{unless_behind};
 
+use crate::line_numbers::LineNumbers;
 use crate::liveness::Later;
 use crate::numbering::Numbering;
 use crate::readings::{Reading, reading_of, target_of};
@@ -84,10 +86,17 @@ pub(crate) fn is_before(place: Option<usize>, other: usize) -> bool
 }
 
 // Notes a place for a name.
-fn note(numbering: &Numbering, places: &mut [Option<usize>], name: &Name, place: usize)
+fn note(
+    numbering: &Numbering,
+    places: &mut [Option<usize>],
+    name: &Name,
+    kept: Option<u8>,
+    place: usize,
+)
+    requires { Keeps numbering.now name.now kept }
     ensures { Notes numbering.now (λ x. bytes_eq x name.now) place places.old places.new }
 {
-    match numbering.number_of(name.as_slice()) {
+    match numbering.number_with(name.as_slice(), kept) {
         Some(number) if number < places.len() => places[number] = Some(place),
         _ => {}
     }
@@ -98,7 +107,7 @@ fn note_all(numbering: &Numbering, places: &mut [Option<usize>], names: &[Name],
     ensures { Notes numbering.now (λ x. has names.now x) place places.old places.new }
 {
     for name in names {
-        note(numbering, places, name, place);
+        note(numbering, places, name, None, place);
     }
 }
 
@@ -114,7 +123,7 @@ fn note_arguments(
     for argument in arguments {
         match argument {
             Argument::Number(_) => {}
-            Argument::Cord(name) => note(numbering, places, name, place),
+            Argument::Cord(name) => note(numbering, places, name, None, place),
         }
     }
 }
@@ -125,12 +134,15 @@ fn note_two(
     places: &mut [Option<usize>],
     left: &Name,
     right: &Name,
+    numbers: LineNumbers,
     place: usize,
 )
+    requires first { Keeps numbering.now left.now numbers.first }
+    requires second { Keeps numbering.now right.now numbers.second }
     ensures { Notes numbering.now (λ x. bytes_eq x left.now || bytes_eq x right.now) place places.old places.new }
 {
-    note(numbering, places, left, place);
-    note(numbering, places, right, place);
+    note(numbering, places, left, numbers.first, place);
+    note(numbering, places, right, numbers.second, place);
 }
 
 // Notes it for the names that a line reads.
@@ -138,14 +150,16 @@ fn note_read(
     numbering: &Numbering,
     places: &mut [Option<usize>],
     statement: &Statement,
+    numbers: LineNumbers,
     place: usize,
 )
+    requires { AreKept numbering.now statement.now numbers }
     ensures { Notes numbering.now (λ x. reads statement.now x) place places.old places.new }
 {
     match reading_of(statement) {
         Reading::Nothing => {}
-        Reading::One(operand) => note(numbering, places, operand, place),
-        Reading::Two(left, right) => note_two(numbering, places, left, right, place),
+        Reading::One(operand) => note(numbering, places, operand, numbers.first, place),
+        Reading::Two(left, right) => note_two(numbering, places, left, right, numbers, place),
         Reading::Many(parts) => note_all(numbering, places, parts, place),
         Reading::Printed(arguments) => note_arguments(numbering, places, arguments, place),
     }
@@ -156,13 +170,15 @@ fn note_assigned(
     numbering: &Numbering,
     places: &mut [Option<usize>],
     statement: &Statement,
+    numbers: LineNumbers,
     place: usize,
 )
+    requires { AreKept numbering.now statement.now numbers }
     ensures { Notes numbering.now (λ x. assigns statement.now x) place places.old places.new }
 {
     match target_of(statement) {
         None => {}
-        Some(target) => note(numbering, places, target, place),
+        Some(target) => note(numbering, places, target, numbers.target, place),
     }
 }
 
@@ -196,15 +212,16 @@ impl<'a> Recent<'a> {
         })
     }
 
-    /// Notes the next line.
-    pub(crate) fn note(&mut self, statement: &Statement, place: usize)
+    /// Notes the next line, whose names have these numbers.
+    pub(crate) fn note(&mut self, statement: &Statement, numbers: LineNumbers, place: usize)
+        requires { AreKept self.old.later.now.numbering statement.now numbers }
         ensures later { self.new.later.now ≡ self.old.later.now }
         ensures recent { (s : List Statement) → slice_get s place ≡ Some statement.now → IsRecent s place self.old →
             IsRecent s (place + 1) self.new }
     {
         let numbering = &self.later.numbering;
-        note_assigned(numbering, &mut self.assigned, statement, place);
-        note_read(numbering, &mut self.read, statement, place);
+        note_assigned(numbering, &mut self.assigned, statement, numbers, place);
+        note_read(numbering, &mut self.read, statement, numbers, place);
         if is_block(statement) {
             self.block = Some(place);
         }

@@ -4,6 +4,7 @@ ghost use Rattle.cord_meaning.specs.Statements.{shape_of};
 ghost use Rattle.cord_plan.specs.Exprs.{names, names_of, number_names};
 ghost use Rattle.cord_plan.specs.Forced.{keeps};
 ghost use Rattle.cord_plan.specs.inner.Choices.{nearest};
+ghost use Rattle.cord_plan.specs.inner.Numbering.{number_of};
 ghost use Rattle.cord_plan.specs.inner.Recent.{IsRecent, stay, bars};
 ghost use Rattle.cord_plan.specs.Views.{expr_view, members_of, shared_view};
 
@@ -42,14 +43,14 @@ fn nearest_by_lines(statements: &[Statement], place: usize, name: &[u8]) -> Opti
     None
 }
 
-/// The last line before a line that assigns a name, where neither a block's line nor one that reads the name stands after it.
-pub(crate) fn nearest(line: &Line, name: &[u8]) -> Option<usize>
+/// The last line before a line that assigns a name of this number, where neither a block's line nor one that reads the name stands after it.
+pub(crate) fn nearest(line: &Line, name: &[u8], number: Option<usize>) -> Option<usize>
+    requires number { number ≡ number_of line.now.recent.now.later.now.numbering name.now }
     requires place { line.now.place ≤ length line.now.statements.now }
     requires recent { IsRecent line.now.statements.now line.now.place line.now.recent.now }
     ensures { result ≡ nearest line.now.statements.now name.now line.now.place }
 {
     let recent = line.recent;
-    let number = recent.later.numbering.number_of(name);
     match (
         entry_at(&recent.assigned, number),
         entry_at(&recent.read, number),

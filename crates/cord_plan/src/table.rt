@@ -3,6 +3,7 @@ ghost use Rattle.std.specs.Prelude.{◌≡◌, ◌≤◌, Some, IfOk, IsOkUnless
 ghost use Rattle.cord_plan.specs.inner.Choices.{choice_view, simple_operands};
 ghost use Rattle.cord_plan.specs.Forced.{expr_of, expr_with};
 ghost use Rattle.cord_plan.specs.inner.Liveness.{tells};
+ghost use Rattle.cord_plan.specs.inner.Numbering.{AllKept};
 ghost use Rattle.cord_plan.specs.inner.Recent.{IsRecent};
 ghost use Rattle.cord_plan.specs.inner.Tables.{IsMarked, IsNext, IsTableOf};
 ghost use Rattle.cord_plan.specs.Views.{expr_view};
@@ -11,6 +12,7 @@ use crate::Expr;
 use crate::choosing::{Choice, Line, choose, choose_all, operands_of};
 use crate::interning::Interner;
 use crate::joining::expression_with;
+use crate::line_numbers::numbers_at;
 use crate::liveness::Later;
 use crate::recent::Recent;
 use cord_io::CordError;
@@ -131,6 +133,7 @@ impl Table {
         statements: &[Statement],
         later: &Later,
     ) -> Result<Self, CordError>
+        requires { AllKept statements.now later.now.numbering later.now.numbers.items }
         ensures made { IfOk result (λ t. IsTableOf statements.now later.now t) }
         ensures refused { IsOkUnless result CordError.NoMemory }
     {
@@ -150,7 +153,7 @@ impl Table {
                 &mut firsts,
             )?;
             expressions.push_reserved(expression);
-            recent.note(statement, place);
+            recent.note(statement, numbers_at(&later.numbers, place), place);
         }
         Ok(Table {
             expressions,

@@ -110,6 +110,10 @@ column_of groups (Some n) = column_in (slice_get groups (n / 128)) (n % 128)
 abbrev pub live_of : Later → List ℕ → List Bool
 live_of t x = column_of t.groups.items (number_of t.numbering x)
 
+-- whether the name of a number is read later than the line at a place
+abbrev pub tells_of : Later → Option ℕ → ℕ → Bool
+tells_of t number p = some_of (λ q. at (column_of t.groups.items number) q) (places_at t.behinds.items p)
+
 -- what a table tells: whether a name is read later than the line at a place
 abbrev pub tells : Later → List ℕ → ℕ → Bool
 tells t x p = some_of (λ q. at (live_of t x) q) (places_at t.behinds.items p)

@@ -3,8 +3,9 @@ use Rattle.std.specs.Prelude.{◌≡◌, ℕ, suc, ◌+◌, ◌*◌, ◌%◌, �
 use Rattle.std.specs.Prelude.{option_map}
 use Rattle.std.specs.Str.{bytes_eq}
 use Rattle.cord_syntax.specs.declared.statements.Statement.{Statement}
-use Rattle.cord_plan.specs.Operands.{has, is_name, reads_at}
+use Rattle.cord_plan.specs.Operands.{has, is_name, read_by, reads_at, target_of}
 use Rattle.cord_plan.specs.declared.numbering.Numbering.{Numbering}
+use Rattle.cord_plan.specs.declared.line_numbers.LineNumbers.{LineNumbers}
 
 -- the slot of a name, from this one on
 abbrev pub slot_from : ℕ → List ℕ → ℕ
@@ -41,3 +42,18 @@ CoversTo s i t = (k : ℕ) → k < i → (x : List ℕ) → reads_at (slice_get 
 
 abbrev pub Covers : List Statement → Numbering → Type 0
 Covers s t = CoversTo s (length s) t
+
+-- what is kept of the number of a name is right
+abbrev pub Keeps : Numbering → List ℕ → Option ℕ → Type 0
+Keeps t x kept = (n : ℕ) → kept ≡ Some n → number_of t x ≡ Some n
+
+-- what is kept of the numbers of a line's names is right
+pub record AreKept (t : Numbering) (l : Statement) (numbers : LineNumbers) : Type 0 where
+  pub target : (x : List ℕ) → target_of l ≡ Some x → Keeps t x numbers.target
+  pub first : (x : List ℕ) → slice_get (read_by l) 0 ≡ Some x → Keeps t x numbers.first
+  pub second : (x : List ℕ) → slice_get (read_by l) 1 ≡ Some x → Keeps t x numbers.second
+
+-- and of the names of each line
+abbrev pub AllKept : List Statement → Numbering → List LineNumbers → Type 0
+AllKept s t all =
+    (p : ℕ) (l : Statement) (numbers : LineNumbers) → slice_get s p ≡ Some l → slice_get all p ≡ Some numbers → AreKept t l numbers

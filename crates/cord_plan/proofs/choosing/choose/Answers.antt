@@ -24,7 +24,7 @@ returns-in-None c =
     let line = c.args.line.now in
     let before : List Expr = map (λ d. expr_of d) (map choice_view c.args.chosen.now) in
     let after : List Expr = map (λ y. name y) (drop (length (map choice_view c.args.chosen.now) + 1) line.operands.now) in
-    let far : nearest line.statements.now c.args.operand.now line.place ≡ None = ap (λ (x : List ℕ). nearest line.statements.now x line.place) (sym c.as_slice.ensures) ∙ sym c.in-None.ensures in
+    let far : nearest line.statements.now c.args.operand.now line.place ≡ None = ap (λ (x : List ℕ). nearest line.statements.now x line.place) (sym c.as_slice-name.ensures) ∙ sym c.in-None.ensures in
     λ t has. kept_far line.statements.now (tells line.recent.now.later.now) t line.place line.statement.now c.args.operand.now before after
     far
 
@@ -33,7 +33,7 @@ returns-in-None-expression_at c =
     let line = c.args.line.now in
     let before : List Expr = map (λ d. expr_of d) (map choice_view c.args.chosen.now) in
     let after : List Expr = map (λ y. name y) (drop (length (map choice_view c.args.chosen.now) + 1) line.operands.now) in
-    let near : nearest line.statements.now c.args.operand.now line.place ≡ Some c.in-Some.source = ap (λ (x : List ℕ). nearest line.statements.now x line.place) (sym c.as_slice.ensures) ∙ sym c.in-Some.ensures in
+    let near : nearest line.statements.now c.args.operand.now line.place ≡ Some c.in-Some.source = ap (λ (x : List ℕ). nearest line.statements.now x line.place) (sym c.as_slice-name.ensures) ∙ sym c.in-Some.ensures in
     let bare : None ≡ expression_in (map (option_map expr_view) c.args.table.now) c.in-Some.source = c.in-None-expression_at.ensures in
     λ t has. kept_bare line.statements.now (tells line.recent.now.later.now) t line.place line.statement.now c.args.operand.now before
     after c.in-Some.source near (sym (first_in (map (option_map expr_view) c.args.table.now) t c.in-Some.source has) ∙ sym bare)
@@ -44,7 +44,7 @@ returns-then-stays_small c =
     let r = expr_view c.in-Some-expression_at.expression.now in
     let before : List Expr = map (λ d. expr_of d) (map choice_view c.args.chosen.now) in
     let after : List Expr = map (λ y. name y) (drop (length (map choice_view c.args.chosen.now) + 1) line.operands.now) in
-    let near : nearest line.statements.now c.args.operand.now line.place ≡ Some c.in-Some.source = ap (λ (x : List ℕ). nearest line.statements.now x line.place) (sym c.as_slice.ensures) ∙ sym c.in-Some.ensures in
+    let near : nearest line.statements.now c.args.operand.now line.place ≡ Some c.in-Some.source = ap (λ (x : List ℕ). nearest line.statements.now x line.place) (sym c.as_slice-name.ensures) ∙ sym c.in-Some.ensures in
     let there : Some r ≡ expression_in (map (option_map expr_view) c.args.table.now) c.in-Some.source = c.in-Some-expression_at.ensures in
     let spare : is_spare line.statements.now (tells line.recent.now.later.now) line.place line.statement.now line.operands.now c.args.operand.now ≡ true = sym c.is_spare.ensures ∙ c.if-not-is_spare.false in
     let kept : stands line.statements.now (tells line.recent.now.later.now) r c.in-Some.source line.place line.statement.now line.operands.now c.args.operand.now ≡ c.stays.result = spare_stands line.statements.now (tells line.recent.now.later.now) r c.in-Some.source line.place line.statement.now line.operands.now c.args.operand.now spare ∙ sym c.stays.ensures in
@@ -61,7 +61,7 @@ returns-else-stays c =
     let r = expr_view c.in-Some-expression_at.expression.now in
     let before : List Expr = map (λ d. expr_of d) (map choice_view c.args.chosen.now) in
     let after : List Expr = map (λ y. name y) (drop (length (map choice_view c.args.chosen.now) + 1) line.operands.now) in
-    let near : nearest line.statements.now c.args.operand.now line.place ≡ Some c.in-Some.source = ap (λ (x : List ℕ). nearest line.statements.now x line.place) (sym c.as_slice.ensures) ∙ sym c.in-Some.ensures in
+    let near : nearest line.statements.now c.args.operand.now line.place ≡ Some c.in-Some.source = ap (λ (x : List ℕ). nearest line.statements.now x line.place) (sym c.as_slice-name.ensures) ∙ sym c.in-Some.ensures in
     let there : Some r ≡ expression_in (map (option_map expr_view) c.args.table.now) c.in-Some.source = c.in-Some-expression_at.ensures in
     let spare : is_spare line.statements.now (tells line.recent.now.later.now) line.place line.statement.now line.operands.now c.args.operand.now ≡ true = sym c.is_spare.ensures ∙ c.if-not-is_spare.false in
     let kept : stands line.statements.now (tells line.recent.now.later.now) r c.in-Some.source line.place line.statement.now line.operands.now c.args.operand.now ≡ c.stays.result = spare_stands line.statements.now (tells line.recent.now.later.now) r c.in-Some.source line.place line.statement.now line.operands.now c.args.operand.now spare ∙ sym c.stays.ensures in

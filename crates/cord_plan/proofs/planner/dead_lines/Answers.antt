@@ -1,4 +1,6 @@
-use Rattle.std.proofs.Common.{◌∙◌, arith}
+use Rattle.cord_plan.specs.inner.Numbering.{AllKept}
+use Rattle.std.proofs.lemmas.Option.{slice_get_read}
+use Rattle.std.proofs.Common.{length, refl, ◌∙◌, arith}
 use Rattle.cord_plan.specs.inner.Liveness.{tells}
 use Rattle.cord_plan.proofs.Dead.{dead_more, longer}
 use Rattle.cord_plan.proofs.planner.dead_lines.Goals as goal
@@ -18,3 +20,12 @@ returns c =
       size = c.loop-place.invariant.size ∙ omega arith;
       told = λ p l lt there. c.loop-place.invariant.told p l (omega (arith, lt, c.loop-place.invariant.size)) there;
     }
+
+pub is_dead-requires : goal.is_dead-requires
+is_dead-requires c =
+    let s = c.args.statements.now in
+    let t = c.args.later.now.numbering in
+    let l = c.index-statements-place.result in
+    let kept : AllKept s t c.deref.result.now = rw c.deref.ensures.value c.requires in
+    c.numbers_at-numbers.ensures s t l kept (slice_get_read s (length s) c.loop-place.place l refl c.loop-place-test.true
+    c.index-statements-place.is)

@@ -1,5 +1,5 @@
-use Rattle.std.proofs.Common.{◌∙◌, ℕ, List, ap, not}
-use Rattle.cord_plan.specs.inner.Liveness.{tells}
+use Rattle.std.proofs.Common.{◌∙◌, ℕ, List, Option, ap, not}
+use Rattle.cord_plan.specs.inner.Liveness.{tells, tells_of}
 use Rattle.cord_plan.specs.Planned as plan
 use Rattle.cord_plan.proofs.planner.is_dead.Goals as goal
 
@@ -8,6 +8,8 @@ returns-in-None c = ap (plan.is_dead (tells c.args.later.now) c.args.place) c.in
 
 pub returns-in-Some : goal.returns-in-Some
 returns-in-Some c =
-    let later = tells c.args.later.now in
-    ap not (c.is_later.ensures ∙ ap (λ (x : List ℕ). later x c.args.place) c.as_slice.ensures)
-    ∙ ap (plan.is_dead later c.args.place) c.in-Some.ensures
+    let later = c.args.later.now in
+    let p = c.args.place in
+    ap not (c.is_later.ensures ∙ (ap (λ (n : Option ℕ). tells_of later n p) c.number_with-number.ensures
+    ∙ ap (λ (x : List ℕ). tells later x p) c.as_slice.ensures))
+    ∙ ap (plan.is_dead (tells later) p) c.in-Some.ensures

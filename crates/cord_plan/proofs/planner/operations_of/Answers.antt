@@ -16,7 +16,7 @@ loop-place-init c = record {
   so_far = rw c.in_ok-operations.ensures.items refl;
   room = omega (arith, c.in_ok-operations.ensures.len, c.in_ok-operations.ensures.capacity);
   size = sym (length-map c.args.table.expressions.items (option_map expr_view)) ∙ whole_long c.args.statements.now (tells c.args.later)
-      (map (option_map expr_view) c.args.table.expressions.items) c.args.table.firsts.items c.requires;
+      (map (option_map expr_view) c.args.table.expressions.items) c.args.table.firsts.items c.requires.table;
   left = λ k le. refl;
 }
 
@@ -34,7 +34,7 @@ loop-place-preserved c =
     let taken : Some e ≡ slice_get all p = c.take_at-expression.ensures.taken ∙ (ap (λ (es : List (Option Expr)). slice_get es p) was ∙ c.loop-place.invariant.left p (omega arith)) in
     let there : Some (option_map expr_view e) ≡ slice_get (map (option_map expr_view) all) p = ap (option_map (option_map expr_view)) taken ∙ sym (slice_get-map (option_map expr_view) all p) in
     let alive : p < length c.in_ok-dead.dead.items = omega (arith, c.loop-place-test.true, c.in_ok-dead.ensures.size) in
-    let within : p < length c.args.table.firsts.items = omega (arith, c.loop-place-test.true, c.requires.size) in
+    let within : p < length c.args.table.firsts.items = omega (arith, c.loop-place-test.true, c.requires.table.size) in
     let dead : c.index.result.now ≡ plan.is_dead later p (target_of l) =
     at_read c.in_ok-dead.dead.items p c.index.result.now alive c.index.ensures
     ∙ c.in_ok-dead.ensures.told p l alive (slice_get_read s (length s) p l refl c.loop-place-test.true c.index-statements-place.is) in
@@ -45,7 +45,7 @@ loop-place-preserved c =
     (at_read c.args.table.firsts.items p c.index-in-loop-place.result.now within c.index-in-loop-place.ensures)) in
     rw (written_back c.loop-place.expressions.len new c.loop-place.expressions.items size)
     (record {
-      so_far = rw c.push_reserved.ensures.items (line_more s later (map (option_map expr_view) all) c.args.table.firsts.items c.requires p l
+      so_far = rw c.push_reserved.ensures.items (line_more s later (map (option_map expr_view) all) c.args.table.firsts.items c.requires.table p l
           (option_map expr_view e) c.loop-place.operations.items c.in_ok-operation_of.field-0 c.loop-place-test.true
           c.index-statements-place.is there c.loop-place.invariant.so_far made);
       room = omega (arith, c.loop-place-test.true, c.loop-place.invariant.room, c.push_reserved.ensures.len, c.push_reserved.ensures.capacity);
@@ -56,5 +56,5 @@ loop-place-preserved c =
 
 pub returns-clause-made : goal.returns-clause-made
 returns-clause-made c = lines_done c.args.statements.now (tells c.args.later) (map (option_map expr_view) c.args.table.expressions.items)
-    c.args.table.firsts.items c.requires c.loop-place.place c.loop-place.operations.items c.loop-place-test.false
+    c.args.table.firsts.items c.requires.table c.loop-place.place c.loop-place.operations.items c.loop-place-test.false
     c.loop-place.invariant.so_far

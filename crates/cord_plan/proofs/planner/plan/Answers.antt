@@ -12,7 +12,7 @@ use Rattle.cord_plan.proofs.planner.plan.Goals as goal
 pub returns-clause-means : goal.returns-clause-means
 returns-clause-means c = λ g text read limit most files.
     let later = tells c.in_ok-later.later in
-    let is : IsLater c.args.script.now later = subst (λ (s : List Statement). IsLater s later) c.statements-statements.ensures c.in_ok-later.ensures in
+    let is : IsLater c.args.script.now later = subst (λ (s : List Statement). IsLater s later) c.statements-statements.ensures c.in_ok-later.ensures.later in
     rw (c.of-3.ensures, c.in_ok-operations.ensures.made, c.statements-statements.ensures) (planned_keeps limit most files c.args.script.now g text later read is)
 
 pub of-requires-3 : goal.of-requires-3

@@ -1,3 +1,4 @@
+use Rattle.cord_plan.specs.inner.Numbering.{AllKept}
 use Rattle.std.proofs.Common.{◌≡◌, false, [], ◌∷◌, Some, map, length, refl, ◌∙◌, arith, rules}
 use Rattle.std.specs.Prelude.{option_map, replicate, slice_get}
 use Rattle.std.proofs.lemmas.Option.{slice_get_read}
@@ -51,3 +52,12 @@ pub returns-clause-made : goal.returns-clause-made
 returns-clause-made c =
     all_grown c.args.statements.now (tells c.args.later.now) c.loop-place.place (map (option_map expr_view) c.loop-place.expressions.items)
     c.loop-place.firsts.items c.loop-place-test.false c.loop-place.invariant.grown
+
+pub note-requires : goal.note-requires
+note-requires c =
+    let s = c.args.statements.now in
+    let t = c.args.later.now.numbering in
+    let l = c.index-statements-place.result in
+    let kept : AllKept s t c.deref-in-loop-place.result.now = rw c.deref-in-loop-place.ensures.value c.requires in
+    rw c.loop-place.invariant.later (c.numbers_at.ensures s t l kept (slice_get_read s (length s) c.loop-place.place l refl
+    c.loop-place-test.true c.index-statements-place.is))
