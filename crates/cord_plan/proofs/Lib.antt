@@ -31,6 +31,7 @@ pub mod Numbers
 pub mod MarkedNames
 pub mod KeptNumbers
 pub mod Sweeps
+pub mod Onward
 pub mod Told
 pub mod Writing
 pub mod Decimals

@@ -6,13 +6,13 @@ ghost use Rattle.cord_plan.specs.Operands.{assigns_at};
 ghost use Rattle.cord_plan.specs.Unread.{IsLater, behind, some_of};
 ghost use Rattle.cord_plan.specs.inner.Marks.{bit, column, room, IsBit};
 ghost use Rattle.cord_plan.specs.inner.Numbering.{AllKept, names_of};
-ghost use Rattle.cord_plan.specs.inner.Liveness.{places, places_at, AreBehind, at, tells, tells_of, flow, AreAssigned, ArePartly};
-ghost use Rattle.cord_plan.specs.inner.Liveness.{AreLive, AllLive, column_of};
+ghost use Rattle.cord_plan.specs.inner.Liveness.{places, places_at, AreBehind, LeadOn, at, tells, tells_of, flow};
+ghost use Rattle.cord_plan.specs.inner.Liveness.{AreAssigned, ArePartly, AreLive, AllLive, column_of};
 
 use crate::line_numbers::{LineNumbers, numbers_at, numbers_of};
 use crate::marks::{GROUP, has_bit, mark_assigned, mark_read};
 use crate::numbering::Numbering;
-use crate::successors::{Behind, successors};
+use crate::successors::{Behind, leads_back, successors};
 use cord_script::Statement;
 use std::alloc::{AllocError, Global};
 
@@ -39,6 +39,8 @@ struct Flow<'a> {
     numbering: &'a Numbering,
     numbers: &'a [LineNumbers],
     group: usize,
+    // Whether some place may lead back: only then one pass doesn't find all.
+    loops: bool,
 }
 
 fn word_at(words: &[u128], place: usize) -> u128
@@ -126,30 +128,33 @@ impl Flow<'_> {
         flowed(here, behind, kill)
     }
 
-    // One pass of the backwards flow over the lines, and whether it has found another place.
+    // One pass of the backwards flow over the lines, and whether another may find more: it has found a place, and some
+    // lead back.
     fn sweep(&self, assigned: &[u128], words: &mut [u128]) -> bool
         requires behinds { AreBehind (map shape_of self.now.statements.now) self.now.behinds.now }
+        requires loops { self.now.loops ≡ false → LeadOn self.now.behinds.now }
         requires assigned { AreAssigned self.now.statements.now self.now.numbering.now self.now.group assigned.now }
         requires partly { ArePartly self.now.statements.now self.now.numbering.now self.now.group words.old }
         ensures partly { ArePartly self.now.statements.now self.now.numbering.now self.now.group words.new }
         ensures live { result ≡ false → AreLive self.now.statements.now self.now.numbering.now self.now.group words.new }
         ensures fewer { result ≡ true → room words.new < room words.old }
     {
-        let mut changed = false;
+        let mut again = false;
         for p in (0..words.len()).rev() {
             let here = word_at(words, p);
             let word = self.flow_at(assigned, words, p);
             if word != here {
                 words[p] = word;
-                changed = true;
+                again = self.loops;
             }
         }
-        changed
+        again
     }
 
     // For each place the names of the group that a path from there reads before a line assigns them.
     fn live_words(&self, alloc: Global) -> Result<Vec<u128>, AllocError>
         requires behinds { AreBehind (map shape_of self.now.statements.now) self.now.behinds.now }
+        requires loops { self.now.loops ≡ false → LeadOn self.now.behinds.now }
         requires kept { AllKept self.now.statements.now self.now.numbering.now self.now.numbers.now }
         ensures { IfOk result (λ v. AreLive self.now.statements.now self.now.numbering.now self.now.group v.items) }
     {
@@ -173,6 +178,7 @@ fn groups_of(
     ensures { IfOk result (λ v. AllLive statements.now numbering.now v.items) }
 {
     let mut groups = Vec::new(alloc);
+    let loops = leads_back(behinds);
     for group in 0..group_count(numbering) {
         let flow = Flow {
             statements,
@@ -180,6 +186,7 @@ fn groups_of(
             numbering,
             numbers,
             group,
+            loops,
         };
         let words = flow.live_words(alloc)?;
         groups.push(Group { words })?;

@@ -1,10 +1,11 @@
 // The places that may come next after each place.
 ghost use Rattle.std.specs.Prelude.{◌≡◌, ◌+◌, ◌-◌, ◌^◌, ◌<◌, ◌≤◌, [], ◌∷◌, Some, IfOk, OnOk, map, reverse, length};
+ghost use Rattle.std.specs.Prelude.{false};
 ghost use Rattle.cord_meaning.specs.Blocks.{to_end, to_else, jump};
 ghost use Rattle.cord_meaning.specs.Paths.{opened, open_at};
 ghost use Rattle.cord_meaning.specs.Statements.{shape_of};
 ghost use Rattle.cord_plan.specs.Unread.{behind};
-ghost use Rattle.cord_plan.specs.inner.Liveness.{shape_view, turn_of, innermost, places, AreBehind};
+ghost use Rattle.cord_plan.specs.inner.Liveness.{shape_view, turn_of, innermost, places, is_back, AreBehind, LeadOn};
 
 use cord_script::Statement;
 use std::alloc::{AllocError, Global};
@@ -203,6 +204,28 @@ fn shapes_of(alloc: Global, statements: &[Statement]) -> Result<Vec<Shape>, Allo
         shapes.push_reserved(shape_of(statement));
     }
     Ok(shapes)
+}
+
+// Whether a place may lead back, to an earlier one or to itself.
+fn is_back(behind: Behind, place: usize) -> bool
+    ensures { result ≡ is_back place (places behind) }
+{
+    match behind.second {
+        None => behind.first <= place,
+        Some(second) => behind.first <= place || second <= place,
+    }
+}
+
+/// Whether some place may lead back.
+pub(crate) fn leads_back(behinds: &[Behind]) -> bool
+    ensures { result ≡ false → LeadOn behinds.now }
+{
+    for (place, behind) in behinds.iter().enumerate() {
+        if is_back(*behind, place) {
+            return true;
+        }
+    }
+    false
 }
 
 /// The places that may come next after each place of a script: each block is walked over once for each line that leads to its end.

@@ -1,6 +1,6 @@
 -- What the code that finds what is read later goes by.
 use Rattle.std.specs.Prelude.{◌≡◌, ℕ, zero, suc, ◌<◌, ◌/◌, ◌%◌, Bool, true, false, not, ◌&&◌, ◌||◌, List, [], ◌∷◌, map, length, get_or}
-use Rattle.std.specs.Prelude.{Option, Some, None, slice_get}
+use Rattle.std.specs.Prelude.{nat_le, Option, Some, None, slice_get}
 use Rattle.std.specs.Option.{option_to_list}
 use Rattle.cord_syntax.specs.declared.statements.Statement.{Statement}
 use Rattle.cord_meaning.specs.Blocks as blocks
@@ -57,6 +57,14 @@ places_at behinds p = places_of (slice_get behinds p)
 pub record AreBehind (shapes : List blocks.Shape) (behinds : List Behind) : Type 0 where
   pub size : length behinds ≡ length shapes
   pub told : (p : ℕ) → places_at behinds p ≡ behind shapes p
+
+-- whether one of these places that may come next after p is p or stands before it
+abbrev pub is_back : ℕ → List ℕ → Bool
+is_back p qs = some_of (λ q. nat_le q p) qs
+
+-- each place leads to later ones alone
+abbrev pub LeadOn : List Behind → Type 0
+LeadOn behinds = (p : ℕ) → is_back p (places_at behinds p) ≡ false
 
 -- whether a table of places has a place
 abbrev pub at : List Bool → ℕ → Bool
