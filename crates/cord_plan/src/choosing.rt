@@ -7,10 +7,11 @@ ghost use Rattle.cord_plan.specs.Forced.{is_small, expr_of, expr_with};
 ghost use Rattle.cord_plan.specs.inner.Choices.{simple_operands, parts_beside, expression_in, is_spare, room_left_by};
 ghost use Rattle.cord_plan.specs.inner.Choices.{choice_view, operands_view, IsChoice, AreChoices};
 ghost use Rattle.cord_plan.specs.inner.Liveness.{tells};
-ghost use Rattle.cord_plan.specs.inner.Numbering.{number_of};
+ghost use Rattle.cord_plan.specs.inner.Numbering.{Keeps, number_of};
 ghost use Rattle.cord_plan.specs.inner.Recent.{IsRecent};
 ghost use Rattle.cord_plan.specs.Views.{expr_view};
 
+use crate::line_numbers::LineNumbers;
 use crate::parts::room_behind;
 use crate::readings::assigns;
 use crate::recent::Recent;
@@ -27,13 +28,15 @@ pub(crate) enum Choice<'a> {
     Replaced(usize, &'a Expr),
 }
 
-/// A simple line of a script, with its place, its cord operands, and what the lines before it assign and read.
+/// A simple line of a script, with its place, its cord operands, the numbers of its names, and what the lines before it
+/// assign and read.
 #[derive(Clone, Copy)]
 pub(crate) struct Line<'a> {
     pub(crate) statements: &'a [Statement],
     pub(crate) place: usize,
     pub(crate) statement: &'a Statement,
     pub(crate) operands: &'a [Name],
+    pub(crate) numbers: LineNumbers,
     pub(crate) recent: &'a Recent<'a>,
 }
 
@@ -170,9 +173,11 @@ fn expression_at<'a>(table: &'a [Option<Expr>], place: usize) -> Option<&'a Expr
 pub(crate) fn choose<'a>(
     line: &Line,
     operand: &'a Name,
+    kept: Option<u8>,
     table: &'a [Option<Expr>],
     chosen: &[Choice],
 ) -> Choice<'a>
+    requires kept { Keeps line.now.recent.now.later.now.numbering operand.now kept }
     requires place { line.now.place ≤ length line.now.statements.now }
     requires recent { IsRecent line.now.statements.now line.now.place line.now.recent.now }
     requires operands { simple_operands line.now.statement.now ≡ Some line.now.operands.now }
@@ -182,7 +187,7 @@ pub(crate) fn choose<'a>(
         (map choice_view chosen.now) (choice_view result) }
 {
     let name = operand.as_slice();
-    let number = line.recent.later.numbering.number_of(name);
+    let number = line.recent.later.numbering.number_with(name, kept);
     if !is_spare(line, operand, number) {
         return Choice::Kept(operand);
     }
@@ -216,7 +221,7 @@ pub(crate) fn choose_all<'a>(
 {
     let mut chosen = Vec::with_capacity(alloc, line.operands.len())?;
     for operand in line.operands {
-        let choice = choose(line, operand, table, &chosen);
+        let choice = choose(line, operand, None, table, &chosen);
         chosen.push(choice)?;
     }
     Ok(chosen)

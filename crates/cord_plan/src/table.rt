@@ -3,7 +3,7 @@ ghost use Rattle.std.specs.Prelude.{◌≡◌, ◌≤◌, Some, IfOk, IsOkUnless
 ghost use Rattle.cord_plan.specs.inner.Choices.{choice_view, simple_operands};
 ghost use Rattle.cord_plan.specs.Forced.{expr_of, expr_with};
 ghost use Rattle.cord_plan.specs.inner.Liveness.{tells};
-ghost use Rattle.cord_plan.specs.inner.Numbering.{AllKept};
+ghost use Rattle.cord_plan.specs.inner.Numbering.{AllKept, AreKept};
 ghost use Rattle.cord_plan.specs.inner.Recent.{IsRecent};
 ghost use Rattle.cord_plan.specs.inner.Tables.{IsMarked, IsNext, IsTableOf};
 ghost use Rattle.cord_plan.specs.Views.{expr_view};
@@ -12,7 +12,7 @@ use crate::Expr;
 use crate::choosing::{Choice, Line, choose, choose_all, operands_of};
 use crate::interning::Interner;
 use crate::joining::expression_with;
-use crate::line_numbers::numbers_at;
+use crate::line_numbers::{LineNumbers, numbers_at};
 use crate::liveness::Later;
 use crate::recent::Recent;
 use cord_io::CordError;
@@ -72,21 +72,22 @@ fn expression_over<'a>(
     requires place { line.now.place ≤ length line.now.statements.now }
     requires recent { IsRecent line.now.statements.now line.now.place line.now.recent.now }
     requires operands { simple_operands line.now.statement.now ≡ Some line.now.operands.now }
+    requires kept { AreKept line.now.recent.now.later.now.numbering line.now.statement.now line.now.numbers }
     ensures made { IfOk result (λ e. IsNext line.now.statements.now
         (tells line.now.recent.now.later.now) line.now.place line.now.statement.now
         (map (option_map expr_view) expressions.now) firsts.old firsts.new (option_map expr_view e)) }
     ensures refused { IsOkUnless result CordError.NoMemory }
 {
-    let statement = line.statement;
+    let (statement, numbers) = (line.statement, line.numbers);
     match line.operands {
         [] => expression_by(alloc, interner, statement, &[], firsts),
         [operand] => {
-            let choice = choose(line, operand, expressions, &[]);
+            let choice = choose(line, operand, numbers.first, expressions, &[]);
             expression_by(alloc, interner, statement, &[choice], firsts)
         }
         [left, right] => {
-            let first = choose(line, left, expressions, &[]);
-            let second = choose(line, right, expressions, &[first]);
+            let first = choose(line, left, numbers.first, expressions, &[]);
+            let second = choose(line, right, numbers.second, expressions, &[first]);
             expression_by(alloc, interner, statement, &[first, second], firsts)
         }
         _ => {
@@ -103,12 +104,14 @@ fn next_expression<'a>(
     statements: &'a [Statement],
     place: usize,
     statement: &'a Statement,
+    numbers: LineNumbers,
     recent: &'a Recent<'a>,
     expressions: &[Option<Expr>],
     firsts: &mut [bool],
 ) -> Result<Option<Expr>, CordError>
     requires place { place ≤ length statements.now }
     requires recent { IsRecent statements.now place recent.now }
+    requires kept { AreKept recent.now.later.now.numbering statement.now numbers }
     ensures made { IfOk result (λ e. IsNext statements.now (tells recent.now.later.now) place statement.now
         (map (option_map expr_view) expressions.now) firsts.old firsts.new (option_map expr_view e)) }
     ensures refused { IsOkUnless result CordError.NoMemory }
@@ -121,6 +124,7 @@ fn next_expression<'a>(
         place,
         statement,
         operands: operands.as_slice(),
+        numbers,
         recent,
     };
     expression_over(alloc, interner, &line, expressions, firsts)
@@ -142,18 +146,20 @@ impl Table {
         let mut interner = Interner::of(alloc);
         let mut recent = Recent::of(alloc, later)?;
         for (place, statement) in statements.iter().enumerate() {
+            let numbers = numbers_at(&later.numbers, place);
             let expression = next_expression(
                 alloc,
                 &mut interner,
                 statements,
                 place,
                 statement,
+                numbers,
                 &recent,
                 &expressions,
                 &mut firsts,
             )?;
             expressions.push_reserved(expression);
-            recent.note(statement, numbers_at(&later.numbers, place), place);
+            recent.note(statement, numbers, place);
         }
         Ok(Table {
             expressions,
