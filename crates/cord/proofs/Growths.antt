@@ -8,10 +8,6 @@ use Rattle.cord_core.specs.Equations.{HasText}
 use Rattle.cord_ec.specs.Grown.{IsGrownBy, IsGrownByCord, IsCordOf}
 use Rattle.cord.specs.Plain.{no_table, grown_bytes, IsPlainGrowth}
 
--- nothing yet
-pub growth_of_nothing : (xs : List Cell) → xs ≡ [] → IsPlainGrowth xs
-growth_of_nothing xs e = rw e (record { fits = λ ls. tt; bytes = λ t. refl })
-
 -- some bytes more
 pub growth_by : (old new : List Cell) (b : List ℕ) → IsPlainGrowth old → IsGrownBy old new b → IsPlainGrowth new
 growth_by old new b p g = record {

@@ -69,8 +69,3 @@ cut_on_front step a b d t l r n from c h k m = front_second step a b d (drop fro
 pub cut_past : (P : List ℕ → Type 0) (t : Table) (l r n : Node) (from : ℕ) → IsCut t l r n → len_of l ≤ from →
     P (drop (from - len_of l) (bytes_over t r)) → P (drop from (bytes_over t n))
 cut_past P t l r n from c h k = rw (from_right t l r n from c h) k
-
--- the same of a walk
-pub cut_past_walk : {S : Type 0} (step : S → ℕ → S × Bool) (a : S) (p : S × Bool) (t : Table) (l r n : Node) (from : ℕ) → IsCut t l r n →
-    len_of l ≤ from → walk step a (drop (from - len_of l) (bytes_over t r)) ≡ p → walk step a (drop from (bytes_over t n)) ≡ p
-cut_past_walk step a p t l r n from c h k = cut_past (λ xs. walk step a xs ≡ p) t l r n from c h k

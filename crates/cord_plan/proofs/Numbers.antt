@@ -29,10 +29,6 @@ module _ (names : List (List ℕ)) (i : ℕ) (y x : List ℕ) (lt : i < length n
 abbrev pub moved : ℕ → Option ℕ → Option ℕ
 moved i o = option_map (λ n. n + i) o
 
-pub moved_suc : (i : ℕ) (o : Option ℕ) → moved i (option_map suc o) ≡ moved (i + 1) o
-moved_suc i None = refl
-moved_suc i (Some n) = ap Some (omega arith)
-
 -- the name at the place that was found
 pub place_found : (names : List (List ℕ)) (x : List ℕ) (n : ℕ) → place_of names x ≡ Some n → slice_get names n ≡ Some x
 place_found [] x n e = let bad : ⊥ = cc in absurd bad
@@ -160,13 +156,6 @@ pub both_added : (xs ys a b c : List (List ℕ)) → Adds xs a b → Adds ys b c
 both_added xs ys a b c one two = record {
   kept = λ x k. two.kept x (one.kept x k);
   added = λ x h. ⊎_elim (λ left. two.kept x (one.added x left)) (λ right. two.added x right) (has_append xs ys x h);
-}
-
--- what was added before stays
-pub first_added : (xs ys a b c : List (List ℕ)) → Adds xs a b → Adds ys b c → Adds xs a c
-first_added xs ys a b c one two = record {
-  kept = λ x k. two.kept x (one.kept x k);
-  added = λ x h. two.kept x (one.added x h);
 }
 
 pub more_added : (names : List (List ℕ)) (i : ℕ) (y : List ℕ) (a b c : List (List ℕ)) → i < length names → y ≡ get_or names i y →

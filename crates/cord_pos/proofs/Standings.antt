@@ -26,11 +26,6 @@ pub on_cord : (c : Option Node) (n : Node) (index : ℕ) (part : Part) (ps : Lis
     IsOnCord c index part ps
 on_cord c n index part ps e on = rw e on
 
--- past the end no node is visited
-pub set_past : (c : Option Node) (i : ℕ) → text_len c ≤ i → set_visits c i ≡ 0
-set_past None i h = refl
-set_past (Some n) i h = rw (not_less i (len_of n) h) refl
-
 -- inside, one more than the level
 pub set_inside : (c : Option Node) (n : Node) (i : ℕ) → c ≡ Some n → i < len_of n → set_visits c i ≡ level n i + 1
 set_inside c n i e h = rw (e, lt-ltb i (len_of n) h) refl
@@ -192,14 +187,3 @@ moved_still_visits c spot path j on a b =
     let m : IsStill c spot path j = still c spot path j on a b in
     let z : moved_visits c (Some spot.index) j ≡ 0 = grind (arith, nat_tests, m.visits_none, m.inside) in
     rw z (omega (arith, on.counted))
-
--- a move to an index of the cord takes as many visits as there are below what holds both indices
-pub moved_inside : (c : Option Node) (i j : ℕ) → j < text_len c → moved_visits c (Some i) j ≡ move_visits c i j
-moved_inside c i j h = rw (lt-ltb j (text_len c) h) refl
-
--- and one past the end none
-pub moved_past : (c : Option Node) (i j : ℕ) → text_len c ≤ j → moved_visits c (Some i) j ≡ 0
-moved_past c i j h = rw (not_less j (text_len c) h) refl
-
-pub index_past : (c : Option Node) (i j : ℕ) → text_len c ≤ j → moved_index c (Some i) j ≡ None
-index_past c i j h = rw (not_less j (text_len c) h) refl

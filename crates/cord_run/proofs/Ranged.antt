@@ -83,14 +83,6 @@ copies_added z b count made old new is text len pushed = subst (AddsCopies z cou
     same_byte : (a : ℕ) → as_byte z ≡ Ok a → b ≡ a
     same_byte a same = cc
 
-pub copies_piece : (z : ℤ) (b count : ℕ) (made : Option Node) (old new : List (Option Node)) → as_byte z ≡ Ok b →
-    HasText (replicate count b) made → new ≡ old ++ made ∷ [] → AddsPiece (AreCopies z) old new
-copies_piece z b count made old new is text pushed = record {
-  piece = made;
-  is = pushed;
-  holds = record { value = b; count = count; is = is; text = text };
-}
-
 -- ---- a name
 pub name_added : (entries : List Entry) (x : List ℕ) (wanted : Wanted) (old new : List (Option Node)) →
     AddsPart (cord_in (content_in entries x)) wanted old new → AddsExpression entries (name x) wanted old new
@@ -109,17 +101,6 @@ pub record IsRun (z w : ℤ) (len : ℕ) : Type 0 where
   pub is : as_byte z ≡ Ok byte
   pub count : as_index w ≡ Ok len
   pub short : len ≤ MAX_LEN
-
-pub run_measured : (z w : ℤ) (len : ℕ) → measured_copies MAX_LEN z w ≡ Ok len → IsRun z w len
-run_measured z w len h = by_checks (as_byte z) (as_index w) refl refl h
-  where
-    by_checks : (rb rn : Result ℕ FaultKind) → as_byte z ≡ rb → as_index w ≡ rn → and_then rb (λ b. and_then rn (λ n. as_length MAX_LEN n))
-        ≡ Ok len → IsRun z w len
-    by_checks (Err kind) rn e f h = let bad : ⊥ = cc in absurd bad
-    by_checks (Ok b) (Err kind) e f h = let bad : ⊥ = cc in absurd bad
-    by_checks (Ok b) (Ok n) e f h =
-        let passed = length_passed n len h in
-        record { byte = b; is = e; count = f ∙ ap (λ (k : ℕ). Ok k) passed.0; short = passed.1 }
 
 -- copies that are made are those that are measured
 pub record AreMade (z w : ℤ) (whole : List ℕ) : Type 0 where

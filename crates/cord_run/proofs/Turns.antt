@@ -28,12 +28,6 @@ turns_joined entries (o ∷ os) others (p ∷ ps) more h k =
     ⊎_elim (λ one. inl (one.0, turns_joined entries os others ps more one.1 k))
     (λ rest. inr (turns_joined entries os others (p ∷ ps) more rest k)) h
 
--- one origin, which gives one piece or none
-pub one_in_turn : (entries : List Entry) (o : Origin) (old new : List (Option Node)) → AddsAtMostOne (IsPieceOf entries o) old new →
-    AddsInTurn entries (o ∷ []) old new
-one_in_turn entries o old new (inl same) = record { added = []; is = same ∙ sym (append-nil old); each = tt }
-one_in_turn entries o old new (inr one) = record { added = one.piece ∷ []; is = one.is; each = inl (one.holds, tt) }
-
 -- a walk over members: pieces of those that it has passed, to which pieces of those that are left can be added
 pub record TurnsSoFar (entries : List Entry) (es : Exprs) (old : List (Option Node)) (left_over : Exprs) (now : List (Option Node)) : Type 0 where
   pub added : List (Option Node)

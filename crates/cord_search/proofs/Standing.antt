@@ -166,11 +166,6 @@ front_none t x s start place head is f none =
     ⊎_elim (λ (lt : k < place). none k low lt at) (λ (le : place ≤ k).
     least k le (front_stands (bytes_of t x) (bytes_of t s) head k f at)) (cases_lt k place))
 
-pub front_low : (x : List ℕ) (place q : ℕ) (head : List ℕ) → Some q ≡ first x place head → place ≤ q
-front_low x place q head is =
-    let least : IsFirst x place head (Some q) = subst (λ (r : Option ℕ). IsFirst x place head r) (sym is) (first_is_least x head place) in
-    least.0
-
 -- a text that was copied whole
 pub whole_text : (t : Table) (s : Option Node) (xs : List ℕ) → IsPieceOf t s 0 xs → length xs ≡ text_len s →
     length (bytes_of t s) ≡ text_len s → xs ≡ bytes_of t s
