@@ -1,4 +1,8 @@
-//! Runs plans, and scripts by their plans.
+//! Runs plans, and scripts by their plans: steps through the operations, what each of them does, and the end.
+mod ends;
+mod operations;
+mod steps;
+
 ghost use Rattle.std.specs.Prelude.{◌≡◌, ◌≢◌, ◌<◌, ◌-◌, ◌^◌, IfOk, IfErr, OnErr, List, ℕ, map};
 ghost use Rattle.cord_file.specs.Sources.{device_in};
 ghost use Rattle.cord_io.specs.Device.{Folder};
@@ -13,8 +17,8 @@ ghost use Rattle.cord_script.specs.Forms.{Grammar};
 ghost use Rattle.cord_script.specs.Script.{Reads, ReadsBy};
 ghost use Rattle.cord_syntax.specs.declared.statements.Statement.{Statement};
 
-use crate::ending::{close_output, end_of_run};
-use crate::running::run_plan;
+use crate::runner::ends::{close_output, end_of_run};
+use crate::runner::steps::run_plan;
 use cord_file::Sources;
 use cord_io::{CordError, Files, Sink};
 use cord_meaning::End;
