@@ -4,7 +4,7 @@ use Rattle.std.specs.Prelude.{Option}
 use Rattle.cord_node.specs.declared.Node.{Node}
 use Rattle.cord_plan.specs.Exprs.{Expr, Exprs, member}
 use Rattle.cord_run.specs.declared.store.Entry.{Entry}
-use Rattle.cord_run.specs.inner.Origins.{Origin, origins, origins_of, IsPieceOf, InTurn, AddsAtMostOne, AddsInTurn}
+use Rattle.cord_run.specs.inner.Origins.{Origin, origins, origins_of, InTurn, AddsInTurn}
 
 -- no pieces
 pub none_in_turn : (entries : List Entry) (os : List Origin) → InTurn entries os []

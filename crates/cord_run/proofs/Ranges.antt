@@ -25,7 +25,6 @@ use Rattle.cord_run.specs.inner.Entries.{content_in, cord_in, operand_in}
 use Rattle.cord_run.specs.inner.Holdings.{holding_of, plain_of}
 use Rattle.cord_run.specs.inner.Ranges.{AddsCordRange, AddsCopies, AddsRun, AddsExpression, AddsMembers, AreFew, IsAfter, IsInside, IsOutside}
 use Rattle.cord_run.specs.inner.Ranges.{IsPast}
-use Rattle.cord_run.specs.inner.Origins.{AddsPiece, AreCopies}
 use Rattle.cord_run.proofs.MemberRanges.{nothing_taken}
 use Rattle.cord_run.proofs.Lengths.{cord_fits, content_text, operand_value, length_passed}
 

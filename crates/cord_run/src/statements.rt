@@ -3,7 +3,7 @@ mod extensibles;
 pub(crate) mod numbers;
 mod searches;
 
-ghost use Rattle.std.specs.Prelude.{◌≡◌, ◌≤◌, ℕ, List, IfErr, IfOk};
+ghost use Rattle.std.specs.Prelude.{◌≤◌, ℕ, List, IfErr, IfOk};
 ghost use Rattle.cord_io.specs.Table.{Table};
 ghost use Rattle.cord_node.specs.Tables.{lengths_of};
 ghost use Rattle.cord_file.specs.Entries.{lengths_in, table_in};
@@ -19,6 +19,7 @@ ghost use Rattle.cord_run.specs.inner.Holdings.{holding_of};
 ghost use Rattle.cord_run.specs.inner.Statements.{IsKeptUnread, MeansOver, StaysOver};
 ghost use Rattle.cord_run.specs.inner.Outcomes.{CountsReads, Gives};
 ghost use Rattle.cord_io.specs.Device.{Folder};
+ghost use Rattle.cord_run.specs.inner.Frames.{KeepNoMore};
 
 use crate::statements::extensibles::serve_extensible;
 use crate::statements::numbers::{assign_computed, assign_query};
@@ -39,8 +40,7 @@ pub(crate) fn serve_statement<F: Files>(
     requires kept { IsKept statement.now }
     requires over { IsOver (lengths_in (opened_in sources.old)) store.old.entries.items }
     ensures over { IfOk result (λ _. IsOver (lengths_in (opened_in sources.new)) store.new.entries.items) }
-    ensures earlier { (folder : Folder) → F.keeps (device_in sources.new) folder →
-        F.keeps (device_in sources.old) folder }
+    ensures earlier { KeepNoMore ⟦<F as Files>⟧ (device_in sources.old) (device_in sources.new) }
     ensures gives { (folder : Folder) → F.keeps (device_in sources.new) folder → Gives
         (keeps MAX_LEN folder statement.now
         (holding_of (table_in (opened_in sources.old) folder) store.old.entries.items))
@@ -69,8 +69,7 @@ fn serve_query<F: Files>(
     requires search { IsCordQuery statement.now }
     requires over { IsOver (lengths_in (opened_in sources.old)) store.old.entries.items }
     ensures over { IfOk result (λ _. IsOver (lengths_in (opened_in sources.new)) store.new.entries.items) }
-    ensures earlier { (folder : Folder) → F.keeps (device_in sources.new) folder →
-        F.keeps (device_in sources.old) folder }
+    ensures earlier { KeepNoMore ⟦<F as Files>⟧ (device_in sources.old) (device_in sources.new) }
     ensures gives { (folder : Folder) → F.keeps (device_in sources.new) folder → Gives
         (keeps MAX_LEN folder statement.now
         (holding_of (table_in (opened_in sources.old) folder) store.old.entries.items))

@@ -19,6 +19,7 @@ ghost use Rattle.cord_run.specs.Failing.{FailsBy, FailsIn, IsFileMade};
 ghost use Rattle.cord_run.specs.inner.Entries.{HasContent, IsOver, SameEntries};
 ghost use Rattle.cord_run.specs.inner.Holdings.{holding_of};
 ghost use Rattle.cord_run.specs.inner.Outcomes.{CountsReads, Gives};
+ghost use Rattle.cord_run.specs.inner.Frames.{KeepNoMore};
 
 use crate::checks::as_length;
 use crate::expressions::build;
@@ -47,8 +48,7 @@ pub(crate) fn build_target<F: Files>(
 ) -> Result<(), Stop>
     requires over { IsOver (lengths_in (opened_in sources.old)) store.old.entries.items }
     ensures over { IfOk result (λ _. IsOver (lengths_in (opened_in sources.new)) store.new.entries.items) }
-    ensures earlier { (folder : Folder) → F.keeps (device_in sources.new) folder →
-        F.keeps (device_in sources.old) folder }
+    ensures earlier { KeepNoMore ⟦<F as Files>⟧ (device_in sources.old) (device_in sources.new) }
     ensures gives { (folder : Folder) → F.keeps (device_in sources.new) folder → Gives
         (does MAX_LEN folder (plan.Build 0 target.now (made_view made.now))
         (holding_of (table_in (opened_in sources.old) folder) store.old.entries.items))
@@ -70,8 +70,7 @@ pub(crate) fn measure_target<F: Files>(
 ) -> Result<(), Stop>
     requires over { IsOver (lengths_in (opened_in sources.old)) store.old.entries.items }
     ensures over { IfOk result (λ _. IsOver (lengths_in (opened_in sources.new)) store.new.entries.items) }
-    ensures earlier { (folder : Folder) → F.keeps (device_in sources.new) folder →
-        F.keeps (device_in sources.old) folder }
+    ensures earlier { KeepNoMore ⟦<F as Files>⟧ (device_in sources.old) (device_in sources.new) }
     ensures gives { (folder : Folder) → F.keeps (device_in sources.new) folder → Gives
         (does MAX_LEN folder (plan.Measure 0 target.now (made_view made.now))
         (holding_of (table_in (opened_in sources.old) folder) store.old.entries.items))
@@ -105,8 +104,7 @@ fn make<F: Files>(
     ensures refused { IfErr result (IsUnmade (F.keeps (device_in sources.new))
         (opened_in sources.old) store.old.entries.items (made_view made.now)) }
     ensures same { IfOk result (λ _. SameEntries store.old.entries.items store.new.entries.items) }
-    ensures earlier { (folder : Folder) → F.keeps (device_in sources.new) folder →
-        F.keeps (device_in sources.old) folder }
+    ensures earlier { KeepNoMore ⟦<F as Files>⟧ (device_in sources.old) (device_in sources.new) }
     ensures grows { Grows (opened_in sources.old) (opened_in sources.new) }
     ensures fails { IfErr result (FailsBy (IsFileMade (made_view made.now)) ⊥) }
     ensures counts { F.failures (device_in sources.new)
@@ -160,8 +158,7 @@ fn measure<F: Files>(
         (opened_in sources.old) store.now.entries.items (made_view made.now)) }
     ensures refused { IfErr result (IsUnmeasured (F.keeps (device_in sources.new))
         (opened_in sources.old) store.now.entries.items (made_view made.now)) }
-    ensures earlier { (folder : Folder) → F.keeps (device_in sources.new) folder →
-        F.keeps (device_in sources.old) folder }
+    ensures earlier { KeepNoMore ⟦<F as Files>⟧ (device_in sources.old) (device_in sources.new) }
     ensures grows { Grows (opened_in sources.old) (opened_in sources.new) }
     ensures fails { IfErr result (FailsBy (IsFileMade (made_view made.now)) ⊥) }
     ensures counts { F.failures (device_in sources.new)

@@ -10,6 +10,7 @@ ghost use Rattle.cord_run.specs.inner.Entries.{IsOver};
 ghost use Rattle.cord_run.specs.inner.Holdings.{holding_of, plain_of};
 ghost use Rattle.cord_run.specs.inner.Output.{CountsStops, Puts, Wrote, stop_of_failure};
 ghost use Rattle.cord_io.specs.Device.{Folder};
+ghost use Rattle.cord_run.specs.inner.Frames.{IsSameSource};
 
 use crate::expressions::pieces_of;
 use crate::expressions::short_texts::gather;
@@ -41,9 +42,7 @@ pub(crate) fn write<R: Source, S: Sink>(
     ensures counts { CountsStops (record { source = R.failures source.old; sink = S.failures sink.old })
         (record { source = R.failures source.new; sink = S.failures sink.new }) result }
     ensures finished { S.finished sink.new ≡ S.finished sink.old }
-    ensures lengths { R.lengths source.new ≡ R.lengths source.old }
-    ensures table { R.table source.new ≡ R.table source.old }
-    ensures earlier { (folder : Folder) → R.keeps source.new folder → R.keeps source.old folder }
+    ensures source { IsSameSource ⟦<R as Source>⟧ source.old source.new }
 {
     match slice_of(expression, store) {
         Some(slice) => match put_all(slice, sink) {
@@ -70,9 +69,7 @@ fn write_joined<R: Source, S: Sink>(
     ensures counts { CountsStops (record { source = R.failures source.old; sink = S.failures sink.old })
         (record { source = R.failures source.new; sink = S.failures sink.new }) result }
     ensures finished { S.finished sink.new ≡ S.finished sink.old }
-    ensures lengths { R.lengths source.new ≡ R.lengths source.old }
-    ensures table { R.table source.new ≡ R.table source.old }
-    ensures earlier { (folder : Folder) → R.keeps source.new folder → R.keeps source.old folder }
+    ensures source { IsSameSource ⟦<R as Source>⟧ source.old source.new }
 {
     let mut text = ArrayVec::new();
     if !gather(expression, store, &mut text) {
@@ -100,9 +97,7 @@ fn write_pieces<R: Source, S: Sink>(
     ensures counts { CountsStops (record { source = R.failures source.old; sink = S.failures sink.old })
         (record { source = R.failures source.new; sink = S.failures sink.new }) result }
     ensures finished { S.finished sink.new ≡ S.finished sink.old }
-    ensures lengths { R.lengths source.new ≡ R.lengths source.old }
-    ensures table { R.table source.new ≡ R.table source.old }
-    ensures earlier { (folder : Folder) → R.keeps source.new folder → R.keeps source.old folder }
+    ensures source { IsSameSource ⟦<R as Source>⟧ source.old source.new }
 {
     let pieces = match pieces_of(alloc, expression, store) {
         Ok(pieces) => pieces,
@@ -136,9 +131,7 @@ fn put_pieces<R: Source, S: Sink>(
     ensures faults { CountsFaults (record { source = R.failures source.old; sink = S.failures sink.old })
         (record { source = R.failures source.new; sink = S.failures sink.new }) result }
     ensures finished { S.finished sink.new ≡ S.finished sink.old }
-    ensures lengths { R.lengths source.new ≡ R.lengths source.old }
-    ensures table { R.table source.new ≡ R.table source.old }
-    ensures earlier { (folder : Folder) → R.keeps source.new folder → R.keeps source.old folder }
+    ensures source { IsSameSource ⟦<R as Source>⟧ source.old source.new }
 {
     for piece in pieces {
         match cord_iter::put(piece, source, sink) {

@@ -13,6 +13,7 @@ ghost use Rattle.cord_run.specs.inner.Holdings.{holding_of};
 ghost use Rattle.cord_run.specs.inner.Output.{CountsStops};
 ghost use Rattle.cord_run.specs.inner.Outcomes.{Serves};
 ghost use Rattle.cord_io.specs.Device.{Folder};
+ghost use Rattle.cord_run.specs.inner.Frames.{KeepNoMore};
 
 use crate::expressions::output::write;
 use crate::statements::serve_statement;
@@ -35,8 +36,7 @@ pub(crate) fn serve<F: Files, S: Sink>(
     requires kept { KeepsNoOther (operation_view operation.now) }
     requires over { IsOver (lengths_in (opened_in sources.old)) store.old.entries.items }
     ensures over { IfOk result (λ _. IsOver (lengths_in (opened_in sources.new)) store.new.entries.items) }
-    ensures earlier { (folder : Folder) → F.keeps (device_in sources.new) folder →
-        F.keeps (device_in sources.old) folder }
+    ensures earlier { KeepNoMore ⟦<F as Files>⟧ (device_in sources.old) (device_in sources.new) }
     ensures serves { (folder : Folder) → F.keeps (device_in sources.new) folder → Serves
         (does MAX_LEN folder (operation_view operation.now)
         (holding_of (table_in (opened_in sources.old) folder) store.old.entries.items))
@@ -69,8 +69,7 @@ fn put<F: Files, S: Sink>(
 ) -> Result<(), Stop>
     requires over { IsOver (lengths_in (opened_in sources.old)) store.now.entries.items }
     ensures over { IsOver (lengths_in (opened_in sources.new)) store.now.entries.items }
-    ensures earlier { (folder : Folder) → F.keeps (device_in sources.new) folder →
-        F.keeps (device_in sources.old) folder }
+    ensures earlier { KeepNoMore ⟦<F as Files>⟧ (device_in sources.old) (device_in sources.new) }
     ensures serves { (folder : Folder) → F.keeps (device_in sources.new) folder → Serves
         (does MAX_LEN folder (plan.Write 0 (expr_view expression.now))
         (holding_of (table_in (opened_in sources.old) folder) store.now.entries.items))

@@ -1,5 +1,5 @@
 // Statements that give a name a number.
-ghost use Rattle.std.specs.Prelude.{◌≡◌, ◌≤◌, ◌+ℤ◌, ◌-ℤ◌, ℕ, List, IfErr, IfOk, IfSome, None, Some, pos};
+ghost use Rattle.std.specs.Prelude.{◌≡◌, ◌≤◌, ◌+ℤ◌, ◌-ℤ◌, ℕ, List, IfErr, IfOk, None, Some, pos};
 ghost use Rattle.cord_io.specs.Table.{Table};
 ghost use Rattle.cord_io.specs.declared.TheConstants.{MAX_LEN};
 ghost use Rattle.cord_node.specs.Tables.{lengths_of};
@@ -10,6 +10,7 @@ ghost use Rattle.cord_run.specs.inner.Entries.{content_in, cord_in, HasNumber, I
 ghost use Rattle.cord_run.specs.inner.Statements.{MeansOver, StaysOver};
 ghost use Rattle.cord_run.specs.inner.Outcomes.{CountsReads};
 ghost use Rattle.cord_io.specs.Device.{Folder};
+ghost use Rattle.cord_run.specs.inner.Frames.{IsSameSource};
 
 use crate::statements::searches::{
     byte_found, compared, fetched, last_found, ranges_compared, text_found,
@@ -54,9 +55,7 @@ pub(crate) fn assign_query<R: Source>(
     ensures means { (folder : Folder) → R.keeps source.new folder →
         MeansOver (R.table source.old folder) statement.now store.old.entries.items store.new.entries.items result }
     ensures counts { CountsReads (R.failures source.old) (R.failures source.new) result }
-    ensures lengths { R.lengths source.new ≡ R.lengths source.old }
-    ensures table { R.table source.new ≡ R.table source.old }
-    ensures earlier { (folder : Folder) → R.keeps source.new folder → R.keeps source.old folder }
+    ensures source { IsSameSource ⟦<R as Source>⟧ source.old source.new }
 {
     let number = query_number(store, source, statement)?;
     give_number(alloc, store, target_name(statement), number)
@@ -91,9 +90,7 @@ fn query_number<R: Source>(
     ensures found { (folder : Folder) → R.keeps source.new folder →
         FindsOver (R.table source.old folder) statement.now store.now.entries.items result }
     ensures counts { CountsFinding (R.failures source.old) (R.failures source.new) result }
-    ensures lengths { R.lengths source.new ≡ R.lengths source.old }
-    ensures table { R.table source.new ≡ R.table source.old }
-    ensures earlier { (folder : Folder) → R.keeps source.new folder → R.keeps source.old folder }
+    ensures source { IsSameSource ⟦<R as Source>⟧ source.old source.new }
 {
     match statement {
         Statement::Fetch { .. } | Statement::Cmp { .. } | Statement::Ncmp { .. } => {
@@ -114,9 +111,7 @@ fn byte_or_order<R: Source>(
     ensures found { (folder : Folder) → R.keeps source.new folder →
         FindsOver (R.table source.old folder) statement.now store.now.entries.items result }
     ensures counts { CountsFinding (R.failures source.old) (R.failures source.new) result }
-    ensures lengths { R.lengths source.new ≡ R.lengths source.old }
-    ensures table { R.table source.new ≡ R.table source.old }
-    ensures earlier { (folder : Folder) → R.keeps source.new folder → R.keeps source.old folder }
+    ensures source { IsSameSource ⟦<R as Source>⟧ source.old source.new }
 {
     let empty = Cord::empty();
     match statement {
@@ -158,9 +153,7 @@ fn place_or_none<R: Source>(
     ensures found { (folder : Folder) → R.keeps source.new folder →
         FindsOver (R.table source.old folder) statement.now store.now.entries.items result }
     ensures counts { CountsFinding (R.failures source.old) (R.failures source.new) result }
-    ensures lengths { R.lengths source.new ≡ R.lengths source.old }
-    ensures table { R.table source.new ≡ R.table source.old }
-    ensures earlier { (folder : Folder) → R.keeps source.new folder → R.keeps source.old folder }
+    ensures source { IsSameSource ⟦<R as Source>⟧ source.old source.new }
 {
     let empty = Cord::empty();
     match statement {

@@ -8,6 +8,7 @@ ghost use Rattle.cord_meaning.specs.Statements as statements;
 ghost use Rattle.cord_run.specs.inner.Numbers.{byte_place, CountsFinding, fetched, Finds, last_place, ranges_order};
 ghost use Rattle.cord_run.specs.inner.Numbers.{Refuses, text_place};
 ghost use Rattle.cord_io.specs.Device.{Folder};
+ghost use Rattle.cord_run.specs.inner.Frames.{IsSameSource};
 
 use crate::checks::{as_byte, as_index};
 use crate::stops::Stop;
@@ -21,9 +22,7 @@ pub(crate) fn fetched<R: Source>(cord: &Cord, index: i64, source: &mut R) -> Res
     ensures found { (folder : Folder) → R.keeps source.new folder →
         Finds (fetched (bytes_of (R.table source.old folder) cord.now) index) result }
     ensures counts { CountsFinding (R.failures source.old) (R.failures source.new) result }
-    ensures lengths { R.lengths source.new ≡ R.lengths source.old }
-    ensures table { R.table source.new ≡ R.table source.old }
-    ensures earlier { (folder : Folder) → R.keeps source.new folder → R.keeps source.old folder }
+    ensures source { IsSameSource ⟦<R as Source>⟧ source.old source.new }
 {
     let index = checked_index(index)?;
     if cord.len() <= index {
@@ -43,9 +42,7 @@ pub(crate) fn compared<R: Source>(left: &Cord, right: &Cord, source: &mut R) -> 
         Finds (Ok (order (bytes_of (R.table source.old folder) left.now)
         (bytes_of (R.table source.old folder) right.now))) result }
     ensures counts { CountsFinding (R.failures source.old) (R.failures source.new) result }
-    ensures lengths { R.lengths source.new ≡ R.lengths source.old }
-    ensures table { R.table source.new ≡ R.table source.old }
-    ensures earlier { (folder : Folder) → R.keeps source.new folder → R.keeps source.old folder }
+    ensures source { IsSameSource ⟦<R as Source>⟧ source.old source.new }
 {
     match cord_search::cmp(left, right, source) {
         Ok(sign) => Ok(i64::from(sign)),
@@ -68,9 +65,7 @@ pub(crate) fn ranges_compared<R: Source>(
         Finds (ranges_order (bytes_of (R.table source.old folder) left.now) left_start
         (bytes_of (R.table source.old folder) right.now) right_start count) result }
     ensures counts { CountsFinding (R.failures source.old) (R.failures source.new) result }
-    ensures lengths { R.lengths source.new ≡ R.lengths source.old }
-    ensures table { R.table source.new ≡ R.table source.old }
-    ensures earlier { (folder : Folder) → R.keeps source.new folder → R.keeps source.old folder }
+    ensures source { IsSameSource ⟦<R as Source>⟧ source.old source.new }
 {
     let left_index = checked_index(left_start)?;
     let right_index = checked_index(right_start)?;
@@ -94,9 +89,7 @@ pub(crate) fn text_found<R: Source>(
         Finds (text_place (bytes_of (R.table source.old folder) cord.now) start
         (bytes_of (R.table source.old folder) pattern.now)) result }
     ensures counts { CountsFinding (R.failures source.old) (R.failures source.new) result }
-    ensures lengths { R.lengths source.new ≡ R.lengths source.old }
-    ensures table { R.table source.new ≡ R.table source.old }
-    ensures earlier { (folder : Folder) → R.keeps source.new folder → R.keeps source.old folder }
+    ensures source { IsSameSource ⟦<R as Source>⟧ source.old source.new }
 {
     let index = checked_index(start)?;
     let len = cord.len();
@@ -117,9 +110,7 @@ pub(crate) fn byte_found<R: Source>(
     ensures found { (folder : Folder) → R.keeps source.new folder →
         Finds (byte_place (bytes_of (R.table source.old folder) cord.now) start byte) result }
     ensures counts { CountsFinding (R.failures source.old) (R.failures source.new) result }
-    ensures lengths { R.lengths source.new ≡ R.lengths source.old }
-    ensures table { R.table source.new ≡ R.table source.old }
-    ensures earlier { (folder : Folder) → R.keeps source.new folder → R.keeps source.old folder }
+    ensures source { IsSameSource ⟦<R as Source>⟧ source.old source.new }
 {
     let index = checked_index(start)?;
     let wanted = checked_byte(byte)?;
@@ -144,9 +135,7 @@ pub(crate) fn last_found<R: Source>(
     ensures found { (folder : Folder) → R.keeps source.new folder →
         Finds (last_place (bytes_of (R.table source.old folder) cord.now) start byte) result }
     ensures counts { CountsFinding (R.failures source.old) (R.failures source.new) result }
-    ensures lengths { R.lengths source.new ≡ R.lengths source.old }
-    ensures table { R.table source.new ≡ R.table source.old }
-    ensures earlier { (folder : Folder) → R.keeps source.new folder → R.keeps source.old folder }
+    ensures source { IsSameSource ⟦<R as Source>⟧ source.old source.new }
 {
     let index = checked_index(start)?;
     let wanted = checked_byte(byte)?;

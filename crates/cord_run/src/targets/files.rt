@@ -1,9 +1,10 @@
 // Cords and lengths of files.
 ghost use Rattle.std.specs.Prelude.{◌≡◌, IfErr, IfOk, OnErr};
-ghost use Rattle.cord_io.specs.Device.{Folder, count_after};
+ghost use Rattle.cord_io.specs.Device.{count_after};
 ghost use Rattle.cord_file.specs.Opening.{Grows};
 ghost use Rattle.cord_file.specs.Sources.{device_in, opened_in};
 ghost use Rattle.cord_run.specs.inner.Contents.{IsFileAt, IsLengthAt, IsNoFileAt, has_failed};
+ghost use Rattle.cord_run.specs.inner.Frames.{KeepNoMore};
 
 use crate::stops::Stop;
 use cord_core::Cord;
@@ -20,8 +21,7 @@ pub(crate) fn whole_or_lazy<F: Files>(
 ) -> Result<Cord, Stop>
     ensures made { IfOk result (IsFileAt (F.keeps (device_in sources.new)) (opened_in sources.new) path.now) }
     ensures refused { IfErr result (IsNoFileAt (F.keeps (device_in sources.new)) path.now) }
-    ensures earlier { (folder : Folder) → F.keeps (device_in sources.new) folder →
-        F.keeps (device_in sources.old) folder }
+    ensures earlier { KeepNoMore ⟦<F as Files>⟧ (device_in sources.old) (device_in sources.new) }
     ensures grows { Grows (opened_in sources.old) (opened_in sources.new) }
     ensures counts { F.failures (device_in sources.new)
         ≡ count_after (has_failed result) (F.failures (device_in sources.old)) }
@@ -38,8 +38,7 @@ pub(crate) fn whole<F: Files>(
 ) -> Result<Cord, Stop>
     ensures made { IfOk result (IsFileAt (F.keeps (device_in sources.new)) (opened_in sources.new) path.now) }
     ensures refused { IfErr result (IsNoFileAt (F.keeps (device_in sources.new)) path.now) }
-    ensures earlier { (folder : Folder) → F.keeps (device_in sources.new) folder →
-        F.keeps (device_in sources.old) folder }
+    ensures earlier { KeepNoMore ⟦<F as Files>⟧ (device_in sources.old) (device_in sources.new) }
     ensures grows { Grows (opened_in sources.old) (opened_in sources.new) }
     ensures counts { F.failures (device_in sources.new)
         ≡ count_after (has_failed result) (F.failures (device_in sources.old)) }
@@ -56,8 +55,7 @@ pub(crate) fn lazy<F: Files>(
 ) -> Result<Cord, Stop>
     ensures made { IfOk result (IsFileAt (F.keeps (device_in sources.new)) (opened_in sources.new) path.now) }
     ensures refused { IfErr result (IsNoFileAt (F.keeps (device_in sources.new)) path.now) }
-    ensures earlier { (folder : Folder) → F.keeps (device_in sources.new) folder →
-        F.keeps (device_in sources.old) folder }
+    ensures earlier { KeepNoMore ⟦<F as Files>⟧ (device_in sources.old) (device_in sources.new) }
     ensures grows { Grows (opened_in sources.old) (opened_in sources.new) }
     ensures counts { F.failures (device_in sources.new)
         ≡ count_after (has_failed result) (F.failures (device_in sources.old)) }
@@ -75,8 +73,7 @@ pub(crate) fn opened_length<F: Files>(
 ) -> Result<u64, Stop>
     ensures told { IfOk result (IsLengthAt (F.keeps (device_in sources.new)) path.now) }
     ensures refused { IfErr result (IsNoFileAt (F.keeps (device_in sources.new)) path.now) }
-    ensures earlier { (folder : Folder) → F.keeps (device_in sources.new) folder →
-        F.keeps (device_in sources.old) folder }
+    ensures earlier { KeepNoMore ⟦<F as Files>⟧ (device_in sources.old) (device_in sources.new) }
     ensures grows { Grows (opened_in sources.old) (opened_in sources.new) }
     ensures counts { F.failures (device_in sources.new)
         ≡ count_after (has_failed result) (F.failures (device_in sources.old)) }

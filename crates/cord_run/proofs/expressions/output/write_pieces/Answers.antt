@@ -29,7 +29,7 @@ returns-in-Ok-put_pieces-clause-wrote g c = λ folder kept there.
     let a = g.S.Sink.taken c.args.sink.now in
     let b = g.S.Sink.taken c.put_pieces.new.sink in
     wrote_whole c.args.store.now.entries.items (expr_view c.args.expression.now) (g.R.Source.lengths c.args.source.now) c.requires.over a b
-    t (g.met.R.Source.lengths_of_table c.args.source.now folder (c.in-Ok-put_pieces.ensures.earlier folder kept)) there
+    t (g.met.R.Source.lengths_of_table c.args.source.now folder (c.in-Ok-put_pieces.ensures.source.2 folder kept)) there
     c.in-Ok.pieces.items c.in-Ok.ensures.whole
     (subst (λ (ps : List (Option Node)). b ≡ a ++ all_bytes t ps) c.deref.ensures.value (c.in-Ok-put_pieces.ensures.puts folder kept))
 
@@ -41,7 +41,7 @@ returns-clause-wrote g c = λ folder kept there.
     subst (λ (stop : Stop). Wrote (text_in MAX_LEN (plain_of t c.args.store.now.entries.items) (expr_view c.args.expression.now)) a b
     (Err stop)) (sym c.stop_of_failure.ensures)
     (wrote_part c.args.store.now.entries.items (expr_view c.args.expression.now) (g.R.Source.lengths c.args.source.now) c.requires.over a b
-    t (g.met.R.Source.lengths_of_table c.args.source.now folder (c.in-Err-put_pieces.ensures.earlier folder kept)) there
+    t (g.met.R.Source.lengths_of_table c.args.source.now folder (c.in-Err-put_pieces.ensures.source.2 folder kept)) there
     c.in-Ok.pieces.items c.in-Err-put_pieces.error c.in-Ok.ensures.whole
     (subst (λ (ps : List (Option Node)). Takes (IsFrontOf (all_bytes t ps)) a b) c.deref.ensures.value
     (c.in-Err-put_pieces.ensures.puts folder kept)))

@@ -9,10 +9,10 @@ use Rattle.cord_run.proofs.Writes.{held_read, wrote_serves}
 use Rattle.cord_run.proofs.runner.operations.put.Goals as goal
 
 pub returns-clause-over : goal.returns-clause-over
-returns-clause-over g c = subst (λ (ls : Lengths). IsOver ls c.args.store.now.entries.items) (sym c.write.ensures.lengths) c.requires.over
+returns-clause-over g c = subst (λ (ls : Lengths). IsOver ls c.args.store.now.entries.items) (sym c.write.ensures.source.0) c.requires.over
 
 pub returns-clause-earlier : goal.returns-clause-earlier
-returns-clause-earlier g c = c.write.ensures.earlier
+returns-clause-earlier g c = c.write.ensures.source.2
 
 pub returns-clause-serves : goal.returns-clause-serves
 returns-clause-serves g c = λ folder kept.
@@ -21,4 +21,4 @@ returns-clause-serves g c = λ folder kept.
     let new = opened_in c.write.new.source in
     wrote_serves (table_in old folder) entries (expr_view c.args.expression.now) (g.S.Sink.taken c.args.sink.now)
     (g.S.Sink.taken c.write.new.sink) c.write.result folder (holding_of (table_in new folder) entries)
-    (held_read old new entries folder c.write.ensures.table) (c.write.ensures.wrote folder kept)
+    (held_read old new entries folder c.write.ensures.source.1) (c.write.ensures.wrote folder kept)
