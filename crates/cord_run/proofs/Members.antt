@@ -60,9 +60,9 @@ module _ (entries : List Entry) (ms : List Shared) (i : ℕ) (m : Shared) (h : i
       e
 
 -- no member is left to count
-pub all_counted : (entries : List Entry) (ms : List Shared) (i total : ℕ) → length ms ≤ i → total < 2 ^ 64 →
+pub resolve_all : (entries : List Entry) (ms : List Shared) (i total : ℕ) → length ms ≤ i → total < 2 ^ 64 →
     counted total (members_extent entries (members_seen (drop i ms))) ≡ Ok total
-all_counted entries ms i total h small =
+resolve_all entries ms i total h small =
     let none : min (total + 0) (2 ^ 64 - 1) ≡ total = omega arith in
     ap (λ (xs : List Shared). counted total (members_extent entries (members_seen xs))) (drop_all i ms h) ∙ ap (λ (n : ℕ). Ok n) none
 

@@ -1,9 +1,14 @@
-// Where a run stands among the operations of its plan.
+//! Where a run stands among the operations of its plan, and where `repeat`, `if`, `else` and `end` lead.
+pub(crate) mod branches;
+pub(crate) mod lines;
+
 ghost use Rattle.std.specs.Prelude.{map, reverse, ◌≡◌, ◌+◌, ◌-◌, ◌^◌, ◌<◌, ◌∷◌, [], Ok, IfOk, IfErr};
 ghost use Rattle.cord_meaning.specs.declared.TheConstants.{MAX_TURNS};
+ghost use Rattle.cord_run.specs.inner.Steps.{stop_of_control};
 ghost use Rattle.cord_run.specs.inner.Controls.{Goes, IsTurnAt, begun, block_view, chosen, closed, repeated, where_of};
 
 use crate::checks::as_index;
+use crate::stops::{Stop, StopAt};
 use cord_meaning::{FaultKind, MAX_TURNS};
 use std::alloc::Global;
 
@@ -31,21 +36,37 @@ pub(crate) struct Control {
 
 /// Why control can't go on.
 #[derive(Drop)]
-pub(crate) enum Barred {
+pub(crate) enum ControlStop {
     /// A fault at a line.
     Fault(u32, FaultKind),
     /// Memory was refused, for a statement at a line.
     NoMemory(u32),
 }
 
+/// The stop where control can't go on.
+pub(crate) fn stop_of_control(stop: ControlStop) -> StopAt
+    ensures { result ≡ stop_of_control stop }
+{
+    match stop {
+        ControlStop::Fault(line, kind) => StopAt {
+            line,
+            reason: Stop::Fault(kind),
+        },
+        ControlStop::NoMemory(line) => StopAt {
+            line,
+            reason: Stop::NoMemory,
+        },
+    }
+}
+
 // The place after that of a block. No list is so long that there is none; then there would be no memory for it.
-fn next(line: u32, place: usize) -> Result<usize, Barred>
+fn next(line: u32, place: usize) -> Result<usize, ControlStop>
     ensures next { IfOk result (λ n. n ≡ place + 1) }
-    ensures refused { IfErr result (λ e. e ≡ Barred.NoMemory line) }
+    ensures refused { IfErr result (λ e. e ≡ ControlStop.NoMemory line) }
 {
     match place.checked_add(1) {
         Some(next) => Ok(next),
-        None => Err(Barred::NoMemory(line)),
+        None => Err(ControlStop::NoMemory(line)),
     }
 }
 
@@ -70,16 +91,16 @@ impl Control {
     }
 
     // Opens a block, for a statement at a line.
-    fn open(&mut self, line: u32, block: Open) -> Result<(), Barred>
+    fn open(&mut self, line: u32, block: Open) -> Result<(), ControlStop>
         ensures opened { IfOk result (λ _. where_of self.new
             ≡ record (where_of self.old) { blocks = block_view block ∷ (where_of self.old).blocks }) }
-        ensures refused { IfErr result (λ e. e ≡ Barred.NoMemory line) }
+        ensures refused { IfErr result (λ e. e ≡ ControlStop.NoMemory line) }
     {
         match self.inner {
             None => self.outer.clear(),
             Some(outer) => match self.outer.push(outer) {
                 Ok(()) => {}
-                Err(_) => return Err(Barred::NoMemory(line)),
+                Err(_) => return Err(ControlStop::NoMemory(line)),
             },
         }
         self.inner = Some(block);
@@ -87,12 +108,12 @@ impl Control {
     }
 
     // Begins a turn of the `repeat` at a place, if the loops of the run may begin one more.
-    fn begin(&mut self, place: usize, line: u32, left: u64) -> Result<(), Barred>
+    fn begin(&mut self, place: usize, line: u32, left: u64) -> Result<(), ControlStop>
         ensures { Goes (begun MAX_TURNS (where_of self.old) place line left (where_of self.old).blocks) (λ l. l ≡ line)
             (where_of self.new) result }
     {
         if self.turns >= MAX_TURNS {
-            return Err(Barred::Fault(line, FaultKind::TooManyTurns));
+            return Err(ControlStop::Fault(line, FaultKind::TooManyTurns));
         }
         let first = next(line, place)?;
         self.open(line, Open::Turns { place, line, left })?;
@@ -101,15 +122,15 @@ impl Control {
         Ok(())
     }
 
-    /// A `repeat` that read this number; `behind` is the place after its `end`.
-    pub(crate) fn repeat(&mut self, line: u32, behind: usize, count: i64) -> Result<(), Barred>
-        ensures { Goes (repeated MAX_TURNS (where_of self.old) line behind count) (λ l. l ≡ line)
+    /// A `repeat` that read this number; `exit` is the place after its `end`.
+    pub(crate) fn repeat(&mut self, line: u32, exit: usize, count: i64) -> Result<(), ControlStop>
+        ensures { Goes (repeated MAX_TURNS (where_of self.old) line exit count) (λ l. l ≡ line)
             (where_of self.new) result }
     {
         match as_index(count) {
-            Err(kind) => Err(Barred::Fault(line, kind)),
+            Err(kind) => Err(ControlStop::Fault(line, kind)),
             Ok(0) => {
-                self.place = behind;
+                self.place = exit;
                 Ok(())
             }
             Ok(turns) => self.begin(self.place, line, turns - 1),
@@ -117,7 +138,7 @@ impl Control {
     }
 
     /// An `if`; `other` is the place after its `else`, or of its `end`.
-    pub(crate) fn choose(&mut self, line: u32, other: usize, holds: bool) -> Result<(), Barred>
+    pub(crate) fn choose(&mut self, line: u32, other: usize, holds: bool) -> Result<(), ControlStop>
         ensures { Goes (Ok (chosen (where_of self.old) other holds)) (λ l. l ≡ line) (where_of self.new) result }
     {
         let first = next(line, self.place)?;
@@ -127,7 +148,7 @@ impl Control {
     }
 
     /// An `end`: closes the innermost open block, or begins its next turn.
-    pub(crate) fn close(&mut self) -> Result<(), Barred>
+    pub(crate) fn close(&mut self) -> Result<(), ControlStop>
         requires { (where_of self.old).place < 2 ^ 64 - 1 }
         ensures { Goes (closed MAX_TURNS (where_of self.old) (where_of self.old).blocks)
             (IsTurnAt (where_of self.old).blocks) (where_of self.new) result }
@@ -148,12 +169,12 @@ impl Control {
     }
 
     // Begins the next turn of the innermost block, the `repeat` at a place.
-    fn begin_next(&mut self, place: usize, line: u32, left: u64) -> Result<(), Barred>
+    fn begin_next(&mut self, place: usize, line: u32, left: u64) -> Result<(), ControlStop>
         ensures { Goes (begun MAX_TURNS (where_of self.old) place line left
             (map block_view (reverse self.old.outer.items))) (λ l. l ≡ line) (where_of self.new) result }
     {
         if self.turns >= MAX_TURNS {
-            return Err(Barred::Fault(line, FaultKind::TooManyTurns));
+            return Err(ControlStop::Fault(line, FaultKind::TooManyTurns));
         }
         let first = next(line, place)?;
         self.inner = Some(Open::Turns { place, line, left });

@@ -1,4 +1,8 @@
-//! Runs plans, and scripts by their plans.
+//! Runs plans, and scripts by their plans: steps through the operations, what each of them does, and the end.
+mod ends;
+mod operations;
+mod steps;
+
 ghost use Rattle.std.specs.Prelude.{◌≡◌, ◌≢◌, ◌<◌, ◌-◌, ◌^◌, IfOk, IfErr, OnErr, List, ℕ, map};
 ghost use Rattle.cord_file.specs.Sources.{device_in};
 ghost use Rattle.cord_io.specs.Device.{Folder};
@@ -6,15 +10,16 @@ ghost use Rattle.cord_meaning.specs.Ends.{EndsHonestly, FailsWhere, NamesCause};
 ghost use Rattle.cord_plan.specs.Meaning.{IsPlanOf};
 ghost use Rattle.cord_plan.specs.Views.{operation_view};
 ghost use Rattle.cord_run.specs.Failing.{FailsAmong, FailsNowhereElse};
-ghost use Rattle.cord_run.specs.Runs.{IsPlanBy, NothingCalled, Runs, Way};
+ghost use Rattle.cord_run.specs.Runs.{IsPlanBy, NothingCalled, Runs, Way, counts_over};
 ghost use Rattle.cord_run.specs.inner.Steps.{HonestPlan};
 ghost use Rattle.cord_script.specs.Flaws.{Flaw};
 ghost use Rattle.cord_script.specs.Forms.{Grammar};
 ghost use Rattle.cord_script.specs.Script.{Reads, ReadsBy};
 ghost use Rattle.cord_syntax.specs.declared.statements.Statement.{Statement};
+ghost use Rattle.cord_run.specs.inner.Frames.{KeepNoMore};
 
-use crate::ending::{close_output, end_of_run};
-use crate::running::run_plan;
+use crate::runner::ends::{close_output, end_of_run};
+use crate::runner::steps::run_plan;
 use cord_file::Sources;
 use cord_io::{CordError, Files, Sink};
 use cord_meaning::End;
@@ -31,20 +36,12 @@ fn run_over<F: Files, S: Sink>(
 ) -> End
     requires files_count { F.failures (device_in sources.old) < 2 ^ 64 - 1 }
     requires sink_count { S.failures sink.old < 2 ^ 64 - 1 }
-    ensures earlier { (folder : Folder) → F.keeps (device_in sources.new) folder →
-        F.keeps (device_in sources.old) folder }
+    ensures earlier { KeepNoMore ⟦<F as Files>⟧ (device_in sources.old) (device_in sources.new) }
     ensures honest { (folder : Folder) → F.keeps (device_in sources.new) folder →
         HonestPlan folder (map operation_view plan.now) (S.taken sink.old) (S.taken sink.new) result }
     ensures fails { FailsAmong (map operation_view plan.now) result }
     ensures cause { NamesCause
-        (record {
-          files_before = F.failures (device_in sources.old);
-          files_after = F.failures (device_in sources.new);
-          sink_before = S.failures sink.old;
-          sink_after = S.failures sink.new;
-          finished_before = S.finished sink.old;
-          finished_after = S.finished sink.new;
-        }) result }
+        (counts_over ⟦<F as Files>⟧ ⟦<S as Sink>⟧ (device_in sources.old) (device_in sources.new) sink.old sink.new) result }
 {
     let own = end_of_run(run_plan(alloc, plan, sources, sink));
     close_output(own, sink)
@@ -60,25 +57,11 @@ pub fn run<F: Files, S: Sink>(alloc: Global, plan: &Plan, files: F, sink: &mut S
         FailsNowhereElse statements (map operation_view plan.now) →
         (g : Grammar) (script : List ℕ) → ReadsBy g script statements → (folder : Folder) → F.keeps result.1 folder →
         EndsHonestly statements folder (S.taken sink.old) (S.taken sink.new)
-        (record {
-          files_before = F.failures files;
-          files_after = F.failures result.1;
-          sink_before = S.failures sink.old;
-          sink_after = S.failures sink.new;
-          finished_before = S.finished sink.old;
-          finished_after = S.finished sink.new;
-        }) result.0 }
+        (counts_over ⟦<F as Files>⟧ ⟦<S as Sink>⟧ files result.1 sink.old sink.new) result.0 }
     ensures fails { (statements : List Statement) → FailsNowhereElse statements (map operation_view plan.now) →
         FailsWhere statements result.0 }
     ensures cause { NamesCause
-        (record {
-          files_before = F.failures files;
-          files_after = F.failures result.1;
-          sink_before = S.failures sink.old;
-          sink_after = S.failures sink.new;
-          finished_before = S.finished sink.old;
-          finished_after = S.finished sink.new;
-        }) result.0 }
+        (counts_over ⟦<F as Files>⟧ ⟦<S as Sink>⟧ files result.1 sink.old sink.new) result.0 }
     ensures earlier { (folder : Folder) → F.keeps result.1 folder → F.keeps files folder }
 {
     match Sources::new(alloc, files) {
@@ -108,23 +91,9 @@ fn run_by<F: Files, S: Sink>(
     requires sink_count { S.failures sink.old < 2 ^ 64 - 1 }
     ensures run { (script : List ℕ) → Reads script read.now →
         Runs script (F.keeps result.1) (S.taken sink.old) (S.taken sink.new)
-        (record {
-          files_before = F.failures files;
-          files_after = F.failures result.1;
-          sink_before = S.failures sink.old;
-          sink_after = S.failures sink.new;
-          finished_before = S.finished sink.old;
-          finished_after = S.finished sink.new;
-        }) result.0 }
+        (counts_over ⟦<F as Files>⟧ ⟦<S as Sink>⟧ files result.1 sink.old sink.new) result.0 }
     ensures cause { NamesCause
-        (record {
-          files_before = F.failures files;
-          files_after = F.failures result.1;
-          sink_before = S.failures sink.old;
-          sink_after = S.failures sink.new;
-          finished_before = S.finished sink.old;
-          finished_after = S.finished sink.new;
-        }) result.0 }
+        (counts_over ⟦<F as Files>⟧ ⟦<S as Sink>⟧ files result.1 sink.old sink.new) result.0 }
     ensures earlier { (folder : Folder) → F.keeps result.1 folder → F.keeps files folder }
 {
     match made {
@@ -147,33 +116,12 @@ pub fn run_text<F: Files, S: Sink>(
     requires files_count { F.failures files < 2 ^ 64 - 1 }
     requires sink_count { S.failures sink.old < 2 ^ 64 - 1 }
     ensures run { IfOk result.0 (Runs script.now (F.keeps result.1) (S.taken sink.old) (S.taken sink.new)
-        (record {
-          files_before = F.failures files;
-          files_after = F.failures result.1;
-          sink_before = S.failures sink.old;
-          sink_after = S.failures sink.new;
-          finished_before = S.finished sink.old;
-          finished_after = S.finished sink.new;
-        })) }
+        (counts_over ⟦<F as Files>⟧ ⟦<S as Sink>⟧ files result.1 sink.old sink.new)) }
     ensures cause { IfOk result.0 (NamesCause
-        (record {
-          files_before = F.failures files;
-          files_after = F.failures result.1;
-          sink_before = S.failures sink.old;
-          sink_after = S.failures sink.new;
-          finished_before = S.finished sink.old;
-          finished_after = S.finished sink.new;
-        })) }
+        (counts_over ⟦<F as Files>⟧ ⟦<S as Sink>⟧ files result.1 sink.old sink.new)) }
     ensures refused { OnErr result.0 (S.taken sink.new ≡ S.taken sink.old) }
     ensures unasked { OnErr result.0 (NothingCalled
-        (record {
-          files_before = F.failures files;
-          files_after = F.failures result.1;
-          sink_before = S.failures sink.old;
-          sink_after = S.failures sink.new;
-          finished_before = S.finished sink.old;
-          finished_after = S.finished sink.new;
-        })) }
+        (counts_over ⟦<F as Files>⟧ ⟦<S as Sink>⟧ files result.1 sink.old sink.new)) }
     ensures flaw { IfErr result.0 (λ r. r.kind ≢ RefusalKind.NoMemory → Flaw script.now r.line r.kind) }
     ensures earlier { (folder : Folder) → F.keeps result.1 folder → F.keeps files folder }
 {
@@ -197,33 +145,12 @@ pub fn run_unplanned<F: Files, S: Sink>(
     requires files_count { F.failures files < 2 ^ 64 - 1 }
     requires sink_count { S.failures sink.old < 2 ^ 64 - 1 }
     ensures run { IfOk result.0 (Runs script.now (F.keeps result.1) (S.taken sink.old) (S.taken sink.new)
-        (record {
-          files_before = F.failures files;
-          files_after = F.failures result.1;
-          sink_before = S.failures sink.old;
-          sink_after = S.failures sink.new;
-          finished_before = S.finished sink.old;
-          finished_after = S.finished sink.new;
-        })) }
+        (counts_over ⟦<F as Files>⟧ ⟦<S as Sink>⟧ files result.1 sink.old sink.new)) }
     ensures cause { IfOk result.0 (NamesCause
-        (record {
-          files_before = F.failures files;
-          files_after = F.failures result.1;
-          sink_before = S.failures sink.old;
-          sink_after = S.failures sink.new;
-          finished_before = S.finished sink.old;
-          finished_after = S.finished sink.new;
-        })) }
+        (counts_over ⟦<F as Files>⟧ ⟦<S as Sink>⟧ files result.1 sink.old sink.new)) }
     ensures refused { OnErr result.0 (S.taken sink.new ≡ S.taken sink.old) }
     ensures unasked { OnErr result.0 (NothingCalled
-        (record {
-          files_before = F.failures files;
-          files_after = F.failures result.1;
-          sink_before = S.failures sink.old;
-          sink_after = S.failures sink.new;
-          finished_before = S.finished sink.old;
-          finished_after = S.finished sink.new;
-        })) }
+        (counts_over ⟦<F as Files>⟧ ⟦<S as Sink>⟧ files result.1 sink.old sink.new)) }
     ensures flaw { IfErr result.0 (λ r. r.kind ≢ RefusalKind.NoMemory → Flaw script.now r.line r.kind) }
     ensures earlier { (folder : Folder) → F.keeps result.1 folder → F.keeps files folder }
 {

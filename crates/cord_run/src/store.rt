@@ -1,12 +1,14 @@
-// What the names of a run of a plan hold.
+//! What the names of a run of a plan hold.
+pub(crate) mod cords;
+
 ghost use Rattle.std.specs.Prelude.{◌≡◌, ◌+◌, ◌<◌, ◌≤◌, ◌∷◌, ℕ, ℤ, List, pos, true, false, [], length, IfOk, IfSome};
 ghost use Rattle.std.specs.Prelude.{IfNone, IsErr, OnOk, Err, None, Some};
 ghost use Rattle.cord_core.specs.Cord.{text_len};
 ghost use Rattle.cord_ec.specs.Grown.{IsGrownBy};
-ghost use Rattle.cord_run.specs.inner.Extending.{cells_of, Grew, GrewTo};
-ghost use Rattle.cord_run.specs.inner.Held.{are_distinct, cells_in, content_in, cord_in, extensible_in, length_in};
-ghost use Rattle.cord_run.specs.inner.Held.{names_in, number_in, operand_in, HasContent, HasExtensible, HasNoEntry};
-ghost use Rattle.cord_run.specs.inner.Held.{HasNumber, IsEntryAt, SameEntries};
+ghost use Rattle.cord_run.specs.inner.Extensibles.{cells_of, Grew, GrewTo};
+ghost use Rattle.cord_run.specs.inner.Entries.{are_distinct, cells_in, content_in, cord_in, extensible_in, length_in};
+ghost use Rattle.cord_run.specs.inner.Entries.{names_in, number_in, operand_in, HasContent, HasExtensible, HasNoEntry};
+ghost use Rattle.cord_run.specs.inner.Entries.{HasNumber, IsEntryAt, SameEntries};
 ghost use Rattle.cord_run.specs.inner.Places.{Begin, Begin-prop, StayFirst, names_fixed, names_told};
 
 use cord_core::Cord;

@@ -6,7 +6,7 @@ use Rattle.cord_plan.specs.Exprs as plain
 use Rattle.cord_plan.specs.Values.{measured, measured_members}
 use Rattle.cord_plan.specs.Views.{Shared, members_of, shared_view}
 use Rattle.cord_run.specs.declared.store.Entry.{Entry}
-use Rattle.cord_run.specs.inner.Held.{length_in, operand_in}
+use Rattle.cord_run.specs.inner.Entries.{length_in, operand_in}
 
 -- the length of an expression, or its fault
 abbrev pub extent_in : List Entry → plain.Expr → Result ℕ FaultKind

@@ -2,8 +2,8 @@ use Rattle.std.proofs.Common.{ℕ, ap, map, subst, sym}
 use Rattle.cord_file.specs.Sources.{device_in}
 use Rattle.cord_meaning.specs.Ends.{Counts, NamesCause}
 use Rattle.cord_plan.specs.Views.{operation_view}
-use Rattle.cord_run.proofs.Ended.{fails_where}
-use Rattle.cord_run.proofs.Meant.{ends_honestly}
+use Rattle.cord_run.proofs.Ends.{fails_where}
+use Rattle.cord_run.proofs.Meaning.{ends_honestly}
 use Rattle.cord_run.proofs.runner.run.Goals as goal
 
 pub returns-in-Ok-clause-honest : goal.returns-in-Ok-clause-honest

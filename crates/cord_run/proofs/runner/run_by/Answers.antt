@@ -4,7 +4,7 @@ use Rattle.cord_plan.specs.Meaning.{IsPlanOf}
 use Rattle.cord_plan.specs.Views.{operation_view}
 use Rattle.cord_run.specs.Runs.{IsPlanBy}
 use Rattle.cord_script.specs.Script.{whole}
-use Rattle.cord_run.proofs.Alike.{plan_alike}
+use Rattle.cord_run.proofs.Readers.{plan_alike}
 use Rattle.cord_run.proofs.runner.run_by.Goals as goal
 
 pub returns-in-Ok-clause-run : goal.returns-in-Ok-clause-run

@@ -7,9 +7,9 @@ use Rattle.cord_meaning.specs.Ends.{HonestOutput}
 use Rattle.cord_plan.specs.Meaning.{plan_end, plan_moments}
 use Rattle.cord_plan.specs.Planned.{Operation}
 use Rattle.cord_plan.specs.Views.{operation_view}
-use Rattle.cord_run.specs.inner.Ending.{Closes, SinkCounts}
+use Rattle.cord_run.specs.inner.Ends.{Closes, SinkCounts}
 use Rattle.cord_run.specs.inner.Steps.{end_of_run}
-use Rattle.cord_run.proofs.Ended.{closed_cause, closed_fails, closed_honest, run_fails}
+use Rattle.cord_run.proofs.Ends.{closed_cause, closed_fails, closed_honest, run_fails}
 use Rattle.cord_run.proofs.runner.run_over.Goals as goal
 
 pub returns-clause-honest : goal.returns-clause-honest

@@ -2,7 +2,7 @@ use Rattle.std.proofs.Common.{◌≡◌, ◌++◌, ◌∷◌, [], List, ℕ, len
 use Rattle.std.specs.Prelude.{vec_len}
 use Rattle.cord_run.specs.declared.store.Content.TheVariants.{Whole}
 use Rattle.cord_run.specs.declared.store.Entry.{Entry}
-use Rattle.cord_run.specs.inner.Held.{are_distinct, names_in, IsEntryAt, SameEntries}
+use Rattle.cord_run.specs.inner.Entries.{are_distinct, names_in, IsEntryAt, SameEntries}
 use Rattle.cord_run.specs.inner.Places.{StayFirst}
 use Rattle.cord_run.proofs.Entries.{added_nothing, added_place, distinct_behind, first_added}
 use Rattle.cord_run.proofs.store.add.Goals as goal

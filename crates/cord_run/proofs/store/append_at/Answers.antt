@@ -3,8 +3,8 @@ use Rattle.std.specs.Prelude.{Option, OnOk}
 use Rattle.cord_io.specs.declared.TheConstants.{MAX_LEN}
 use Rattle.cord_node.specs.Tree.{Cell}
 use Rattle.cord_run.specs.declared.store.Entry.{Entry}
-use Rattle.cord_run.specs.inner.Extending.{cells_of, Grew, GrewTo}
-use Rattle.cord_run.specs.inner.Held.{cells_in}
+use Rattle.cord_run.specs.inner.Extensibles.{cells_of, Grew, GrewTo}
+use Rattle.cord_run.specs.inner.Entries.{cells_in}
 use Rattle.cord_run.proofs.Entries.{distinct_set, first_set, grew_set, if_grew, name_at_place, value_at_place}
 use Rattle.cord_run.proofs.store.append_at.Goals as goal
 

@@ -2,7 +2,7 @@ use Rattle.std.proofs.Common.{None, ap, refl, subst, slice_set, get_or, ◌∙�
 use Rattle.std.specs.Prelude.{Option}
 use Rattle.cord_ec.specs.Gathered.{Growth}
 use Rattle.cord_run.specs.declared.store.Entry.{Entry}
-use Rattle.cord_run.specs.inner.Held.{cells_in, HasExtensible}
+use Rattle.cord_run.specs.inner.Entries.{cells_in, HasExtensible}
 use Rattle.cord_run.proofs.Entries.{distinct_set, extensible_set, first_set, name_at_place, value_at_place}
 use Rattle.cord_run.proofs.store.set_extensible.Goals as goal
 

@@ -2,7 +2,7 @@ use Rattle.std.proofs.Common.{ℤ, refl, subst, slice_set, get_or, to_z, of_z, w
 use Rattle.std.proofs.Math.Seq.{map-set_same}
 use Rattle.std.proofs.lemmas.Int.{to_z-of_z}
 use Rattle.cord_run.specs.declared.store.Entry.{Entry}
-use Rattle.cord_run.specs.inner.Held.{HasNumber}
+use Rattle.cord_run.specs.inner.Entries.{HasNumber}
 use Rattle.cord_run.proofs.Entries.{distinct_set, first_set, name_at_place, number_set}
 use Rattle.cord_run.proofs.store.set_number.Goals as goal
 

@@ -3,8 +3,8 @@ use Rattle.std.specs.Prelude.{Option, IfOk, OnOk}
 use Rattle.cord_io.specs.declared.TheConstants.{MAX_LEN}
 use Rattle.cord_node.specs.Tree.{Cell}
 use Rattle.cord_run.specs.declared.store.Entry.{Entry}
-use Rattle.cord_run.specs.inner.Extending.{cells_of, Grew}
-use Rattle.cord_run.specs.inner.Held.{SameEntries, extensible_in}
+use Rattle.cord_run.specs.inner.Extensibles.{cells_of, Grew}
+use Rattle.cord_run.specs.inner.Entries.{SameEntries, extensible_in}
 use Rattle.cord_run.proofs.Entries.{come_back, grew_after, if_grew}
 use Rattle.cord_run.proofs.store.Store.append.Goals as goal
 

@@ -1,9 +1,9 @@
 use Rattle.std.proofs.Common.{refl, ap, ◌∙◌, None}
 use Rattle.cord_run.specs.declared.store.Entry.{Entry}
-use Rattle.cord_run.specs.inner.Held.{cells_in}
+use Rattle.cord_run.specs.inner.Entries.{cells_in}
 use Rattle.cord_run.specs.inner.Places.{names_fixed}
 use Rattle.cord_run.proofs.Entries.{distinct_set, extensible_same, first_set, name_at_place, none_there, value_there}
-use Rattle.cord_run.proofs.Shares.{extended_name, extended_none}
+use Rattle.cord_run.proofs.Cords.{extended_name, extended_none}
 use Rattle.cord_run.proofs.store.Store.extended.Goals as goal
 
 pub returns-in-None-clause-made : goal.returns-in-None-clause-made

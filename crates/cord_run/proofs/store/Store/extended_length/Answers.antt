@@ -1,6 +1,6 @@
 use Rattle.std.proofs.Common.{refl, None, sym, ap, ◌∙◌}
 use Rattle.cord_run.specs.inner.Contents.{extensible_length}
-use Rattle.cord_run.specs.inner.Held.{cells_in}
+use Rattle.cord_run.specs.inner.Entries.{cells_in}
 use Rattle.cord_run.proofs.Entries.{none_there, value_there}
 use Rattle.cord_run.proofs.store.Store.extended_length.Goals as goal
 

@@ -1,5 +1,5 @@
 use Rattle.std.proofs.Common.{◌∙◌}
-use Rattle.cord_run.specs.inner.Held.{names_in}
+use Rattle.cord_run.specs.inner.Entries.{names_in}
 use Rattle.cord_run.specs.inner.Places.{names_told}
 use Rattle.cord_run.proofs.Entries.{begin_all, told_by}
 use Rattle.cord_run.proofs.store.Store.fix_names.Goals as goal

@@ -1,4 +1,4 @@
-use Rattle.cord_run.specs.inner.Held.{names_in}
+use Rattle.cord_run.specs.inner.Entries.{names_in}
 use Rattle.cord_run.specs.inner.Places.{name_parts}
 use Rattle.cord_run.proofs.store.Store.fix_names.Given as goal
 

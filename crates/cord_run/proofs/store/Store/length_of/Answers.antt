@@ -1,6 +1,6 @@
 use Rattle.std.proofs.Common.{refl, None, sym, ap, ◌∙◌}
 use Rattle.cord_run.specs.declared.store.Content.TheVariants.{Whole}
-use Rattle.cord_run.specs.inner.Held.{content_length}
+use Rattle.cord_run.specs.inner.Entries.{content_length}
 use Rattle.cord_run.proofs.Entries.{none_there, value_there}
 use Rattle.cord_run.proofs.store.Store.length_of.Goals as goal
 

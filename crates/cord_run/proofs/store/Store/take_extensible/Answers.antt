@@ -1,5 +1,5 @@
 use Rattle.std.proofs.Common.{refl, None, sym}
-use Rattle.cord_run.specs.inner.Held.{cells_in}
+use Rattle.cord_run.specs.inner.Entries.{cells_in}
 use Rattle.cord_run.proofs.Entries.{none_there, extensible_none}
 use Rattle.cord_run.proofs.store.Store.take_extensible.Goals as goal
 

@@ -1,0 +1,58 @@
+-- Cords of the texts that names hold.
+use Rattle.std.proofs.Common.{◌≡◌, ℕ, List, Result, Ok, Err, refl, sym, ap, subst, ◌∙◌}
+use Rattle.std.specs.Prelude.{Option, None, IfOk}
+use Rattle.cord_io.specs.Table.{Lengths}
+use Rattle.cord_io.specs.declared.faults.CordError.{CordError}
+use Rattle.cord_node.specs.declared.Node.{Node}
+use Rattle.cord_node.specs.Tree.{Cell}
+use Rattle.cord_node.specs.Tables.{lengths_of}
+use Rattle.cord_core.specs.Cord.{bytes_of, CordFitsIn, IsCord}
+use Rattle.cord_core.specs.Equations.{IsSameText}
+use Rattle.cord_run.specs.declared.store.Entry.{Entry}
+use Rattle.cord_run.specs.inner.Contents.{IsExtended, IsTextOver}
+use Rattle.cord_run.specs.inner.Entries.{content_in, cord_in, extensible_in, ExtensibleFits, IsOver}
+use Rattle.cord_run.specs.inner.Holdings.{extended_over}
+use Rattle.cord_run.proofs.Lengths.{content_text, cord_fits}
+
+module _ (entries : List Entry) (name : List ℕ) where
+  -- the same text as the cord of a name
+  same_as_name : (from to : Option Node) → from ≡ cord_in (content_in entries name) → IsSameText from to → IsCord to →
+      IsTextOver entries (λ s. Ok (s.texts name)) to
+  same_as_name from to is same sound = record {
+    sound = sound;
+    fits = λ lengths over. same.fits lengths (there lengths over);
+    bytes = λ t over. ap (λ (text : List ℕ). Ok text) (content_text t (content_in entries name)
+        ∙ ap (λ (c : Option Node). bytes_of t c) (sym is) ∙ sym (same.bytes t (there (lengths_of t) over)));
+  }
+    where
+      there : (lengths : Lengths) → IsOver lengths entries → CordFitsIn lengths from
+      there lengths over = subst (λ (c : Option Node). CordFitsIn lengths c) (sym is)
+          (cord_fits lengths (content_in entries name) (over.contents name))
+
+  pub balanced_name : (from : Option Node) → from ≡ cord_in (content_in entries name) → (r : Result (Option Node) CordError) →
+      IfOk r (IsSameText from) → IfOk r IsCord → IfOk r (IsTextOver entries (λ s. Ok (s.texts name)))
+  balanced_name from is (Ok to) same sound = same_as_name from to is same sound
+  balanced_name from is (Err e) same sound = tt
+
+  -- the text of the extensible cord of a name
+  extended_text : (e : Option (List Cell)) (cord : Option Node) → e ≡ extensible_in entries name → IsExtended e cord →
+      IsTextOver entries (λ s. Ok (s.extensibles name)) cord
+  extended_text e cord is extended = record {
+    sound = extended.sound;
+    fits = λ lengths over. extended.fits lengths (there lengths over);
+    bytes = λ t over. ap (λ (text : List ℕ). Ok text) (ap (λ (x : Option (List Cell)). extended_over t x) (sym is)
+        ∙ sym (extended.bytes t (there (lengths_of t) over)));
+  }
+    where
+      there : (lengths : Lengths) → IsOver lengths entries → ExtensibleFits lengths e
+      there lengths over = subst (λ (x : Option (List Cell)). ExtensibleFits lengths x) (sym is) (over.extensibles name)
+
+  pub extended_none : extensible_in entries name ≡ None → (cord : Option Node) → cord ≡ None →
+      IsTextOver entries (λ s. Ok (s.extensibles name)) cord
+  extended_none none cord is = extended_text None cord (sym none)
+      (subst (λ (c : Option Node). IsExtended None c) (sym is) (record { sound = tt; fits = λ lengths fits. tt; bytes = λ t fits. refl }))
+
+  pub extended_name : (e : Option (List Cell)) → e ≡ extensible_in entries name → (r : Result (Option Node) CordError) →
+      IfOk r (IsExtended e) → IfOk r (IsTextOver entries (λ s. Ok (s.extensibles name)))
+  extended_name e is (Ok cord) extended = extended_text e cord is extended
+  extended_name e is (Err error) extended = tt

@@ -1,0 +1,145 @@
+-- The lengths told of expressions are those of their texts, over every table that the names fit.
+use Rattle.std.proofs.Common.{◌≡◌, ◌≤◌, ◌-◌, ℕ, Bool, true, false, ◌&&◌, List, [], ◌∷◌, ◌++◌, length, replicate, Result, Ok, Err, refl, sym}
+use Rattle.std.proofs.Common.{ap, subst, ◌∙◌, inl, inr, arith}
+use Rattle.std.specs.Prelude.{nat_le, min, if◌then◌else◌, Some, None}
+use Rattle.std.proofs.lemmas.Bool.{leb-true}
+use Rattle.std.proofs.lemmas.List.{length-replicate}
+use Rattle.cord_io.specs.Table.{Table, Lengths}
+use Rattle.cord_io.specs.declared.TheConstants.{MAX_LEN}
+use Rattle.cord_node.specs.Tables.{lengths_of}
+use Rattle.cord_node.proofs.TreeLemmas.{len_limit}
+use Rattle.cord_core.specs.Cord.{bytes_of, CordFitsIn}
+use Rattle.cord_core.proofs.OverLemmas.{length-bytes}
+use Rattle.cord_operands.specs.declared.operands.Number.{Number}
+use Rattle.cord_operands.specs.declared.operands.Number.TheVariants.{Numeral, Named}
+use Rattle.cord_meaning.specs.declared.ends.FaultKind.{FaultKind}
+use Rattle.cord_meaning.specs.declared.ends.FaultKind.TheVariants.{TooLong}
+use Rattle.cord_meaning.specs.State.{State, number_value, and_then, as_index, as_byte, as_length}
+use Rattle.cord_plan.specs.Exprs.{Expr, name, run, cat, sub}
+use Rattle.cord_plan.specs.Values.{measured, length_of, text_in}
+use Rattle.cord_plan.specs.Meaning.{Held, Text, Holding, plain, is_text, held_text, held_length, all_texts, cords, extent}
+use Rattle.cord_plan.specs.Meaning as meaning
+use Rattle.cord_plan.proofs.Evaluation.{In, value_same, extent_is}
+use Rattle.cord_run.specs.declared.store.Content.{Content}
+use Rattle.cord_run.specs.declared.store.Content.TheVariants.{Whole, Long}
+use Rattle.cord_run.specs.declared.store.Entry.{Entry}
+use Rattle.cord_run.specs.inner.Extents.{extent_in, members_extent}
+use Rattle.cord_run.specs.inner.Entries.{content_in, length_in, operand_in, content_length, cord_in, ContentFits, IsOver}
+use Rattle.cord_run.specs.inner.Holdings.{held_over, holding_of, plain_of}
+
+-- the cord of a content that fits
+pub cord_fits : (lengths : Lengths) (c : Content) → ContentFits lengths c → CordFitsIn lengths (cord_in c)
+cord_fits lengths (Whole cord) h = h.1
+cord_fits lengths (Long len) h = tt
+
+-- the text of a content is that of its cord
+pub content_text : (t : Table) (c : Content) → held_text (held_over t c) ≡ bytes_of t (cord_in c)
+content_text t (Whole cord) = refl
+content_text t (Long len) = refl
+
+-- the length told of a content is that of what it holds
+pub told_length : (t : Table) (c : Content) → ContentFits (lengths_of t) c → content_length c ≡ held_length (held_over t c)
+told_length t (Whole cord) h = length-bytes t cord h.0 h.1
+told_length t (Long len) h = refl
+
+-- a number operand has the value that the holding gives it
+pub operand_value : (t : Table) (entries : List Entry) (n : Number) → operand_in entries n ≡ number_value (plain_of t entries) n
+operand_value t entries (Numeral z) = refl
+operand_value t entries (Named x) = refl
+
+module _ (t : Table) (entries : List Entry) (over : IsOver (lengths_of t) entries) where
+  -- the length told of an expression is the one that the meaning of plans has
+  pub told_extent : (e : Expr) → extent_in entries e ≡ extent MAX_LEN e (holding_of t entries)
+  told_extent e = λ i. measured MAX_LEN (λ x. told_length t (content_in entries x) (over.contents x) i) (λ n. operand_value t entries n i) e
+
+-- a text of the length that is told
+abbrev padded : Held → List ℕ
+padded (Text text) = text
+padded (meaning.Long len) = replicate len 0
+
+padded_length : (k : Held) → held_length k ≡ length (padded k)
+padded_length (Text text) = refl
+padded_length (meaning.Long len) = sym (length-replicate len 0)
+
+padded_same : (k : Held) → is_text k ≡ true → held_text k ≡ padded k
+padded_same (Text text) e = refl
+padded_same (meaning.Long len) e = let bad : ⊥ = cc in absurd bad
+
+-- two tests that hold together
+pub record Both (a b : Bool) : Type 0 where
+  pub first : a ≡ true
+  pub second : b ≡ true
+
+pub both : (a b : Bool) → (a && b) ≡ true → Both a b
+both true b e = record { first = refl; second = e }
+both false b e = let bad : ⊥ = cc in absurd bad
+
+-- one of the names that all hold texts
+text_there : (h : Holding) (xs : List (List ℕ)) (y : List ℕ) → all_texts h xs ≡ true → In y xs → is_text (h.held y) ≡ true
+text_there h [] y e i = absurd i
+text_there h (x ∷ xs) y e (inl same) = ap (λ (z : List ℕ). is_text (h.held z)) same ∙ (both (is_text (h.held x)) (all_texts h xs) e).first
+text_there h (x ∷ xs) y e (inr i) = text_there h xs y (both (is_text (h.held x)) (all_texts h xs) e).second i
+
+-- the names of two lists
+pub texts_split : (h : Holding) (xs ys : List (List ℕ)) → all_texts h (xs ++ ys) ≡ true → Both (all_texts h xs) (all_texts h ys)
+texts_split h [] ys e = record { first = refl; second = e }
+texts_split h (x ∷ xs) ys e =
+    let here = both (is_text (h.held x)) (all_texts h (xs ++ ys)) e in
+    let rest = texts_split h xs ys here.second in
+    record { first = ap (λ (v : Bool). v && all_texts h xs) here.first ∙ rest.first; second = rest.second }
+
+module _ (t : Table) (entries : List Entry) (over : IsOver (lengths_of t) entries) (e : Expr) (there : all_texts (holding_of t entries) (cords e) ≡ true) where
+  -- the length told of an expression whose names all hold texts is that of its text
+  pub text_told : extent_in entries e ≡ length_of (text_in MAX_LEN (plain_of t entries) e)
+  text_told =
+      let h : Holding = holding_of t entries in
+      let full : State = record { texts = λ x. padded (h.held x); numbers = h.numbers; extensibles = h.extensibles } in
+      let same : text_in MAX_LEN (plain h) e ≡ text_in MAX_LEN full e = value_same MAX_LEN (plain h) full e (λ y i. padded_same (h.held y) (text_there h (cords e) y there i)) (λ y i. refl) in
+      told_extent t entries over e ∙ extent_is MAX_LEN h full refl (λ y. padded_length (h.held y)) e ∙ ap length_of (sym same)
+
+  -- such an expression is as long as its text
+  pub text_length : (text : List ℕ) → text_in MAX_LEN (plain_of t entries) e ≡ Ok text → extent_in entries e ≡ Ok (length text)
+  text_length text is = text_told ∙ ap length_of is
+
+-- no length is told that is longer than a cord can be
+cord_short : (lengths : Lengths) (c : Content) → ContentFits lengths c → content_length c ≤ MAX_LEN
+cord_short lengths (Whole None) h = omega arith
+cord_short lengths (Whole (Some node)) h = len_limit node h.0
+cord_short lengths (Long len) h = h
+
+-- a length that was let pass
+pub length_passed : (n len : ℕ) → as_length MAX_LEN n ≡ Ok len → (n ≡ len) × (len ≤ MAX_LEN)
+length_passed n len e = by_test (nat_le n MAX_LEN) refl e
+  where
+    by_test : (v : Bool) → nat_le n MAX_LEN ≡ v → (if v then Ok n else Err TooLong) ≡ Ok len → (n ≡ len) × (len ≤ MAX_LEN)
+    by_test true t k =
+        let same : n ≡ len = cc in
+        let short : n ≤ MAX_LEN = leb-true n MAX_LEN t in
+        (same, omega arith)
+    by_test false t k = let bad : ⊥ = cc in absurd bad
+
+pub extent_short : (lengths : Lengths) (entries : List Entry) → IsOver lengths entries → (e : Expr) (len : ℕ) →
+    extent_in entries e ≡ Ok len → len ≤ MAX_LEN
+extent_short lengths entries over (name x) len e =
+    let same : length_in entries x ≡ len = cc in
+    subst (λ (n : ℕ). n ≤ MAX_LEN) same (cord_short lengths (content_in entries x) (over.contents x))
+extent_short lengths entries over (run c n) len e = by_checks (as_byte (operand_in entries c)) (as_index (operand_in entries n)) e
+  where
+    by_checks : (rb rn : Result ℕ FaultKind) → and_then rb (λ b. and_then rn (λ k. as_length MAX_LEN k)) ≡ Ok len → len ≤ MAX_LEN
+    by_checks (Err kind) rn h = let bad : ⊥ = cc in absurd bad
+    by_checks (Ok b) (Err kind) h = let bad : ⊥ = cc in absurd bad
+    by_checks (Ok b) (Ok k) h = (length_passed k len h).1
+extent_short lengths entries over (cat es) len e = by_checks (members_extent entries es) e
+  where
+    by_checks : (r : Result ℕ FaultKind) → and_then r (λ k. as_length MAX_LEN k) ≡ Ok len → len ≤ MAX_LEN
+    by_checks (Err kind) h = let bad : ⊥ = cc in absurd bad
+    by_checks (Ok k) h = (length_passed k len h).1
+extent_short lengths entries over (sub inner i n) len e = by_checks (extent_in entries inner) (as_index (operand_in entries i))
+    (as_index (operand_in entries n)) e
+  where
+    by_checks : (r ri rn : Result ℕ FaultKind) → and_then r (λ k. and_then ri (λ a. and_then rn (λ m. as_length MAX_LEN (min m (k - a)))))
+        ≡ Ok len → len ≤ MAX_LEN
+    by_checks (Err kind) ri rn h = let bad : ⊥ = cc in absurd bad
+    by_checks (Ok k) (Err kind) rn h = let bad : ⊥ = cc in absurd bad
+    by_checks (Ok k) (Ok a) (Err kind) h = let bad : ⊥ = cc in absurd bad
+    by_checks (Ok k) (Ok a) (Ok m) h = (length_passed (min m (k - a)) len h).1

@@ -1,0 +1,212 @@
+-- A walk over the members of a `cat` that adds what is wanted of their joined text.
+use Rattle.std.proofs.Common.{◌≡◌, ◌+◌, ◌-◌, ◌<◌, ◌≤◌, ℕ, Bool, true, false, List, [], ◌++◌, length, take, drop, Result, Ok, Err, refl}
+use Rattle.std.proofs.Common.{sym, ap, subst, ◌∙◌, append-nil, append_assoc, length-drop, arith}
+use Rattle.std.specs.Prelude.{min, nat_le, Option}
+use Rattle.std.proofs.lemmas.Bool.{leb-true, leb-false}
+use Rattle.std.proofs.lemmas.List.{take_min}
+use Rattle.cord_io.specs.Table.{Table, Lengths}
+use Rattle.cord_io.specs.declared.TheConstants.{MAX_LEN}
+use Rattle.cord_node.specs.declared.Node.{Node}
+use Rattle.cord_node.specs.Tables.{lengths_of}
+use Rattle.cord_node.proofs.Ranges.{range_left, range_right, range_both}
+use Rattle.cord_core.specs.Cord.{all_bytes, AllFitIn}
+use Rattle.cord_meaning.specs.declared.ends.FaultKind.{FaultKind}
+use Rattle.cord_meaning.specs.State.{and_then}
+use Rattle.cord_plan.specs.Exprs.{Expr, Exprs, member, nothing}
+use Rattle.cord_plan.specs.Meaning.{all_texts, cords, cords_of}
+use Rattle.cord_plan.specs.Values.{text_in}
+use Rattle.cord_plan.proofs.Values.{passes}
+use Rattle.cord_run.specs.declared.expressions.ranges.Wanted.{Wanted}
+use Rattle.cord_run.specs.declared.store.Entry.{Entry}
+use Rattle.cord_run.specs.inner.Extents.{extent_in, members_extent}
+use Rattle.cord_run.specs.inner.Entries.{IsOver}
+use Rattle.cord_run.specs.inner.Holdings.{holding_of, plain_of}
+use Rattle.cord_run.specs.inner.Ranges.{AddsExpression, AddsMembers, IsAfter, IsPast, joined_over}
+use Rattle.cord_run.proofs.Lengths.{texts_split, text_length}
+
+-- ---- texts
+-- a range of a text that has no byte of it
+pub nothing_taken : (xs : List ℕ) (skip count : ℕ) → min count (length xs - skip) ≡ 0 → take count (drop skip xs) ≡ []
+nothing_taken xs skip count none =
+    let long : length (drop skip xs) ≡ length xs - skip = length-drop skip xs in
+    let same : min count (length (drop skip xs)) ≡ 0 = omega (arith, long, none) in
+    sym (take_min count (drop skip xs)) ∙ ap (λ (n : ℕ). take n (drop skip xs)) same
+
+-- a range of two texts, of which the first has a byte of it
+range_through : (u v : List ℕ) (skip left : ℕ) → skip < length u →
+    take left (drop skip (u ++ v)) ≡ take (min left (length u - skip)) (drop skip u) ++ take (left - min left (length u - skip)) (drop 0 v)
+range_through u v skip left h = by_test (nat_le (skip + left) (length u)) refl
+  where
+    by_test : (b : Bool) → nat_le (skip + left) (length u) ≡ b →
+        take left (drop skip (u ++ v)) ≡ take (min left (length u - skip)) (drop skip u)
+        ++ take (left - min left (length u - skip)) (drop 0 v)
+    by_test true e =
+        let inside : skip + left ≤ length u = leb-true (skip + left) (length u) e in
+        let all : left ≡ min left (length u - skip) = omega arith in
+        let none : 0 ≡ left - min left (length u - skip) = omega arith in
+        range_left u v skip left inside ∙ sym (append-nil (take left (drop skip u)))
+        ∙ (λ i. take (all i) (drop skip u) ++ take (none i) (drop 0 v))
+    by_test false e =
+        let over : length u < skip + left = leb-false (skip + left) (length u) e in
+        let some : length u - skip ≡ min left (length u - skip) = omega arith in
+        let others : skip + left - length u ≡ left - min left (length u - skip) = omega arith in
+        range_both u v skip left (omega arith) (omega arith) ∙ (λ i. take (some i) (drop skip u) ++ take (others i) (drop 0 v))
+
+-- a range of two texts is one of each
+range_over : (u v : List ℕ) (skip left : ℕ) → take left (drop skip (u ++ v)) ≡ take left (drop skip u)
+    ++ take (left - (length u - skip)) (drop (skip - length u) v)
+range_over u v skip left = by_test (nat_le (length u) skip) refl
+  where
+    by_test : (b : Bool) → nat_le (length u) skip ≡ b → take left (drop skip (u ++ v)) ≡ take left (drop skip u)
+        ++ take (left - (length u - skip)) (drop (skip - length u) v)
+    by_test true e =
+        let past : length u ≤ skip = leb-true (length u) skip e in
+        let none : min left (length u - skip) ≡ 0 = omega arith in
+        let all : left ≡ left - (length u - skip) = omega arith in
+        range_right u v skip left past
+        ∙ ap (λ (n : ℕ). take n (drop (skip - length u) v)) all
+        ∙ ap (λ (w : List ℕ). w ++ take (left - (length u - skip)) (drop (skip - length u) v)) (sym (nothing_taken u skip left none))
+    by_test false e =
+        let before : skip < length u = leb-false (length u) skip e in
+        let long : length (drop skip u) ≡ length u - skip = length-drop skip u in
+        let first : take (min left (length u - skip)) (drop skip u) ≡ take left (drop skip u) =
+        ap (λ (n : ℕ). take (min left n) (drop skip u)) (sym long) ∙ take_min left (drop skip u) in
+        let others : left - min left (length u - skip) ≡ left - (length u - skip) = omega arith in
+        let start : 0 ≡ skip - length u = omega arith in
+        range_through u v skip left before ∙ (λ i. first i ++ take (others i) (drop (start i) v))
+
+-- ---- the text that is added
+-- what is left to add of the members that are left, over a table
+pub record Remains (entries : List Entry) (t : Table) (left_over : Exprs) (left : Wanted) (now : List (Option Node)) (goal : List ℕ) : Type 0 where
+  pub rest : List ℕ
+  pub joined : joined_over entries left_over t ≡ Ok rest
+  pub there : all_texts (holding_of t entries) (cords_of left_over) ≡ true
+  pub whole : all_bytes t now ++ take left.count (drop left.skip rest) ≡ goal
+
+-- how far the walk is: these members are left, and this is wanted of them
+pub record SoFar (entries : List Entry) (es : Exprs) (wanted : Wanted) (old : List (Option Node)) (left_over : Exprs) (left : Wanted) (now : List (Option Node)) : Type 0 where
+  pub fits : (lengths : Lengths) → IsOver lengths entries → AllFitIn lengths old → AllFitIn lengths now
+  pub bytes : (t : Table) → IsOver (lengths_of t) entries → all_texts (holding_of t entries) (cords_of es) ≡ true → (text : List ℕ) →
+      joined_over entries es t ≡ Ok text → Remains entries t left_over left now
+      (all_bytes t old ++ take wanted.count (drop wanted.skip text))
+
+-- at the start
+pub starts : (entries : List Entry) (es : Exprs) (wanted : Wanted) (old : List (Option Node)) → SoFar entries es wanted old es wanted old
+starts entries es wanted old = record {
+  fits = λ lengths over all. all;
+  bytes = λ t over there text is. record { rest = text; joined = is; there = there; whole = refl };
+}
+
+-- at the end, where nothing more is added
+ends : (entries : List Entry) (es : Exprs) (wanted : Wanted) (old : List (Option Node)) (left_over : Exprs) (left : Wanted)
+    (now : List (Option Node)) → ((t : Table) (rest : List ℕ) → joined_over entries left_over t ≡ Ok rest →
+    take left.count (drop left.skip rest) ≡ []) → SoFar entries es wanted old left_over left now → AddsMembers entries es wanted old now
+ends entries es wanted old left_over left now none s = record {
+  fits = s.fits;
+  bytes = λ t over there text is.
+      let r = s.bytes t over there text is in
+      sym (append-nil (all_bytes t now)) ∙ ap (λ (u : List ℕ). all_bytes t now ++ u) (sym (none t r.rest r.joined)) ∙ r.whole;
+}
+
+-- since nothing more is wanted
+pub ends_early : (entries : List Entry) (es : Exprs) (wanted : Wanted) (old : List (Option Node)) (left_over : Exprs) (left : Wanted)
+    (now : List (Option Node)) → left.count ≡ 0 → SoFar entries es wanted old left_over left now → AddsMembers entries es wanted old now
+ends_early entries es wanted old left_over left now zero s = ends entries es wanted old left_over left now
+    (λ t rest is. ap (λ (n : ℕ). take n (drop left.skip rest)) zero) s
+
+-- since no member is left
+pub ends_last : (entries : List Entry) (es : Exprs) (wanted : Wanted) (old : List (Option Node)) (left : Wanted)
+    (now : List (Option Node)) → SoFar entries es wanted old nothing left now → AddsMembers entries es wanted old now
+ends_last entries es wanted old left now s =
+    ends entries es wanted old nothing left now (λ t rest is. let none : [] ≡ rest = cc in nothing_taken rest left.skip left.count (subst (λ (xs : List ℕ). min left.count (length xs - left.skip) ≡ 0) none (omega arith))) s
+
+-- the texts of the first member that is left, and of the others
+record Parts (entries : List Entry) (e : Expr) (others : Exprs) (t : Table) (rest : List ℕ) : Type 0 where
+  first : List ℕ
+  second : List ℕ
+  first_is : text_in MAX_LEN (plain_of t entries) e ≡ Ok first
+  first_there : all_texts (holding_of t entries) (cords e) ≡ true
+  second_is : joined_over entries others t ≡ Ok second
+  second_there : all_texts (holding_of t entries) (cords_of others) ≡ true
+  joined : first ++ second ≡ rest
+  extent : extent_in entries e ≡ Ok (length first)
+
+parts_of : (entries : List Entry) (e : Expr) (others : Exprs) (t : Table) → IsOver (lengths_of t) entries → (rest : List ℕ) →
+    joined_over entries (member e others) t ≡ Ok rest → all_texts (holding_of t entries) (cords_of (member e others)) ≡ true →
+    Parts entries e others t rest
+parts_of entries e others t over rest is there =
+    let split = texts_split (holding_of t entries) (cords e) (cords_of others) there in
+    let p = passes (text_in MAX_LEN (plain_of t entries) e) (λ text. and_then (joined_over entries others t) (λ more. Ok (text ++ more))) rest is in
+    let q = passes (joined_over entries others t) (λ more. Ok (p.middle ++ more)) rest p.next in
+    let joined : p.middle ++ q.middle ≡ rest = cc in
+    record {
+      first = p.middle;
+      second = q.middle;
+      first_is = p.first;
+      first_there = split.first;
+      second_is = q.first;
+      second_there = split.second;
+      joined = joined;
+      extent = text_length t entries over e split.first p.middle p.first;
+    }
+
+-- a member more
+pub goes_on : (entries : List Entry) (es : Exprs) (wanted : Wanted) (old : List (Option Node)) (e : Expr) (others : Exprs)
+    (left after : Wanted) (now next : List (Option Node)) → SoFar entries es wanted old (member e others) left now →
+    AddsExpression entries e left now next → IsAfter (extent_in entries e) left after → SoFar entries es wanted old others after next
+goes_on entries es wanted old e others left after now next s part past = record {
+  fits = λ lengths over all. part.fits lengths over (s.fits lengths over all);
+  bytes = λ t over there text is.
+      let r = s.bytes t over there text is in
+      let p = parts_of entries e others t over r.rest r.joined r.there in
+      let at : IsPast (length p.first) left after = subst (λ (q : Result ℕ FaultKind). IsAfter q left after) p.extent past in
+      let split : take left.count (drop left.skip r.rest) ≡ take left.count (drop left.skip p.first) ++ take after.count (drop after.skip p.second) =
+      ap (λ (u : List ℕ). take left.count (drop left.skip u)) (sym p.joined)
+      ∙ range_over p.first p.second left.skip left.count
+      ∙ (λ i. take left.count (drop left.skip p.first) ++ take (sym at.count i) (drop (sym at.skip i) p.second)) in
+      record {
+        rest = p.second;
+        joined = p.second_is;
+        there = p.second_there;
+        whole = ap (λ (u : List ℕ). u ++ take after.count (drop after.skip p.second)) (part.bytes t over p.first_there p.first p.first_is)
+            ∙ append_assoc (all_bytes t now) (take left.count (drop left.skip p.first)) (take after.count (drop after.skip p.second))
+            ∙ ap (λ (u : List ℕ). all_bytes t now ++ u) (sym split)
+            ∙ r.whole;
+      };
+}
+
+-- ---- what is wanted after the members
+-- what is wanted after those that are left is wanted after all
+abbrev pub WantedSoFar : List Entry → Exprs → Wanted → Exprs → Wanted → Type 0
+WantedSoFar entries es wanted left_over left = (last : Wanted) → IsAfter (members_extent entries left_over) left last →
+    IsAfter (members_extent entries es) wanted last
+
+-- a member more
+pub wanted_goes_on : (entries : List Entry) (es : Exprs) (wanted : Wanted) (e : Expr) (others : Exprs) (left after : Wanted) →
+    WantedSoFar entries es wanted (member e others) left → IsAfter (extent_in entries e) left after →
+    WantedSoFar entries es wanted others after
+wanted_goes_on entries es wanted e others left after s past last h =
+    s last (by_extents (extent_in entries e) (members_extent entries others) past h)
+  where
+    by_extents : (r q : Result ℕ FaultKind) → IsAfter r left after → IsAfter q after last →
+        IsAfter (and_then r (λ len. and_then q (λ more. Ok (len + more)))) left last
+    by_extents (Err kind) q past h = tt
+    by_extents (Ok len) (Err kind) past h = tt
+    by_extents (Ok len) (Ok more) past h = record {
+      skip = omega (arith, past.skip, h.skip);
+      count = omega (arith, past.skip, past.count, h.count);
+    }
+
+-- where nothing more is wanted, nothing is after all
+pub wanted_ends_early : (entries : List Entry) (es : Exprs) (wanted : Wanted) (left_over : Exprs) (left : Wanted) → left.skip ≡ 0 →
+    left.count ≡ 0 → WantedSoFar entries es wanted left_over left → IsAfter (members_extent entries es) wanted left
+wanted_ends_early entries es wanted left_over left skip count s = s left (by_extent (members_extent entries left_over))
+  where
+    by_extent : (r : Result ℕ FaultKind) → IsAfter r left left
+    by_extent (Err kind) = tt
+    by_extent (Ok len) = record { skip = omega (arith, skip); count = omega (arith, count) }
+
+-- where no member is left
+pub wanted_ends : (entries : List Entry) (es : Exprs) (wanted left : Wanted) → WantedSoFar entries es wanted nothing left →
+    IsAfter (members_extent entries es) wanted left
+wanted_ends entries es wanted left s = s left (record { skip = omega arith; count = omega arith })

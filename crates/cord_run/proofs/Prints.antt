@@ -1,0 +1,151 @@
+-- Prints of what names hold.
+use Rattle.std.proofs.Common.{◌≡◌, ◌≢◌, ◌≤◌, ◌<◌, ℕ, List, [], ◌∷◌, length, map, Result, Ok, Err, refl, sym, ap, subst, ◌∙◌}
+use Rattle.std.specs.Prelude.{Option, Some, None}
+use Rattle.std.proofs.lemmas.List.{length-map}
+use Rattle.cord_io.specs.declared.TheConstants.{MAX_LEN}
+use Rattle.cord_io.specs.Table.{Table, Lengths}
+use Rattle.cord_node.specs.declared.Node.{Node}
+use Rattle.cord_node.specs.Tree.{known}
+use Rattle.cord_node.specs.Tables.{byte_at, lengths_of}
+use Rattle.cord_core.specs.Cord.{IsCord}
+use Rattle.cord_core.proofs.OverLemmas.{bytes-text}
+use Rattle.cord_printf.specs.declared.arguments.Arg.{Arg}
+use Rattle.cord_printf.specs.declared.arguments.Arg.TheVariants as args
+use Rattle.cord_printf.specs.declared.errors.PrintError.{PrintError}
+use Rattle.cord_printf.specs.declared.errors.PrintError.TheVariants as refusals
+use Rattle.cord_printf.specs.declared.pieces.Piece.{Piece}
+use Rattle.cord_printf.specs.Over.{ArgumentsFitIn, IsPrintOf, argument_over}
+use Rattle.cord_printf.specs.PieceText.{PieceArgument, number, text, map_argument, first_refusal, printed}
+use Rattle.cord_printf.specs.Printing.{IsPrintable, IsRefusedFor, arguments_of}
+use Rattle.cord_printf.proofs.Natural.{first_refusal-map, map-printed}
+use Rattle.cord_operands.specs.declared.operands.Argument.{Argument}
+use Rattle.cord_operands.specs.declared.operands.Argument.TheVariants as arguments
+use Rattle.cord_meaning.specs.declared.ends.FaultKind.{FaultKind}
+use Rattle.cord_meaning.specs.Formats.{fault_of, format_text, given, unless_refused}
+use Rattle.cord_meaning.specs.State.{and_then}
+use Rattle.cord_meaning.proofs.Checks.{length_above}
+use Rattle.cord_plan.specs.Values.{length_of, within}
+use Rattle.cord_plan.proofs.Values.{is_within}
+use Rattle.cord_run.specs.declared.store.Entry.{Entry}
+use Rattle.cord_run.specs.inner.Contents.{IsFaultOver, IsTextOver, IsToldOver, argument_in, stop_of_print}
+use Rattle.cord_run.specs.inner.Entries.{content_in, IsOver}
+use Rattle.cord_run.specs.inner.Holdings.{plain_of}
+use Rattle.cord_run.proofs.Lengths.{content_text, cord_fits, operand_value}
+
+-- the arguments that names give, in order
+abbrev given_by : List Entry → List Argument → List Arg
+given_by entries list = map (λ a. argument_in entries a) list
+
+-- their cords fit
+given_fits : (lengths : Lengths) (entries : List Entry) → IsOver lengths entries → (list : List Argument) →
+    ArgumentsFitIn lengths (given_by entries list)
+given_fits lengths entries over [] = tt
+given_fits lengths entries over (arguments.Number n ∷ list) = given_fits lengths entries over list
+given_fits lengths entries over (arguments.Cord name ∷ list) = (
+  cord_fits lengths (content_in entries name) (over.contents name),
+  given_fits lengths entries over list,
+)
+
+-- over a table they are what the statement is given
+given_over : (t : Table) (entries : List Entry) (list : List Argument) →
+    map (argument_over t) (given_by entries list) ≡ map (λ a. given (plain_of t entries) a) list
+given_over t entries [] = refl
+given_over t entries (arguments.Number n ∷ list) = λ i. number (operand_value t entries n i) ∷ given_over t entries list i
+given_over t entries (arguments.Cord name ∷ list) = λ i. text (sym (content_text t (content_in entries name)) i)
+    ∷ given_over t entries list i
+
+-- cords as their cells
+cells_over : (t : Table) (list : List Arg) → ArgumentsFitIn (lengths_of t) list →
+    map (argument_over t) list ≡ map (map_argument (byte_at t)) (arguments_of list)
+cells_over t [] fits = refl
+cells_over t (args.Num n ∷ list) fits = ap (λ (r : List (PieceArgument ℕ)). number n ∷ r) (cells_over t list fits)
+cells_over t (args.Cord c ∷ list) fits = λ i. text (bytes-text t c fits.0 i) ∷ cells_over t list fits.1 i
+
+-- what is known of a print over a table
+record Prints (entries : List Entry) (format : List Piece) (list : List Argument) (t : Table) : Type 0 where
+  refused : first_refusal 0 format (map (λ a. given (plain_of t entries) a) list)
+      ≡ first_refusal 0 format (arguments_of (given_by entries list))
+  long : length (printed known format (arguments_of (given_by entries list)))
+      ≡ length (printed (λ b. b) format (map (λ a. given (plain_of t entries) a) list))
+
+prints : (entries : List Entry) (format : List Piece) (list : List Argument) (t : Table) → IsOver (lengths_of t) entries →
+    Prints entries format list t
+prints entries format list t over =
+    let cells : map (argument_over t) (given_by entries list) ≡ map (map_argument (byte_at t)) (arguments_of (given_by entries list)) = cells_over t (given_by entries list) (given_fits (lengths_of t) entries over list) in
+    let same : map (λ a. given (plain_of t entries) a) list ≡ map (map_argument (byte_at t)) (arguments_of (given_by entries list)) = sym (given_over t entries list) ∙ cells in
+    record {
+      refused = ap (λ (vs : List (PieceArgument ℕ)). first_refusal 0 format vs) same
+          ∙ first_refusal-map (byte_at t) 0 format (arguments_of (given_by entries list));
+      long = sym (length-map (printed known format (arguments_of (given_by entries list))) (byte_at t))
+          ∙ ap (λ (xs : List ℕ). length xs) (map-printed (byte_at t) known format (arguments_of (given_by entries list)))
+          ∙ ap (λ (vs : List (PieceArgument ℕ)). length (printed (λ b. b) format vs)) (sym same);
+    }
+
+module _ (entries : List Entry) (format : List Piece) (list : List Argument) where
+  -- where no argument is refused
+  accepted : (t : Table) → IsOver (lengths_of t) entries → first_refusal 0 format (arguments_of (given_by entries list)) ≡ None →
+      format_text (plain_of t entries) format list ≡ Ok (printed (λ b. b) format (map (λ a. given (plain_of t entries) a) list))
+  accepted t over none = ap (λ (r : Option PrintError). unless_refused r
+      (printed (λ b. b) format (map (λ a. given (plain_of t entries) a) list))) ((prints entries format list t over).refused ∙ none)
+
+  -- the first argument that is refused
+  rejected : (t : Table) → IsOver (lengths_of t) entries → (e : PrintError) → first_refusal 0 format (arguments_of (given_by entries list))
+      ≡ Some e → and_then (format_text (plain_of t entries) format list) (λ text. within MAX_LEN text) ≡ Err (fault_of e)
+  rejected t over e some =
+      ap (λ (r : Option PrintError). and_then (unless_refused r (printed (λ b. b) format (map (λ a. given (plain_of t entries) a) list)))
+      (λ text. within MAX_LEN text)) ((prints entries format list t over).refused ∙ some)
+
+  module _ (all : List Arg) (same : all ≡ given_by entries list) where
+    -- a cord of the print
+    pub printed_cord : (cord : Option Node) → IsPrintable format (arguments_of all) → IsPrintOf format all cord → IsCord cord →
+        IsTextOver entries (λ s. format_text s format list) cord
+    printed_cord cord printable is sound = record {
+      sound = sound;
+      fits = λ lengths over. is.fits lengths (subst (λ (some : List Arg). ArgumentsFitIn lengths some) (sym same)
+          (given_fits lengths entries over list));
+      bytes = λ t over.
+          accepted t over (subst (λ (some : List Arg). first_refusal 0 format (arguments_of some) ≡ None) same printable.none_refused)
+          ∙ ap (λ (xs : List ℕ). Ok xs)
+          (sym (is.bytes t (subst (λ (some : List Arg). ArgumentsFitIn (lengths_of t) some) (sym same)
+          (given_fits (lengths_of t) entries over list))
+          ∙ ap (λ (some : List Arg). printed (λ b. b) format (map (argument_over t) some)) same
+          ∙ ap (λ (vs : List (PieceArgument ℕ)). printed (λ b. b) format vs) (given_over t entries list)));
+    }
+
+    -- its length alone
+    pub printed_length : (len : ℕ) → IsPrintable format (arguments_of all) → len ≡ length (printed known format (arguments_of all)) →
+        len ≤ MAX_LEN → IsToldOver entries (λ s. and_then (format_text s format list) (λ text. within MAX_LEN text)) len
+    printed_length len printable is short = record {
+      short = short;
+      told = λ t over.
+          let meant : List ℕ = printed (λ b. b) format (map (λ a. given (plain_of t entries) a) list) in
+          let long : len ≡ length meant = is ∙ ap (λ (some : List Arg). length (printed known format (arguments_of some))) same ∙ (prints entries format list t over).long in
+          ap (λ (r : Result (List ℕ) FaultKind). length_of (and_then r (λ text. within MAX_LEN text)))
+          (accepted t over (subst (λ (some : List Arg). first_refusal 0 format (arguments_of some) ≡ None) same printable.none_refused))
+          ∙ ap (λ (r : Result (List ℕ) FaultKind). length_of r) (is_within MAX_LEN meant (subst (λ (n : ℕ). n ≤ MAX_LEN) long short))
+          ∙ ap (λ (n : ℕ). Ok n) (sym long);
+    }
+
+    -- why there is none
+    pub unprinted : (e : PrintError) → IsRefusedFor MAX_LEN format (arguments_of all) e →
+        IsFaultOver entries (λ s. and_then (format_text s format list) (λ text. within MAX_LEN text)) (stop_of_print e)
+    unprinted (refusals.Negative k) h = λ t over. rejected t over (refusals.Negative k)
+        (subst (λ (some : List Arg). first_refusal 0 format (arguments_of some) ≡ Some (refusals.Negative k)) same h.1)
+    unprinted (refusals.BadByte k) h = λ t over. rejected t over (refusals.BadByte k)
+        (subst (λ (some : List Arg). first_refusal 0 format (arguments_of some) ≡ Some (refusals.BadByte k)) same h.1)
+    unprinted refusals.TooLong h = λ t over.
+        let meant : List ℕ = printed (λ b. b) format (map (λ a. given (plain_of t entries) a) list) in
+        let long : MAX_LEN < length meant = subst (λ (n : ℕ). MAX_LEN < n) (ap (λ (some : List Arg). length (printed known format (arguments_of some))) same ∙ (prints entries format list t over).long) h.2 in
+        ap (λ (r : Result (List ℕ) FaultKind). and_then r (λ text. within MAX_LEN text))
+        (accepted t over (subst (λ (some : List Arg). first_refusal 0 format (arguments_of some) ≡ None) same h.1))
+        ∙ ap (λ (r : Result ℕ FaultKind). and_then r (λ _. Ok meant)) (length_above MAX_LEN (length meant) long)
+    unprinted refusals.WrongArgs h = tt
+    unprinted refusals.NoMemory h = tt
+
+    pub unprinted_unless : (e : PrintError) → (e ≢ refusals.NoMemory → IsRefusedFor MAX_LEN format (arguments_of all) e) →
+        IsFaultOver entries (λ s. and_then (format_text s format list) (λ text. within MAX_LEN text)) (stop_of_print e)
+    unprinted_unless (refusals.Negative k) h = unprinted (refusals.Negative k) (h (λ same. cc))
+    unprinted_unless (refusals.BadByte k) h = unprinted (refusals.BadByte k) (h (λ same. cc))
+    unprinted_unless refusals.TooLong h = unprinted refusals.TooLong (h (λ same. cc))
+    unprinted_unless refusals.WrongArgs h = tt
+    unprinted_unless refusals.NoMemory h = tt

@@ -1,0 +1,319 @@
+-- What is wanted of expressions, among the cords of their parts.
+use Rattle.std.proofs.Common.{◌≡◌, ◌+◌, ◌-◌, ◌<◌, ◌≤◌, ℕ, Bool, true, false, ℤ, List, [], ◌∷◌, ◌++◌, length, take, drop, replicate, Result}
+use Rattle.std.proofs.Common.{Ok, Err, refl, sym, ap, subst, ◌∙◌, append-nil, append_assoc, length-take, arith}
+use Rattle.std.specs.Prelude.{IfOk, min, nat_le, Option}
+use Rattle.std.proofs.lemmas.Bool.{leb-true, leb-false}
+use Rattle.std.proofs.lemmas.List.{drop-drop, drop-replicate, drop-take, length-replicate, take_all, take_min, take-replicate}
+use Rattle.std.proofs.lemmas.List.{take-take}
+use Rattle.cord_io.specs.Table.{Table, Lengths}
+use Rattle.cord_io.specs.declared.TheConstants.{MAX_LEN}
+use Rattle.cord_node.specs.declared.Node.{Node}
+use Rattle.cord_node.specs.Tables.{lengths_of}
+use Rattle.cord_core.specs.Cord.{text_len, bytes_of, CordFits, CordFitsIn, all_bytes, all_len, AllFitIn}
+use Rattle.cord_core.specs.Equations.{IsSubstring, HasText}
+use Rattle.cord_operands.specs.declared.operands.Number.{Number}
+use Rattle.cord_meaning.specs.declared.ends.FaultKind.{FaultKind}
+use Rattle.cord_meaning.specs.State.{number_value, and_then, as_index, as_byte, as_length}
+use Rattle.cord_plan.specs.Exprs.{Expr, name, run, cat, sub, Exprs}
+use Rattle.cord_plan.specs.Meaning.{held_text}
+use Rattle.cord_plan.specs.Values.{within, copies, part_of, measured_copies, text_in}
+use Rattle.cord_plan.proofs.Values.{passes, fits_within, cat_joined}
+use Rattle.cord_run.specs.declared.expressions.ranges.Wanted.{Wanted}
+use Rattle.cord_run.specs.declared.store.Entry.{Entry}
+use Rattle.cord_run.specs.inner.Extents.{extent_in, members_extent}
+use Rattle.cord_run.specs.inner.Entries.{content_in, cord_in, operand_in}
+use Rattle.cord_run.specs.inner.Holdings.{holding_of, plain_of}
+use Rattle.cord_run.specs.inner.Ranges.{AddsCordRange, AddsCopies, AddsRun, AddsExpression, AddsMembers, AreFew, IsAfter, IsInside, IsOutside}
+use Rattle.cord_run.specs.inner.Ranges.{IsPast}
+use Rattle.cord_run.proofs.MemberRanges.{nothing_taken}
+use Rattle.cord_run.proofs.Lengths.{cord_fits, content_text, operand_value, length_passed}
+
+-- ---- one cord more
+all_fit_more : (lengths : Lengths) (old : List (Option Node)) (c : Option Node) → AllFitIn lengths old → CordFitsIn lengths c →
+    AllFitIn lengths (old ++ c ∷ [])
+all_fit_more lengths [] c all one = (one, tt)
+all_fit_more lengths (x ∷ old) c all one = (all.0, all_fit_more lengths old c all.1 one)
+
+all_bytes_more : (t : Table) (old : List (Option Node)) (c : Option Node) → all_bytes t (old ++ c ∷ []) ≡ all_bytes t old ++ bytes_of t c
+all_bytes_more t [] c = append-nil (bytes_of t c)
+all_bytes_more t (x ∷ old) c = ap (λ (u : List ℕ). bytes_of t x ++ u) (all_bytes_more t old c)
+    ∙ sym (append_assoc (bytes_of t x) (all_bytes t old) (bytes_of t c))
+
+pub all_len_more : (old : List (Option Node)) (c : Option Node) → all_len (old ++ c ∷ []) ≡ all_len old + text_len c
+all_len_more [] c = omega arith
+all_len_more (x ∷ old) c = let rest = all_len_more old c in omega (arith, rest)
+
+module _ (cord : Option Node) (wanted : Wanted) where
+  -- what is wanted of a cord
+  pub part_added : (part : Option Node) (old new : List (Option Node)) → IsSubstring wanted.skip wanted.count cord part →
+      new ≡ old ++ part ∷ [] → AddsCordRange cord wanted old new
+  part_added part old new is pushed = subst (AddsCordRange cord wanted old) (sym pushed) (record {
+    fits = λ lengths one all. all_fit_more lengths old part all (is.fits lengths one);
+    bytes = λ t one. all_bytes_more t old part ∙ ap (λ (u : List ℕ). all_bytes t old ++ u) (is.bytes t one);
+  })
+
+  -- nothing is
+  pub part_passed : (old : List (Option Node)) → ((t : Table) → CordFits t cord → min wanted.count (length (bytes_of t cord) - wanted.skip)
+      ≡ 0) → AddsCordRange cord wanted old old
+  part_passed old none = record {
+    fits = λ lengths one all. all;
+    bytes = λ t one. sym (append-nil (all_bytes t old)) ∙ ap (λ (u : List ℕ). all_bytes t old ++ u)
+        (sym (nothing_taken (bytes_of t cord) wanted.skip wanted.count (none t one)));
+  }
+
+-- one piece more, of the bytes that are taken
+pub few_more : (wanted after : Wanted) (len : ℕ) (old new : List (Option Node)) (piece : Option Node) → IsPast len wanted after →
+    text_len piece ≡ min wanted.count (len - wanted.skip) → new ≡ old ++ piece ∷ [] → AreFew wanted after old new
+few_more wanted after len old new piece past long pushed =
+    let more : all_len new ≡ all_len old + text_len piece = ap all_len pushed ∙ all_len_more old piece in
+    let left : after.count ≡ wanted.count - (len - wanted.skip) = past.count in
+    omega (arith, more, long, left)
+
+-- copies of a byte
+pub copies_added : (z : ℤ) (b count : ℕ) (made : Option Node) (old new : List (Option Node)) → as_byte z ≡ Ok b →
+    HasText (replicate count b) made → text_len made ≡ count → new ≡ old ++ made ∷ [] → AddsCopies z count old new
+copies_added z b count made old new is text len pushed = subst (AddsCopies z count old) (sym pushed) (record {
+  fits = λ lengths all. all_fit_more lengths old made all (text.fits lengths);
+  bytes = λ t a same. all_bytes_more t old made ∙ ap (λ (u : List ℕ). all_bytes t old ++ u)
+      (text.bytes t ∙ ap (λ (x : ℕ). replicate count x) (same_byte a same));
+  len = all_len_more old made ∙ ap (λ (n : ℕ). all_len old + n) len;
+})
+  where
+    same_byte : (a : ℕ) → as_byte z ≡ Ok a → b ≡ a
+    same_byte a same = cc
+
+-- ---- a name
+pub name_added : (entries : List Entry) (x : List ℕ) (wanted : Wanted) (old new : List (Option Node)) →
+    AddsCordRange (cord_in (content_in entries x)) wanted old new → AddsExpression entries (name x) wanted old new
+name_added entries x wanted old new part = record {
+  fits = λ lengths over all. part.fits lengths (cord_fits lengths (content_in entries x) (over.contents x)) all;
+  bytes = λ t over there whole is.
+      let same : held_text ((holding_of t entries).held x) ≡ whole = cc in
+      part.bytes t (cord_fits (lengths_of t) (content_in entries x) (over.contents x))
+      ∙ ap (λ (u : List ℕ). all_bytes t old ++ take wanted.count (drop wanted.skip u)) (sym (content_text t (content_in entries x)) ∙ same);
+}
+
+-- ---- copies
+-- what copies that have a length are
+pub record IsRun (z w : ℤ) (len : ℕ) : Type 0 where
+  pub byte : ℕ
+  pub is : as_byte z ≡ Ok byte
+  pub count : as_index w ≡ Ok len
+  pub short : len ≤ MAX_LEN
+
+-- copies that are made are those that are measured
+pub record AreMade (z w : ℤ) (whole : List ℕ) : Type 0 where
+  pub byte : ℕ
+  pub count : ℕ
+  pub is : as_byte z ≡ Ok byte
+  pub told : measured_copies MAX_LEN z w ≡ Ok count
+  pub same : replicate count byte ≡ whole
+
+pub run_made : (z w : ℤ) (whole : List ℕ) → copies MAX_LEN z w ≡ Ok whole → AreMade z w whole
+run_made z w whole h = by_checks (as_byte z) (as_index w) refl refl h
+  where
+    by_length : (b n : ℕ) (r : Result ℕ FaultKind) → as_byte z ≡ Ok b → as_index w ≡ Ok n → as_length MAX_LEN n ≡ r →
+        and_then r (λ _. Ok (replicate n b)) ≡ Ok whole → AreMade z w whole
+    by_length b n (Err kind) e f g h = let bad : ⊥ = cc in absurd bad
+    by_length b n (Ok k) e f g h =
+        let passed = length_passed n k g in
+        let told : measured_copies MAX_LEN z w ≡ Ok n =
+        (λ i. and_then (e i) (λ b. and_then (f i) (λ m. as_length MAX_LEN m))) ∙ g ∙ ap (λ (m : ℕ). Ok m) (sym passed.0) in
+        record { byte = b; count = n; is = e; told = told; same = cc }
+
+    by_checks : (rb rn : Result ℕ FaultKind) → as_byte z ≡ rb → as_index w ≡ rn →
+        and_then rb (λ b. and_then rn (λ n. and_then (as_length MAX_LEN n) (λ _. Ok (replicate n b)))) ≡ Ok whole → AreMade z w whole
+    by_checks (Err kind) rn e f h = let bad : ⊥ = cc in absurd bad
+    by_checks (Ok b) (Err kind) e f h = let bad : ⊥ = cc in absurd bad
+    by_checks (Ok b) (Ok n) e f h = by_length b n (as_length MAX_LEN n) e f refl h
+
+-- a range of copies
+range_of_copies : (skip count n b : ℕ) → replicate (min count (n - skip)) b ≡ take count (drop skip (replicate n b))
+range_of_copies skip count n b =
+    let long : length (replicate (n - skip) b) ≡ n - skip = length-replicate (n - skip) b in
+    let enough : min count (n - skip) ≤ n - skip = omega arith in
+    sym (take-replicate (min count (n - skip)) (n - skip) b enough)
+    ∙ ap (λ (k : ℕ). take (min count k) (replicate (n - skip) b)) (sym long)
+    ∙ take_min count (replicate (n - skip) b)
+    ∙ ap (λ (u : List ℕ). take count u) (sym (drop-replicate skip n b))
+
+module _ (z w : ℤ) (wanted : Wanted) (old : List (Option Node)) where
+  -- what is wanted of copies
+  pub run_picked : (len taken : ℕ) (new : List (Option Node)) → measured_copies MAX_LEN z w ≡ Ok len →
+      taken ≡ min wanted.count (len - wanted.skip) → AddsCopies z taken old new → AddsRun z w wanted old new
+  run_picked len taken new told some part = record {
+    fits = part.fits;
+    bytes = λ t whole is.
+        let made = run_made z w whole is in
+        let same : len ≡ made.count = let told_made = made.told in cc in
+        part.bytes t made.byte made.is
+        ∙ ap (λ (u : List ℕ). all_bytes t old ++ u) (ap (λ (k : ℕ). replicate k made.byte)
+        (some ∙ ap (λ (k : ℕ). min wanted.count (k - wanted.skip)) same)
+        ∙ range_of_copies wanted.skip wanted.count made.count made.byte
+        ∙ ap (λ (u : List ℕ). take wanted.count (drop wanted.skip u)) made.same);
+  }
+
+  -- nothing is
+  pub run_passed : (len : ℕ) → measured_copies MAX_LEN z w ≡ Ok len → min wanted.count (len - wanted.skip) ≡ 0 → AddsRun z w wanted old old
+  run_passed len told none = record {
+    fits = λ lengths all. all;
+    bytes = λ t whole is.
+        let made = run_made z w whole is in
+        let same : len ≡ made.count = let told_made = made.told in cc in
+        let empty : min wanted.count (made.count - wanted.skip) ≡ 0 = ap (λ (k : ℕ). min wanted.count (k - wanted.skip)) (sym same) ∙ none in
+        sym (append-nil (all_bytes t old))
+        ∙ ap (λ (u : List ℕ). all_bytes t old ++ u) (ap (λ (k : ℕ). replicate k made.byte) (sym empty)
+        ∙ range_of_copies wanted.skip wanted.count made.count made.byte
+        ∙ ap (λ (u : List ℕ). take wanted.count (drop wanted.skip u)) made.same);
+  }
+
+  -- they have a fault
+  pub run_faulty : (kind : FaultKind) → measured_copies MAX_LEN z w ≡ Err kind → AddsRun z w wanted old old
+  run_faulty kind told = record {
+    fits = λ lengths all. all;
+    bytes = λ t whole is. let made = run_made z w whole is in let told_made = made.told in let bad : ⊥ = cc in absurd bad;
+  }
+
+pub run_added : (entries : List Entry) (c n : Number) (wanted : Wanted) (old new : List (Option Node)) →
+    AddsRun (operand_in entries c) (operand_in entries n) wanted old new → AddsExpression entries (run c n) wanted old new
+run_added entries c n wanted old new part = record {
+  fits = λ lengths over all. part.fits lengths all;
+  bytes = λ t over there whole is. part.bytes t whole ((λ i. copies MAX_LEN (operand_value t entries c i) (operand_value t entries n i))
+      ∙ is);
+}
+
+-- ---- a `cat`
+pub cat_added : (entries : List Entry) (es : Exprs) (wanted : Wanted) (old new : List (Option Node)) →
+    AddsMembers entries es wanted old new → AddsExpression entries (cat es) wanted old new
+cat_added entries es wanted old new part = record {
+  fits = part.fits;
+  bytes = λ t over there whole is. part.bytes t over there whole (cat_joined MAX_LEN (plain_of t entries) es whole is).joined;
+}
+
+pub cat_past : (entries : List Entry) (es : Exprs) (wanted after : Wanted) → IsAfter (members_extent entries es) wanted after →
+    IsAfter (extent_in entries (cat es)) wanted after
+cat_past entries es wanted after h = by_members (members_extent entries es) h
+  where
+    by_length : (n : ℕ) (r : Result ℕ FaultKind) → as_length MAX_LEN n ≡ r → IsPast n wanted after → IsAfter r wanted after
+    by_length n (Err kind) e h = tt
+    by_length n (Ok k) e h = subst (λ (m : ℕ). IsPast m wanted after) (length_passed n k e).0 h
+
+    by_members : (r : Result ℕ FaultKind) → IsAfter r wanted after → IsAfter (and_then r (λ n. as_length MAX_LEN n)) wanted after
+    by_members (Err kind) h = tt
+    by_members (Ok n) h = by_length n (as_length MAX_LEN n) refl h
+
+-- ---- a `sub`
+-- a range of a range
+range_within : (xs : List ℕ) (start most skip count : ℕ) → take (min count (most - skip)) (drop (start + min skip most) xs)
+    ≡ take count (drop skip (take most (drop start xs)))
+range_within xs start most skip count = by_test (nat_le skip most) refl
+  where
+    by_count : (b : Bool) (m : ℕ) (ys : List ℕ) → nat_le count m ≡ b → take (min count m) ys ≡ take count (take m ys)
+    by_count true m ys e =
+        let few : count ≤ m = leb-true count m e in
+        let same : min count m ≡ count = omega arith in
+        ap (λ (k : ℕ). take k ys) same ∙ sym (take-take count m ys few)
+    by_count false m ys e =
+        let many : m < count = leb-false count m e in
+        let same : min count m ≡ m = omega arith in
+        let long : length (take m ys) ≡ min m (length ys) = length-take m ys in
+        ap (λ (k : ℕ). take k ys) same ∙ sym (take_all count (take m ys) (omega (arith, long)))
+
+    by_test : (b : Bool) → nat_le skip most ≡ b → take (min count (most - skip)) (drop (start + min skip most) xs)
+        ≡ take count (drop skip (take most (drop start xs)))
+    by_test true e =
+        let inside : skip ≤ most = leb-true skip most e in
+        let first : start + min skip most ≡ start + skip = omega arith in
+        let all : skip + (most - skip) ≡ most = omega arith in
+        ap (λ (k : ℕ). take (min count (most - skip)) (drop k xs)) first
+        ∙ ap (λ (u : List ℕ). take (min count (most - skip)) u) (sym (drop-drop skip start xs))
+        ∙ by_count (nat_le count (most - skip)) (most - skip) (drop skip (drop start xs)) refl
+        ∙ ap (λ (u : List ℕ). take count u) (sym (drop-take skip (most - skip) (drop start xs)))
+        ∙ ap (λ (k : ℕ). take count (drop skip (take k (drop start xs)))) all
+    by_test false e =
+        let outside : most < skip = leb-false skip most e in
+        let none : min count (most - skip) ≡ 0 = omega arith in
+        let long : length (take most (drop start xs)) ≡ min most (length (drop start xs)) = length-take most (drop start xs) in
+        let empty : min count (length (take most (drop start xs)) - skip) ≡ 0 = omega (arith, long) in
+        ap (λ (k : ℕ). take k (drop (start + min skip most) xs)) none ∙ sym (nothing_taken (take most (drop start xs)) skip count empty)
+
+-- a part of a text
+record IsPartOf (u : List ℕ) (z w : ℤ) (whole : List ℕ) : Type 0 where
+  first : ℕ
+  most : ℕ
+  start_is : as_index z ≡ Ok first
+  count_is : as_index w ≡ Ok most
+  same : take most (drop first u) ≡ whole
+
+part_known : (u : List ℕ) (z w : ℤ) (whole : List ℕ) → part_of MAX_LEN u z w ≡ Ok whole → IsPartOf u z w whole
+part_known u z w whole h = by_checks (as_index z) (as_index w) refl refl h
+  where
+    by_checks : (ri rn : Result ℕ FaultKind) → as_index z ≡ ri → as_index w ≡ rn →
+        and_then ri (λ a. and_then rn (λ m. within MAX_LEN (take m (drop a u)))) ≡ Ok whole → IsPartOf u z w whole
+    by_checks (Err kind) rn e f h = let bad : ⊥ = cc in absurd bad
+    by_checks (Ok a) (Err kind) e f h = let bad : ⊥ = cc in absurd bad
+    by_checks (Ok a) (Ok m) e f h = record {
+      first = a;
+      most = m;
+      start_is = e;
+      count_is = f;
+      same = (fits_within MAX_LEN (take m (drop a u)) whole h).same;
+    }
+
+-- what holds of the value of a result that is Ok
+pub ok_value : {A E : Type 0} (P : A → Type 0) (r : Result A E) (a : A) → IfOk r P → r ≡ Ok a → P a
+ok_value P r a h e = subst (λ q. IfOk q P) e h
+
+module _ (entries : List Entry) (e : Expr) (i n : Number) (start most : ℕ) (wanted inner : Wanted) (start_is : IfOk (as_index (operand_in entries i)) (λ k. start ≡ k)) (most_is : IfOk (as_index (operand_in entries n)) (λ k. most ≡ k)) (inside : IsInside start most wanted inner) where
+  pub sub_added : (old new : List (Option Node)) → AddsExpression entries e inner old new →
+      AddsExpression entries (sub e i n) wanted old new
+  sub_added old new part = record {
+    fits = part.fits;
+    bytes = λ t over there whole is.
+        let q = passes (text_in MAX_LEN (plain_of t entries) e) (λ u. part_of MAX_LEN u (number_value (plain_of t entries) i) (number_value (plain_of t entries) n)) whole is in
+        let p = part_known q.middle (operand_in entries i) (operand_in entries n) whole ((λ j. part_of MAX_LEN q.middle (operand_value t entries i j) (operand_value t entries n j)) ∙ q.next) in
+        let at : start ≡ p.first = ok_value (λ k. start ≡ k) (as_index (operand_in entries i)) p.first start_is p.start_is in
+        let up_to : most ≡ p.most = ok_value (λ k. most ≡ k) (as_index (operand_in entries n)) p.most most_is p.count_is in
+        part.bytes t over there q.middle q.first
+        ∙ ap (λ (u : List ℕ). all_bytes t old ++ u) ((λ j. take (inside.count j) (drop (inside.skip j) q.middle))
+        ∙ range_within q.middle start most wanted.skip wanted.count
+        ∙ (λ j. take wanted.count (drop wanted.skip (take (up_to j) (drop (at j) q.middle))))
+        ∙ ap (λ (u : List ℕ). take wanted.count (drop wanted.skip u)) p.same);
+  }
+
+  module _ (rest after : Wanted) (outside : IsOutside most wanted inner rest after) where
+    part_past : (len : ℕ) → IsPast len inner rest → IsPast (min most (len - start)) wanted after
+    part_past len past = record {
+      skip = omega (arith, inside.skip, past.skip, outside.skip);
+      count = omega (arith, inside.skip, inside.count, past.count, outside.count);
+    }
+
+    pub sub_past : IsAfter (extent_in entries e) inner rest → IsAfter (extent_in entries (sub e i n)) wanted after
+    sub_past h = by_checks (extent_in entries e) (as_index (operand_in entries i)) (as_index (operand_in entries n)) h start_is most_is
+      where
+        by_length : (k : ℕ) (r : Result ℕ FaultKind) → as_length MAX_LEN k ≡ r → IsPast k wanted after → IsAfter r wanted after
+        by_length k (Err kind) f past = tt
+        by_length k (Ok m) f past = subst (λ (x : ℕ). IsPast x wanted after) (length_passed k m f).0 past
+
+        by_checks : (r ri rn : Result ℕ FaultKind) → IsAfter r inner rest → IfOk ri (λ k. start ≡ k) → IfOk rn (λ k. most ≡ k) →
+            IsAfter (and_then r (λ len. and_then ri (λ a. and_then rn (λ m. as_length MAX_LEN (min m (len - a)))))) wanted after
+        by_checks (Err kind) ri rn past at up_to = tt
+        by_checks (Ok len) (Err kind) rn past at up_to = tt
+        by_checks (Ok len) (Ok a) (Err kind) past at up_to = tt
+        by_checks (Ok len) (Ok a) (Ok m) past at up_to =
+            by_length (min m (len - a)) (as_length MAX_LEN (min m (len - a))) refl
+            (subst (λ (x : ℕ). IsPast x wanted after) (λ j. min (up_to j) (len - at j)) (part_past len past))
+
+    pub sub_few : (old new : List (Option Node)) → AreFew inner rest old new → AreFew wanted after old new
+    sub_few old new few = omega (arith, few, inside.count, outside.count)
+
+-- ---- results
+-- what follows from what an Ok call gives
+pub still_ok : {A E P Q : Type 0} (r : Result A E) → (P → Q) → IfOk r (λ _. P) → IfOk r (λ _. Q)
+still_ok (Ok x) f p = f p
+still_ok (Err e) f p = tt
+
+-- the same of what holds of its value
+pub still_ok_by : {A E : Type 0} (P Q : A → Type 0) (r : Result A E) → ((a : A) → P a → Q a) → IfOk r P → IfOk r Q
+still_ok_by P Q (Ok x) f p = f x p
+still_ok_by P Q (Err e) f p = tt

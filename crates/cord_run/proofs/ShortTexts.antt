@@ -1,0 +1,56 @@
+-- Texts side by side that are gathered.
+use Rattle.std.proofs.Common.{◌≡◌, ◌<◌, ◌≤◌, ◌+◌, ℕ, List, [], ◌++◌, drop, length, get_or, Result, Ok, refl, sym, ap, subst, ◌∙◌}
+use Rattle.std.proofs.Common.{append_assoc, append-nil}
+use Rattle.std.proofs.lemmas.List.{drop_all}
+use Rattle.cord_io.specs.declared.TheConstants.{MAX_LEN}
+use Rattle.cord_meaning.specs.declared.ends.FaultKind.{FaultKind}
+use Rattle.cord_meaning.specs.State.{and_then}
+use Rattle.cord_plan.specs.Exprs as plain
+use Rattle.cord_plan.specs.Meaning.{cords, cords_of}
+use Rattle.cord_plan.specs.Values.{within}
+use Rattle.cord_plan.specs.Views.{Shared, shared_view}
+use Rattle.cord_run.specs.declared.store.Entry.{Entry}
+use Rattle.cord_run.specs.inner.Extents.{members_seen}
+use Rattle.cord_run.specs.inner.Holdings.{holding_of, plain_of}
+use Rattle.cord_run.specs.inner.Slices.{AreTextsIn, IsTextIn, texts_in}
+use Rattle.cord_run.proofs.Members.{members_left}
+use Rattle.cord_run.proofs.Files.{short_text}
+use Rattle.cord_run.proofs.Lengths.{texts_split}
+
+module _ (entries : List Entry) where
+  -- a member in front of others
+  member_texts : (e : plain.Expr) (others : plain.Exprs) (text rest : List ℕ) → IsTextIn entries e text → AreTextsIn entries others rest →
+      AreTextsIn entries (plain.member e others) (text ++ rest)
+  member_texts e others text rest first behind = λ t there.
+      let split = texts_split (holding_of t entries) (cords e) (cords_of others) there in
+      ap (λ (r : Result (List ℕ) FaultKind). and_then r (λ u. and_then (texts_in MAX_LEN (plain_of t entries) others) (λ v. Ok (u ++ v))))
+      (first t split.first)
+      ∙ ap (λ (r : Result (List ℕ) FaultKind). and_then r (λ v. Ok (text ++ v))) (behind t split.second)
+
+  -- those gathered so far, whatever the others are
+  abbrev pub GatheredOf : List Shared → ℕ → List ℕ → Type 0
+  GatheredOf ms i text = (rest : List ℕ) → AreTextsIn entries (members_seen (drop i ms)) rest →
+      AreTextsIn entries (members_seen ms) (text ++ rest)
+
+  pub gathered_none : (ms : List Shared) (text : List ℕ) → text ≡ [] → GatheredOf ms 0 text
+  gathered_none ms text none = λ rest behind. subst (λ (u : List ℕ). AreTextsIn entries (members_seen ms) (u ++ rest)) (sym none) behind
+
+  pub gathered_more : (ms : List Shared) (i : ℕ) (m : Shared) → i < length ms → m ≡ get_or ms i m → (text slice more : List ℕ) →
+      IsTextIn entries (shared_view m) slice → more ≡ text ++ slice → GatheredOf ms i text → GatheredOf ms (i + 1) more
+  gathered_more ms i m here is text slice more first grown so_far = λ rest behind.
+      let others : plain.Exprs = members_seen (drop (i + 1) ms) in
+      let left = so_far (slice ++ rest) (subst (λ (es : plain.Exprs). AreTextsIn entries es (slice ++ rest)) (sym (members_left ms i m here is)) (member_texts (shared_view m) others slice rest first behind)) in
+      subst (λ (u : List ℕ). AreTextsIn entries (members_seen ms) u)
+      (sym (ap (λ (u : List ℕ). u ++ rest) grown ∙ append_assoc text slice rest)) left
+
+  pub gathered_all : (ms : List Shared) (i : ℕ) (text : List ℕ) → length ms ≤ i → GatheredOf ms i text →
+      AreTextsIn entries (members_seen ms) text
+  gathered_all ms i text past so_far =
+      let none : AreTextsIn entries (members_seen (drop i ms)) [] = subst (λ (xs : List Shared). AreTextsIn entries (members_seen xs) []) (sym (drop_all i ms past)) (λ t there. refl) in
+      subst (λ (u : List ℕ). AreTextsIn entries (members_seen ms) u) (append-nil text) (so_far [] none)
+
+  -- members that are short together, joined
+  pub cat_text : (es : plain.Exprs) (text : List ℕ) → AreTextsIn entries es text → length text ≤ MAX_LEN →
+      IsTextIn entries (plain.cat es) text
+  cat_text es text are short = λ t there. ap (λ (r : Result (List ℕ) FaultKind). and_then r (λ u. within MAX_LEN u)) (are t there)
+      ∙ short_text text short

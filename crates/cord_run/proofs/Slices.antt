@@ -1,0 +1,32 @@
+-- Texts that are slices of memory.
+use Rattle.std.proofs.Common.{◌≡◌, ℕ, List, Result, Ok, sym, ap, ◌∙◌}
+use Rattle.std.specs.Prelude.{IfSome, Option, Some, None}
+use Rattle.cord_io.specs.declared.TheConstants.{MAX_LEN}
+use Rattle.cord_operands.specs.declared.operands.Number.{Number}
+use Rattle.cord_meaning.specs.declared.ends.FaultKind.{FaultKind}
+use Rattle.cord_meaning.specs.State.{number_value, and_then}
+use Rattle.cord_plan.specs.Exprs.{name, sub}
+use Rattle.cord_plan.specs.Values.{part_of}
+use Rattle.cord_run.specs.declared.store.Entry.{Entry}
+use Rattle.cord_run.specs.inner.Entries.{content_in, cord_in, operand_in}
+use Rattle.cord_run.specs.inner.Holdings.{plain_of}
+use Rattle.cord_run.specs.inner.Slices.{IsSliceOf, IsTextIn}
+use Rattle.cord_run.proofs.Lengths.{content_text, operand_value}
+
+-- what follows from what a call gives
+pub still_some : {A : Type 0} {P Q : A → Type 0} (o : Option A) → ((a : A) → P a → Q a) → IfSome o P → IfSome o Q
+still_some (Some a) f p = f a p
+still_some None f p = tt
+
+module _ (entries : List Entry) (x slice : List ℕ) (is : IsSliceOf (cord_in (content_in entries x)) slice) where
+  -- the text of a name
+  pub name_is : IsTextIn entries (name x) slice
+  name_is = λ t there. ap (λ (u : List ℕ). Ok u) (content_text t (content_in entries x) ∙ is t)
+
+  -- a range of it
+  pub sub_is : (i n : Number) (range : List ℕ) → part_of MAX_LEN slice (operand_in entries i) (operand_in entries n) ≡ Ok range →
+      IsTextIn entries (sub (name x) i n) range
+  sub_is i n range part = λ t there.
+      ap (λ (r : Result (List ℕ) FaultKind). and_then r (λ u. part_of MAX_LEN u (number_value (plain_of t entries) i)
+      (number_value (plain_of t entries) n))) (name_is t there)
+      ∙ sym (λ j. part_of MAX_LEN slice (operand_value t entries i j) (operand_value t entries n j)) ∙ part

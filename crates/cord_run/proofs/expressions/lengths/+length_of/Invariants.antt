@@ -1,0 +1,18 @@
+use Rattle.std.proofs.Common.{◌≡◌, ◌<◌, ◌^◌, drop}
+use Rattle.cord_plan.specs.Views.{expr_view}
+use Rattle.cord_run.specs.inner.Extents.{counted, members_extent, members_seen}
+use Rattle.cord_run.proofs.Members.{weight, weights}
+use Rattle.cord_run.proofs.expressions.lengths.+length_of.Given as goal
+
+abbrev pub decreases-length_of : goal.decreases-length_of
+decreases-length_of l = weight (expr_view l.expression.now)
+
+abbrev pub decreases-length_of_all : goal.decreases-length_of_all
+decreases-length_of_all l = weights (members_seen l.members.now)
+
+abbrev pub invariant-length_of_all-loop-member : goal.invariant-length_of_all-loop-member
+invariant-length_of_all-loop-member l = record {
+  extent : counted 0 (members_extent l.store.entries.items (members_seen l.members))
+      ≡ counted l.total (members_extent l.store.entries.items (members_seen (drop l.member-index l.members)));
+  small : l.total < 2 ^ 64;
+}

@@ -1,0 +1,167 @@
+use Rattle.std.proofs.Common.{◌≡◌, ◌<◌, ◌+◌, ℕ, List, drop, sym, ap, subst, ◌∙◌, rules, arith}
+use Rattle.std.specs.Prelude.{IfOk}
+use Rattle.std.proofs.lemmas.List.{drop_all}
+use Rattle.cord_plan.specs.Exprs as plain
+use Rattle.cord_plan.specs.declared.expressions.Expr.{Expr}
+use Rattle.cord_plan.specs.Views.{expr_view, shared_view}
+use Rattle.cord_plan.proofs.ExprViews.{view-Name, view-Run, view-Cat, view-Sub}
+use Rattle.cord_run.specs.inner.Extents.{extent_in, members_extent, members_seen}
+use Rattle.cord_run.specs.inner.Ranges.{AddsExpression, IsAfter}
+use Rattle.cord_run.specs.inner.Origins.{AddsInTurn, origins}
+use Rattle.cord_run.proofs.Members.{weight, weights, member_smaller, members_left}
+use Rattle.cord_run.proofs.Ranges.{name_added, run_added, cat_added, cat_past, sub_added, sub_past, still_ok, still_ok_by}
+use Rattle.cord_run.proofs.MemberRanges.{SoFar, WantedSoFar, starts, goes_on, ends_early, ends_last, wanted_goes_on, wanted_ends_early}
+use Rattle.cord_run.proofs.MemberRanges.{wanted_ends}
+use Rattle.cord_run.proofs.Origins.{TurnsSoFar, turns_start, turns_go_on, turns_end}
+use Rattle.cord_run.proofs.expressions.ranges.+add_range.Goals as goal
+
+pub add_range-returns-in-Name-clause-added : goal.add_range-returns-in-Name-clause-added
+add_range-returns-in-Name-clause-added t c =
+    let entries = c.args.store.now.entries.items in
+    let x = c.as_slice.result.now in
+    let old = c.args.pieces.now.items in
+    let new = c.add_name.new.pieces.items in
+    let view : expr_view c.args.expression.now ≡ plain.name x = ap expr_view c.in-Name.is ∙ view-Name c.in-Name.name ∙ ap (λ (y : List ℕ). plain.name y) (sym c.as_slice.ensures) in
+    subst (λ (e : plain.Expr). IfOk c.add_name.result (λ _. AddsExpression entries e c.args.wanted old new)) (sym view)
+    (still_ok c.add_name.result (name_added entries x c.args.wanted old new) c.add_name.ensures.added)
+
+pub add_range-returns-in-Run-clause-added : goal.add_range-returns-in-Run-clause-added
+add_range-returns-in-Run-clause-added t c =
+    let entries = c.args.store.now.entries.items in
+    let old = c.args.pieces.now.items in
+    let new = c.add_run.new.pieces.items in
+    let view : expr_view c.args.expression.now ≡ plain.run c.in-Run.byte c.in-Run.count = ap expr_view c.in-Run.is ∙ view-Run c.in-Run.byte c.in-Run.count in
+    subst (λ (e : plain.Expr). IfOk c.add_run.result (λ _. AddsExpression entries e c.args.wanted old new)) (sym view)
+    (still_ok c.add_run.result (run_added entries c.in-Run.byte c.in-Run.count c.args.wanted old new) c.add_run.ensures.added)
+
+pub add_range-returns-in-Cat-clause-added : goal.add_range-returns-in-Cat-clause-added
+add_range-returns-in-Cat-clause-added t c =
+    let entries = c.args.store.now.entries.items in
+    let es = members_seen c.as_slice-in-Cat.result.now in
+    let old = c.args.pieces.now.items in
+    let new = c.add_members.new.pieces.items in
+    let view : expr_view c.args.expression.now ≡ plain.cat es = ap expr_view c.in-Cat.is ∙ view-Cat c.in-Cat.members ∙ ap (λ (ms : plain.Exprs). plain.cat ms) c.as_slice-in-Cat.ensures in
+    subst (λ (e : plain.Expr). IfOk c.add_members.result (λ _. AddsExpression entries e c.args.wanted old new)) (sym view)
+    (still_ok c.add_members.result (cat_added entries es c.args.wanted old new) c.add_members.ensures.added)
+
+pub add_range-returns-in-Cat-clause-past : goal.add_range-returns-in-Cat-clause-past
+add_range-returns-in-Cat-clause-past t c =
+    let entries = c.args.store.now.entries.items in
+    let es = members_seen c.as_slice-in-Cat.result.now in
+    let view : expr_view c.args.expression.now ≡ plain.cat es = ap expr_view c.in-Cat.is ∙ view-Cat c.in-Cat.members ∙ ap (λ (ms : plain.Exprs). plain.cat ms) c.as_slice-in-Cat.ensures in
+    subst (λ (e : plain.Expr). IfOk c.add_members.result (λ after. IsAfter (extent_in entries e) c.args.wanted after)) (sym view)
+    (still_ok_by (λ after. IsAfter (members_extent entries es) c.args.wanted after)
+    (λ after. IsAfter (extent_in entries (plain.cat es)) c.args.wanted after) c.add_members.result
+    (λ after past. cat_past entries es c.args.wanted after past) c.add_members.ensures.past)
+
+pub add_range-returns-in_ok-rest-in-Sub-clause-added : goal.add_range-returns-in_ok-rest-in-Sub-clause-added
+add_range-returns-in_ok-rest-in-Sub-clause-added t c =
+    let entries = c.args.store.now.entries.items in
+    let inner = expr_view c.in-Sub.expression.value in
+    let old = c.args.pieces.now.items in
+    let new = c.add_range.new.pieces.items in
+    let wanted = c.inside-inner.result in
+    let view : expr_view c.args.expression.now ≡ plain.sub inner c.in-Sub.start c.in-Sub.count = ap expr_view c.in-Sub.is ∙ view-Sub c.in-Sub.expression c.in-Sub.start c.in-Sub.count in
+    let added : AddsExpression entries inner wanted old new = subst (λ (e : Expr). AddsExpression entries (expr_view e) wanted old new) c.as_ref.ensures c.in_ok-rest-in-Sub.ensures.added in
+    subst (λ (e : plain.Expr). AddsExpression entries e c.args.wanted old new) (sym view)
+    (sub_added entries inner c.in-Sub.start c.in-Sub.count c.index_of.result c.index_of-most.result c.args.wanted wanted
+    c.index_of.ensures.is c.index_of-most.ensures.is c.inside-inner.ensures old new added)
+
+pub add_range-returns-in_ok-rest-in-Sub-clause-past : goal.add_range-returns-in_ok-rest-in-Sub-clause-past
+add_range-returns-in_ok-rest-in-Sub-clause-past t c =
+    let entries = c.args.store.now.entries.items in
+    let inner = expr_view c.in-Sub.expression.value in
+    let wanted = c.inside-inner.result in
+    let rest = c.in_ok-rest-in-Sub.rest in
+    let view : expr_view c.args.expression.now ≡ plain.sub inner c.in-Sub.start c.in-Sub.count = ap expr_view c.in-Sub.is ∙ view-Sub c.in-Sub.expression c.in-Sub.start c.in-Sub.count in
+    let past : IsAfter (extent_in entries inner) wanted rest = subst (λ (e : Expr). IsAfter (extent_in entries (expr_view e)) wanted rest) c.as_ref.ensures c.in_ok-rest-in-Sub.ensures.past in
+    subst (λ (e : plain.Expr). IsAfter (extent_in entries e) c.args.wanted c.outside.result) (sym view)
+    (sub_past entries inner c.in-Sub.start c.in-Sub.count c.index_of.result c.index_of-most.result c.args.wanted wanted
+    c.index_of.ensures.is c.index_of-most.ensures.is c.inside-inner.ensures rest c.outside.result c.outside.ensures past)
+
+pub add_members-loop-member-init : goal.add_members-loop-member-init
+add_members-loop-member-init t c = record {
+  added = starts c.args.store.now.entries.items (members_seen c.args.members.now) c.args.wanted c.args.pieces.now.items;
+  in_turn = turns_start c.args.store.now.entries.items (members_seen c.args.members.now) c.args.pieces.now.items;
+  past = λ last h. h;
+  few = omega arith;
+}
+
+pub add_members-returns-then-is_nothing-clause-added : goal.add_members-returns-then-is_nothing-clause-added
+add_members-returns-then-is_nothing-clause-added t c =
+    let ms = c.args.members.now in
+    ends_early c.args.store.now.entries.items (members_seen ms) c.args.wanted c.args.pieces.now.items
+    (members_seen (drop c.loop-member.member-index ms)) c.loop-member.left c.loop-member.pieces.items
+    (c.is_nothing.ensures.count c.if-is_nothing.true) c.loop-member.invariant.added
+
+pub add_members-returns-then-is_nothing-clause-in_turn : goal.add_members-returns-then-is_nothing-clause-in_turn
+add_members-returns-then-is_nothing-clause-in_turn t c =
+    let ms = c.args.members.now in
+    turns_end c.args.store.now.entries.items (members_seen ms) c.args.pieces.now.items (members_seen (drop c.loop-member.member-index ms))
+    c.loop-member.pieces.items c.loop-member.invariant.in_turn
+
+pub add_members-returns-then-is_nothing-clause-past : goal.add_members-returns-then-is_nothing-clause-past
+add_members-returns-then-is_nothing-clause-past t c =
+    let ms = c.args.members.now in
+    wanted_ends_early c.args.store.now.entries.items (members_seen ms) c.args.wanted (members_seen (drop c.loop-member.member-index ms))
+    c.loop-member.left (c.is_nothing.ensures.skip c.if-is_nothing.true) (c.is_nothing.ensures.count c.if-is_nothing.true)
+    c.loop-member.invariant.past
+
+pub add_members-add_range-requires : goal.add_members-add_range-requires
+add_members-add_range-requires t c =
+    let there : weight (shared_view c.member-item.result) < weights (members_seen c.args.members.now) = member_smaller c.args.members.now c.loop-member.member-index c.member-item.result c.loop-member-test.true c.member-item.is in
+    let below : weight (expr_view c.as_ref-expression.result.now) < weights (members_seen c.args.members.now) = subst (λ (x : Expr). weight (expr_view x) < weights (members_seen c.args.members.now)) (sym c.as_ref-expression.ensures) there in
+    search (rules, below)
+
+pub add_members-loop-member-preserved : goal.add_members-loop-member-preserved
+add_members-loop-member-preserved t c =
+    let entries = c.args.store.now.entries.items in
+    let ms = c.args.members.now in
+    let k = c.loop-member.member-index in
+    let es = members_seen ms in
+    let e = shared_view c.member-item.result in
+    let others = members_seen (drop (k + 1) ms) in
+    let left = c.loop-member.left in
+    let old = c.args.pieces.now.items in
+    let now = c.loop-member.pieces.items in
+    let next = c.add_range.new.pieces.items in
+    let after = c.in_ok-left.left in
+    let at : members_seen (drop k ms) ≡ plain.member e others = members_left ms k c.member-item.result c.loop-member-test.true c.member-item.is in
+    let added : AddsExpression entries e left now next = subst (λ (x : Expr). AddsExpression entries (expr_view x) left now next) c.as_ref-expression.ensures c.in_ok-left.ensures.added in
+    let in_turn : AddsInTurn entries (origins e) now next = subst (λ (x : Expr). AddsInTurn entries (origins (expr_view x)) now next) c.as_ref-expression.ensures c.in_ok-left.ensures.in_turn in
+    let past : IsAfter (extent_in entries e) left after = subst (λ (x : Expr). IsAfter (extent_in entries (expr_view x)) left after) c.as_ref-expression.ensures c.in_ok-left.ensures.past in
+    record {
+      added = goes_on entries es c.args.wanted old e others left after now next
+          (subst (λ (xs : plain.Exprs). SoFar entries es c.args.wanted old xs left now) at c.loop-member.invariant.added) added past;
+      in_turn = turns_go_on entries es old e others now next
+          (subst (λ (xs : plain.Exprs). TurnsSoFar entries es old xs now) at c.loop-member.invariant.in_turn) in_turn;
+      past = wanted_goes_on entries es c.args.wanted e others left after
+          (subst (λ (xs : plain.Exprs). WantedSoFar entries es c.args.wanted xs left) at c.loop-member.invariant.past) past;
+      few = omega (arith, c.in_ok-left.ensures.few, c.loop-member.invariant.few);
+    }
+
+pub add_members-returns-clause-added : goal.add_members-returns-clause-added
+add_members-returns-clause-added t c =
+    let entries = c.args.store.now.entries.items in
+    let ms = c.args.members.now in
+    let left = c.loop-member.left in
+    let now = c.loop-member.pieces.items in
+    let none : members_seen (drop c.loop-member.member-index ms) ≡ plain.nothing = ap members_seen (drop_all c.loop-member.member-index ms c.loop-member-test.false) in
+    ends_last entries (members_seen ms) c.args.wanted c.args.pieces.now.items left now
+    (subst (λ (xs : plain.Exprs). SoFar entries (members_seen ms) c.args.wanted c.args.pieces.now.items xs left now) none
+    c.loop-member.invariant.added)
+
+pub add_members-returns-clause-in_turn : goal.add_members-returns-clause-in_turn
+add_members-returns-clause-in_turn t c =
+    let ms = c.args.members.now in
+    turns_end c.args.store.now.entries.items (members_seen ms) c.args.pieces.now.items (members_seen (drop c.loop-member.member-index ms))
+    c.loop-member.pieces.items c.loop-member.invariant.in_turn
+
+pub add_members-returns-clause-past : goal.add_members-returns-clause-past
+add_members-returns-clause-past t c =
+    let entries = c.args.store.now.entries.items in
+    let ms = c.args.members.now in
+    let left = c.loop-member.left in
+    let none : members_seen (drop c.loop-member.member-index ms) ≡ plain.nothing = ap members_seen (drop_all c.loop-member.member-index ms c.loop-member-test.false) in
+    wanted_ends entries (members_seen ms) c.args.wanted left
+    (subst (λ (xs : plain.Exprs). WantedSoFar entries (members_seen ms) c.args.wanted xs left) none c.loop-member.invariant.past)

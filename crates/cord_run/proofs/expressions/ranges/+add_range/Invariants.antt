@@ -1,0 +1,24 @@
+use Rattle.std.proofs.Common.{drop}
+use Rattle.cord_plan.specs.Views.{expr_view}
+use Rattle.cord_run.specs.inner.Extents.{members_seen}
+use Rattle.cord_run.specs.inner.Ranges.{AreFew}
+use Rattle.cord_run.proofs.Members.{weight, weights}
+use Rattle.cord_run.proofs.MemberRanges.{SoFar, WantedSoFar}
+use Rattle.cord_run.proofs.Origins.{TurnsSoFar}
+use Rattle.cord_run.proofs.expressions.ranges.+add_range.Given as goal
+
+abbrev pub decreases-add_range : goal.decreases-add_range
+decreases-add_range l = weight (expr_view l.expression.now)
+
+abbrev pub decreases-add_members : goal.decreases-add_members
+decreases-add_members l = weights (members_seen l.members.now)
+
+abbrev pub invariant-add_members-loop-member : goal.invariant-add_members-loop-member
+invariant-add_members-loop-member l = record {
+  added : SoFar l.store.entries.items (members_seen l.members) l.fn.wanted l.initial.pieces.items
+      (members_seen (drop l.member-index l.members)) l.left l.pieces.items;
+  in_turn : TurnsSoFar l.store.entries.items (members_seen l.members) l.initial.pieces.items (members_seen (drop l.member-index l.members))
+      l.pieces.items;
+  past : WantedSoFar l.store.entries.items (members_seen l.members) l.fn.wanted (members_seen (drop l.member-index l.members)) l.left;
+  few : AreFew l.fn.wanted l.left l.initial.pieces.items l.pieces.items;
+}

@@ -1,0 +1,22 @@
+use Rattle.std.proofs.Common.{◌≡◌, ◌-◌, ◌++◌, ◌∷◌, [], ℕ, ap, sym, ◌∙◌, rules}
+use Rattle.std.specs.Prelude.{min}
+use Rattle.cord_run.proofs.Ranges.{few_more, part_added, part_passed}
+use Rattle.cord_run.proofs.expressions.ranges.add_cord_range.Goals as goal
+
+pub returns-then-of-eq0-clause-added : goal.returns-then-of-eq0-clause-added
+returns-then-of-eq0-clause-added c =
+    part_passed c.args.cord.now c.args.wanted c.args.pieces.now.items
+    (λ t fits. ap (λ (n : ℕ). min c.args.wanted.count (n - c.args.wanted.skip)) (sym (c.len-len.ensures.over t fits)) ∙ sym c.of.ensures ∙ c.if-of-eq0.true)
+
+pub returns-clause-added : goal.returns-clause-added
+returns-clause-added c =
+    let pushed : c.push.new.self.items ≡ c.args.pieces.now.items ++ c.in_ok-range.range ∷ [] = search rules in
+    part_added c.args.cord.now c.args.wanted c.in_ok-range.range c.args.pieces.now.items c.push.new.self.items c.in_ok-range.ensures.over
+    pushed
+
+pub returns-clause-few : goal.returns-clause-few
+returns-clause-few c =
+    let pushed : c.push.new.self.items ≡ c.args.pieces.now.items ++ c.in_ok-range.range ∷ [] = search rules in
+    few_more c.args.wanted c.after-after.result c.len-len.result c.args.pieces.now.items c.push.new.self.items c.in_ok-range.range
+    c.after-after.ensures
+    (c.in_ok-range.ensures.len ∙ ap (λ (n : ℕ). min c.args.wanted.count (n - c.args.wanted.skip)) (sym c.len-len.ensures.stored)) pushed

@@ -1,9 +1,0 @@
-use Rattle.std.proofs.Common.{◌≤◌, length}
-use Rattle.cord_run.proofs.SideBySide.{GatheredOf}
-use Rattle.cord_run.proofs.gathering.gather_all.Given as goal
-
-abbrev pub invariant-loop-member : goal.invariant-loop-member
-invariant-loop-member l = record {
-  gathered : GatheredOf l.store.entries.items l.members l.member-index l.text.items;
-  short : length l.text.items ≤ 256;
-}

@@ -1,0 +1,49 @@
+use Rattle.std.proofs.Common.{sym, ap, subst}
+use Rattle.std.specs.Prelude.{IfErr}
+use Rattle.cord_io.specs.declared.TheConstants.{MAX_LEN}
+use Rattle.cord_file.specs.Entries.{table_in}
+use Rattle.cord_file.specs.Sources.{opened_in}
+use Rattle.cord_plan.specs.Meaning.{does}
+use Rattle.cord_plan.specs.Planned as plan
+use Rattle.cord_plan.specs.Views.{made_view, operation_view}
+use Rattle.cord_run.specs.Failing.{FailsIn}
+use Rattle.cord_run.specs.inner.Holdings.{holding_of}
+use Rattle.cord_run.specs.inner.Outcomes.{Serves}
+use Rattle.cord_run.proofs.Failures.{fails_freely}
+use Rattle.cord_run.proofs.Operations.{build_serves, measure_serves}
+use Rattle.cord_run.proofs.runner.operations.serve.Goals as goal
+
+pub returns-in-Build-clause-serves : goal.returns-in-Build-clause-serves
+returns-in-Build-clause-serves g c = λ folder kept.
+    build_serves folder (holding_of (table_in (opened_in c.args.sources.now) folder) c.args.store.now.entries.items)
+    (holding_of (table_in (opened_in c.build_target.new.sources) folder) c.build_target.new.store.entries.items)
+    (g.S.Sink.taken c.args.sink.now) c.build_target.result (operation_view c.args.operation.now) c.in-Build.line
+    c.as_slice.result.now c.in-Build.target (made_view c.in-Build.made) (ap operation_view c.in-Build.is) c.as_slice.ensures
+    (c.build_target.ensures.gives folder kept)
+
+pub returns-in-Build-clause-fails : goal.returns-in-Build-clause-fails
+returns-in-Build-clause-fails g c = subst (λ (o : plan.Operation). IfErr c.build_target.result (FailsIn o))
+    (sym (ap operation_view c.in-Build.is)) c.build_target.ensures.fails
+
+pub returns-in-Measure-clause-serves : goal.returns-in-Measure-clause-serves
+returns-in-Measure-clause-serves g c = λ folder kept.
+    measure_serves folder (holding_of (table_in (opened_in c.args.sources.now) folder) c.args.store.now.entries.items)
+    (holding_of (table_in (opened_in c.measure_target.new.sources) folder) c.measure_target.new.store.entries.items)
+    (g.S.Sink.taken c.args.sink.now) c.measure_target.result (operation_view c.args.operation.now) c.in-Measure.line
+    c.as_slice-in-Measure.result.now c.in-Measure.target (made_view c.in-Measure.made)
+    (ap operation_view c.in-Measure.is) c.as_slice-in-Measure.ensures (c.measure_target.ensures.gives folder kept)
+
+pub returns-in-Measure-clause-fails : goal.returns-in-Measure-clause-fails
+returns-in-Measure-clause-fails g c = subst (λ (o : plan.Operation). IfErr c.measure_target.result (FailsIn o))
+    (sym (ap operation_view c.in-Measure.is)) c.measure_target.ensures.fails
+
+pub returns-in-Write-clause-serves : goal.returns-in-Write-clause-serves
+returns-in-Write-clause-serves g c = λ folder kept.
+    subst (λ (o : plan.Operation).
+    Serves (does MAX_LEN folder o (holding_of (table_in (opened_in c.args.sources.now) folder) c.args.store.now.entries.items))
+    (holding_of (table_in (opened_in c.put.new.sources) folder) c.args.store.now.entries.items) (g.S.Sink.taken c.args.sink.now)
+    (g.S.Sink.taken c.put.new.sink) c.put.result) (sym (ap operation_view c.in-Write.is)) (c.put.ensures.serves folder kept)
+
+pub returns-in-Write-clause-fails : goal.returns-in-Write-clause-fails
+returns-in-Write-clause-fails g c = subst (λ (o : plan.Operation). IfErr c.put.result (FailsIn o)) (sym (ap operation_view c.in-Write.is))
+    (fails_freely _ _ tt tt c.put.result)

@@ -1,0 +1,50 @@
+use Rattle.std.proofs.Common.{ℕ, List, Err, sym, subst, ◌+◌, ◌<◌, ◌≤◌, ◌++◌, ◌∙◌, ap, length}
+use Rattle.cord_run.specs.declared.stops.Stop.{Stop}
+use Rattle.cord_run.specs.inner.Extensibles.{Becomes, longer_text}
+use Rattle.cord_io.specs.declared.TheConstants.{MAX_LEN}
+use Rattle.cord_node.specs.Tables.{lengths_of}
+use Rattle.cord_ec.specs.Grown.{bytes_over}
+use Rattle.cord_run.specs.inner.Numbers.{text_over}
+use Rattle.cord_run.proofs.Extensibles.{cord_inside, cord_length, cord_text, grown_over, grown_becomes, grown_refused}
+use Rattle.cord_run.proofs.statements.extensibles.grow_by_cord.Goals as goal
+
+pub returns-in-Ok-clause-over : goal.returns-in-Ok-clause-over
+returns-in-Ok-clause-over c =
+    let before = c.in_ok-extensible.extensible.text in
+    let took = c.in_ok-extensible.ensures.taken in
+    grown_over c.args.name.now before c.append_cord.new.self.text c.args.store.now.entries.items c.taken.new.store.entries.items
+    c.give.new.store.entries.items took c.give.result c.give.ensures.given
+    (λ ls over held. c.in-Ok.ensures.over.fits ls held (cord_inside c.args.name.now before before c.args.store.now.entries.items
+    c.taken.new.store.entries.items c.taken.new.store.entries.items took c.args.operand.now c.cord_or.result.now c.cord_or.ensures ls
+    over))
+
+pub returns-in-Ok-clause-becomes : goal.returns-in-Ok-clause-becomes
+returns-in-Ok-clause-becomes c =
+    let before = c.in_ok-extensible.extensible.text in
+    let took = c.in_ok-extensible.ensures.taken in
+    grown_becomes c.args.name.now before c.append_cord.new.self.text c.args.store.now.entries.items c.taken.new.store.entries.items
+    c.give.new.store.entries.items took c.give.result (λ t. text_over t c.args.store.now.entries.items c.args.operand.now)
+    c.give.ensures.given c.give.ensures.refused (λ t over held.
+    c.in-Ok.ensures.over.bytes t held (cord_inside c.args.name.now before before c.args.store.now.entries.items
+    c.taken.new.store.entries.items c.taken.new.store.entries.items took c.args.operand.now c.cord_or.result.now c.cord_or.ensures
+    (lengths_of t) over) ∙ ap (λ (text : List ℕ). bytes_over t before ++ text)
+    (cord_text c.args.name.now before before c.args.store.now.entries.items c.taken.new.store.entries.items
+    c.taken.new.store.entries.items took c.args.operand.now c.cord_or.result.now c.cord_or.ensures t))
+    (λ t over. subst (λ (n : ℕ). length before + n ≤ MAX_LEN)
+    (cord_length c.args.name.now before before c.args.store.now.entries.items c.taken.new.store.entries.items
+    c.taken.new.store.entries.items took c.args.operand.now c.cord_or.result.now c.cord_or.ensures t over) c.in-Ok.ensures.within_limit)
+
+pub returns-clause-becomes : goal.returns-clause-becomes
+returns-clause-becomes c =
+    let before = c.in_ok-extensible.extensible.text in
+    let took = c.in_ok-extensible.ensures.taken in
+    let old = c.args.store.now.entries.items in
+    let middle = c.taken.new.store.entries.items in
+    subst (λ (h : Stop). Becomes c.args.name.now (λ t. longer_text old c.args.name.now
+    (text_over t c.args.store.now.entries.items c.args.operand.now) t) old middle (Err h)) (sym c.refusal.ensures)
+    (grown_refused c.args.name.now before c.append_cord.new.self.text old middle middle took c.in-Err.error
+    (λ t. text_over t c.args.store.now.entries.items c.args.operand.now)
+    (λ is t over. subst (λ (n : ℕ). MAX_LEN < length before + n)
+    (cord_length c.args.name.now before before c.args.store.now.entries.items c.taken.new.store.entries.items
+    c.taken.new.store.entries.items took c.args.operand.now c.cord_or.result.now c.cord_or.ensures t over)
+    (c.in-Err.ensures.too_long is)))

@@ -1,0 +1,31 @@
+use Rattle.std.proofs.Common.{◌≡◌, ◌<◌, ◌≤◌, ℕ, ℤ, Ok, sym, subst, FitsSigned, w64, rules}
+use Rattle.std.specs.Prelude.{IfSome}
+use Rattle.std.proofs.lemmas.Int.{to_z-of_z}
+use Rattle.cord_core.specs.Cord.{bytes_of, text_len}
+use Rattle.cord_meaning.specs.State.{as_byte, as_index}
+use Rattle.cord_run.specs.inner.Numbers.{byte_place, Finds}
+use Rattle.cord_run.proofs.Numbers.{past_byte, byte_placed}
+use Rattle.cord_run.proofs.statements.searches.byte_found.Goals as goal
+
+pub returns-then-len-index-clause-found : goal.returns-then-len-index-clause-found
+returns-then-len-index-clause-found g c = λ folder kept.
+    let checked : as_index c.args.start ≡ Ok c.in_ok-index.index = search rules in
+    let good : as_byte c.args.byte ≡ Ok c.in_ok-wanted.wanted = search rules in
+    past_byte (g.R.Source.lengths c.args.source.now) c.args.cord.now c.len-len.ensures.sound c.requires.fits c.args.start
+    c.in_ok-index.index checked c.args.byte c.in_ok-wanted.wanted good (g.R.Source.table c.args.source.now folder)
+    (g.met.R.Source.lengths_of_table c.args.source.now folder kept) (search rules)
+
+pub returns-in-Ok-clause-found : goal.returns-in-Ok-clause-found
+returns-in-Ok-clause-found g c = λ folder kept.
+    let checked : as_index c.args.start ≡ Ok c.in_ok-index.index = search rules in
+    let good : as_byte c.args.byte ≡ Ok c.in_ok-wanted.wanted = search rules in
+    let within : c.in_ok-index.index < text_len c.args.cord.now = search rules in
+    let fits : FitsSigned w64 c.place_number.result = search rules in
+    let table = g.R.Source.table c.args.source.now folder in
+    subst (λ (z : ℤ). Finds (byte_place (bytes_of table c.args.cord.now) c.args.start c.args.byte) (Ok z))
+    (sym (to_z-of_z w64 c.place_number.result fits))
+    (byte_placed (g.R.Source.lengths c.args.source.now) c.args.cord.now c.len-len.ensures.sound c.requires.fits c.args.start
+    c.in_ok-index.index checked c.args.byte c.in_ok-wanted.wanted good table
+    (g.met.R.Source.lengths_of_table c.args.source.now folder (c.in-Ok.ensures.earlier folder kept)) within c.in-Ok.place
+    c.place_number.result (λ within. c.place_number.ensures
+    (subst (λ (n : ℕ). IfSome c.in-Ok.place (λ p. p ≤ n)) (sym c.len-len.ensures.stored) within)) (c.in-Ok.ensures.first folder kept))

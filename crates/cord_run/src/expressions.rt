@@ -1,0 +1,75 @@
+//! Expressions: their cords, their lengths, ranges of them, and their text on a sink.
+pub(crate) mod lengths;
+pub(crate) mod output;
+mod ranges;
+mod short_texts;
+pub(crate) mod slices;
+
+ghost use Rattle.std.specs.Prelude.{◌≡◌, IfErr, IfOk, IsOkUnless, Ok};
+ghost use Rattle.cord_plan.specs.Views.{expr_view};
+ghost use Rattle.cord_run.specs.inner.Extents.{extent_in};
+ghost use Rattle.cord_run.specs.inner.Origins.{InTurn, origins};
+ghost use Rattle.cord_run.specs.inner.Expressions.{AreWhole, IsBuilt, IsUnbuilt};
+
+use crate::expressions::lengths::length_of;
+use crate::expressions::ranges::{Wanted, add_range};
+use crate::stops::Stop;
+use crate::store::Store;
+use cord_core::Cord;
+use cord_io::CordError;
+use cord_plan::Expr;
+use std::alloc::Global;
+
+/// The cord of an expression. Refused with its fault, or with `NoMemory`.
+pub(crate) fn build(alloc: Global, expression: &Expr, store: &Store) -> Result<Cord, Stop>
+    ensures built { IfOk result (IsBuilt store.now.entries.items (expr_view expression.now)) }
+    ensures refused { IfErr result (IsUnbuilt store.now.entries.items (expr_view expression.now)) }
+{
+    let pieces = pieces_of(alloc, expression, store)?;
+    // The length was checked, so only memory can be wanting.
+    match Cord::catn(alloc, &pieces) {
+        Ok(cord) => Ok(cord),
+        Err(_) => Err(Stop::NoMemory),
+    }
+}
+
+/// Cords of the text of an expression, in order: each is a range of the cord of one of its names, or copies of a byte. Refused with its fault, or with `NoMemory`.
+pub(crate) fn pieces_of(alloc: Global, expression: &Expr, store: &Store) -> Result<Vec<Cord>, Stop>
+    ensures whole { IfOk result (λ pieces. AreWhole store.now.entries.items (expr_view expression.now) pieces.items) }
+    ensures in_turn { IfOk result (λ pieces. InTurn store.now.entries.items
+        (origins (expr_view expression.now)) pieces.items) }
+    ensures refused { IfErr result (IsUnbuilt store.now.entries.items (expr_view expression.now)) }
+{
+    match length_of(expression, store) {
+        Err(kind) => Err(Stop::Fault(kind)),
+        Ok(len) => match pieces_within(alloc, expression, store, len) {
+            Ok(pieces) => Ok(pieces),
+            Err(_) => Err(Stop::NoMemory),
+        },
+    }
+}
+
+// The same of an expression of this length.
+fn pieces_within(
+    alloc: Global,
+    expression: &Expr,
+    store: &Store,
+    len: u64,
+) -> Result<Vec<Cord>, CordError>
+    requires { extent_in store.now.entries.items (expr_view expression.now) ≡ Ok len }
+    ensures whole { IfOk result (λ pieces. AreWhole store.now.entries.items (expr_view expression.now) pieces.items) }
+    ensures in_turn { IfOk result (λ pieces. InTurn store.now.entries.items
+        (origins (expr_view expression.now)) pieces.items) }
+    ensures refused { IsOkUnless result CordError.NoMemory }
+{
+    let mut pieces = Vec::new(alloc);
+    if len == 0 {
+        return Ok(pieces);
+    }
+    let wanted = Wanted {
+        skip: 0,
+        count: len,
+    };
+    add_range(alloc, expression, store, wanted, &mut pieces)?;
+    Ok(pieces)
+}

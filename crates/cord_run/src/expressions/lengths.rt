@@ -1,0 +1,80 @@
+// The lengths of expressions, by the lengths of their names.
+ghost use Rattle.std.specs.Prelude.{◌≡◌};
+ghost use Rattle.cord_plan.specs.Values.{measured_copies, measured_part};
+ghost use Rattle.cord_plan.specs.Views.{expr_view};
+ghost use Rattle.cord_run.specs.inner.Extents.{counted, extent_in, members_extent, members_seen};
+
+use crate::checks::{as_byte, as_index, as_length};
+use crate::store::Store;
+use cord_io::MAX_LEN;
+use cord_meaning::FaultKind;
+use cord_plan::Expr;
+use std::rc::Rc;
+
+/// The length of an expression, or its fault. No byte is read.
+#[cycle(length_of)]
+pub(crate) fn length_of(expression: &Expr, store: &Store) -> Result<u64, FaultKind>
+    ensures { result ≡ extent_in store.now.entries.items (expr_view expression.now) }
+{
+    match expression {
+        Expr::Name(name) => Ok(store.length_of(name.as_slice())),
+        Expr::Run { byte, count } => length_of_run(store.value_of(byte), store.value_of(count)),
+        Expr::Cat(members) => match length_of_all(members.as_slice(), store) {
+            Ok(len) => as_length(len),
+            Err(kind) => Err(kind),
+        },
+        Expr::Sub {
+            expression,
+            start,
+            count,
+        } => match length_of(expression.as_ref(), store) {
+            Ok(len) => length_of_range(len, store.value_of(start), store.value_of(count)),
+            Err(kind) => Err(kind),
+        },
+    }
+}
+
+// The length of all these expressions together, as far as a number goes, or their first fault.
+#[cycle(length_of)]
+fn length_of_all(members: &[Rc<Expr>], store: &Store) -> Result<u64, FaultKind>
+    ensures { result ≡ counted 0 (members_extent store.now.entries.items (members_seen members.now)) }
+{
+    let mut total: u64 = 0;
+    for member in members {
+        let expression = member.as_ref();
+        match expression {
+            Expr::Name(name) => total = total.saturating_add(store.length_of(name.as_slice())),
+            _ => match length_of(expression, store) {
+                Ok(len) => total = total.saturating_add(len),
+                Err(kind) => return Err(kind),
+            },
+        }
+    }
+    Ok(total)
+}
+
+/// The length of so many copies of a byte, or its fault.
+pub(crate) fn length_of_run(byte: i64, count: i64) -> Result<u64, FaultKind>
+    ensures { result ≡ measured_copies MAX_LEN byte count }
+{
+    match as_byte(byte) {
+        Ok(_) => match as_index(count) {
+            Ok(count) => as_length(count),
+            Err(kind) => Err(kind),
+        },
+        Err(kind) => Err(kind),
+    }
+}
+
+// The length of at most so many bytes from a place on, of what has this length.
+fn length_of_range(len: u64, start: i64, count: i64) -> Result<u64, FaultKind>
+    ensures { result ≡ measured_part MAX_LEN len start count }
+{
+    match as_index(start) {
+        Ok(start) => match as_index(count) {
+            Ok(count) => as_length(count.min(len.saturating_sub(start))),
+            Err(kind) => Err(kind),
+        },
+        Err(kind) => Err(kind),
+    }
+}

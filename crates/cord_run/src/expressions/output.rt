@@ -1,0 +1,143 @@
+// Expressions that are put.
+ghost use Rattle.std.specs.Prelude.{◌≡◌, true};
+ghost use Rattle.cord_core.specs.Cord.{all_bytes, AllFitIn};
+ghost use Rattle.cord_io.specs.declared.TheConstants.{MAX_LEN};
+ghost use Rattle.cord_iter.specs.Taking.{CountsFaults};
+ghost use Rattle.cord_plan.specs.Meaning.{all_texts, cords};
+ghost use Rattle.cord_plan.specs.Values.{text_in};
+ghost use Rattle.cord_plan.specs.Views.{expr_view};
+ghost use Rattle.cord_run.specs.inner.Entries.{IsOver};
+ghost use Rattle.cord_run.specs.inner.Holdings.{holding_of, plain_of};
+ghost use Rattle.cord_run.specs.inner.Output.{CountsStops, Puts, Wrote, stop_of_failure};
+ghost use Rattle.cord_io.specs.Device.{Folder};
+ghost use Rattle.cord_run.specs.inner.Frames.{IsSameSource};
+
+use crate::expressions::pieces_of;
+use crate::expressions::short_texts::gather;
+use crate::expressions::slices::slice_of;
+use crate::stops::Stop;
+use crate::store::Store;
+use arrayvec::ArrayVec;
+use cord_core::Cord;
+use cord_io::{CordError, Sink, Source};
+use cord_iter::put_all;
+use cord_plan::Expr;
+use std::alloc::Global;
+
+/// Hands a sink the text of an expression, short parts at once and others one by one: no cord is made of the whole. Where all its
+/// names hold texts, the sink took the text, or the expression's fault is answered and nothing was put, or after a failure of a
+/// device a prefix.
+pub(crate) fn write<R: Source, S: Sink>(
+    alloc: Global,
+    expression: &Expr,
+    store: &Store,
+    source: &mut R,
+    sink: &mut S,
+) -> Result<(), Stop>
+    requires over { IsOver (R.lengths source.old) store.now.entries.items }
+    ensures wrote { (folder : Folder) → R.keeps source.new folder →
+        all_texts (holding_of (R.table source.old folder) store.now.entries.items) (cords (expr_view expression.now))
+        ≡ true → Wrote (text_in MAX_LEN (plain_of (R.table source.old folder) store.now.entries.items)
+        (expr_view expression.now)) (S.taken sink.old) (S.taken sink.new) result }
+    ensures counts { CountsStops (record { source = R.failures source.old; sink = S.failures sink.old })
+        (record { source = R.failures source.new; sink = S.failures sink.new }) result }
+    ensures finished { S.finished sink.new ≡ S.finished sink.old }
+    ensures source { IsSameSource ⟦<R as Source>⟧ source.old source.new }
+{
+    match slice_of(expression, store) {
+        Some(slice) => match put_all(slice, sink) {
+            Ok(()) => Ok(()),
+            Err(_) => Err(Stop::WriteFailed),
+        },
+        None => write_joined(alloc, expression, store, source, sink),
+    }
+}
+
+// The same of one that isn't a leaf or a range of one.
+fn write_joined<R: Source, S: Sink>(
+    alloc: Global,
+    expression: &Expr,
+    store: &Store,
+    source: &mut R,
+    sink: &mut S,
+) -> Result<(), Stop>
+    requires over { IsOver (R.lengths source.old) store.now.entries.items }
+    ensures wrote { (folder : Folder) → R.keeps source.new folder →
+        all_texts (holding_of (R.table source.old folder) store.now.entries.items) (cords (expr_view expression.now))
+        ≡ true → Wrote (text_in MAX_LEN (plain_of (R.table source.old folder) store.now.entries.items)
+        (expr_view expression.now)) (S.taken sink.old) (S.taken sink.new) result }
+    ensures counts { CountsStops (record { source = R.failures source.old; sink = S.failures sink.old })
+        (record { source = R.failures source.new; sink = S.failures sink.new }) result }
+    ensures finished { S.finished sink.new ≡ S.finished sink.old }
+    ensures source { IsSameSource ⟦<R as Source>⟧ source.old source.new }
+{
+    let mut text = ArrayVec::new();
+    if !gather(expression, store, &mut text) {
+        return write_pieces(alloc, expression, store, source, sink);
+    }
+    match put_all(text.as_slice(), sink) {
+        Ok(()) => Ok(()),
+        Err(_) => Err(Stop::WriteFailed),
+    }
+}
+
+// The same by cords of its parts.
+fn write_pieces<R: Source, S: Sink>(
+    alloc: Global,
+    expression: &Expr,
+    store: &Store,
+    source: &mut R,
+    sink: &mut S,
+) -> Result<(), Stop>
+    requires over { IsOver (R.lengths source.old) store.now.entries.items }
+    ensures wrote { (folder : Folder) → R.keeps source.new folder →
+        all_texts (holding_of (R.table source.old folder) store.now.entries.items) (cords (expr_view expression.now))
+        ≡ true → Wrote (text_in MAX_LEN (plain_of (R.table source.old folder) store.now.entries.items)
+        (expr_view expression.now)) (S.taken sink.old) (S.taken sink.new) result }
+    ensures counts { CountsStops (record { source = R.failures source.old; sink = S.failures sink.old })
+        (record { source = R.failures source.new; sink = S.failures sink.new }) result }
+    ensures finished { S.finished sink.new ≡ S.finished sink.old }
+    ensures source { IsSameSource ⟦<R as Source>⟧ source.old source.new }
+{
+    let pieces = match pieces_of(alloc, expression, store) {
+        Ok(pieces) => pieces,
+        Err(stop) => return Err(stop),
+    };
+    match put_pieces(&pieces, source, sink) {
+        Ok(()) => Ok(()),
+        Err(error) => Err(stop_of_failure(error)),
+    }
+}
+
+// What a failure of a device is to a run.
+fn stop_of_failure(error: CordError) -> Stop
+    ensures { result ≡ stop_of_failure error }
+{
+    match error {
+        CordError::ReadFailed => Stop::ReadFailed,
+        _ => Stop::WriteFailed,
+    }
+}
+
+// Hands a sink the texts of cords, in order.
+fn put_pieces<R: Source, S: Sink>(
+    pieces: &[Cord],
+    source: &mut R,
+    sink: &mut S,
+) -> Result<(), CordError>
+    requires fits { AllFitIn (R.lengths source.old) pieces.now }
+    ensures puts { (folder : Folder) → R.keeps source.new folder →
+        Puts (all_bytes (R.table source.old folder) pieces.now) (S.taken sink.old) (S.taken sink.new) result }
+    ensures faults { CountsFaults (record { source = R.failures source.old; sink = S.failures sink.old })
+        (record { source = R.failures source.new; sink = S.failures sink.new }) result }
+    ensures finished { S.finished sink.new ≡ S.finished sink.old }
+    ensures source { IsSameSource ⟦<R as Source>⟧ source.old source.new }
+{
+    for piece in pieces {
+        match cord_iter::put(piece, source, sink) {
+            Ok(()) => {}
+            Err(error) => return Err(error),
+        }
+    }
+    Ok(())
+}

@@ -1,0 +1,267 @@
+// What is wanted of an expression, as cords: one for each name and each run that has some of it. What is wanted is handed on
+// from member to member, so each length is asked for once. A `sub` hands on less, and makes no cord of what it is cut from.
+ghost use Rattle.std.specs.Prelude.{◌≡◌, ◌+◌, ◌-◌, ◌<◌, ◌≤◌, ◌^◌, min, replicate, true, IfOk, IsOk, IsOkUnless};
+ghost use Rattle.cord_core.specs.Cord.{text_len};
+ghost use Rattle.cord_core.specs.Equations.{HasText};
+ghost use Rattle.cord_meaning.specs.State as meant;
+ghost use Rattle.cord_plan.specs.Values.{measured_copies};
+ghost use Rattle.cord_plan.specs.Views.{expr_view};
+ghost use Rattle.cord_run.specs.inner.Extents.{extent_in, members_extent, members_seen};
+ghost use Rattle.cord_run.specs.inner.Entries.{content_in, cord_in, length_in, operand_in};
+ghost use Rattle.cord_run.specs.inner.Ranges.{AddsCopies, AddsExpression, AddsMembers, AddsCordRange, AddsRun, AreFew};
+ghost use Rattle.cord_run.specs.inner.Ranges.{IsAfter, IsInside, IsOutside, IsPast};
+ghost use Rattle.cord_run.specs.inner.Origins.{AddsAtMostOne, AddsInTurn, AreCopies, IsCutOf, origins, origins_of};
+
+use crate::checks::{as_byte, as_index};
+use crate::expressions::lengths::length_of_run;
+use crate::store::Store;
+use cord_core::Cord;
+use cord_io::{CordError, MAX_LEN};
+use cord_plan::Expr;
+use cord_script::Number;
+use std::alloc::Global;
+use std::rc::Rc;
+
+/// So many copies of a byte are a leaf: a join makes one leaf of two that are no longer together.
+const FEW: u64 = 64;
+
+/// What is wanted of bytes that are still to come: so many are passed over, and at most so many after them are taken.
+#[derive(Clone, Copy)]
+pub(crate) struct Wanted {
+    pub(crate) skip: u64,
+    pub(crate) count: u64,
+}
+
+impl Wanted {
+    // Whether nothing is.
+    fn is_nothing(self) -> bool
+        ensures skip { result ≡ true → self.skip ≡ 0 }
+        ensures count { result ≡ true → self.count ≡ 0 }
+    {
+        self.skip == 0 && self.count == 0
+    }
+
+    // How many of so many bytes are taken.
+    fn of(self, len: u64) -> u64
+        ensures { result ≡ min self.count (len - self.skip) }
+    {
+        self.count.min(len.saturating_sub(self.skip))
+    }
+
+    // What is wanted after so many bytes.
+    fn after(self, len: u64) -> Wanted
+        ensures { IsPast len self result }
+    {
+        Wanted {
+            skip: self.skip.saturating_sub(len),
+            count: self.count.saturating_sub(len.saturating_sub(self.skip)),
+        }
+    }
+
+    // What is wanted of a text, where this is wanted of at most so many bytes of it from a place on.
+    fn inside(self, start: u64, most: u64) -> Wanted
+        requires { start + most < 2 ^ 64 }
+        ensures { IsInside start most self result }
+    {
+        Wanted {
+            skip: start + self.skip.min(most),
+            count: self.count.min(most.saturating_sub(self.skip)),
+        }
+    }
+
+    // What is wanted after those bytes, where the rest is wanted after the text.
+    fn outside(self, most: u64, inner: Wanted, rest: Wanted) -> Wanted
+        ensures { IsOutside most self inner rest result }
+    {
+        let passed = self.skip.min(most).saturating_sub(rest.skip);
+        let taken = inner.count.saturating_sub(rest.count);
+        Wanted {
+            skip: self.skip.saturating_sub(passed),
+            count: self.count.saturating_sub(taken),
+        }
+    }
+}
+
+/// Adds cords of what is wanted of an expression, and answers what is wanted after it. Refused with `NoMemory` alone.
+#[cycle(add_range)]
+pub(crate) fn add_range(
+    alloc: Global,
+    expression: &Expr,
+    store: &Store,
+    wanted: Wanted,
+    pieces: &mut Vec<Cord>,
+) -> Result<Wanted, CordError>
+    ensures added { IfOk result (λ _. AddsExpression store.now.entries.items
+        (expr_view expression.now) wanted pieces.old.items pieces.new.items) }
+    ensures in_turn { IfOk result (λ _. AddsInTurn store.now.entries.items
+        (origins (expr_view expression.now)) pieces.old.items pieces.new.items) }
+    ensures past { IfOk result (IsAfter (extent_in store.now.entries.items (expr_view expression.now)) wanted) }
+    ensures few { IfOk result (λ after. AreFew wanted after pieces.old.items pieces.new.items) }
+    ensures refused { IsOkUnless result CordError.NoMemory }
+{
+    match expression {
+        Expr::Name(name) => add_name(alloc, name.as_slice(), store, wanted, pieces),
+        Expr::Run { byte, count } => add_run(alloc, byte, count, store, wanted, pieces),
+        Expr::Cat(members) => add_members(alloc, members.as_slice(), store, wanted, pieces),
+        Expr::Sub {
+            expression,
+            start,
+            count,
+        } => {
+            let most = index_of(count, store);
+            let inner = wanted.inside(index_of(start, store), most);
+            let rest = add_range(alloc, expression.as_ref(), store, inner, pieces)?;
+            Ok(wanted.outside(most, inner, rest))
+        }
+    }
+}
+
+// The same of all these expressions, joined.
+#[cycle(add_range)]
+fn add_members(
+    alloc: Global,
+    members: &[Rc<Expr>],
+    store: &Store,
+    wanted: Wanted,
+    pieces: &mut Vec<Cord>,
+) -> Result<Wanted, CordError>
+    ensures added { IfOk result (λ _. AddsMembers store.now.entries.items
+        (members_seen members.now) wanted pieces.old.items pieces.new.items) }
+    ensures in_turn { IfOk result (λ _. AddsInTurn store.now.entries.items
+        (origins_of (members_seen members.now)) pieces.old.items pieces.new.items) }
+    ensures past { IfOk result (IsAfter (members_extent store.now.entries.items (members_seen members.now)) wanted) }
+    ensures few { IfOk result (λ after. AreFew wanted after pieces.old.items pieces.new.items) }
+    ensures refused { IsOkUnless result CordError.NoMemory }
+{
+    let mut left = wanted;
+    for member in members {
+        if left.is_nothing() {
+            return Ok(left);
+        }
+        let expression = member.as_ref();
+        left = add_range(alloc, expression, store, left, pieces)?;
+    }
+    Ok(left)
+}
+
+// A number operand as an index; 0 where it is none.
+fn index_of(operand: &Number, store: &Store) -> u64
+    ensures is { IfOk (meant.as_index (operand_in store.now.entries.items operand.now)) (λ i. result ≡ i) }
+    ensures small { result < 2 ^ 63 }
+{
+    match as_index(store.value_of(operand)) {
+        Ok(index) => index,
+        Err(_) => 0,
+    }
+}
+
+// Adds what is wanted of the cord of a name.
+fn add_name(
+    alloc: Global,
+    name: &[u8],
+    store: &Store,
+    wanted: Wanted,
+    pieces: &mut Vec<Cord>,
+) -> Result<Wanted, CordError>
+    ensures added { IfOk result (λ _. AddsCordRange (cord_in (content_in store.now.entries.items name.now)) wanted
+        pieces.old.items pieces.new.items) }
+    ensures in_turn { IfOk result (λ _. AddsAtMostOne (IsCutOf (cord_in (content_in store.now.entries.items name.now)))
+        pieces.old.items pieces.new.items) }
+    ensures past { IfOk result (IsPast (length_in store.now.entries.items name.now) wanted) }
+    ensures few { IfOk result (λ after. AreFew wanted after pieces.old.items pieces.new.items) }
+    ensures refused { IsOkUnless result CordError.NoMemory }
+{
+    match store.cord_of(name) {
+        None => Ok(wanted.after(store.length_of(name))),
+        Some(cord) => add_cord_range(alloc, cord, wanted, pieces),
+    }
+}
+
+// Adds what is wanted of a cord.
+fn add_cord_range(
+    alloc: Global,
+    cord: &Cord,
+    wanted: Wanted,
+    pieces: &mut Vec<Cord>,
+) -> Result<Wanted, CordError>
+    ensures added { IfOk result (λ _. AddsCordRange cord.now wanted pieces.old.items pieces.new.items) }
+    ensures in_turn { IfOk result (λ _. AddsAtMostOne (IsCutOf cord.now) pieces.old.items pieces.new.items) }
+    ensures past { IfOk result (IsPast (text_len cord.now) wanted) }
+    ensures few { IfOk result (λ after. AreFew wanted after pieces.old.items pieces.new.items) }
+    ensures refused { IsOkUnless result CordError.NoMemory }
+{
+    let len = cord.len();
+    let after = wanted.after(len);
+    if wanted.of(len) == 0 {
+        return Ok(after);
+    }
+    let range = cord.substr(alloc, wanted.skip, wanted.count)?;
+    pieces.push(range)?;
+    Ok(after)
+}
+
+// Adds what is wanted of copies of a byte.
+fn add_run(
+    alloc: Global,
+    byte: &Number,
+    count: &Number,
+    store: &Store,
+    wanted: Wanted,
+    pieces: &mut Vec<Cord>,
+) -> Result<Wanted, CordError>
+    ensures added { IfOk result (λ _. AddsRun (operand_in store.now.entries.items byte.now)
+        (operand_in store.now.entries.items count.now) wanted pieces.old.items pieces.new.items) }
+    ensures in_turn { IfOk result (λ _. AddsAtMostOne (AreCopies (operand_in store.now.entries.items byte.now))
+        pieces.old.items pieces.new.items) }
+    ensures past { IfOk result
+        (IsAfter (measured_copies MAX_LEN (operand_in store.now.entries.items byte.now)
+        (operand_in store.now.entries.items count.now)) wanted) }
+    ensures few { IfOk result (λ after. AreFew wanted after pieces.old.items pieces.new.items) }
+    ensures refused { IsOkUnless result CordError.NoMemory }
+{
+    let byte = store.value_of(byte);
+    let len = match length_of_run(byte, store.value_of(count)) {
+        Ok(len) => len,
+        Err(_) => return Ok(wanted),
+    };
+    let after = wanted.after(len);
+    let taken = wanted.of(len);
+    if taken == 0 {
+        return Ok(after);
+    }
+    add_copies(alloc, byte, taken, pieces)?;
+    Ok(after)
+}
+
+// Adds copies of a byte.
+fn add_copies(alloc: Global, byte: i64, count: u64, pieces: &mut Vec<Cord>) -> Result<(), CordError>
+    requires byte { IsOk (meant.as_byte byte) }
+    requires short { count ≤ MAX_LEN }
+    ensures added { IfOk result (λ _. AddsCopies byte count pieces.old.items pieces.new.items) }
+    ensures in_turn { IfOk result (λ _. AddsAtMostOne (AreCopies byte) pieces.old.items pieces.new.items) }
+    ensures refused { IsOkUnless result CordError.NoMemory }
+{
+    let byte = match as_byte(byte) {
+        Ok(byte) => byte,
+        Err(_) => unreachable!(),
+    };
+    let copies = copies_of(alloc, byte, count)?;
+    pieces.push(copies)?;
+    Ok(())
+}
+
+// So many copies of a byte: one leaf of a few, which joins a short leaf beside it, and one run of more.
+fn copies_of(alloc: Global, byte: u8, count: u64) -> Result<Cord, CordError>
+    requires short { count ≤ MAX_LEN }
+    ensures over { IfOk result (HasText (replicate count byte)) }
+    ensures len { IfOk result (λ cord. text_len cord ≡ count) }
+    ensures refused { IsOkUnless result CordError.NoMemory }
+{
+    if count > FEW {
+        let run = Cord::chars(alloc, byte, count)?;
+        return Ok(run);
+    }
+    let few = [byte; FEW as usize];
+    let leaf = Cord::from_bytes(alloc, &few[..count as usize])?;
+    Ok(leaf)
+}

@@ -1,0 +1,79 @@
+// Expressions whose text is one slice of memory: a name whose cord is one leaf, or a range of one.
+ghost use Rattle.std.specs.Prelude.{◌≡◌, IfSome, Ok};
+ghost use Rattle.cord_plan.specs.Values.{part_of};
+ghost use Rattle.cord_plan.specs.Views.{expr_view};
+ghost use Rattle.cord_run.specs.inner.Entries.{content_in, cord_in};
+ghost use Rattle.cord_run.specs.inner.Slices.{IsSliceOf, IsTextIn};
+
+use crate::checks::{as_index, as_length};
+use crate::store::Store;
+use cord_core::Cord;
+use cord_io::MAX_LEN;
+use cord_node::Node;
+use cord_plan::Expr;
+
+/// The text of an expression, where it is one leaf or a range of one. None for a fault, which whoever builds the expression meets.
+#[inline(always)]
+pub(crate) fn slice_of<'a>(expression: &Expr, store: &'a Store) -> Option<&'a [u8]>
+    ensures { IfSome result (λ slice. IsTextIn store.now.entries.items (expr_view expression.now) slice.now) }
+{
+    match expression {
+        Expr::Name(name) => named_slice(name.as_slice(), store),
+        Expr::Sub {
+            expression,
+            start,
+            count,
+        } => match expression.as_ref() {
+            Expr::Name(name) => match named_slice(name.as_slice(), store) {
+                Some(slice) => range_of(slice, store.value_of(start), store.value_of(count)),
+                None => None,
+            },
+            _ => None,
+        },
+        _ => None,
+    }
+}
+
+// The text of a name, where its cord is one leaf.
+fn named_slice<'a>(name: &[u8], store: &'a Store) -> Option<&'a [u8]>
+    ensures { IfSome result (λ slice. IsSliceOf (cord_in (content_in store.now.entries.items name.now)) slice.now) }
+{
+    match store.cord_of(name) {
+        None => None,
+        Some(cord) => leaf_slice(cord),
+    }
+}
+
+/// The text of a cord, where it is one leaf.
+#[inline(always)]
+pub(crate) fn leaf_slice(cord: &Cord) -> Option<&[u8]>
+    ensures { IfSome result (λ slice. IsSliceOf cord.now slice.now) }
+{
+    let Some(root) = cord.root() else {
+        return None;
+    };
+    match root.as_ref() {
+        Node::Leaf {
+            bytes,
+            start,
+            len,
+            ..
+        } => Some(&bytes.as_slice()[*start as usize..(*start + *len) as usize]),
+        _ => None,
+    }
+}
+
+// At most so many bytes from a place on. None where a number is no index.
+fn range_of(bytes: &[u8], start: i64, count: i64) -> Option<&[u8]>
+    ensures { IfSome result (λ range. part_of MAX_LEN bytes.now start count ≡ Ok range.now) }
+{
+    let (Ok(start), Ok(count)) = (as_index(start), as_index(count)) else {
+        return None;
+    };
+    let rest = &bytes[start.min(bytes.len() as u64) as usize..];
+    let range = &rest[..count.min(rest.len() as u64) as usize];
+    match as_length(range.len() as u64) {
+        Ok(_) => Some(range),
+        Err(_) => None,
+    }
+}

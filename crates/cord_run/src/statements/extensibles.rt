@@ -1,0 +1,147 @@
+// Statements that begin extensible cords, and let them grow.
+ghost use Rattle.std.specs.Prelude.{◌≡◌, ℕ, [], ◌∷◌, IfErr, IfOk, Some};
+ghost use Rattle.cord_core.specs.Cord.{bytes_of};
+ghost use Rattle.cord_io.specs.Table.{Table};
+ghost use Rattle.cord_meaning.specs.State as meant;
+ghost use Rattle.cord_node.specs.Tables.{lengths_of};
+ghost use Rattle.cord_run.specs.inner.Extensibles.{Becomes, GrowsByByte, IsExtending, IsTaken, longer_text, refusal_of};
+ghost use Rattle.cord_run.specs.inner.Numbers.{text_over};
+ghost use Rattle.cord_run.specs.inner.Entries.{HasExtensible, IsOver};
+ghost use Rattle.cord_run.specs.inner.Statements.{MeansOver, StaysOver};
+ghost use Rattle.cord_run.specs.inner.Outcomes.{CountsReads};
+
+use crate::checks::as_byte;
+use crate::statements::numbers::cord_or;
+use crate::stops::Stop;
+use crate::store::Store;
+use cord_core::Cord;
+use cord_ec::ExtCord;
+use cord_io::CordError;
+use cord_meaning::FaultKind;
+use cord_script::Statement;
+use std::alloc::Global;
+
+/// Does what a statement means that begins an extensible cord or lets it grow.
+pub(crate) fn serve_extensible(
+    alloc: Global,
+    store: &mut Store,
+    statement: &Statement,
+) -> Result<(), Stop>
+    requires extending { IsExtending statement.now }
+    ensures over { StaysOver store.old.entries.items store.new.entries.items result }
+    ensures means { (t : Table) → IsOver (lengths_of t) store.old.entries.items →
+        MeansOver t statement.now store.old.entries.items store.new.entries.items result }
+    ensures counts { (n : ℕ) → CountsReads n n result }
+{
+    match statement {
+        Statement::EcInit { target, .. } => begin(alloc, store, target.as_slice()),
+        Statement::EcPut {
+            extensible,
+            byte,
+            ..
+        } => {
+            let byte = store.value_of(byte);
+            grow_by_number(alloc, store, extensible.as_slice(), byte)
+        }
+        Statement::EcCat {
+            extensible,
+            operand,
+            ..
+        } => grow_by_cord(alloc, store, extensible.as_slice(), operand.as_slice()),
+        Statement::EcStr {
+            extensible,
+            text,
+            ..
+        } => grow_by_bytes(alloc, store, extensible.as_slice(), text.as_slice()),
+        _ => unreachable!(),
+    }
+}
+
+// Lets the extensible cord of a name grow by a number in the place of a byte.
+fn grow_by_number(alloc: Global, store: &mut Store, name: &[u8], byte: i64) -> Result<(), Stop>
+    ensures over { StaysOver store.old.entries.items store.new.entries.items result }
+    ensures becomes { GrowsByByte name.now (meant.as_byte byte) store.old.entries.items store.new.entries.items result }
+{
+    match as_byte(byte) {
+        Ok(byte) => grow_by_byte(alloc, store, name, byte),
+        Err(kind) => Err(Stop::Fault(kind)),
+    }
+}
+
+// Begins the extensible cord of a name, with no byte.
+fn begin(alloc: Global, store: &mut Store, name: &[u8]) -> Result<(), Stop>
+    ensures over { StaysOver store.old.entries.items store.new.entries.items result }
+    ensures becomes { Becomes name.now (λ t. []) store.old.entries.items store.new.entries.items result }
+{
+    let extensible = ExtCord::new(alloc)?;
+    give(alloc, store, name, extensible)
+}
+
+// Lets the extensible cord of a name grow by a byte.
+fn grow_by_byte(alloc: Global, store: &mut Store, name: &[u8], byte: u8) -> Result<(), Stop>
+    ensures over { StaysOver store.old.entries.items store.new.entries.items result }
+    ensures becomes { Becomes name.now (longer_text store.old.entries.items name.now (byte ∷ []))
+        store.old.entries.items store.new.entries.items result }
+{
+    match store.append(alloc, name, &[byte]) {
+        Ok(()) => Ok(()),
+        Err(error) => Err(refusal(error)),
+    }
+}
+
+// Lets it grow by bytes.
+fn grow_by_bytes(alloc: Global, store: &mut Store, name: &[u8], bytes: &[u8]) -> Result<(), Stop>
+    ensures over { StaysOver store.old.entries.items store.new.entries.items result }
+    ensures becomes { Becomes name.now (longer_text store.old.entries.items name.now bytes.now) store.old.entries.items
+        store.new.entries.items result }
+{
+    match store.append(alloc, name, bytes) {
+        Ok(()) => Ok(()),
+        Err(error) => Err(refusal(error)),
+    }
+}
+
+// Lets it grow by the cord of another name.
+fn grow_by_cord(alloc: Global, store: &mut Store, name: &[u8], operand: &[u8]) -> Result<(), Stop>
+    ensures over { StaysOver store.old.entries.items store.new.entries.items result }
+    ensures becomes { Becomes name.now (λ t. longer_text store.old.entries.items name.now
+        (text_over t store.old.entries.items operand.now) t) store.old.entries.items store.new.entries.items result }
+{
+    let empty = Cord::empty();
+    let mut extensible = taken(alloc, store, name)?;
+    match extensible.append_cord(alloc, cord_or(store, operand, &empty)) {
+        Ok(()) => give(alloc, store, name, extensible),
+        Err(error) => Err(refusal(error)),
+    }
+}
+
+// What a refused growth is to a run.
+fn refusal(error: CordError) -> Stop
+    ensures { result ≡ refusal_of error }
+{
+    match error {
+        CordError::TooLong => Stop::Fault(FaultKind::TooLong),
+        _ => Stop::NoMemory,
+    }
+}
+
+// The extensible cord of a name, taken out of its entry: an empty one where it was not begun.
+fn taken(alloc: Global, store: &mut Store, name: &[u8]) -> Result<ExtCord, Stop>
+    ensures taken { IfOk result (λ e. IsTaken name.now store.old.entries.items store.new.entries.items e.text) }
+    ensures refused { IfErr result (λ stop. stop ≡ Stop.NoMemory) }
+{
+    match store.take_extensible(name) {
+        Some(extensible) => Ok(extensible),
+        None => Ok(ExtCord::new(alloc)?),
+    }
+}
+
+// Gives a name its extensible cord.
+fn give(alloc: Global, store: &mut Store, name: &[u8], extensible: ExtCord) -> Result<(), Stop>
+    ensures given { IfOk result (λ _. HasExtensible name.now (Some extensible.text) store.old.entries.items
+        store.new.entries.items) }
+    ensures refused { IfErr result (λ stop. stop ≡ Stop.NoMemory) }
+{
+    store.assign_extensible(alloc, name, extensible)?;
+    Ok(())
+}

@@ -1,0 +1,177 @@
+// The numbers that statements find in cords. Each checks its numbers in order, before it reads.
+ghost use Rattle.std.specs.Prelude.{◌≡◌, ◌≤◌, IfErr, IfOk, IfSome, Ok};
+ghost use Rattle.cord_core.specs.Cord.{bytes_of, CordFitsIn};
+ghost use Rattle.cord_core.specs.Texts.{order};
+ghost use Rattle.cord_io.specs.declared.TheConstants.{MAX_LEN};
+ghost use Rattle.cord_meaning.specs.State as meant;
+ghost use Rattle.cord_meaning.specs.Statements as statements;
+ghost use Rattle.cord_run.specs.inner.Numbers.{byte_place, CountsFinding, fetched, Finds, last_place, ranges_order};
+ghost use Rattle.cord_run.specs.inner.Numbers.{Refuses, text_place};
+ghost use Rattle.cord_io.specs.Device.{Folder};
+ghost use Rattle.cord_run.specs.inner.Frames.{IsSameSource};
+
+use crate::checks::{as_byte, as_index};
+use crate::stops::Stop;
+use cord_core::Cord;
+use cord_io::Source;
+use cord_meaning::FaultKind;
+
+/// The byte of a cord at a place.
+pub(crate) fn fetched<R: Source>(cord: &Cord, index: i64, source: &mut R) -> Result<i64, Stop>
+    requires fits { CordFitsIn (R.lengths source.old) cord.now }
+    ensures found { (folder : Folder) → R.keeps source.new folder →
+        Finds (fetched (bytes_of (R.table source.old folder) cord.now) index) result }
+    ensures counts { CountsFinding (R.failures source.old) (R.failures source.new) result }
+    ensures source { IsSameSource ⟦<R as Source>⟧ source.old source.new }
+{
+    let index = checked_index(index)?;
+    if cord.len() <= index {
+        return Err(Stop::Fault(FaultKind::OutOfRange));
+    }
+    match cord_search::fetch(cord, index, source) {
+        Ok(byte) => Ok(i64::from(byte)),
+        Err(_) => Err(Stop::ReadFailed),
+    }
+}
+
+/// The order of two cords: -1, 0 or 1.
+pub(crate) fn compared<R: Source>(left: &Cord, right: &Cord, source: &mut R) -> Result<i64, Stop>
+    requires left_fits { CordFitsIn (R.lengths source.old) left.now }
+    requires right_fits { CordFitsIn (R.lengths source.old) right.now }
+    ensures found { (folder : Folder) → R.keeps source.new folder →
+        Finds (Ok (order (bytes_of (R.table source.old folder) left.now)
+        (bytes_of (R.table source.old folder) right.now))) result }
+    ensures counts { CountsFinding (R.failures source.old) (R.failures source.new) result }
+    ensures source { IsSameSource ⟦<R as Source>⟧ source.old source.new }
+{
+    match cord_search::cmp(left, right, source) {
+        Ok(sign) => Ok(i64::from(sign)),
+        Err(_) => Err(Stop::ReadFailed),
+    }
+}
+
+/// The order of at most `count` bytes of a cord from one place on and of another cord from another place on: -1, 0 or 1.
+pub(crate) fn ranges_compared<R: Source>(
+    left: &Cord,
+    left_start: i64,
+    right: &Cord,
+    right_start: i64,
+    count: i64,
+    source: &mut R,
+) -> Result<i64, Stop>
+    requires left_fits { CordFitsIn (R.lengths source.old) left.now }
+    requires right_fits { CordFitsIn (R.lengths source.old) right.now }
+    ensures found { (folder : Folder) → R.keeps source.new folder →
+        Finds (ranges_order (bytes_of (R.table source.old folder) left.now) left_start
+        (bytes_of (R.table source.old folder) right.now) right_start count) result }
+    ensures counts { CountsFinding (R.failures source.old) (R.failures source.new) result }
+    ensures source { IsSameSource ⟦<R as Source>⟧ source.old source.new }
+{
+    let left_index = checked_index(left_start)?;
+    let right_index = checked_index(right_start)?;
+    let most = checked_index(count)?;
+    match cord_search::ncmp(left, left_index, right, right_index, most, source) {
+        Ok(sign) => Ok(i64::from(sign)),
+        Err(_) => Err(Stop::ReadFailed),
+    }
+}
+
+/// The first place of a cord's text in another, from a place on, or -1.
+pub(crate) fn text_found<R: Source>(
+    cord: &Cord,
+    start: i64,
+    pattern: &Cord,
+    source: &mut R,
+) -> Result<i64, Stop>
+    requires fits { CordFitsIn (R.lengths source.old) cord.now }
+    requires pattern_fits { CordFitsIn (R.lengths source.old) pattern.now }
+    ensures found { (folder : Folder) → R.keeps source.new folder →
+        Finds (text_place (bytes_of (R.table source.old folder) cord.now) start
+        (bytes_of (R.table source.old folder) pattern.now)) result }
+    ensures counts { CountsFinding (R.failures source.old) (R.failures source.new) result }
+    ensures source { IsSameSource ⟦<R as Source>⟧ source.old source.new }
+{
+    let index = checked_index(start)?;
+    let len = cord.len();
+    match cord_search::str(cord, index, pattern, source) {
+        Ok(place) => Ok(place_number(place, len)),
+        Err(_) => Err(Stop::ReadFailed),
+    }
+}
+
+/// The first place of a byte in a cord, from a place on that has one, or -1.
+pub(crate) fn byte_found<R: Source>(
+    cord: &Cord,
+    start: i64,
+    byte: i64,
+    source: &mut R,
+) -> Result<i64, Stop>
+    requires fits { CordFitsIn (R.lengths source.old) cord.now }
+    ensures found { (folder : Folder) → R.keeps source.new folder →
+        Finds (byte_place (bytes_of (R.table source.old folder) cord.now) start byte) result }
+    ensures counts { CountsFinding (R.failures source.old) (R.failures source.new) result }
+    ensures source { IsSameSource ⟦<R as Source>⟧ source.old source.new }
+{
+    let index = checked_index(start)?;
+    let wanted = checked_byte(byte)?;
+    let len = cord.len();
+    if len <= index {
+        return Err(Stop::Fault(FaultKind::OutOfRange));
+    }
+    match cord_search::chr(cord, index, wanted, source) {
+        Ok(place) => Ok(place_number(place, len)),
+        Err(_) => Err(Stop::ReadFailed),
+    }
+}
+
+/// The last place of a byte in a cord, up to a place that has one, or -1.
+pub(crate) fn last_found<R: Source>(
+    cord: &Cord,
+    start: i64,
+    byte: i64,
+    source: &mut R,
+) -> Result<i64, Stop>
+    requires fits { CordFitsIn (R.lengths source.old) cord.now }
+    ensures found { (folder : Folder) → R.keeps source.new folder →
+        Finds (last_place (bytes_of (R.table source.old folder) cord.now) start byte) result }
+    ensures counts { CountsFinding (R.failures source.old) (R.failures source.new) result }
+    ensures source { IsSameSource ⟦<R as Source>⟧ source.old source.new }
+{
+    let index = checked_index(start)?;
+    let wanted = checked_byte(byte)?;
+    let len = cord.len();
+    if len <= index {
+        return Err(Stop::Fault(FaultKind::OutOfRange));
+    }
+    match cord_search::rchr(cord, index, wanted, source) {
+        Ok(place) => Ok(place_number(place, len)),
+        Err(_) => Err(Stop::ReadFailed),
+    }
+}
+
+// A place in a text of this length as the number that a statement gives: -1 where there is none.
+fn place_number(place: Option<u64>, len: u64) -> i64
+    requires { len ≤ MAX_LEN }
+    ensures { IfSome place (λ p. p ≤ len) → result ≡ statements.place_number place }
+{
+    match place {
+        Some(place) => place.min(len) as i64,
+        None => -1,
+    }
+}
+
+// A number in the place of a byte.
+fn checked_byte(value: i64) -> Result<u8, Stop>
+    ensures byte { IfOk result (λ b. meant.as_byte value ≡ Ok b) }
+    ensures refused { IfErr result (Refuses (meant.as_byte value)) }
+{
+    Ok(as_byte(value)?)
+}
+
+// A number in the place of an index or a count.
+fn checked_index(value: i64) -> Result<u64, Stop>
+    ensures index { IfOk result (λ i. meant.as_index value ≡ Ok i) }
+    ensures refused { IfErr result (Refuses (meant.as_index value)) }
+{
+    Ok(as_index(value)?)
+}

@@ -1,0 +1,75 @@
+// Cords of what names hold.
+ghost use Rattle.std.specs.Prelude.{◌≡◌, IfOk, IsOkUnless, Ok};
+ghost use Rattle.cord_run.specs.inner.Contents.{IsExtended, IsTextOver, extensible_length};
+ghost use Rattle.cord_run.specs.inner.Entries.{SameEntries, cells_in, content_in, cord_in, extensible_in};
+
+use crate::store::Store;
+use cord_core::Cord;
+use cord_ec::ExtCord;
+use cord_io::CordError;
+use std::alloc::Global;
+
+/// The cord of a name, shared. Refused only with `NoMemory`.
+pub(crate) fn shared(alloc: Global, store: &Store, name: &[u8]) -> Result<Cord, CordError>
+    ensures same { IfOk result (λ cord. cord ≡ cord_in (content_in store.now.entries.items name.now)) }
+    ensures refused { IsOkUnless result CordError.NoMemory }
+{
+    match store.cord_of(name) {
+        None => Ok(Cord::empty()),
+        Some(cord) => cord.share(alloc),
+    }
+}
+
+/// The text of a name as a balanced cord. Refused only with `NoMemory`.
+pub(crate) fn balanced(alloc: Global, store: &Store, name: &[u8]) -> Result<Cord, CordError>
+    ensures made { IfOk result (IsTextOver store.now.entries.items (λ s. Ok (s.texts name.now))) }
+    ensures refused { IsOkUnless result CordError.NoMemory }
+{
+    match store.cord_of(name) {
+        None => Ok(Cord::empty()),
+        Some(cord) => cord.balance(alloc),
+    }
+}
+
+impl Store {
+    /// The text of the extensible cord of a name as a cord: no bytes where it was not begun. All names hold what they held.
+    /// Refused only with `NoMemory`.
+    pub(crate) fn extended(&mut self, alloc: Global, name: &[u8]) -> Result<Cord, CordError>
+        ensures made { IfOk result (IsTextOver self.old.entries.items (λ s. Ok (s.extensibles name.now))) }
+        ensures same { SameEntries self.old.entries.items self.new.entries.items }
+        ensures refused { IsOkUnless result CordError.NoMemory }
+    {
+        match self.place(name) {
+            None => Ok(Cord::empty()),
+            Some(place) => {
+                let extensible = &mut self.entries[place].extensible;
+                cord_of(alloc, extensible)
+            }
+        }
+    }
+
+    /// The length of the extensible cord of a name: 0 where it was not begun.
+    pub(crate) fn extended_length(&self, name: &[u8]) -> u64
+        ensures { result ≡ extensible_length (extensible_in self.now.entries.items name.now) }
+    {
+        match self.place(name) {
+            None => 0,
+            Some(place) => match &self.entries[place].extensible {
+                None => 0,
+                Some(extensible) => extensible.len(),
+            },
+        }
+    }
+}
+
+// The text of an extensible cord, where there is one, which stays.
+fn cord_of(alloc: Global, extensible: &mut Option<ExtCord>) -> Result<Cord, CordError>
+    ensures made { IfOk result (IsExtended (cells_in extensible.old)) }
+    ensures same { cells_in extensible.new ≡ cells_in extensible.old }
+    ensures refused { IsOkUnless result CordError.NoMemory }
+{
+    match extensible {
+        None => Ok(Cord::empty()),
+        Some(extensible) => extensible.to_cord(alloc),
+    }
+}

@@ -1,0 +1,208 @@
+//! Names that get what a plan makes for them: a cord, or a length alone.
+mod files;
+mod literals;
+mod prints;
+
+ghost use Rattle.std.specs.Prelude.{◌≡◌, ◌≢◌, Err, IfErr, IfOk, OnErr};
+ghost use Rattle.cord_io.specs.declared.TheConstants.{MAX_LEN};
+ghost use Rattle.cord_io.specs.Device.{Folder, count_after};
+ghost use Rattle.cord_file.specs.Entries.{lengths_in, table_in};
+ghost use Rattle.cord_file.specs.Opening.{Grows};
+ghost use Rattle.cord_file.specs.Sources.{device_in, opened_in};
+ghost use Rattle.cord_plan.specs.Meaning.{does};
+ghost use Rattle.cord_plan.specs.Planned as plan;
+ghost use Rattle.cord_plan.specs.Views.{made_view};
+ghost use Rattle.cord_run.specs.inner.Contents.{IsLength, IsLengthOfNames, IsMade, IsMadeOfNames, IsUnmade};
+ghost use Rattle.cord_run.specs.inner.Contents.{IsUnmadeOfNames, IsUnmeasured, IsUnmeasuredOfNames, NeedsNoFile};
+ghost use Rattle.cord_run.specs.inner.Contents.{TakesNoMemory, has_failed, length_or_stop};
+ghost use Rattle.cord_run.specs.Failing.{FailsBy, FailsIn, IsFileMade};
+ghost use Rattle.cord_run.specs.inner.Entries.{HasContent, IsOver, SameEntries};
+ghost use Rattle.cord_run.specs.inner.Holdings.{holding_of};
+ghost use Rattle.cord_run.specs.inner.Outcomes.{CountsReads, Gives};
+ghost use Rattle.cord_run.specs.inner.Frames.{KeepNoMore};
+
+use crate::checks::as_length;
+use crate::expressions::build;
+use crate::expressions::lengths::length_of;
+use crate::stops::Stop;
+use crate::store::cords::balanced;
+use crate::store::{Content, Store};
+use crate::targets::files::{lazy, opened_length, whole, whole_or_lazy};
+use crate::targets::literals::{literal, start, start_length};
+use crate::targets::prints::{print, print_length};
+use cord_core::Cord;
+use cord_file::Sources;
+use cord_io::Files;
+use cord_meaning::FaultKind;
+use cord_plan::Made;
+use std::alloc::Global;
+
+/// Gives a name the cord of what it is made of. Refused with the fault that this means, with `ReadFailed` where the files failed,
+/// or with `NoMemory`.
+pub(crate) fn build_target<F: Files>(
+    alloc: Global,
+    store: &mut Store,
+    sources: &mut Sources<F>,
+    target: &[u8],
+    made: &Made,
+) -> Result<(), Stop>
+    requires over { IsOver (lengths_in (opened_in sources.old)) store.old.entries.items }
+    ensures over { IfOk result (λ _. IsOver (lengths_in (opened_in sources.new)) store.new.entries.items) }
+    ensures earlier { KeepNoMore ⟦<F as Files>⟧ (device_in sources.old) (device_in sources.new) }
+    ensures gives { (folder : Folder) → F.keeps (device_in sources.new) folder → Gives
+        (does MAX_LEN folder (plan.Build 0 target.now (made_view made.now))
+        (holding_of (table_in (opened_in sources.old) folder) store.old.entries.items))
+        (holding_of (table_in (opened_in sources.new) folder) store.new.entries.items) result }
+    ensures fails { IfErr result (FailsIn (plan.Build 0 target.now (made_view made.now))) }
+    ensures counts { CountsReads (F.failures (device_in sources.old)) (F.failures (device_in sources.new)) result }
+{
+    let cord = make(alloc, store, sources, made)?;
+    give(alloc, store, target, Content::Whole(cord))
+}
+
+/// Gives a name the length of what it is made of alone: no cord is made, but a file is opened. Refused as `build_target` is.
+pub(crate) fn measure_target<F: Files>(
+    alloc: Global,
+    store: &mut Store,
+    sources: &mut Sources<F>,
+    target: &[u8],
+    made: &Made,
+) -> Result<(), Stop>
+    requires over { IsOver (lengths_in (opened_in sources.old)) store.old.entries.items }
+    ensures over { IfOk result (λ _. IsOver (lengths_in (opened_in sources.new)) store.new.entries.items) }
+    ensures earlier { KeepNoMore ⟦<F as Files>⟧ (device_in sources.old) (device_in sources.new) }
+    ensures gives { (folder : Folder) → F.keeps (device_in sources.new) folder → Gives
+        (does MAX_LEN folder (plan.Measure 0 target.now (made_view made.now))
+        (holding_of (table_in (opened_in sources.old) folder) store.old.entries.items))
+        (holding_of (table_in (opened_in sources.new) folder) store.new.entries.items) result }
+    ensures fails { IfErr result (FailsIn (plan.Measure 0 target.now (made_view made.now))) }
+    ensures counts { CountsReads (F.failures (device_in sources.old)) (F.failures (device_in sources.new)) result }
+{
+    let len = measure(alloc, store, sources, made)?;
+    give(alloc, store, target, Content::Long(len))
+}
+
+// Gives a name what was made for it.
+fn give(alloc: Global, store: &mut Store, target: &[u8], content: Content) -> Result<(), Stop>
+    ensures given { IfOk result (λ _. HasContent target.now content store.old.entries.items store.new.entries.items) }
+    ensures refused { IfErr result (λ stop. stop ≡ Stop.NoMemory) }
+{
+    store.assign(alloc, target, content)?;
+    Ok(())
+}
+
+// Makes the cord for a name. All names hold what they held.
+fn make<F: Files>(
+    alloc: Global,
+    store: &mut Store,
+    sources: &mut Sources<F>,
+    made: &Made,
+) -> Result<Cord, Stop>
+    requires over { IsOver (lengths_in (opened_in sources.old)) store.old.entries.items }
+    ensures built { IfOk result (IsMade (F.keeps (device_in sources.new)) (opened_in sources.old)
+        (opened_in sources.new) store.old.entries.items (made_view made.now)) }
+    ensures refused { IfErr result (IsUnmade (F.keeps (device_in sources.new))
+        (opened_in sources.old) store.old.entries.items (made_view made.now)) }
+    ensures same { IfOk result (λ _. SameEntries store.old.entries.items store.new.entries.items) }
+    ensures earlier { KeepNoMore ⟦<F as Files>⟧ (device_in sources.old) (device_in sources.new) }
+    ensures grows { Grows (opened_in sources.old) (opened_in sources.new) }
+    ensures fails { IfErr result (FailsBy (IsFileMade (made_view made.now)) ⊥) }
+    ensures counts { F.failures (device_in sources.new)
+        ≡ count_after (has_failed result) (F.failures (device_in sources.old)) }
+{
+    match made {
+        Made::OfFile(path) => whole_or_lazy(alloc, sources, path),
+        Made::OfEager(path) => whole(alloc, sources, path),
+        Made::OfLazy(path) => lazy(alloc, sources, path),
+        _ => make_of_names(alloc, store, made),
+    }
+}
+
+// The same of what needs no file.
+fn make_of_names(alloc: Global, store: &mut Store, made: &Made) -> Result<Cord, Stop>
+    requires { NeedsNoFile (made_view made.now) }
+    ensures built { IfOk result (IsMadeOfNames store.old.entries.items (made_view made.now)) }
+    ensures refused { IfErr result (IsUnmadeOfNames store.old.entries.items (made_view made.now)) }
+    ensures same { IfOk result (λ _. SameEntries store.old.entries.items store.new.entries.items) }
+{
+    match made {
+        Made::Joined(expression) => build(alloc, expression, store),
+        Made::Literal(text) => {
+            let cord = literal(alloc, text.as_slice())?;
+            Ok(cord)
+        }
+        Made::OfFunction(function, count) => start(alloc, *function, store.value_of(count)),
+        Made::Balanced(name) => {
+            let cord = balanced(alloc, store, name.as_slice())?;
+            Ok(cord)
+        }
+        Made::OfExtensible(name) => {
+            let cord = store.extended(alloc, name.as_slice())?;
+            Ok(cord)
+        }
+        Made::Printed(_, format, arguments) => print(alloc, store, format, arguments.as_slice()),
+        Made::OfFile(_) | Made::OfEager(_) | Made::OfLazy(_) => unreachable!(),
+    }
+}
+
+// Tells the length for a name. No cord is made: memory is wanted for what is printed alone. A file is opened and not read: after
+// a refusal no file more is open.
+fn measure<F: Files>(
+    alloc: Global,
+    store: &Store,
+    sources: &mut Sources<F>,
+    made: &Made,
+) -> Result<u64, Stop>
+    requires over { IsOver (lengths_in (opened_in sources.old)) store.now.entries.items }
+    ensures told { IfOk result (IsLength (F.keeps (device_in sources.new))
+        (opened_in sources.old) store.now.entries.items (made_view made.now)) }
+    ensures refused { IfErr result (IsUnmeasured (F.keeps (device_in sources.new))
+        (opened_in sources.old) store.now.entries.items (made_view made.now)) }
+    ensures earlier { KeepNoMore ⟦<F as Files>⟧ (device_in sources.old) (device_in sources.new) }
+    ensures grows { Grows (opened_in sources.old) (opened_in sources.new) }
+    ensures fails { IfErr result (FailsBy (IsFileMade (made_view made.now)) ⊥) }
+    ensures counts { F.failures (device_in sources.new)
+        ≡ count_after (has_failed result) (F.failures (device_in sources.old)) }
+    ensures unread { OnErr result (opened_in sources.new ≡ opened_in sources.old) }
+    ensures unbuilt { TakesNoMemory (made_view made.now) → result ≢ Err Stop.NoMemory }
+{
+    match made {
+        Made::OfFile(path) | Made::OfEager(path) | Made::OfLazy(path) => {
+            opened_length(alloc, sources, path)
+        }
+        _ => measure_of_names(alloc, store, made),
+    }
+}
+
+// The same of what needs no file.
+fn measure_of_names(alloc: Global, store: &Store, made: &Made) -> Result<u64, Stop>
+    requires { NeedsNoFile (made_view made.now) }
+    ensures told { IfOk result (IsLengthOfNames store.now.entries.items (made_view made.now)) }
+    ensures refused { IfErr result (IsUnmeasuredOfNames store.now.entries.items (made_view made.now)) }
+    ensures unbuilt { TakesNoMemory (made_view made.now) → result ≢ Err Stop.NoMemory }
+{
+    match made {
+        Made::Joined(expression) => length_or_stop(length_of(expression, store)),
+        Made::Literal(text) => length_or_stop(as_length(text.as_slice().len() as u64)),
+        Made::OfFunction(_, count) => length_or_stop(start_length(store.value_of(count))),
+        Made::Balanced(name) => length_or_stop(as_length(store.length_of(name.as_slice()))),
+        Made::OfExtensible(name) => length_or_stop(as_length(store.extended_length(
+            name.as_slice(),
+        ))),
+        Made::Printed(_, format, arguments) => {
+            print_length(alloc, store, format, arguments.as_slice())
+        }
+        Made::OfFile(_) | Made::OfEager(_) | Made::OfLazy(_) => unreachable!(),
+    }
+}
+
+// A length or a fault, as a run has it.
+fn length_or_stop(length: Result<u64, FaultKind>) -> Result<u64, Stop>
+    ensures stops { result ≡ length_or_stop length }
+    ensures unbuilt { result ≢ Err Stop.NoMemory }
+{
+    match length {
+        Ok(len) => Ok(len),
+        Err(kind) => Err(Stop::Fault(kind)),
+    }
+}

@@ -1,0 +1,84 @@
+// Cords and lengths of files.
+ghost use Rattle.std.specs.Prelude.{◌≡◌, IfErr, IfOk, OnErr};
+ghost use Rattle.cord_io.specs.Device.{count_after};
+ghost use Rattle.cord_file.specs.Opening.{Grows};
+ghost use Rattle.cord_file.specs.Sources.{device_in, opened_in};
+ghost use Rattle.cord_run.specs.inner.Contents.{IsFileAt, IsLengthAt, IsNoFileAt, has_failed};
+ghost use Rattle.cord_run.specs.inner.Frames.{KeepNoMore};
+
+use crate::stops::Stop;
+use cord_core::Cord;
+use cord_file::Sources;
+use cord_io::Files;
+use cord_script::Path;
+use std::alloc::Global;
+
+/// The file at a path, read at once where it is short. Refused with `NoFile`, `TooLong`, `ReadFailed` or `NoMemory`.
+pub(crate) fn whole_or_lazy<F: Files>(
+    alloc: Global,
+    sources: &mut Sources<F>,
+    path: &Path,
+) -> Result<Cord, Stop>
+    ensures made { IfOk result (IsFileAt (F.keeps (device_in sources.new)) (opened_in sources.new) path.now) }
+    ensures refused { IfErr result (IsNoFileAt (F.keeps (device_in sources.new)) path.now) }
+    ensures earlier { KeepNoMore ⟦<F as Files>⟧ (device_in sources.old) (device_in sources.new) }
+    ensures grows { Grows (opened_in sources.old) (opened_in sources.new) }
+    ensures counts { F.failures (device_in sources.new)
+        ≡ count_after (has_failed result) (F.failures (device_in sources.old)) }
+{
+    let cord = sources.from_file(alloc, path.as_str())?;
+    Ok(cord)
+}
+
+/// The file at a path, read at once. Refused as `whole_or_lazy` is.
+pub(crate) fn whole<F: Files>(
+    alloc: Global,
+    sources: &mut Sources<F>,
+    path: &Path,
+) -> Result<Cord, Stop>
+    ensures made { IfOk result (IsFileAt (F.keeps (device_in sources.new)) (opened_in sources.new) path.now) }
+    ensures refused { IfErr result (IsNoFileAt (F.keeps (device_in sources.new)) path.now) }
+    ensures earlier { KeepNoMore ⟦<F as Files>⟧ (device_in sources.old) (device_in sources.new) }
+    ensures grows { Grows (opened_in sources.old) (opened_in sources.new) }
+    ensures counts { F.failures (device_in sources.new)
+        ≡ count_after (has_failed result) (F.failures (device_in sources.old)) }
+{
+    let cord = sources.eager(alloc, path.as_str())?;
+    Ok(cord)
+}
+
+/// The file at a path, of which nothing is read yet. Refused as `whole_or_lazy` is.
+pub(crate) fn lazy<F: Files>(
+    alloc: Global,
+    sources: &mut Sources<F>,
+    path: &Path,
+) -> Result<Cord, Stop>
+    ensures made { IfOk result (IsFileAt (F.keeps (device_in sources.new)) (opened_in sources.new) path.now) }
+    ensures refused { IfErr result (IsNoFileAt (F.keeps (device_in sources.new)) path.now) }
+    ensures earlier { KeepNoMore ⟦<F as Files>⟧ (device_in sources.old) (device_in sources.new) }
+    ensures grows { Grows (opened_in sources.old) (opened_in sources.new) }
+    ensures counts { F.failures (device_in sources.new)
+        ≡ count_after (has_failed result) (F.failures (device_in sources.old)) }
+{
+    let cord = sources.lazy(alloc, path.as_str())?;
+    Ok(cord)
+}
+
+/// The length of the file at a path, which is opened, and not read: after a refusal no file more is open. Refused as
+/// `whole_or_lazy` is.
+pub(crate) fn opened_length<F: Files>(
+    alloc: Global,
+    sources: &mut Sources<F>,
+    path: &Path,
+) -> Result<u64, Stop>
+    ensures told { IfOk result (IsLengthAt (F.keeps (device_in sources.new)) path.now) }
+    ensures refused { IfErr result (IsNoFileAt (F.keeps (device_in sources.new)) path.now) }
+    ensures earlier { KeepNoMore ⟦<F as Files>⟧ (device_in sources.old) (device_in sources.new) }
+    ensures grows { Grows (opened_in sources.old) (opened_in sources.new) }
+    ensures counts { F.failures (device_in sources.new)
+        ≡ count_after (has_failed result) (F.failures (device_in sources.old)) }
+    ensures unopened { OnErr result (opened_in sources.new ≡ opened_in sources.old) }
+{
+    let (_, len) = sources.open(alloc, path.as_str())?;
+    Ok(len)
+}

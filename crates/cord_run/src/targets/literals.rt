@@ -1,0 +1,69 @@
+// Cords of literals and of functions.
+ghost use Rattle.std.specs.Prelude.{◌≡◌, ◌<◌, ◌≤◌, Err, IfErr, IfOk, IsOkUnless, length};
+ghost use Rattle.cord_core.specs.Refusals.{IsRefusal};
+ghost use Rattle.cord_run.specs.inner.Contents.{IsStopBy, IsStartAsked, IsStartOf, IsTextOf, entry_of, start_extent};
+
+use crate::checks::{as_index, as_length};
+use crate::stops::Stop;
+use cord_core::Cord;
+use cord_ec::ExtCord;
+use cord_io::{CordError, MAX_LEN, SourceId};
+use cord_meaning::FaultKind;
+use cord_script::Function;
+use std::alloc::Global;
+
+/// The cord of a literal text, which an extensible cord gathers. `TooLong` where it is longer than `MAX_LEN`.
+pub(crate) fn literal(alloc: Global, text: &[u8]) -> Result<Cord, CordError>
+    ensures made { IfOk result (IsTextOf text.now) }
+    ensures too_long { result ≡ Err CordError.TooLong → MAX_LEN < length text.now }
+    ensures refused { IfErr result IsRefusal }
+{
+    let mut gathered = ExtCord::new(alloc)?;
+    gathered.append_bytes(alloc, text)?;
+    let cord = gathered.to_cord(alloc)?;
+    Ok(cord)
+}
+
+/// The cord of as many first bytes of a function as a number asks for. Refused with the number's fault, or with `NoMemory`.
+pub(crate) fn start(alloc: Global, function: Function, count: i64) -> Result<Cord, Stop>
+    ensures made { IfOk result (IsStartAsked function count) }
+    ensures refused { IfErr result (IsStopBy (λ kind. start_extent count ≡ Err kind)) }
+{
+    match start_length(count) {
+        Err(kind) => Err(Stop::Fault(kind)),
+        Ok(len) => {
+            let cord = start_of(alloc, function, len)?;
+            Ok(cord)
+        }
+    }
+}
+
+// The cord of so many first bytes of a function.
+fn start_of(alloc: Global, function: Function, count: u64) -> Result<Cord, CordError>
+    requires { count ≤ MAX_LEN }
+    ensures made { IfOk result (IsStartOf function count) }
+    ensures refused { IsOkUnless result CordError.NoMemory }
+{
+    let cord = Cord::from_fn(alloc, source_of(function), 0, count)?;
+    Ok(cord)
+}
+
+// The entry of a function.
+fn source_of(function: Function) -> SourceId
+    ensures { result.0 ≡ entry_of function }
+{
+    match function {
+        Function::Digits => SourceId(0),
+        Function::Bytes => SourceId(1),
+    }
+}
+
+/// How many bytes of a function a number asks for, or its fault.
+pub(crate) fn start_length(count: i64) -> Result<u64, FaultKind>
+    ensures { result ≡ start_extent count }
+{
+    match as_index(count) {
+        Ok(count) => as_length(count),
+        Err(kind) => Err(kind),
+    }
+}

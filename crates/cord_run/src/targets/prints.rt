@@ -1,0 +1,76 @@
+// Prints of what names hold.
+ghost use Rattle.std.specs.Prelude.{◌≡◌, IfErr, IfOk, IsOkUnless, map};
+ghost use Rattle.cord_meaning.specs.Formats.{format_text};
+ghost use Rattle.cord_plan.specs.Values.{within};
+ghost use Rattle.cord_meaning.specs.State.{and_then};
+ghost use Rattle.cord_run.specs.inner.Contents.{IsFaultOver, IsTextOver, IsToldOver, argument_in};
+
+use crate::stops::Stop;
+use crate::store::Store;
+use crate::store::cords::shared;
+use cord_core::Cord;
+use cord_io::{CordError, MAX_LEN};
+use cord_printf::{Arg, Format, sprintf, sprintf_len};
+use cord_script::Argument;
+use std::alloc::Global;
+
+/// The cord that a format prints with these arguments, which shares theirs. Refused with the fault of the first argument that
+/// is refused, or else with `TooLong`, or with `NoMemory`.
+pub(crate) fn print(
+    alloc: Global,
+    store: &Store,
+    format: &Format,
+    arguments: &[Argument],
+) -> Result<Cord, Stop>
+    ensures made { IfOk result (IsTextOver store.now.entries.items (λ s. format_text s format.now arguments.now)) }
+    ensures refused { IfErr result (IsFaultOver store.now.entries.items
+        (λ s. and_then (format_text s format.now arguments.now) (λ t. within MAX_LEN t))) }
+{
+    let args = given(alloc, store, arguments)?;
+    let cord = sprintf(alloc, format, &args)?;
+    Ok(cord)
+}
+
+/// The length of what `print` makes, or the same refusal.
+pub(crate) fn print_length(
+    alloc: Global,
+    store: &Store,
+    format: &Format,
+    arguments: &[Argument],
+) -> Result<u64, Stop>
+    ensures told { IfOk result (IsToldOver store.now.entries.items
+        (λ s. and_then (format_text s format.now arguments.now) (λ t. within MAX_LEN t))) }
+    ensures refused { IfErr result (IsFaultOver store.now.entries.items
+        (λ s. and_then (format_text s format.now arguments.now) (λ t. within MAX_LEN t))) }
+{
+    let args = given(alloc, store, arguments)?;
+    let len = sprintf_len(format, &args)?;
+    Ok(len)
+}
+
+// The arguments of a print, of which cords are shared.
+fn given(alloc: Global, store: &Store, arguments: &[Argument]) -> Result<Vec<Arg>, CordError>
+    ensures given { IfOk result (λ args. args.items ≡ map (λ argument. argument_in store.now.entries.items argument)
+        arguments.now) }
+    ensures refused { IsOkUnless result CordError.NoMemory }
+{
+    let mut args = Vec::with_capacity(alloc, arguments.len())?;
+    for argument in arguments {
+        args.push(given_argument(alloc, store, argument)?)?;
+    }
+    Ok(args)
+}
+
+// One of them.
+fn given_argument(alloc: Global, store: &Store, argument: &Argument) -> Result<Arg, CordError>
+    ensures given { IfOk result (λ arg. arg ≡ argument_in store.now.entries.items argument.now) }
+    ensures refused { IsOkUnless result CordError.NoMemory }
+{
+    match argument {
+        Argument::Number(number) => Ok(Arg::Num(store.value_of(number))),
+        Argument::Cord(name) => {
+            let cord = shared(alloc, store, name.as_slice())?;
+            Ok(Arg::Cord(cord))
+        }
+    }
+}
