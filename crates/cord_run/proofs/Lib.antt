@@ -4,6 +4,7 @@ pub mod Lengths
 pub mod MemberRanges
 pub mod Ranges
 pub mod Origins
+pub mod Joins
 pub mod Tables
 pub mod Assignments
 pub mod ExpressionCords

@@ -1,4 +1,5 @@
 //! Expressions: their cords, their lengths, ranges of them, and their text on a sink.
+mod joins;
 pub(crate) mod lengths;
 pub(crate) mod output;
 mod ranges;
@@ -11,6 +12,7 @@ ghost use Rattle.cord_run.specs.inner.Extents.{extent_in};
 ghost use Rattle.cord_run.specs.inner.Origins.{InTurn, origins};
 ghost use Rattle.cord_run.specs.inner.Expressions.{AreWhole, IsBuilt, IsUnbuilt};
 
+use crate::expressions::joins::join_all;
 use crate::expressions::lengths::length_of;
 use crate::expressions::ranges::{Wanted, add_range};
 use crate::stops::Stop;
@@ -27,7 +29,7 @@ pub(crate) fn build(alloc: Global, expression: &Expr, store: &Store) -> Result<C
 {
     let pieces = pieces_of(alloc, expression, store)?;
     // The length was checked, so only memory can be wanting.
-    match Cord::catn(alloc, &pieces) {
+    match join_all(alloc, &pieces) {
         Ok(cord) => Ok(cord),
         Err(_) => Err(Stop::NoMemory),
     }
