@@ -213,8 +213,7 @@ impl Later {
         ensures kept { IfOk result (λ t. AllKept statements.now t.numbering t.numbers.items) }
     {
         let behinds = successors(alloc, statements)?;
-        let numbering = Numbering::of(alloc, statements)?;
-        let numbers = numbers_of(alloc, statements, &numbering)?;
+        let (numbering, numbers) = numbers_of(alloc, statements)?;
         let groups = groups_of(alloc, statements, &behinds, &numbering, &numbers)?;
         Ok(Later {
             behinds,

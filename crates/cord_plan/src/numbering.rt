@@ -1,11 +1,9 @@
 // Names with numbers.
-ghost use Rattle.std.specs.Prelude.{◌≡◌, ◌+◌, ◌*◌, ◌%◌, ◌<◌, [], ◌∷◌, IfOk, OnOk, length, slice_get};
-ghost use Rattle.cord_plan.specs.Operands.{cord_arguments, is_name, read_by};
-ghost use Rattle.cord_plan.specs.inner.Readings.{read_names};
-ghost use Rattle.cord_plan.specs.inner.Numbering.{slot_of, place_of, number_of, names_of, Adds, Covers, Keeps};
+ghost use Rattle.std.specs.Prelude.{◌≡◌, ◌+◌, ◌*◌, ◌%◌, ◌<◌, [], ◌∷◌, None, Some, IfOk, OnOk, length, slice_get};
+ghost use Rattle.cord_plan.specs.Operands.{cord_arguments, is_name};
+ghost use Rattle.cord_plan.specs.inner.Numbering.{slot_of, place_of, number_of, names_of, Adds, Keeps};
 
-use crate::readings::{Reading, reading_of, target_of};
-use cord_script::{Argument, Name, Statement, is_same};
+use cord_script::{Argument, Name, is_same};
 use std::alloc::{AllocError, Global};
 
 /// The number of slots that guess a name's number.
@@ -96,23 +94,15 @@ fn set_guess(guesses: &mut [u16], slot: usize, number: usize)
 }
 
 impl Numbering {
-    /// The names that the lines of a script read or assign.
-    pub(crate) fn of(alloc: Global, statements: &[Statement]) -> Result<Self, AllocError>
-        ensures { IfOk result (λ t. Covers statements.now t) }
+    /// No names so far, for a script of so many lines.
+    pub(crate) fn new(alloc: Global, lines: usize) -> Result<Self, AllocError>
+        ensures { IfOk result (λ t. names_of t ≡ []) }
     {
-        let slots = if statements.len() < LEAST_GUESSED {
-            0
-        } else {
-            SLOTS
-        };
-        let mut numbering = Numbering {
+        let slots = if lines < LEAST_GUESSED { 0 } else { SLOTS };
+        Ok(Numbering {
             names: Vec::new(alloc),
             guesses: vec![in alloc; 0; slots]?,
-        };
-        for statement in statements {
-            numbering.add_names(alloc, statement)?;
-        }
-        Ok(numbering)
+        })
     }
 
     /// How many names there are.
@@ -145,30 +135,32 @@ impl Numbering {
         }
     }
 
-    // Takes in a name that isn't there.
-    fn add_new(&mut self, alloc: Global, name: &Name) -> Result<(), AllocError>
-        ensures { OnOk result (Adds (name.now ∷ []) (names_of self.old) (names_of self.new)) }
+    // Takes in a name that isn't there, and gives its number.
+    fn add_new(&mut self, alloc: Global, name: &Name) -> Result<usize, AllocError>
+        requires { place_of (names_of self.old) name.now ≡ None }
+        ensures added { OnOk result (Adds (name.now ∷ []) (names_of self.old) (names_of self.new)) }
+        ensures number { IfOk result (λ n. slice_get (names_of self.new) n ≡ Some name.now) }
     {
+        let number = self.count();
         let copy = name.clone()?;
-        set_guess(
-            &mut self.guesses,
-            slot_of(name.as_slice()),
-            self.names.len(),
-        );
+        set_guess(&mut self.guesses, slot_of(name.as_slice()), number);
         self.names.push(copy)?;
-        Ok(())
+        Ok(number)
     }
 
-    fn add(&mut self, alloc: Global, name: &Name) -> Result<(), AllocError>
-        ensures { OnOk result (Adds (name.now ∷ []) (names_of self.old) (names_of self.new)) }
+    /// Takes in a name where it isn't there, and gives its number.
+    pub(crate) fn add(&mut self, alloc: Global, name: &Name) -> Result<usize, AllocError>
+        ensures added { OnOk result (Adds (name.now ∷ []) (names_of self.old) (names_of self.new)) }
+        ensures number { IfOk result (λ n. slice_get (names_of self.new) n ≡ Some name.now) }
     {
         match self.number_of(name.as_slice()) {
-            Some(_) => Ok(()),
+            Some(number) => Ok(number),
             None => self.add_new(alloc, name),
         }
     }
 
-    fn add_all(&mut self, alloc: Global, names: &[Name]) -> Result<(), AllocError>
+    /// Takes in these names.
+    pub(crate) fn add_all(&mut self, alloc: Global, names: &[Name]) -> Result<(), AllocError>
         ensures { OnOk result (Adds names.now (names_of self.old) (names_of self.new)) }
     {
         for name in names {
@@ -177,41 +169,22 @@ impl Numbering {
         Ok(())
     }
 
-    fn add_arguments(&mut self, alloc: Global, arguments: &[Argument]) -> Result<(), AllocError>
+    /// Takes in the cords among the arguments of a format.
+    pub(crate) fn add_arguments(
+        &mut self,
+        alloc: Global,
+        arguments: &[Argument],
+    ) -> Result<(), AllocError>
         ensures { OnOk result (Adds (cord_arguments arguments.now) (names_of self.old) (names_of self.new)) }
     {
         for argument in arguments {
             match argument {
                 Argument::Number(_) => {}
-                Argument::Cord(name) => self.add(alloc, name)?,
+                Argument::Cord(name) => {
+                    self.add(alloc, name)?;
+                }
             }
         }
         Ok(())
-    }
-
-    fn add_reading(&mut self, alloc: Global, reading: Reading) -> Result<(), AllocError>
-        ensures { OnOk result (Adds (read_names reading.entry) (names_of self.old) (names_of self.new)) }
-    {
-        match reading {
-            Reading::Nothing => Ok(()),
-            Reading::One(operand) => self.add(alloc, operand),
-            Reading::Two(left, right) => {
-                self.add(alloc, left)?;
-                self.add(alloc, right)
-            }
-            Reading::Many(parts) => self.add_all(alloc, parts),
-            Reading::Printed(arguments) => self.add_arguments(alloc, arguments),
-        }
-    }
-
-    // Takes in the names that a line reads, and the one that it assigns.
-    fn add_names(&mut self, alloc: Global, statement: &Statement) -> Result<(), AllocError>
-        ensures { OnOk result (Adds (read_by statement.now) (names_of self.old) (names_of self.new)) }
-    {
-        self.add_reading(alloc, reading_of(statement))?;
-        match target_of(statement) {
-            None => Ok(()),
-            Some(target) => self.add(alloc, target),
-        }
     }
 }

@@ -10,5 +10,5 @@ loop-argument-preserved c =
     c.loop-argument.invariant
     (elim c.match-argument.branch [
       | in-Number w ↦ rw (w.in-Number.is, w.self-is) (none_added (names_of c.loop-argument.self))
-      | in-Cord+in_ok-add-in-Cord w ↦ rw (w.in-Cord.is, w.self-is) w.in_ok-add-in-Cord.ensures
+      | in-Cord+in_ok-add-in-Cord w ↦ rw (w.in-Cord.is, w.self-is) w.in_ok-add-in-Cord.ensures.added
     ])
