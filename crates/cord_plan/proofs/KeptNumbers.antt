@@ -4,8 +4,8 @@ use Rattle.std.specs.Prelude.{slice_get}
 use Rattle.cord_syntax.specs.declared.statements.Statement.{Statement}
 use Rattle.cord_plan.specs.inner.Numbering.{Adds, AllKept, AllPlaces, AreDistinct, ArePlaces, names_of}
 use Rattle.cord_plan.proofs.Numbers.{item_at, place_is_number}
-use Rattle.cord_plan.specs.declared.line_numbers.LineNumbers.{LineNumbers}
-use Rattle.cord_plan.specs.declared.numbering.Numbering.{Numbering}
+use Rattle.cord_plan.specs.declared.flow.line_numbers.LineNumbers.{LineNumbers}
+use Rattle.cord_plan.specs.declared.flow.numbering.Numbering.{Numbering}
 
 module _ (s : List Statement) where
   pub places_none : (names : List (List ℕ)) → AllPlaces s names []

@@ -12,7 +12,7 @@ use Rattle.std.proofs.lemmas.Option.{slice_get-get_or, slice_get_within}
 use Rattle.cord_syntax.specs.declared.statements.Statement.{Statement}
 use Rattle.cord_operands.specs.declared.operands.Argument.{Argument}
 use Rattle.cord_operands.specs.declared.operands.Argument.TheVariants.{Number, Cord}
-use Rattle.cord_plan.specs.declared.numbering.Numbering.{Numbering}
+use Rattle.cord_plan.specs.declared.flow.numbering.Numbering.{Numbering}
 use Rattle.cord_plan.specs.Operands.{has, is_name, cord_arguments, read_by}
 use Rattle.cord_plan.specs.inner.Numbering.{slot_of, place_of, names_of, number_by, number_of, Adds, AreDistinct, CoversTo}
 use Rattle.cord_plan.proofs.Named.{same_bytes, own_bytes, has_append}

@@ -4,8 +4,8 @@ use Rattle.std.specs.Prelude.{option_map}
 use Rattle.std.specs.Str.{bytes_eq}
 use Rattle.cord_syntax.specs.declared.statements.Statement.{Statement}
 use Rattle.cord_plan.specs.Operands.{has, is_name, read_by, reads_at, target_of}
-use Rattle.cord_plan.specs.declared.numbering.Numbering.{Numbering}
-use Rattle.cord_plan.specs.declared.line_numbers.LineNumbers.{LineNumbers}
+use Rattle.cord_plan.specs.declared.flow.numbering.Numbering.{Numbering}
+use Rattle.cord_plan.specs.declared.flow.line_numbers.LineNumbers.{LineNumbers}
 
 -- the slot of a name, from this one on
 abbrev pub slot_from : ℕ → List ℕ → ℕ
