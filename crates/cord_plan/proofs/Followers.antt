@@ -7,10 +7,10 @@ use Rattle.std.proofs.lemmas.Option.{slice_get-map, slice_get-get_or, slice_get_
 use Rattle.cord_meaning.specs.Blocks as control
 use Rattle.cord_meaning.specs.Blocks.{Simple, Loop, Branch, Otherwise, Close, to_end, to_else, jump}
 use Rattle.cord_meaning.specs.Paths.{opened, open_at}
-use Rattle.cord_plan.specs.declared.successors.Shape.{Shape}
-use Rattle.cord_plan.specs.declared.successors.Behind.{Behind}
+use Rattle.cord_plan.specs.declared.flow.successors.Shape.{Shape}
+use Rattle.cord_plan.specs.declared.flow.successors.Successors.{Successors}
 use Rattle.cord_plan.specs.Unread.{behind, behind_close}
-use Rattle.cord_plan.specs.inner.Liveness.{shape_view, innermost, places, places_at, AreBehind}
+use Rattle.cord_plan.specs.inner.Liveness.{shape_view, innermost, places, places_at, AreSuccessors}
 
 -- the shape at a place
 pub shape_there : (xs : List Shape) (p : ℕ) (x d : Shape) → p < length xs → get_or xs p d ≡ x →
@@ -115,7 +115,7 @@ pub block_below : (shapes : List control.Shape) (p r : ℕ) → Some r ≡ inner
 block_below shapes p r e = first_below p r (open_at shapes p) (open_below shapes p) e
 
 -- what one more place leads to
-pub pushed : (found : List Behind) (b : Behind) (f : ℕ → List ℕ) → ((k : ℕ) → k < length found → places_at found k ≡ f k) →
+pub pushed : (found : List Successors) (b : Successors) (f : ℕ → List ℕ) → ((k : ℕ) → k < length found → places_at found k ≡ f k) →
     places b ≡ f (length found) → (k : ℕ) → k < length found + 1 → places_at (found ++ b ∷ []) k ≡ f k
 pushed [] b f below here zero lt = here
 pushed [] b f below here (suc k) lt = absurd (omega arith)
@@ -123,7 +123,7 @@ pushed (x ∷ found) b f below here zero lt = below 0 (omega arith)
 pushed (x ∷ found) b f below here (suc k) lt = pushed found b (λ n. f (suc n)) (λ n h. below (suc n) (omega arith)) here k (omega arith)
 
 -- and where that is told of every place of the script
-all_places : (found : List Behind) (shapes : List control.Shape) → length found ≡ length shapes →
+all_places : (found : List Successors) (shapes : List control.Shape) → length found ≡ length shapes →
     ((k : ℕ) → k < length shapes → places_at found k ≡ behind shapes k) → (p : ℕ) → places_at found p ≡ behind shapes p
 all_places found shapes size below p =
     ⊎_elim
@@ -135,8 +135,8 @@ all_places found shapes size below p =
     rw (none, nowhere) refl)
     (slice_get_cases shapes p).1
 
-pub all_behind : (found : List Behind) (shapes : List control.Shape) → length found ≡ length shapes →
-    ((k : ℕ) → k < length shapes → places_at found k ≡ behind shapes k) → AreBehind shapes found
+pub all_behind : (found : List Successors) (shapes : List control.Shape) → length found ≡ length shapes →
+    ((k : ℕ) → k < length shapes → places_at found k ≡ behind shapes k) → AreSuccessors shapes found
 all_behind found shapes size below = record { size = size; told = λ p. all_places found shapes size below p }
 
 -- the open blocks after one more place
@@ -146,7 +146,7 @@ open_more xs p d old new lt is e =
     let there : slice_get (map shape_view xs) p ≡ Some (shape_view (get_or xs p d)) = shape_there xs p (get_or xs p d) d lt refl in
     rw (add-one, there, ← is) e
 
-pub told_more : (found new : List Behind) (b : Behind) (f : ℕ → List ℕ) (p : ℕ) → length found ≡ p → new ≡ found ++ b ∷ [] →
+pub told_more : (found new : List Successors) (b : Successors) (f : ℕ → List ℕ) (p : ℕ) → length found ≡ p → new ≡ found ++ b ∷ [] →
     ((k : ℕ) → k < p → places_at found k ≡ f k) → places b ≡ f p → (k : ℕ) → k < p + 1 → places_at new k ≡ f k
 told_more found new b f p size is below here k lt = rw is (pushed found b f (λ n h. below n (omega arith)) (here ∙ ap f (sym size)) k
     (omega arith))

@@ -4,7 +4,7 @@ use Rattle.std.proofs.lemmas.List.{map-append, take_more}
 use Rattle.cord_operands.specs.declared.operands.Number.{Number}
 use Rattle.cord_plan.specs.Exprs.{Expr, Exprs, name, run, cat, sub, nothing, member, append, in_front, members}
 use Rattle.cord_plan.specs.Views.{Shared, members_of, shared_view}
-use Rattle.cord_plan.specs.declared.choosing.Choice.{Choice}
+use Rattle.cord_plan.specs.declared.planner.choosing.Choice.{Choice}
 use Rattle.cord_plan.specs.Forced as plain
 use Rattle.cord_plan.specs.Forced.{expr_of}
 use Rattle.cord_plan.specs.inner.Choices.{choice_view}

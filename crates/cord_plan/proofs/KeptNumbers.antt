@@ -1,33 +1,40 @@
 -- Numbers that are kept of the names of lines, line after line.
-use Rattle.std.proofs.Common.{◌≡◌, ◌⊎◌, ℕ, zero, suc, List, [], ◌∷◌, ◌++◌, length, Some, inl, inr, refl, ap, ◌∙◌, subst}
+use Rattle.std.proofs.Common.{◌≡◌, ◌⊎◌, ℕ, List, [], ◌∷◌, ◌++◌, length, Some, inl, inr, ap, ◌∙◌, subst}
 use Rattle.std.specs.Prelude.{slice_get}
 use Rattle.cord_syntax.specs.declared.statements.Statement.{Statement}
-use Rattle.cord_plan.specs.inner.Numbering.{AllKept, AreKept}
-use Rattle.cord_plan.specs.declared.line_numbers.LineNumbers.{LineNumbers}
-use Rattle.cord_plan.specs.declared.numbering.Numbering.{Numbering}
+use Rattle.cord_plan.specs.inner.Numbering.{Adds, AllKept, AllPlaces, AreDistinct, ArePlaces, names_of}
+use Rattle.cord_plan.proofs.Numbers.{item_at, place_is_number}
+use Rattle.cord_plan.specs.declared.flow.line_numbers.LineNumbers.{LineNumbers}
+use Rattle.cord_plan.specs.declared.flow.numbering.Numbering.{Numbering}
 
--- an item of a list with one more: one of those before, or the last
-item_at : {A : Type 0} (xs : List A) (last x : A) (p : ℕ) → slice_get (xs ++ last ∷ []) p ≡ Some x →
-    (slice_get xs p ≡ Some x) ⊎ ((p ≡ length xs) × (last ≡ x))
-item_at [] last x zero e = inr (refl, (let same : last ≡ x = cc in same))
-item_at [] last x (suc p) e = let bad : ⊥ = cc in absurd bad
-item_at (z ∷ xs) last x zero e = inl e
-item_at (z ∷ xs) last x (suc p) e = elim (item_at xs last x p e) [
-  | inl w ↦ inl w
-  | inr w ↦ inr (ap suc w.0, w.1)
-]
+module _ (s : List Statement) where
+  pub places_none : (names : List (List ℕ)) → AllPlaces s names []
+  places_none names p l numbers there e = let bad : ⊥ = cc in absurd bad
 
-module _ (s : List Statement) (t : Numbering) where
-  pub kept_none : AllKept s t []
-  kept_none p l numbers there e = let bad : ⊥ = cc in absurd bad
-
-  pub kept_more : (all : List LineNumbers) (last : LineNumbers) (n : ℕ) (l : Statement) → length all ≡ n → slice_get s n ≡ Some l →
-      AreKept t l last → AllKept s t all → AllKept s t (all ++ last ∷ [])
-  kept_more all last n l size here is before p m numbers there e = by_item (item_at all last numbers p e)
+  -- what is kept of the lines so far stays when names are added for a line, and the line's numbers come last
+  pub places_more : (xs old new : List (List ℕ)) → Adds xs old new → (all : List LineNumbers) (last : LineNumbers) (n : ℕ) (l : Statement) →
+      length all ≡ n → slice_get s n ≡ Some l → ArePlaces new l last → AllPlaces s old all → AllPlaces s new (all ++ last ∷ [])
+  places_more xs old new adds all last n l size here is before p m numbers there e = by_item (item_at all last numbers p e)
     where
-      by_item : (slice_get all p ≡ Some numbers) ⊎ ((p ≡ length all) × (last ≡ numbers)) → AreKept t m numbers
-      by_item (inl old) = before p m numbers there old
+      by_item : (slice_get all p ≡ Some numbers) ⊎ ((p ≡ length all) × (last ≡ numbers)) → ArePlaces new m numbers
+      by_item (inl at) =
+          let were : ArePlaces old m numbers = before p m numbers there at in
+          record {
+            target = λ x f k g. adds.stay k x (were.target x f k g);
+            first = λ x f k g. adds.stay k x (were.first x f k g);
+            second = λ x f k g. adds.stay k x (were.second x f k g);
+          }
       by_item (inr w) =
           let read : slice_get s p ≡ Some l = ap (λ (q : ℕ). slice_get s q) (w.0 ∙ size) ∙ here in
           let same : l ≡ m = cc in
-          subst (λ (k : Statement). AreKept t k numbers) same (subst (λ (k : LineNumbers). AreKept t l k) w.1 is)
+          subst (λ (k : Statement). ArePlaces new k numbers) same (subst (λ (k : LineNumbers). ArePlaces new l k) w.1 is)
+
+  -- of names that are distinct the places are the numbers
+  pub places_kept : (t : Numbering) → AreDistinct (names_of t) → (all : List LineNumbers) → AllPlaces s (names_of t) all → AllKept s t all
+  places_kept t distinct all places p l numbers there e =
+      let are : ArePlaces (names_of t) l numbers = places p l numbers there e in
+      record {
+        target = λ x f k g. place_is_number t distinct x k (are.target x f k g);
+        first = λ x f k g. place_is_number t distinct x k (are.first x f k g);
+        second = λ x f k g. place_is_number t distinct x k (are.second x f k g);
+      }

@@ -11,19 +11,19 @@ use Rattle.cord_plan.specs.Exprs.{names, names_of}
 use Rattle.cord_plan.specs.Views.{Shared, members_of, shared_view}
 use Rattle.cord_meaning.specs.Statements.{shape_of}
 use Rattle.cord_plan.specs.Operands.{assigns, assigns_at, reads, reads_at}
-use Rattle.cord_plan.specs.declared.numbering.Numbering.{Numbering}
+use Rattle.cord_plan.specs.declared.flow.numbering.Numbering.{Numbering}
 use Rattle.cord_plan.specs.Forced.{each_from, is_block, is_block_at, keeps, setter}
 use Rattle.cord_plan.specs.inner.Choices.{nearest}
-use Rattle.cord_plan.specs.inner.Recent.{Notes, entry_of, reader, blocker, is_before, is_behind, stay, unless_behind}
+use Rattle.cord_plan.specs.inner.Recent.{Notes, entry_of, reader, blocker, is_before, is_after, stay, unless_after}
 use Rattle.cord_plan.proofs.Chosen.{setter_is}
 use Rattle.cord_plan.proofs.Nearest.{each_more}
 use Rattle.cord_plan.proofs.PartSums.{keeps_append}
 use Rattle.cord_plan.proofs.Recents.{last_then}
 
-not_behind : (p a : ℕ) → p ≤ a → is_behind (Some p) a ≡ false
+not_behind : (p a : ℕ) → p ≤ a → is_after (Some p) a ≡ false
 not_behind p a le = ap not (le-leb p a le)
 
-behind : (p a : ℕ) → a < p → is_behind (Some p) a ≡ true
+behind : (p a : ℕ) → a < p → is_after (Some p) a ≡ true
 behind p a lt = elim (leb_tells p a) [
   | inl w ↦ absurd (omega (arith, lt, w.1))
   | inr w ↦ ap not w.0
@@ -47,18 +47,18 @@ module _ (s : List Statement) (x : List ℕ) where
       pick false h before = let below : q < b = before h in omega arith
 
   -- nothing before b stands after it
-  none_behind : (o : Option ℕ) (b : ℕ) → ((q : ℕ) → o ≡ Some q → q < b) → is_behind o b ≡ false
+  none_behind : (o : Option ℕ) (b : ℕ) → ((q : ℕ) → o ≡ Some q → q < b) → is_after o b ≡ false
   none_behind None b below = refl
   none_behind (Some q) b below = let lt : q < b = below q refl in not_behind q b (omega arith)
 
   -- the nearest line by the last ones
-  pub nearest_by_last : (b : ℕ) → nearest s x b ≡ unless_behind (setter s x b) (reader s x b) (blocker s b)
+  pub nearest_by_last : (b : ℕ) → nearest s x b ≡ unless_after (setter s x b) (reader s x b) (blocker s b)
   nearest_by_last zero = refl
   nearest_by_last (suc b) = by_assigns (assigns_at (slice_get s b) x) (is_block_at (slice_get s b)) (reads_at (slice_get s b) x)
       (nearest_by_last b)
     where
       shut : (o : Option ℕ) → ((a : ℕ) → o ≡ Some a → a < b) → (r k : Option ℕ) →
-          ((a : ℕ) → a < b → (is_behind r a || is_behind k a) ≡ true) → None ≡ unless_behind o r k
+          ((a : ℕ) → a < b → (is_after r a || is_after k a) ≡ true) → None ≡ unless_after o r k
       shut None below r k bars = refl
       shut (Some a) below r k bars = ap (λ (v : Bool). if v then None else Some a) (sym (bars a (below a refl)))
 
@@ -66,30 +66,30 @@ module _ (s : List Statement) (x : List ℕ) where
       or_true true w e = refl
       or_true false w e = e
 
-      by_assigns : (f k r : Bool) → nearest s x b ≡ unless_behind (setter s x b) (reader s x b) (blocker s b)
-          → (if f then Some b else (if k || r then None else nearest s x b)) ≡ unless_behind (if f then Some b else setter s x b)
+      by_assigns : (f k r : Bool) → nearest s x b ≡ unless_after (setter s x b) (reader s x b) (blocker s b)
+          → (if f then Some b else (if k || r then None else nearest s x b)) ≡ unless_after (if f then Some b else setter s x b)
           (if r then Some b else reader s x b) (if k then Some b else blocker s b)
       by_assigns true k r ih = sym (ap (λ (v : Bool). if v then None else Some b) (free k r))
         where
-          here : is_behind (Some b) b ≡ false
+          here : is_after (Some b) b ≡ false
           here = not_behind b b (omega arith)
 
-          read : is_behind (reader s x b) b ≡ false
+          read : is_after (reader s x b) b ≡ false
           read = none_behind (reader s x b) b (reader_before b)
 
-          block : is_behind (blocker s b) b ≡ false
+          block : is_after (blocker s b) b ≡ false
           block = none_behind (blocker s b) b (blocker_before b)
 
-          free : (k r : Bool) → (is_behind (if r then Some b else reader s x b) b || is_behind (if k then Some b else blocker s b) b)
+          free : (k r : Bool) → (is_after (if r then Some b else reader s x b) b || is_after (if k then Some b else blocker s b) b)
               ≡ false
           free true true = rw here refl
           free true false = rw (read, here) refl
           free false true = rw (here, block) refl
           free false false = rw (read, block) refl
       by_assigns false true r ih = shut (setter s x b) (λ a e. (setter_is s x b a e).before) (if r then Some b else reader s x b) (Some b)
-          (λ a lt. or_true (is_behind (if r then Some b else reader s x b) a) (is_behind (Some b) a) (behind b a lt))
+          (λ a lt. or_true (is_after (if r then Some b else reader s x b) a) (is_after (Some b) a) (behind b a lt))
       by_assigns false false true ih = shut (setter s x b) (λ a e. (setter_is s x b a e).before) (Some b) (blocker s b)
-          (λ a lt. ap (λ (v : Bool). v || is_behind (blocker s b) a) (behind b a lt))
+          (λ a lt. ap (λ (v : Bool). v || is_after (blocker s b) a) (behind b a lt))
       by_assigns false false false ih = ih
 
   -- a name stays where no line assigned it since

@@ -1,6 +1,6 @@
 -- Names and their numbers.
 use Rattle.std.proofs.Common.{◌≡◌, ◌⊎◌, ℕ, zero, suc, ◌+◌, ◌<◌, Bool, true, false, ◌||◌, List, [], ◌∷◌, ◌++◌, drop, take, length, get_or}
-use Rattle.std.proofs.Common.{Option, Some, None, refl, sym, ap, ◌∙◌, subst, ⊎_elim, arith, add-one, if◌then◌else◌}
+use Rattle.std.proofs.Common.{Option, Some, None, refl, sym, ap, ◌∙◌, subst, inl, inr, ⊎_elim, arith, add-one, if◌then◌else◌}
 use Rattle.std.specs.Prelude.{slice_get, option_map}
 use Rattle.std.specs.Str.{bytes_eq}
 use Rattle.std.proofs.Math.Seq.{drop-cons}
@@ -12,9 +12,9 @@ use Rattle.std.proofs.lemmas.Option.{slice_get-get_or, slice_get_within}
 use Rattle.cord_syntax.specs.declared.statements.Statement.{Statement}
 use Rattle.cord_operands.specs.declared.operands.Argument.{Argument}
 use Rattle.cord_operands.specs.declared.operands.Argument.TheVariants.{Number, Cord}
-use Rattle.cord_plan.specs.declared.numbering.Numbering.{Numbering}
+use Rattle.cord_plan.specs.declared.flow.numbering.Numbering.{Numbering}
 use Rattle.cord_plan.specs.Operands.{has, is_name, cord_arguments, read_by}
-use Rattle.cord_plan.specs.inner.Numbering.{slot_of, place_of, names_of, number_by, number_of, Adds, CoversTo}
+use Rattle.cord_plan.specs.inner.Numbering.{slot_of, place_of, names_of, number_by, number_of, Adds, AreDistinct, CoversTo}
 use Rattle.cord_plan.proofs.Named.{same_bytes, own_bytes, has_append}
 
 -- a name's place in the list that begins at its element
@@ -119,6 +119,17 @@ module _ (t : Numbering) (x : List ℕ) where
           let bad : ⊥ = cc in
           absurd bad
 
+-- an item of a list with one more: one of those before, or the last
+pub item_at : {A : Type 0} (xs : List A) (last x : A) (p : ℕ) → slice_get (xs ++ last ∷ []) p ≡ Some x →
+    (slice_get xs p ≡ Some x) ⊎ ((p ≡ length xs) × (last ≡ x))
+item_at [] last x zero e = inr (refl, (let same : last ≡ x = cc in same))
+item_at [] last x (suc p) e = let bad : ⊥ = cc in absurd bad
+item_at (z ∷ xs) last x zero e = inl e
+item_at (z ∷ xs) last x (suc p) e = elim (item_at xs last x p e) [
+  | inl w ↦ inl w
+  | inr w ↦ inr (ap suc w.0, w.1)
+]
+
 -- a list of names with one more
 has_before : (x y : List ℕ) (names : List (List ℕ)) → has names x ≡ true → has (names ++ y ∷ []) x ≡ true
 has_before x y [] h = let bad : ⊥ = cc in absurd bad
@@ -136,26 +147,123 @@ has_last x y (z ∷ names) h = or_right (bytes_eq x z) (has (names ++ y ∷ []) 
 same_name : (y x : List ℕ) → has (y ∷ []) x ≡ true → bytes_eq x y ≡ true
 same_name y x h = sym (or-false (bytes_eq x y)) ∙ h
 
-pub name_added : (y : List ℕ) (names : List (List ℕ)) → Adds (y ∷ []) names (names ++ y ∷ [])
-name_added y names = record {
+-- a name that stands at a place stands there still when more come after
+stands_on : (names ys : List (List ℕ)) (n : ℕ) (x : List ℕ) → slice_get names n ≡ Some x → slice_get (names ++ ys) n ≡ Some x
+stands_on [] ys n x e = let bad : ⊥ = cc in absurd bad
+stands_on (z ∷ names) ys zero x e = e
+stands_on (z ∷ names) ys (suc n) x e = stands_on names ys n x e
+
+-- the first place of a name, with one more name after the others
+place_before : (y x : List ℕ) (names : List (List ℕ)) (n : ℕ) → place_of names x ≡ Some n → place_of (names ++ y ∷ []) x ≡ Some n
+place_before y x [] n e = let bad : ⊥ = cc in absurd bad
+place_before y x (z ∷ names) n e = by_name (bytes_eq x z) (place_of names x) refl (λ m f. place_before y x names m f) e
+  where
+    by_rest : (rest o : Option ℕ) → ((m : ℕ) → o ≡ Some m → rest ≡ Some m) → option_map suc o ≡ Some n → option_map suc rest ≡ Some n
+    by_rest rest None ih h = let bad : ⊥ = cc in absurd bad
+    by_rest rest (Some m) ih h = ap (option_map suc) (ih m refl) ∙ h
+
+    by_name : (b : Bool) (o : Option ℕ) → place_of names x ≡ o →
+        ((m : ℕ) → place_of names x ≡ Some m → place_of (names ++ y ∷ []) x ≡ Some m) →
+        (if b then Some 0 else option_map suc (place_of names x)) ≡ Some n →
+        (if b then Some 0 else option_map suc (place_of (names ++ y ∷ []) x)) ≡ Some n
+    by_name true o f ih h = h
+    by_name false o f ih h = by_rest (place_of (names ++ y ∷ []) x) o (λ m g. ih m (f ∙ g)) (ap (option_map suc) (sym f) ∙ h)
+
+place_last : (y : List ℕ) (names : List (List ℕ)) → place_of names y ≡ None → place_of (names ++ y ∷ []) y ≡ Some (length names)
+place_last y [] e = rw (own_bytes y) refl
+place_last y (z ∷ names) e = by_name (bytes_eq y z) (place_of names y) refl (λ f. place_last y names f) e
+  where
+    by_rest : (rest o : Option ℕ) → (o ≡ None → rest ≡ Some (length names)) → option_map suc o ≡ None →
+        option_map suc rest ≡ Some (suc (length names))
+    by_rest rest None ih h = ap (option_map suc) (ih refl)
+    by_rest rest (Some m) ih h = let bad : ⊥ = cc in absurd bad
+
+    by_name : (b : Bool) (o : Option ℕ) → place_of names y ≡ o →
+        (place_of names y ≡ None → place_of (names ++ y ∷ []) y ≡ Some (length names)) →
+        (if b then Some 0 else option_map suc (place_of names y)) ≡ None →
+        (if b then Some 0 else option_map suc (place_of (names ++ y ∷ []) y)) ≡ Some (suc (length names))
+    by_name true o f ih h = let bad : ⊥ = cc in absurd bad
+    by_name false o f ih h = by_rest (place_of (names ++ y ∷ []) y) o (λ g. ih (f ∙ g)) (ap (option_map suc) (sym f) ∙ h)
+
+pub none_distinct : AreDistinct []
+none_distinct n x e = let bad : ⊥ = cc in absurd bad
+
+distinct_added : (y : List ℕ) (names : List (List ℕ)) → place_of names y ≡ None → AreDistinct names → AreDistinct (names ++ y ∷ [])
+distinct_added y names new distinct n x e = elim (item_at names y x n e) [
+  | inl before ↦ place_before y x names n (distinct n x before)
+  | inr last ↦ subst (λ (z : List ℕ). place_of (names ++ y ∷ []) z ≡ Some n) last.1 (place_last y names new ∙ ap Some (sym last.0))
+]
+
+pub name_added : (y : List ℕ) (names : List (List ℕ)) → place_of names y ≡ None → Adds (y ∷ []) names (names ++ y ∷ [])
+name_added y names new = record {
   kept = λ x k. has_before x y names k;
   added = λ x h. has_last x y names (same_name y x h);
+  stay = λ n x e. stands_on names (y ∷ []) n x e;
+  distinct = λ d. distinct_added y names new d;
 }
+
+-- the name that is added stands last
+pub last_there : (y : List ℕ) (names : List (List ℕ)) → slice_get (names ++ y ∷ []) (length names) ≡ Some y
+last_there y [] = refl
+last_there y (z ∷ names) = last_there y names
+
+-- a name without a number has no place
+pub new_name : (t : Numbering) (y : List ℕ) → number_of t y ≡ None → place_of (names_of t) y ≡ None
+new_name t y e = by_guess (slice_get t.guesses.items (slot_of y)) e
+  where
+    by_right : (g : ℕ) (b : Bool) → (if b then Some g else place_of (names_of t) y) ≡ None → place_of (names_of t) y ≡ None
+    by_right g true h = let bad : ⊥ = cc in absurd bad
+    by_right g false h = h
+
+    by_guess : (o : Option ℕ) → number_by (names_of t) y o ≡ None → place_of (names_of t) y ≡ None
+    by_guess None h = h
+    by_guess (Some g) h = by_right g (is_name (slice_get (names_of t) g) y) h
+
+-- of names that are distinct a place is the number
+pub place_is_number : (t : Numbering) → AreDistinct (names_of t) → (x : List ℕ) (n : ℕ) → slice_get (names_of t) n ≡ Some x →
+    number_of t x ≡ Some n
+place_is_number t distinct x n e = by_guess (slice_get t.guesses.items (slot_of x))
+  where
+    by_right : (g : ℕ) (b : Bool) → is_name (slice_get (names_of t) g) x ≡ b → (if b then Some g else place_of (names_of t) x) ≡ Some n
+    by_right g true right = sym (distinct g x (is_name_there (names_of t) x g right)) ∙ distinct n x e
+    by_right g false wrong = distinct n x e
+
+    by_guess : (o : Option ℕ) → number_by (names_of t) x o ≡ Some n
+    by_guess None = distinct n x e
+    by_guess (Some g) = by_right g (is_name (slice_get (names_of t) g) x) refl
 
 pub name_known : (y : List ℕ) (t : Numbering) (n : ℕ) → number_of t y ≡ Some n → Adds (y ∷ []) (names_of t) (names_of t)
 name_known y t n e = record {
   kept = λ x k. k;
   added = λ x h. subst (λ (z : List ℕ). has (names_of t) z ≡ true) (sym (same_bytes x y (same_name y x h)))
       (has_there (names_of t) y n (number_there t y n e));
+  stay = λ m x k. k;
+  distinct = λ d. d;
 }
 
 pub none_added : (names : List (List ℕ)) → Adds [] names names
-none_added names = record { kept = λ x k. k; added = λ x h. let bad : ⊥ = cc in absurd bad }
+none_added names = record {
+  kept = λ x k. k;
+  added = λ x h. let bad : ⊥ = cc in absurd bad;
+  stay = λ n x k. k;
+  distinct = λ d. d;
+}
 
 pub both_added : (xs ys a b c : List (List ℕ)) → Adds xs a b → Adds ys b c → Adds (xs ++ ys) a c
 both_added xs ys a b c one two = record {
   kept = λ x k. two.kept x (one.kept x k);
   added = λ x h. ⊎_elim (λ left. two.kept x (one.added x left)) (λ right. two.added x right) (has_append xs ys x h);
+  stay = λ n x k. two.stay n x (one.stay n x k);
+  distinct = λ d. two.distinct (one.distinct d);
+}
+
+-- names that were added stay when others come
+pub then_added : (xs ys a b c : List (List ℕ)) → Adds xs a b → Adds ys b c → Adds xs a c
+then_added xs ys a b c one two = record {
+  kept = λ x k. two.kept x (one.kept x k);
+  added = λ x h. two.kept x (one.added x h);
+  stay = λ n x k. two.stay n x (one.stay n x k);
+  distinct = λ d. two.distinct (one.distinct d);
 }
 
 pub more_added : (names : List (List ℕ)) (i : ℕ) (y : List ℕ) (a b c : List (List ℕ)) → i < length names → y ≡ get_or names i y →

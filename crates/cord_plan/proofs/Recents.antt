@@ -12,7 +12,7 @@ use Rattle.cord_operands.specs.declared.operands.Argument.TheVariants.{Number, C
 use Rattle.cord_plan.specs.Operands.{has, cord_arguments}
 use Rattle.cord_plan.specs.inner.Numbering.{names_of, number_of}
 use Rattle.cord_plan.specs.inner.Recent.{Notes, entry_at, entry_of, noted}
-use Rattle.cord_plan.specs.declared.numbering.Numbering.{Numbering}
+use Rattle.cord_plan.specs.declared.flow.numbering.Numbering.{Numbering}
 use Rattle.cord_plan.proofs.Named.{same_bytes, own_bytes}
 use Rattle.cord_plan.proofs.Numbers.{number_there, arguments_more}
 use Rattle.cord_plan.proofs.MarkedNames.{has_both, has_one, has_more}

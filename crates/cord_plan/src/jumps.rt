@@ -6,7 +6,7 @@ ghost use Rattle.cord_plan.specs.Meaning.{operation_shape};
 ghost use Rattle.cord_plan.specs.Views.{operation_view};
 
 use crate::Operation;
-use crate::successors::{Shape, jump, shape_of};
+use crate::flow::{Shape, jump, shape_of};
 use std::alloc::{AllocError, Global};
 
 // What an operation is to control.

@@ -1,34 +1,23 @@
 //! Plans: what a run of a script makes, what it only measures, and in which order.
+//!
+//! `plans`, `operations` and `expressions` are what a plan consists of. `flow` finds which names each line reads and which are read
+//! later; `planner` chooses by it what stands for each operand, and makes the operations. `shown` writes a plan as text. `laws`,
+//! `meaning` and their like state what holds of all plans.
 #![tactic(auto)]
 
-mod choosing;
 mod expression_laws;
 mod expressions;
-mod interning;
-mod joining;
+mod flow;
 mod jumps;
 mod laws;
 mod limits;
-mod line_numbers;
-mod lines;
-mod liveness;
-mod marks;
 mod meaning;
-mod naming;
-mod numbering;
 mod operations;
-mod own;
 mod pair_laws;
-mod parts;
 mod planner;
 mod plans;
-mod readings;
-mod recent;
 mod rows;
 mod shown;
-mod staying;
-mod successors;
-mod table;
 
 pub use expression_laws::{
     flattened_cats_mean_the_nested, measures_are_lengths, own_expressions_mean_their_lines,

@@ -1,4 +1,14 @@
-// The planner.
+// The planner: what stands for each operand, the expression of each line, and its operation.
+mod choosing;
+mod constructors;
+mod interning;
+mod joining;
+mod lines;
+mod naming;
+mod parts;
+mod staying;
+mod table;
+
 ghost use Rattle.std.specs.Prelude.{◌≡◌, ◌<◌, ℕ, Bool, List, Some, IfOk, IsOkUnless, length, map, option_map};
 ghost use Rattle.std.specs.Prelude.{slice_get};
 ghost use Rattle.cord_plan.specs.inner.Liveness.{tells};
@@ -10,11 +20,11 @@ ghost use Rattle.cord_plan.specs.inner.Tables.{AreDead, IsTableOf};
 ghost use Rattle.cord_plan.specs.Unread.{IsLater};
 ghost use Rattle.cord_plan.specs.Views.{operation_view};
 
-use crate::line_numbers::{LineNumbers, numbers_at};
-use crate::lines::operation_of;
-use crate::liveness::Later;
-use crate::readings::target_of;
-use crate::table::Table;
+pub(crate) use self::constructors::own_expression;
+pub(crate) use self::interning::Interner;
+pub(crate) use self::lines::operation_of;
+use self::table::Table;
+use crate::flow::{Later, LineNumbers, numbers_at, target_of};
 use crate::{Expr, Operation, Plan};
 use cord_io::CordError;
 use cord_script::{Script, Statement};

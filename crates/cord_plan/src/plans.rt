@@ -11,10 +11,8 @@ ghost use Rattle.cord_plan.specs.Shown.{shown};
 ghost use Rattle.cord_plan.specs.Views.{operation_view};
 
 use crate::Operation;
-use crate::interning::Interner;
 use crate::jumps::jumps;
-use crate::lines::operation_of;
-use crate::own::own_expression;
+use crate::planner::{Interner, operation_of, own_expression};
 use crate::shown::show_operations;
 use cord_io::{CordError, Sink};
 use cord_script::{Script, Statement};

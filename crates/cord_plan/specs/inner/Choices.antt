@@ -7,10 +7,10 @@ use Rattle.cord_plan.specs.Exprs.{Expr, name, names, parts}
 use Rattle.cord_plan.specs.Operands.{count, read_by, assigns, assigns_at, reads_at}
 use Rattle.cord_plan.specs.Forced as plain
 use Rattle.cord_plan.specs.Views.{expr_view}
-use Rattle.cord_plan.specs.declared.choosing.Choice.{Choice}
-use Rattle.cord_plan.specs.declared.choosing.Choice.TheVariants.{Kept, Replaced}
-use Rattle.cord_plan.specs.declared.choosing.Operands.{Operands}
-use Rattle.cord_plan.specs.declared.choosing.Operands.TheVariants.{Nothing, One, Two, Listed}
+use Rattle.cord_plan.specs.declared.planner.choosing.Choice.{Choice}
+use Rattle.cord_plan.specs.declared.planner.choosing.Choice.TheVariants.{Kept, Replaced}
+use Rattle.cord_plan.specs.declared.planner.choosing.Operands.{Operands}
+use Rattle.cord_plan.specs.declared.planner.choosing.Operands.TheVariants.{Nothing, One, Two, Listed}
 
 -- how much of a room is left after so many parts, where they find room
 abbrev pub room_left : ℕ → ℕ → Option ℕ

@@ -9,14 +9,14 @@ use Rattle.cord_plan.specs.Operands.{reads_at, assigns_at}
 use Rattle.cord_plan.specs.inner.Numbering.{number_of, names_of}
 use Rattle.cord_plan.specs.inner.Marks.{column, IsBit}
 use Rattle.cord_plan.specs.Unread.{ReadBy, behind, some_of}
-use Rattle.cord_plan.specs.declared.liveness.Later.{Later}
-use Rattle.cord_plan.specs.declared.liveness.Group.{Group}
-use Rattle.cord_plan.specs.declared.numbering.Numbering.{Numbering}
-use Rattle.cord_plan.specs.declared.successors.Shape.{Shape}
-use Rattle.cord_plan.specs.declared.successors.Shape.TheVariants.{Simple, Loop, Branch, Otherwise, Close}
-use Rattle.cord_plan.specs.declared.successors.Behind.{Behind}
-use Rattle.cord_plan.specs.declared.successors.Turn.{Turn}
-use Rattle.cord_plan.specs.declared.successors.Turn.TheVariants.{Closed, Turned, Inside}
+use Rattle.cord_plan.specs.declared.flow.liveness.Later.{Later}
+use Rattle.cord_plan.specs.declared.flow.liveness.Group.{Group}
+use Rattle.cord_plan.specs.declared.flow.numbering.Numbering.{Numbering}
+use Rattle.cord_plan.specs.declared.flow.successors.Shape.{Shape}
+use Rattle.cord_plan.specs.declared.flow.successors.Shape.TheVariants.{Simple, Loop, Branch, Otherwise, Close}
+use Rattle.cord_plan.specs.declared.flow.successors.Successors.{Successors}
+use Rattle.cord_plan.specs.declared.flow.successors.Turn.{Turn}
+use Rattle.cord_plan.specs.declared.flow.successors.Turn.TheVariants.{Closed, Turned, Inside}
 
 -- the shape that a shape of the program stands for
 abbrev pub shape_view : Shape → blocks.Shape
@@ -42,29 +42,29 @@ innermost [] = None
 innermost (block ∷ blocks) = block
 
 -- the places of the program as a list
-abbrev pub places : Behind → List ℕ
+abbrev pub places : Successors → List ℕ
 places b = b.first ∷ option_to_list b.second
 
-abbrev pub places_of : Option Behind → List ℕ
+abbrev pub places_of : Option Successors → List ℕ
 places_of None = []
 places_of (Some b) = places b
 
 -- the same of the place at p; after the script there is none
-abbrev pub places_at : List Behind → ℕ → List ℕ
-places_at behinds p = places_of (slice_get behinds p)
+abbrev pub places_at : List Successors → ℕ → List ℕ
+places_at successor_table p = places_of (slice_get successor_table p)
 
 -- these are the places that may come next after each place
-pub record AreBehind (shapes : List blocks.Shape) (behinds : List Behind) : Type 0 where
-  pub size : length behinds ≡ length shapes
-  pub told : (p : ℕ) → places_at behinds p ≡ behind shapes p
+pub record AreSuccessors (shapes : List blocks.Shape) (successor_table : List Successors) : Type 0 where
+  pub size : length successor_table ≡ length shapes
+  pub told : (p : ℕ) → places_at successor_table p ≡ behind shapes p
 
 -- whether one of these places that may come next after p is p or stands before it
 abbrev pub is_back : ℕ → List ℕ → Bool
 is_back p qs = some_of (λ q. nat_le q p) qs
 
 -- each place leads to later ones alone
-abbrev pub LeadOn : List Behind → Type 0
-LeadOn behinds = (p : ℕ) → is_back p (places_at behinds p) ≡ false
+abbrev pub LeadOn : List Successors → Type 0
+LeadOn successor_table = (p : ℕ) → is_back p (places_at successor_table p) ≡ false
 
 -- whether a table of places has a place
 abbrev pub at : List Bool → ℕ → Bool
@@ -120,11 +120,11 @@ live_of t x = column_of t.groups.items (number_of t.numbering x)
 
 -- whether the name of a number is read later than the line at a place
 abbrev pub tells_of : Later → Option ℕ → ℕ → Bool
-tells_of t number p = some_of (λ q. at (column_of t.groups.items number) q) (places_at t.behinds.items p)
+tells_of t number p = some_of (λ q. at (column_of t.groups.items number) q) (places_at t.successor_table.items p)
 
 -- what a table tells: whether a name is read later than the line at a place
 abbrev pub tells : Later → List ℕ → ℕ → Bool
-tells t x p = some_of (λ q. at (live_of t x) q) (places_at t.behinds.items p)
+tells t x p = some_of (λ q. at (live_of t x) q) (places_at t.successor_table.items p)
 
 -- each of the first k groups is live
 abbrev pub LiveTo : List Statement → Numbering → ℕ → List Group → Type 0

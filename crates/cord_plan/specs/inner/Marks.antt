@@ -2,7 +2,7 @@
 use Rattle.std.specs.Prelude.{◌≡◌, ℕ, ◌+◌, ◌*◌, ◌-◌, ◌^◌, ◌<◌, ◌==◌, Bool, List, map, Some, sum_by}
 use Rattle.std.specs.Int.{bit_at}
 use Rattle.cord_plan.specs.inner.Numbering.{number_of}
-use Rattle.cord_plan.specs.declared.numbering.Numbering.{Numbering}
+use Rattle.cord_plan.specs.declared.flow.numbering.Numbering.{Numbering}
 
 -- whether a word has a bit
 abbrev pub bit : ℕ → ℕ → Bool

@@ -4,8 +4,8 @@ use Rattle.std.specs.Prelude.{option_map}
 use Rattle.std.specs.Str.{bytes_eq}
 use Rattle.cord_syntax.specs.declared.statements.Statement.{Statement}
 use Rattle.cord_plan.specs.Operands.{has, is_name, read_by, reads_at, target_of}
-use Rattle.cord_plan.specs.declared.numbering.Numbering.{Numbering}
-use Rattle.cord_plan.specs.declared.line_numbers.LineNumbers.{LineNumbers}
+use Rattle.cord_plan.specs.declared.flow.numbering.Numbering.{Numbering}
+use Rattle.cord_plan.specs.declared.flow.line_numbers.LineNumbers.{LineNumbers}
 
 -- the slot of a name, from this one on
 abbrev pub slot_from : ℕ → List ℕ → ℕ
@@ -31,10 +31,16 @@ number_by names x (Some guess) = if is_name (slice_get names guess) x then Some 
 abbrev pub number_of : Numbering → List ℕ → Option ℕ
 number_of t x = number_by (names_of t) x (slice_get t.guesses.items (slot_of x))
 
--- a list of names comes to have these too
+-- no name has two places
+abbrev pub AreDistinct : List (List ℕ) → Type 0
+AreDistinct names = (n : ℕ) (x : List ℕ) → slice_get names n ≡ Some x → place_of names x ≡ Some n
+
+-- a list of names comes to have these too: those before keep their places
 pub record Adds (xs old new : List (List ℕ)) : Type 0 where
   pub kept : (x : List ℕ) → has old x ≡ true → has new x ≡ true
   pub added : (x : List ℕ) → has xs x ≡ true → has new x ≡ true
+  pub stay : (n : ℕ) (x : List ℕ) → slice_get old n ≡ Some x → slice_get new n ≡ Some x
+  pub distinct : AreDistinct old → AreDistinct new
 
 -- it has each name that one of the first i lines reads
 abbrev pub CoversTo : List Statement → ℕ → Numbering → Type 0
@@ -57,3 +63,18 @@ pub record AreKept (t : Numbering) (l : Statement) (numbers : LineNumbers) : Typ
 abbrev pub AllKept : List Statement → Numbering → List LineNumbers → Type 0
 AllKept s t all =
     (p : ℕ) (l : Statement) (numbers : LineNumbers) → slice_get s p ≡ Some l → slice_get all p ≡ Some numbers → AreKept t l numbers
+
+-- what is kept of the number of a name is a place of the name
+abbrev pub IsPlace : List (List ℕ) → List ℕ → Option ℕ → Type 0
+IsPlace names x kept = (n : ℕ) → kept ≡ Some n → slice_get names n ≡ Some x
+
+-- what is kept of the numbers of a line's names are places of the names
+pub record ArePlaces (names : List (List ℕ)) (l : Statement) (numbers : LineNumbers) : Type 0 where
+  pub target : (x : List ℕ) → target_of l ≡ Some x → IsPlace names x numbers.target
+  pub first : (x : List ℕ) → slice_get (read_by l) 0 ≡ Some x → IsPlace names x numbers.first
+  pub second : (x : List ℕ) → slice_get (read_by l) 1 ≡ Some x → IsPlace names x numbers.second
+
+-- and of the names of each line
+abbrev pub AllPlaces : List Statement → List (List ℕ) → List LineNumbers → Type 0
+AllPlaces s names all =
+    (p : ℕ) (l : Statement) (numbers : LineNumbers) → slice_get s p ≡ Some l → slice_get all p ≡ Some numbers → ArePlaces names l numbers

@@ -1,8 +1,8 @@
 -- The names that a line reads, as the code lists them.
 use Rattle.std.specs.Prelude.{ℕ, List, [], ◌∷◌}
 use Rattle.cord_plan.specs.Operands.{cord_arguments}
-use Rattle.cord_plan.specs.declared.readings.Reading.{Reading}
-use Rattle.cord_plan.specs.declared.readings.Reading.TheVariants.{Nothing, One, Two, Many, Printed}
+use Rattle.cord_plan.specs.declared.flow.readings.Reading.{Reading}
+use Rattle.cord_plan.specs.declared.flow.readings.Reading.TheVariants.{Nothing, One, Two, Many, Printed}
 
 -- the names in order
 abbrev pub read_names : Reading → List (List ℕ)

@@ -7,8 +7,8 @@ use Rattle.cord_meaning.specs.Statements.{shape_of}
 use Rattle.cord_plan.specs.Operands.{reads, reads_at}
 use Rattle.cord_plan.specs.Forced.{each_from, is_block, is_block_at, keeps, setter}
 use Rattle.cord_plan.specs.inner.Numbering.{number_of}
-use Rattle.cord_plan.specs.declared.numbering.Numbering.{Numbering}
-use Rattle.cord_plan.specs.declared.recent.Recent.{Recent}
+use Rattle.cord_plan.specs.declared.flow.numbering.Numbering.{Numbering}
+use Rattle.cord_plan.specs.declared.flow.recent.Recent.{Recent}
 
 -- the last line before p that reads x, and the last one of a block
 abbrev pub reader : List Statement → List ℕ → ℕ → Option ℕ
@@ -33,14 +33,14 @@ lacks [] x = true
 lacks (y ∷ ys) x = not (bytes_eq y x) && lacks ys x
 
 -- whether a place, where there is one, stands after another
-abbrev pub is_behind : Option ℕ → ℕ → Bool
-is_behind None a = false
-is_behind (Some p) a = not (nat_le p a)
+abbrev pub is_after : Option ℕ → ℕ → Bool
+is_after None a = false
+is_after (Some p) a = not (nat_le p a)
 
 -- the last line that assigns a name, where neither of the other places stands after it
-abbrev pub unless_behind : Option ℕ → Option ℕ → Option ℕ → Option ℕ
-unless_behind None r k = None
-unless_behind (Some a) r k = if is_behind r a || is_behind k a then None else Some a
+abbrev pub unless_after : Option ℕ → Option ℕ → Option ℕ → Option ℕ
+unless_after None r k = None
+unless_after (Some a) r k = if is_after r a || is_after k a then None else Some a
 
 -- whether a place, where there is one, stands before another
 abbrev pub is_before : Option ℕ → ℕ → Bool

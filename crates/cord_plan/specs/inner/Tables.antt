@@ -9,8 +9,8 @@ use Rattle.cord_plan.specs.inner.Liveness.{at, tells}
 use Rattle.cord_plan.specs.Operands.{target_of}
 use Rattle.cord_plan.specs.Planned.{some_from, is_dead, is_first}
 use Rattle.cord_plan.specs.Views.{expr_view}
-use Rattle.cord_plan.specs.declared.liveness.Later.{Later}
-use Rattle.cord_plan.specs.declared.table.Table.{Table}
+use Rattle.cord_plan.specs.declared.flow.liveness.Later.{Later}
+use Rattle.cord_plan.specs.declared.planner.table.Table.{Table}
 
 -- the lines whose expressions these choices take are marked too
 pub record IsMarked (choices : List plain.Choice) (old new : List Bool) : Type 0 where

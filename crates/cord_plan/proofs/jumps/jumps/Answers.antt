@@ -6,7 +6,7 @@ use Rattle.cord_plan.specs.inner.Liveness.{shape_view}
 use Rattle.cord_plan.specs.Meaning.{operation_shape}
 use Rattle.cord_plan.specs.Views.{operation_view}
 use Rattle.cord_plan.specs.declared.operations.Operation.{Operation}
-use Rattle.cord_plan.specs.declared.successors.Shape.{Shape}
+use Rattle.cord_plan.specs.declared.flow.successors.Shape.{Shape}
 use Rattle.cord_plan.proofs.Pushed.{told_more, size_more}
 use Rattle.cord_plan.proofs.jumps.jumps.Goals as goal
 

@@ -1,0 +1,14 @@
+use Rattle.std.proofs.Common.{◌≡◌, ◌≤◌, ◌<◌, List, ℕ, true, false}
+use Rattle.cord_plan.specs.inner.Liveness.{ArePartly, finds}
+use Rattle.cord_plan.specs.inner.Marks.{IsBit, column, room}
+use Rattle.cord_plan.proofs.flow.liveness.Flow.sweep.Given as goal
+
+abbrev pub invariant-loop-p : goal.invariant-loop-p
+invariant-loop-p l = record {
+  partly : ArePartly l.self.statements.now l.self.numbering.now l.self.group l.words;
+  calm : l.self.loops ≡ false → l.again ≡ false;
+  resting : l.again ≡ false → (x : List ℕ) (i : ℕ) → IsBit l.self.numbering.now l.self.group x i → (k : ℕ) → l.p ≤ k →
+      finds l.self.statements.now x (column l.words i) k ≡ false;
+  few : room l.words ≤ room l.initial.words;
+  fewer : l.again ≡ true → room l.words < room l.initial.words;
+}

@@ -1,0 +1,13 @@
+use Rattle.std.proofs.Common.{◌≡◌, ◌≤◌, ◌+◌, ◌-◌, List, ℕ, length, map, take}
+use Rattle.std.specs.Prelude.{vec_len, vec_capacity}
+use Rattle.cord_plan.specs.Operands.{reads}
+use Rattle.cord_plan.specs.inner.Marks.{IsBit, column}
+use Rattle.cord_plan.proofs.flow.liveness.Flow.words_read.Given as goal
+
+abbrev pub invariant-loop-place : goal.invariant-loop-place
+invariant-loop-place l = record {
+  size : length l.words.items ≡ l.place;
+  room : vec_len l.words + (length l.self.statements.now - l.place) ≤ vec_capacity l.words;
+  columns : (x : List ℕ) (i : ℕ) → IsBit l.self.numbering.now l.self.group x i →
+      column l.words.items i ≡ map (λ m. reads m x) (take l.place l.self.statements.now);
+}

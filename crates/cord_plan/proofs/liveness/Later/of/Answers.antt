@@ -1,8 +1,0 @@
-use Rattle.cord_plan.specs.declared.liveness.Later.{Later}
-use Rattle.cord_plan.proofs.Told.{tells_exactly}
-use Rattle.cord_plan.proofs.liveness.Later.of.Goals as goal
-
-pub returns-clause-later : goal.returns-clause-later
-returns-clause-later c =
-    let t : Later = record { behinds = c.in_ok-behinds.behinds; numbering = c.in_ok-numbering.numbering; numbers = c.in_ok-numbers.numbers; groups = c.in_ok-groups.groups } in
-    tells_exactly c.args.statements.now t c.in_ok-behinds.ensures c.in_ok-numbering.ensures c.in_ok-groups.ensures

@@ -1,9 +1,0 @@
-use Rattle.std.proofs.Common.{◌≡◌, length}
-use Rattle.cord_plan.specs.inner.Liveness.{LiveTo}
-use Rattle.cord_plan.proofs.liveness.groups_of.Given as goal
-
-abbrev pub invariant-loop-group : goal.invariant-loop-group
-invariant-loop-group l = record {
-  size : length l.groups.items ≡ l.group;
-  live : LiveTo l.statements l.numbering l.group l.groups.items;
-}

@@ -1,0 +1,12 @@
+use Rattle.std.proofs.Common.{ap}
+use Rattle.cord_plan.specs.Forced.{expr_of}
+use Rattle.cord_plan.specs.inner.Choices.{choice_view}
+use Rattle.cord_plan.specs.declared.planner.choosing.Choice.{Choice}
+use Rattle.cord_plan.proofs.Joined.{added_name}
+use Rattle.cord_plan.proofs.planner.joining.add.Goals as goal
+
+pub returns-in_ok-push-in-Kept-clause-added : goal.returns-in_ok-push-in-Kept-clause-added
+returns-in_ok-push-in-Kept-clause-added c =
+    added_name c.args.members.now.items c.push.new.self.items c.in_ok-name-in-Kept.field-0
+    (expr_of (choice_view c.args.choice.now)) c.in-Kept.name.now c.in_ok-push-in-Kept.ensures.items c.in_ok-name-in-Kept.ensures.made
+    (ap (λ (d : Choice). expr_of (choice_view d)) c.in-Kept.is)

@@ -1,0 +1,43 @@
+use Rattle.std.proofs.Common.{◌≡◌, ℕ, ◌<◌, ◌+◌, map, drop, sym, ap, subst, ◌∙◌, rules}
+use Rattle.cord_plan.specs.Exprs as plain
+use Rattle.cord_plan.specs.declared.expressions.Expr.{Expr}
+use Rattle.cord_plan.specs.Exprs.{parts, parts_of}
+use Rattle.cord_plan.specs.inner.Choices.{room_left}
+use Rattle.cord_plan.specs.Views.{expr_view, members_of, shared_view}
+use Rattle.cord_plan.proofs.ExprViews.{view-Name}
+use Rattle.cord_plan.proofs.PartSums.{none_for_more, room_for_more, parts_member}
+use Rattle.cord_plan.proofs.MemberTexts.{weight, weights, member_there}
+use Rattle.cord_plan.proofs.planner.parts.+room_left.Goals as goal
+use Rattle.cord_plan.proofs.planner.parts.+room_left.Goals.{room_left_all-in-Name, room_left_all-in_default}
+
+pub room_left_all-room_left-after-requires : goal.room_left_all-room_left-after-requires
+room_left_all-room_left-after-requires t c =
+    let there : weight (shared_view c.member-item.result) < weights (members_of (map shared_view c.args.members.now)) = member_there c.args.members.now c.loop-member.member-index c.member-item.result c.loop-member-test.true c.member-item.is in
+    let below : weight (expr_view c.as_ref-expression.result.now) < weights (members_of (map shared_view c.args.members.now)) = subst (λ (e : Expr). weight (expr_view e) < weights (members_of (map shared_view c.args.members.now))) (sym c.as_ref-expression.ensures) there in
+    search (rules, below)
+
+pub room_left_all-returns-in-None : goal.room_left_all-returns-in-None
+room_left_all-returns-in-None t c =
+    let told : c.match-expression.after ≡ room_left (parts (shared_view c.member-item.result)) c.loop-member.left = elim c.match-expression.branch [
+      | room_left_all-in-Name w ↦ let view : shared_view c.member-item.result ≡ plain.name w.in-Name.field-0 = ap expr_view (sym c.as_ref-expression.ensures ∙ w.in-Name.is) ∙ view-Name w.in-Name.field-0 in search (rules, view)
+      | room_left_all-in_default w ↦ w.after-is ∙ (w.room_left-after.ensures
+          ∙ ap (λ (e : Expr). room_left (parts (expr_view e)) c.loop-member.left) c.as_ref-expression.ensures)
+    ] in
+    let rest = parts_of (members_of (map shared_view (drop (c.loop-member.member-index + 1) c.args.members.now))) in
+    let first : room_left (parts_of (members_of (map shared_view c.args.members.now))) c.args.room ≡ room_left (parts (shared_view c.member-item.result) + rest) c.loop-member.left =
+    c.loop-member.invariant ∙ ap (λ (n : ℕ). room_left n c.loop-member.left)
+    (parts_member c.args.members.now c.loop-member.member-index c.member-item.result c.loop-member-test.true c.member-item.is) in
+    none_for_more (parts (shared_view c.member-item.result)) rest c.loop-member.left (sym c.in-None.is ∙ told) ∙ sym first
+
+pub room_left_all-loop-member-preserved : goal.room_left_all-loop-member-preserved
+room_left_all-loop-member-preserved t c =
+    let told : c.match-expression.after ≡ room_left (parts (shared_view c.member-item.result)) c.loop-member.left = elim c.match-expression.branch [
+      | room_left_all-in-Name w ↦ let view : shared_view c.member-item.result ≡ plain.name w.in-Name.field-0 = ap expr_view (sym c.as_ref-expression.ensures ∙ w.in-Name.is) ∙ view-Name w.in-Name.field-0 in search (rules, view)
+      | room_left_all-in_default w ↦ w.after-is ∙ (w.room_left-after.ensures
+          ∙ ap (λ (e : Expr). room_left (parts (expr_view e)) c.loop-member.left) c.as_ref-expression.ensures)
+    ] in
+    let rest = parts_of (members_of (map shared_view (drop (c.loop-member.member-index + 1) c.args.members.now))) in
+    let first : room_left (parts_of (members_of (map shared_view c.args.members.now))) c.args.room ≡ room_left (parts (shared_view c.member-item.result) + rest) c.loop-member.left =
+    c.loop-member.invariant ∙ ap (λ (n : ℕ). room_left n c.loop-member.left)
+    (parts_member c.args.members.now c.loop-member.member-index c.member-item.result c.loop-member-test.true c.member-item.is) in
+    first ∙ room_for_more (parts (shared_view c.member-item.result)) rest c.loop-member.left c.in-Some.less (sym c.in-Some.is ∙ told)

@@ -1,0 +1,15 @@
+// What the lines of a script read and assign, which line may come after which, and which names are read later.
+mod line_numbers;
+mod liveness;
+mod marks;
+mod numbering;
+mod readings;
+mod recent;
+mod successors;
+
+pub(crate) use self::line_numbers::{LineNumbers, numbers_at};
+pub(crate) use self::liveness::Later;
+pub(crate) use self::numbering::slot_of;
+pub(crate) use self::readings::{assigns, reads, target_of};
+pub(crate) use self::recent::{Recent, entry_at, entry_of, is_before, is_block, unless_after};
+pub(crate) use self::successors::{Shape, jump, shape_of};

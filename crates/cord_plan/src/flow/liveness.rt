@@ -1,0 +1,245 @@
+// Which names are read later than which lines.
+ghost use Rattle.std.specs.Prelude.{◌≡◌, ◌<◌, ◌≤◌, ◌/◌, ◌^◌, ℕ, List, true, false, Some, length, map, get_or};
+ghost use Rattle.std.specs.Prelude.{slice_get, IfOk};
+ghost use Rattle.cord_meaning.specs.Statements.{shape_of};
+ghost use Rattle.cord_plan.specs.Operands.{assigns_at};
+ghost use Rattle.cord_plan.specs.Unread.{IsLater, behind, some_of};
+ghost use Rattle.cord_plan.specs.inner.Marks.{bit, column, room, IsBit};
+ghost use Rattle.cord_plan.specs.inner.Numbering.{AllKept, names_of};
+ghost use Rattle.cord_plan.specs.inner.Liveness.{places, places_at, AreSuccessors, LeadOn, at, tells, tells_of, flow};
+ghost use Rattle.cord_plan.specs.inner.Liveness.{AreAssigned, ArePartly, AreLive, AllLive, column_of};
+
+use crate::flow::line_numbers::{LineNumbers, numbers_at, numbers_of};
+use crate::flow::marks::{GROUP, has_bit, mark_assigned, mark_read};
+use crate::flow::numbering::Numbering;
+use crate::flow::successors::{Successors, leads_back, successors_of};
+use cord_script::Statement;
+use std::alloc::{AllocError, Global};
+
+/// For each place the names of a group that a path from there reads before a line assigns them.
+#[derive(Drop)]
+struct Group {
+    words: Vec<u128>,
+}
+
+/// For each name and each line of a script whether some path after the line reads the bytes of the name before a line assigns it.
+#[derive(Drop)]
+pub(crate) struct Later {
+    successor_table: Vec<Successors>,
+    pub(crate) numbering: Numbering,
+    pub(crate) numbers: Vec<LineNumbers>,
+    groups: Vec<Group>,
+}
+
+/// The lines of a script, the places after them, and a group of its names.
+#[derive(Clone, Copy)]
+struct Flow<'a> {
+    statements: &'a [Statement],
+    successor_table: &'a [Successors],
+    numbering: &'a Numbering,
+    numbers: &'a [LineNumbers],
+    group: usize,
+    // Whether some place may lead back: only then one pass doesn't find all.
+    loops: bool,
+}
+
+fn word_at(words: &[u128], place: usize) -> u128
+    ensures bits { (i : ℕ) → bit result i ≡ at (column words.now i) place }
+    ensures value { result ≡ get_or words.now place 0 }
+{
+    match words.get(place) {
+        Some(word) => *word,
+        None => 0,
+    }
+}
+
+// The bits of the places that may come next.
+fn successor_word(words: &[u128], successors: Successors) -> u128
+    ensures { (i : ℕ) → bit result i ≡ some_of (λ q. at (column words.now i) q) (places successors) }
+{
+    let first = word_at(words, successors.first);
+    match successors.second {
+        Some(second) => first | word_at(words, second),
+        None => first,
+    }
+}
+
+// What the backwards flow over a line makes of its word: what the places after it have, but for what the line assigns, is added.
+fn flowed(word: u128, successors: u128, assigned: u128) -> u128
+    ensures bits { (i : ℕ) → i < 128 → bit result i ≡ flow (bit word i) (bit successors i) (bit assigned i) }
+    ensures grows { word ≤ result }
+    ensures fits { result < 2 ^ 128 }
+{
+    word | (successors & !assigned)
+}
+
+impl Flow<'_> {
+    // For each line the word of the names that it reads.
+    fn words_read(&self, alloc: Global) -> Result<Vec<u128>, AllocError>
+        requires { AllKept self.now.statements.now self.now.numbering.now self.now.numbers.now }
+        ensures { IfOk result (λ v. ArePartly self.now.statements.now self.now.numbering.now self.now.group v.items) }
+    {
+        let mut words = Vec::with_capacity(alloc, self.statements.len())?;
+        for (place, statement) in self.statements.iter().enumerate() {
+            let numbers = numbers_at(self.numbers, place);
+            words.push_reserved(mark_read(self.numbering, self.group, statement, numbers));
+        }
+        Ok(words)
+    }
+
+    // For each line the word of the name that it assigns.
+    fn words_assigned(&self, alloc: Global) -> Result<Vec<u128>, AllocError>
+        requires { AllKept self.now.statements.now self.now.numbering.now self.now.numbers.now }
+        ensures { IfOk result (λ v. AreAssigned self.now.statements.now self.now.numbering.now self.now.group v.items) }
+    {
+        let mut words = Vec::with_capacity(alloc, self.statements.len())?;
+        for (place, statement) in self.statements.iter().enumerate() {
+            let numbers = numbers_at(self.numbers, place);
+            words.push_reserved(mark_assigned(self.numbering, self.group, statement, numbers));
+        }
+        Ok(words)
+    }
+
+    // The bits of the places that may come next after a place.
+    fn successor_word_at(&self, words: &[u128], place: usize) -> u128
+        ensures { (i : ℕ) → bit result i ≡ some_of (λ q. at (column words.now i) q)
+            (places_at self.now.successor_table.now place) }
+    {
+        match self.successor_table.get(place) {
+            Some(successors) => successor_word(words, *successors),
+            None => 0,
+        }
+    }
+
+    // What the flow back over the line at a place makes of its word.
+    fn flow_at(&self, assigned: &[u128], words: &[u128], place: usize) -> u128
+        requires successor_table { AreSuccessors (map shape_of self.now.statements.now) self.now.successor_table.now }
+        requires assigned { AreAssigned self.now.statements.now self.now.numbering.now self.now.group assigned.now }
+        ensures bits { (x : List ℕ) (i : ℕ) → IsBit self.now.numbering.now self.now.group x i →
+            bit result i ≡ flow (at (column words.now i) place)
+            (some_of (λ q. at (column words.now i) q) (behind (map shape_of self.now.statements.now) place))
+            (assigns_at (slice_get self.now.statements.now place) x) }
+        ensures grows { get_or words.now place 0 ≤ result }
+        ensures fits { result < 2 ^ 128 }
+    {
+        let here = word_at(words, place);
+        let successors = self.successor_word_at(words, place);
+        let kill = word_at(assigned, place);
+        flowed(here, successors, kill)
+    }
+
+    // One pass of the backwards flow over the lines, and whether another may find more: it has found a place, and some
+    // lead back.
+    fn sweep(&self, assigned: &[u128], words: &mut [u128]) -> bool
+        requires successor_table { AreSuccessors (map shape_of self.now.statements.now) self.now.successor_table.now }
+        requires loops { self.now.loops ≡ false → LeadOn self.now.successor_table.now }
+        requires assigned { AreAssigned self.now.statements.now self.now.numbering.now self.now.group assigned.now }
+        requires partly { ArePartly self.now.statements.now self.now.numbering.now self.now.group words.old }
+        ensures partly { ArePartly self.now.statements.now self.now.numbering.now self.now.group words.new }
+        ensures live { result ≡ false → AreLive self.now.statements.now self.now.numbering.now self.now.group words.new }
+        ensures fewer { result ≡ true → room words.new < room words.old }
+    {
+        let mut again = false;
+        for p in (0..words.len()).rev() {
+            let here = word_at(words, p);
+            let word = self.flow_at(assigned, words, p);
+            if word != here {
+                words[p] = word;
+                again = self.loops;
+            }
+        }
+        again
+    }
+
+    // For each place the names of the group that a path from there reads before a line assigns them.
+    fn live_words(&self, alloc: Global) -> Result<Vec<u128>, AllocError>
+        requires successor_table { AreSuccessors (map shape_of self.now.statements.now) self.now.successor_table.now }
+        requires loops { self.now.loops ≡ false → LeadOn self.now.successor_table.now }
+        requires kept { AllKept self.now.statements.now self.now.numbering.now self.now.numbers.now }
+        ensures { IfOk result (λ v. AreLive self.now.statements.now self.now.numbering.now self.now.group v.items) }
+    {
+        let assigned = self.words_assigned(alloc)?;
+        let mut words = self.words_read(alloc)?;
+        'sweeps: while self.sweep(&assigned, &mut words) {}
+        Ok(words)
+    }
+}
+
+// What is live of each group of names.
+fn groups_of(
+    alloc: Global,
+    statements: &[Statement],
+    successor_table: &[Successors],
+    numbering: &Numbering,
+    numbers: &[LineNumbers],
+) -> Result<Vec<Group>, AllocError>
+    requires successor_table { AreSuccessors (map shape_of statements.now) successor_table.now }
+    requires kept { AllKept statements.now numbering.now numbers.now }
+    ensures { IfOk result (λ v. AllLive statements.now numbering.now v.items) }
+{
+    let mut groups = Vec::new(alloc);
+    let loops = leads_back(successor_table);
+    for group in 0..group_count(numbering) {
+        let flow = Flow {
+            statements,
+            successor_table,
+            numbering,
+            numbers,
+            group,
+            loops,
+        };
+        let words = flow.live_words(alloc)?;
+        groups.push(Group { words })?;
+    }
+    Ok(groups)
+}
+
+// How many groups hold the names.
+fn group_count(numbering: &Numbering) -> usize
+    ensures { (n : ℕ) → n < length (names_of numbering.now) → n / 128 < result }
+{
+    let whole = numbering.count() / GROUP;
+    if numbering.count() % GROUP == 0 {
+        whole
+    } else {
+        whole + 1
+    }
+}
+
+impl Later {
+    /// What is read later in a script of these statements.
+    pub(crate) fn of(alloc: Global, statements: &[Statement]) -> Result<Self, AllocError>
+        ensures later { IfOk result (λ t. IsLater statements.now (tells t)) }
+        ensures kept { IfOk result (λ t. AllKept statements.now t.numbering t.numbers.items) }
+    {
+        let successor_table = successors_of(alloc, statements)?;
+        let (numbering, numbers) = numbers_of(alloc, statements)?;
+        let groups = groups_of(alloc, statements, &successor_table, &numbering, &numbers)?;
+        Ok(Later {
+            successor_table,
+            numbering,
+            numbers,
+            groups,
+        })
+    }
+
+    // Whether a place that may come next has the name of a number.
+    fn is_live_at_successors(&self, number: usize, successors: Successors) -> bool
+        ensures { result ≡ some_of (λ q. at (column_of self.now.groups.items (Some number)) q) (places successors) }
+    {
+        match self.groups.get(number / GROUP) {
+            None => false,
+            Some(group) => has_bit(successor_word(&group.words, successors), number % GROUP),
+        }
+    }
+
+    /// Whether the name of a number is read later than the line at a place.
+    pub(crate) fn is_later(&self, number: Option<usize>, place: usize) -> bool
+        ensures { result ≡ tells_of self.now number place }
+    {
+        match (self.successor_table.get(place), number) {
+            (Some(successors), Some(number)) => self.is_live_at_successors(number, *successors),
+            _ => false,
+        }
+    }
+}

@@ -1,0 +1,109 @@
+// Sets of names by words: bit i of a word of a group stands for the name whose number is 128 times the group and i.
+ghost use Rattle.std.specs.Prelude.{◌≡◌, ◌<◌, ◌||◌};
+ghost use Rattle.cord_plan.specs.inner.Marks.{bit, Marks};
+ghost use Rattle.cord_plan.specs.Operands.{has, cord_arguments, reads, assigns};
+ghost use Rattle.std.specs.Str.{bytes_eq};
+ghost use Rattle.cord_plan.specs.inner.Numbering.{AreKept, Keeps};
+
+use crate::flow::line_numbers::LineNumbers;
+use crate::flow::numbering::Numbering;
+use crate::flow::readings::{Reading, reading_of, target_of};
+use cord_script::{Argument, Name, Statement};
+
+/// How many names a word stands for.
+pub(crate) const GROUP: usize = 128;
+
+/// Whether a word has a bit.
+pub(crate) fn has_bit(word: u128, i: usize) -> bool
+    requires { i < 128 }
+    ensures { result ≡ bit word i }
+{
+    (word >> i) & 1 == 1
+}
+
+// The word of a name alone.
+fn mark(numbering: &Numbering, group: usize, name: &Name, kept: Option<u8>) -> u128
+    requires { Keeps numbering.now name.now kept }
+    ensures { Marks numbering.now group (λ x. bytes_eq x name.now) result }
+{
+    match numbering.number_with(name.as_slice(), kept) {
+        Some(number) if number / GROUP == group => 1 << (number % GROUP),
+        _ => 0,
+    }
+}
+
+// The word of a list of names.
+fn mark_all(numbering: &Numbering, group: usize, names: &[Name]) -> u128
+    ensures { Marks numbering.now group (λ x. has names.now x) result }
+{
+    let mut word = 0;
+    for name in names {
+        word |= mark(numbering, group, name, None);
+    }
+    word
+}
+
+// The word of the cords among the arguments of a format.
+fn mark_arguments(numbering: &Numbering, group: usize, arguments: &[Argument]) -> u128
+    ensures { Marks numbering.now group (λ x. has (cord_arguments arguments.now) x) result }
+{
+    let mut word = 0;
+    for argument in arguments {
+        match argument {
+            Argument::Number(_) => {}
+            Argument::Cord(name) => word |= mark(numbering, group, name, None),
+        }
+    }
+    word
+}
+
+// The word of two names.
+fn mark_two(
+    numbering: &Numbering,
+    group: usize,
+    left: &Name,
+    right: &Name,
+    numbers: LineNumbers,
+) -> u128
+    requires first { Keeps numbering.now left.now numbers.first }
+    requires second { Keeps numbering.now right.now numbers.second }
+    ensures { Marks numbering.now group (λ x. bytes_eq x left.now || bytes_eq x right.now) result }
+{
+    let first = mark(numbering, group, left, numbers.first);
+    first | mark(numbering, group, right, numbers.second)
+}
+
+/// The word of the names whose bytes a line reads.
+pub(crate) fn mark_read(
+    numbering: &Numbering,
+    group: usize,
+    statement: &Statement,
+    numbers: LineNumbers,
+) -> u128
+    requires { AreKept numbering.now statement.now numbers }
+    ensures { Marks numbering.now group (λ x. reads statement.now x) result }
+{
+    match reading_of(statement) {
+        Reading::Nothing => 0,
+        Reading::One(operand) => mark(numbering, group, operand, numbers.first),
+        Reading::Two(left, right) => mark_two(numbering, group, left, right, numbers),
+        Reading::Many(parts) => mark_all(numbering, group, parts),
+        Reading::Printed(arguments) => mark_arguments(numbering, group, arguments),
+    }
+}
+
+/// The word of the name that a line assigns.
+pub(crate) fn mark_assigned(
+    numbering: &Numbering,
+    group: usize,
+    statement: &Statement,
+    numbers: LineNumbers,
+) -> u128
+    requires { AreKept numbering.now statement.now numbers }
+    ensures { Marks numbering.now group (λ x. assigns statement.now x) result }
+{
+    match target_of(statement) {
+        None => 0,
+        Some(target) => mark(numbering, group, target, numbers.target),
+    }
+}

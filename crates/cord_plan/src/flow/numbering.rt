@@ -1,0 +1,190 @@
+// Names with numbers.
+ghost use Rattle.std.specs.Prelude.{◌≡◌, ◌+◌, ◌*◌, ◌%◌, ◌<◌, [], ◌∷◌, None, Some, IfOk, OnOk, length, slice_get};
+ghost use Rattle.cord_plan.specs.Operands.{cord_arguments, is_name};
+ghost use Rattle.cord_plan.specs.inner.Numbering.{slot_of, place_of, number_of, names_of, Adds, Keeps};
+
+use cord_script::{Argument, Name, is_same};
+use std::alloc::{AllocError, Global};
+
+/// The number of slots that guess a name's number.
+const SLOTS: usize = 4_096;
+
+// In a script of fewer statements names are looked for without guesses: clearing them would cost more.
+const LEAST_GUESSED: usize = 64;
+
+/// Names, each with a number: its place in the list.
+#[derive(Drop)]
+pub(crate) struct Numbering {
+    names: Vec<Name>,
+    // For each slot the number of a name of that slot: of two names of one slot the second is looked for.
+    guesses: Vec<u16>,
+}
+
+// The slot after one more byte.
+fn next_slot(slot: usize, byte: u8) -> usize
+    requires { slot < 4096 }
+    ensures slot { result ≡ (slot * 31 + byte) % 4096 }
+    ensures within { result < 4096 }
+{
+    (slot * 31 + byte as usize) % SLOTS
+}
+
+// The slot of a name of any length.
+fn slot_by_bytes(name: &[u8]) -> usize
+    ensures slot { result ≡ slot_of name.now }
+    ensures within { result < 4096 }
+{
+    let mut slot: usize = 0;
+    for byte in name {
+        slot = next_slot(slot, *byte);
+    }
+    slot
+}
+
+/// The slot of a name. Most names have at most four bytes: a loop would cost more.
+pub(crate) fn slot_of(name: &[u8]) -> usize
+    ensures slot { result ≡ slot_of name.now }
+    ensures within { result < 4096 }
+{
+    match name {
+        [a] => next_slot(0, *a),
+        [a, b] => next_slot(next_slot(0, *a), *b),
+        [a, b, c] => next_slot(next_slot(next_slot(0, *a), *b), *c),
+        [a, b, c, d] => {
+            let slot = next_slot(next_slot(0, *a), *b);
+            next_slot(next_slot(slot, *c), *d)
+        }
+        _ => slot_by_bytes(name),
+    }
+}
+
+// The first place of a name among others.
+#[cold]
+#[inline(never)]
+fn place_of(names: &[Name], name: &[u8]) -> Option<usize>
+    ensures { result ≡ place_of names.now name.now }
+{
+    for (i, known) in names.iter().enumerate() {
+        if name == known.as_slice() {
+            return Some(i);
+        }
+    }
+    None
+}
+
+// Whether this is the name at a place.
+fn is_at(names: &[Name], place: usize, name: &[u8]) -> bool
+    ensures { result ≡ is_name (slice_get names.now place) name.now }
+{
+    match names.get(place) {
+        Some(known) => is_same(name, known.as_slice()),
+        None => false,
+    }
+}
+
+// The number that is guessed for the names of a slot.
+fn set_guess(guesses: &mut [u16], slot: usize, number: usize)
+    ensures { length guesses.new ≡ length guesses.old }
+{
+    if let Ok(number) = u16::try_from(number)
+        && slot < guesses.len()
+    {
+        guesses[slot] = number;
+    }
+}
+
+impl Numbering {
+    /// No names so far, for a script of so many lines.
+    pub(crate) fn new(alloc: Global, lines: usize) -> Result<Self, AllocError>
+        ensures { IfOk result (λ t. names_of t ≡ []) }
+    {
+        let slots = if lines < LEAST_GUESSED { 0 } else { SLOTS };
+        Ok(Numbering {
+            names: Vec::new(alloc),
+            guesses: vec![in alloc; 0; slots]?,
+        })
+    }
+
+    /// How many names there are.
+    pub(crate) fn count(&self) -> usize
+        ensures { result ≡ length (names_of self.now) }
+    {
+        self.names.len()
+    }
+
+    /// The number of a name.
+    pub(crate) fn number_of(&self, name: &[u8]) -> Option<usize>
+        ensures { result ≡ number_of self.now name.now }
+    {
+        match self.guesses.get(slot_of(name)) {
+            Some(guess) if is_at(&self.names, usize::from(*guess), name) => {
+                Some(usize::from(*guess))
+            }
+            _ => place_of(&self.names, name),
+        }
+    }
+
+    /// The number of a name, of which this is kept.
+    pub(crate) fn number_with(&self, name: &[u8], kept: Option<u8>) -> Option<usize>
+        requires { Keeps self.now name.now kept }
+        ensures { result ≡ number_of self.now name.now }
+    {
+        match kept {
+            Some(number) => Some(usize::from(number)),
+            None => self.number_of(name),
+        }
+    }
+
+    // Takes in a name that isn't there, and gives its number.
+    fn add_new(&mut self, alloc: Global, name: &Name) -> Result<usize, AllocError>
+        requires { place_of (names_of self.old) name.now ≡ None }
+        ensures added { OnOk result (Adds (name.now ∷ []) (names_of self.old) (names_of self.new)) }
+        ensures number { IfOk result (λ n. slice_get (names_of self.new) n ≡ Some name.now) }
+    {
+        let number = self.count();
+        let copy = name.clone()?;
+        set_guess(&mut self.guesses, slot_of(name.as_slice()), number);
+        self.names.push(copy)?;
+        Ok(number)
+    }
+
+    /// Takes in a name where it isn't there, and gives its number.
+    pub(crate) fn add(&mut self, alloc: Global, name: &Name) -> Result<usize, AllocError>
+        ensures added { OnOk result (Adds (name.now ∷ []) (names_of self.old) (names_of self.new)) }
+        ensures number { IfOk result (λ n. slice_get (names_of self.new) n ≡ Some name.now) }
+    {
+        match self.number_of(name.as_slice()) {
+            Some(number) => Ok(number),
+            None => self.add_new(alloc, name),
+        }
+    }
+
+    /// Takes in these names.
+    pub(crate) fn add_all(&mut self, alloc: Global, names: &[Name]) -> Result<(), AllocError>
+        ensures { OnOk result (Adds names.now (names_of self.old) (names_of self.new)) }
+    {
+        for name in names {
+            self.add(alloc, name)?;
+        }
+        Ok(())
+    }
+
+    /// Takes in the cords among the arguments of a format.
+    pub(crate) fn add_arguments(
+        &mut self,
+        alloc: Global,
+        arguments: &[Argument],
+    ) -> Result<(), AllocError>
+        ensures { OnOk result (Adds (cord_arguments arguments.now) (names_of self.old) (names_of self.new)) }
+    {
+        for argument in arguments {
+            match argument {
+                Argument::Number(_) => {}
+                Argument::Cord(name) => {
+                    self.add(alloc, name)?;
+                }
+            }
+        }
+        Ok(())
+    }
+}

@@ -1,0 +1,229 @@
+// The last lines so far that assign and read each name.
+ghost use Rattle.std.specs.Prelude.{◌≡◌, ◌+◌, ◌||◌, ℕ, List, Some, IfOk, slice_get};
+ghost use Rattle.std.specs.Str.{bytes_eq};
+ghost use Rattle.cord_syntax.specs.declared.statements.Statement.{Statement};
+ghost use Rattle.cord_meaning.specs.Statements.{shape_of};
+ghost use Rattle.cord_plan.specs.Forced.{is_block};
+ghost use Rattle.cord_plan.specs.Operands.{assigns, cord_arguments, has, reads};
+ghost use Rattle.cord_plan.specs.inner.Numbering.{AreKept, Keeps};
+ghost use Rattle.cord_plan.specs.inner.Recent.{IsRecent, Notes, entry_at, entry_of, is_before, is_after};
+ghost use Rattle.cord_plan.specs.inner.Recent.{unless_after};
+
+use crate::flow::line_numbers::LineNumbers;
+use crate::flow::liveness::Later;
+use crate::flow::numbering::Numbering;
+use crate::flow::readings::{Reading, reading_of, target_of};
+use cord_script::{Argument, Name, Statement};
+use std::alloc::{AllocError, Global};
+
+/// For each number of a name the last line so far that assigns the name, and the last one that reads its bytes; and the last line
+/// of a block.
+#[derive(Drop)]
+pub(crate) struct Recent<'a> {
+    pub(crate) later: &'a Later,
+    pub(crate) assigned: Vec<Option<usize>>,
+    pub(crate) read: Vec<Option<usize>>,
+    pub(crate) block: Option<usize>,
+}
+
+/// What places, by the numbers of names, have for a number: nothing where it isn't one of theirs.
+pub(crate) fn entry_at(places: &[Option<usize>], number: Option<usize>) -> Option<Option<usize>>
+    ensures { result ≡ entry_at places.now number }
+{
+    match number {
+        None => None,
+        Some(number) => match places.get(number) {
+            None => None,
+            Some(place) => Some(*place),
+        },
+    }
+}
+
+/// What they have for a name.
+pub(crate) fn entry_of(
+    numbering: &Numbering,
+    places: &[Option<usize>],
+    name: &[u8],
+) -> Option<Option<usize>>
+    ensures { result ≡ entry_of numbering.now places.now name.now }
+{
+    entry_at(places, numbering.number_of(name))
+}
+
+// Whether a place, where there is one, stands after another.
+fn is_after(place: Option<usize>, other: usize) -> bool
+    ensures { result ≡ is_after place other }
+{
+    match place {
+        None => false,
+        Some(place) => other < place,
+    }
+}
+
+/// The last line that assigns a name, where neither of the other places stands after it.
+pub(crate) fn unless_after(
+    source: Option<usize>,
+    reader: Option<usize>,
+    block: Option<usize>,
+) -> Option<usize>
+    ensures { result ≡ unless_after source reader block }
+{
+    let place = source?;
+    if is_after(reader, place) || is_after(block, place) {
+        return None;
+    }
+    Some(place)
+}
+
+/// Whether a place, where there is one, stands before another.
+pub(crate) fn is_before(place: Option<usize>, other: usize) -> bool
+    ensures { result ≡ is_before place other }
+{
+    match place {
+        None => true,
+        Some(place) => place < other,
+    }
+}
+
+// Notes a place for a name.
+fn note(
+    numbering: &Numbering,
+    places: &mut [Option<usize>],
+    name: &Name,
+    kept: Option<u8>,
+    place: usize,
+)
+    requires { Keeps numbering.now name.now kept }
+    ensures { Notes numbering.now (λ x. bytes_eq x name.now) place places.old places.new }
+{
+    match numbering.number_with(name.as_slice(), kept) {
+        Some(number) if number < places.len() => places[number] = Some(place),
+        _ => {}
+    }
+}
+
+// Notes it for each of these names.
+fn note_all(numbering: &Numbering, places: &mut [Option<usize>], names: &[Name], place: usize)
+    ensures { Notes numbering.now (λ x. has names.now x) place places.old places.new }
+{
+    for name in names {
+        note(numbering, places, name, None, place);
+    }
+}
+
+// Notes it for each cord among the arguments of a format.
+fn note_arguments(
+    numbering: &Numbering,
+    places: &mut [Option<usize>],
+    arguments: &[Argument],
+    place: usize,
+)
+    ensures { Notes numbering.now (λ x. has (cord_arguments arguments.now) x) place places.old places.new }
+{
+    for argument in arguments {
+        match argument {
+            Argument::Number(_) => {}
+            Argument::Cord(name) => note(numbering, places, name, None, place),
+        }
+    }
+}
+
+// Notes it for two names.
+fn note_two(
+    numbering: &Numbering,
+    places: &mut [Option<usize>],
+    left: &Name,
+    right: &Name,
+    numbers: LineNumbers,
+    place: usize,
+)
+    requires first { Keeps numbering.now left.now numbers.first }
+    requires second { Keeps numbering.now right.now numbers.second }
+    ensures { Notes numbering.now (λ x. bytes_eq x left.now || bytes_eq x right.now) place places.old places.new }
+{
+    note(numbering, places, left, numbers.first, place);
+    note(numbering, places, right, numbers.second, place);
+}
+
+// Notes it for the names that a line reads.
+fn note_read(
+    numbering: &Numbering,
+    places: &mut [Option<usize>],
+    statement: &Statement,
+    numbers: LineNumbers,
+    place: usize,
+)
+    requires { AreKept numbering.now statement.now numbers }
+    ensures { Notes numbering.now (λ x. reads statement.now x) place places.old places.new }
+{
+    match reading_of(statement) {
+        Reading::Nothing => {}
+        Reading::One(operand) => note(numbering, places, operand, numbers.first, place),
+        Reading::Two(left, right) => note_two(numbering, places, left, right, numbers, place),
+        Reading::Many(parts) => note_all(numbering, places, parts, place),
+        Reading::Printed(arguments) => note_arguments(numbering, places, arguments, place),
+    }
+}
+
+// Notes it for the name that a line assigns.
+fn note_assigned(
+    numbering: &Numbering,
+    places: &mut [Option<usize>],
+    statement: &Statement,
+    numbers: LineNumbers,
+    place: usize,
+)
+    requires { AreKept numbering.now statement.now numbers }
+    ensures { Notes numbering.now (λ x. assigns statement.now x) place places.old places.new }
+{
+    match target_of(statement) {
+        None => {}
+        Some(target) => note(numbering, places, target, numbers.target, place),
+    }
+}
+
+/// Whether a line opens, parts or closes a block.
+pub(crate) fn is_block(statement: &Statement) -> bool
+    ensures { result ≡ is_block (shape_of statement.now) }
+{
+    match statement {
+        Statement::Repeat { .. }
+        | Statement::If { .. }
+        | Statement::Else { .. }
+        | Statement::End { .. } => true,
+        _ => false,
+    }
+}
+
+impl<'a> Recent<'a> {
+    /// Before the first line.
+    pub(crate) fn of(alloc: Global, later: &'a Later) -> Result<Self, AllocError>
+        ensures later { IfOk result (λ r. r.later.now ≡ later.now) }
+        ensures recent { IfOk result (λ r. (s : List Statement) → IsRecent s 0 r) }
+    {
+        let count = later.numbering.count();
+        let assigned = vec![in alloc; None; count]?;
+        let read = vec![in alloc; None; count]?;
+        Ok(Recent {
+            later,
+            assigned,
+            read,
+            block: None,
+        })
+    }
+
+    /// Notes the next line, whose names have these numbers.
+    pub(crate) fn note(&mut self, statement: &Statement, numbers: LineNumbers, place: usize)
+        requires { AreKept self.old.later.now.numbering statement.now numbers }
+        ensures later { self.new.later.now ≡ self.old.later.now }
+        ensures recent { (s : List Statement) → slice_get s place ≡ Some statement.now → IsRecent s place self.old →
+            IsRecent s (place + 1) self.new }
+    {
+        let numbering = &self.later.numbering;
+        note_assigned(numbering, &mut self.assigned, statement, numbers, place);
+        note_read(numbering, &mut self.read, statement, numbers, place);
+        if is_block(statement) {
+            self.block = Some(place);
+        }
+    }
+}

@@ -1,0 +1,226 @@
+// What stands for the operands of a line: their names, or expressions of earlier lines.
+ghost use Rattle.std.specs.Prelude.{◌≡◌, ◌==◌, ◌+◌, ◌<◌, ◌≤◌, ◌++◌, ◌∷◌, Some, ◌||◌, IfOk, IsOkUnless, drop, length};
+ghost use Rattle.std.specs.Prelude.{map, not, option_map};
+ghost use Rattle.cord_plan.specs.Exprs.{names, name};
+ghost use Rattle.cord_plan.specs.Operands.{assigns, count};
+ghost use Rattle.cord_plan.specs.Forced.{is_small, expr_of, expr_with};
+ghost use Rattle.cord_plan.specs.inner.Choices.{simple_operands, parts_beside, expression_in, is_spare, room_left_by};
+ghost use Rattle.cord_plan.specs.inner.Choices.{choice_view, operands_view, IsChoice, AreChoices};
+ghost use Rattle.cord_plan.specs.inner.Liveness.{tells};
+ghost use Rattle.cord_plan.specs.inner.Numbering.{Keeps, number_of};
+ghost use Rattle.cord_plan.specs.inner.Recent.{IsRecent};
+ghost use Rattle.cord_plan.specs.Views.{expr_view};
+
+use crate::flow::{LineNumbers, Recent, assigns};
+use crate::planner::parts::room_left;
+use crate::planner::staying::{nearest, stays};
+use crate::{Expr, MAX_EXPR_PARTS};
+use cord_io::CordError;
+use cord_script::{Name, Statement, is_same};
+use std::alloc::{AllocError, Global};
+
+/// What stands for an operand: its name, or the expression of the line at a place.
+#[derive(Clone, Copy)]
+pub(crate) enum Choice<'a> {
+    Kept(&'a Name),
+    Replaced(usize, &'a Expr),
+}
+
+/// A simple line of a script, with its place, its cord operands, the numbers of its names, and what the lines before it
+/// assign and read.
+#[derive(Clone, Copy)]
+pub(crate) struct Line<'a> {
+    pub(crate) statements: &'a [Statement],
+    pub(crate) place: usize,
+    pub(crate) statement: &'a Statement,
+    pub(crate) operands: &'a [Name],
+    pub(crate) numbers: LineNumbers,
+    pub(crate) recent: &'a Recent<'a>,
+}
+
+/// The cord operands of a simple line: those of a list where it stands, and copies of others.
+#[derive(Drop)]
+pub(crate) enum Operands<'a> {
+    Nothing,
+    One([Name; 1]),
+    Two([Name; 2]),
+    Listed(&'a [Name]),
+}
+
+impl Operands<'_> {
+    /// The operands in order.
+    pub(crate) fn as_slice(&self) -> &[Name]
+        ensures { result.now ≡ operands_view self.now }
+    {
+        match self {
+            Operands::Nothing => &[],
+            Operands::One(operand) => operand,
+            Operands::Two(operands) => operands,
+            Operands::Listed(operands) => operands,
+        }
+    }
+}
+
+/// The cord operands of a simple line; of other lines there are none.
+pub(crate) fn operands_of(statement: &Statement) -> Result<Option<Operands<'_>>, CordError>
+    ensures made { IfOk result (λ o. option_map operands_view o ≡ simple_operands statement.now) }
+    ensures refused { IsOkUnless result CordError.NoMemory }
+{
+    match statement {
+        Statement::Cat { left, right, .. } => Ok(Some(Operands::Two([
+            left.clone()?,
+            right.clone()?,
+        ]))),
+        Statement::Catn { parts, .. } => Ok(Some(Operands::Listed(parts.as_slice()))),
+        Statement::Catc { operand, .. }
+        | Statement::Substr { operand, .. }
+        | Statement::Put { operand, .. } => Ok(Some(Operands::One([operand.clone()?]))),
+        Statement::Chars { .. } | Statement::Nul { .. } => Ok(Some(Operands::Nothing)),
+        _ => Ok(None),
+    }
+}
+
+fn is_named_once(operands: &[Name], name: &[u8]) -> bool
+    ensures { result ≡ (count name.now operands.now == 1) }
+{
+    let mut times: usize = 0;
+    for operand in operands {
+        if is_same(name, operand.as_slice()) {
+            times += 1;
+        }
+    }
+    times == 1
+}
+
+// Whether no line after a line reads the name that it has as an operand, but for what the line itself assigns.
+fn is_free(line: &Line, name: &[u8], number: Option<usize>) -> bool
+    requires { number ≡ number_of line.now.recent.now.later.now.numbering name.now }
+    ensures { result ≡ (assigns line.now.statement.now name.now || not
+        (tells line.now.recent.now.later.now name.now line.now.place)) }
+{
+    assigns(line.statement, name) || !line.recent.later.is_later(number, line.place)
+}
+
+// Whether nothing but a line itself needs the text of an operand: the line names it once, and assigns it or it isn't read later.
+fn is_spare(line: &Line, operand: &Name, number: Option<usize>) -> bool
+    requires { number ≡ number_of line.now.recent.now.later.now.numbering operand.now }
+    ensures { result ≡ is_spare line.now.statements.now (tells line.now.recent.now.later.now) line.now.place
+        line.now.statement.now line.now.operands.now operand.now }
+{
+    let name = operand.as_slice();
+    is_named_once(line.operands, name) && is_free(line, name, number)
+}
+
+// The parts of a line's expression beside those of its operands.
+fn parts_beside(statement: &Statement) -> usize
+    ensures { result ≡ parts_beside statement.now }
+{
+    match statement {
+        Statement::Catc { .. } | Statement::Substr { .. } => 1,
+        _ => 0,
+    }
+}
+
+// How much of a room is left after the parts of what was chosen.
+fn room_left_by(chosen: &[Choice], room: u32) -> Option<u32>
+    ensures { result ≡ room_left_by (map choice_view chosen.now) room }
+{
+    let mut left = room;
+    for choice in chosen {
+        let after = match choice {
+            Choice::Kept(_) => left.checked_sub(1),
+            Choice::Replaced(_, expression) => room_left(expression, left),
+        };
+        match after {
+            Some(less) => left = less,
+            None => return None,
+        }
+    }
+    Some(left)
+}
+
+// Whether a line's expression stays small with this one for the next operand after those that were chosen for.
+fn stays_small(line: &Line, chosen: &[Choice], expression: &Expr) -> bool
+    requires operands { simple_operands line.now.statement.now ≡ Some line.now.operands.now }
+    requires more { length chosen.now < length line.now.operands.now }
+    ensures { result ≡ is_small (expr_with line.now.statement.now
+        (map expr_of (map choice_view chosen.now) ++ expr_view expression.now
+        ∷ map (λ y. name y) (drop (length (map choice_view chosen.now) + 1) line.now.operands.now))) }
+{
+    let names = line.operands.len() - chosen.len() - 1;
+    match room_left_by(chosen, MAX_EXPR_PARTS) {
+        None => false,
+        Some(room) => match room_left(expression, room) {
+            None => false,
+            Some(left) => names + parts_beside(line.statement) <= left as usize,
+        },
+    }
+}
+
+// The expression of the line at a place, where it has one.
+fn expression_at<'a>(table: &'a [Option<Expr>], place: usize) -> Option<&'a Expr>
+    ensures { option_map (λ e. expr_view e.now) result ≡ expression_in (map (option_map expr_view) table.now) place }
+{
+    match table.get(place) {
+        Some(Some(expression)) => Some(expression),
+        _ => None,
+    }
+}
+
+/// What stands for the next operand of a line after those that were chosen for, where the lines before it have these expressions.
+pub(crate) fn choose<'a>(
+    line: &Line,
+    operand: &'a Name,
+    kept: Option<u8>,
+    table: &'a [Option<Expr>],
+    chosen: &[Choice],
+) -> Choice<'a>
+    requires kept { Keeps line.now.recent.now.later.now.numbering operand.now kept }
+    requires place { line.now.place ≤ length line.now.statements.now }
+    requires recent { IsRecent line.now.statements.now line.now.place line.now.recent.now }
+    requires operands { simple_operands line.now.statement.now ≡ Some line.now.operands.now }
+    requires more { length chosen.now < length line.now.operands.now }
+    ensures { IsChoice line.now.statements.now (tells line.now.recent.now.later.now) line.now.place
+        line.now.statement.now line.now.operands.now operand.now (map (option_map expr_view) table.now)
+        (map choice_view chosen.now) (choice_view result) }
+{
+    let name = operand.as_slice();
+    let number = line.recent.later.numbering.number_with(name, kept);
+    if !is_spare(line, operand, number) {
+        return Choice::Kept(operand);
+    }
+    match nearest(line, name, number) {
+        None => Choice::Kept(operand),
+        Some(source) => match expression_at(table, source) {
+            None => Choice::Kept(operand),
+            Some(expression) => {
+                if stays(line, source, expression) && stays_small(line, chosen, expression) {
+                    Choice::Replaced(source, expression)
+                } else {
+                    Choice::Kept(operand)
+                }
+            }
+        },
+    }
+}
+
+/// What stands for each operand of a line, where the lines before it have these expressions.
+pub(crate) fn choose_all<'a>(
+    alloc: Global,
+    line: &Line<'a>,
+    table: &'a [Option<Expr>],
+) -> Result<Vec<Choice<'a>>, AllocError>
+    requires place { line.now.place ≤ length line.now.statements.now }
+    requires recent { IsRecent line.now.statements.now line.now.place line.now.recent.now }
+    requires operands { simple_operands line.now.statement.now ≡ Some line.now.operands.now }
+    ensures { IfOk result (λ cs. AreChoices line.now.statements.now
+        (tells line.now.recent.now.later.now) line.now.place line.now.statement.now
+        (map (option_map expr_view) table.now) (map choice_view cs.items)) }
+{
+    let mut chosen = Vec::with_capacity(alloc, line.operands.len())?;
+    for operand in line.operands {
+        let choice = choose(line, operand, None, table, &chosen);
+        chosen.push(choice)?;
+    }
+    Ok(chosen)
+}

@@ -1,0 +1,136 @@
+// Names and single bytes as shared expressions.
+ghost use Rattle.std.specs.Prelude.{◌≡◌, pos, IfOk, IfSome, IsOkUnless};
+ghost use Rattle.cord_operands.specs.declared.operands.Number.TheVariants.{Numeral};
+ghost use Rattle.cord_plan.specs.Exprs as plain;
+ghost use Rattle.cord_plan.specs.Views.{shared_view};
+
+use crate::Expr;
+use crate::flow::slot_of;
+use crate::planner::constructors::{named, shared_byte};
+use cord_io::CordError;
+use cord_script::{Name, Number, is_same};
+use std::alloc::{AllocError, Global};
+use std::rc::Rc;
+
+/// The number of slots in which names are looked for.
+const SLOTS: usize = 2_048;
+
+/// The number of slots in which single bytes are looked for, which stand after those of names.
+const BYTE_SLOTS: usize = 256;
+
+/// Names and single bytes as expressions, each made once and then shared: of two names of one slot the last one is kept.
+/// The slots take no memory before the first of them.
+#[derive(Drop)]
+pub(crate) struct Interner {
+    slots: Vec<Option<Rc<Expr>>>,
+}
+
+// The expression in a slot, where it is this name.
+fn find<'a>(slots: &'a [Option<Rc<Expr>>], slot: usize, name: &Name) -> Option<&'a Rc<Expr>>
+    ensures { IfSome result (λ e. shared_view e.now ≡ plain.name name.now) }
+{
+    match slots.get(slot) {
+        Some(Some(shared)) => match shared.as_ref() {
+            Expr::Name(known) if is_same(known.as_slice(), name.as_slice()) => Some(shared),
+            _ => None,
+        },
+        _ => None,
+    }
+}
+
+// The expression in a slot, where it is one copy of this byte.
+fn find_byte(slots: &[Option<Rc<Expr>>], slot: usize, byte: i64) -> Option<&Rc<Expr>>
+    ensures { IfSome result (λ e. shared_view e.now ≡ plain.run (Numeral byte) (Numeral (pos 1))) }
+{
+    match slots.get(slot) {
+        Some(Some(shared)) => match shared.as_ref() {
+            Expr::Run {
+                byte: Number::Numeral(known),
+                count: Number::Numeral(1),
+            } if *known == byte => Some(shared),
+            _ => None,
+        },
+        _ => None,
+    }
+}
+
+// A name as an expression, to be shared.
+fn shared_name(alloc: Global, name: &Name) -> Result<Rc<Expr>, CordError>
+    ensures made { IfOk result (λ e. shared_view e ≡ plain.name name.now) }
+    ensures refused { IsOkUnless result CordError.NoMemory }
+{
+    Ok(Rc::new(alloc, named(name)?)?)
+}
+
+// Slots without a name.
+fn empty_slots(alloc: Global) -> Result<Vec<Option<Rc<Expr>>>, AllocError> {
+    let mut slots = Vec::with_capacity(alloc, SLOTS + BYTE_SLOTS)?;
+    for _ in 0..SLOTS + BYTE_SLOTS {
+        slots.push(None)?;
+    }
+    Ok(slots)
+}
+
+impl Interner {
+    /// Without a name so far.
+    pub(crate) fn of(alloc: Global) -> Self {
+        Interner {
+            slots: Vec::new(alloc),
+        }
+    }
+
+    // Keeps an expression in a slot, and gives it back.
+    fn keep(&mut self, alloc: Global, slot: usize, shared: Rc<Expr>) -> Result<Rc<Expr>, CordError>
+        ensures made { IfOk result (λ e. shared_view e ≡ shared_view shared) }
+        ensures refused { IsOkUnless result CordError.NoMemory }
+    {
+        if self.slots.is_empty() {
+            self.slots = empty_slots(alloc)?;
+        }
+        if slot < self.slots.len() {
+            self.slots[slot] = Some(shared.clone()?);
+        }
+        Ok(shared)
+    }
+
+    /// A name as an expression. Refused only with `NoMemory`.
+    pub(crate) fn name(&mut self, alloc: Global, name: &Name) -> Result<Rc<Expr>, CordError>
+        ensures made { IfOk result (λ e. shared_view e ≡ plain.name name.now) }
+        ensures refused { IsOkUnless result CordError.NoMemory }
+    {
+        let slot = slot_of(name.as_slice()) % SLOTS;
+        match find(&self.slots, slot, name) {
+            Some(shared) => Ok(shared.clone()?),
+            None => self.keep(alloc, slot, shared_name(alloc, name)?),
+        }
+    }
+
+    // One copy of this byte, or of any other numeral.
+    fn numeral(&mut self, alloc: Global, byte: i64) -> Result<Rc<Expr>, CordError>
+        ensures made { IfOk result (λ e. shared_view e ≡ plain.run (Numeral byte) (Numeral (pos 1))) }
+        ensures refused { IsOkUnless result CordError.NoMemory }
+    {
+        let Ok(place) = u8::try_from(byte) else {
+            return shared_byte(alloc, &Number::Numeral(byte));
+        };
+        let slot = SLOTS + usize::from(place);
+        match find_byte(&self.slots, slot, byte) {
+            Some(shared) => Ok(shared.clone()?),
+            None => {
+                let shared = shared_byte(alloc, &Number::Numeral(byte))?;
+                self.keep(alloc, slot, shared)
+            }
+        }
+    }
+
+    /// One copy of a byte as an expression. Refused only with `NoMemory`.
+    pub(crate) fn byte(&mut self, alloc: Global, byte: &Number) -> Result<Rc<Expr>, CordError>
+        ensures made { IfOk result (λ e. shared_view e ≡ plain.run byte.now (Numeral (pos 1))) }
+        ensures refused { IsOkUnless result CordError.NoMemory }
+    {
+        match byte {
+            Number::Numeral(byte) => self.numeral(alloc, *byte),
+            Number::Named(_) => shared_byte(alloc, byte),
+        }
+    }
+}

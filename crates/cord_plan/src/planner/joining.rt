@@ -1,0 +1,193 @@
+// The expression of a line, with what stands for its operands.
+ghost use Rattle.std.specs.Prelude.{◌≡◌, ◌++◌, ◌∷◌, [], pos, IfOk, IsOkUnless, OnOk, map, option_map};
+ghost use Rattle.cord_plan.specs.Exprs as plain;
+ghost use Rattle.cord_plan.specs.Exprs.{append, in_front, members, nothing};
+ghost use Rattle.cord_operands.specs.declared.operands.Number.TheVariants.{Numeral};
+ghost use Rattle.cord_plan.specs.Forced.{expr_of, expr_with};
+ghost use Rattle.cord_plan.specs.inner.Choices.{choice_view};
+ghost use Rattle.cord_plan.specs.Views.{expr_view, members_of, shared_view};
+
+use crate::Expr;
+use crate::planner::choosing::Choice;
+use crate::planner::constructors::{cat, named, run, run_of, sub_of};
+use crate::planner::interning::Interner;
+use crate::planner::parts::{copy, share_onto};
+use cord_io::CordError;
+use cord_script::{Number, Statement};
+use std::alloc::Global;
+use std::rc::Rc;
+
+// An expression that stands for an operand.
+fn expression_of(alloc: Global, choice: &Choice) -> Result<Expr, CordError>
+    ensures made { IfOk result (λ e. expr_view e ≡ expr_of (choice_view choice.now)) }
+    ensures refused { IsOkUnless result CordError.NoMemory }
+{
+    match choice {
+        Choice::Kept(name) => named(name),
+        Choice::Replaced(_, expression) => copy(alloc, expression),
+    }
+}
+
+// A copy of an expression, to be shared.
+fn shared_copy(alloc: Global, expression: &Expr) -> Result<Rc<Expr>, CordError>
+    ensures made { IfOk result (λ e. shared_view e ≡ expr_view expression.now) }
+    ensures refused { IsOkUnless result CordError.NoMemory }
+{
+    Ok(Rc::new(alloc, copy(alloc, expression)?)?)
+}
+
+// Puts a copy of an expression after the members of a `cat`; of a `cat` its members, which are shared.
+fn add_copy(alloc: Global, members: &mut Vec<Rc<Expr>>, expression: &Expr) -> Result<(), CordError>
+    ensures added { OnOk result (members_of (map shared_view members.new.items)
+        ≡ append (members_of (map shared_view members.old.items)) (in_front (expr_view expression.now) nothing)) }
+    ensures refused { IsOkUnless result CordError.NoMemory }
+{
+    match expression {
+        Expr::Cat(inner) => share_onto(inner.as_slice(), members)?,
+        Expr::Name(_) => members.push(shared_copy(alloc, expression)?)?,
+        Expr::Run { .. } => members.push(shared_copy(alloc, expression)?)?,
+        Expr::Sub { .. } => members.push(shared_copy(alloc, expression)?)?,
+    }
+    Ok(())
+}
+
+// The same of an expression that stands for an operand.
+fn add(
+    alloc: Global,
+    interner: &mut Interner,
+    members: &mut Vec<Rc<Expr>>,
+    choice: &Choice,
+) -> Result<(), CordError>
+    ensures added { OnOk result (members_of (map shared_view members.new.items)
+        ≡ append (members_of (map shared_view members.old.items))
+        (in_front (expr_of (choice_view choice.now)) nothing)) }
+    ensures refused { IsOkUnless result CordError.NoMemory }
+{
+    match choice {
+        Choice::Kept(name) => members.push(interner.name(alloc, name)?)?,
+        Choice::Replaced(_, expression) => add_copy(alloc, members, expression)?,
+    }
+    Ok(())
+}
+
+// How many members what stands for an operand gives to a `cat`.
+fn member_count(choice: &Choice) -> usize {
+    match choice {
+        Choice::Replaced(_, Expr::Cat(members)) => members.as_slice().len(),
+        _ => 1,
+    }
+}
+
+// How many members these expressions give to a `cat`: so much room is taken at once.
+fn room_for(choices: &[Choice]) -> usize {
+    let mut room: usize = 0;
+    for choice in choices {
+        room = room.saturating_add(member_count(choice));
+    }
+    room
+}
+
+// The members that these expressions give to a `cat`, with room for so many more.
+fn joined(
+    alloc: Global,
+    interner: &mut Interner,
+    choices: &[Choice],
+    more: usize,
+) -> Result<Vec<Rc<Expr>>, CordError>
+    ensures made { IfOk result (λ ms. members_of (map shared_view ms.items)
+        ≡ members (map expr_of (map choice_view choices.now))) }
+    ensures refused { IsOkUnless result CordError.NoMemory }
+{
+    let room = room_for(choices).saturating_add(more);
+    let mut members = Vec::with_capacity(alloc, room)?;
+    'choices: for choice in choices {
+        add(alloc, interner, &mut members, choice)?;
+    }
+    Ok(members)
+}
+
+// `cat` of these expressions.
+fn joined_all(alloc: Global, interner: &mut Interner, choices: &[Choice]) -> Result<Expr, CordError>
+    ensures made { IfOk result (λ e. expr_view e ≡ plain.cat (members (map expr_of (map choice_view choices.now)))) }
+    ensures refused { IsOkUnless result CordError.NoMemory }
+{
+    Ok(cat(joined(alloc, interner, choices, 0)?))
+}
+
+// `cat` of these expressions and one byte.
+fn joined_with(
+    alloc: Global,
+    interner: &mut Interner,
+    choices: &[Choice],
+    byte: &Number,
+) -> Result<Expr, CordError>
+    ensures made { IfOk result (λ e. expr_view e ≡ plain.cat
+        (members (map expr_of (map choice_view choices.now) ++ plain.run byte.now (Numeral (pos 1)) ∷ []))) }
+    ensures refused { IsOkUnless result CordError.NoMemory }
+{
+    let mut members = joined(alloc, interner, choices, 1)?;
+    members.push(interner.byte(alloc, byte)?)?;
+    Ok(cat(members))
+}
+
+// An expression that stands for an operand, to be shared.
+fn shared_expression(
+    alloc: Global,
+    interner: &mut Interner,
+    choice: &Choice,
+) -> Result<Rc<Expr>, CordError>
+    ensures made { IfOk result (λ e. shared_view e ≡ expr_of (choice_view choice.now)) }
+    ensures refused { IsOkUnless result CordError.NoMemory }
+{
+    match choice {
+        Choice::Kept(name) => interner.name(alloc, name),
+        Choice::Replaced(_, expression) => shared_copy(alloc, expression),
+    }
+}
+
+// `sub` of what stands for an operand.
+fn part(
+    alloc: Global,
+    interner: &mut Interner,
+    choice: &Choice,
+    start: &Number,
+    count: &Number,
+) -> Result<Expr, CordError>
+    ensures made { IfOk result (λ e. expr_view e ≡ plain.sub (expr_of (choice_view choice.now)) start.now count.now) }
+    ensures refused { IsOkUnless result CordError.NoMemory }
+{
+    sub_of(shared_expression(alloc, interner, choice)?, start, count)
+}
+
+/// The expression of a simple line, where these stand for its operands; of any other line there is none.
+pub(crate) fn expression_with(
+    alloc: Global,
+    interner: &mut Interner,
+    statement: &Statement,
+    choices: &[Choice],
+) -> Result<Option<Expr>, CordError>
+    ensures made { IfOk result (λ e. option_map expr_view e
+        ≡ expr_with statement.now (map expr_of (map choice_view choices.now))) }
+    ensures refused { IsOkUnless result CordError.NoMemory }
+{
+    match statement {
+        Statement::Cat { .. } | Statement::Catn { .. } => Ok(Some(joined_all(
+            alloc, interner, choices,
+        )?)),
+        Statement::Catc { byte, .. } => Ok(Some(joined_with(alloc, interner, choices, byte)?)),
+        Statement::Chars { byte, count, .. } => Ok(Some(run_of(byte, count)?)),
+        Statement::Nul { count, .. } => {
+            let count = count.clone()?;
+            Ok(Some(run(Number::Numeral(0), count)))
+        }
+        Statement::Substr { start, count, .. } => match choices {
+            [] => Ok(None),
+            [choice, ..] => Ok(Some(part(alloc, interner, choice, start, count)?)),
+        },
+        Statement::Put { .. } => match choices {
+            [] => Ok(None),
+            [choice, ..] => Ok(Some(expression_of(alloc, choice)?)),
+        },
+        _ => Ok(None),
+    }
+}

@@ -1,0 +1,83 @@
+// Walks over expressions: their parts, copies of them.
+ghost use Rattle.std.specs.Prelude.{◌≡◌, ◌++◌, IfOk, IsOkUnless, OnOk, map};
+ghost use Rattle.cord_plan.specs.Exprs.{parts, parts_of};
+ghost use Rattle.cord_plan.specs.inner.Choices.{room_left};
+ghost use Rattle.cord_plan.specs.Views.{expr_view, members_of, shared_view};
+
+use crate::Expr;
+use crate::planner::constructors::{cat, named, run_of, sub_of};
+use cord_io::CordError;
+use std::alloc::Global;
+use std::rc::Rc;
+
+/// How much of a room is left after the parts of an expression, where they find room.
+#[cycle(room_left)]
+pub(crate) fn room_left(expression: &Expr, room: u32) -> Option<u32>
+    ensures { result ≡ room_left (parts (expr_view expression.now)) room }
+{
+    match expression {
+        Expr::Name(_) | Expr::Run { .. } => room.checked_sub(1),
+        Expr::Cat(members) => room_left_all(members.as_slice(), room),
+        Expr::Sub { expression, .. } => match room_left(expression.as_ref(), room) {
+            Some(left) => left.checked_sub(1),
+            None => None,
+        },
+    }
+}
+
+/// The same of all these expressions.
+#[cycle(room_left)]
+pub(crate) fn room_left_all(members: &[Rc<Expr>], room: u32) -> Option<u32>
+    ensures { result ≡ room_left (parts_of (members_of (map shared_view members.now))) room }
+{
+    let mut left = room;
+    for member in members {
+        let expression = member.as_ref();
+        let after = match expression {
+            Expr::Name(_) => left.checked_sub(1),
+            _ => room_left(expression, left),
+        };
+        match after {
+            Some(less) => left = less,
+            None => return None,
+        }
+    }
+    Some(left)
+}
+
+/// A copy of an expression, which shares the members of a `cat` and what a `sub` is of. Refused only with `NoMemory`.
+pub(crate) fn copy(alloc: Global, expression: &Expr) -> Result<Expr, CordError>
+    ensures made { IfOk result (λ e. expr_view e ≡ expr_view expression.now) }
+    ensures refused { IsOkUnless result CordError.NoMemory }
+{
+    match expression {
+        Expr::Name(name) => named(name),
+        Expr::Run { byte, count } => run_of(byte, count),
+        Expr::Cat(members) => {
+            let mut shared = Vec::new(alloc);
+            share_onto(members.as_slice(), &mut shared)?;
+            Ok(cat(shared))
+        }
+        Expr::Sub {
+            expression,
+            start,
+            count,
+        } => {
+            let shared = expression.clone()?;
+            sub_of(shared, start, count)
+        }
+    }
+}
+
+/// Puts these members after others, which share them; room for them is made at once. Refused only with `NoMemory`.
+pub(crate) fn share_onto(members: &[Rc<Expr>], shared: &mut Vec<Rc<Expr>>) -> Result<(), CordError>
+    ensures made { OnOk result (map shared_view shared.new.items ≡ map shared_view shared.old.items
+        ++ map shared_view members.now) }
+    ensures refused { IsOkUnless result CordError.NoMemory }
+{
+    shared.reserve(members.len())?;
+    for member in members {
+        shared.push_reserved(member.clone()?);
+    }
+    Ok(())
+}

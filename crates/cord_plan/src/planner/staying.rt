@@ -1,0 +1,181 @@
+// Which line gave a name its cord last, and whether the names of its expression stay what they were.
+ghost use Rattle.std.specs.Prelude.{◌≡◌, ◌≤◌, ◌++◌, [], ◌∷◌, Some, length, map};
+ghost use Rattle.cord_meaning.specs.Statements.{shape_of};
+ghost use Rattle.cord_plan.specs.Exprs.{names, names_of, number_names};
+ghost use Rattle.cord_plan.specs.Forced.{keeps};
+ghost use Rattle.cord_plan.specs.inner.Choices.{nearest};
+ghost use Rattle.cord_plan.specs.inner.Numbering.{number_of};
+ghost use Rattle.cord_plan.specs.inner.Recent.{IsRecent, stay, bars};
+ghost use Rattle.cord_plan.specs.Views.{expr_view, members_of, shared_view};
+
+use crate::Expr;
+use crate::flow::{
+    assigns, entry_at, entry_of, is_before, is_block, reads, target_of, unless_after,
+};
+use crate::planner::choosing::Line;
+use crate::planner::naming::lacks;
+use cord_script::{Number, Statement};
+use std::rc::Rc;
+
+/// So many lines are looked at faster than the numbers of names.
+const NEAR: usize = 2;
+
+// Whether no pair goes over a line for a name.
+fn bars(statement: &Statement, name: &[u8]) -> bool
+    ensures { result ≡ bars statement.now name.now }
+{
+    is_block(statement) || reads(statement, name)
+}
+
+// The nearest line, looked for line by line: so it is for a name without a number.
+fn nearest_by_lines(statements: &[Statement], place: usize, name: &[u8]) -> Option<usize>
+    requires { place ≤ length statements.now }
+    ensures { result ≡ nearest statements.now name.now place }
+{
+    for p in (0..place).rev() {
+        let statement = &statements[p];
+        if assigns(statement, name) {
+            return Some(p);
+        }
+        if bars(statement, name) {
+            return None;
+        }
+    }
+    None
+}
+
+/// The last line before a line that assigns a name of this number, where neither a block's line nor one that reads the name stands after it.
+pub(crate) fn nearest(line: &Line, name: &[u8], number: Option<usize>) -> Option<usize>
+    requires number { number ≡ number_of line.now.recent.now.later.now.numbering name.now }
+    requires place { line.now.place ≤ length line.now.statements.now }
+    requires recent { IsRecent line.now.statements.now line.now.place line.now.recent.now }
+    ensures { result ≡ nearest line.now.statements.now name.now line.now.place }
+{
+    let recent = line.recent;
+    match (
+        entry_at(&recent.assigned, number),
+        entry_at(&recent.read, number),
+    ) {
+        (Some(source), Some(reader)) => unless_after(source, reader, recent.block),
+        _ => nearest_by_lines(line.statements, line.place, name),
+    }
+}
+
+// Whether no line from one place up to another assigns a name, line by line.
+fn stays_by_lines(statements: &[Statement], from: usize, to: usize, name: &[u8]) -> bool
+    requires { to ≤ length statements.now }
+    ensures { result ≡ stay statements.now from to (name.now ∷ []) }
+{
+    for p in from..to {
+        if assigns(&statements[p], name) {
+            return false;
+        }
+    }
+    true
+}
+
+// Whether no line from a place up to a line assigns a name.
+fn name_stays(line: &Line, from: usize, name: &[u8]) -> bool
+    requires place { line.now.place ≤ length line.now.statements.now }
+    requires recent { IsRecent line.now.statements.now line.now.place line.now.recent.now }
+    ensures { result ≡ stay line.now.statements.now from line.now.place (name.now ∷ []) }
+{
+    let recent = line.recent;
+    match entry_of(&recent.later.numbering, &recent.assigned, name) {
+        Some(last) => is_before(last, from),
+        None => stays_by_lines(line.statements, from, line.place, name),
+    }
+}
+
+fn number_stays(line: &Line, from: usize, number: &Number) -> bool
+    requires place { line.now.place ≤ length line.now.statements.now }
+    requires recent { IsRecent line.now.statements.now line.now.place line.now.recent.now }
+    ensures { result ≡ stay line.now.statements.now from line.now.place (number_names number.now) }
+{
+    match number {
+        Number::Numeral(_) => true,
+        Number::Named(name) => name_stays(line, from, name.as_slice()),
+    }
+}
+
+fn numbers_stay(line: &Line, from: usize, first: &Number, second: &Number) -> bool
+    requires place { line.now.place ≤ length line.now.statements.now }
+    requires recent { IsRecent line.now.statements.now line.now.place line.now.recent.now }
+    ensures { result ≡ stay line.now.statements.now from line.now.place
+        (number_names first.now ++ number_names second.now) }
+{
+    number_stays(line, from, first) && number_stays(line, from, second)
+}
+
+// Whether no line from a place up to a line assigns a name of an expression, by the numbers of its names.
+#[cycle(stays_far)]
+fn stays_far(line: &Line, from: usize, expression: &Expr) -> bool
+    requires place { line.now.place ≤ length line.now.statements.now }
+    requires recent { IsRecent line.now.statements.now line.now.place line.now.recent.now }
+    ensures { result ≡ stay line.now.statements.now from line.now.place (names (expr_view expression.now)) }
+{
+    match expression {
+        Expr::Name(name) => name_stays(line, from, name.as_slice()),
+        Expr::Run { byte, count } => numbers_stay(line, from, byte, count),
+        Expr::Cat(members) => all_stay_far(line, from, members.as_slice()),
+        Expr::Sub {
+            expression,
+            start,
+            count,
+        } => {
+            stays_far(line, from, expression.as_ref()) && numbers_stay(line, from, start, count)
+        }
+    }
+}
+
+// The same of all these expressions.
+#[cycle(stays_far)]
+fn all_stay_far(line: &Line, from: usize, members: &[Rc<Expr>]) -> bool
+    requires place { line.now.place ≤ length line.now.statements.now }
+    requires recent { IsRecent line.now.statements.now line.now.place line.now.recent.now }
+    ensures { result ≡ stay line.now.statements.now from line.now.place
+        (names_of (members_of (map shared_view members.now))) }
+{
+    for member in members {
+        if !stays_far(line, from, member.as_ref()) {
+            return false;
+        }
+    }
+    true
+}
+
+// Whether a line assigns no name of an expression.
+fn keeps(statement: &Statement, expression: &Expr) -> bool
+    ensures { result ≡ keeps (Some statement.now) (names (expr_view expression.now)) }
+{
+    match target_of(statement) {
+        None => true,
+        Some(target) => lacks(expression, target.as_slice()),
+    }
+}
+
+// Whether no line from one place up to another assigns a name of an expression, line by line.
+fn stays_near(statements: &[Statement], from: usize, to: usize, expression: &Expr) -> bool
+    requires { to ≤ length statements.now }
+    ensures { result ≡ stay statements.now from to (names (expr_view expression.now)) }
+{
+    for p in from..to {
+        if !keeps(&statements[p], expression) {
+            return false;
+        }
+    }
+    true
+}
+
+/// Whether no line from a place up to a line assigns a name of an expression.
+pub(crate) fn stays(line: &Line, from: usize, expression: &Expr) -> bool
+    requires place { line.now.place ≤ length line.now.statements.now }
+    requires recent { IsRecent line.now.statements.now line.now.place line.now.recent.now }
+    ensures { result ≡ stay line.now.statements.now from line.now.place (names (expr_view expression.now)) }
+{
+    if line.place <= from.saturating_add(NEAR) {
+        stays_near(line.statements, from, line.place, expression)
+    } else {
+        stays_far(line, from, expression)
+    }
+}
