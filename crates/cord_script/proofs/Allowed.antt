@@ -24,7 +24,7 @@ use Rattle.cord_script.specs.Flaws.{words_flaw, is_count, wants_of, HasFormat, H
 use Rattle.cord_script.specs.Flaws.{operand_flaw, word_target_flaw, word_path_flaw, names_flaw, block_flaw}
 use Rattle.cord_script.specs.declared.parts.Part.{Part}
 use Rattle.cord_script.specs.Parted.{want_of, term_of, wanted_by, IsReadAs, IsFormatOf, IsParted, HasPartFlaw, IsChecked}
-use Rattle.cord_script.specs.inner.Leaves.{operand_term_flaw, target_term_flaw, path_term_flaw, first_term, terms_flaw}
+use Rattle.cord_script.specs.inner.ContextViews.{operand_term_flaw, target_term_flaw, path_term_flaw, first_term, terms_flaw}
 use Rattle.cord_script.proofs.Checked.{neither, holds, kind_right, target_right}
 use Rattle.cord_script.proofs.Terms.{either, name_begins, numeral_known}
 

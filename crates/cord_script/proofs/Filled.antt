@@ -44,7 +44,7 @@ use Rattle.cord_script.specs.Flaws.{first_of, unless, misfit, first_pair, first_
 use Rattle.cord_script.specs.Flaws.{arguments_flaw, words_flaw, wants_of, names_flaw, block_flaw, form_flaw, HasFormat, HasFormFlaw}
 use Rattle.cord_script.specs.Flaws.{HasBadWords}
 use Rattle.cord_script.specs.Parted.{want_of}
-use Rattle.cord_script.specs.inner.Leaves.{terms_flaw}
+use Rattle.cord_script.specs.inner.ContextViews.{terms_flaw}
 use Rattle.cord_script.specs.inner.Verbal.{verb_word, verb_shape, verb_effect, verb_form, find_verb, form_at}
 use Rattle.cord_script.proofs.Spelled.{both, chosen}
 use Rattle.cord_script.proofs.Checked.{neither, holds}
@@ -52,7 +52,7 @@ use Rattle.cord_script.proofs.Firsts.{same_bytes}
 use Rattle.cord_script.proofs.Terms.{either}
 use Rattle.cord_script.proofs.Tabled.{form_found, form_is}
 use Rattle.cord_script.proofs.Allowed.{names_same, all_allowed, block_right}
-use Rattle.cord_script.proofs.Behind.{same_effect}
+use Rattle.cord_script.proofs.Contexts.{same_effect}
 
 -- what a word says where this is wanted
 abbrev Said : Want → Type 0

@@ -1,5 +1,5 @@
 pub mod Allowed
-pub mod Behind
+pub mod Contexts
 pub mod Built
 pub mod Checked
 pub mod Either

@@ -14,7 +14,7 @@ use Rattle.cord_script.specs.Forms.{Grammar}
 use Rattle.cord_script.specs.Script.{Before, Block, ReadsBy, ReadsUpTo, Says, LinesSay, whole, start, after, after_all}
 use Rattle.cord_script.specs.Script.Block.{InRepeat, InIf, InElse}
 use Rattle.cord_script.specs.Flaws.{FlawBy, HasBadLine}
-use Rattle.cord_script.specs.inner.Leaves.{IsInnermostLeft}
+use Rattle.cord_script.specs.inner.ContextViews.{IsInnermostLeft}
 use Rattle.cord_script.specs.inner.Steps.{Takes, HasWrong, HasRead}
 
 all_more_at : {X : Type 0} (P : X → Type 0) (x : X) (xs : List X) → P x → All P xs → (k : ℕ) (d : X) → k < length (x ∷ xs) →

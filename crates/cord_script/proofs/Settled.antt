@@ -14,10 +14,10 @@ use Rattle.cord_script.specs.Script.{Before, Block, kind_of, names_after, paths_
 use Rattle.cord_script.specs.declared.refusals.RefusalKind.TheVariants.{WrongKind}
 use Rattle.cord_script.specs.Flaws.{first_of, unless, same_kind, assigned_flaw}
 use Rattle.cord_script.specs.Parted.{term_of}
-use Rattle.cord_script.specs.inner.Behind.{left_after}
+use Rattle.cord_script.specs.inner.Contexts.{context_after}
 use Rattle.cord_script.specs.inner.Settled.{IsSettled, AllSettled}
-use Rattle.cord_script.specs.inner.Leaves.{operand_term_flaw, target_term_flaw, path_term_flaw}
-use Rattle.cord_script.specs.inner.Leaves.{first_term, terms_flaw}
+use Rattle.cord_script.specs.inner.ContextViews.{operand_term_flaw, target_term_flaw, path_term_flaw}
+use Rattle.cord_script.specs.inner.ContextViews.{first_term, terms_flaw}
 use Rattle.cord_script.specs.inner.Verbal.{verb_effect}
 use Rattle.cord_script.proofs.Terms.{right_kind, same_kinds}
 
@@ -116,7 +116,7 @@ with_blocks old blocks = record { names = old.names; paths = old.paths; blocks =
 -- settled parts leave the blocks alone
 pub settled_left : (verb : Verb) (n : ℕ) (ps : List Part) (old : Before) (blocks : List Block) →
     AllSettled old.names (map term_of ps) → blocks ≡ blocks_after (verb_effect verb) n old.blocks →
-    with_blocks old blocks ≡ left_after verb n ps old
+    with_blocks old blocks ≡ context_after verb n ps old
 settled_left verb n ps old blocks h b =
     let names = settled_names old.names (map term_of ps) h in
     let paths = settled_paths old.names old.paths (map term_of ps) h in

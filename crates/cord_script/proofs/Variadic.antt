@@ -6,7 +6,7 @@ use Rattle.std.proofs.lemmas.Bool.{le-leb}
 use Rattle.std.proofs.lemmas.List.{take-replicate}
 use Rattle.cord_printf.specs.declared.pieces.Piece.{Piece}
 use Rattle.cord_script.specs.declared.TheConstants.{MIN_PARTS, MAX_PARTS}
-use Rattle.cord_script.specs.declared.taking.TheConstants.{TARGET, CORDS}
+use Rattle.cord_script.specs.declared.operands.TheConstants.{TARGET, CORDS}
 use Rattle.cord_script.specs.declared.kinds.Kind.TheVariants as kinds
 use Rattle.cord_script.specs.declared.kinds.Want.TheVariants as wants
 use Rattle.cord_script.specs.declared.parts.Part.{Part}

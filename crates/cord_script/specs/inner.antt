@@ -1,6 +1,6 @@
-pub mod Behind
+pub mod Contexts
 pub mod Built
-pub mod Leaves
+pub mod ContextViews
 pub mod Reading
 pub mod Settled
 pub mod Steps

@@ -2,7 +2,7 @@
 ghost use Rattle.std.specs.Prelude.{◌≡◌, ◌∷◌, [], map, IfErr, OnOk, MatchOption};
 ghost use Rattle.cord_script.specs.Script.{blocks_after, turned};
 ghost use Rattle.cord_script.specs.Flaws.{block_flaw, else_flaw};
-ghost use Rattle.cord_script.specs.inner.Leaves.{block_of, IsInnermostLeft};
+ghost use Rattle.cord_script.specs.inner.ContextViews.{block_of, IsInnermostLeft};
 ghost use Rattle.cord_script.specs.inner.Verbal.{verb_effect};
 
 use crate::grammar::Verb;

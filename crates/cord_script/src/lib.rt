@@ -1,22 +1,22 @@
 //! Scripts: from bytes to statements.
 #![tactic(auto)]
 
-mod before;
 mod blocks;
-mod builds;
-mod checks;
+mod context;
 mod cursor;
 mod grammar;
 mod kinds;
 mod laws;
 mod limits;
+mod line;
+mod names;
 mod numerals;
+mod operands;
 mod parser;
 mod parts;
 mod refusals;
-mod saying;
+mod statements;
 mod table;
-mod taking;
 mod words;
 
 pub use cord_operands::{Argument, Arguments, Function, Name, Names, Number, Path, Relation, Text};

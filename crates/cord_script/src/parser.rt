@@ -5,12 +5,12 @@ ghost use Rattle.cord_script.specs.Words.{IsIdle, IsSplit};
 ghost use Rattle.cord_syntax.specs.Lines.{line_of};
 ghost use Rattle.cord_script.specs.Script.{Reads, ReadsUpTo};
 ghost use Rattle.cord_script.specs.Flaws.{Flaw};
-ghost use Rattle.cord_script.specs.inner.Leaves.{before_of};
+ghost use Rattle.cord_script.specs.inner.ContextViews.{before_of};
 ghost use Rattle.cord_script.specs.inner.Steps.{Tells, Takes, HasWrong};
 
-use crate::before::Left;
 use crate::blocks::open_flaw;
-use crate::saying::said;
+use crate::context::Context;
+use crate::line::read_statement;
 use crate::words::{Word, blanks, head, tail, uncons, words_of};
 use crate::{MAX_LINES, MAX_SCRIPT, Refusal, RefusalKind, Script, Statement};
 use memchr::memchr;
@@ -45,16 +45,16 @@ fn line_statement<'a>(
     number: u32,
     line: &'a [u8],
     words: &mut VecDeque<Word<'a>>,
-    left: &mut Left,
+    context: &mut Context,
 ) -> Result<Option<Statement>, RefusalKind>
-    ensures tells { IfOk result (Tells number line.now (before_of left.old) (before_of left.new)) }
-    ensures flaw { IfErr result (λ kind. kind ≢ RefusalKind.NoMemory → HasWrong line.now (before_of left.old) kind) }
+    ensures tells { IfOk result (Tells number line.now (before_of context.old) (before_of context.new)) }
+    ensures flaw { IfErr result (λ kind. kind ≢ RefusalKind.NoMemory → HasWrong line.now (before_of context.old) kind) }
 {
     if is_idle(line) {
         return Ok(None);
     }
     words_of(alloc, line, words)?;
-    let statement = said(alloc, number, left, words)?;
+    let statement = read_statement(alloc, number, context, words)?;
     Ok(Some(statement))
 }
 
@@ -73,14 +73,14 @@ fn take_line<'a>(
     number: u32,
     line: &'a [u8],
     words: &mut VecDeque<Word<'a>>,
-    left: &mut Left,
+    context: &mut Context,
     statements: &mut Vec<Statement>,
 ) -> Result<(), RefusalKind>
-    ensures takes { OnOk result (Takes number line.now (before_of left.old) (before_of left.new) statements.old.items
+    ensures takes { OnOk result (Takes number line.now (before_of context.old) (before_of context.new) statements.old.items
         statements.new.items) }
-    ensures flaw { IfErr result (λ kind. kind ≢ RefusalKind.NoMemory → HasWrong line.now (before_of left.old) kind) }
+    ensures flaw { IfErr result (λ kind. kind ≢ RefusalKind.NoMemory → HasWrong line.now (before_of context.old) kind) }
 {
-    let Some(statement) = line_statement(alloc, number, line, words, left)? else {
+    let Some(statement) = line_statement(alloc, number, line, words, context)? else {
         return Ok(());
     };
     add(statements, statement)
@@ -111,7 +111,7 @@ pub fn parse(alloc: Global, script: &[u8]) -> Result<Script, Refusal>
     }
     let mut statements = Vec::new(alloc);
     let mut words = VecDeque::new(alloc);
-    let mut left = Left::nothing(alloc);
+    let mut context = Context::nothing(alloc);
     let mut rest = script;
     let mut number = 1u32;
     'lines: while !rest.is_empty() {
@@ -122,13 +122,20 @@ pub fn parse(alloc: Global, script: &[u8]) -> Result<Script, Refusal>
             });
         }
         let (line, after) = first_line(rest);
-        if let Err(kind) = take_line(alloc, number, line, &mut words, &mut left, &mut statements) {
+        if let Err(kind) = take_line(
+            alloc,
+            number,
+            line,
+            &mut words,
+            &mut context,
+            &mut statements,
+        ) {
             return Err(Refusal { line: number, kind });
         }
         rest = after;
         number += 1;
     }
-    if let Some(refusal) = open_flaw(&left.blocks) {
+    if let Some(refusal) = open_flaw(&context.blocks) {
         return Err(refusal);
     }
     Ok(Script::of(statements))

@@ -9,8 +9,8 @@ ghost use Rattle.cord_script.specs.Flaws.{function_misfit, relation_misfit};
 ghost use Rattle.cord_script.specs.Parted.{IsPart, is_path_text, is_no_zero, term_of};
 ghost use Rattle.cord_script.specs.inner.Settled.{IsSettled};
 
-use crate::checks::{has_kind, is_name};
 use crate::kinds::{Kind, Want};
+use crate::names::{has_kind, is_name};
 use crate::numerals::{is_digit, numeral_of};
 use crate::table::Table;
 use crate::words::Word;

@@ -6,12 +6,12 @@ use Rattle.cord_script.specs.declared.refusals.RefusalKind.{RefusalKind}
 use Rattle.cord_script.specs.Words.{IsIdle, IsSplit, HasWords, HasBadBytes}
 use Rattle.cord_script.specs.Script.{Before, LinesSay, whole, start, after_all}
 use Rattle.cord_script.specs.Flaws.{HasBadWords}
-use Rattle.cord_script.specs.inner.Behind.{SaysBehind}
+use Rattle.cord_script.specs.inner.Contexts.{SaysAfter}
 
 -- a line without a statement changes nothing; one with a statement has words that say it
 abbrev pub Tells : ℕ → List ℕ → Before → Before → Option Statement → Type 0
 Tells n line old new None = IsIdle line × (new ≡ old)
-Tells n line old new (Some s) = (¬ IsIdle line) × (words : List Word) × HasWords line words × SaysBehind n old new words s
+Tells n line old new (Some s) = (¬ IsIdle line) × (words : List Word) × HasWords line words × SaysAfter n old new words s
 
 -- the statement of a line, if it has one, is added to the others
 abbrev pub Takes : ℕ → List ℕ → Before → Before → List Statement → List Statement → Type 0

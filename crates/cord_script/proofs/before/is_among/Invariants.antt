@@ -1,6 +1,0 @@
-use Rattle.std.proofs.Common.{◌≡◌, drop}
-use Rattle.cord_script.specs.Script.{is_among}
-use Rattle.cord_script.proofs.before.is_among.Given as goal
-
-abbrev pub invariant-loop-known : goal.invariant-loop-known
-invariant-loop-known l = is_among l.paths l.path ≡ is_among (drop l.known-index l.paths) l.path

@@ -1,8 +1,0 @@
-use Rattle.std.proofs.Common.{sym, map}
-use Rattle.cord_script.specs.Parted.{term_of}
-use Rattle.cord_script.specs.inner.Leaves.{before_of}
-use Rattle.cord_script.proofs.Settled.{settled_right}
-use Rattle.cord_script.proofs.saying.unsettled_flaw.Goals as goal
-
-pub returns-then-settled : goal.returns-then-settled
-returns-then-settled c = sym (settled_right (before_of c.args.left.now) (map term_of c.args.parts.now) (c.requires c.if-settled.true))

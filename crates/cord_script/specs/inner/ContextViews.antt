@@ -1,0 +1,65 @@
+-- What the lines before a line leave, as the code keeps it, and what is wrong with terms after them.
+use Rattle.std.specs.Prelude.{ℕ, List, [], ◌∷◌, map, length, ◌||◌, nat_lt, Option, None}
+use Rattle.cord_script.specs.declared.TheConstants.{MAX_PATHS}
+use Rattle.cord_script.specs.declared.kinds.Kind.TheVariants as kinds
+use Rattle.cord_operands.specs.declared.operands.Number.TheVariants as numbers
+use Rattle.cord_script.specs.declared.table.Known.{Known}
+use Rattle.cord_script.specs.declared.blocks.Open.{Open}
+use Rattle.cord_script.specs.declared.blocks.Open.TheVariants as blocks
+use Rattle.cord_script.specs.declared.context.Context.{Context}
+use Rattle.cord_script.specs.declared.context.Pass.{Pass}
+use Rattle.cord_script.specs.declared.context.Pass.TheVariants as passes
+use Rattle.cord_script.specs.declared.refusals.RefusalKind.{RefusalKind}
+use Rattle.cord_script.specs.declared.refusals.RefusalKind.TheVariants.{TooMany}
+use Rattle.cord_script.specs.Forms.{Term}
+use Rattle.cord_script.specs.Forms.Term.{Target, Operand, Value, FilePath}
+use Rattle.cord_script.specs.Script.{Before, Block, kind_of, is_among}
+use Rattle.cord_script.specs.Script.Block.{InRepeat, InIf, InElse}
+use Rattle.cord_script.specs.Flaws.{first_of, unless, kind_flaw, assigned_flaw, IsLeft}
+
+-- an open block
+abbrev pub block_of : Open → Block
+block_of (blocks.Repeat line) = InRepeat line
+block_of (blocks.If line) = InIf line
+block_of (blocks.Else line) = InElse line
+
+-- the innermost open block is told so at the end of a script
+abbrev pub IsInnermostLeft : List Block → ℕ → RefusalKind → Type 0
+IsInnermostLeft [] n kind = ⊥
+IsInnermostLeft (block ∷ blocks) n kind = IsLeft block n kind
+
+-- what the lines before leave
+abbrev pub before_of : Context → Before
+before_of left = record { names = left.names; paths = left.paths.items; blocks = map block_of left.blocks.items }
+
+-- what is wrong with a term as an operand
+abbrev pub operand_term_flaw : List Known → Term → Option RefusalKind
+operand_term_flaw names (Operand kind name) = kind_flaw (kind_of names name) kind
+operand_term_flaw names (Value (numbers.Named name)) = kind_flaw (kind_of names name) kinds.Number
+operand_term_flaw names _ = None
+
+-- what is wrong with a term as the target
+abbrev pub target_term_flaw : List Known → Term → Option RefusalKind
+target_term_flaw names (Target kind name) = assigned_flaw (kind_of names name) kind (length names)
+target_term_flaw names _ = None
+
+-- what is wrong with a term as a path
+abbrev pub path_term_flaw : List (List ℕ) → Term → Option RefusalKind
+path_term_flaw paths (FilePath path) = unless (is_among paths path || nat_lt (length paths) MAX_PATHS) TooMany
+path_term_flaw paths _ = None
+
+-- what is wrong with a term in a pass
+abbrev pub term_flaw : Pass → Before → Term → Option RefusalKind
+term_flaw passes.Operands before t = operand_term_flaw before.names t
+term_flaw passes.Target before t = target_term_flaw before.names t
+term_flaw passes.Paths before t = path_term_flaw before.paths t
+
+-- the first that is wrong with terms, from left to right
+abbrev pub first_term : (Term → Option RefusalKind) → List Term → Option RefusalKind
+first_term test [] = None
+first_term test (t ∷ ts) = first_of (test t) (first_term test ts)
+
+-- what is wrong with the names of a line: the operands, the target, the path
+abbrev pub terms_flaw : Before → List Term → Option RefusalKind
+terms_flaw before ts = first_of (first_term (term_flaw passes.Operands before) ts)
+    (first_of (first_term (term_flaw passes.Target before) ts) (first_term (term_flaw passes.Paths before) ts))

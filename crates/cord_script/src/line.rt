@@ -1,0 +1,112 @@
+// What a line says after the lines before it.
+ghost use Rattle.std.specs.Prelude.{◌≡◌, ◌≢◌, [], ◌∷◌, Some, map, IfOk, IfErr, MatchOption, OnOk};
+ghost use Rattle.cord_script.specs.Flaws.{HasFormFlaw, HasBadWords};
+ghost use Rattle.cord_script.specs.Script.{Before, whole};
+ghost use Rattle.cord_script.specs.inner.ContextViews.{before_of, terms_flaw};
+ghost use Rattle.cord_script.specs.inner.Settled.{AreSettled};
+ghost use Rattle.cord_script.specs.Parted.{IsChecked, term_of};
+ghost use Rattle.cord_script.specs.inner.Contexts.{context_after, SaysAfter};
+ghost use Rattle.cord_script.specs.inner.Verbal.{verb_form, verb_word};
+
+use crate::blocks::{block_flaw, set_blocks};
+use crate::context::{Context, add_names, add_paths, names_flaw};
+use crate::cursor::Parts;
+use crate::grammar::{Verb, verb_of};
+use crate::operands::{Worded, parts_of};
+use crate::parts::Part;
+use crate::statements::statement_of;
+use crate::words::Word;
+use crate::{RefusalKind, Statement};
+use std::alloc::Global;
+use std::collections::VecDeque;
+
+// What is wrong with the names of a line, which are looked at only where they aren't settled.
+fn unsettled_flaw(context: &Context, settled: bool, parts: &[Part]) -> Option<RefusalKind>
+    requires { AreSettled settled context.now.names parts.now }
+    ensures { result ≡ terms_flaw (before_of context.now) (map term_of parts.now) }
+{
+    if settled {
+        return None;
+    }
+    names_flaw(context, parts)
+}
+
+// The parts of the words after a statement's word, with nothing wrong in them, their names or the open blocks.
+fn checked_parts(
+    alloc: Global,
+    context: &Context,
+    verb: Verb,
+    words: &mut VecDeque<Word>,
+) -> Result<Worded, RefusalKind>
+    ensures parts { IfOk result (λ worded. IsChecked (verb_form verb)
+        (before_of context.now) words.old.items worded.parts.items worded.format) }
+    ensures flaw { IfErr result (λ kind. kind ≢ RefusalKind.NoMemory →
+        HasFormFlaw (before_of context.now) (Some (verb_form verb)) words.old.items kind) }
+    ensures settled { IfOk result (λ worded. AreSettled worded.settled context.now.names worded.parts.items) }
+{
+    let worded = parts_of(alloc, &context.names, verb, words)?;
+    if let Some(kind) = unsettled_flaw(context, worded.settled, &worded.parts) {
+        return Err(kind);
+    }
+    if let Some(kind) = block_flaw(verb, &context.blocks) {
+        return Err(kind);
+    }
+    Ok(worded)
+}
+
+// What a line leaves after what the lines before it leave: only open blocks, where its parts are settled.
+fn leave(
+    verb: Verb,
+    number: u32,
+    context: &mut Context,
+    settled: bool,
+    parts: &[Part],
+) -> Result<(), RefusalKind>
+    requires { AreSettled settled context.old.names parts.now }
+    ensures context { OnOk result (before_of context.new ≡ context_after verb number parts.now (before_of context.old)) }
+    ensures flaw { IfErr result (λ kind. kind ≡ RefusalKind.NoMemory) }
+{
+    if settled {
+        return set_blocks(verb, number, &mut context.blocks);
+    }
+    add_names(&mut context.names, parts)?;
+    add_paths(&mut context.paths, parts)?;
+    set_blocks(verb, number, &mut context.blocks)
+}
+
+// The verb of the first word, which is taken.
+fn verb_in(words: &mut VecDeque<Word>) -> Option<Verb>
+    requires { words.old.items ≢ [] }
+    ensures { MatchOption result ((before : Before) → HasBadWords whole before words.old.items
+        RefusalKind.UnknownStatement) (λ verb. words.old.items ≡ Word.Plain (verb_word verb) ∷ words.new.items) }
+{
+    match words.pop_front() {
+        Some(Word::Plain(word)) => verb_of(word.as_slice()),
+        Some(Word::Quoted(_text)) => None,
+        None => None,
+    }
+}
+
+/// The statement that words say after the lines before, and what it leaves.
+pub fn read_statement(
+    alloc: Global,
+    number: u32,
+    context: &mut Context,
+    words: &mut VecDeque<Word>,
+) -> Result<Statement, RefusalKind>
+    requires { words.old.items ≢ [] }
+    ensures said { IfOk result (SaysAfter number (before_of context.old) (before_of context.new) words.old.items) }
+    ensures flaw { IfErr result (λ kind. kind ≢ RefusalKind.NoMemory →
+        HasBadWords whole (before_of context.old) words.old.items kind) }
+{
+    let Some(verb) = verb_in(words) else {
+        return Err(RefusalKind::UnknownStatement);
+    };
+    let Worded {
+        parts,
+        format,
+        settled,
+    } = checked_parts(alloc, context, verb, words)?;
+    leave(verb, number, context, settled, &parts)?;
+    statement_of(alloc, verb, number, format, Parts::of(parts))
+}
