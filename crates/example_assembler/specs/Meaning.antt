@@ -2,14 +2,14 @@
 use Rattle.std.specs.Prelude.{ℕ, List}
 use Rattle.std.specs.List.{flat_map, repeat}
 use Rattle.cord_io.specs.Table.{Table}
-use Rattle.example_assembler.specs.declared.template.Part.{Part}
-use Rattle.example_assembler.specs.declared.template.Part.TheVariants.{Text, File}
+use Rattle.example_assembler.specs.declared.template.Segment.{Segment}
+use Rattle.example_assembler.specs.declared.template.Segment.TheVariants.{Text, File}
 
--- the bytes of a part
-abbrev pub part_bytes : Table → Part → List ℕ
-part_bytes t (Text text) = text.now
-part_bytes t (File id times) = repeat times (t id.0)
+-- the bytes of a segment
+abbrev pub segment_bytes : Table → Segment → List ℕ
+segment_bytes t (Text text) = text.now
+segment_bytes t (File id times) = repeat times (t id.0)
 
--- the bytes of a template: those of its parts in order
-abbrev pub meaning : Table → List Part → List ℕ
-meaning t parts = flat_map (part_bytes t) parts
+-- the bytes of a template: those of its segments in order
+abbrev pub meaning : Table → List Segment → List ℕ
+meaning t segments = flat_map (segment_bytes t) segments

@@ -3,9 +3,9 @@ ghost use Rattle.std.specs.Prelude.{◌≡◌, ◌++◌, take, drop, IfOk, OnOk}
 ghost use Rattle.std.specs.List.{repeat};
 ghost use Rattle.cord_io.specs.Device.{Folder};
 ghost use Rattle.cord.specs.Means.{Means};
-ghost use Rattle.example_assembler.specs.Meaning.{meaning, part_bytes};
+ghost use Rattle.example_assembler.specs.Meaning.{meaning, segment_bytes};
 
-use crate::template::Part;
+use crate::template::Segment;
 use cord::{Cord, CordError, MAX_LEN, Sink, Source, SourceId, put, repeated};
 use std::alloc::Global;
 
@@ -13,30 +13,30 @@ use std::alloc::Global;
 pub fn write_range<S: Source, W: Sink>(
     alloc: Global,
     src: &mut S,
-    parts: &[Part<'_>],
+    segments: &[Segment<'_>],
     from: u64,
     count: u64,
     out: &mut W,
 ) -> Result<(), CordError>
     ensures { (folder : Folder) → S.keeps src.new folder → OnOk result
-        (W.taken out.new ≡ W.taken out.old ++ take count (drop from (meaning (S.table src.old folder) parts.now))) }
+        (W.taken out.new ≡ W.taken out.old ++ take count (drop from (meaning (S.table src.old folder) segments.now))) }
 {
     let mut text = Cord::empty();
-    for part in parts {
-        let next = cord_of(alloc, src, part)?;
+    for segment in segments {
+        let next = cord_of(alloc, src, segment)?;
         text = Cord::cat(alloc, &text, &next)?;
     }
     let range = text.substr(alloc, from, count)?;
     put(&range, src, out)
 }
 
-/// The text of a part.
-fn cord_of<S: Source>(alloc: Global, src: &S, part: &Part<'_>) -> Result<Cord, CordError>
-    ensures { IfOk result (Means (S.lengths src.now) (λ t. part_bytes t part.now)) }
+/// The text of a segment.
+fn cord_of<S: Source>(alloc: Global, src: &S, segment: &Segment<'_>) -> Result<Cord, CordError>
+    ensures { IfOk result (Means (S.lengths src.now) (λ t. segment_bytes t segment.now)) }
 {
-    match *part {
-        Part::Text(text) => Cord::from_bytes(alloc, text.as_bytes()),
-        Part::File(id, times) => copies(alloc, src, id, times),
+    match *segment {
+        Segment::Text(text) => Cord::from_bytes(alloc, text.as_bytes()),
+        Segment::File(id, times) => copies(alloc, src, id, times),
     }
 }
 

@@ -25,7 +25,7 @@
 //!   560 gigabytes is about fifty nodes.
 //! - A range of it is cut by going down from the root once, and `put` writes it in pieces of at most 64 KiB, so memory
 //!   stays the same whether a line is written or all.
-//! - The contract of `write_range` says what is written, over any files: that range of the meaning of the template's parts.
+//! - The contract of `write_range` says what is written, over any files: that range of the meaning of the template's segments.
 #![tactic(auto)]
 
 mod assemble;
@@ -48,9 +48,9 @@ fn write_part<F: Files>(
 ) -> Result<()> {
     let alloc = rt.alloc();
     let template = fs::read_to_string(rt, path)?;
-    let parts = parse(alloc, template.as_str(), values, sources)?;
+    let segments = parse(alloc, template.as_str(), values, sources)?;
     let mut out = StdSink::new(rt.stdout());
-    write_range(alloc, sources, &parts, from, count, &mut out)?;
+    write_range(alloc, sources, &segments, from, count, &mut out)?;
     Ok(())
 }
 
