@@ -24,7 +24,7 @@ pub(crate) use self::constructors::own_expression;
 pub(crate) use self::interning::Interner;
 pub(crate) use self::lines::operation_of;
 use self::table::Table;
-use crate::flow::{Later, LineNumbers, numbers_at, target_of};
+use crate::flow::{Later, LineNumbers, numbers_at};
 use crate::{Expr, Operation, Plan};
 use cord_io::CordError;
 use cord_script::{Script, Statement};
@@ -35,7 +35,7 @@ fn is_dead(statement: &Statement, numbers: LineNumbers, place: usize, later: &La
     requires { AreKept later.now.numbering statement.now numbers }
     ensures { result ≡ plan.is_dead (tells later.now) place (target_of statement.now) }
 {
-    match target_of(statement) {
+    match statement.target() {
         None => false,
         Some(target) => {
             let numbering = &later.numbering;

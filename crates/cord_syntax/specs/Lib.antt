@@ -1,2 +1,3 @@
 pub mod Families
 pub mod Lines
+pub mod Targets

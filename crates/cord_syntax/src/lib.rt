@@ -2,7 +2,11 @@
 #![tactic(auto)]
 
 mod copies;
+mod families;
 mod statements;
 
 pub use cord_operands::{Argument, Arguments, Function, Name, Names, Number, Path, Relation, Text};
+pub use families::{
+    Composition, Computation, Control, Derivation, Family, Growth, Look, Origin, Search,
+};
 pub use statements::{Script, Statement};

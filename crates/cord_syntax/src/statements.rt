@@ -1,6 +1,7 @@
 // What a script says.
-ghost use Rattle.std.specs.Prelude.{◌≡◌};
+ghost use Rattle.std.specs.Prelude.{◌≡◌, option_map};
 ghost use Rattle.cord_syntax.specs.Lines.{line_of};
+ghost use Rattle.cord_syntax.specs.Targets.{target_of};
 
 use crate::{Arguments, Function, Name, Names, Number, Path, Relation, Text};
 use cord_printf::Format;
@@ -267,6 +268,40 @@ impl Statement {
             | Statement::If { line, .. }
             | Statement::Else { line, .. }
             | Statement::End { line, .. } => *line,
+        }
+    }
+
+    /// The name that the statement assigns, where it assigns one.
+    pub fn target(&self) -> Option<&Name>
+        ensures { option_map (λ n. n.now) result ≡ target_of self.now }
+    {
+        match self {
+            Statement::Let { target, .. }
+            | Statement::File { target, .. }
+            | Statement::Eager { target, .. }
+            | Statement::Lazy { target, .. }
+            | Statement::Chars { target, .. }
+            | Statement::Nul { target, .. }
+            | Statement::FromFn { target, .. }
+            | Statement::Cat { target, .. }
+            | Statement::Catn { target, .. }
+            | Statement::Catc { target, .. }
+            | Statement::Substr { target, .. }
+            | Statement::Balance { target, .. }
+            | Statement::EcToCord { target, .. }
+            | Statement::Sprintf { target, .. }
+            | Statement::Len { target, .. }
+            | Statement::Fetch { target, .. }
+            | Statement::Cmp { target, .. }
+            | Statement::Ncmp { target, .. }
+            | Statement::Str { target, .. }
+            | Statement::Chr { target, .. }
+            | Statement::Rchr { target, .. }
+            | Statement::Assign { target, .. }
+            | Statement::Add { target, .. }
+            | Statement::Sub { target, .. }
+            | Statement::EcInit { target, .. } => Some(target),
+            _ => None,
         }
     }
 }

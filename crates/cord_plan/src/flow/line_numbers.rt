@@ -7,7 +7,7 @@ ghost use Rattle.cord_plan.specs.inner.Numbering.{Adds, AllKept, AreKept, ArePla
 ghost use Rattle.cord_plan.specs.inner.Readings.{read_names};
 
 use crate::flow::numbering::Numbering;
-use crate::flow::readings::{Reading, reading_of, target_of};
+use crate::flow::readings::{Reading, reading_of};
 use cord_script::Statement;
 use std::alloc::{AllocError, Global};
 
@@ -83,7 +83,7 @@ fn add_target(
     ensures target { IfOk result (λ kept. (x : List ℕ) → target_of statement.now ≡ Some x →
         IsPlace (names_of numbering.new) x kept) }
 {
-    match target_of(statement) {
+    match statement.target() {
         None => Ok(None),
         Some(target) => {
             let number = numbering.add(alloc, target)?;

@@ -7,7 +7,7 @@ ghost use Rattle.cord_plan.specs.inner.Numbering.{AreKept, Keeps};
 
 use crate::flow::line_numbers::LineNumbers;
 use crate::flow::numbering::Numbering;
-use crate::flow::readings::{Reading, reading_of, target_of};
+use crate::flow::readings::{Reading, reading_of};
 use cord_script::{Argument, Name, Statement};
 
 /// How many names a word stands for.
@@ -102,7 +102,7 @@ pub(crate) fn mark_assigned(
     requires { AreKept numbering.now statement.now numbers }
     ensures { Marks numbering.now group (λ x. assigns statement.now x) result }
 {
-    match target_of(statement) {
+    match statement.target() {
         None => 0,
         Some(target) => mark(numbering, group, target, numbers.target),
     }

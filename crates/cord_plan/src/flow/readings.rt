@@ -1,6 +1,6 @@
 // The names whose bytes a line reads, and the name that it assigns.
-ghost use Rattle.std.specs.Prelude.{◌≡◌, [], ◌∷◌, option_map};
-ghost use Rattle.cord_plan.specs.Operands.{has, cord_arguments, read_by, target_of, reads, assigns};
+ghost use Rattle.std.specs.Prelude.{◌≡◌, [], ◌∷◌};
+ghost use Rattle.cord_plan.specs.Operands.{has, cord_arguments, read_by, reads, assigns};
 ghost use Rattle.cord_plan.specs.inner.Readings.{read_names};
 
 use cord_script::{Argument, Name, Statement, is_same};
@@ -95,45 +95,11 @@ pub(crate) fn reads(statement: &Statement, name: &[u8]) -> bool
     }
 }
 
-/// The name that a line assigns.
-pub(crate) fn target_of(statement: &Statement) -> Option<&Name>
-    ensures { option_map (λ n. n.now) result ≡ target_of statement.now }
-{
-    match statement {
-        Statement::Let { target, .. }
-        | Statement::File { target, .. }
-        | Statement::Eager { target, .. }
-        | Statement::Lazy { target, .. }
-        | Statement::Chars { target, .. }
-        | Statement::Nul { target, .. }
-        | Statement::FromFn { target, .. }
-        | Statement::Cat { target, .. }
-        | Statement::Catn { target, .. }
-        | Statement::Catc { target, .. }
-        | Statement::Substr { target, .. }
-        | Statement::Balance { target, .. }
-        | Statement::EcToCord { target, .. }
-        | Statement::Sprintf { target, .. }
-        | Statement::Len { target, .. }
-        | Statement::Fetch { target, .. }
-        | Statement::Cmp { target, .. }
-        | Statement::Ncmp { target, .. }
-        | Statement::Str { target, .. }
-        | Statement::Chr { target, .. }
-        | Statement::Rchr { target, .. }
-        | Statement::Assign { target, .. }
-        | Statement::Add { target, .. }
-        | Statement::Sub { target, .. }
-        | Statement::EcInit { target, .. } => Some(target),
-        _ => None,
-    }
-}
-
 /// Whether a line assigns a name.
 pub(crate) fn assigns(statement: &Statement, name: &[u8]) -> bool
     ensures { result ≡ assigns statement.now name.now }
 {
-    match target_of(statement) {
+    match statement.target() {
         None => false,
         Some(target) => is_same(name, target.as_slice()),
     }

@@ -12,7 +12,7 @@ ghost use Rattle.cord_plan.specs.inner.Recent.{unless_after};
 use crate::flow::line_numbers::LineNumbers;
 use crate::flow::liveness::Later;
 use crate::flow::numbering::Numbering;
-use crate::flow::readings::{Reading, reading_of, target_of};
+use crate::flow::readings::{Reading, reading_of};
 use cord_script::{Argument, Name, Statement};
 use std::alloc::{AllocError, Global};
 
@@ -176,7 +176,7 @@ fn note_assigned(
     requires { AreKept numbering.now statement.now numbers }
     ensures { Notes numbering.now (λ x. assigns statement.now x) place places.old places.new }
 {
-    match target_of(statement) {
+    match statement.target() {
         None => {}
         Some(target) => note(numbering, places, target, numbers.target, place),
     }

@@ -1,8 +1,7 @@
 // The operation of a line.
-ghost use Rattle.std.specs.Prelude.{◌≡◌, Bool, None, IfOk, IsOkUnless, option_map};
-ghost use Rattle.cord_syntax.specs.Families.{IsPrint};
+ghost use Rattle.std.specs.Prelude.{◌≡◌, Bool, IfOk, IsOkUnless, option_map};
+ghost use Rattle.cord_syntax.specs.Families.{statement_of};
 ghost use Rattle.cord_plan.specs.Exprs as plain;
-ghost use Rattle.cord_plan.specs.Forced.{own};
 ghost use Rattle.cord_plan.specs.Planned as plan;
 ghost use Rattle.cord_plan.specs.Views.{expr_view, made_view, operation_view};
 
@@ -11,6 +10,7 @@ use crate::{Expr, Made, Operation};
 use cord_io::CordError;
 use cord_printf::Format;
 use cord_script::{Arguments, Name, Statement, Text};
+use cord_syntax::{Composition, Derivation, Family, Origin};
 use std::alloc::Global;
 
 /// The operation of a line whose expression is this one.
@@ -27,90 +27,126 @@ pub(crate) fn operation_of(
         (plan.or_nothing (option_map expr_view expression)) dead paired) }
     ensures refused { IsOkUnless result CordError.NoMemory }
 {
-    match statement {
-        Statement::Cat { line, target, .. }
-        | Statement::Catn { line, target, .. }
-        | Statement::Catc { line, target, .. }
-        | Statement::Chars { line, target, .. }
-        | Statement::Nul { line, target, .. }
-        | Statement::Substr { line, target, .. } => {
-            let expression = or_nothing(alloc, expression);
-            copied_assignment(dead || paired, *line, target, Made::Joined(expression))
+    let line = statement.line();
+    match statement.family() {
+        Family::Composition(composition) => {
+            operation_of_composition(alloc, line, composition, expression, dead, paired)
         }
-        Statement::Put { line, .. } => Ok(Operation::Write {
-            line: *line,
+        Family::Put { .. } => Ok(Operation::Write {
+            line,
             expression: or_nothing(alloc, expression),
         }),
-        _ => {
+        Family::Origin(origin) => {
             drop(expression);
-            operation_without(statement, dead)
+            operation_of_origin(line, origin, dead)
+        }
+        Family::Derivation(derivation) => {
+            drop(expression);
+            operation_of_derivation(line, derivation, dead)
+        }
+        Family::Computation(computation) => {
+            drop(expression);
+            Ok(Operation::Keep(computation.copied(line)?))
+        }
+        Family::Look(look) => {
+            drop(expression);
+            Ok(Operation::Keep(look.copied(line)?))
+        }
+        Family::Search(sought) => {
+            drop(expression);
+            Ok(Operation::Keep(sought.copied(line)?))
+        }
+        Family::Growth(growth) => {
+            drop(expression);
+            Ok(Operation::Keep(growth.copied(line)?))
+        }
+        Family::Control(control) => {
+            drop(expression);
+            Ok(Operation::Keep(control.copied(line)?))
         }
     }
 }
 
-// The operation of a line that has no expression.
-fn operation_without(statement: &Statement, dead: bool) -> Result<Operation, CordError>
-    requires { own statement.now ≡ None }
-    ensures made { IfOk result (λ o. (e : plain.Expr) (paired : Bool) →
-        operation_view o ≡ plan.operation statement.now e dead paired) }
+// The operation of a line that makes a cord for which an expression stands.
+fn operation_of_composition(
+    alloc: Global,
+    line: u32,
+    composition: Composition,
+    expression: Option<Expr>,
+    dead: bool,
+    paired: bool,
+) -> Result<Operation, CordError>
+    ensures made { IfOk result (λ o. operation_view o
+        ≡ plan.operation (statement_of line (Family.Composition composition.entry))
+        (plan.or_nothing (option_map expr_view expression)) dead paired) }
     ensures refused { IsOkUnless result CordError.NoMemory }
 {
-    match statement {
-        Statement::Let { line, target, text } => {
-            copied_assignment(dead, *line, target, Made::Literal(text.clone()?))
+    match composition {
+        Composition::Chars { target, .. }
+        | Composition::Nul { target, .. }
+        | Composition::Cat { target, .. }
+        | Composition::Catn { target, .. }
+        | Composition::Catc { target, .. }
+        | Composition::Substr { target, .. } => {
+            let made = Made::Joined(or_nothing(alloc, expression));
+            copied_assignment(dead || paired, line, target, made)
         }
-        Statement::File { line, target, path } => {
-            copied_assignment(dead, *line, target, Made::OfFile(path.clone()?))
+    }
+}
+
+// The operation of a line that makes a cord of none.
+fn operation_of_origin(line: u32, origin: Origin, dead: bool) -> Result<Operation, CordError>
+    ensures made { IfOk result (λ o. (e : plain.Expr) (paired : Bool) →
+        operation_view o ≡ plan.operation (statement_of line (Family.Origin origin.entry)) e dead paired) }
+    ensures refused { IsOkUnless result CordError.NoMemory }
+{
+    match origin {
+        Origin::Let { target, text } => {
+            copied_assignment(dead, line, target, Made::Literal(text.clone()?))
         }
-        Statement::Eager { line, target, path } => {
-            copied_assignment(dead, *line, target, Made::OfEager(path.clone()?))
+        Origin::File { target, path } => {
+            copied_assignment(dead, line, target, Made::OfFile(path.clone()?))
         }
-        Statement::Lazy { line, target, path } => {
-            copied_assignment(dead, *line, target, Made::OfLazy(path.clone()?))
+        Origin::Eager { target, path } => {
+            copied_assignment(dead, line, target, Made::OfEager(path.clone()?))
         }
-        Statement::FromFn {
-            line,
+        Origin::Lazy { target, path } => {
+            copied_assignment(dead, line, target, Made::OfLazy(path.clone()?))
+        }
+        Origin::FromFn {
             target,
             function,
             count,
-        } => copied_assignment(
-            dead,
-            *line,
-            target,
-            Made::OfFunction(*function, count.clone()?),
-        ),
-        Statement::Balance { .. } | Statement::EcToCord { .. } | Statement::Sprintf { .. } =>
-            operation_of_print(statement, dead),
-        _ => Ok(Operation::Keep(statement.copied()?)),
+        } => {
+            let made = Made::OfFunction(function, count.clone()?);
+            copied_assignment(dead, line, target, made)
+        }
     }
 }
 
 // The operation of a line that makes a cord anew of one cord, an extensible cord or a print.
-fn operation_of_print(statement: &Statement, dead: bool) -> Result<Operation, CordError>
-    requires { IsPrint statement.now }
+fn operation_of_derivation(
+    line: u32,
+    derivation: Derivation,
+    dead: bool,
+) -> Result<Operation, CordError>
     ensures made { IfOk result (λ o. (e : plain.Expr) (paired : Bool) →
-        operation_view o ≡ plan.operation statement.now e dead paired) }
+        operation_view o ≡ plan.operation (statement_of line (Family.Derivation derivation.entry)) e dead paired) }
     ensures refused { IsOkUnless result CordError.NoMemory }
 {
-    match statement {
-        Statement::Balance {
-            line,
-            target,
-            operand,
-        } => copied_assignment(dead, *line, target, Made::Balanced(operand.clone()?)),
-        Statement::EcToCord {
-            line,
-            target,
-            extensible,
-        } => copied_assignment(dead, *line, target, Made::OfExtensible(extensible.clone()?)),
-        Statement::Sprintf {
-            line,
+    match derivation {
+        Derivation::Balance { target, operand } => {
+            copied_assignment(dead, line, target, Made::Balanced(operand.clone()?))
+        }
+        Derivation::EcToCord { target, extensible } => {
+            copied_assignment(dead, line, target, Made::OfExtensible(extensible.clone()?))
+        }
+        Derivation::Sprintf {
             target,
             text,
             format,
             arguments,
-        } => copied_assignment(dead, *line, target, printed(text, format, arguments)?),
-        _ => unreachable!(),
+        } => copied_assignment(dead, line, target, printed(text, format, arguments)?),
     }
 }
 

@@ -9,9 +9,7 @@ ghost use Rattle.cord_plan.specs.inner.Recent.{IsRecent, stay, bars};
 ghost use Rattle.cord_plan.specs.Views.{expr_view, members_of, shared_view};
 
 use crate::Expr;
-use crate::flow::{
-    assigns, entry_at, entry_of, is_before, is_block, reads, target_of, unless_after,
-};
+use crate::flow::{assigns, entry_at, entry_of, is_before, is_block, reads, unless_after};
 use crate::planner::choosing::Line;
 use crate::planner::naming::lacks;
 use cord_script::{Number, Statement};
@@ -148,7 +146,7 @@ fn all_stay_far(line: &Line, from: usize, members: &[Rc<Expr>]) -> bool
 fn keeps(statement: &Statement, expression: &Expr) -> bool
     ensures { result ≡ keeps (Some statement.now) (names (expr_view expression.now)) }
 {
-    match target_of(statement) {
+    match statement.target() {
         None => true,
         Some(target) => lacks(expression, target.as_slice()),
     }

@@ -1,6 +1,6 @@
 // The text of statements that are kept.
-ghost use Rattle.std.specs.Prelude.{◌≡◌, map};
-ghost use Rattle.cord_syntax.specs.Families.{IsGrowth, IsLook, IsSearch, IsCount, IsControl};
+ghost use Rattle.std.specs.Prelude.{◌≡◌, ℕ, map};
+ghost use Rattle.cord_syntax.specs.Families.{statement_of};
 ghost use Rattle.cord_plan.specs.Shown.{called, counted, grows, relation, statement};
 ghost use Rattle.cord_plan.specs.inner.Showing.{Writes, fragment_text};
 
@@ -8,67 +8,48 @@ use super::fragments::Fragment::{Count, Name, Number, Plain};
 use super::fragments::{Fragment, put_fragments, put_text, put_words};
 use cord_io::{Sink, WriteFault};
 use cord_script::{Relation, Statement};
+use cord_syntax::{Computation, Control, Family, Growth, Look, Search};
 
 // Hands a sink the text of a statement that is kept; of any other, nothing.
 pub(crate) fn put_statement<W: Sink>(kept: &Statement, sink: &mut W) -> Result<(), WriteFault>
     ensures { Writes (statement kept.now) (W.taken sink.old) (W.taken sink.new) (W.failures sink.old)
         (W.failures sink.new) (W.finished sink.old) (W.finished sink.new) result }
 {
-    match kept {
-        Statement::Len { .. }
-        | Statement::Fetch { .. }
-        | Statement::Cmp { .. }
-        | Statement::Ncmp { .. } => put_look(kept, sink),
-        Statement::Str { .. } | Statement::Chr { .. } | Statement::Rchr { .. } => put_search(
-            kept, sink,
-        ),
-        Statement::Assign { .. } | Statement::Add { .. } | Statement::Sub { .. } => put_count(
-            kept, sink,
-        ),
-        Statement::EcInit { .. }
-        | Statement::EcPut { .. }
-        | Statement::EcCat { .. }
-        | Statement::EcStr { .. } => put_growth(kept, sink),
-        Statement::Repeat { .. }
-        | Statement::If { .. }
-        | Statement::Else { .. }
-        | Statement::End { .. } => put_control(kept, sink),
-        _ => Ok(()),
+    match kept.family() {
+        Family::Computation(computation) => put_computation(computation, sink),
+        Family::Look(look) => put_look(look, sink),
+        Family::Search(sought) => put_search(sought, sink),
+        Family::Growth(growth) => put_growth(growth, sink),
+        Family::Control(control) => put_control(control, sink),
+        Family::Origin(_) | Family::Composition(_) | Family::Derivation(_) | Family::Put { .. } =>
+            Ok(()),
     }
 }
 
-// The text of a statement that measures, looks into or compares cords.
-fn put_look<W: Sink>(kept: &Statement, sink: &mut W) -> Result<(), WriteFault>
-    requires { IsLook kept.now }
-    ensures { Writes (statement kept.now) (W.taken sink.old) (W.taken sink.new) (W.failures sink.old)
-        (W.failures sink.new) (W.finished sink.old) (W.finished sink.new) result }
+// The text of a statement that finds a byte or an order of cords.
+fn put_look<W: Sink>(look: Look, sink: &mut W) -> Result<(), WriteFault>
+    ensures { (line : ℕ) → Writes (statement (statement_of line (Family.Look look.entry))) (W.taken sink.old)
+        (W.taken sink.new) (W.failures sink.old) (W.failures sink.new) (W.finished sink.old) (W.finished sink.new)
+        result }
 {
-    match kept {
-        Statement::Len {
-            target,
-            operand,
-            ..
-        } => put_counted(target, b"len", &[Name(operand)], sink),
-        Statement::Fetch {
+    match look {
+        Look::Fetch {
             target,
             operand,
             index,
-            ..
         } => put_counted(target, b"fetch", &[Name(operand), Number(index)], sink),
-        Statement::Cmp {
+        Look::Cmp {
             target,
             left,
             right,
-            ..
         } => put_counted(target, b"cmp", &[Name(left), Name(right)], sink),
-        Statement::Ncmp {
+        Look::Ncmp {
             target,
             left,
             left_start,
             right,
             right_start,
             count,
-            ..
         } => {
             let operands = [
                 Name(left),
@@ -79,118 +60,98 @@ fn put_look<W: Sink>(kept: &Statement, sink: &mut W) -> Result<(), WriteFault>
             ];
             put_counted(target, b"ncmp", &operands, sink)
         }
-        _ => unreachable!(),
     }
 }
 
 // The text of a statement that searches a cord.
-fn put_search<W: Sink>(kept: &Statement, sink: &mut W) -> Result<(), WriteFault>
-    requires { IsSearch kept.now }
-    ensures { Writes (statement kept.now) (W.taken sink.old) (W.taken sink.new) (W.failures sink.old)
-        (W.failures sink.new) (W.finished sink.old) (W.finished sink.new) result }
+fn put_search<W: Sink>(sought: Search, sink: &mut W) -> Result<(), WriteFault>
+    ensures { (line : ℕ) → Writes (statement (statement_of line (Family.Search sought.entry))) (W.taken sink.old)
+        (W.taken sink.new) (W.failures sink.old) (W.failures sink.new) (W.finished sink.old) (W.finished sink.new)
+        result }
 {
-    match kept {
-        Statement::Str {
+    match sought {
+        Search::Str {
             target,
             operand,
             start,
             pattern,
-            ..
         } => put_counted(
             target,
             b"str",
             &[Name(operand), Number(start), Name(pattern)],
             sink,
         ),
-        Statement::Chr {
+        Search::Chr {
             target,
             operand,
             start,
             byte,
-            ..
         } => put_counted(
             target,
             b"chr",
             &[Name(operand), Number(start), Number(byte)],
             sink,
         ),
-        Statement::Rchr {
+        Search::Rchr {
             target,
             operand,
             start,
             byte,
-            ..
         } => put_counted(
             target,
             b"rchr",
             &[Name(operand), Number(start), Number(byte)],
             sink,
         ),
-        _ => unreachable!(),
     }
 }
 
-// The text of a statement that reckons with numbers.
-fn put_count<W: Sink>(kept: &Statement, sink: &mut W) -> Result<(), WriteFault>
-    requires { IsCount kept.now }
-    ensures { Writes (statement kept.now) (W.taken sink.old) (W.taken sink.new) (W.failures sink.old)
-        (W.failures sink.new) (W.finished sink.old) (W.finished sink.new) result }
+// The text of a statement that computes a number and reads no byte.
+fn put_computation<W: Sink>(computation: Computation, sink: &mut W) -> Result<(), WriteFault>
+    ensures { (line : ℕ) → Writes (statement (statement_of line (Family.Computation computation.entry))) (W.taken sink.old)
+        (W.taken sink.new) (W.failures sink.old) (W.failures sink.new) (W.finished sink.old) (W.finished sink.new)
+        result }
 {
-    match kept {
-        Statement::Assign { target, value, .. } => put_counted(
+    match computation {
+        Computation::Len { target, operand } => put_counted(target, b"len", &[Name(operand)], sink),
+        Computation::Assign { target, value } => put_counted(
             target,
             b"set",
             &[Number(value)],
             sink,
         ),
-        Statement::Add {
+        Computation::Add {
             target,
             left,
             right,
-            ..
         } => put_counted(target, b"add", &[Number(left), Number(right)], sink),
-        Statement::Sub {
+        Computation::Sub {
             target,
             left,
             right,
-            ..
         } => put_counted(target, b"sub", &[Number(left), Number(right)], sink),
-        _ => unreachable!(),
     }
 }
 
-// The text of a statement that changes an extensible cord.
-fn put_growth<W: Sink>(kept: &Statement, sink: &mut W) -> Result<(), WriteFault>
-    requires { IsGrowth kept.now }
-    ensures { Writes (statement kept.now) (W.taken sink.old) (W.taken sink.new) (W.failures sink.old)
-        (W.failures sink.new) (W.finished sink.old) (W.finished sink.new) result }
+// The text of a statement that begins an extensible cord or lets it grow.
+fn put_growth<W: Sink>(growth: Growth, sink: &mut W) -> Result<(), WriteFault>
+    ensures { (line : ℕ) → Writes (statement (statement_of line (Family.Growth growth.entry))) (W.taken sink.old)
+        (W.taken sink.new) (W.failures sink.old) (W.failures sink.new) (W.finished sink.old) (W.finished sink.new)
+        result }
 {
-    match kept {
-        Statement::EcInit { target, .. } => put_words(
-            &[Plain(b"ec"), Name(target), Plain(b"init")],
-            sink,
-        ),
-        Statement::EcPut {
-            extensible,
-            byte,
-            ..
-        } => put_grown(extensible, b"byte", Number(byte), sink),
-        Statement::EcStr {
-            extensible,
-            text,
-            ..
-        } => put_grown(
+    match growth {
+        Growth::EcInit { target } => put_words(&[Plain(b"ec"), Name(target), Plain(b"init")], sink),
+        Growth::EcPut { extensible, byte } => put_grown(extensible, b"byte", Number(byte), sink),
+        Growth::EcStr { extensible, text } => put_grown(
             extensible,
             b"bytes",
             Count(text.as_slice().len() as u64),
             sink,
         ),
-        Statement::EcCat {
+        Growth::EcCat {
             extensible,
             operand,
-            ..
         } => put_grown(extensible, b"cord", Name(operand), sink),
-        _ => unreachable!(),
     }
 }
 
@@ -220,30 +181,28 @@ fn put_grown<'a, W: Sink>(
 }
 
 // The text of a statement that leads the run.
-fn put_control<W: Sink>(kept: &Statement, sink: &mut W) -> Result<(), WriteFault>
-    requires { IsControl kept.now }
-    ensures { Writes (statement kept.now) (W.taken sink.old) (W.taken sink.new) (W.failures sink.old)
-        (W.failures sink.new) (W.finished sink.old) (W.finished sink.new) result }
+fn put_control<W: Sink>(control: Control, sink: &mut W) -> Result<(), WriteFault>
+    ensures { (line : ℕ) → Writes (statement (statement_of line (Family.Control control.entry))) (W.taken sink.old)
+        (W.taken sink.new) (W.failures sink.old) (W.failures sink.new) (W.finished sink.old) (W.finished sink.new)
+        result }
 {
-    match kept {
-        Statement::Repeat { count, .. } => put_words(&[Plain(b"repeat"), Number(count)], sink),
-        Statement::If {
+    match control {
+        Control::Repeat { count } => put_words(&[Plain(b"repeat"), Number(count)], sink),
+        Control::If {
             left,
             relation,
             right,
-            ..
         } => {
             let words = [
                 Plain(b"if"),
                 Number(left),
-                Plain(relation_word(*relation)),
+                Plain(relation_word(relation)),
                 Number(right),
             ];
             put_words(&words, sink)
         }
-        Statement::Else { .. } => put_text(b"else", sink),
-        Statement::End { .. } => put_text(b"end", sink),
-        _ => Ok(()),
+        Control::Else => put_text(b"else", sink),
+        Control::End => put_text(b"end", sink),
     }
 }
 
