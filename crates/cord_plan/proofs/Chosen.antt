@@ -6,7 +6,7 @@ use Rattle.std.proofs.lemmas.List.{map-append}
 use Rattle.cord_syntax.specs.declared.statements.Statement.{Statement}
 use Rattle.cord_plan.specs.Exprs.{Expr, name}
 use Rattle.cord_plan.specs.Operands.{assigns_at}
-use Rattle.cord_plan.specs.Forced.{Table, Choice, kept, replaced, expr_of, expr_with, first_of, own, setter, fits, is_small, chosen_from}
+use Rattle.cord_plan.specs.Forced.{Table, Choice, named, replaced, expr_of, expr_with, first_of, own, setter, fits, is_small, chosen_from}
 use Rattle.cord_plan.specs.Forced.{chosen_of, choices, operands_chosen, grown, exprs}
 
 pub both_true : (a b : Bool) → (a && b) ≡ true → (a ≡ true) × (b ≡ true)
@@ -62,7 +62,7 @@ module _ (s : List Statement) (later : List ℕ → ℕ → Bool) where
 
   -- what stands for the operand x, where these other operands stand before and after it
   abbrev pub Stands : Table → ℕ → Statement → List Expr → List Expr → List ℕ → Choice → Type 0
-  Stands table b l before after x (kept y) = y ≡ x
+  Stands table b l before after x (named y) = y ≡ x
   Stands table b l before after x (replaced a r) = Taken table b l x a r × (is_small (expr_with l (before ++ r ∷ after)) ≡ true)
 
   from_stands : (table : Table) (b : ℕ) (l : Statement) (x : List ℕ) (before after : List Expr) (a : ℕ) (o : Option Expr) →
@@ -73,7 +73,7 @@ module _ (s : List Statement) (later : List ℕ → ℕ → Bool) where
       refl
     where
       pick : (v : Bool) → (fits s later r a b l x && is_small (expr_with l (before ++ r ∷ after))) ≡ v →
-          Stands table b l before after x (if v then replaced a r else kept x)
+          Stands table b l before after x (if v then replaced a r else named x)
       pick true e =
           let p = both_true (fits s later r a b l x) (is_small (expr_with l (before ++ r ∷ after))) e in
           (record { set = setter_is s x b a set; from = from; fit = p.0 }, p.1)
@@ -87,7 +87,7 @@ module _ (s : List Statement) (later : List ℕ → ℕ → Bool) where
   module _ (table : Table) (b : ℕ) (l : Statement) where
     -- the operand, or the expression of the line that set it last
     abbrev pub Chosen : List ℕ → Choice → Type 0
-    Chosen x (kept y) = y ≡ x
+    Chosen x (named y) = y ≡ x
     Chosen x (replaced a r) = Taken table b l x a r
 
     -- one choice for each operand
@@ -105,7 +105,7 @@ module _ (s : List Statement) (later : List ℕ → ℕ → Bool) where
     chosen_then (y ∷ xs) (d ∷ cs) x c h k = (h.0, chosen_then xs cs x c h.1 k)
 
     is_chosen : (before after : List Expr) (x : List ℕ) (c : Choice) → Stands table b l before after x c → Chosen x c
-    is_chosen before after x (kept y) h = h
+    is_chosen before after x (named y) h = h
     is_chosen before after x (replaced a r) h = h.0
 
     -- the choice for the next operand, after those that were made
@@ -142,12 +142,12 @@ module _ (s : List Statement) (later : List ℕ → ℕ → Bool) where
     small_then : (done : List Choice) (x : List ℕ) (xs : List (List ℕ)) (c : Choice) →
         Stands table b l (map (λ c. expr_of c) done) (map (λ y. name y) xs) x c → IsSmall done (x ∷ xs) → IsSmall (done ++ c ∷ []) xs
     small_then done x xs (replaced a' r') h small k a r e = ap (λ (o : Option Expr). is_small o) (one_more done (replaced a' r') xs) ∙ h.1
-    small_then done x xs (kept y) h small k a r e = pick (last_or done (kept y) k (replaced a r) e)
+    small_then done x xs (named y) h small k a r e = pick (last_or done (named y) k (replaced a r) e)
       where
-        pick : (slice_get done k ≡ Some (replaced a r)) ⊎ ((k ≡ length done) × (replaced a r ≡ kept y)) →
-            is_small (standing (done ++ kept y ∷ []) xs) ≡ true
+        pick : (slice_get done k ≡ Some (replaced a r)) ⊎ ((k ≡ length done) × (replaced a r ≡ named y)) →
+            is_small (standing (done ++ named y ∷ []) xs) ≡ true
         pick (inl f) =
-            ap (λ (o : Option Expr). is_small o) (one_more done (kept y) xs
+            ap (λ (o : Option Expr). is_small o) (one_more done (named y) xs
             ∙ ap (λ (z : List ℕ). expr_with l (map (λ c. expr_of c) done ++ name z ∷ map (λ y. name y) xs)) h)
             ∙ small k a r f
         pick (inr f) = let bad : ⊥ = (let same = f.1 in cc) in absurd bad

@@ -8,7 +8,7 @@ use Rattle.cord_syntax.specs.declared.statements.Statement.TheVariants.{Balance,
 use Rattle.cord_plan.specs.Exprs.{Expr, name, run, cat, sub, Exprs, nothing, member, append, in_front, members}
 use Rattle.cord_plan.specs.Operands.{read_by, target_of}
 use Rattle.cord_plan.specs.Flat.{IsFlat, AreMembers, IsFlatOperation}
-use Rattle.cord_plan.specs.Forced.{Table, Choice, kept, replaced, expr_of, expr_with, first_of, own, setter, fits, is_small, chosen_from}
+use Rattle.cord_plan.specs.Forced.{Table, Choice, named, replaced, expr_of, expr_with, first_of, own, setter, fits, is_small, chosen_from}
 use Rattle.cord_plan.specs.Forced.{chosen_of, choices, operands_chosen, grown, exprs}
 use Rattle.cord_plan.specs.Planned.{Operation, Joined, gives, or_nothing, operation, operations, is_dead, is_first}
 
@@ -79,7 +79,7 @@ entry_flat [] k a = tt
 entry_flat (en ∷ table) zero a = a.0
 entry_flat (en ∷ table) (suc k) a = entry_flat table k a.1
 
-picked : (v : Bool) (k : ℕ) (e : Expr) (x : List ℕ) → IsFlat e → IsFlat (expr_of (if v then replaced k e else kept x))
+picked : (v : Bool) (k : ℕ) (e : Expr) (x : List ℕ) → IsFlat e → IsFlat (expr_of (if v then replaced k e else named x))
 picked true k e x a = a
 picked false k e x a = tt
 

@@ -8,7 +8,7 @@ use Rattle.cord_meaning.specs.Blocks.{Shape, Simple, Loop, Branch, Otherwise, Cl
 use Rattle.cord_meaning.specs.Paths.{Next, NextOf, NextOfClose, open_at}
 use Rattle.cord_meaning.specs.Statements.{shape_of}
 use Rattle.cord_plan.specs.Operands.{reads_at, assigns_at}
-use Rattle.cord_plan.specs.Unread.{ReadBy, ReadLater, IsLater, IsFixed, behind, behind_close, behind_shape, some_of, live, later_within}
+use Rattle.cord_plan.specs.Unread.{ReadBy, ReadLater, IsLater, IsFixed, successors, close_successors, shape_successors, some_of, live, later_within}
 
 pub or_true : (a b : Bool) → (a || b) ≡ true → (a ≡ true) ⊎ (b ≡ true)
 or_true true b e = inl refl
@@ -52,12 +52,12 @@ module _ (holds : ℕ → Bool) where
     two_found q r (inl h) = record { place = q; next = inl refl; true_there = h }
     two_found q r (inr h) = record { place = r; next = inr refl; true_there = h }
 
-    close_found : (blocks : List (Option ℕ)) → some_of holds (behind_close p blocks) ≡ true → Found (NextOfClose p blocks)
+    close_found : (blocks : List (Option ℕ)) → some_of holds (close_successors p blocks) ≡ true → Found (NextOfClose p blocks)
     close_found [] e = record { place = p + 1; next = refl; true_there = of_one (p + 1) e }
     close_found (None ∷ blocks) e = record { place = p + 1; next = refl; true_there = of_one (p + 1) e }
     close_found (Some r ∷ blocks) e = two_found (r + 1) (p + 1) (of_two (r + 1) (p + 1) e)
 
-    pub shape_found : (o : Option Shape) → some_of holds (behind_shape shapes p o) ≡ true → Found (NextOf shapes p o)
+    pub shape_found : (o : Option Shape) → some_of holds (shape_successors shapes p o) ≡ true → Found (NextOf shapes p o)
     shape_found None e = let bad : ⊥ = cc in absurd bad
     shape_found (Some Simple) e = record { place = p + 1; next = refl; true_there = of_one (p + 1) e }
     shape_found (Some Loop) e = two_found (p + 1) (jump shapes p) (of_two (p + 1) (jump shapes p) e)
@@ -69,13 +69,13 @@ module _ (holds : ℕ → Bool) where
     two_held a b q (inl n) h = to_first a q (b ∷ []) n h
     two_held a b q (inr n) h = to_second a b q n h
 
-    close_held : (blocks : List (Option ℕ)) (q : ℕ) → NextOfClose p blocks q → holds q ≡ true → some_of holds (behind_close p blocks) ≡ true
+    close_held : (blocks : List (Option ℕ)) (q : ℕ) → NextOfClose p blocks q → holds q ≡ true → some_of holds (close_successors p blocks) ≡ true
     close_held [] q n h = to_first (p + 1) q [] n h
     close_held (None ∷ blocks) q n h = to_first (p + 1) q [] n h
     close_held (Some r ∷ blocks) q n h = two_held (r + 1) (p + 1) q n h
 
     -- what holds of a place that may come next holds of one of those after
-    pub shape_held : (o : Option Shape) (q : ℕ) → NextOf shapes p o q → holds q ≡ true → some_of holds (behind_shape shapes p o) ≡ true
+    pub shape_held : (o : Option Shape) (q : ℕ) → NextOf shapes p o q → holds q ≡ true → some_of holds (shape_successors shapes p o) ≡ true
     shape_held None q n h = absurd n
     shape_held (Some Simple) q n h = to_first (p + 1) q [] n h
     shape_held (Some Loop) q n h = two_held (p + 1) (jump shapes p) q n h
@@ -107,17 +107,17 @@ module _ (s : List Statement) (k : ℕ) (x : List ℕ) (p : ℕ) (ih : (q : ℕ)
       record { path = found.place ∷ later.path; reads = (unset, found.next, later.reads) }
 
   reading_step : (reads_at (slice_get s p) x ≡ true) ⊎
-      ((not (assigns_at (slice_get s p) x) && some_of (λ q. live s k x q) (behind (map shape_of s) p)) ≡ true) → Reading s x p
+      ((not (assigns_at (slice_get s p) x) && some_of (λ q. live s k x q) (successors (map shape_of s) p)) ≡ true) → Reading s x p
   reading_step (inl r) = record { path = []; reads = r }
   reading_step (inr e) =
-      let both : (assigns_at (slice_get s p) x ≡ false) × (some_of (λ q. live s k x q) (behind (map shape_of s) p) ≡ true) = and_true (assigns_at (slice_get s p) x) (some_of (λ q. live s k x q) (behind (map shape_of s) p)) e in
+      let both : (assigns_at (slice_get s p) x ≡ false) × (some_of (λ q. live s k x q) (successors (map shape_of s) p) ≡ true) = and_true (assigns_at (slice_get s p) x) (some_of (λ q. live s k x q) (successors (map shape_of s) p)) e in
       reading_behind both.0 (shape_found (λ q. live s k x q) (map shape_of s) p (slice_get (map shape_of s) p) both.1)
 
 -- what the backwards flow found after k steps, a path reads
 pub path_of : (s : List Statement) (k : ℕ) (x : List ℕ) (p : ℕ) → live s k x p ≡ true → Reading s x p
 path_of s zero x p e = record { path = []; reads = e }
 path_of s (suc k) x p e = reading_step s k x p (λ q h. path_of s k x q h)
-    (or_true (reads_at (slice_get s p) x) (not (assigns_at (slice_get s p) x) && some_of (λ q. live s k x q) (behind (map shape_of s) p)) e)
+    (or_true (reads_at (slice_get s p) x) (not (assigns_at (slice_get s p) x) && some_of (λ q. live s k x q) (successors (map shape_of s) p)) e)
 
 module _ (s : List Statement) (k : ℕ) where
   later_read : (x : List ℕ) (p : ℕ) → Found (λ q. live s k x q) (map shape_of s) p (Next (map shape_of s) p) → ReadLater s x p

@@ -9,7 +9,7 @@ use Rattle.cord_meaning.specs.Blocks.{Simple, Loop, Branch, Otherwise, Close, to
 use Rattle.cord_meaning.specs.Paths.{opened, open_at}
 use Rattle.cord_plan.specs.declared.flow.successors.Shape.{Shape}
 use Rattle.cord_plan.specs.declared.flow.successors.Successors.{Successors}
-use Rattle.cord_plan.specs.Unread.{behind, behind_close}
+use Rattle.cord_plan.specs.Unread.{successors, close_successors}
 use Rattle.cord_plan.specs.inner.Liveness.{shape_view, innermost, places, places_at, AreSuccessors}
 
 -- the shape at a place
@@ -24,7 +24,7 @@ pub shapes_behind : (xs : List Shape) (n : ℕ) → map shape_view (take (length
 shapes_behind xs n = rw (take_rest xs n) (sym (drop-map shape_view n xs))
 
 module _ (shapes : List control.Shape) (p : ℕ) where
-  pub behind_simple : slice_get shapes p ≡ Some Simple → (p + 1) ∷ [] ≡ behind shapes p
+  pub behind_simple : slice_get shapes p ≡ Some Simple → (p + 1) ∷ [] ≡ successors shapes p
   behind_simple is = rw is refl
 
   pub jump_simple : slice_get shapes p ≡ Some Simple → p + 1 ≡ jump shapes p
@@ -42,39 +42,39 @@ module _ (shapes : List control.Shape) (p : ℕ) where
   pub jump_otherwise : (n : ℕ) → slice_get shapes p ≡ Some Otherwise → n ≡ to_end 0 (drop (p + 1) shapes) → p + 1 + n ≡ jump shapes p
   jump_otherwise n is count = rw (is, count) refl
 
-  pub behind_loop : (q : ℕ) → slice_get shapes p ≡ Some Loop → q ≡ jump shapes p → (p + 1) ∷ q ∷ [] ≡ behind shapes p
+  pub behind_loop : (q : ℕ) → slice_get shapes p ≡ Some Loop → q ≡ jump shapes p → (p + 1) ∷ q ∷ [] ≡ successors shapes p
   behind_loop q is leads = ap (λ (w : ℕ). (p + 1) ∷ w ∷ []) leads ∙ two
     where
-      two : (p + 1) ∷ jump shapes p ∷ [] ≡ behind shapes p
+      two : (p + 1) ∷ jump shapes p ∷ [] ≡ successors shapes p
       two = rw (is, is) refl
 
-  pub behind_branch : (q : ℕ) → slice_get shapes p ≡ Some Branch → q ≡ jump shapes p → (p + 1) ∷ q ∷ [] ≡ behind shapes p
+  pub behind_branch : (q : ℕ) → slice_get shapes p ≡ Some Branch → q ≡ jump shapes p → (p + 1) ∷ q ∷ [] ≡ successors shapes p
   behind_branch q is leads = ap (λ (w : ℕ). (p + 1) ∷ w ∷ []) leads ∙ two
     where
-      two : (p + 1) ∷ jump shapes p ∷ [] ≡ behind shapes p
+      two : (p + 1) ∷ jump shapes p ∷ [] ≡ successors shapes p
       two = rw (is, is) refl
 
-  pub behind_otherwise : (q : ℕ) → slice_get shapes p ≡ Some Otherwise → q ≡ jump shapes p → q ∷ [] ≡ behind shapes p
+  pub behind_otherwise : (q : ℕ) → slice_get shapes p ≡ Some Otherwise → q ≡ jump shapes p → q ∷ [] ≡ successors shapes p
   behind_otherwise q is leads = ap (λ (w : ℕ). w ∷ []) leads ∙ one
     where
-      one : jump shapes p ∷ [] ≡ behind shapes p
+      one : jump shapes p ∷ [] ≡ successors shapes p
       one = rw (is, is) refl
 
-  next_of_close : (blocks : List (Option ℕ)) → None ≡ innermost blocks → (p + 1) ∷ [] ≡ behind_close p blocks
+  next_of_close : (blocks : List (Option ℕ)) → None ≡ innermost blocks → (p + 1) ∷ [] ≡ close_successors p blocks
   next_of_close [] e = refl
   next_of_close (None ∷ blocks) e = refl
   next_of_close (Some r ∷ blocks) e = cc
 
-  back_of_close : (r : ℕ) (blocks : List (Option ℕ)) → Some r ≡ innermost blocks → (r + 1) ∷ (p + 1) ∷ [] ≡ behind_close p blocks
+  back_of_close : (r : ℕ) (blocks : List (Option ℕ)) → Some r ≡ innermost blocks → (r + 1) ∷ (p + 1) ∷ [] ≡ close_successors p blocks
   back_of_close r [] e = cc
   back_of_close r (None ∷ blocks) e = cc
   back_of_close r (Some q ∷ blocks) e = cc
 
-  pub behind_branch_end : slice_get shapes p ≡ Some Close → None ≡ innermost (open_at shapes p) → (p + 1) ∷ [] ≡ behind shapes p
+  pub behind_branch_end : slice_get shapes p ≡ Some Close → None ≡ innermost (open_at shapes p) → (p + 1) ∷ [] ≡ successors shapes p
   behind_branch_end is e = rw is (next_of_close (open_at shapes p) e)
 
   pub behind_loop_end : (r : ℕ) → slice_get shapes p ≡ Some Close → Some r ≡ innermost (open_at shapes p) →
-      (r + 1) ∷ (p + 1) ∷ [] ≡ behind shapes p
+      (r + 1) ∷ (p + 1) ∷ [] ≡ successors shapes p
   behind_loop_end r is e = rw is (back_of_close r (open_at shapes p) e)
 
 -- each open `repeat` stands before this place
@@ -124,7 +124,7 @@ pushed (x ∷ found) b f below here (suc k) lt = pushed found b (λ n. f (suc n)
 
 -- and where that is told of every place of the script
 all_places : (found : List Successors) (shapes : List control.Shape) → length found ≡ length shapes →
-    ((k : ℕ) → k < length shapes → places_at found k ≡ behind shapes k) → (p : ℕ) → places_at found p ≡ behind shapes p
+    ((k : ℕ) → k < length shapes → places_at found k ≡ successors shapes k) → (p : ℕ) → places_at found p ≡ successors shapes p
 all_places found shapes size below p =
     ⊎_elim
     (λ within. below p within.1)
@@ -136,7 +136,7 @@ all_places found shapes size below p =
     (slice_get_cases shapes p).1
 
 pub all_behind : (found : List Successors) (shapes : List control.Shape) → length found ≡ length shapes →
-    ((k : ℕ) → k < length shapes → places_at found k ≡ behind shapes k) → AreSuccessors shapes found
+    ((k : ℕ) → k < length shapes → places_at found k ≡ successors shapes k) → AreSuccessors shapes found
 all_behind found shapes size below = record { size = size; told = λ p. all_places found shapes size below p }
 
 -- the open blocks after one more place

@@ -18,7 +18,7 @@ use Rattle.cord_core.proofs.Places.{at_here, some_here}
 use Rattle.cord_plan.specs.Exprs.{Expr, name, names}
 use Rattle.cord_plan.specs.Operands.{target_of, is_name, assigns, assigns_at, reads_at}
 use Rattle.cord_plan.specs.Unread.{ReadBy, Unread}
-use Rattle.cord_plan.specs.Forced.{is_block, is_block_at, keeps}
+use Rattle.cord_plan.specs.Forced.{is_block, is_block_at, preserves}
 use Rattle.cord_plan.specs.Values.{text_in}
 use Rattle.cord_plan.specs.Meaning.{Held, Text, Long, Holding, held_length, gets, cords}
 use Rattle.cord_plan.specs.Conditions.{Decisions, is_simple, is_simple_at, makes_cord, assigns_other_at, stands, stands_by, IsForced}
@@ -54,12 +54,12 @@ unset_same g z v y e = ap (λ (w : Bool). if w then v else g y) e
 set_there : {V : Type 0} (g : List ℕ → V) (z : List ℕ) (v : V) (y : List ℕ) → bytes_eq y z ≡ true → with_value g z v y ≡ v
 set_there g z v y e = ap (λ (w : Bool). if w then v else g y) e
 
--- a line that keeps these names assigns none of them
-kept_name : (o : Option Statement) (xs : List (List ℕ)) → keeps o xs ≡ true → (y : List ℕ) → In y xs → assigns_at o y ≡ false
+-- a line that preserves these names assigns none of them
+kept_name : (o : Option Statement) (xs : List (List ℕ)) → preserves o xs ≡ true → (y : List ℕ) → In y xs → assigns_at o y ≡ false
 kept_name o [] e y i = absurd i
 kept_name o (x ∷ xs) e y i = pick (λ g j. kept_name o xs g y j) (assigns_at o x) refl e i
   where
-    pick : (keeps o xs ≡ true → In y xs → assigns_at o y ≡ false) → (v : Bool) → assigns_at o x ≡ v → (not v && keeps o xs) ≡ true →
+    pick : (preserves o xs ≡ true → In y xs → assigns_at o y ≡ false) → (v : Bool) → assigns_at o x ≡ v → (not v && preserves o xs) ≡ true →
         In y (x ∷ xs) → assigns_at o y ≡ false
     pick rest true f g i = let bad : ⊥ = cc in absurd bad
     pick rest false f g (inl same) = ap (λ (w : List ℕ). assigns_at o w) same ∙ f
@@ -236,12 +236,12 @@ module _ (s : List Statement) (d : Decisions) (ok : MeetsConditions s d) (limit 
       unset_other y e = sym (sets_at y) ∙ e
 
       -- what is known of an expression of which the line assigns no name
-      ready_kept : (e : Expr) → keeps (slice_get s p) (names e) ≡ true → Ready e f h → Ready e f_set h_set
+      ready_kept : (e : Expr) → preserves (slice_get s p) (names e) ≡ true → Ready e f h → Ready e f_set h_set
       ready_kept e fixed r y i =
           let unset : bytes_eq y z ≡ false = unset_other y (kept_name (slice_get s p) (names e) fixed y (cords_named e y i)) in
           unset_same h.held z k y unset ∙ r y i ∙ ap Text (sym (unset_same f.texts z v y unset))
 
-      value_kept : (e : Expr) → keeps (slice_get s p) (names e) ≡ true → text_in limit f_set e ≡ text_in limit f e
+      value_kept : (e : Expr) → preserves (slice_get s p) (names e) ≡ true → text_in limit f_set e ≡ text_in limit f e
       value_kept e fixed = value_same limit f_set f e (λ y i. unset_same f.texts z v y
           (unset_other y (kept_name (slice_get s p) (names e) fixed y (cords_named e y i)))) (λ y i. refl)
 
@@ -252,7 +252,7 @@ module _ (s : List Statement) (d : Decisions) (ok : MeetsConditions s d) (limit 
             let fd : IsForced s d p b x = ok.forced p b x from in
             let got = knows fd.first in
             let low : p ≤ p = omega arith in
-            let fixed : keeps (slice_get s p) (names (d.exprs p)) ≡ true = fd.fixed p low fd.before in (
+            let fixed : preserves (slice_get s p) (names (d.exprs p)) ≡ true = fd.fixed p low fd.before in (
               ready_kept (d.exprs p) fixed got.0,
               value_kept (d.exprs p) fixed ∙ got.1
                   ∙ ap (λ (t : List ℕ). Ok t) (sym (set_there f.texts z v x (sym (sets_at x) ∙ fd.sets))),
@@ -268,10 +268,10 @@ module _ (s : List Statement) (d : Decisions) (ok : MeetsConditions s d) (limit 
             let low : a ≤ p = omega arith in
             let until : p ≤ b = omega arith in
             let old = inv.flight a b x (record { before = lt; until = until; from = fl.from }) in
-            let fixed : keeps (slice_get s p) (names (d.exprs a)) ≡ true = fd.fixed p low on in (
+            let fixed : preserves (slice_get s p) (names (d.exprs a)) ≡ true = fd.fixed p low on in (
               ready_kept (d.exprs a) fixed old.0,
               value_kept (d.exprs a) fixed ∙ old.1
-                  ∙ ap (λ (t : List ℕ). Ok t) (sym (unset_same f.texts z v x (unset_other x (fd.kept p lt on)))),
+                  ∙ ap (λ (t : List ℕ). Ok t) (sym (unset_same f.texts z v x (unset_other x (fd.unassigned p lt on)))),
             )
 
         abbrev Excused : Type 0
@@ -327,7 +327,7 @@ module _ (s : List Statement) (d : Decisions) (ok : MeetsConditions s d) (limit 
           let low : a ≤ p = omega arith in
           let until : p ≤ b = omega arith in
           let old = inv.flight a b x (record { before = lt; until = until; from = fl.from }) in
-          let fixed : keeps (slice_get s p) (names (d.exprs a)) ≡ true = fd.fixed p low on in
+          let fixed : preserves (slice_get s p) (names (d.exprs a)) ≡ true = fd.fixed p low on in
           let unset : (y : List ℕ) → In y (names (d.exprs a)) → assigns l y ≡ false = λ y i. ap (λ (o : Option Statement). assigns_at o y) (sym here) ∙ kept_name (slice_get s p) (names (d.exprs a)) fixed y i in (
             (λ y i. (λ r. held r y) ∙ old.0 y i ∙ (λ r. Text (sym texts r y))),
             value_same limit u f (d.exprs a) (λ y i. λ r. texts r y) (λ y i. others y (unset y i)) ∙ old.1 ∙ (λ r. Ok (sym texts r x)),

@@ -1,4 +1,4 @@
--- Whether a name stands nowhere in a list of names, and what a line that assigns it keeps.
+-- Whether a name stands nowhere in a list of names, and what a line that assigns it preserves.
 use Rattle.std.proofs.Common.{◌≡◌, ℕ, ◌+◌, ◌<◌, Bool, true, false, ◌&&◌, List, [], ◌∷◌, ◌++◌, map, drop, length, get_or, Option, Some, None}
 use Rattle.std.proofs.Common.{refl, sym, ap, ◌∙◌}
 use Rattle.std.specs.Prelude.{not}
@@ -8,7 +8,7 @@ use Rattle.cord_syntax.specs.declared.statements.Statement.{Statement}
 use Rattle.cord_plan.specs.Exprs.{names, names_of}
 use Rattle.cord_plan.specs.Views.{Shared, members_of, shared_view}
 use Rattle.cord_plan.specs.Operands.{is_name, target_of}
-use Rattle.cord_plan.specs.Forced.{keeps}
+use Rattle.cord_plan.specs.Forced.{preserves}
 use Rattle.cord_plan.specs.inner.Recent.{lacks}
 
 module _ (x : List ℕ) where
@@ -30,12 +30,12 @@ module _ (x : List ℕ) where
       ∙ lacks_append (names (shared_view m)) (names_of (members_of (map shared_view (drop (k + 1) ms)))))
 
 module _ (l : Statement) where
-  pub keeps_all : target_of l ≡ None → (xs : List (List ℕ)) → keeps (Some l) xs ≡ true
-  keeps_all none [] = refl
-  keeps_all none (x ∷ xs) = ap (λ (o : Option (List ℕ)). not (is_name o x) && keeps (Some l) xs) none ∙ keeps_all none xs
+  pub preserves_all : target_of l ≡ None → (xs : List (List ℕ)) → preserves (Some l) xs ≡ true
+  preserves_all none [] = refl
+  preserves_all none (x ∷ xs) = ap (λ (o : Option (List ℕ)). not (is_name o x) && preserves (Some l) xs) none ∙ preserves_all none xs
 
-  pub keeps_lacking : (t : List ℕ) → target_of l ≡ Some t → (xs : List (List ℕ)) → keeps (Some l) xs ≡ lacks xs t
-  keeps_lacking t some [] = refl
-  keeps_lacking t some (x ∷ xs) =
-      ap (λ (o : Option (List ℕ)). not (is_name o x) && keeps (Some l) xs) some
-      ∙ ap (λ (v : Bool). not (bytes_eq x t) && v) (keeps_lacking t some xs)
+  pub preserves_lacking : (t : List ℕ) → target_of l ≡ Some t → (xs : List (List ℕ)) → preserves (Some l) xs ≡ lacks xs t
+  preserves_lacking t some [] = refl
+  preserves_lacking t some (x ∷ xs) =
+      ap (λ (o : Option (List ℕ)). not (is_name o x) && preserves (Some l) xs) some
+      ∙ ap (λ (v : Bool). not (bytes_eq x t) && v) (preserves_lacking t some xs)

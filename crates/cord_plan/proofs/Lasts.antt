@@ -12,12 +12,12 @@ use Rattle.cord_plan.specs.Views.{Shared, members_of, shared_view}
 use Rattle.cord_meaning.specs.Statements.{shape_of}
 use Rattle.cord_plan.specs.Operands.{assigns, assigns_at, reads, reads_at}
 use Rattle.cord_plan.specs.declared.flow.numbering.Numbering.{Numbering}
-use Rattle.cord_plan.specs.Forced.{each_from, is_block, is_block_at, keeps, setter}
+use Rattle.cord_plan.specs.Forced.{each_from, is_block, is_block_at, preserves, setter}
 use Rattle.cord_plan.specs.inner.Choices.{nearest}
 use Rattle.cord_plan.specs.inner.Recent.{Notes, entry_of, reader, blocker, is_before, is_after, stay, unless_after}
 use Rattle.cord_plan.proofs.Chosen.{setter_is}
 use Rattle.cord_plan.proofs.Nearest.{each_more}
-use Rattle.cord_plan.proofs.PartSums.{keeps_append}
+use Rattle.cord_plan.proofs.PartSums.{preserves_append}
 use Rattle.cord_plan.proofs.Recents.{last_then}
 
 not_behind : (p a : ℕ) → p ≤ a → is_after (Some p) a ≡ false
@@ -93,8 +93,8 @@ module _ (s : List Statement) (x : List ℕ) where
       by_assigns false false false ih = ih
 
   -- a name stays where no line assigned it since
-  keeps_one : (m : ℕ) → keeps (slice_get s m) (x ∷ []) ≡ not (assigns_at (slice_get s m) x)
-  keeps_one m = pick (assigns_at (slice_get s m) x)
+  preserves_one : (m : ℕ) → preserves (slice_get s m) (x ∷ []) ≡ not (assigns_at (slice_get s m) x)
+  preserves_one m = pick (assigns_at (slice_get s m) x)
     where
       pick : (v : Bool) → (not v && true) ≡ not v
       pick true = refl
@@ -104,23 +104,23 @@ module _ (s : List Statement) (x : List ℕ) where
   stay_by_last a zero = none
     where
       none : stay s a zero (x ∷ []) ≡ true
-      none = let zero_left : zero - a ≡ 0 = omega arith in ap (λ (n : ℕ). each_from (λ m. keeps (slice_get s m) (x ∷ [])) n a) zero_left
+      none = let zero_left : zero - a ≡ 0 = omega arith in ap (λ (n : ℕ). each_from (λ m. preserves (slice_get s m) (x ∷ [])) n a) zero_left
   stay_by_last a (suc b) = elim (leb_tells a b) [
     | inl w ↦ within w.1 (stay_by_last a b)
     | inr w ↦ past w.1
   ]
     where
       each : ℕ → Bool
-      each n = each_from (λ m. keeps (slice_get s m) (x ∷ [])) n a
+      each n = each_from (λ m. preserves (slice_get s m) (x ∷ [])) n a
 
       within : a ≤ b → stay s a b (x ∷ []) ≡ is_before (setter s x b) a → stay s a (suc b) (x ∷ []) ≡ is_before (setter s x (suc b)) a
       within le ih =
           let more : suc b - a ≡ suc (b - a) = omega (arith, le) in
           let last : a + (b - a) ≡ b = omega (arith, le) in
           ap each more
-          ∙ (each_more (λ m. keeps (slice_get s m) (x ∷ [])) (b - a) a
-          ∙ (ap (λ (m : ℕ). each (b - a) && keeps (slice_get s m) (x ∷ [])) last
-          ∙ (ap (λ (v : Bool). each (b - a) && v) (keeps_one b)
+          ∙ (each_more (λ m. preserves (slice_get s m) (x ∷ [])) (b - a) a
+          ∙ (ap (λ (m : ℕ). each (b - a) && preserves (slice_get s m) (x ∷ [])) last
+          ∙ (ap (λ (v : Bool). each (b - a) && v) (preserves_one b)
           ∙ pick (assigns_at (slice_get s b) x))))
         where
           pick : (v : Bool) → (each (b - a) && not v) ≡ is_before (if v then Some b else setter s x b) a
@@ -141,24 +141,24 @@ module _ (s : List Statement) (x : List ℕ) where
 
 -- what stays of two lists of names
 module _ (s : List Statement) (a b : ℕ) where
-  stay_append_from : (xs ys : List (List ℕ)) (n k : ℕ) → each_from (λ m. keeps (slice_get s m) (xs ++ ys)) n k
-      ≡ (each_from (λ m. keeps (slice_get s m) xs) n k && each_from (λ m. keeps (slice_get s m) ys) n k)
+  stay_append_from : (xs ys : List (List ℕ)) (n k : ℕ) → each_from (λ m. preserves (slice_get s m) (xs ++ ys)) n k
+      ≡ (each_from (λ m. preserves (slice_get s m) xs) n k && each_from (λ m. preserves (slice_get s m) ys) n k)
   stay_append_from xs ys zero k = refl
-  stay_append_from xs ys (suc n) k = pick (keeps (slice_get s k) xs) (keeps (slice_get s k) ys) (keeps (slice_get s k) (xs ++ ys))
-      (keeps_append (slice_get s k) xs ys) (stay_append_from xs ys n (k + 1))
+  stay_append_from xs ys (suc n) k = pick (preserves (slice_get s k) xs) (preserves (slice_get s k) ys) (preserves (slice_get s k) (xs ++ ys))
+      (preserves_append (slice_get s k) xs ys) (stay_append_from xs ys n (k + 1))
     where
-      pick : (v w u : Bool) → u ≡ (v && w) → each_from (λ m. keeps (slice_get s m) (xs ++ ys)) n (k + 1)
-          ≡ (each_from (λ m. keeps (slice_get s m) xs) n (k + 1) && each_from (λ m. keeps (slice_get s m) ys) n (k + 1))
-          → (u && each_from (λ m. keeps (slice_get s m) (xs ++ ys)) n (k + 1))
-          ≡ ((v && each_from (λ m. keeps (slice_get s m) xs) n (k + 1)) && (w && each_from (λ m. keeps (slice_get s m) ys) n (k + 1)))
+      pick : (v w u : Bool) → u ≡ (v && w) → each_from (λ m. preserves (slice_get s m) (xs ++ ys)) n (k + 1)
+          ≡ (each_from (λ m. preserves (slice_get s m) xs) n (k + 1) && each_from (λ m. preserves (slice_get s m) ys) n (k + 1))
+          → (u && each_from (λ m. preserves (slice_get s m) (xs ++ ys)) n (k + 1))
+          ≡ ((v && each_from (λ m. preserves (slice_get s m) xs) n (k + 1)) && (w && each_from (λ m. preserves (slice_get s m) ys) n (k + 1)))
       pick true true u e ih = rw e ih
-      pick true false u e ih = rw e (sym (and-false (each_from (λ m. keeps (slice_get s m) xs) n (k + 1))))
+      pick true false u e ih = rw e (sym (and-false (each_from (λ m. preserves (slice_get s m) xs) n (k + 1))))
       pick false w u e ih = rw e refl
 
   pub stay_append : (xs ys : List (List ℕ)) → stay s a b (xs ++ ys) ≡ (stay s a b xs && stay s a b ys)
   stay_append xs ys = stay_append_from xs ys (b - a) a
 
-  stay_nothing_from : (n k : ℕ) → each_from (λ m. keeps (slice_get s m) []) n k ≡ true
+  stay_nothing_from : (n k : ℕ) → each_from (λ m. preserves (slice_get s m) []) n k ≡ true
   stay_nothing_from zero k = refl
   stay_nothing_from (suc n) k = stay_nothing_from n (k + 1)
 

@@ -29,7 +29,7 @@ pub mod Followers
 pub mod Words
 pub mod Numbers
 pub mod MarkedNames
-pub mod KeptNumbers
+pub mod Hints
 pub mod Sweeps
 pub mod Onward
 pub mod Told

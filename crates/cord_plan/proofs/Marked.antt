@@ -11,7 +11,7 @@ use Rattle.std.proofs.lemmas.List.{at_drop_more, at_drop_all, take_more, map-app
 use Rattle.std.proofs.lemmas.List.Recursion.{or_push}
 use Rattle.cord_syntax.specs.declared.statements.Statement.{Statement}
 use Rattle.cord_plan.specs.Exprs.{Expr}
-use Rattle.cord_plan.specs.Forced.{Table, Choice, kept, replaced, own, operands_chosen, grown, exprs, expr_with, expr_of}
+use Rattle.cord_plan.specs.Forced.{Table, Choice, named, replaced, own, operands_chosen, grown, exprs, expr_with, expr_of}
 use Rattle.cord_plan.specs.inner.Choices as code
 use Rattle.cord_plan.specs.inner.Choices.{Has, simple_operands}
 use Rattle.cord_plan.specs.inner.Liveness.{at}
@@ -64,8 +64,8 @@ pub marked_none : (marks : List Bool) → IsMarked [] marks marks
 marked_none marks = record { size = refl; told = λ p lt. sym (or-false (at marks p)) }
 
 -- a name that stays marks nothing
-pub marked_kept : (cs : List Choice) (x : List ℕ) (old now : List Bool) → IsMarked cs old now → IsMarked (cs ++ kept x ∷ []) old now
-marked_kept cs x old now so_far = one_more cs (kept x) old now now so_far refl (λ p lt. sym (or-false (at now p)))
+pub marked_named : (cs : List Choice) (x : List ℕ) (old now : List Bool) → IsMarked cs old now → IsMarked (cs ++ named x ∷ []) old now
+marked_named cs x old now so_far = one_more cs (named x) old now now so_far refl (λ p lt. sym (or-false (at now p)))
 
 pub marked_at : (cs : List Choice) (a : ℕ) (e : Expr) (old now : List Bool) → IsMarked cs old now →
     IsMarked (cs ++ replaced a e ∷ []) old (set now a true)

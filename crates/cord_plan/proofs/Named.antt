@@ -11,7 +11,7 @@ use Rattle.cord_syntax.specs.declared.statements.Statement.TheVariants.{Chars, N
 use Rattle.cord_plan.specs.Exprs.{Expr, name, run, cat, sub, Exprs, nothing, member, append, in_front, members, names, names_of}
 use Rattle.cord_plan.specs.Exprs.{number_names}
 use Rattle.cord_plan.specs.Operands.{count, has, assigns_at}
-use Rattle.cord_plan.specs.Forced.{expr_with, each_from, keeps}
+use Rattle.cord_plan.specs.Forced.{expr_with, each_from, preserves}
 use Rattle.cord_plan.specs.Pairs.{numbers_named}
 use Rattle.cord_plan.proofs.Chosen.{both_true, last_or}
 use Rattle.cord_plan.proofs.Flows.{or_true}
@@ -100,14 +100,14 @@ each_at holds (suc n) a m e low high = pick (nat_le m a) refl (λ above below.
         let above : a < m = leb-false m a f in
         others (omega arith) (omega arith)
 
-pub keeps_at : (l : Option Statement) (xs : List (List ℕ)) (y : List ℕ) → keeps l xs ≡ true → has xs y ≡ true → assigns_at l y ≡ false
-keeps_at l [] y e h = let bad : ⊥ = cc in absurd bad
-keeps_at l (x ∷ xs) y e h = pick (or_true (bytes_eq y x) (has xs y) h)
-    (λ f. keeps_at l xs y (both_true (not (assigns_at l x)) (keeps l xs) e).1 f)
+pub preserves_at : (l : Option Statement) (xs : List (List ℕ)) (y : List ℕ) → preserves l xs ≡ true → has xs y ≡ true → assigns_at l y ≡ false
+preserves_at l [] y e h = let bad : ⊥ = cc in absurd bad
+preserves_at l (x ∷ xs) y e h = pick (or_true (bytes_eq y x) (has xs y) h)
+    (λ f. preserves_at l xs y (both_true (not (assigns_at l x)) (preserves l xs) e).1 f)
   where
     pick : (bytes_eq y x ≡ true) ⊎ (has xs y ≡ true) → (has xs y ≡ true → assigns_at l y ≡ false) → assigns_at l y ≡ false
     pick (inl f) others = ap (λ (z : List ℕ). assigns_at l z) (same_bytes y x f)
-        ∙ not_true (assigns_at l x) (both_true (not (assigns_at l x)) (keeps l xs) e).0
+        ∙ not_true (assigns_at l x) (both_true (not (assigns_at l x)) (preserves l xs) e).0
     pick (inr f) others = others f
 
 -- the names of members are those of the expressions

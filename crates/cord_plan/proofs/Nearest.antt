@@ -10,7 +10,7 @@ use Rattle.cord_syntax.specs.declared.statements.Statement.{Statement}
 use Rattle.cord_meaning.specs.Statements.{shape_of}
 use Rattle.cord_plan.specs.Exprs.{Expr, names}
 use Rattle.cord_plan.specs.Operands.{assigns, assigns_at, count, reads, reads_at, read_by}
-use Rattle.cord_plan.specs.Forced.{Choice, kept, replaced, Table, first_of, is_block, is_block_at, keeps, each_from, setter, is_small}
+use Rattle.cord_plan.specs.Forced.{Choice, named, replaced, Table, first_of, is_block, is_block_at, preserves, each_from, setter, is_small}
 use Rattle.cord_plan.specs.Forced.{expr_with, chosen_from, chosen_of}
 use Rattle.cord_plan.specs.inner.Choices.{nearest, is_spare, stands, expression_of, expression_in, Has}
 use Rattle.cord_plan.proofs.Chosen.{setter_is}
@@ -92,25 +92,25 @@ module _ (s : List Statement) (x : List ℕ) where
       pick false f told = here (barred p) refl f told
 
 module _ (s : List Statement) (later : List ℕ → ℕ → Bool) (t : Table) (b : ℕ) (l : Statement) (x : List ℕ) (before after : List Expr) where
-  -- where there is no nearest line, the operand is kept
-  pub kept_far : nearest s x b ≡ None → kept x ≡ chosen_of s later t b l x before after (setter s x b)
+  -- where there is no nearest line, the operand stands by its name
+  pub kept_far : nearest s x b ≡ None → named x ≡ chosen_of s later t b l x before after (setter s x b)
   kept_far e = pick (setter s x b) refl
     where
       told : (a : ℕ) → setter s x b ≡ Some a → each_from (clear s x) (b - (a + 1)) (a + 1) ≡ false
       told = rw e at (nearest_told s x b)
 
-      from : (a : ℕ) (o : Option Expr) → setter s x b ≡ Some a → kept x ≡ chosen_from s later b l x before after a o
+      from : (a : ℕ) (o : Option Expr) → setter s x b ≡ Some a → named x ≡ chosen_from s later b l x before after a o
       from a None set = refl
       from a (Some e) set = ap (λ (v : Bool). if (v && stands s later e a b l (read_by l) x) && is_small
-          (expr_with l (before ++ e ∷ after)) then replaced a e else kept x) (sym (told a set))
+          (expr_with l (before ++ e ∷ after)) then replaced a e else named x) (sym (told a set))
 
-      pick : (o : Option ℕ) → setter s x b ≡ o → kept x ≡ chosen_of s later t b l x before after o
+      pick : (o : Option ℕ) → setter s x b ≡ o → named x ≡ chosen_of s later t b l x before after o
       pick None set = refl
       pick (Some a) set = from a (first_of (slice_get t a)) set
 
-  -- where it isn't spare, it is kept too
+  -- and where it isn't spare
   pub kept_needed : (xs : List (List ℕ)) → read_by l ≡ xs → is_spare s later b l xs x ≡ false →
-      kept x ≡ chosen_of s later t b l x before after (setter s x b)
+      named x ≡ chosen_of s later t b l x before after (setter s x b)
   kept_needed xs reads e = pick (setter s x b)
     where
       needed : is_spare s later b l (read_by l) x ≡ false
@@ -122,15 +122,15 @@ module _ (s : List Statement) (later : List ℕ → ℕ → Bool) (t : Table) (b
       shut true true false fixed small f = refl
       shut true true true fixed small f = let bad : ⊥ = cc in absurd bad
 
-      from : (a : ℕ) (o : Option Expr) → kept x ≡ chosen_from s later b l x before after a o
+      from : (a : ℕ) (o : Option Expr) → named x ≡ chosen_from s later b l x before after a o
       from a None = refl
-      from a (Some e) = ap (λ (v : Bool). if v then replaced a e else kept x) (sym (shut
+      from a (Some e) = ap (λ (v : Bool). if v then replaced a e else named x) (sym (shut
           (each_from (λ m. not (is_block_at (slice_get s m)) && not (reads_at (slice_get s m) x)) (b - (a + 1)) (a + 1))
           (count x (read_by l) == 1) (assigns l x || not (later x b))
-          (each_from (λ m. keeps (slice_get s m) (names e)) (b - a) a)
+          (each_from (λ m. preserves (slice_get s m) (names e)) (b - a) a)
           (is_small (expr_with l (before ++ e ∷ after))) needed))
 
-      pick : (o : Option ℕ) → kept x ≡ chosen_of s later t b l x before after o
+      pick : (o : Option ℕ) → named x ≡ chosen_of s later t b l x before after o
       pick None = refl
       pick (Some a) = from a (first_of (slice_get t a))
 
@@ -143,31 +143,31 @@ module _ (s : List Statement) (later : List ℕ → ℕ → Bool) (t : Table) (b
       told = rw e at (nearest_told s x b)
 
   pub kept_bare : (a : ℕ) → nearest s x b ≡ Some a → first_of (slice_get t a) ≡ None →
-      kept x ≡ chosen_of s later t b l x before after (setter s x b)
+      named x ≡ chosen_of s later t b l x before after (setter s x b)
   kept_bare a e none = sym (from_near a e ∙ ap (λ (o : Option Expr). chosen_from s later b l x before after a o) none)
 
   -- and stands for the operand where it may
   pub by_tests : (xs : List (List ℕ)) → read_by l ≡ xs → (a : ℕ) (r : Expr) → nearest s x b ≡ Some a → first_of (slice_get t a) ≡ Some r →
       (v : Bool) → (stands s later r a b l xs x && is_small (expr_with l (before ++ r ∷ after))) ≡ v →
-      (if v then replaced a r else kept x) ≡ chosen_of s later t b l x before after (setter s x b)
+      (if v then replaced a r else named x) ≡ chosen_of s later t b l x before after (setter s x b)
   by_tests xs reads a r e some v tests = sym (from_near a e ∙ (ap (λ (o : Option Expr). chosen_from s later b l x before after a o) some
       ∙ (ap (λ (w : Bool). if (w && stands s later r a b l (read_by l) x) && is_small (expr_with l (before ++ r ∷ after)) then replaced a r
-      else kept x) told.1
+      else named x) told.1
       ∙ (ap (λ (ys : List (List ℕ)). if stands s later r a b l ys x && is_small (expr_with l (before ++ r ∷ after)) then replaced a r
-      else kept x) reads
-      ∙ ap (λ (w : Bool). if w then replaced a r else kept x) tests))))
+      else named x) reads
+      ∙ ap (λ (w : Bool). if w then replaced a r else named x) tests))))
     where
       told : (setter s x b ≡ Some a) × (each_from (clear s x) (b - (a + 1)) (a + 1) ≡ true)
       told = rw e at (nearest_told s x b)
 
 -- for a spare operand an expression stands that stays
 pub spare_stands : (s : List Statement) (later : List ℕ → ℕ → Bool) (e : Expr) (a b : ℕ) (l : Statement) (xs : List (List ℕ))
-    (x : List ℕ) → is_spare s later b l xs x ≡ true → stands s later e a b l xs x ≡ each_from (λ m. keeps (slice_get s m) (names e))
+    (x : List ℕ) → is_spare s later b l xs x ≡ true → stands s later e a b l xs x ≡ each_from (λ m. preserves (slice_get s m) (names e))
     (b - a) a
 spare_stands s later e a b l xs x spare = pick (count x xs == 1) (assigns l x || not (later x b)) spare
   where
     stay : Bool
-    stay = each_from (λ m. keeps (slice_get s m) (names e)) (b - a) a
+    stay = each_from (λ m. preserves (slice_get s m) (names e)) (b - a) a
 
     pick : (c f : Bool) → (c && f) ≡ true → (c && (f && stay)) ≡ stay
     pick true true h = refl
@@ -184,15 +184,15 @@ near_here s x p l pos le is =
     ∙ ap (λ (o : Option Statement). if assigns_at o x then Some (p - 1) else
     (if is_block_at o || reads_at o x then None else nearest s x (p - 1))) there
 
--- what each line keeps, by the first
+-- what each line preserves, by the first
 pub keep_here : (s : List Statement) (xs : List (List ℕ)) (p end : ℕ) (l : Statement) → p < end → end ≤ length s → l ≡ get_or s p l →
-    each_from (λ m. keeps (slice_get s m) xs) (end - p) p ≡ keeps (Some l) xs && each_from (λ m. keeps (slice_get s m) xs) (end - (p + 1))
+    each_from (λ m. preserves (slice_get s m) xs) (end - p) p ≡ preserves (Some l) xs && each_from (λ m. preserves (slice_get s m) xs) (end - (p + 1))
     (p + 1)
 keep_here s xs p end l lt le is =
     let more : end - p ≡ suc (end - (p + 1)) = omega arith in
     let there : slice_get s p ≡ Some l = slice_get_read s (length s) p l refl (omega arith) is in
-    ap (λ (n : ℕ). each_from (λ m. keeps (slice_get s m) xs) n p) more
-    ∙ ap (λ (o : Option Statement). keeps o xs && each_from (λ m. keeps (slice_get s m) xs) (end - (p + 1)) (p + 1)) there
+    ap (λ (n : ℕ). each_from (λ m. preserves (slice_get s m) xs) n p) more
+    ∙ ap (λ (o : Option Statement). preserves o xs && each_from (λ m. preserves (slice_get s m) xs) (end - (p + 1)) (p + 1)) there
 
 -- how often a name stands in a list, by its first element
 pub count_here : (names : List (List ℕ)) (i : ℕ) (y x : List ℕ) → i < length names → y ≡ get_or names i y →

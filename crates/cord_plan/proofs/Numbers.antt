@@ -196,7 +196,7 @@ distinct_added y names new distinct n x e = elim (item_at names y x n e) [
 
 pub name_added : (y : List ℕ) (names : List (List ℕ)) → place_of names y ≡ None → Adds (y ∷ []) names (names ++ y ∷ [])
 name_added y names new = record {
-  kept = λ x k. has_before x y names k;
+  remains = λ x k. has_before x y names k;
   added = λ x h. has_last x y names (same_name y x h);
   stay = λ n x e. stands_on names (y ∷ []) n x e;
   distinct = λ d. distinct_added y names new d;
@@ -234,7 +234,7 @@ place_is_number t distinct x n e = by_guess (slice_get t.guesses.items (slot_of 
 
 pub name_known : (y : List ℕ) (t : Numbering) (n : ℕ) → number_of t y ≡ Some n → Adds (y ∷ []) (names_of t) (names_of t)
 name_known y t n e = record {
-  kept = λ x k. k;
+  remains = λ x k. k;
   added = λ x h. subst (λ (z : List ℕ). has (names_of t) z ≡ true) (sym (same_bytes x y (same_name y x h)))
       (has_there (names_of t) y n (number_there t y n e));
   stay = λ m x k. k;
@@ -243,7 +243,7 @@ name_known y t n e = record {
 
 pub none_added : (names : List (List ℕ)) → Adds [] names names
 none_added names = record {
-  kept = λ x k. k;
+  remains = λ x k. k;
   added = λ x h. let bad : ⊥ = cc in absurd bad;
   stay = λ n x k. k;
   distinct = λ d. d;
@@ -251,8 +251,8 @@ none_added names = record {
 
 pub both_added : (xs ys a b c : List (List ℕ)) → Adds xs a b → Adds ys b c → Adds (xs ++ ys) a c
 both_added xs ys a b c one two = record {
-  kept = λ x k. two.kept x (one.kept x k);
-  added = λ x h. ⊎_elim (λ left. two.kept x (one.added x left)) (λ right. two.added x right) (has_append xs ys x h);
+  remains = λ x k. two.remains x (one.remains x k);
+  added = λ x h. ⊎_elim (λ left. two.remains x (one.added x left)) (λ right. two.added x right) (has_append xs ys x h);
   stay = λ n x k. two.stay n x (one.stay n x k);
   distinct = λ d. two.distinct (one.distinct d);
 }
@@ -260,8 +260,8 @@ both_added xs ys a b c one two = record {
 -- names that were added stay when others come
 pub then_added : (xs ys a b c : List (List ℕ)) → Adds xs a b → Adds ys b c → Adds xs a c
 then_added xs ys a b c one two = record {
-  kept = λ x k. two.kept x (one.kept x k);
-  added = λ x h. two.kept x (one.added x h);
+  remains = λ x k. two.remains x (one.remains x k);
+  added = λ x h. two.remains x (one.added x h);
   stay = λ n x k. two.stay n x (one.stay n x k);
   distinct = λ d. two.distinct (one.distinct d);
 }
@@ -292,7 +292,7 @@ more_arguments arguments i e a b c lt is one two =
 pub more_covered : (s : List Statement) (i : ℕ) (l : Statement) (old new : Numbering) → i < length s → l ≡ get_or s i l →
     CoversTo s i old → Adds (read_by l) (names_of old) (names_of new) → CoversTo s (i + 1) new
 more_covered s i l old new lt is covers adds k within x r = ⊎_elim (λ here. adds.added x (reads_here here))
-    (λ before. adds.kept x (covers k before x r)) (last_or_before k within)
+    (λ before. adds.remains x (covers k before x r)) (last_or_before k within)
   where
     there : slice_get s i ≡ Some l
     there = slice_get-get_or s i l lt ∙ ap Some (sym is)

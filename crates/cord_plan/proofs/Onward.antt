@@ -8,7 +8,7 @@ use Rattle.std.specs.Prelude.{slice_get, not, nat_le}
 use Rattle.cord_syntax.specs.declared.statements.Statement.{Statement}
 use Rattle.cord_meaning.specs.Statements.{shape_of}
 use Rattle.cord_plan.specs.Operands.{assigns_at}
-use Rattle.cord_plan.specs.Unread.{behind, some_of}
+use Rattle.cord_plan.specs.Unread.{successors, some_of}
 use Rattle.cord_plan.specs.inner.Liveness.{at, finds, flow, is_back}
 
 -- a place is before those that it leads on to
@@ -29,7 +29,7 @@ module _ (table : List Bool) (p : ℕ) (b : Bool) where
   other_place : (q : ℕ) → p < q → at (set table p b) q ≡ at table q
   other_place q lt = get_or-set_other table p q b false (λ same. omega (arith, lt, same))
 
-  -- what a place at p or behind it leads on to stays as it is
+  -- what a place at p or successors it leads on to stays as it is
   some_past : (k : ℕ) → p ≤ k → (qs : List ℕ) → is_back k qs ≡ false →
       some_of (λ q. at (set table p b) q) qs ≡ some_of (λ q. at table q) qs
   some_past k le [] e = refl
@@ -45,27 +45,27 @@ module _ (table : List Bool) (p : ℕ) (b : Bool) where
           ∙ ap (λ (v : Bool). at table q || v) (ih g)
 
 module _ (s : List Statement) (x : List ℕ) (table : List Bool) (p : ℕ) (b : Bool) where
-  -- lines that lead on rest from p on, where those behind p did and the flow back over p is taken in
-  pub rests_onward : ((k : ℕ) → is_back k (behind (map shape_of s) k) ≡ false) → p < length table →
-      b ≡ flow (at table p) (some_of (λ q. at table q) (behind (map shape_of s) p)) (assigns_at (slice_get s p) x) →
+  -- lines that lead on rest from p on, where those successors p did and the flow back over p is taken in
+  pub rests_onward : ((k : ℕ) → is_back k (successors (map shape_of s) k) ≡ false) → p < length table →
+      b ≡ flow (at table p) (some_of (λ q. at table q) (successors (map shape_of s) p)) (assigns_at (slice_get s p) x) →
       ((k : ℕ) → p < k → finds s x table k ≡ false) → (k : ℕ) → p ≤ k → finds s x (set table p b) k ≡ false
   rests_onward on within is above k le = by_place (eq-or-lt_of_le le)
     where
-      tells : (k : ℕ) → p ≤ k → some_of (λ q. at (set table p b) q) (behind (map shape_of s) k)
-          ≡ some_of (λ q. at table q) (behind (map shape_of s) k)
-      tells k le = some_past table p b k le (behind (map shape_of s) k) (on k)
+      tells : (k : ℕ) → p ≤ k → some_of (λ q. at (set table p b) q) (successors (map shape_of s) k)
+          ≡ some_of (λ q. at table q) (successors (map shape_of s) k)
+      tells k le = some_past table p b k le (successors (map shape_of s) k) (on k)
 
       same : (k : ℕ) → p ≤ k → (v : Bool) → at (set table p b) k ≡ v →
-          finds s x (set table p b) k ≡ (not v && (some_of (λ q. at table q) (behind (map shape_of s) k) && not (assigns_at (slice_get s k) x)))
+          finds s x (set table p b) k ≡ (not v && (some_of (λ q. at table q) (successors (map shape_of s) k) && not (assigns_at (slice_get s k) x)))
       same k le v e =
-          ap (λ (w : Bool). not w && (some_of (λ q. at (set table p b) q) (behind (map shape_of s) k) && not (assigns_at (slice_get s k) x))) e
+          ap (λ (w : Bool). not w && (some_of (λ q. at (set table p b) q) (successors (map shape_of s) k) && not (assigns_at (slice_get s k) x))) e
           ∙ ap (λ (w : Bool). not v && (w && not (assigns_at (slice_get s k) x))) (tells k le)
 
       here : finds s x (set table p b) p ≡ false
       here =
-          same p (omega arith) (flow (at table p) (some_of (λ q. at table q) (behind (map shape_of s) p)) (assigns_at (slice_get s p) x))
+          same p (omega arith) (flow (at table p) (some_of (λ q. at table q) (successors (map shape_of s) p)) (assigns_at (slice_get s p) x))
           (get_or-set_same table p b false within ∙ is)
-          ∙ flow_nothing (at table p) (some_of (λ q. at table q) (behind (map shape_of s) p)) (assigns_at (slice_get s p) x)
+          ∙ flow_nothing (at table p) (some_of (λ q. at table q) (successors (map shape_of s) p)) (assigns_at (slice_get s p) x)
 
       by_place : (p ≡ k) ⊎ (p < k) → finds s x (set table p b) k ≡ false
       by_place (inl at_p) = subst (λ (n : ℕ). finds s x (set table p b) n ≡ false) at_p here

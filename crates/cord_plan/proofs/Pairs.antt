@@ -10,12 +10,12 @@ use Rattle.cord_syntax.specs.declared.statements.Statement.{Statement}
 use Rattle.cord_plan.specs.declared.TheConstants.{MAX_EXPR_PARTS}
 use Rattle.cord_plan.specs.Exprs.{Expr, parts, names}
 use Rattle.cord_plan.specs.Operands.{count, has, read_by, reads_at, assigns, assigns_at}
-use Rattle.cord_plan.specs.Forced.{Table, Choice, kept, replaced, expr_of, expr_with, is_small, is_block_at, each_from, keeps, first_of}
+use Rattle.cord_plan.specs.Forced.{Table, Choice, named, replaced, expr_of, expr_with, is_small, is_block_at, each_from, preserves, first_of}
 use Rattle.cord_plan.specs.Forced.{own, choices, operands_chosen}
 use Rattle.cord_plan.specs.Pairs.{IsPair, numbers_named, numbers_named_at, IsNoNumber}
 use Rattle.cord_plan.proofs.Chosen.{both_true, Taken, Chosen, AreChosen, are_chosen, stay_small, EachEntry, IsFront, each_entry}
 use Rattle.cord_plan.proofs.Flows.{or_true}
-use Rattle.cord_plan.proofs.Named.{not_true, no_true, same_bytes, has_at, one_place, each_at, keeps_at, SomeNames, Names, with_names}
+use Rattle.cord_plan.proofs.Named.{not_true, no_true, same_bytes, has_at, one_place, each_at, preserves_at, SomeNames, Names, with_names}
 use Rattle.cord_plan.proofs.ReadNames.{no_number}
 
 module _ (s : List Statement) (later : List ℕ → ℕ → Bool) where
@@ -29,7 +29,7 @@ module _ (s : List Statement) (later : List ℕ → ℕ → Bool) where
   taken_facts table b l x a r h =
       let before : a < b = h.set.before in
       let quiet : ℕ → Bool = λ m. not (is_block_at (slice_get s m)) && not (reads_at (slice_get s m) x) in
-      let keeping : ℕ → Bool = λ m. keeps (slice_get s m) (names r) in
+      let keeping : ℕ → Bool = λ m. preserves (slice_get s m) (names r) in
       let p = both_true (each_from quiet (b - (a + 1)) (a + 1)) ((count x (read_by l) == 1) && ((assigns l x || not (later x b)) && each_from keeping (b - a) a)) h.fit in
       let q = both_true (count x (read_by l) == 1) ((assigns l x || not (later x b)) && each_from keeping (b - a) a) p.1 in
       let w = both_true (assigns l x || not (later x b)) (each_from keeping (b - a) a) q.1 in
@@ -38,14 +38,14 @@ module _ (s : List Statement) (later : List ℕ → ℕ → Bool) where
             (both_true (not (is_block_at (slice_get s m))) (not (reads_at (slice_get s m) x))
             (each_at quiet (b - (a + 1)) (a + 1) m p.0 (omega arith) (omega arith))).1;
         once = eqb-true (count x (read_by l)) 1 q.0;
-        stays = λ m y low high named. keeps_at (slice_get s m) (names r) y (each_at keeping (b - a) a m w.1 low (omega arith)) named;
+        stays = λ m y low high is_named. preserves_at (slice_get s m) (names r) y (each_at keeping (b - a) a m w.1 low (omega arith)) is_named;
       }
 
   -- a line reads the bytes of a name, or has it as the name of a number
   abbrev NamesIt : Option Statement → List ℕ → Type 0
   NamesIt l y = (reads_at l y ≡ true) ⊎ (has (numbers_named_at l) y ≡ true)
 
-  -- y is named by a line up to k, and by none from there to k assigned
+  -- y is is_named by a line up to k, and by none from there to k assigned
   record NamedBy (k : ℕ) (y : List ℕ) : Type 0 where
     place : ℕ
     up_to : place ≤ k
@@ -116,9 +116,9 @@ module _ (s : List Statement) (later : List ℕ → ℕ → Bool) where
     -- what the replaced expression of the line at a names
     named_there : (x : List ℕ) (a : ℕ) (r : Expr) (y : List ℕ) → Taken s later table b l x a r → has (names r) y ≡ true →
         (n : NamedBy b y) × (n.place ≤ a)
-    named_there x a r y h named =
+    named_there x a r y h is_named =
         let from : EntryOf table a r = entry_of table a r h.from in
-        let n : NamedBy a y = each a from.en from.at r y from.is named in
+        let n : NamedBy a y = each a from.en from.at r y from.is is_named in
         let f : Facts r a b l x = taken_facts table b l x a r h in
         let low : n.place ≤ a = n.up_to in
         let before : a < b = h.set.before in
@@ -126,16 +126,16 @@ module _ (s : List Statement) (later : List ℕ → ℕ → Bool) where
         (record { place = n.place; up_to = omega arith; names_it = n.names_it; stays = stays }, low)
       where
         two : (m : ℕ) → (each a (entry_of table a r h.from).en (entry_of table a r h.from).at r y
-            (entry_of table a r h.from).is named).place ≤ m → m < b → (v : Bool) → nat_le a m ≡ v → assigns_at (slice_get s m) y ≡ false
-        two m least most true e = (taken_facts table b l x a r h).stays m y (leb-true a m e) most named
+            (entry_of table a r h.from).is is_named).place ≤ m → m < b → (v : Bool) → nat_le a m ≡ v → assigns_at (slice_get s m) y ≡ false
+        two m least most true e = (taken_facts table b l x a r h).stays m y (leb-true a m e) most is_named
         two m least most false e = (each a (entry_of table a r h.from).en (entry_of table a r h.from).at r y
-            (entry_of table a r h.from).is named).stays m least (leb-false a m e)
+            (entry_of table a r h.from).is is_named).stays m least (leb-false a m e)
 
     chosen_named : (k : ℕ) (f : Expr) (y : List ℕ) → (c : ChosenAt table b l (read_by l) made k f) → has (names f) y ≡ true → NamedBy b y
-    chosen_named k f y c named = pick c.choice c.is c.chosen
+    chosen_named k f y c is_named = pick c.choice c.is c.chosen
       where
         pick : (d : Choice) → expr_of d ≡ f → Chosen s later table b l c.operand d → NamedBy b y
-        pick (kept z) same is = one (or_true (bytes_eq y z) false (subst (λ (g : Expr). has (names g) y ≡ true) (sym same) named))
+        pick (named z) same is = one (or_true (bytes_eq y z) false (subst (λ (g : Expr). has (names g) y ≡ true) (sym same) is_named))
           where
             one : (bytes_eq y z ≡ true) ⊎ (false ≡ true) → NamedBy b y
             one (inr bad) = let no_one : ⊥ = cc in absurd no_one
@@ -143,12 +143,12 @@ module _ (s : List Statement) (later : List ℕ → ℕ → Bool) where
                 (inl (subst (λ (w : List ℕ). has (read_by l) w ≡ true) (sym (same_bytes y z e ∙ is))
                 (has_at (read_by l) k c.operand c.is_operand)))
         pick (replaced a r) same taken =
-            (named_there c.operand a r y taken (subst (λ (g : Expr). has (names g) y ≡ true) (sym same) named)).0
+            (named_there c.operand a r y taken (subst (λ (g : Expr). has (names g) y ≡ true) (sym same) is_named)).0
 
     entry_named : (o : Option Expr) → EntryNamed b (operands_chosen s later table b l o)
-    entry_named None e y is named = let bad : ⊥ = cc in absurd bad
-    entry_named (Some first) e y is named = pick (subst (λ (q : Option Expr). Names l (map (λ c. expr_of c) made) y q) is
-        (with_names l (map (λ c. expr_of c) made) y) named)
+    entry_named None e y is is_named = let bad : ⊥ = cc in absurd bad
+    entry_named (Some first) e y is is_named = pick (subst (λ (q : Option Expr). Names l (map (λ c. expr_of c) made) y q) is
+        (with_names l (map (λ c. expr_of c) made) y) is_named)
       where
         pick : SomeNames (map (λ c. expr_of c) made) y ⊎ (has (numbers_named l) y ≡ true) → NamedBy b y
         pick (inl h) = chosen_named h.place h.expression y (chosen_at table b l (read_by l) made h.place h.expression are_made h.is)
@@ -167,10 +167,10 @@ module _ (s : List Statement) (later : List ℕ → ℕ → Bool) where
 
       -- no other replacement names t
       not_there : (x : List ℕ) (k : ℕ) (q : Expr) → Taken s later table b l x k q → has (names q) t ≡ true → ⊥
-      not_there x k q h named = pick (nat_le n.place a) refl
+      not_there x k q h is_named = pick (nat_le n.place a) refl
         where
           both : (n : NamedBy b t) × (n.place ≤ k)
-          both = named_there x k q t h named
+          both = named_there x k q t h is_named
 
           n : NamedBy b t
           n = both.0
@@ -188,10 +188,10 @@ module _ (s : List Statement) (later : List ℕ → ℕ → Bool) where
               by_name low high (inr f) = clash (has (numbers_named_at (slice_get s n.place)) t) f (no_number n.place)
 
       not_chosen : (k : ℕ) (f : Expr) → (c : ChosenAt table b l (read_by l) made k f) → has (names f) t ≡ true → ⊥
-      not_chosen k f c named = pick c.choice c.is c.is_choice c.chosen
+      not_chosen k f c is_named = pick c.choice c.is c.is_choice c.chosen
         where
           pick : (d : Choice) → expr_of d ≡ f → slice_get made k ≡ Some d → Chosen s later table b l c.operand d → ⊥
-          pick (kept z) same there is = one (or_true (bytes_eq t z) false (subst (λ (g : Expr). has (names g) t ≡ true) (sym same) named))
+          pick (named z) same there is = one (or_true (bytes_eq t z) false (subst (λ (g : Expr). has (names g) t ≡ true) (sym same) is_named))
             where
               one : (bytes_eq t z ≡ true) ⊎ (false ≡ true) → ⊥
               one (inr bad) = let no_one : ⊥ = cc in no_one
@@ -199,14 +199,14 @@ module _ (s : List Statement) (later : List ℕ → ℕ → Bool) where
                   let name_is : c.operand ≡ t = sym (same_bytes t z e ∙ is) in
                   let here : slice_get (read_by l) k ≡ Some t = c.is_operand ∙ ap (λ (w : List ℕ). Some w) name_is in
                   let place : i ≡ k = one_place t (read_by l) i k known.once operand here in
-                  let bad : Some (replaced a r) ≡ Some (kept z) = sym is_replaced ∙ ap (λ (n : ℕ). slice_get made n) place ∙ there in
+                  let bad : Some (replaced a r) ≡ Some (named z) = sym is_replaced ∙ ap (λ (n : ℕ). slice_get made n) place ∙ there in
                   cc
-          pick (replaced k q) same there h = not_there c.operand k q h (subst (λ (g : Expr). has (names g) t ≡ true) (sym same) named)
+          pick (replaced k q) same there h = not_there c.operand k q h (subst (λ (g : Expr). has (names g) t ≡ true) (sym same) is_named)
 
       left_out : (e : Expr) → expr_with l (map (λ c. expr_of c) made) ≡ Some e → has (names e) t ≡ false
       left_out e is = no_true (has (names e) t)
-          (λ named. pick (subst (λ (q : Option Expr). Names l (map (λ c. expr_of c) made) t q) is
-          (with_names l (map (λ c. expr_of c) made) t) named))
+          (λ is_named. pick (subst (λ (q : Option Expr). Names l (map (λ c. expr_of c) made) t q) is
+          (with_names l (map (λ c. expr_of c) made) t) is_named))
         where
           pick : SomeNames (map (λ c. expr_of c) made) t ⊎ (has (numbers_named l) t ≡ true) → ⊥
           pick (inl h) = not_chosen h.place h.expression (chosen_at table b l (read_by l) made h.place h.expression are_made h.is)
@@ -233,15 +233,15 @@ module _ (s : List Statement) (later : List ℕ → ℕ → Bool) where
   entry_fine : (table : Table) (b : ℕ) (l : Statement) → slice_get s b ≡ Some l → IsFront s later table →
       EachEntry s later EntryFine table → EntryFine b (operands_chosen s later table b l (own l))
   entry_fine table b l at front each = (
-    entry_named table b l at named (own l),
+    entry_named table b l at is_named (own l),
     λ line t a i r e line_at is operand is_replaced no_number. (
         let same : l ≡ line = (let both : Some l ≡ Some line = sym at ∙ line_at in cc) in
-        entry_out table b l at named (own l) t a i r e is (subst (λ (x : Statement). slice_get (read_by x) i ≡ Some t) (sym same) operand)
+        entry_out table b l at is_named (own l) t a i r e is (subst (λ (x : Statement). slice_get (read_by x) i ≡ Some t) (sym same) operand)
         is_replaced no_number),
   )
     where
-      named : EachEntry s later EntryNamed table
-      named k en e = (each k en e).0
+      is_named : EachEntry s later EntryNamed table
+      is_named k en e = (each k en e).0
 
   pub leaves_out : (a b : ℕ) (t : List ℕ) (e : Expr) → IsPair s later a b t e → IsNoNumber s t → has (names e) t ≡ false
   leaves_out a b t e h no_number = (each_entry s later EntryFine entry_fine b (Some e, h.choices) h.is_expression).1 h.line t a h.operand

@@ -11,7 +11,7 @@ use Rattle.cord_syntax.specs.declared.statements.Statement.TheVariants.{Chars, N
 use Rattle.cord_plan.specs.Exprs.{Expr, Exprs, name, run, cat, sub, nothing, member, parts, parts_of, append, in_front, members}
 use Rattle.cord_plan.specs.Views.{Shared, members_of, shared_view}
 use Rattle.cord_plan.specs.Operands.{assigns_at}
-use Rattle.cord_plan.specs.Forced.{Choice, expr_of, keeps, is_small, expr_with}
+use Rattle.cord_plan.specs.Forced.{Choice, expr_of, preserves, is_small, expr_with}
 use Rattle.cord_plan.specs.inner.Choices.{room_left, room_left_by, simple_operands, parts_beside}
 
 -- where one count of parts is too large, so is it with more
@@ -65,12 +65,12 @@ parts_member ms k m lt is =
     at_drop_more (λ (es : List Shared). parts_of (members_of (map shared_view es))) ms k m lt
     ∙ ap (λ (e : Shared). parts_of (members_of (map shared_view (e ∷ drop (k + 1) ms)))) (sym is)
 
--- what keeps the names of two lists
-pub keeps_append : (l : Option Statement) (xs ys : List (List ℕ)) → keeps l (xs ++ ys) ≡ keeps l xs && keeps l ys
-keeps_append l [] ys = refl
-keeps_append l (x ∷ xs) ys = pick (not (assigns_at l x)) (keeps_append l xs ys)
+-- what preserves the names of two lists
+pub preserves_append : (l : Option Statement) (xs ys : List (List ℕ)) → preserves l (xs ++ ys) ≡ preserves l xs && preserves l ys
+preserves_append l [] ys = refl
+preserves_append l (x ∷ xs) ys = pick (not (assigns_at l x)) (preserves_append l xs ys)
   where
-    pick : (v : Bool) → keeps l (xs ++ ys) ≡ (keeps l xs && keeps l ys) → (v && keeps l (xs ++ ys)) ≡ ((v && keeps l xs) && keeps l ys)
+    pick : (v : Bool) → preserves l (xs ++ ys) ≡ (preserves l xs && preserves l ys) → (v && preserves l (xs ++ ys)) ≡ ((v && preserves l xs) && preserves l ys)
     pick true more = more
     pick false more = refl
 

@@ -14,8 +14,8 @@ use Rattle.cord_core.proofs.Places.{at_here, some_here}
 use Rattle.cord_plan.specs.Exprs.{Expr, name, names}
 use Rattle.cord_plan.specs.Operands.{count, read_by, target_of, is_name, assigns, assigns_at, reads_at}
 use Rattle.cord_plan.specs.Unread.{Unread, IsLater}
-use Rattle.cord_plan.specs.Forced.{Table, Choice, kept, replaced, expr_of, expr_with, first_of, own, setter, fits, is_small, is_block_at}
-use Rattle.cord_plan.specs.Forced.{each_from, keeps, chosen_from, chosen_of, choices, operands_chosen, entry, grown, exprs}
+use Rattle.cord_plan.specs.Forced.{Table, Choice, named, replaced, expr_of, expr_with, first_of, own, setter, fits, is_small, is_block_at}
+use Rattle.cord_plan.specs.Forced.{each_from, preserves, chosen_from, chosen_of, choices, operands_chosen, entry, grown, exprs}
 use Rattle.cord_plan.specs.Planned.{or_nothing, operation, operations, is_dead, is_first, some_from, planned}
 use Rattle.cord_plan.specs.Conditions.{Decisions, decided, decided_from, is_simple, is_simple_at, HasKinds, stands, stands_by, IsForced}
 use Rattle.cord_plan.specs.Conditions.{MeetsConditions}
@@ -104,7 +104,7 @@ last_told s x (suc b) a e = pick (λ h. last_told s x b a h) (assigns_at (slice_
 abbrev source_in : List (List ℕ) → List Choice → List ℕ → Option ℕ
 source_in [] cs x = None
 source_in (y ∷ ys) [] x = None
-source_in (y ∷ ys) (kept z ∷ cs) x = source_in ys cs x
+source_in (y ∷ ys) (named z ∷ cs) x = source_in ys cs x
 source_in (y ∷ ys) (replaced a r ∷ cs) x = if bytes_eq x y then Some a else source_in ys cs x
 
 no_choices : (xs : List (List ℕ)) (x : List ℕ) → source_in xs [] x ≡ None
@@ -125,7 +125,7 @@ further y c xs cs x a f = record { place = suc f.place; expression = f.expressio
 found : (xs : List (List ℕ)) (cs : List Choice) (x : List ℕ) (a : ℕ) → source_in xs cs x ≡ Some a → Found xs cs x a
 found [] cs x a e = let bad : ⊥ = cc in absurd bad
 found (y ∷ xs) [] x a e = let bad : ⊥ = cc in absurd bad
-found (y ∷ xs) (kept z ∷ cs) x a e = further y (kept z) xs cs x a (found xs cs x a e)
+found (y ∷ xs) (named z ∷ cs) x a e = further y (named z) xs cs x a (found xs cs x a e)
 found (y ∷ xs) (replaced b r ∷ cs) x a e = pick (λ h. found xs cs x a h) (bytes_eq x y) refl e
   where
     pick : (source_in xs cs x ≡ Some a → Found xs cs x a) → (v : Bool) → bytes_eq x y ≡ v →
@@ -145,8 +145,8 @@ has_source : (xs : List (List ℕ)) (cs : List Choice) (x : List ℕ) (i a : ℕ
     slice_get cs i ≡ Some (replaced a r) → source_in xs cs x ≡ None → ⊥
 has_source [] cs x i a r e f none = let bad : ⊥ = cc in bad
 has_source (y ∷ xs) [] x i a r e f none = let bad : ⊥ = cc in bad
-has_source (y ∷ xs) (kept z ∷ cs) x zero a r e f none = let bad : ⊥ = cc in bad
-has_source (y ∷ xs) (kept z ∷ cs) x (suc i) a r e f none = has_source xs cs x i a r e f none
+has_source (y ∷ xs) (named z ∷ cs) x zero a r e f none = let bad : ⊥ = cc in bad
+has_source (y ∷ xs) (named z ∷ cs) x (suc i) a r e f none = has_source xs cs x i a r e f none
 has_source (y ∷ xs) (replaced b q ∷ cs) x zero a r e f none =
     let same : y ≡ x = cc in
     pick (bytes_eq x y) ((bytes_eq-Decides x y).1 (sym same)) none
@@ -162,7 +162,7 @@ has_source (y ∷ xs) (replaced b q ∷ cs) x (suc i) a r e f none = pick (λ n.
 
 some_told : (p : ℕ) (cs : List Choice) → some_from p cs ≡ true → (i : ℕ) × (r : Expr) × (slice_get cs i ≡ Some (replaced p r))
 some_told p [] e = let bad : ⊥ = cc in absurd bad
-some_told p (kept x ∷ cs) e = let w = some_told p cs e in (suc w.0, w.1, w.2)
+some_told p (named x ∷ cs) e = let w = some_told p cs e in (suc w.0, w.1, w.2)
 some_told p (replaced a r ∷ cs) e = pick (λ h. some_told p cs h) (or_true (a == p) (some_from p cs) e)
   where
     pick : (some_from p cs ≡ true → (i : ℕ) × (r : Expr) × (slice_get cs i ≡ Some (replaced p r))) → ((a == p) ≡ true) ⊎
@@ -186,7 +186,7 @@ module _ (s : List Statement) (later : List ℕ → ℕ → Bool) where
   module _ (table : Table) (b : ℕ) (l : Statement) where
     -- the operand stays, or the expression of the line that assigned it last fits
     abbrev Picked : List ℕ → Choice → Type 0
-    Picked x (kept y) = y ≡ x
+    Picked x (named y) = y ≡ x
     Picked x (replaced a r) = (setter s x b ≡ Some a) × (first_of (slice_get table a) ≡ Some r) × (fits s later r a b l x ≡ true)
 
     abbrev ArePicked : List (List ℕ) → List Choice → Type 0
@@ -208,7 +208,7 @@ module _ (s : List Statement) (later : List ℕ → ℕ → Bool) where
     from_picked x before after a (Some r) set from = pick (fits s later r a b l x && is_small (expr_with l (before ++ r ∷ after))) refl
       where
         pick : (v : Bool) → (fits s later r a b l x && is_small (expr_with l (before ++ r ∷ after))) ≡ v →
-            Picked x (if v then replaced a r else kept x)
+            Picked x (if v then replaced a r else named x)
         pick true e = (set, from, (both_true (fits s later r a b l x) (is_small (expr_with l (before ++ r ∷ after))) e).0)
         pick false e = refl
 
@@ -251,12 +251,12 @@ module _ (s : List Statement) (later : List ℕ → ℕ → Bool) where
     unread : (m : ℕ) → a < m → m < b → reads_at (slice_get s m) x ≡ false
     once : count x (read_by l) ≡ 1
     later_or : (assigns l x ≡ true) ⊎ (later x b ≡ false)
-    fixed : (m : ℕ) → a ≤ m → m < b → keeps (slice_get s m) (names r) ≡ true
+    fixed : (m : ℕ) → a ≤ m → m < b → preserves (slice_get s m) (names r) ≡ true
 
   fit_told : (r : Expr) (a b : ℕ) (l : Statement) (x : List ℕ) → fits s later r a b l x ≡ true → IsFit r a b l x
   fit_told r a b l x h =
       let quiet : ℕ → Bool = λ m. not (is_block_at (slice_get s m)) && not (reads_at (slice_get s m) x) in
-      let keeping : ℕ → Bool = λ m. keeps (slice_get s m) (names r) in
+      let keeping : ℕ → Bool = λ m. preserves (slice_get s m) (names r) in
       let p = both_true (each_from quiet (b - (a + 1)) (a + 1)) ((count x (read_by l) == 1) && ((assigns l x || not (later x b)) && each_from keeping (b - a) a)) h in
       let q = both_true (count x (read_by l) == 1) ((assigns l x || not (later x b)) && each_from keeping (b - a) a) p.1 in
       let w = both_true (assigns l x || not (later x b)) (each_from keeping (b - a) a) q.1 in
@@ -394,7 +394,7 @@ module _ (s : List Statement) (later : List ℕ → ℕ → Bool) where
       -- what stands for the operand at a place is its choice's expression
       stands_here : (i : ℕ) (x : List ℕ) (c : Choice) → slice_get (read_by l) i ≡ Some x → slice_get chosen_here i ≡ Some c →
           Picked at.front b l x c → (o : Option ℕ) → source_in (read_by l) chosen_here x ≡ o → stands_by decisions.exprs o x ≡ expr_of c
-      stands_here i x (kept y) operand choice h None source = ap (λ (w : List ℕ). name w) (sym h)
+      stands_here i x (named y) operand choice h None source = ap (λ (w : List ℕ). name w) (sym h)
       stands_here i x (replaced a r) operand choice h None source =
           absurd (has_source (read_by l) chosen_here x i a r operand choice source)
       stands_here i x c operand choice h (Some a) source =
@@ -454,12 +454,12 @@ module _ (s : List Statement) (later : List ℕ → ℕ → Bool) where
             first = ap is_simple_at line.1 ∙ first_simple f.expression line.0 line.1 (slice_get (at b l here).front a) refl p.1;
             second = second;
             sets = last.sets;
-            kept = last.kept_so;
+            unassigned = last.kept_so;
             straight = fit.straight;
             unread = fit.unread;
             later = ⊎_elim (λ (g : assigns l x ≡ true). inl (ap (λ (o : Option Statement). assigns_at o x) here ∙ g))
                 (λ (g : later x b ≡ false). inr (told.unread x b g)) fit.later_or;
-            fixed = λ m low high. ap (λ (r : Expr). keeps (slice_get s m) (names r)) (taken_is b l here e own_is x a f.expression p)
+            fixed = λ m low high. ap (λ (r : Expr). preserves (slice_get s m) (names r)) (taken_is b l here e own_is x a f.expression p)
                 ∙ fit.fixed m low high;
           }
         where

@@ -15,7 +15,7 @@ use Rattle.cord_operands.specs.declared.operands.Argument.TheVariants.{Number, C
 use Rattle.cord_meaning.specs.Paths.{Next}
 use Rattle.cord_meaning.specs.Statements.{shape_of}
 use Rattle.cord_plan.specs.Operands.{has, cord_arguments, reads, reads_at, assigns, assigns_at}
-use Rattle.cord_plan.specs.Unread.{ReadBy, behind, some_of}
+use Rattle.cord_plan.specs.Unread.{ReadBy, successors, some_of}
 use Rattle.cord_plan.specs.inner.Liveness.{at, finds, flow, IsPartly, IsLive}
 use Rattle.cord_plan.proofs.Flows.{Found, shape_found, shape_held}
 
@@ -118,7 +118,7 @@ module _ (s : List Statement) (x : List ℕ) where
 
     path_there : IsPartly s x table → finds s x table p ≡ true → (path : List ℕ) × ReadBy s x p path
     path_there partly e =
-        let parts : (at table p ≡ false) × (some_of (λ q. at table q) (behind (map shape_of s) p) ≡ true) × (assigns_at (slice_get s p) x ≡ false) = found_parts (at table p) (some_of (λ q. at table q) (behind (map shape_of s) p)) (assigns_at (slice_get s p) x) e in
+        let parts : (at table p ≡ false) × (some_of (λ q. at table q) (successors (map shape_of s) p) ≡ true) × (assigns_at (slice_get s p) x ≡ false) = found_parts (at table p) (some_of (λ q. at table q) (successors (map shape_of s) p)) (assigns_at (slice_get s p) x) e in
         path_over partly parts.2 (shape_found (λ q. at table q) (map shape_of s) p (slice_get (map shape_of s) p) parts.1)
 
     -- the place that was found is taken in
@@ -133,23 +133,23 @@ module _ (s : List Statement) (x : List ℕ) where
     }
 
     -- what the flow makes of the place is taken in
-    pub flow_partly : IsPartly s x table → (b : Bool) → b ≡ flow (at table p) (some_of (λ q. at table q) (behind (map shape_of s) p))
+    pub flow_partly : IsPartly s x table → (b : Bool) → b ≡ flow (at table p) (some_of (λ q. at table q) (successors (map shape_of s) p))
         (assigns_at (slice_get s p) x) → IsPartly s x (set table p b)
     flow_partly partly b is = by_find (finds s x table p) refl
       where
         by_find : (v : Bool) → finds s x table p ≡ v → IsPartly s x (set table p b)
-        by_find true e = rw (is ∙ flow_found (at table p) (some_of (λ q. at table q) (behind (map shape_of s) p))
+        by_find true e = rw (is ∙ flow_found (at table p) (some_of (λ q. at table q) (successors (map shape_of s) p))
             (assigns_at (slice_get s p) x) e) (set_partly partly e)
         by_find false e = rw (
-          is ∙ flow_none (at table p) (some_of (λ q. at table q) (behind (map shape_of s) p))
+          is ∙ flow_none (at table p) (some_of (λ q. at table q) (successors (map shape_of s) p))
               (assigns_at (slice_get s p) x) e,
           set-get_or table p false,
         ) partly
 
     -- what the flow leaves was not to be found
-    pub flow_resting : flow (at table p) (some_of (λ q. at table q) (behind (map shape_of s) p)) (assigns_at (slice_get s p) x)
+    pub flow_resting : flow (at table p) (some_of (λ q. at table q) (successors (map shape_of s) p)) (assigns_at (slice_get s p) x)
         ≡ at table p → finds s x table p ≡ false
-    flow_resting e = flow_rests (at table p) (some_of (λ q. at table q) (behind (map shape_of s) p)) (assigns_at (slice_get s p) x) e
+    flow_resting e = flow_rests (at table p) (some_of (λ q. at table q) (successors (map shape_of s) p)) (assigns_at (slice_get s p) x) e
 
     -- nothing is found after the script
     pub rests_past : length s ≤ p → finds s x table p ≡ false
@@ -162,8 +162,8 @@ module _ (s : List Statement) (x : List ℕ) where
   path_in_table table live p [] r = live.partly.reads p r
   path_in_table table live p (q ∷ path) r =
       let there : at table q ≡ true = path_in_table table live q path r.2 in
-      let held : some_of (λ m. at table m) (behind (map shape_of s) p) ≡ true = shape_held (λ m. at table m) (map shape_of s) p (slice_get (map shape_of s) p) q r.1 there in
-      none_found (at table p) (some_of (λ m. at table m) (behind (map shape_of s) p)) (assigns_at (slice_get s p) x)
+      let held : some_of (λ m. at table m) (successors (map shape_of s) p) ≡ true = shape_held (λ m. at table m) (map shape_of s) p (slice_get (map shape_of s) p) q r.1 there in
+      none_found (at table p) (some_of (λ m. at table m) (successors (map shape_of s) p)) (assigns_at (slice_get s p) x)
       (live.resting p) held r.0
 
 -- at the last place looked at, and at those before

@@ -12,7 +12,7 @@ use Rattle.cord_plan.specs.declared.flow.liveness.Group.{Group}
 use Rattle.cord_plan.specs.declared.flow.liveness.Later.{Later}
 use Rattle.cord_plan.specs.declared.flow.numbering.Numbering.{Numbering}
 use Rattle.cord_plan.specs.Operands.{has, reads_at}
-use Rattle.cord_plan.specs.Unread.{ReadBy, ReadLater, Unread, IsLater, behind, some_of}
+use Rattle.cord_plan.specs.Unread.{ReadBy, ReadLater, Unread, IsLater, successors, some_of}
 use Rattle.cord_plan.specs.inner.Numbering.{Covers, names_of}
 use Rattle.cord_plan.specs.inner.Marks.{IsBit, column}
 use Rattle.cord_plan.specs.inner.Liveness.{AreSuccessors, AreLive, AllLive, LiveTo, IsLive, at, live_of, tells, places_at}
@@ -88,7 +88,7 @@ module _ (s : List Statement) (t : Later) (successor_table : AreSuccessors (map 
         bad
     told_unread p true known e q next path r =
         let there : at (live_of t x) q ≡ true = path_in_table s x (live_of t x) (live known) q path r in
-        let held : some_of (λ m. at (live_of t x) m) (behind (map shape_of s) p) ≡ true = shape_held (λ m. at (live_of t x) m) (map shape_of s) p (slice_get (map shape_of s) p) q next there in
+        let held : some_of (λ m. at (live_of t x) m) (successors (map shape_of s) p) ≡ true = shape_held (λ m. at (live_of t x) m) (map shape_of s) p (slice_get (map shape_of s) p) q next there in
         let told : tells t x p ≡ true = rw (successor_table.told p) held in
         let bad : ⊥ = cc in
         bad
@@ -106,7 +106,7 @@ module _ (s : List Statement) (t : Later) (successor_table : AreSuccessors (map 
         let bad : ⊥ = cc (some_none (places_at t.successor_table.items p)) in
         absurd bad
     told_read p true known e =
-        let held : some_of (λ q. at (live_of t x) q) (behind (map shape_of s) p) ≡ true = rw (successor_table.told p) at e in
+        let held : some_of (λ q. at (live_of t x) q) (successors (map shape_of s) p) ≡ true = rw (successor_table.told p) at e in
         read_found p (live known) (shape_found (λ q. at (live_of t x) q) (map shape_of s) p (slice_get (map shape_of s) p) held)
 
     -- a table that has the names that lines read tells exactly what is read later

@@ -1,4 +1,4 @@
--- The conditions on what a plan decides under which it keeps the meaning of its script: on dead targets, on measured ones, and on forced
+-- The conditions on what a plan decides under which it preserves the meaning of its script: on dead targets, on measured ones, and on forced
 -- pairs.
 use Rattle.std.specs.Prelude.{◌≡◌, ◌<◌, ◌≤◌, ◌⊎◌, ℕ, ◌+◌, Bool, true, false, not, ◌&&◌, List, [], ◌∷◌, map, Option, Some, None, slice_get}
 use Rattle.cord_syntax.specs.declared.statements.Statement.{Statement}
@@ -7,7 +7,7 @@ use Rattle.cord_syntax.specs.declared.statements.Statement.TheVariants.{Balance,
 use Rattle.cord_plan.specs.Exprs.{Expr, name, names}
 use Rattle.cord_plan.specs.Operands.{read_by, assigns, assigns_at, reads_at}
 use Rattle.cord_plan.specs.Unread.{Unread}
-use Rattle.cord_plan.specs.Forced.{expr_with, is_block_at, keeps}
+use Rattle.cord_plan.specs.Forced.{expr_with, is_block_at, preserves}
 use Rattle.cord_plan.specs.Planned.{Operation, operation}
 
 -- what a plan decides of each line: its expression, whether it only measures because its target is dead, or because it is the first of a
@@ -83,14 +83,14 @@ pub record IsForced (s : List Statement) (d : Decisions) (a b : ℕ) (x : List �
   pub second : is_simple_at (slice_get s b) ≡ true
   -- a is the last line before b that assigns x
   pub sets : assigns_at (slice_get s a) x ≡ true
-  pub kept : (m : ℕ) → a < m → m < b → assigns_at (slice_get s m) x ≡ false
+  pub unassigned : (m : ℕ) → a < m → m < b → assigns_at (slice_get s m) x ≡ false
   -- the lines between are no blocks and don't read x
   pub straight : (m : ℕ) → a < m → m < b → is_block_at (slice_get s m) ≡ false
   pub unread : (m : ℕ) → a < m → m < b → reads_at (slice_get s m) x ≡ false
   -- x is assigned by b or not read after it
   pub later : (assigns_at (slice_get s b) x ≡ true) ⊎ Unread s x b
   -- no line from a up to b assigns a name of the expression
-  pub fixed : (m : ℕ) → a ≤ m → m < b → keeps (slice_get s m) (names (d.exprs a)) ≡ true
+  pub fixed : (m : ℕ) → a ≤ m → m < b → preserves (slice_get s m) (names (d.exprs a)) ≡ true
 
 -- the conditions
 pub record MeetsConditions (s : List Statement) (d : Decisions) : Type 0 where

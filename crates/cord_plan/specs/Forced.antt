@@ -32,11 +32,11 @@ is_small (Some e) = nat_le (parts e) MAX_EXPR_PARTS
 
 -- what stands for an operand: its name, or the expression of the line at a place
 pub data Choice : Type 0 where
-  kept : List ℕ → Choice
+  named : List ℕ → Choice
   replaced : ℕ → Expr → Choice
 
 abbrev pub expr_of : Choice → Expr
-expr_of (kept x) = name x
+expr_of (named x) = name x
 expr_of (replaced a e) = e
 
 abbrev pub is_block : Shape → Bool
@@ -56,9 +56,9 @@ each_from holds zero a = true
 each_from holds (suc n) a = holds a && each_from holds n (a + 1)
 
 -- whether a line assigns none of these names
-abbrev pub keeps : Option Statement → List (List ℕ) → Bool
-keeps l [] = true
-keeps l (x ∷ xs) = not (assigns_at l x) && keeps l xs
+abbrev pub preserves : Option Statement → List (List ℕ) → Bool
+preserves l [] = true
+preserves l (x ∷ xs) = not (assigns_at l x) && preserves l xs
 
 -- the last line before p that assigns x
 abbrev pub setter : List Statement → List ℕ → ℕ → Option ℕ
@@ -81,18 +81,18 @@ module _ (s : List Statement) (later : List ℕ → ℕ → Bool) where
       each_from (λ m. not (is_block_at (slice_get s m)) && not (reads_at (slice_get s m) x)) (b - (a + 1)) (a + 1)
       && ((count x (read_by l) == 1)
       && ((assigns l x || not (later x b))
-      && each_from (λ m. keeps (slice_get s m) (names e)) (b - a) a))
+      && each_from (λ m. preserves (slice_get s m) (names e)) (b - a) a))
 
   -- the same of the expression of the line at a, if it has one, and the whole expression stays small, where other operands stand before and
   -- after it
   abbrev pub chosen_from : ℕ → Statement → List ℕ → List Expr → List Expr → ℕ → Option Expr → Choice
-  chosen_from b l x before after a None = kept x
+  chosen_from b l x before after a None = named x
   chosen_from b l x before after a (Some e) =
-      if fits e a b l x && is_small (expr_with l (before ++ e ∷ after)) then replaced a e else kept x
+      if fits e a b l x && is_small (expr_with l (before ++ e ∷ after)) then replaced a e else named x
 
   -- what stands for the operand x, which the line at this place was the last to assign
   abbrev pub chosen_of : Table → ℕ → Statement → List ℕ → List Expr → List Expr → Option ℕ → Choice
-  chosen_of table b l x before after None = kept x
+  chosen_of table b l x before after None = named x
   chosen_of table b l x before after (Some a) = chosen_from b l x before after a (first_of (slice_get table a))
 
   -- the operands of the line l at b from left to right: what was chosen so far, and those that are left
@@ -101,7 +101,7 @@ module _ (s : List Statement) (later : List ℕ → ℕ → Bool) where
   choices table b l done (x ∷ xs) =
       choices table b l (done ++ chosen_of table b l x (map (λ c. expr_of c) done) (map (λ y. name y) xs) (setter s x b) ∷ []) xs
 
-  -- a line with its choices; a line that is no simple one keeps its operands
+  -- a line with its choices; a line that is no simple one preserves its operands
   abbrev pub entry : Statement → List Choice → Option Expr × List Choice
   entry l cs = (expr_with l (map (λ c. expr_of c) cs), cs)
 

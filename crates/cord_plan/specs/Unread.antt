@@ -33,23 +33,23 @@ pub record IsFixed (s : List Statement) (live : List ℕ → ℕ → Bool) : Typ
   pub flows : (x : List ℕ) (p q : ℕ) → assigns_at (slice_get s p) x ≡ false → Next (map shape_of s) p q → live x q ≡ true → live x p ≡ true
 
 -- the places that may come next after an `end` at p, where these blocks are open
-abbrev pub behind_close : ℕ → List (Option ℕ) → List ℕ
-behind_close p [] = (p + 1) ∷ []
-behind_close p (None ∷ blocks) = (p + 1) ∷ []
-behind_close p (Some r ∷ blocks) = (r + 1) ∷ (p + 1) ∷ []
+abbrev pub close_successors : ℕ → List (Option ℕ) → List ℕ
+close_successors p [] = (p + 1) ∷ []
+close_successors p (None ∷ blocks) = (p + 1) ∷ []
+close_successors p (Some r ∷ blocks) = (r + 1) ∷ (p + 1) ∷ []
 
 -- the places that may come next after a statement of a shape
-abbrev pub behind_shape : List Shape → ℕ → Option Shape → List ℕ
-behind_shape shapes p None = []
-behind_shape shapes p (Some Simple) = (p + 1) ∷ []
-behind_shape shapes p (Some Loop) = (p + 1) ∷ jump shapes p ∷ []
-behind_shape shapes p (Some Branch) = (p + 1) ∷ jump shapes p ∷ []
-behind_shape shapes p (Some Otherwise) = jump shapes p ∷ []
-behind_shape shapes p (Some Close) = behind_close p (open_at shapes p)
+abbrev pub shape_successors : List Shape → ℕ → Option Shape → List ℕ
+shape_successors shapes p None = []
+shape_successors shapes p (Some Simple) = (p + 1) ∷ []
+shape_successors shapes p (Some Loop) = (p + 1) ∷ jump shapes p ∷ []
+shape_successors shapes p (Some Branch) = (p + 1) ∷ jump shapes p ∷ []
+shape_successors shapes p (Some Otherwise) = jump shapes p ∷ []
+shape_successors shapes p (Some Close) = close_successors p (open_at shapes p)
 
 -- the places that may come next after p
-abbrev pub behind : List Shape → ℕ → List ℕ
-behind shapes p = behind_shape shapes p (slice_get shapes p)
+abbrev pub successors : List Shape → ℕ → List ℕ
+successors shapes p = shape_successors shapes p (slice_get shapes p)
 
 -- whether it holds of one of these places
 abbrev pub some_of : (ℕ → Bool) → List ℕ → Bool
@@ -60,8 +60,8 @@ some_of holds (q ∷ qs) = holds q || some_of holds qs
 abbrev pub live : List Statement → ℕ → List ℕ → ℕ → Bool
 live s zero x p = reads_at (slice_get s p) x
 live s (suc k) x p = reads_at (slice_get s p) x || (not (assigns_at (slice_get s p) x) && some_of (λ q. live s k x q)
-    (behind (map shape_of s) p))
+    (successors (map shape_of s) p))
 
 -- whether such a path begins after a place
 abbrev pub later_within : List Statement → ℕ → List ℕ → ℕ → Bool
-later_within s k x p = some_of (λ q. live s k x q) (behind (map shape_of s) p)
+later_within s k x p = some_of (λ q. live s k x q) (successors (map shape_of s) p)

@@ -12,7 +12,7 @@ mod table;
 ghost use Rattle.std.specs.Prelude.{◌≡◌, ◌<◌, ℕ, Bool, List, Some, IfOk, IsOkUnless, length, map, option_map};
 ghost use Rattle.std.specs.Prelude.{slice_get};
 ghost use Rattle.cord_plan.specs.inner.Liveness.{tells};
-ghost use Rattle.cord_plan.specs.inner.Numbering.{AllKept, AreKept};
+ghost use Rattle.cord_plan.specs.inner.Numbering.{AllHints, AreHints};
 ghost use Rattle.cord_plan.specs.Meaning.{IsPlanOf};
 ghost use Rattle.cord_plan.specs.Operands.{target_of};
 ghost use Rattle.cord_plan.specs.Planned as plan;
@@ -32,7 +32,7 @@ use std::alloc::{AllocError, Global};
 
 // Whether a line has a target that isn't read later.
 fn is_dead(statement: &Statement, numbers: LineNumbers, place: usize, later: &Later) -> bool
-    requires { AreKept later.now.numbering statement.now numbers }
+    requires { AreHints later.now.numbering statement.now numbers }
     ensures { result ≡ plan.is_dead (tells later.now) place (target_of statement.now) }
 {
     match statement.target() {
@@ -51,7 +51,7 @@ fn dead_lines(
     statements: &[Statement],
     later: &Later,
 ) -> Result<Vec<bool>, AllocError>
-    requires { AllKept statements.now later.now.numbering later.now.numbers.items }
+    requires { AllHints statements.now later.now.numbering later.now.numbers.items }
     ensures { IfOk result (λ v. AreDead statements.now (tells later.now) v.items) }
 {
     let mut dead = Vec::with_capacity(alloc, statements.len())?;
@@ -66,20 +66,20 @@ fn dead_lines(
 fn take_at(expressions: &mut [Option<Expr>], place: usize) -> Option<Expr>
     requires { place < length expressions.old }
     ensures taken { Some result ≡ slice_get expressions.old place }
-    ensures left { (k : ℕ) → place < k → slice_get expressions.new k ≡ slice_get expressions.old k }
+    ensures others { (k : ℕ) → place < k → slice_get expressions.new k ≡ slice_get expressions.old k }
     ensures size { length expressions.new ≡ length expressions.old }
 {
     expressions[place].take()
 }
 
-// The operations of a script's lines. What is read later is given up first: a `bool` a line is kept of it.
+// The operations of a script's lines. What is read later is given up first: a `bool` a line is left of it.
 fn operations_of(
     alloc: Global,
     statements: &[Statement],
     later: Later,
     table: Table,
 ) -> Result<Vec<Operation>, CordError>
-    requires kept { AllKept statements.now later.numbering later.numbers.items }
+    requires hints { AllHints statements.now later.numbering later.numbers.items }
     requires table { IsTableOf statements.now later table }
     ensures made { IfOk result (λ os. map operation_view os.items ≡ plan.planned statements.now (tells later)) }
     ensures refused { IsOkUnless result CordError.NoMemory }

@@ -54,8 +54,10 @@ fn put_operation<W: Sink>(operation: &Operation, sink: &mut W) -> Result<(), Wri
         (W.failures sink.old) (W.failures sink.new) (W.finished sink.old) (W.finished sink.new) result }
 {
     match operation {
-        Operation::Build { line, target, made } => put_given(*line, b"build", target, made, sink),
-        Operation::Measure { line, target, made } => put_given(
+        Operation::Build { line, target, made } => put_assignment(
+            *line, b"build", target, made, sink,
+        ),
+        Operation::Measure { line, target, made } => put_assignment(
             *line, b"measure", target, made, sink,
         ),
         Operation::Write { line, expression } => put_written(*line, expression, sink),
@@ -64,7 +66,7 @@ fn put_operation<W: Sink>(operation: &Operation, sink: &mut W) -> Result<(), Wri
 }
 
 // The line of an operation that gives a name its cord or its length.
-fn put_given<'a, W: Sink>(
+fn put_assignment<'a, W: Sink>(
     line: u32,
     verb: &'a [u8],
     target: &'a cord_script::Name,

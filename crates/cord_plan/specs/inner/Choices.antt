@@ -8,7 +8,7 @@ use Rattle.cord_plan.specs.Operands.{count, read_by, assigns, assigns_at, reads_
 use Rattle.cord_plan.specs.Forced as plain
 use Rattle.cord_plan.specs.Views.{expr_view}
 use Rattle.cord_plan.specs.declared.planner.choosing.Choice.{Choice}
-use Rattle.cord_plan.specs.declared.planner.choosing.Choice.TheVariants.{Kept, Replaced}
+use Rattle.cord_plan.specs.declared.planner.choosing.Choice.TheVariants.{Named, Replaced}
 use Rattle.cord_plan.specs.declared.planner.choosing.Operands.{Operands}
 use Rattle.cord_plan.specs.declared.planner.choosing.Operands.TheVariants.{Nothing, One, Two, Listed}
 
@@ -49,7 +49,7 @@ parts_beside l = 0
 
 -- what a choice of the program stands for
 abbrev pub choice_view : Choice → plain.Choice
-choice_view (Kept x) = plain.kept x.now
+choice_view (Named x) = plain.named x.now
 choice_view (Replaced a e) = plain.replaced a (expr_view e.now)
 
 -- how much of a room is left after the parts of what was chosen
@@ -77,7 +77,7 @@ module _ (s : List Statement) (later : List ℕ → ℕ → Bool) where
   -- and don't read x
   abbrev pub stands : Expr → ℕ → ℕ → Statement → List (List ℕ) → List ℕ → Bool
   stands e a b l xs x = (count x xs == 1) && ((assigns l x || not (later x b)) && plain.each_from
-      (λ m. plain.keeps (slice_get s m) (names e)) (b - a) a)
+      (λ m. plain.preserves (slice_get s m) (names e)) (b - a) a)
 
   -- what stands for the next operand x after those that were chosen for
   abbrev pub IsChoice : ℕ → Statement → List (List ℕ) → List ℕ → List (Option Expr) → List plain.Choice → plain.Choice → Type 0

@@ -8,7 +8,7 @@ use Rattle.cord_meaning.specs.Statements.{shape_of}
 use Rattle.cord_plan.specs.Operands.{reads_at, assigns_at}
 use Rattle.cord_plan.specs.inner.Numbering.{number_of, names_of}
 use Rattle.cord_plan.specs.inner.Marks.{column, IsBit}
-use Rattle.cord_plan.specs.Unread.{ReadBy, behind, some_of}
+use Rattle.cord_plan.specs.Unread.{ReadBy, successors, some_of}
 use Rattle.cord_plan.specs.declared.flow.liveness.Later.{Later}
 use Rattle.cord_plan.specs.declared.flow.liveness.Group.{Group}
 use Rattle.cord_plan.specs.declared.flow.numbering.Numbering.{Numbering}
@@ -56,7 +56,7 @@ places_at successor_table p = places_of (slice_get successor_table p)
 -- these are the places that may come next after each place
 pub record AreSuccessors (shapes : List blocks.Shape) (successor_table : List Successors) : Type 0 where
   pub size : length successor_table ≡ length shapes
-  pub told : (p : ℕ) → places_at successor_table p ≡ behind shapes p
+  pub told : (p : ℕ) → places_at successor_table p ≡ successors shapes p
 
 -- whether one of these places that may come next after p is p or stands before it
 abbrev pub is_back : ℕ → List ℕ → Bool
@@ -79,7 +79,7 @@ module _ (s : List Statement) (x : List ℕ) (table : List Bool) where
 
   -- whether the flow back over the line at p finds a place that the table doesn't have
   abbrev pub finds : ℕ → Bool
-  finds p = not (at table p) && (some_of (λ q. at table q) (behind (map shape_of s) p) && not (assigns_at (slice_get s p) x))
+  finds p = not (at table p) && (some_of (λ q. at table q) (successors (map shape_of s) p) && not (assigns_at (slice_get s p) x))
 
   -- it has the places from which a path reads x before it assigns it, and no other
   pub record IsLive : Type 0 where
@@ -88,7 +88,7 @@ module _ (s : List Statement) (x : List ℕ) (table : List Bool) where
 
 -- what the flow back over a line makes of a bit
 abbrev pub flow : Bool → Bool → Bool → Bool
-flow here behind assigned = here || (behind && not assigned)
+flow here successors assigned = here || (successors && not assigned)
 
 module _ (s : List Statement) (t : Numbering) (g : ℕ) (words : List ℕ) where
   -- the bits of each line are the name of the group that it assigns

@@ -37,7 +37,7 @@ AreDistinct names = (n : ℕ) (x : List ℕ) → slice_get names n ≡ Some x �
 
 -- a list of names comes to have these too: those before keep their places
 pub record Adds (xs old new : List (List ℕ)) : Type 0 where
-  pub kept : (x : List ℕ) → has old x ≡ true → has new x ≡ true
+  pub remains : (x : List ℕ) → has old x ≡ true → has new x ≡ true
   pub added : (x : List ℕ) → has xs x ≡ true → has new x ≡ true
   pub stay : (n : ℕ) (x : List ℕ) → slice_get old n ≡ Some x → slice_get new n ≡ Some x
   pub distinct : AreDistinct old → AreDistinct new
@@ -49,26 +49,26 @@ CoversTo s i t = (k : ℕ) → k < i → (x : List ℕ) → reads_at (slice_get 
 abbrev pub Covers : List Statement → Numbering → Type 0
 Covers s t = CoversTo s (length s) t
 
--- what is kept of the number of a name is right
-abbrev pub Keeps : Numbering → List ℕ → Option ℕ → Type 0
-Keeps t x kept = (n : ℕ) → kept ≡ Some n → number_of t x ≡ Some n
+-- a hint of the number of a name is right
+abbrev pub IsHint : Numbering → List ℕ → Option ℕ → Type 0
+IsHint t x hint = (n : ℕ) → hint ≡ Some n → number_of t x ≡ Some n
 
--- what is kept of the numbers of a line's names is right
-pub record AreKept (t : Numbering) (l : Statement) (numbers : LineNumbers) : Type 0 where
-  pub target : (x : List ℕ) → target_of l ≡ Some x → Keeps t x numbers.target
-  pub first : (x : List ℕ) → slice_get (read_by l) 0 ≡ Some x → Keeps t x numbers.first
-  pub second : (x : List ℕ) → slice_get (read_by l) 1 ≡ Some x → Keeps t x numbers.second
+-- the hints of the numbers of a line's names are right
+pub record AreHints (t : Numbering) (l : Statement) (numbers : LineNumbers) : Type 0 where
+  pub target : (x : List ℕ) → target_of l ≡ Some x → IsHint t x numbers.target
+  pub first : (x : List ℕ) → slice_get (read_by l) 0 ≡ Some x → IsHint t x numbers.first
+  pub second : (x : List ℕ) → slice_get (read_by l) 1 ≡ Some x → IsHint t x numbers.second
 
 -- and of the names of each line
-abbrev pub AllKept : List Statement → Numbering → List LineNumbers → Type 0
-AllKept s t all =
-    (p : ℕ) (l : Statement) (numbers : LineNumbers) → slice_get s p ≡ Some l → slice_get all p ≡ Some numbers → AreKept t l numbers
+abbrev pub AllHints : List Statement → Numbering → List LineNumbers → Type 0
+AllHints s t all =
+    (p : ℕ) (l : Statement) (numbers : LineNumbers) → slice_get s p ≡ Some l → slice_get all p ≡ Some numbers → AreHints t l numbers
 
--- what is kept of the number of a name is a place of the name
+-- a hint of the number of a name is a place of the name
 abbrev pub IsPlace : List (List ℕ) → List ℕ → Option ℕ → Type 0
-IsPlace names x kept = (n : ℕ) → kept ≡ Some n → slice_get names n ≡ Some x
+IsPlace names x hint = (n : ℕ) → hint ≡ Some n → slice_get names n ≡ Some x
 
--- what is kept of the numbers of a line's names are places of the names
+-- the hints of the numbers of a line's names are places of the names
 pub record ArePlaces (names : List (List ℕ)) (l : Statement) (numbers : LineNumbers) : Type 0 where
   pub target : (x : List ℕ) → target_of l ≡ Some x → IsPlace names x numbers.target
   pub first : (x : List ℕ) → slice_get (read_by l) 0 ≡ Some x → IsPlace names x numbers.first

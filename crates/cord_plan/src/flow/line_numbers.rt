@@ -3,7 +3,7 @@ ghost use Rattle.std.specs.Prelude.{◌≡◌, ℕ, List, [], Some, IfOk, OnOk, 
 ghost use Rattle.cord_syntax.specs.declared.statements.Statement.{Statement};
 ghost use Rattle.cord_plan.specs.declared.flow.numbering.Numbering.{Numbering};
 ghost use Rattle.cord_plan.specs.Operands.{read_by, target_of};
-ghost use Rattle.cord_plan.specs.inner.Numbering.{Adds, AllKept, AreKept, ArePlaces, Covers, IsPlace, names_of};
+ghost use Rattle.cord_plan.specs.inner.Numbering.{Adds, AllHints, AreHints, ArePlaces, Covers, IsPlace, names_of};
 ghost use Rattle.cord_plan.specs.inner.Readings.{read_names};
 
 use crate::flow::numbering::Numbering;
@@ -11,7 +11,8 @@ use crate::flow::readings::{Reading, reading_of};
 use cord_script::Statement;
 use std::alloc::{AllocError, Global};
 
-/// The numbers of the name that a line assigns and of the first two whose bytes it reads, as far as they are kept.
+/// The numbers of the name that a line assigns and of the first two whose bytes it reads, as far as they are small: hints, so that a
+/// name is not looked for again.
 #[derive(Clone, Copy)]
 pub(crate) struct LineNumbers {
     pub(crate) target: Option<u8>,
@@ -20,9 +21,9 @@ pub(crate) struct LineNumbers {
 }
 
 impl LineNumbers {
-    // Nothing is kept.
-    fn nothing() -> Self
-        ensures { (t : Numbering) (l : Statement) → AreKept t l result }
+    // No hints.
+    fn none() -> Self
+        ensures { (t : Numbering) (l : Statement) → AreHints t l result }
     {
         LineNumbers {
             target: None,
@@ -32,8 +33,8 @@ impl LineNumbers {
     }
 }
 
-// A number, which is kept if it is small: others are looked for again.
-fn small(number: usize) -> Option<u8>
+// A number as a hint, if it is small: others are looked for again.
+fn hint_of(number: usize) -> Option<u8>
     ensures { (n : ℕ) → result ≡ Some n → number ≡ n }
 {
     u8::try_from(number).ok()
@@ -55,12 +56,12 @@ fn add_reading(
         Reading::Nothing => Ok((None, None)),
         Reading::One(operand) => {
             let number = numbering.add(alloc, operand)?;
-            Ok((small(number), None))
+            Ok((hint_of(number), None))
         }
         Reading::Two(left, right) => {
             let first = numbering.add(alloc, left)?;
             let second = numbering.add(alloc, right)?;
-            Ok((small(first), small(second)))
+            Ok((hint_of(first), hint_of(second)))
         }
         Reading::Many(names) => {
             numbering.add_all(alloc, names)?;
@@ -80,14 +81,14 @@ fn add_target(
     statement: &Statement,
 ) -> Result<Option<u8>, AllocError>
     ensures added { OnOk result (Adds [] (names_of numbering.old) (names_of numbering.new)) }
-    ensures target { IfOk result (λ kept. (x : List ℕ) → target_of statement.now ≡ Some x →
-        IsPlace (names_of numbering.new) x kept) }
+    ensures target { IfOk result (λ hint. (x : List ℕ) → target_of statement.now ≡ Some x →
+        IsPlace (names_of numbering.new) x hint) }
 {
     match statement.target() {
         None => Ok(None),
         Some(target) => {
             let number = numbering.add(alloc, target)?;
-            Ok(small(number))
+            Ok(hint_of(number))
         }
     }
 }
@@ -116,7 +117,7 @@ pub(crate) fn numbers_of(
     statements: &[Statement],
 ) -> Result<(Numbering, Vec<LineNumbers>), AllocError>
     ensures covers { IfOk result (λ r. Covers statements.now r.0) }
-    ensures kept { IfOk result (λ r. AllKept statements.now r.0 r.1.items) }
+    ensures hints { IfOk result (λ r. AllHints statements.now r.0 r.1.items) }
 {
     let mut numbering = Numbering::new(alloc, statements.len())?;
     let mut numbers = Vec::with_capacity(alloc, statements.len())?;
@@ -128,11 +129,11 @@ pub(crate) fn numbers_of(
 
 /// The numbers of the line at a place.
 pub(crate) fn numbers_at(numbers: &[LineNumbers], place: usize) -> LineNumbers
-    ensures { (s : List Statement) (t : Numbering) (l : Statement) → AllKept s t numbers.now →
-        slice_get s place ≡ Some l → AreKept t l result }
+    ensures { (s : List Statement) (t : Numbering) (l : Statement) → AllHints s t numbers.now →
+        slice_get s place ≡ Some l → AreHints t l result }
 {
     match numbers.get(place) {
         Some(line) => *line,
-        None => LineNumbers::nothing(),
+        None => LineNumbers::none(),
     }
 }

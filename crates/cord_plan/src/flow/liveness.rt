@@ -3,9 +3,9 @@ ghost use Rattle.std.specs.Prelude.{◌≡◌, ◌<◌, ◌≤◌, ◌/◌, ◌^
 ghost use Rattle.std.specs.Prelude.{slice_get, IfOk};
 ghost use Rattle.cord_meaning.specs.Statements.{shape_of};
 ghost use Rattle.cord_plan.specs.Operands.{assigns_at};
-ghost use Rattle.cord_plan.specs.Unread.{IsLater, behind, some_of};
+ghost use Rattle.cord_plan.specs.Unread.{IsLater, successors, some_of};
 ghost use Rattle.cord_plan.specs.inner.Marks.{bit, column, room, IsBit};
-ghost use Rattle.cord_plan.specs.inner.Numbering.{AllKept, names_of};
+ghost use Rattle.cord_plan.specs.inner.Numbering.{AllHints, names_of};
 ghost use Rattle.cord_plan.specs.inner.Liveness.{places, places_at, AreSuccessors, LeadOn, at, tells, tells_of, flow};
 ghost use Rattle.cord_plan.specs.inner.Liveness.{AreAssigned, ArePartly, AreLive, AllLive, column_of};
 
@@ -76,7 +76,7 @@ fn flowed(word: u128, successors: u128, assigned: u128) -> u128
 impl Flow<'_> {
     // For each line the word of the names that it reads.
     fn words_read(&self, alloc: Global) -> Result<Vec<u128>, AllocError>
-        requires { AllKept self.now.statements.now self.now.numbering.now self.now.numbers.now }
+        requires { AllHints self.now.statements.now self.now.numbering.now self.now.numbers.now }
         ensures { IfOk result (λ v. ArePartly self.now.statements.now self.now.numbering.now self.now.group v.items) }
     {
         let mut words = Vec::with_capacity(alloc, self.statements.len())?;
@@ -89,7 +89,7 @@ impl Flow<'_> {
 
     // For each line the word of the name that it assigns.
     fn words_assigned(&self, alloc: Global) -> Result<Vec<u128>, AllocError>
-        requires { AllKept self.now.statements.now self.now.numbering.now self.now.numbers.now }
+        requires { AllHints self.now.statements.now self.now.numbering.now self.now.numbers.now }
         ensures { IfOk result (λ v. AreAssigned self.now.statements.now self.now.numbering.now self.now.group v.items) }
     {
         let mut words = Vec::with_capacity(alloc, self.statements.len())?;
@@ -117,7 +117,7 @@ impl Flow<'_> {
         requires assigned { AreAssigned self.now.statements.now self.now.numbering.now self.now.group assigned.now }
         ensures bits { (x : List ℕ) (i : ℕ) → IsBit self.now.numbering.now self.now.group x i →
             bit result i ≡ flow (at (column words.now i) place)
-            (some_of (λ q. at (column words.now i) q) (behind (map shape_of self.now.statements.now) place))
+            (some_of (λ q. at (column words.now i) q) (successors (map shape_of self.now.statements.now) place))
             (assigns_at (slice_get self.now.statements.now place) x) }
         ensures grows { get_or words.now place 0 ≤ result }
         ensures fits { result < 2 ^ 128 }
@@ -155,7 +155,7 @@ impl Flow<'_> {
     fn live_words(&self, alloc: Global) -> Result<Vec<u128>, AllocError>
         requires successor_table { AreSuccessors (map shape_of self.now.statements.now) self.now.successor_table.now }
         requires loops { self.now.loops ≡ false → LeadOn self.now.successor_table.now }
-        requires kept { AllKept self.now.statements.now self.now.numbering.now self.now.numbers.now }
+        requires hints { AllHints self.now.statements.now self.now.numbering.now self.now.numbers.now }
         ensures { IfOk result (λ v. AreLive self.now.statements.now self.now.numbering.now self.now.group v.items) }
     {
         let assigned = self.words_assigned(alloc)?;
@@ -174,7 +174,7 @@ fn groups_of(
     numbers: &[LineNumbers],
 ) -> Result<Vec<Group>, AllocError>
     requires successor_table { AreSuccessors (map shape_of statements.now) successor_table.now }
-    requires kept { AllKept statements.now numbering.now numbers.now }
+    requires hints { AllHints statements.now numbering.now numbers.now }
     ensures { IfOk result (λ v. AllLive statements.now numbering.now v.items) }
 {
     let mut groups = Vec::new(alloc);
@@ -210,7 +210,7 @@ impl Later {
     /// What is read later in a script of these statements.
     pub(crate) fn of(alloc: Global, statements: &[Statement]) -> Result<Self, AllocError>
         ensures later { IfOk result (λ t. IsLater statements.now (tells t)) }
-        ensures kept { IfOk result (λ t. AllKept statements.now t.numbering t.numbers.items) }
+        ensures hints { IfOk result (λ t. AllHints statements.now t.numbering t.numbers.items) }
     {
         let successor_table = successors_of(alloc, statements)?;
         let (numbering, numbers) = numbers_of(alloc, statements)?;

@@ -3,7 +3,7 @@ ghost use Rattle.std.specs.Prelude.{◌≡◌, ◌<◌, ◌||◌};
 ghost use Rattle.cord_plan.specs.inner.Marks.{bit, Marks};
 ghost use Rattle.cord_plan.specs.Operands.{has, cord_arguments, reads, assigns};
 ghost use Rattle.std.specs.Str.{bytes_eq};
-ghost use Rattle.cord_plan.specs.inner.Numbering.{AreKept, Keeps};
+ghost use Rattle.cord_plan.specs.inner.Numbering.{AreHints, IsHint};
 
 use crate::flow::line_numbers::LineNumbers;
 use crate::flow::numbering::Numbering;
@@ -22,11 +22,11 @@ pub(crate) fn has_bit(word: u128, i: usize) -> bool
 }
 
 // The word of a name alone.
-fn mark(numbering: &Numbering, group: usize, name: &Name, kept: Option<u8>) -> u128
-    requires { Keeps numbering.now name.now kept }
+fn mark(numbering: &Numbering, group: usize, name: &Name, hint: Option<u8>) -> u128
+    requires { IsHint numbering.now name.now hint }
     ensures { Marks numbering.now group (λ x. bytes_eq x name.now) result }
 {
-    match numbering.number_with(name.as_slice(), kept) {
+    match numbering.number_with(name.as_slice(), hint) {
         Some(number) if number / GROUP == group => 1 << (number % GROUP),
         _ => 0,
     }
@@ -65,8 +65,8 @@ fn mark_two(
     right: &Name,
     numbers: LineNumbers,
 ) -> u128
-    requires first { Keeps numbering.now left.now numbers.first }
-    requires second { Keeps numbering.now right.now numbers.second }
+    requires first { IsHint numbering.now left.now numbers.first }
+    requires second { IsHint numbering.now right.now numbers.second }
     ensures { Marks numbering.now group (λ x. bytes_eq x left.now || bytes_eq x right.now) result }
 {
     let first = mark(numbering, group, left, numbers.first);
@@ -80,7 +80,7 @@ pub(crate) fn mark_read(
     statement: &Statement,
     numbers: LineNumbers,
 ) -> u128
-    requires { AreKept numbering.now statement.now numbers }
+    requires { AreHints numbering.now statement.now numbers }
     ensures { Marks numbering.now group (λ x. reads statement.now x) result }
 {
     match reading_of(statement) {
@@ -99,7 +99,7 @@ pub(crate) fn mark_assigned(
     statement: &Statement,
     numbers: LineNumbers,
 ) -> u128
-    requires { AreKept numbering.now statement.now numbers }
+    requires { AreHints numbering.now statement.now numbers }
     ensures { Marks numbering.now group (λ x. assigns statement.now x) result }
 {
     match statement.target() {

@@ -1,7 +1,7 @@
 // Names with numbers.
 ghost use Rattle.std.specs.Prelude.{◌≡◌, ◌+◌, ◌*◌, ◌%◌, ◌<◌, [], ◌∷◌, None, Some, IfOk, OnOk, length, slice_get};
 ghost use Rattle.cord_plan.specs.Operands.{cord_arguments, is_name};
-ghost use Rattle.cord_plan.specs.inner.Numbering.{slot_of, place_of, number_of, names_of, Adds, Keeps};
+ghost use Rattle.cord_plan.specs.inner.Numbering.{slot_of, place_of, number_of, names_of, Adds, IsHint};
 
 use cord_script::{Argument, Name, is_same};
 use std::alloc::{AllocError, Global};
@@ -124,12 +124,12 @@ impl Numbering {
         }
     }
 
-    /// The number of a name, of which this is kept.
-    pub(crate) fn number_with(&self, name: &[u8], kept: Option<u8>) -> Option<usize>
-        requires { Keeps self.now name.now kept }
+    /// The number of a name, of which this is a hint.
+    pub(crate) fn number_with(&self, name: &[u8], hint: Option<u8>) -> Option<usize>
+        requires { IsHint self.now name.now hint }
         ensures { result ≡ number_of self.now name.now }
     {
-        match kept {
+        match hint {
             Some(number) => Some(usize::from(number)),
             None => self.number_of(name),
         }

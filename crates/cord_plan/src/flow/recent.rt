@@ -5,7 +5,7 @@ ghost use Rattle.cord_syntax.specs.declared.statements.Statement.{Statement};
 ghost use Rattle.cord_meaning.specs.Statements.{shape_of};
 ghost use Rattle.cord_plan.specs.Forced.{is_block};
 ghost use Rattle.cord_plan.specs.Operands.{assigns, cord_arguments, has, reads};
-ghost use Rattle.cord_plan.specs.inner.Numbering.{AreKept, Keeps};
+ghost use Rattle.cord_plan.specs.inner.Numbering.{AreHints, IsHint};
 ghost use Rattle.cord_plan.specs.inner.Recent.{IsRecent, Notes, entry_at, entry_of, is_before, is_after};
 ghost use Rattle.cord_plan.specs.inner.Recent.{unless_after};
 
@@ -90,13 +90,13 @@ fn note(
     numbering: &Numbering,
     places: &mut [Option<usize>],
     name: &Name,
-    kept: Option<u8>,
+    hint: Option<u8>,
     place: usize,
 )
-    requires { Keeps numbering.now name.now kept }
+    requires { IsHint numbering.now name.now hint }
     ensures { Notes numbering.now (λ x. bytes_eq x name.now) place places.old places.new }
 {
-    match numbering.number_with(name.as_slice(), kept) {
+    match numbering.number_with(name.as_slice(), hint) {
         Some(number) if number < places.len() => places[number] = Some(place),
         _ => {}
     }
@@ -137,8 +137,8 @@ fn note_two(
     numbers: LineNumbers,
     place: usize,
 )
-    requires first { Keeps numbering.now left.now numbers.first }
-    requires second { Keeps numbering.now right.now numbers.second }
+    requires first { IsHint numbering.now left.now numbers.first }
+    requires second { IsHint numbering.now right.now numbers.second }
     ensures { Notes numbering.now (λ x. bytes_eq x left.now || bytes_eq x right.now) place places.old places.new }
 {
     note(numbering, places, left, numbers.first, place);
@@ -153,7 +153,7 @@ fn note_read(
     numbers: LineNumbers,
     place: usize,
 )
-    requires { AreKept numbering.now statement.now numbers }
+    requires { AreHints numbering.now statement.now numbers }
     ensures { Notes numbering.now (λ x. reads statement.now x) place places.old places.new }
 {
     match reading_of(statement) {
@@ -173,7 +173,7 @@ fn note_assigned(
     numbers: LineNumbers,
     place: usize,
 )
-    requires { AreKept numbering.now statement.now numbers }
+    requires { AreHints numbering.now statement.now numbers }
     ensures { Notes numbering.now (λ x. assigns statement.now x) place places.old places.new }
 {
     match statement.target() {
@@ -214,7 +214,7 @@ impl<'a> Recent<'a> {
 
     /// Notes the next line, whose names have these numbers.
     pub(crate) fn note(&mut self, statement: &Statement, numbers: LineNumbers, place: usize)
-        requires { AreKept self.old.later.now.numbering statement.now numbers }
+        requires { AreHints self.old.later.now.numbering statement.now numbers }
         ensures later { self.new.later.now ≡ self.old.later.now }
         ensures recent { (s : List Statement) → slice_get s place ≡ Some statement.now → IsRecent s place self.old →
             IsRecent s (place + 1) self.new }

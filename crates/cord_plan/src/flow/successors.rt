@@ -4,7 +4,7 @@ ghost use Rattle.std.specs.Prelude.{false};
 ghost use Rattle.cord_meaning.specs.Blocks.{to_end, to_else, jump};
 ghost use Rattle.cord_meaning.specs.Paths.{opened, open_at};
 ghost use Rattle.cord_meaning.specs.Statements.{shape_of};
-ghost use Rattle.cord_plan.specs.Unread.{behind};
+ghost use Rattle.cord_plan.specs.Unread.{successors};
 ghost use Rattle.cord_plan.specs.inner.Liveness.{shape_view, turn_of, innermost, places, is_back, AreSuccessors, LeadOn};
 
 use cord_script::Statement;
@@ -167,7 +167,7 @@ pub(crate) fn jump(shapes: &[Shape], place: usize) -> usize
 fn successors_at(shapes: &[Shape], p: usize, block: Option<usize>) -> Successors
     requires within { p < length shapes.now }
     requires block { block ≡ innermost (open_at (map shape_view shapes.now) p) }
-    ensures { places result ≡ behind (map shape_view shapes.now) p }
+    ensures { places result ≡ successors (map shape_view shapes.now) p }
 {
     let next = p + 1;
     match shapes[p] {

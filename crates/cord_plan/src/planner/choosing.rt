@@ -7,7 +7,7 @@ ghost use Rattle.cord_plan.specs.Forced.{is_small, expr_of, expr_with};
 ghost use Rattle.cord_plan.specs.inner.Choices.{simple_operands, parts_beside, expression_in, is_spare, room_left_by};
 ghost use Rattle.cord_plan.specs.inner.Choices.{choice_view, operands_view, IsChoice, AreChoices};
 ghost use Rattle.cord_plan.specs.inner.Liveness.{tells};
-ghost use Rattle.cord_plan.specs.inner.Numbering.{Keeps, number_of};
+ghost use Rattle.cord_plan.specs.inner.Numbering.{IsHint, number_of};
 ghost use Rattle.cord_plan.specs.inner.Recent.{IsRecent};
 ghost use Rattle.cord_plan.specs.Views.{expr_view};
 
@@ -22,7 +22,7 @@ use std::alloc::{AllocError, Global};
 /// What stands for an operand: its name, or the expression of the line at a place.
 #[derive(Clone, Copy)]
 pub(crate) enum Choice<'a> {
-    Kept(&'a Name),
+    Named(&'a Name),
     Replaced(usize, &'a Expr),
 }
 
@@ -125,18 +125,18 @@ fn parts_beside(statement: &Statement) -> usize
 fn room_left_by(chosen: &[Choice], room: u32) -> Option<u32>
     ensures { result ≡ room_left_by (map choice_view chosen.now) room }
 {
-    let mut left = room;
+    let mut rest = room;
     for choice in chosen {
         let after = match choice {
-            Choice::Kept(_) => left.checked_sub(1),
-            Choice::Replaced(_, expression) => room_left(expression, left),
+            Choice::Named(_) => rest.checked_sub(1),
+            Choice::Replaced(_, expression) => room_left(expression, rest),
         };
         match after {
-            Some(less) => left = less,
+            Some(less) => rest = less,
             None => return None,
         }
     }
-    Some(left)
+    Some(rest)
 }
 
 // Whether a line's expression stays small with this one for the next operand after those that were chosen for.
@@ -152,7 +152,7 @@ fn stays_small(line: &Line, chosen: &[Choice], expression: &Expr) -> bool
         None => false,
         Some(room) => match room_left(expression, room) {
             None => false,
-            Some(left) => names + parts_beside(line.statement) <= left as usize,
+            Some(rest) => names + parts_beside(line.statement) <= rest as usize,
         },
     }
 }
@@ -171,11 +171,11 @@ fn expression_at<'a>(table: &'a [Option<Expr>], place: usize) -> Option<&'a Expr
 pub(crate) fn choose<'a>(
     line: &Line,
     operand: &'a Name,
-    kept: Option<u8>,
+    hint: Option<u8>,
     table: &'a [Option<Expr>],
     chosen: &[Choice],
 ) -> Choice<'a>
-    requires kept { Keeps line.now.recent.now.later.now.numbering operand.now kept }
+    requires hint { IsHint line.now.recent.now.later.now.numbering operand.now hint }
     requires place { line.now.place ≤ length line.now.statements.now }
     requires recent { IsRecent line.now.statements.now line.now.place line.now.recent.now }
     requires operands { simple_operands line.now.statement.now ≡ Some line.now.operands.now }
@@ -185,19 +185,19 @@ pub(crate) fn choose<'a>(
         (map choice_view chosen.now) (choice_view result) }
 {
     let name = operand.as_slice();
-    let number = line.recent.later.numbering.number_with(name, kept);
+    let number = line.recent.later.numbering.number_with(name, hint);
     if !is_spare(line, operand, number) {
-        return Choice::Kept(operand);
+        return Choice::Named(operand);
     }
     match nearest(line, name, number) {
-        None => Choice::Kept(operand),
+        None => Choice::Named(operand),
         Some(source) => match expression_at(table, source) {
-            None => Choice::Kept(operand),
+            None => Choice::Named(operand),
             Some(expression) => {
                 if stays(line, source, expression) && stays_small(line, chosen, expression) {
                     Choice::Replaced(source, expression)
                 } else {
-                    Choice::Kept(operand)
+                    Choice::Named(operand)
                 }
             }
         },

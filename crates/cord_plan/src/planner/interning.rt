@@ -18,7 +18,7 @@ const SLOTS: usize = 2_048;
 /// The number of slots in which single bytes are looked for, which stand after those of names.
 const BYTE_SLOTS: usize = 256;
 
-/// Names and single bytes as expressions, each made once and then shared: of two names of one slot the last one is kept.
+/// Names and single bytes as expressions, each made once and then shared: of two names of one slot the last one stands there.
 /// The slots take no memory before the first of them.
 #[derive(Drop)]
 pub(crate) struct Interner {
@@ -79,8 +79,8 @@ impl Interner {
         }
     }
 
-    // Keeps an expression in a slot, and gives it back.
-    fn keep(&mut self, alloc: Global, slot: usize, shared: Rc<Expr>) -> Result<Rc<Expr>, CordError>
+    // Puts an expression into a slot, and gives it back.
+    fn put(&mut self, alloc: Global, slot: usize, shared: Rc<Expr>) -> Result<Rc<Expr>, CordError>
         ensures made { IfOk result (λ e. shared_view e ≡ shared_view shared) }
         ensures refused { IsOkUnless result CordError.NoMemory }
     {
@@ -101,7 +101,7 @@ impl Interner {
         let slot = slot_of(name.as_slice()) % SLOTS;
         match find(&self.slots, slot, name) {
             Some(shared) => Ok(shared.clone()?),
-            None => self.keep(alloc, slot, shared_name(alloc, name)?),
+            None => self.put(alloc, slot, shared_name(alloc, name)?),
         }
     }
 
@@ -118,7 +118,7 @@ impl Interner {
             Some(shared) => Ok(shared.clone()?),
             None => {
                 let shared = shared_byte(alloc, &Number::Numeral(byte))?;
-                self.keep(alloc, slot, shared)
+                self.put(alloc, slot, shared)
             }
         }
     }

@@ -23,7 +23,7 @@ fn expression_of(alloc: Global, choice: &Choice) -> Result<Expr, CordError>
     ensures refused { IsOkUnless result CordError.NoMemory }
 {
     match choice {
-        Choice::Kept(name) => named(name),
+        Choice::Named(name) => named(name),
         Choice::Replaced(_, expression) => copy(alloc, expression),
     }
 }
@@ -64,7 +64,7 @@ fn add(
     ensures refused { IsOkUnless result CordError.NoMemory }
 {
     match choice {
-        Choice::Kept(name) => members.push(interner.name(alloc, name)?)?,
+        Choice::Named(name) => members.push(interner.name(alloc, name)?)?,
         Choice::Replaced(_, expression) => add_copy(alloc, members, expression)?,
     }
     Ok(())
@@ -140,7 +140,7 @@ fn shared_expression(
     ensures refused { IsOkUnless result CordError.NoMemory }
 {
     match choice {
-        Choice::Kept(name) => interner.name(alloc, name),
+        Choice::Named(name) => interner.name(alloc, name),
         Choice::Replaced(_, expression) => shared_copy(alloc, expression),
     }
 }

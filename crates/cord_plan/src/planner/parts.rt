@@ -19,7 +19,7 @@ pub(crate) fn room_left(expression: &Expr, room: u32) -> Option<u32>
         Expr::Name(_) | Expr::Run { .. } => room.checked_sub(1),
         Expr::Cat(members) => room_left_all(members.as_slice(), room),
         Expr::Sub { expression, .. } => match room_left(expression.as_ref(), room) {
-            Some(left) => left.checked_sub(1),
+            Some(rest) => rest.checked_sub(1),
             None => None,
         },
     }
@@ -30,19 +30,19 @@ pub(crate) fn room_left(expression: &Expr, room: u32) -> Option<u32>
 pub(crate) fn room_left_all(members: &[Rc<Expr>], room: u32) -> Option<u32>
     ensures { result ≡ room_left (parts_of (members_of (map shared_view members.now))) room }
 {
-    let mut left = room;
+    let mut rest = room;
     for member in members {
         let expression = member.as_ref();
         let after = match expression {
-            Expr::Name(_) => left.checked_sub(1),
-            _ => room_left(expression, left),
+            Expr::Name(_) => rest.checked_sub(1),
+            _ => room_left(expression, rest),
         };
         match after {
-            Some(less) => left = less,
+            Some(less) => rest = less,
             None => return None,
         }
     }
-    Some(left)
+    Some(rest)
 }
 
 /// A copy of an expression, which shares the members of a `cat` and what a `sub` is of. Refused only with `NoMemory`.

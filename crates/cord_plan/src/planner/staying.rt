@@ -2,7 +2,7 @@
 ghost use Rattle.std.specs.Prelude.{◌≡◌, ◌≤◌, ◌++◌, [], ◌∷◌, Some, length, map};
 ghost use Rattle.cord_meaning.specs.Statements.{shape_of};
 ghost use Rattle.cord_plan.specs.Exprs.{names, names_of, number_names};
-ghost use Rattle.cord_plan.specs.Forced.{keeps};
+ghost use Rattle.cord_plan.specs.Forced.{preserves};
 ghost use Rattle.cord_plan.specs.inner.Choices.{nearest};
 ghost use Rattle.cord_plan.specs.inner.Numbering.{number_of};
 ghost use Rattle.cord_plan.specs.inner.Recent.{IsRecent, stay, bars};
@@ -143,8 +143,8 @@ fn all_stay_far(line: &Line, from: usize, members: &[Rc<Expr>]) -> bool
 }
 
 // Whether a line assigns no name of an expression.
-fn keeps(statement: &Statement, expression: &Expr) -> bool
-    ensures { result ≡ keeps (Some statement.now) (names (expr_view expression.now)) }
+fn preserves(statement: &Statement, expression: &Expr) -> bool
+    ensures { result ≡ preserves (Some statement.now) (names (expr_view expression.now)) }
 {
     match statement.target() {
         None => true,
@@ -158,7 +158,7 @@ fn stays_near(statements: &[Statement], from: usize, to: usize, expression: &Exp
     ensures { result ≡ stay statements.now from to (names (expr_view expression.now)) }
 {
     for p in from..to {
-        if !keeps(&statements[p], expression) {
+        if !preserves(&statements[p], expression) {
             return false;
         }
     }

@@ -3,7 +3,7 @@ ghost use Rattle.std.specs.Prelude.{◌≡◌, ◌≤◌, Some, IfOk, IsOkUnless
 ghost use Rattle.cord_plan.specs.inner.Choices.{choice_view, simple_operands};
 ghost use Rattle.cord_plan.specs.Forced.{expr_of, expr_with};
 ghost use Rattle.cord_plan.specs.inner.Liveness.{tells};
-ghost use Rattle.cord_plan.specs.inner.Numbering.{AllKept, AreKept};
+ghost use Rattle.cord_plan.specs.inner.Numbering.{AllHints, AreHints};
 ghost use Rattle.cord_plan.specs.inner.Recent.{IsRecent};
 ghost use Rattle.cord_plan.specs.inner.Tables.{IsMarked, IsNext, IsTableOf};
 ghost use Rattle.cord_plan.specs.Views.{expr_view};
@@ -32,7 +32,7 @@ fn mark(firsts: &mut [bool], choices: &[Choice])
 {
     for choice in choices {
         match choice {
-            Choice::Kept(_) => {}
+            Choice::Named(_) => {}
             Choice::Replaced(place, _) => {
                 if *place < firsts.len() {
                     firsts[*place] = true;
@@ -70,7 +70,7 @@ fn expression_over<'a>(
     requires place { line.now.place ≤ length line.now.statements.now }
     requires recent { IsRecent line.now.statements.now line.now.place line.now.recent.now }
     requires operands { simple_operands line.now.statement.now ≡ Some line.now.operands.now }
-    requires kept { AreKept line.now.recent.now.later.now.numbering line.now.statement.now line.now.numbers }
+    requires hints { AreHints line.now.recent.now.later.now.numbering line.now.statement.now line.now.numbers }
     ensures made { IfOk result (λ e. IsNext line.now.statements.now
         (tells line.now.recent.now.later.now) line.now.place line.now.statement.now
         (map (option_map expr_view) expressions.now) firsts.old firsts.new (option_map expr_view e)) }
@@ -109,7 +109,7 @@ fn next_expression<'a>(
 ) -> Result<Option<Expr>, CordError>
     requires place { place ≤ length statements.now }
     requires recent { IsRecent statements.now place recent.now }
-    requires kept { AreKept recent.now.later.now.numbering statement.now numbers }
+    requires hints { AreHints recent.now.later.now.numbering statement.now numbers }
     ensures made { IfOk result (λ e. IsNext statements.now (tells recent.now.later.now) place statement.now
         (map (option_map expr_view) expressions.now) firsts.old firsts.new (option_map expr_view e)) }
     ensures refused { IsOkUnless result CordError.NoMemory }
@@ -135,7 +135,7 @@ impl Table {
         statements: &[Statement],
         later: &Later,
     ) -> Result<Self, CordError>
-        requires { AllKept statements.now later.now.numbering later.now.numbers.items }
+        requires { AllHints statements.now later.now.numbering later.now.numbers.items }
         ensures made { IfOk result (λ t. IsTableOf statements.now later.now t) }
         ensures refused { IsOkUnless result CordError.NoMemory }
     {

@@ -1,4 +1,4 @@
-use Rattle.cord_plan.specs.inner.Numbering.{AllKept}
+use Rattle.cord_plan.specs.inner.Numbering.{AllHints}
 use Rattle.std.proofs.lemmas.Option.{slice_get_read}
 use Rattle.std.proofs.Common.{length, refl, ◌∙◌, arith}
 use Rattle.cord_plan.specs.inner.Liveness.{tells}
@@ -26,6 +26,6 @@ is_dead-requires c =
     let s = c.args.statements.now in
     let t = c.args.later.now.numbering in
     let l = c.index-statements-place.result in
-    let kept : AllKept s t c.deref.result.now = rw c.deref.ensures.value c.requires in
-    c.numbers_at-numbers.ensures s t l kept (slice_get_read s (length s) c.loop-place.place l refl c.loop-place-test.true
+    let hints : AllHints s t c.deref.result.now = rw c.deref.ensures.value c.requires in
+    c.numbers_at-numbers.ensures s t l hints (slice_get_read s (length s) c.loop-place.place l refl c.loop-place-test.true
     c.index-statements-place.is)

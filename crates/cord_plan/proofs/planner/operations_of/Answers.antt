@@ -17,7 +17,7 @@ loop-place-init c = record {
   room = omega (arith, c.in_ok-operations.ensures.len, c.in_ok-operations.ensures.capacity);
   size = sym (length-map c.args.table.expressions.items (option_map expr_view)) ∙ whole_long c.args.statements.now (tells c.args.later)
       (map (option_map expr_view) c.args.table.expressions.items) c.args.table.firsts.items c.requires.table;
-  left = λ k le. refl;
+  others = λ k le. refl;
 }
 
 pub loop-place-preserved : goal.loop-place-preserved
@@ -31,7 +31,7 @@ loop-place-preserved c =
     let new = c.take_at-expression.new.expressions in
     let was : c.deref_mut.result.now ≡ c.loop-place.expressions.items = c.deref_mut.ensures.value in
     let size : length new ≡ c.loop-place.expressions.len = c.take_at-expression.ensures.size ∙ c.deref_mut.ensures.len in
-    let taken : Some e ≡ slice_get all p = c.take_at-expression.ensures.taken ∙ (ap (λ (es : List (Option Expr)). slice_get es p) was ∙ c.loop-place.invariant.left p (omega arith)) in
+    let taken : Some e ≡ slice_get all p = c.take_at-expression.ensures.taken ∙ (ap (λ (es : List (Option Expr)). slice_get es p) was ∙ c.loop-place.invariant.others p (omega arith)) in
     let there : Some (option_map expr_view e) ≡ slice_get (map (option_map expr_view) all) p = ap (option_map (option_map expr_view)) taken ∙ sym (slice_get-map (option_map expr_view) all p) in
     let alive : p < length c.in_ok-dead.dead.items = omega (arith, c.loop-place-test.true, c.in_ok-dead.ensures.size) in
     let within : p < length c.args.table.firsts.items = omega (arith, c.loop-place-test.true, c.requires.table.size) in
@@ -50,8 +50,8 @@ loop-place-preserved c =
           c.index-statements-place.is there c.loop-place.invariant.so_far made);
       room = omega (arith, c.loop-place-test.true, c.loop-place.invariant.room, c.push_reserved.ensures.len, c.push_reserved.ensures.capacity);
       size = c.take_at-expression.ensures.size ∙ (ap (λ (es : List (Option Expr)). length es) was ∙ c.loop-place.invariant.size);
-      left = λ k le. c.take_at-expression.ensures.left k (omega (arith, le))
-          ∙ (ap (λ (es : List (Option Expr)). slice_get es k) was ∙ c.loop-place.invariant.left k (omega (arith, le)));
+      others = λ k le. c.take_at-expression.ensures.others k (omega (arith, le))
+          ∙ (ap (λ (es : List (Option Expr)). slice_get es k) was ∙ c.loop-place.invariant.others k (omega (arith, le)));
     })
 
 pub returns-clause-made : goal.returns-clause-made

@@ -2,7 +2,7 @@ use Rattle.std.proofs.Common.{◌≤◌, arith, length, refl}
 use Rattle.std.proofs.lemmas.Option.{slice_get_read}
 use Rattle.cord_plan.specs.inner.Numbering.{names_of}
 use Rattle.cord_plan.proofs.Numbers.{more_covered, none_distinct}
-use Rattle.cord_plan.proofs.KeptNumbers.{places_kept, places_none, places_more}
+use Rattle.cord_plan.proofs.Hints.{places_are_hints, places_none, places_more}
 use Rattle.cord_plan.proofs.Pushed.{size_more}
 use Rattle.cord_plan.specs.Operands.{read_by}
 use Rattle.cord_plan.proofs.flow.line_numbers.numbers_of.Goals as goal
@@ -48,6 +48,6 @@ returns-clause-covers c =
     let over : length c.args.statements.now ≤ c.loop-statement.statement-index = omega arith in
     λ k lt x r. c.loop-statement.invariant.covers k (omega arith) x r
 
-pub returns-clause-kept : goal.returns-clause-kept
-returns-clause-kept c = places_kept c.args.statements.now c.loop-statement.numbering c.loop-statement.invariant.distinct
+pub returns-clause-hints : goal.returns-clause-hints
+returns-clause-hints c = places_are_hints c.args.statements.now c.loop-statement.numbering c.loop-statement.invariant.distinct
     c.loop-statement.numbers.items c.loop-statement.invariant.places

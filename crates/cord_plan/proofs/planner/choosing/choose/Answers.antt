@@ -47,8 +47,8 @@ returns-then-stays_small c =
     let near : nearest line.statements.now c.args.operand.now line.place ≡ Some c.in-Some.source = ap (λ (x : List ℕ). nearest line.statements.now x line.place) (sym c.as_slice-name.ensures) ∙ sym c.in-Some.ensures in
     let there : Some r ≡ expression_in (map (option_map expr_view) c.args.table.now) c.in-Some.source = c.in-Some-expression_at.ensures in
     let spare : is_spare line.statements.now (tells line.recent.now.later.now) line.place line.statement.now line.operands.now c.args.operand.now ≡ true = sym c.is_spare.ensures ∙ c.if-not-is_spare.false in
-    let kept : stands line.statements.now (tells line.recent.now.later.now) r c.in-Some.source line.place line.statement.now line.operands.now c.args.operand.now ≡ c.stays.result = spare_stands line.statements.now (tells line.recent.now.later.now) r c.in-Some.source line.place line.statement.now line.operands.now c.args.operand.now spare ∙ sym c.stays.ensures in
-    let fit : stands line.statements.now (tells line.recent.now.later.now) r c.in-Some.source line.place line.statement.now line.operands.now c.args.operand.now ≡ true = kept ∙ c.if-stays.true in
+    let stable : stands line.statements.now (tells line.recent.now.later.now) r c.in-Some.source line.place line.statement.now line.operands.now c.args.operand.now ≡ c.stays.result = spare_stands line.statements.now (tells line.recent.now.later.now) r c.in-Some.source line.place line.statement.now line.operands.now c.args.operand.now spare ∙ sym c.stays.ensures in
+    let fit : stands line.statements.now (tells line.recent.now.later.now) r c.in-Some.source line.place line.statement.now line.operands.now c.args.operand.now ≡ true = stable ∙ c.if-stays.true in
     let small : is_small (expr_with line.statement.now (before ++ r ∷ after)) ≡ true = sym c.stays_small.ensures ∙ c.if-stays_small.true in
     λ t has. by_tests line.statements.now (tells line.recent.now.later.now) t line.place line.statement.now c.args.operand.now before after
     line.operands.now (simple_reads line.statement.now line.operands.now c.requires.operands) c.in-Some.source r near
@@ -64,12 +64,12 @@ returns-else-stays c =
     let near : nearest line.statements.now c.args.operand.now line.place ≡ Some c.in-Some.source = ap (λ (x : List ℕ). nearest line.statements.now x line.place) (sym c.as_slice-name.ensures) ∙ sym c.in-Some.ensures in
     let there : Some r ≡ expression_in (map (option_map expr_view) c.args.table.now) c.in-Some.source = c.in-Some-expression_at.ensures in
     let spare : is_spare line.statements.now (tells line.recent.now.later.now) line.place line.statement.now line.operands.now c.args.operand.now ≡ true = sym c.is_spare.ensures ∙ c.if-not-is_spare.false in
-    let kept : stands line.statements.now (tells line.recent.now.later.now) r c.in-Some.source line.place line.statement.now line.operands.now c.args.operand.now ≡ c.stays.result = spare_stands line.statements.now (tells line.recent.now.later.now) r c.in-Some.source line.place line.statement.now line.operands.now c.args.operand.now spare ∙ sym c.stays.ensures in
+    let stable : stands line.statements.now (tells line.recent.now.later.now) r c.in-Some.source line.place line.statement.now line.operands.now c.args.operand.now ≡ c.stays.result = spare_stands line.statements.now (tells line.recent.now.later.now) r c.in-Some.source line.place line.statement.now line.operands.now c.args.operand.now spare ∙ sym c.stays.ensures in
     let small = is_small (expr_with line.statement.now (before ++ r ∷ after)) in
     let refused : (stands line.statements.now (tells line.recent.now.later.now) r c.in-Some.source line.place line.statement.now line.operands.now c.args.operand.now && small) ≡ false = elim c.else-stays.branch [
-      | else-stays-via-then-stays+else-stays_small w ↦ ap (λ (v : Bool). v && small) (kept ∙ w.if-stays.true)
+      | else-stays-via-then-stays+else-stays_small w ↦ ap (λ (v : Bool). v && small) (stable ∙ w.if-stays.true)
           ∙ (sym w.stays_small.ensures ∙ w.if-stays_small.false)
-      | else-stays-via-else-stays w ↦ ap (λ (v : Bool). v && small) (kept ∙ w.if-stays.false)
+      | else-stays-via-else-stays w ↦ ap (λ (v : Bool). v && small) (stable ∙ w.if-stays.false)
     ] in
     λ t has. by_tests line.statements.now (tells line.recent.now.later.now) t line.place line.statement.now c.args.operand.now before after
     line.operands.now (simple_reads line.statement.now line.operands.now c.requires.operands) c.in-Some.source r near

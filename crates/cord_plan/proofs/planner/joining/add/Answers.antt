@@ -5,8 +5,8 @@ use Rattle.cord_plan.specs.declared.planner.choosing.Choice.{Choice}
 use Rattle.cord_plan.proofs.Joined.{added_name}
 use Rattle.cord_plan.proofs.planner.joining.add.Goals as goal
 
-pub returns-in_ok-push-in-Kept-clause-added : goal.returns-in_ok-push-in-Kept-clause-added
-returns-in_ok-push-in-Kept-clause-added c =
-    added_name c.args.members.now.items c.push.new.self.items c.in_ok-name-in-Kept.field-0
-    (expr_of (choice_view c.args.choice.now)) c.in-Kept.name.now c.in_ok-push-in-Kept.ensures.items c.in_ok-name-in-Kept.ensures.made
-    (ap (λ (d : Choice). expr_of (choice_view d)) c.in-Kept.is)
+pub returns-in_ok-push-in-Named-clause-added : goal.returns-in_ok-push-in-Named-clause-added
+returns-in_ok-push-in-Named-clause-added c =
+    added_name c.args.members.now.items c.push.new.self.items c.in_ok-name-in-Named.field-0
+    (expr_of (choice_view c.args.choice.now)) c.in-Named.name.now c.in_ok-push-in-Named.ensures.items c.in_ok-name-in-Named.ensures.made
+    (ap (λ (d : Choice). expr_of (choice_view d)) c.in-Named.is)

@@ -18,26 +18,26 @@ room_left_all-room_left-after-requires t c =
 
 pub room_left_all-returns-in-None : goal.room_left_all-returns-in-None
 room_left_all-returns-in-None t c =
-    let told : c.match-expression.after ≡ room_left (parts (shared_view c.member-item.result)) c.loop-member.left = elim c.match-expression.branch [
+    let told : c.match-expression.after ≡ room_left (parts (shared_view c.member-item.result)) c.loop-member.rest = elim c.match-expression.branch [
       | room_left_all-in-Name w ↦ let view : shared_view c.member-item.result ≡ plain.name w.in-Name.field-0 = ap expr_view (sym c.as_ref-expression.ensures ∙ w.in-Name.is) ∙ view-Name w.in-Name.field-0 in search (rules, view)
       | room_left_all-in_default w ↦ w.after-is ∙ (w.room_left-after.ensures
-          ∙ ap (λ (e : Expr). room_left (parts (expr_view e)) c.loop-member.left) c.as_ref-expression.ensures)
+          ∙ ap (λ (e : Expr). room_left (parts (expr_view e)) c.loop-member.rest) c.as_ref-expression.ensures)
     ] in
     let rest = parts_of (members_of (map shared_view (drop (c.loop-member.member-index + 1) c.args.members.now))) in
-    let first : room_left (parts_of (members_of (map shared_view c.args.members.now))) c.args.room ≡ room_left (parts (shared_view c.member-item.result) + rest) c.loop-member.left =
-    c.loop-member.invariant ∙ ap (λ (n : ℕ). room_left n c.loop-member.left)
+    let first : room_left (parts_of (members_of (map shared_view c.args.members.now))) c.args.room ≡ room_left (parts (shared_view c.member-item.result) + rest) c.loop-member.rest =
+    c.loop-member.invariant ∙ ap (λ (n : ℕ). room_left n c.loop-member.rest)
     (parts_member c.args.members.now c.loop-member.member-index c.member-item.result c.loop-member-test.true c.member-item.is) in
-    none_for_more (parts (shared_view c.member-item.result)) rest c.loop-member.left (sym c.in-None.is ∙ told) ∙ sym first
+    none_for_more (parts (shared_view c.member-item.result)) rest c.loop-member.rest (sym c.in-None.is ∙ told) ∙ sym first
 
 pub room_left_all-loop-member-preserved : goal.room_left_all-loop-member-preserved
 room_left_all-loop-member-preserved t c =
-    let told : c.match-expression.after ≡ room_left (parts (shared_view c.member-item.result)) c.loop-member.left = elim c.match-expression.branch [
+    let told : c.match-expression.after ≡ room_left (parts (shared_view c.member-item.result)) c.loop-member.rest = elim c.match-expression.branch [
       | room_left_all-in-Name w ↦ let view : shared_view c.member-item.result ≡ plain.name w.in-Name.field-0 = ap expr_view (sym c.as_ref-expression.ensures ∙ w.in-Name.is) ∙ view-Name w.in-Name.field-0 in search (rules, view)
       | room_left_all-in_default w ↦ w.after-is ∙ (w.room_left-after.ensures
-          ∙ ap (λ (e : Expr). room_left (parts (expr_view e)) c.loop-member.left) c.as_ref-expression.ensures)
+          ∙ ap (λ (e : Expr). room_left (parts (expr_view e)) c.loop-member.rest) c.as_ref-expression.ensures)
     ] in
     let rest = parts_of (members_of (map shared_view (drop (c.loop-member.member-index + 1) c.args.members.now))) in
-    let first : room_left (parts_of (members_of (map shared_view c.args.members.now))) c.args.room ≡ room_left (parts (shared_view c.member-item.result) + rest) c.loop-member.left =
-    c.loop-member.invariant ∙ ap (λ (n : ℕ). room_left n c.loop-member.left)
+    let first : room_left (parts_of (members_of (map shared_view c.args.members.now))) c.args.room ≡ room_left (parts (shared_view c.member-item.result) + rest) c.loop-member.rest =
+    c.loop-member.invariant ∙ ap (λ (n : ℕ). room_left n c.loop-member.rest)
     (parts_member c.args.members.now c.loop-member.member-index c.member-item.result c.loop-member-test.true c.member-item.is) in
-    first ∙ room_for_more (parts (shared_view c.member-item.result)) rest c.loop-member.left c.in-Some.less (sym c.in-Some.is ∙ told)
+    first ∙ room_for_more (parts (shared_view c.member-item.result)) rest c.loop-member.rest c.in-Some.less (sym c.in-Some.is ∙ told)

@@ -13,4 +13,4 @@ decreases-room_left_all l = weights (members_of (map shared_view l.members.now))
 
 abbrev pub invariant-room_left_all-loop-member : goal.invariant-room_left_all-loop-member
 invariant-room_left_all-loop-member l = room_left (parts_of (members_of (map shared_view l.members))) l.room
-    ≡ room_left (parts_of (members_of (map shared_view (drop l.member-index l.members)))) l.left
+    ≡ room_left (parts_of (members_of (map shared_view (drop l.member-index l.members)))) l.rest

@@ -18,51 +18,51 @@ all_stay_far-stays_far-requires t c =
 
 pub all_stay_far-returns-then-not-stays_far : goal.all_stay_far-returns-then-not-stays_far
 all_stay_far-returns-then-not-stays_far t c =
-    let kept : stay c.args.line.now.statements.now c.args.from c.args.line.now.place (names (shared_view c.member-item.result)) ≡ false = ap (λ (e : Expr). stay c.args.line.now.statements.now c.args.from c.args.line.now.place (names (expr_view e))) (sym c.as_ref.ensures) ∙ (sym c.stays_far.ensures ∙ c.if-not-stays_far.true) in
+    let stable : stay c.args.line.now.statements.now c.args.from c.args.line.now.place (names (shared_view c.member-item.result)) ≡ false = ap (λ (e : Expr). stay c.args.line.now.statements.now c.args.from c.args.line.now.place (names (expr_view e))) (sym c.as_ref.ensures) ∙ (sym c.stays_far.ensures ∙ c.if-not-stays_far.true) in
     sym (c.loop-member.invariant
     ∙ (stay_member c.args.line.now.statements.now c.args.from c.args.line.now.place c.args.members.now c.loop-member.member-index
     c.member-item.result c.loop-member-test.true c.member-item.is
     ∙ ap (λ (v : Bool). v && stay c.args.line.now.statements.now c.args.from c.args.line.now.place
-    (names_of (members_of (map shared_view (drop (c.loop-member.member-index + 1) c.args.members.now))))) kept))
+    (names_of (members_of (map shared_view (drop (c.loop-member.member-index + 1) c.args.members.now))))) stable))
 
 pub all_stay_far-loop-member-preserved : goal.all_stay_far-loop-member-preserved
 all_stay_far-loop-member-preserved t c =
-    let kept : stay c.args.line.now.statements.now c.args.from c.args.line.now.place (names (shared_view c.member-item.result)) ≡ true = ap (λ (e : Expr). stay c.args.line.now.statements.now c.args.from c.args.line.now.place (names (expr_view e))) (sym c.as_ref.ensures) ∙ (sym c.stays_far.ensures ∙ c.if-not-stays_far.false) in
+    let stable : stay c.args.line.now.statements.now c.args.from c.args.line.now.place (names (shared_view c.member-item.result)) ≡ true = ap (λ (e : Expr). stay c.args.line.now.statements.now c.args.from c.args.line.now.place (names (expr_view e))) (sym c.as_ref.ensures) ∙ (sym c.stays_far.ensures ∙ c.if-not-stays_far.false) in
     c.loop-member.invariant
     ∙ (stay_member c.args.line.now.statements.now c.args.from c.args.line.now.place c.args.members.now c.loop-member.member-index
     c.member-item.result c.loop-member-test.true c.member-item.is
     ∙ ap (λ (v : Bool). v && stay c.args.line.now.statements.now c.args.from c.args.line.now.place
-    (names_of (members_of (map shared_view (drop (c.loop-member.member-index + 1) c.args.members.now))))) kept)
+    (names_of (members_of (map shared_view (drop (c.loop-member.member-index + 1) c.args.members.now))))) stable)
 
 pub stays_far-returns-then-stays_far : goal.stays_far-returns-then-stays_far
 stays_far-returns-then-stays_far t c =
-    let kept = stay c.args.line.now.statements.now c.args.from c.args.line.now.place in
+    let stable = stay c.args.line.now.statements.now c.args.from c.args.line.now.place in
     let view : expr_view c.args.expression.now ≡ plain.sub (expr_view c.in-Sub.expression.value) c.in-Sub.start c.in-Sub.count = ap expr_view c.in-Sub.is ∙ view-Sub c.in-Sub.expression c.in-Sub.start c.in-Sub.count in
-    let inner : kept (names (expr_view c.in-Sub.expression.value)) ≡ true = ap (λ (e : Expr). kept (names (expr_view e))) (sym c.as_ref.ensures) ∙ (sym c.stays_far.ensures ∙ c.if-stays_far.true) in
-    let whole : kept (names (expr_view c.args.expression.now)) ≡ kept (number_names c.in-Sub.start ++ number_names c.in-Sub.count) =
-    ap (λ (e : plain.Expr). kept (names e)) view
+    let inner : stable (names (expr_view c.in-Sub.expression.value)) ≡ true = ap (λ (e : Expr). stable (names (expr_view e))) (sym c.as_ref.ensures) ∙ (sym c.stays_far.ensures ∙ c.if-stays_far.true) in
+    let whole : stable (names (expr_view c.args.expression.now)) ≡ stable (number_names c.in-Sub.start ++ number_names c.in-Sub.count) =
+    ap (λ (e : plain.Expr). stable (names e)) view
     ∙ (stay_append c.args.line.now.statements.now c.args.from c.args.line.now.place (names (expr_view c.in-Sub.expression.value))
     (number_names c.in-Sub.start ++ number_names c.in-Sub.count)
-    ∙ ap (λ (v : Bool). v && kept (number_names c.in-Sub.start ++ number_names c.in-Sub.count)) inner) in
+    ∙ ap (λ (v : Bool). v && stable (number_names c.in-Sub.start ++ number_names c.in-Sub.count)) inner) in
     c.numbers_stay-then-stays_far.ensures ∙ sym whole
 
 pub stays_far-returns-else-stays_far : goal.stays_far-returns-else-stays_far
 stays_far-returns-else-stays_far t c =
-    let kept = stay c.args.line.now.statements.now c.args.from c.args.line.now.place in
+    let stable = stay c.args.line.now.statements.now c.args.from c.args.line.now.place in
     let view : expr_view c.args.expression.now ≡ plain.sub (expr_view c.in-Sub.expression.value) c.in-Sub.start c.in-Sub.count = ap expr_view c.in-Sub.is ∙ view-Sub c.in-Sub.expression c.in-Sub.start c.in-Sub.count in
-    let inner : kept (names (expr_view c.in-Sub.expression.value)) ≡ false = ap (λ (e : Expr). kept (names (expr_view e))) (sym c.as_ref.ensures) ∙ (sym c.stays_far.ensures ∙ c.if-stays_far.false) in
-    let whole : kept (names (expr_view c.args.expression.now)) ≡ false =
-    ap (λ (e : plain.Expr). kept (names e)) view
+    let inner : stable (names (expr_view c.in-Sub.expression.value)) ≡ false = ap (λ (e : Expr). stable (names (expr_view e))) (sym c.as_ref.ensures) ∙ (sym c.stays_far.ensures ∙ c.if-stays_far.false) in
+    let whole : stable (names (expr_view c.args.expression.now)) ≡ false =
+    ap (λ (e : plain.Expr). stable (names e)) view
     ∙ (stay_append c.args.line.now.statements.now c.args.from c.args.line.now.place (names (expr_view c.in-Sub.expression.value))
     (number_names c.in-Sub.start ++ number_names c.in-Sub.count)
-    ∙ ap (λ (v : Bool). v && kept (number_names c.in-Sub.start ++ number_names c.in-Sub.count)) inner) in
+    ∙ ap (λ (v : Bool). v && stable (number_names c.in-Sub.start ++ number_names c.in-Sub.count)) inner) in
     cc
 
 pub all_stay_far-returns : goal.all_stay_far-returns
 all_stay_far-returns t c =
     let line = c.args.line.now in
-    let kept = stay line.statements.now c.args.from line.place in
+    let stable = stay line.statements.now c.args.from line.place in
     sym (c.loop-member.invariant
-    ∙ (at_drop_all (λ (es : List Shared). kept (names_of (members_of (map shared_view es)))) c.args.members.now c.loop-member.member-index
+    ∙ (at_drop_all (λ (es : List Shared). stable (names_of (members_of (map shared_view es)))) c.args.members.now c.loop-member.member-index
     c.loop-member-test.false
     ∙ stay_nothing line.statements.now c.args.from line.place))

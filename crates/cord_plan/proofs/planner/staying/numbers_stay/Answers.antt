@@ -7,15 +7,15 @@ use Rattle.cord_plan.proofs.planner.staying.numbers_stay.Goals as goal
 pub returns-then-number_stays : goal.returns-then-number_stays
 returns-then-number_stays c =
     let line = c.args.line.now in
-    let kept = stay line.statements.now c.args.from line.place in
+    let stable = stay line.statements.now c.args.from line.place in
     c.number_stays-then-number_stays.ensures
     ∙ sym (stay_append line.statements.now c.args.from line.place (number_names c.args.first.now) (number_names c.args.second.now)
-    ∙ ap (λ (v : Bool). v && kept (number_names c.args.second.now)) (sym c.number_stays.ensures ∙ c.if-number_stays.true))
+    ∙ ap (λ (v : Bool). v && stable (number_names c.args.second.now)) (sym c.number_stays.ensures ∙ c.if-number_stays.true))
 
 pub returns-else-number_stays : goal.returns-else-number_stays
 returns-else-number_stays c =
     let line = c.args.line.now in
-    let kept = stay line.statements.now c.args.from line.place in
+    let stable = stay line.statements.now c.args.from line.place in
     c.if-number_stays.false ∙ sym (stay_append line.statements.now c.args.from line.place (number_names c.args.first.now)
     (number_names c.args.second.now)
-    ∙ ap (λ (v : Bool). v && kept (number_names c.args.second.now)) (sym c.number_stays.ensures ∙ c.if-number_stays.false))
+    ∙ ap (λ (v : Bool). v && stable (number_names c.args.second.now)) (sym c.number_stays.ensures ∙ c.if-number_stays.false))

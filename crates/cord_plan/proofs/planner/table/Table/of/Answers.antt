@@ -3,7 +3,7 @@ use Rattle.std.specs.Prelude.{option_map, replicate, slice_get}
 use Rattle.std.proofs.lemmas.Option.{slice_get_read}
 use Rattle.std.proofs.lemmas.List.{map-append}
 use Rattle.cord_plan.specs.inner.Liveness.{tells}
-use Rattle.cord_plan.specs.inner.Numbering.{AllKept, AreKept}
+use Rattle.cord_plan.specs.inner.Numbering.{AllHints, AreHints}
 use Rattle.cord_plan.specs.inner.Tables.{IsNext}
 use Rattle.cord_plan.specs.Views.{expr_view}
 use Rattle.cord_syntax.specs.declared.statements.Statement.{Statement}
@@ -59,9 +59,9 @@ returns-clause-made c =
 
 -- the numbers of the next line are right
 right : (s : List Statement) (t old : Numbering) (all now : List LineNumbers) (numbers : LineNumbers) (p : ℕ) (l : Statement) → old ≡ t →
-    now ≡ all → AllKept s t all → slice_get s p ≡ Some l → (AllKept s t now → slice_get s p ≡ Some l → AreKept t l numbers) →
-    AreKept old l numbers
-right s t old all now numbers p l same is kept there tells = rw same (tells (rw is kept) there)
+    now ≡ all → AllHints s t all → slice_get s p ≡ Some l → (AllHints s t now → slice_get s p ≡ Some l → AreHints t l numbers) →
+    AreHints old l numbers
+right s t old all now numbers p l same is hints there tells = rw same (tells (rw is hints) there)
 
 pub note-requires : goal.note-requires
 note-requires c =
@@ -71,14 +71,14 @@ note-requires c =
     right s t c.loop-place.recent.later.now.numbering c.args.later.now.numbers.items c.deref.result.now c.numbers_at-numbers.result
     c.loop-place.place l (ap (λ (r : Later). r.numbering) c.loop-place.invariant.later) c.deref.ensures.value c.requires
     (slice_get_read s (length s) c.loop-place.place l refl c.loop-place-test.true c.index-statements-place.is)
-    (λ kept there. c.numbers_at-numbers.ensures s t l kept there)
+    (λ hints there. c.numbers_at-numbers.ensures s t l hints there)
 
-pub next_expression-requires-clause-kept : goal.next_expression-requires-clause-kept
-next_expression-requires-clause-kept c =
+pub next_expression-requires-clause-hints : goal.next_expression-requires-clause-hints
+next_expression-requires-clause-hints c =
     let s = c.args.statements.now in
     let t = c.args.later.now.numbering in
     let l = c.index-statements-place.result in
     right s t c.loop-place.recent.later.now.numbering c.args.later.now.numbers.items c.deref.result.now c.numbers_at-numbers.result
     c.loop-place.place l (ap (λ (r : Later). r.numbering) c.loop-place.invariant.later) c.deref.ensures.value c.requires
     (slice_get_read s (length s) c.loop-place.place l refl c.loop-place-test.true c.index-statements-place.is)
-    (λ kept there. c.numbers_at-numbers.ensures s t l kept there)
+    (λ hints there. c.numbers_at-numbers.ensures s t l hints there)

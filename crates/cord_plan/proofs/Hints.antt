@@ -1,8 +1,8 @@
--- Numbers that are kept of the names of lines, line after line.
+-- Hints of the numbers of the names of lines, line after line.
 use Rattle.std.proofs.Common.{◌≡◌, ◌⊎◌, ℕ, List, [], ◌∷◌, ◌++◌, length, Some, inl, inr, ap, ◌∙◌, subst}
 use Rattle.std.specs.Prelude.{slice_get}
 use Rattle.cord_syntax.specs.declared.statements.Statement.{Statement}
-use Rattle.cord_plan.specs.inner.Numbering.{Adds, AllKept, AllPlaces, AreDistinct, ArePlaces, names_of}
+use Rattle.cord_plan.specs.inner.Numbering.{Adds, AllHints, AllPlaces, AreDistinct, ArePlaces, names_of}
 use Rattle.cord_plan.proofs.Numbers.{item_at, place_is_number}
 use Rattle.cord_plan.specs.declared.flow.line_numbers.LineNumbers.{LineNumbers}
 use Rattle.cord_plan.specs.declared.flow.numbering.Numbering.{Numbering}
@@ -11,7 +11,7 @@ module _ (s : List Statement) where
   pub places_none : (names : List (List ℕ)) → AllPlaces s names []
   places_none names p l numbers there e = let bad : ⊥ = cc in absurd bad
 
-  -- what is kept of the lines so far stays when names are added for a line, and the line's numbers come last
+  -- the hints of the lines so far stay right when names are added for a line, and the line's hints come last
   pub places_more : (xs old new : List (List ℕ)) → Adds xs old new → (all : List LineNumbers) (last : LineNumbers) (n : ℕ) (l : Statement) →
       length all ≡ n → slice_get s n ≡ Some l → ArePlaces new l last → AllPlaces s old all → AllPlaces s new (all ++ last ∷ [])
   places_more xs old new adds all last n l size here is before p m numbers there e = by_item (item_at all last numbers p e)
@@ -30,8 +30,8 @@ module _ (s : List Statement) where
           subst (λ (k : Statement). ArePlaces new k numbers) same (subst (λ (k : LineNumbers). ArePlaces new l k) w.1 is)
 
   -- of names that are distinct the places are the numbers
-  pub places_kept : (t : Numbering) → AreDistinct (names_of t) → (all : List LineNumbers) → AllPlaces s (names_of t) all → AllKept s t all
-  places_kept t distinct all places p l numbers there e =
+  pub places_are_hints : (t : Numbering) → AreDistinct (names_of t) → (all : List LineNumbers) → AllPlaces s (names_of t) all → AllHints s t all
+  places_are_hints t distinct all places p l numbers there e =
       let are : ArePlaces (names_of t) l numbers = places p l numbers there e in
       record {
         target = λ x f k g. place_is_number t distinct x k (are.target x f k g);
