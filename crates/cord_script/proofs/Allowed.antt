@@ -1,4 +1,4 @@
--- What the checks of a statement's parts tell.
+-- What the checks of a statement's fields tell.
 use Rattle.std.proofs.Common.{inl, inr, Some, None, ◌≡◌, ◌<◌, ℕ, List, [], ◌∷◌, true, refl, ◌∙◌, ap, length, map}
 use Rattle.std.specs.Prelude.{Option, ◌⊎◌, ◌||◌, nat_lt, if◌then◌else◌}
 use Rattle.std.proofs.lemmas.Bool.{ltb-true}
@@ -22,8 +22,8 @@ use Rattle.cord_script.specs.Script.{Before, Block, kind_of, is_among, IsTerm, A
 use Rattle.cord_script.specs.Script.Block.{InRepeat, InIf, InElse}
 use Rattle.cord_script.specs.Flaws.{words_flaw, is_count, wants_of, HasFormat, HasFormFlaw, first_of, unless, first_pair, kind_flaw}
 use Rattle.cord_script.specs.Flaws.{operand_flaw, word_target_flaw, word_path_flaw, names_flaw, block_flaw}
-use Rattle.cord_script.specs.declared.parts.Part.{Part}
-use Rattle.cord_script.specs.Parted.{want_of, term_of, wanted_by, IsReadAs, IsFormatOf, IsParted, HasPartFlaw, IsChecked}
+use Rattle.cord_script.specs.declared.fields.Field.{Field}
+use Rattle.cord_script.specs.inner.Fields.{want_of, term_of, wanted_by, IsReadAs, IsFormatOf, AreFields, HasFieldFlaw, IsChecked}
 use Rattle.cord_script.specs.inner.ContextViews.{operand_term_flaw, target_term_flaw, path_term_flaw, first_term, terms_flaw}
 use Rattle.cord_script.proofs.Checked.{neither, holds, kind_right, target_right}
 use Rattle.cord_script.proofs.Terms.{either, name_begins, numeral_known}
@@ -150,7 +150,7 @@ behind_two None None c d kind p q h = h
 behind_two _ _ c d kind p q h = cc
 
 -- words that are wrong are a flaw of the form
-pub words_wrong : (before : Before) (form : Form) (ws : List Word) (kind : RefusalKind) → HasPartFlaw form.shape ws kind →
+pub words_wrong : (before : Before) (form : Form) (ws : List Word) (kind : RefusalKind) → HasFieldFlaw form.shape ws kind →
     HasFormFlaw before (Some form) ws kind
 words_wrong before form ws kind h = (
   h.0,
@@ -177,8 +177,8 @@ format_wants_are Printed (t ∷ Plain p ∷ ws) format h = none_wanted format h
 format_wants_are Printed (t ∷ Quoted text ∷ ws) format h = read_converts text format h
 
 -- what is wrong after right words is a flaw of the form
-later_wrong : (before : Before) (form : Form) (ws : List Word) (ps : List Part) (format : Option (List Piece)) (kind : RefusalKind) →
-    IsParted form.shape ws ps format → first_of (terms_flaw before (map term_of ps)) (block_flaw form.effect before.blocks) ≡ Some kind →
+later_wrong : (before : Before) (form : Form) (ws : List Word) (ps : List Field) (format : Option (List Piece)) (kind : RefusalKind) →
+    AreFields form.shape ws ps format → first_of (terms_flaw before (map term_of ps)) (block_flaw form.effect before.blocks) ≡ Some kind →
     HasFormFlaw before (Some form) ws kind
 later_wrong before form ws ps format kind h wrong =
     let same = ap (λ k. names_flaw before k ws) h.wanted ∙ names_same before ws (map term_of ps) h.terms in (
@@ -191,24 +191,24 @@ later_wrong before form ws ps format kind h wrong =
     )
 
 -- names that are wrong
-pub names_wrong : (before : Before) (form : Form) (ws : List Word) (ps : List Part) (format : Option (List Piece)) (kind : RefusalKind) →
-    IsParted form.shape ws ps format → terms_flaw before (map term_of ps) ≡ Some kind → HasFormFlaw before (Some form) ws kind
+pub names_wrong : (before : Before) (form : Form) (ws : List Word) (ps : List Field) (format : Option (List Piece)) (kind : RefusalKind) →
+    AreFields form.shape ws ps format → terms_flaw before (map term_of ps) ≡ Some kind → HasFormFlaw before (Some form) ws kind
 names_wrong before form ws ps format kind h wrong = later_wrong before form ws ps format kind h
     (ap (λ k. first_of k (block_flaw form.effect before.blocks)) wrong)
 
 -- a statement that the open blocks do not take
-pub blocks_wrong : (before : Before) (form : Form) (ws : List Word) (ps : List Part) (format : Option (List Piece)) (kind : RefusalKind) →
-    IsParted form.shape ws ps format → terms_flaw before (map term_of ps) ≡ None → block_flaw form.effect before.blocks ≡ Some kind →
+pub blocks_wrong : (before : Before) (form : Form) (ws : List Word) (ps : List Field) (format : Option (List Piece)) (kind : RefusalKind) →
+    AreFields form.shape ws ps format → terms_flaw before (map term_of ps) ≡ None → block_flaw form.effect before.blocks ≡ Some kind →
     HasFormFlaw before (Some form) ws kind
 blocks_wrong before form ws ps format kind h names wrong = later_wrong before form ws ps format kind h
     (ap (λ k. first_of k (block_flaw form.effect before.blocks)) names ∙ wrong)
 
 -- a line that is right
-pub checked : (before : Before) (form : Form) (ws : List Word) (ps : List Part) (format : Option (List Piece)) →
-    IsParted form.shape ws ps format → terms_flaw before (map term_of ps) ≡ None → block_flaw form.effect before.blocks ≡ None →
+pub checked : (before : Before) (form : Form) (ws : List Word) (ps : List Field) (format : Option (List Piece)) →
+    AreFields form.shape ws ps format → terms_flaw before (map term_of ps) ≡ None → block_flaw form.effect before.blocks ≡ None →
     IsChecked form before ws ps format
 checked before form ws ps format h names blocks = record {
-  parted = h;
+  says = h;
   allowed = all_allowed before (map term_of ps) names;
   fits = block_right form.effect before.blocks blocks;
 }

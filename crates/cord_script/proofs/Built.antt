@@ -1,4 +1,4 @@
--- What the parts of a `catn` and of a `sprintf` are.
+-- What the fields of a `catn` and of a `sprintf` are.
 use Rattle.std.proofs.Common.{Some, None, ◌≡◌, ◌+◌, ℕ, List, [], ◌∷◌, true, map, refl, sym, ◌∙◌, ap, subst, length, arith}
 use Rattle.std.specs.Prelude.{Option, nat_le}
 use Rattle.std.proofs.lemmas.Bool.{leb-true}
@@ -8,11 +8,11 @@ use Rattle.cord_printf.specs.declared.pieces.Piece.{Piece}
 use Rattle.cord_printf.specs.Pieces.{wanted}
 use Rattle.cord_printf.specs.Format.{IsFormat}
 use Rattle.cord_script.specs.declared.TheConstants.{MIN_PARTS, MAX_PARTS}
-use Rattle.cord_script.specs.declared.grammar.Verb.{Verb}
-use Rattle.cord_script.specs.declared.grammar.Verb.TheVariants as verbs
+use Rattle.cord_script.specs.declared.verbs.Verb.{Verb}
+use Rattle.cord_script.specs.declared.verbs.Verb.TheVariants as verbs
 use Rattle.cord_script.specs.declared.kinds.Kind.TheVariants as kinds
 use Rattle.cord_script.specs.declared.kinds.Want.TheVariants as wants
-use Rattle.cord_script.specs.declared.parts.Part.{Part}
+use Rattle.cord_script.specs.declared.fields.Field.{Field}
 use Rattle.cord_script.specs.declared.words.Word.{Word}
 use Rattle.cord_script.specs.declared.words.Word.TheVariants.{Plain, Quoted}
 use Rattle.cord_script.specs.declared.refusals.RefusalKind.{RefusalKind}
@@ -25,9 +25,9 @@ use Rattle.cord_script.specs.Forms.Term.{Target, Formats}
 use Rattle.cord_script.specs.Formats.{want_of_kind, wants_of_pieces}
 use Rattle.cord_script.specs.Script.{IsTerm, AreTerms}
 use Rattle.cord_script.specs.Flaws.{first_of, first_misfit, is_count, cords, joined, format_wants, arguments_flaw, words_flaw, wants_of}
-use Rattle.cord_script.specs.Parted.{want_of, term_of, wanted_by, IsReadAs, IsFormatOf, IsParted}
+use Rattle.cord_script.specs.inner.Fields.{want_of, term_of, wanted_by, IsReadAs, IsFormatOf, AreFields}
 use Rattle.cord_script.specs.inner.Verbal.{verb_shape}
-use Rattle.cord_script.specs.inner.Built.{are_cords, are_arguments, IsJoined, IsPrinted, IsPrintedAs, IsWorded}
+use Rattle.cord_script.specs.inner.Built.{are_cords, are_arguments, IsJoined, IsPrinted, IsPrintedAs, AreFieldsOf}
 use Rattle.cord_script.proofs.Spelled.{both}
 use Rattle.cord_script.proofs.Checked.{neither}
 use Rattle.cord_script.proofs.Terms.{terms_count}
@@ -37,7 +37,7 @@ kinds_are_arguments [] = refl
 kinds_are_arguments (printed.Number ∷ ks) = kinds_are_arguments ks
 kinds_are_arguments (printed.Cord ∷ ks) = kinds_are_arguments ks
 
--- the parts after a format
+-- the fields after a format
 others_same : (pieces : List Piece) (ts us vs : List Term) (name text : List ℕ) (h : IsPrintedAs pieces ts) →
     ts ≡ Target kinds.Cord name ∷ us → us ≡ Formats text ∷ vs → (h.text ≡ text) × (h.others ≡ vs)
 others_same pieces ts us vs name text h e f =
@@ -77,12 +77,12 @@ cords_only : (ws : List Word) → are_cords (cords ws) ≡ true
 cords_only [] = refl
 cords_only (w ∷ ws) = cords_only ws
 
--- the parts of a `catn`
-joined_parts : (ws : List Word) (ts : List Term) → is_count Joined (length ws) ≡ true → joined ws ≡ map want_of ts → AreTerms ws ts →
+-- the fields of a `catn`
+joined_fields : (ws : List Word) (ts : List Term) → is_count Joined (length ws) ≡ true → joined ws ≡ map want_of ts → AreTerms ws ts →
     IsJoined ts
-joined_parts [] ts count wanted terms = cc
-joined_parts (w ∷ ws) [] count wanted terms = cc
-joined_parts (w ∷ ws) (t ∷ ts) count wanted terms =
+joined_fields [] ts count wanted terms = cc
+joined_fields (w ∷ ws) [] count wanted terms = cc
+joined_fields (w ∷ ws) (t ∷ ts) count wanted terms =
     let first : want_of t ≡ wants.Target kinds.Cord = cc in
     let others : cords ws ≡ map want_of ts = cc in
     let target = target_of t first in
@@ -127,19 +127,19 @@ unread_flaw : (ws : List Word) (o : Option RefusalKind) (format : Option (List P
 unread_flaw ws o None e h = let wrong = (neither o (Some BadFormat) h).1 in cc
 unread_flaw ws o (Some pieces) e h = cc
 
--- the parts of a `sprintf`
-printed_parts : (ws : List Word) (ts : List Term) (format : Option (List Piece)) → is_count Printed (length ws) ≡ true →
+-- the fields of a `sprintf`
+printed_fields : (ws : List Word) (ts : List Term) (format : Option (List Piece)) → is_count Printed (length ws) ≡ true →
     IsFormatOf Printed ws format → words_flaw Printed (wanted_by format) ws ≡ None →
     wants_of Printed (wanted_by format) ws ≡ map want_of ts → AreTerms ws ts → IsPrinted format ts
-printed_parts [] ts format count has fit wanted terms = cc
-printed_parts (w ∷ []) ts format count has fit wanted terms = cc
-printed_parts (w ∷ Plain p ∷ ws) ts format count has fit wanted terms =
+printed_fields [] ts format count has fit wanted terms = cc
+printed_fields (w ∷ []) ts format count has fit wanted terms = cc
+printed_fields (w ∷ Plain p ∷ ws) ts format count has fit wanted terms =
     absurd (unread_flaw ws (first_misfit format_wants (w ∷ Plain p ∷ ws)) format has fit)
-printed_parts (w ∷ Quoted text ∷ ws) ts format count has fit wanted terms = printed_by w text ws ts format has fit wanted terms
+printed_fields (w ∷ Quoted text ∷ ws) ts format count has fit wanted terms = printed_by w text ws ts format has fit wanted terms
 
 -- what the builder of a statement takes
-pub worded : (v : Verb) (ws : List Word) (ps : List Part) (format : Option (List Piece)) → IsParted (verb_shape v) ws ps format →
-    IsWorded v (map term_of ps) format
-worded verbs.Catn ws ps format h = joined_parts ws (map term_of ps) h.count h.wanted h.terms
-worded verbs.Sprintf ws ps format h = printed_parts ws (map term_of ps) format h.count h.has h.fit h.wanted h.terms
-worded _ ws ps format h = sym h.wanted
+pub fields_suit : (v : Verb) (ws : List Word) (ps : List Field) (format : Option (List Piece)) → AreFields (verb_shape v) ws ps format →
+    AreFieldsOf v (map term_of ps) format
+fields_suit verbs.Catn ws ps format h = joined_fields ws (map term_of ps) h.count h.wanted h.terms
+fields_suit verbs.Sprintf ws ps format h = printed_fields ws (map term_of ps) format h.count h.has h.fit h.wanted h.terms
+fields_suit _ ws ps format h = sym h.wanted

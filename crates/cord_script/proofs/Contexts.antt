@@ -2,8 +2,8 @@
 use Rattle.std.proofs.Common.{Some, Ok, Err, ◌≡◌, ℕ, List, ◌∷◌, map, refl, sym, ◌∙◌, ap, subst}
 use Rattle.std.specs.Prelude.{Option, Result, IfOk}
 use Rattle.cord_printf.specs.declared.pieces.Piece.{Piece}
-use Rattle.cord_script.specs.declared.grammar.Verb.{Verb}
-use Rattle.cord_script.specs.declared.parts.Part.{Part}
+use Rattle.cord_script.specs.declared.verbs.Verb.{Verb}
+use Rattle.cord_script.specs.declared.fields.Field.{Field}
 use Rattle.cord_script.specs.declared.words.Word.{Word}
 use Rattle.cord_script.specs.declared.words.Word.TheVariants.{Plain}
 use Rattle.cord_script.specs.declared.refusals.RefusalKind.{RefusalKind}
@@ -12,9 +12,10 @@ use Rattle.cord_syntax.specs.Lines.{line_of}
 use Rattle.cord_script.specs.Forms.{Term, form_of, word_of, terms_of, effect_of}
 use Rattle.cord_script.specs.Script.{Before, AreTerms, AreAllowed, FitsBlocks, Suits, whole, after, names_after, paths_after, blocks_after}
 use Rattle.cord_script.specs.Flaws.{HasFormFlaw, HasBadWords}
-use Rattle.cord_script.specs.Parted.{term_of, IsChecked}
+use Rattle.cord_script.specs.inner.Fields.{term_of, IsChecked}
 use Rattle.cord_script.specs.inner.Verbal.{verb_word, verb_effect, verb_form}
 use Rattle.cord_script.specs.inner.Contexts.{context_after, SaysAfter}
+use Rattle.cord_script.specs.inner.Built.{IsStatementOf}
 use Rattle.cord_script.proofs.Stated.{right_form}
 use Rattle.cord_script.proofs.Tabled.{form_is}
 
@@ -27,8 +28,8 @@ same_effect v others s word terms suits =
     let same : r.form ≡ verb_form v = cc in
     sym r.effect ∙ ap (λ f. f.effect) same
 
--- what a statement leaves is what its parts leave
-same_context : (v : Verb) (n : ℕ) (ps : List Part) (old : Before) (s : Statement) → line_of s ≡ n → terms_of s ≡ map term_of ps →
+-- what a statement leaves is what its fields leave
+same_context : (v : Verb) (n : ℕ) (ps : List Field) (old : Before) (s : Statement) → line_of s ≡ n → terms_of s ≡ map term_of ps →
     effect_of s ≡ verb_effect v → after s old ≡ context_after v n ps old
 same_context v n ps old s line terms effect =
     ap (λ ts. record {
@@ -47,12 +48,12 @@ same_context v n ps old s line terms effect =
       blocks = blocks_after (verb_effect v) k old.blocks;
     }) line
 
-says : (v : Verb) (n : ℕ) (old new : Before) (word : List ℕ) (words others : List Word) (ps : List Part) (format : Option (List Piece))
+says : (v : Verb) (n : ℕ) (old new : Before) (word : List ℕ) (words others : List Word) (ps : List Field) (format : Option (List Piece))
     (s : Statement) → words ≡ Plain word ∷ others → word ≡ verb_word v → IsChecked (verb_form v) old others ps format →
     new ≡ context_after v n ps old → word_of s ≡ verb_word v → line_of s ≡ n → terms_of s ≡ map term_of ps → Suits s →
     SaysAfter n old new words s
 says v n old new word words others ps format s e spelled checked left named line terms suits =
-    let are : AreTerms others (terms_of s) = subst (AreTerms others) (sym terms) checked.parted.terms in
+    let are : AreTerms others (terms_of s) = subst (AreTerms others) (sym terms) checked.says.terms in
     let effect = same_effect v others s named are suits in
     record {
       says = record {
@@ -69,14 +70,13 @@ says v n old new word words others ps format s e spelled checked left named line
     }
 
 -- the statement of words that were checked
-pub said : (v : Verb) (n : ℕ) (old new : Before) (word : List ℕ) (words others : List Word) (ps : List Part) (format : Option (List Piece))
+pub said : (v : Verb) (n : ℕ) (old new : Before) (word : List ℕ) (words others : List Word) (ps : List Field) (format : Option (List Piece))
     (ts : List Term) (r : Result Statement RefusalKind) → words ≡ Plain word ∷ others → word ≡ verb_word v →
     IsChecked (verb_form v) old others ps format → new ≡ context_after v n ps old → ts ≡ map term_of ps →
-    IfOk r (λ s. word_of s ≡ verb_word v) → IfOk r (λ s. line_of s ≡ n) → IfOk r (λ s. terms_of s ≡ ts) → IfOk r Suits →
-    IfOk r (SaysAfter n old new words)
-said v n old new word words others ps format ts (Ok s) e spelled checked left same named line terms suits =
-    says v n old new word words others ps format s e spelled checked left named line (terms ∙ same) suits
-said v n old new word words others ps format ts (Err kind) e spelled checked left same named line terms suits = tt
+    IfOk r (IsStatementOf v n ts) → IfOk r (SaysAfter n old new words)
+said v n old new word words others ps format ts (Ok s) e spelled checked left same is =
+    says v n old new word words others ps format s e spelled checked left is.0 is.1 (is.2 ∙ same) is.3
+said v n old new word words others ps format ts (Err kind) e spelled checked left same is = tt
 
 -- what is wrong with the words after a verb is wrong with all words
 pub bad_words : (v : Verb) (old : Before) (words others : List Word) (kind : RefusalKind) → words ≡ Plain (verb_word v) ∷ others →

@@ -10,8 +10,16 @@ use Rattle.cord_printf.specs.declared.pieces.ArgKind.TheVariants as printed
 use Rattle.cord_printf.specs.Pieces.{wanted}
 use Rattle.cord_printf.specs.FormatLaws.{FormatOrBad}
 use Rattle.cord_script.specs.declared.TheConstants.{MIN_PARTS, MAX_PARTS}
-use Rattle.cord_script.specs.declared.grammar.Verb.{Verb}
-use Rattle.cord_script.specs.declared.grammar.Verb.TheVariants as verbs
+use Rattle.cord_script.specs.declared.verbs.Verb.{Verb}
+use Rattle.cord_script.specs.declared.verbs.Verb.TheVariants as verbs
+use Rattle.cord_script.specs.declared.verbs.Origin.TheVariants as origins
+use Rattle.cord_script.specs.declared.verbs.Joining.TheVariants as joinings
+use Rattle.cord_script.specs.declared.verbs.Anew.TheVariants as anews
+use Rattle.cord_script.specs.declared.verbs.Growth.TheVariants as growths
+use Rattle.cord_script.specs.declared.verbs.Computation.TheVariants as computations
+use Rattle.cord_script.specs.declared.verbs.Look.TheVariants as looks
+use Rattle.cord_script.specs.declared.verbs.Search.TheVariants as searches
+use Rattle.cord_script.specs.declared.verbs.Control.TheVariants as controls
 use Rattle.cord_script.specs.declared.grammar.TheConstants.{VERBS}
 use Rattle.cord_script.specs.declared.kinds.Kind.TheVariants as kinds
 use Rattle.cord_script.specs.declared.kinds.Want.{Want}
@@ -43,7 +51,7 @@ use Rattle.cord_script.specs.Script.{Before, Says, Suits, IsTerm, AreTerms, Fits
 use Rattle.cord_script.specs.Flaws.{first_of, unless, misfit, first_pair, first_misfit, name_misfit, is_count, cords, joined, format_wants}
 use Rattle.cord_script.specs.Flaws.{arguments_flaw, words_flaw, wants_of, names_flaw, block_flaw, form_flaw, HasFormat, HasFormFlaw}
 use Rattle.cord_script.specs.Flaws.{HasBadWords}
-use Rattle.cord_script.specs.Parted.{want_of}
+use Rattle.cord_script.specs.inner.Fields.{want_of}
 use Rattle.cord_script.specs.inner.ContextViews.{terms_flaw}
 use Rattle.cord_script.specs.inner.Verbal.{verb_word, verb_shape, verb_effect, verb_form, find_verb, form_at}
 use Rattle.cord_script.proofs.Spelled.{both, chosen}
@@ -270,42 +278,42 @@ printed_filled n (w ∷ Quoted text ∷ ws) (Some xs) has count fit =
 filled : (v : Verb) (n : ℕ) (ws : List Word) (formats : Option (List Want)) → HasFormat (verb_shape v) ws formats →
     is_count (verb_shape v) (length ws) ≡ true → words_flaw (verb_shape v) formats ws ≡ None →
     IsFilled (verb_word v) (verb_shape v) n ws formats
-filled verbs.Let n ws formats has count fit = fixed n ws formats count fit (λ h. made (Let n h.0 h.1.0) refl refl refl tt)
-filled verbs.File n ws formats has count fit = fixed n ws formats count fit (λ h. made (File n h.0 h.1.0) refl refl refl tt)
-filled verbs.Eager n ws formats has count fit = fixed n ws formats count fit (λ h. made (Eager n h.0 h.1.0) refl refl refl tt)
-filled verbs.Lazy n ws formats has count fit = fixed n ws formats count fit (λ h. made (Lazy n h.0 h.1.0) refl refl refl tt)
-filled verbs.Chars n ws formats has count fit = fixed n ws formats count fit (λ h. made (Chars n h.0 h.1.0 h.1.1.0) refl refl refl tt)
-filled verbs.Nul n ws formats has count fit = fixed n ws formats count fit (λ h. made (Nul n h.0 h.1.0) refl refl refl tt)
-filled verbs.FromFn n ws formats has count fit = fixed n ws formats count fit (λ h. made (FromFn n h.0 h.1.0 h.1.1.0) refl refl refl tt)
-filled verbs.Cat n ws formats has count fit = fixed n ws formats count fit (λ h. made (Cat n h.0 h.1.0 h.1.1.0) refl refl refl tt)
+filled (verbs.Origin origins.Let) n ws formats has count fit = fixed n ws formats count fit (λ h. made (Let n h.0 h.1.0) refl refl refl tt)
+filled (verbs.Origin origins.File) n ws formats has count fit = fixed n ws formats count fit (λ h. made (File n h.0 h.1.0) refl refl refl tt)
+filled (verbs.Origin origins.Eager) n ws formats has count fit = fixed n ws formats count fit (λ h. made (Eager n h.0 h.1.0) refl refl refl tt)
+filled (verbs.Origin origins.Lazy) n ws formats has count fit = fixed n ws formats count fit (λ h. made (Lazy n h.0 h.1.0) refl refl refl tt)
+filled (verbs.Joining joinings.Chars) n ws formats has count fit = fixed n ws formats count fit (λ h. made (Chars n h.0 h.1.0 h.1.1.0) refl refl refl tt)
+filled (verbs.Joining joinings.Nul) n ws formats has count fit = fixed n ws formats count fit (λ h. made (Nul n h.0 h.1.0) refl refl refl tt)
+filled (verbs.Origin origins.FromFn) n ws formats has count fit = fixed n ws formats count fit (λ h. made (FromFn n h.0 h.1.0 h.1.1.0) refl refl refl tt)
+filled (verbs.Joining joinings.Cat) n ws formats has count fit = fixed n ws formats count fit (λ h. made (Cat n h.0 h.1.0 h.1.1.0) refl refl refl tt)
 filled verbs.Catn n ws formats has count fit = joined_filled n ws formats count fit
-filled verbs.Catc n ws formats has count fit = fixed n ws formats count fit (λ h. made (Catc n h.0 h.1.0 h.1.1.0) refl refl refl tt)
-filled verbs.Substr n ws formats has count fit = fixed n ws formats count fit
+filled (verbs.Joining joinings.Catc) n ws formats has count fit = fixed n ws formats count fit (λ h. made (Catc n h.0 h.1.0 h.1.1.0) refl refl refl tt)
+filled (verbs.Joining joinings.Substr) n ws formats has count fit = fixed n ws formats count fit
     (λ h. made (Substr n h.0 h.1.0 h.1.1.0 h.1.1.1.0) refl refl refl tt)
-filled verbs.Balance n ws formats has count fit = fixed n ws formats count fit (λ h. made (Balance n h.0 h.1.0) refl refl refl tt)
-filled verbs.EcToCord n ws formats has count fit = fixed n ws formats count fit (λ h. made (EcToCord n h.0 h.1.0) refl refl refl tt)
+filled (verbs.Anew anews.Balance) n ws formats has count fit = fixed n ws formats count fit (λ h. made (Balance n h.0 h.1.0) refl refl refl tt)
+filled (verbs.Anew anews.EcToCord) n ws formats has count fit = fixed n ws formats count fit (λ h. made (EcToCord n h.0 h.1.0) refl refl refl tt)
 filled verbs.Sprintf n ws formats has count fit = printed_filled n ws formats has count fit
-filled verbs.Len n ws formats has count fit = fixed n ws formats count fit (λ h. made (Len n h.0 h.1.0) refl refl refl tt)
-filled verbs.Fetch n ws formats has count fit = fixed n ws formats count fit (λ h. made (Fetch n h.0 h.1.0 h.1.1.0) refl refl refl tt)
-filled verbs.Cmp n ws formats has count fit = fixed n ws formats count fit (λ h. made (Cmp n h.0 h.1.0 h.1.1.0) refl refl refl tt)
-filled verbs.Ncmp n ws formats has count fit = fixed n ws formats count fit
+filled (verbs.Computation computations.Len) n ws formats has count fit = fixed n ws formats count fit (λ h. made (Len n h.0 h.1.0) refl refl refl tt)
+filled (verbs.Look looks.Fetch) n ws formats has count fit = fixed n ws formats count fit (λ h. made (Fetch n h.0 h.1.0 h.1.1.0) refl refl refl tt)
+filled (verbs.Look looks.Cmp) n ws formats has count fit = fixed n ws formats count fit (λ h. made (Cmp n h.0 h.1.0 h.1.1.0) refl refl refl tt)
+filled (verbs.Look looks.Ncmp) n ws formats has count fit = fixed n ws formats count fit
     (λ h. made (Ncmp n h.0 h.1.0 h.1.1.0 h.1.1.1.0 h.1.1.1.1.0 h.1.1.1.1.1.0) refl refl refl tt)
-filled verbs.Str n ws formats has count fit = fixed n ws formats count fit (λ h. made (Str n h.0 h.1.0 h.1.1.0 h.1.1.1.0) refl refl refl tt)
-filled verbs.Chr n ws formats has count fit = fixed n ws formats count fit (λ h. made (Chr n h.0 h.1.0 h.1.1.0 h.1.1.1.0) refl refl refl tt)
-filled verbs.Rchr n ws formats has count fit = fixed n ws formats count fit
+filled (verbs.Search searches.Str) n ws formats has count fit = fixed n ws formats count fit (λ h. made (Str n h.0 h.1.0 h.1.1.0 h.1.1.1.0) refl refl refl tt)
+filled (verbs.Search searches.Chr) n ws formats has count fit = fixed n ws formats count fit (λ h. made (Chr n h.0 h.1.0 h.1.1.0 h.1.1.1.0) refl refl refl tt)
+filled (verbs.Search searches.Rchr) n ws formats has count fit = fixed n ws formats count fit
     (λ h. made (Rchr n h.0 h.1.0 h.1.1.0 h.1.1.1.0) refl refl refl tt)
-filled verbs.Assign n ws formats has count fit = fixed n ws formats count fit (λ h. made (Assign n h.0 h.1.0) refl refl refl tt)
-filled verbs.Add n ws formats has count fit = fixed n ws formats count fit (λ h. made (Add n h.0 h.1.0 h.1.1.0) refl refl refl tt)
-filled verbs.Sub n ws formats has count fit = fixed n ws formats count fit (λ h. made (Sub n h.0 h.1.0 h.1.1.0) refl refl refl tt)
-filled verbs.EcInit n ws formats has count fit = fixed n ws formats count fit (λ h. made (EcInit n h.0) refl refl refl tt)
-filled verbs.EcPut n ws formats has count fit = fixed n ws formats count fit (λ h. made (EcPut n h.0 h.1.0) refl refl refl tt)
-filled verbs.EcCat n ws formats has count fit = fixed n ws formats count fit (λ h. made (EcCat n h.0 h.1.0) refl refl refl tt)
-filled verbs.EcStr n ws formats has count fit = fixed n ws formats count fit (λ h. made (EcStr n h.0 h.1.0) refl refl refl tt)
+filled (verbs.Computation computations.Assign) n ws formats has count fit = fixed n ws formats count fit (λ h. made (Assign n h.0 h.1.0) refl refl refl tt)
+filled (verbs.Computation computations.Add) n ws formats has count fit = fixed n ws formats count fit (λ h. made (Add n h.0 h.1.0 h.1.1.0) refl refl refl tt)
+filled (verbs.Computation computations.Sub) n ws formats has count fit = fixed n ws formats count fit (λ h. made (Sub n h.0 h.1.0 h.1.1.0) refl refl refl tt)
+filled (verbs.Growth growths.EcInit) n ws formats has count fit = fixed n ws formats count fit (λ h. made (EcInit n h.0) refl refl refl tt)
+filled (verbs.Growth growths.EcPut) n ws formats has count fit = fixed n ws formats count fit (λ h. made (EcPut n h.0 h.1.0) refl refl refl tt)
+filled (verbs.Growth growths.EcCat) n ws formats has count fit = fixed n ws formats count fit (λ h. made (EcCat n h.0 h.1.0) refl refl refl tt)
+filled (verbs.Growth growths.EcStr) n ws formats has count fit = fixed n ws formats count fit (λ h. made (EcStr n h.0 h.1.0) refl refl refl tt)
 filled verbs.Put n ws formats has count fit = fixed n ws formats count fit (λ h. made (Put n h.0) refl refl refl tt)
-filled verbs.Repeat n ws formats has count fit = fixed n ws formats count fit (λ h. made (Repeat n h.0) refl refl refl tt)
-filled verbs.If n ws formats has count fit = fixed n ws formats count fit (λ h. made (If n h.0 h.1.0 h.1.1.0) refl refl refl tt)
-filled verbs.Else n ws formats has count fit = fixed n ws formats count fit (λ h. made (Else n) refl refl refl tt)
-filled verbs.End n ws formats has count fit = fixed n ws formats count fit (λ h. made (End n) refl refl refl tt)
+filled (verbs.Control controls.Repeat) n ws formats has count fit = fixed n ws formats count fit (λ h. made (Repeat n h.0) refl refl refl tt)
+filled (verbs.Control controls.If) n ws formats has count fit = fixed n ws formats count fit (λ h. made (If n h.0 h.1.0 h.1.1.0) refl refl refl tt)
+filled (verbs.Control controls.Else) n ws formats has count fit = fixed n ws formats count fit (λ h. made (Else n) refl refl refl tt)
+filled (verbs.Control controls.End) n ws formats has count fit = fixed n ws formats count fit (λ h. made (End n) refl refl refl tt)
 
 -- what the conversions of the format want
 converts_of : FormatOrBad → (text : List ℕ) → (formats : Option (List Want)) × Converts text formats

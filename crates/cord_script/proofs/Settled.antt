@@ -5,15 +5,15 @@ use Rattle.cord_script.specs.declared.kinds.Kind.{Kind}
 use Rattle.cord_script.specs.declared.kinds.Kind.TheVariants as kinds
 use Rattle.cord_operands.specs.declared.operands.Number.TheVariants.{Numeral, Named}
 use Rattle.cord_script.specs.declared.table.Known.{Known}
-use Rattle.cord_script.specs.declared.grammar.Verb.{Verb}
-use Rattle.cord_script.specs.declared.parts.Part.{Part}
+use Rattle.cord_script.specs.declared.verbs.Verb.{Verb}
+use Rattle.cord_script.specs.declared.fields.Field.{Field}
 use Rattle.cord_script.specs.declared.refusals.RefusalKind.{RefusalKind}
 use Rattle.cord_script.specs.Forms.{Term}
 use Rattle.cord_script.specs.Forms.Term.{Target, Operand, Value, Literal, FilePath, Applies, Compares, Formats}
 use Rattle.cord_script.specs.Script.{Before, Block, kind_of, names_after, paths_after, blocks_after}
 use Rattle.cord_script.specs.declared.refusals.RefusalKind.TheVariants.{WrongKind}
 use Rattle.cord_script.specs.Flaws.{first_of, unless, same_kind, assigned_flaw}
-use Rattle.cord_script.specs.Parted.{term_of}
+use Rattle.cord_script.specs.inner.Fields.{term_of}
 use Rattle.cord_script.specs.inner.Contexts.{context_after}
 use Rattle.cord_script.specs.inner.Settled.{IsSettled, AllSettled}
 use Rattle.cord_script.specs.inner.ContextViews.{operand_term_flaw, target_term_flaw, path_term_flaw}
@@ -113,8 +113,8 @@ settled_paths names paths (t ∷ ts) h = paths_stay names paths t ts h.0 ∙ set
 abbrev with_blocks : Before → List Block → Before
 with_blocks old blocks = record { names = old.names; paths = old.paths; blocks = blocks }
 
--- settled parts leave the blocks alone
-pub settled_left : (verb : Verb) (n : ℕ) (ps : List Part) (old : Before) (blocks : List Block) →
+-- settled fields leave the blocks alone
+pub settled_left : (verb : Verb) (n : ℕ) (ps : List Field) (old : Before) (blocks : List Block) →
     AllSettled old.names (map term_of ps) → blocks ≡ blocks_after (verb_effect verb) n old.blocks →
     with_blocks old blocks ≡ context_after verb n ps old
 settled_left verb n ps old blocks h b =
@@ -122,18 +122,18 @@ settled_left verb n ps old blocks h b =
     let paths = settled_paths old.names old.paths (map term_of ps) h in
     cc
 
-settled_more : (names : List Known) (ps : List Part) (p : Part) → AllSettled names (map term_of ps) → IsSettled names (term_of p) →
+settled_more : (names : List Known) (ps : List Field) (p : Field) → AllSettled names (map term_of ps) → IsSettled names (term_of p) →
     AllSettled names (map term_of (ps ++ p ∷ []))
 settled_more names [] p h k = (k, tt)
 settled_more names (q ∷ ps) p h k = (h.0, settled_more names ps p h.1 k)
 
--- one more settled part
-pub settled_push : (names : List Known) (ps qs : List Part) (p : Part) → qs ≡ ps ++ p ∷ [] → AllSettled names (map term_of ps) →
+-- one more settled field
+pub settled_push : (names : List Known) (ps qs : List Field) (p : Field) → qs ≡ ps ++ p ∷ [] → AllSettled names (map term_of ps) →
     IsSettled names (term_of p) → AllSettled names (map term_of qs)
 settled_push names ps qs p e h k = subst (λ xs. AllSettled names (map term_of xs)) (sym e) (settled_more names ps p h k)
 
--- no part is settled
-pub none_settled : (names : List Known) (ps : List Part) → ps ≡ [] → AllSettled names (map term_of ps)
+-- no field is settled
+pub none_settled : (names : List Known) (ps : List Field) → ps ≡ [] → AllSettled names (map term_of ps)
 none_settled names ps e = subst (λ xs. AllSettled names (map term_of xs)) (sym e) tt
 
 -- the kind that is told of a name

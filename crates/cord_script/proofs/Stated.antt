@@ -34,7 +34,7 @@ use Rattle.cord_script.specs.Flaws.{first_of, unless, misfit, first_pair, operan
 use Rattle.cord_script.specs.Flaws.{wants_of, words_flaw, else_flaw, block_flaw, names_flaw, form_flaw, HasFormat, HasFormFlaw, HasBadWords}
 use Rattle.cord_script.proofs.Checked.{neither}
 use Rattle.cord_script.proofs.Unique.{within}
-use Rattle.cord_script.specs.Parted.{want_of}
+use Rattle.cord_script.specs.inner.Fields.{want_of}
 use Rattle.cord_script.proofs.Terms.{term_fits, term_known, term_assigned, term_opened, pairs_none, terms_count, one_list}
 
 -- The form of a statement's word, with what its words have to be.

@@ -2,8 +2,16 @@
 use Rattle.std.proofs.Common.{Some, None, ◌≡◌, ℕ, List, Bool, true, false, refl, sym, ◌∙◌, ap}
 use Rattle.std.specs.Prelude.{Option, IfSome, MatchOption, codes, if◌then◌else◌}
 use Rattle.std.specs.Str.{bytes_eq}
-use Rattle.cord_script.specs.declared.grammar.Verb.{Verb}
-use Rattle.cord_script.specs.declared.grammar.Verb.TheVariants as verbs
+use Rattle.cord_script.specs.declared.verbs.Verb.{Verb}
+use Rattle.cord_script.specs.declared.verbs.Verb.TheVariants as verbs
+use Rattle.cord_script.specs.declared.verbs.Origin.TheVariants as origins
+use Rattle.cord_script.specs.declared.verbs.Joining.TheVariants as joinings
+use Rattle.cord_script.specs.declared.verbs.Anew.TheVariants as anews
+use Rattle.cord_script.specs.declared.verbs.Growth.TheVariants as growths
+use Rattle.cord_script.specs.declared.verbs.Computation.TheVariants as computations
+use Rattle.cord_script.specs.declared.verbs.Look.TheVariants as looks
+use Rattle.cord_script.specs.declared.verbs.Search.TheVariants as searches
+use Rattle.cord_script.specs.declared.verbs.Control.TheVariants as controls
 use Rattle.cord_script.specs.declared.grammar.TheConstants.{VERBS}
 use Rattle.cord_script.specs.Forms.{Form, form_of, form_in}
 use Rattle.cord_script.specs.Script.{whole}
@@ -19,77 +27,77 @@ chosen_form false v o f rest p q = q
 pub form_found : (w : List ℕ) → form_at (find_verb VERBS w) ≡ form_of w
 unfolding form_of
 form_found w =
-    chosen_form (bytes_eq w (codes "let")) verbs.Let _ _ _ refl (
+    chosen_form (bytes_eq w (codes "let")) (verbs.Origin origins.Let) _ _ _ refl (
     chosen_form (bytes_eq w (codes "put")) verbs.Put _ _ _ refl (
-    chosen_form (bytes_eq w (codes "file")) verbs.File _ _ _ refl (
-    chosen_form (bytes_eq w (codes "eager")) verbs.Eager _ _ _ refl (
-    chosen_form (bytes_eq w (codes "lazy")) verbs.Lazy _ _ _ refl (
-    chosen_form (bytes_eq w (codes "chars")) verbs.Chars _ _ _ refl (
-    chosen_form (bytes_eq w (codes "nul")) verbs.Nul _ _ _ refl (
-    chosen_form (bytes_eq w (codes "fn")) verbs.FromFn _ _ _ refl (
-    chosen_form (bytes_eq w (codes "cat")) verbs.Cat _ _ _ refl (
+    chosen_form (bytes_eq w (codes "file")) (verbs.Origin origins.File) _ _ _ refl (
+    chosen_form (bytes_eq w (codes "eager")) (verbs.Origin origins.Eager) _ _ _ refl (
+    chosen_form (bytes_eq w (codes "lazy")) (verbs.Origin origins.Lazy) _ _ _ refl (
+    chosen_form (bytes_eq w (codes "chars")) (verbs.Joining joinings.Chars) _ _ _ refl (
+    chosen_form (bytes_eq w (codes "nul")) (verbs.Joining joinings.Nul) _ _ _ refl (
+    chosen_form (bytes_eq w (codes "fn")) (verbs.Origin origins.FromFn) _ _ _ refl (
+    chosen_form (bytes_eq w (codes "cat")) (verbs.Joining joinings.Cat) _ _ _ refl (
     chosen_form (bytes_eq w (codes "catn")) verbs.Catn _ _ _ refl (
-    chosen_form (bytes_eq w (codes "catc")) verbs.Catc _ _ _ refl (
-    chosen_form (bytes_eq w (codes "substr")) verbs.Substr _ _ _ refl (
-    chosen_form (bytes_eq w (codes "balance")) verbs.Balance _ _ _ refl (
-    chosen_form (bytes_eq w (codes "ectocord")) verbs.EcToCord _ _ _ refl (
+    chosen_form (bytes_eq w (codes "catc")) (verbs.Joining joinings.Catc) _ _ _ refl (
+    chosen_form (bytes_eq w (codes "substr")) (verbs.Joining joinings.Substr) _ _ _ refl (
+    chosen_form (bytes_eq w (codes "balance")) (verbs.Anew anews.Balance) _ _ _ refl (
+    chosen_form (bytes_eq w (codes "ectocord")) (verbs.Anew anews.EcToCord) _ _ _ refl (
     chosen_form (bytes_eq w (codes "sprintf")) verbs.Sprintf _ _ _ refl (
-    chosen_form (bytes_eq w (codes "len")) verbs.Len _ _ _ refl (
-    chosen_form (bytes_eq w (codes "fetch")) verbs.Fetch _ _ _ refl (
-    chosen_form (bytes_eq w (codes "cmp")) verbs.Cmp _ _ _ refl (
-    chosen_form (bytes_eq w (codes "ncmp")) verbs.Ncmp _ _ _ refl (
-    chosen_form (bytes_eq w (codes "str")) verbs.Str _ _ _ refl (
-    chosen_form (bytes_eq w (codes "chr")) verbs.Chr _ _ _ refl (
-    chosen_form (bytes_eq w (codes "rchr")) verbs.Rchr _ _ _ refl (
-    chosen_form (bytes_eq w (codes "set")) verbs.Assign _ _ _ refl (
-    chosen_form (bytes_eq w (codes "add")) verbs.Add _ _ _ refl (
-    chosen_form (bytes_eq w (codes "sub")) verbs.Sub _ _ _ refl (
-    chosen_form (bytes_eq w (codes "ecinit")) verbs.EcInit _ _ _ refl (
-    chosen_form (bytes_eq w (codes "ecput")) verbs.EcPut _ _ _ refl (
-    chosen_form (bytes_eq w (codes "eccat")) verbs.EcCat _ _ _ refl (
-    chosen_form (bytes_eq w (codes "ecstr")) verbs.EcStr _ _ _ refl (
-    chosen_form (bytes_eq w (codes "repeat")) verbs.Repeat _ _ _ refl (
-    chosen_form (bytes_eq w (codes "if")) verbs.If _ _ _ refl (
-    chosen_form (bytes_eq w (codes "else")) verbs.Else _ _ _ refl (
-    chosen_form (bytes_eq w (codes "end")) verbs.End _ _ _ refl (
+    chosen_form (bytes_eq w (codes "len")) (verbs.Computation computations.Len) _ _ _ refl (
+    chosen_form (bytes_eq w (codes "fetch")) (verbs.Look looks.Fetch) _ _ _ refl (
+    chosen_form (bytes_eq w (codes "cmp")) (verbs.Look looks.Cmp) _ _ _ refl (
+    chosen_form (bytes_eq w (codes "ncmp")) (verbs.Look looks.Ncmp) _ _ _ refl (
+    chosen_form (bytes_eq w (codes "str")) (verbs.Search searches.Str) _ _ _ refl (
+    chosen_form (bytes_eq w (codes "chr")) (verbs.Search searches.Chr) _ _ _ refl (
+    chosen_form (bytes_eq w (codes "rchr")) (verbs.Search searches.Rchr) _ _ _ refl (
+    chosen_form (bytes_eq w (codes "set")) (verbs.Computation computations.Assign) _ _ _ refl (
+    chosen_form (bytes_eq w (codes "add")) (verbs.Computation computations.Add) _ _ _ refl (
+    chosen_form (bytes_eq w (codes "sub")) (verbs.Computation computations.Sub) _ _ _ refl (
+    chosen_form (bytes_eq w (codes "ecinit")) (verbs.Growth growths.EcInit) _ _ _ refl (
+    chosen_form (bytes_eq w (codes "ecput")) (verbs.Growth growths.EcPut) _ _ _ refl (
+    chosen_form (bytes_eq w (codes "eccat")) (verbs.Growth growths.EcCat) _ _ _ refl (
+    chosen_form (bytes_eq w (codes "ecstr")) (verbs.Growth growths.EcStr) _ _ _ refl (
+    chosen_form (bytes_eq w (codes "repeat")) (verbs.Control controls.Repeat) _ _ _ refl (
+    chosen_form (bytes_eq w (codes "if")) (verbs.Control controls.If) _ _ _ refl (
+    chosen_form (bytes_eq w (codes "else")) (verbs.Control controls.Else) _ _ _ refl (
+    chosen_form (bytes_eq w (codes "end")) (verbs.Control controls.End) _ _ _ refl (
     refl)))))))))))))))))))))))))))))))))
 
 -- the form of a verb's word
 pub form_is : (v : Verb) → form_of (verb_word v) ≡ Some (verb_form v)
 unfolding form_of
-form_is verbs.Let = refl
+form_is (verbs.Origin origins.Let) = refl
 form_is verbs.Put = refl
-form_is verbs.File = refl
-form_is verbs.Eager = refl
-form_is verbs.Lazy = refl
-form_is verbs.Chars = refl
-form_is verbs.Nul = refl
-form_is verbs.FromFn = refl
-form_is verbs.Cat = refl
+form_is (verbs.Origin origins.File) = refl
+form_is (verbs.Origin origins.Eager) = refl
+form_is (verbs.Origin origins.Lazy) = refl
+form_is (verbs.Joining joinings.Chars) = refl
+form_is (verbs.Joining joinings.Nul) = refl
+form_is (verbs.Origin origins.FromFn) = refl
+form_is (verbs.Joining joinings.Cat) = refl
 form_is verbs.Catn = refl
-form_is verbs.Catc = refl
-form_is verbs.Substr = refl
-form_is verbs.Balance = refl
-form_is verbs.EcToCord = refl
+form_is (verbs.Joining joinings.Catc) = refl
+form_is (verbs.Joining joinings.Substr) = refl
+form_is (verbs.Anew anews.Balance) = refl
+form_is (verbs.Anew anews.EcToCord) = refl
 form_is verbs.Sprintf = refl
-form_is verbs.Len = refl
-form_is verbs.Fetch = refl
-form_is verbs.Cmp = refl
-form_is verbs.Ncmp = refl
-form_is verbs.Str = refl
-form_is verbs.Chr = refl
-form_is verbs.Rchr = refl
-form_is verbs.Assign = refl
-form_is verbs.Add = refl
-form_is verbs.Sub = refl
-form_is verbs.EcInit = refl
-form_is verbs.EcPut = refl
-form_is verbs.EcCat = refl
-form_is verbs.EcStr = refl
-form_is verbs.Repeat = refl
-form_is verbs.If = refl
-form_is verbs.Else = refl
-form_is verbs.End = refl
+form_is (verbs.Computation computations.Len) = refl
+form_is (verbs.Look looks.Fetch) = refl
+form_is (verbs.Look looks.Cmp) = refl
+form_is (verbs.Look looks.Ncmp) = refl
+form_is (verbs.Search searches.Str) = refl
+form_is (verbs.Search searches.Chr) = refl
+form_is (verbs.Search searches.Rchr) = refl
+form_is (verbs.Computation computations.Assign) = refl
+form_is (verbs.Computation computations.Add) = refl
+form_is (verbs.Computation computations.Sub) = refl
+form_is (verbs.Growth growths.EcInit) = refl
+form_is (verbs.Growth growths.EcPut) = refl
+form_is (verbs.Growth growths.EcCat) = refl
+form_is (verbs.Growth growths.EcStr) = refl
+form_is (verbs.Control controls.Repeat) = refl
+form_is (verbs.Control controls.If) = refl
+form_is (verbs.Control controls.Else) = refl
+form_is (verbs.Control controls.End) = refl
 
 -- the form of a word that is a verb's
 pub found_verb : (w : List ℕ) (v : Verb) → w ≡ verb_word v → (w ≡ verb_word v) × (form_in whole w ≡ Some (verb_form v))

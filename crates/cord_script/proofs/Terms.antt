@@ -27,7 +27,7 @@ use Rattle.cord_script.specs.Script.{Before, kind_of, is_among, IsTerm, AreTerms
 use Rattle.cord_script.specs.Flaws.{first_of, unless, misfit, first_pair, kind_flaw, same_kind, operand_flaw, number_flaw}
 use Rattle.cord_script.specs.Flaws.{plain_number_misfit, function_misfit, relation_misfit, name_misfit, number_misfit, text_misfit}
 use Rattle.cord_script.specs.Flaws.{path_misfit, assigned_flaw, word_target_flaw, word_path_flaw}
-use Rattle.cord_script.specs.Parted.{want_of}
+use Rattle.cord_script.specs.inner.Fields.{want_of}
 use Rattle.cord_script.proofs.Spelled.{both, chosen}
 use Rattle.cord_script.proofs.Unique.{above, head_or}
 

@@ -1,4 +1,4 @@
--- Words of a `catn` and of a `sprintf` that have become parts.
+-- Words of a `catn` and of a `sprintf` that have become fields.
 use Rattle.std.proofs.Common.{Some, None, ◌≡◌, ◌≤◌, ◌+◌, ◌-◌, ℕ, List, [], ◌∷◌, ◌++◌, refl, sym, ◌∙◌, ap, subst, take, length, arith}
 use Rattle.std.proofs.Common.{eq-eqb}
 use Rattle.std.specs.Prelude.{Option, replicate}
@@ -6,10 +6,10 @@ use Rattle.std.proofs.lemmas.Bool.{le-leb}
 use Rattle.std.proofs.lemmas.List.{take-replicate}
 use Rattle.cord_printf.specs.declared.pieces.Piece.{Piece}
 use Rattle.cord_script.specs.declared.TheConstants.{MIN_PARTS, MAX_PARTS}
-use Rattle.cord_script.specs.declared.operands.TheConstants.{TARGET, CORDS}
+use Rattle.cord_script.specs.declared.field_lists.TheConstants.{TARGET, CORDS}
 use Rattle.cord_script.specs.declared.kinds.Kind.TheVariants as kinds
 use Rattle.cord_script.specs.declared.kinds.Want.TheVariants as wants
-use Rattle.cord_script.specs.declared.parts.Part.{Part}
+use Rattle.cord_script.specs.declared.fields.Field.{Field}
 use Rattle.cord_script.specs.declared.words.Word.{Word}
 use Rattle.cord_script.specs.declared.refusals.RefusalKind.{RefusalKind}
 use Rattle.cord_script.specs.declared.refusals.RefusalKind.TheVariants.{WrongCount}
@@ -17,7 +17,7 @@ use Rattle.cord_script.specs.Forms.Shape.{Joined, Printed}
 use Rattle.cord_script.specs.Formats.{wants_of_pieces}
 use Rattle.cord_script.specs.Flaws.{first_of, unless, first_pair, first_misfit, misfit, cords, joined, format_wants, argument_words}
 use Rattle.cord_script.specs.Flaws.{arguments_flaw, words_flaw}
-use Rattle.cord_script.specs.Parted.{HasTaken, counted_misfit, IsFormatOf, IsParted, HasPartFlaw, wanted_by}
+use Rattle.cord_script.specs.inner.Fields.{HasTaken, counted_misfit, IsFormatOf, AreFields, HasFieldFlaw, wanted_by}
 use Rattle.cord_script.proofs.Unique.{within}
 use Rattle.cord_script.proofs.Took.{both_taken, left_count, whole_taken, behind_taken, arguments_left}
 use Rattle.cord_script.proofs.Allowed.{format_wants_are}
@@ -46,7 +46,7 @@ joined_count [] n e some = absurd (omega arith)
 joined_count (w ∷ ws) n e some = omega (arith, cords_count ws)
 
 -- enough words are left for the cords
-pub cords_left : (ws mid : List Word) (ps qs : List Part) (n : ℕ) → n ≡ length ws → 1 ≤ n → n ≤ 1 + MAX_PARTS →
+pub cords_left : (ws mid : List Word) (ps qs : List Field) (n : ℕ) → n ≡ length ws → 1 ≤ n → n ≤ 1 + MAX_PARTS →
     HasTaken TARGET ws mid ps qs → length (take (n - 1) CORDS) ≤ length mid
 cords_left ws mid ps qs n e some few h =
     let whole = ap length (joined_are ws n e some few) in
@@ -55,17 +55,17 @@ cords_left ws mid ps qs n e some few h =
     omega arith
 
 -- a cord that is wrong
-pub cords_wrong : (ws mid : List Word) (ps qs : List Part) (n : ℕ) (kind : RefusalKind) → n ≡ length ws → 1 + MIN_PARTS ≤ n →
-    n ≤ 1 + MAX_PARTS → HasTaken TARGET ws mid ps qs → first_pair misfit (take (n - 1) CORDS) mid ≡ Some kind → HasPartFlaw Joined ws kind
+pub cords_wrong : (ws mid : List Word) (ps qs : List Field) (n : ℕ) (kind : RefusalKind) → n ≡ length ws → 1 + MIN_PARTS ≤ n →
+    n ≤ 1 + MAX_PARTS → HasTaken TARGET ws mid ps qs → first_pair misfit (take (n - 1) CORDS) mid ≡ Some kind → HasFieldFlaw Joined ws kind
 cords_wrong ws mid ps qs n kind e low high h wrong =
     let count = within (1 + MIN_PARTS) (1 + MAX_PARTS) (length ws) (omega arith) (omega arith) in
     let first = ap (λ k. first_pair misfit k ws) (sym (joined_are ws n e (omega arith) high)) ∙ behind_taken TARGET (take (n - 1) CORDS) ws mid ps qs h ∙ wrong in
     (None, refl, ap (λ b. first_of (unless b WrongCount) (first_misfit (joined ws) ws)) count ∙ first)
 
 -- a target and its cords
-pub cords_taken : (ws mid behind : List Word) (none qs rs : List Part) (n : ℕ) → n ≡ length ws → 1 + MIN_PARTS ≤ n → n ≤ 1 + MAX_PARTS →
+pub cords_taken : (ws mid behind : List Word) (none qs rs : List Field) (n : ℕ) → n ≡ length ws → 1 + MIN_PARTS ≤ n → n ≤ 1 + MAX_PARTS →
     none ≡ [] → HasTaken TARGET ws mid none qs → HasTaken (take (n - 1) CORDS) mid behind qs rs →
-    first_pair misfit (take (n - 1) CORDS) mid ≡ None → IsParted Joined ws rs None
+    first_pair misfit (take (n - 1) CORDS) mid ≡ None → AreFields Joined ws rs None
 cords_taken ws mid behind none qs rs n e low high empty h k fit =
     let same = joined_are ws n e (omega arith) high in
     let taken = subst (λ xs. HasTaken xs ws behind none rs) same (both_taken TARGET (take (n - 1) CORDS) ws mid behind none qs rs h k) in
@@ -80,7 +80,7 @@ cords_taken ws mid behind none qs rs n e low high empty h k fit =
 
 -- a target or a format that is wrong
 pub front_wrong : (ws : List Word) (format : Option (List Piece)) (kind : RefusalKind) → 2 ≤ length ws → IsFormatOf Printed ws format →
-    first_pair misfit format_wants ws ≡ Some kind → HasPartFlaw Printed ws kind
+    first_pair misfit format_wants ws ≡ Some kind → HasFieldFlaw Printed ws kind
 front_wrong ws format kind some has wrong = (
   wanted_by format,
   format_wants_are Printed ws format has,
@@ -89,9 +89,9 @@ front_wrong ws format kind some has wrong = (
 )
 
 -- arguments that are wrong
-pub arguments_wrong : (ws mid : List Word) (ps qs : List Part) (pieces : List Piece) (kind : RefusalKind) → 2 ≤ length ws →
+pub arguments_wrong : (ws mid : List Word) (ps qs : List Field) (pieces : List Piece) (kind : RefusalKind) → 2 ≤ length ws →
     IsFormatOf Printed ws (Some pieces) → HasTaken format_wants ws mid ps qs → first_pair misfit format_wants ws ≡ None →
-    counted_misfit (wants_of_pieces pieces) mid ≡ Some kind → HasPartFlaw Printed ws kind
+    counted_misfit (wants_of_pieces pieces) mid ≡ Some kind → HasFieldFlaw Printed ws kind
 arguments_wrong ws mid ps qs pieces kind some has h fit wrong =
     let xs = wants_of_pieces pieces in (
       Some xs,
@@ -103,10 +103,10 @@ arguments_wrong ws mid ps qs pieces kind some has h fit wrong =
     )
 
 -- a target, a format and its arguments
-pub arguments_taken : (ws mid behind : List Word) (none qs rs : List Part) (pieces : List Piece) → 2 ≤ length ws →
+pub arguments_taken : (ws mid behind : List Word) (none qs rs : List Field) (pieces : List Piece) → 2 ≤ length ws →
     IsFormatOf Printed ws (Some pieces) → none ≡ [] → HasTaken format_wants ws mid none qs → first_pair misfit format_wants ws ≡ None →
     length mid ≡ length (wants_of_pieces pieces) → HasTaken (wants_of_pieces pieces) mid behind qs rs →
-    first_pair misfit (wants_of_pieces pieces) mid ≡ None → IsParted Printed ws rs (Some pieces)
+    first_pair misfit (wants_of_pieces pieces) mid ≡ None → AreFields Printed ws rs (Some pieces)
 arguments_taken ws mid behind none qs rs pieces some has empty h fit same k fine =
     let xs = wants_of_pieces pieces in
     let left = left_count format_wants ws mid none qs h in

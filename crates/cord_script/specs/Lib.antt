@@ -2,7 +2,6 @@ pub mod Flaws
 pub mod Formats
 pub mod Forms
 pub mod Laws
-pub mod Parted
 pub mod Refusals
 pub mod Rows
 pub mod Script

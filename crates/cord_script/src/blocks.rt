@@ -3,9 +3,9 @@ ghost use Rattle.std.specs.Prelude.{◌≡◌, ◌∷◌, [], map, IfErr, OnOk, 
 ghost use Rattle.cord_script.specs.Script.{blocks_after, turned};
 ghost use Rattle.cord_script.specs.Flaws.{block_flaw, else_flaw};
 ghost use Rattle.cord_script.specs.inner.ContextViews.{block_of, IsInnermostLeft};
-ghost use Rattle.cord_script.specs.inner.Verbal.{verb_effect};
+ghost use Rattle.cord_script.specs.inner.Verbal.{control_effect, verb_effect};
 
-use crate::grammar::Verb;
+use crate::verbs::{Control, Verb};
 use crate::{MAX_BLOCKS, Refusal, RefusalKind};
 use std::collections::VecDeque;
 
@@ -28,14 +28,25 @@ fn else_flaw(blocks: &VecDeque<Open>) -> Option<RefusalKind>
     }
 }
 
+// What is wrong with a statement that leads the run.
+fn control_flaw(control: Control, blocks: &VecDeque<Open>) -> Option<RefusalKind>
+    ensures { result ≡ block_flaw (control_effect control) (map block_of blocks.now.items) }
+{
+    match control {
+        Control::Repeat | Control::If if blocks.len() >= MAX_BLOCKS => Some(RefusalKind::TooDeep),
+        Control::Repeat | Control::If => None,
+        Control::Else => else_flaw(blocks),
+        Control::End if blocks.is_empty() => Some(RefusalKind::EndAlone),
+        Control::End => None,
+    }
+}
+
 /// What is wrong with a statement after these open blocks.
 pub fn block_flaw(verb: Verb, blocks: &VecDeque<Open>) -> Option<RefusalKind>
     ensures { result ≡ block_flaw (verb_effect verb) (map block_of blocks.now.items) }
 {
     match verb {
-        Verb::Repeat | Verb::If if blocks.len() >= MAX_BLOCKS => Some(RefusalKind::TooDeep),
-        Verb::Else => else_flaw(blocks),
-        Verb::End if blocks.is_empty() => Some(RefusalKind::EndAlone),
+        Verb::Control(control) => control_flaw(control, blocks),
         _ => None,
     }
 }
@@ -61,6 +72,23 @@ fn turn(blocks: &mut VecDeque<Open>) -> Result<(), RefusalKind>
     }
 }
 
+// The open blocks after a statement at a line that leads the run.
+fn set_control(control: Control, line: u32, blocks: &mut VecDeque<Open>) -> Result<(), RefusalKind>
+    ensures blocks { OnOk result (map block_of blocks.new.items
+        ≡ blocks_after (control_effect control) line (map block_of blocks.old.items)) }
+    ensures flaw { IfErr result (λ kind. kind ≡ RefusalKind.NoMemory) }
+{
+    match control {
+        Control::Repeat => add_block(blocks, Open::Repeat(line)),
+        Control::If => add_block(blocks, Open::If(line)),
+        Control::Else => turn(blocks),
+        Control::End => {
+            let _ = blocks.pop_front();
+            Ok(())
+        }
+    }
+}
+
 /// The open blocks after a statement at a line.
 pub fn set_blocks(verb: Verb, line: u32, blocks: &mut VecDeque<Open>) -> Result<(), RefusalKind>
     ensures blocks { OnOk result (map block_of blocks.new.items
@@ -68,13 +96,7 @@ pub fn set_blocks(verb: Verb, line: u32, blocks: &mut VecDeque<Open>) -> Result<
     ensures flaw { IfErr result (λ kind. kind ≡ RefusalKind.NoMemory) }
 {
     match verb {
-        Verb::Repeat => add_block(blocks, Open::Repeat(line)),
-        Verb::If => add_block(blocks, Open::If(line)),
-        Verb::Else => turn(blocks),
-        Verb::End => {
-            let _ = blocks.pop_front();
-            Ok(())
-        }
+        Verb::Control(control) => set_control(control, line, blocks),
         _ => Ok(()),
     }
 }

@@ -3,12 +3,12 @@ ghost use Rattle.std.specs.Prelude.{◌≡◌, map, IfErr, OnOk};
 ghost use Rattle.cord_script.specs.Script.{start, is_among, with_path, names_after, paths_after};
 ghost use Rattle.cord_script.specs.inner.ContextViews.{before_of, operand_term_flaw, target_term_flaw, path_term_flaw};
 ghost use Rattle.cord_script.specs.inner.ContextViews.{term_flaw, first_term, terms_flaw};
-ghost use Rattle.cord_script.specs.Parted.{term_of};
+ghost use Rattle.cord_script.specs.inner.Fields.{term_of};
 
 use crate::blocks::Open;
+use crate::fields::Field;
 use crate::kinds::Kind;
 use crate::names::{assigned_flaw, kind_flaw};
-use crate::parts::Part;
 use crate::table::Table;
 use crate::{MAX_PATHS, Number, Path, RefusalKind};
 use std::alloc::Global;
@@ -62,12 +62,12 @@ fn is_among(paths: &[Path], path: &Path) -> bool
 }
 
 // What is wrong with an operand.
-fn operand_flaw(names: &Table, part: &Part) -> Option<RefusalKind>
-    ensures { result ≡ operand_term_flaw names.now (term_of part.now) }
+fn operand_flaw(names: &Table, field: &Field) -> Option<RefusalKind>
+    ensures { result ≡ operand_term_flaw names.now (term_of field.now) }
 {
-    match part {
-        Part::Operand(kind, name) => kind_flaw(names.kind_of(name.as_slice()), *kind),
-        Part::Value(Number::Named(name)) => {
+    match field {
+        Field::Operand(kind, name) => kind_flaw(names.kind_of(name.as_slice()), *kind),
+        Field::Value(Number::Named(name)) => {
             kind_flaw(names.kind_of(name.as_slice()), Kind::Number)
         }
         _ => None,
@@ -75,11 +75,11 @@ fn operand_flaw(names: &Table, part: &Part) -> Option<RefusalKind>
 }
 
 // What is wrong with a target.
-fn target_flaw(names: &Table, part: &Part) -> Option<RefusalKind>
-    ensures { result ≡ target_term_flaw names.now (term_of part.now) }
+fn target_flaw(names: &Table, field: &Field) -> Option<RefusalKind>
+    ensures { result ≡ target_term_flaw names.now (term_of field.now) }
 {
-    match part {
-        Part::Target(kind, name) => {
+    match field {
+        Field::Target(kind, name) => {
             assigned_flaw(names.kind_of(name.as_slice()), *kind, names.len())
         }
         _ => None,
@@ -87,34 +87,34 @@ fn target_flaw(names: &Table, part: &Part) -> Option<RefusalKind>
 }
 
 // What is wrong with a path.
-fn path_flaw(paths: &[Path], part: &Part) -> Option<RefusalKind>
-    ensures { result ≡ path_term_flaw paths.now (term_of part.now) }
+fn path_flaw(paths: &[Path], field: &Field) -> Option<RefusalKind>
+    ensures { result ≡ path_term_flaw paths.now (term_of field.now) }
 {
-    match part {
-        Part::FilePath(path) if paths.len() >= MAX_PATHS && !is_among(paths, path) => {
+    match field {
+        Field::FilePath(path) if paths.len() >= MAX_PATHS && !is_among(paths, path) => {
             Some(RefusalKind::TooMany)
         }
         _ => None,
     }
 }
 
-// What is wrong with a part in a pass.
-fn part_flaw(pass: Pass, context: &Context, part: &Part) -> Option<RefusalKind>
-    ensures { result ≡ term_flaw pass (before_of context.now) (term_of part.now) }
+// What is wrong with a field in a pass.
+fn field_flaw(pass: Pass, context: &Context, field: &Field) -> Option<RefusalKind>
+    ensures { result ≡ term_flaw pass (before_of context.now) (term_of field.now) }
 {
     match pass {
-        Pass::Operands => operand_flaw(&context.names, part),
-        Pass::Target => target_flaw(&context.names, part),
-        Pass::Paths => path_flaw(&context.paths, part),
+        Pass::Operands => operand_flaw(&context.names, field),
+        Pass::Target => target_flaw(&context.names, field),
+        Pass::Paths => path_flaw(&context.paths, field),
     }
 }
 
 // The first that is wrong in a pass.
-fn first_flaw(pass: Pass, context: &Context, parts: &[Part]) -> Option<RefusalKind>
-    ensures { result ≡ first_term (term_flaw pass (before_of context.now)) (map term_of parts.now) }
+fn first_flaw(pass: Pass, context: &Context, fields: &[Field]) -> Option<RefusalKind>
+    ensures { result ≡ first_term (term_flaw pass (before_of context.now)) (map term_of fields.now) }
 {
-    for part in parts {
-        if let Some(kind) = part_flaw(pass, context, part) {
+    for field in fields {
+        if let Some(kind) = field_flaw(pass, context, field) {
             return Some(kind);
         }
     }
@@ -122,25 +122,25 @@ fn first_flaw(pass: Pass, context: &Context, parts: &[Part]) -> Option<RefusalKi
 }
 
 /// What is wrong with the names of a line: the operands, the target, the path.
-pub fn names_flaw(context: &Context, parts: &[Part]) -> Option<RefusalKind>
-    ensures { result ≡ terms_flaw (before_of context.now) (map term_of parts.now) }
+pub fn names_flaw(context: &Context, fields: &[Field]) -> Option<RefusalKind>
+    ensures { result ≡ terms_flaw (before_of context.now) (map term_of fields.now) }
 {
-    if let Some(kind) = first_flaw(Pass::Operands, context, parts) {
+    if let Some(kind) = first_flaw(Pass::Operands, context, fields) {
         return Some(kind);
     }
-    if let Some(kind) = first_flaw(Pass::Target, context, parts) {
+    if let Some(kind) = first_flaw(Pass::Target, context, fields) {
         return Some(kind);
     }
-    first_flaw(Pass::Paths, context, parts)
+    first_flaw(Pass::Paths, context, fields)
 }
 
 /// Adds the names that a line assigns.
-pub fn add_names(names: &mut Table, parts: &[Part]) -> Result<(), RefusalKind>
-    ensures names { OnOk result (names.new ≡ names_after (map term_of parts.now) names.old) }
+pub fn add_names(names: &mut Table, fields: &[Field]) -> Result<(), RefusalKind>
+    ensures names { OnOk result (names.new ≡ names_after (map term_of fields.now) names.old) }
     ensures flaw { IfErr result (λ kind. kind ≡ RefusalKind.NoMemory) }
 {
-    for part in parts {
-        if let Part::Target(kind, name) = part {
+    for field in fields {
+        if let Field::Target(kind, name) = field {
             names.assign(name, *kind)?;
         }
     }
@@ -160,12 +160,12 @@ fn add_path(paths: &mut Vec<Path>, path: &Path) -> Result<(), RefusalKind>
 }
 
 /// Adds the paths that stand in a line.
-pub fn add_paths(paths: &mut Vec<Path>, parts: &[Part]) -> Result<(), RefusalKind>
-    ensures paths { OnOk result (paths.new.items ≡ paths_after (map term_of parts.now) paths.old.items) }
+pub fn add_paths(paths: &mut Vec<Path>, fields: &[Field]) -> Result<(), RefusalKind>
+    ensures paths { OnOk result (paths.new.items ≡ paths_after (map term_of fields.now) paths.old.items) }
     ensures flaw { IfErr result (λ kind. kind ≡ RefusalKind.NoMemory) }
 {
-    for part in parts {
-        if let Part::FilePath(path) = part {
+    for field in fields {
+        if let Field::FilePath(path) = field {
             add_path(paths, path)?;
         }
     }

@@ -1,12 +1,12 @@
-// The parts of a statement, taken from left to right.
+// The fields of a statement, taken from left to right.
 ghost use Rattle.std.specs.Prelude.{◌≡◌, ◌≢◌, ◌==◌, ◌∷◌, Some, IfErr, IfOk, true, length, map};
 ghost use Rattle.cord_script.specs.Forms.{argument_term};
 ghost use Rattle.cord_script.specs.Forms.Term.{Target, Operand, Value, Literal, FilePath, Applies, Compares, Formats};
-ghost use Rattle.cord_script.specs.Parted.{term_of, want_of, next_want};
+ghost use Rattle.cord_script.specs.inner.Fields.{term_of, want_of, next_want};
 ghost use Rattle.cord_script.specs.inner.Built.{are_cords, are_arguments};
 
+use crate::fields::Field;
 use crate::kinds::{Kind, Want};
-use crate::parts::Part;
 use crate::{
     Argument, Arguments, Function, Name, Names, Number, Path, RefusalKind, Relation, Text,
 };
@@ -14,29 +14,42 @@ use std::alloc::Global;
 use std::collections::VecDeque;
 use std::marker::Model;
 
-/// The parts of a statement that are still to be taken.
-#[derive(Drop)]
-pub struct Parts {
-    rest: VecDeque<Part>,
+// The next field, which is of one of these variants: what is wanted says so.
+macro_rules! next {
+    ($cursor:ident, $($field:pat => $value:expr),+) => {
+        match $cursor.rest.pop_front() {
+            $(Some($field) => $value,)+
+            other => {
+                drop(other);
+                unreachable!()
+            }
+        }
+    };
 }
 
-impl Model for Parts {
+/// The fields of a statement that are still to be taken.
+#[derive(Drop)]
+pub struct FieldCursor {
+    rest: VecDeque<Field>,
+}
+
+impl Model for FieldCursor {
     ghost use Rattle.std.specs.Prelude.{List, map};
     ghost use Rattle.cord_script.specs.Forms.{Term};
-    ghost use Rattle.cord_script.specs.Parted.{term_of};
+    ghost use Rattle.cord_script.specs.inner.Fields.{term_of};
 
     ghost Value = { List Term };
 
     ghost view = { λ p. map term_of p.rest.items };
 }
 
-impl Parts {
-    /// All parts of a statement, without taking memory.
-    pub fn of(parts: Vec<Part>) -> Self
-        ensures { result ≡ map term_of parts.items }
+impl FieldCursor {
+    /// All fields of a statement, without taking memory.
+    pub fn of(fields: Vec<Field>) -> Self
+        ensures { result ≡ map term_of fields.items }
     {
-        Parts {
-            rest: VecDeque::from_vec(parts),
+        FieldCursor {
+            rest: VecDeque::from_vec(fields),
         }
     }
 
@@ -46,13 +59,7 @@ impl Parts {
         ensures { self.old ≡ Target kind result ∷ self.new }
     {
         let _kind = kind;
-        match self.rest.pop_front() {
-            Some(Part::Target(_, name)) => name,
-            other => {
-                drop(other);
-                unreachable!()
-            }
-        }
+        next!(self, Field::Target(_, name) => name)
     }
 
     /// A name that is used, of this kind.
@@ -61,13 +68,7 @@ impl Parts {
         ensures { self.old ≡ Operand kind result ∷ self.new }
     {
         let _kind = kind;
-        match self.rest.pop_front() {
-            Some(Part::Operand(_, name)) => name,
-            other => {
-                drop(other);
-                unreachable!()
-            }
-        }
+        next!(self, Field::Operand(_, name) => name)
     }
 
     /// A number operand.
@@ -75,13 +76,7 @@ impl Parts {
         requires { next_want (map want_of self.old) ≡ Some Want.Number }
         ensures { self.old ≡ Value result ∷ self.new }
     {
-        match self.rest.pop_front() {
-            Some(Part::Value(number)) => number,
-            other => {
-                drop(other);
-                unreachable!()
-            }
-        }
+        next!(self, Field::Value(number) => number)
     }
 
     /// A text.
@@ -89,13 +84,7 @@ impl Parts {
         requires { next_want (map want_of self.old) ≡ Some Want.Text }
         ensures { self.old ≡ Literal result ∷ self.new }
     {
-        match self.rest.pop_front() {
-            Some(Part::Literal(text)) => text,
-            other => {
-                drop(other);
-                unreachable!()
-            }
-        }
+        next!(self, Field::Literal(text) => text)
     }
 
     /// A path.
@@ -103,13 +92,7 @@ impl Parts {
         requires { next_want (map want_of self.old) ≡ Some Want.Path }
         ensures { self.old ≡ FilePath result ∷ self.new }
     {
-        match self.rest.pop_front() {
-            Some(Part::FilePath(path)) => path,
-            other => {
-                drop(other);
-                unreachable!()
-            }
-        }
+        next!(self, Field::FilePath(path) => path)
     }
 
     /// A function.
@@ -117,17 +100,7 @@ impl Parts {
         requires { next_want (map want_of self.old) ≡ Some Want.Function }
         ensures { self.old ≡ Applies result ∷ self.new }
     {
-        let part = self.rest.pop_front();
-        match part {
-            Some(Part::Applies(function)) => {
-                drop(part);
-                function
-            }
-            other => {
-                drop(other);
-                unreachable!()
-            }
-        }
+        next!(self, Field::Applies(function) => function)
     }
 
     /// A relation.
@@ -135,17 +108,7 @@ impl Parts {
         requires { next_want (map want_of self.old) ≡ Some Want.Relation }
         ensures { self.old ≡ Compares result ∷ self.new }
     {
-        let part = self.rest.pop_front();
-        match part {
-            Some(Part::Compares(relation)) => {
-                drop(part);
-                relation
-            }
-            other => {
-                drop(other);
-                unreachable!()
-            }
-        }
+        next!(self, Field::Compares(relation) => relation)
     }
 
     /// The text of a format.
@@ -153,16 +116,10 @@ impl Parts {
         requires { next_want (map want_of self.old) ≡ Some Want.Format }
         ensures { self.old ≡ Formats result ∷ self.new }
     {
-        match self.rest.pop_front() {
-            Some(Part::Formats(text)) => text,
-            other => {
-                drop(other);
-                unreachable!()
-            }
-        }
+        next!(self, Field::Formats(text) => text)
     }
 
-    // Whether all parts are taken.
+    // Whether all fields are taken.
     fn is_empty(&self) -> bool
         ensures { result ≡ (length self.now == 0) }
     {
@@ -175,14 +132,14 @@ impl Parts {
         requires wants { are_arguments (map want_of self.old) ≡ true }
         ensures { self.old ≡ argument_term result ∷ self.new }
     {
-        match self.rest.pop_front() {
-            Some(Part::Value(number)) => Argument::Number(number),
-            Some(Part::Operand(_, name)) => Argument::Cord(name),
-            _ => unreachable!(),
-        }
+        next!(
+            self,
+            Field::Value(number) => Argument::Number(number),
+            Field::Operand(_, name) => Argument::Cord(name)
+        )
     }
 
-    /// The parts that are left, each the name of a cord.
+    /// The fields that are left, each the name of a cord.
     pub fn cords(mut self, alloc: Global) -> Result<Names, RefusalKind>
         requires { are_cords (map want_of self) ≡ true }
         ensures names { IfOk result (λ names. self ≡ map (Operand Kind.Cord) names) }
@@ -196,7 +153,7 @@ impl Parts {
         Ok(Names::of(names))
     }
 
-    /// The parts that are left, each an argument of a format.
+    /// The fields that are left, each an argument of a format.
     pub fn arguments(mut self, alloc: Global) -> Result<Arguments, RefusalKind>
         requires { are_arguments (map want_of self) ≡ true }
         ensures arguments { IfOk result (λ arguments. self ≡ map argument_term arguments) }

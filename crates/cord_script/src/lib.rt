@@ -4,6 +4,8 @@
 mod blocks;
 mod context;
 mod cursor;
+mod field_lists;
+mod fields;
 mod grammar;
 mod kinds;
 mod laws;
@@ -11,12 +13,11 @@ mod limits;
 mod line;
 mod names;
 mod numerals;
-mod operands;
 mod parser;
-mod parts;
 mod refusals;
 mod statements;
 mod table;
+mod verbs;
 mod words;
 
 pub use cord_operands::{Argument, Arguments, Function, Name, Names, Number, Path, Relation, Text};

@@ -4,73 +4,74 @@ ghost use Rattle.cord_script.specs.Flaws.{HasFormFlaw, HasBadWords};
 ghost use Rattle.cord_script.specs.Script.{Before, whole};
 ghost use Rattle.cord_script.specs.inner.ContextViews.{before_of, terms_flaw};
 ghost use Rattle.cord_script.specs.inner.Settled.{AreSettled};
-ghost use Rattle.cord_script.specs.Parted.{IsChecked, term_of};
+ghost use Rattle.cord_script.specs.inner.Fields.{IsChecked, term_of};
 ghost use Rattle.cord_script.specs.inner.Contexts.{context_after, SaysAfter};
 ghost use Rattle.cord_script.specs.inner.Verbal.{verb_form, verb_word};
 
 use crate::blocks::{block_flaw, set_blocks};
 use crate::context::{Context, add_names, add_paths, names_flaw};
-use crate::cursor::Parts;
-use crate::grammar::{Verb, verb_of};
-use crate::operands::{Worded, parts_of};
-use crate::parts::Part;
+use crate::cursor::FieldCursor;
+use crate::field_lists::{FieldList, fields_of};
+use crate::fields::Field;
+use crate::grammar::verb_of;
 use crate::statements::statement_of;
+use crate::verbs::Verb;
 use crate::words::Word;
 use crate::{RefusalKind, Statement};
 use std::alloc::Global;
 use std::collections::VecDeque;
 
 // What is wrong with the names of a line, which are looked at only where they aren't settled.
-fn unsettled_flaw(context: &Context, settled: bool, parts: &[Part]) -> Option<RefusalKind>
-    requires { AreSettled settled context.now.names parts.now }
-    ensures { result ≡ terms_flaw (before_of context.now) (map term_of parts.now) }
+fn unsettled_flaw(context: &Context, settled: bool, fields: &[Field]) -> Option<RefusalKind>
+    requires { AreSettled settled context.now.names fields.now }
+    ensures { result ≡ terms_flaw (before_of context.now) (map term_of fields.now) }
 {
     if settled {
         return None;
     }
-    names_flaw(context, parts)
+    names_flaw(context, fields)
 }
 
-// The parts of the words after a statement's word, with nothing wrong in them, their names or the open blocks.
-fn checked_parts(
+// The fields of the words after a statement's word, with nothing wrong in them, their names or the open blocks.
+fn checked_fields(
     alloc: Global,
     context: &Context,
     verb: Verb,
     words: &mut VecDeque<Word>,
-) -> Result<Worded, RefusalKind>
-    ensures parts { IfOk result (λ worded. IsChecked (verb_form verb)
-        (before_of context.now) words.old.items worded.parts.items worded.format) }
+) -> Result<FieldList, RefusalKind>
+    ensures fields { IfOk result (λ list. IsChecked (verb_form verb)
+        (before_of context.now) words.old.items list.fields.items list.format) }
     ensures flaw { IfErr result (λ kind. kind ≢ RefusalKind.NoMemory →
         HasFormFlaw (before_of context.now) (Some (verb_form verb)) words.old.items kind) }
-    ensures settled { IfOk result (λ worded. AreSettled worded.settled context.now.names worded.parts.items) }
+    ensures settled { IfOk result (λ list. AreSettled list.settled context.now.names list.fields.items) }
 {
-    let worded = parts_of(alloc, &context.names, verb, words)?;
-    if let Some(kind) = unsettled_flaw(context, worded.settled, &worded.parts) {
+    let list = fields_of(alloc, &context.names, verb, words)?;
+    if let Some(kind) = unsettled_flaw(context, list.settled, &list.fields) {
         return Err(kind);
     }
     if let Some(kind) = block_flaw(verb, &context.blocks) {
         return Err(kind);
     }
-    Ok(worded)
+    Ok(list)
 }
 
-// What a line leaves after what the lines before it leave: only open blocks, where its parts are settled.
+// What a line leaves after what the lines before it leave: only open blocks, where its fields are settled.
 fn leave(
     verb: Verb,
     number: u32,
     context: &mut Context,
     settled: bool,
-    parts: &[Part],
+    fields: &[Field],
 ) -> Result<(), RefusalKind>
-    requires { AreSettled settled context.old.names parts.now }
-    ensures context { OnOk result (before_of context.new ≡ context_after verb number parts.now (before_of context.old)) }
+    requires { AreSettled settled context.old.names fields.now }
+    ensures context { OnOk result (before_of context.new ≡ context_after verb number fields.now (before_of context.old)) }
     ensures flaw { IfErr result (λ kind. kind ≡ RefusalKind.NoMemory) }
 {
     if settled {
         return set_blocks(verb, number, &mut context.blocks);
     }
-    add_names(&mut context.names, parts)?;
-    add_paths(&mut context.paths, parts)?;
+    add_names(&mut context.names, fields)?;
+    add_paths(&mut context.paths, fields)?;
     set_blocks(verb, number, &mut context.blocks)
 }
 
@@ -102,11 +103,11 @@ pub fn read_statement(
     let Some(verb) = verb_in(words) else {
         return Err(RefusalKind::UnknownStatement);
     };
-    let Worded {
-        parts,
+    let FieldList {
+        fields,
         format,
         settled,
-    } = checked_parts(alloc, context, verb, words)?;
-    leave(verb, number, context, settled, &parts)?;
-    statement_of(alloc, verb, number, format, Parts::of(parts))
+    } = checked_fields(alloc, context, verb, words)?;
+    leave(verb, number, context, settled, &fields)?;
+    statement_of(alloc, verb, number, format, FieldCursor::of(fields))
 }

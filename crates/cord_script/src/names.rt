@@ -2,7 +2,7 @@
 ghost use Rattle.std.specs.Prelude.{◌≡◌, true, Some};
 ghost use Rattle.cord_script.specs.Tests.{is_letter, is_name, each};
 ghost use Rattle.cord_script.specs.Flaws.{kind_flaw, assigned_flaw, same_kind};
-ghost use Rattle.cord_script.specs.Parted.{is_inner};
+ghost use Rattle.cord_script.specs.inner.Fields.{is_inner};
 
 use crate::kinds::Kind;
 use crate::numerals::is_digit;

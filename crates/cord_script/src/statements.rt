@@ -1,294 +1,268 @@
-// Statements of their parts, family by family.
-ghost use Rattle.std.specs.Prelude.{◌≡◌, map, true, IfOk, IfErr};
-ghost use Rattle.cord_syntax.specs.Lines.{line_of};
-ghost use Rattle.cord_script.specs.Forms.{word_of, terms_of};
-ghost use Rattle.cord_script.specs.Script.{Suits};
-ghost use Rattle.cord_script.specs.Parted.{want_of};
-ghost use Rattle.cord_script.specs.inner.Verbal.{verb_word, verb_wants, is_source, is_simple, is_growth, is_look};
-ghost use Rattle.cord_script.specs.inner.Verbal.{is_search, is_count, is_control};
-ghost use Rattle.cord_script.specs.inner.Built.{IsJoined, IsPrinted, IsWorded};
+// Statements of their fields, family by family.
+ghost use Rattle.std.specs.Prelude.{◌≡◌, map, IfOk, IfErr};
+ghost use Rattle.cord_script.specs.inner.Fields.{want_of};
+ghost use Rattle.cord_script.specs.inner.Verbal.{verb_wants};
+ghost use Rattle.cord_script.specs.inner.Built.{IsJoined, IsPrinted, AreFieldsOf, IsStatementOf};
 
-use crate::cursor::Parts;
-use crate::grammar::Verb;
+use crate::cursor::FieldCursor;
 use crate::kinds::Kind;
+use crate::verbs::{Anew, Computation, Control, Growth, Joining, Look, Origin, Search, Verb};
 use crate::{RefusalKind, Statement};
 use cord_printf::Format;
 use std::alloc::Global;
 
-// A statement that makes a cord from outside the script or of its words.
-fn source_of(verb: Verb, line: u32, mut parts: Parts) -> Statement
-    requires family { is_source verb ≡ true }
-    requires wants { map want_of parts ≡ verb_wants verb }
-    ensures word { word_of result ≡ verb_word verb }
-    ensures line { line_of result ≡ line }
-    ensures terms { terms_of result ≡ parts }
-    ensures suits { Suits result }
+// A statement that makes a cord of no other name's value.
+fn origin_of(verb: Origin, line: u32, mut fields: FieldCursor) -> Statement
+    requires { map want_of fields ≡ verb_wants (Verb.Origin verb) }
+    ensures { IsStatementOf (Verb.Origin verb) line fields result }
 {
     match verb {
-        Verb::Let => Statement::Let {
+        Origin::Let => Statement::Let {
             line,
-            target: parts.target(Kind::Cord),
-            text: parts.text(),
+            target: fields.target(Kind::Cord),
+            text: fields.text(),
         },
-        Verb::File => Statement::File {
+        Origin::File => Statement::File {
             line,
-            target: parts.target(Kind::Cord),
-            path: parts.path(),
+            target: fields.target(Kind::Cord),
+            path: fields.path(),
         },
-        Verb::Eager => Statement::Eager {
+        Origin::Eager => Statement::Eager {
             line,
-            target: parts.target(Kind::Cord),
-            path: parts.path(),
+            target: fields.target(Kind::Cord),
+            path: fields.path(),
         },
-        Verb::Lazy => Statement::Lazy {
+        Origin::Lazy => Statement::Lazy {
             line,
-            target: parts.target(Kind::Cord),
-            path: parts.path(),
+            target: fields.target(Kind::Cord),
+            path: fields.path(),
         },
-        Verb::FromFn => Statement::FromFn {
+        Origin::FromFn => Statement::FromFn {
             line,
-            target: parts.target(Kind::Cord),
-            function: parts.function(),
-            count: parts.number(),
+            target: fields.target(Kind::Cord),
+            function: fields.function(),
+            count: fields.number(),
         },
-        _ => unreachable!(),
     }
 }
 
-// A statement that makes a cord of cords, or of copies of a byte.
-fn simple_of(verb: Verb, line: u32, mut parts: Parts) -> Statement
-    requires family { is_simple verb ≡ true }
-    requires wants { map want_of parts ≡ verb_wants verb }
-    ensures word { word_of result ≡ verb_word verb }
-    ensures line { line_of result ≡ line }
-    ensures terms { terms_of result ≡ parts }
-    ensures suits { Suits result }
+// A statement that makes a cord that an expression gives.
+fn joining_of(verb: Joining, line: u32, mut fields: FieldCursor) -> Statement
+    requires { map want_of fields ≡ verb_wants (Verb.Joining verb) }
+    ensures { IsStatementOf (Verb.Joining verb) line fields result }
 {
     match verb {
-        Verb::Chars => Statement::Chars {
+        Joining::Chars => Statement::Chars {
             line,
-            target: parts.target(Kind::Cord),
-            byte: parts.number(),
-            count: parts.number(),
+            target: fields.target(Kind::Cord),
+            byte: fields.number(),
+            count: fields.number(),
         },
-        Verb::Nul => Statement::Nul {
+        Joining::Nul => Statement::Nul {
             line,
-            target: parts.target(Kind::Cord),
-            count: parts.number(),
+            target: fields.target(Kind::Cord),
+            count: fields.number(),
         },
-        Verb::Cat => Statement::Cat {
+        Joining::Cat => Statement::Cat {
             line,
-            target: parts.target(Kind::Cord),
-            left: parts.operand(Kind::Cord),
-            right: parts.operand(Kind::Cord),
+            target: fields.target(Kind::Cord),
+            left: fields.operand(Kind::Cord),
+            right: fields.operand(Kind::Cord),
         },
-        Verb::Catc => Statement::Catc {
+        Joining::Catc => Statement::Catc {
             line,
-            target: parts.target(Kind::Cord),
-            operand: parts.operand(Kind::Cord),
-            byte: parts.number(),
+            target: fields.target(Kind::Cord),
+            operand: fields.operand(Kind::Cord),
+            byte: fields.number(),
         },
-        Verb::Substr => Statement::Substr {
+        Joining::Substr => Statement::Substr {
             line,
-            target: parts.target(Kind::Cord),
-            operand: parts.operand(Kind::Cord),
-            start: parts.number(),
-            count: parts.number(),
+            target: fields.target(Kind::Cord),
+            operand: fields.operand(Kind::Cord),
+            start: fields.number(),
+            count: fields.number(),
         },
-        Verb::Balance => Statement::Balance {
-            line,
-            target: parts.target(Kind::Cord),
-            operand: parts.operand(Kind::Cord),
-        },
-        _ => unreachable!(),
     }
 }
 
-// A statement that makes, changes or reads an extensible cord.
-fn growth_of(verb: Verb, line: u32, mut parts: Parts) -> Statement
-    requires family { is_growth verb ≡ true }
-    requires wants { map want_of parts ≡ verb_wants verb }
-    ensures word { word_of result ≡ verb_word verb }
-    ensures line { line_of result ≡ line }
-    ensures terms { terms_of result ≡ parts }
-    ensures suits { Suits result }
+// A statement that makes a cord anew of a cord or an extensible cord.
+fn anew_of(verb: Anew, line: u32, mut fields: FieldCursor) -> Statement
+    requires { map want_of fields ≡ verb_wants (Verb.Anew verb) }
+    ensures { IsStatementOf (Verb.Anew verb) line fields result }
 {
     match verb {
-        Verb::EcToCord => Statement::EcToCord {
+        Anew::Balance => Statement::Balance {
             line,
-            target: parts.target(Kind::Cord),
-            extensible: parts.operand(Kind::Extensible),
+            target: fields.target(Kind::Cord),
+            operand: fields.operand(Kind::Cord),
         },
-        Verb::EcInit => Statement::EcInit {
+        Anew::EcToCord => Statement::EcToCord {
             line,
-            target: parts.target(Kind::Extensible),
+            target: fields.target(Kind::Cord),
+            extensible: fields.operand(Kind::Extensible),
         },
-        Verb::EcPut => Statement::EcPut {
-            line,
-            extensible: parts.operand(Kind::Extensible),
-            byte: parts.number(),
-        },
-        Verb::EcCat => Statement::EcCat {
-            line,
-            extensible: parts.operand(Kind::Extensible),
-            operand: parts.operand(Kind::Cord),
-        },
-        Verb::EcStr => Statement::EcStr {
-            line,
-            extensible: parts.operand(Kind::Extensible),
-            text: parts.text(),
-        },
-        _ => unreachable!(),
     }
 }
 
-// A statement that measures, looks into or compares cords.
-fn look_of(verb: Verb, line: u32, mut parts: Parts) -> Statement
-    requires family { is_look verb ≡ true }
-    requires wants { map want_of parts ≡ verb_wants verb }
-    ensures word { word_of result ≡ verb_word verb }
-    ensures line { line_of result ≡ line }
-    ensures terms { terms_of result ≡ parts }
-    ensures suits { Suits result }
+// A statement that computes a number, which needs no byte.
+fn computation_of(verb: Computation, line: u32, mut fields: FieldCursor) -> Statement
+    requires { map want_of fields ≡ verb_wants (Verb.Computation verb) }
+    ensures { IsStatementOf (Verb.Computation verb) line fields result }
 {
     match verb {
-        Verb::Len => Statement::Len {
+        Computation::Len => Statement::Len {
             line,
-            target: parts.target(Kind::Number),
-            operand: parts.operand(Kind::Cord),
+            target: fields.target(Kind::Number),
+            operand: fields.operand(Kind::Cord),
         },
-        Verb::Fetch => Statement::Fetch {
+        Computation::Assign => Statement::Assign {
             line,
-            target: parts.target(Kind::Number),
-            operand: parts.operand(Kind::Cord),
-            index: parts.number(),
+            target: fields.target(Kind::Number),
+            value: fields.number(),
         },
-        Verb::Cmp => Statement::Cmp {
+        Computation::Add => Statement::Add {
             line,
-            target: parts.target(Kind::Number),
-            left: parts.operand(Kind::Cord),
-            right: parts.operand(Kind::Cord),
+            target: fields.target(Kind::Number),
+            left: fields.number(),
+            right: fields.number(),
         },
-        Verb::Ncmp => Statement::Ncmp {
+        Computation::Sub => Statement::Sub {
             line,
-            target: parts.target(Kind::Number),
-            left: parts.operand(Kind::Cord),
-            left_start: parts.number(),
-            right: parts.operand(Kind::Cord),
-            right_start: parts.number(),
-            count: parts.number(),
+            target: fields.target(Kind::Number),
+            left: fields.number(),
+            right: fields.number(),
         },
-        _ => unreachable!(),
+    }
+}
+
+// A statement that looks at bytes.
+fn look_of(verb: Look, line: u32, mut fields: FieldCursor) -> Statement
+    requires { map want_of fields ≡ verb_wants (Verb.Look verb) }
+    ensures { IsStatementOf (Verb.Look verb) line fields result }
+{
+    match verb {
+        Look::Fetch => Statement::Fetch {
+            line,
+            target: fields.target(Kind::Number),
+            operand: fields.operand(Kind::Cord),
+            index: fields.number(),
+        },
+        Look::Cmp => Statement::Cmp {
+            line,
+            target: fields.target(Kind::Number),
+            left: fields.operand(Kind::Cord),
+            right: fields.operand(Kind::Cord),
+        },
+        Look::Ncmp => Statement::Ncmp {
+            line,
+            target: fields.target(Kind::Number),
+            left: fields.operand(Kind::Cord),
+            left_start: fields.number(),
+            right: fields.operand(Kind::Cord),
+            right_start: fields.number(),
+            count: fields.number(),
+        },
     }
 }
 
 // A statement that searches a cord.
-fn search_of(verb: Verb, line: u32, mut parts: Parts) -> Statement
-    requires family { is_search verb ≡ true }
-    requires wants { map want_of parts ≡ verb_wants verb }
-    ensures word { word_of result ≡ verb_word verb }
-    ensures line { line_of result ≡ line }
-    ensures terms { terms_of result ≡ parts }
-    ensures suits { Suits result }
+fn search_of(verb: Search, line: u32, mut fields: FieldCursor) -> Statement
+    requires { map want_of fields ≡ verb_wants (Verb.Search verb) }
+    ensures { IsStatementOf (Verb.Search verb) line fields result }
 {
     match verb {
-        Verb::Str => Statement::Str {
+        Search::Str => Statement::Str {
             line,
-            target: parts.target(Kind::Number),
-            operand: parts.operand(Kind::Cord),
-            start: parts.number(),
-            pattern: parts.operand(Kind::Cord),
+            target: fields.target(Kind::Number),
+            operand: fields.operand(Kind::Cord),
+            start: fields.number(),
+            pattern: fields.operand(Kind::Cord),
         },
-        Verb::Chr => Statement::Chr {
+        Search::Chr => Statement::Chr {
             line,
-            target: parts.target(Kind::Number),
-            operand: parts.operand(Kind::Cord),
-            start: parts.number(),
-            byte: parts.number(),
+            target: fields.target(Kind::Number),
+            operand: fields.operand(Kind::Cord),
+            start: fields.number(),
+            byte: fields.number(),
         },
-        Verb::Rchr => Statement::Rchr {
+        Search::Rchr => Statement::Rchr {
             line,
-            target: parts.target(Kind::Number),
-            operand: parts.operand(Kind::Cord),
-            start: parts.number(),
-            byte: parts.number(),
+            target: fields.target(Kind::Number),
+            operand: fields.operand(Kind::Cord),
+            start: fields.number(),
+            byte: fields.number(),
         },
-        _ => unreachable!(),
     }
 }
 
-// A statement that reckons with numbers.
-fn count_of(verb: Verb, line: u32, mut parts: Parts) -> Statement
-    requires family { is_count verb ≡ true }
-    requires wants { map want_of parts ≡ verb_wants verb }
-    ensures word { word_of result ≡ verb_word verb }
-    ensures line { line_of result ≡ line }
-    ensures terms { terms_of result ≡ parts }
-    ensures suits { Suits result }
+// A statement that makes an extensible cord, or one that grows.
+fn growth_of(verb: Growth, line: u32, mut fields: FieldCursor) -> Statement
+    requires { map want_of fields ≡ verb_wants (Verb.Growth verb) }
+    ensures { IsStatementOf (Verb.Growth verb) line fields result }
 {
     match verb {
-        Verb::Assign => Statement::Assign {
+        Growth::EcInit => Statement::EcInit {
             line,
-            target: parts.target(Kind::Number),
-            value: parts.number(),
+            target: fields.target(Kind::Extensible),
         },
-        Verb::Add => Statement::Add {
+        Growth::EcPut => Statement::EcPut {
             line,
-            target: parts.target(Kind::Number),
-            left: parts.number(),
-            right: parts.number(),
+            extensible: fields.operand(Kind::Extensible),
+            byte: fields.number(),
         },
-        Verb::Sub => Statement::Sub {
+        Growth::EcCat => Statement::EcCat {
             line,
-            target: parts.target(Kind::Number),
-            left: parts.number(),
-            right: parts.number(),
+            extensible: fields.operand(Kind::Extensible),
+            operand: fields.operand(Kind::Cord),
         },
-        _ => unreachable!(),
+        Growth::EcStr => Statement::EcStr {
+            line,
+            extensible: fields.operand(Kind::Extensible),
+            text: fields.text(),
+        },
     }
 }
 
-// A statement that puts a cord or leads the run.
-fn control_of(verb: Verb, line: u32, mut parts: Parts) -> Statement
-    requires family { is_control verb ≡ true }
-    requires wants { map want_of parts ≡ verb_wants verb }
-    ensures word { word_of result ≡ verb_word verb }
-    ensures line { line_of result ≡ line }
-    ensures terms { terms_of result ≡ parts }
-    ensures suits { Suits result }
+// A statement that says which lines run next.
+fn control_of(verb: Control, line: u32, mut fields: FieldCursor) -> Statement
+    requires { map want_of fields ≡ verb_wants (Verb.Control verb) }
+    ensures { IsStatementOf (Verb.Control verb) line fields result }
 {
     match verb {
-        Verb::Put => Statement::Put {
+        Control::Repeat => Statement::Repeat {
             line,
-            operand: parts.operand(Kind::Cord),
+            count: fields.number(),
         },
-        Verb::Repeat => Statement::Repeat {
+        Control::If => Statement::If {
             line,
-            count: parts.number(),
+            left: fields.number(),
+            relation: fields.relation(),
+            right: fields.number(),
         },
-        Verb::If => Statement::If {
-            line,
-            left: parts.number(),
-            relation: parts.relation(),
-            right: parts.number(),
-        },
-        Verb::Else => Statement::Else { line },
-        Verb::End => Statement::End { line },
-        _ => unreachable!(),
+        Control::Else => Statement::Else { line },
+        Control::End => Statement::End { line },
+    }
+}
+
+// A `put`.
+fn put_of(line: u32, mut fields: FieldCursor) -> Statement
+    requires { map want_of fields ≡ verb_wants Verb.Put }
+    ensures { IsStatementOf Verb.Put line fields result }
+{
+    Statement::Put {
+        line,
+        operand: fields.operand(Kind::Cord),
     }
 }
 
 // A `catn`.
-fn joined_of(alloc: Global, line: u32, mut parts: Parts) -> Result<Statement, RefusalKind>
-    requires { IsJoined parts }
-    ensures word { IfOk result (λ s. word_of s ≡ verb_word Verb.Catn) }
-    ensures line { IfOk result (λ s. line_of s ≡ line) }
-    ensures terms { IfOk result (λ s. terms_of s ≡ parts) }
-    ensures suits { IfOk result Suits }
+fn catn_of(alloc: Global, line: u32, mut fields: FieldCursor) -> Result<Statement, RefusalKind>
+    requires { IsJoined fields }
+    ensures statement { IfOk result (IsStatementOf Verb.Catn line fields) }
     ensures flaw { IfErr result (λ kind. kind ≡ RefusalKind.NoMemory) }
 {
-    let target = parts.target(Kind::Cord);
-    let parts = parts.cords(alloc)?;
+    let target = fields.target(Kind::Cord);
+    let parts = fields.cords(alloc)?;
     Ok(Statement::Catn {
         line,
         target,
@@ -297,23 +271,20 @@ fn joined_of(alloc: Global, line: u32, mut parts: Parts) -> Result<Statement, Re
 }
 
 // A `sprintf`.
-fn printed_of(
+fn sprintf_of(
     alloc: Global,
     line: u32,
     format: Option<Format>,
-    mut parts: Parts,
+    mut fields: FieldCursor,
 ) -> Result<Statement, RefusalKind>
-    requires { IsPrinted format parts }
-    ensures word { IfOk result (λ s. word_of s ≡ verb_word Verb.Sprintf) }
-    ensures line { IfOk result (λ s. line_of s ≡ line) }
-    ensures terms { IfOk result (λ s. terms_of s ≡ parts) }
-    ensures suits { IfOk result Suits }
+    requires { IsPrinted format fields }
+    ensures statement { IfOk result (IsStatementOf Verb.Sprintf line fields) }
     ensures flaw { IfErr result (λ kind. kind ≡ RefusalKind.NoMemory) }
 {
     let Some(format) = format else { unreachable!() };
-    let target = parts.target(Kind::Cord);
-    let text = parts.format();
-    let arguments = parts.arguments(alloc)?;
+    let target = fields.target(Kind::Cord);
+    let text = fields.format();
+    let arguments = fields.arguments(alloc)?;
     Ok(Statement::Sprintf {
         line,
         target,
@@ -323,38 +294,29 @@ fn printed_of(
     })
 }
 
-/// The statement of a verb and its parts, and what the text of a `sprintf` is read as.
+/// The statement of a verb and its fields, and what the text of a `sprintf` is read as.
 pub fn statement_of(
     alloc: Global,
     verb: Verb,
     line: u32,
     format: Option<Format>,
-    parts: Parts,
+    fields: FieldCursor,
 ) -> Result<Statement, RefusalKind>
-    requires { IsWorded verb parts format }
-    ensures word { IfOk result (λ s. word_of s ≡ verb_word verb) }
-    ensures line { IfOk result (λ s. line_of s ≡ line) }
-    ensures terms { IfOk result (λ s. terms_of s ≡ parts) }
-    ensures suits { IfOk result Suits }
+    requires { AreFieldsOf verb fields format }
+    ensures statement { IfOk result (IsStatementOf verb line fields) }
     ensures flaw { IfErr result (λ kind. kind ≡ RefusalKind.NoMemory) }
 {
     match verb {
-        Verb::Let | Verb::File | Verb::Eager | Verb::Lazy | Verb::FromFn => {
-            Ok(source_of(verb, line, parts))
-        }
-        Verb::Chars | Verb::Nul | Verb::Cat | Verb::Catc | Verb::Substr | Verb::Balance => {
-            Ok(simple_of(verb, line, parts))
-        }
-        Verb::EcToCord | Verb::EcInit | Verb::EcPut | Verb::EcCat | Verb::EcStr => {
-            Ok(growth_of(verb, line, parts))
-        }
-        Verb::Len | Verb::Fetch | Verb::Cmp | Verb::Ncmp => Ok(look_of(verb, line, parts)),
-        Verb::Str | Verb::Chr | Verb::Rchr => Ok(search_of(verb, line, parts)),
-        Verb::Assign | Verb::Add | Verb::Sub => Ok(count_of(verb, line, parts)),
-        Verb::Put | Verb::Repeat | Verb::If | Verb::Else | Verb::End => {
-            Ok(control_of(verb, line, parts))
-        }
-        Verb::Catn => joined_of(alloc, line, parts),
-        Verb::Sprintf => printed_of(alloc, line, format, parts),
+        Verb::Catn => catn_of(alloc, line, fields),
+        Verb::Sprintf => sprintf_of(alloc, line, format, fields),
+        Verb::Origin(origin) => Ok(origin_of(origin, line, fields)),
+        Verb::Joining(joining) => Ok(joining_of(joining, line, fields)),
+        Verb::Anew(anew) => Ok(anew_of(anew, line, fields)),
+        Verb::Put => Ok(put_of(line, fields)),
+        Verb::Computation(computation) => Ok(computation_of(computation, line, fields)),
+        Verb::Look(look) => Ok(look_of(look, line, fields)),
+        Verb::Search(search) => Ok(search_of(search, line, fields)),
+        Verb::Growth(growth) => Ok(growth_of(growth, line, fields)),
+        Verb::Control(control) => Ok(control_of(control, line, fields)),
     }
 }

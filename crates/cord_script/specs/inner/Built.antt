@@ -3,16 +3,19 @@ use Rattle.std.specs.Prelude.{◌≡◌, ◌≤◌, ℕ, List, [], ◌∷◌, ma
 use Rattle.cord_printf.specs.declared.pieces.Piece.{Piece}
 use Rattle.cord_printf.specs.Format.{IsFormat}
 use Rattle.cord_script.specs.declared.TheConstants.{MIN_PARTS, MAX_PARTS}
-use Rattle.cord_script.specs.declared.grammar.Verb.{Verb}
-use Rattle.cord_script.specs.declared.grammar.Verb.TheVariants as verbs
+use Rattle.cord_script.specs.declared.verbs.Verb.{Verb}
+use Rattle.cord_script.specs.declared.verbs.Verb.TheVariants as verbs
 use Rattle.cord_script.specs.declared.kinds.Kind.TheVariants as kinds
 use Rattle.cord_script.specs.declared.kinds.Want.{Want}
 use Rattle.cord_script.specs.declared.kinds.Want.TheVariants as wants
-use Rattle.cord_script.specs.Forms.{Term}
+use Rattle.cord_syntax.specs.declared.statements.Statement.{Statement}
+use Rattle.cord_syntax.specs.Lines.{line_of}
+use Rattle.cord_script.specs.Forms.{Term, word_of, terms_of}
+use Rattle.cord_script.specs.Script.{Suits}
 use Rattle.cord_script.specs.Forms.Term.{Target, Formats}
 use Rattle.cord_script.specs.Formats.{wants_of_pieces}
-use Rattle.cord_script.specs.Parted.{want_of}
-use Rattle.cord_script.specs.inner.Verbal.{verb_wants}
+use Rattle.cord_script.specs.inner.Fields.{want_of}
+use Rattle.cord_script.specs.inner.Verbal.{verb_word, verb_wants}
 
 -- the name of a cord
 abbrev pub is_cord : Want → Bool
@@ -55,8 +58,12 @@ abbrev pub IsPrinted : Option (List Piece) → List Term → Type 0
 IsPrinted None ts = ⊥
 IsPrinted (Some pieces) ts = IsPrintedAs pieces ts
 
--- the parts of a statement of the verb, with what the text of a `sprintf` is read as
-abbrev pub IsWorded : Verb → List Term → Option (List Piece) → Type 0
-IsWorded verbs.Catn ts format = IsJoined ts
-IsWorded verbs.Sprintf ts format = IsPrinted format ts
-IsWorded verb ts format = map want_of ts ≡ verb_wants verb
+-- the fields of a statement of the verb, with what the text of a `sprintf` is read as
+abbrev pub AreFieldsOf : Verb → List Term → Option (List Piece) → Type 0
+AreFieldsOf verbs.Catn ts format = IsJoined ts
+AreFieldsOf verbs.Sprintf ts format = IsPrinted format ts
+AreFieldsOf verb ts format = map want_of ts ≡ verb_wants verb
+
+-- a statement of the verb at the line, with these fields
+abbrev pub IsStatementOf : Verb → ℕ → List Term → Statement → Type 0
+IsStatementOf verb line ts s = (word_of s ≡ verb_word verb) × (line_of s ≡ line) × (terms_of s ≡ ts) × Suits s

@@ -1,15 +1,15 @@
 -- What a line says after the lines before it, and what it leaves.
 use Rattle.std.specs.Prelude.{◌≡◌, ℕ, List, map}
-use Rattle.cord_script.specs.declared.grammar.Verb.{Verb}
-use Rattle.cord_script.specs.declared.parts.Part.{Part}
+use Rattle.cord_script.specs.declared.verbs.Verb.{Verb}
+use Rattle.cord_script.specs.declared.fields.Field.{Field}
 use Rattle.cord_script.specs.declared.words.Word.{Word}
 use Rattle.cord_syntax.specs.declared.statements.Statement.{Statement}
 use Rattle.cord_script.specs.Script.{Before, Says, whole, after, names_after, paths_after, blocks_after}
-use Rattle.cord_script.specs.Parted.{term_of}
+use Rattle.cord_script.specs.inner.Fields.{term_of}
 use Rattle.cord_script.specs.inner.Verbal.{verb_effect}
 
--- what a line with this verb and these parts leaves
-abbrev pub context_after : Verb → ℕ → List Part → Before → Before
+-- what a line with this verb and these fields leaves
+abbrev pub context_after : Verb → ℕ → List Field → Before → Before
 context_after verb n ps before = record {
   names = names_after (map term_of ps) before.names;
   paths = paths_after (map term_of ps) before.paths;

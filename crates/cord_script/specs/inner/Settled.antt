@@ -3,11 +3,11 @@ use Rattle.std.specs.Prelude.{◌≡◌, List, [], ◌∷◌, Bool, true, Some, 
 use Rattle.cord_script.specs.declared.kinds.Kind.TheVariants as kinds
 use Rattle.cord_operands.specs.declared.operands.Number.TheVariants as numbers
 use Rattle.cord_script.specs.declared.table.Known.{Known}
-use Rattle.cord_script.specs.declared.parts.Part.{Part}
+use Rattle.cord_script.specs.declared.fields.Field.{Field}
 use Rattle.cord_script.specs.Forms.{Term}
 use Rattle.cord_script.specs.Forms.Term.{Target, Operand, Value, FilePath}
 use Rattle.cord_script.specs.Script.{kind_of}
-use Rattle.cord_script.specs.Parted.{term_of}
+use Rattle.cord_script.specs.inner.Fields.{term_of}
 
 -- a name in the term is known and of its kind, and the term is no path
 abbrev pub IsSettled : List Known → Term → Type 0
@@ -22,6 +22,6 @@ abbrev pub AllSettled : List Known → List Term → Type 0
 AllSettled names [] = Unit {0}
 AllSettled names (t ∷ ts) = IsSettled names t × AllSettled names ts
 
--- where it is told so, all of these parts are settled
-abbrev pub AreSettled : Bool → List Known → List Part → Type 0
+-- where it is told so, all of these fields are settled
+abbrev pub AreSettled : Bool → List Known → List Field → Type 0
 AreSettled told names ps = told ≡ true → AllSettled names (map term_of ps)

@@ -3,33 +3,33 @@ use Rattle.std.proofs.lemmas.Result.{err_from_is_err_and}
 use Rattle.cord_script.specs.inner.ContextViews.{before_of}
 use Rattle.cord_script.specs.inner.Settled.{AreSettled}
 use Rattle.cord_script.specs.inner.Contexts.{context_after}
-use Rattle.cord_script.specs.inner.Built.{IsWorded}
+use Rattle.cord_script.specs.inner.Built.{AreFieldsOf}
 use Rattle.cord_script.specs.inner.Verbal.{verb_word}
 use Rattle.cord_script.proofs.Contexts.{said, bad_words}
-use Rattle.cord_script.proofs.Built.{worded}
+use Rattle.cord_script.proofs.Built.{fields_suit}
 use Rattle.cord_script.proofs.line.read_statement.Goals as goal
 
-pub returns-in_err-parts-clause-flaw : goal.returns-in_err-parts-clause-flaw
-returns-in_err-parts-clause-flaw c =
+pub returns-in_err-fields-clause-flaw : goal.returns-in_err-fields-clause-flaw
+returns-in_err-fields-clause-flaw c =
     let p = err_from_is_err_and c.from_residual.result c.from_residual.ensures.1 in
     rw (p.1, p.2) (λ n. bad_words c.in-Some.verb (before_of c.args.context.now) c.args.words.now.items c.verb_in.new.words.items
-    c.in_err-parts.field-0.0 (c.in-Some.ensures) (c.in_err-parts.ensures.flaw n))
+    c.in_err-fields.field-0.0 (c.in-Some.ensures) (c.in_err-fields.ensures.flaw n))
 
 pub statement_of-requires : goal.statement_of-requires
 statement_of-requires c =
-    let found = c.in_ok-parts.field-0 in
-    subst (λ ts. IsWorded c.in-Some.verb ts found.format) (sym c.of.ensures) (worded c.in-Some.verb _ found.parts.items found.format c.in_ok-parts.ensures.parts.parted)
+    let found = c.in_ok-fields.field-0 in
+    subst (λ ts. AreFieldsOf c.in-Some.verb ts found.format) (sym c.of.ensures) (fields_suit c.in-Some.verb _ found.fields.items found.format c.in_ok-fields.ensures.fields.says)
 
 pub returns-clause-said : goal.returns-clause-said
 returns-clause-said c =
-    let found = c.in_ok-parts.field-0 in
+    let found = c.in_ok-fields.field-0 in
     let verb = c.in-Some.verb in
     let old = before_of c.args.context.now in
     let context = c.in_ok-leave.ensures.context ∙ ap (λ ps. context_after verb c.args.number ps old) c.deref.ensures.value in
     let words = c.in-Some.ensures in
-    said verb c.args.number old (before_of c.leave.new.context) (verb_word verb) c.args.words.now.items c.verb_in.new.words.items found.parts.items found.format c.of.result c.statement_of.result words refl c.in_ok-parts.ensures.parts context c.of.ensures c.statement_of.ensures.word c.statement_of.ensures.line c.statement_of.ensures.terms c.statement_of.ensures.suits
+    said verb c.args.number old (before_of c.leave.new.context) (verb_word verb) c.args.words.now.items c.verb_in.new.words.items found.fields.items found.format c.of.result c.statement_of.result words refl c.in_ok-fields.ensures.fields context c.of.ensures c.statement_of.ensures.statement
 
 pub leave-requires : goal.leave-requires
 leave-requires c =
-    let found = c.in_ok-parts.field-0 in
-    subst (AreSettled found.settled c.args.context.now.names) (sym c.deref.ensures.value) c.in_ok-parts.ensures.settled
+    let found = c.in_ok-fields.field-0 in
+    subst (AreSettled found.settled c.args.context.now.names) (sym c.deref.ensures.value) c.in_ok-fields.ensures.settled

@@ -1,0 +1,28 @@
+use Rattle.std.proofs.Common.{◌≡◌, ◌≢◌, refl, ap, subst, ◌∙◌}
+use Rattle.std.specs.Prelude.{IfOk, IfErr}
+use Rattle.cord_script.specs.declared.verbs.Verb.{Verb}
+use Rattle.cord_script.specs.declared.verbs.Verb.TheVariants as verbs
+use Rattle.cord_script.specs.declared.refusals.RefusalKind.TheVariants.{NoMemory}
+use Rattle.cord_script.specs.Forms.{Shape}
+use Rattle.cord_script.specs.Forms.Shape.{Words}
+use Rattle.cord_script.specs.inner.Fields.{AreFields, HasFieldFlaw}
+use Rattle.cord_script.specs.inner.Verbal.{verb_shape, verb_wants}
+use Rattle.cord_script.proofs.field_lists.fields_of.Goals as goal
+
+-- every other verb has the words that it wants
+plain_shape : (verb : Verb) → verb ≢ verbs.Catn → verb ≢ verbs.Sprintf → Words (verb_wants verb) ≡ verb_shape verb
+plain_shape verbs.Catn joined printed = absurd (joined refl)
+plain_shape verbs.Sprintf joined printed = absurd (printed refl)
+plain_shape _ joined printed = refl
+
+pub returns-in_default-clause-fields : goal.returns-in_default-clause-fields
+returns-in_default-clause-fields c =
+    let shape = ap Words c.wants_of.ensures ∙ plain_shape c.args.verb c.in_default.not-Catn c.in_default.not-Sprintf in
+    subst (λ (s : Shape). IfOk c.plain_fields.result (λ list. AreFields s c.args.words.now.items list.fields.items list.format)) shape
+    c.plain_fields.ensures.fields
+
+pub returns-in_default-clause-flaw : goal.returns-in_default-clause-flaw
+returns-in_default-clause-flaw c =
+    let shape = ap Words c.wants_of.ensures ∙ plain_shape c.args.verb c.in_default.not-Catn c.in_default.not-Sprintf in
+    subst (λ (s : Shape). IfErr c.plain_fields.result (λ kind. kind ≢ NoMemory → HasFieldFlaw s c.args.words.now.items kind)) shape
+    c.plain_fields.ensures.flaw

@@ -1,0 +1,90 @@
+// What the words of statements ask for, family by family.
+
+/// What a statement's word asks for.
+#[derive(Clone, Copy)]
+pub enum Verb {
+    /// A cord made of no other name's value.
+    Origin(Origin),
+    /// A cord that an expression over others gives, with a fixed number of words.
+    Joining(Joining),
+    /// `catn`.
+    Catn,
+    /// A cord made anew of a cord or an extensible cord.
+    Anew(Anew),
+    /// `sprintf`.
+    Sprintf,
+    /// `put`.
+    Put,
+    /// A number that needs no byte.
+    Computation(Computation),
+    /// A byte, or the order of bytes.
+    Look(Look),
+    /// A place in a cord.
+    Search(Search),
+    /// An extensible cord that is made or grows.
+    Growth(Growth),
+    /// Which lines run next.
+    Control(Control),
+}
+
+#[derive(Clone, Copy)]
+pub enum Origin {
+    Let,
+    File,
+    Eager,
+    Lazy,
+    FromFn,
+}
+
+#[derive(Clone, Copy)]
+pub enum Joining {
+    Chars,
+    Nul,
+    Cat,
+    Catc,
+    Substr,
+}
+
+#[derive(Clone, Copy)]
+pub enum Anew {
+    Balance,
+    EcToCord,
+}
+
+#[derive(Clone, Copy)]
+pub enum Computation {
+    Len,
+    Assign,
+    Add,
+    Sub,
+}
+
+#[derive(Clone, Copy)]
+pub enum Look {
+    Fetch,
+    Cmp,
+    Ncmp,
+}
+
+#[derive(Clone, Copy)]
+pub enum Search {
+    Str,
+    Chr,
+    Rchr,
+}
+
+#[derive(Clone, Copy)]
+pub enum Growth {
+    EcInit,
+    EcPut,
+    EcCat,
+    EcStr,
+}
+
+#[derive(Clone, Copy)]
+pub enum Control {
+    Repeat,
+    If,
+    Else,
+    End,
+}
