@@ -1,5 +1,5 @@
 -- What a statement says after the lines before it.
-use Rattle.std.proofs.Common.{Some, Ok, Err, ◌≡◌, ℕ, List, ◌∷◌, map, refl, sym, ◌∙◌, ap, subst}
+use Rattle.std.proofs.Common.{Some, Ok, Err, ◌≡◌, ℕ, List, [], ◌∷◌, map, refl, sym, ◌∙◌, ap, subst}
 use Rattle.std.specs.Prelude.{Option, Result, IfOk}
 use Rattle.cord_printf.specs.declared.pieces.Piece.{Piece}
 use Rattle.cord_script.specs.declared.verbs.Verb.{Verb}
@@ -10,11 +10,12 @@ use Rattle.cord_script.specs.declared.refusals.RefusalKind.{RefusalKind}
 use Rattle.cord_syntax.specs.declared.statements.Statement.{Statement}
 use Rattle.cord_syntax.specs.Lines.{line_of}
 use Rattle.cord_script.specs.Forms.{Term, form_of, word_of, terms_of, effect_of}
+use Rattle.cord_script.specs.Forms.Term.{Target, Operand, Value, Literal, FilePath, Applies, Compares, Formats}
 use Rattle.cord_script.specs.Script.{Before, AreTerms, AreAllowed, FitsBlocks, Suits, whole, after, names_after, paths_after, blocks_after}
 use Rattle.cord_script.specs.Flaws.{HasFormFlaw, HasBadWords}
 use Rattle.cord_script.specs.inner.Fields.{term_of, IsChecked}
 use Rattle.cord_script.specs.inner.Verbal.{verb_word, verb_effect, verb_form}
-use Rattle.cord_script.specs.inner.Contexts.{context_after, SaysAfter}
+use Rattle.cord_script.specs.inner.Contexts.{context_after, SaysAfter, AreNamed}
 use Rattle.cord_script.specs.inner.Built.{IsStatementOf}
 use Rattle.cord_script.proofs.Stated.{right_form}
 use Rattle.cord_script.proofs.Tabled.{form_is}
@@ -83,3 +84,17 @@ pub bad_words : (v : Verb) (old : Before) (words others : List Word) (kind : Ref
     HasFormFlaw old (Some (verb_form v)) others kind → HasBadWords whole old words kind
 bad_words v old words others kind e h = subst (λ ws. HasBadWords whole old ws kind) (sym e)
     (subst (λ form. HasFormFlaw old form others kind) (sym (form_is v)) h)
+
+-- words that say a target are names
+pub terms_named : (ws : List Word) (ts : List Term) → AreTerms ws ts → AreNamed ts
+terms_named [] [] h = tt
+terms_named [] (t ∷ ts) h = absurd h
+terms_named (w ∷ ws) [] h = absurd h
+terms_named (w ∷ ws) (Target kind name ∷ ts) h = (h.0.1, terms_named ws ts h.1)
+terms_named (w ∷ ws) (Operand kind name ∷ ts) h = (tt, terms_named ws ts h.1)
+terms_named (w ∷ ws) (Value number ∷ ts) h = (tt, terms_named ws ts h.1)
+terms_named (w ∷ ws) (Literal text ∷ ts) h = (tt, terms_named ws ts h.1)
+terms_named (w ∷ ws) (FilePath path ∷ ts) h = (tt, terms_named ws ts h.1)
+terms_named (w ∷ ws) (Applies function ∷ ts) h = (tt, terms_named ws ts h.1)
+terms_named (w ∷ ws) (Compares relation ∷ ts) h = (tt, terms_named ws ts h.1)
+terms_named (w ∷ ws) (Formats text ∷ ts) h = (tt, terms_named ws ts h.1)

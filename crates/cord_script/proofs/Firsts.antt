@@ -1,14 +1,15 @@
 -- Tables whose entries are each the first with their name.
 use Rattle.std.proofs.Common.{◌≡◌, ◌⊎◌, ◌<◌, ℕ, zero, suc, List, [], ◌∷◌, ◌++◌, Bool, true, false, Some, None, drop, length, get_or, inl}
-use Rattle.std.proofs.Common.{inr, refl, sym, ap, ◌∙◌, if◌then◌else◌}
-use Rattle.std.specs.Prelude.{slice_get}
+use Rattle.std.proofs.Common.{inr, refl, sym, subst, ap, ◌∙◌, if◌then◌else◌}
+use Rattle.std.specs.Prelude.{Option, slice_get, IfSome, MatchOption}
 use Rattle.std.specs.Str.{bytes_eq}
 use Rattle.std.proofs.Math.Seq.{drop-cons}
 use Rattle.std.proofs.lemmas.Slice.Eq.{bytes_eq-Decides}
 use Rattle.cord_script.specs.declared.kinds.Kind.{Kind}
 use Rattle.cord_script.specs.declared.table.Known.{Known}
 use Rattle.cord_script.specs.Script.{kind_of}
-use Rattle.cord_script.specs.Tables.{AreFirst}
+use Rattle.cord_script.specs.Tables.{AreFirst, AreNames}
+use Rattle.cord_script.specs.Tests.{is_name}
 
 pub same_bytes : (x y : List ℕ) → bytes_eq x y ≡ true → x ≡ y
 same_bytes x y e = (bytes_eq-Decides x y).0 e
@@ -68,3 +69,24 @@ first_push names last first new i entry e = by_place (at_push names last i entry
     by_place : (slice_get names i ≡ Some entry) ⊎ (last ≡ entry) → kind_of (names ++ last ∷ []) entry.name ≡ Some entry.kind
     by_place (inl at) = kept names (last ∷ []) entry.name entry.kind (first i entry at)
     by_place (inr is) = rw (← is) (added names (last ∷ []) last.name new ∙ own)
+
+-- a name that is known is a name
+pub known_name : (names : List Known) (name : List ℕ) (kind : Kind) → AreNames names → kind_of names name ≡ Some kind →
+    is_name name ≡ true
+known_name [] name kind h e = let bad : ⊥ = cc in absurd bad
+known_name (k ∷ ks) name kind h e = by_name (bytes_eq k.name name) refl e (λ d. known_name ks name kind h.1 d)
+  where
+    by_name : (b : Bool) → bytes_eq k.name name ≡ b → (if b then Some k.kind else kind_of ks name) ≡ Some kind →
+        (kind_of ks name ≡ Some kind → is_name name ≡ true) → is_name name ≡ true
+    by_name true same e ih = subst (λ n. is_name n ≡ true) (same_bytes k.name name same) h.0
+    by_name false same e ih = ih e
+
+-- what follows where something is found
+pub some_by : {X : Type 0} (o : Option X) (A P : Type 0) (B : X → Type 0) → ((x : X) → B x → P) → MatchOption o A B → IfSome o (λ _. P)
+some_by None A P B f h = tt
+some_by (Some x) A P B f h = f x h
+
+-- one more name
+pub names_push : (names : List Known) (last : Known) → AreNames names → is_name last.name ≡ true → AreNames (names ++ last ∷ [])
+names_push [] last h e = (e, tt)
+names_push (k ∷ ks) last h e = (h.0, names_push ks last h.1 e)

@@ -3,6 +3,7 @@ ghost use Rattle.std.specs.Prelude.{◌≡◌, map, IfErr, OnOk};
 ghost use Rattle.cord_script.specs.Script.{start, is_among, with_path, names_after, paths_after};
 ghost use Rattle.cord_script.specs.inner.ContextViews.{before_of, operand_term_flaw, target_term_flaw, path_term_flaw};
 ghost use Rattle.cord_script.specs.inner.ContextViews.{term_flaw, first_term, terms_flaw};
+ghost use Rattle.cord_script.specs.inner.Contexts.{AreNamed};
 ghost use Rattle.cord_script.specs.inner.Fields.{term_of};
 
 use crate::blocks::Open;
@@ -136,6 +137,7 @@ pub fn names_flaw(context: &Context, fields: &[Field]) -> Option<RefusalKind>
 
 /// Adds the names that a line assigns.
 pub fn add_names(names: &mut Table, fields: &[Field]) -> Result<(), RefusalKind>
+    requires { AreNamed (map term_of fields.now) }
     ensures names { OnOk result (names.new ≡ names_after (map term_of fields.now) names.old) }
     ensures flaw { IfErr result (λ kind. kind ≡ RefusalKind.NoMemory) }
 {

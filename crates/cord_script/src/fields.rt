@@ -10,7 +10,7 @@ ghost use Rattle.cord_script.specs.inner.Fields.{IsField, is_path_text, is_no_ze
 ghost use Rattle.cord_script.specs.inner.Settled.{IsSettled};
 
 use crate::kinds::{Kind, Want};
-use crate::names::{has_kind, is_name};
+use crate::names::has_kind;
 use crate::numerals::{is_digit, numeral_of};
 use crate::table::Table;
 use crate::words::Word;
@@ -48,9 +48,6 @@ fn name_of(alloc: Global, names: &Table, word: Word) -> Result<(Name, Option<Kin
     let Word::Plain(name) = word else {
         return Err(RefusalKind::BadName);
     };
-    if !is_name(name.as_slice()) {
-        return Err(RefusalKind::BadName);
-    }
     Ok(names.name_of(alloc, name.as_slice())?)
 }
 
@@ -78,9 +75,6 @@ fn number_of(alloc: Global, names: &Table, word: Word) -> Result<(Number, bool),
             None => Err(RefusalKind::BadNumber),
             Some(value) => Ok((Number::Numeral(value), true)),
         };
-    }
-    if !is_name(name.as_slice()) {
-        return Err(RefusalKind::BadName);
     }
     let (name, has) = names.name_of(alloc, name.as_slice())?;
     Ok((Number::Named(name), has_kind(has, Kind::Number)))

@@ -5,7 +5,7 @@ ghost use Rattle.cord_script.specs.Script.{Before, whole};
 ghost use Rattle.cord_script.specs.inner.ContextViews.{before_of, terms_flaw};
 ghost use Rattle.cord_script.specs.inner.Settled.{AreSettled};
 ghost use Rattle.cord_script.specs.inner.Fields.{IsChecked, term_of};
-ghost use Rattle.cord_script.specs.inner.Contexts.{context_after, SaysAfter};
+ghost use Rattle.cord_script.specs.inner.Contexts.{context_after, SaysAfter, AreNamed};
 ghost use Rattle.cord_script.specs.inner.Verbal.{verb_form, verb_word};
 
 use crate::blocks::{block_flaw, set_blocks};
@@ -63,7 +63,8 @@ fn leave(
     settled: bool,
     fields: &[Field],
 ) -> Result<(), RefusalKind>
-    requires { AreSettled settled context.old.names fields.now }
+    requires settled { AreSettled settled context.old.names fields.now }
+    requires named { AreNamed (map term_of fields.now) }
     ensures context { OnOk result (before_of context.new ≡ context_after verb number fields.now (before_of context.old)) }
     ensures flaw { IfErr result (λ kind. kind ≡ RefusalKind.NoMemory) }
 {

@@ -1,12 +1,15 @@
 // The names that the lines before assign.
-ghost use Rattle.std.specs.Prelude.{◌≡◌, ◌<◌, [], ◌∷◌, ◌++◌, Some, None, length, IfErr, IfOk, IfSome, MatchOption};
-ghost use Rattle.std.specs.Prelude.{OnOk};
+ghost use Rattle.std.specs.Prelude.{◌≡◌, ◌≢◌, ◌<◌, [], ◌∷◌, ◌++◌, true, Some, None, length, IfErr, IfOk, IfSome};
+ghost use Rattle.std.specs.Prelude.{MatchOption, OnOk};
+ghost use Rattle.cord_script.specs.Tests.{is_name};
 ghost use Rattle.cord_script.specs.Script.{kind_of, with_name};
+ghost use Rattle.cord_script.specs.Flaws.{unless};
 
 use crate::kinds::Kind;
+use crate::names::is_name;
 use crate::words::is_same;
 use crate::{Name, RefusalKind};
-use std::alloc::{AllocError, Global};
+use std::alloc::Global;
 use std::marker::Model;
 
 /// The number of slots that guess the place of a name.
@@ -39,13 +42,13 @@ pub struct Table {
 impl Model for Table {
     ghost use Rattle.std.specs.Prelude.{List};
     ghost use Rattle.cord_script.specs.declared.table.Known.{Known};
-    ghost use Rattle.cord_script.specs.Tables.{AreFirst};
+    ghost use Rattle.cord_script.specs.Tables.{IsTable};
 
     ghost Value = { List Known };
 
     ghost view = { λ t. t.known.items };
 
-    ghost invariant = { λ t. AreFirst t.known.items };
+    ghost invariant = { λ t. IsTable t.known.items };
 }
 
 // The slot of a name.
@@ -121,14 +124,16 @@ impl Table {
         None
     }
 
-    // The first entry with the name.
+    // The first entry with the name. What is known is a name.
     fn find(&self, name: &[u8]) -> Option<&Known>
-        ensures { MatchOption result (kind_of self.now name.now ≡ None) (λ found. (found.now.name ≡ name.now) ×
+        ensures entry { MatchOption result (kind_of self.now name.now ≡ None) (λ found. (found.now.name ≡ name.now) ×
             (kind_of self.now name.now ≡ Some found.now.kind)) }
+        ensures is_name { IfSome result (λ found. is_name name.now ≡ true) }
     {
+        let known = self.known.as_slice();
         match self.guessed(name) {
             Some(entry) => Some(entry),
-            None => search(&self.known, name),
+            None => search(known, name),
         }
     }
 
@@ -142,15 +147,22 @@ impl Table {
         }
     }
 
-    /// The name of these bytes, which it shares with the table where it is known, and the kind that it has there.
-    pub fn name_of(&self, alloc: Global, bytes: &[u8]) -> Result<(Name, Option<Kind>), AllocError>
+    /// The name of these bytes, which it shares with the table where it is known, and the kind that it has there. Bytes that
+    /// are known are a name, so that only others are looked at once more.
+    pub fn name_of(&self, alloc: Global, bytes: &[u8]) -> Result<(Name, Option<Kind>), RefusalKind>
         ensures name { IfOk result (λ r. r.0 ≡ bytes.now) }
+        ensures is_name { IfOk result (λ r. is_name bytes.now ≡ true) }
         ensures kind { IfOk result (λ r. IfSome r.1 (λ kind. kind_of self.now bytes.now ≡ Some kind)) }
+        ensures flaw { IfErr result (λ kind. kind ≢ RefusalKind.NoMemory →
+            unless (is_name bytes.now) RefusalKind.BadName ≡ Some kind) }
     {
-        match self.find(bytes) {
-            Some(entry) => Ok((entry.name.clone()?, Some(entry.kind))),
-            None => Ok((Name::of(alloc, bytes)?, None)),
+        if let Some(entry) = self.find(bytes) {
+            return Ok((entry.name.clone()?, Some(entry.kind)));
         }
+        if !is_name(bytes) {
+            return Err(RefusalKind::BadName);
+        }
+        Ok((Name::of(alloc, bytes)?, None))
     }
 
     // Leads the name's slot, or the first free one after it, to a place.
@@ -172,6 +184,7 @@ impl Table {
 
     /// Adds a name, if it is new.
     pub fn assign(&mut self, name: &Name, kind: Kind) -> Result<(), RefusalKind>
+        requires { is_name name.now ≡ true }
         ensures names { OnOk result (self.new ≡ with_name self.old name.now kind) }
         ensures flaw { IfErr result (λ e. e ≡ RefusalKind.NoMemory) }
     {
@@ -183,7 +196,8 @@ impl Table {
 
     // Adds a name that is new.
     fn push(&mut self, name: &Name, kind: Kind) -> Result<(), RefusalKind>
-        requires { kind_of self.old name.now ≡ None }
+        requires new { kind_of self.old name.now ≡ None }
+        requires is_name { is_name name.now ≡ true }
         ensures names { OnOk result (self.new ≡ self.old ++ record { name = name.now; kind = kind } ∷ []) }
         ensures flaw { IfErr result (λ e. e ≡ RefusalKind.NoMemory) }
     {

@@ -1,11 +1,12 @@
-use Rattle.std.proofs.Common.{◌∙◌, refl, sym, ap, subst}
+use Rattle.std.proofs.Common.{◌∙◌, refl, sym, ap, subst, map}
 use Rattle.std.proofs.lemmas.Result.{err_from_is_err_and}
 use Rattle.cord_script.specs.inner.ContextViews.{before_of}
 use Rattle.cord_script.specs.inner.Settled.{AreSettled}
-use Rattle.cord_script.specs.inner.Contexts.{context_after}
+use Rattle.cord_script.specs.inner.Contexts.{context_after, AreNamed}
 use Rattle.cord_script.specs.inner.Built.{AreFieldsOf}
 use Rattle.cord_script.specs.inner.Verbal.{verb_word}
-use Rattle.cord_script.proofs.Contexts.{said, bad_words}
+use Rattle.cord_script.specs.inner.Fields.{term_of}
+use Rattle.cord_script.proofs.Contexts.{said, bad_words, terms_named}
 use Rattle.cord_script.proofs.Built.{fields_suit}
 use Rattle.cord_script.proofs.line.read_statement.Goals as goal
 
@@ -29,7 +30,13 @@ returns-clause-said c =
     let words = c.in-Some.ensures in
     said verb c.args.number old (before_of c.leave.new.context) (verb_word verb) c.args.words.now.items c.verb_in.new.words.items found.fields.items found.format c.of.result c.statement_of.result words refl c.in_ok-fields.ensures.fields context c.of.ensures c.statement_of.ensures.statement
 
-pub leave-requires : goal.leave-requires
-leave-requires c =
+pub leave-requires-clause-settled : goal.leave-requires-clause-settled
+leave-requires-clause-settled c =
     let found = c.in_ok-fields.field-0 in
     subst (AreSettled found.settled c.args.context.now.names) (sym c.deref.ensures.value) c.in_ok-fields.ensures.settled
+
+pub leave-requires-clause-named : goal.leave-requires-clause-named
+leave-requires-clause-named c =
+    let found = c.in_ok-fields.field-0 in
+    subst (λ ps. AreNamed (map term_of ps)) (sym c.deref.ensures.value)
+    (terms_named c.verb_in.new.words.items (map term_of found.fields.items) c.in_ok-fields.ensures.fields.says.terms)

@@ -12,4 +12,4 @@ returns-in-Some c =
     let there = slice_get_read c.deref.result.now (length c.deref.result.now) c.args.place entry refl found.3.0 found.1 in
     let at = subst (λ names. slice_get names c.args.place ≡ Some entry) (c.deref.ensures.value ∙ c.self.view_is) there in
     let same : entry.name ≡ c.args.name.now = sym c.as_slice.ensures ∙ same_bytes c.as_slice.result.now c.args.name.now (sym c.is_same.ensures ∙ c.if-is_same.true) in
-    (same, kind_at c.args.self.now c.args.place entry c.args.name.now (subst AreFirst c.self.view_is c.self.invariant) at same)
+    (same, kind_at c.args.self.now c.args.place entry c.args.name.now (subst AreFirst c.self.view_is c.self.invariant.0) at same)

@@ -1,8 +1,8 @@
 use Rattle.std.proofs.Common.{◌≡◌, ◌∷◌, ◌++◌, [], None, sym, subst, rules}
 use Rattle.cord_script.specs.declared.table.Known.{Known}
 use Rattle.cord_script.specs.Script.{kind_of}
-use Rattle.cord_script.specs.Tables.{AreFirst}
-use Rattle.cord_script.proofs.Firsts.{first_push}
+use Rattle.cord_script.specs.Tables.{IsTable}
+use Rattle.cord_script.proofs.Firsts.{first_push, names_push}
 use Rattle.cord_script.proofs.table.Table.push.Goals as goal
 
 pub invariant_of-self-2 : goal.invariant_of-self-2
@@ -10,4 +10,8 @@ invariant_of-self-2 c =
     let last : Known = record { name = c.args.name.now; kind = c.args.kind } in
     let is : c.push.new.self.items ≡ c.self.inside.known.items ++ last ∷ [] = search rules in
     let new : kind_of c.self.inside.known.items last.name ≡ None = search rules in
-    subst AreFirst (sym is) (first_push c.self.inside.known.items last c.self.invariant new)
+    let known = c.self.invariant in
+    subst IsTable (sym is) (
+      first_push c.self.inside.known.items last known.0 new,
+      names_push c.self.inside.known.items last known.1 c.requires.is_name,
+    )
