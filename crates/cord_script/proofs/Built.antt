@@ -143,3 +143,8 @@ pub fields_suit : (v : Verb) (ws : List Word) (ps : List Field) (format : Option
 fields_suit verbs.Catn ws ps format h = joined_fields ws (map term_of ps) h.count h.wanted h.terms
 fields_suit verbs.Sprintf ws ps format h = printed_fields ws (map term_of ps) format h.count h.has h.fit h.wanted h.terms
 fields_suit _ ws ps format h = sym h.wanted
+
+-- where nothing is wanted, nothing is left
+pub none_left : (ts : List Term) → map want_of ts ≡ [] → [] ≡ ts
+none_left [] h = refl
+none_left (t ∷ ts) h = cc

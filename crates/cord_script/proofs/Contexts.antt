@@ -1,6 +1,6 @@
 -- What a statement says after the lines before it.
-use Rattle.std.proofs.Common.{Some, Ok, Err, ◌≡◌, ℕ, List, [], ◌∷◌, map, refl, sym, ◌∙◌, ap, subst}
-use Rattle.std.specs.Prelude.{Option, Result, IfOk}
+use Rattle.std.proofs.Common.{Some, ◌≡◌, ℕ, List, [], ◌∷◌, map, refl, sym, ◌∙◌, ap, subst}
+use Rattle.std.specs.Prelude.{Option}
 use Rattle.cord_printf.specs.declared.pieces.Piece.{Piece}
 use Rattle.cord_script.specs.declared.verbs.Verb.{Verb}
 use Rattle.cord_script.specs.declared.fields.Field.{Field}
@@ -71,13 +71,11 @@ says v n old new word words others ps format s e spelled checked left named line
     }
 
 -- the statement of words that were checked
-pub said : (v : Verb) (n : ℕ) (old new : Before) (word : List ℕ) (words others : List Word) (ps : List Field) (format : Option (List Piece))
-    (ts : List Term) (r : Result Statement RefusalKind) → words ≡ Plain word ∷ others → word ≡ verb_word v →
-    IsChecked (verb_form v) old others ps format → new ≡ context_after v n ps old → ts ≡ map term_of ps →
-    IfOk r (IsStatementOf v n ts) → IfOk r (SaysAfter n old new words)
-said v n old new word words others ps format ts (Ok s) e spelled checked left same is =
-    says v n old new word words others ps format s e spelled checked left is.0 is.1 (is.2 ∙ same) is.3
-said v n old new word words others ps format ts (Err kind) e spelled checked left same is = tt
+pub said : (v : Verb) (n : ℕ) (old new : Before) (words others : List Word) (ps : List Field) (format : Option (List Piece))
+    (ts : List Term) (s : Statement) → words ≡ Plain (verb_word v) ∷ others → IsChecked (verb_form v) old others ps format →
+    new ≡ context_after v n ps old → ts ≡ map term_of ps → IsStatementOf v n ts s → SaysAfter n old new words s
+said v n old new words others ps format ts s e checked left same is =
+    says v n old new (verb_word v) words others ps format s e refl checked left is.0 is.1 (is.2 ∙ same) is.3
 
 -- what is wrong with the words after a verb is wrong with all words
 pub bad_words : (v : Verb) (old : Before) (words others : List Word) (kind : RefusalKind) → words ≡ Plain (verb_word v) ∷ others →

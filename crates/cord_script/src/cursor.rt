@@ -53,6 +53,13 @@ impl FieldCursor {
         }
     }
 
+    /// What is left, in the buffer of all.
+    pub fn into_buffer(self) -> Vec<Field>
+        ensures { map term_of result.items ≡ self }
+    {
+        Vec::from(self.rest)
+    }
+
     /// The target, of this kind.
     pub fn target(&mut self, kind: Kind) -> Name
         requires { next_want (map want_of self.old) ≡ Some (Want.Target kind) }
@@ -140,9 +147,9 @@ impl FieldCursor {
     }
 
     /// The fields that are left, each the name of a cord.
-    pub fn cords(mut self, alloc: Global) -> Result<Names, RefusalKind>
-        requires { are_cords (map want_of self) ≡ true }
-        ensures names { IfOk result (λ names. self ≡ map (Operand Kind.Cord) names) }
+    pub fn cords(&mut self, alloc: Global) -> Result<Names, RefusalKind>
+        requires { are_cords (map want_of self.old) ≡ true }
+        ensures names { IfOk result (λ names. self.old ≡ map (Operand Kind.Cord) names) }
         ensures flaw { IfErr result (λ kind. kind ≡ RefusalKind.NoMemory) }
     {
         let mut names = Vec::new(alloc);
@@ -154,9 +161,9 @@ impl FieldCursor {
     }
 
     /// The fields that are left, each an argument of a format.
-    pub fn arguments(mut self, alloc: Global) -> Result<Arguments, RefusalKind>
-        requires { are_arguments (map want_of self) ≡ true }
-        ensures arguments { IfOk result (λ arguments. self ≡ map argument_term arguments) }
+    pub fn arguments(&mut self, alloc: Global) -> Result<Arguments, RefusalKind>
+        requires { are_arguments (map want_of self.old) ≡ true }
+        ensures arguments { IfOk result (λ arguments. self.old ≡ map argument_term arguments) }
         ensures flaw { IfErr result (λ kind. kind ≡ RefusalKind.NoMemory) }
     {
         let mut arguments = Vec::new(alloc);

@@ -1,5 +1,5 @@
 // What the words after a statement's word say.
-ghost use Rattle.std.specs.Prelude.{◌≡◌, ◌≢◌, ◌≤◌, true, length, map, IfOk, IfErr, OnOk};
+ghost use Rattle.std.specs.Prelude.{◌≡◌, ◌≢◌, ◌≤◌, [], true, length, map, IfOk, IfErr, OnOk};
 ghost use Rattle.cord_script.specs.Forms.Shape.{Words, Joined, Printed};
 ghost use Rattle.cord_script.specs.Formats.{want_of_kind, wants_of_pieces};
 ghost use Rattle.cord_script.specs.Flaws.{first_pair, misfit};
@@ -18,9 +18,10 @@ use crate::{MAX_PARTS, MIN_PARTS, RefusalKind};
 use cord_printf::{ArgKind, Format, FormatError, Piece};
 use std::alloc::Global;
 use std::collections::VecDeque;
+use std::mem;
 
-/// The fields of a statement, what the text of a `sprintf` is read as, and whether all fields are settled: none is a path, and
-/// each name is known and of its kind.
+/// The fields of a statement, what the text of a `sprintf` is read as, and whether all fields are settled: none is
+/// a path, and each name is known and of its kind.
 #[derive(Drop)]
 pub struct FieldList {
     pub fields: Vec<Field>,
@@ -72,6 +73,15 @@ fn take_fields(
     Ok(settled)
 }
 
+// A list without fields, in the buffer, which is left without memory.
+fn emptied(alloc: Global, buffer: &mut Vec<Field>) -> Vec<Field>
+    ensures { result.items ≡ [] }
+{
+    let mut fields = mem::replace(buffer, Vec::new(alloc));
+    fields.clear();
+    fields
+}
+
 // Takes all words, one for each want.
 fn take_all(
     alloc: Global,
@@ -100,6 +110,7 @@ fn plain_fields(
     names: &Table,
     wants: &[Want],
     words: &mut VecDeque<Word>,
+    buffer: &mut Vec<Field>,
 ) -> Result<FieldList, RefusalKind>
     ensures fields { IfOk result (λ list. AreFields (Words wants.now) words.old.items list.fields.items
         list.format) }
@@ -107,7 +118,7 @@ fn plain_fields(
     ensures flaw { IfErr result (λ kind. kind ≢ RefusalKind.NoMemory →
         HasFieldFlaw (Words wants.now) words.old.items kind) }
 {
-    let mut fields = Vec::with_capacity(alloc, wants.len())?;
+    let mut fields = emptied(alloc, buffer);
     let settled = take_all(alloc, names, wants, words, &mut fields)?;
     Ok(FieldList {
         fields,
@@ -121,6 +132,7 @@ fn joined_fields(
     alloc: Global,
     names: &Table,
     words: &mut VecDeque<Word>,
+    buffer: &mut Vec<Field>,
 ) -> Result<FieldList, RefusalKind>
     ensures fields { IfOk result (λ list. AreFields Joined words.old.items list.fields.items list.format) }
     ensures settled { IfOk result (λ list. AreSettled list.settled names.now list.fields.items) }
@@ -130,7 +142,7 @@ fn joined_fields(
     if count < 1 + MIN_PARTS || count > 1 + MAX_PARTS {
         return Err(RefusalKind::WrongCount);
     }
-    let mut fields = Vec::with_capacity(alloc, count)?;
+    let mut fields = emptied(alloc, buffer);
     let target = take_fields(alloc, names, &TARGET, words, &mut fields)?;
     let cords = take_fields(alloc, names, &CORDS[..count - 1], words, &mut fields)?;
     Ok(FieldList {
@@ -183,6 +195,7 @@ fn printed_fields(
     alloc: Global,
     names: &Table,
     words: &mut VecDeque<Word>,
+    buffer: &mut Vec<Field>,
 ) -> Result<FieldList, RefusalKind>
     ensures fields { IfOk result (λ list. AreFields Printed words.old.items list.fields.items list.format) }
     ensures settled { IfOk result (λ list. AreSettled list.settled names.now list.fields.items) }
@@ -193,7 +206,7 @@ fn printed_fields(
     }
     // Before `take_fields` takes the text.
     let read = format_in(alloc, words)?;
-    let mut fields = Vec::new(alloc);
+    let mut fields = emptied(alloc, buffer);
     let front = take_fields(alloc, names, &FORMAT, words, &mut fields)?;
     let Some(format) = read else {
         return Err(RefusalKind::BadFormat);
@@ -207,12 +220,14 @@ fn printed_fields(
     })
 }
 
-/// The fields of the words after a verb.
+/// The fields of the words after a verb. They take the buffer of an earlier line, so that most lines take no memory
+/// for them.
 pub fn fields_of(
     alloc: Global,
     names: &Table,
     verb: Verb,
     words: &mut VecDeque<Word>,
+    buffer: &mut Vec<Field>,
 ) -> Result<FieldList, RefusalKind>
     ensures fields { IfOk result (λ list. AreFields (verb_shape verb) words.old.items list.fields.items
         list.format) }
@@ -221,8 +236,8 @@ pub fn fields_of(
         HasFieldFlaw (verb_shape verb) words.old.items kind) }
 {
     match verb {
-        Verb::Catn => joined_fields(alloc, names, words),
-        Verb::Sprintf => printed_fields(alloc, names, words),
-        _ => plain_fields(alloc, names, wants_of(verb), words),
+        Verb::Catn => joined_fields(alloc, names, words, buffer),
+        Verb::Sprintf => printed_fields(alloc, names, words, buffer),
+        _ => plain_fields(alloc, names, wants_of(verb), words, buffer),
     }
 }

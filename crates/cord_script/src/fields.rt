@@ -170,8 +170,8 @@ fn relation_of(word: &Word) -> Result<Relation, RefusalKind>
     Err(RefusalKind::BadName)
 }
 
-/// What a word says where this is wanted, or what is wrong with it; and whether it is settled: it is no path, and a name in
-/// it is known and of its kind.
+/// What a word says where this is wanted, or what is wrong with it; and whether it is settled: it is no path, and
+/// a name in it is known and of its kind.
 pub fn field_of(
     alloc: Global,
     names: &Table,

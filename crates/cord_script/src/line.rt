@@ -38,6 +38,7 @@ fn checked_fields(
     context: &Context,
     verb: Verb,
     words: &mut VecDeque<Word>,
+    buffer: &mut Vec<Field>,
 ) -> Result<FieldList, RefusalKind>
     ensures fields { IfOk result (λ list. IsChecked (verb_form verb)
         (before_of context.now) words.old.items list.fields.items list.format) }
@@ -45,7 +46,7 @@ fn checked_fields(
         HasFormFlaw (before_of context.now) (Some (verb_form verb)) words.old.items kind) }
     ensures settled { IfOk result (λ list. AreSettled list.settled context.now.names list.fields.items) }
 {
-    let list = fields_of(alloc, &context.names, verb, words)?;
+    let list = fields_of(alloc, &context.names, verb, words, buffer)?;
     if let Some(kind) = unsettled_flaw(context, list.settled, &list.fields) {
         return Err(kind);
     }
@@ -65,7 +66,8 @@ fn leave(
 ) -> Result<(), RefusalKind>
     requires settled { AreSettled settled context.old.names fields.now }
     requires named { AreNamed (map term_of fields.now) }
-    ensures context { OnOk result (before_of context.new ≡ context_after verb number fields.now (before_of context.old)) }
+    ensures context { OnOk result (before_of context.new
+        ≡ context_after verb number fields.now (before_of context.old)) }
     ensures flaw { IfErr result (λ kind. kind ≡ RefusalKind.NoMemory) }
 {
     if settled {
@@ -89,12 +91,13 @@ fn verb_in(words: &mut VecDeque<Word>) -> Option<Verb>
     }
 }
 
-/// The statement that words say after the lines before, and what it leaves.
+/// The statement that words say after the lines before, and what it leaves. The buffer of its fields is given back.
 pub fn read_statement(
     alloc: Global,
     number: u32,
     context: &mut Context,
     words: &mut VecDeque<Word>,
+    buffer: &mut Vec<Field>,
 ) -> Result<Statement, RefusalKind>
     requires { words.old.items ≢ [] }
     ensures said { IfOk result (SaysAfter number (before_of context.old) (before_of context.new) words.old.items) }
@@ -108,7 +111,10 @@ pub fn read_statement(
         fields,
         format,
         settled,
-    } = checked_fields(alloc, context, verb, words)?;
+    } = checked_fields(alloc, context, verb, words, buffer)?;
     leave(verb, number, context, settled, &fields)?;
-    statement_of(alloc, verb, number, format, FieldCursor::of(fields))
+    let mut cursor = FieldCursor::of(fields);
+    let statement = statement_of(alloc, verb, number, format, &mut cursor)?;
+    *buffer = cursor.into_buffer();
+    Ok(statement)
 }

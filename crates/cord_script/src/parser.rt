@@ -10,6 +10,7 @@ ghost use Rattle.cord_script.specs.inner.Steps.{Tells, Takes, HasWrong};
 
 use crate::blocks::open_flaw;
 use crate::context::Context;
+use crate::fields::Field;
 use crate::line::read_statement;
 use crate::words::{Word, blanks, head, tail, uncons, words_of};
 use crate::{MAX_LINES, MAX_SCRIPT, Refusal, RefusalKind, Script, Statement};
@@ -45,6 +46,7 @@ fn line_statement<'a>(
     number: u32,
     line: &'a [u8],
     words: &mut VecDeque<Word<'a>>,
+    buffer: &mut Vec<Field>,
     context: &mut Context,
 ) -> Result<Option<Statement>, RefusalKind>
     ensures tells { IfOk result (Tells number line.now (before_of context.old) (before_of context.new)) }
@@ -54,7 +56,7 @@ fn line_statement<'a>(
         return Ok(None);
     }
     words_of(alloc, line, words)?;
-    let statement = read_statement(alloc, number, context, words)?;
+    let statement = read_statement(alloc, number, context, words, buffer)?;
     Ok(Some(statement))
 }
 
@@ -73,6 +75,7 @@ fn take_line<'a>(
     number: u32,
     line: &'a [u8],
     words: &mut VecDeque<Word<'a>>,
+    buffer: &mut Vec<Field>,
     context: &mut Context,
     statements: &mut Vec<Statement>,
 ) -> Result<(), RefusalKind>
@@ -80,7 +83,7 @@ fn take_line<'a>(
         statements.new.items) }
     ensures flaw { IfErr result (λ kind. kind ≢ RefusalKind.NoMemory → HasWrong line.now (before_of context.old) kind) }
 {
-    let Some(statement) = line_statement(alloc, number, line, words, context)? else {
+    let Some(statement) = line_statement(alloc, number, line, words, buffer, context)? else {
         return Ok(());
     };
     add(statements, statement)
@@ -111,6 +114,7 @@ pub fn parse(alloc: Global, script: &[u8]) -> Result<Script, Refusal>
     }
     let mut statements = Vec::new(alloc);
     let mut words = VecDeque::new(alloc);
+    let mut buffer = Vec::new(alloc);
     let mut context = Context::nothing(alloc);
     let mut rest = script;
     let mut number = 1u32;
@@ -127,6 +131,7 @@ pub fn parse(alloc: Global, script: &[u8]) -> Result<Script, Refusal>
             number,
             line,
             &mut words,
+            &mut buffer,
             &mut context,
             &mut statements,
         ) {

@@ -1,4 +1,6 @@
 // Statements of their fields, family by family.
+#![tactic(auto, using(crate::proofs::Built::none_left))]
+
 ghost use Rattle.std.specs.Prelude.{◌≡◌, map, IfOk, IfErr};
 ghost use Rattle.cord_script.specs.inner.Fields.{want_of};
 ghost use Rattle.cord_script.specs.inner.Verbal.{verb_wants};
@@ -12,9 +14,9 @@ use cord_printf::Format;
 use std::alloc::Global;
 
 // A statement that makes a cord of no other name's value.
-fn origin_of(verb: Origin, line: u32, mut fields: FieldCursor) -> Statement
-    requires { map want_of fields ≡ verb_wants (Verb.Origin verb) }
-    ensures { IsStatementOf (Verb.Origin verb) line fields result }
+fn origin_of(verb: Origin, line: u32, fields: &mut FieldCursor) -> Statement
+    requires { map want_of fields.old ≡ verb_wants (Verb.Origin verb) }
+    ensures { IsStatementOf (Verb.Origin verb) line fields.old result }
 {
     match verb {
         Origin::Let => Statement::Let {
@@ -47,9 +49,9 @@ fn origin_of(verb: Origin, line: u32, mut fields: FieldCursor) -> Statement
 }
 
 // A statement that makes a cord that an expression gives.
-fn joining_of(verb: Joining, line: u32, mut fields: FieldCursor) -> Statement
-    requires { map want_of fields ≡ verb_wants (Verb.Joining verb) }
-    ensures { IsStatementOf (Verb.Joining verb) line fields result }
+fn joining_of(verb: Joining, line: u32, fields: &mut FieldCursor) -> Statement
+    requires { map want_of fields.old ≡ verb_wants (Verb.Joining verb) }
+    ensures { IsStatementOf (Verb.Joining verb) line fields.old result }
 {
     match verb {
         Joining::Chars => Statement::Chars {
@@ -86,9 +88,9 @@ fn joining_of(verb: Joining, line: u32, mut fields: FieldCursor) -> Statement
 }
 
 // A statement that makes a cord anew of a cord or an extensible cord.
-fn anew_of(verb: Anew, line: u32, mut fields: FieldCursor) -> Statement
-    requires { map want_of fields ≡ verb_wants (Verb.Anew verb) }
-    ensures { IsStatementOf (Verb.Anew verb) line fields result }
+fn anew_of(verb: Anew, line: u32, fields: &mut FieldCursor) -> Statement
+    requires { map want_of fields.old ≡ verb_wants (Verb.Anew verb) }
+    ensures { IsStatementOf (Verb.Anew verb) line fields.old result }
 {
     match verb {
         Anew::Balance => Statement::Balance {
@@ -105,9 +107,9 @@ fn anew_of(verb: Anew, line: u32, mut fields: FieldCursor) -> Statement
 }
 
 // A statement that computes a number, which needs no byte.
-fn computation_of(verb: Computation, line: u32, mut fields: FieldCursor) -> Statement
-    requires { map want_of fields ≡ verb_wants (Verb.Computation verb) }
-    ensures { IsStatementOf (Verb.Computation verb) line fields result }
+fn computation_of(verb: Computation, line: u32, fields: &mut FieldCursor) -> Statement
+    requires { map want_of fields.old ≡ verb_wants (Verb.Computation verb) }
+    ensures { IsStatementOf (Verb.Computation verb) line fields.old result }
 {
     match verb {
         Computation::Len => Statement::Len {
@@ -136,9 +138,9 @@ fn computation_of(verb: Computation, line: u32, mut fields: FieldCursor) -> Stat
 }
 
 // A statement that looks at bytes.
-fn look_of(verb: Look, line: u32, mut fields: FieldCursor) -> Statement
-    requires { map want_of fields ≡ verb_wants (Verb.Look verb) }
-    ensures { IsStatementOf (Verb.Look verb) line fields result }
+fn look_of(verb: Look, line: u32, fields: &mut FieldCursor) -> Statement
+    requires { map want_of fields.old ≡ verb_wants (Verb.Look verb) }
+    ensures { IsStatementOf (Verb.Look verb) line fields.old result }
 {
     match verb {
         Look::Fetch => Statement::Fetch {
@@ -166,9 +168,9 @@ fn look_of(verb: Look, line: u32, mut fields: FieldCursor) -> Statement
 }
 
 // A statement that searches a cord.
-fn search_of(verb: Search, line: u32, mut fields: FieldCursor) -> Statement
-    requires { map want_of fields ≡ verb_wants (Verb.Search verb) }
-    ensures { IsStatementOf (Verb.Search verb) line fields result }
+fn search_of(verb: Search, line: u32, fields: &mut FieldCursor) -> Statement
+    requires { map want_of fields.old ≡ verb_wants (Verb.Search verb) }
+    ensures { IsStatementOf (Verb.Search verb) line fields.old result }
 {
     match verb {
         Search::Str => Statement::Str {
@@ -196,9 +198,9 @@ fn search_of(verb: Search, line: u32, mut fields: FieldCursor) -> Statement
 }
 
 // A statement that makes an extensible cord, or one that grows.
-fn growth_of(verb: Growth, line: u32, mut fields: FieldCursor) -> Statement
-    requires { map want_of fields ≡ verb_wants (Verb.Growth verb) }
-    ensures { IsStatementOf (Verb.Growth verb) line fields result }
+fn growth_of(verb: Growth, line: u32, fields: &mut FieldCursor) -> Statement
+    requires { map want_of fields.old ≡ verb_wants (Verb.Growth verb) }
+    ensures { IsStatementOf (Verb.Growth verb) line fields.old result }
 {
     match verb {
         Growth::EcInit => Statement::EcInit {
@@ -224,9 +226,9 @@ fn growth_of(verb: Growth, line: u32, mut fields: FieldCursor) -> Statement
 }
 
 // A statement that says which lines run next.
-fn control_of(verb: Control, line: u32, mut fields: FieldCursor) -> Statement
-    requires { map want_of fields ≡ verb_wants (Verb.Control verb) }
-    ensures { IsStatementOf (Verb.Control verb) line fields result }
+fn control_of(verb: Control, line: u32, fields: &mut FieldCursor) -> Statement
+    requires { map want_of fields.old ≡ verb_wants (Verb.Control verb) }
+    ensures { IsStatementOf (Verb.Control verb) line fields.old result }
 {
     match verb {
         Control::Repeat => Statement::Repeat {
@@ -245,9 +247,9 @@ fn control_of(verb: Control, line: u32, mut fields: FieldCursor) -> Statement
 }
 
 // A `put`.
-fn put_of(line: u32, mut fields: FieldCursor) -> Statement
-    requires { map want_of fields ≡ verb_wants Verb.Put }
-    ensures { IsStatementOf Verb.Put line fields result }
+fn put_of(line: u32, fields: &mut FieldCursor) -> Statement
+    requires { map want_of fields.old ≡ verb_wants Verb.Put }
+    ensures { IsStatementOf Verb.Put line fields.old result }
 {
     Statement::Put {
         line,
@@ -256,9 +258,9 @@ fn put_of(line: u32, mut fields: FieldCursor) -> Statement
 }
 
 // A `catn`.
-fn catn_of(alloc: Global, line: u32, mut fields: FieldCursor) -> Result<Statement, RefusalKind>
-    requires { IsJoined fields }
-    ensures statement { IfOk result (IsStatementOf Verb.Catn line fields) }
+fn catn_of(alloc: Global, line: u32, fields: &mut FieldCursor) -> Result<Statement, RefusalKind>
+    requires { IsJoined fields.old }
+    ensures statement { IfOk result (IsStatementOf Verb.Catn line fields.old) }
     ensures flaw { IfErr result (λ kind. kind ≡ RefusalKind.NoMemory) }
 {
     let target = fields.target(Kind::Cord);
@@ -275,10 +277,10 @@ fn sprintf_of(
     alloc: Global,
     line: u32,
     format: Option<Format>,
-    mut fields: FieldCursor,
+    fields: &mut FieldCursor,
 ) -> Result<Statement, RefusalKind>
-    requires { IsPrinted format fields }
-    ensures statement { IfOk result (IsStatementOf Verb.Sprintf line fields) }
+    requires { IsPrinted format fields.old }
+    ensures statement { IfOk result (IsStatementOf Verb.Sprintf line fields.old) }
     ensures flaw { IfErr result (λ kind. kind ≡ RefusalKind.NoMemory) }
 {
     let Some(format) = format else { unreachable!() };
@@ -300,10 +302,10 @@ pub fn statement_of(
     verb: Verb,
     line: u32,
     format: Option<Format>,
-    fields: FieldCursor,
+    fields: &mut FieldCursor,
 ) -> Result<Statement, RefusalKind>
-    requires { AreFieldsOf verb fields format }
-    ensures statement { IfOk result (IsStatementOf verb line fields) }
+    requires { AreFieldsOf verb fields.old format }
+    ensures statement { IfOk result (IsStatementOf verb line fields.old) }
     ensures flaw { IfErr result (λ kind. kind ≡ RefusalKind.NoMemory) }
 {
     match verb {

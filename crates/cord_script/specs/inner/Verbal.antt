@@ -74,8 +74,8 @@ verb_wants verbs.Sprintf = []
 verb_wants (verbs.Computation computations.Len) = wants.Target kinds.Number ∷ wants.Operand kinds.Cord ∷ []
 verb_wants (verbs.Look looks.Fetch) = wants.Target kinds.Number ∷ wants.Operand kinds.Cord ∷ wants.Number ∷ []
 verb_wants (verbs.Look looks.Cmp) = wants.Target kinds.Number ∷ wants.Operand kinds.Cord ∷ wants.Operand kinds.Cord ∷ []
-verb_wants (verbs.Look looks.Ncmp) = wants.Target kinds.Number ∷ wants.Operand kinds.Cord ∷ wants.Number ∷ wants.Operand kinds.Cord ∷ wants.Number
-    ∷ wants.Number ∷ []
+verb_wants (verbs.Look looks.Ncmp) = wants.Target kinds.Number ∷ wants.Operand kinds.Cord ∷ wants.Number ∷ wants.Operand kinds.Cord
+    ∷ wants.Number ∷ wants.Number ∷ []
 verb_wants (verbs.Search searches.Str) = wants.Target kinds.Number ∷ wants.Operand kinds.Cord ∷ wants.Number ∷ wants.Operand kinds.Cord ∷ []
 verb_wants (verbs.Search searches.Chr) = wants.Target kinds.Number ∷ wants.Operand kinds.Cord ∷ wants.Number ∷ wants.Number ∷ []
 verb_wants (verbs.Search searches.Rchr) = wants.Target kinds.Number ∷ wants.Operand kinds.Cord ∷ wants.Number ∷ wants.Number ∷ []

@@ -3,9 +3,9 @@ use Rattle.cord_script.proofs.Took.{all_taken}
 use Rattle.cord_script.proofs.field_lists.plain_fields.Goals as goal
 
 pub returns-clause-fields : goal.returns-clause-fields
-returns-clause-fields c = all_taken c.args.wants.now c.args.words.now.items c.take_all.new.words.items c.in_ok-fields.fields.items
-    c.take_all.new.fields.items c.in_ok-settled.ensures.count c.in_ok-fields.ensures.items c.in_ok-settled.ensures.taken
+returns-clause-fields c = all_taken c.args.wants.now c.args.words.now.items c.take_all.new.words.items c.emptied-fields.result.items
+    c.take_all.new.fields.items c.in_ok-settled.ensures.count c.emptied-fields.ensures c.in_ok-settled.ensures.taken
     c.in_ok-settled.ensures.fit
 
 pub returns-clause-settled : goal.returns-clause-settled
-returns-clause-settled c = λ h. c.in_ok-settled.ensures.settled h (none_settled c.args.names.now c.in_ok-fields.fields.items c.in_ok-fields.ensures.items)
+returns-clause-settled c = λ h. c.in_ok-settled.ensures.settled h (none_settled c.args.names.now c.emptied-fields.result.items c.emptied-fields.ensures)

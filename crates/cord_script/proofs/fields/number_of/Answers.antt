@@ -11,5 +11,7 @@ returns-in_err-name-clause-flaw c =
     let p = err_from_is_err_and c.from_residual.result c.from_residual.ensures.1 in
     let bytes = c.as_slice-2.ensures in
     let begins = sym (ap begins_numeral c.as_slice.ensures) ∙ sym c.begins_numeral.ensures ∙ c.if-begins_numeral.false in
-    let is = ap (λ b. if b then unless (is_some (numeral_of c.in-Plain.name)) BadNumber else unless (is_name c.in-Plain.name) BadName) begins in
-    rw (p.1, p.2) (λ n. ap number_misfit c.in-Plain.is ∙ is ∙ sym (ap (λ b. unless (is_name b) BadName) bytes) ∙ c.in_err-name.ensures.flaw n)
+    let word = c.in-Plain.name in
+    let is = ap (λ b. if b then unless (is_some (numeral_of word)) BadNumber else unless (is_name word) BadName) begins in
+    let same = sym (ap (λ b. unless (is_name b) BadName) bytes) in
+    rw (p.1, p.2) (λ n. ap number_misfit c.in-Plain.is ∙ is ∙ same ∙ c.in_err-name.ensures.flaw n)

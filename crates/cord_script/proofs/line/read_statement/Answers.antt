@@ -1,10 +1,9 @@
-use Rattle.std.proofs.Common.{◌∙◌, refl, sym, ap, subst, map}
+use Rattle.std.proofs.Common.{◌∙◌, sym, ap, subst, map}
 use Rattle.std.proofs.lemmas.Result.{err_from_is_err_and}
 use Rattle.cord_script.specs.inner.ContextViews.{before_of}
 use Rattle.cord_script.specs.inner.Settled.{AreSettled}
 use Rattle.cord_script.specs.inner.Contexts.{context_after, AreNamed}
 use Rattle.cord_script.specs.inner.Built.{AreFieldsOf}
-use Rattle.cord_script.specs.inner.Verbal.{verb_word}
 use Rattle.cord_script.specs.inner.Fields.{term_of}
 use Rattle.cord_script.proofs.Contexts.{said, bad_words, terms_named}
 use Rattle.cord_script.proofs.Built.{fields_suit}
@@ -19,7 +18,7 @@ returns-in_err-fields-clause-flaw c =
 pub statement_of-requires : goal.statement_of-requires
 statement_of-requires c =
     let found = c.in_ok-fields.field-0 in
-    subst (λ ts. AreFieldsOf c.in-Some.verb ts found.format) (sym c.of.ensures) (fields_suit c.in-Some.verb _ found.fields.items found.format c.in_ok-fields.ensures.fields.says)
+    subst (λ ts. AreFieldsOf c.in-Some.verb ts found.format) (sym c.of-cursor.ensures) (fields_suit c.in-Some.verb _ found.fields.items found.format c.in_ok-fields.ensures.fields.says)
 
 pub returns-clause-said : goal.returns-clause-said
 returns-clause-said c =
@@ -28,7 +27,9 @@ returns-clause-said c =
     let old = before_of c.args.context.now in
     let context = c.in_ok-leave.ensures.context ∙ ap (λ ps. context_after verb c.args.number ps old) c.deref.ensures.value in
     let words = c.in-Some.ensures in
-    said verb c.args.number old (before_of c.leave.new.context) (verb_word verb) c.args.words.now.items c.verb_in.new.words.items found.fields.items found.format c.of.result c.statement_of.result words refl c.in_ok-fields.ensures.fields context c.of.ensures c.statement_of.ensures.statement
+    said verb c.args.number old (before_of c.leave.new.context) c.args.words.now.items c.verb_in.new.words.items found.fields.items
+    found.format c.of-cursor.result c.in_ok-statement.statement words c.in_ok-fields.ensures.fields context c.of-cursor.ensures
+    c.in_ok-statement.ensures.statement
 
 pub leave-requires-clause-settled : goal.leave-requires-clause-settled
 leave-requires-clause-settled c =

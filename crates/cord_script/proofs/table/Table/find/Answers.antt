@@ -11,4 +11,5 @@ returns-in-Some-clause-is_name c =
 pub returns-in-None-clause-is_name : goal.returns-in-None-clause-is_name
 returns-in-None-clause-is_name c =
     let names = subst AreNames (sym c.as_slice-known.ensures.value) c.self.invariant.1 in
-    some_by c.search.result _ _ _ (λ found h. known_name c.as_slice-known.result.now c.args.name.now found.now.kind names h.1) c.search.ensures
+    some_by c.search.result _ _ _
+    (λ found h. known_name c.as_slice-known.result.now c.args.name.now found.now.kind names h.1) c.search.ensures
