@@ -13,8 +13,8 @@ use Rattle.cord_script.specs.declared.TheConstants.{MIN_PARTS, MAX_PARTS}
 use Rattle.cord_script.specs.declared.verbs.Verb.{Verb}
 use Rattle.cord_script.specs.declared.verbs.Verb.TheVariants as verbs
 use Rattle.cord_script.specs.declared.verbs.Origin.TheVariants as origins
-use Rattle.cord_script.specs.declared.verbs.Joining.TheVariants as joinings
-use Rattle.cord_script.specs.declared.verbs.Anew.TheVariants as anews
+use Rattle.cord_script.specs.declared.verbs.Composition.TheVariants as compositions
+use Rattle.cord_script.specs.declared.verbs.Derivation.TheVariants as derivations
 use Rattle.cord_script.specs.declared.verbs.Growth.TheVariants as growths
 use Rattle.cord_script.specs.declared.verbs.Computation.TheVariants as computations
 use Rattle.cord_script.specs.declared.verbs.Look.TheVariants as looks
@@ -285,22 +285,22 @@ filled (verbs.Origin origins.Eager) n ws formats has count fit = fixed n ws form
     (λ h. made (Eager n h.0 h.1.0) refl refl refl tt)
 filled (verbs.Origin origins.Lazy) n ws formats has count fit = fixed n ws formats count fit
     (λ h. made (Lazy n h.0 h.1.0) refl refl refl tt)
-filled (verbs.Joining joinings.Chars) n ws formats has count fit = fixed n ws formats count fit
+filled (verbs.Composition compositions.Chars) n ws formats has count fit = fixed n ws formats count fit
     (λ h. made (Chars n h.0 h.1.0 h.1.1.0) refl refl refl tt)
-filled (verbs.Joining joinings.Nul) n ws formats has count fit = fixed n ws formats count fit
+filled (verbs.Composition compositions.Nul) n ws formats has count fit = fixed n ws formats count fit
     (λ h. made (Nul n h.0 h.1.0) refl refl refl tt)
 filled (verbs.Origin origins.FromFn) n ws formats has count fit = fixed n ws formats count fit
     (λ h. made (FromFn n h.0 h.1.0 h.1.1.0) refl refl refl tt)
-filled (verbs.Joining joinings.Cat) n ws formats has count fit = fixed n ws formats count fit
+filled (verbs.Composition compositions.Cat) n ws formats has count fit = fixed n ws formats count fit
     (λ h. made (Cat n h.0 h.1.0 h.1.1.0) refl refl refl tt)
 filled verbs.Catn n ws formats has count fit = joined_filled n ws formats count fit
-filled (verbs.Joining joinings.Catc) n ws formats has count fit = fixed n ws formats count fit
+filled (verbs.Composition compositions.Catc) n ws formats has count fit = fixed n ws formats count fit
     (λ h. made (Catc n h.0 h.1.0 h.1.1.0) refl refl refl tt)
-filled (verbs.Joining joinings.Substr) n ws formats has count fit = fixed n ws formats count fit
+filled (verbs.Composition compositions.Substr) n ws formats has count fit = fixed n ws formats count fit
     (λ h. made (Substr n h.0 h.1.0 h.1.1.0 h.1.1.1.0) refl refl refl tt)
-filled (verbs.Anew anews.Balance) n ws formats has count fit = fixed n ws formats count fit
+filled (verbs.Derivation derivations.Balance) n ws formats has count fit = fixed n ws formats count fit
     (λ h. made (Balance n h.0 h.1.0) refl refl refl tt)
-filled (verbs.Anew anews.EcToCord) n ws formats has count fit = fixed n ws formats count fit
+filled (verbs.Derivation derivations.EcToCord) n ws formats has count fit = fixed n ws formats count fit
     (λ h. made (EcToCord n h.0 h.1.0) refl refl refl tt)
 filled verbs.Sprintf n ws formats has count fit = printed_filled n ws formats has count fit
 filled (verbs.Computation computations.Len) n ws formats has count fit = fixed n ws formats count fit

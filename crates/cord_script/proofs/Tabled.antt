@@ -5,8 +5,8 @@ use Rattle.std.specs.Str.{bytes_eq}
 use Rattle.cord_script.specs.declared.verbs.Verb.{Verb}
 use Rattle.cord_script.specs.declared.verbs.Verb.TheVariants as verbs
 use Rattle.cord_script.specs.declared.verbs.Origin.TheVariants as origins
-use Rattle.cord_script.specs.declared.verbs.Joining.TheVariants as joinings
-use Rattle.cord_script.specs.declared.verbs.Anew.TheVariants as anews
+use Rattle.cord_script.specs.declared.verbs.Composition.TheVariants as compositions
+use Rattle.cord_script.specs.declared.verbs.Derivation.TheVariants as derivations
 use Rattle.cord_script.specs.declared.verbs.Growth.TheVariants as growths
 use Rattle.cord_script.specs.declared.verbs.Computation.TheVariants as computations
 use Rattle.cord_script.specs.declared.verbs.Look.TheVariants as looks
@@ -32,15 +32,15 @@ form_found w =
     chosen_form (bytes_eq w (codes "file")) (verbs.Origin origins.File) _ _ _ refl (
     chosen_form (bytes_eq w (codes "eager")) (verbs.Origin origins.Eager) _ _ _ refl (
     chosen_form (bytes_eq w (codes "lazy")) (verbs.Origin origins.Lazy) _ _ _ refl (
-    chosen_form (bytes_eq w (codes "chars")) (verbs.Joining joinings.Chars) _ _ _ refl (
-    chosen_form (bytes_eq w (codes "nul")) (verbs.Joining joinings.Nul) _ _ _ refl (
+    chosen_form (bytes_eq w (codes "chars")) (verbs.Composition compositions.Chars) _ _ _ refl (
+    chosen_form (bytes_eq w (codes "nul")) (verbs.Composition compositions.Nul) _ _ _ refl (
     chosen_form (bytes_eq w (codes "fn")) (verbs.Origin origins.FromFn) _ _ _ refl (
-    chosen_form (bytes_eq w (codes "cat")) (verbs.Joining joinings.Cat) _ _ _ refl (
+    chosen_form (bytes_eq w (codes "cat")) (verbs.Composition compositions.Cat) _ _ _ refl (
     chosen_form (bytes_eq w (codes "catn")) verbs.Catn _ _ _ refl (
-    chosen_form (bytes_eq w (codes "catc")) (verbs.Joining joinings.Catc) _ _ _ refl (
-    chosen_form (bytes_eq w (codes "substr")) (verbs.Joining joinings.Substr) _ _ _ refl (
-    chosen_form (bytes_eq w (codes "balance")) (verbs.Anew anews.Balance) _ _ _ refl (
-    chosen_form (bytes_eq w (codes "ectocord")) (verbs.Anew anews.EcToCord) _ _ _ refl (
+    chosen_form (bytes_eq w (codes "catc")) (verbs.Composition compositions.Catc) _ _ _ refl (
+    chosen_form (bytes_eq w (codes "substr")) (verbs.Composition compositions.Substr) _ _ _ refl (
+    chosen_form (bytes_eq w (codes "balance")) (verbs.Derivation derivations.Balance) _ _ _ refl (
+    chosen_form (bytes_eq w (codes "ectocord")) (verbs.Derivation derivations.EcToCord) _ _ _ refl (
     chosen_form (bytes_eq w (codes "sprintf")) verbs.Sprintf _ _ _ refl (
     chosen_form (bytes_eq w (codes "len")) (verbs.Computation computations.Len) _ _ _ refl (
     chosen_form (bytes_eq w (codes "fetch")) (verbs.Look looks.Fetch) _ _ _ refl (
@@ -70,15 +70,15 @@ form_is verbs.Put = refl
 form_is (verbs.Origin origins.File) = refl
 form_is (verbs.Origin origins.Eager) = refl
 form_is (verbs.Origin origins.Lazy) = refl
-form_is (verbs.Joining joinings.Chars) = refl
-form_is (verbs.Joining joinings.Nul) = refl
+form_is (verbs.Composition compositions.Chars) = refl
+form_is (verbs.Composition compositions.Nul) = refl
 form_is (verbs.Origin origins.FromFn) = refl
-form_is (verbs.Joining joinings.Cat) = refl
+form_is (verbs.Composition compositions.Cat) = refl
 form_is verbs.Catn = refl
-form_is (verbs.Joining joinings.Catc) = refl
-form_is (verbs.Joining joinings.Substr) = refl
-form_is (verbs.Anew anews.Balance) = refl
-form_is (verbs.Anew anews.EcToCord) = refl
+form_is (verbs.Composition compositions.Catc) = refl
+form_is (verbs.Composition compositions.Substr) = refl
+form_is (verbs.Derivation derivations.Balance) = refl
+form_is (verbs.Derivation derivations.EcToCord) = refl
 form_is verbs.Sprintf = refl
 form_is (verbs.Computation computations.Len) = refl
 form_is (verbs.Look looks.Fetch) = refl

@@ -5,7 +5,9 @@ ghost use Rattle.cord_script.specs.Script.{whole};
 ghost use Rattle.cord_script.specs.inner.Verbal.{verb_word, verb_wants, verb_form, find_verb};
 
 use crate::kinds::{Kind, Want};
-use crate::verbs::{Anew, Computation, Control, Growth, Joining, Look, Origin, Search, Verb};
+use crate::verbs::{
+    Composition, Computation, Control, Derivation, Growth, Look, Origin, Search, Verb,
+};
 use crate::words::{is_same, uncons};
 
 // The verbs, in the order of the table of statements.
@@ -15,15 +17,15 @@ const VERBS: [Verb; 33] = [
     Verb::Origin(Origin::File),
     Verb::Origin(Origin::Eager),
     Verb::Origin(Origin::Lazy),
-    Verb::Joining(Joining::Chars),
-    Verb::Joining(Joining::Nul),
+    Verb::Composition(Composition::Chars),
+    Verb::Composition(Composition::Nul),
     Verb::Origin(Origin::FromFn),
-    Verb::Joining(Joining::Cat),
+    Verb::Composition(Composition::Cat),
     Verb::Catn,
-    Verb::Joining(Joining::Catc),
-    Verb::Joining(Joining::Substr),
-    Verb::Anew(Anew::Balance),
-    Verb::Anew(Anew::EcToCord),
+    Verb::Composition(Composition::Catc),
+    Verb::Composition(Composition::Substr),
+    Verb::Derivation(Derivation::Balance),
+    Verb::Derivation(Derivation::EcToCord),
     Verb::Sprintf,
     Verb::Computation(Computation::Len),
     Verb::Look(Look::Fetch),
@@ -46,10 +48,10 @@ const VERBS: [Verb; 33] = [
 ];
 
 const FROM_C: [Verb; 6] = [
-    Verb::Joining(Joining::Cat),
-    Verb::Joining(Joining::Catc),
+    Verb::Composition(Composition::Cat),
+    Verb::Composition(Composition::Catc),
     Verb::Catn,
-    Verb::Joining(Joining::Chars),
+    Verb::Composition(Composition::Chars),
     Verb::Look(Look::Cmp),
     Verb::Search(Search::Chr),
 ];
@@ -61,12 +63,12 @@ const FROM_E: [Verb; 8] = [
     Verb::Growth(Growth::EcStr),
     Verb::Growth(Growth::EcCat),
     Verb::Growth(Growth::EcInit),
-    Verb::Anew(Anew::EcToCord),
+    Verb::Derivation(Derivation::EcToCord),
     Verb::Origin(Origin::Eager),
 ];
 
 const FROM_S: [Verb; 5] = [
-    Verb::Joining(Joining::Substr),
+    Verb::Composition(Composition::Substr),
     Verb::Sprintf,
     Verb::Search(Search::Str),
     Verb::Computation(Computation::Assign),
@@ -90,7 +92,7 @@ fn find_verb(verbs: &[Verb], word: &[u8]) -> Option<Verb>
 fn verbs_from(first: u8) -> &'static [Verb] {
     match first {
         b'a' => &[Verb::Computation(Computation::Add)],
-        b'b' => &[Verb::Anew(Anew::Balance)],
+        b'b' => &[Verb::Derivation(Derivation::Balance)],
         b'c' => &FROM_C,
         b'e' => &FROM_E,
         b'f' => &[
@@ -104,7 +106,7 @@ fn verbs_from(first: u8) -> &'static [Verb] {
             Verb::Computation(Computation::Len),
             Verb::Origin(Origin::Lazy),
         ],
-        b'n' => &[Verb::Joining(Joining::Nul), Verb::Look(Look::Ncmp)],
+        b'n' => &[Verb::Composition(Composition::Nul), Verb::Look(Look::Ncmp)],
         b'p' => &[Verb::Put],
         b'r' => &[Verb::Control(Control::Repeat), Verb::Search(Search::Rchr)],
         b's' => &FROM_S,
@@ -141,15 +143,15 @@ fn word_of(verb: Verb) -> &'static [u8]
         Verb::Origin(Origin::File) => b"file",
         Verb::Origin(Origin::Eager) => b"eager",
         Verb::Origin(Origin::Lazy) => b"lazy",
-        Verb::Joining(Joining::Chars) => b"chars",
-        Verb::Joining(Joining::Nul) => b"nul",
+        Verb::Composition(Composition::Chars) => b"chars",
+        Verb::Composition(Composition::Nul) => b"nul",
         Verb::Origin(Origin::FromFn) => b"fn",
-        Verb::Joining(Joining::Cat) => b"cat",
+        Verb::Composition(Composition::Cat) => b"cat",
         Verb::Catn => b"catn",
-        Verb::Joining(Joining::Catc) => b"catc",
-        Verb::Joining(Joining::Substr) => b"substr",
-        Verb::Anew(Anew::Balance) => b"balance",
-        Verb::Anew(Anew::EcToCord) => b"ectocord",
+        Verb::Composition(Composition::Catc) => b"catc",
+        Verb::Composition(Composition::Substr) => b"substr",
+        Verb::Derivation(Derivation::Balance) => b"balance",
+        Verb::Derivation(Derivation::EcToCord) => b"ectocord",
         Verb::Sprintf => b"sprintf",
         Verb::Computation(Computation::Len) => b"len",
         Verb::Look(Look::Fetch) => b"fetch",
@@ -269,14 +271,14 @@ pub fn wants_of(verb: Verb) -> &'static [Want]
         Verb::Put => &PUT,
         Verb::Origin(Origin::File) | Verb::Origin(Origin::Eager) | Verb::Origin(Origin::Lazy) =>
             &FILE,
-        Verb::Joining(Joining::Chars) => &CHARS,
-        Verb::Joining(Joining::Nul) => &NUL,
+        Verb::Composition(Composition::Chars) => &CHARS,
+        Verb::Composition(Composition::Nul) => &NUL,
         Verb::Origin(Origin::FromFn) => &FN,
-        Verb::Joining(Joining::Cat) => &CAT,
-        Verb::Joining(Joining::Catc) => &CATC,
-        Verb::Joining(Joining::Substr) => &SUBSTR,
-        Verb::Anew(Anew::Balance) => &BALANCE,
-        Verb::Anew(Anew::EcToCord) => &ECTOCORD,
+        Verb::Composition(Composition::Cat) => &CAT,
+        Verb::Composition(Composition::Catc) => &CATC,
+        Verb::Composition(Composition::Substr) => &SUBSTR,
+        Verb::Derivation(Derivation::Balance) => &BALANCE,
+        Verb::Derivation(Derivation::EcToCord) => &ECTOCORD,
         Verb::Computation(Computation::Len) => &LEN,
         Verb::Look(Look::Fetch) => &FETCH,
         Verb::Look(Look::Cmp) => &CMP,

@@ -8,7 +8,9 @@ ghost use Rattle.cord_script.specs.inner.Built.{IsJoined, IsPrinted, AreFieldsOf
 
 use crate::cursor::FieldCursor;
 use crate::kinds::Kind;
-use crate::verbs::{Anew, Computation, Control, Growth, Joining, Look, Origin, Search, Verb};
+use crate::verbs::{
+    Composition, Computation, Control, Derivation, Growth, Look, Origin, Search, Verb,
+};
 use crate::{RefusalKind, Statement};
 use cord_printf::Format;
 use std::alloc::Global;
@@ -49,35 +51,35 @@ fn origin_of(verb: Origin, line: u32, fields: &mut FieldCursor) -> Statement
 }
 
 // A statement that makes a cord that an expression gives.
-fn joining_of(verb: Joining, line: u32, fields: &mut FieldCursor) -> Statement
-    requires { map want_of fields.old ≡ verb_wants (Verb.Joining verb) }
-    ensures { IsStatementOf (Verb.Joining verb) line fields.old result }
+fn composition_of(verb: Composition, line: u32, fields: &mut FieldCursor) -> Statement
+    requires { map want_of fields.old ≡ verb_wants (Verb.Composition verb) }
+    ensures { IsStatementOf (Verb.Composition verb) line fields.old result }
 {
     match verb {
-        Joining::Chars => Statement::Chars {
+        Composition::Chars => Statement::Chars {
             line,
             target: fields.target(Kind::Cord),
             byte: fields.number(),
             count: fields.number(),
         },
-        Joining::Nul => Statement::Nul {
+        Composition::Nul => Statement::Nul {
             line,
             target: fields.target(Kind::Cord),
             count: fields.number(),
         },
-        Joining::Cat => Statement::Cat {
+        Composition::Cat => Statement::Cat {
             line,
             target: fields.target(Kind::Cord),
             left: fields.operand(Kind::Cord),
             right: fields.operand(Kind::Cord),
         },
-        Joining::Catc => Statement::Catc {
+        Composition::Catc => Statement::Catc {
             line,
             target: fields.target(Kind::Cord),
             operand: fields.operand(Kind::Cord),
             byte: fields.number(),
         },
-        Joining::Substr => Statement::Substr {
+        Composition::Substr => Statement::Substr {
             line,
             target: fields.target(Kind::Cord),
             operand: fields.operand(Kind::Cord),
@@ -88,17 +90,17 @@ fn joining_of(verb: Joining, line: u32, fields: &mut FieldCursor) -> Statement
 }
 
 // A statement that makes a cord anew of a cord or an extensible cord.
-fn anew_of(verb: Anew, line: u32, fields: &mut FieldCursor) -> Statement
-    requires { map want_of fields.old ≡ verb_wants (Verb.Anew verb) }
-    ensures { IsStatementOf (Verb.Anew verb) line fields.old result }
+fn derivation_of(verb: Derivation, line: u32, fields: &mut FieldCursor) -> Statement
+    requires { map want_of fields.old ≡ verb_wants (Verb.Derivation verb) }
+    ensures { IsStatementOf (Verb.Derivation verb) line fields.old result }
 {
     match verb {
-        Anew::Balance => Statement::Balance {
+        Derivation::Balance => Statement::Balance {
             line,
             target: fields.target(Kind::Cord),
             operand: fields.operand(Kind::Cord),
         },
-        Anew::EcToCord => Statement::EcToCord {
+        Derivation::EcToCord => Statement::EcToCord {
             line,
             target: fields.target(Kind::Cord),
             extensible: fields.operand(Kind::Extensible),
@@ -312,8 +314,8 @@ pub fn statement_of(
         Verb::Catn => catn_of(alloc, line, fields),
         Verb::Sprintf => sprintf_of(alloc, line, format, fields),
         Verb::Origin(origin) => Ok(origin_of(origin, line, fields)),
-        Verb::Joining(joining) => Ok(joining_of(joining, line, fields)),
-        Verb::Anew(anew) => Ok(anew_of(anew, line, fields)),
+        Verb::Composition(composition) => Ok(composition_of(composition, line, fields)),
+        Verb::Derivation(derivation) => Ok(derivation_of(derivation, line, fields)),
         Verb::Put => Ok(put_of(line, fields)),
         Verb::Computation(computation) => Ok(computation_of(computation, line, fields)),
         Verb::Look(look) => Ok(look_of(look, line, fields)),

@@ -6,11 +6,11 @@ pub enum Verb {
     /// A cord made of no other name's value.
     Origin(Origin),
     /// A cord that an expression over others gives, with a fixed number of words.
-    Joining(Joining),
+    Composition(Composition),
     /// `catn`.
     Catn,
     /// A cord made anew of a cord or an extensible cord.
-    Anew(Anew),
+    Derivation(Derivation),
     /// `sprintf`.
     Sprintf,
     /// `put`.
@@ -37,7 +37,7 @@ pub enum Origin {
 }
 
 #[derive(Clone, Copy)]
-pub enum Joining {
+pub enum Composition {
     Chars,
     Nul,
     Cat,
@@ -46,7 +46,7 @@ pub enum Joining {
 }
 
 #[derive(Clone, Copy)]
-pub enum Anew {
+pub enum Derivation {
     Balance,
     EcToCord,
 }

@@ -5,8 +5,8 @@ use Rattle.cord_script.specs.declared.verbs.Verb.{Verb}
 use Rattle.cord_script.specs.declared.verbs.Verb.TheVariants as verbs
 use Rattle.cord_script.specs.declared.verbs.Control.{Control}
 use Rattle.cord_script.specs.declared.verbs.Origin.TheVariants as origins
-use Rattle.cord_script.specs.declared.verbs.Joining.TheVariants as joinings
-use Rattle.cord_script.specs.declared.verbs.Anew.TheVariants as anews
+use Rattle.cord_script.specs.declared.verbs.Composition.TheVariants as compositions
+use Rattle.cord_script.specs.declared.verbs.Derivation.TheVariants as derivations
 use Rattle.cord_script.specs.declared.verbs.Growth.TheVariants as growths
 use Rattle.cord_script.specs.declared.verbs.Computation.TheVariants as computations
 use Rattle.cord_script.specs.declared.verbs.Look.TheVariants as looks
@@ -25,15 +25,15 @@ verb_word (verbs.Origin origins.Let) = codes "let"
 verb_word (verbs.Origin origins.File) = codes "file"
 verb_word (verbs.Origin origins.Eager) = codes "eager"
 verb_word (verbs.Origin origins.Lazy) = codes "lazy"
-verb_word (verbs.Joining joinings.Chars) = codes "chars"
-verb_word (verbs.Joining joinings.Nul) = codes "nul"
+verb_word (verbs.Composition compositions.Chars) = codes "chars"
+verb_word (verbs.Composition compositions.Nul) = codes "nul"
 verb_word (verbs.Origin origins.FromFn) = codes "fn"
-verb_word (verbs.Joining joinings.Cat) = codes "cat"
+verb_word (verbs.Composition compositions.Cat) = codes "cat"
 verb_word verbs.Catn = codes "catn"
-verb_word (verbs.Joining joinings.Catc) = codes "catc"
-verb_word (verbs.Joining joinings.Substr) = codes "substr"
-verb_word (verbs.Anew anews.Balance) = codes "balance"
-verb_word (verbs.Anew anews.EcToCord) = codes "ectocord"
+verb_word (verbs.Composition compositions.Catc) = codes "catc"
+verb_word (verbs.Composition compositions.Substr) = codes "substr"
+verb_word (verbs.Derivation derivations.Balance) = codes "balance"
+verb_word (verbs.Derivation derivations.EcToCord) = codes "ectocord"
 verb_word verbs.Sprintf = codes "sprintf"
 verb_word (verbs.Computation computations.Len) = codes "len"
 verb_word (verbs.Look looks.Fetch) = codes "fetch"
@@ -61,15 +61,15 @@ verb_wants (verbs.Origin origins.Let) = wants.Target kinds.Cord ∷ wants.Text �
 verb_wants (verbs.Origin origins.File) = wants.Target kinds.Cord ∷ wants.Path ∷ []
 verb_wants (verbs.Origin origins.Eager) = wants.Target kinds.Cord ∷ wants.Path ∷ []
 verb_wants (verbs.Origin origins.Lazy) = wants.Target kinds.Cord ∷ wants.Path ∷ []
-verb_wants (verbs.Joining joinings.Chars) = wants.Target kinds.Cord ∷ wants.Number ∷ wants.Number ∷ []
-verb_wants (verbs.Joining joinings.Nul) = wants.Target kinds.Cord ∷ wants.Number ∷ []
+verb_wants (verbs.Composition compositions.Chars) = wants.Target kinds.Cord ∷ wants.Number ∷ wants.Number ∷ []
+verb_wants (verbs.Composition compositions.Nul) = wants.Target kinds.Cord ∷ wants.Number ∷ []
 verb_wants (verbs.Origin origins.FromFn) = wants.Target kinds.Cord ∷ wants.Function ∷ wants.Number ∷ []
-verb_wants (verbs.Joining joinings.Cat) = wants.Target kinds.Cord ∷ wants.Operand kinds.Cord ∷ wants.Operand kinds.Cord ∷ []
+verb_wants (verbs.Composition compositions.Cat) = wants.Target kinds.Cord ∷ wants.Operand kinds.Cord ∷ wants.Operand kinds.Cord ∷ []
 verb_wants verbs.Catn = []
-verb_wants (verbs.Joining joinings.Catc) = wants.Target kinds.Cord ∷ wants.Operand kinds.Cord ∷ wants.Number ∷ []
-verb_wants (verbs.Joining joinings.Substr) = wants.Target kinds.Cord ∷ wants.Operand kinds.Cord ∷ wants.Number ∷ wants.Number ∷ []
-verb_wants (verbs.Anew anews.Balance) = wants.Target kinds.Cord ∷ wants.Operand kinds.Cord ∷ []
-verb_wants (verbs.Anew anews.EcToCord) = wants.Target kinds.Cord ∷ wants.Operand kinds.Extensible ∷ []
+verb_wants (verbs.Composition compositions.Catc) = wants.Target kinds.Cord ∷ wants.Operand kinds.Cord ∷ wants.Number ∷ []
+verb_wants (verbs.Composition compositions.Substr) = wants.Target kinds.Cord ∷ wants.Operand kinds.Cord ∷ wants.Number ∷ wants.Number ∷ []
+verb_wants (verbs.Derivation derivations.Balance) = wants.Target kinds.Cord ∷ wants.Operand kinds.Cord ∷ []
+verb_wants (verbs.Derivation derivations.EcToCord) = wants.Target kinds.Cord ∷ wants.Operand kinds.Extensible ∷ []
 verb_wants verbs.Sprintf = []
 verb_wants (verbs.Computation computations.Len) = wants.Target kinds.Number ∷ wants.Operand kinds.Cord ∷ []
 verb_wants (verbs.Look looks.Fetch) = wants.Target kinds.Number ∷ wants.Operand kinds.Cord ∷ wants.Number ∷ []
