@@ -1,23 +1,27 @@
 //! What the names of a run of a plan hold.
+mod appends;
+mod contents;
 pub(crate) mod cords;
+mod places;
 
-ghost use Rattle.std.specs.Prelude.{◌≡◌, ◌+◌, ◌<◌, ◌≤◌, ◌∷◌, ℕ, ℤ, List, pos, true, false, [], length, IfOk, IfSome};
-ghost use Rattle.std.specs.Prelude.{IfNone, IsErr, OnOk, Err, None, Some};
+ghost use Rattle.std.specs.Prelude.{◌≡◌, ◌+◌, ◌<◌, ◌≤◌, ℕ, List, true, false, [], length, IfOk, IfSome, IfNone, OnOk};
+ghost use Rattle.std.specs.Prelude.{Err, None, Some};
 ghost use Rattle.cord_core.specs.Cord.{text_len};
-ghost use Rattle.cord_ec.specs.Grown.{IsGrownBy};
-ghost use Rattle.cord_run.specs.inner.Extensibles.{cells_of, Grew, GrewTo};
+ghost use Rattle.cord_run.specs.inner.Extensibles.{cells_of, Grew};
 ghost use Rattle.cord_run.specs.inner.Entries.{are_distinct, cells_in, content_in, cord_in, extensible_in, length_in};
 ghost use Rattle.cord_run.specs.inner.Entries.{names_in, number_in, operand_in, HasContent, HasExtensible, HasNoEntry};
-ghost use Rattle.cord_run.specs.inner.Entries.{HasNumber, IsEntryAt, SameEntries};
-ghost use Rattle.cord_run.specs.inner.Places.{Begin, Begin-prop, StayFirst, names_fixed, names_told};
+ghost use Rattle.cord_run.specs.inner.Entries.{HasNumber, IsEntryAt};
+ghost use Rattle.cord_run.specs.inner.Places.{Begin, Begin-prop, names_fixed, names_told};
 
+use crate::store::appends::{append_at, append_bytes};
+use crate::store::contents::{set_content, set_extensible, set_number};
+use crate::store::places::{place_by, place_for};
 use cord_core::Cord;
 use cord_ec::ExtCord;
 use cord_io::{CordError, MAX_LEN};
 use cord_mark::Mark;
-use cord_script::{Number, is_same};
+use cord_script::Number;
 use std::alloc::{AllocError, Global};
-use std::mem::replace;
 use std::rc::Rc;
 
 /// What the name of a cord holds: its cord, or a length alone.
@@ -36,15 +40,6 @@ pub(crate) struct Entry {
     pub(crate) extensible: Option<ExtCord>,
 }
 
-/// So many entries have few slots.
-const FEW: usize = 64;
-
-/// The number of slots that guess the place of a name where the entries are few: a power of two.
-const FEW_SLOTS: usize = 256;
-
-/// The same where they are many.
-const SLOTS: usize = 4_096;
-
 /// What the names hold: a name that was not assigned is empty or 0. No two entries have one name. Names that were fixed
 /// stay those of the first entries.
 #[derive(Drop)]
@@ -57,118 +52,6 @@ pub(crate) struct Store {
     marked: Option<Rc<Mark>>,
     ghost distinct: { are_distinct (names_in entries.items) ≡ true },
     ghost first: { Begin (names_fixed marked) (names_in entries.items) } by { Begin-prop (names_fixed marked) (names_in entries.items) },
-}
-
-// The slot of a name, of so many.
-fn slot_of(name: &[u8], slots: usize) -> usize {
-    let mut slot: usize = 0;
-    for byte in name {
-        slot = slot.wrapping_mul(31).wrapping_add(*byte as usize);
-    }
-    slot & slots.wrapping_sub(1)
-}
-
-// Whether this is the name at a place.
-fn is_at(entries: &[Entry], place: usize, name: &[u8]) -> bool
-    requires { are_distinct (names_in entries.now) ≡ true }
-    ensures within { result ≡ true → place < length entries.now }
-    ensures place { result ≡ true → IsEntryAt entries.now name.now place }
-{
-    if place >= entries.len() {
-        return false;
-    }
-    let entry = &entries[place];
-    is_same(name, entry.name.as_slice())
-}
-
-// Whether this byte alone is the name at a place.
-fn is_byte_at(entries: &[Entry], place: usize, byte: u8) -> bool
-    requires { are_distinct (names_in entries.now) ≡ true }
-    ensures within { result ≡ true → place < length entries.now }
-    ensures place { result ≡ true → IsEntryAt entries.now (byte ∷ []) place }
-{
-    if place >= entries.len() {
-        return false;
-    }
-    let entry = &entries[place];
-    match entry.name.as_slice() {
-        [other] => *other == byte,
-        _ => false,
-    }
-}
-
-// The place of a name: the one that is guessed, where it is right. The slot of a name of one byte is that byte.
-#[inline(always)]
-fn place_by(entries: &[Entry], guesses: &[usize], name: &[u8]) -> Option<usize>
-    requires distinct { are_distinct (names_in entries.now) ≡ true }
-    ensures within { IfSome result (λ place. place < length entries.now) }
-    ensures some { IfSome result (IsEntryAt entries.now name.now) }
-    ensures none { IfNone result (HasNoEntry entries.now name.now) }
-{
-    match name {
-        [byte] => match guesses.get(*byte as usize) {
-            Some(guess) if is_byte_at(entries, *guess, *byte) => Some(*guess),
-            _ => place_of(entries, name),
-        },
-        _ => place_of_long(entries, guesses, name),
-    }
-}
-
-// The same of a name of more bytes.
-#[inline(never)]
-fn place_of_long(entries: &[Entry], guesses: &[usize], name: &[u8]) -> Option<usize>
-    requires distinct { are_distinct (names_in entries.now) ≡ true }
-    ensures within { IfSome result (λ place. place < length entries.now) }
-    ensures some { IfSome result (IsEntryAt entries.now name.now) }
-    ensures none { IfNone result (HasNoEntry entries.now name.now) }
-{
-    match guesses.get(slot_of(name, guesses.len())) {
-        Some(guess) if is_at(entries, *guess, name) => Some(*guess),
-        _ => place_of(entries, name),
-    }
-}
-
-// Guesses this place for the names of a name's slot. The first call makes few slots, that of many entries makes more.
-fn guess_place(
-    alloc: Global,
-    entries: &[Entry],
-    guesses: &mut Vec<usize>,
-    name: &[u8],
-    place: usize,
-) -> Result<(), AllocError> {
-    let slots = if place < FEW { FEW_SLOTS } else { SLOTS };
-    if guesses.len() < slots {
-        *guesses = vec![in alloc; 0; slots]?;
-        for (place, entry) in entries.iter().enumerate() {
-            set_guess(guesses, entry.name.as_slice(), place);
-        }
-    }
-    set_guess(guesses, name, place);
-    Ok(())
-}
-
-// Puts a place into the slot of a name.
-fn set_guess(guesses: &mut [usize], name: &[u8], place: usize) {
-    let slot = slot_of(name, guesses.len());
-    if slot < guesses.len() {
-        guesses[slot] = place;
-    }
-}
-
-// The place of a name, which is looked for.
-#[cold]
-#[inline(never)]
-fn place_of(entries: &[Entry], name: &[u8]) -> Option<usize>
-    ensures within { IfSome result (λ place. place < length entries.now) }
-    ensures some { IfSome result (IsEntryAt entries.now name.now) }
-    ensures none { IfNone result (HasNoEntry entries.now name.now) }
-{
-    for (place, entry) in entries.iter().enumerate() {
-        if is_same(name, entry.name.as_slice()) {
-            return Some(place);
-        }
-    }
-    None
 }
 
 impl Store {
@@ -363,196 +246,4 @@ impl Store {
             Some(place) => set_extensible(&mut self.entries, name, place, None),
         }
     }
-}
-
-// Puts another content into the entry of a name.
-fn set_content(entries: &mut [Entry], name: &[u8], place: usize, content: Content)
-    requires within { place < length entries.old }
-    requires place { IsEntryAt entries.old name.now place }
-    ensures set { HasContent name.now content entries.old entries.new }
-    ensures distinct { are_distinct (names_in entries.old) ≡ true → are_distinct (names_in entries.new) ≡ true }
-    ensures first { StayFirst entries.old entries.new }
-{
-    let _ = name;
-    let entry = &mut entries[place];
-    entry.content = content;
-}
-
-// Puts another number into the entry at a place.
-fn set_number(entries: &mut [Entry], place: usize, number: i64)
-    requires { place < length entries.old }
-    ensures set { (name : List ℕ) → IsEntryAt entries.old name place → HasNumber name number entries.old entries.new }
-    ensures names { names_in entries.new ≡ names_in entries.old }
-    ensures distinct { are_distinct (names_in entries.old) ≡ true → are_distinct (names_in entries.new) ≡ true }
-    ensures first { StayFirst entries.old entries.new }
-{
-    let entry = &mut entries[place];
-    entry.number = number;
-}
-
-// Puts another extensible cord, or none, into the entry of a name, and answers what it had.
-fn set_extensible(
-    entries: &mut [Entry],
-    name: &[u8],
-    place: usize,
-    extensible: Option<ExtCord>,
-) -> Option<ExtCord>
-    requires within { place < length entries.old }
-    requires place { IsEntryAt entries.old name.now place }
-    ensures before { cells_in result ≡ extensible_in entries.old name.now }
-    ensures set { HasExtensible name.now (cells_in extensible) entries.old entries.new }
-    ensures distinct { are_distinct (names_in entries.old) ≡ true → are_distinct (names_in entries.new) ≡ true }
-    ensures first { StayFirst entries.old entries.new }
-{
-    let _ = name;
-    let entry = &mut entries[place];
-    replace(&mut entry.extensible, extensible)
-}
-
-// Lets the extensible cord in the entry at a place grow by bytes. Answers whether it did.
-fn append_bytes(alloc: Global, entries: &mut [Entry], place: usize, bytes: &[u8]) -> bool
-    requires { place < length entries.old }
-    ensures grown { result ≡ true → (name : List ℕ) → IsEntryAt entries.old name place →
-        Grew name bytes.now entries.old entries.new }
-    ensures fits { result ≡ true → (name : List ℕ) → IsEntryAt entries.old name place →
-        length (cells_of (extensible_in entries.old name)) + length bytes.now ≤ MAX_LEN }
-    ensures left { result ≡ false → entries.new ≡ entries.old }
-    ensures names { names_in entries.new ≡ names_in entries.old }
-    ensures distinct { are_distinct (names_in entries.old) ≡ true → are_distinct (names_in entries.new) ≡ true }
-    ensures first { StayFirst entries.old entries.new }
-{
-    let entry = &mut entries[place];
-    append_begun(alloc, &mut entry.extensible, bytes)
-}
-
-// Lets an extensible cord that was begun grow by bytes. Answers whether it did.
-fn append_begun(alloc: Global, extensible: &mut Option<ExtCord>, bytes: &[u8]) -> bool
-    ensures grown { result ≡ true → GrewTo bytes.now extensible.old extensible.new }
-    ensures fits { result ≡ true → length (cells_of (cells_in extensible.old)) + length bytes.now ≤ MAX_LEN }
-    ensures left { result ≡ false → extensible.new ≡ extensible.old }
-{
-    match extensible {
-        Some(grown) => match append(alloc, grown, bytes) {
-            Ok(()) => true,
-            Err(_) => false,
-        },
-        None => false,
-    }
-}
-
-// Lets the extensible cord in the entry of a name grow by bytes.
-fn append_at(
-    alloc: Global,
-    entries: &mut [Entry],
-    name: &[u8],
-    place: usize,
-    bytes: &[u8],
-) -> Result<(), CordError>
-    requires within { place < length entries.old }
-    requires place { IsEntryAt entries.old name.now place }
-    ensures grown { IfOk result (λ _. Grew name.now bytes.now entries.old entries.new) }
-    ensures fits { OnOk result (length (cells_of (extensible_in entries.old name.now)) + length bytes.now ≤ MAX_LEN) }
-    ensures too_long { result ≡ Err CordError.TooLong →
-        MAX_LEN < length (cells_of (extensible_in entries.old name.now)) + length bytes.now }
-    ensures distinct { are_distinct (names_in entries.old) ≡ true → are_distinct (names_in entries.new) ≡ true }
-    ensures first { StayFirst entries.old entries.new }
-{
-    let _ = name;
-    let entry = &mut entries[place];
-    append_to(alloc, &mut entry.extensible, bytes)
-}
-
-// Lets an extensible cord grow by bytes; where there is none, one is begun.
-fn append_to(alloc: Global, extensible: &mut Option<ExtCord>, bytes: &[u8]) -> Result<(), CordError>
-    ensures grown { IfOk result (λ _. GrewTo bytes.now extensible.old extensible.new) }
-    ensures fits { OnOk result (length (cells_of (cells_in extensible.old)) + length bytes.now ≤ MAX_LEN) }
-    ensures too_long { result ≡ Err CordError.TooLong → MAX_LEN < length (cells_of (cells_in extensible.old))
-        + length bytes.now }
-{
-    match extensible {
-        Some(grown) => append(alloc, grown, bytes),
-        None => {
-            let mut begun = ExtCord::new(alloc)?;
-            append(alloc, &mut begun, bytes)?;
-            *extensible = Some(begun);
-            Ok(())
-        }
-    }
-}
-
-// Appends bytes: one alone costs less.
-#[inline(always)]
-fn append(alloc: Global, grown: &mut ExtCord, bytes: &[u8]) -> Result<(), CordError>
-    ensures over { IfOk result (λ _. IsGrownBy grown.old.text grown.new.text bytes.now) }
-    ensures unchanged { IsErr result → grown.new ≡ grown.old }
-    ensures fits { OnOk result (length grown.old.text + length bytes.now ≤ MAX_LEN) }
-    ensures too_long { result ≡ Err CordError.TooLong → MAX_LEN < length grown.old.text + length bytes.now }
-{
-    match bytes {
-        [byte] => grown.append(alloc, *byte),
-        _ => grown.append_bytes(alloc, bytes),
-    }
-}
-
-// The place of a name, which gets an entry where it has none.
-#[inline(always)]
-fn place_for(
-    alloc: Global,
-    entries: &mut Vec<Entry>,
-    guesses: &mut Vec<usize>,
-    name: &[u8],
-) -> Result<usize, AllocError>
-    requires distinct { are_distinct (names_in entries.old.items) ≡ true }
-    ensures within { IfOk result (λ place. place < length entries.new.items) }
-    ensures place { IfOk result (IsEntryAt entries.new.items name.now) }
-    ensures same { IfOk result (λ _. SameEntries entries.old.items entries.new.items) }
-    ensures distinct { are_distinct (names_in entries.new.items) ≡ true }
-    ensures first { StayFirst entries.old.items entries.new.items }
-{
-    match place_by(entries, guesses, name) {
-        Some(place) => Ok(place),
-        None => new_place(alloc, entries, guesses, name),
-    }
-}
-
-// The place of a new entry, for a name that has none.
-#[cold]
-#[inline(never)]
-fn new_place(
-    alloc: Global,
-    entries: &mut Vec<Entry>,
-    guesses: &mut Vec<usize>,
-    name: &[u8],
-) -> Result<usize, AllocError>
-    requires absent { HasNoEntry entries.old.items name.now }
-    requires distinct { are_distinct (names_in entries.old.items) ≡ true }
-    ensures within { IfOk result (λ place. place < length entries.new.items) }
-    ensures place { IfOk result (IsEntryAt entries.new.items name.now) }
-    ensures same { IfOk result (λ _. SameEntries entries.old.items entries.new.items) }
-    ensures distinct { are_distinct (names_in entries.new.items) ≡ true }
-    ensures first { StayFirst entries.old.items entries.new.items }
-{
-    guess_place(alloc, entries, guesses, name, entries.len())?;
-    let name = Vec::from_slice(alloc, name)?;
-    add(entries, name)
-}
-
-// Adds an entry, of nothing yet, for a name that has none.
-fn add(entries: &mut Vec<Entry>, name: Vec<u8>) -> Result<usize, AllocError>
-    requires absent { HasNoEntry entries.old.items name.items }
-    requires distinct { are_distinct (names_in entries.old.items) ≡ true }
-    ensures within { IfOk result (λ place. place < length entries.new.items) }
-    ensures place { IfOk result (IsEntryAt entries.new.items name.items) }
-    ensures same { IfOk result (λ _. SameEntries entries.old.items entries.new.items) }
-    ensures distinct { are_distinct (names_in entries.new.items) ≡ true }
-    ensures first { StayFirst entries.old.items entries.new.items }
-{
-    let place = entries.len();
-    entries.push(Entry {
-        name,
-        content: Content::Whole(Cord::empty()),
-        number: 0,
-        extensible: None,
-    })?;
-    Ok(place)
 }

@@ -1,7 +1,7 @@
 use Rattle.std.proofs.Common.{List, ℕ, sym, ◌∙◌, ap}
 use Rattle.std.specs.Str.{bytes_eq}
 use Rattle.cord_run.proofs.Entries.{found, passed_place, passed_absent}
-use Rattle.cord_run.proofs.store.place_of.Goals as goal
+use Rattle.cord_run.proofs.store.places.place_of.Goals as goal
 
 pub returns-then-is_same-clause-some : goal.returns-then-is_same-clause-some
 returns-then-is_same-clause-some c =

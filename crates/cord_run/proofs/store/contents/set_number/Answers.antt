@@ -4,7 +4,7 @@ use Rattle.std.proofs.lemmas.Int.{to_z-of_z}
 use Rattle.cord_run.specs.declared.store.Entry.{Entry}
 use Rattle.cord_run.specs.inner.Entries.{HasNumber}
 use Rattle.cord_run.proofs.Entries.{distinct_set, first_set, name_at_place, number_set}
-use Rattle.cord_run.proofs.store.set_number.Goals as goal
+use Rattle.cord_run.proofs.store.contents.set_number.Goals as goal
 
 pub returns-clause-set : goal.returns-clause-set
 returns-clause-set c = λ name here.

@@ -2,7 +2,7 @@ use Rattle.std.proofs.Common.{refl}
 use Rattle.std.specs.Prelude.{Some}
 use Rattle.std.proofs.lemmas.Result.{IfOk-weaker}
 use Rattle.cord_run.proofs.Entries.{grew_begun, grew_to}
-use Rattle.cord_run.proofs.store.append_to.Goals as goal
+use Rattle.cord_run.proofs.store.appends.append_to.Goals as goal
 
 pub returns-in-Some-clause-grown : goal.returns-in-Some-clause-grown
 returns-in-Some-clause-grown c = IfOk-weaker _ _ _ (λ _ g. grew_to c.args.bytes.now c.args.extensible.now

@@ -5,7 +5,7 @@ use Rattle.cord_run.specs.declared.store.Entry.{Entry}
 use Rattle.cord_run.specs.inner.Entries.{are_distinct, names_in, IsEntryAt, SameEntries}
 use Rattle.cord_run.specs.inner.Places.{StayFirst}
 use Rattle.cord_run.proofs.Entries.{added_nothing, added_place, distinct_behind, first_added}
-use Rattle.cord_run.proofs.store.add.Goals as goal
+use Rattle.cord_run.proofs.store.places.add.Goals as goal
 
 pub returns-clause-place : goal.returns-clause-place
 returns-clause-place c =

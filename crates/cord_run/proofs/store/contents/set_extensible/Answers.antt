@@ -4,7 +4,7 @@ use Rattle.cord_ec.specs.Gathered.{Growth}
 use Rattle.cord_run.specs.declared.store.Entry.{Entry}
 use Rattle.cord_run.specs.inner.Entries.{cells_in, HasExtensible}
 use Rattle.cord_run.proofs.Entries.{distinct_set, extensible_set, first_set, name_at_place, value_at_place}
-use Rattle.cord_run.proofs.store.set_extensible.Goals as goal
+use Rattle.cord_run.proofs.store.contents.set_extensible.Goals as goal
 
 pub returns-clause-before : goal.returns-clause-before
 returns-clause-before c = ap cells_in c.replace.ensures.value ∙ value_at_place (λ entry. cells_in entry.extensible) None c.args.entries.now

@@ -1,7 +1,7 @@
 use Rattle.std.proofs.Common.{refl, get_or}
 use Rattle.cord_run.specs.declared.store.Entry.{Entry}
 use Rattle.cord_run.proofs.Entries.{content_set, distinct_set, first_set, name_at_place}
-use Rattle.cord_run.proofs.store.set_content.Goals as goal
+use Rattle.cord_run.proofs.store.contents.set_content.Goals as goal
 
 pub returns-clause-set : goal.returns-clause-set
 returns-clause-set c = content_set c.args.name.now c.index-entries-place.result _ c.args.entries.now c.args.place c.requires.place

@@ -2,7 +2,7 @@ use Rattle.std.proofs.Common.{◌≡◌, ◌<◌, ℕ, List, true, [], ◌∷◌
 use Rattle.std.specs.Str.{bytes_eq}
 use Rattle.cord_run.specs.declared.store.Entry.{Entry}
 use Rattle.cord_run.proofs.Entries.{entry_there, one_byte}
-use Rattle.cord_run.proofs.store.is_byte_at.Goals as goal
+use Rattle.cord_run.proofs.store.places.is_byte_at.Goals as goal
 
 pub returns-in-len1-clause-place : goal.returns-in-len1-clause-place
 returns-in-len1-clause-place c = λ is.

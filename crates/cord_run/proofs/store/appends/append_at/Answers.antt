@@ -6,7 +6,7 @@ use Rattle.cord_run.specs.declared.store.Entry.{Entry}
 use Rattle.cord_run.specs.inner.Extensibles.{cells_of, Grew, GrewTo}
 use Rattle.cord_run.specs.inner.Entries.{cells_in}
 use Rattle.cord_run.proofs.Entries.{distinct_set, first_set, grew_set, if_grew, name_at_place, value_at_place}
-use Rattle.cord_run.proofs.store.append_at.Goals as goal
+use Rattle.cord_run.proofs.store.appends.append_at.Goals as goal
 
 pub returns-clause-grown : goal.returns-clause-grown
 returns-clause-grown c =

@@ -1,0 +1,96 @@
+// The growth of the extensible cord of an entry.
+ghost use Rattle.std.specs.Prelude.{◌≡◌, ◌+◌, ◌<◌, ◌≤◌, ℕ, List, true, false, length, IfOk, IsErr, OnOk, Err};
+ghost use Rattle.cord_ec.specs.Grown.{IsGrownBy};
+ghost use Rattle.cord_run.specs.inner.Extensibles.{cells_of, Grew, GrewTo};
+ghost use Rattle.cord_run.specs.inner.Entries.{are_distinct, cells_in, extensible_in, names_in, IsEntryAt};
+ghost use Rattle.cord_run.specs.inner.Places.{StayFirst};
+
+use crate::store::Entry;
+use cord_ec::ExtCord;
+use cord_io::{CordError, MAX_LEN};
+use std::alloc::Global;
+
+/// Lets the extensible cord in the entry at a place grow by bytes. Answers whether it did.
+pub(crate) fn append_bytes(alloc: Global, entries: &mut [Entry], place: usize, bytes: &[u8]) -> bool
+    requires { place < length entries.old }
+    ensures grown { result ≡ true → (name : List ℕ) → IsEntryAt entries.old name place →
+        Grew name bytes.now entries.old entries.new }
+    ensures fits { result ≡ true → (name : List ℕ) → IsEntryAt entries.old name place →
+        length (cells_of (extensible_in entries.old name)) + length bytes.now ≤ MAX_LEN }
+    ensures left { result ≡ false → entries.new ≡ entries.old }
+    ensures names { names_in entries.new ≡ names_in entries.old }
+    ensures distinct { are_distinct (names_in entries.old) ≡ true → are_distinct (names_in entries.new) ≡ true }
+    ensures first { StayFirst entries.old entries.new }
+{
+    let entry = &mut entries[place];
+    append_begun(alloc, &mut entry.extensible, bytes)
+}
+
+// Lets an extensible cord that was begun grow by bytes. Answers whether it did.
+fn append_begun(alloc: Global, extensible: &mut Option<ExtCord>, bytes: &[u8]) -> bool
+    ensures grown { result ≡ true → GrewTo bytes.now extensible.old extensible.new }
+    ensures fits { result ≡ true → length (cells_of (cells_in extensible.old)) + length bytes.now ≤ MAX_LEN }
+    ensures left { result ≡ false → extensible.new ≡ extensible.old }
+{
+    match extensible {
+        Some(grown) => match append(alloc, grown, bytes) {
+            Ok(()) => true,
+            Err(_) => false,
+        },
+        None => false,
+    }
+}
+
+/// Lets the extensible cord in the entry of a name grow by bytes.
+pub(crate) fn append_at(
+    alloc: Global,
+    entries: &mut [Entry],
+    name: &[u8],
+    place: usize,
+    bytes: &[u8],
+) -> Result<(), CordError>
+    requires within { place < length entries.old }
+    requires place { IsEntryAt entries.old name.now place }
+    ensures grown { IfOk result (λ _. Grew name.now bytes.now entries.old entries.new) }
+    ensures fits { OnOk result (length (cells_of (extensible_in entries.old name.now)) + length bytes.now ≤ MAX_LEN) }
+    ensures too_long { result ≡ Err CordError.TooLong →
+        MAX_LEN < length (cells_of (extensible_in entries.old name.now)) + length bytes.now }
+    ensures distinct { are_distinct (names_in entries.old) ≡ true → are_distinct (names_in entries.new) ≡ true }
+    ensures first { StayFirst entries.old entries.new }
+{
+    let _ = name;
+    let entry = &mut entries[place];
+    append_to(alloc, &mut entry.extensible, bytes)
+}
+
+// Lets an extensible cord grow by bytes; where there is none, one is begun.
+fn append_to(alloc: Global, extensible: &mut Option<ExtCord>, bytes: &[u8]) -> Result<(), CordError>
+    ensures grown { IfOk result (λ _. GrewTo bytes.now extensible.old extensible.new) }
+    ensures fits { OnOk result (length (cells_of (cells_in extensible.old)) + length bytes.now ≤ MAX_LEN) }
+    ensures too_long { result ≡ Err CordError.TooLong → MAX_LEN < length (cells_of (cells_in extensible.old))
+        + length bytes.now }
+{
+    match extensible {
+        Some(grown) => append(alloc, grown, bytes),
+        None => {
+            let mut begun = ExtCord::new(alloc)?;
+            append(alloc, &mut begun, bytes)?;
+            *extensible = Some(begun);
+            Ok(())
+        }
+    }
+}
+
+// Appends bytes: one alone costs less.
+#[inline(always)]
+fn append(alloc: Global, grown: &mut ExtCord, bytes: &[u8]) -> Result<(), CordError>
+    ensures over { IfOk result (λ _. IsGrownBy grown.old.text grown.new.text bytes.now) }
+    ensures unchanged { IsErr result → grown.new ≡ grown.old }
+    ensures fits { OnOk result (length grown.old.text + length bytes.now ≤ MAX_LEN) }
+    ensures too_long { result ≡ Err CordError.TooLong → MAX_LEN < length grown.old.text + length bytes.now }
+{
+    match bytes {
+        [byte] => grown.append(alloc, *byte),
+        _ => grown.append_bytes(alloc, bytes),
+    }
+}
