@@ -74,14 +74,14 @@ module _ (entries : List Entry) (e : Expr) where
   -- one cord of them
   pub whole_built : (pieces : List (Option Node)) (cord : Option Node) → AreWhole entries e pieces → InTurn entries (origins e) pieces →
       Kept (all_parts pieces) (parts_of cord) → IsAllOf pieces cord → IsCord cord → IsBuilt entries e cord
-  whole_built pieces cord whole turns kept all sound = record {
+  whole_built pieces cord whole turns agrees all sound = record {
     sound = sound;
     fits = λ lengths over. all.fits lengths (whole.fits lengths over);
     bytes = λ t over there. whole.bytes t over there ∙ ap (λ (u : List ℕ). Ok u) (sym (all.bytes t (whole.fits (lengths_of t) over)));
     pieces = pieces;
     whole = whole;
     in_turn = turns;
-    shared = kept;
+    shared = agrees;
   }
 
   -- its fault

@@ -12,7 +12,7 @@ use Rattle.cord_core.proofs.Catting.{IsCatting}
 pub begun : (cords : List (Option Node)) (all short : Option Node) → all ≡ None → short ≡ None → IsCatting cords (short ∷ cords) all
 begun cords all short e f = rw (e, f) (record { sound = tt; told = refl; len = omega arith; kept = Kept-self (all_parts cords) })
 
--- two that are still to come are kept where they are joined
+-- two that are still to come have the same parts where they are joined
 kept_pair : (old before x y z rest : List Part) → Kept old (before ++ (x ++ (y ++ rest))) → Kept (x ++ y) z →
     Kept old (before ++ (z ++ rest))
 kept_pair old before x y z rest h k =

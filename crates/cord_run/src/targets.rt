@@ -27,7 +27,7 @@ use crate::expressions::lengths::length_of;
 use crate::stops::Stop;
 use crate::store::cords::balanced;
 use crate::store::{Content, Store};
-use crate::targets::files::{lazy, opened_length, whole, whole_or_lazy};
+use crate::targets::files::{Reading, file_cord, opened_length};
 use crate::targets::literals::{literal, start, start_length};
 use crate::targets::prints::{print, print_length};
 use cord_core::Cord;
@@ -111,9 +111,9 @@ fn make<F: Files>(
         ≡ count_after (has_failed result) (F.failures (device_in sources.old)) }
 {
     match made {
-        Made::OfFile(path) => whole_or_lazy(alloc, sources, path),
-        Made::OfEager(path) => whole(alloc, sources, path),
-        Made::OfLazy(path) => lazy(alloc, sources, path),
+        Made::OfFile(path) => file_cord(alloc, sources, path, Reading::ByLength),
+        Made::OfEager(path) => file_cord(alloc, sources, path, Reading::Eager),
+        Made::OfLazy(path) => file_cord(alloc, sources, path, Reading::Lazy),
         _ => make_of_names(alloc, store, made),
     }
 }

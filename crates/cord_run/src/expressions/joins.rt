@@ -14,7 +14,7 @@ use std::alloc::Global;
 pub(crate) fn join_all(alloc: Global, cords: &[Cord]) -> Result<Cord, CordError>
     ensures over { IfOk result (IsAllOf cords.now) }
     ensures sound { IfOk result IsCord }
-    ensures kept { IfOk result (λ c. Kept (all_parts cords.now) (parts_of c)) }
+    ensures parts { IfOk result (λ c. Kept (all_parts cords.now) (parts_of c)) }
 {
     let mut all = Cord::empty();
     let mut short = Cord::empty();

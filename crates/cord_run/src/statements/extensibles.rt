@@ -4,7 +4,9 @@ ghost use Rattle.cord_core.specs.Cord.{bytes_of};
 ghost use Rattle.cord_io.specs.Table.{Table};
 ghost use Rattle.cord_meaning.specs.State as meant;
 ghost use Rattle.cord_node.specs.Tables.{lengths_of};
-ghost use Rattle.cord_run.specs.inner.Extensibles.{Becomes, GrowsByByte, IsExtending, IsTaken, longer_text, refusal_of};
+ghost use Rattle.cord_syntax.specs.Families.{statement_of};
+ghost use Rattle.cord_syntax.specs.declared.families.Family.TheVariants as families;
+ghost use Rattle.cord_run.specs.inner.Extensibles.{Becomes, GrowsByByte, IsTaken, longer_text, refusal_of};
 ghost use Rattle.cord_run.specs.inner.Numbers.{text_over};
 ghost use Rattle.cord_run.specs.inner.Entries.{HasExtensible, IsOver};
 ghost use Rattle.cord_run.specs.inner.Statements.{MeansOver, StaysOver};
@@ -18,42 +20,29 @@ use cord_core::Cord;
 use cord_ec::ExtCord;
 use cord_io::CordError;
 use cord_meaning::FaultKind;
-use cord_script::Statement;
+use cord_syntax::Growth;
 use std::alloc::Global;
 
 /// Does what a statement means that begins an extensible cord or lets it grow.
-pub(crate) fn serve_extensible(
-    alloc: Global,
-    store: &mut Store,
-    statement: &Statement,
-) -> Result<(), Stop>
-    requires extending { IsExtending statement.now }
+pub(crate) fn serve_growth(alloc: Global, store: &mut Store, growth: Growth<'_>) -> Result<(), Stop>
     ensures over { StaysOver store.old.entries.items store.new.entries.items result }
-    ensures means { (t : Table) → IsOver (lengths_of t) store.old.entries.items →
-        MeansOver t statement.now store.old.entries.items store.new.entries.items result }
+    ensures means { (t : Table) → IsOver (lengths_of t) store.old.entries.items → (line : ℕ) →
+        MeansOver t (statement_of line (families.Growth growth.entry)) store.old.entries.items store.new.entries.items result }
     ensures counts { (n : ℕ) → CountsReads n n result }
 {
-    match statement {
-        Statement::EcInit { target, .. } => begin(alloc, store, target.as_slice()),
-        Statement::EcPut {
-            extensible,
-            byte,
-            ..
-        } => {
+    match growth {
+        Growth::EcInit { target } => begin(alloc, store, target.as_slice()),
+        Growth::EcPut { extensible, byte } => {
             let byte = store.value_of(byte);
             grow_by_number(alloc, store, extensible.as_slice(), byte)
         }
-        Statement::EcCat {
+        Growth::EcCat {
             extensible,
             operand,
-            ..
         } => grow_by_cord(alloc, store, extensible.as_slice(), operand.as_slice()),
-        Statement::EcStr {
-            extensible,
-            text,
-            ..
-        } => grow_by_bytes(alloc, store, extensible.as_slice(), text.as_slice()),
-        _ => unreachable!(),
+        Growth::EcStr { extensible, text } => {
+            grow_by_bytes(alloc, store, extensible.as_slice(), text.as_slice())
+        }
     }
 }
 

@@ -1,16 +1,17 @@
 // Statements that give a name a number.
-ghost use Rattle.std.specs.Prelude.{◌≡◌, ◌≤◌, ◌+ℤ◌, ◌-ℤ◌, ℕ, List, IfErr, IfOk, None, Some, pos};
+ghost use Rattle.std.specs.Prelude.{◌≡◌, ◌≤◌, ◌+ℤ◌, ◌-ℤ◌, ℕ, List, IfErr, IfOk, IsSome, None, pos};
+ghost use Rattle.cord_io.specs.Device.{Folder};
 ghost use Rattle.cord_io.specs.Table.{Table};
 ghost use Rattle.cord_io.specs.declared.TheConstants.{MAX_LEN};
 ghost use Rattle.cord_node.specs.Tables.{lengths_of};
-ghost use Rattle.cord_plan.specs.Operands.{target_of};
-ghost use Rattle.cord_run.specs.inner.Numbers.{CountsFinding, FindsOver, in_i64, IsComputed, IsByteOrOrder, IsNumeric};
-ghost use Rattle.cord_run.specs.inner.Numbers.{IsPlace, IsCordQuery, number_or_stop};
+ghost use Rattle.cord_syntax.specs.Families.{statement_of};
+ghost use Rattle.cord_syntax.specs.Lines.{line_of};
+ghost use Rattle.cord_syntax.specs.Targets.{target_of};
+ghost use Rattle.cord_syntax.specs.declared.families.Family.TheVariants as families;
+ghost use Rattle.cord_run.specs.inner.Numbers.{CountsFinding, FindsOver, HasRead, in_i64, number_or_stop};
 ghost use Rattle.cord_run.specs.inner.Entries.{content_in, cord_in, HasNumber, IsOver, length_in};
 ghost use Rattle.cord_run.specs.inner.Statements.{MeansOver, StaysOver};
 ghost use Rattle.cord_run.specs.inner.Outcomes.{CountsReads};
-ghost use Rattle.cord_io.specs.Device.{Folder};
-ghost use Rattle.cord_run.specs.inner.Frames.{IsSameSource};
 
 use crate::statements::searches::{
     byte_found, compared, fetched, last_found, ranges_compared, text_found,
@@ -21,109 +22,97 @@ use cord_core::Cord;
 use cord_io::Source;
 use cord_meaning::FaultKind;
 use cord_script::Statement;
+use cord_syntax::{Computation, Look, Search};
 use std::alloc::Global;
 
-/// Does what a statement means that gives a name a number and reads no cord.
+/// Gives the name that a statement assigns the number that was found for it.
+pub(crate) fn assign_found(
+    alloc: Global,
+    store: &mut Store,
+    statement: &Statement,
+    number: Result<i64, Stop>,
+) -> Result<(), Stop>
+    ensures over { StaysOver store.old.entries.items store.new.entries.items result }
+    ensures means { (t : Table) → FindsOver t statement.now store.old.entries.items number →
+        IsSome (target_of statement.now) →
+        MeansOver t statement.now store.old.entries.items store.new.entries.items result }
+    ensures counts { (before after : ℕ) → CountsFinding before after number → CountsReads before after result }
+{
+    match number {
+        Err(stop) => Err(stop),
+        Ok(number) => match statement.target() {
+            None => Ok(()),
+            Some(target) => give_number(alloc, store, target.as_slice(), number),
+        },
+    }
+}
+
+/// Does what a statement means that computes a number.
 pub(crate) fn assign_computed(
     alloc: Global,
     store: &mut Store,
     statement: &Statement,
+    computation: Computation<'_>,
 ) -> Result<(), Stop>
-    requires computed { IsComputed statement.now }
+    requires of { statement_of (line_of statement.now) (families.Computation computation) ≡ statement.now }
     requires short { (x : List ℕ) → length_in store.old.entries.items x ≤ MAX_LEN }
     ensures over { StaysOver store.old.entries.items store.new.entries.items result }
     ensures means { (t : Table) → IsOver (lengths_of t) store.old.entries.items →
         MeansOver t statement.now store.old.entries.items store.new.entries.items result }
     ensures counts { (n : ℕ) → CountsReads n n result }
 {
-    match computed_number(store, statement) {
-        Ok(number) => give_number(alloc, store, target_name(statement), number),
+    let number = number_or_stop(computed_number(store, computation));
+    assign_found(alloc, store, statement, number)
+}
+
+// The number that a computation gives.
+fn computed_number(store: &Store, computation: Computation<'_>) -> Result<i64, FaultKind>
+    requires short { (x : List ℕ) → length_in store.now.entries.items x ≤ MAX_LEN }
+    ensures { (t : Table) → IsOver (lengths_of t) store.now.entries.items → (line : ℕ) →
+        FindsOver t (statement_of line (families.Computation computation.entry)) store.now.entries.items (number_or_stop result) }
+{
+    match computation {
+        Computation::Len { operand, .. } => Ok(told_length(store, operand.as_slice())),
+        Computation::Assign { value, .. } => Ok(store.value_of(value)),
+        Computation::Add { left, right, .. } => sum(store.value_of(left), store.value_of(right)),
+        Computation::Sub { left, right, .. } => {
+            difference(store.value_of(left), store.value_of(right))
+        }
+    }
+}
+
+// A number or a fault, as a run has it.
+fn number_or_stop(number: Result<i64, FaultKind>) -> Result<i64, Stop>
+    ensures { result ≡ number_or_stop number }
+{
+    match number {
+        Ok(number) => Ok(number),
         Err(kind) => Err(Stop::Fault(kind)),
     }
 }
 
-/// Does what a statement means that searches cords.
-pub(crate) fn assign_query<R: Source>(
-    alloc: Global,
-    store: &mut Store,
-    source: &mut R,
-    statement: &Statement,
-) -> Result<(), Stop>
-    requires search { IsCordQuery statement.now }
-    requires over { IsOver (R.lengths source.old) store.old.entries.items }
-    ensures over { StaysOver store.old.entries.items store.new.entries.items result }
-    ensures means { (folder : Folder) → R.keeps source.new folder →
-        MeansOver (R.table source.old folder) statement.now store.old.entries.items store.new.entries.items result }
-    ensures counts { CountsReads (R.failures source.old) (R.failures source.new) result }
-    ensures source { IsSameSource ⟦<R as Source>⟧ source.old source.new }
-{
-    let number = query_number(store, source, statement)?;
-    give_number(alloc, store, target_name(statement), number)
-}
-
-// The number of a statement that reads nothing.
-fn computed_number(store: &Store, statement: &Statement) -> Result<i64, FaultKind>
-    requires computed { IsComputed statement.now }
-    requires short { (x : List ℕ) → length_in store.now.entries.items x ≤ MAX_LEN }
-    ensures { (t : Table) → IsOver (lengths_of t) store.now.entries.items →
-        FindsOver t statement.now store.now.entries.items (number_or_stop result) }
-{
-    match statement {
-        Statement::Len { operand, .. } => Ok(told_length(store, operand.as_slice())),
-        Statement::Assign { value, .. } => Ok(store.value_of(value)),
-        Statement::Add { left, right, .. } => sum(store.value_of(left), store.value_of(right)),
-        Statement::Sub { left, right, .. } => {
-            difference(store.value_of(left), store.value_of(right))
-        }
-        _ => unreachable!(),
-    }
-}
-
-// The number that a statement finds in cords.
-fn query_number<R: Source>(
+/// The byte or the order that a look at cords finds.
+pub(crate) fn look_number<R: Source>(
     store: &Store,
     source: &mut R,
-    statement: &Statement,
+    look: Look<'_>,
 ) -> Result<i64, Stop>
-    requires search { IsCordQuery statement.now }
     requires over { IsOver (R.lengths source.old) store.now.entries.items }
-    ensures found { (folder : Folder) → R.keeps source.new folder →
-        FindsOver (R.table source.old folder) statement.now store.now.entries.items result }
-    ensures counts { CountsFinding (R.failures source.old) (R.failures source.new) result }
-    ensures source { IsSameSource ⟦<R as Source>⟧ source.old source.new }
-{
-    match statement {
-        Statement::Fetch { .. } | Statement::Cmp { .. } | Statement::Ncmp { .. } => {
-            byte_or_order(store, source, statement)
-        }
-        _ => place_or_none(store, source, statement),
-    }
-}
-
-// The byte or the order that a statement finds.
-fn byte_or_order<R: Source>(
-    store: &Store,
-    source: &mut R,
-    statement: &Statement,
-) -> Result<i64, Stop>
-    requires look { IsByteOrOrder statement.now }
-    requires over { IsOver (R.lengths source.old) store.now.entries.items }
-    ensures found { (folder : Folder) → R.keeps source.new folder →
-        FindsOver (R.table source.old folder) statement.now store.now.entries.items result }
-    ensures counts { CountsFinding (R.failures source.old) (R.failures source.new) result }
-    ensures source { IsSameSource ⟦<R as Source>⟧ source.old source.new }
+    ensures found { (folder : Folder) → R.keeps source.new folder → (line : ℕ) →
+        FindsOver (R.table source.old folder) (statement_of line (families.Look look.entry)) store.now.entries.items result }
+    ensures read { HasRead ⟦<R as Source>⟧ source.old source.new result }
 {
     let empty = Cord::empty();
-    match statement {
-        Statement::Fetch { operand, index, .. } => {
+    match look {
+        Look::Fetch { operand, index, .. } => {
             let cord = cord_or(store, operand.as_slice(), &empty);
             fetched(cord, store.value_of(index), source)
         }
-        Statement::Cmp { left, right, .. } => {
+        Look::Cmp { left, right, .. } => {
             let left = cord_or(store, left.as_slice(), &empty);
             compared(left, cord_or(store, right.as_slice(), &empty), source)
         }
-        Statement::Ncmp {
+        Look::Ncmp {
             left,
             left_start,
             right,
@@ -138,26 +127,23 @@ fn byte_or_order<R: Source>(
             store.value_of(count),
             source,
         ),
-        _ => unreachable!(),
     }
 }
 
-// The place that a statement finds, or -1.
-fn place_or_none<R: Source>(
+/// The place that a search finds, or -1.
+pub(crate) fn search_number<R: Source>(
     store: &Store,
     source: &mut R,
-    statement: &Statement,
+    search: Search<'_>,
 ) -> Result<i64, Stop>
-    requires place { IsPlace statement.now }
     requires over { IsOver (R.lengths source.old) store.now.entries.items }
-    ensures found { (folder : Folder) → R.keeps source.new folder →
-        FindsOver (R.table source.old folder) statement.now store.now.entries.items result }
-    ensures counts { CountsFinding (R.failures source.old) (R.failures source.new) result }
-    ensures source { IsSameSource ⟦<R as Source>⟧ source.old source.new }
+    ensures found { (folder : Folder) → R.keeps source.new folder → (line : ℕ) →
+        FindsOver (R.table source.old folder) (statement_of line (families.Search search.entry)) store.now.entries.items result }
+    ensures read { HasRead ⟦<R as Source>⟧ source.old source.new result }
 {
     let empty = Cord::empty();
-    match statement {
-        Statement::Str {
+    match search {
+        Search::Str {
             operand,
             start,
             pattern,
@@ -167,7 +153,7 @@ fn place_or_none<R: Source>(
             let pattern = cord_or(store, pattern.as_slice(), &empty);
             text_found(cord, store.value_of(start), pattern, source)
         }
-        Statement::Chr {
+        Search::Chr {
             operand,
             start,
             byte,
@@ -176,7 +162,7 @@ fn place_or_none<R: Source>(
             let cord = cord_or(store, operand.as_slice(), &empty);
             byte_found(cord, store.value_of(start), store.value_of(byte), source)
         }
-        Statement::Rchr {
+        Search::Rchr {
             operand,
             start,
             byte,
@@ -185,7 +171,6 @@ fn place_or_none<R: Source>(
             let cord = cord_or(store, operand.as_slice(), &empty);
             last_found(cord, store.value_of(start), store.value_of(byte), source)
         }
-        _ => unreachable!(),
     }
 }
 
@@ -225,26 +210,6 @@ pub(crate) fn difference(left: i64, right: i64) -> Result<i64, FaultKind>
     match left.checked_sub(right) {
         Some(difference) => Ok(difference),
         None => Err(FaultKind::Overflow),
-    }
-}
-
-// The name that gets the number.
-fn target_name(statement: &Statement) -> &[u8]
-    requires { IsNumeric statement.now }
-    ensures { target_of statement.now ≡ Some result.now }
-{
-    match statement {
-        Statement::Len { target, .. }
-        | Statement::Fetch { target, .. }
-        | Statement::Cmp { target, .. }
-        | Statement::Ncmp { target, .. }
-        | Statement::Str { target, .. }
-        | Statement::Chr { target, .. }
-        | Statement::Rchr { target, .. }
-        | Statement::Assign { target, .. }
-        | Statement::Add { target, .. }
-        | Statement::Sub { target, .. } => target.as_slice(),
-        _ => unreachable!(),
     }
 }
 

@@ -5,10 +5,9 @@ ghost use Rattle.cord_core.specs.Texts.{order};
 ghost use Rattle.cord_io.specs.declared.TheConstants.{MAX_LEN};
 ghost use Rattle.cord_meaning.specs.State as meant;
 ghost use Rattle.cord_meaning.specs.Statements as statements;
-ghost use Rattle.cord_run.specs.inner.Numbers.{byte_place, CountsFinding, fetched, Finds, last_place, ranges_order};
+ghost use Rattle.cord_run.specs.inner.Numbers.{byte_place, fetched, Finds, HasRead, last_place, ranges_order};
 ghost use Rattle.cord_run.specs.inner.Numbers.{Refuses, text_place};
 ghost use Rattle.cord_io.specs.Device.{Folder};
-ghost use Rattle.cord_run.specs.inner.Frames.{IsSameSource};
 
 use crate::checks::{as_byte, as_index};
 use crate::stops::Stop;
@@ -21,8 +20,7 @@ pub(crate) fn fetched<R: Source>(cord: &Cord, index: i64, source: &mut R) -> Res
     requires fits { CordFitsIn (R.lengths source.old) cord.now }
     ensures found { (folder : Folder) → R.keeps source.new folder →
         Finds (fetched (bytes_of (R.table source.old folder) cord.now) index) result }
-    ensures counts { CountsFinding (R.failures source.old) (R.failures source.new) result }
-    ensures source { IsSameSource ⟦<R as Source>⟧ source.old source.new }
+    ensures read { HasRead ⟦<R as Source>⟧ source.old source.new result }
 {
     let index = checked_index(index)?;
     if cord.len() <= index {
@@ -41,8 +39,7 @@ pub(crate) fn compared<R: Source>(left: &Cord, right: &Cord, source: &mut R) -> 
     ensures found { (folder : Folder) → R.keeps source.new folder →
         Finds (Ok (order (bytes_of (R.table source.old folder) left.now)
         (bytes_of (R.table source.old folder) right.now))) result }
-    ensures counts { CountsFinding (R.failures source.old) (R.failures source.new) result }
-    ensures source { IsSameSource ⟦<R as Source>⟧ source.old source.new }
+    ensures read { HasRead ⟦<R as Source>⟧ source.old source.new result }
 {
     match cord_search::cmp(left, right, source) {
         Ok(sign) => Ok(i64::from(sign)),
@@ -64,8 +61,7 @@ pub(crate) fn ranges_compared<R: Source>(
     ensures found { (folder : Folder) → R.keeps source.new folder →
         Finds (ranges_order (bytes_of (R.table source.old folder) left.now) left_start
         (bytes_of (R.table source.old folder) right.now) right_start count) result }
-    ensures counts { CountsFinding (R.failures source.old) (R.failures source.new) result }
-    ensures source { IsSameSource ⟦<R as Source>⟧ source.old source.new }
+    ensures read { HasRead ⟦<R as Source>⟧ source.old source.new result }
 {
     let left_index = checked_index(left_start)?;
     let right_index = checked_index(right_start)?;
@@ -88,8 +84,7 @@ pub(crate) fn text_found<R: Source>(
     ensures found { (folder : Folder) → R.keeps source.new folder →
         Finds (text_place (bytes_of (R.table source.old folder) cord.now) start
         (bytes_of (R.table source.old folder) pattern.now)) result }
-    ensures counts { CountsFinding (R.failures source.old) (R.failures source.new) result }
-    ensures source { IsSameSource ⟦<R as Source>⟧ source.old source.new }
+    ensures read { HasRead ⟦<R as Source>⟧ source.old source.new result }
 {
     let index = checked_index(start)?;
     let len = cord.len();
@@ -109,8 +104,7 @@ pub(crate) fn byte_found<R: Source>(
     requires fits { CordFitsIn (R.lengths source.old) cord.now }
     ensures found { (folder : Folder) → R.keeps source.new folder →
         Finds (byte_place (bytes_of (R.table source.old folder) cord.now) start byte) result }
-    ensures counts { CountsFinding (R.failures source.old) (R.failures source.new) result }
-    ensures source { IsSameSource ⟦<R as Source>⟧ source.old source.new }
+    ensures read { HasRead ⟦<R as Source>⟧ source.old source.new result }
 {
     let index = checked_index(start)?;
     let wanted = checked_byte(byte)?;
@@ -134,8 +128,7 @@ pub(crate) fn last_found<R: Source>(
     requires fits { CordFitsIn (R.lengths source.old) cord.now }
     ensures found { (folder : Folder) → R.keeps source.new folder →
         Finds (last_place (bytes_of (R.table source.old folder) cord.now) start byte) result }
-    ensures counts { CountsFinding (R.failures source.old) (R.failures source.new) result }
-    ensures source { IsSameSource ⟦<R as Source>⟧ source.old source.new }
+    ensures read { HasRead ⟦<R as Source>⟧ source.old source.new result }
 {
     let index = checked_index(start)?;
     let wanted = checked_byte(byte)?;

@@ -13,28 +13,23 @@ use cord_io::Files;
 use cord_script::Path;
 use std::alloc::Global;
 
-/// The file at a path, read at once where it is short. Refused with `NoFile`, `TooLong`, `ReadFailed` or `NoMemory`.
-pub(crate) fn whole_or_lazy<F: Files>(
-    alloc: Global,
-    sources: &mut Sources<F>,
-    path: &Path,
-) -> Result<Cord, Stop>
-    ensures made { IfOk result (IsFileAt (F.keeps (device_in sources.new)) (opened_in sources.new) path.now) }
-    ensures refused { IfErr result (IsNoFileAt (F.keeps (device_in sources.new)) path.now) }
-    ensures earlier { KeepNoMore ⟦<F as Files>⟧ (device_in sources.old) (device_in sources.new) }
-    ensures grows { Grows (opened_in sources.old) (opened_in sources.new) }
-    ensures counts { F.failures (device_in sources.new)
-        ≡ count_after (has_failed result) (F.failures (device_in sources.old)) }
-{
-    let cord = sources.from_file(alloc, path.as_str())?;
-    Ok(cord)
+/// How much of a file is read before it is looked at.
+#[derive(Clone, Copy)]
+pub(crate) enum Reading {
+    /// All of a short file, and nothing of a longer one.
+    ByLength,
+    /// All.
+    Eager,
+    /// Nothing.
+    Lazy,
 }
 
-/// The file at a path, read at once. Refused as `whole_or_lazy` is.
-pub(crate) fn whole<F: Files>(
+/// The file at a path. Refused with `NoFile`, `TooLong`, `ReadFailed` or `NoMemory`.
+pub(crate) fn file_cord<F: Files>(
     alloc: Global,
     sources: &mut Sources<F>,
     path: &Path,
+    reading: Reading,
 ) -> Result<Cord, Stop>
     ensures made { IfOk result (IsFileAt (F.keeps (device_in sources.new)) (opened_in sources.new) path.now) }
     ensures refused { IfErr result (IsNoFileAt (F.keeps (device_in sources.new)) path.now) }
@@ -43,29 +38,15 @@ pub(crate) fn whole<F: Files>(
     ensures counts { F.failures (device_in sources.new)
         ≡ count_after (has_failed result) (F.failures (device_in sources.old)) }
 {
-    let cord = sources.eager(alloc, path.as_str())?;
-    Ok(cord)
-}
-
-/// The file at a path, of which nothing is read yet. Refused as `whole_or_lazy` is.
-pub(crate) fn lazy<F: Files>(
-    alloc: Global,
-    sources: &mut Sources<F>,
-    path: &Path,
-) -> Result<Cord, Stop>
-    ensures made { IfOk result (IsFileAt (F.keeps (device_in sources.new)) (opened_in sources.new) path.now) }
-    ensures refused { IfErr result (IsNoFileAt (F.keeps (device_in sources.new)) path.now) }
-    ensures earlier { KeepNoMore ⟦<F as Files>⟧ (device_in sources.old) (device_in sources.new) }
-    ensures grows { Grows (opened_in sources.old) (opened_in sources.new) }
-    ensures counts { F.failures (device_in sources.new)
-        ≡ count_after (has_failed result) (F.failures (device_in sources.old)) }
-{
-    let cord = sources.lazy(alloc, path.as_str())?;
-    Ok(cord)
+    match reading {
+        Reading::ByLength => Ok(sources.from_file(alloc, path.as_str())?),
+        Reading::Eager => Ok(sources.eager(alloc, path.as_str())?),
+        Reading::Lazy => Ok(sources.lazy(alloc, path.as_str())?),
+    }
 }
 
 /// The length of the file at a path, which is opened, and not read: after a refusal no file more is open. Refused as
-/// `whole_or_lazy` is.
+/// `file_cord` is.
 pub(crate) fn opened_length<F: Files>(
     alloc: Global,
     sources: &mut Sources<F>,

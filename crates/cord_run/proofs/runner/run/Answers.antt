@@ -7,7 +7,7 @@ use Rattle.cord_run.proofs.Meaning.{ends_honestly}
 use Rattle.cord_run.proofs.runner.run.Goals as goal
 
 pub returns-in-Ok-clause-honest : goal.returns-in-Ok-clause-honest
-returns-in-Ok-clause-honest g c = λ statements plan alike grammar script reads folder kept.
+returns-in-Ok-clause-honest g c = λ statements plan alike grammar script reads folder agrees.
     let e = c.run_over-end.result in
     let n : Counts = record {
       files_before = g.F.Files.failures (device_in c.in-Ok.sources);
@@ -21,7 +21,7 @@ returns-in-Ok-clause-honest g c = λ statements plan alike grammar script reads 
     let names = subst (λ (k : ℕ). NamesCause (record n { files_before = k; files_after = g.F.Files.failures c.close.result }) e) (ap g.F.Files.failures c.in-Ok.ensures.made.0)
     (subst (λ (k : ℕ). NamesCause (record n { files_after = k }) e)
     (sym (ap g.F.Files.failures c.close.ensures)) c.run_over-end.ensures.cause) in
-    let there : g.F.Files.keeps (device_in c.run_over-end.new.sources) folder = subst (λ f. g.F.Files.keeps f folder) c.close.ensures kept in
+    let there : g.F.Files.keeps (device_in c.run_over-end.new.sources) folder = subst (λ f. g.F.Files.keeps f folder) c.close.ensures agrees in
     ends_honestly statements (map operation_view c.args.plan.now) plan grammar script reads alike folder (g.S.Sink.taken c.args.sink.now)
     (g.S.Sink.taken c.run_over-end.new.sink) m e (c.run_over-end.ensures.honest folder there) c.run_over-end.ensures.fails names
 

@@ -13,7 +13,7 @@ use Rattle.cord_run.proofs.Ends.{closed_cause, closed_fails, closed_honest, run_
 use Rattle.cord_run.proofs.runner.run_over.Goals as goal
 
 pub returns-clause-honest : goal.returns-clause-honest
-returns-clause-honest g c = λ folder kept fit.
+returns-clause-honest g c = λ folder agrees fit.
     let operations : List Operation = map operation_view c.args.plan.now in
     let before : List ℕ = g.S.Sink.taken c.args.sink.now in
     let told : End = c.close_output.result in
@@ -28,7 +28,7 @@ returns-clause-honest g c = λ folder kept fit.
     let meant = plan_end MAX_LEN MAX_TURNS operations folder in
     subst (λ (after : List ℕ). HonestOutput ms meant before after told) (sym c.close_output.ensures.taken)
     (closed_honest ms meant before (g.S.Sink.taken c.run_plan.new.sink) n (end_of_run c.run_plan.result) told closes
-    (c.run_plan.ensures.honest folder kept fit))
+    (c.run_plan.ensures.honest folder agrees fit))
 
 pub returns-clause-fails : goal.returns-clause-fails
 returns-clause-fails g c =

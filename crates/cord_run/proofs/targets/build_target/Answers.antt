@@ -13,11 +13,11 @@ returns-clause-over g c =
     (c.in_ok-cord.ensures.built.sound, c.in_ok-cord.ensures.built.fits) c.give.result c.give.ensures.given
 
 pub returns-clause-gives : goal.returns-clause-gives
-returns-clause-gives g c = λ folder kept.
+returns-clause-gives g c = λ folder agrees.
     let s = c.args.sources.now in
-    let before = c.in_ok-cord.ensures.earlier folder kept in
+    let before = c.in_ok-cord.ensures.earlier folder agrees in
     built_target (opened_in s) (opened_in c.make.new.sources) c.in_ok-cord.ensures.grows c.args.store.now.entries.items
     c.make.new.store.entries.items c.give.new.store.entries.items c.requires.over c.in_ok-cord.ensures.same
-    c.args.target.now (made_view c.args.made.now) (g.F.Files.keeps (device_in c.make.new.sources)) folder kept
+    c.args.target.now (made_view c.args.made.now) (g.F.Files.keeps (device_in c.make.new.sources)) folder agrees
     (as_long_as_told (g.F.Files.keeps (device_in s)) s.entries.items s.sound.as_long folder before)
     c.in_ok-cord.cord c.in_ok-cord.ensures.built c.give.result c.give.ensures.given c.give.ensures.refused

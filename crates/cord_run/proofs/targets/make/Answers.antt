@@ -11,16 +11,16 @@ use Rattle.cord_run.proofs.TargetNames.{names_made, names_unmade, no_device}
 use Rattle.cord_run.proofs.targets.make.Goals as goal
 
 pub returns-in-OfFile-clause-fails : goal.returns-in-OfFile-clause-fails
-returns-in-OfFile-clause-fails g c = subst (λ (m : plan.Made). IfErr c.whole_or_lazy.result (FailsBy (IsFileMade m) ⊥))
-    (sym (ap made_view c.in-OfFile.is)) (fails_reading _ _ ⊥ tt c.whole_or_lazy.result c.whole_or_lazy.ensures.refused)
+returns-in-OfFile-clause-fails g c = subst (λ (m : plan.Made). IfErr c.file_cord.result (FailsBy (IsFileMade m) ⊥))
+    (sym (ap made_view c.in-OfFile.is)) (fails_reading _ _ ⊥ tt c.file_cord.result c.file_cord.ensures.refused)
 
 pub returns-in-OfEager-clause-fails : goal.returns-in-OfEager-clause-fails
-returns-in-OfEager-clause-fails g c = subst (λ (m : plan.Made). IfErr c.whole.result (FailsBy (IsFileMade m) ⊥))
-    (sym (ap made_view c.in-OfEager.is)) (fails_reading _ _ ⊥ tt c.whole.result c.whole.ensures.refused)
+returns-in-OfEager-clause-fails g c = subst (λ (m : plan.Made). IfErr c.file_cord-in-OfEager.result (FailsBy (IsFileMade m) ⊥))
+    (sym (ap made_view c.in-OfEager.is)) (fails_reading _ _ ⊥ tt c.file_cord-in-OfEager.result c.file_cord-in-OfEager.ensures.refused)
 
 pub returns-in-OfLazy-clause-fails : goal.returns-in-OfLazy-clause-fails
-returns-in-OfLazy-clause-fails g c = subst (λ (m : plan.Made). IfErr c.lazy.result (FailsBy (IsFileMade m) ⊥))
-    (sym (ap made_view c.in-OfLazy.is)) (fails_reading _ _ ⊥ tt c.lazy.result c.lazy.ensures.refused)
+returns-in-OfLazy-clause-fails g c = subst (λ (m : plan.Made). IfErr c.file_cord-in-OfLazy.result (FailsBy (IsFileMade m) ⊥))
+    (sym (ap made_view c.in-OfLazy.is)) (fails_reading _ _ ⊥ tt c.file_cord-in-OfLazy.result c.file_cord-in-OfLazy.ensures.refused)
 
 pub returns-in_default : goal.returns-in_default
 returns-in_default g c =
@@ -33,7 +33,7 @@ returns-in_default g c =
       refused = names_unmade keeps (opened_in s) told c.args.store.now.entries.items c.requires.over
           (made_view c.args.made.now) c.make_of_names.result c.make_of_names.ensures.refused;
       same = c.make_of_names.ensures.same;
-      earlier = λ folder kept. kept;
+      earlier = λ folder agrees. agrees;
       grows = search rules;
       fails = never_fails _ _ _ c.make_of_names.result c.make_of_names.ensures.refused;
       counts = no_device _ (g.F.Files.failures (device_in s)) c.make_of_names.result c.make_of_names.ensures.refused;

@@ -17,7 +17,7 @@ returns-in_default g c =
           (made_view c.args.made.now) c.measure_of_names.result c.measure_of_names.ensures.told;
       refused = names_untold keeps (opened_in s) told c.args.store.now.entries.items c.requires.over
           (made_view c.args.made.now) c.measure_of_names.result c.measure_of_names.ensures.refused;
-      earlier = λ folder kept. kept;
+      earlier = λ folder agrees. agrees;
       grows = search rules;
       fails = never_fails _ _ _ c.measure_of_names.result c.measure_of_names.ensures.refused;
       counts = no_device _ (g.F.Files.failures (device_in s)) c.measure_of_names.result c.measure_of_names.ensures.refused;

@@ -12,11 +12,11 @@ returns-clause-over g c =
     c.args.target.now (made_view c.args.made.now) (Long c.in_ok-len.len) c.in_ok-len.ensures.told.short c.give.result c.give.ensures.given
 
 pub returns-clause-gives : goal.returns-clause-gives
-returns-clause-gives g c = λ folder kept.
+returns-clause-gives g c = λ folder agrees.
     let s = c.args.sources.now in
-    let before = c.in_ok-len.ensures.earlier folder kept in
+    let before = c.in_ok-len.ensures.earlier folder agrees in
     measured_target (opened_in s) (opened_in c.measure.new.sources) c.in_ok-len.ensures.grows c.args.store.now.entries.items
     c.args.store.now.entries.items c.give.new.store.entries.items c.requires.over (nothing_changed c.args.store.now.entries.items)
-    c.args.target.now (made_view c.args.made.now) (g.F.Files.keeps (device_in c.measure.new.sources)) folder kept
+    c.args.target.now (made_view c.args.made.now) (g.F.Files.keeps (device_in c.measure.new.sources)) folder agrees
     (as_long_as_told (g.F.Files.keeps (device_in s)) s.entries.items s.sound.as_long folder before)
     c.in_ok-len.len c.in_ok-len.ensures.told c.give.result c.give.ensures.given c.give.ensures.refused

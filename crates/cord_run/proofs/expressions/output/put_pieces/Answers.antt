@@ -23,24 +23,24 @@ pub loop-piece-init : goal.loop-piece-init
 loop-piece-init g c = record {
   lengths = refl;
   table = refl;
-  earlier = λ folder kept. kept;
+  earlier = λ folder agrees. agrees;
   source = refl;
   sink = refl;
   finished = refl;
-  puts = λ folder kept. puts_none (g.R.Source.table c.args.source.now folder) c.args.pieces.now (g.S.Sink.taken c.args.sink.now);
+  puts = λ folder agrees. puts_none (g.R.Source.table c.args.source.now folder) c.args.pieces.now (g.S.Sink.taken c.args.sink.now);
 }
 
 pub returns-in-Err-clause-puts : goal.returns-in-Err-clause-puts
-returns-in-Err-clause-puts g c = λ folder kept.
+returns-in-Err-clause-puts g c = λ folder agrees.
     let piece = c.piece-item.result in
     let a = g.S.Sink.taken c.args.sink.now in
     let b = g.S.Sink.taken c.loop-piece.sink in
     let d = g.S.Sink.taken c.put.new.sink in
-    let before = c.in-Err.ensures.earlier folder kept in
+    let before = c.in-Err.ensures.earlier folder agrees in
     puts_cut (g.R.Source.table c.args.source.now folder) c.args.pieces.now c.loop-piece.piece-index piece c.loop-piece-test.true
     c.piece-item.is a b d (c.loop-piece.invariant.puts folder before)
     (subst (λ (table : Folder → Table). Takes (IsFrontOf (bytes_of (table folder) piece)) b d) c.loop-piece.invariant.table
-    (c.in-Err.ensures.prefix folder kept))
+    (c.in-Err.ensures.prefix folder agrees))
 
 pub returns-in-Err-clause-faults : goal.returns-in-Err-clause-faults
 returns-in-Err-clause-faults g c =
@@ -60,18 +60,18 @@ loop-piece-preserved g c =
     record {
       lengths = c.in-Ok.ensures.lengths ∙ c.loop-piece.invariant.lengths;
       table = c.in-Ok.ensures.table ∙ c.loop-piece.invariant.table;
-      earlier = λ folder kept. c.loop-piece.invariant.earlier folder (c.in-Ok.ensures.earlier folder kept);
+      earlier = λ folder agrees. c.loop-piece.invariant.earlier folder (c.in-Ok.ensures.earlier folder agrees);
       source = c.in-Ok.ensures.faults.0 ∙ c.loop-piece.invariant.source;
       sink = c.in-Ok.ensures.faults.1 ∙ c.loop-piece.invariant.sink;
       finished = c.in-Ok.ensures.finished ∙ c.loop-piece.invariant.finished;
-      puts = λ folder kept.
-          let before = c.in-Ok.ensures.earlier folder kept in
+      puts = λ folder agrees.
+          let before = c.in-Ok.ensures.earlier folder agrees in
           puts_next (g.R.Source.table c.args.source.now folder) c.args.pieces.now c.loop-piece.piece-index piece c.loop-piece-test.true
           c.piece-item.is a b d (c.loop-piece.invariant.puts folder before)
           (subst (λ (table : Folder → Table). d ≡ b ++ bytes_of (table folder) piece) c.loop-piece.invariant.table
-          (c.in-Ok.ensures.text folder kept));
+          (c.in-Ok.ensures.text folder agrees));
     }
 
 pub returns-clause-puts : goal.returns-clause-puts
-returns-clause-puts g c = λ folder kept. puts_all (g.R.Source.table c.args.source.now folder) c.args.pieces.now c.loop-piece.piece-index
-    (g.S.Sink.taken c.args.sink.now) (g.S.Sink.taken c.loop-piece.sink) c.loop-piece-test.false (c.loop-piece.invariant.puts folder kept)
+returns-clause-puts g c = λ folder agrees. puts_all (g.R.Source.table c.args.source.now folder) c.args.pieces.now c.loop-piece.piece-index
+    (g.S.Sink.taken c.args.sink.now) (g.S.Sink.taken c.loop-piece.sink) c.loop-piece-test.false (c.loop-piece.invariant.puts folder agrees)

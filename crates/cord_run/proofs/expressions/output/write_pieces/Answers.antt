@@ -13,10 +13,10 @@ use Rattle.cord_run.proofs.Output.{wrote_nothing, wrote_whole, wrote_part, stop_
 use Rattle.cord_run.proofs.expressions.output.write_pieces.Goals as goal
 
 pub returns-in-Err-clause-wrote : goal.returns-in-Err-clause-wrote
-returns-in-Err-clause-wrote g c = λ folder kept there.
+returns-in-Err-clause-wrote g c = λ folder agrees there.
     wrote_nothing c.args.store.now.entries.items (expr_view c.args.expression.now) (g.R.Source.lengths c.args.source.now) c.requires.over
     (g.S.Sink.taken c.args.sink.now) (g.S.Sink.taken c.args.sink.now) (g.R.Source.table c.args.source.now folder)
-    (g.met.R.Source.lengths_of_table c.args.source.now folder kept) there c.in-Err.stop c.in-Err.ensures.refused refl
+    (g.met.R.Source.lengths_of_table c.args.source.now folder agrees) there c.in-Err.stop c.in-Err.ensures.refused refl
 
 pub returns-in-Err-clause-counts : goal.returns-in-Err-clause-counts
 returns-in-Err-clause-counts g c =
@@ -24,27 +24,27 @@ returns-in-Err-clause-counts g c =
     unbuilt_counts c.args.store.now.entries.items (expr_view c.args.expression.now) c.in-Err.stop n n c.in-Err.ensures.refused refl refl
 
 pub returns-in-Ok-put_pieces-clause-wrote : goal.returns-in-Ok-put_pieces-clause-wrote
-returns-in-Ok-put_pieces-clause-wrote g c = λ folder kept there.
+returns-in-Ok-put_pieces-clause-wrote g c = λ folder agrees there.
     let t = g.R.Source.table c.args.source.now folder in
     let a = g.S.Sink.taken c.args.sink.now in
     let b = g.S.Sink.taken c.put_pieces.new.sink in
     wrote_whole c.args.store.now.entries.items (expr_view c.args.expression.now) (g.R.Source.lengths c.args.source.now) c.requires.over a b
-    t (g.met.R.Source.lengths_of_table c.args.source.now folder (c.in-Ok-put_pieces.ensures.source.2 folder kept)) there
+    t (g.met.R.Source.lengths_of_table c.args.source.now folder (c.in-Ok-put_pieces.ensures.source.2 folder agrees)) there
     c.in-Ok.pieces.items c.in-Ok.ensures.whole
-    (subst (λ (ps : List (Option Node)). b ≡ a ++ all_bytes t ps) c.deref.ensures.value (c.in-Ok-put_pieces.ensures.puts folder kept))
+    (subst (λ (ps : List (Option Node)). b ≡ a ++ all_bytes t ps) c.deref.ensures.value (c.in-Ok-put_pieces.ensures.puts folder agrees))
 
 pub returns-clause-wrote : goal.returns-clause-wrote
-returns-clause-wrote g c = λ folder kept there.
+returns-clause-wrote g c = λ folder agrees there.
     let t = g.R.Source.table c.args.source.now folder in
     let a = g.S.Sink.taken c.args.sink.now in
     let b = g.S.Sink.taken c.put_pieces.new.sink in
     subst (λ (stop : Stop). Wrote (text_in MAX_LEN (plain_of t c.args.store.now.entries.items) (expr_view c.args.expression.now)) a b
     (Err stop)) (sym c.stop_of_failure.ensures)
     (wrote_part c.args.store.now.entries.items (expr_view c.args.expression.now) (g.R.Source.lengths c.args.source.now) c.requires.over a b
-    t (g.met.R.Source.lengths_of_table c.args.source.now folder (c.in-Err-put_pieces.ensures.source.2 folder kept)) there
+    t (g.met.R.Source.lengths_of_table c.args.source.now folder (c.in-Err-put_pieces.ensures.source.2 folder agrees)) there
     c.in-Ok.pieces.items c.in-Err-put_pieces.error c.in-Ok.ensures.whole
     (subst (λ (ps : List (Option Node)). Takes (IsFrontOf (all_bytes t ps)) a b) c.deref.ensures.value
-    (c.in-Err-put_pieces.ensures.puts folder kept)))
+    (c.in-Err-put_pieces.ensures.puts folder agrees)))
 
 pub returns-clause-counts : goal.returns-clause-counts
 returns-clause-counts g c =

@@ -15,10 +15,10 @@ pub returns-clause-earlier : goal.returns-clause-earlier
 returns-clause-earlier g c = c.write.ensures.source.2
 
 pub returns-clause-serves : goal.returns-clause-serves
-returns-clause-serves g c = λ folder kept.
+returns-clause-serves g c = λ folder agrees.
     let entries = c.args.store.now.entries.items in
     let old = opened_in c.args.sources.now in
     let new = opened_in c.write.new.source in
     wrote_serves (table_in old folder) entries (expr_view c.args.expression.now) (g.S.Sink.taken c.args.sink.now)
     (g.S.Sink.taken c.write.new.sink) c.write.result folder (holding_of (table_in new folder) entries)
-    (held_read old new entries folder c.write.ensures.source.1) (c.write.ensures.wrote folder kept)
+    (held_read old new entries folder c.write.ensures.source.1) (c.write.ensures.wrote folder agrees)

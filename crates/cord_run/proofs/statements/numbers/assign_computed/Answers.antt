@@ -1,19 +1,23 @@
-use Rattle.std.proofs.Common.{ℤ, subst, FitsSigned, w64, rules}
-use Rattle.std.specs.Prelude.{IfOk, Result}
-use Rattle.std.proofs.lemmas.Int.{to_z-of_z}
-use Rattle.cord_meaning.specs.declared.ends.FaultKind.{FaultKind}
-use Rattle.cord_run.specs.inner.Numbers.{FindsOver, number_or_stop}
-use Rattle.cord_run.specs.inner.Entries.{HasNumber}
-use Rattle.cord_run.proofs.NumberStatements.{kept_giving}
+use Rattle.std.proofs.Common.{ℤ, Result, subst, sym}
+use Rattle.std.specs.Prelude.{IsSome}
+use Rattle.cord_syntax.specs.Lines.{line_of}
+use Rattle.cord_syntax.specs.Targets.{target_of}
+use Rattle.cord_syntax.specs.declared.statements.Statement.{Statement}
+use Rattle.cord_run.specs.declared.stops.Stop.{Stop}
+use Rattle.cord_run.specs.inner.Numbers.{CountsFinding, FindsOver, number_or_stop}
+use Rattle.cord_run.proofs.NumberStatements.{computed_counted}
+use Rattle.cord_run.proofs.Sources.{computation_assigns}
 use Rattle.cord_run.proofs.statements.numbers.assign_computed.Goals as goal
 
-pub returns-in-Ok-clause-means : goal.returns-in-Ok-clause-means
-returns-in-Ok-clause-means c = λ t over.
-    let z : ℤ = c.in-Ok.number in
-    let fits : FitsSigned w64 z = search rules in
+pub returns-clause-means : goal.returns-clause-means
+returns-clause-means c = λ t over.
+    let l = c.args.statement.now in
     let old = c.args.store.now.entries.items in
-    let new = c.give_number.new.store.entries.items in
-    let has = subst (λ (v : ℤ). IfOk c.give_number.result (λ _. HasNumber c.target_name.result.now v old new)) (to_z-of_z w64 z fits) c.give_number.ensures.given in
-    let found = subst (λ (r : Result ℤ FaultKind). FindsOver t c.args.statement.now old (number_or_stop r)) c.in-Ok.is (c.computed_number.ensures t over) in
-    kept_giving c.args.statement.now c.target_name.result.now z old new t c.give_number.result found c.target_name.ensures has
-    c.give_number.ensures.refused
+    let found = subst (λ (s : Statement). FindsOver t s old (number_or_stop c.computed_number.result)) c.requires.of
+    (c.computed_number.ensures t over (line_of l)) in
+    c.assign_found.ensures.means t (subst (λ (r : Result ℤ Stop). FindsOver t l old r) (sym c.number_or_stop-number.ensures) found)
+    (subst (λ (s : Statement). IsSome (target_of s)) c.requires.of (computation_assigns (line_of l) c.args.computation))
+
+pub returns-clause-counts : goal.returns-clause-counts
+returns-clause-counts c = λ n. c.assign_found.ensures.counts n n
+    (subst (λ (r : Result ℤ Stop). CountsFinding n n r) (sym c.number_or_stop-number.ensures) (computed_counted n c.computed_number.result))

@@ -8,15 +8,15 @@ use Rattle.cord_run.proofs.Numbers.{past_last, last_placed}
 use Rattle.cord_run.proofs.statements.searches.last_found.Goals as goal
 
 pub returns-then-len-index-clause-found : goal.returns-then-len-index-clause-found
-returns-then-len-index-clause-found g c = λ folder kept.
+returns-then-len-index-clause-found g c = λ folder agrees.
     let checked : as_index c.args.start ≡ Ok c.in_ok-index.index = search rules in
     let good : as_byte c.args.byte ≡ Ok c.in_ok-wanted.wanted = search rules in
     past_last (g.R.Source.lengths c.args.source.now) c.args.cord.now c.len-len.ensures.sound c.requires.fits c.args.start
     c.in_ok-index.index checked c.args.byte c.in_ok-wanted.wanted good (g.R.Source.table c.args.source.now folder)
-    (g.met.R.Source.lengths_of_table c.args.source.now folder kept) (search rules)
+    (g.met.R.Source.lengths_of_table c.args.source.now folder agrees) (search rules)
 
 pub returns-in-Ok-clause-found : goal.returns-in-Ok-clause-found
-returns-in-Ok-clause-found g c = λ folder kept.
+returns-in-Ok-clause-found g c = λ folder agrees.
     let checked : as_index c.args.start ≡ Ok c.in_ok-index.index = search rules in
     let good : as_byte c.args.byte ≡ Ok c.in_ok-wanted.wanted = search rules in
     let within : c.in_ok-index.index < text_len c.args.cord.now = search rules in
@@ -26,6 +26,6 @@ returns-in-Ok-clause-found g c = λ folder kept.
     (sym (to_z-of_z w64 c.place_number.result fits))
     (last_placed (g.R.Source.lengths c.args.source.now) c.args.cord.now c.len-len.ensures.sound c.requires.fits c.args.start
     c.in_ok-index.index checked c.args.byte c.in_ok-wanted.wanted good table
-    (g.met.R.Source.lengths_of_table c.args.source.now folder (c.in-Ok.ensures.earlier folder kept)) within c.in-Ok.place
+    (g.met.R.Source.lengths_of_table c.args.source.now folder (c.in-Ok.ensures.earlier folder agrees)) within c.in-Ok.place
     c.place_number.result (λ within. c.place_number.ensures
-    (subst (λ (n : ℕ). IfSome c.in-Ok.place (λ p. p ≤ n)) (sym c.len-len.ensures.stored) within)) (c.in-Ok.ensures.last folder kept))
+    (subst (λ (n : ℕ). IfSome c.in-Ok.place (λ p. p ≤ n)) (sym c.len-len.ensures.stored) within)) (c.in-Ok.ensures.last folder agrees))

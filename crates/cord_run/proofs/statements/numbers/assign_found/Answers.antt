@@ -1,0 +1,46 @@
+use Rattle.std.proofs.Common.{◌≡◌, ℕ, ℤ, Some, None, Result, Ok, subst, sym, FitsSigned, w64, rules}
+use Rattle.std.specs.Prelude.{IfOk}
+use Rattle.std.proofs.lemmas.Int.{to_z-of_z}
+use Rattle.cord_syntax.specs.Targets.{target_of}
+use Rattle.cord_run.specs.declared.stops.Stop.{Stop}
+use Rattle.cord_run.specs.inner.Entries.{HasNumber}
+use Rattle.cord_run.specs.inner.Numbers.{CountsFinding, FindsOver}
+use Rattle.cord_run.proofs.NumberStatements.{assigns_none, kept_giving, none_counted, none_found, number_counted}
+use Rattle.cord_run.proofs.statements.numbers.assign_found.Goals as goal
+
+pub returns-in-Err-clause-means : goal.returns-in-Err-clause-means
+returns-in-Err-clause-means c = λ t found assigns.
+    let l = c.args.statement.now in
+    let old = c.args.store.now.entries.items in
+    none_found l old old t c.in-Err.stop (subst (λ (r : Result ℤ Stop). FindsOver t l old r) c.in-Err.is found)
+
+pub returns-in-Err-clause-counts : goal.returns-in-Err-clause-counts
+returns-in-Err-clause-counts c = λ before after counts.
+    none_counted before after c.in-Err.stop (subst (λ (r : Result ℤ Stop). CountsFinding before after r) c.in-Err.is counts)
+
+pub returns-in-None-clause-means : goal.returns-in-None-clause-means
+returns-in-None-clause-means c = λ t found assigns.
+    let none : target_of c.args.statement.now ≡ None = search rules in
+    absurd (assigns_none (target_of c.args.statement.now) none assigns)
+
+pub returns-in-None-clause-counts : goal.returns-in-None-clause-counts
+returns-in-None-clause-counts c = λ before after counts.
+    subst (λ (r : Result ℤ Stop). CountsFinding before after r) c.in-Ok.is counts
+
+pub returns-in-Some-clause-means : goal.returns-in-Some-clause-means
+returns-in-Some-clause-means c = λ t found assigns.
+    let l = c.args.statement.now in
+    let z : ℤ = c.in-Ok.number in
+    let fits : FitsSigned w64 z = search rules in
+    let old = c.args.store.now.entries.items in
+    let new = c.give_number.new.store.entries.items in
+    let target = c.as_slice.result.now in
+    let named : target_of l ≡ Some target = search rules in
+    let has = subst (λ (v : ℤ). IfOk c.give_number.result (λ _. HasNumber target v old new)) (to_z-of_z w64 z fits) c.give_number.ensures.given in
+    kept_giving l target z old new t c.give_number.result (subst (λ (r : Result ℤ Stop). FindsOver t l old r) c.in-Ok.is found) named has
+    c.give_number.ensures.refused
+
+pub returns-in-Some-clause-counts : goal.returns-in-Some-clause-counts
+returns-in-Some-clause-counts c = λ before after counts.
+    number_counted before after c.in-Ok.number c.give_number.result
+    (subst (λ (r : Result ℤ Stop). CountsFinding before after r) c.in-Ok.is counts) c.give_number.ensures.refused
