@@ -1,11 +1,11 @@
 -- Cords are put one after another, short ones first.
-use Rattle.std.proofs.Common.{◌≡◌, ◌+◌, List, [], ◌∷◌, ◌++◌, refl, arith, ◌∙◌, sym, ap, subst, append_assoc}
+use Rattle.std.proofs.Common.{◌≡◌, ◌+◌, List, ◌∷◌, ◌++◌, refl, arith, ◌∙◌, ap, subst, append_assoc}
 use Rattle.std.specs.Prelude.{Option, None}
 use Rattle.cord_node.specs.declared.Node.{Node}
 use Rattle.cord_node.specs.Tree.{Cell}
 use Rattle.cord_node.specs.Kept.{Part, Kept}
 use Rattle.cord_node.proofs.KeptLemmas.{Kept-both, Kept-self, Kept-trans}
-use Rattle.cord_core.specs.Cord.{text, text_len, parts_of, all_text, all_len, all_parts}
+use Rattle.cord_core.specs.Cord.{text, text_len, parts_of, all_text, all_parts}
 use Rattle.cord_core.proofs.Catting.{IsCatting}
 
 -- nothing was joined yet, and nothing is short

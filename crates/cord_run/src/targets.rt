@@ -10,7 +10,6 @@ ghost use Rattle.cord_file.specs.Entries.{lengths_in, table_in};
 ghost use Rattle.cord_file.specs.Opening.{Grows};
 ghost use Rattle.cord_file.specs.Sources.{device_in, opened_in};
 ghost use Rattle.cord_plan.specs.Meaning.{does};
-ghost use Rattle.cord_plan.specs.Planned as plan;
 ghost use Rattle.cord_plan.specs.Views.{made_view};
 ghost use Rattle.cord_run.specs.inner.Contents.{IsLength, IsLengthOfNames, IsMade, IsMadeOfNames, IsUnmade};
 ghost use Rattle.cord_run.specs.inner.Contents.{IsUnmadeOfNames, IsUnmeasured, IsUnmeasuredOfNames, NeedsNoFile};
@@ -19,6 +18,7 @@ ghost use Rattle.cord_run.specs.Failing.{FailsBy, FailsIn, IsFileMade};
 ghost use Rattle.cord_run.specs.inner.Entries.{HasContent, IsOver, SameEntries};
 ghost use Rattle.cord_run.specs.inner.Holdings.{holding_of};
 ghost use Rattle.cord_run.specs.inner.Outcomes.{CountsReads, Gives};
+ghost use Rattle.cord_run.specs.inner.Targets.{target_operation};
 ghost use Rattle.cord_run.specs.inner.Frames.{KeepNoMore};
 
 use crate::checks::as_length;
@@ -37,49 +37,45 @@ use cord_meaning::FaultKind;
 use cord_plan::Made;
 use std::alloc::Global;
 
-/// Gives a name the cord of what it is made of. Refused with the fault that this means, with `ReadFailed` where the files failed,
-/// or with `NoMemory`.
-pub(crate) fn build_target<F: Files>(
-    alloc: Global,
-    store: &mut Store,
-    sources: &mut Sources<F>,
-    target: &[u8],
-    made: &Made,
-) -> Result<(), Stop>
-    requires over { IsOver (lengths_in (opened_in sources.old)) store.old.entries.items }
-    ensures over { IfOk result (λ _. IsOver (lengths_in (opened_in sources.new)) store.new.entries.items) }
-    ensures earlier { KeepNoMore ⟦<F as Files>⟧ (device_in sources.old) (device_in sources.new) }
-    ensures gives { (folder : Folder) → F.keeps (device_in sources.new) folder → Gives
-        (does MAX_LEN folder (plan.Build 0 target.now (made_view made.now))
-        (holding_of (table_in (opened_in sources.old) folder) store.old.entries.items))
-        (holding_of (table_in (opened_in sources.new) folder) store.new.entries.items) result }
-    ensures fails { IfErr result (FailsIn (plan.Build 0 target.now (made_view made.now))) }
-    ensures counts { CountsReads (F.failures (device_in sources.old)) (F.failures (device_in sources.new)) result }
-{
-    let cord = make(alloc, store, sources, made)?;
-    give(alloc, store, target, Content::Whole(cord))
+/// What a name gets of what it is made of.
+#[derive(Clone, Copy)]
+pub(crate) enum Gets {
+    /// The cord.
+    Cord,
+    /// Its length alone: no cord is made, but a file is opened.
+    Length,
 }
 
-/// Gives a name the length of what it is made of alone: no cord is made, but a file is opened. Refused as `build_target` is.
-pub(crate) fn measure_target<F: Files>(
+/// Gives a name what it gets of what it is made of. Refused with the fault that this means, with `ReadFailed` where the files failed,
+/// or with `NoMemory`.
+pub(crate) fn serve_target<F: Files>(
     alloc: Global,
     store: &mut Store,
     sources: &mut Sources<F>,
     target: &[u8],
     made: &Made,
+    gets: Gets,
 ) -> Result<(), Stop>
     requires over { IsOver (lengths_in (opened_in sources.old)) store.old.entries.items }
     ensures over { IfOk result (λ _. IsOver (lengths_in (opened_in sources.new)) store.new.entries.items) }
     ensures earlier { KeepNoMore ⟦<F as Files>⟧ (device_in sources.old) (device_in sources.new) }
     ensures gives { (folder : Folder) → F.keeps (device_in sources.new) folder → Gives
-        (does MAX_LEN folder (plan.Measure 0 target.now (made_view made.now))
+        (does MAX_LEN folder (target_operation gets target.now (made_view made.now))
         (holding_of (table_in (opened_in sources.old) folder) store.old.entries.items))
         (holding_of (table_in (opened_in sources.new) folder) store.new.entries.items) result }
-    ensures fails { IfErr result (FailsIn (plan.Measure 0 target.now (made_view made.now))) }
+    ensures fails { IfErr result (FailsIn (target_operation gets target.now (made_view made.now))) }
     ensures counts { CountsReads (F.failures (device_in sources.old)) (F.failures (device_in sources.new)) result }
 {
-    let len = measure(alloc, store, sources, made)?;
-    give(alloc, store, target, Content::Long(len))
+    match gets {
+        Gets::Cord => {
+            let cord = make(alloc, store, sources, made)?;
+            give(alloc, store, target, Content::Whole(cord))
+        }
+        Gets::Length => {
+            let len = measure(alloc, store, sources, made)?;
+            give(alloc, store, target, Content::Long(len))
+        }
+    }
 }
 
 // Gives a name what was made for it.

@@ -19,7 +19,7 @@ use crate::expressions::output::write;
 use crate::statements::serve_statement;
 use crate::stops::Stop;
 use crate::store::Store;
-use crate::targets::{build_target, measure_target};
+use crate::targets::{Gets, serve_target};
 use cord_file::Sources;
 use cord_io::{Files, Sink};
 use cord_plan::{Expr, Operation};
@@ -49,10 +49,10 @@ pub(crate) fn serve<F: Files, S: Sink>(
 {
     match operation {
         Operation::Build { target, made, .. } => {
-            build_target(alloc, store, sources, target.as_slice(), made)
+            serve_target(alloc, store, sources, target.as_slice(), made, Gets::Cord)
         }
         Operation::Measure { target, made, .. } => {
-            measure_target(alloc, store, sources, target.as_slice(), made)
+            serve_target(alloc, store, sources, target.as_slice(), made, Gets::Length)
         }
         Operation::Write { expression, .. } => put(alloc, expression, store, sources, sink),
         Operation::Keep(statement) => serve_statement(alloc, store, sources, statement),

@@ -12,7 +12,6 @@ use Rattle.cord_syntax.specs.Families.{statement_of}
 use Rattle.cord_syntax.specs.Lines.{line_of}
 use Rattle.cord_syntax.specs.Targets.{target_of}
 use Rattle.cord_syntax.specs.declared.families.Family.{Family}
-use Rattle.cord_syntax.specs.declared.families.Family.TheVariants as families
 use Rattle.cord_syntax.specs.declared.statements.Statement.{Statement}
 use Rattle.cord_run.specs.inner.Entries.{IsOver}
 use Rattle.cord_run.specs.inner.Holdings.{holding_of}

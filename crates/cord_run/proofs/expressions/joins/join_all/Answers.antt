@@ -1,7 +1,5 @@
 use Rattle.std.proofs.Common.{◌≡◌, ◌∷◌, ◌+◌, [], List, drop, arith, subst, append-nil}
 use Rattle.std.proofs.lemmas.List.{drop_more, drop_all}
-use Rattle.std.specs.Prelude.{Option}
-use Rattle.cord_node.specs.declared.Node.{Node}
 use Rattle.cord_node.specs.Kept.{Part, Kept}
 use Rattle.cord_core.specs.Cord.{all_parts, parts_of}
 use Rattle.cord_core.proofs.Catting.{IsCatting, catting_step, catting_end}

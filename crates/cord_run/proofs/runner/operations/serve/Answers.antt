@@ -16,26 +16,26 @@ use Rattle.cord_run.proofs.runner.operations.serve.Goals as goal
 pub returns-in-Build-clause-serves : goal.returns-in-Build-clause-serves
 returns-in-Build-clause-serves g c = λ folder agrees.
     build_serves folder (holding_of (table_in (opened_in c.args.sources.now) folder) c.args.store.now.entries.items)
-    (holding_of (table_in (opened_in c.build_target.new.sources) folder) c.build_target.new.store.entries.items)
-    (g.S.Sink.taken c.args.sink.now) c.build_target.result (operation_view c.args.operation.now) c.in-Build.line
+    (holding_of (table_in (opened_in c.serve_target.new.sources) folder) c.serve_target.new.store.entries.items)
+    (g.S.Sink.taken c.args.sink.now) c.serve_target.result (operation_view c.args.operation.now) c.in-Build.line
     c.as_slice.result.now c.in-Build.target (made_view c.in-Build.made) (ap operation_view c.in-Build.is) c.as_slice.ensures
-    (c.build_target.ensures.gives folder agrees)
+    (c.serve_target.ensures.gives folder agrees)
 
 pub returns-in-Build-clause-fails : goal.returns-in-Build-clause-fails
-returns-in-Build-clause-fails g c = subst (λ (o : plan.Operation). IfErr c.build_target.result (FailsIn o))
-    (sym (ap operation_view c.in-Build.is)) c.build_target.ensures.fails
+returns-in-Build-clause-fails g c = subst (λ (o : plan.Operation). IfErr c.serve_target.result (FailsIn o))
+    (sym (ap operation_view c.in-Build.is)) c.serve_target.ensures.fails
 
 pub returns-in-Measure-clause-serves : goal.returns-in-Measure-clause-serves
 returns-in-Measure-clause-serves g c = λ folder agrees.
     measure_serves folder (holding_of (table_in (opened_in c.args.sources.now) folder) c.args.store.now.entries.items)
-    (holding_of (table_in (opened_in c.measure_target.new.sources) folder) c.measure_target.new.store.entries.items)
-    (g.S.Sink.taken c.args.sink.now) c.measure_target.result (operation_view c.args.operation.now) c.in-Measure.line
+    (holding_of (table_in (opened_in c.serve_target-in-Measure.new.sources) folder) c.serve_target-in-Measure.new.store.entries.items)
+    (g.S.Sink.taken c.args.sink.now) c.serve_target-in-Measure.result (operation_view c.args.operation.now) c.in-Measure.line
     c.as_slice-in-Measure.result.now c.in-Measure.target (made_view c.in-Measure.made)
-    (ap operation_view c.in-Measure.is) c.as_slice-in-Measure.ensures (c.measure_target.ensures.gives folder agrees)
+    (ap operation_view c.in-Measure.is) c.as_slice-in-Measure.ensures (c.serve_target-in-Measure.ensures.gives folder agrees)
 
 pub returns-in-Measure-clause-fails : goal.returns-in-Measure-clause-fails
-returns-in-Measure-clause-fails g c = subst (λ (o : plan.Operation). IfErr c.measure_target.result (FailsIn o))
-    (sym (ap operation_view c.in-Measure.is)) c.measure_target.ensures.fails
+returns-in-Measure-clause-fails g c = subst (λ (o : plan.Operation). IfErr c.serve_target-in-Measure.result (FailsIn o))
+    (sym (ap operation_view c.in-Measure.is)) c.serve_target-in-Measure.ensures.fails
 
 pub returns-in-Write-clause-serves : goal.returns-in-Write-clause-serves
 returns-in-Write-clause-serves g c = λ folder agrees.

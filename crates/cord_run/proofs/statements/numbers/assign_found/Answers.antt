@@ -1,4 +1,4 @@
-use Rattle.std.proofs.Common.{◌≡◌, ℕ, ℤ, Some, None, Result, Ok, subst, sym, FitsSigned, w64, rules}
+use Rattle.std.proofs.Common.{◌≡◌, ℤ, Some, None, Result, subst, FitsSigned, w64, rules}
 use Rattle.std.specs.Prelude.{IfOk}
 use Rattle.std.proofs.lemmas.Int.{to_z-of_z}
 use Rattle.cord_syntax.specs.Targets.{target_of}

@@ -1,0 +1,55 @@
+use Rattle.std.proofs.Common.{subst, sym}
+use Rattle.cord_io.specs.declared.TheConstants.{MAX_LEN}
+use Rattle.cord_file.specs.Entries.{table_in}
+use Rattle.cord_file.specs.Files.{as_long_as_told}
+use Rattle.cord_file.specs.Sources.{device_in, opened_in}
+use Rattle.cord_plan.specs.Meaning.{does}
+use Rattle.cord_plan.specs.Views.{made_view}
+use Rattle.cord_run.specs.declared.store.Content.TheVariants.{Whole, Long}
+use Rattle.cord_run.specs.declared.targets.Gets.{Gets}
+use Rattle.cord_run.specs.inner.Holdings.{holding_of}
+use Rattle.cord_run.specs.inner.Outcomes.{Gives}
+use Rattle.cord_run.specs.inner.Targets.{target_operation}
+use Rattle.cord_run.proofs.TargetNames.{built_target, measured_target, nothing_changed, target_over}
+use Rattle.cord_run.proofs.targets.serve_target.Goals as goal
+
+pub returns-in_ok-cord-in-Cord-clause-over : goal.returns-in_ok-cord-in-Cord-clause-over
+returns-in_ok-cord-in-Cord-clause-over g c =
+    target_over (opened_in c.args.sources.now) (opened_in c.make.new.sources) c.in_ok-cord-in-Cord.ensures.grows c.args.store.now.entries.items
+    c.make.new.store.entries.items c.give.new.store.entries.items c.requires.over c.in_ok-cord-in-Cord.ensures.same
+    c.args.target.now (made_view c.args.made.now) (Whole c.in_ok-cord-in-Cord.cord)
+    (c.in_ok-cord-in-Cord.ensures.built.sound, c.in_ok-cord-in-Cord.ensures.built.fits) c.give.result c.give.ensures.given
+
+pub returns-in_ok-cord-in-Cord-clause-gives : goal.returns-in_ok-cord-in-Cord-clause-gives
+returns-in_ok-cord-in-Cord-clause-gives g c = λ folder agrees.
+    let s = c.args.sources.now in
+    let before = c.in_ok-cord-in-Cord.ensures.earlier folder agrees in
+    subst (λ (k : Gets). Gives (does MAX_LEN folder (target_operation k c.args.target.now (made_view c.args.made.now))
+    (holding_of (table_in (opened_in s) folder) c.args.store.now.entries.items))
+    (holding_of (table_in (opened_in c.make.new.sources) folder) c.give.new.store.entries.items) c.give.result) (sym c.in-Cord.is)
+    (built_target (opened_in s) (opened_in c.make.new.sources) c.in_ok-cord-in-Cord.ensures.grows c.args.store.now.entries.items
+    c.make.new.store.entries.items c.give.new.store.entries.items c.requires.over c.in_ok-cord-in-Cord.ensures.same
+    c.args.target.now (made_view c.args.made.now) (g.F.Files.keeps (device_in c.make.new.sources)) folder agrees
+    (as_long_as_told (g.F.Files.keeps (device_in s)) s.entries.items s.sound.as_long folder before)
+    c.in_ok-cord-in-Cord.cord c.in_ok-cord-in-Cord.ensures.built c.give.result c.give.ensures.given c.give.ensures.refused)
+
+pub returns-in_ok-len-in-Length-clause-over : goal.returns-in_ok-len-in-Length-clause-over
+returns-in_ok-len-in-Length-clause-over g c =
+    target_over (opened_in c.args.sources.now) (opened_in c.measure.new.sources) c.in_ok-len-in-Length.ensures.grows c.args.store.now.entries.items
+    c.args.store.now.entries.items c.give-in-Length.new.store.entries.items c.requires.over (nothing_changed c.args.store.now.entries.items)
+    c.args.target.now (made_view c.args.made.now) (Long c.in_ok-len-in-Length.len) c.in_ok-len-in-Length.ensures.told.short c.give-in-Length.result
+    c.give-in-Length.ensures.given
+
+pub returns-in_ok-len-in-Length-clause-gives : goal.returns-in_ok-len-in-Length-clause-gives
+returns-in_ok-len-in-Length-clause-gives g c = λ folder agrees.
+    let s = c.args.sources.now in
+    let before = c.in_ok-len-in-Length.ensures.earlier folder agrees in
+    subst (λ (k : Gets). Gives (does MAX_LEN folder (target_operation k c.args.target.now (made_view c.args.made.now))
+    (holding_of (table_in (opened_in s) folder) c.args.store.now.entries.items))
+    (holding_of (table_in (opened_in c.measure.new.sources) folder) c.give-in-Length.new.store.entries.items) c.give-in-Length.result)
+    (sym c.in-Length.is)
+    (measured_target (opened_in s) (opened_in c.measure.new.sources) c.in_ok-len-in-Length.ensures.grows c.args.store.now.entries.items
+    c.args.store.now.entries.items c.give-in-Length.new.store.entries.items c.requires.over (nothing_changed c.args.store.now.entries.items)
+    c.args.target.now (made_view c.args.made.now) (g.F.Files.keeps (device_in c.measure.new.sources)) folder agrees
+    (as_long_as_told (g.F.Files.keeps (device_in s)) s.entries.items s.sound.as_long folder before)
+    c.in_ok-len-in-Length.len c.in_ok-len-in-Length.ensures.told c.give-in-Length.result c.give-in-Length.ensures.given c.give-in-Length.ensures.refused)
