@@ -29,7 +29,7 @@ module _ (table : List Bool) (p : ℕ) (b : Bool) where
   other_place : (q : ℕ) → p < q → at (set table p b) q ≡ at table q
   other_place q lt = get_or-set_other table p q b false (λ same. omega (arith, lt, same))
 
-  -- what a place at p or successors it leads on to stays as it is
+  -- what a place at p or behind it leads on to stays as it is
   some_past : (k : ℕ) → p ≤ k → (qs : List ℕ) → is_back k qs ≡ false →
       some_of (λ q. at (set table p b) q) qs ≡ some_of (λ q. at table q) qs
   some_past k le [] e = refl
@@ -45,7 +45,7 @@ module _ (table : List Bool) (p : ℕ) (b : Bool) where
           ∙ ap (λ (v : Bool). at table q || v) (ih g)
 
 module _ (s : List Statement) (x : List ℕ) (table : List Bool) (p : ℕ) (b : Bool) where
-  -- lines that lead on rest from p on, where those successors p did and the flow back over p is taken in
+  -- lines that lead on rest from p on, where those behind p did and the flow back over p is taken in
   pub rests_onward : ((k : ℕ) → is_back k (successors (map shape_of s) k) ≡ false) → p < length table →
       b ≡ flow (at table p) (some_of (λ q. at table q) (successors (map shape_of s) p)) (assigns_at (slice_get s p) x) →
       ((k : ℕ) → p < k → finds s x table k ≡ false) → (k : ℕ) → p ≤ k → finds s x (set table p b) k ≡ false

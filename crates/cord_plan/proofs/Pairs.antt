@@ -45,7 +45,7 @@ module _ (s : List Statement) (later : List ℕ → ℕ → Bool) where
   abbrev NamesIt : Option Statement → List ℕ → Type 0
   NamesIt l y = (reads_at l y ≡ true) ⊎ (has (numbers_named_at l) y ≡ true)
 
-  -- y is is_named by a line up to k, and by none from there to k assigned
+  -- y is named by a line up to k, and by none from there to k assigned
   record NamedBy (k : ℕ) (y : List ℕ) : Type 0 where
     place : ℕ
     up_to : place ≤ k

@@ -101,7 +101,7 @@ module _ (s : List Statement) (later : List ℕ → ℕ → Bool) where
   choices table b l done (x ∷ xs) =
       choices table b l (done ++ chosen_of table b l x (map (λ c. expr_of c) done) (map (λ y. name y) xs) (setter s x b) ∷ []) xs
 
-  -- a line with its choices; a line that is no simple one preserves its operands
+  -- a line with its choices; a line that is no simple one has no expression
   abbrev pub entry : Statement → List Choice → Option Expr × List Choice
   entry l cs = (expr_with l (map (λ c. expr_of c) cs), cs)
 

@@ -6,7 +6,7 @@ use Rattle.cord_plan.specs.Views.{operation_view}
 use Rattle.cord_plan.proofs.Planning.{decisions}
 use Rattle.cord_plan.proofs.planner.operations_of.Given as goal
 
--- the operations so far, with room for those to come, and the expressions that are others
+-- the operations so far, with room for those to come, and the expressions that are left
 abbrev pub invariant-loop-place : goal.invariant-loop-place
 invariant-loop-place l = record {
   so_far : map operation_view l.operations.items ++ decided_from (decisions l.statements (tells l.fn.later)) l.place
