@@ -231,30 +231,20 @@ impl Statement {
     {
         family!(self;
             Origin {
-                Let(target, text),
-                File(target, path),
-                Eager(target, path),
-                Lazy(target, path),
+                Let(target, text), File(target, path), Eager(target, path), Lazy(target, path),
                 FromFn(target, function: *function, count)
             }
             Composition {
-                Chars(target, byte, count),
-                Nul(target, count),
-                Cat(target, left, right),
-                Catn(target, parts),
-                Catc(target, operand, byte),
+                Chars(target, byte, count), Nul(target, count),
+                Cat(target, left, right), Catn(target, parts), Catc(target, operand, byte),
                 Substr(target, operand, start, count)
             }
             Derivation {
-                Balance(target, operand),
-                EcToCord(target, extensible),
+                Balance(target, operand), EcToCord(target, extensible),
                 Sprintf(target, text, format, arguments)
             }
             Computation {
-                Len(target, operand),
-                Assign(target, value),
-                Add(target, left, right),
-                Sub(target, left, right)
+                Len(target, operand), Assign(target, value), Add(target, left, right), Sub(target, left, right)
             }
             Look {
                 Fetch(target, operand, index),
@@ -266,12 +256,7 @@ impl Statement {
                 Chr(target, operand, start, byte),
                 Rchr(target, operand, start, byte)
             }
-            Growth {
-                EcInit(target),
-                EcPut(extensible, byte),
-                EcCat(extensible, operand),
-                EcStr(extensible, text)
-            }
+            Growth { EcInit(target), EcPut(extensible, byte), EcCat(extensible, operand), EcStr(extensible, text) }
             Control { Repeat(count), If(left, relation: *relation, right), Else(), End() }
         )
     }
