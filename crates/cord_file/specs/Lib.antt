@@ -6,3 +6,4 @@ pub mod Making
 pub mod Opening
 pub mod Soundness
 pub mod Sources
+pub mod inner

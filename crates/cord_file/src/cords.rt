@@ -7,6 +7,7 @@ ghost use Rattle.cord_file.specs.Entries.{lengths_in, table_in};
 ghost use Rattle.cord_file.specs.Opening.{Grows, IsRefusalOver};
 ghost use Rattle.cord_file.specs.Making.{IsLeafOver, IsFuncOver, IsFileIn, IsWhole, IsLazy, IsWholeOrLazy};
 ghost use Rattle.cord_file.specs.Making.{IsReadRefusal, IsWholeRefusal, IsLazyRefusal, IsWholeOrLazyRefusal};
+ghost use Rattle.cord_file.specs.inner.Reading.{LeavesFiles};
 
 use crate::{FileError, SHORT_FILE, Sources};
 use cord_core::Cord;
@@ -37,6 +38,23 @@ impl<F: Files> Sources<F> {
         self.read_whole(alloc, id, len)
     }
 
+    // An opened file as one leaf, for which its bytes are read where they stay.
+    fn read_whole(&mut self, alloc: Global, id: SourceId, len: u64) -> Result<Cord, FileError>
+        requires file { 2 ≤ id.0 }
+        requires len { lengths_in (opened_in self.old) id.0 ≡ Some len }
+        ensures files { LeavesFiles (has_failed result) self.old self.new }
+        ensures cord { IfOk result (IsLeafOver len) }
+        ensures text { (folder : Folder) → F.keeps (device_in self.new) folder →
+            IfOk result (λ cord.
+            bytes_of (table_in (opened_in self.old) folder) cord ≡ table_in (opened_in self.old) folder id.0) }
+        ensures refused { IfErr result IsReadRefusal }
+    {
+        let bytes = self.read_file_whole(alloc, id.0 as usize - 2, len)?;
+        let shared = RcSlice::from_vec(bytes)?;
+        let cord = Cord::from_shared(alloc, shared)?;
+        Ok(cord)
+    }
+
     /// The file at a path as a cord of which no byte is read now, one function part over its entry. The path is
     /// opened as by `open`. Refused as `open` is, or after it with `NoMemory`: then the path stays open.
     pub fn lazy(&mut self, alloc: Global, path: &str) -> Result<Cord, FileError>
@@ -54,6 +72,19 @@ impl<F: Files> Sources<F> {
     {
         let (id, len) = self.open(alloc, path)?;
         self.function_over(alloc, id, len)
+    }
+
+    // An opened file as one function part.
+    fn function_over(&self, alloc: Global, id: SourceId, len: u64) -> Result<Cord, FileError>
+        requires len { lengths_in (opened_in self.now) id.0 ≡ Some len }
+        ensures cord { IfOk result (IsFuncOver (opened_in self.now) id.0 len) }
+        ensures text { (folder : Folder) → F.keeps (device_in self.now) folder →
+            IfOk result (λ cord.
+            bytes_of (table_in (opened_in self.now) folder) cord ≡ table_in (opened_in self.now) folder id.0) }
+        ensures refused { IsOkUnless result FileError.NoMemory }
+    {
+        let cord = Cord::from_fn(alloc, id, 0, len)?;
+        Ok(cord)
     }
 
     /// The file at a path as a cord: `eager` where it is short, of at most `SHORT_FILE` bytes, else `lazy`. Refused
@@ -77,39 +108,5 @@ impl<F: Files> Sources<F> {
         } else {
             self.function_over(alloc, id, len)
         }
-    }
-
-    // An opened file as one leaf, for which its bytes are read where they stay.
-    fn read_whole(&mut self, alloc: Global, id: SourceId, len: u64) -> Result<Cord, FileError>
-        requires file { 2 ≤ id.0 }
-        requires len { lengths_in (opened_in self.old) id.0 ≡ Some len }
-        ensures earlier { (folder : Folder) →
-            F.keeps (device_in self.new) folder → F.keeps (device_in self.old) folder }
-        ensures count { F.failures (device_in self.new)
-            ≡ count_after (has_failed result) (F.failures (device_in self.old)) }
-        ensures opened { opened_in self.new ≡ opened_in self.old }
-        ensures cord { IfOk result (IsLeafOver len) }
-        ensures text { (folder : Folder) → F.keeps (device_in self.new) folder →
-            IfOk result (λ cord.
-            bytes_of (table_in (opened_in self.old) folder) cord ≡ table_in (opened_in self.old) folder id.0) }
-        ensures refused { IfErr result IsReadRefusal }
-    {
-        let bytes = self.read_file_whole(alloc, id.0 as usize - 2, len)?;
-        let shared = RcSlice::from_vec(bytes)?;
-        let cord = Cord::from_shared(alloc, shared)?;
-        Ok(cord)
-    }
-
-    // An opened file as one function part.
-    fn function_over(&self, alloc: Global, id: SourceId, len: u64) -> Result<Cord, FileError>
-        requires len { lengths_in (opened_in self.now) id.0 ≡ Some len }
-        ensures cord { IfOk result (IsFuncOver (opened_in self.now) id.0 len) }
-        ensures text { (folder : Folder) → F.keeps (device_in self.now) folder →
-            IfOk result (λ cord.
-            bytes_of (table_in (opened_in self.now) folder) cord ≡ table_in (opened_in self.now) folder id.0) }
-        ensures refused { IsOkUnless result FileError.NoMemory }
-    {
-        let cord = Cord::from_fn(alloc, id, 0, len)?;
-        Ok(cord)
     }
 }

@@ -5,6 +5,7 @@ ghost use Rattle.cord_io.specs.Device.{Folder, bytes_at, count_after};
 ghost use Rattle.cord_file.specs.Blocks.{AreRead, BeginsWithFile, IsBlockIn};
 ghost use Rattle.cord_file.specs.Faults.{has_failed};
 ghost use Rattle.cord_file.specs.Making.{IsReadRefusal};
+ghost use Rattle.cord_file.specs.inner.Reading.{IsInside, LeavesFiles};
 ghost use Rattle.cord_file.specs.declared.blocks.TheConstants.{BLOCK};
 
 use crate::blocks::{BLOCK, BlockKey, MAX_BLOCKS, copy_kept, keep, read_block, room_for};
@@ -126,11 +127,7 @@ impl<F: Files> Sources<F> {
         len: u64,
     ) -> Result<Vec<u8>, FileError>
         requires file { IsSomeAnd (slice_get self.old.entries.items place) (λ file. file.len ≡ len) }
-        ensures earlier { (folder : Folder) →
-            F.keeps (device_in self.new) folder → F.keeps (device_in self.old) folder }
-        ensures entries { self.new.entries.items ≡ self.old.entries.items }
-        ensures count { F.failures (device_in self.new)
-            ≡ count_after (has_failed result) (F.failures (device_in self.old)) }
+        ensures files { LeavesFiles (has_failed result) self.old self.new }
         ensures len { IfOk result (λ bytes. length bytes.items ≡ len) }
         ensures bytes { (folder : Folder) → F.keeps (device_in self.new) folder →
             IfOk result (λ bytes. AreRead folder (slice_get self.old.entries.items place) 0 bytes.items) }
@@ -159,13 +156,8 @@ impl<F: Files> Sources<F> {
         start: u64,
         out: &mut [u8],
     ) -> Result<(), ReadFault>
-        requires inside { IsSomeAnd (slice_get self.old.entries.items place) (λ file.
-            start + length out.old ≤ file.len) }
-        ensures earlier { (folder : Folder) →
-            F.keeps (device_in self.new) folder → F.keeps (device_in self.old) folder }
-        ensures entries { self.new.entries.items ≡ self.old.entries.items }
-        ensures count { F.failures (device_in self.new)
-            ≡ count_after (is_err result) (F.failures (device_in self.old)) }
+        requires inside { IsInside (slice_get self.old.entries.items place) start (length out.old) }
+        ensures files { LeavesFiles (is_err result) self.old self.new }
         ensures bytes { (folder : Folder) → F.keeps (device_in self.new) folder →
             OnOk result (AreRead folder (slice_get self.old.entries.items place) start out.new) }
     {
@@ -182,13 +174,8 @@ impl<F: Files> Sources<F> {
     // one block needs nothing of it.
     #[inline(never)]
     fn read_blocks(&mut self, place: usize, start: u64, out: &mut [u8]) -> Result<(), ReadFault>
-        requires inside { IsSomeAnd (slice_get self.old.entries.items place) (λ file.
-            start + length out.old ≤ file.len) }
-        ensures earlier { (folder : Folder) →
-            F.keeps (device_in self.new) folder → F.keeps (device_in self.old) folder }
-        ensures entries { self.new.entries.items ≡ self.old.entries.items }
-        ensures count { F.failures (device_in self.new)
-            ≡ count_after (is_err result) (F.failures (device_in self.old)) }
+        requires inside { IsInside (slice_get self.old.entries.items place) start (length out.old) }
+        ensures files { LeavesFiles (is_err result) self.old self.new }
         ensures bytes { (folder : Folder) → F.keeps (device_in self.new) folder →
             OnOk result (AreRead folder (slice_get self.old.entries.items place) start out.new) }
     {
@@ -211,13 +198,8 @@ impl<F: Files> Sources<F> {
         start: u64,
         out: &mut [u8],
     ) -> Result<(), ReadFault>
-        requires inside { IsSomeAnd (slice_get self.old.entries.items place) (λ file.
-            start + length out.old ≤ file.len) }
-        ensures earlier { (folder : Folder) →
-            F.keeps (device_in self.new) folder → F.keeps (device_in self.old) folder }
-        ensures entries { self.new.entries.items ≡ self.old.entries.items }
-        ensures count { F.failures (device_in self.new)
-            ≡ count_after (is_err result) (F.failures (device_in self.old)) }
+        requires inside { IsInside (slice_get self.old.entries.items place) start (length out.old) }
+        ensures files { LeavesFiles (is_err result) self.old self.new }
         ensures bytes { (folder : Folder) → F.keeps (device_in self.new) folder →
             OnOk result (AreRead folder (slice_get self.old.entries.items place) start out.new) }
     {
@@ -233,15 +215,10 @@ impl<F: Files> Sources<F> {
         out: &mut [u8],
         way: Way,
     ) -> Result<(), ReadFault>
-        requires inside { IsSomeAnd (slice_get self.old.entries.items place) (λ file.
-            start + length out.old ≤ file.len) }
+        requires inside { IsInside (slice_get self.old.entries.items place) start (length out.old) }
         requires some { 0 < length out.old }
         requires part { start % BLOCK + length out.old ≤ BLOCK }
-        ensures earlier { (folder : Folder) →
-            F.keeps (device_in self.new) folder → F.keeps (device_in self.old) folder }
-        ensures entries { self.new.entries.items ≡ self.old.entries.items }
-        ensures count { F.failures (device_in self.new)
-            ≡ count_after (is_err result) (F.failures (device_in self.old)) }
+        ensures files { LeavesFiles (is_err result) self.old self.new }
         ensures bytes { (folder : Folder) → F.keeps (device_in self.new) folder →
             OnOk result (AreRead folder (slice_get self.old.entries.items place) start out.new) }
     {
@@ -257,15 +234,10 @@ impl<F: Files> Sources<F> {
     // Fills `out` with bytes of one block of an opened file: of the block that is kept, or else of one that is read
     // and then kept.
     fn read_part(&mut self, place: usize, start: u64, out: &mut [u8]) -> Result<(), ReadFault>
-        requires inside { IsSomeAnd (slice_get self.old.entries.items place) (λ file.
-            start + length out.old ≤ file.len) }
+        requires inside { IsInside (slice_get self.old.entries.items place) start (length out.old) }
         requires some { 0 < length out.old }
         requires part { start % BLOCK + length out.old ≤ BLOCK }
-        ensures earlier { (folder : Folder) →
-            F.keeps (device_in self.new) folder → F.keeps (device_in self.old) folder }
-        ensures entries { self.new.entries.items ≡ self.old.entries.items }
-        ensures count { F.failures (device_in self.new)
-            ≡ count_after (is_err result) (F.failures (device_in self.old)) }
+        ensures files { LeavesFiles (is_err result) self.old self.new }
         ensures bytes { (folder : Folder) → F.keeps (device_in self.new) folder →
             OnOk result (AreRead folder (slice_get self.old.entries.items place) start out.new) }
     {
@@ -280,15 +252,10 @@ impl<F: Files> Sources<F> {
 
     // Fills `out` with bytes of one block of an opened file, which is read and then kept.
     fn read_new(&mut self, place: usize, start: u64, out: &mut [u8]) -> Result<(), ReadFault>
-        requires inside { IsSomeAnd (slice_get self.old.entries.items place) (λ file.
-            start + length out.old ≤ file.len) }
+        requires inside { IsInside (slice_get self.old.entries.items place) start (length out.old) }
         requires some { 0 < length out.old }
         requires part { start % BLOCK + length out.old ≤ BLOCK }
-        ensures earlier { (folder : Folder) →
-            F.keeps (device_in self.new) folder → F.keeps (device_in self.old) folder }
-        ensures entries { self.new.entries.items ≡ self.old.entries.items }
-        ensures count { F.failures (device_in self.new)
-            ≡ count_after (is_err result) (F.failures (device_in self.old)) }
+        ensures files { LeavesFiles (is_err result) self.old self.new }
         ensures bytes { (folder : Folder) → F.keeps (device_in self.new) folder →
             OnOk result (AreRead folder (slice_get self.old.entries.items place) start out.new) }
     {
@@ -306,15 +273,10 @@ impl<F: Files> Sources<F> {
 
     // Fills `out` with bytes of one block of an opened file, which is read and not kept.
     fn read_unkept(&mut self, place: usize, start: u64, out: &mut [u8]) -> Result<(), ReadFault>
-        requires inside { IsSomeAnd (slice_get self.old.entries.items place) (λ file.
-            start + length out.old ≤ file.len) }
+        requires inside { IsInside (slice_get self.old.entries.items place) start (length out.old) }
         requires some { 0 < length out.old }
         requires part { start % BLOCK + length out.old ≤ BLOCK }
-        ensures earlier { (folder : Folder) →
-            F.keeps (device_in self.new) folder → F.keeps (device_in self.old) folder }
-        ensures entries { self.new.entries.items ≡ self.old.entries.items }
-        ensures count { F.failures (device_in self.new)
-            ≡ count_after (is_err result) (F.failures (device_in self.old)) }
+        ensures files { LeavesFiles (is_err result) self.old self.new }
         ensures bytes { (folder : Folder) → F.keeps (device_in self.new) folder →
             OnOk result (AreRead folder (slice_get self.old.entries.items place) start out.new) }
     {
@@ -333,11 +295,7 @@ impl<F: Files> Sources<F> {
         block: &mut [u8; BLOCK],
     ) -> Result<(), ReadFault>
         requires inside { IsSomeAnd (slice_get self.old.entries.items place) (λ file. number * BLOCK < file.len) }
-        ensures earlier { (folder : Folder) →
-            F.keeps (device_in self.new) folder → F.keeps (device_in self.old) folder }
-        ensures entries { self.new.entries.items ≡ self.old.entries.items }
-        ensures count { F.failures (device_in self.new)
-            ≡ count_after (is_err result) (F.failures (device_in self.old)) }
+        ensures files { LeavesFiles (is_err result) self.old self.new }
         ensures block { (folder : Folder) → F.keeps (device_in self.new) folder →
             OnOk result (IsBlockIn folder (slice_get self.old.entries.items place) number block.new) }
     {

@@ -17,13 +17,13 @@ loop-done-preserved g c =
     let here : slice_get loop.self.entries.items c.args.place ≡ at = ap (λ xs. slice_get xs c.args.place) loop.invariant.entries in
     record {
       done = search rules;
-      earlier = λ folder kept. loop.invariant.earlier folder (c.in_ok-read_one.ensures.earlier folder kept);
-      entries = c.read_one.ensures.entries ∙ loop.invariant.entries;
+      earlier = λ folder kept. loop.invariant.earlier folder (c.in_ok-read_one.ensures.files.earlier folder kept);
+      entries = c.read_one.ensures.files.entries ∙ loop.invariant.entries;
       count = search rules;
       bytes = λ folder kept.
           let read : AreRead folder at (c.args.start + loop.done) part = subst (λ o. AreRead folder o (c.args.start + loop.done) part) here (c.in_ok-read_one.ensures.bytes folder kept) in
           more_read (λ f. string_bytes f.path) folder at loop.done size _ c.args.start loop.out part loop.invariant.done
           (omega (arith, count))
-          (loop.invariant.bytes folder (c.in_ok-read_one.ensures.earlier folder kept))
+          (loop.invariant.bytes folder (c.in_ok-read_one.ensures.files.earlier folder kept))
           (all_read folder at (c.args.start + loop.done) size part count read);
     }

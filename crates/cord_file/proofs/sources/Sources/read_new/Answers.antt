@@ -19,7 +19,7 @@ invariant_of-self-2-clause-sound g c =
     let keeps = g.F.Files.keeps self.files in
     let before = c.args.self.now.entries.items in
     let inside : c.args.place < length before = inside_opened before c.args.place (λ f. c.args.start + length c.args.out.now ≤ f.len) c.requires.inside in
-    let same : files ≡ before = c.read_block.ensures.entries in
+    let same : files ≡ before = c.read_block.ensures.files.entries in
     let key : BlockKey = record { place = c.args.place; number = c.args.start / BLOCK } in
     let block : HeapBlock = with_value c.in-Some.block c.read_block.new.block in
     let kept : IsKept keeps files (key, block) = kept_of_read keeps files key block (subst (λ fs. c.args.place < length fs) (sym same) inside)

@@ -37,7 +37,7 @@ returns-clause-text g c = λ folder kept.
     let self = c.args.self.now in
     let files = self.entries.items in
     let items : rc_slice_items c.in_ok-shared.shared ≡ c.in_ok-bytes.bytes.items = c.in_ok-shared.ensures in
-    let told = as_long_as_told (g.F.Files.keeps self.files) files self.sound.as_long folder (c.in_ok-bytes.ensures.earlier folder kept) in
+    let told = as_long_as_told (g.F.Files.keeps self.files) files self.sound.as_long folder (c.in_ok-bytes.ensures.files.earlier folder kept) in
     c.in_ok-cord.ensures.over.bytes (table_in (opened_of files) folder) ∙ items
     ∙ entry_bytes folder files c.args.id.0 c.args.len c.in_ok-bytes.bytes.items c.requires.file told c.requires.len
     c.in_ok-bytes.ensures.len (c.in_ok-bytes.ensures.bytes folder kept)
