@@ -7,6 +7,7 @@ ghost use Rattle.cord_node.specs.Tree.{len_of, IsSound};
 ghost use Rattle.cord_node.specs.Tables.{bytes_over, FitsIn};
 ghost use Rattle.cord_core.specs.Cord.{text_len, bytes_of, CordFitsIn};
 ghost use Rattle.cord_iter.specs.Walk.{walk, WalkedFront};
+ghost use Rattle.cord_iter.specs.inner.Sources.{LeavesSource};
 
 use crate::pieces::piece_len;
 use crate::{PIECE_LEN, Visitor};
@@ -89,9 +90,7 @@ fn walk_node<S: Source, V: Visitor>(
         OnErr result (WalkedFront V.step (V.state visitor.old) (V.state visitor.new)
         (drop from (bytes_over (S.table src.old folder) node.now))) }
     ensures count { S.failures src.new ≡ count_after (is_err result) (S.failures src.old) }
-    ensures lengths { S.lengths src.new ≡ S.lengths src.old }
-    ensures table { S.table src.new ≡ S.table src.old }
-    ensures earlier { (folder : Folder) → S.keeps src.new folder → S.keeps src.old folder }
+    ensures source { LeavesSource ⟦<S as Source>⟧ src.old src.new }
 {
     match node {
         Node::Leaf {
@@ -151,9 +150,7 @@ fn walk_func<S: Source, V: Visitor>(
         OnErr result (WalkedFront V.step (V.state visitor.old) (V.state visitor.new)
         (take len (drop start (S.table src.old folder id.0)))) }
     ensures count { S.failures src.new ≡ count_after (is_err result) (S.failures src.old) }
-    ensures lengths { S.lengths src.new ≡ S.lengths src.old }
-    ensures table { S.table src.new ≡ S.table src.old }
-    ensures earlier { (folder : Folder) → S.keeps src.new folder → S.keeps src.old folder }
+    ensures source { LeavesSource ⟦<S as Source>⟧ src.old src.new }
 {
     let mut done = 0;
     while done < len {
@@ -182,9 +179,7 @@ fn walk_piece<S: Source, V: Visitor>(
         (take count (drop start (S.table src.old folder id.0))) ≡ (V.state visitor.new, stopped)) }
     ensures stays { OnErr result (V.state visitor.new ≡ V.state visitor.old) }
     ensures count { S.failures src.new ≡ count_after (is_err result) (S.failures src.old) }
-    ensures lengths { S.lengths src.new ≡ S.lengths src.old }
-    ensures table { S.table src.new ≡ S.table src.old }
-    ensures earlier { (folder : Folder) → S.keeps src.new folder → S.keeps src.old folder }
+    ensures source { LeavesSource ⟦<S as Source>⟧ src.old src.new }
 {
     let mut buffer = [0; PIECE_LEN];
     let piece = &mut buffer[..count];

@@ -6,6 +6,7 @@ ghost use Rattle.cord_node.specs.Tree.{IsSound};
 ghost use Rattle.cord_node.specs.Tables.{FitsIn};
 ghost use Rattle.cord_core.specs.Cord.{text_len, bytes_of, CordFitsIn};
 ghost use Rattle.cord_iter.specs.Taking.{IsFrontOf, IsTextOver, IsPrefixOver, Takes, CountsFaults};
+ghost use Rattle.cord_iter.specs.inner.Sources.{LeavesSource};
 
 use crate::pieces::{piece_len, put_all, put_run};
 use crate::{BLOCK_LEN, PAGE_LEN, PIECE_LEN};
@@ -74,9 +75,7 @@ fn put_node<S: Source, W: Sink>(node: &Node, src: &mut S, sink: &mut W) -> Resul
         (W.taken sink.new)) }
     ensures faults { CountsFaults (record { source = S.failures src.old; sink = W.failures sink.old })
         (record { source = S.failures src.new; sink = W.failures sink.new }) result }
-    ensures lengths { S.lengths src.new ≡ S.lengths src.old }
-    ensures table { S.table src.new ≡ S.table src.old }
-    ensures earlier { (folder : Folder) → S.keeps src.new folder → S.keeps src.old folder }
+    ensures source { LeavesSource ⟦<S as Source>⟧ src.old src.new }
     ensures finished { W.finished sink.new ≡ W.finished sink.old }
 {
     match node {
@@ -117,9 +116,7 @@ fn put_func<S: Source, W: Sink>(
         (W.taken sink.old) (W.taken sink.new)) }
     ensures faults { CountsFaults (record { source = S.failures src.old; sink = W.failures sink.old })
         (record { source = S.failures src.new; sink = W.failures sink.new }) result }
-    ensures lengths { S.lengths src.new ≡ S.lengths src.old }
-    ensures table { S.table src.new ≡ S.table src.old }
-    ensures earlier { (folder : Folder) → S.keeps src.new folder → S.keeps src.old folder }
+    ensures source { LeavesSource ⟦<S as Source>⟧ src.old src.new }
     ensures finished { W.finished sink.new ≡ W.finished sink.old }
 {
     if len <= PIECE_LEN as u64 {
@@ -151,9 +148,7 @@ fn put_range<const N: usize, S: Source, W: Sink>(
         (W.taken sink.old) (W.taken sink.new)) }
     ensures faults { CountsFaults (record { source = S.failures src.old; sink = W.failures sink.old })
         (record { source = S.failures src.new; sink = W.failures sink.new }) result }
-    ensures lengths { S.lengths src.new ≡ S.lengths src.old }
-    ensures table { S.table src.new ≡ S.table src.old }
-    ensures earlier { (folder : Folder) → S.keeps src.new folder → S.keeps src.old folder }
+    ensures source { LeavesSource ⟦<S as Source>⟧ src.old src.new }
     ensures finished { W.finished sink.new ≡ W.finished sink.old }
 {
     let mut buffer = [0; N];
@@ -184,9 +179,7 @@ fn put_piece<S: Source, W: Sink>(
         (W.taken sink.old) (W.taken sink.new)) }
     ensures faults { CountsFaults (record { source = S.failures src.old; sink = W.failures sink.old })
         (record { source = S.failures src.new; sink = W.failures sink.new }) result }
-    ensures lengths { S.lengths src.new ≡ S.lengths src.old }
-    ensures table { S.table src.new ≡ S.table src.old }
-    ensures earlier { (folder : Folder) → S.keeps src.new folder → S.keeps src.old folder }
+    ensures source { LeavesSource ⟦<S as Source>⟧ src.old src.new }
     ensures finished { W.finished sink.new ≡ W.finished sink.old }
 {
     src.read(id, start, piece)?;

@@ -20,7 +20,7 @@ returns-in_err-walk_node-in-Cat-clause-prefix g t c folder kept =
     let node = c.args.node.now in
     let left = c.in-Cat.left.value in
     let right = c.in-Cat.right.value in
-    let told = g.met.S.Source.lengths_of_table c.args.src.now folder (c.walk_node-else-seam-from.ensures.earlier folder kept) in
+    let told = g.met.S.Source.lengths_of_table c.args.src.now folder (c.walk_node-else-seam-from.ensures.source.earlier folder kept) in
     let cut : IsCut text left right node = cut_of (g.S.Source.lengths c.args.src.now) text _ left _ right _ _ _ node c.in-Cat.is c.requires.sound c.requires.fits told in
     let seam : c.len-seam.result ≡ len_of left = c.len-seam.ensures.stored ∙ ap len_of c.deref.ensures in
     let inside : c.args.from ≤ len_of left = omega (arith, seam, c.if-seam-from.false) in
@@ -65,7 +65,7 @@ returns-then-branch-clause-walked g t c folder kept =
     let node = c.args.node.now in
     let left = c.in-Cat.left.value in
     let right = c.in-Cat.right.value in
-    let told = g.met.S.Source.lengths_of_table c.args.src.now folder (c.walk_node-else-seam-from.ensures.earlier folder kept) in
+    let told = g.met.S.Source.lengths_of_table c.args.src.now folder (c.walk_node-else-seam-from.ensures.source.earlier folder kept) in
     let cut : IsCut text left right node = cut_of (g.S.Source.lengths c.args.src.now) text _ left _ right _ _ _ node c.in-Cat.is c.requires.sound c.requires.fits told in
     let seam : c.len-seam.result ≡ len_of left = c.len-seam.ensures.stored ∙ ap len_of c.deref.ensures in
     let inside : c.args.from ≤ len_of left = omega (arith, seam, c.if-seam-from.false) in
@@ -102,7 +102,7 @@ returns-then-seam-from-clause-walked g t c folder kept =
     let node = c.args.node.now in
     let left = c.in-Cat.left.value in
     let right = c.in-Cat.right.value in
-    let told = g.met.S.Source.lengths_of_table c.args.src.now folder (c.walk_node.ensures.earlier folder kept) in
+    let told = g.met.S.Source.lengths_of_table c.args.src.now folder (c.walk_node.ensures.source.earlier folder kept) in
     let cut : IsCut text left right node = cut_of (g.S.Source.lengths c.args.src.now) text _ left _ right _ _ _ node c.in-Cat.is c.requires.sound c.requires.fits told in
     let seam : c.len-seam.result ≡ len_of left = c.len-seam.ensures.stored ∙ ap len_of c.deref.ensures in
     let inside : len_of left ≤ c.args.from = subst (λ k. k ≤ c.args.from) seam c.if-seam-from.true in
@@ -118,7 +118,7 @@ returns-then-seam-from-clause-prefix g t c folder kept =
     let node = c.args.node.now in
     let left = c.in-Cat.left.value in
     let right = c.in-Cat.right.value in
-    let told = g.met.S.Source.lengths_of_table c.args.src.now folder (c.walk_node.ensures.earlier folder kept) in
+    let told = g.met.S.Source.lengths_of_table c.args.src.now folder (c.walk_node.ensures.source.earlier folder kept) in
     let cut : IsCut text left right node = cut_of (g.S.Source.lengths c.args.src.now) text _ left _ right _ _ _ node c.in-Cat.is c.requires.sound c.requires.fits told in
     let seam : c.len-seam.result ≡ len_of left = c.len-seam.ensures.stored ∙ ap len_of c.deref.ensures in
     let inside : len_of left ≤ c.args.from = subst (λ k. k ≤ c.args.from) seam c.if-seam-from.true in
@@ -133,15 +133,15 @@ returns-else-branch-clause-walked g t c folder kept =
     let node = c.args.node.now in
     let left = c.in-Cat.left.value in
     let right = c.in-Cat.right.value in
-    let before = c.walk_node-else-branch.ensures.earlier folder kept in
-    let told = g.met.S.Source.lengths_of_table c.args.src.now folder (c.walk_node-else-seam-from.ensures.earlier folder before) in
+    let before = c.walk_node-else-branch.ensures.source.earlier folder kept in
+    let told = g.met.S.Source.lengths_of_table c.args.src.now folder (c.walk_node-else-seam-from.ensures.source.earlier folder before) in
     let cut : IsCut text left right node = cut_of (g.S.Source.lengths c.args.src.now) text _ left _ right _ _ _ node c.in-Cat.is c.requires.sound c.requires.fits told in
     let seam : c.len-seam.result ≡ len_of left = c.len-seam.ensures.stored ∙ ap len_of c.deref.ensures in
     let inside : c.args.from ≤ len_of left = omega (arith, seam, c.if-seam-from.false) in
     let stays = rw (c.as_ref-else-seam-from.ensures, c.if-branch.false) at c.in_ok-walk_node-in-Cat.ensures.walked folder before in
     IfOk-weaker c.walk_node-else-branch.result _ _ (λ stopped on.
     cut_on step (state c.args.visitor.now) (state c.walk_node-else-seam-from.new.visitor) _ text left right node c.args.from cut inside
-    stays on) (rw (c.as_ref-else-branch.ensures, c.walk_node-else-seam-from.ensures.table) at c.walk_node-else-branch.ensures.walked
+    stays on) (rw (c.as_ref-else-branch.ensures, c.walk_node-else-seam-from.ensures.source.table) at c.walk_node-else-branch.ensures.walked
     folder kept)
 
 pub returns-else-branch-clause-prefix : goal.returns-else-branch-clause-prefix
@@ -152,13 +152,13 @@ returns-else-branch-clause-prefix g t c folder kept =
     let node = c.args.node.now in
     let left = c.in-Cat.left.value in
     let right = c.in-Cat.right.value in
-    let before = c.walk_node-else-branch.ensures.earlier folder kept in
-    let told = g.met.S.Source.lengths_of_table c.args.src.now folder (c.walk_node-else-seam-from.ensures.earlier folder before) in
+    let before = c.walk_node-else-branch.ensures.source.earlier folder kept in
+    let told = g.met.S.Source.lengths_of_table c.args.src.now folder (c.walk_node-else-seam-from.ensures.source.earlier folder before) in
     let cut : IsCut text left right node = cut_of (g.S.Source.lengths c.args.src.now) text _ left _ right _ _ _ node c.in-Cat.is c.requires.sound c.requires.fits told in
     let seam : c.len-seam.result ≡ len_of left = c.len-seam.ensures.stored ∙ ap len_of c.deref.ensures in
     let inside : c.args.from ≤ len_of left = omega (arith, seam, c.if-seam-from.false) in
     let stays = rw (c.as_ref-else-seam-from.ensures, c.if-branch.false) at c.in_ok-walk_node-in-Cat.ensures.walked folder before in
     on_err_weaker c.walk_node-else-branch.result (λ front. cut_on_front step (state c.args.visitor.now)
     (state c.walk_node-else-seam-from.new.visitor) (state c.walk_node-else-branch.new.visitor) text left right node c.args.from cut
-    inside stays front) (rw (c.as_ref-else-branch.ensures, c.walk_node-else-seam-from.ensures.table) at
+    inside stays front) (rw (c.as_ref-else-branch.ensures, c.walk_node-else-seam-from.ensures.source.table) at
     c.walk_node-else-branch.ensures.prefix folder kept)

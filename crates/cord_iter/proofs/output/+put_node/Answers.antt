@@ -22,9 +22,9 @@ returns-in_err-put_node-in-Cat-2-clause-prefix g t c =
     let right = c.in-Cat.right.value in
     let sides : AreSides left right node = cat_sides _ left _ right _ _ _ node c.in-Cat.is c.requires.sound in
     let first : Takes (IsTextOver (keeps c.put_node.new.src) table left) (g.W.Sink.taken c.args.sink.now) (g.W.Sink.taken c.put_node.new.sink) = rw c.as_ref.ensures at c.in_ok-put_node-in-Cat.ensures.text in
-    let second : Takes (IsPrefixOver (keeps c.put_node-in-Cat.new.src) table right) (g.W.Sink.taken c.put_node.new.sink) (g.W.Sink.taken c.put_node-in-Cat.new.sink) = rw (c.as_ref-in-Cat.ensures, c.put_node.ensures.table) at c.in_err-put_node-in-Cat-2.ensures.prefix in
+    let second : Takes (IsPrefixOver (keeps c.put_node-in-Cat.new.src) table right) (g.W.Sink.taken c.put_node.new.sink) (g.W.Sink.taken c.put_node-in-Cat.new.sink) = rw (c.as_ref-in-Cat.ensures, c.put_node.ensures.source.table) at c.in_err-put_node-in-Cat-2.ensures.prefix in
     on_err c.from_residual-in_err-put_node-in-Cat-2.result (takes_both first second
-    (λ x y. cat_right table left right node x y sides c.put_node-in-Cat.ensures.earlier))
+    (λ x y. cat_right table left right node x y sides c.put_node-in-Cat.ensures.source.earlier))
 
 pub returns-in_ok-put_node-in-Cat-2-clause-text : goal.returns-in_ok-put_node-in-Cat-2-clause-text
 returns-in_ok-put_node-in-Cat-2-clause-text g t c =
@@ -35,5 +35,5 @@ returns-in_ok-put_node-in-Cat-2-clause-text g t c =
     let right = c.in-Cat.right.value in
     let sides : AreSides left right node = cat_sides _ left _ right _ _ _ node c.in-Cat.is c.requires.sound in
     let first : Takes (IsTextOver (keeps c.put_node.new.src) table left) (g.W.Sink.taken c.args.sink.now) (g.W.Sink.taken c.put_node.new.sink) = rw c.as_ref.ensures at c.in_ok-put_node-in-Cat.ensures.text in
-    let second : Takes (IsTextOver (keeps c.put_node-in-Cat.new.src) table right) (g.W.Sink.taken c.put_node.new.sink) (g.W.Sink.taken c.put_node-in-Cat.new.sink) = rw (c.as_ref-in-Cat.ensures, c.put_node.ensures.table) at c.in_ok-put_node-in-Cat-2.ensures.text in
-    takes_both first second (λ x y. cat_text table left right node x y sides c.put_node-in-Cat.ensures.earlier)
+    let second : Takes (IsTextOver (keeps c.put_node-in-Cat.new.src) table right) (g.W.Sink.taken c.put_node.new.sink) (g.W.Sink.taken c.put_node-in-Cat.new.sink) = rw (c.as_ref-in-Cat.ensures, c.put_node.ensures.source.table) at c.in_ok-put_node-in-Cat-2.ensures.text in
+    takes_both first second (λ x y. cat_text table left right node x y sides c.put_node-in-Cat.ensures.source.earlier)

@@ -15,7 +15,7 @@ returns-in_err-put_piece-clause-prefix g c =
     let inside : done + count ≤ c.args.len = omega (arith, c.piece_len-count.ensures.inside) in
     let piece : Takes (IsPrefixOver (g.S.Source.keeps c.put_piece.new.src) table (Func c.args.id (c.args.start + done) count)) (g.W.Sink.taken c.loop-done.sink) (g.W.Sink.taken c.put_piece.new.sink) = rw (c.loop-done.invariant.table, whole) at c.in_err-put_piece.ensures.prefix in
     on_err c.from_residual.result (takes_both c.loop-done.invariant.taken piece
-    (λ x y. func_prefix table c.args.id c.args.start done count c.args.len x y inside c.put_piece.ensures.earlier))
+    (λ x y. func_prefix table c.args.id c.args.start done count c.args.len x y inside c.put_piece.ensures.source.earlier))
 
 pub loop-done-preserved : goal.loop-done-preserved
 loop-done-preserved g c =
@@ -29,11 +29,11 @@ loop-done-preserved g c =
       in_range = omega (arith, c.piece_len-count.ensures.inside);
       room = length-append c.put_piece.new.piece (drop count c.loop-done.buffer) ∙ (let front : length c.put_piece.new.piece ≡ count = c.put_piece.auto.piece ∙ whole in let rest = length-drop count c.loop-done.buffer in omega (arith, front, rest, room, c.loop-done.invariant.room));
       taken = takes_both c.loop-done.invariant.taken piece (λ x y.
-          func_text table c.args.id c.args.start done count x y c.put_piece.ensures.earlier);
+          func_text table c.args.id c.args.start done count x y c.put_piece.ensures.source.earlier);
       reads = c.in_ok-put_piece.ensures.faults.0 ∙ c.loop-done.invariant.reads;
       puts = c.in_ok-put_piece.ensures.faults.1 ∙ c.loop-done.invariant.puts;
-      lengths = c.put_piece.ensures.lengths ∙ c.loop-done.invariant.lengths;
-      table = c.put_piece.ensures.table ∙ c.loop-done.invariant.table;
-      earlier = λ folder kept. c.loop-done.invariant.earlier folder (c.put_piece.ensures.earlier folder kept);
+      lengths = c.put_piece.ensures.source.lengths ∙ c.loop-done.invariant.lengths;
+      table = c.put_piece.ensures.source.table ∙ c.loop-done.invariant.table;
+      earlier = λ folder kept. c.loop-done.invariant.earlier folder (c.put_piece.ensures.source.earlier folder kept);
       finished = c.put_piece.ensures.finished ∙ c.loop-done.invariant.finished;
     }
