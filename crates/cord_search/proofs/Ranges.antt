@@ -1,14 +1,14 @@
 -- Where stretches and pieces stand in the text of a cord.
 use Rattle.std.proofs.Common.{◌≡◌, ℕ, ◌+◌, ◌-◌, ◌≤◌, List, length, take, drop, None, Some, sym, ◌∙◌, ap, arith}
 use Rattle.std.specs.Prelude.{Option, replicate}
-use Rattle.std.proofs.lemmas.List.{take_min, take-take, drop-replicate, take-replicate, length-take, take_all}
+use Rattle.std.proofs.lemmas.List.{take_min, drop-replicate, take-replicate, length-take, take_all}
 use Rattle.cord_io.specs.Table.{Table, Lengths, HasLengths}
 use Rattle.cord_node.specs.declared.Node.{Node}
 use Rattle.cord_node.proofs.Ranges.{range_of_range}
 use Rattle.cord_node.proofs.TableLemmas.{Fits-told}
 use Rattle.cord_core.specs.Cord.{text_len, bytes_of, IsCord, CordFitsIn, CordFits}
 use Rattle.cord_core.proofs.OverLemmas.{length-bytes}
-use Rattle.cord_pos.specs.Stretches.{stretch_len, stretch_bytes, IsStretchOf, IsFrontOf}
+use Rattle.cord_pos.specs.Stretches.{stretch_len, stretch_bytes, IsStretchOf}
 use Rattle.cord_pos.specs.declared.stretch.Stretch.{Stretch}
 use Rattle.cord_search.specs.inner.Pieces.{IsPieceOf}
 use Rattle.cord_search.specs.inner.Stretches.{IsPartOf}
@@ -60,8 +60,3 @@ piece_within ls t c place s i j xs told f h inside e p =
     p ∙ ap (λ (ys : List ℕ). take (length xs) (drop i ys)) (h.text t (cord_told ls t c told f))
     ∙ range_of_range (bytes_of t c) i (length xs) place (stretch_len s) inside
     ∙ ap (λ (m : ℕ). take (length xs) (drop m (bytes_of t c))) (sym e)
-
--- what stands at the front of a stretch's front stands at its own
-pub front_part : (t : Table) (s front : Stretch) (n : ℕ) (xs : List ℕ) → IsFrontOf s n front → length xs ≤ n → IsPartOf t front 0 xs →
-    IsPartOf t s 0 xs
-front_part t s front n xs f le e = e ∙ ap (λ (ys : List ℕ). take (length xs) ys) (f.text t) ∙ take-take (length xs) n (stretch_bytes t s) le

@@ -2,3 +2,4 @@ pub mod Stretches
 pub mod Ahead
 pub mod Pieces
 pub mod Periods
+pub mod Searches

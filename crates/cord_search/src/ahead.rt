@@ -42,7 +42,8 @@ impl<'a> Spot<'a> {
     fn side(self) -> Option<Spot<'a>>
         requires { IsSpot self }
         ensures spot { IfSome result (λ side. IsSpot side) }
-        ensures within { IfSome result (λ side. IsWithin self.entry.node.now self.entry.place side.node.now side.place) }
+        ensures within { IfSome result (λ side.
+            IsWithin self.entry.node.now self.entry.place side.node.now side.place) }
         ensures shorter { IfSome result (λ side. len_of side.node.now < len_of self.entry.node.now) }
     {
         let Node::Cat { left, right, .. } = self.node else {
@@ -62,8 +63,9 @@ impl<'a> Spot<'a> {
     }
 }
 
-// The greatest node that holds both places at one of its own, as two equal spots: going down, from the longer of two nodes,
-// meets it, since a node's sides are shorter than the node. Where there is none, a part and a node that is no longer.
+// The greatest node that holds both places at one of its own, as two equal spots: going down, from the longer of two
+// nodes, meets it, since a node's sides are shorter than the node. Where there is none, a part and a node that is no
+// longer.
 fn meet<'a>(mut spot: Spot<'a>, mut other: Spot<'a>) -> (Spot<'a>, Spot<'a>)
     requires sound { IsSpot spot × IsSpot other }
     ensures spot { IsSpot result.0 }
@@ -98,8 +100,8 @@ fn spot_at(cord: &Cord, place: u64) -> Spot
     }
 }
 
-/// What two cords' texts have at two places, at most `most` bytes: bytes that are known to be the same, since they are of
-/// one node, runs of one byte or one range of an entry, or else a stretch of each.
+/// What two cords' texts have at two places, at most `most` bytes: bytes that are known to be the same, since they
+/// are of one node, runs of one byte or one range of an entry, or else a stretch of each.
 pub(crate) fn look_ahead<'a>(x: &'a Cord, i: u64, y: &'a Cord, j: u64, most: u64) -> Ahead<'a>
     requires some { 0 < most }
     requires left_inside { i < text_len x.now }
@@ -113,7 +115,8 @@ pub(crate) fn look_ahead<'a>(x: &'a Cord, i: u64, y: &'a Cord, j: u64, most: u64
 fn look_from<'a>(top: Spot<'a>, beside: Spot<'a>, most: u64) -> Ahead<'a>
     requires some { 0 < most }
     requires sound { IsSpot top × IsSpot beside }
-    ensures { IsAhead (Some top.entry.node.now) top.entry.place (Some beside.entry.node.now) beside.entry.place most result }
+    ensures { IsAhead (Some top.entry.node.now) top.entry.place (Some beside.entry.node.now) beside.entry.place
+        most result }
 {
     let (spot, other) = meet(top, beside);
     if spot.is_same(other) {
@@ -128,10 +131,11 @@ fn look_from<'a>(top: Spot<'a>, beside: Spot<'a>, most: u64) -> Ahead<'a>
     Ahead::Apart(stretch.up_to(count), next.up_to(count))
 }
 
-/// How many bytes two texts have in common behind two stretches that were the same, of the first `most`, where those were
-/// leaves: up to a part that is none, to bytes that differ or to the end of a short node. The way to each leaf begins at that
-/// node and not at the root. Nothing that both share is missed by that: it begins behind those stretches, or the way from the
-/// roots had met it before them, and if it is longer than the node, both ways lead into it to one node that is as short.
+/// How many bytes two texts have in common behind two stretches that were the same, of the first `most`, where those
+/// were leaves: up to a part that is none, to bytes that differ or to the end of a short node. The way to each leaf
+/// begins at that node and not at the root. Nothing that both share is missed by that: it begins behind those
+/// stretches, or the way from the roots had met it before them, and if it is longer than the node, both ways lead
+/// into it to one node that is as short.
 #[inline(never)]
 pub(crate) fn common_behind(leaves: bool, x: &Cord, i: u64, y: &Cord, j: u64, most: u64) -> u64
     requires left_inside { 0 < most → i + most ≤ text_len x.now }
@@ -163,13 +167,15 @@ fn near<'a>(mut spot: Spot<'a>) -> Spot<'a>
     spot
 }
 
-// How many bytes two nodes' texts have in common from two places on, of the first `most`, in what both share and in leaves.
+// How many bytes two nodes' texts have in common from two places on, of the first `most`, in what both share and in
+// leaves.
 fn common_from(spot: Spot, other: Spot, most: u64) -> u64
     requires sound { IsSpot spot × IsSpot other }
     requires left_inside { spot.place + most ≤ len_of spot.node.now }
     requires right_inside { other.place + most ≤ len_of other.node.now }
     ensures most { result ≤ most }
-    ensures alike { AreAlike (Some spot.entry.node.now) spot.entry.place (Some other.entry.node.now) other.entry.place result }
+    ensures alike { AreAlike (Some spot.entry.node.now) spot.entry.place (Some other.entry.node.now) other.entry.place
+        result }
 {
     let mut done = 0;
     while done < most {
@@ -190,12 +196,14 @@ fn common_from(spot: Spot, other: Spot, most: u64) -> u64
     done
 }
 
-// How many bytes both share, or two leaves have in common from there on to the end of the shorter one: none where they differ.
+// How many bytes both share, or two leaves have in common from there on to the end of the shorter one: none where
+// they differ.
 fn common_at(top: Spot, beside: Spot, most: u64) -> u64
     requires some { 0 < most }
     requires sound { IsSpot top × IsSpot beside }
     ensures most { result ≤ most }
-    ensures alike { AreAlike (Some top.entry.node.now) top.entry.place (Some beside.entry.node.now) beside.entry.place result }
+    ensures alike { AreAlike (Some top.entry.node.now) top.entry.place (Some beside.entry.node.now) beside.entry.place
+        result }
 {
     match look_from(top, beside, most) {
         Ahead::Same(count) => count,

@@ -4,11 +4,12 @@ ghost use Rattle.cord_io.specs.Device.{Folder, count_after};
 ghost use Rattle.cord_core.specs.Cord.{text_len, bytes_of, CordFitsIn};
 ghost use Rattle.cord_core.specs.Texts.{first, last};
 ghost use Rattle.cord_search.specs.inner.Pieces.{StandsNot, HasNot};
+ghost use Rattle.cord_search.specs.inner.Searches.{FindsBytes, FindsLast, HasRead};
 
 use crate::PIECE_LEN;
-use crate::pieces::{copy_front, first_block, last_piece};
+use crate::pieces::{copy_front, first_piece, last_piece};
 use crate::stretches::{
-    cord_stretch_at, cord_stretch_to, run_without, stretch_from, stretch_up_to,
+    cord_stretch_at, cord_stretch_to, in_block, run_without, stretch_from, stretch_up_to,
 };
 use cord_core::Cord;
 use cord_io::{CordError, ReadFault, Source};
@@ -85,33 +86,29 @@ fn first_byte<S: Source>(
 ) -> Result<Option<u64>, ReadFault>
     requires inside { from < text_len x.now }
     requires fits { CordFitsIn (S.lengths src.old) x.now }
-    ensures first { (folder : Folder) → S.keeps src.new folder →
-        IfOk result (λ place. place ≡ first (bytes_of (S.table src.old folder) x.now) from (byte ∷ [])) }
+    ensures first { FindsBytes ⟦<S as Source>⟧ src.old src.new x.now from (byte ∷ []) result }
     ensures from { IfOk result (λ found. IfSome found (λ place. from ≤ place)) }
     ensures within { IfOk result (λ found. IfSome found (λ place. place < text_len x.now)) }
-    ensures count { S.failures src.new ≡ count_after (is_err result) (S.failures src.old) }
-    ensures lengths { S.lengths src.new ≡ S.lengths src.old }
-    ensures table { S.table src.new ≡ S.table src.old }
-    ensures earlier { (folder : Folder) → S.keeps src.new folder → S.keeps src.old folder }
+    ensures read { HasRead ⟦<S as Source>⟧ src.old src.new result }
 {
     let mut buffer = [0; PIECE_LEN];
     let len = x.len();
-    let stretch = cord_stretch_at(x, from);
-    let piece = first_block(stretch, &mut buffer, src)?;
+    let stretch = in_block(cord_stretch_at(x, from));
+    let piece = first_piece(stretch, &mut buffer, src)?;
     match memchr(byte, piece) {
         Some(found) => Ok(Some(from + found as u64)),
         None => {
             let after = from + piece.len() as u64;
-            if len <= after {
-                return Ok(None);
+            if after < len {
+                return first_after(x, from, after, byte, src);
             }
-            first_after(x, from, after, byte, src)
+            Ok(None)
         }
     }
 }
 
-// The same where the byte stands nowhere before `after`: from there on part by part. It stands apart, so that a search which ends
-// in its first bytes keeps no path.
+// The same where the byte stands nowhere before `after`: from there on part by part. It stands apart, so that a
+// search which ends in its first bytes keeps no path.
 #[inline(never)]
 fn first_after<S: Source>(
     x: &Cord,
@@ -120,20 +117,16 @@ fn first_after<S: Source>(
     byte: u8,
     src: &mut S,
 ) -> Result<Option<u64>, ReadFault>
-    requires start { from < text_len x.now }
     requires low { from ≤ after }
+    requires start { from < text_len x.now }
     requires inside { after ≤ text_len x.now }
     requires none { (folder : Folder) → S.keeps src.old folder →
         StandsNot (S.table src.old folder) x.now (byte ∷ []) from after }
     requires fits { CordFitsIn (S.lengths src.old) x.now }
-    ensures first { (folder : Folder) → S.keeps src.new folder →
-        IfOk result (λ place. place ≡ first (bytes_of (S.table src.old folder) x.now) from (byte ∷ [])) }
+    ensures first { FindsBytes ⟦<S as Source>⟧ src.old src.new x.now from (byte ∷ []) result }
     ensures from { IfOk result (λ found. IfSome found (λ place. from ≤ place)) }
     ensures within { IfOk result (λ found. IfSome found (λ place. place < text_len x.now)) }
-    ensures count { S.failures src.new ≡ count_after (is_err result) (S.failures src.old) }
-    ensures lengths { S.lengths src.new ≡ S.lengths src.old }
-    ensures table { S.table src.new ≡ S.table src.old }
-    ensures earlier { (folder : Folder) → S.keeps src.new folder → S.keeps src.old folder }
+    ensures read { HasRead ⟦<S as Source>⟧ src.old src.new result }
 {
     let mut buffer = [0; PIECE_LEN];
     let len = x.len();
@@ -145,7 +138,8 @@ fn first_after<S: Source>(
             place += count;
             continue;
         }
-        let piece = first_block(stretch, &mut buffer, src)?;
+        let block = in_block(stretch);
+        let piece = first_piece(block, &mut buffer, src)?;
         match memchr(byte, piece) {
             Some(found) => return Ok(Some(place + found as u64)),
             None => place += piece.len() as u64,
@@ -158,13 +152,9 @@ fn first_after<S: Source>(
 fn last_byte<S: Source>(x: &Cord, at: u64, byte: u8, src: &mut S) -> Result<Option<u64>, ReadFault>
     requires inside { at < text_len x.now }
     requires fits { CordFitsIn (S.lengths src.old) x.now }
-    ensures last { (folder : Folder) → S.keeps src.new folder →
-        IfOk result (λ place. place ≡ last (bytes_of (S.table src.old folder) x.now) at byte) }
+    ensures last { FindsLast ⟦<S as Source>⟧ src.old src.new x.now at byte result }
     ensures up_to { IfOk result (λ found. IfSome found (λ place. place ≤ at)) }
-    ensures count { S.failures src.new ≡ count_after (is_err result) (S.failures src.old) }
-    ensures lengths { S.lengths src.new ≡ S.lengths src.old }
-    ensures table { S.table src.new ≡ S.table src.old }
-    ensures earlier { (folder : Folder) → S.keeps src.new folder → S.keeps src.old folder }
+    ensures read { HasRead ⟦<S as Source>⟧ src.old src.new result }
 {
     let mut buffer = [0; PIECE_LEN];
     let stretch = cord_stretch_to(x, at);
@@ -195,13 +185,9 @@ fn last_before<S: Source>(
     requires none { (folder : Folder) → S.keeps src.old folder →
         HasNot (S.table src.old folder) x.now byte before (at + 1) }
     requires fits { CordFitsIn (S.lengths src.old) x.now }
-    ensures last { (folder : Folder) → S.keeps src.new folder →
-        IfOk result (λ place. place ≡ last (bytes_of (S.table src.old folder) x.now) at byte) }
+    ensures last { FindsLast ⟦<S as Source>⟧ src.old src.new x.now at byte result }
     ensures up_to { IfOk result (λ found. IfSome found (λ place. place ≤ at)) }
-    ensures count { S.failures src.new ≡ count_after (is_err result) (S.failures src.old) }
-    ensures lengths { S.lengths src.new ≡ S.lengths src.old }
-    ensures table { S.table src.new ≡ S.table src.old }
-    ensures earlier { (folder : Folder) → S.keeps src.new folder → S.keeps src.old folder }
+    ensures read { HasRead ⟦<S as Source>⟧ src.old src.new result }
 {
     let mut buffer = [0; PIECE_LEN];
     let mut end = before;

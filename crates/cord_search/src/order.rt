@@ -4,6 +4,7 @@ ghost use Rattle.cord_io.specs.Device.{Folder, count_after};
 ghost use Rattle.cord_core.specs.Cord.{text_len, bytes_of, IsCord, CordFitsIn};
 ghost use Rattle.cord_core.specs.Texts.{order};
 ghost use Rattle.cord_search.specs.inner.Pieces.{IsOrderOf, sign_of};
+ghost use Rattle.cord_search.specs.inner.Searches.{HasRead};
 
 use crate::PIECE_LEN;
 use crate::ahead::{Ahead, common_behind, look_ahead};
@@ -79,10 +80,7 @@ pub(crate) fn compare<S: Source>(
     requires right_fits { CordFitsIn (S.lengths src.old) y.now }
     ensures order { (folder : Folder) → S.keeps src.new folder →
         IfOk result (IsOrderOf (S.table src.old folder) x.now i left y.now j right) }
-    ensures count { S.failures src.new ≡ count_after (is_err result) (S.failures src.old) }
-    ensures lengths { S.lengths src.new ≡ S.lengths src.old }
-    ensures table { S.table src.new ≡ S.table src.old }
-    ensures earlier { (folder : Folder) → S.keeps src.new folder → S.keeps src.old folder }
+    ensures read { HasRead ⟦<S as Source>⟧ src.old src.new result }
 {
     let (mut buffer, mut other_buffer) = ([0; PIECE_LEN], [0; PIECE_LEN]);
     let both = left.min(right);

@@ -1,9 +1,10 @@
 // Texts that repeat themselves, and the places that a search passes over by that.
-ghost use Rattle.std.specs.Prelude.{◌≡◌, ◌≢◌, ◌+◌, ◌<◌, ◌≤◌, length, take, slice_index, is_err, IfOk, IfSome};
-ghost use Rattle.cord_io.specs.Device.{Folder, count_after};
+ghost use Rattle.std.specs.Prelude.{◌≡◌, ◌≢◌, ◌+◌, ◌<◌, ◌≤◌, length, take, slice_index, IfOk, IfSome};
+ghost use Rattle.cord_io.specs.Device.{Folder};
 ghost use Rattle.cord_core.specs.Cord.{text_len, bytes_of, IsCord, CordFitsIn};
 ghost use Rattle.cord_search.specs.inner.Pieces.{StandsNot};
 ghost use Rattle.cord_search.specs.inner.Periods.{IsCommon, IsRepeated};
+ghost use Rattle.cord_search.specs.inner.Searches.{HasRead};
 
 use crate::PIECE_LEN;
 use crate::ahead::{Ahead, look_ahead};
@@ -19,8 +20,8 @@ pub(crate) struct Repeats {
     count: u64,
 }
 
-/// How far a text repeats itself that begins with these bytes: nothing where their first half stands in them only once, so
-/// that they stand nowhere twice within half their length.
+/// How far a text repeats itself that begins with these bytes: nothing where their first half stands in them only
+/// once, so that they stand nowhere twice within half their length.
 pub(crate) fn repeats_of<S: Source>(
     s: &Cord,
     front: &[u8],
@@ -33,10 +34,7 @@ pub(crate) fn repeats_of<S: Source>(
     ensures period { IfOk result (λ found. IfSome found (λ repeats. repeats.period ≤ text_len s.now)) }
     ensures repeats { (folder : Folder) → S.keeps src.new folder →
         IfOk result (λ found. IfSome found (IsRepeated (S.table src.old folder) s.now)) }
-    ensures count { S.failures src.new ≡ count_after (is_err result) (S.failures src.old) }
-    ensures lengths { S.lengths src.new ≡ S.lengths src.old }
-    ensures table { S.table src.new ≡ S.table src.old }
-    ensures earlier { (folder : Folder) → S.keeps src.new folder → S.keeps src.old folder }
+    ensures read { HasRead ⟦<S as Source>⟧ src.old src.new result }
 {
     let Some(found) = memmem::find(&front[1..], &front[..front.len() / 2]) else {
         return Ok(None);
@@ -46,9 +44,9 @@ pub(crate) fn repeats_of<S: Source>(
     Ok(Some(Repeats { period, count }))
 }
 
-/// How many places a search passes over from one on at which a text doesn't stand. Where the other text repeats itself there
-/// longer than this one does, this one's end of that can't stand before the other one's; and where not that long, it can't
-/// stand over the other one's end.
+/// How many places a search passes over from one on at which a text doesn't stand. Where the other text repeats
+/// itself there longer than this one does, this one's end of that can't stand before the other one's; and where not
+/// that long, it can't stand over the other one's end.
 pub(crate) fn passed<S: Source>(
     x: &Cord,
     place: u64,
@@ -68,10 +66,7 @@ pub(crate) fn passed<S: Source>(
     ensures most { IfOk result (λ n. n ≤ text_len x.now + 1) }
     ensures none { (folder : Folder) → S.keeps src.new folder → IfOk result (λ n.
         StandsNot (S.table src.old folder) x.now (bytes_of (S.table src.old folder) s.now) (place + 1) (place + n)) }
-    ensures count { S.failures src.new ≡ count_after (is_err result) (S.failures src.old) }
-    ensures lengths { S.lengths src.new ≡ S.lengths src.old }
-    ensures table { S.table src.new ≡ S.table src.old }
-    ensures earlier { (folder : Folder) → S.keeps src.new folder → S.keeps src.old folder }
+    ensures read { HasRead ⟦<S as Source>⟧ src.old src.new result }
 {
     let (len, pattern_len) = (x.len(), s.len());
     let Some(repeated) = repeats else {
@@ -109,10 +104,7 @@ fn common_len<S: Source>(
     ensures most { IfOk result (λ n. n ≤ most) }
     ensures common { (folder : Folder) → S.keeps src.new folder →
         IfOk result (IsCommon (S.table src.old folder) x.now i y.now j most) }
-    ensures count { S.failures src.new ≡ count_after (is_err result) (S.failures src.old) }
-    ensures lengths { S.lengths src.new ≡ S.lengths src.old }
-    ensures table { S.table src.new ≡ S.table src.old }
-    ensures earlier { (folder : Folder) → S.keeps src.new folder → S.keeps src.old folder }
+    ensures read { HasRead ⟦<S as Source>⟧ src.old src.new result }
 {
     let (mut buffer, mut other_buffer) = ([0; PIECE_LEN], [0; PIECE_LEN]);
     let mut done = 0;

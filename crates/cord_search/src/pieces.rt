@@ -1,20 +1,21 @@
 // Texts in pieces: slices of leaves as they are, runs and function parts through a buffer.
-ghost use Rattle.std.specs.Prelude.{◌≡◌, ◌+◌, ◌-◌, ◌<◌, ◌≤◌, length, is_err, IfOk, IsSome, OnOk};
-ghost use Rattle.cord_io.specs.Device.{Folder, count_after};
+ghost use Rattle.std.specs.Prelude.{◌≡◌, ◌+◌, ◌-◌, ◌<◌, ◌≤◌, length, IfOk, IsSome, OnOk};
+ghost use Rattle.cord_io.specs.Device.{Folder};
 ghost use Rattle.cord_core.specs.Cord.{text_len, IsCord, CordFitsIn};
 ghost use Rattle.cord_search.specs.inner.Pieces.{IsPieceOf};
 ghost use Rattle.cord_pos.specs.Stretches.{stretch_len, StretchFitsIn, IsStretchOf};
 ghost use Rattle.cord_search.specs.inner.Stretches.{IsPartOf};
+ghost use Rattle.cord_search.specs.inner.Searches.{HasRead};
 
 use crate::PIECE_LEN;
-use crate::stretches::{block_len, cord_stretch_at, stretch_from};
+use crate::stretches::{cord_stretch_at, stretch_from};
 use cord_core::Cord;
 use cord_io::{ReadFault, Source};
 use cord_pos::{Position, Stretch};
 
-// At least `count` bytes of a position's cord from a place on, which it has, where this stretch begins: the rest of a leaf where
-// that is enough. Else they are copied, some times as many where there are, so that a search which goes on after them
-// copies no byte often. The position is moved on over the parts that are copied.
+// At least `count` bytes of a position's cord from a place on, which it has, where this stretch begins: the rest of a
+// leaf where that is enough. Else they are copied, some times as many where there are, so that a search which goes on
+// after them copies no byte often. The position is moved on over the parts that are copied.
 pub(crate) fn window_at<'a, S: Source>(
     position: &mut Position,
     place: u64,
@@ -35,10 +36,7 @@ pub(crate) fn window_at<'a, S: Source>(
         IfOk result (λ window. IsPieceOf (S.table src.old folder) position.old.cord place window.now) }
     ensures cord { position.new.cord ≡ position.old.cord }
     ensures valid { IsSome position.new.index }
-    ensures count { S.failures src.new ≡ count_after (is_err result) (S.failures src.old) }
-    ensures lengths { S.lengths src.new ≡ S.lengths src.old }
-    ensures table { S.table src.new ≡ S.table src.old }
-    ensures earlier { (folder : Folder) → S.keeps src.new folder → S.keeps src.old folder }
+    ensures read { HasRead ⟦<S as Source>⟧ src.old src.new result }
 {
     if let Stretch::Bytes(bytes) = stretch {
         if count <= bytes.len() {
@@ -64,10 +62,7 @@ pub(crate) fn gather<S: Source>(
     requires fits { CordFitsIn (S.lengths src.old) cord.now }
     ensures text { (folder : Folder) → S.keeps src.new folder →
         OnOk result (IsPieceOf (S.table src.old folder) cord.now place out.new) }
-    ensures count { S.failures src.new ≡ count_after (is_err result) (S.failures src.old) }
-    ensures lengths { S.lengths src.new ≡ S.lengths src.old }
-    ensures table { S.table src.new ≡ S.table src.old }
-    ensures earlier { (folder : Folder) → S.keeps src.new folder → S.keeps src.old folder }
+    ensures read { HasRead ⟦<S as Source>⟧ src.old src.new result }
 {
     let stretch = cord_stretch_at(cord, place);
     if out.len() as u64 <= stretch.len() {
@@ -94,10 +89,7 @@ fn gather_by<S: Source>(
         OnOk result (IsPieceOf (S.table src.old folder) position.old.cord place out.new) }
     ensures cord { position.new.cord ≡ position.old.cord }
     ensures valid { IsSome position.new.index }
-    ensures count { S.failures src.new ≡ count_after (is_err result) (S.failures src.old) }
-    ensures lengths { S.lengths src.new ≡ S.lengths src.old }
-    ensures table { S.table src.new ≡ S.table src.old }
-    ensures earlier { (folder : Folder) → S.keeps src.new folder → S.keeps src.old folder }
+    ensures read { HasRead ⟦<S as Source>⟧ src.old src.new result }
 {
     let mut done = 0;
     while done < out.len() {
@@ -120,10 +112,7 @@ pub(crate) fn copy_front<S: Source>(
     requires fits { StretchFitsIn (S.lengths src.old) stretch }
     ensures text { (folder : Folder) → S.keeps src.new folder →
         OnOk result (IsPartOf (S.table src.old folder) stretch.entry 0 out.new) }
-    ensures count { S.failures src.new ≡ count_after (is_err result) (S.failures src.old) }
-    ensures lengths { S.lengths src.new ≡ S.lengths src.old }
-    ensures table { S.table src.new ≡ S.table src.old }
-    ensures earlier { (folder : Folder) → S.keeps src.new folder → S.keeps src.old folder }
+    ensures read { HasRead ⟦<S as Source>⟧ src.old src.new result }
 {
     match stretch {
         Stretch::Bytes(bytes) => {
@@ -151,10 +140,7 @@ pub(crate) fn first_piece<'a, S: Source>(
     ensures inside { IfOk result (λ piece. length piece.now ≤ stretch_len stretch.entry) }
     ensures text { (folder : Folder) → S.keeps src.new folder →
         IfOk result (λ piece. IsPartOf (S.table src.old folder) stretch.entry 0 piece.now) }
-    ensures count { S.failures src.new ≡ count_after (is_err result) (S.failures src.old) }
-    ensures lengths { S.lengths src.new ≡ S.lengths src.old }
-    ensures table { S.table src.new ≡ S.table src.old }
-    ensures earlier { (folder : Folder) → S.keeps src.new folder → S.keeps src.old folder }
+    ensures read { HasRead ⟦<S as Source>⟧ src.old src.new result }
 {
     match stretch {
         Stretch::Bytes(bytes) => Ok(bytes),
@@ -171,28 +157,6 @@ pub(crate) fn first_piece<'a, S: Source>(
     }
 }
 
-// The same, but of a range of an entry no more than the block has in which it begins.
-pub(crate) fn first_block<'a, S: Source>(
-    stretch: Stretch<'a>,
-    buffer: &'a mut [u8; PIECE_LEN],
-    src: &mut S,
-) -> Result<&'a [u8], ReadFault>
-    requires some { 0 < stretch_len stretch }
-    requires fits { StretchFitsIn (S.lengths src.old) stretch }
-    ensures some { IfOk result (λ piece. 0 < length piece.now) }
-    ensures inside { IfOk result (λ piece. length piece.now ≤ stretch_len stretch.entry) }
-    ensures text { (folder : Folder) → S.keeps src.new folder →
-        IfOk result (λ piece. IsPartOf (S.table src.old folder) stretch.entry 0 piece.now) }
-    ensures count { S.failures src.new ≡ count_after (is_err result) (S.failures src.old) }
-    ensures lengths { S.lengths src.new ≡ S.lengths src.old }
-    ensures table { S.table src.new ≡ S.table src.old }
-    ensures earlier { (folder : Folder) → S.keeps src.new folder → S.keeps src.old folder }
-{
-    let block = stretch.up_to(block_len(stretch));
-    let piece = first_piece(block, buffer, src)?;
-    Ok(piece)
-}
-
 // The last bytes of a stretch: all of a leaf's, or at most `PIECE_LEN` of another part's.
 pub(crate) fn last_piece<'a, S: Source>(
     stretch: Stretch<'a>,
@@ -206,10 +170,7 @@ pub(crate) fn last_piece<'a, S: Source>(
     ensures text { (folder : Folder) → S.keeps src.new folder →
         IfOk result (λ piece. IsPartOf (S.table src.old folder) stretch.entry
         (stretch_len stretch.entry - length piece.now) piece.now) }
-    ensures count { S.failures src.new ≡ count_after (is_err result) (S.failures src.old) }
-    ensures lengths { S.lengths src.new ≡ S.lengths src.old }
-    ensures table { S.table src.new ≡ S.table src.old }
-    ensures earlier { (folder : Folder) → S.keeps src.new folder → S.keeps src.old folder }
+    ensures read { HasRead ⟦<S as Source>⟧ src.old src.new result }
 {
     match stretch {
         Stretch::Bytes(bytes) => Ok(bytes),

@@ -2,7 +2,7 @@
 ghost use Rattle.std.specs.Prelude.{◌≡◌, ◌≢◌, ◌-◌, ◌<◌, ◌≤◌, length, slice_index, true, is_some, IsSome, IfSome};
 ghost use Rattle.cord_core.specs.Cord.{text_len};
 ghost use Rattle.cord_node.specs.Tree.{len_of, IsSound};
-ghost use Rattle.cord_pos.specs.Stretches.{stretch_len, IsStretchOf, IsStretchAt, EndsAt};
+ghost use Rattle.cord_pos.specs.Stretches.{stretch_len, IsFrontOf, IsStretchOf, IsStretchAt, EndsAt};
 ghost use Rattle.cord_search.specs.inner.Stretches.{is_other_run, IsWithout, IsMisfit, BeginAlike};
 
 use crate::PIECE_LEN;
@@ -22,8 +22,8 @@ pub(crate) fn run_without(stretch: Stretch, wanted: u8) -> Option<u64>
     }
 }
 
-/// At how many places of a stretch, from its first one on, no text that begins with these bytes can stand, for it is a run that
-/// still goes on where they have another byte.
+/// At how many places of a stretch, from its first one on, no text that begins with these bytes can stand, for it is
+/// a run that still goes on where they have another byte.
 pub(crate) fn misfits(stretch: Stretch, front: &[u8]) -> u64
     ensures inside { result ≤ stretch_len stretch.entry }
     ensures misfit { IsMisfit stretch.entry front.now result }
@@ -37,7 +37,8 @@ pub(crate) fn misfits(stretch: Stretch, front: &[u8]) -> u64
     }
 }
 
-/// Whether two stretches are runs of one byte, or ranges of one entry from one place on: then all of the shorter one is the same.
+/// Whether two stretches are runs of one byte, or ranges of one entry from one place on: then all of the shorter one
+/// is the same.
 pub(crate) fn begin_alike(stretch: Stretch, other: Stretch) -> bool
     ensures { result ≡ true → BeginAlike stretch.entry other.entry }
 {
@@ -122,8 +123,8 @@ pub(crate) fn stretch_at(top: &Node, mut place: u64) -> Stretch
     stretch
 }
 
-/// What is left of a part of a position's cord from a place on, to which the position is moved: so a walk over the parts takes
-/// constant time for each, taken over all of them, and no descent from the root.
+/// What is left of a part of a position's cord from a place on, to which the position is moved: so a walk over the
+/// parts takes constant time for each, taken over all of them, and no descent from the root.
 pub(crate) fn stretch_from<'a>(position: &mut Position<'a>, place: u64) -> Stretch<'a>
     requires valid { IsSome position.old.index }
     requires inside { place < text_len position.old.cord }
@@ -155,8 +156,20 @@ pub(crate) fn stretch_up_to<'a>(position: &mut Position<'a>, end: u64) -> Stretc
     stretch
 }
 
-/// How many bytes of a stretch the block of `PIECE_LEN` bytes has in which it begins, where it is a range of an entry; else all.
-pub(crate) fn block_len(stretch: Stretch) -> u64
+/// What the block of `PIECE_LEN` bytes has of a stretch that begins in it, where it is a range of an entry; else all
+/// of it.
+pub(crate) fn in_block(stretch: Stretch) -> Stretch
+    requires some { 0 < stretch_len stretch }
+    ensures some { 0 < stretch_len result }
+    ensures few { stretch_len result ≤ stretch_len stretch.entry }
+    ensures front { IsFrontOf stretch.entry (stretch_len result) result }
+{
+    stretch.up_to(block_len(stretch))
+}
+
+// How many bytes of a stretch the block of `PIECE_LEN` bytes has in which it begins, where it is a range of an entry;
+// else all.
+fn block_len(stretch: Stretch) -> u64
     requires some { 0 < stretch_len stretch }
     ensures some { 0 < result }
     ensures few { result ≤ stretch_len stretch.entry }

@@ -5,6 +5,7 @@ ghost use Rattle.cord_core.specs.Cord.{text_len, bytes_of, IsCord, CordFitsIn};
 ghost use Rattle.cord_core.specs.Texts.{first};
 ghost use Rattle.cord_search.specs.inner.Pieces.{IsPieceOf, IsStanding, StandsNot};
 ghost use Rattle.cord_search.specs.inner.Periods.{IsRepeated};
+ghost use Rattle.cord_search.specs.inner.Searches.{FindsBytes, FindsText, HasRead};
 
 use crate::PIECE_LEN;
 use crate::order::compare;
@@ -78,8 +79,8 @@ pub fn str<S: Source>(x: &Cord, start: u64, s: &Cord, src: &mut S) -> Result<Opt
 /// The most bytes that `find_bytes` looks for.
 pub const MOST_BYTES: usize = FRONT_LEN;
 
-/// The first place of `x` at `start` or later where these bytes stand, as `str` finds those of a cord: at least one byte and
-/// at most `MOST_BYTES`. Refused with `ReadFailed` where a read failed.
+/// The first place of `x` at `start` or later where these bytes stand, as `str` finds those of a cord: at least one
+/// byte and at most `MOST_BYTES`. Refused with `ReadFailed` where a read failed.
 pub fn find_bytes<S: Source>(
     x: &Cord,
     start: u64,
@@ -132,14 +133,10 @@ fn first_place<S: Source>(
     requires inside { start + text_len s.now ≤ text_len x.now }
     requires fits { CordFitsIn (S.lengths src.old) x.now }
     requires pattern_fits { CordFitsIn (S.lengths src.old) s.now }
-    ensures first { (folder : Folder) → S.keeps src.new folder → IfOk result (λ place.
-        place ≡ first (bytes_of (S.table src.old folder) x.now) start (bytes_of (S.table src.old folder) s.now)) }
+    ensures first { FindsText ⟦<S as Source>⟧ src.old src.new x.now start s.now result }
     ensures from { IfOk result (λ found. IfSome found (λ place. start ≤ place)) }
     ensures within { IfOk result (λ found. IfSome found (λ place. place + text_len s.now ≤ text_len x.now)) }
-    ensures count { S.failures src.new ≡ count_after (is_err result) (S.failures src.old) }
-    ensures lengths { S.lengths src.new ≡ S.lengths src.old }
-    ensures table { S.table src.new ≡ S.table src.old }
-    ensures earlier { (folder : Folder) → S.keeps src.new folder → S.keeps src.old folder }
+    ensures read { HasRead ⟦<S as Source>⟧ src.old src.new result }
 {
     let len = s.len();
     if len <= PIECE_LEN as u64 {
@@ -151,8 +148,8 @@ fn first_place<S: Source>(
     }
 }
 
-// The same where the text that is looked for has at most `N` bytes. It stands apart, so that only who calls it has room for
-// them and for windows of `M` bytes on the stack.
+// The same where the text that is looked for has at most `N` bytes. It stands apart, so that only who calls it has
+// room for them and for windows of `M` bytes on the stack.
 #[inline(never)]
 fn place_of_short<const N: usize, const M: usize, S: Source>(
     x: &Cord,
@@ -168,14 +165,10 @@ fn place_of_short<const N: usize, const M: usize, S: Source>(
     requires few { M ≤ WINDOW_LEN }
     requires fits { CordFitsIn (S.lengths src.old) x.now }
     requires pattern_fits { CordFitsIn (S.lengths src.old) s.now }
-    ensures first { (folder : Folder) → S.keeps src.new folder → IfOk result (λ place.
-        place ≡ first (bytes_of (S.table src.old folder) x.now) start (bytes_of (S.table src.old folder) s.now)) }
+    ensures first { FindsText ⟦<S as Source>⟧ src.old src.new x.now start s.now result }
     ensures from { IfOk result (λ found. IfSome found (λ place. start ≤ place)) }
     ensures within { IfOk result (λ found. IfSome found (λ place. place + text_len s.now ≤ text_len x.now)) }
-    ensures count { S.failures src.new ≡ count_after (is_err result) (S.failures src.old) }
-    ensures lengths { S.lengths src.new ≡ S.lengths src.old }
-    ensures table { S.table src.new ≡ S.table src.old }
-    ensures earlier { (folder : Folder) → S.keeps src.new folder → S.keeps src.old folder }
+    ensures read { HasRead ⟦<S as Source>⟧ src.old src.new result }
 {
     let mut front = [0; N];
     let pattern = &mut front[..s.len() as usize];
@@ -199,14 +192,10 @@ fn place_of_bytes<const M: usize, S: Source>(
     requires room { length bytes.now ≤ M }
     requires few { M ≤ WINDOW_LEN }
     requires fits { CordFitsIn (S.lengths src.old) x.now }
-    ensures first { (folder : Folder) → S.keeps src.new folder → IfOk result (λ place.
-        place ≡ first (bytes_of (S.table src.old folder) x.now) start bytes.now) }
+    ensures first { FindsBytes ⟦<S as Source>⟧ src.old src.new x.now start bytes.now result }
     ensures from { IfOk result (λ found. IfSome found (λ place. start ≤ place)) }
     ensures within { IfOk result (λ found. IfSome found (λ place. place + length bytes.now ≤ text_len x.now)) }
-    ensures count { S.failures src.new ≡ count_after (is_err result) (S.failures src.old) }
-    ensures lengths { S.lengths src.new ≡ S.lengths src.old }
-    ensures table { S.table src.new ≡ S.table src.old }
-    ensures earlier { (folder : Folder) → S.keeps src.new folder → S.keeps src.old folder }
+    ensures read { HasRead ⟦<S as Source>⟧ src.old src.new result }
 {
     let finder = Finder::new(bytes);
     let mut room = [0; M];
@@ -228,14 +217,10 @@ fn place_of_long<S: Source>(
     requires inside { start + text_len s.now ≤ text_len x.now }
     requires fits { CordFitsIn (S.lengths src.old) x.now }
     requires pattern_fits { CordFitsIn (S.lengths src.old) s.now }
-    ensures first { (folder : Folder) → S.keeps src.new folder → IfOk result (λ place.
-        place ≡ first (bytes_of (S.table src.old folder) x.now) start (bytes_of (S.table src.old folder) s.now)) }
+    ensures first { FindsText ⟦<S as Source>⟧ src.old src.new x.now start s.now result }
     ensures from { IfOk result (λ found. IfSome found (λ place. start ≤ place)) }
     ensures within { IfOk result (λ found. IfSome found (λ place. place + text_len s.now ≤ text_len x.now)) }
-    ensures count { S.failures src.new ≡ count_after (is_err result) (S.failures src.old) }
-    ensures lengths { S.lengths src.new ≡ S.lengths src.old }
-    ensures table { S.table src.new ≡ S.table src.old }
-    ensures earlier { (folder : Folder) → S.keeps src.new folder → S.keeps src.old folder }
+    ensures read { HasRead ⟦<S as Source>⟧ src.old src.new result }
 {
     let mut front = [0; FRONT_LEN];
     gather(s, 0, &mut front, src)?;
@@ -246,8 +231,8 @@ fn place_of_long<S: Source>(
     Ok(place)
 }
 
-// The same, by the places of the text's front. Behind one at which the text doesn't stand, the search goes on by how far the
-// text repeats itself.
+// The same, by the places of the text's front. Behind one at which the text doesn't stand, the search goes on by how
+// far the text repeats itself.
 fn first_confirmed<S: Source>(
     x: &Cord,
     start: u64,
@@ -268,14 +253,10 @@ fn first_confirmed<S: Source>(
         IfSome repeats (IsRepeated (S.table src.old folder) s.now) }
     requires fits { CordFitsIn (S.lengths src.old) x.now }
     requires pattern_fits { CordFitsIn (S.lengths src.old) s.now }
-    ensures first { (folder : Folder) → S.keeps src.new folder → IfOk result (λ place.
-        place ≡ first (bytes_of (S.table src.old folder) x.now) start (bytes_of (S.table src.old folder) s.now)) }
+    ensures first { FindsText ⟦<S as Source>⟧ src.old src.new x.now start s.now result }
     ensures from { IfOk result (λ found. IfSome found (λ place. start ≤ place)) }
     ensures within { IfOk result (λ found. IfSome found (λ place. place + text_len s.now ≤ text_len x.now)) }
-    ensures count { S.failures src.new ≡ count_after (is_err result) (S.failures src.old) }
-    ensures lengths { S.lengths src.new ≡ S.lengths src.old }
-    ensures table { S.table src.new ≡ S.table src.old }
-    ensures earlier { (folder : Folder) → S.keeps src.new folder → S.keeps src.old folder }
+    ensures read { HasRead ⟦<S as Source>⟧ src.old src.new result }
 {
     let last = x.len() - s.len();
     let mut place = start;
@@ -307,14 +288,10 @@ fn first_of<S: Source>(
     requires some { 0 < length finder.now }
     requires room { length finder.now ≤ length room.old }
     requires fits { CordFitsIn (S.lengths src.old) x.now }
-    ensures first { (folder : Folder) → S.keeps src.new folder → IfOk result (λ place.
-        place ≡ first (bytes_of (S.table src.old folder) x.now) start finder.now) }
+    ensures first { FindsBytes ⟦<S as Source>⟧ src.old src.new x.now start finder.now result }
     ensures from { IfOk result (λ found. IfSome found (λ place. start ≤ place)) }
     ensures within { IfOk result (λ found. IfSome found (λ place. place + length finder.now ≤ text_len x.now)) }
-    ensures count { S.failures src.new ≡ count_after (is_err result) (S.failures src.old) }
-    ensures lengths { S.lengths src.new ≡ S.lengths src.old }
-    ensures table { S.table src.new ≡ S.table src.old }
-    ensures earlier { (folder : Folder) → S.keeps src.new folder → S.keeps src.old folder }
+    ensures read { HasRead ⟦<S as Source>⟧ src.old src.new result }
 {
     let head = finder.needle();
     if !lies_inside(start, head.len() as u64, x.len()) {
@@ -335,9 +312,9 @@ fn first_of<S: Source>(
     }
 }
 
-// The same where they stand at no place before `after`. A leaf is searched where it lies, as far as it goes on for their length, and
-// else a window of some times that length: so it takes linear time, whatever the parts are. It stands apart, so that a search
-// which ends in its first leaf keeps no path.
+// The same where they stand at no place before `after`. A leaf is searched where it lies, as far as it goes on for
+// their length, and else a window of some times that length: so it takes linear time, whatever the parts are. It
+// stands apart, so that a search which ends in its first leaf keeps no path.
 #[inline(never)]
 fn first_behind<S: Source>(
     x: &Cord,
@@ -354,14 +331,10 @@ fn first_behind<S: Source>(
     requires none { (folder : Folder) → S.keeps src.old folder →
         StandsNot (S.table src.old folder) x.now finder.now start after }
     requires fits { CordFitsIn (S.lengths src.old) x.now }
-    ensures first { (folder : Folder) → S.keeps src.new folder → IfOk result (λ place.
-        place ≡ first (bytes_of (S.table src.old folder) x.now) start finder.now) }
+    ensures first { FindsBytes ⟦<S as Source>⟧ src.old src.new x.now start finder.now result }
     ensures from { IfOk result (λ found. IfSome found (λ place. start ≤ place)) }
     ensures within { IfOk result (λ found. IfSome found (λ place. place + length finder.now ≤ text_len x.now)) }
-    ensures count { S.failures src.new ≡ count_after (is_err result) (S.failures src.old) }
-    ensures lengths { S.lengths src.new ≡ S.lengths src.old }
-    ensures table { S.table src.new ≡ S.table src.old }
-    ensures earlier { (folder : Folder) → S.keeps src.new folder → S.keeps src.old folder }
+    ensures read { HasRead ⟦<S as Source>⟧ src.old src.new result }
 {
     let head = finder.needle();
     let mut place = after;
@@ -391,10 +364,7 @@ fn stands_at<S: Source>(x: &Cord, place: u64, s: &Cord, src: &mut S) -> Result<b
     requires pattern_fits { CordFitsIn (S.lengths src.old) s.now }
     ensures stands { (folder : Folder) → S.keeps src.new folder →
         IfOk result (IsStanding (S.table src.old folder) x.now place s.now) }
-    ensures count { S.failures src.new ≡ count_after (is_err result) (S.failures src.old) }
-    ensures lengths { S.lengths src.new ≡ S.lengths src.old }
-    ensures table { S.table src.new ≡ S.table src.old }
-    ensures earlier { (folder : Folder) → S.keeps src.new folder → S.keeps src.old folder }
+    ensures read { HasRead ⟦<S as Source>⟧ src.old src.new result }
 {
     match compare(x, place, s.len(), s, 0, s.len(), src)? {
         Ordering::Equal => Ok(true),

@@ -61,7 +61,7 @@ returns-in-Some-memrchr-clause-last g c = λ folder kept.
     let stretch : IsStretchOf x (end - stretch_len s) s = rw c.loop-end.invariant.cord at c.stretch_up_to-stretch.ensures.stretch in
     let inside : stretch_len s ≤ end = c.stretch_up_to-stretch.ensures.inside in
     let short : length piece ≤ stretch_len s = c.in_ok-piece.ensures.inside in
-    let before = c.in_ok-piece.ensures.earlier folder kept in
+    let before = c.in_ok-piece.ensures.read.earlier folder kept in
     let told = g.met.S.Source.lengths_of_table c.args.src.now folder (c.loop-end.invariant.earlier folder before) in
     let text : IsPieceOf t x (end - length piece) piece = piece_within (g.S.Source.lengths c.args.src.now) t x (end - stretch_len s) s (stretch_len s - length piece) (end - length piece) piece told c.requires.fits stretch (omega (arith, short)) (omega (arith, short, inside)) (rw c.loop-end.invariant.table at c.in_ok-piece.ensures.text folder kept) in
     last_found t x piece c.args.byte c.args.at (end - length piece) c.in-Some-memrchr.found end _ c.in-Some-memrchr.is c.memrchr.ensures
@@ -80,17 +80,17 @@ loop-end-preserved g c =
       high = omega (arith, c.loop-end.invariant.high);
       none = λ folder kept.
           let t = g.S.Source.table c.args.src.now folder in
-          let before = c.in_ok-piece.ensures.earlier folder kept in
+          let before = c.in_ok-piece.ensures.read.earlier folder kept in
           let told = g.met.S.Source.lengths_of_table c.args.src.now folder (c.loop-end.invariant.earlier folder before) in
           let text : IsPieceOf t x (end - length piece) piece = piece_within (g.S.Source.lengths c.args.src.now) t x (end - stretch_len s) s (stretch_len s - length piece) (end - length piece) piece told c.requires.fits stretch (omega (arith, short)) (omega (arith, short, inside)) (rw c.loop-end.invariant.table at c.in_ok-piece.ensures.text folder kept) in
           last_on t x piece c.args.byte c.args.at (end - length piece) end _ c.in-None.is c.memrchr.ensures
           (omega (arith, short, inside)) text (c.loop-end.invariant.none folder before);
       cord = c.stretch_up_to-stretch.ensures.cord ∙ c.loop-end.invariant.cord;
       valid = c.stretch_up_to-stretch.ensures.valid;
-      reads = c.in_ok-piece.ensures.count ∙ c.loop-end.invariant.reads;
-      lengths = c.last_piece.ensures.lengths ∙ c.loop-end.invariant.lengths;
-      table = c.last_piece.ensures.table ∙ c.loop-end.invariant.table;
-      earlier = λ folder kept. c.loop-end.invariant.earlier folder (c.in_ok-piece.ensures.earlier folder kept);
+      reads = c.in_ok-piece.ensures.read.count ∙ c.loop-end.invariant.reads;
+      lengths = c.last_piece.ensures.read.lengths ∙ c.loop-end.invariant.lengths;
+      table = c.last_piece.ensures.read.table ∙ c.loop-end.invariant.table;
+      earlier = λ folder kept. c.loop-end.invariant.earlier folder (c.in_ok-piece.ensures.read.earlier folder kept);
     }
 
 pub returns-clause-last : goal.returns-clause-last

@@ -18,13 +18,13 @@ returns-in-Some-clause-last g c = λ folder kept.
     let s = c.cord_stretch_to-stretch.result in
     let inside : stretch_len s ≤ end = c.cord_stretch_to-stretch.ensures.inside in
     let short : length piece ≤ stretch_len s = c.in_ok-piece.ensures.inside in
-    let told = g.met.S.Source.lengths_of_table c.args.src.now folder (c.in_ok-piece.ensures.earlier folder kept) in
+    let told = g.met.S.Source.lengths_of_table c.args.src.now folder (c.in_ok-piece.ensures.read.earlier folder kept) in
     let text : IsPieceOf t x (end - length piece) piece = piece_within (g.S.Source.lengths c.args.src.now) t x (end - stretch_len s) s (stretch_len s - length piece) (end - length piece) piece told c.requires.fits c.cord_stretch_to-stretch.ensures.stretch (omega (arith, short)) (omega (arith, short, inside)) (c.in_ok-piece.ensures.text folder kept) in
     rw start (last_found t x piece c.args.byte c.args.at (end - length piece) c.in-Some.found end _ c.in-Some.is c.memrchr.ensures
     (omega (arith, short, inside)) (omega arith) text (λ q low to there. absurd (omega (arith, low, to))))
 
 pub last_before-requires-clause-none : goal.last_before-requires-clause-none
-last_before-requires-clause-none g c = rw c.last_piece.ensures.table (λ folder kept.
+last_before-requires-clause-none g c = rw c.last_piece.ensures.read.table (λ folder kept.
     let t = g.S.Source.table c.args.src.now folder in
     let x = c.args.x.now in
     let piece = c.in_ok-piece.piece.now in
@@ -33,7 +33,7 @@ last_before-requires-clause-none g c = rw c.last_piece.ensures.table (λ folder 
     let s = c.cord_stretch_to-stretch.result in
     let inside : stretch_len s ≤ end = c.cord_stretch_to-stretch.ensures.inside in
     let short : length piece ≤ stretch_len s = c.in_ok-piece.ensures.inside in
-    let told = g.met.S.Source.lengths_of_table c.args.src.now folder (c.in_ok-piece.ensures.earlier folder kept) in
+    let told = g.met.S.Source.lengths_of_table c.args.src.now folder (c.in_ok-piece.ensures.read.earlier folder kept) in
     let text : IsPieceOf t x (end - length piece) piece = piece_within (g.S.Source.lengths c.args.src.now) t x (end - stretch_len s) s (stretch_len s - length piece) (end - length piece) piece told c.requires.fits c.cord_stretch_to-stretch.ensures.stretch (omega (arith, short)) (omega (arith, short, inside)) (c.in_ok-piece.ensures.text folder kept) in
     rw start (last_on t x piece c.args.byte c.args.at (end - length piece) end _ c.in-None.is c.memrchr.ensures
     (omega (arith, short, inside)) text (λ q low to there. absurd (omega (arith, low, to)))))
@@ -47,7 +47,7 @@ returns-then-start-eq0-clause-last g c = λ folder kept.
     let s = c.cord_stretch_to-stretch.result in
     let inside : stretch_len s ≤ end = c.cord_stretch_to-stretch.ensures.inside in
     let short : length piece ≤ stretch_len s = c.in_ok-piece.ensures.inside in
-    let told = g.met.S.Source.lengths_of_table c.args.src.now folder (c.in_ok-piece.ensures.earlier folder kept) in
+    let told = g.met.S.Source.lengths_of_table c.args.src.now folder (c.in_ok-piece.ensures.read.earlier folder kept) in
     let text : IsPieceOf t x (end - length piece) piece = piece_within (g.S.Source.lengths c.args.src.now) t x (end - stretch_len s) s (stretch_len s - length piece) (end - length piece) piece told c.requires.fits c.cord_stretch_to-stretch.ensures.stretch (omega (arith, short)) (omega (arith, short, inside)) (c.in_ok-piece.ensures.text folder kept) in
     last_none t x c.args.byte c.args.at (end - length piece) (omega (arith, c.if-start-eq0.true, c.in_ok-piece.ensures.some))
     (last_on t x piece c.args.byte c.args.at (end - length piece) end _ c.in-None.is c.memrchr.ensures

@@ -24,7 +24,7 @@ first_piece-requires-clause-fits g c = rw c.loop-done.invariant.lengths
     (c.in-Apart.ensures.0.fits (g.S.Source.lengths c.args.src.now) c.requires.left_fits)
 
 pub first_piece-requires-in-Apart-clause-fits : goal.first_piece-requires-in-Apart-clause-fits
-first_piece-requires-in-Apart-clause-fits g c = rw (c.first_piece.ensures.lengths, c.loop-done.invariant.lengths)
+first_piece-requires-in-Apart-clause-fits g c = rw (c.first_piece.ensures.read.lengths, c.loop-done.invariant.lengths)
     (c.in-Apart.ensures.1.fits (g.S.Source.lengths c.args.src.now) c.requires.right_fits)
 
 pub loop-done-preserved-in-Same : goal.loop-done-preserved-in-Same
@@ -58,21 +58,21 @@ loop-done-preserved g c = record {
       let piece = c.in_ok-piece-in-Apart.piece.now in
       let other = c.in_ok-other-in-Apart.other.now in
       let lengths = g.S.Source.lengths c.args.src.now in
-      let after = c.in_ok-other-in-Apart.ensures.earlier folder kept in
-      let before = c.in_ok-piece-in-Apart.ensures.earlier folder after in
+      let after = c.in_ok-other-in-Apart.ensures.read.earlier folder kept in
+      let before = c.in_ok-piece-in-Apart.ensures.read.earlier folder after in
       let told = g.met.S.Source.lengths_of_table c.args.src.now folder (c.loop-done.invariant.earlier folder before) in
       let from = c.args.i + done in
       let other_from = c.args.j + done in
       let text : IsPieceOf t c.args.x.now from piece = piece_within lengths t c.args.x.now from c.in-Apart.stretch 0 from piece told c.requires.left_fits c.in-Apart.ensures.0 (omega (arith, c.in_ok-piece-in-Apart.ensures.inside)) (omega arith) (rw c.loop-done.invariant.table at c.in_ok-piece-in-Apart.ensures.text folder after) in
-      let other_text : IsPieceOf t c.args.y.now other_from other = piece_within lengths t c.args.y.now other_from c.in-Apart.other 0 other_from other told c.requires.right_fits c.in-Apart.ensures.1 (omega (arith, c.in_ok-other-in-Apart.ensures.inside)) (omega arith) (rw (c.first_piece.ensures.table, c.loop-done.invariant.table) at c.in_ok-other-in-Apart.ensures.text folder kept) in
+      let other_text : IsPieceOf t c.args.y.now other_from other = piece_within lengths t c.args.y.now other_from c.in-Apart.other 0 other_from other told c.requires.right_fits c.in-Apart.ensures.1 (omega (arith, c.in_ok-other-in-Apart.ensures.inside)) (omega arith) (rw (c.first_piece.ensures.read.table, c.loop-done.invariant.table) at c.in_ok-other-in-Apart.ensures.text folder kept) in
       let first : AreSame t c.args.x.now c.args.i c.args.y.now c.args.j (done + n) = same_on t c.args.x.now c.args.i c.args.y.now c.args.j done n piece other (omega (arith, c.min-count.ensures)) (omega (arith, c.min-count.ensures)) text other_text (sym c.in-Equal.is ∙ c.cmp.ensures) (c.loop-done.invariant.same folder before) in
       alike_on lengths t c.args.x.now c.args.i c.args.y.now c.args.j (done + n) c.common_behind-done.result told c.requires.left_fits
       c.requires.right_fits c.common_behind-done.ensures.alike first;
-  reads = c.in_ok-other-in-Apart.ensures.count ∙ (c.in_ok-piece-in-Apart.ensures.count ∙ c.loop-done.invariant.reads);
-  lengths = c.first_piece-in-Apart.ensures.lengths ∙ (c.first_piece.ensures.lengths ∙ c.loop-done.invariant.lengths);
-  table = c.first_piece-in-Apart.ensures.table ∙ (c.first_piece.ensures.table ∙ c.loop-done.invariant.table);
+  reads = c.in_ok-other-in-Apart.ensures.read.count ∙ (c.in_ok-piece-in-Apart.ensures.read.count ∙ c.loop-done.invariant.reads);
+  lengths = c.first_piece-in-Apart.ensures.read.lengths ∙ (c.first_piece.ensures.read.lengths ∙ c.loop-done.invariant.lengths);
+  table = c.first_piece-in-Apart.ensures.read.table ∙ (c.first_piece.ensures.read.table ∙ c.loop-done.invariant.table);
   earlier = λ folder kept. c.loop-done.invariant.earlier folder
-      (c.in_ok-piece-in-Apart.ensures.earlier folder (c.in_ok-other-in-Apart.ensures.earlier folder kept));
+      (c.in_ok-piece-in-Apart.ensures.read.earlier folder (c.in_ok-other-in-Apart.ensures.read.earlier folder kept));
 }
 
 pub returns-in_default-clause-order : goal.returns-in_default-clause-order
@@ -83,13 +83,13 @@ returns-in_default-clause-order g c = λ folder kept.
     let piece = c.in_ok-piece-in-Apart.piece.now in
     let other = c.in_ok-other-in-Apart.other.now in
     let lengths = g.S.Source.lengths c.args.src.now in
-    let after = c.in_ok-other-in-Apart.ensures.earlier folder kept in
-    let before = c.in_ok-piece-in-Apart.ensures.earlier folder after in
+    let after = c.in_ok-other-in-Apart.ensures.read.earlier folder kept in
+    let before = c.in_ok-piece-in-Apart.ensures.read.earlier folder after in
     let told = g.met.S.Source.lengths_of_table c.args.src.now folder (c.loop-done.invariant.earlier folder before) in
     let from = c.args.i + done in
     let other_from = c.args.j + done in
     let text : IsPieceOf t c.args.x.now from piece = piece_within lengths t c.args.x.now from c.in-Apart.stretch 0 from piece told c.requires.left_fits c.in-Apart.ensures.0 (omega (arith, c.in_ok-piece-in-Apart.ensures.inside)) (omega arith) (rw c.loop-done.invariant.table at c.in_ok-piece-in-Apart.ensures.text folder after) in
-    let other_text : IsPieceOf t c.args.y.now other_from other = piece_within lengths t c.args.y.now other_from c.in-Apart.other 0 other_from other told c.requires.right_fits c.in-Apart.ensures.1 (omega (arith, c.in_ok-other-in-Apart.ensures.inside)) (omega arith) (rw (c.first_piece.ensures.table, c.loop-done.invariant.table) at c.in_ok-other-in-Apart.ensures.text folder kept) in
+    let other_text : IsPieceOf t c.args.y.now other_from other = piece_within lengths t c.args.y.now other_from c.in-Apart.other 0 other_from other told c.requires.right_fits c.in-Apart.ensures.1 (omega (arith, c.in_ok-other-in-Apart.ensures.inside)) (omega arith) (rw (c.first_piece.ensures.read.table, c.loop-done.invariant.table) at c.in_ok-other-in-Apart.ensures.text folder kept) in
     different t c.args.x.now c.args.i c.args.left c.args.y.now c.args.j c.args.right done n piece other c.cmp.result
     (omega (
       arith,

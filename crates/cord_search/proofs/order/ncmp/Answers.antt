@@ -7,7 +7,7 @@ pub returns-clause-order : goal.returns-clause-order
 returns-clause-order g c = λ folder kept.
     let t = g.S.Source.table c.args.src.now folder in
     let lengths = g.S.Source.lengths c.args.src.now in
-    let told = g.met.S.Source.lengths_of_table c.args.src.now folder (c.in_ok-ordering.ensures.earlier folder kept) in
+    let told = g.met.S.Source.lengths_of_table c.args.src.now folder (c.in_ok-ordering.ensures.read.earlier folder kept) in
     sign_ranges t c.args.x.now c.args.i c.args.y.now c.args.j c.args.k c.min-left.result c.min-right.result c.in_ok-ordering.ordering
     c.sign.result (cord_len lengths t c.args.x.now told c.len.ensures.sound c.requires.left_fits)
     (cord_len lengths t c.args.y.now told c.len-2.ensures.sound c.requires.right_fits)

@@ -17,7 +17,7 @@ first_piece-requires-clause-fits g c = rw c.loop-done.invariant.lengths
     (c.in-Apart.ensures.0.fits (g.S.Source.lengths c.args.src.now) c.requires.left_fits)
 
 pub first_piece-requires-in-Apart-clause-fits : goal.first_piece-requires-in-Apart-clause-fits
-first_piece-requires-in-Apart-clause-fits g c = rw (c.first_piece.ensures.lengths, c.loop-done.invariant.lengths)
+first_piece-requires-in-Apart-clause-fits g c = rw (c.first_piece.ensures.read.lengths, c.loop-done.invariant.lengths)
     (c.in-Apart.ensures.1.fits (g.S.Source.lengths c.args.src.now) c.requires.right_fits)
 
 pub loop-done-preserved-in-Same : goal.loop-done-preserved-in-Same
@@ -50,20 +50,20 @@ loop-done-preserved g c = record {
       let piece = c.in_ok-piece-in-Apart.piece.now in
       let other = c.in_ok-other-in-Apart.other.now in
       let lengths = g.S.Source.lengths c.args.src.now in
-      let after = c.in_ok-other-in-Apart.ensures.earlier folder kept in
-      let before = c.in_ok-piece-in-Apart.ensures.earlier folder after in
+      let after = c.in_ok-other-in-Apart.ensures.read.earlier folder kept in
+      let before = c.in_ok-piece-in-Apart.ensures.read.earlier folder after in
       let told = g.met.S.Source.lengths_of_table c.args.src.now folder (c.loop-done.invariant.earlier folder before) in
       let from = c.args.i + done in
       let other_from = c.args.j + done in
       let text : IsPieceOf t c.args.x.now from piece = piece_within lengths t c.args.x.now from c.in-Apart.stretch 0 from piece told c.requires.left_fits c.in-Apart.ensures.0 (omega (arith, c.in_ok-piece-in-Apart.ensures.inside)) (omega arith) (rw c.loop-done.invariant.table at c.in_ok-piece-in-Apart.ensures.text folder after) in
-      let other_text : IsPieceOf t c.args.y.now other_from other = piece_within lengths t c.args.y.now other_from c.in-Apart.other 0 other_from other told c.requires.right_fits c.in-Apart.ensures.1 (omega (arith, c.in_ok-other-in-Apart.ensures.inside)) (omega arith) (rw (c.first_piece.ensures.table, c.loop-done.invariant.table) at c.in_ok-other-in-Apart.ensures.text folder kept) in
+      let other_text : IsPieceOf t c.args.y.now other_from other = piece_within lengths t c.args.y.now other_from c.in-Apart.other 0 other_from other told c.requires.right_fits c.in-Apart.ensures.1 (omega (arith, c.in_ok-other-in-Apart.ensures.inside)) (omega arith) (rw (c.first_piece.ensures.read.table, c.loop-done.invariant.table) at c.in_ok-other-in-Apart.ensures.text folder kept) in
       common_on t c.args.x.now c.args.i c.args.y.now c.args.j done n piece other c.agreeing-count.ensures.left
       c.agreeing-count.ensures.right text other_text c.agreeing-count.ensures.same (c.loop-done.invariant.same folder before);
-  reads = c.in_ok-other-in-Apart.ensures.count ∙ (c.in_ok-piece-in-Apart.ensures.count ∙ c.loop-done.invariant.reads);
-  lengths = c.first_piece-in-Apart.ensures.lengths ∙ (c.first_piece.ensures.lengths ∙ c.loop-done.invariant.lengths);
-  table = c.first_piece-in-Apart.ensures.table ∙ (c.first_piece.ensures.table ∙ c.loop-done.invariant.table);
+  reads = c.in_ok-other-in-Apart.ensures.read.count ∙ (c.in_ok-piece-in-Apart.ensures.read.count ∙ c.loop-done.invariant.reads);
+  lengths = c.first_piece-in-Apart.ensures.read.lengths ∙ (c.first_piece.ensures.read.lengths ∙ c.loop-done.invariant.lengths);
+  table = c.first_piece-in-Apart.ensures.read.table ∙ (c.first_piece.ensures.read.table ∙ c.loop-done.invariant.table);
   earlier = λ folder kept. c.loop-done.invariant.earlier folder
-      (c.in_ok-piece-in-Apart.ensures.earlier folder (c.in_ok-other-in-Apart.ensures.earlier folder kept));
+      (c.in_ok-piece-in-Apart.ensures.read.earlier folder (c.in_ok-other-in-Apart.ensures.read.earlier folder kept));
 }
 
 pub returns-then-count-both-clause-common : goal.returns-then-count-both-clause-common
@@ -74,15 +74,15 @@ returns-then-count-both-clause-common g c = λ folder kept.
     let piece = c.in_ok-piece-in-Apart.piece.now in
     let other = c.in_ok-other-in-Apart.other.now in
     let lengths = g.S.Source.lengths c.args.src.now in
-    let after = c.in_ok-other-in-Apart.ensures.earlier folder kept in
-    let before = c.in_ok-piece-in-Apart.ensures.earlier folder after in
+    let after = c.in_ok-other-in-Apart.ensures.read.earlier folder kept in
+    let before = c.in_ok-piece-in-Apart.ensures.read.earlier folder after in
     let told = g.met.S.Source.lengths_of_table c.args.src.now folder (c.loop-done.invariant.earlier folder before) in
     let from = c.args.i + done in
     let other_from = c.args.j + done in
     let left : n < length piece = omega (arith, c.if-count-both.true, c.min-both.ensures) in
     let right : n < length other = omega (arith, c.if-count-both.true, c.min-both.ensures) in
     let text : IsPieceOf t c.args.x.now from piece = piece_within lengths t c.args.x.now from c.in-Apart.stretch 0 from piece told c.requires.left_fits c.in-Apart.ensures.0 (omega (arith, c.in_ok-piece-in-Apart.ensures.inside)) (omega arith) (rw c.loop-done.invariant.table at c.in_ok-piece-in-Apart.ensures.text folder after) in
-    let other_text : IsPieceOf t c.args.y.now other_from other = piece_within lengths t c.args.y.now other_from c.in-Apart.other 0 other_from other told c.requires.right_fits c.in-Apart.ensures.1 (omega (arith, c.in_ok-other-in-Apart.ensures.inside)) (omega arith) (rw (c.first_piece.ensures.table, c.loop-done.invariant.table) at c.in_ok-other-in-Apart.ensures.text folder kept) in
+    let other_text : IsPieceOf t c.args.y.now other_from other = piece_within lengths t c.args.y.now other_from c.in-Apart.other 0 other_from other told c.requires.right_fits c.in-Apart.ensures.1 (omega (arith, c.in_ok-other-in-Apart.ensures.inside)) (omega arith) (rw (c.first_piece.ensures.read.table, c.loop-done.invariant.table) at c.in_ok-other-in-Apart.ensures.text folder kept) in
     common_end t c.args.x.now c.args.i c.args.y.now c.args.j c.args.most done n piece other
     (omega (arith, left, c.in_ok-piece-in-Apart.ensures.inside, c.in-Apart.ensures.3, c.loop-done-test.true)) left right text
     other_text c.agreeing-count.ensures.same (c.agreeing-count.ensures.differ left right) (c.loop-done.invariant.same folder before)

@@ -13,7 +13,7 @@ pub returns-then-run-count-clause-none : goal.returns-then-run-count-clause-none
 returns-then-run-count-clause-none g c = λ folder kept.
     let t = g.S.Source.table c.args.src.now folder in
     let lengths = g.S.Source.lengths c.args.src.now in
-    let before = c.in_ok-run.ensures.earlier folder kept in
+    let before = c.in_ok-run.ensures.read.earlier folder kept in
     let told = g.met.S.Source.lengths_of_table c.args.src.now folder before in
     let p = c.in-Some.repeated.period in
     let n = c.in-Some.repeated.count in
@@ -28,7 +28,7 @@ pub returns-then-count-most-clause-none : goal.returns-then-count-most-clause-no
 returns-then-count-most-clause-none g c = λ folder kept.
     let t = g.S.Source.table c.args.src.now folder in
     let lengths = g.S.Source.lengths c.args.src.now in
-    let before = c.in_ok-run.ensures.earlier folder kept in
+    let before = c.in_ok-run.ensures.read.earlier folder kept in
     let told = g.met.S.Source.lengths_of_table c.args.src.now folder before in
     let p = c.in-Some.repeated.period in
     let n = c.in-Some.repeated.count in

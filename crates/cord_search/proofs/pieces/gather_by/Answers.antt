@@ -38,15 +38,15 @@ loop-done-preserved g c =
       filled = λ folder kept.
           let t = g.S.Source.table c.args.src.now folder in
           let lengths = g.S.Source.lengths c.args.src.now in
-          let before = c.in_ok-copy_front.ensures.earlier folder kept in
+          let before = c.in_ok-copy_front.ensures.read.earlier folder kept in
           let told = g.met.S.Source.lengths_of_table c.args.src.now folder (c.loop-done.invariant.earlier folder before) in
           let text : IsPieceOf t c.args.position.now.cord (c.args.place + done) part = piece_within lengths t c.args.position.now.cord (c.args.place + done) c.stretch_from-stretch.result 0 (c.args.place + done) part told c.requires.fits stretch (omega (arith, long, c.min-count.ensures, c.len.ensures)) (omega arith) (rw c.loop-done.invariant.table at c.in_ok-copy_front.ensures.text folder kept) in
           filled_on t c.args.position.now.cord c.args.place done _ n c.loop-done.out part (c.loop-done.invariant.filled folder before) text
           long c.loop-done.invariant.in_range;
       cord = c.stretch_from-stretch.ensures.cord ∙ c.loop-done.invariant.cord;
       valid = c.stretch_from-stretch.ensures.valid;
-      reads = c.in_ok-copy_front.ensures.count ∙ c.loop-done.invariant.reads;
-      lengths = c.copy_front.ensures.lengths ∙ c.loop-done.invariant.lengths;
-      table = c.copy_front.ensures.table ∙ c.loop-done.invariant.table;
-      earlier = λ folder kept. c.loop-done.invariant.earlier folder (c.in_ok-copy_front.ensures.earlier folder kept);
+      reads = c.in_ok-copy_front.ensures.read.count ∙ c.loop-done.invariant.reads;
+      lengths = c.copy_front.ensures.read.lengths ∙ c.loop-done.invariant.lengths;
+      table = c.copy_front.ensures.read.table ∙ c.loop-done.invariant.table;
+      earlier = λ folder kept. c.loop-done.invariant.earlier folder (c.in_ok-copy_front.ensures.read.earlier folder kept);
     }

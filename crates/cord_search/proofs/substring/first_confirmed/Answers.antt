@@ -13,36 +13,36 @@ use Rattle.cord_search.proofs.substring.first_confirmed.Goals as goal
 
 pub passed-requires-clause-repeats : goal.passed-requires-clause-repeats
 passed-requires-clause-repeats g c = λ folder kept.
-    let given = c.requires.repeats folder (c.loop-place.invariant.earlier folder (c.in_ok-found.ensures.earlier folder (c.in_ok-stands_at.ensures.earlier folder kept))) in
+    let given = c.requires.repeats folder (c.loop-place.invariant.earlier folder (c.in_ok-found.ensures.read.earlier folder (c.in_ok-stands_at.ensures.read.earlier folder kept))) in
     subst (λ (u : Folder → Table). IfSome c.args.repeats (IsRepeated (u folder) c.args.s.now))
-    (sym (c.stands_at.ensures.table ∙ (c.first_of.ensures.table ∙ c.loop-place.invariant.table))) given
+    (sym (c.stands_at.ensures.read.table ∙ (c.first_of.ensures.read.table ∙ c.loop-place.invariant.table))) given
 
 pub loop-place-preserved : goal.loop-place-preserved
 loop-place-preserved g c = record {
   low = search rules;
   none = λ folder kept.
       let t = g.S.Source.table c.args.src.now folder in
-      let stood = c.in_ok-count.ensures.earlier folder kept in
-      let after = c.in_ok-stands_at.ensures.earlier folder stood in
-      let before = c.in_ok-found.ensures.earlier folder after in
+      let stood = c.in_ok-count.ensures.read.earlier folder kept in
+      let after = c.in_ok-stands_at.ensures.read.earlier folder stood in
+      let before = c.in_ok-found.ensures.read.earlier folder after in
       let front : IsPieceOf t c.args.s.now 0 c.args.front.now = c.requires.front folder (c.loop-place.invariant.earlier folder before) in
       let hit : Some c.in-Some.found ≡ first (bytes_of t c.args.x.now) c.loop-place.place c.args.front.now = sym c.in-Some.is ∙ (rw c.loop-place.invariant.table at c.in_ok-found.ensures.first folder after) in
       let none = front_on t c.args.x.now c.args.s.now c.args.start c.loop-place.place c.in-Some.found c.args.front.now hit front (c.loop-place.invariant.none folder before) in
-      let here : IsStanding t c.args.x.now c.in-Some.found c.args.s.now false = rw (c.first_of.ensures.table, c.loop-place.invariant.table, c.if-branch.false) at c.in_ok-stands_at.ensures.stands folder stood in
-      let behind : StandsNot t c.args.x.now (bytes_of t c.args.s.now) (c.in-Some.found + 1) (c.in-Some.found + c.in_ok-count.count) = rw (c.stands_at.ensures.table, c.first_of.ensures.table, c.loop-place.invariant.table) at c.in_ok-count.ensures.none folder kept in
+      let here : IsStanding t c.args.x.now c.in-Some.found c.args.s.now false = rw (c.first_of.ensures.read.table, c.loop-place.invariant.table, c.if-branch.false) at c.in_ok-stands_at.ensures.stands folder stood in
+      let behind : StandsNot t c.args.x.now (bytes_of t c.args.s.now) (c.in-Some.found + 1) (c.in-Some.found + c.in_ok-count.count) = rw (c.stands_at.ensures.read.table, c.first_of.ensures.read.table, c.loop-place.invariant.table) at c.in_ok-count.ensures.none folder kept in
       passed_on t c.args.x.now (bytes_of t c.args.s.now) c.args.start c.in-Some.found (c.in-Some.found + c.in_ok-count.count)
       (stands_on t c.args.x.now c.args.s.now c.args.start c.in-Some.found here none) behind;
-  reads = c.in_ok-count.ensures.count ∙ (c.in_ok-stands_at.ensures.count ∙ (c.in_ok-found.ensures.count ∙ c.loop-place.invariant.reads));
-  lengths = c.passed.ensures.lengths ∙ (c.stands_at.ensures.lengths ∙ (c.first_of.ensures.lengths ∙ c.loop-place.invariant.lengths));
-  table = c.passed.ensures.table ∙ (c.stands_at.ensures.table ∙ (c.first_of.ensures.table ∙ c.loop-place.invariant.table));
+  reads = c.in_ok-count.ensures.read.count ∙ (c.in_ok-stands_at.ensures.read.count ∙ (c.in_ok-found.ensures.read.count ∙ c.loop-place.invariant.reads));
+  lengths = c.passed.ensures.read.lengths ∙ (c.stands_at.ensures.read.lengths ∙ (c.first_of.ensures.read.lengths ∙ c.loop-place.invariant.lengths));
+  table = c.passed.ensures.read.table ∙ (c.stands_at.ensures.read.table ∙ (c.first_of.ensures.read.table ∙ c.loop-place.invariant.table));
   earlier = λ folder kept. c.loop-place.invariant.earlier folder
-      (c.in_ok-found.ensures.earlier folder (c.in_ok-stands_at.ensures.earlier folder (c.in_ok-count.ensures.earlier folder kept)));
+      (c.in_ok-found.ensures.read.earlier folder (c.in_ok-stands_at.ensures.read.earlier folder (c.in_ok-count.ensures.read.earlier folder kept)));
 }
 
 pub returns-in_default-clause-first : goal.returns-in_default-clause-first
 returns-in_default-clause-first g c = λ folder kept.
     let t = g.S.Source.table c.args.src.now folder in
-    let before = c.in_ok-found.ensures.earlier folder kept in
+    let before = c.in_ok-found.ensures.read.earlier folder kept in
     let front : IsPieceOf t c.args.s.now 0 c.args.front.now = c.requires.front folder (c.loop-place.invariant.earlier folder before) in
     let hit : None ≡ first (bytes_of t c.args.x.now) c.loop-place.place c.args.front.now = sym c.in_default.is ∙ (rw c.loop-place.invariant.table at c.in_ok-found.ensures.first folder kept) in
     front_none t c.args.x.now c.args.s.now c.args.start c.loop-place.place c.args.front.now hit front
@@ -52,7 +52,7 @@ pub returns-then-last-found-clause-first : goal.returns-then-last-found-clause-f
 returns-then-last-found-clause-first g c = λ folder kept.
     let t = g.S.Source.table c.args.src.now folder in
     let lengths = g.S.Source.lengths c.args.src.now in
-    let before = c.in_ok-found.ensures.earlier folder kept in
+    let before = c.in_ok-found.ensures.read.earlier folder kept in
     let first_kept = c.loop-place.invariant.earlier folder before in
     let told = g.met.S.Source.lengths_of_table c.args.src.now folder first_kept in
     let hit : Some c.in-Some.found ≡ first (bytes_of t c.args.x.now) c.loop-place.place c.args.front.now = sym c.in-Some.is ∙ (rw c.loop-place.invariant.table at c.in_ok-found.ensures.first folder kept) in
@@ -65,12 +65,12 @@ returns-then-last-found-clause-first g c = λ folder kept.
 pub returns-then-branch-clause-first : goal.returns-then-branch-clause-first
 returns-then-branch-clause-first g c = λ folder kept.
     let t = g.S.Source.table c.args.src.now folder in
-    let after = c.in_ok-stands_at.ensures.earlier folder kept in
-    let before = c.in_ok-found.ensures.earlier folder after in
+    let after = c.in_ok-stands_at.ensures.read.earlier folder kept in
+    let before = c.in_ok-found.ensures.read.earlier folder after in
     let front : IsPieceOf t c.args.s.now 0 c.args.front.now = c.requires.front folder (c.loop-place.invariant.earlier folder before) in
     let hit : Some c.in-Some.found ≡ first (bytes_of t c.args.x.now) c.loop-place.place c.args.front.now = sym c.in-Some.is ∙ (rw c.loop-place.invariant.table at c.in_ok-found.ensures.first folder after) in
     let none = front_on t c.args.x.now c.args.s.now c.args.start c.loop-place.place c.in-Some.found c.args.front.now hit front (c.loop-place.invariant.none folder before) in
-    let here : IsStanding t c.args.x.now c.in-Some.found c.args.s.now true = rw (c.first_of.ensures.table, c.loop-place.invariant.table, c.if-branch.true) at c.in_ok-stands_at.ensures.stands folder kept in
+    let here : IsStanding t c.args.x.now c.in-Some.found c.args.s.now true = rw (c.first_of.ensures.read.table, c.loop-place.invariant.table, c.if-branch.true) at c.in_ok-stands_at.ensures.stands folder kept in
     stands_first t c.args.x.now c.args.s.now c.args.start c.in-Some.found (search rules) here none
 
 pub returns-clause-first : goal.returns-clause-first
