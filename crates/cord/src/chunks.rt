@@ -2,10 +2,10 @@
 ghost use Rattle.std.specs.Prelude.{◌≡◌, ◌<◌, length, min, take};
 ghost use Rattle.cord_node.specs.Tree.{len_of, IsSound};
 ghost use Rattle.cord_node.specs.Tables.{bytes_over, FitsIn};
-ghost use Rattle.cord.specs.Chunks.{chunk_bytes, IsChunkAt, JoinTo};
+ghost use Rattle.cord.specs.Chunks.{chunk_bytes, IsChunkAt, JoinBackTo, JoinTo};
 ghost use Rattle.cord.specs.Plain.{no_lengths, no_table};
 
-use crate::Text;
+use crate::{ChunksBack, Text};
 use cord_core::Node;
 use std::io;
 use std::io::Read;
@@ -58,6 +58,18 @@ impl Text {
         Chunks {
             text: self,
             start: 0,
+        }
+    }
+
+    /// Its chunks from the last to the first: put together from the last that came to the first, they are the text. None
+    /// is copied.
+    pub fn chunks_back(&self) -> ChunksBack<'_>
+        ensures text { result ≡ self.now }
+        ensures joined { JoinBackTo result self.now }
+    {
+        ChunksBack {
+            text: self,
+            end: self.len(),
         }
     }
 

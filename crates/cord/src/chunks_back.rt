@@ -1,8 +1,8 @@
 // The chunks of a text from after.
-ghost use Rattle.std.specs.Prelude.{◌≡◌, ◌<◌, ◌≤◌, length};
+ghost use Rattle.std.specs.Prelude.{◌<◌, ◌≤◌, length};
 ghost use Rattle.cord_node.specs.Tree.{len_of, IsSound};
 ghost use Rattle.cord_node.specs.Tables.{bytes_over, FitsIn};
-ghost use Rattle.cord.specs.Chunks.{IsChunkBefore, JoinBackTo};
+ghost use Rattle.cord.specs.Chunks.{IsChunkBefore};
 ghost use Rattle.cord.specs.Plain.{no_lengths, no_table};
 
 use crate::{Chunk, Text};
@@ -12,8 +12,8 @@ use std::marker::Model;
 /// The bytes of a text that are left, whose chunks come from the last to the first.
 #[derive(Drop)]
 pub struct ChunksBack<'a> {
-    text: &'a Text,
-    end: u64,
+    pub(crate) text: &'a Text,
+    pub(crate) end: u64,
 }
 
 impl<'a> Model for ChunksBack<'a> {
@@ -27,18 +27,6 @@ impl<'a> Model for ChunksBack<'a> {
 }
 
 impl Text {
-    /// Its chunks from the last to the first: put together from the last that came to the first, they are the text. None
-    /// is copied.
-    pub fn chunks_back(&self) -> ChunksBack<'_>
-        ensures text { result ≡ self.now }
-        ensures joined { JoinBackTo result self.now }
-    {
-        ChunksBack {
-            text: self,
-            end: self.len(),
-        }
-    }
-
     // The chunk that ends at a place.
     fn chunk_before(&self, end: u64) -> Chunk<'_>
         requires some { 0 < end }
@@ -49,6 +37,26 @@ impl Text {
             unreachable!()
         };
         chunk_up_to(root.as_ref(), end)
+    }
+}
+
+impl<'a> Iterator for ChunksBack<'a> {
+    ghost use Rattle.std.specs.Iterator.{item_count};
+    ghost use Rattle.cord.specs.Chunks.{GivesChunkBefore};
+
+    type Item = Chunk<'a>;
+
+    ghost next_gives = { GivesChunkBefore };
+
+    ghost remaining = { item_count (λ left. left) };
+
+    fn next(&mut self) -> Option<Chunk<'a>> {
+        if self.end == 0 {
+            return None;
+        }
+        let chunk = self.text.chunk_before(self.end);
+        self.end -= chunk.len();
+        Some(chunk)
     }
 }
 
@@ -77,25 +85,5 @@ fn chunk_up_to(node: &Node, end: u64) -> Chunk<'_>
                 chunk_up_to(right.as_ref(), end - seam)
             }
         }
-    }
-}
-
-impl<'a> Iterator for ChunksBack<'a> {
-    ghost use Rattle.std.specs.Iterator.{item_count};
-    ghost use Rattle.cord.specs.Chunks.{GivesChunkBefore};
-
-    type Item = Chunk<'a>;
-
-    ghost next_gives = { GivesChunkBefore };
-
-    ghost remaining = { item_count (λ left. left) };
-
-    fn next(&mut self) -> Option<Chunk<'a>> {
-        if self.end == 0 {
-            return None;
-        }
-        let chunk = self.text.chunk_before(self.end);
-        self.end -= chunk.len();
-        Some(chunk)
     }
 }
