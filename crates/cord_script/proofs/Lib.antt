@@ -1,3 +1,4 @@
+pub mod Adding
 pub mod Allowed
 pub mod Contexts
 pub mod Built

@@ -73,12 +73,14 @@ fn take_fields(
     Ok(settled)
 }
 
-// A list without fields, in the buffer, which is left without memory.
-fn emptied(alloc: Global, buffer: &mut Vec<Field>) -> Vec<Field>
+/// A list without fields, in the buffer, which is left without memory.
+pub fn emptied(alloc: Global, buffer: &mut Vec<Field>) -> Vec<Field>
     ensures { result.items ≡ [] }
 {
     let mut fields = mem::replace(buffer, Vec::new(alloc));
-    fields.clear();
+    if !fields.is_empty() {
+        fields.clear();
+    }
     fields
 }
 

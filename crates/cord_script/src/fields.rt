@@ -40,6 +40,7 @@ pub enum Field {
 }
 
 // Where a name is wanted.
+#[inline(always)]
 fn name_of(alloc: Global, names: &Table, word: Word) -> Result<(Name, Option<Kind>), RefusalKind>
     ensures name { IfOk result (λ r. (word.entry ≡ Word.Plain r.0) × (is_name r.0 ≡ true)) }
     ensures kind { IfOk result (λ r. IfSome r.1 (λ kind. kind_of names.now r.0 ≡ Some kind)) }
@@ -62,6 +63,7 @@ fn begins_numeral(word: &[u8]) -> bool
 }
 
 // Where a number operand is wanted.
+#[inline(always)]
 fn number_of(alloc: Global, names: &Table, word: Word) -> Result<(Number, bool), RefusalKind>
     ensures number { IfOk result (λ r. IsTerm word.entry (Value r.0)) }
     ensures settled { IfOk result (λ r. r.1 ≡ true → IsSettled names.now (Value r.0)) }
@@ -172,6 +174,7 @@ fn relation_of(word: &Word) -> Result<Relation, RefusalKind>
 
 /// What a word says where this is wanted, or what is wrong with it; and whether it is settled: it is no path, and
 /// a name in it is known and of its kind.
+#[inline(always)]
 pub fn field_of(
     alloc: Global,
     names: &Table,

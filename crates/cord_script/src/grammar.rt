@@ -8,7 +8,7 @@ use crate::kinds::{Kind, Want};
 use crate::verbs::{
     Composition, Computation, Control, Derivation, Growth, Look, Origin, Search, Verb,
 };
-use crate::words::{is_same, uncons};
+use crate::words::is_same;
 
 // The verbs, in the order of the table of statements.
 const VERBS: [Verb; 33] = [
@@ -47,34 +47,6 @@ const VERBS: [Verb; 33] = [
     Verb::Control(Control::End),
 ];
 
-const FROM_C: [Verb; 6] = [
-    Verb::Composition(Composition::Cat),
-    Verb::Composition(Composition::Catc),
-    Verb::Catn,
-    Verb::Composition(Composition::Chars),
-    Verb::Look(Look::Cmp),
-    Verb::Search(Search::Chr),
-];
-
-const FROM_E: [Verb; 8] = [
-    Verb::Control(Control::End),
-    Verb::Control(Control::Else),
-    Verb::Growth(Growth::EcPut),
-    Verb::Growth(Growth::EcStr),
-    Verb::Growth(Growth::EcCat),
-    Verb::Growth(Growth::EcInit),
-    Verb::Derivation(Derivation::EcToCord),
-    Verb::Origin(Origin::Eager),
-];
-
-const FROM_S: [Verb; 5] = [
-    Verb::Composition(Composition::Substr),
-    Verb::Sprintf,
-    Verb::Search(Search::Str),
-    Verb::Computation(Computation::Assign),
-    Verb::Computation(Computation::Sub),
-];
-
 // The first of these verbs that has the word.
 fn find_verb(verbs: &[Verb], word: &[u8]) -> Option<Verb>
     ensures verb { result ≡ find_verb verbs.now word.now }
@@ -88,41 +60,51 @@ fn find_verb(verbs: &[Verb], word: &[u8]) -> Option<Verb>
     None
 }
 
-// The verbs whose words begin with a byte.
-fn verbs_from(first: u8) -> &'static [Verb] {
-    match first {
-        b'a' => &[Verb::Computation(Computation::Add)],
-        b'b' => &[Verb::Derivation(Derivation::Balance)],
-        b'c' => &FROM_C,
-        b'e' => &FROM_E,
-        b'f' => &[
-            Verb::Origin(Origin::File),
-            Verb::Origin(Origin::FromFn),
-            Verb::Look(Look::Fetch),
-        ],
-        b'i' => &[Verb::Control(Control::If)],
-        b'l' => &[
-            Verb::Origin(Origin::Let),
-            Verb::Computation(Computation::Len),
-            Verb::Origin(Origin::Lazy),
-        ],
-        b'n' => &[Verb::Composition(Composition::Nul), Verb::Look(Look::Ncmp)],
-        b'p' => &[Verb::Put],
-        b'r' => &[Verb::Control(Control::Repeat), Verb::Search(Search::Rchr)],
-        b's' => &FROM_S,
-        _ => &[],
-    }
-}
-
-// The verb of a word among those of its first byte.
+// The verb of a word, by its length and bytes.
+#[inline(always)]
 fn likely_verb(word: &[u8]) -> Option<Verb>
     ensures { IfSome result (λ verb. word.now ≡ verb_word verb) }
 {
-    let (first, _) = uncons(word)?;
-    find_verb(verbs_from(first), word)
+    match word {
+        b"fn" => Some(Verb::Origin(Origin::FromFn)),
+        b"if" => Some(Verb::Control(Control::If)),
+        b"add" => Some(Verb::Computation(Computation::Add)),
+        b"cat" => Some(Verb::Composition(Composition::Cat)),
+        b"chr" => Some(Verb::Search(Search::Chr)),
+        b"cmp" => Some(Verb::Look(Look::Cmp)),
+        b"end" => Some(Verb::Control(Control::End)),
+        b"len" => Some(Verb::Computation(Computation::Len)),
+        b"let" => Some(Verb::Origin(Origin::Let)),
+        b"nul" => Some(Verb::Composition(Composition::Nul)),
+        b"put" => Some(Verb::Put),
+        b"set" => Some(Verb::Computation(Computation::Assign)),
+        b"str" => Some(Verb::Search(Search::Str)),
+        b"sub" => Some(Verb::Computation(Computation::Sub)),
+        b"catc" => Some(Verb::Composition(Composition::Catc)),
+        b"catn" => Some(Verb::Catn),
+        b"else" => Some(Verb::Control(Control::Else)),
+        b"file" => Some(Verb::Origin(Origin::File)),
+        b"lazy" => Some(Verb::Origin(Origin::Lazy)),
+        b"ncmp" => Some(Verb::Look(Look::Ncmp)),
+        b"rchr" => Some(Verb::Search(Search::Rchr)),
+        b"chars" => Some(Verb::Composition(Composition::Chars)),
+        b"eager" => Some(Verb::Origin(Origin::Eager)),
+        b"eccat" => Some(Verb::Growth(Growth::EcCat)),
+        b"ecput" => Some(Verb::Growth(Growth::EcPut)),
+        b"ecstr" => Some(Verb::Growth(Growth::EcStr)),
+        b"fetch" => Some(Verb::Look(Look::Fetch)),
+        b"ecinit" => Some(Verb::Growth(Growth::EcInit)),
+        b"repeat" => Some(Verb::Control(Control::Repeat)),
+        b"substr" => Some(Verb::Composition(Composition::Substr)),
+        b"balance" => Some(Verb::Derivation(Derivation::Balance)),
+        b"sprintf" => Some(Verb::Sprintf),
+        b"ectocord" => Some(Verb::Derivation(Derivation::EcToCord)),
+        _ => None,
+    }
 }
 
 /// The verb of a word, if it is a statement's word.
+#[inline(always)]
 pub fn verb_of(word: &[u8]) -> Option<Verb>
     ensures { MatchOption result (form_in whole word.now ≡ None) (λ verb. (word.now ≡ verb_word verb) ×
         (form_in whole word.now ≡ Some (verb_form verb))) }
@@ -263,6 +245,7 @@ const REPEAT: [Want; 1] = [Want::Number];
 const IF: [Want; 3] = [Want::Number, Want::Relation, Want::Number];
 
 /// What the words after a statement's word have to be, where their number is fixed.
+#[inline(always)]
 pub fn wants_of(verb: Verb) -> &'static [Want]
     ensures { result.now ≡ verb_wants verb }
 {

@@ -4,6 +4,7 @@
 mod blocks;
 mod context;
 mod cursor;
+mod direct;
 mod field_lists;
 mod fields;
 mod grammar;

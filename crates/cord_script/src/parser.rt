@@ -6,10 +6,11 @@ ghost use Rattle.cord_syntax.specs.Lines.{line_of};
 ghost use Rattle.cord_script.specs.Script.{Reads, ReadsUpTo};
 ghost use Rattle.cord_script.specs.Flaws.{Flaw};
 ghost use Rattle.cord_script.specs.inner.ContextViews.{before_of};
-ghost use Rattle.cord_script.specs.inner.Steps.{Tells, Takes, HasWrong};
+ghost use Rattle.cord_script.specs.inner.Steps.{Takes, HasWrong};
 
 use crate::blocks::open_flaw;
 use crate::context::Context;
+use crate::direct::take_settled;
 use crate::fields::Field;
 use crate::line::read_statement;
 use crate::words::{Word, blanks, head, tail, uncons, words_of};
@@ -40,31 +41,25 @@ fn first_line(bytes: &[u8]) -> (&[u8], &[u8])
     }
 }
 
-// The statement of a line, if it has one.
-fn line_statement<'a>(
+// Adds the statement that the words of a line say.
+#[cold]
+#[inline(never)]
+fn take_words<'a>(
     alloc: Global,
     number: u32,
     line: &'a [u8],
     words: &mut VecDeque<Word<'a>>,
     buffer: &mut Vec<Field>,
     context: &mut Context,
-) -> Result<Option<Statement>, RefusalKind>
-    ensures tells { IfOk result (Tells number line.now (before_of context.old) (before_of context.new)) }
+    statements: &mut Vec<Statement>,
+) -> Result<(), RefusalKind>
+    requires { ¬ IsIdle line.now }
+    ensures takes { OnOk result (Takes number line.now (before_of context.old) (before_of context.new) statements.old.items
+        statements.new.items) }
     ensures flaw { IfErr result (λ kind. kind ≢ RefusalKind.NoMemory → HasWrong line.now (before_of context.old) kind) }
 {
-    if is_idle(line) {
-        return Ok(None);
-    }
     words_of(alloc, line, words)?;
     let statement = read_statement(alloc, number, context, words, buffer)?;
-    Ok(Some(statement))
-}
-
-// Adds a statement after the others.
-fn add(statements: &mut Vec<Statement>, statement: Statement) -> Result<(), RefusalKind>
-    ensures statements { OnOk result (statements.new.items ≡ statements.old.items ++ statement ∷ []) }
-    ensures flaw { IfErr result (λ kind. kind ≡ RefusalKind.NoMemory) }
-{
     statements.push(statement)?;
     Ok(())
 }
@@ -83,10 +78,13 @@ fn take_line<'a>(
         statements.new.items) }
     ensures flaw { IfErr result (λ kind. kind ≢ RefusalKind.NoMemory → HasWrong line.now (before_of context.old) kind) }
 {
-    let Some(statement) = line_statement(alloc, number, line, words, buffer, context)? else {
+    if is_idle(line) {
         return Ok(());
-    };
-    add(statements, statement)
+    }
+    if take_settled(alloc, number, line, context, buffer, statements)? {
+        return Ok(());
+    }
+    take_words(alloc, number, line, words, buffer, context, statements)
 }
 
 /// Reads a script: lines that end with byte 10, or with the script, and on each one statement, a comment or nothing.

@@ -149,6 +149,7 @@ impl Table {
 
     /// The name of these bytes, which it shares with the table where it is known, and the kind that it has there.
     /// Bytes that are known are a name, so that only others are looked at once more.
+    #[inline(always)]
     pub fn name_of(&self, alloc: Global, bytes: &[u8]) -> Result<(Name, Option<Kind>), RefusalKind>
         ensures name { IfOk result (λ r. r.0 ≡ bytes.now) }
         ensures is_name { IfOk result (λ r. is_name bytes.now ≡ true) }

@@ -1,7 +1,7 @@
 // The words of a line.
 ghost use Rattle.std.specs.Prelude.{◌≡◌, ◌≢◌, ◌<◌, ◌≤◌, ℕ, List, [], ◌∷◌, ◌++◌, length, take, drop, All, IfOk, IfErr};
 ghost use Rattle.std.specs.Prelude.{OnOk, IfSome, MatchOption, option_map, IsTrue, false};
-ghost use Rattle.cord_script.specs.Words.{IsBlank, IsPlain, EndsPlain, StartsNoBlank, Spells, IsBadText, HasNext};
+ghost use Rattle.cord_script.specs.Words.{IsBlank, IsPlain, EndsPlain, StartsNoBlank, Spells, IsBadText, HasWord, HasNext};
 ghost use Rattle.cord_script.specs.Words.{BeginsBadText, HasWords, HasBadBytes};
 ghost use Rattle.std.specs.Str.{bytes_eq};
 ghost use Rattle.cord_script.specs.inner.Reading.{digit_of, hex_of, escape_of, unit_of};
@@ -198,8 +198,24 @@ fn quoted(alloc: Global, inner: &[u8]) -> Result<(Text, &[u8]), RefusalKind>
     Err(RefusalKind::Unterminated)
 }
 
-// The first word of a line and what follows it, if there is one.
-fn next_word(alloc: Global, line: &[u8]) -> Result<Option<(Word<'_>, &[u8])>, RefusalKind>
+/// The first word of a line and what follows it, if it is a plain word.
+pub fn plain_word(line: &[u8]) -> Option<(&[u8], &[u8])>
+    ensures { IfSome result (λ r. HasWord line.now (Word.Plain r.0.now) r.1.now) }
+{
+    let rest = tail(line, blanks(line));
+    let Some((first, _)) = uncons(rest) else {
+        return None;
+    };
+    if first == b'"' {
+        return None;
+    }
+    let len = plain_len(rest);
+    Some((head(rest, len), tail(rest, len)))
+}
+
+/// The first word of a line and what follows it, if there is one.
+#[inline(always)]
+pub fn next_word(alloc: Global, line: &[u8]) -> Result<Option<(Word<'_>, &[u8])>, RefusalKind>
     ensures word { IfOk result (λ o. HasNext line.now (option_map (λ r. (r.0, r.1.now)) o)) }
     ensures flaw { IfErr result (λ kind. kind ≢ RefusalKind.NoMemory → BeginsBadText line.now kind) }
 {

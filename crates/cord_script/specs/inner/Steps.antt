@@ -1,5 +1,5 @@
 -- What the parser's steps tell of a line.
-use Rattle.std.specs.Prelude.{◌≡◌, ◌+◌, ℕ, ◌⊎◌, List, ◌++◌, length, Option, Some, None, option_to_list}
+use Rattle.std.specs.Prelude.{◌≡◌, ◌+◌, ℕ, ◌⊎◌, List, [], ◌∷◌, ◌++◌, length, Option, Some, None, option_to_list}
 use Rattle.cord_script.specs.declared.words.Word.{Word}
 use Rattle.cord_syntax.specs.declared.statements.Statement.{Statement}
 use Rattle.cord_script.specs.declared.refusals.RefusalKind.{RefusalKind}
@@ -16,6 +16,14 @@ Tells n line old new (Some s) = (¬ IsIdle line) × (words : List Word) × HasWo
 -- the statement of a line, if it has one, is added to the others
 abbrev pub Takes : ℕ → List ℕ → Before → Before → List Statement → List Statement → Type 0
 Takes n line old new ss grown = (found : Option Statement) × Tells n line old new found × (grown ≡ ss ++ option_to_list found)
+
+-- the words of a line say a statement that changes nothing for the lines after it, and it is added to the others
+pub record Adds (n : ℕ) (line : List ℕ) (before : Before) (ss grown : List Statement) : Type 0 where
+  pub words : List Word
+  pub has : HasWords line words
+  pub statement : Statement
+  pub says : SaysAfter n before before words statement
+  pub added : grown ≡ ss ++ statement ∷ []
 
 -- what is wrong with a line after the lines before it
 abbrev pub HasWrong : List ℕ → Before → RefusalKind → Type 0

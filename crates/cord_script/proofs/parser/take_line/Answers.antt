@@ -1,10 +1,16 @@
 use Rattle.std.proofs.Common.{Some, subst}
-use Rattle.std.proofs.lemmas.Result.{on_ok_weaker}
+use Rattle.std.specs.Prelude.{OnOk}
 use Rattle.cord_script.specs.inner.ContextViews.{before_of}
-use Rattle.cord_script.specs.inner.Steps.{Tells}
+use Rattle.cord_script.specs.inner.Steps.{Takes}
 use Rattle.cord_script.proofs.parser.take_line.Goals as goal
+
+pub returns-then-branch-clause-takes : goal.returns-then-branch-clause-takes
+returns-then-branch-clause-takes c =
+    let h = c.in_ok-take_settled.ensures.adds c.if-branch.true in
+    (Some h.statement, (c.if-is_idle.ensures, h.words, h.has, h.says), h.added)
 
 pub returns-clause-takes : goal.returns-clause-takes
 returns-clause-takes c =
-    let tells = subst (Tells c.args.number c.args.line.now (before_of c.args.context.now) (before_of c.line_statement.new.context)) c.in-Some.is c.in_ok-statement.ensures.tells in
-    on_ok_weaker c.add.result (λ e. (Some c.in-Some.statement, tells, e)) c.add.ensures.statements
+    subst (λ ss. OnOk c.take_words.result (Takes c.args.number c.args.line.now (before_of c.args.context.now)
+    (before_of c.take_words.new.context) ss c.take_words.new.statements.items))
+    (c.in_ok-take_settled.ensures.keeps c.if-branch.false) c.take_words.ensures.takes
