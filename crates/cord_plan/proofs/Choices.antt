@@ -9,15 +9,6 @@ use Rattle.cord_plan.specs.Operands.{read_by}
 use Rattle.cord_plan.specs.Forced.{Choice, Table, expr_of, setter, chosen_of, choices, entry, operands_chosen, own}
 use Rattle.cord_plan.specs.inner.Choices.{simple_operands}
 
--- a list of two
-pub two_long : (xs : List (List ℕ)) (x y : List ℕ) → 2 ≤ length xs → length xs < 3 → x ≡ get_or xs 0 x → y ≡ get_or xs 1 y →
-    xs ≡ x ∷ y ∷ []
-two_long [] x y more less first second = let bad : ⊥ = omega arith in absurd bad
-two_long (a ∷ []) x y more less first second = let bad : ⊥ = omega arith in absurd bad
-two_long (a ∷ b ∷ []) x y more less first second = ap (λ (z : List ℕ). z ∷ b ∷ []) (sym first)
-    ∙ ap (λ (z : List ℕ). x ∷ z ∷ []) (sym second)
-two_long (a ∷ b ∷ c ∷ cs) x y more less first second = let bad : ⊥ = omega arith in absurd bad
-
 -- a simple line reads its operands
 pub simple_reads : (l : Statement) (xs : List (List ℕ)) → simple_operands l ≡ Some xs → read_by l ≡ xs
 simple_reads (Cat line target left right) xs e = cc

@@ -108,32 +108,6 @@ module _ (s : List Statement) (later : List ℕ → ℕ → Bool) (t : Table) (b
       pick None set = refl
       pick (Some a) set = from a (first_of (slice_get t a)) set
 
-  -- and where it isn't spare
-  pub kept_needed : (xs : List (List ℕ)) → read_by l ≡ xs → is_spare s later b l xs x ≡ false →
-      named x ≡ chosen_of s later t b l x before after (setter s x b)
-  kept_needed xs reads e = pick (setter s x b)
-    where
-      needed : is_spare s later b l (read_by l) x ≡ false
-      needed = rw reads e
-
-      shut : (between once free fixed small : Bool) → (once && free) ≡ false → ((between && (once && (free && fixed))) && small) ≡ false
-      shut false once free fixed small f = refl
-      shut true false free fixed small f = refl
-      shut true true false fixed small f = refl
-      shut true true true fixed small f = let bad : ⊥ = cc in absurd bad
-
-      from : (a : ℕ) (o : Option Expr) → named x ≡ chosen_from s later b l x before after a o
-      from a None = refl
-      from a (Some e) = ap (λ (v : Bool). if v then replaced a e else named x) (sym (shut
-          (each_from (λ m. not (is_block_at (slice_get s m)) && not (reads_at (slice_get s m) x)) (b - (a + 1)) (a + 1))
-          (count x (read_by l) == 1) (assigns l x || not (later x b))
-          (each_from (λ m. preserves (slice_get s m) (names e)) (b - a) a)
-          (is_small (expr_with l (before ++ e ∷ after))) needed))
-
-      pick : (o : Option ℕ) → named x ≡ chosen_of s later t b l x before after o
-      pick None = refl
-      pick (Some a) = from a (first_of (slice_get t a))
-
   -- where there is one, its expression is looked at
   from_near : (a : ℕ) → nearest s x b ≡ Some a → chosen_of s later t b l x before after (setter s x b)
       ≡ chosen_from s later b l x before after a (first_of (slice_get t a))
@@ -173,6 +147,19 @@ spare_stands s later e a b l xs x spare = pick (count x xs == 1) (assigns l x ||
     pick true true h = refl
     pick true false h = let bad : ⊥ = cc in absurd bad
     pick false f h = let bad : ⊥ = cc in absurd bad
+
+-- for any other operand none stands
+pub needed_stands : (s : List Statement) (later : List ℕ → ℕ → Bool) (e : Expr) (a b : ℕ) (l : Statement) (xs : List (List ℕ))
+    (x : List ℕ) → is_spare s later b l xs x ≡ false → stands s later e a b l xs x ≡ false
+needed_stands s later e a b l xs x needed = pick (count x xs == 1) (assigns l x || not (later x b)) needed
+  where
+    stay : Bool
+    stay = each_from (λ m. preserves (slice_get s m) (names e)) (b - a) a
+
+    pick : (c f : Bool) → (c && f) ≡ false → (c && (f && stay)) ≡ false
+    pick true true h = let bad : ⊥ = cc in absurd bad
+    pick true false h = refl
+    pick false f h = refl
 
 -- what the nearest line is, by the line before
 pub near_here : (s : List Statement) (x : List ℕ) (p : ℕ) (l : Statement) → 0 < p → p ≤ length s → l ≡ get_or s (p - 1) l →

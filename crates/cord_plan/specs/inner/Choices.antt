@@ -37,8 +37,8 @@ simple_operands l = None
 -- the operands that the program has of a line
 abbrev pub operands_view : Operands → List (List ℕ)
 operands_view Nothing = []
-operands_view (One xs) = xs
-operands_view (Two xs) = xs
+operands_view (One x) = x.now ∷ []
+operands_view (Two x y) = x.now ∷ y.now ∷ []
 operands_view (Listed xs) = xs.now
 
 -- the parts of a line's expression beside those of its operands

@@ -1,8 +1,8 @@
 // Which names are read later than which lines.
 ghost use Rattle.std.specs.Prelude.{◌≡◌, ◌<◌, ◌≤◌, ◌/◌, ◌^◌, ℕ, List, true, false, Some, length, map, get_or};
-ghost use Rattle.std.specs.Prelude.{slice_get, IfOk};
+ghost use Rattle.std.specs.Prelude.{slice_get, replicate, IfOk};
 ghost use Rattle.cord_meaning.specs.Statements.{shape_of};
-ghost use Rattle.cord_plan.specs.Operands.{assigns_at};
+ghost use Rattle.cord_plan.specs.Operands.{assigns, assigns_at, reads};
 ghost use Rattle.cord_plan.specs.Unread.{IsLater, successors, some_of};
 ghost use Rattle.cord_plan.specs.inner.Marks.{bit, column, room, IsBit};
 ghost use Rattle.cord_plan.specs.inner.Numbering.{AllHints, names_of};
@@ -39,8 +39,6 @@ struct Flow<'a> {
     numbering: &'a Numbering,
     numbers: &'a [LineNumbers],
     group: usize,
-    // Whether some place may lead back: only then one pass doesn't find all.
-    loops: bool,
 }
 
 fn word_at(words: &[u128], place: usize) -> u128
@@ -128,11 +126,9 @@ impl Flow<'_> {
         flowed(here, successors, kill)
     }
 
-    // One pass of the backwards flow over the lines, and whether another may find more: it has found a place, and some
-    // lead back.
+    // One pass of the backwards flow over the lines, and whether it has found a place, so that another may find more.
     fn sweep(&self, assigned: &[u128], words: &mut [u128]) -> bool
         requires successor_table { AreSuccessors (map shape_of self.now.statements.now) self.now.successor_table.now }
-        requires loops { self.now.loops ≡ false → LeadOn self.now.successor_table.now }
         requires assigned { AreAssigned self.now.statements.now self.now.numbering.now self.now.group assigned.now }
         requires partly { ArePartly self.now.statements.now self.now.numbering.now self.now.group words.old }
         ensures partly { ArePartly self.now.statements.now self.now.numbering.now self.now.group words.new }
@@ -145,7 +141,7 @@ impl Flow<'_> {
             let word = self.flow_at(assigned, words, p);
             if word != here {
                 words[p] = word;
-                again = self.loops;
+                again = true;
             }
         }
         again
@@ -154,7 +150,6 @@ impl Flow<'_> {
     // For each place the names of the group that a path from there reads before a line assigns them.
     fn live_words(&self, alloc: Global) -> Result<Vec<u128>, AllocError>
         requires successor_table { AreSuccessors (map shape_of self.now.statements.now) self.now.successor_table.now }
-        requires loops { self.now.loops ≡ false → LeadOn self.now.successor_table.now }
         requires hints { AllHints self.now.statements.now self.now.numbering.now self.now.numbers.now }
         ensures { IfOk result (λ v. AreLive self.now.statements.now self.now.numbering.now self.now.group v.items) }
     {
@@ -162,6 +157,63 @@ impl Flow<'_> {
         let mut words = self.words_read(alloc)?;
         'sweeps: while self.sweep(&assigned, &mut words) {}
         Ok(words)
+    }
+
+    // The word of a line, where those of the places that may come next are found: the names that it reads, and theirs but for
+    // the name that it assigns.
+    fn word_onward(&self, words: &[u128], place: usize, statement: &Statement) -> u128
+        requires successor_table { AreSuccessors (map shape_of self.now.statements.now) self.now.successor_table.now }
+        requires hints { AllHints self.now.statements.now self.now.numbering.now self.now.numbers.now }
+        requires here { slice_get self.now.statements.now place ≡ Some statement.now }
+        ensures { (x : List ℕ) (i : ℕ) → IsBit self.now.numbering.now self.now.group x i →
+            bit result i ≡ flow (reads statement.now x)
+            (some_of (λ q. at (column words.now i) q) (successors (map shape_of self.now.statements.now) place))
+            (assigns statement.now x) }
+    {
+        let numbers = numbers_at(self.numbers, place);
+        let read = mark_read(self.numbering, self.group, statement, numbers);
+        let assigned = mark_assigned(self.numbering, self.group, statement, numbers);
+        flowed(read, self.successor_word_at(words, place), assigned)
+    }
+
+    // Fills words that have no name yet, where each place leads to later ones alone: one pass from the last line back.
+    fn fill_onward(&self, words: &mut [u128])
+        requires successor_table { AreSuccessors (map shape_of self.now.statements.now) self.now.successor_table.now }
+        requires onward { LeadOn self.now.successor_table.now }
+        requires hints { AllHints self.now.statements.now self.now.numbering.now self.now.numbers.now }
+        requires empty { words.old ≡ replicate (length self.now.statements.now) 0 }
+        ensures { AreLive self.now.statements.now self.now.numbering.now self.now.group words.new }
+    {
+        for p in (0..words.len()).rev() {
+            words[p] = self.word_onward(words, p, &self.statements[p]);
+        }
+    }
+
+    // The same as `live_words` where each place leads to later ones alone.
+    fn words_onward(&self, alloc: Global) -> Result<Vec<u128>, AllocError>
+        requires successor_table { AreSuccessors (map shape_of self.now.statements.now) self.now.successor_table.now }
+        requires onward { LeadOn self.now.successor_table.now }
+        requires hints { AllHints self.now.statements.now self.now.numbering.now self.now.numbers.now }
+        ensures { IfOk result (λ v. AreLive self.now.statements.now self.now.numbering.now self.now.group v.items) }
+    {
+        let mut words = vec![in alloc; 0; self.statements.len()]?;
+        self.fill_onward(&mut words);
+        Ok(words)
+    }
+
+    // For each place the names of the group that a path from there reads before a line assigns them, where loops tells whether
+    // some place may lead back.
+    fn words_of(&self, alloc: Global, loops: bool) -> Result<Vec<u128>, AllocError>
+        requires successor_table { AreSuccessors (map shape_of self.now.statements.now) self.now.successor_table.now }
+        requires onward { loops ≡ false → LeadOn self.now.successor_table.now }
+        requires hints { AllHints self.now.statements.now self.now.numbering.now self.now.numbers.now }
+        ensures { IfOk result (λ v. AreLive self.now.statements.now self.now.numbering.now self.now.group v.items) }
+    {
+        if loops {
+            self.live_words(alloc)
+        } else {
+            self.words_onward(alloc)
+        }
     }
 }
 
@@ -186,9 +238,8 @@ fn groups_of(
             numbering,
             numbers,
             group,
-            loops,
         };
-        let words = flow.live_words(alloc)?;
+        let words = flow.words_of(alloc, loops)?;
         groups.push(Group { words })?;
     }
     Ok(groups)
@@ -234,6 +285,7 @@ impl Later {
     }
 
     /// Whether the name of a number is read later than the line at a place.
+    #[inline(always)]
     pub(crate) fn is_later(&self, number: Option<usize>, place: usize) -> bool
         ensures { result ≡ tells_of self.now number place }
     {

@@ -16,7 +16,8 @@ pub(crate) enum Reading<'a> {
     Printed(&'a [Argument]),
 }
 
-/// The cords whose bytes a line reads.
+/// The cords whose bytes a line reads. Inlined, it isn't made where the caller looks at it at once.
+#[inline(always)]
 pub(crate) fn reading_of(statement: &Statement) -> Reading
     ensures { read_names result ≡ read_by statement.now }
 {

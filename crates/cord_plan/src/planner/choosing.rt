@@ -1,21 +1,21 @@
 // What stands for the operands of a line: their names, or expressions of earlier lines.
-ghost use Rattle.std.specs.Prelude.{◌≡◌, ◌==◌, ◌+◌, ◌<◌, ◌≤◌, ◌++◌, ◌∷◌, Some, ◌||◌, IfOk, IsOkUnless, drop, length};
+ghost use Rattle.std.specs.Prelude.{◌≡◌, ◌==◌, ◌+◌, ◌<◌, ◌≤◌, ◌++◌, ◌∷◌, Some, ◌||◌, IfOk, drop, length};
 ghost use Rattle.std.specs.Prelude.{map, not, option_map};
 ghost use Rattle.cord_plan.specs.Exprs.{names, name};
 ghost use Rattle.cord_plan.specs.Operands.{assigns, count};
 ghost use Rattle.cord_plan.specs.Forced.{is_small, expr_of, expr_with};
-ghost use Rattle.cord_plan.specs.inner.Choices.{simple_operands, parts_beside, expression_in, is_spare, room_left_by};
+ghost use Rattle.cord_plan.specs.inner.Choices.{simple_operands, parts_beside, expression_in, is_spare, room_left_by, stands};
 ghost use Rattle.cord_plan.specs.inner.Choices.{choice_view, operands_view, IsChoice, AreChoices};
 ghost use Rattle.cord_plan.specs.inner.Liveness.{tells};
 ghost use Rattle.cord_plan.specs.inner.Numbering.{IsHint, number_of};
 ghost use Rattle.cord_plan.specs.inner.Recent.{IsRecent};
 ghost use Rattle.cord_plan.specs.Views.{expr_view};
+ghost use Rattle.std.specs.Str.{bytes_eq};
 
 use crate::flow::{LineNumbers, Recent, assigns};
 use crate::planner::parts::room_left;
 use crate::planner::staying::{nearest, stays};
 use crate::{Expr, MAX_EXPR_PARTS};
-use cord_io::CordError;
 use cord_script::{Name, Statement, is_same};
 use std::alloc::{AllocError, Global};
 
@@ -33,54 +33,49 @@ pub(crate) struct Line<'a> {
     pub(crate) statements: &'a [Statement],
     pub(crate) place: usize,
     pub(crate) statement: &'a Statement,
-    pub(crate) operands: &'a [Name],
+    pub(crate) operands: Operands<'a>,
     pub(crate) numbers: LineNumbers,
     pub(crate) recent: &'a Recent<'a>,
 }
 
-/// The cord operands of a simple line: those of a list where it stands, and copies of others.
-#[derive(Drop)]
+/// The cord operands of a simple line, from left to right.
+#[derive(Clone, Copy)]
 pub(crate) enum Operands<'a> {
     Nothing,
-    One([Name; 1]),
-    Two([Name; 2]),
+    One(&'a Name),
+    Two(&'a Name, &'a Name),
     Listed(&'a [Name]),
 }
 
-impl Operands<'_> {
-    /// The operands in order.
-    pub(crate) fn as_slice(&self) -> &[Name]
-        ensures { result.now ≡ operands_view self.now }
-    {
-        match self {
-            Operands::Nothing => &[],
-            Operands::One(operand) => operand,
-            Operands::Two(operands) => operands,
-            Operands::Listed(operands) => operands,
-        }
-    }
-}
-
 /// The cord operands of a simple line; of other lines there are none.
-pub(crate) fn operands_of(statement: &Statement) -> Result<Option<Operands<'_>>, CordError>
-    ensures made { IfOk result (λ o. option_map operands_view o ≡ simple_operands statement.now) }
-    ensures refused { IsOkUnless result CordError.NoMemory }
+pub(crate) fn operands_of(statement: &Statement) -> Option<Operands<'_>>
+    ensures { option_map operands_view result ≡ simple_operands statement.now }
 {
     match statement {
-        Statement::Cat { left, right, .. } => Ok(Some(Operands::Two([
-            left.clone()?,
-            right.clone()?,
-        ]))),
-        Statement::Catn { parts, .. } => Ok(Some(Operands::Listed(parts.as_slice()))),
+        Statement::Cat { left, right, .. } => Some(Operands::Two(left, right)),
+        Statement::Catn { parts, .. } => Some(Operands::Listed(parts.as_slice())),
         Statement::Catc { operand, .. }
         | Statement::Substr { operand, .. }
-        | Statement::Put { operand, .. } => Ok(Some(Operands::One([operand.clone()?]))),
-        Statement::Chars { .. } | Statement::Nul { .. } => Ok(Some(Operands::Nothing)),
-        _ => Ok(None),
+        | Statement::Put { operand, .. } => Some(Operands::One(operand)),
+        Statement::Chars { .. } | Statement::Nul { .. } => Some(Operands::Nothing),
+        _ => None,
     }
 }
 
-fn is_named_once(operands: &[Name], name: &[u8]) -> bool
+// How many operands there are.
+fn operand_count(operands: Operands) -> usize
+    ensures { result ≡ length (operands_view operands.entry) }
+{
+    match operands {
+        Operands::Nothing => 0,
+        Operands::One(_) => 1,
+        Operands::Two(_, _) => 2,
+        Operands::Listed(names) => names.len(),
+    }
+}
+
+// Whether a name stands once in a list.
+fn is_once_in(operands: &[Name], name: &[u8]) -> bool
     ensures { result ≡ (count name.now operands.now == 1) }
 {
     let mut times: usize = 0;
@@ -90,6 +85,24 @@ fn is_named_once(operands: &[Name], name: &[u8]) -> bool
         }
     }
     times == 1
+}
+
+fn is(operand: &Name, name: &[u8]) -> bool
+    ensures { result ≡ bytes_eq name.now operand.now }
+{
+    is_same(name, operand.as_slice())
+}
+
+// Whether a name is one of the operands, and only once.
+fn is_named_once(operands: Operands, name: &[u8]) -> bool
+    ensures { result ≡ (count name.now (operands_view operands.entry) == 1) }
+{
+    match operands {
+        Operands::Nothing => false,
+        Operands::One(operand) => is(operand, name),
+        Operands::Two(left, right) => is(left, name) != is(right, name),
+        Operands::Listed(names) => is_once_in(names, name),
+    }
 }
 
 // Whether no line after a line reads the name that it has as an operand, but for what the line itself assigns.
@@ -105,7 +118,7 @@ fn is_free(line: &Line, name: &[u8], number: Option<usize>) -> bool
 fn is_spare(line: &Line, operand: &Name, number: Option<usize>) -> bool
     requires { number ≡ number_of line.now.recent.now.later.now.numbering operand.now }
     ensures { result ≡ is_spare line.now.statements.now (tells line.now.recent.now.later.now) line.now.place
-        line.now.statement.now line.now.operands.now operand.now }
+        line.now.statement.now (operands_view line.now.operands) operand.now }
 {
     let name = operand.as_slice();
     is_named_once(line.operands, name) && is_free(line, name, number)
@@ -141,13 +154,13 @@ fn room_left_by(chosen: &[Choice], room: u32) -> Option<u32>
 
 // Whether a line's expression stays small with this one for the next operand after those that were chosen for.
 fn stays_small(line: &Line, chosen: &[Choice], expression: &Expr) -> bool
-    requires operands { simple_operands line.now.statement.now ≡ Some line.now.operands.now }
-    requires more { length chosen.now < length line.now.operands.now }
+    requires operands { simple_operands line.now.statement.now ≡ Some (operands_view line.now.operands) }
+    requires more { length chosen.now < length (operands_view line.now.operands) }
     ensures { result ≡ is_small (expr_with line.now.statement.now
         (map expr_of (map choice_view chosen.now) ++ expr_view expression.now
-        ∷ map (λ y. name y) (drop (length (map choice_view chosen.now) + 1) line.now.operands.now))) }
+        ∷ map (λ y. name y) (drop (length (map choice_view chosen.now) + 1) (operands_view line.now.operands)))) }
 {
-    let names = line.operands.len() - chosen.len() - 1;
+    let names = operand_count(line.operands) - chosen.len() - 1;
     match room_left_by(chosen, MAX_EXPR_PARTS) {
         None => false,
         Some(room) => match room_left(expression, room) {
@@ -167,6 +180,23 @@ fn expression_at<'a>(table: &'a [Option<Expr>], place: usize) -> Option<&'a Expr
     }
 }
 
+// Whether the expression of the nearest line that assigns an operand may stand for it, where the line's own stays small.
+fn stands(
+    line: &Line,
+    operand: &Name,
+    number: Option<usize>,
+    source: usize,
+    expression: &Expr,
+) -> bool
+    requires number { number ≡ number_of line.now.recent.now.later.now.numbering operand.now }
+    requires place { line.now.place ≤ length line.now.statements.now }
+    requires recent { IsRecent line.now.statements.now line.now.place line.now.recent.now }
+    ensures { result ≡ stands line.now.statements.now (tells line.now.recent.now.later.now) (expr_view expression.now)
+        source line.now.place line.now.statement.now (operands_view line.now.operands) operand.now }
+{
+    is_spare(line, operand, number) && stays(line, source, expression)
+}
+
 /// What stands for the next operand of a line after those that were chosen for, where the lines before it have these expressions.
 pub(crate) fn choose<'a>(
     line: &Line,
@@ -178,23 +208,22 @@ pub(crate) fn choose<'a>(
     requires hint { IsHint line.now.recent.now.later.now.numbering operand.now hint }
     requires place { line.now.place ≤ length line.now.statements.now }
     requires recent { IsRecent line.now.statements.now line.now.place line.now.recent.now }
-    requires operands { simple_operands line.now.statement.now ≡ Some line.now.operands.now }
-    requires more { length chosen.now < length line.now.operands.now }
+    requires operands { simple_operands line.now.statement.now ≡ Some (operands_view line.now.operands) }
+    requires more { length chosen.now < length (operands_view line.now.operands) }
     ensures { IsChoice line.now.statements.now (tells line.now.recent.now.later.now) line.now.place
-        line.now.statement.now line.now.operands.now operand.now (map (option_map expr_view) table.now)
+        line.now.statement.now (operands_view line.now.operands) operand.now (map (option_map expr_view) table.now)
         (map choice_view chosen.now) (choice_view result) }
 {
     let name = operand.as_slice();
     let number = line.recent.later.numbering.number_with(name, hint);
-    if !is_spare(line, operand, number) {
-        return Choice::Named(operand);
-    }
     match nearest(line, name, number) {
         None => Choice::Named(operand),
         Some(source) => match expression_at(table, source) {
             None => Choice::Named(operand),
             Some(expression) => {
-                if stays(line, source, expression) && stays_small(line, chosen, expression) {
+                if stands(line, operand, number, source, expression)
+                    && stays_small(line, chosen, expression)
+                {
                     Choice::Replaced(source, expression)
                 } else {
                     Choice::Named(operand)
@@ -208,17 +237,19 @@ pub(crate) fn choose<'a>(
 pub(crate) fn choose_all<'a>(
     alloc: Global,
     line: &Line<'a>,
+    operands: &'a [Name],
     table: &'a [Option<Expr>],
 ) -> Result<Vec<Choice<'a>>, AllocError>
     requires place { line.now.place ≤ length line.now.statements.now }
     requires recent { IsRecent line.now.statements.now line.now.place line.now.recent.now }
-    requires operands { simple_operands line.now.statement.now ≡ Some line.now.operands.now }
+    requires listed { operands_view line.now.operands ≡ operands.now }
+    requires operands { simple_operands line.now.statement.now ≡ Some (operands_view line.now.operands) }
     ensures { IfOk result (λ cs. AreChoices line.now.statements.now
         (tells line.now.recent.now.later.now) line.now.place line.now.statement.now
         (map (option_map expr_view) table.now) (map choice_view cs.items)) }
 {
-    let mut chosen = Vec::with_capacity(alloc, line.operands.len())?;
-    for operand in line.operands {
+    let mut chosen = Vec::with_capacity(alloc, operands.len())?;
+    for operand in operands {
         let choice = choose(line, operand, None, table, &chosen);
         chosen.push(choice)?;
     }

@@ -1,6 +1,6 @@
 // The expressions of all lines of a script, and which lines are the first of a forced pair.
 ghost use Rattle.std.specs.Prelude.{◌≡◌, ◌≤◌, Some, IfOk, IsOkUnless, length, map, option_map};
-ghost use Rattle.cord_plan.specs.inner.Choices.{choice_view, simple_operands};
+ghost use Rattle.cord_plan.specs.inner.Choices.{choice_view, operands_view, simple_operands};
 ghost use Rattle.cord_plan.specs.Forced.{expr_of, expr_with};
 ghost use Rattle.cord_plan.specs.inner.Liveness.{tells};
 ghost use Rattle.cord_plan.specs.inner.Numbering.{AllHints, AreHints};
@@ -10,7 +10,7 @@ ghost use Rattle.cord_plan.specs.Views.{expr_view};
 
 use crate::Expr;
 use crate::flow::{Later, LineNumbers, Recent, numbers_at};
-use crate::planner::choosing::{Choice, Line, choose, choose_all, operands_of};
+use crate::planner::choosing::{Choice, Line, Operands, choose, choose_all, operands_of};
 use crate::planner::interning::Interner;
 use crate::planner::joining::expression_with;
 use cord_io::CordError;
@@ -69,7 +69,7 @@ fn expression_over<'a>(
 ) -> Result<Option<Expr>, CordError>
     requires place { line.now.place ≤ length line.now.statements.now }
     requires recent { IsRecent line.now.statements.now line.now.place line.now.recent.now }
-    requires operands { simple_operands line.now.statement.now ≡ Some line.now.operands.now }
+    requires operands { simple_operands line.now.statement.now ≡ Some (operands_view line.now.operands) }
     requires hints { AreHints line.now.recent.now.later.now.numbering line.now.statement.now line.now.numbers }
     ensures made { IfOk result (λ e. IsNext line.now.statements.now
         (tells line.now.recent.now.later.now) line.now.place line.now.statement.now
@@ -78,18 +78,18 @@ fn expression_over<'a>(
 {
     let (statement, numbers) = (line.statement, line.numbers);
     match line.operands {
-        [] => expression_by(alloc, interner, statement, &[], firsts),
-        [operand] => {
+        Operands::Nothing => expression_by(alloc, interner, statement, &[], firsts),
+        Operands::One(operand) => {
             let choice = choose(line, operand, numbers.first, expressions, &[]);
             expression_by(alloc, interner, statement, &[choice], firsts)
         }
-        [left, right] => {
+        Operands::Two(left, right) => {
             let first = choose(line, left, numbers.first, expressions, &[]);
             let second = choose(line, right, numbers.second, expressions, &[first]);
             expression_by(alloc, interner, statement, &[first, second], firsts)
         }
-        _ => {
-            let choices = choose_all(alloc, line, expressions)?;
+        Operands::Listed(operands) => {
+            let choices = choose_all(alloc, line, operands, expressions)?;
             expression_by(alloc, interner, statement, &choices, firsts)
         }
     }
@@ -114,14 +114,14 @@ fn next_expression<'a>(
         (map (option_map expr_view) expressions.now) firsts.old firsts.new (option_map expr_view e)) }
     ensures refused { IsOkUnless result CordError.NoMemory }
 {
-    let Some(operands) = operands_of(statement)? else {
+    let Some(operands) = operands_of(statement) else {
         return Ok(None);
     };
     let line = Line {
         statements,
         place,
         statement,
-        operands: operands.as_slice(),
+        operands,
         numbers,
         recent,
     };

@@ -4,26 +4,17 @@ use Rattle.cord_plan.specs.Exprs.{Expr, name}
 use Rattle.cord_plan.specs.Forced.{expr_of, expr_with, is_small}
 use Rattle.cord_plan.specs.inner.Liveness.{tells}
 use Rattle.cord_plan.specs.Views.{expr_view}
-use Rattle.cord_plan.specs.inner.Choices.{choice_view, is_spare, nearest, stands, expression_in}
+use Rattle.cord_plan.specs.inner.Choices.{operands_view, choice_view, nearest, stands, expression_in}
 use Rattle.cord_plan.proofs.Choices.{simple_reads}
-use Rattle.cord_plan.proofs.Nearest.{kept_far, kept_bare, kept_needed, by_tests, first_in, spare_stands}
+use Rattle.cord_plan.proofs.Nearest.{kept_far, kept_bare, by_tests, first_in}
 use Rattle.cord_plan.proofs.planner.choosing.choose.Goals as goal
-use Rattle.cord_plan.proofs.planner.choosing.choose.Goals.{else-stays-via-then-stays+else-stays_small, else-stays-via-else-stays}
-
-pub returns-then-not-is_spare : goal.returns-then-not-is_spare
-returns-then-not-is_spare c =
-    let line = c.args.line.now in
-    let before : List Expr = map (λ d. expr_of d) (map choice_view c.args.chosen.now) in
-    let after : List Expr = map (λ y. name y) (drop (length (map choice_view c.args.chosen.now) + 1) line.operands.now) in
-    let needed : is_spare line.statements.now (tells line.recent.now.later.now) line.place line.statement.now line.operands.now c.args.operand.now ≡ false = sym c.is_spare.ensures ∙ c.if-not-is_spare.true in
-    λ t has. kept_needed line.statements.now (tells line.recent.now.later.now) t line.place line.statement.now c.args.operand.now before
-    after line.operands.now (simple_reads line.statement.now line.operands.now c.requires.operands) needed
+use Rattle.cord_plan.proofs.planner.choosing.choose.Goals.{else-stands-via-then-stands+else-stays_small, else-stands-via-else-stands}
 
 pub returns-in-None : goal.returns-in-None
 returns-in-None c =
     let line = c.args.line.now in
     let before : List Expr = map (λ d. expr_of d) (map choice_view c.args.chosen.now) in
-    let after : List Expr = map (λ y. name y) (drop (length (map choice_view c.args.chosen.now) + 1) line.operands.now) in
+    let after : List Expr = map (λ y. name y) (drop (length (map choice_view c.args.chosen.now) + 1) (operands_view line.operands)) in
     let far : nearest line.statements.now c.args.operand.now line.place ≡ None = ap (λ (x : List ℕ). nearest line.statements.now x line.place) (sym c.as_slice-name.ensures) ∙ sym c.in-None.ensures in
     λ t has. kept_far line.statements.now (tells line.recent.now.later.now) t line.place line.statement.now c.args.operand.now before after
     far
@@ -32,7 +23,7 @@ pub returns-in-None-expression_at : goal.returns-in-None-expression_at
 returns-in-None-expression_at c =
     let line = c.args.line.now in
     let before : List Expr = map (λ d. expr_of d) (map choice_view c.args.chosen.now) in
-    let after : List Expr = map (λ y. name y) (drop (length (map choice_view c.args.chosen.now) + 1) line.operands.now) in
+    let after : List Expr = map (λ y. name y) (drop (length (map choice_view c.args.chosen.now) + 1) (operands_view line.operands)) in
     let near : nearest line.statements.now c.args.operand.now line.place ≡ Some c.in-Some.source = ap (λ (x : List ℕ). nearest line.statements.now x line.place) (sym c.as_slice-name.ensures) ∙ sym c.in-Some.ensures in
     let bare : None ≡ expression_in (map (option_map expr_view) c.args.table.now) c.in-Some.source = c.in-None-expression_at.ensures in
     λ t has. kept_bare line.statements.now (tells line.recent.now.later.now) t line.place line.statement.now c.args.operand.now before
@@ -43,34 +34,32 @@ returns-then-stays_small c =
     let line = c.args.line.now in
     let r = expr_view c.in-Some-expression_at.expression.now in
     let before : List Expr = map (λ d. expr_of d) (map choice_view c.args.chosen.now) in
-    let after : List Expr = map (λ y. name y) (drop (length (map choice_view c.args.chosen.now) + 1) line.operands.now) in
+    let after : List Expr = map (λ y. name y) (drop (length (map choice_view c.args.chosen.now) + 1) (operands_view line.operands)) in
     let near : nearest line.statements.now c.args.operand.now line.place ≡ Some c.in-Some.source = ap (λ (x : List ℕ). nearest line.statements.now x line.place) (sym c.as_slice-name.ensures) ∙ sym c.in-Some.ensures in
     let there : Some r ≡ expression_in (map (option_map expr_view) c.args.table.now) c.in-Some.source = c.in-Some-expression_at.ensures in
-    let spare : is_spare line.statements.now (tells line.recent.now.later.now) line.place line.statement.now line.operands.now c.args.operand.now ≡ true = sym c.is_spare.ensures ∙ c.if-not-is_spare.false in
-    let stable : stands line.statements.now (tells line.recent.now.later.now) r c.in-Some.source line.place line.statement.now line.operands.now c.args.operand.now ≡ c.stays.result = spare_stands line.statements.now (tells line.recent.now.later.now) r c.in-Some.source line.place line.statement.now line.operands.now c.args.operand.now spare ∙ sym c.stays.ensures in
-    let fit : stands line.statements.now (tells line.recent.now.later.now) r c.in-Some.source line.place line.statement.now line.operands.now c.args.operand.now ≡ true = stable ∙ c.if-stays.true in
+    let stable : stands line.statements.now (tells line.recent.now.later.now) r c.in-Some.source line.place line.statement.now (operands_view line.operands) c.args.operand.now ≡ c.stands.result = sym c.stands.ensures in
+    let fit : stands line.statements.now (tells line.recent.now.later.now) r c.in-Some.source line.place line.statement.now (operands_view line.operands) c.args.operand.now ≡ true = stable ∙ c.if-stands.true in
     let small : is_small (expr_with line.statement.now (before ++ r ∷ after)) ≡ true = sym c.stays_small.ensures ∙ c.if-stays_small.true in
     λ t has. by_tests line.statements.now (tells line.recent.now.later.now) t line.place line.statement.now c.args.operand.now before after
-    line.operands.now (simple_reads line.statement.now line.operands.now c.requires.operands) c.in-Some.source r near
+    (operands_view line.operands) (simple_reads line.statement.now (operands_view line.operands) c.requires.operands) c.in-Some.source r near
     (sym (first_in (map (option_map expr_view) c.args.table.now) t c.in-Some.source has) ∙ sym there) true
     (ap (λ (v : Bool). v && is_small (expr_with line.statement.now (before ++ r ∷ after))) fit ∙ small)
 
-pub returns-else-stays : goal.returns-else-stays
-returns-else-stays c =
+pub returns-else-stands : goal.returns-else-stands
+returns-else-stands c =
     let line = c.args.line.now in
     let r = expr_view c.in-Some-expression_at.expression.now in
     let before : List Expr = map (λ d. expr_of d) (map choice_view c.args.chosen.now) in
-    let after : List Expr = map (λ y. name y) (drop (length (map choice_view c.args.chosen.now) + 1) line.operands.now) in
+    let after : List Expr = map (λ y. name y) (drop (length (map choice_view c.args.chosen.now) + 1) (operands_view line.operands)) in
     let near : nearest line.statements.now c.args.operand.now line.place ≡ Some c.in-Some.source = ap (λ (x : List ℕ). nearest line.statements.now x line.place) (sym c.as_slice-name.ensures) ∙ sym c.in-Some.ensures in
     let there : Some r ≡ expression_in (map (option_map expr_view) c.args.table.now) c.in-Some.source = c.in-Some-expression_at.ensures in
-    let spare : is_spare line.statements.now (tells line.recent.now.later.now) line.place line.statement.now line.operands.now c.args.operand.now ≡ true = sym c.is_spare.ensures ∙ c.if-not-is_spare.false in
-    let stable : stands line.statements.now (tells line.recent.now.later.now) r c.in-Some.source line.place line.statement.now line.operands.now c.args.operand.now ≡ c.stays.result = spare_stands line.statements.now (tells line.recent.now.later.now) r c.in-Some.source line.place line.statement.now line.operands.now c.args.operand.now spare ∙ sym c.stays.ensures in
+    let stable : stands line.statements.now (tells line.recent.now.later.now) r c.in-Some.source line.place line.statement.now (operands_view line.operands) c.args.operand.now ≡ c.stands.result = sym c.stands.ensures in
     let small = is_small (expr_with line.statement.now (before ++ r ∷ after)) in
-    let refused : (stands line.statements.now (tells line.recent.now.later.now) r c.in-Some.source line.place line.statement.now line.operands.now c.args.operand.now && small) ≡ false = elim c.else-stays.branch [
-      | else-stays-via-then-stays+else-stays_small w ↦ ap (λ (v : Bool). v && small) (stable ∙ w.if-stays.true)
+    let refused : (stands line.statements.now (tells line.recent.now.later.now) r c.in-Some.source line.place line.statement.now (operands_view line.operands) c.args.operand.now && small) ≡ false = elim c.else-stands.branch [
+      | else-stands-via-then-stands+else-stays_small w ↦ ap (λ (v : Bool). v && small) (stable ∙ w.if-stands.true)
           ∙ (sym w.stays_small.ensures ∙ w.if-stays_small.false)
-      | else-stays-via-else-stays w ↦ ap (λ (v : Bool). v && small) (stable ∙ w.if-stays.false)
+      | else-stands-via-else-stands w ↦ ap (λ (v : Bool). v && small) (stable ∙ w.if-stands.false)
     ] in
     λ t has. by_tests line.statements.now (tells line.recent.now.later.now) t line.place line.statement.now c.args.operand.now before after
-    line.operands.now (simple_reads line.statement.now line.operands.now c.requires.operands) c.in-Some.source r near
+    (operands_view line.operands) (simple_reads line.statement.now (operands_view line.operands) c.requires.operands) c.in-Some.source r near
     (sym (first_in (map (option_map expr_view) c.args.table.now) t c.in-Some.source has) ∙ sym there) false refused

@@ -1,8 +1,8 @@
-use Rattle.std.proofs.Common.{◌≡◌, ℕ, ◌+◌, List, [], ◌∷◌, map, drop, length, sym, ap, subst, ◌∙◌, arith, length-append}
+use Rattle.std.proofs.Common.{◌≡◌, ℕ, ◌+◌, List, [], ◌∷◌, map, drop, length, Some, sym, ap, subst, ◌∙◌, arith, length-append}
 use Rattle.std.specs.Prelude.{option_map}
 use Rattle.std.proofs.lemmas.List.{map-append, at_drop_all, length-map}
 use Rattle.cord_plan.specs.declared.planner.choosing.Choice.{Choice}
-use Rattle.cord_plan.specs.inner.Choices.{choice_view, IsChoice}
+use Rattle.cord_plan.specs.inner.Choices.{operands_view, choice_view, IsChoice}
 use Rattle.cord_plan.specs.Forced as plain
 use Rattle.cord_plan.specs.inner.Liveness.{tells}
 use Rattle.cord_plan.specs.Views.{expr_view}
@@ -12,6 +12,7 @@ use Rattle.cord_plan.proofs.planner.choosing.choose_all.Goals as goal
 pub choose-choice-requires-clause-more : goal.choose-choice-requires-clause-more
 choose-choice-requires-clause-more c =
     let same : length c.deref.result.now ≡ length c.loop-operand.chosen.items = ap length c.deref.ensures.value in
+    let listed : length (operands_view c.args.line.now.operands) ≡ length c.args.operands.now = ap length c.requires.listed in
     omega arith
 
 pub loop-operand-preserved : goal.loop-operand-preserved
@@ -21,13 +22,15 @@ loop-operand-preserved c =
     let later = tells line.recent.now.later.now in
     let b = line.place in
     let l = line.statement.now in
-    let xs = line.operands.now in
+    let xs = c.args.operands.now in
     let i = c.loop-operand.operand-index in
     let x = c.operand-item.result in
     let done = map choice_view c.loop-operand.chosen.items in
     let made : IsChoice s later b l xs x (map (option_map expr_view) c.args.table.now) done (choice_view c.choose-choice.result) =
-    subst (λ (cs : List Choice). IsChoice s later b l xs x (map (option_map expr_view) c.args.table.now) (map choice_view cs)
-    (choice_view c.choose-choice.result)) c.deref.ensures.value c.choose-choice.ensures in
+    subst (λ (ys : List (List ℕ)). IsChoice s later b l ys x (map (option_map expr_view) c.args.table.now) done
+    (choice_view c.choose-choice.result)) c.requires.listed
+    (subst (λ (cs : List Choice). IsChoice s later b l (operands_view line.operands) x (map (option_map expr_view) c.args.table.now)
+    (map choice_view cs) (choice_view c.choose-choice.result)) c.deref.ensures.value c.choose-choice.ensures) in
     let size : length done ≡ i = length-map c.loop-operand.chosen.items choice_view ∙ c.loop-operand.invariant.size in
     let long : length c.push.new.self.items ≡ length c.loop-operand.chosen.items + 1 = ap length c.in_ok-push.ensures.items ∙ length-append c.loop-operand.chosen.items (c.choose-choice.result ∷ []) in
     record {
@@ -48,10 +51,10 @@ returns c =
     let later = tells line.recent.now.later.now in
     let b = line.place in
     let l = line.statement.now in
-    let xs = line.operands.now in
+    let xs = c.args.operands.now in
     let done = map choice_view c.loop-operand.chosen.items in
     λ t has.
     sym (at_drop_all (λ (ys : List (List ℕ)). plain.choices s later t b l done ys) xs c.loop-operand.operand-index
     c.loop-operand-test.false)
     ∙ (c.loop-operand.invariant.so_far t has
-    ∙ ap (λ (ys : List (List ℕ)). plain.choices s later t b l [] ys) (sym (simple_reads l xs c.requires.operands)))
+    ∙ ap (λ (ys : List (List ℕ)). plain.choices s later t b l [] ys) (sym (simple_reads l xs (c.requires.operands ∙ ap (λ (ys : List (List ℕ)). Some ys) c.requires.listed))))

@@ -12,6 +12,6 @@ invariant-loop-operand l = record {
   size : length l.chosen.items ≡ l.operand-index;
   so_far : (t : Table) → Has (map (option_map expr_view) l.table) t →
       choices l.line.statements.now (tells l.line.recent.now.later.now) t l.line.place l.line.statement.now
-      (map choice_view l.chosen.items) (drop l.operand-index l.line.operands.now)
-      ≡ choices l.line.statements.now (tells l.line.recent.now.later.now) t l.line.place l.line.statement.now [] l.line.operands.now;
+      (map choice_view l.chosen.items) (drop l.operand-index l.operands)
+      ≡ choices l.line.statements.now (tells l.line.recent.now.later.now) t l.line.place l.line.statement.now [] l.operands;
 }

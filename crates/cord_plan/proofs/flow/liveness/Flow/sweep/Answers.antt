@@ -10,7 +10,6 @@ use Rattle.cord_plan.proofs.flow.liveness.Flow.sweep.Goals as goal
 pub loop-p-init : goal.loop-p-init
 loop-p-init c = record {
   partly = c.requires.partly;
-  calm = λ e. refl;
   resting = λ e x i b k le. rests_past c.args.self.now.statements.now x (column c.args.words.now i) k (let size = c.requires.partly.size in omega arith);
   few = omega arith;
   fewer = λ e. let bad : ⊥ = cc in absurd bad;
@@ -32,12 +31,7 @@ loop-p-preserved-then-word-here c =
             (flow_partly c.args.self.now.statements.now x (column c.loop-p.words i) (c.loop-p.p - 1) (c.loop-p.invariant.partly.told x i b)
             (bit c.flow_at-word.result i) (c.flow_at-word.ensures.bits x i b));
       };
-      calm = λ e. e;
-      resting = λ e x i b k le. rw (map-set (λ w. bit w i) c.loop-p.words (c.loop-p.p - 1) c.flow_at-word.result)
-          (rests_onward c.args.self.now.statements.now x (column c.loop-p.words i) (c.loop-p.p - 1) (bit c.flow_at-word.result i)
-          (λ m. ap (is_back m) (sym (c.requires.successor_table.told m)) ∙ c.requires.loops e m)
-          (simp length-map (omega arith)) (c.flow_at-word.ensures.bits x i b)
-          (λ m up. c.loop-p.invariant.resting (c.loop-p.invariant.calm e) x i b m (omega (arith, up))) k le);
+      resting = λ e. let bad : ⊥ = cc in absurd bad;
       few = omega arith;
       fewer = λ e. omega arith;
     }
@@ -47,7 +41,6 @@ loop-p-preserved c =
     let same : c.flow_at-word.result ≡ c.word_at-here.result = let h = c.if-word-here.false in cc in
     record {
       partly = c.loop-p.invariant.partly;
-      calm = c.loop-p.invariant.calm;
       resting = λ e x i b k le. rests_from (λ (n : ℕ). finds c.args.self.now.statements.now x (column c.loop-p.words i) n ≡ false)
           c.loop-p.p c.loop-p-test.true (c.loop-p.invariant.resting e x i b)
           (flow_resting c.args.self.now.statements.now x (column c.loop-p.words i) (c.loop-p.p - 1)

@@ -6,7 +6,6 @@ use Rattle.cord_plan.proofs.flow.liveness.Flow.sweep.Given as goal
 abbrev pub invariant-loop-p : goal.invariant-loop-p
 invariant-loop-p l = record {
   partly : ArePartly l.self.statements.now l.self.numbering.now l.self.group l.words;
-  calm : l.self.loops ≡ false → l.again ≡ false;
   resting : l.again ≡ false → (x : List ℕ) (i : ℕ) → IsBit l.self.numbering.now l.self.group x i → (k : ℕ) → l.p ≤ k →
       finds l.self.statements.now x (column l.words i) k ≡ false;
   few : room l.words ≤ room l.initial.words;

@@ -4,8 +4,8 @@ use Rattle.std.specs.Str.{bytes_eq}
 use Rattle.std.proofs.lemmas.List.{at_drop_all}
 use Rattle.cord_plan.specs.Operands.{count}
 use Rattle.cord_plan.proofs.Nearest.{count_here}
-use Rattle.cord_plan.proofs.planner.choosing.is_named_once.Goals as goal
-use Rattle.cord_plan.proofs.planner.choosing.is_named_once.Goals.{then-is_same, else-is_same}
+use Rattle.cord_plan.proofs.planner.choosing.is_once_in.Goals as goal
+use Rattle.cord_plan.proofs.planner.choosing.is_once_in.Goals.{then-is_same, else-is_same}
 
 pub loop-operand-preserved : goal.loop-operand-preserved
 loop-operand-preserved c =

@@ -1,6 +1,6 @@
 use Rattle.std.proofs.Common.{◌≡◌, ◌+◌, ◌≤◌, drop}
 use Rattle.cord_plan.specs.Operands.{count}
-use Rattle.cord_plan.proofs.planner.choosing.is_named_once.Given as goal
+use Rattle.cord_plan.proofs.planner.choosing.is_once_in.Given as goal
 
 abbrev pub invariant-loop-operand : goal.invariant-loop-operand
 invariant-loop-operand l = record {
