@@ -1,5 +1,5 @@
 -- What two texts share is the same in both.
-use Rattle.std.proofs.Common.{◌≡◌, ℕ, ◌+◌, ◌<◌, ◌≤◌, List, ◌++◌, map, take, drop, Some, sym, subst, ◌∙◌, ap, arith}
+use Rattle.std.proofs.Common.{◌≡◌, ℕ, ◌+◌, ◌<◌, ◌≤◌, List, length, ◌++◌, map, take, drop, Some, sym, subst, ◌∙◌, ap, arith}
 use Rattle.std.specs.Prelude.{Option}
 use Rattle.std.proofs.Math.Seq.{take-add}
 use Rattle.std.proofs.lemmas.List.{take-take, drop-drop}
@@ -11,11 +11,11 @@ use Rattle.cord_node.proofs.TableLemmas.{bytes-cells}
 use Rattle.cord_core.specs.Cord.{bytes_of, CordFitsIn, CordFits}
 use Rattle.cord_pos.specs.Stretches.{IsWithin, stretch_len, stretch_bytes, IsStretchOf, IsFrontOf}
 use Rattle.cord_search.specs.inner.Ahead.{IsSpotOf, AreAlike}
-use Rattle.cord_search.specs.inner.Pieces.{AreSame}
-use Rattle.cord_search.specs.inner.Stretches.{BeginAlike}
+use Rattle.cord_search.specs.inner.Pieces.{AreSame, IsPieceOf}
+use Rattle.cord_search.specs.inner.Stretches.{BeginAlike, IsPartOf}
 use Rattle.cord_search.specs.declared.ahead.Spot.{Spot}
 use Rattle.cord_pos.specs.declared.stretch.Stretch.{Stretch}
-use Rattle.cord_search.proofs.Ranges.{cord_told}
+use Rattle.cord_search.proofs.Ranges.{cord_told, piece_within}
 
 -- what holds of a spot's node and place holds of the cord's
 pub on_cord : (c : Option Node) (place : ℕ) (s : Spot) (P : Option Node → ℕ → Type 0) → IsSpotOf c place s → P (Some s.node.now) s.place →
@@ -80,6 +80,14 @@ front_stretch c place s first k some le h f = record {
   fits = λ lengths held. f.fits lengths (h.fits lengths held);
   text = λ t held. f.text t ∙ sym (front t c place s k held h le) ∙ ap (λ (m : ℕ). take m (drop place (bytes_of t c))) (sym f.len);
 }
+
+-- what stands at the front of a stretch's block stands in the text
+pub block_piece : (ls : Lengths) (t : Table) (c : Option Node) (place : ℕ) (s block : Stretch) (xs : List ℕ) → HasLengths ls t →
+    CordFitsIn ls c → IsStretchOf c place s → 0 < stretch_len block → stretch_len block ≤ stretch_len s →
+    IsFrontOf s (stretch_len block) block → length xs ≤ stretch_len block → IsPartOf t block 0 xs → IsPieceOf t c place xs
+block_piece ls t c place s block xs told f h some few first inside e =
+    piece_within ls t c place block 0 place xs told f (front_stretch c place s block (stretch_len block) some few h first)
+    (omega (arith, inside)) (omega arith) e
 
 -- the next bytes are the same too
 pub alike_on : (ls : Lengths) (t : Table) (x : Option Node) (i : ℕ) (y : Option Node) (j done n : ℕ) → HasLengths ls t → CordFitsIn ls x →

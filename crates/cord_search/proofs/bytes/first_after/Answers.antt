@@ -1,10 +1,9 @@
 use Rattle.std.proofs.Common.{◌≡◌, ◌∙◌, refl, arith}
 use Rattle.cord_pos.specs.Stretches.{stretch_len, IsStretchOf}
-use Rattle.cord_search.specs.inner.Pieces.{IsPieceOf}
-use Rattle.cord_search.proofs.Ranges.{cord_len, piece_within}
+use Rattle.cord_search.proofs.Ranges.{cord_len}
 use Rattle.cord_search.proofs.Finding.{first_on, first_past, first_found, first_none}
 use Rattle.cord_search.proofs.Moving.{set_valid}
-use Rattle.cord_search.proofs.Sharing.{front_stretch}
+use Rattle.cord_search.proofs.Sharing.{block_piece}
 use Rattle.cord_search.proofs.bytes.first_after.Goals as goal
 
 pub loop-place-init : goal.loop-place-init
@@ -61,9 +60,8 @@ returns-in-Some-memchr-clause-first g c = λ folder kept.
     let before = c.in_ok-piece.ensures.read.earlier folder kept in
     let told = g.met.S.Source.lengths_of_table c.args.src.now folder (c.loop-place.invariant.earlier folder before) in
     let stretch : IsStretchOf x place c.stretch_from-stretch.result = rw c.loop-place.invariant.cord at c.stretch_from-stretch.ensures.stretch in
-    let b = c.in_block-block.result in
-    let block : IsStretchOf x place b = front_stretch x place c.stretch_from-stretch.result b (stretch_len b) c.in_block-block.ensures.some c.in_block-block.ensures.few stretch c.in_block-block.ensures.front in
-    let text : IsPieceOf t x place piece = piece_within (g.S.Source.lengths c.args.src.now) t x place b 0 place piece told c.requires.fits block (omega (arith, c.in_ok-piece.ensures.inside)) (omega arith) (rw c.loop-place.invariant.table at c.in_ok-piece.ensures.text folder kept) in
+    let block = c.in_block-block.ensures in
+    let text = block_piece (g.S.Source.lengths c.args.src.now) t x place c.stretch_from-stretch.result c.in_block-block.result piece told c.requires.fits stretch block.some block.few block.front c.in_ok-piece.ensures.inside (rw c.loop-place.invariant.table at c.in_ok-piece.ensures.text folder kept) in
     first_found t x piece c.args.byte c.args.from place c.in-Some-memchr.found _ c.in-Some-memchr.is c.memchr.ensures
     c.loop-place.invariant.low text (c.loop-place.invariant.none folder before)
 
@@ -72,17 +70,16 @@ loop-place-preserved g c =
     let x = c.args.x.now in
     let place = c.loop-place.place in
     let stretch : IsStretchOf x place c.stretch_from-stretch.result = rw c.loop-place.invariant.cord at c.stretch_from-stretch.ensures.stretch in
-    let b = c.in_block-block.result in
-    let block : IsStretchOf x place b = front_stretch x place c.stretch_from-stretch.result b (stretch_len b) c.in_block-block.ensures.some c.in_block-block.ensures.few stretch c.in_block-block.ensures.front in
+    let block = c.in_block-block.ensures in
     record {
       low = omega (arith, c.loop-place.invariant.low);
-      high = omega (arith, c.in_ok-piece.ensures.inside, block.inside, c.len-len.ensures.stored);
+      high = omega (arith, c.in_ok-piece.ensures.inside, block.few, stretch.inside, c.len-len.ensures.stored);
       none = λ folder kept.
           let t = g.S.Source.table c.args.src.now folder in
           let piece = c.in_ok-piece.piece.now in
           let before = c.in_ok-piece.ensures.read.earlier folder kept in
           let told = g.met.S.Source.lengths_of_table c.args.src.now folder (c.loop-place.invariant.earlier folder before) in
-          let text : IsPieceOf t x place piece = piece_within (g.S.Source.lengths c.args.src.now) t x place b 0 place piece told c.requires.fits block (omega (arith, c.in_ok-piece.ensures.inside)) (omega arith) (rw c.loop-place.invariant.table at c.in_ok-piece.ensures.text folder kept) in
+          let text = block_piece (g.S.Source.lengths c.args.src.now) t x place c.stretch_from-stretch.result c.in_block-block.result piece told c.requires.fits stretch block.some block.few block.front c.in_ok-piece.ensures.inside (rw c.loop-place.invariant.table at c.in_ok-piece.ensures.text folder kept) in
           first_on t x piece c.args.byte c.args.from place _ c.in-None.is c.memchr.ensures text (c.loop-place.invariant.none folder before);
       cord = c.stretch_from-stretch.ensures.cord ∙ c.loop-place.invariant.cord;
       valid = c.stretch_from-stretch.ensures.valid;

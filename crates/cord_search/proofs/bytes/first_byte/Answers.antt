@@ -1,8 +1,6 @@
 use Rattle.std.proofs.Common.{arith}
-use Rattle.cord_pos.specs.Stretches.{stretch_len, IsStretchOf}
-use Rattle.cord_search.specs.inner.Pieces.{IsPieceOf}
-use Rattle.cord_search.proofs.Ranges.{cord_len, piece_within}
-use Rattle.cord_search.proofs.Sharing.{front_stretch}
+use Rattle.cord_search.proofs.Ranges.{cord_len}
+use Rattle.cord_search.proofs.Sharing.{block_piece}
 use Rattle.cord_search.proofs.Finding.{first_on, first_found, first_none}
 use Rattle.cord_search.proofs.bytes.first_byte.Goals as goal
 
@@ -16,10 +14,9 @@ returns-in-Some-clause-first g c = λ folder kept.
     let x = c.args.x.now in
     let from = c.args.from in
     let piece = c.in_ok-piece.piece.now in
-    let s = c.in_block-stretch.result in
-    let stretch : IsStretchOf x from s = front_stretch x from c.cord_stretch_at.result s (stretch_len s) c.in_block-stretch.ensures.some c.in_block-stretch.ensures.few c.cord_stretch_at.ensures c.in_block-stretch.ensures.front in
     let told = g.met.S.Source.lengths_of_table c.args.src.now folder (c.in_ok-piece.ensures.read.earlier folder kept) in
-    let text : IsPieceOf t x from piece = piece_within (g.S.Source.lengths c.args.src.now) t x from s 0 from piece told c.requires.fits stretch (omega (arith, c.in_ok-piece.ensures.inside)) (omega arith) (c.in_ok-piece.ensures.text folder kept) in
+    let block = c.in_block-stretch.ensures in
+    let text = block_piece (g.S.Source.lengths c.args.src.now) t x from c.cord_stretch_at.result c.in_block-stretch.result piece told c.requires.fits c.cord_stretch_at.ensures block.some block.few block.front c.in_ok-piece.ensures.inside (c.in_ok-piece.ensures.text folder kept) in
     first_found t x piece c.args.byte from from c.in-Some.found _ c.in-Some.is c.memchr.ensures (omega arith) text
     (λ q low to at. absurd (omega (arith, low, to)))
 
@@ -29,10 +26,9 @@ first_after-requires-clause-none g c = rw c.first_piece.ensures.read.table (λ f
     let x = c.args.x.now in
     let from = c.args.from in
     let piece = c.in_ok-piece.piece.now in
-    let s = c.in_block-stretch.result in
-    let stretch : IsStretchOf x from s = front_stretch x from c.cord_stretch_at.result s (stretch_len s) c.in_block-stretch.ensures.some c.in_block-stretch.ensures.few c.cord_stretch_at.ensures c.in_block-stretch.ensures.front in
     let told = g.met.S.Source.lengths_of_table c.args.src.now folder (c.in_ok-piece.ensures.read.earlier folder kept) in
-    let text : IsPieceOf t x from piece = piece_within (g.S.Source.lengths c.args.src.now) t x from s 0 from piece told c.requires.fits stretch (omega (arith, c.in_ok-piece.ensures.inside)) (omega arith) (c.in_ok-piece.ensures.text folder kept) in
+    let block = c.in_block-stretch.ensures in
+    let text = block_piece (g.S.Source.lengths c.args.src.now) t x from c.cord_stretch_at.result c.in_block-stretch.result piece told c.requires.fits c.cord_stretch_at.ensures block.some block.few block.front c.in_ok-piece.ensures.inside (c.in_ok-piece.ensures.text folder kept) in
     first_on t x piece c.args.byte from from _ c.in-None.is c.memchr.ensures text (λ q low to at. absurd (omega (arith, low, to))))
 
 pub returns-else-after-len-clause-first : goal.returns-else-after-len-clause-first
@@ -42,10 +38,9 @@ returns-else-after-len-clause-first g c = λ folder kept.
     let from = c.args.from in
     let piece = c.in_ok-piece.piece.now in
     let lengths = g.S.Source.lengths c.args.src.now in
-    let s = c.in_block-stretch.result in
-    let stretch : IsStretchOf x from s = front_stretch x from c.cord_stretch_at.result s (stretch_len s) c.in_block-stretch.ensures.some c.in_block-stretch.ensures.few c.cord_stretch_at.ensures c.in_block-stretch.ensures.front in
     let told = g.met.S.Source.lengths_of_table c.args.src.now folder (c.in_ok-piece.ensures.read.earlier folder kept) in
-    let text : IsPieceOf t x from piece = piece_within lengths t x from s 0 from piece told c.requires.fits stretch (omega (arith, c.in_ok-piece.ensures.inside)) (omega arith) (c.in_ok-piece.ensures.text folder kept) in
+    let block = c.in_block-stretch.ensures in
+    let text = block_piece lengths t x from c.cord_stretch_at.result c.in_block-stretch.result piece told c.requires.fits c.cord_stretch_at.ensures block.some block.few block.front c.in_ok-piece.ensures.inside (c.in_ok-piece.ensures.text folder kept) in
     first_none t x c.args.byte from _ (omega (arith, c.if-after-len.false, c.len-len.ensures.stored))
     (cord_len lengths t x told c.len-len.ensures.sound c.requires.fits)
     (first_on t x piece c.args.byte from from _ c.in-None.is c.memchr.ensures text (λ q low to at. absurd (omega (arith, low, to))))

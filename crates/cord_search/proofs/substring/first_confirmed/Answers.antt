@@ -44,7 +44,7 @@ returns-in_default-clause-first g c = λ folder kept.
     let t = g.S.Source.table c.args.src.now folder in
     let before = c.in_ok-found.ensures.read.earlier folder kept in
     let front : IsPieceOf t c.args.s.now 0 c.args.front.now = c.requires.front folder (c.loop-place.invariant.earlier folder before) in
-    let hit : None ≡ first (bytes_of t c.args.x.now) c.loop-place.place c.args.front.now = sym c.in_default.is ∙ (rw c.loop-place.invariant.table at c.in_ok-found.ensures.first folder kept) in
+    let hit : None ≡ first (bytes_of t c.args.x.now) c.loop-place.place c.args.front.now = ◌∙◌ {c = first (bytes_of t c.args.x.now) c.loop-place.place c.args.front.now} (sym c.in_default.is) (rw c.loop-place.invariant.table at c.in_ok-found.ensures.first folder kept) in
     front_none t c.args.x.now c.args.s.now c.args.start c.loop-place.place c.args.front.now hit front
     (c.loop-place.invariant.none folder before)
 
@@ -55,7 +55,7 @@ returns-then-last-found-clause-first g c = λ folder kept.
     let before = c.in_ok-found.ensures.read.earlier folder kept in
     let first_kept = c.loop-place.invariant.earlier folder before in
     let told = g.met.S.Source.lengths_of_table c.args.src.now folder first_kept in
-    let hit : Some c.in-Some.found ≡ first (bytes_of t c.args.x.now) c.loop-place.place c.args.front.now = sym c.in-Some.is ∙ (rw c.loop-place.invariant.table at c.in_ok-found.ensures.first folder kept) in
+    let hit : Some c.in-Some.found ≡ first (bytes_of t c.args.x.now) c.loop-place.place c.args.front.now = ◌∙◌ {c = first (bytes_of t c.args.x.now) c.loop-place.place c.args.front.now} (sym c.in-Some.is) (rw c.loop-place.invariant.table at c.in_ok-found.ensures.first folder kept) in
     let none = front_on t c.args.x.now c.args.s.now c.args.start c.loop-place.place c.in-Some.found c.args.front.now hit (c.requires.front folder first_kept) (c.loop-place.invariant.none folder before) in
     let len = cord_len lengths t c.args.s.now told c.requires.pattern_sound c.requires.pattern_fits in
     stands_none t c.args.x.now (bytes_of t c.args.s.now) c.args.start c.in-Some.found
