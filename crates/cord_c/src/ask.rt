@@ -123,14 +123,13 @@ pub extern "C" fn zc_str(
     if missing(x) || missing(y) || missing(place) {
         return BAD_ARGUMENT;
     }
-    let Ok(left) = x.read(alloc) else {
-        return NO_MEMORY;
-    };
-    let Ok(right) = y.read(alloc) else {
-        return NO_MEMORY;
-    };
-    *place = left.find_text(&right, start).unwrap_or(NOT_FOUND);
-    OK
+    match x.read_with(alloc, y) {
+        Ok((left, right)) => {
+            *place = left.find_text(&right, start).unwrap_or(NOT_FOUND);
+            OK
+        }
+        Err(_) => NO_MEMORY,
+    }
 }
 
 /// Writes the first place of `x` from `start` on where these bytes stand to `place`. No bytes stand at each place up to
@@ -176,14 +175,13 @@ pub extern "C" fn zc_cmp(alloc: Global, x: &mut Handle, y: &mut Handle, order: &
     if missing(x) || missing(y) || missing(order) {
         return BAD_ARGUMENT;
     }
-    let Ok(left) = x.read(alloc) else {
-        return NO_MEMORY;
-    };
-    let Ok(right) = y.read(alloc) else {
-        return NO_MEMORY;
-    };
-    *order = sign(left.compare(&right));
-    OK
+    match x.read_with(alloc, y) {
+        Ok((left, right)) => {
+            *order = sign(left.compare(&right));
+            OK
+        }
+        Err(_) => NO_MEMORY,
+    }
 }
 
 /// As `zc_cmp`, of at most `count` bytes of `x` from `i` on and of `y` from `j` on.

@@ -29,10 +29,10 @@ pub extern "C" fn zc_substr(
     if missing(x) || missing(out) {
         return BAD_ARGUMENT;
     }
-    match x.part(alloc, start, count) {
-        Ok(text) => out.hold(alloc, text),
-        Err(_) => NO_MEMORY,
-    }
+    let Ok(text) = x.part(alloc, start, count) else {
+        return NO_MEMORY;
+    };
+    out.hold(alloc, text)
 }
 
 /// The bytes of `x` in a tree that is not deep.
@@ -77,15 +77,12 @@ pub extern "C" fn zc_insert(
     if missing(x) || missing(y) || missing(out) {
         return BAD_ARGUMENT;
     }
-    let Ok(left) = x.read(alloc) else {
-        return NO_MEMORY;
-    };
-    let Ok(right) = y.read(alloc) else {
-        return NO_MEMORY;
-    };
-    match left.insert(alloc, start, &right) {
-        Ok(text) => out.hold(alloc, text),
-        Err(refusal) => code_of(refusal),
+    match x.read_with(alloc, y) {
+        Ok((left, right)) => match left.insert(alloc, start, &right) {
+            Ok(text) => out.hold(alloc, text),
+            Err(refusal) => code_of(refusal),
+        },
+        Err(_) => NO_MEMORY,
     }
 }
 
@@ -141,15 +138,12 @@ pub extern "C" fn zc_replace(
     if missing(x) || missing(y) || missing(out) {
         return BAD_ARGUMENT;
     }
-    let Ok(old) = x.read(alloc) else {
-        return NO_MEMORY;
-    };
-    let Ok(new) = y.read(alloc) else {
-        return NO_MEMORY;
-    };
-    match old.replace_range(alloc, start, count, &new) {
-        Ok(text) => out.hold(alloc, text),
-        Err(refusal) => code_of(refusal),
+    match x.read_with(alloc, y) {
+        Ok((old, new)) => match old.replace_range(alloc, start, count, &new) {
+            Ok(text) => out.hold(alloc, text),
+            Err(refusal) => code_of(refusal),
+        },
+        Err(_) => NO_MEMORY,
     }
 }
 

@@ -138,6 +138,22 @@ impl Handle {
         shared
     }
 
+    /// The text and that of another handle, once more. Refused for want of memory alone.
+    pub(crate) fn read_with(
+        &mut self,
+        alloc: Global,
+        other: &mut Handle,
+    ) -> Result<(Text, Text), CordError>
+        ensures texts { IfOk result (λ t. (t.0 ≡ self.old.text) × (t.1 ≡ other.old.text)) }
+        ensures same { self.new.text ≡ self.old.text }
+        ensures other { other.new.text ≡ other.old.text }
+        ensures refused { IsOkUnless result CordError.NoMemory }
+    {
+        let own = self.read(alloc)?;
+        let others = other.read(alloc)?;
+        Ok((own, others))
+    }
+
     /// Holds this text from now on, and frees the one that it held, whose place on the heap it takes. Refused for want of
     /// memory alone, where the pointer is null: then it stays.
     pub(crate) fn hold(&mut self, alloc: Global, text: Text) -> i32

@@ -63,15 +63,12 @@ pub extern "C" fn zc_cat(alloc: Global, x: &mut Handle, y: &mut Handle, out: &mu
     if missing(x) || missing(y) || missing(out) {
         return BAD_ARGUMENT;
     }
-    let Ok(left) = x.read(alloc) else {
-        return NO_MEMORY;
-    };
-    let Ok(right) = y.read(alloc) else {
-        return NO_MEMORY;
-    };
-    match Text::cat(alloc, &left, &right) {
-        Ok(text) => out.hold(alloc, text),
-        Err(refusal) => code_of(refusal),
+    match x.read_with(alloc, y) {
+        Ok((left, right)) => match Text::cat(alloc, &left, &right) {
+            Ok(text) => out.hold(alloc, text),
+            Err(refusal) => code_of(refusal),
+        },
+        Err(_) => NO_MEMORY,
     }
 }
 
