@@ -1,7 +1,6 @@
 -- The statement of a line whose fields are settled.
 use Rattle.std.proofs.Common.{None, ◌≡◌, ℕ, List, [], ◌∷◌, ◌++◌, refl, sym, ap, subst, map}
 use Rattle.cord_script.specs.declared.verbs.Verb.{Verb}
-use Rattle.cord_script.specs.declared.table.Known.{Known}
 use Rattle.cord_script.specs.declared.fields.Field.{Field}
 use Rattle.cord_script.specs.declared.words.Word.TheVariants.{Plain}
 use Rattle.cord_syntax.specs.declared.statements.Statement.{Statement}
@@ -20,18 +19,13 @@ use Rattle.cord_script.proofs.Allowed.{checked}
 use Rattle.cord_script.proofs.Contexts.{said}
 use Rattle.cord_script.proofs.Settled.{settled_right, settled_left}
 
--- the fields have the shape that the verb wants
-pub shaped : (v : Verb) (names : List Known) (line : List ℕ) (ps : List Field) → verb_shape v ≡ Words (verb_wants v) →
-    (h : SaysSettled names (verb_wants v) line ps) → AreFields (verb_shape v) h.words ps None
-shaped v names line ps shape h = subst (λ k. AreFields k h.words ps None) (sym shape) h.says
-
 -- a line that begins with the verb's word, before words that say settled fields
 pub adds : (v : Verb) (n : ℕ) (line rest : List ℕ) (before : Before) (ps : List Field) (ts : List Term) (s : Statement)
     (ss grown : List Statement) → HasWord line (Plain (verb_word v)) rest → verb_shape v ≡ Words (verb_wants v) →
     verb_effect v ≡ Stays → SaysSettled before.names (verb_wants v) rest ps → ts ≡ map term_of ps → IsStatementOf v n ts s →
     grown ≡ ss ++ s ∷ [] → Adds n line before ss grown
 adds v n line rest before ps ts s ss grown first shape effect h same is added =
-    let right = checked before (verb_form v) h.words ps None (shaped v before.names rest ps shape h)
+    let right = checked before (verb_form v) h.words ps None (subst (λ k. AreFields k h.words ps None) (sym shape) h.says)
     (settled_right before (map term_of ps) h.settled) (ap (λ e. block_flaw e before.blocks) effect) in
     let left = settled_left v n ps before before.blocks h.settled (ap (λ e. blocks_after e n before.blocks) (sym effect)) in
     record {

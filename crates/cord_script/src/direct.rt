@@ -15,7 +15,7 @@ use crate::field_lists::emptied;
 use crate::fields::{Field, field_of};
 use crate::grammar::{verb_of, wants_of};
 use crate::kinds::Want;
-use crate::statements::statement_of;
+use crate::statements::fixed_statement_of;
 use crate::table::Table;
 use crate::verbs::Verb;
 use crate::words::{blanks, next_word, plain_word};
@@ -99,7 +99,7 @@ pub fn take_settled(
         return Ok(false);
     };
     let mut cursor = FieldCursor::of(fields);
-    statements.push(statement_of(alloc, verb, number, None, &mut cursor)?)?;
+    statements.push(fixed_statement_of(verb, number, &mut cursor))?;
     *buffer = cursor.into_buffer();
     Ok(true)
 }

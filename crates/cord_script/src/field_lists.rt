@@ -78,9 +78,7 @@ pub fn emptied(alloc: Global, buffer: &mut Vec<Field>) -> Vec<Field>
     ensures { result.items ≡ [] }
 {
     let mut fields = mem::replace(buffer, Vec::new(alloc));
-    if !fields.is_empty() {
-        fields.clear();
-    }
+    fields.clear();
     fields
 }
 

@@ -3,7 +3,8 @@
 
 ghost use Rattle.std.specs.Prelude.{◌≡◌, map, IfOk, IfErr};
 ghost use Rattle.cord_script.specs.inner.Fields.{want_of};
-ghost use Rattle.cord_script.specs.inner.Verbal.{verb_wants};
+ghost use Rattle.cord_script.specs.Forms.Shape.{Words};
+ghost use Rattle.cord_script.specs.inner.Verbal.{verb_shape, verb_wants};
 ghost use Rattle.cord_script.specs.inner.Built.{IsJoined, IsPrinted, AreFieldsOf, IsStatementOf};
 
 use crate::cursor::FieldCursor;
@@ -298,6 +299,26 @@ fn sprintf_of(
     })
 }
 
+/// The statement of a verb that has a fixed number of words, and of its fields.
+pub fn fixed_statement_of(verb: Verb, line: u32, fields: &mut FieldCursor) -> Statement
+    requires fixed { verb_shape verb ≡ Words (verb_wants verb) }
+    requires wants { map want_of fields.old ≡ verb_wants verb }
+    ensures { IsStatementOf verb line fields.old result }
+{
+    match verb {
+        Verb::Catn | Verb::Sprintf => unreachable!(),
+        Verb::Origin(origin) => origin_of(origin, line, fields),
+        Verb::Composition(composition) => composition_of(composition, line, fields),
+        Verb::Derivation(derivation) => derivation_of(derivation, line, fields),
+        Verb::Put => put_of(line, fields),
+        Verb::Computation(computation) => computation_of(computation, line, fields),
+        Verb::Look(look) => look_of(look, line, fields),
+        Verb::Search(search) => search_of(search, line, fields),
+        Verb::Growth(growth) => growth_of(growth, line, fields),
+        Verb::Control(control) => control_of(control, line, fields),
+    }
+}
+
 /// The statement of a verb and its fields, and what the text of a `sprintf` is read as.
 pub fn statement_of(
     alloc: Global,
@@ -313,14 +334,6 @@ pub fn statement_of(
     match verb {
         Verb::Catn => catn_of(alloc, line, fields),
         Verb::Sprintf => sprintf_of(alloc, line, format, fields),
-        Verb::Origin(origin) => Ok(origin_of(origin, line, fields)),
-        Verb::Composition(composition) => Ok(composition_of(composition, line, fields)),
-        Verb::Derivation(derivation) => Ok(derivation_of(derivation, line, fields)),
-        Verb::Put => Ok(put_of(line, fields)),
-        Verb::Computation(computation) => Ok(computation_of(computation, line, fields)),
-        Verb::Look(look) => Ok(look_of(look, line, fields)),
-        Verb::Search(search) => Ok(search_of(search, line, fields)),
-        Verb::Growth(growth) => Ok(growth_of(growth, line, fields)),
-        Verb::Control(control) => Ok(control_of(control, line, fields)),
+        _ => Ok(fixed_statement_of(verb, line, fields)),
     }
 }

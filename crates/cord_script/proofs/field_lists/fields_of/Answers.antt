@@ -1,19 +1,11 @@
-use Rattle.std.proofs.Common.{◌≡◌, ◌≢◌, refl, ap, subst, ◌∙◌}
+use Rattle.std.proofs.Common.{◌≢◌, ap, subst, ◌∙◌}
 use Rattle.std.specs.Prelude.{IfOk, IfErr}
-use Rattle.cord_script.specs.declared.verbs.Verb.{Verb}
-use Rattle.cord_script.specs.declared.verbs.Verb.TheVariants as verbs
 use Rattle.cord_script.specs.declared.refusals.RefusalKind.TheVariants.{NoMemory}
 use Rattle.cord_script.specs.Forms.{Shape}
 use Rattle.cord_script.specs.Forms.Shape.{Words}
 use Rattle.cord_script.specs.inner.Fields.{AreFields, HasFieldFlaw}
-use Rattle.cord_script.specs.inner.Verbal.{verb_shape, verb_wants}
+use Rattle.cord_script.proofs.Built.{plain_shape}
 use Rattle.cord_script.proofs.field_lists.fields_of.Goals as goal
-
--- every other verb has the words that it wants
-plain_shape : (verb : Verb) → verb ≢ verbs.Catn → verb ≢ verbs.Sprintf → Words (verb_wants verb) ≡ verb_shape verb
-plain_shape verbs.Catn joined printed = absurd (joined refl)
-plain_shape verbs.Sprintf joined printed = absurd (printed refl)
-plain_shape _ joined printed = refl
 
 pub returns-in_default-clause-fields : goal.returns-in_default-clause-fields
 returns-in_default-clause-fields c =
