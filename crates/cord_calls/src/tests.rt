@@ -12,5 +12,6 @@ mod marks;
 mod nodes;
 mod positions;
 mod raw;
+mod rows;
 mod search;
 mod trees;

@@ -1,4 +1,5 @@
 // Rows of worked examples.
+use super::rows::expect_row;
 use super::trees::leaf_of;
 use cord_balance::{balance_parts, fib, slot_of};
 use cord_io::MAX_LEN;
@@ -24,7 +25,7 @@ fn slots(rt: HostRuntime) {
         (4_294_967_295, 47),
         (1_099_511_627_775, 59),
     ] {
-        assert!(rt; slot_of(len) == slot, "at {len}");
+        expect_row(&rt, slot_of(len) == slot, "the slot", len);
     }
 }
 
@@ -37,7 +38,7 @@ fn fibonacci_numbers(rt: HostRuntime) {
         (59, 956_722_026_041),
         (60, 1_548_008_755_920),
     ] {
-        assert!(rt; fib(n) == number, "at {n}");
+        expect_row(&rt, fib(n) == number, "the number", number);
     }
 }
 

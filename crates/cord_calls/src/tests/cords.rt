@@ -1,4 +1,5 @@
 // Rows of worked examples, and what sharing shows.
+use super::rows::expect_row;
 use super::trees::{
     bytes_of, cord_of, expect_text, func_fields, is_one, joined, part_of, run_fields, run_of,
 };
@@ -97,7 +98,7 @@ fn a_part_of_a_run_is_a_run(rt: HostRuntime) {
 
 // That a call is refused, since the text would be too long.
 fn expect_too_long(rt: &impl Abort, call: &str, answer: Result<Cord, CordError>) {
-    assert!(rt; answer.err() == Some(CordError::TooLong), "{call}");
+    expect_row(rt, answer.err() == Some(CordError::TooLong), call, MAX_LEN);
 }
 
 #[test]
@@ -158,8 +159,8 @@ fn depth_fifty(rt: HostRuntime) {
 
 // That a call makes a cord of no byte and no node.
 fn expect_nothing(rt: &impl Abort, call: &str, cord: &Cord) {
-    assert!(rt; cord.root().is_none(), "{call}");
-    assert!(rt; cord.len() == 0 && cord.depth() == 0, "{call}");
+    expect_row(rt, cord.root().is_none(), call, cord.len());
+    expect_row(rt, cord.len() == 0 && cord.depth() == 0, call, cord.len());
 }
 
 #[test]
@@ -191,7 +192,7 @@ fn a_shared_slice_is_a_leaf(rt: HostRuntime) {
 
 // That a call gives the very cord that it was given.
 fn expect_one(rt: &impl Abort, call: &str, answer: &Cord, cord: &Cord) {
-    assert!(rt; is_one(answer, cord), "{call}");
+    expect_row(rt, is_one(answer, cord), call, cord.len());
 }
 
 #[test]

@@ -11,6 +11,7 @@ mod standard;
 
 ghost use Rattle.std.specs.Prelude.{◌≡◌, ◌<◌, ◌≤◌, ℕ, length, IsSome, IsSomeAnd};
 
+use super::rows::expect_row;
 use cord_io::{FileNo, Files, MemFiles, OpenFault, ReadFault, Sink, WriteFault};
 use std::alloc::Global;
 use std::process::Abort;
@@ -43,20 +44,21 @@ fn opened<F: Files>(rt: &impl Abort, files: &mut F, path: &str) -> FileNo
     ensures long { IsSomeAnd (F.opened files.new result.0) (λ told. 10 ≤ told.1) }
     ensures grows { (n : ℕ) → IsSome (F.opened files.old n) → F.opened files.new n ≡ F.opened files.old n }
 {
-    let Ok((no, len)) = files.open(path) else {
-        panic!(rt; "{path} is not opened");
+    let found = files.open(path);
+    expect_row(rt, found.is_ok(), path, 10);
+    let Ok((no, len)) = found else {
+        panic!(rt; "not opened");
     };
-    assert!(rt; len == 10, "{path}");
+    assert!(rt; len == 10);
     no
 }
 
 fn expect_no_file<F: Files>(rt: &impl Abort, files: &mut F, path: &str, fault: OpenFault)
     ensures { (n : ℕ) → F.opened files.new n ≡ F.opened files.old n }
 {
-    match files.open(path) {
-        Ok(_) => panic!(rt; "{path} is opened"),
-        Err(error) => assert!(rt; error == fault, "{path}"),
-    }
+    let found = files.open(path);
+    expect_row(rt, found == Err(fault), path, 0);
+    assert!(rt; found.is_err());
 }
 
 fn expect_answer<F: Files>(rt: &impl Abort, files: &mut F, no: FileNo, ask: Ask)
@@ -67,14 +69,14 @@ fn expect_answer<F: Files>(rt: &impl Abort, files: &mut F, no: FileNo, ask: Ask)
         Ask::Open(path, fault) => expect_no_file(rt, files, path, fault),
         Ask::Read(start, count, bytes) => {
             let mut room = [0; 8];
-            assert!(rt; start < 10 && 0 < count && count <= 8, "from {start}");
+            assert!(rt; start < 10 && 0 < count && count <= 8);
             expect_read(rt, files, no, start, &mut room[..count], bytes);
         }
         Ask::Fault(start) => {
-            assert!(rt; start < 10, "from {start}");
+            assert!(rt; start < 10);
             expect_fault(rt, files, no, start);
         }
-        Ask::Failures(count) => assert!(rt; files.failures() == count, "not {count} failures"),
+        Ask::Failures(count) => expect_row(rt, files.failures() == count, "failures", count),
     }
 }
 
@@ -107,8 +109,8 @@ fn expect_read<F: Files>(
     ensures { (n : ℕ) → F.opened files.new n ≡ F.opened files.old n }
 {
     let count = files.read_at(no, start, room);
-    assert!(rt; count == Ok(bytes.len()), "from {start}");
-    assert!(rt; room.starts_with(bytes), "from {start}");
+    expect_row(rt, count == Ok(bytes.len()), "the count from", start);
+    expect_row(rt, room.starts_with(bytes), "the bytes from", start);
 }
 
 // Reads an opened file from a place on, which fails.
@@ -117,7 +119,7 @@ fn expect_fault<F: Files>(rt: &impl Abort, files: &mut F, no: FileNo, start: u64
     ensures { (n : ℕ) → F.opened files.new n ≡ F.opened files.old n }
 {
     let count = files.read_at(no, start, &mut [0; 6]);
-    assert!(rt; count == Err(ReadFault), "from {start}");
+    expect_row(rt, count == Err(ReadFault), "a fault from", start);
 }
 
 // What is asked of a sink, and what it answers.
@@ -141,7 +143,7 @@ fn expect_put<S: Sink>(
 ) {
     assert!(rt; !bytes.is_empty());
     let taken = sink.put(bytes);
-    assert!(rt; taken == answer, "{} bytes", bytes.len());
+    expect_row(rt, taken == answer, "bytes", bytes.len() as u64);
 }
 
 fn expect_offer<S: Sink>(rt: &impl Abort, sink: &mut S, offer: Offer) {
@@ -150,7 +152,7 @@ fn expect_offer<S: Sink>(rt: &impl Abort, sink: &mut S, offer: Offer) {
         Offer::Refused(bytes) => expect_put(rt, sink, bytes, Err(WriteFault)),
         Offer::Finished => assert!(rt; sink.finish() == Ok(())),
         Offer::Unfinished => assert!(rt; sink.finish() == Err(WriteFault)),
-        Offer::Failed(count) => assert!(rt; sink.failures() == count, "not {count} failures"),
+        Offer::Failed(count) => expect_row(rt, sink.failures() == count, "failures", count),
     }
 }
 

@@ -1,4 +1,5 @@
 // Rows of worked examples, and what sharing shows.
+use super::rows::expect_row;
 use super::trees::{cord_of, expect_text, is_one, part_of, pattern, run_fields, run_of};
 use cord_core::Cord;
 use cord_ec::ExtCord;
@@ -77,8 +78,8 @@ fn ext_cord_leaf_size(rt: HostRuntime) {
     let alloc = rt.alloc();
     for (count, depth) in [(4096, 0), (4097, 1)] {
         let cord = cord_in(&rt, alloc, &mut ext_of(&rt, alloc, count));
-        assert!(rt; cord.depth() == depth, "of {count} bytes");
-        assert!(rt; cord.len() == count as u64, "of {count} bytes");
+        expect_row(&rt, cord.depth() == depth, "bytes", count as u64);
+        assert!(rt; cord.len() == count as u64);
     }
 }
 

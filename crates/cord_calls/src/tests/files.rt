@@ -4,6 +4,7 @@ mod reading;
 ghost use Rattle.std.specs.Prelude.{◌≡◌, ◌≤◌, ℕ, length, None};
 ghost use Rattle.cord_io.specs.MemoryFolder.{folder_in};
 
+use super::rows::expect_row;
 use super::trees::func_fields;
 use cord_core::{Cord, Node};
 use cord_file::{FileError, Sources};
@@ -44,12 +45,17 @@ fn expect_open<F: Files>(
     answer: Result<(SourceId, u64), FileError>,
 ) {
     let opened = sources.open(alloc, path);
-    assert!(rt; opened == answer, "{path}");
+    expect_row(rt, opened == answer, path, 0);
 }
 
 // That an entry is so long, or that there is none.
 fn expect_len<F: Files>(rt: &impl Abort, sources: &Sources<F>, id: u32, len: Option<u64>) {
-    assert!(rt; sources.entry_len(SourceId(id)) == len, "{id}");
+    expect_row(
+        rt,
+        sources.entry_len(SourceId(id)) == len,
+        "the entry",
+        u64::from(id),
+    );
 }
 
 // That so many calls of the files failed.

@@ -5,6 +5,7 @@ ghost use Rattle.cord_core.specs.Cord.{CordFitsIn};
 
 use super::entry::six_hundred;
 use super::made::{Part, Parts, made};
+use super::rows::expect_row;
 use Part::{Func, Leaf, Run};
 use cord_core::Cord;
 use cord_io::{CordError, FuseSink, MemSink, Sink, Source};
@@ -194,16 +195,10 @@ fn expect_put(
     assert!(rt; most >= 1);
     let mut sink = FuseSink::new(MemSink::new(alloc), calls, most);
     let end = put(&cord, &mut source, &mut sink);
-    assert!(rt; end == answer, "{name}: {calls} calls of {most}");
-    assert!(rt;
-        sink.inner().bytes() == taken,
-        "{name}: {calls} calls of {most}"
-    );
+    expect_row(rt, end == answer, name, calls);
+    expect_row(rt, sink.inner().bytes() == taken, name, calls);
     let failures = u64::from(answer == Err(CordError::ReadFailed));
-    assert!(rt;
-        source.failures() == failures,
-        "{name}: {calls} calls of {most}"
-    );
+    expect_row(rt, source.failures() == failures, name, calls);
 }
 
 #[test]
@@ -241,7 +236,7 @@ fn rows_of_iterations(rt: HostRuntime) {
             stop,
         };
         let answer = iterated(&rt, &cord, way, &mut seen);
-        assert!(rt; answer == Ok(stopped), "{name}");
-        assert!(rt; seen.bytes == bytes, "{name}");
+        expect_row(&rt, answer == Ok(stopped), name, cord.len());
+        expect_row(&rt, seen.bytes == bytes, name, cord.len());
     }
 }

@@ -1,6 +1,7 @@
 // Rows of worked examples.
 ghost use Rattle.cord_node.specs.Tree.{IsSound};
 
+use super::rows::expect_row;
 use super::trees::leaf_of;
 use cord_io::{MAX_LEN, SourceId};
 use cord_node::{Node, func, join, run, sub_node};
@@ -59,7 +60,7 @@ fn range_of(rt: &impl Abort, alloc: Global, node: &Rc<Node>, from: u64, count: u
 // That a node is so long and so deep.
 fn expect_size(rt: &impl Abort, node: &Node, len: u64, depth: u32) {
     assert!(rt; node.len() == len);
-    assert!(rt; node.depth() == depth, "of {len} bytes");
+    assert!(rt; node.depth() == depth);
 }
 
 // That a node is a leaf of these bytes, start and length.
@@ -106,7 +107,7 @@ fn leaves_become_one_up_to_64_bytes(rt: HostRuntime) {
     for &(left, right, depth) in LEAVES {
         let first = leaf_of_len(&rt, alloc, left);
         let both = joined(&rt, alloc, &first, &leaf_of_len(&rt, alloc, right));
-        assert!(rt; both.depth() == depth, "of {left} and {right} bytes");
+        expect_row(&rt, both.depth() == depth, "bytes", left);
     }
 }
 

@@ -5,6 +5,7 @@ ghost use Rattle.cord_core.specs.Cord.{CordFitsIn};
 
 use super::entry::Entry;
 use super::made::{Part, Parts, made};
+use super::rows::expect_row;
 use super::trees::{cord_of, joined};
 use Part::{Func, Leaf, Run, Twice};
 use Step::{At, Fetched, Gone, Len, Nexts, Prev};
@@ -141,31 +142,30 @@ fn expect_fetched(
 {
     let bytes = [byte; 600];
     let mut source = Entry::new(&bytes, reads);
-    assert!(rt; position.is_valid(), "{name}");
+    assert!(rt; position.is_valid());
     let fetched = position.fetch(&mut source);
-    assert!(rt; fetched == answer, "{name}: {byte}");
-    assert!(rt; source.failures() == u64::from(answer.is_err()), "{name}");
+    expect_row(rt, fetched == answer, name, reads);
+    expect_row(
+        rt,
+        source.failures() == u64::from(answer.is_err()),
+        name,
+        reads,
+    );
 }
 
 fn expect_at(rt: &impl Abort, name: &str, position: &Position, index: Option<u64>, visits: u64) {
-    assert!(rt;
-        position.is_valid() == index.is_some(),
-        "{name}: at {index:?}"
-    );
-    assert!(rt; position.index() == index, "{name}: at {index:?}");
-    assert!(rt;
-        position.visits() == visits,
-        "{name}: the visits at {index:?}"
-    );
+    expect_row(rt, position.is_valid() == index.is_some(), name, visits);
+    expect_row(rt, position.index() == index, name, visits);
+    expect_row(rt, position.visits() == visits, name, visits);
 }
 
 fn expect_gone(rt: &impl Abort, name: &str, position: &Position) {
-    assert!(rt; !position.is_valid(), "{name}");
-    assert!(rt; position.index() == None, "{name}");
+    expect_row(rt, !position.is_valid(), name, position.visits());
+    expect_row(rt, position.index() == None, name, position.visits());
 }
 
 fn expect_len(rt: &impl Abort, name: &str, position: &Position, len: u64) {
-    assert!(rt; position.cord().len() == len, "{name}");
+    expect_row(rt, position.cord().len() == len, name, len);
 }
 
 fn take_step(rt: &impl Abort, name: &str, position: &mut Position, step: Step)

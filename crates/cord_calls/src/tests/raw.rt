@@ -1,4 +1,5 @@
 // Worked values, each call once with ample memory.
+use super::rows::expect_row;
 use super::trees::pattern;
 use cord_raw::RawBuf;
 use std::alloc::Global;
@@ -38,7 +39,7 @@ fn expect_at(rt: &impl Abort, alloc: Global, buffer: &RawBuf, start: u64, text: 
     let mut range = Vec::from_elem(alloc, 0, text.len()).expect(rt, "no memory");
     assert!(rt; start <= buffer.len() && range.len() as u64 <= buffer.len() - start);
     buffer.copy_to(start, &mut range);
-    assert!(rt; range.as_slice() == text, "from {start}");
+    expect_row(rt, range.as_slice() == text, "from", start);
 }
 
 #[test]

@@ -1,6 +1,7 @@
 // Rows of worked examples, and a read that fails.
 use super::entry::six_hundred;
 use super::made::{Part, Parts, longer, made};
+use super::rows::expect_row;
 use Part::{Func, Leaf, Run, Twice};
 use cord_io::{CordError, MAX_LEN, Source};
 use cord_search::{MOST_BYTES, chr, cmp, fetch, find_bytes, ncmp, rchr, str};
@@ -391,7 +392,7 @@ const LENGTHS: &[(&str, Parts, u64)] = &[
 fn lengths(rt: HostRuntime) {
     for &(name, parts, len) in LENGTHS {
         let cord = made(&rt, rt.alloc(), parts);
-        assert!(rt; cord.len() == len, "{name}");
+        expect_row(&rt, cord.len() == len, name, len);
     }
 }
 
@@ -407,8 +408,13 @@ fn expect_str(
     let pattern = made(rt, alloc, &[Leaf(pattern)]);
     let mut source = six_hundred((reads, u64::MAX));
     let found = str(&cord, from, &pattern, &mut source);
-    assert!(rt; found == answer, "{name}: from {from}");
-    assert!(rt; source.failures() == u64::from(answer.is_err()), "{name}");
+    expect_row(rt, found == answer, name, from);
+    expect_row(
+        rt,
+        source.failures() == u64::from(answer.is_err()),
+        name,
+        from,
+    );
 }
 
 // The same for the pattern as bytes, which are at least one.
@@ -425,7 +431,7 @@ fn expect_bytes(
     }
     let cord = made(rt, alloc, parts);
     let found = find_bytes(&cord, from, bytes, &mut six_hundred((reads, u64::MAX)));
-    assert!(rt; found == answer, "{name}: bytes, from {from}");
+    expect_row(rt, found == answer, name, from);
 }
 
 #[test]
@@ -446,7 +452,7 @@ fn expect_long_str(
     let cord = made(rt, alloc, parts);
     let pattern = made(rt, alloc, pattern);
     let found = str(&cord, 0, &pattern, &mut six_hundred(NONE));
-    assert!(rt; found == Ok(answer), "{name}");
+    expect_row(rt, found == Ok(answer), name, cord.len());
 }
 
 #[test]
@@ -468,7 +474,7 @@ fn expect_cmp(
     let left = longer(rt, alloc, &shared, left);
     let right = longer(rt, alloc, &shared, right);
     let compared = cmp(&left, &right, &mut six_hundred(reads));
-    assert!(rt; compared == answer, "{name}: not {answer:?}");
+    expect_row(rt, compared == answer, name, left.len());
 }
 
 #[test]
@@ -491,10 +497,7 @@ fn expect_ncmp(
     let left = longer(rt, alloc, &shared, left);
     let right = longer(rt, alloc, &shared, right);
     let compared = ncmp(&left, i, &right, j, count, &mut six_hundred(reads));
-    assert!(rt;
-        compared == answer,
-        "{name}: {count} bytes from {i} and {j}"
-    );
+    expect_row(rt, compared == answer, name, count);
 }
 
 #[test]
@@ -508,7 +511,7 @@ fn expect_chr(rt: &impl Abort, alloc: Global, (name, parts, from, byte, reads, a
     let cord = made(rt, alloc, parts);
     assert!(rt; from < cord.len());
     let found = chr(&cord, from, byte, &mut six_hundred((reads, u64::MAX)));
-    assert!(rt; found == answer, "{name}: {byte} from {from}");
+    expect_row(rt, found == answer, name, from);
 }
 
 #[test]
@@ -522,7 +525,7 @@ fn expect_rchr(rt: &impl Abort, alloc: Global, (name, parts, from, byte, reads, 
     let cord = made(rt, alloc, parts);
     assert!(rt; from < cord.len());
     let found = rchr(&cord, from, byte, &mut six_hundred((reads, u64::MAX)));
-    assert!(rt; found == answer, "{name}: {byte} from {from} back");
+    expect_row(rt, found == answer, name, from);
 }
 
 #[test]
@@ -544,8 +547,13 @@ fn expect_fetch(
     assert!(rt; place < cord.len());
     let mut source = six_hundred((0, u64::MAX));
     let fetched = fetch(&cord, place, &mut source);
-    assert!(rt; fetched == answer, "{name}: at {place}");
-    assert!(rt; source.failures() == u64::from(answer.is_err()), "{name}");
+    expect_row(rt, fetched == answer, name, place);
+    expect_row(
+        rt,
+        source.failures() == u64::from(answer.is_err()),
+        name,
+        place,
+    );
 }
 
 #[test]

@@ -4,6 +4,7 @@ ghost use Rattle.cord_io.specs.Device.{Folder, bytes_at};
 ghost use Rattle.cord_io.specs.DiskTold.{told_by};
 ghost use Rattle.cord_io.specs.Told.{Agrees};
 
+use super::super::rows::expect_row;
 use super::Ask::{self, Failures, Fault, Open, Read as Reads};
 use super::{expect_all, expect_answer, expect_answers, expect_no_file, opened};
 use cord_io::{DiskFiles, FileNo, Files, OpenFault, ReadFault};
@@ -402,7 +403,7 @@ where
 {
     let mut out = [0u8; 4];
     assert!(rt; read_told(files, path, start, &mut out) == Ok(bytes.len()));
-    assert!(rt; out.starts_with(bytes), "from {start}");
+    expect_row(rt, out.starts_with(bytes), "from", start);
 }
 
 // That nothing is read of a path from a place on.
