@@ -1,4 +1,4 @@
-use Rattle.std.proofs.Common.{◌≡◌, ℕ, List, ◌-◌, ◌<◌, ◌≤◌, Bool, false, true, Option, None, Some, map, length, set, get_or, refl, sym, ap, ◌∙◌, length-set, arith, rules}
+use Rattle.std.proofs.Common.{◌≡◌, ℕ, List, ◌-◌, ◌<◌, false, true, Option, None, Some, map, length, get_or, refl, sym, ap, ◌∙◌, length-set, arith}
 use Rattle.std.specs.Prelude.{replicate, slice_get}
 use Rattle.std.proofs.lemmas.List.{length-map, map-set, length-replicate}
 use Rattle.std.proofs.lemmas.Option.{slice_get_past, slice_get_read}
