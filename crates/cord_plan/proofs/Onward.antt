@@ -118,7 +118,8 @@ module _ (s : List Statement) (x : List ℕ) (table : List Bool) (p : ℕ) (b : 
   path_onward : Paths s x table →
       flow (reads_at (slice_get s p) x) (some_of (λ q. at table q) (successors (map shape_of s) p)) (assigns_at (slice_get s p) x) ≡ true →
       (path : List ℕ) × ReadBy s x p path
-  path_onward paths e = ⊎_elim (λ r. ([], r)) (λ w. over w.1 (shape_found (λ q. at table q) (map shape_of s) p (slice_get (map shape_of s) p) w.0))
+  path_onward paths e = ⊎_elim (λ r. ([], r))
+      (λ w. over w.1 (shape_found (λ q. at table q) (map shape_of s) p (slice_get (map shape_of s) p) w.0))
       (flow_parts (reads_at (slice_get s p) x) (some_of (λ q. at table q) (successors (map shape_of s) p)) (assigns_at (slice_get s p) x) e)
     where
       over : assigns_at (slice_get s p) x ≡ false → Found (λ q. at table q) (map shape_of s) p (Next (map shape_of s) p) →

@@ -159,8 +159,8 @@ impl Flow<'_> {
         Ok(words)
     }
 
-    // The word of a line, where those of the places that may come next are found: the names that it reads, and theirs but for
-    // the name that it assigns.
+    // The word of a line, where those of the places that may come next are found: the names that it reads, and theirs
+    // but for the name that it assigns.
     fn word_onward(&self, words: &[u128], place: usize, statement: &Statement) -> u128
         requires successor_table { AreSuccessors (map shape_of self.now.statements.now) self.now.successor_table.now }
         requires hints { AllHints self.now.statements.now self.now.numbering.now self.now.numbers.now }
@@ -201,8 +201,7 @@ impl Flow<'_> {
         Ok(words)
     }
 
-    // For each place the names of the group that a path from there reads before a line assigns them, where loops tells whether
-    // some place may lead back.
+    // The same as `live_words`, where it is told whether some place may lead back.
     fn words_of(&self, alloc: Global, loops: bool) -> Result<Vec<u128>, AllocError>
         requires successor_table { AreSuccessors (map shape_of self.now.statements.now) self.now.successor_table.now }
         requires onward { loops ≡ false → LeadOn self.now.successor_table.now }

@@ -4,7 +4,8 @@ ghost use Rattle.std.specs.Prelude.{map, not, option_map};
 ghost use Rattle.cord_plan.specs.Exprs.{names, name};
 ghost use Rattle.cord_plan.specs.Operands.{assigns, count};
 ghost use Rattle.cord_plan.specs.Forced.{is_small, expr_of, expr_with};
-ghost use Rattle.cord_plan.specs.inner.Choices.{simple_operands, parts_beside, expression_in, is_spare, room_left_by, stands};
+ghost use Rattle.cord_plan.specs.inner.Choices.{simple_operands, parts_beside, expression_in, room_left_by};
+ghost use Rattle.cord_plan.specs.inner.Choices.{is_spare, stands};
 ghost use Rattle.cord_plan.specs.inner.Choices.{choice_view, operands_view, IsChoice, AreChoices};
 ghost use Rattle.cord_plan.specs.inner.Liveness.{tells};
 ghost use Rattle.cord_plan.specs.inner.Numbering.{IsHint, number_of};
@@ -180,7 +181,7 @@ fn expression_at<'a>(table: &'a [Option<Expr>], place: usize) -> Option<&'a Expr
     }
 }
 
-// Whether the expression of the nearest line that assigns an operand may stand for it, where the line's own stays small.
+// Whether the expression of the nearest line that assigns an operand may stand for it, if the line's stays small then.
 fn stands(
     line: &Line,
     operand: &Name,

@@ -1,4 +1,5 @@
-use Rattle.std.proofs.Common.{◌≡◌, ℕ, List, ◌-◌, ◌<◌, false, true, Option, None, Some, map, length, get_or, refl, sym, ap, ◌∙◌, length-set, arith}
+use Rattle.std.proofs.Common.{◌≡◌, ℕ, List, ◌-◌, ◌<◌, false, true, Option, None}
+use Rattle.std.proofs.Common.{Some, map, length, get_or, refl, sym, ap, ◌∙◌, length-set, arith}
 use Rattle.std.specs.Prelude.{replicate, slice_get}
 use Rattle.std.proofs.lemmas.List.{length-map, map-set, length-replicate}
 use Rattle.std.proofs.lemmas.Option.{slice_get_past, slice_get_read}
@@ -20,7 +21,9 @@ loop-p-init c =
     record {
       size = size;
       paths = λ x i b k h. (let apart : false ≡ true = rw (none, no_place (length s) i k) at h in let bad : ⊥ = cc in absurd bad);
-      reads = λ x i b k le r. (let past : slice_get s k ≡ None = slice_get_past s k (omega arith) in let apart : false ≡ true = rw past at r in let bad : ⊥ = cc in absurd bad);
+      reads = λ x i b k le r.
+          (let past : slice_get s k ≡ None = slice_get_past s k (omega arith) in
+          let apart : false ≡ true = rw past at r in let bad : ⊥ = cc in absurd bad);
       resting = λ x i b k le. rests_past s x (column c.args.words.now i) k (omega arith);
     }
 

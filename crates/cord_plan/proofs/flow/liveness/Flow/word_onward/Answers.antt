@@ -24,5 +24,6 @@ mark_read-read-requires c = c.numbers_at-numbers.ensures c.args.self.now.stateme
     c.requires.hints c.requires.here
 
 pub mark_assigned-assigned-requires : goal.mark_assigned-assigned-requires
-mark_assigned-assigned-requires c = c.numbers_at-numbers.ensures c.args.self.now.statements.now c.args.self.now.numbering.now c.args.statement.now
+mark_assigned-assigned-requires c =
+    c.numbers_at-numbers.ensures c.args.self.now.statements.now c.args.self.now.numbering.now c.args.statement.now
     c.requires.hints c.requires.here
