@@ -7,6 +7,7 @@ use Rattle.cord_io.specs.Table.{Table, Lengths, HasLengths}
 use Rattle.cord_io.specs.declared.TheConstants.{MAX_LEN}
 use Rattle.cord_io.specs.declared.faults.CordError.{CordError}
 use Rattle.cord_io.specs.declared.faults.CordError.TheVariants.{NoMemory, TooLong, ReadFailed, WriteFailed}
+use Rattle.cord_io.specs.declared.writing.Sink as sinks
 use Rattle.cord_node.specs.declared.Node.{Node}
 use Rattle.cord_core.specs.Cord.{bytes_of, all_bytes, CordFitsIn, AllFitIn}
 use Rattle.cord_iter.specs.Taking.{Counts, CountsFaults, IsFrontOf, Takes}
@@ -21,7 +22,7 @@ use Rattle.cord_run.specs.declared.stops.Stop.TheVariants as stops
 use Rattle.cord_run.specs.declared.store.Entry.{Entry}
 use Rattle.cord_run.specs.inner.Entries.{IsOver}
 use Rattle.cord_run.specs.inner.Holdings.{holding_of, plain_of}
-use Rattle.cord_run.specs.inner.Output.{Wrote, CountsStops, stop_of_failure}
+use Rattle.cord_run.specs.inner.Output.{CountsStops, PutsText, Wrote, stop_of_failure}
 use Rattle.cord_run.specs.inner.Expressions.{AreWhole, IsUnbuilt}
 use Rattle.cord_run.proofs.Tables.{over_told}
 
@@ -105,3 +106,28 @@ unbuilt_counts entries e (stops.Fault kind) n m h source sink = (source, sink)
 unbuilt_counts entries e stops.NoMemory n m h source sink = (source, sink)
 unbuilt_counts entries e stops.ReadFailed n m h source sink = absurd h
 unbuilt_counts entries e stops.WriteFailed n m h source sink = absurd h
+
+-- ---- bytes that were handed over as the text of an expression
+module _ {S : Type 0} (s : sinks.Ghosts S) (entries : List Entry) (e : Expr) (old new : S) where
+  pub short_wrote : (r : Result (Unit {0}) Stop) → PutsText s entries e old new r → (t : Table) →
+      all_texts (holding_of t entries) (cords e) ≡ true → Wrote (text_in MAX_LEN (plain_of t entries) e) (s.taken old) (s.taken new) r
+  short_wrote (Ok x) h t there = (h.0, h.1 t there, h.2.0)
+  short_wrote (Err (stops.Fault kind)) h t there = absurd h.2
+  short_wrote (Err stops.NoMemory) h t there = absurd h.2
+  short_wrote (Err stops.ReadFailed) h t there = absurd h.2
+  short_wrote (Err stops.WriteFailed) h t there = (h.0, h.1 t there, h.2.0)
+
+  pub short_counts : (r : Result (Unit {0}) Stop) → PutsText s entries e old new r → (n : ℕ) →
+      CountsStops (record { source = n; sink = s.failures old }) (record { source = n; sink = s.failures new }) r
+  short_counts (Ok x) h n = (refl, h.2.1)
+  short_counts (Err (stops.Fault kind)) h n = absurd h.2
+  short_counts (Err stops.NoMemory) h n = absurd h.2
+  short_counts (Err stops.ReadFailed) h n = absurd h.2
+  short_counts (Err stops.WriteFailed) h n = (refl, h.2.1)
+
+  pub short_finished : (r : Result (Unit {0}) Stop) → PutsText s entries e old new r → s.finished new ≡ s.finished old
+  short_finished (Ok x) h = h.2.2
+  short_finished (Err (stops.Fault kind)) h = absurd h.2
+  short_finished (Err stops.NoMemory) h = absurd h.2
+  short_finished (Err stops.ReadFailed) h = absurd h.2
+  short_finished (Err stops.WriteFailed) h = h.2.2

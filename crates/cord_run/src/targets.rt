@@ -1,6 +1,7 @@
 //! Names that get what a plan makes for them: a cord, or a length alone.
 mod files;
 mod literals;
+mod makings;
 mod prints;
 
 ghost use Rattle.std.specs.Prelude.{◌≡◌, ◌≢◌, Err, IfErr, IfOk, OnErr};
@@ -12,11 +13,12 @@ ghost use Rattle.cord_file.specs.Sources.{device_in, opened_in};
 ghost use Rattle.cord_plan.specs.Meaning.{does};
 ghost use Rattle.cord_plan.specs.Views.{made_view};
 ghost use Rattle.cord_run.specs.inner.Contents.{IsLength, IsLengthOfNames, IsMade, IsMadeOfNames, IsUnmade};
-ghost use Rattle.cord_run.specs.inner.Contents.{IsUnmadeOfNames, IsUnmeasured, IsUnmeasuredOfNames, NeedsNoFile};
-ghost use Rattle.cord_run.specs.inner.Contents.{TakesNoMemory, has_failed, length_or_stop};
+ghost use Rattle.cord_run.specs.inner.Contents.{IsUnmadeOfNames, IsUnmeasured, IsUnmeasuredOfNames, TakesNoMemory};
+ghost use Rattle.cord_run.specs.inner.Contents.{has_failed, length_or_stop};
 ghost use Rattle.cord_run.specs.Failing.{FailsBy, FailsIn, IsFileMade};
 ghost use Rattle.cord_run.specs.inner.Entries.{HasContent, IsOver, SameEntries};
 ghost use Rattle.cord_run.specs.inner.Holdings.{holding_of};
+ghost use Rattle.cord_run.specs.inner.Makings.{fileless_view, making_view};
 ghost use Rattle.cord_run.specs.inner.Outcomes.{CountsReads, Gives};
 ghost use Rattle.cord_run.specs.inner.Targets.{target_operation};
 ghost use Rattle.cord_run.specs.inner.Frames.{KeepNoMore};
@@ -27,8 +29,9 @@ use crate::expressions::lengths::length_of;
 use crate::stops::Stop;
 use crate::store::cords::balanced;
 use crate::store::{Content, Store};
-use crate::targets::files::{Reading, file_cord, opened_length};
+use crate::targets::files::{file_cord, opened_length};
 use crate::targets::literals::{literal, start, start_length};
+use crate::targets::makings::{Fileless, Making, making_of};
 use crate::targets::prints::{print, print_length};
 use cord_core::Cord;
 use cord_file::Sources;
@@ -106,38 +109,38 @@ fn make<F: Files>(
     ensures counts { F.failures (device_in sources.new)
         ≡ count_after (has_failed result) (F.failures (device_in sources.old)) }
 {
-    match made {
-        Made::OfFile(path) => file_cord(alloc, sources, path, Reading::ByLength),
-        Made::OfEager(path) => file_cord(alloc, sources, path, Reading::Eager),
-        Made::OfLazy(path) => file_cord(alloc, sources, path, Reading::Lazy),
-        _ => make_of_names(alloc, store, made),
+    match making_of(made) {
+        Making::OfFile { path, reading } => file_cord(alloc, sources, path, reading),
+        Making::Fileless(made) => make_of_names(alloc, store, made),
     }
 }
 
 // The same of what needs no file.
-fn make_of_names(alloc: Global, store: &mut Store, made: &Made) -> Result<Cord, Stop>
-    requires { NeedsNoFile (made_view made.now) }
-    ensures built { IfOk result (IsMadeOfNames store.old.entries.items (made_view made.now)) }
-    ensures refused { IfErr result (IsUnmadeOfNames store.old.entries.items (made_view made.now)) }
+fn make_of_names(alloc: Global, store: &mut Store, made: Fileless<'_>) -> Result<Cord, Stop>
+    ensures built { IfOk result (IsMadeOfNames store.old.entries.items (fileless_view made.entry)) }
+    ensures refused { IfErr result (IsUnmadeOfNames store.old.entries.items (fileless_view made.entry)) }
     ensures same { IfOk result (λ _. SameEntries store.old.entries.items store.new.entries.items) }
 {
     match made {
-        Made::Joined(expression) => build(alloc, expression, store),
-        Made::Literal(text) => {
+        Fileless::Joined(expression) => build(alloc, expression, store),
+        Fileless::Literal(text) => {
             let cord = literal(alloc, text.as_slice())?;
             Ok(cord)
         }
-        Made::OfFunction(function, count) => start(alloc, *function, store.value_of(count)),
-        Made::Balanced(name) => {
+        Fileless::OfFunction { function, count } => start(alloc, function, store.value_of(count)),
+        Fileless::Balanced(name) => {
             let cord = balanced(alloc, store, name.as_slice())?;
             Ok(cord)
         }
-        Made::OfExtensible(name) => {
+        Fileless::OfExtensible(name) => {
             let cord = store.extended(alloc, name.as_slice())?;
             Ok(cord)
         }
-        Made::Printed(_, format, arguments) => print(alloc, store, format, arguments.as_slice()),
-        Made::OfFile(_) | Made::OfEager(_) | Made::OfLazy(_) => unreachable!(),
+        Fileless::Printed {
+            format,
+            arguments,
+            ..
+        } => print(alloc, store, format, arguments.as_slice()),
     }
 }
 
@@ -162,33 +165,31 @@ fn measure<F: Files>(
     ensures unread { OnErr result (opened_in sources.new ≡ opened_in sources.old) }
     ensures unbuilt { TakesNoMemory (made_view made.now) → result ≢ Err Stop.NoMemory }
 {
-    match made {
-        Made::OfFile(path) | Made::OfEager(path) | Made::OfLazy(path) => {
-            opened_length(alloc, sources, path)
-        }
-        _ => measure_of_names(alloc, store, made),
+    match making_of(made) {
+        Making::OfFile { path, .. } => opened_length(alloc, sources, path),
+        Making::Fileless(made) => measure_of_names(alloc, store, made),
     }
 }
 
 // The same of what needs no file.
-fn measure_of_names(alloc: Global, store: &Store, made: &Made) -> Result<u64, Stop>
-    requires { NeedsNoFile (made_view made.now) }
-    ensures told { IfOk result (IsLengthOfNames store.now.entries.items (made_view made.now)) }
-    ensures refused { IfErr result (IsUnmeasuredOfNames store.now.entries.items (made_view made.now)) }
-    ensures unbuilt { TakesNoMemory (made_view made.now) → result ≢ Err Stop.NoMemory }
+fn measure_of_names(alloc: Global, store: &Store, made: Fileless<'_>) -> Result<u64, Stop>
+    ensures told { IfOk result (IsLengthOfNames store.now.entries.items (fileless_view made.entry)) }
+    ensures refused { IfErr result (IsUnmeasuredOfNames store.now.entries.items (fileless_view made.entry)) }
+    ensures unbuilt { TakesNoMemory (fileless_view made.entry) → result ≢ Err Stop.NoMemory }
 {
     match made {
-        Made::Joined(expression) => length_or_stop(length_of(expression, store)),
-        Made::Literal(text) => length_or_stop(as_length(text.as_slice().len() as u64)),
-        Made::OfFunction(_, count) => length_or_stop(start_length(store.value_of(count))),
-        Made::Balanced(name) => length_or_stop(as_length(store.length_of(name.as_slice()))),
-        Made::OfExtensible(name) => length_or_stop(as_length(store.extended_length(
+        Fileless::Joined(expression) => length_or_stop(length_of(expression, store)),
+        Fileless::Literal(text) => length_or_stop(as_length(text.as_slice().len() as u64)),
+        Fileless::OfFunction { count, .. } => length_or_stop(start_length(store.value_of(count))),
+        Fileless::Balanced(name) => length_or_stop(as_length(store.length_of(name.as_slice()))),
+        Fileless::OfExtensible(name) => length_or_stop(as_length(store.extended_length(
             name.as_slice(),
         ))),
-        Made::Printed(_, format, arguments) => {
-            print_length(alloc, store, format, arguments.as_slice())
-        }
-        Made::OfFile(_) | Made::OfEager(_) | Made::OfLazy(_) => unreachable!(),
+        Fileless::Printed {
+            format,
+            arguments,
+            ..
+        } => print_length(alloc, store, format, arguments.as_slice()),
     }
 }
 

@@ -1,5 +1,6 @@
 // The lengths of expressions, by the lengths of their names.
-ghost use Rattle.std.specs.Prelude.{◌≡◌};
+ghost use Rattle.std.specs.Prelude.{◌≡◌, ◌≤◌, Err, IfErr, IfOk, Ok};
+ghost use Rattle.cord_meaning.specs.State as meant;
 ghost use Rattle.cord_plan.specs.Values.{measured_copies, measured_part};
 ghost use Rattle.cord_plan.specs.Views.{expr_view};
 ghost use Rattle.cord_run.specs.inner.Extents.{counted, extent_in, members_extent, members_seen};
@@ -53,15 +54,32 @@ fn length_of_all(members: &[Rc<Expr>], store: &Store) -> Result<u64, FaultKind>
     Ok(total)
 }
 
-/// The length of so many copies of a byte, or its fault.
-pub(crate) fn length_of_run(byte: i64, count: i64) -> Result<u64, FaultKind>
+/// So many copies of a byte.
+#[derive(Clone, Copy)]
+pub(crate) struct Copies {
+    pub(crate) byte: u8,
+    pub(crate) count: u64,
+}
+
+/// The copies of a byte that two numbers ask for, or their fault.
+pub(crate) fn copies_asked(byte: i64, count: i64) -> Result<Copies, FaultKind>
+    ensures byte { IfOk result (λ copies. meant.as_byte byte ≡ Ok copies.byte) }
+    ensures count { IfOk result (λ copies. measured_copies MAX_LEN byte count ≡ Ok copies.count) }
+    ensures short { IfOk result (λ copies. copies.count ≤ MAX_LEN) }
+    ensures refused { IfErr result (λ kind. measured_copies MAX_LEN byte count ≡ Err kind) }
+{
+    let byte = as_byte(byte)?;
+    let count = as_index(count)?;
+    let count = as_length(count)?;
+    Ok(Copies { byte, count })
+}
+
+// How many there are, or their fault.
+fn length_of_run(byte: i64, count: i64) -> Result<u64, FaultKind>
     ensures { result ≡ measured_copies MAX_LEN byte count }
 {
-    match as_byte(byte) {
-        Ok(_) => match as_index(count) {
-            Ok(count) => as_length(count),
-            Err(kind) => Err(kind),
-        },
+    match copies_asked(byte, count) {
+        Ok(copies) => Ok(copies.count),
         Err(kind) => Err(kind),
     }
 }

@@ -1,5 +1,5 @@
 // Expressions that are put.
-ghost use Rattle.std.specs.Prelude.{◌≡◌, true};
+ghost use Rattle.std.specs.Prelude.{◌≡◌, true, IfNone, IfSome};
 ghost use Rattle.cord_core.specs.Cord.{all_bytes, AllFitIn};
 ghost use Rattle.cord_io.specs.declared.TheConstants.{MAX_LEN};
 ghost use Rattle.cord_iter.specs.Taking.{CountsFaults};
@@ -8,7 +8,7 @@ ghost use Rattle.cord_plan.specs.Values.{text_in};
 ghost use Rattle.cord_plan.specs.Views.{expr_view};
 ghost use Rattle.cord_run.specs.inner.Entries.{IsOver};
 ghost use Rattle.cord_run.specs.inner.Holdings.{holding_of, plain_of};
-ghost use Rattle.cord_run.specs.inner.Output.{CountsStops, Puts, Wrote, stop_of_failure};
+ghost use Rattle.cord_run.specs.inner.Output.{CountsStops, Puts, PutsBytes, PutsText, Wrote, stop_of_failure};
 ghost use Rattle.cord_io.specs.Device.{Folder};
 ghost use Rattle.cord_run.specs.inner.Frames.{IsSameSource};
 
@@ -44,68 +44,52 @@ pub(crate) fn write<R: Source, S: Sink>(
     ensures finished { S.finished sink.new ≡ S.finished sink.old }
     ensures source { IsSameSource ⟦<R as Source>⟧ source.old source.new }
 {
-    match slice_of(expression, store) {
-        Some(slice) => match put_all(slice, sink) {
-            Ok(()) => Ok(()),
-            Err(_) => Err(Stop::WriteFailed),
-        },
-        None => write_joined(alloc, expression, store, source, sink),
+    match put_short(expression, store, sink) {
+        Some(put) => put,
+        None => {
+            let pieces = match pieces_of(alloc, expression, store) {
+                Ok(pieces) => pieces,
+                Err(stop) => return Err(stop),
+            };
+            match put_pieces(&pieces, source, sink) {
+                Ok(()) => Ok(()),
+                Err(error) => Err(stop_of_failure(error)),
+            }
+        }
     }
 }
 
-// The same of one that isn't a leaf or a range of one.
-fn write_joined<R: Source, S: Sink>(
-    alloc: Global,
-    expression: &Expr,
-    store: &Store,
-    source: &mut R,
-    sink: &mut S,
-) -> Result<(), Stop>
-    requires over { IsOver (R.lengths source.old) store.now.entries.items }
-    ensures wrote { (folder : Folder) → R.keeps source.new folder →
-        all_texts (holding_of (R.table source.old folder) store.now.entries.items) (cords (expr_view expression.now))
-        ≡ true → Wrote (text_in MAX_LEN (plain_of (R.table source.old folder) store.now.entries.items)
-        (expr_view expression.now)) (S.taken sink.old) (S.taken sink.new) result }
-    ensures counts { CountsStops (record { source = R.failures source.old; sink = S.failures sink.old })
-        (record { source = R.failures source.new; sink = S.failures sink.new }) result }
-    ensures finished { S.finished sink.new ≡ S.finished sink.old }
-    ensures source { IsSameSource ⟦<R as Source>⟧ source.old source.new }
+// Hands a sink the text of an expression that is a leaf or a range of one, or short ones side by side. None where it is neither:
+// then the sink is left alone.
+fn put_short<S: Sink>(expression: &Expr, store: &Store, sink: &mut S) -> Option<Result<(), Stop>>
+    ensures put { IfSome result (PutsText ⟦<S as Sink>⟧ store.now.entries.items (expr_view expression.now) sink.old sink.new) }
+    ensures left { IfNone result (sink.new ≡ sink.old) }
+{
+    match slice_of(expression, store) {
+        Some(slice) => Some(put_bytes(slice, sink)),
+        None => put_gathered(expression, store, sink),
+    }
+}
+
+// The same of short ones side by side alone.
+fn put_gathered<S: Sink>(expression: &Expr, store: &Store, sink: &mut S) -> Option<Result<(), Stop>>
+    ensures put { IfSome result (PutsText ⟦<S as Sink>⟧ store.now.entries.items (expr_view expression.now) sink.old sink.new) }
+    ensures left { IfNone result (sink.new ≡ sink.old) }
 {
     let mut text = ArrayVec::new();
     if !gather(expression, store, &mut text) {
-        return write_pieces(alloc, expression, store, source, sink);
+        return None;
     }
-    match put_all(text.as_slice(), sink) {
-        Ok(()) => Ok(()),
-        Err(_) => Err(Stop::WriteFailed),
-    }
+    Some(put_bytes(text.as_slice(), sink))
 }
 
-// The same by cords of its parts.
-fn write_pieces<R: Source, S: Sink>(
-    alloc: Global,
-    expression: &Expr,
-    store: &Store,
-    source: &mut R,
-    sink: &mut S,
-) -> Result<(), Stop>
-    requires over { IsOver (R.lengths source.old) store.now.entries.items }
-    ensures wrote { (folder : Folder) → R.keeps source.new folder →
-        all_texts (holding_of (R.table source.old folder) store.now.entries.items) (cords (expr_view expression.now))
-        ≡ true → Wrote (text_in MAX_LEN (plain_of (R.table source.old folder) store.now.entries.items)
-        (expr_view expression.now)) (S.taken sink.old) (S.taken sink.new) result }
-    ensures counts { CountsStops (record { source = R.failures source.old; sink = S.failures sink.old })
-        (record { source = R.failures source.new; sink = S.failures sink.new }) result }
-    ensures finished { S.finished sink.new ≡ S.finished sink.old }
-    ensures source { IsSameSource ⟦<R as Source>⟧ source.old source.new }
+// Hands a sink bytes.
+fn put_bytes<S: Sink>(bytes: &[u8], sink: &mut S) -> Result<(), Stop>
+    ensures { PutsBytes ⟦<S as Sink>⟧ bytes.now sink.old sink.new result }
 {
-    let pieces = match pieces_of(alloc, expression, store) {
-        Ok(pieces) => pieces,
-        Err(stop) => return Err(stop),
-    };
-    match put_pieces(&pieces, source, sink) {
+    match put_all(bytes, sink) {
         Ok(()) => Ok(()),
-        Err(error) => Err(stop_of_failure(error)),
+        Err(_) => Err(Stop::WriteFailed),
     }
 }
 

@@ -1,6 +1,6 @@
 // What is wanted of an expression, as cords: one for each name and each run that has some of it. What is wanted is handed on
 // from member to member, so each length is asked for once. A `sub` hands on less, and makes no cord of what it is cut from.
-ghost use Rattle.std.specs.Prelude.{◌≡◌, ◌+◌, ◌-◌, ◌<◌, ◌≤◌, ◌^◌, min, replicate, true, IfOk, IsOk, IsOkUnless};
+ghost use Rattle.std.specs.Prelude.{◌≡◌, ◌+◌, ◌-◌, ◌<◌, ◌≤◌, ◌^◌, ℤ, min, replicate, true, IfOk, IsOkUnless, Ok};
 ghost use Rattle.cord_core.specs.Cord.{text_len};
 ghost use Rattle.cord_core.specs.Equations.{HasText};
 ghost use Rattle.cord_meaning.specs.State as meant;
@@ -12,8 +12,8 @@ ghost use Rattle.cord_run.specs.inner.Ranges.{AddsCopies, AddsExpression, AddsMe
 ghost use Rattle.cord_run.specs.inner.Ranges.{IsAfter, IsInside, IsOutside, IsPast};
 ghost use Rattle.cord_run.specs.inner.Origins.{AddsAtMostOne, AddsInTurn, AreCopies, IsCutOf, origins, origins_of};
 
-use crate::checks::{as_byte, as_index};
-use crate::expressions::lengths::length_of_run;
+use crate::checks::as_index;
+use crate::expressions::lengths::copies_asked;
 use crate::store::Store;
 use cord_core::Cord;
 use cord_io::{CordError, MAX_LEN};
@@ -219,32 +219,28 @@ fn add_run(
     ensures few { IfOk result (λ after. AreFew wanted after pieces.old.items pieces.new.items) }
     ensures refused { IsOkUnless result CordError.NoMemory }
 {
-    let byte = store.value_of(byte);
-    let len = match length_of_run(byte, store.value_of(count)) {
-        Ok(len) => len,
+    let copies = match copies_asked(store.value_of(byte), store.value_of(count)) {
+        Ok(copies) => copies,
         Err(_) => return Ok(wanted),
     };
-    let after = wanted.after(len);
-    let taken = wanted.of(len);
+    let after = wanted.after(copies.count);
+    let taken = wanted.of(copies.count);
     if taken == 0 {
         return Ok(after);
     }
-    add_copies(alloc, byte, taken, pieces)?;
+    add_copies(alloc, copies.byte, taken, pieces)?;
     Ok(after)
 }
 
 // Adds copies of a byte.
-fn add_copies(alloc: Global, byte: i64, count: u64, pieces: &mut Vec<Cord>) -> Result<(), CordError>
-    requires byte { IsOk (meant.as_byte byte) }
+fn add_copies(alloc: Global, byte: u8, count: u64, pieces: &mut Vec<Cord>) -> Result<(), CordError>
     requires short { count ≤ MAX_LEN }
-    ensures added { IfOk result (λ _. AddsCopies byte count pieces.old.items pieces.new.items) }
-    ensures in_turn { IfOk result (λ _. AddsAtMostOne (AreCopies byte) pieces.old.items pieces.new.items) }
+    ensures added { IfOk result (λ _. (asked : ℤ) → meant.as_byte asked ≡ Ok byte →
+        AddsCopies asked count pieces.old.items pieces.new.items) }
+    ensures in_turn { IfOk result (λ _. (asked : ℤ) → meant.as_byte asked ≡ Ok byte →
+        AddsAtMostOne (AreCopies asked) pieces.old.items pieces.new.items) }
     ensures refused { IsOkUnless result CordError.NoMemory }
 {
-    let byte = match as_byte(byte) {
-        Ok(byte) => byte,
-        Err(_) => unreachable!(),
-    };
     let copies = copies_of(alloc, byte, count)?;
     pieces.push(copies)?;
     Ok(())

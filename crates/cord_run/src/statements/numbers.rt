@@ -14,7 +14,7 @@ ghost use Rattle.cord_run.specs.inner.Statements.{MeansOver, StaysOver};
 ghost use Rattle.cord_run.specs.inner.Outcomes.{CountsReads};
 
 use crate::statements::searches::{
-    byte_found, compared, fetched, last_found, ranges_compared, text_found,
+    Direction, byte_found, compared, fetched, ranges_compared, text_found,
 };
 use crate::stops::Stop;
 use crate::store::Store;
@@ -91,6 +91,14 @@ fn number_or_stop(number: Result<i64, FaultKind>) -> Result<i64, Stop>
     }
 }
 
+// The length that is told of a name.
+fn told_length(store: &Store, name: &[u8]) -> i64
+    requires { length_in store.now.entries.items name.now ≤ MAX_LEN }
+    ensures { result ≡ pos (length_in store.now.entries.items name.now) }
+{
+    store.length_of(name) as i64
+}
+
 /// The byte or the order that a look at cords finds.
 pub(crate) fn look_number<R: Source>(
     store: &Store,
@@ -148,11 +156,12 @@ pub(crate) fn search_number<R: Source>(
             start,
             pattern,
             ..
-        } => {
-            let cord = cord_or(store, operand.as_slice(), &empty);
-            let pattern = cord_or(store, pattern.as_slice(), &empty);
-            text_found(cord, store.value_of(start), pattern, source)
-        }
+        } => text_found(
+            cord_or(store, operand.as_slice(), &empty),
+            store.value_of(start),
+            cord_or(store, pattern.as_slice(), &empty),
+            source,
+        ),
         Search::Chr {
             operand,
             start,
@@ -160,7 +169,9 @@ pub(crate) fn search_number<R: Source>(
             ..
         } => {
             let cord = cord_or(store, operand.as_slice(), &empty);
-            byte_found(cord, store.value_of(start), store.value_of(byte), source)
+            let start = store.value_of(start);
+            let byte = store.value_of(byte);
+            byte_found(cord, start, byte, Direction::Forward, source)
         }
         Search::Rchr {
             operand,
@@ -169,7 +180,9 @@ pub(crate) fn search_number<R: Source>(
             ..
         } => {
             let cord = cord_or(store, operand.as_slice(), &empty);
-            last_found(cord, store.value_of(start), store.value_of(byte), source)
+            let start = store.value_of(start);
+            let byte = store.value_of(byte);
+            byte_found(cord, start, byte, Direction::Backward, source)
         }
     }
 }
@@ -183,14 +196,6 @@ pub(crate) fn cord_or<'a>(store: &'a Store, name: &[u8], empty: &'a Cord) -> &'a
         Some(cord) => cord,
         None => empty,
     }
-}
-
-// The length that is told of a name.
-fn told_length(store: &Store, name: &[u8]) -> i64
-    requires { length_in store.now.entries.items name.now ≤ MAX_LEN }
-    ensures { result ≡ pos (length_in store.now.entries.items name.now) }
-{
-    store.length_of(name) as i64
 }
 
 /// A sum that an i64 can be.

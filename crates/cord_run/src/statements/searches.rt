@@ -1,19 +1,29 @@
 // The numbers that statements find in cords. Each checks its numbers in order, before it reads.
-ghost use Rattle.std.specs.Prelude.{◌≡◌, ◌≤◌, IfErr, IfOk, IfSome, Ok};
-ghost use Rattle.cord_core.specs.Cord.{bytes_of, CordFitsIn};
+ghost use Rattle.std.specs.Prelude.{◌≡◌, ◌<◌, ◌≤◌, IfErr, IfOk, IfSome, Ok, is_err};
+ghost use Rattle.cord_core.specs.Cord.{bytes_of, text_len, CordFitsIn};
 ghost use Rattle.cord_core.specs.Texts.{order};
 ghost use Rattle.cord_io.specs.declared.TheConstants.{MAX_LEN};
 ghost use Rattle.cord_meaning.specs.State as meant;
 ghost use Rattle.cord_meaning.specs.Statements as statements;
-ghost use Rattle.cord_run.specs.inner.Numbers.{byte_place, fetched, Finds, HasRead, last_place, ranges_order};
+ghost use Rattle.cord_run.specs.inner.Frames.{IsSameSource};
+ghost use Rattle.cord_run.specs.inner.Numbers.{byte_place, fetched, Finds, HasRead, nearest, ranges_order};
 ghost use Rattle.cord_run.specs.inner.Numbers.{Refuses, text_place};
-ghost use Rattle.cord_io.specs.Device.{Folder};
+ghost use Rattle.cord_io.specs.Device.{Folder, count_after};
 
 use crate::checks::{as_byte, as_index};
 use crate::stops::Stop;
 use cord_core::Cord;
-use cord_io::Source;
+use cord_io::{CordError, Source};
 use cord_meaning::FaultKind;
+
+/// Which way a byte is looked for from a place.
+#[derive(Clone, Copy)]
+pub(crate) enum Direction {
+    /// From the place on.
+    Forward,
+    /// From the place back.
+    Backward,
+}
 
 /// The byte of a cord at a place.
 pub(crate) fn fetched<R: Source>(cord: &Cord, index: i64, source: &mut R) -> Result<i64, Stop>
@@ -94,16 +104,17 @@ pub(crate) fn text_found<R: Source>(
     }
 }
 
-/// The first place of a byte in a cord, from a place on that has one, or -1.
+/// The nearest place of a byte in a cord, from a place that has one and in a direction, or -1.
 pub(crate) fn byte_found<R: Source>(
     cord: &Cord,
     start: i64,
     byte: i64,
+    direction: Direction,
     source: &mut R,
 ) -> Result<i64, Stop>
     requires fits { CordFitsIn (R.lengths source.old) cord.now }
     ensures found { (folder : Folder) → R.keeps source.new folder →
-        Finds (byte_place (bytes_of (R.table source.old folder) cord.now) start byte) result }
+        Finds (byte_place direction (bytes_of (R.table source.old folder) cord.now) start byte) result }
     ensures read { HasRead ⟦<R as Source>⟧ source.old source.new result }
 {
     let index = checked_index(start)?;
@@ -112,33 +123,30 @@ pub(crate) fn byte_found<R: Source>(
     if len <= index {
         return Err(Stop::Fault(FaultKind::OutOfRange));
     }
-    match cord_search::chr(cord, index, wanted, source) {
+    match nearest(cord, index, wanted, direction, source) {
         Ok(place) => Ok(place_number(place, len)),
         Err(_) => Err(Stop::ReadFailed),
     }
 }
 
-/// The last place of a byte in a cord, up to a place that has one, or -1.
-pub(crate) fn last_found<R: Source>(
+// The nearest place of a byte, from a place of the cord and in a direction.
+fn nearest<R: Source>(
     cord: &Cord,
-    start: i64,
-    byte: i64,
+    index: u64,
+    byte: u8,
+    direction: Direction,
     source: &mut R,
-) -> Result<i64, Stop>
+) -> Result<Option<u64>, CordError>
+    requires inside { index < text_len cord.now }
     requires fits { CordFitsIn (R.lengths source.old) cord.now }
-    ensures found { (folder : Folder) → R.keeps source.new folder →
-        Finds (last_place (bytes_of (R.table source.old folder) cord.now) start byte) result }
-    ensures read { HasRead ⟦<R as Source>⟧ source.old source.new result }
+    ensures nearest { (folder : Folder) → R.keeps source.new folder →
+        IfOk result (λ place. place ≡ nearest direction (bytes_of (R.table source.old folder) cord.now) index byte) }
+    ensures count { R.failures source.new ≡ count_after (is_err result) (R.failures source.old) }
+    ensures same { IsSameSource ⟦<R as Source>⟧ source.old source.new }
 {
-    let index = checked_index(start)?;
-    let wanted = checked_byte(byte)?;
-    let len = cord.len();
-    if len <= index {
-        return Err(Stop::Fault(FaultKind::OutOfRange));
-    }
-    match cord_search::rchr(cord, index, wanted, source) {
-        Ok(place) => Ok(place_number(place, len)),
-        Err(_) => Err(Stop::ReadFailed),
+    match direction {
+        Direction::Forward => cord_search::chr(cord, index, byte, source),
+        Direction::Backward => cord_search::rchr(cord, index, byte, source),
     }
 }
 

@@ -1,9 +1,9 @@
 use Rattle.std.proofs.Common.{◌≡◌, FitsSigned, Ok, ℤ, sym, subst, ◌∙◌, to_z, of_z, w64, rules}
 use Rattle.std.proofs.lemmas.Int.{to_z-of_z}
 use Rattle.cord_io.specs.declared.TheConstants.{MAX_LEN}
+use Rattle.cord_meaning.specs.State.{as_byte}
 use Rattle.cord_plan.specs.Values.{measured_copies}
 use Rattle.cord_run.specs.inner.Entries.{operand_in}
-use Rattle.cord_run.specs.inner.Ranges.{AddsCopies}
 use Rattle.cord_run.proofs.Ranges.{run_picked}
 use Rattle.cord_run.proofs.expressions.ranges.add_run.Goals as goal
 
@@ -12,11 +12,12 @@ returns-clause-added c =
     let entries = c.args.store.now.entries.items in
     let old = c.args.pieces.now.items in
     let new = c.add_copies.new.pieces.items in
-    let byte_fits : FitsSigned w64 c.value_of-byte.result = search rules in
-    let count_fits : FitsSigned w64 c.value_of.result = search rules in
-    let byte : to_z w64 (of_z w64 c.value_of-byte.result) ≡ operand_in entries c.args.byte.now = to_z-of_z w64 c.value_of-byte.result byte_fits ∙ c.value_of-byte.ensures in
-    let count : to_z w64 (of_z w64 c.value_of.result) ≡ operand_in entries c.args.count.now = to_z-of_z w64 c.value_of.result count_fits ∙ c.value_of.ensures in
-    let told : measured_copies MAX_LEN (operand_in entries c.args.byte.now) (operand_in entries c.args.count.now) ≡ Ok c.in-Ok.len =
-    sym (λ i. measured_copies MAX_LEN (byte i) (count i)) ∙ sym c.in-Ok.ensures in
-    run_picked (operand_in entries c.args.byte.now) (operand_in entries c.args.count.now) c.args.wanted old c.in-Ok.len c.of-taken.result new told c.of-taken.ensures
-    (subst (λ (z : ℤ). AddsCopies z c.of-taken.result old new) byte c.in_ok-add_copies.ensures.added)
+    let byte_fits : FitsSigned w64 c.value_of.result = search rules in
+    let count_fits : FitsSigned w64 c.value_of-2.result = search rules in
+    let byte : to_z w64 (of_z w64 c.value_of.result) ≡ operand_in entries c.args.byte.now = to_z-of_z w64 c.value_of.result byte_fits ∙ c.value_of.ensures in
+    let count : to_z w64 (of_z w64 c.value_of-2.result) ≡ operand_in entries c.args.count.now = to_z-of_z w64 c.value_of-2.result count_fits ∙ c.value_of-2.ensures in
+    let told : measured_copies MAX_LEN (operand_in entries c.args.byte.now) (operand_in entries c.args.count.now) ≡ Ok c.in-Ok.copies.count =
+    sym (λ i. measured_copies MAX_LEN (byte i) (count i)) ∙ c.in-Ok.ensures.count in
+    let asked : as_byte (operand_in entries c.args.byte.now) ≡ Ok c.in-Ok.copies.byte = sym (λ i. as_byte (byte i)) ∙ c.in-Ok.ensures.byte in
+    run_picked (operand_in entries c.args.byte.now) (operand_in entries c.args.count.now) c.args.wanted old c.in-Ok.copies.count
+    c.of-taken.result new told c.of-taken.ensures (c.in_ok-add_copies.ensures.added (operand_in entries c.args.byte.now) asked)

@@ -1,0 +1,9 @@
+use Rattle.std.proofs.Common.{rules}
+use Rattle.cord_plan.specs.Views.{expr_view}
+use Rattle.cord_run.specs.inner.Slices.{IsTextIn}
+use Rattle.cord_run.proofs.expressions.output.put_gathered.Goals as goal
+
+pub returns-clause-put : goal.returns-clause-put
+returns-clause-put g c =
+    let text : IsTextIn c.args.store.now.entries.items (expr_view c.args.expression.now) c.as_slice.result.now = search rules in
+    (c.as_slice.result.now, text, c.put_bytes.ensures)

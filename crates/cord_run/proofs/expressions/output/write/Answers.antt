@@ -1,0 +1,92 @@
+use Rattle.std.proofs.Common.{◌≡◌, ◌++◌, ℕ, List, Err, sym, ap, subst, refl, ◌∙◌}
+use Rattle.std.specs.Prelude.{Option}
+use Rattle.cord_io.specs.declared.TheConstants.{MAX_LEN}
+use Rattle.cord_node.specs.declared.Node.{Node}
+use Rattle.cord_core.specs.Cord.{all_bytes}
+use Rattle.cord_iter.specs.Taking.{Counts, CountsFaults, IsFrontOf, Takes}
+use Rattle.cord_plan.specs.Values.{text_in}
+use Rattle.cord_plan.specs.Views.{expr_view}
+use Rattle.cord_run.specs.declared.stops.Stop.{Stop}
+use Rattle.cord_run.specs.inner.Holdings.{plain_of}
+use Rattle.cord_run.specs.inner.Output.{Wrote, CountsStops}
+use Rattle.cord_run.proofs.Output.{short_counts, short_finished, short_wrote, stop_counts, unbuilt_counts, wrote_nothing, wrote_part, wrote_whole}
+use Rattle.cord_run.proofs.expressions.output.write.Goals as goal
+
+pub returns-in-Some : goal.returns-in-Some
+returns-in-Some g c =
+    let entries = c.args.store.now.entries.items in
+    let e = expr_view c.args.expression.now in
+    let old = c.args.sink.now in
+    let new = c.put_short.new.sink in
+    let put = c.in-Some.put in
+    let told = c.in-Some.ensures.put in
+    record {
+      wrote = λ folder agrees there. short_wrote g.S.Sink entries e old new put told (g.R.Source.table c.args.source.now folder) there;
+      counts = short_counts g.S.Sink entries e old new put told (g.R.Source.failures c.args.source.now);
+      finished = short_finished g.S.Sink entries e old new put told;
+      source = (refl, refl, λ folder agrees. agrees);
+    }
+
+pub returns-in-Err-clause-wrote : goal.returns-in-Err-clause-wrote
+returns-in-Err-clause-wrote g c = λ folder agrees there.
+    wrote_nothing c.args.store.now.entries.items (expr_view c.args.expression.now) (g.R.Source.lengths c.args.source.now) c.requires.over
+    (g.S.Sink.taken c.args.sink.now) (g.S.Sink.taken c.put_short.new.sink) (g.R.Source.table c.args.source.now folder)
+    (g.met.R.Source.lengths_of_table c.args.source.now folder agrees) there c.in-Err.stop c.in-Err.ensures.refused
+    (ap g.S.Sink.taken c.in-None.ensures.left)
+
+pub returns-in-Err-clause-counts : goal.returns-in-Err-clause-counts
+returns-in-Err-clause-counts g c =
+    let source = g.R.Source.failures c.args.source.now in
+    let n : Counts = record { source = source; sink = g.S.Sink.failures c.args.sink.now } in
+    let m : Counts = record { source = source; sink = g.S.Sink.failures c.put_short.new.sink } in
+    unbuilt_counts c.args.store.now.entries.items (expr_view c.args.expression.now) c.in-Err.stop n m c.in-Err.ensures.refused refl
+    (ap g.S.Sink.failures c.in-None.ensures.left)
+
+pub returns-in-Err-clause-finished : goal.returns-in-Err-clause-finished
+returns-in-Err-clause-finished g c = ap g.S.Sink.finished c.in-None.ensures.left
+
+pub returns-in-Ok-put_pieces-clause-wrote : goal.returns-in-Ok-put_pieces-clause-wrote
+returns-in-Ok-put_pieces-clause-wrote g c = λ folder agrees there.
+    let t = g.R.Source.table c.args.source.now folder in
+    let a = g.S.Sink.taken c.args.sink.now in
+    let b = g.S.Sink.taken c.put_pieces.new.sink in
+    let same = ap g.S.Sink.taken c.in-None.ensures.left in
+    wrote_whole c.args.store.now.entries.items (expr_view c.args.expression.now) (g.R.Source.lengths c.args.source.now) c.requires.over a b
+    t (g.met.R.Source.lengths_of_table c.args.source.now folder (c.in-Ok-put_pieces.ensures.source.2 folder agrees)) there
+    c.in-Ok.pieces.items c.in-Ok.ensures.whole (subst (λ (x : List ℕ). b ≡ x ++ all_bytes t c.in-Ok.pieces.items) same
+    (subst (λ (ps : List (Option Node)). b ≡ g.S.Sink.taken c.put_short.new.sink ++ all_bytes t ps) c.deref.ensures.value
+    (c.in-Ok-put_pieces.ensures.puts folder agrees)))
+
+pub returns-in-Ok-put_pieces-clause-counts : goal.returns-in-Ok-put_pieces-clause-counts
+returns-in-Ok-put_pieces-clause-counts g c =
+    let faults = c.in-Ok-put_pieces.ensures.faults in
+    (faults.0, faults.1 ∙ ap g.S.Sink.failures c.in-None.ensures.left)
+
+pub returns-in-Ok-put_pieces-clause-finished : goal.returns-in-Ok-put_pieces-clause-finished
+returns-in-Ok-put_pieces-clause-finished g c = c.in-Ok-put_pieces.ensures.finished ∙ ap g.S.Sink.finished c.in-None.ensures.left
+
+pub returns-clause-wrote : goal.returns-clause-wrote
+returns-clause-wrote g c = λ folder agrees there.
+    let t = g.R.Source.table c.args.source.now folder in
+    let a = g.S.Sink.taken c.args.sink.now in
+    let b = g.S.Sink.taken c.put_pieces.new.sink in
+    let same = ap g.S.Sink.taken c.in-None.ensures.left in
+    subst (λ (stop : Stop). Wrote (text_in MAX_LEN (plain_of t c.args.store.now.entries.items) (expr_view c.args.expression.now)) a b
+    (Err stop)) (sym c.stop_of_failure.ensures)
+    (wrote_part c.args.store.now.entries.items (expr_view c.args.expression.now) (g.R.Source.lengths c.args.source.now) c.requires.over a b
+    t (g.met.R.Source.lengths_of_table c.args.source.now folder (c.in-Err-put_pieces.ensures.source.2 folder agrees)) there
+    c.in-Ok.pieces.items c.in-Err-put_pieces.error c.in-Ok.ensures.whole
+    (subst (λ (x : List ℕ). Takes (IsFrontOf (all_bytes t c.in-Ok.pieces.items)) x b) same
+    (subst (λ (ps : List (Option Node)). Takes (IsFrontOf (all_bytes t ps)) (g.S.Sink.taken c.put_short.new.sink) b) c.deref.ensures.value
+    (c.in-Err-put_pieces.ensures.puts folder agrees))))
+
+pub returns-clause-counts : goal.returns-clause-counts
+returns-clause-counts g c =
+    let n : Counts = record { source = g.R.Source.failures c.args.source.now; sink = g.S.Sink.failures c.args.sink.now } in
+    let m : Counts = record { source = g.R.Source.failures c.put_pieces.new.source; sink = g.S.Sink.failures c.put_pieces.new.sink } in
+    subst (λ (stop : Stop). CountsStops n m (Err stop)) (sym c.stop_of_failure.ensures)
+    (stop_counts c.in-Err-put_pieces.error n m (subst (λ (k : ℕ). CountsFaults {T = Unit {0}} (record { source = n.source; sink = k }) m
+    (Err c.in-Err-put_pieces.error)) (ap g.S.Sink.failures c.in-None.ensures.left) c.in-Err-put_pieces.ensures.faults))
+
+pub returns-clause-finished : goal.returns-clause-finished
+returns-clause-finished g c = c.in-Err-put_pieces.ensures.finished ∙ ap g.S.Sink.finished c.in-None.ensures.left

@@ -1,0 +1,69 @@
+// What a name is made of, by whether a file is needed.
+ghost use Rattle.std.specs.Prelude.{◌≡◌};
+ghost use Rattle.cord_plan.specs.Views.{made_view};
+ghost use Rattle.cord_run.specs.inner.Makings.{making_view};
+
+use crate::targets::files::Reading;
+use cord_plan::{Expr, Made};
+use cord_printf::Format;
+use cord_script::{Arguments, Function, Name, Number, Path, Text};
+
+/// What a name is made of. Its fields are lent.
+#[derive(Clone, Copy)]
+pub(crate) enum Making<'a> {
+    /// A file, of which so much is read before it is looked at.
+    OfFile { path: &'a Path, reading: Reading },
+    /// What needs no file.
+    Fileless(Fileless<'a>),
+}
+
+/// What a name is made of that needs no file.
+#[derive(Clone, Copy)]
+pub(crate) enum Fileless<'a> {
+    Joined(&'a Expr),
+    Literal(&'a Text),
+    OfFunction {
+        function: Function,
+        count: &'a Number,
+    },
+    Balanced(&'a Name),
+    OfExtensible(&'a Name),
+    Printed {
+        text: &'a Text,
+        format: &'a Format,
+        arguments: &'a Arguments,
+    },
+}
+
+/// What a plan says of what a name is made of.
+pub(crate) fn making_of(made: &Made) -> Making<'_>
+    ensures { making_view result ≡ made_view made.now }
+{
+    match made {
+        Made::Joined(expression) => Making::Fileless(Fileless::Joined(expression)),
+        Made::Literal(text) => Making::Fileless(Fileless::Literal(text)),
+        Made::OfFile(path) => Making::OfFile {
+            path,
+            reading: Reading::ByLength,
+        },
+        Made::OfEager(path) => Making::OfFile {
+            path,
+            reading: Reading::Eager,
+        },
+        Made::OfLazy(path) => Making::OfFile {
+            path,
+            reading: Reading::Lazy,
+        },
+        Made::OfFunction(function, count) => Making::Fileless(Fileless::OfFunction {
+            function: *function,
+            count,
+        }),
+        Made::Balanced(name) => Making::Fileless(Fileless::Balanced(name)),
+        Made::OfExtensible(name) => Making::Fileless(Fileless::OfExtensible(name)),
+        Made::Printed(text, format, arguments) => Making::Fileless(Fileless::Printed {
+            text,
+            format,
+            arguments,
+        }),
+    }
+}
