@@ -29,6 +29,7 @@ use Rattle.cord_shell.specs.Outcomes.{line_text, message_of, status_of_outcome, 
 use Rattle.cord_shell.specs.Tells.{SinkCounts, Tells}
 use Rattle.cord_shell.specs.declared.outcome.Outcome.{Outcome}
 use Rattle.cord_shell.specs.declared.outcome.Outcome.TheVariants as outcomes
+use Rattle.cord_shell.specs.inner.Drove.{Drove}
 
 -- want of memory, or another kind
 memory_or_not : (k : RefusalKind) → (k ≡ NoMemory) ⊎ (k ≢ NoMemory)
@@ -216,13 +217,6 @@ module _ (keeps : Folder → Type 0) (folder : Folder) (kept : keeps folder) (pa
     misses s outcomes.HelpShown h status tells = there (file_at folder path) gone (h.1 folder kept)
     misses s outcomes.HelpUnwritten h status tells = there (file_at folder path) gone (h.1 folder kept)
     misses s outcomes.BadCommandLine h status tells = there (file_at folder path) gone (h.1 folder kept)
-
--- what the words came to, over devices that were new
-pub record Drove (keeps : Folder → Type 0) (words : List (List ℕ)) (a : Answer) : Type 0 where
-  pub outcome : Outcome
-  pub comes : ComesTo keeps words [] a.out.taken (counts_of a) outcome
-  pub status : a.status ≡ status_of_outcome outcome
-  pub tells : Tells [] a.err.taken (err_counts_of a) (message_of outcome)
 
 -- new devices have counted nothing and taken nothing
 pub comes_of_new : (keeps : Folder → Type 0) (words : List (List ℕ)) (outcome : Outcome) (out old : List ℕ) (n : Counts)

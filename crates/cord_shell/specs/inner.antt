@@ -1,1 +1,3 @@
+pub mod Drove
 pub mod Files
+pub mod Sinks

@@ -8,6 +8,7 @@ ghost use Rattle.cord_script.specs.Script.{Reads};
 ghost use Rattle.cord_syntax.specs.declared.statements.Statement.{Statement};
 ghost use Rattle.cord_shell.specs.CommandLine.{AsksFor};
 ghost use Rattle.cord_shell.specs.Headline.{Answer, MissesOver, RefusesOver, RunsOver, ShowsOver, stream};
+ghost use Rattle.cord_shell.specs.inner.Drove.{Drove};
 
 use crate::program::drive;
 use cord_io::{DiskFiles, Files, Sink, StdSink};
@@ -91,6 +92,26 @@ where
 {
     bytes_are_one_script();
     read_scripts_have_no_flaw();
+    drive_machine(runtime, alloc, words, stdout, stderr)
+}
+
+// Makes the machine's devices, and drives the program over them.
+fn drive_machine<R: rt::Files, O: Write, E: Write>(
+    runtime: R,
+    alloc: Global,
+    words: &[String],
+    stdout: O,
+    stderr: E,
+) -> Ran<R, O, E>
+where
+    R::File: FileExt,
+    ensures { Drove (λ folder. Agrees folder (told_by result.files)) (map string_bytes words.now) (record {
+      status = result.status;
+      files_failed = ⟦<DiskFiles<R> as Files>⟧.failures result.files;
+      out = stream ⟦<StdSink<O> as Sink>⟧ result.out;
+      err = stream ⟦<StdSink<E> as Sink>⟧ result.err;
+    }) }
+{
     let files = DiskFiles::new(runtime, alloc);
     let mut out = StdSink::new(stdout);
     let mut err = StdSink::new(stderr);

@@ -3,6 +3,7 @@ ghost use Rattle.std.specs.Prelude.{◌≡◌, ◌≤◌, ◌∷◌, ◌++◌, [
 ghost use Rattle.cord_shell.specs.Outcomes.{line_text, message_of, message_of_end, outcome_of, status_of_end};
 ghost use Rattle.cord_shell.specs.Outcomes.{status_of_outcome};
 ghost use Rattle.cord_shell.specs.Tells.{SinkCounts, IsCut, IsWritten, Says, Tells};
+ghost use Rattle.cord_shell.specs.inner.Sinks.{sink_counts};
 
 use arrayvec::ArrayString;
 use cord_io::{Sink, WriteFault};
@@ -104,19 +105,9 @@ fn message_at(line: u32, text: &str) -> Message
 /// Hands a text over, and ends it. After a fault the sink has taken a prefix.
 pub fn write_text<S: Sink>(text: &str, sink: &mut S) -> Result<(), WriteFault>
     ensures ok { OnOk result (IsWritten text.now (S.taken sink.old) (S.taken sink.new)
-        (record {
-          failed_before = S.failures sink.old;
-          failed_after = S.failures sink.new;
-          ended_before = S.finished sink.old;
-          ended_after = S.finished sink.new;
-        })) }
+        (sink_counts ⟦<S as Sink>⟧ sink.old sink.new)) }
     ensures err { OnErr result (IsCut text.now (S.taken sink.old) (S.taken sink.new)
-        (record {
-          failed_before = S.failures sink.old;
-          failed_after = S.failures sink.new;
-          ended_before = S.finished sink.old;
-          ended_after = S.finished sink.new;
-        })) }
+        (sink_counts ⟦<S as Sink>⟧ sink.old sink.new)) }
 {
     put_all(text.as_bytes(), sink)?;
     sink.finish()
@@ -125,12 +116,7 @@ pub fn write_text<S: Sink>(text: &str, sink: &mut S) -> Result<(), WriteFault>
 // Hands a message over. A fault changes nothing else.
 fn tell<T: Sink>(message: &str, err: &mut T)
     ensures { Says (T.taken err.old) (T.taken err.new)
-        (record {
-          failed_before = T.failures err.old;
-          failed_after = T.failures err.new;
-          ended_before = T.finished err.old;
-          ended_after = T.finished err.new;
-        }) message.now }
+        (sink_counts ⟦<T as Sink>⟧ err.old err.new) message.now }
 {
     let _ = write_text(message, err);
 }
@@ -138,12 +124,7 @@ fn tell<T: Sink>(message: &str, err: &mut T)
 fn tell_at<T: Sink>(line: u32, text: &str, err: &mut T)
     requires { length text.now ≤ MAX_TEXT }
     ensures { Says (T.taken err.old) (T.taken err.new)
-        (record {
-          failed_before = T.failures err.old;
-          failed_after = T.failures err.new;
-          ended_before = T.finished err.old;
-          ended_after = T.finished err.new;
-        }) (line_text line text.now) }
+        (sink_counts ⟦<T as Sink>⟧ err.old err.new) (line_text line text.now) }
 {
     let message = message_at(line, text);
     tell(message.as_str(), err);
@@ -152,12 +133,7 @@ fn tell_at<T: Sink>(line: u32, text: &str, err: &mut T)
 // Tells how a run went wrong.
 fn report_end<T: Sink>(end: &End, err: &mut T)
     ensures { Tells (T.taken err.old) (T.taken err.new)
-        (record {
-          failed_before = T.failures err.old;
-          failed_after = T.failures err.new;
-          ended_before = T.finished err.old;
-          ended_after = T.finished err.new;
-        }) (message_of_end end.now) }
+        (sink_counts ⟦<T as Sink>⟧ err.old err.new) (message_of_end end.now) }
 {
     match end {
         End::Done => {}

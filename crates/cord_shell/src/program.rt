@@ -5,10 +5,12 @@ ghost use Rattle.cord_io.specs.Device.{Folder};
 ghost use Rattle.cord_meaning.specs.Ends.{Counts};
 ghost use Rattle.cord_plan.specs.Shown.{shown};
 ghost use Rattle.cord_plan.specs.Views.{operation_view};
+ghost use Rattle.cord_run.specs.Runs.{counts_over};
 ghost use Rattle.cord_shell.specs.Drives.{ComesTo, IsHelp, IsPlan, IsRun, IsShown, Serves};
 ghost use Rattle.cord_shell.specs.Outcomes.{message_of, status_of_outcome};
 ghost use Rattle.cord_shell.specs.Tells.{SinkCounts, IsCut, IsWritten, Tells};
 ghost use Rattle.cord_shell.specs.declared.outcome.Outcome.{Outcome};
+ghost use Rattle.cord_shell.specs.inner.Sinks.{sink_counts};
 
 use crate::outcome::{Outcome, report, write_text};
 use crate::reader::{Unread, read_whole};
@@ -30,15 +32,7 @@ fn run_script<F: Files, S: Sink>(
     requires files_count { F.failures files < 2 ^ 64 - 1 }
     requires out_count { S.failures out.old < 2 ^ 64 - 1 }
     ensures run { IsRun (F.keeps result.1) script.now (S.taken out.old) (S.taken out.new)
-        (record {
-          files_before = F.failures files;
-          files_after = F.failures result.1;
-          sink_before = S.failures out.old;
-          sink_after = S.failures out.new;
-          finished_before = S.finished out.old;
-          finished_after = S.finished out.new;
-        })
-        result.0 }
+        (counts_over ⟦<F as Files>⟧ ⟦<S as Sink>⟧ files result.1 out.old out.new) result.0 }
     ensures earlier { (folder : Folder) → F.keeps result.1 folder → F.keeps files folder }
 {
     if unplanned {
@@ -65,19 +59,9 @@ fn plan_of(alloc: Global, unplanned: bool, script: &Script) -> Result<Plan, Cord
 // Writes the plan's text, and ends it.
 fn write_plan<S: Sink>(plan: &Plan, out: &mut S) -> Result<(), WriteFault>
     ensures ok { OnOk result (IsWritten (shown (map operation_view plan.now)) (S.taken out.old) (S.taken out.new)
-        (record {
-          failed_before = S.failures out.old;
-          failed_after = S.failures out.new;
-          ended_before = S.finished out.old;
-          ended_after = S.finished out.new;
-        })) }
+        (sink_counts ⟦<S as Sink>⟧ out.old out.new)) }
     ensures err { OnErr result (IsCut (shown (map operation_view plan.now)) (S.taken out.old) (S.taken out.new)
-        (record {
-          failed_before = S.failures out.old;
-          failed_after = S.failures out.new;
-          ended_before = S.finished out.old;
-          ended_after = S.finished out.new;
-        })) }
+        (sink_counts ⟦<S as Sink>⟧ out.old out.new)) }
 {
     match plan.show(out) {
         Ok(()) => out.finish(),
@@ -89,12 +73,7 @@ fn write_plan<S: Sink>(plan: &Plan, out: &mut S) -> Result<(), WriteFault>
 fn show_script<S: Sink>(alloc: Global, unplanned: bool, script: &[u8], out: &mut S) -> Outcome
     requires out_count { S.failures out.old < 2 ^ 64 - 1 }
     ensures { IsShown unplanned script.now (S.taken out.old) (S.taken out.new)
-        (record {
-          failed_before = S.failures out.old;
-          failed_after = S.failures out.new;
-          ended_before = S.finished out.old;
-          ended_after = S.finished out.new;
-        }) result }
+        (sink_counts ⟦<S as Sink>⟧ out.old out.new) result }
 {
     let read = match parse(alloc, script) {
         Ok(read) => read,
@@ -120,15 +99,7 @@ fn serve<F: Files, S: Sink>(
     requires out_count { S.failures out.old < 2 ^ 64 - 1 }
     ensures run { Serves (F.keeps result.1) request.now.script.now request.now.unplanned request.now.show_plan
         (S.taken out.old) (S.taken out.new)
-        (record {
-          files_before = F.failures files;
-          files_after = F.failures result.1;
-          sink_before = S.failures out.old;
-          sink_after = S.failures out.new;
-          finished_before = S.finished out.old;
-          finished_after = S.finished out.new;
-        })
-        result.0 }
+        (counts_over ⟦<F as Files>⟧ ⟦<S as Sink>⟧ files result.1 out.old out.new) result.0 }
     ensures earlier { (folder : Folder) → F.keeps result.1 folder → F.keeps files folder }
 {
     match read_whole(alloc, &mut files, request.script, MAX_SCRIPT as u64) {
@@ -156,12 +127,7 @@ fn serve<F: Files, S: Sink>(
 fn show_help<S: Sink>(text: &str, out: &mut S) -> Outcome
     requires out_count { S.failures out.old < 2 ^ 64 - 1 }
     ensures { IsHelp (S.taken out.old) (S.taken out.new)
-        (record {
-          failed_before = S.failures out.old;
-          failed_after = S.failures out.new;
-          ended_before = S.finished out.old;
-          ended_after = S.finished out.new;
-        }) result }
+        (sink_counts ⟦<S as Sink>⟧ out.old out.new) result }
 {
     match write_text(text, out) {
         Ok(()) => Outcome::HelpShown,
@@ -174,15 +140,7 @@ fn answer<F: Files, S: Sink>(alloc: Global, words: &[String], files: F, out: &mu
     requires files_count { F.failures files < 2 ^ 64 - 1 }
     requires out_count { S.failures out.old < 2 ^ 64 - 1 }
     ensures run { ComesTo (F.keeps result.1) (map string_bytes words.now) (S.taken out.old) (S.taken out.new)
-        (record {
-          files_before = F.failures files;
-          files_after = F.failures result.1;
-          sink_before = S.failures out.old;
-          sink_after = S.failures out.new;
-          finished_before = S.finished out.old;
-          finished_after = S.finished out.new;
-        })
-        result.0 }
+        (counts_over ⟦<F as Files>⟧ ⟦<S as Sink>⟧ files result.1 out.old out.new) result.0 }
     ensures earlier { (folder : Folder) → F.keeps result.1 folder → F.keeps files folder }
 {
     match read_words(alloc, words) {

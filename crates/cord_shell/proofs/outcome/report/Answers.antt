@@ -3,7 +3,7 @@ use Rattle.cord_meaning.specs.Faults.{text_of as fault_text}
 use Rattle.cord_meaning.specs.declared.ends.FaultKind.TheVariants.{NoFile}
 use Rattle.cord_script.specs.Refusals.{text_of}
 use Rattle.cord_shell.specs.Outcomes.{message_of}
-use Rattle.cord_shell.specs.Tells.{SinkCounts}
+use Rattle.cord_shell.specs.inner.Sinks.{sink_counts}
 use Rattle.cord_shell.proofs.Said.{told_at}
 use Rattle.cord_shell.proofs.outcome.report.Goals as goal
 
@@ -12,7 +12,7 @@ returns-in-Refused g c =
     let sink = g.T.Sink in
     let old = c.args.err.now in
     let new = c.tell_at.new.err in
-    let counts : SinkCounts = record { failed_before = sink.failures old; failed_after = sink.failures new; ended_before = sink.finished old; ended_after = sink.finished new } in
+    let counts = sink_counts sink old new in
     let refusal = c.in-Refused.refusal in
     told_at (sink.taken old) (sink.taken new) counts refusal.line c.text.result.now (text_of refusal.kind)
     (message_of c.args.outcome.now) c.tell_at.ensures c.text.ensures (ap message_of c.in-Refused.is)
@@ -22,7 +22,7 @@ returns-in-NoScript g c =
     let sink = g.T.Sink in
     let old = c.args.err.now in
     let new = c.tell_at-in-NoScript.new.err in
-    let counts : SinkCounts = record { failed_before = sink.failures old; failed_after = sink.failures new; ended_before = sink.finished old; ended_after = sink.finished new } in
+    let counts = sink_counts sink old new in
     told_at (sink.taken old) (sink.taken new) counts 0 c.text-in-NoScript.result.now (fault_text NoFile)
     (message_of c.args.outcome.now) c.tell_at-in-NoScript.ensures c.text-in-NoScript.ensures (ap message_of c.in-NoScript.is)
 
@@ -31,6 +31,6 @@ returns-in-Unreadable g c =
     let sink = g.T.Sink in
     let old = c.args.err.now in
     let new = c.tell_at-in-Unreadable.new.err in
-    let counts : SinkCounts = record { failed_before = sink.failures old; failed_after = sink.failures new; ended_before = sink.finished old; ended_after = sink.finished new } in
+    let counts = sink_counts sink old new in
     told_at (sink.taken old) (sink.taken new) counts 0 (codes "read failed") (codes "read failed")
     (message_of c.args.outcome.now) c.tell_at-in-Unreadable.ensures refl (ap message_of c.in-Unreadable.is)

@@ -1,4 +1,4 @@
-use Rattle.cord_shell.specs.Tells.{SinkCounts}
+use Rattle.cord_shell.specs.inner.Sinks.{sink_counts}
 use Rattle.cord_shell.proofs.Said.{said}
 use Rattle.cord_shell.proofs.outcome.tell.Goals as goal
 
@@ -7,5 +7,5 @@ returns g c =
     let sink = g.T.Sink in
     let old = c.args.err.now in
     let new = c.write_text.new.sink in
-    let counts : SinkCounts = record { failed_before = sink.failures old; failed_after = sink.failures new; ended_before = sink.finished old; ended_after = sink.finished new } in
+    let counts = sink_counts sink old new in
     said (sink.taken old) (sink.taken new) c.args.message.now counts c.write_text.result c.write_text.ensures.ok c.write_text.ensures.err

@@ -1,5 +1,6 @@
 use Rattle.std.proofs.Common.{subst, ◌∙◌}
-use Rattle.cord_shell.specs.Tells.{SinkCounts, Says}
+use Rattle.cord_shell.specs.Tells.{Says}
+use Rattle.cord_shell.specs.inner.Sinks.{sink_counts}
 use Rattle.cord_shell.proofs.outcome.tell_at.Goals as goal
 
 pub returns : goal.returns
@@ -7,5 +8,5 @@ returns g c =
     let sink = g.T.Sink in
     let old = c.args.err.now in
     let new = c.tell.new.err in
-    let counts : SinkCounts = record { failed_before = sink.failures old; failed_after = sink.failures new; ended_before = sink.finished old; ended_after = sink.finished new } in
+    let counts = sink_counts sink old new in
     subst (Says (sink.taken old) (sink.taken new) counts) (c.as_str.ensures.value ∙ c.message_at-message.ensures) c.tell.ensures

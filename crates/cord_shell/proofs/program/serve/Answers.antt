@@ -1,6 +1,6 @@
 use Rattle.std.proofs.Common.{ℕ, List, Some, ◌≡◌, subst, sym}
 use Rattle.cord_io.specs.Device.{file_at}
-use Rattle.cord_meaning.specs.Ends.{Counts}
+use Rattle.cord_run.specs.Runs.{counts_over}
 use Rattle.cord_shell.proofs.Served.{run_at, shown_at}
 use Rattle.cord_shell.proofs.program.serve.Goals as goal
 
@@ -9,14 +9,7 @@ returns-then-request-clause-run g c =
     let sink = g.S.Sink in
     let request = c.args.request.now in
     let path = request.script.now in
-    let counts : Counts = record {
-      files_before = g.F.Files.failures c.args.files;
-      files_after = g.F.Files.failures c.read_whole.new.files;
-      sink_before = sink.failures c.args.out.now;
-      sink_after = sink.failures c.show_script.new.out;
-      finished_before = sink.finished c.args.out.now;
-      finished_after = sink.finished c.show_script.new.out;
-    } in
+    let counts = counts_over g.F.Files sink c.args.files c.read_whole.new.files c.args.out.now c.show_script.new.out in
     shown_at (g.F.Files.keeps c.read_whole.new.files) path request.unplanned c.deref.result.now (sink.taken c.args.out.now)
     (sink.taken c.show_script.new.out) counts
     (λ folder kept. subst (λ (b : List ℕ). file_at folder path ≡ Some b) (sym c.deref.ensures.value) (c.in-Ok.ensures.found folder kept))
@@ -28,14 +21,7 @@ returns-clause-run g c =
     let request = c.args.request.now in
     let path = request.script.now in
     let run = c.run_script in
-    let counts : Counts = record {
-      files_before = g.F.Files.failures c.args.files;
-      files_after = g.F.Files.failures run.result.1;
-      sink_before = sink.failures c.args.out.now;
-      sink_after = sink.failures run.new.out;
-      finished_before = sink.finished c.args.out.now;
-      finished_after = sink.finished run.new.out;
-    } in
+    let counts = counts_over g.F.Files sink c.args.files run.result.1 c.args.out.now run.new.out in
     run_at (g.F.Files.keeps run.result.1) path request.unplanned c.deref-else-request.result.now (sink.taken c.args.out.now)
     (sink.taken run.new.out) counts
     (λ folder kept. subst (λ (b : List ℕ). file_at folder path ≡ Some b) (sym c.deref-else-request.ensures.value)
