@@ -10,7 +10,7 @@ use Rattle.cord_run.specs.inner.Contents.{IsMade, IsMadeOfNames, IsUnmade, IsUnm
 use Rattle.cord_run.specs.inner.Makings.{file_made, fileless_view, making_view}
 use Rattle.cord_run.proofs.Failures.{fails_reading, never_fails}
 use Rattle.cord_run.proofs.Files.{file_built, file_unbuilt, of_file}
-use Rattle.cord_run.proofs.TargetNames.{names_made, names_unmade, no_device, nothing_changed}
+use Rattle.cord_run.proofs.TargetNames.{names_made, names_unmade, no_device}
 use Rattle.cord_run.proofs.targets.make.Goals as goal
 
 pub returns-in-OfFile : goal.returns-in-OfFile

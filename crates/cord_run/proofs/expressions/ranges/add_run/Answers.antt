@@ -1,4 +1,4 @@
-use Rattle.std.proofs.Common.{◌≡◌, FitsSigned, Ok, ℤ, sym, subst, ◌∙◌, to_z, of_z, w64, rules}
+use Rattle.std.proofs.Common.{◌≡◌, FitsSigned, Ok, sym, ◌∙◌, to_z, of_z, w64, rules}
 use Rattle.std.proofs.lemmas.Int.{to_z-of_z}
 use Rattle.cord_io.specs.declared.TheConstants.{MAX_LEN}
 use Rattle.cord_meaning.specs.State.{as_byte}
