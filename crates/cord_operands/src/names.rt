@@ -1,22 +1,33 @@
 // Names, texts and paths, as they stand in statements.
 ghost use Rattle.std.specs.Prelude.{◌≡◌, List, ℕ, IfOk};
+ghost use Rattle.std.specs.Str.{bytes_eq};
 ghost use Rattle.std.specs.String.{string_bytes};
+ghost use Rattle.cord_operands.specs.Keys.{key_of};
 
 use crate::Sequence;
+use crate::keys::{is_one, key_of};
 use std::alloc::{AllocError, Global};
 use std::marker::Model;
 use std::rc::Rc;
 
+/// The bytes of a name, with their key.
+#[derive(Drop)]
+struct Spelling {
+    bytes: Vec<u8>,
+    key: u64,
+    ghost keyed: { key ≡ key_of bytes.items },
+}
+
 /// A name, as its bytes: 1 to 32 ASCII letters, digits and `_`, not beginning with a digit. Copies share the bytes.
 #[derive(Clone, Drop)]
 pub struct Name {
-    name: Rc<Vec<u8>>,
+    spelling: Rc<Spelling>,
 }
 
 impl Model for Name {
     ghost Value = { List ℕ };
 
-    ghost view = { λ n. n.name.value.items };
+    ghost view = { λ n. n.spelling.value.bytes.items };
 }
 
 impl Name {
@@ -24,8 +35,12 @@ impl Name {
     pub fn of(alloc: Global, bytes: &[u8]) -> Result<Self, AllocError>
         ensures { IfOk result (λ name. name ≡ bytes.now) }
     {
+        let spelling = Spelling {
+            bytes: Vec::from_slice(alloc, bytes)?,
+            key: key_of(bytes),
+        };
         Ok(Name {
-            name: Rc::new(alloc, Vec::from_slice(alloc, bytes)?)?,
+            spelling: Rc::new(alloc, spelling)?,
         })
     }
 
@@ -33,7 +48,29 @@ impl Name {
     pub fn as_slice(&self) -> &[u8]
         ensures { result.now ≡ self.now }
     {
-        self.name.as_ref().as_slice()
+        self.spelling.as_ref().bytes.as_slice()
+    }
+
+    /// The key of the name, which was found when the name was made.
+    pub fn key(&self) -> u64
+        ensures { result ≡ key_of self.now }
+    {
+        self.spelling.as_ref().key
+    }
+
+    /// Whether the name is spelled by bytes that have this key. The bytes of short names aren't looked at.
+    pub fn is_spelled(&self, key: u64, bytes: &[u8]) -> bool
+        requires { key ≡ key_of bytes.now }
+        ensures { result ≡ bytes_eq self.now bytes.now }
+    {
+        is_one(self.as_slice(), self.key(), bytes, key)
+    }
+
+    /// Whether the two are one name. The bytes of short names aren't looked at.
+    pub fn is(&self, other: &Name) -> bool
+        ensures { result ≡ bytes_eq self.now other.now }
+    {
+        is_one(self.as_slice(), self.key(), other.as_slice(), other.key())
     }
 }
 
