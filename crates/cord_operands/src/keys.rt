@@ -68,6 +68,7 @@ pub fn key_of(name: &[u8]) -> u64
 }
 
 /// The slot of a key, of 4,096, where a table guesses the place of its name.
+#[inline(always)]
 pub fn slot_of(key: u64) -> usize
     ensures slot { result ≡ slot_at key }
     ensures within { result < 4096 }
@@ -75,12 +76,22 @@ pub fn slot_of(key: u64) -> usize
     (key.wrapping_mul(SPREAD) >> 52) as usize
 }
 
+// Whether two names have the same bytes, where their keys are one hash.
+#[cold]
+#[inline(never)]
+fn have_same_bytes(left: &[u8], right: &[u8]) -> bool
+    ensures { result ≡ bytes_eq left.now right.now }
+{
+    left == right
+}
+
 /// Whether names of these bytes are one, by their keys. The bytes of short names aren't looked at.
+#[inline(always)]
 #[tactic(auto, using(crate::proofs::Telling::is_told, crate::proofs::Telling::other_key))]
 pub(crate) fn is_one(left: &[u8], left_key: u64, right: &[u8], right_key: u64) -> bool
     requires left { left_key ≡ key_of left.now }
     requires right { right_key ≡ key_of right.now }
     ensures { result ≡ bytes_eq left.now right.now }
 {
-    left_key == right_key && (right_key < FIRST_HASH || left == right)
+    left_key == right_key && (right_key < FIRST_HASH || have_same_bytes(left, right))
 }

@@ -45,6 +45,7 @@ impl Name {
     }
 
     /// The bytes of the name.
+    #[inline(always)]
     pub fn as_slice(&self) -> &[u8]
         ensures { result.now ≡ self.now }
     {
@@ -52,6 +53,7 @@ impl Name {
     }
 
     /// The key of the name, which was found when the name was made.
+    #[inline(always)]
     pub fn key(&self) -> u64
         ensures { result ≡ key_of self.now }
     {
@@ -59,6 +61,7 @@ impl Name {
     }
 
     /// Whether the name is spelled by bytes that have this key. The bytes of short names aren't looked at.
+    #[inline(always)]
     pub fn is_spelled(&self, key: u64, bytes: &[u8]) -> bool
         requires { key ≡ key_of bytes.now }
         ensures { result ≡ bytes_eq self.now bytes.now }
@@ -67,6 +70,7 @@ impl Name {
     }
 
     /// Whether the two are one name. The bytes of short names aren't looked at.
+    #[inline(always)]
     pub fn is(&self, other: &Name) -> bool
         ensures { result ≡ bytes_eq self.now other.now }
     {
