@@ -21,7 +21,9 @@ mod table;
 mod verbs;
 mod words;
 
-pub use cord_operands::{Argument, Arguments, Function, Name, Names, Number, Path, Relation, Text};
+pub use cord_operands::{
+    Argument, Arguments, Function, Name, Names, Number, Path, Relation, Text, key_of, slot_of,
+};
 pub use cord_syntax::{Script, Statement};
 pub use laws::{
     branches_change_no_script, bytes_are_one_script, bytes_are_read_or_flawed, bytes_have_one_flaw,
