@@ -67,10 +67,8 @@ fn operand_flaw(names: &Table, field: &Field) -> Option<RefusalKind>
     ensures { result ≡ operand_term_flaw names.now (term_of field.now) }
 {
     match field {
-        Field::Operand(kind, name) => kind_flaw(names.kind_of(name.as_slice()), *kind),
-        Field::Value(Number::Named(name)) => {
-            kind_flaw(names.kind_of(name.as_slice()), Kind::Number)
-        }
+        Field::Operand(kind, name) => kind_flaw(names.kind_of(name), *kind),
+        Field::Value(Number::Named(name)) => kind_flaw(names.kind_of(name), Kind::Number),
         _ => None,
     }
 }
@@ -80,9 +78,7 @@ fn target_flaw(names: &Table, field: &Field) -> Option<RefusalKind>
     ensures { result ≡ target_term_flaw names.now (term_of field.now) }
 {
     match field {
-        Field::Target(kind, name) => {
-            assigned_flaw(names.kind_of(name.as_slice()), *kind, names.len())
-        }
+        Field::Target(kind, name) => assigned_flaw(names.kind_of(name), *kind, names.len()),
         _ => None,
     }
 }

@@ -4,19 +4,16 @@ ghost use Rattle.std.specs.Prelude.{MatchOption, OnOk};
 ghost use Rattle.cord_script.specs.Tests.{is_name};
 ghost use Rattle.cord_script.specs.Script.{kind_of, with_name};
 ghost use Rattle.cord_script.specs.Flaws.{unless};
+ghost use Rattle.cord_operands.specs.Keys.{key_of};
 
 use crate::kinds::Kind;
 use crate::names::is_name;
-use crate::words::is_same;
-use crate::{Name, RefusalKind};
+use crate::{Name, RefusalKind, key_of, slot_of};
 use std::alloc::Global;
 use std::marker::Model;
 
 /// The number of slots that guess the place of a name.
-const SLOTS: usize = 1_024;
-
-/// What spreads names that differ in their last byte over the slots: the odd number next to 2^64 over the golden ratio.
-const SPREAD: usize = 0x9E37_79B9_7F4A_7C15;
+const SLOTS: usize = 4_096;
 
 /// How many slots are looked at, from the name's own on.
 const PROBES: usize = 8;
@@ -51,26 +48,16 @@ impl Model for Table {
     ghost invariant = { λ t. IsTable t.known.items };
 }
 
-// The slot of a name.
-fn slot_of(name: &[u8]) -> usize
-    ensures { result < 1024 }
-{
-    let mut hash: usize = 0;
-    for byte in name {
-        hash = hash.wrapping_mul(31).wrapping_add(*byte as usize);
-    }
-    (hash.wrapping_mul(SPREAD) >> 54) % SLOTS
-}
-
-// The first of these with the name.
+// The first of these with the name, which has this key.
 #[cold]
 #[inline(never)]
-fn search<'a>(known: &'a [Known], name: &[u8]) -> Option<&'a Known>
+fn search<'a>(known: &'a [Known], key: u64, name: &[u8]) -> Option<&'a Known>
+    requires { key ≡ key_of name.now }
     ensures { MatchOption result (kind_of known.now name.now ≡ None) (λ found. (found.now.name ≡ name.now) ×
         (kind_of known.now name.now ≡ Some found.now.kind)) }
 {
     for entry in known {
-        if is_same(entry.name.as_slice(), name) {
+        if entry.name.is_spelled(key, name) {
             return Some(entry);
         }
     }
@@ -95,53 +82,56 @@ impl Table {
         self.known.len()
     }
 
-    // The entry at a place, if it has the name.
-    fn at(&self, place: usize, name: &[u8]) -> Option<&Known>
+    // The entry at a place, if it has the name, which has this key.
+    fn at(&self, place: usize, key: u64, name: &[u8]) -> Option<&Known>
+        requires { key ≡ key_of name.now }
         ensures { IfSome result (λ found. (found.now.name ≡ name.now) ×
             (kind_of self.now name.now ≡ Some found.now.kind)) }
     {
         match self.known.get(place) {
-            Some(entry) if is_same(entry.name.as_slice(), name) => Some(entry),
+            Some(entry) if entry.name.is_spelled(key, name) => Some(entry),
             _ => None,
         }
     }
 
     // The entry that a guess leads to.
-    fn guessed(&self, name: &[u8]) -> Option<&Known>
+    fn guessed(&self, key: u64, name: &[u8]) -> Option<&Known>
+        requires { key ≡ key_of name.now }
         ensures { IfSome result (λ found. (found.now.name ≡ name.now) ×
             (kind_of self.now name.now ≡ Some found.now.kind)) }
     {
-        let slot = slot_of(name);
+        let slot = slot_of(key);
         for probe in 0..PROBES {
             let place = self.guesses[(slot + probe) % SLOTS];
             if place == FREE {
                 return None;
             }
-            if let Some(entry) = self.at(usize::from(place), name) {
+            if let Some(entry) = self.at(usize::from(place), key, name) {
                 return Some(entry);
             }
         }
         None
     }
 
-    // The first entry with the name. What is known is a name.
-    fn find(&self, name: &[u8]) -> Option<&Known>
+    // The first entry with the name, which has this key. What is known is a name.
+    fn find(&self, key: u64, name: &[u8]) -> Option<&Known>
+        requires { key ≡ key_of name.now }
         ensures entry { MatchOption result (kind_of self.now name.now ≡ None) (λ found. (found.now.name ≡ name.now) ×
             (kind_of self.now name.now ≡ Some found.now.kind)) }
         ensures is_name { IfSome result (λ found. is_name name.now ≡ true) }
     {
         let known = self.known.as_slice();
-        match self.guessed(name) {
+        match self.guessed(key, name) {
             Some(entry) => Some(entry),
-            None => search(known, name),
+            None => search(known, key, name),
         }
     }
 
     /// The kind of a name, from the first line that assigns it.
-    pub fn kind_of(&self, name: &[u8]) -> Option<Kind>
+    pub fn kind_of(&self, name: &Name) -> Option<Kind>
         ensures { result ≡ kind_of self.now name.now }
     {
-        match self.find(name) {
+        match self.find(name.key(), name.as_slice()) {
             Some(entry) => Some(entry.kind),
             None => None,
         }
@@ -157,7 +147,7 @@ impl Table {
         ensures flaw { IfErr result (λ kind. kind ≢ RefusalKind.NoMemory →
             unless (is_name bytes.now) RefusalKind.BadName ≡ Some kind) }
     {
-        if let Some(entry) = self.find(bytes) {
+        if let Some(entry) = self.find(key_of(bytes), bytes) {
             return Ok((entry.name.clone()?, Some(entry.kind)));
         }
         if !is_name(bytes) {
@@ -166,14 +156,14 @@ impl Table {
         Ok((Name::of(alloc, bytes)?, None))
     }
 
-    // Leads the name's slot, or the first free one after it, to a place.
-    fn guess(&mut self, name: &[u8], place: usize)
+    // Leads the key's slot, or the first free one after it, to a place.
+    fn guess(&mut self, key: u64, place: usize)
         ensures { self.new ≡ self.old }
     {
         let Ok(place) = u16::try_from(place) else {
             return;
         };
-        let slot = slot_of(name);
+        let slot = slot_of(key);
         for probe in 0..PROBES {
             let probed = (slot + probe) % SLOTS;
             if self.guesses[probed] == FREE {
@@ -189,7 +179,7 @@ impl Table {
         ensures names { OnOk result (self.new ≡ with_name self.old name.now kind) }
         ensures flaw { IfErr result (λ e. e ≡ RefusalKind.NoMemory) }
     {
-        if self.find(name.as_slice()).is_some() {
+        if self.find(name.key(), name.as_slice()).is_some() {
             return Ok(());
         }
         self.push(name, kind)
@@ -207,7 +197,7 @@ impl Table {
             name: name.clone()?,
             kind,
         })?;
-        self.guess(name.as_slice(), place);
+        self.guess(name.key(), place);
         Ok(())
     }
 }

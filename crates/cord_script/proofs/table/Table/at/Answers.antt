@@ -11,5 +11,5 @@ returns-in-Some c =
     let found = c.in-Some.ensures.lookup in
     let there = slice_get_read c.deref.result.now (length c.deref.result.now) c.args.place entry refl found.3.0 found.1 in
     let at = subst (λ names. slice_get names c.args.place ≡ Some entry) (c.deref.ensures.value ∙ c.self.view_is) there in
-    let same : entry.name ≡ c.args.name.now = sym c.as_slice.ensures ∙ same_bytes c.as_slice.result.now c.args.name.now (sym c.is_same.ensures ∙ c.if-is_same.true) in
+    let same : entry.name ≡ c.args.name.now = same_bytes entry.name c.args.name.now (sym c.is_spelled.ensures ∙ c.if-is_spelled.true) in
     (same, kind_at c.args.self.now c.args.place entry c.args.name.now (subst AreFirst c.self.view_is c.self.invariant.0) at same)
