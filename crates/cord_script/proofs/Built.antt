@@ -1,5 +1,5 @@
 -- What the fields of a `catn` and of a `sprintf` are.
-use Rattle.std.proofs.Common.{Some, None, ◌≡◌, ◌≢◌, ◌+◌, ℕ, List, [], ◌∷◌, true, map, refl, sym, ◌∙◌, ap, subst, length, arith}
+use Rattle.std.proofs.Common.{Some, None, ◌≡◌, ◌+◌, ℕ, List, [], ◌∷◌, true, map, refl, sym, ◌∙◌, ap, subst, length, arith}
 use Rattle.std.specs.Prelude.{Option, nat_le}
 use Rattle.std.proofs.lemmas.Bool.{leb-true}
 use Rattle.cord_printf.specs.declared.pieces.ArgKind.{ArgKind}
@@ -20,13 +20,13 @@ use Rattle.cord_script.specs.declared.refusals.RefusalKind.TheVariants.{BadForma
 use Rattle.cord_operands.specs.declared.operands.Argument.{Argument}
 use Rattle.cord_operands.specs.declared.operands.Argument.TheVariants as arguments
 use Rattle.cord_script.specs.Forms.{Term, argument_term, argument_want}
-use Rattle.cord_script.specs.Forms.Shape.{Words, Joined, Printed}
+use Rattle.cord_script.specs.Forms.Shape.{Joined, Printed}
 use Rattle.cord_script.specs.Forms.Term.{Target, Formats}
 use Rattle.cord_script.specs.Formats.{want_of_kind, wants_of_pieces}
 use Rattle.cord_script.specs.Script.{IsTerm, AreTerms}
 use Rattle.cord_script.specs.Flaws.{first_of, first_misfit, is_count, cords, joined, format_wants, arguments_flaw, words_flaw, wants_of}
 use Rattle.cord_script.specs.inner.Fields.{want_of, term_of, wanted_by, IsReadAs, IsFormatOf, AreFields}
-use Rattle.cord_script.specs.inner.Verbal.{verb_shape, verb_wants}
+use Rattle.cord_script.specs.inner.Verbal.{verb_shape}
 use Rattle.cord_script.specs.inner.Built.{are_cords, are_arguments, IsJoined, IsPrinted, IsPrintedAs, AreFieldsOf}
 use Rattle.cord_script.proofs.Spelled.{both}
 use Rattle.cord_script.proofs.Checked.{neither}
@@ -140,24 +140,11 @@ printed_fields (w ∷ Quoted text ∷ ws) ts format count has fit wanted terms =
 -- what the builder of a statement takes
 pub fields_suit : (v : Verb) (ws : List Word) (ps : List Field) (format : Option (List Piece)) → AreFields (verb_shape v) ws ps format →
     AreFieldsOf v (map term_of ps) format
+fields_suit (verbs.Fixed v) ws ps format h = sym h.wanted
 fields_suit verbs.Catn ws ps format h = joined_fields ws (map term_of ps) h.count h.wanted h.terms
 fields_suit verbs.Sprintf ws ps format h = printed_fields ws (map term_of ps) format h.count h.has h.fit h.wanted h.terms
-fields_suit _ ws ps format h = sym h.wanted
 
 -- where nothing is wanted, nothing is left
 pub none_left : (ts : List Term) → map want_of ts ≡ [] → [] ≡ ts
 none_left [] h = refl
 none_left (t ∷ ts) h = cc
-
--- every other verb has the words that it wants
-pub plain_shape : (verb : Verb) → verb ≢ verbs.Catn → verb ≢ verbs.Sprintf → Words (verb_wants verb) ≡ verb_shape verb
-plain_shape verbs.Catn joined printed = absurd (joined refl)
-plain_shape verbs.Sprintf joined printed = absurd (printed refl)
-plain_shape _ joined printed = refl
-
--- the fields of such a verb are what it wants
-pub plain_wants : (verb : Verb) (ts : List Term) (format : Option (List Piece)) → verb ≢ verbs.Catn → verb ≢ verbs.Sprintf →
-    AreFieldsOf verb ts format → map want_of ts ≡ verb_wants verb
-plain_wants verbs.Catn ts format joined printed h = absurd (joined refl)
-plain_wants verbs.Sprintf ts format joined printed h = absurd (printed refl)
-plain_wants _ ts format joined printed h = h

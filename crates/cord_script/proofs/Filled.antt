@@ -12,6 +12,7 @@ use Rattle.cord_printf.specs.FormatLaws.{FormatOrBad}
 use Rattle.cord_script.specs.declared.TheConstants.{MIN_PARTS, MAX_PARTS}
 use Rattle.cord_script.specs.declared.verbs.Verb.{Verb}
 use Rattle.cord_script.specs.declared.verbs.Verb.TheVariants as verbs
+use Rattle.cord_script.specs.declared.verbs.FixedVerb.TheVariants as fixed_verbs
 use Rattle.cord_script.specs.declared.verbs.Origin.TheVariants as origins
 use Rattle.cord_script.specs.declared.verbs.Composition.TheVariants as compositions
 use Rattle.cord_script.specs.declared.verbs.Derivation.TheVariants as derivations
@@ -278,65 +279,65 @@ printed_filled n (w ∷ Quoted text ∷ ws) (Some xs) has count fit =
 filled : (v : Verb) (n : ℕ) (ws : List Word) (formats : Option (List Want)) → HasFormat (verb_shape v) ws formats →
     is_count (verb_shape v) (length ws) ≡ true → words_flaw (verb_shape v) formats ws ≡ None →
     IsFilled (verb_word v) (verb_shape v) n ws formats
-filled (verbs.Origin origins.Let) n ws formats has count fit = fixed n ws formats count fit (λ h. made (Let n h.0 h.1.0) refl refl refl tt)
-filled (verbs.Origin origins.File) n ws formats has count fit = fixed n ws formats count fit
+filled (verbs.Fixed (fixed_verbs.Origin origins.Let)) n ws formats has count fit = fixed n ws formats count fit (λ h. made (Let n h.0 h.1.0) refl refl refl tt)
+filled (verbs.Fixed (fixed_verbs.Origin origins.File)) n ws formats has count fit = fixed n ws formats count fit
     (λ h. made (File n h.0 h.1.0) refl refl refl tt)
-filled (verbs.Origin origins.Eager) n ws formats has count fit = fixed n ws formats count fit
+filled (verbs.Fixed (fixed_verbs.Origin origins.Eager)) n ws formats has count fit = fixed n ws formats count fit
     (λ h. made (Eager n h.0 h.1.0) refl refl refl tt)
-filled (verbs.Origin origins.Lazy) n ws formats has count fit = fixed n ws formats count fit
+filled (verbs.Fixed (fixed_verbs.Origin origins.Lazy)) n ws formats has count fit = fixed n ws formats count fit
     (λ h. made (Lazy n h.0 h.1.0) refl refl refl tt)
-filled (verbs.Composition compositions.Chars) n ws formats has count fit = fixed n ws formats count fit
+filled (verbs.Fixed (fixed_verbs.Composition compositions.Chars)) n ws formats has count fit = fixed n ws formats count fit
     (λ h. made (Chars n h.0 h.1.0 h.1.1.0) refl refl refl tt)
-filled (verbs.Composition compositions.Nul) n ws formats has count fit = fixed n ws formats count fit
+filled (verbs.Fixed (fixed_verbs.Composition compositions.Nul)) n ws formats has count fit = fixed n ws formats count fit
     (λ h. made (Nul n h.0 h.1.0) refl refl refl tt)
-filled (verbs.Origin origins.FromFn) n ws formats has count fit = fixed n ws formats count fit
+filled (verbs.Fixed (fixed_verbs.Origin origins.FromFn)) n ws formats has count fit = fixed n ws formats count fit
     (λ h. made (FromFn n h.0 h.1.0 h.1.1.0) refl refl refl tt)
-filled (verbs.Composition compositions.Cat) n ws formats has count fit = fixed n ws formats count fit
+filled (verbs.Fixed (fixed_verbs.Composition compositions.Cat)) n ws formats has count fit = fixed n ws formats count fit
     (λ h. made (Cat n h.0 h.1.0 h.1.1.0) refl refl refl tt)
 filled verbs.Catn n ws formats has count fit = joined_filled n ws formats count fit
-filled (verbs.Composition compositions.Catc) n ws formats has count fit = fixed n ws formats count fit
+filled (verbs.Fixed (fixed_verbs.Composition compositions.Catc)) n ws formats has count fit = fixed n ws formats count fit
     (λ h. made (Catc n h.0 h.1.0 h.1.1.0) refl refl refl tt)
-filled (verbs.Composition compositions.Substr) n ws formats has count fit = fixed n ws formats count fit
+filled (verbs.Fixed (fixed_verbs.Composition compositions.Substr)) n ws formats has count fit = fixed n ws formats count fit
     (λ h. made (Substr n h.0 h.1.0 h.1.1.0 h.1.1.1.0) refl refl refl tt)
-filled (verbs.Derivation derivations.Balance) n ws formats has count fit = fixed n ws formats count fit
+filled (verbs.Fixed (fixed_verbs.Derivation derivations.Balance)) n ws formats has count fit = fixed n ws formats count fit
     (λ h. made (Balance n h.0 h.1.0) refl refl refl tt)
-filled (verbs.Derivation derivations.EcToCord) n ws formats has count fit = fixed n ws formats count fit
+filled (verbs.Fixed (fixed_verbs.Derivation derivations.EcToCord)) n ws formats has count fit = fixed n ws formats count fit
     (λ h. made (EcToCord n h.0 h.1.0) refl refl refl tt)
 filled verbs.Sprintf n ws formats has count fit = printed_filled n ws formats has count fit
-filled (verbs.Computation computations.Len) n ws formats has count fit = fixed n ws formats count fit
+filled (verbs.Fixed (fixed_verbs.Computation computations.Len)) n ws formats has count fit = fixed n ws formats count fit
     (λ h. made (Len n h.0 h.1.0) refl refl refl tt)
-filled (verbs.Look looks.Fetch) n ws formats has count fit = fixed n ws formats count fit
+filled (verbs.Fixed (fixed_verbs.Look looks.Fetch)) n ws formats has count fit = fixed n ws formats count fit
     (λ h. made (Fetch n h.0 h.1.0 h.1.1.0) refl refl refl tt)
-filled (verbs.Look looks.Cmp) n ws formats has count fit = fixed n ws formats count fit
+filled (verbs.Fixed (fixed_verbs.Look looks.Cmp)) n ws formats has count fit = fixed n ws formats count fit
     (λ h. made (Cmp n h.0 h.1.0 h.1.1.0) refl refl refl tt)
-filled (verbs.Look looks.Ncmp) n ws formats has count fit = fixed n ws formats count fit
+filled (verbs.Fixed (fixed_verbs.Look looks.Ncmp)) n ws formats has count fit = fixed n ws formats count fit
     (λ h. made (Ncmp n h.0 h.1.0 h.1.1.0 h.1.1.1.0 h.1.1.1.1.0 h.1.1.1.1.1.0) refl refl refl tt)
-filled (verbs.Search searches.Str) n ws formats has count fit = fixed n ws formats count fit
+filled (verbs.Fixed (fixed_verbs.Search searches.Str)) n ws formats has count fit = fixed n ws formats count fit
     (λ h. made (Str n h.0 h.1.0 h.1.1.0 h.1.1.1.0) refl refl refl tt)
-filled (verbs.Search searches.Chr) n ws formats has count fit = fixed n ws formats count fit
+filled (verbs.Fixed (fixed_verbs.Search searches.Chr)) n ws formats has count fit = fixed n ws formats count fit
     (λ h. made (Chr n h.0 h.1.0 h.1.1.0 h.1.1.1.0) refl refl refl tt)
-filled (verbs.Search searches.Rchr) n ws formats has count fit = fixed n ws formats count fit
+filled (verbs.Fixed (fixed_verbs.Search searches.Rchr)) n ws formats has count fit = fixed n ws formats count fit
     (λ h. made (Rchr n h.0 h.1.0 h.1.1.0 h.1.1.1.0) refl refl refl tt)
-filled (verbs.Computation computations.Assign) n ws formats has count fit = fixed n ws formats count fit
+filled (verbs.Fixed (fixed_verbs.Computation computations.Assign)) n ws formats has count fit = fixed n ws formats count fit
     (λ h. made (Assign n h.0 h.1.0) refl refl refl tt)
-filled (verbs.Computation computations.Add) n ws formats has count fit = fixed n ws formats count fit
+filled (verbs.Fixed (fixed_verbs.Computation computations.Add)) n ws formats has count fit = fixed n ws formats count fit
     (λ h. made (Add n h.0 h.1.0 h.1.1.0) refl refl refl tt)
-filled (verbs.Computation computations.Sub) n ws formats has count fit = fixed n ws formats count fit
+filled (verbs.Fixed (fixed_verbs.Computation computations.Sub)) n ws formats has count fit = fixed n ws formats count fit
     (λ h. made (Sub n h.0 h.1.0 h.1.1.0) refl refl refl tt)
-filled (verbs.Growth growths.EcInit) n ws formats has count fit = fixed n ws formats count fit (λ h. made (EcInit n h.0) refl refl refl tt)
-filled (verbs.Growth growths.EcPut) n ws formats has count fit = fixed n ws formats count fit
+filled (verbs.Fixed (fixed_verbs.Growth growths.EcInit)) n ws formats has count fit = fixed n ws formats count fit (λ h. made (EcInit n h.0) refl refl refl tt)
+filled (verbs.Fixed (fixed_verbs.Growth growths.EcPut)) n ws formats has count fit = fixed n ws formats count fit
     (λ h. made (EcPut n h.0 h.1.0) refl refl refl tt)
-filled (verbs.Growth growths.EcCat) n ws formats has count fit = fixed n ws formats count fit
+filled (verbs.Fixed (fixed_verbs.Growth growths.EcCat)) n ws formats has count fit = fixed n ws formats count fit
     (λ h. made (EcCat n h.0 h.1.0) refl refl refl tt)
-filled (verbs.Growth growths.EcStr) n ws formats has count fit = fixed n ws formats count fit
+filled (verbs.Fixed (fixed_verbs.Growth growths.EcStr)) n ws formats has count fit = fixed n ws formats count fit
     (λ h. made (EcStr n h.0 h.1.0) refl refl refl tt)
-filled verbs.Put n ws formats has count fit = fixed n ws formats count fit (λ h. made (Put n h.0) refl refl refl tt)
-filled (verbs.Control controls.Repeat) n ws formats has count fit = fixed n ws formats count fit
+filled (verbs.Fixed fixed_verbs.Put) n ws formats has count fit = fixed n ws formats count fit (λ h. made (Put n h.0) refl refl refl tt)
+filled (verbs.Fixed (fixed_verbs.Control controls.Repeat)) n ws formats has count fit = fixed n ws formats count fit
     (λ h. made (Repeat n h.0) refl refl refl tt)
-filled (verbs.Control controls.If) n ws formats has count fit = fixed n ws formats count fit
+filled (verbs.Fixed (fixed_verbs.Control controls.If)) n ws formats has count fit = fixed n ws formats count fit
     (λ h. made (If n h.0 h.1.0 h.1.1.0) refl refl refl tt)
-filled (verbs.Control controls.Else) n ws formats has count fit = fixed n ws formats count fit (λ h. made (Else n) refl refl refl tt)
-filled (verbs.Control controls.End) n ws formats has count fit = fixed n ws formats count fit (λ h. made (End n) refl refl refl tt)
+filled (verbs.Fixed (fixed_verbs.Control controls.Else)) n ws formats has count fit = fixed n ws formats count fit (λ h. made (Else n) refl refl refl tt)
+filled (verbs.Fixed (fixed_verbs.Control controls.End)) n ws formats has count fit = fixed n ws formats count fit (λ h. made (End n) refl refl refl tt)
 
 -- what the conversions of the format want
 converts_of : FormatOrBad → (text : List ℕ) → (formats : Option (List Want)) × Converts text formats

@@ -4,6 +4,7 @@ use Rattle.std.specs.Prelude.{Option, IfSome, MatchOption, codes, if◌then◌el
 use Rattle.std.specs.Str.{bytes_eq}
 use Rattle.cord_script.specs.declared.verbs.Verb.{Verb}
 use Rattle.cord_script.specs.declared.verbs.Verb.TheVariants as verbs
+use Rattle.cord_script.specs.declared.verbs.FixedVerb.TheVariants as fixed_verbs
 use Rattle.cord_script.specs.declared.verbs.Origin.TheVariants as origins
 use Rattle.cord_script.specs.declared.verbs.Composition.TheVariants as compositions
 use Rattle.cord_script.specs.declared.verbs.Derivation.TheVariants as derivations
@@ -27,77 +28,77 @@ chosen_form false v o f rest p q = q
 pub form_found : (w : List ℕ) → form_at (find_verb VERBS w) ≡ form_of w
 unfolding form_of
 form_found w =
-    chosen_form (bytes_eq w (codes "let")) (verbs.Origin origins.Let) _ _ _ refl (
-    chosen_form (bytes_eq w (codes "put")) verbs.Put _ _ _ refl (
-    chosen_form (bytes_eq w (codes "file")) (verbs.Origin origins.File) _ _ _ refl (
-    chosen_form (bytes_eq w (codes "eager")) (verbs.Origin origins.Eager) _ _ _ refl (
-    chosen_form (bytes_eq w (codes "lazy")) (verbs.Origin origins.Lazy) _ _ _ refl (
-    chosen_form (bytes_eq w (codes "chars")) (verbs.Composition compositions.Chars) _ _ _ refl (
-    chosen_form (bytes_eq w (codes "nul")) (verbs.Composition compositions.Nul) _ _ _ refl (
-    chosen_form (bytes_eq w (codes "fn")) (verbs.Origin origins.FromFn) _ _ _ refl (
-    chosen_form (bytes_eq w (codes "cat")) (verbs.Composition compositions.Cat) _ _ _ refl (
+    chosen_form (bytes_eq w (codes "let")) (verbs.Fixed (fixed_verbs.Origin origins.Let)) _ _ _ refl (
+    chosen_form (bytes_eq w (codes "put")) (verbs.Fixed fixed_verbs.Put) _ _ _ refl (
+    chosen_form (bytes_eq w (codes "file")) (verbs.Fixed (fixed_verbs.Origin origins.File)) _ _ _ refl (
+    chosen_form (bytes_eq w (codes "eager")) (verbs.Fixed (fixed_verbs.Origin origins.Eager)) _ _ _ refl (
+    chosen_form (bytes_eq w (codes "lazy")) (verbs.Fixed (fixed_verbs.Origin origins.Lazy)) _ _ _ refl (
+    chosen_form (bytes_eq w (codes "chars")) (verbs.Fixed (fixed_verbs.Composition compositions.Chars)) _ _ _ refl (
+    chosen_form (bytes_eq w (codes "nul")) (verbs.Fixed (fixed_verbs.Composition compositions.Nul)) _ _ _ refl (
+    chosen_form (bytes_eq w (codes "fn")) (verbs.Fixed (fixed_verbs.Origin origins.FromFn)) _ _ _ refl (
+    chosen_form (bytes_eq w (codes "cat")) (verbs.Fixed (fixed_verbs.Composition compositions.Cat)) _ _ _ refl (
     chosen_form (bytes_eq w (codes "catn")) verbs.Catn _ _ _ refl (
-    chosen_form (bytes_eq w (codes "catc")) (verbs.Composition compositions.Catc) _ _ _ refl (
-    chosen_form (bytes_eq w (codes "substr")) (verbs.Composition compositions.Substr) _ _ _ refl (
-    chosen_form (bytes_eq w (codes "balance")) (verbs.Derivation derivations.Balance) _ _ _ refl (
-    chosen_form (bytes_eq w (codes "ectocord")) (verbs.Derivation derivations.EcToCord) _ _ _ refl (
+    chosen_form (bytes_eq w (codes "catc")) (verbs.Fixed (fixed_verbs.Composition compositions.Catc)) _ _ _ refl (
+    chosen_form (bytes_eq w (codes "substr")) (verbs.Fixed (fixed_verbs.Composition compositions.Substr)) _ _ _ refl (
+    chosen_form (bytes_eq w (codes "balance")) (verbs.Fixed (fixed_verbs.Derivation derivations.Balance)) _ _ _ refl (
+    chosen_form (bytes_eq w (codes "ectocord")) (verbs.Fixed (fixed_verbs.Derivation derivations.EcToCord)) _ _ _ refl (
     chosen_form (bytes_eq w (codes "sprintf")) verbs.Sprintf _ _ _ refl (
-    chosen_form (bytes_eq w (codes "len")) (verbs.Computation computations.Len) _ _ _ refl (
-    chosen_form (bytes_eq w (codes "fetch")) (verbs.Look looks.Fetch) _ _ _ refl (
-    chosen_form (bytes_eq w (codes "cmp")) (verbs.Look looks.Cmp) _ _ _ refl (
-    chosen_form (bytes_eq w (codes "ncmp")) (verbs.Look looks.Ncmp) _ _ _ refl (
-    chosen_form (bytes_eq w (codes "str")) (verbs.Search searches.Str) _ _ _ refl (
-    chosen_form (bytes_eq w (codes "chr")) (verbs.Search searches.Chr) _ _ _ refl (
-    chosen_form (bytes_eq w (codes "rchr")) (verbs.Search searches.Rchr) _ _ _ refl (
-    chosen_form (bytes_eq w (codes "set")) (verbs.Computation computations.Assign) _ _ _ refl (
-    chosen_form (bytes_eq w (codes "add")) (verbs.Computation computations.Add) _ _ _ refl (
-    chosen_form (bytes_eq w (codes "sub")) (verbs.Computation computations.Sub) _ _ _ refl (
-    chosen_form (bytes_eq w (codes "ecinit")) (verbs.Growth growths.EcInit) _ _ _ refl (
-    chosen_form (bytes_eq w (codes "ecput")) (verbs.Growth growths.EcPut) _ _ _ refl (
-    chosen_form (bytes_eq w (codes "eccat")) (verbs.Growth growths.EcCat) _ _ _ refl (
-    chosen_form (bytes_eq w (codes "ecstr")) (verbs.Growth growths.EcStr) _ _ _ refl (
-    chosen_form (bytes_eq w (codes "repeat")) (verbs.Control controls.Repeat) _ _ _ refl (
-    chosen_form (bytes_eq w (codes "if")) (verbs.Control controls.If) _ _ _ refl (
-    chosen_form (bytes_eq w (codes "else")) (verbs.Control controls.Else) _ _ _ refl (
-    chosen_form (bytes_eq w (codes "end")) (verbs.Control controls.End) _ _ _ refl (
+    chosen_form (bytes_eq w (codes "len")) (verbs.Fixed (fixed_verbs.Computation computations.Len)) _ _ _ refl (
+    chosen_form (bytes_eq w (codes "fetch")) (verbs.Fixed (fixed_verbs.Look looks.Fetch)) _ _ _ refl (
+    chosen_form (bytes_eq w (codes "cmp")) (verbs.Fixed (fixed_verbs.Look looks.Cmp)) _ _ _ refl (
+    chosen_form (bytes_eq w (codes "ncmp")) (verbs.Fixed (fixed_verbs.Look looks.Ncmp)) _ _ _ refl (
+    chosen_form (bytes_eq w (codes "str")) (verbs.Fixed (fixed_verbs.Search searches.Str)) _ _ _ refl (
+    chosen_form (bytes_eq w (codes "chr")) (verbs.Fixed (fixed_verbs.Search searches.Chr)) _ _ _ refl (
+    chosen_form (bytes_eq w (codes "rchr")) (verbs.Fixed (fixed_verbs.Search searches.Rchr)) _ _ _ refl (
+    chosen_form (bytes_eq w (codes "set")) (verbs.Fixed (fixed_verbs.Computation computations.Assign)) _ _ _ refl (
+    chosen_form (bytes_eq w (codes "add")) (verbs.Fixed (fixed_verbs.Computation computations.Add)) _ _ _ refl (
+    chosen_form (bytes_eq w (codes "sub")) (verbs.Fixed (fixed_verbs.Computation computations.Sub)) _ _ _ refl (
+    chosen_form (bytes_eq w (codes "ecinit")) (verbs.Fixed (fixed_verbs.Growth growths.EcInit)) _ _ _ refl (
+    chosen_form (bytes_eq w (codes "ecput")) (verbs.Fixed (fixed_verbs.Growth growths.EcPut)) _ _ _ refl (
+    chosen_form (bytes_eq w (codes "eccat")) (verbs.Fixed (fixed_verbs.Growth growths.EcCat)) _ _ _ refl (
+    chosen_form (bytes_eq w (codes "ecstr")) (verbs.Fixed (fixed_verbs.Growth growths.EcStr)) _ _ _ refl (
+    chosen_form (bytes_eq w (codes "repeat")) (verbs.Fixed (fixed_verbs.Control controls.Repeat)) _ _ _ refl (
+    chosen_form (bytes_eq w (codes "if")) (verbs.Fixed (fixed_verbs.Control controls.If)) _ _ _ refl (
+    chosen_form (bytes_eq w (codes "else")) (verbs.Fixed (fixed_verbs.Control controls.Else)) _ _ _ refl (
+    chosen_form (bytes_eq w (codes "end")) (verbs.Fixed (fixed_verbs.Control controls.End)) _ _ _ refl (
     refl)))))))))))))))))))))))))))))))))
 
 -- the form of a verb's word
 pub form_is : (v : Verb) → form_of (verb_word v) ≡ Some (verb_form v)
 unfolding form_of
-form_is (verbs.Origin origins.Let) = refl
-form_is verbs.Put = refl
-form_is (verbs.Origin origins.File) = refl
-form_is (verbs.Origin origins.Eager) = refl
-form_is (verbs.Origin origins.Lazy) = refl
-form_is (verbs.Composition compositions.Chars) = refl
-form_is (verbs.Composition compositions.Nul) = refl
-form_is (verbs.Origin origins.FromFn) = refl
-form_is (verbs.Composition compositions.Cat) = refl
+form_is (verbs.Fixed (fixed_verbs.Origin origins.Let)) = refl
+form_is (verbs.Fixed fixed_verbs.Put) = refl
+form_is (verbs.Fixed (fixed_verbs.Origin origins.File)) = refl
+form_is (verbs.Fixed (fixed_verbs.Origin origins.Eager)) = refl
+form_is (verbs.Fixed (fixed_verbs.Origin origins.Lazy)) = refl
+form_is (verbs.Fixed (fixed_verbs.Composition compositions.Chars)) = refl
+form_is (verbs.Fixed (fixed_verbs.Composition compositions.Nul)) = refl
+form_is (verbs.Fixed (fixed_verbs.Origin origins.FromFn)) = refl
+form_is (verbs.Fixed (fixed_verbs.Composition compositions.Cat)) = refl
 form_is verbs.Catn = refl
-form_is (verbs.Composition compositions.Catc) = refl
-form_is (verbs.Composition compositions.Substr) = refl
-form_is (verbs.Derivation derivations.Balance) = refl
-form_is (verbs.Derivation derivations.EcToCord) = refl
+form_is (verbs.Fixed (fixed_verbs.Composition compositions.Catc)) = refl
+form_is (verbs.Fixed (fixed_verbs.Composition compositions.Substr)) = refl
+form_is (verbs.Fixed (fixed_verbs.Derivation derivations.Balance)) = refl
+form_is (verbs.Fixed (fixed_verbs.Derivation derivations.EcToCord)) = refl
 form_is verbs.Sprintf = refl
-form_is (verbs.Computation computations.Len) = refl
-form_is (verbs.Look looks.Fetch) = refl
-form_is (verbs.Look looks.Cmp) = refl
-form_is (verbs.Look looks.Ncmp) = refl
-form_is (verbs.Search searches.Str) = refl
-form_is (verbs.Search searches.Chr) = refl
-form_is (verbs.Search searches.Rchr) = refl
-form_is (verbs.Computation computations.Assign) = refl
-form_is (verbs.Computation computations.Add) = refl
-form_is (verbs.Computation computations.Sub) = refl
-form_is (verbs.Growth growths.EcInit) = refl
-form_is (verbs.Growth growths.EcPut) = refl
-form_is (verbs.Growth growths.EcCat) = refl
-form_is (verbs.Growth growths.EcStr) = refl
-form_is (verbs.Control controls.Repeat) = refl
-form_is (verbs.Control controls.If) = refl
-form_is (verbs.Control controls.Else) = refl
-form_is (verbs.Control controls.End) = refl
+form_is (verbs.Fixed (fixed_verbs.Computation computations.Len)) = refl
+form_is (verbs.Fixed (fixed_verbs.Look looks.Fetch)) = refl
+form_is (verbs.Fixed (fixed_verbs.Look looks.Cmp)) = refl
+form_is (verbs.Fixed (fixed_verbs.Look looks.Ncmp)) = refl
+form_is (verbs.Fixed (fixed_verbs.Search searches.Str)) = refl
+form_is (verbs.Fixed (fixed_verbs.Search searches.Chr)) = refl
+form_is (verbs.Fixed (fixed_verbs.Search searches.Rchr)) = refl
+form_is (verbs.Fixed (fixed_verbs.Computation computations.Assign)) = refl
+form_is (verbs.Fixed (fixed_verbs.Computation computations.Add)) = refl
+form_is (verbs.Fixed (fixed_verbs.Computation computations.Sub)) = refl
+form_is (verbs.Fixed (fixed_verbs.Growth growths.EcInit)) = refl
+form_is (verbs.Fixed (fixed_verbs.Growth growths.EcPut)) = refl
+form_is (verbs.Fixed (fixed_verbs.Growth growths.EcCat)) = refl
+form_is (verbs.Fixed (fixed_verbs.Growth growths.EcStr)) = refl
+form_is (verbs.Fixed (fixed_verbs.Control controls.Repeat)) = refl
+form_is (verbs.Fixed (fixed_verbs.Control controls.If)) = refl
+form_is (verbs.Fixed (fixed_verbs.Control controls.Else)) = refl
+form_is (verbs.Fixed (fixed_verbs.Control controls.End)) = refl
 
 -- the form of a word that is a verb's
 pub found_verb : (w : List ℕ) (v : Verb) → w ≡ verb_word v → (w ≡ verb_word v) × (form_in whole w ≡ Some (verb_form v))

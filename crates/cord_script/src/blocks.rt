@@ -5,7 +5,7 @@ ghost use Rattle.cord_script.specs.Flaws.{block_flaw, else_flaw};
 ghost use Rattle.cord_script.specs.inner.ContextViews.{block_of, IsInnermostLeft};
 ghost use Rattle.cord_script.specs.inner.Verbal.{control_effect, verb_effect};
 
-use crate::verbs::{Control, Verb};
+use crate::verbs::{Control, FixedVerb, Verb};
 use crate::{MAX_BLOCKS, Refusal, RefusalKind};
 use std::collections::VecDeque;
 
@@ -46,7 +46,7 @@ pub fn block_flaw(verb: Verb, blocks: &VecDeque<Open>) -> Option<RefusalKind>
     ensures { result ≡ block_flaw (verb_effect verb) (map block_of blocks.now.items) }
 {
     match verb {
-        Verb::Control(control) => control_flaw(control, blocks),
+        Verb::Fixed(FixedVerb::Control(control)) => control_flaw(control, blocks),
         _ => None,
     }
 }
@@ -96,7 +96,7 @@ pub fn set_blocks(verb: Verb, line: u32, blocks: &mut VecDeque<Open>) -> Result<
     ensures flaw { IfErr result (λ kind. kind ≡ RefusalKind.NoMemory) }
 {
     match verb {
-        Verb::Control(control) => set_control(control, line, blocks),
+        Verb::Fixed(FixedVerb::Control(control)) => set_control(control, line, blocks),
         _ => Ok(()),
     }
 }

@@ -3,11 +3,10 @@ ghost use Rattle.std.specs.Prelude.{◌≡◌, ◌++◌, ◌∷◌, [], true, fa
 ghost use Rattle.cord_script.specs.Words.{HasWord};
 ghost use Rattle.cord_script.specs.declared.words.Word.TheVariants.{Plain};
 ghost use Rattle.cord_script.specs.Forms.Effect.{Stays};
-ghost use Rattle.cord_script.specs.Forms.Shape.{Words};
 ghost use Rattle.cord_script.specs.inner.ContextViews.{before_of};
 ghost use Rattle.cord_script.specs.inner.Settled.{SaysSettled};
 ghost use Rattle.cord_script.specs.inner.Steps.{Adds};
-ghost use Rattle.cord_script.specs.inner.Verbal.{verb_word, verb_wants, verb_shape, verb_effect};
+ghost use Rattle.cord_script.specs.inner.Verbal.{fixed_word, fixed_effect};
 
 use crate::context::Context;
 use crate::cursor::FieldCursor;
@@ -17,30 +16,31 @@ use crate::grammar::{verb_of, wants_of};
 use crate::kinds::Want;
 use crate::statements::fixed_statement_of;
 use crate::table::Table;
-use crate::verbs::Verb;
+use crate::verbs::{FixedVerb, Verb};
 use crate::words::{blanks, next_word, plain_word};
 use crate::{RefusalKind, Statement};
 use std::alloc::Global;
 
-// The verb of a line's first word, and what follows that word.
-fn front_verb(line: &[u8]) -> Option<(Verb, &[u8])>
-    ensures { IfSome result (λ r. HasWord line.now (Plain (verb_word r.0)) r.1.now) }
+// The verb, where it has a fixed number of words and leaves the open blocks alone.
+fn simple_verb(verb: Verb) -> Option<FixedVerb>
+    ensures verb { IfSome result (λ fixed. verb ≡ Verb.Fixed fixed) }
+    ensures effect { IfSome result (λ fixed. fixed_effect fixed ≡ Stays) }
 {
-    let Some((word, rest)) = plain_word(line) else {
-        return None;
-    };
-    match verb_of(word) {
-        Some(verb) => Some((verb, rest)),
-        None => None,
+    match verb {
+        Verb::Catn | Verb::Sprintf | Verb::Fixed(FixedVerb::Control(_)) => None,
+        Verb::Fixed(fixed) => Some(fixed),
     }
 }
 
-// Whether a verb has a fixed number of words and leaves the open blocks alone.
-fn is_simple(verb: Verb) -> bool
-    ensures shape { result ≡ true → verb_shape verb ≡ Words (verb_wants verb) }
-    ensures effect { result ≡ true → verb_effect verb ≡ Stays }
+// The verb of a line's first word, where it is a simple one, and what follows that word.
+fn front_verb(line: &[u8]) -> Option<(FixedVerb, &[u8])>
+    ensures word { IfSome result (λ r. HasWord line.now (Plain (fixed_word r.0)) r.1.now) }
+    ensures effect { IfSome result (λ r. fixed_effect r.0 ≡ Stays) }
 {
-    !matches!(verb, Verb::Catn | Verb::Sprintf | Verb::Control(_))
+    let (word, rest) = plain_word(line)?;
+    let verb = verb_of(word)?;
+    let fixed = simple_verb(verb)?;
+    Some((fixed, rest))
 }
 
 // Takes a word of the line for each want, and tells whether all are settled and no word is left. Else the fields say
@@ -91,9 +91,6 @@ pub fn take_settled(
     let Some((verb, rest)) = front_verb(line) else {
         return Ok(false);
     };
-    if !is_simple(verb) {
-        return Ok(false);
-    }
     let mut fields = emptied(alloc, buffer);
     let Ok(true) = settled_fields(alloc, &context.names, wants_of(verb), rest, &mut fields) else {
         return Ok(false);

@@ -238,6 +238,6 @@ pub fn fields_of(
     match verb {
         Verb::Catn => joined_fields(alloc, names, words, buffer),
         Verb::Sprintf => printed_fields(alloc, names, words, buffer),
-        _ => plain_fields(alloc, names, wants_of(verb), words, buffer),
+        Verb::Fixed(fixed) => plain_fields(alloc, names, wants_of(fixed), words, buffer),
     }
 }

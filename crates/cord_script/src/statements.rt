@@ -3,14 +3,13 @@
 
 ghost use Rattle.std.specs.Prelude.{◌≡◌, map, IfOk, IfErr};
 ghost use Rattle.cord_script.specs.inner.Fields.{want_of};
-ghost use Rattle.cord_script.specs.Forms.Shape.{Words};
-ghost use Rattle.cord_script.specs.inner.Verbal.{verb_shape, verb_wants};
+ghost use Rattle.cord_script.specs.inner.Verbal.{fixed_wants};
 ghost use Rattle.cord_script.specs.inner.Built.{IsJoined, IsPrinted, AreFieldsOf, IsStatementOf};
 
 use crate::cursor::FieldCursor;
 use crate::kinds::Kind;
 use crate::verbs::{
-    Composition, Computation, Control, Derivation, Growth, Look, Origin, Search, Verb,
+    Composition, Computation, Control, Derivation, FixedVerb, Growth, Look, Origin, Search, Verb,
 };
 use crate::{RefusalKind, Statement};
 use cord_printf::Format;
@@ -18,8 +17,8 @@ use std::alloc::Global;
 
 // A statement that makes a cord of no other name's value.
 fn origin_of(verb: Origin, line: u32, fields: &mut FieldCursor) -> Statement
-    requires { map want_of fields.old ≡ verb_wants (Verb.Origin verb) }
-    ensures { IsStatementOf (Verb.Origin verb) line fields.old result }
+    requires { map want_of fields.old ≡ fixed_wants (FixedVerb.Origin verb) }
+    ensures { IsStatementOf (Verb.Fixed (FixedVerb.Origin verb)) line fields.old result }
 {
     match verb {
         Origin::Let => Statement::Let {
@@ -53,8 +52,8 @@ fn origin_of(verb: Origin, line: u32, fields: &mut FieldCursor) -> Statement
 
 // A statement that makes a cord that an expression gives.
 fn composition_of(verb: Composition, line: u32, fields: &mut FieldCursor) -> Statement
-    requires { map want_of fields.old ≡ verb_wants (Verb.Composition verb) }
-    ensures { IsStatementOf (Verb.Composition verb) line fields.old result }
+    requires { map want_of fields.old ≡ fixed_wants (FixedVerb.Composition verb) }
+    ensures { IsStatementOf (Verb.Fixed (FixedVerb.Composition verb)) line fields.old result }
 {
     match verb {
         Composition::Chars => Statement::Chars {
@@ -92,8 +91,8 @@ fn composition_of(verb: Composition, line: u32, fields: &mut FieldCursor) -> Sta
 
 // A statement that makes a cord anew of a cord or an extensible cord.
 fn derivation_of(verb: Derivation, line: u32, fields: &mut FieldCursor) -> Statement
-    requires { map want_of fields.old ≡ verb_wants (Verb.Derivation verb) }
-    ensures { IsStatementOf (Verb.Derivation verb) line fields.old result }
+    requires { map want_of fields.old ≡ fixed_wants (FixedVerb.Derivation verb) }
+    ensures { IsStatementOf (Verb.Fixed (FixedVerb.Derivation verb)) line fields.old result }
 {
     match verb {
         Derivation::Balance => Statement::Balance {
@@ -111,8 +110,8 @@ fn derivation_of(verb: Derivation, line: u32, fields: &mut FieldCursor) -> State
 
 // A statement that computes a number, which needs no byte.
 fn computation_of(verb: Computation, line: u32, fields: &mut FieldCursor) -> Statement
-    requires { map want_of fields.old ≡ verb_wants (Verb.Computation verb) }
-    ensures { IsStatementOf (Verb.Computation verb) line fields.old result }
+    requires { map want_of fields.old ≡ fixed_wants (FixedVerb.Computation verb) }
+    ensures { IsStatementOf (Verb.Fixed (FixedVerb.Computation verb)) line fields.old result }
 {
     match verb {
         Computation::Len => Statement::Len {
@@ -142,8 +141,8 @@ fn computation_of(verb: Computation, line: u32, fields: &mut FieldCursor) -> Sta
 
 // A statement that looks at bytes.
 fn look_of(verb: Look, line: u32, fields: &mut FieldCursor) -> Statement
-    requires { map want_of fields.old ≡ verb_wants (Verb.Look verb) }
-    ensures { IsStatementOf (Verb.Look verb) line fields.old result }
+    requires { map want_of fields.old ≡ fixed_wants (FixedVerb.Look verb) }
+    ensures { IsStatementOf (Verb.Fixed (FixedVerb.Look verb)) line fields.old result }
 {
     match verb {
         Look::Fetch => Statement::Fetch {
@@ -172,8 +171,8 @@ fn look_of(verb: Look, line: u32, fields: &mut FieldCursor) -> Statement
 
 // A statement that searches a cord.
 fn search_of(verb: Search, line: u32, fields: &mut FieldCursor) -> Statement
-    requires { map want_of fields.old ≡ verb_wants (Verb.Search verb) }
-    ensures { IsStatementOf (Verb.Search verb) line fields.old result }
+    requires { map want_of fields.old ≡ fixed_wants (FixedVerb.Search verb) }
+    ensures { IsStatementOf (Verb.Fixed (FixedVerb.Search verb)) line fields.old result }
 {
     match verb {
         Search::Str => Statement::Str {
@@ -202,8 +201,8 @@ fn search_of(verb: Search, line: u32, fields: &mut FieldCursor) -> Statement
 
 // A statement that makes an extensible cord, or one that grows.
 fn growth_of(verb: Growth, line: u32, fields: &mut FieldCursor) -> Statement
-    requires { map want_of fields.old ≡ verb_wants (Verb.Growth verb) }
-    ensures { IsStatementOf (Verb.Growth verb) line fields.old result }
+    requires { map want_of fields.old ≡ fixed_wants (FixedVerb.Growth verb) }
+    ensures { IsStatementOf (Verb.Fixed (FixedVerb.Growth verb)) line fields.old result }
 {
     match verb {
         Growth::EcInit => Statement::EcInit {
@@ -230,8 +229,8 @@ fn growth_of(verb: Growth, line: u32, fields: &mut FieldCursor) -> Statement
 
 // A statement that says which lines run next.
 fn control_of(verb: Control, line: u32, fields: &mut FieldCursor) -> Statement
-    requires { map want_of fields.old ≡ verb_wants (Verb.Control verb) }
-    ensures { IsStatementOf (Verb.Control verb) line fields.old result }
+    requires { map want_of fields.old ≡ fixed_wants (FixedVerb.Control verb) }
+    ensures { IsStatementOf (Verb.Fixed (FixedVerb.Control verb)) line fields.old result }
 {
     match verb {
         Control::Repeat => Statement::Repeat {
@@ -251,8 +250,8 @@ fn control_of(verb: Control, line: u32, fields: &mut FieldCursor) -> Statement
 
 // A `put`.
 fn put_of(line: u32, fields: &mut FieldCursor) -> Statement
-    requires { map want_of fields.old ≡ verb_wants Verb.Put }
-    ensures { IsStatementOf Verb.Put line fields.old result }
+    requires { map want_of fields.old ≡ fixed_wants FixedVerb.Put }
+    ensures { IsStatementOf (Verb.Fixed FixedVerb.Put) line fields.old result }
 {
     Statement::Put {
         line,
@@ -300,22 +299,20 @@ fn sprintf_of(
 }
 
 /// The statement of a verb that has a fixed number of words, and of its fields.
-pub fn fixed_statement_of(verb: Verb, line: u32, fields: &mut FieldCursor) -> Statement
-    requires fixed { verb_shape verb ≡ Words (verb_wants verb) }
-    requires wants { map want_of fields.old ≡ verb_wants verb }
-    ensures { IsStatementOf verb line fields.old result }
+pub fn fixed_statement_of(verb: FixedVerb, line: u32, fields: &mut FieldCursor) -> Statement
+    requires { map want_of fields.old ≡ fixed_wants verb }
+    ensures { IsStatementOf (Verb.Fixed verb) line fields.old result }
 {
     match verb {
-        Verb::Catn | Verb::Sprintf => unreachable!(),
-        Verb::Origin(origin) => origin_of(origin, line, fields),
-        Verb::Composition(composition) => composition_of(composition, line, fields),
-        Verb::Derivation(derivation) => derivation_of(derivation, line, fields),
-        Verb::Put => put_of(line, fields),
-        Verb::Computation(computation) => computation_of(computation, line, fields),
-        Verb::Look(look) => look_of(look, line, fields),
-        Verb::Search(search) => search_of(search, line, fields),
-        Verb::Growth(growth) => growth_of(growth, line, fields),
-        Verb::Control(control) => control_of(control, line, fields),
+        FixedVerb::Origin(origin) => origin_of(origin, line, fields),
+        FixedVerb::Composition(composition) => composition_of(composition, line, fields),
+        FixedVerb::Derivation(derivation) => derivation_of(derivation, line, fields),
+        FixedVerb::Put => put_of(line, fields),
+        FixedVerb::Computation(computation) => computation_of(computation, line, fields),
+        FixedVerb::Look(look) => look_of(look, line, fields),
+        FixedVerb::Search(search) => search_of(search, line, fields),
+        FixedVerb::Growth(growth) => growth_of(growth, line, fields),
+        FixedVerb::Control(control) => control_of(control, line, fields),
     }
 }
 
@@ -334,6 +331,6 @@ pub fn statement_of(
     match verb {
         Verb::Catn => catn_of(alloc, line, fields),
         Verb::Sprintf => sprintf_of(alloc, line, format, fields),
-        _ => Ok(fixed_statement_of(verb, line, fields)),
+        Verb::Fixed(fixed) => Ok(fixed_statement_of(fixed, line, fields)),
     }
 }

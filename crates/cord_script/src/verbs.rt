@@ -3,16 +3,23 @@
 /// What a statement's word asks for.
 #[derive(Clone, Copy)]
 pub enum Verb {
-    /// A cord made of no other name's value.
-    Origin(Origin),
-    /// A cord that an expression over others gives, with a fixed number of words.
-    Composition(Composition),
+    /// A fixed number of words.
+    Fixed(FixedVerb),
     /// `catn`.
     Catn,
-    /// A cord made anew of a cord or an extensible cord.
-    Derivation(Derivation),
     /// `sprintf`.
     Sprintf,
+}
+
+/// What a statement's word asks for, where the number of the words after it is fixed.
+#[derive(Clone, Copy)]
+pub enum FixedVerb {
+    /// A cord made of no other name's value.
+    Origin(Origin),
+    /// A cord that an expression over others gives.
+    Composition(Composition),
+    /// A cord made anew of a cord or an extensible cord.
+    Derivation(Derivation),
     /// `put`.
     Put,
     /// A number that needs no byte.

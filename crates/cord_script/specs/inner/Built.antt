@@ -15,7 +15,7 @@ use Rattle.cord_script.specs.Script.{Suits}
 use Rattle.cord_script.specs.Forms.Term.{Target, Formats}
 use Rattle.cord_script.specs.Formats.{wants_of_pieces}
 use Rattle.cord_script.specs.inner.Fields.{want_of}
-use Rattle.cord_script.specs.inner.Verbal.{verb_word, verb_wants}
+use Rattle.cord_script.specs.inner.Verbal.{verb_word, fixed_wants}
 
 -- the name of a cord
 abbrev pub is_cord : Want → Bool
@@ -60,9 +60,9 @@ IsPrinted (Some pieces) ts = IsPrintedAs pieces ts
 
 -- the fields of a statement of the verb, with what the text of a `sprintf` is read as
 abbrev pub AreFieldsOf : Verb → List Term → Option (List Piece) → Type 0
+AreFieldsOf (verbs.Fixed verb) ts format = map want_of ts ≡ fixed_wants verb
 AreFieldsOf verbs.Catn ts format = IsJoined ts
 AreFieldsOf verbs.Sprintf ts format = IsPrinted format ts
-AreFieldsOf verb ts format = map want_of ts ≡ verb_wants verb
 
 -- a statement of the verb at the line, with these fields
 abbrev pub IsStatementOf : Verb → ℕ → List Term → Statement → Type 0

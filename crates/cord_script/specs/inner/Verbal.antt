@@ -3,6 +3,8 @@ use Rattle.std.specs.Prelude.{ℕ, List, [], ◌∷◌, Option, Some, None, if�
 use Rattle.std.specs.Str.{bytes_eq}
 use Rattle.cord_script.specs.declared.verbs.Verb.{Verb}
 use Rattle.cord_script.specs.declared.verbs.Verb.TheVariants as verbs
+use Rattle.cord_script.specs.declared.verbs.FixedVerb.{FixedVerb}
+use Rattle.cord_script.specs.declared.verbs.FixedVerb.TheVariants as fixed_verbs
 use Rattle.cord_script.specs.declared.verbs.Control.{Control}
 use Rattle.cord_script.specs.declared.verbs.Origin.TheVariants as origins
 use Rattle.cord_script.specs.declared.verbs.Composition.TheVariants as compositions
@@ -19,84 +21,86 @@ use Rattle.cord_script.specs.Forms.{Effect, Shape, Form, form_of}
 use Rattle.cord_script.specs.Forms.Shape.{Words, Joined, Printed}
 use Rattle.cord_script.specs.Forms.Effect.{Stays, OpensRepeat, OpensIf, Turns, Closes}
 
+-- the word of a verb that has a fixed number of words
+abbrev pub fixed_word : FixedVerb → List ℕ
+fixed_word (fixed_verbs.Origin origins.Let) = codes "let"
+fixed_word (fixed_verbs.Origin origins.File) = codes "file"
+fixed_word (fixed_verbs.Origin origins.Eager) = codes "eager"
+fixed_word (fixed_verbs.Origin origins.Lazy) = codes "lazy"
+fixed_word (fixed_verbs.Composition compositions.Chars) = codes "chars"
+fixed_word (fixed_verbs.Composition compositions.Nul) = codes "nul"
+fixed_word (fixed_verbs.Origin origins.FromFn) = codes "fn"
+fixed_word (fixed_verbs.Composition compositions.Cat) = codes "cat"
+fixed_word (fixed_verbs.Composition compositions.Catc) = codes "catc"
+fixed_word (fixed_verbs.Composition compositions.Substr) = codes "substr"
+fixed_word (fixed_verbs.Derivation derivations.Balance) = codes "balance"
+fixed_word (fixed_verbs.Derivation derivations.EcToCord) = codes "ectocord"
+fixed_word (fixed_verbs.Computation computations.Len) = codes "len"
+fixed_word (fixed_verbs.Look looks.Fetch) = codes "fetch"
+fixed_word (fixed_verbs.Look looks.Cmp) = codes "cmp"
+fixed_word (fixed_verbs.Look looks.Ncmp) = codes "ncmp"
+fixed_word (fixed_verbs.Search searches.Str) = codes "str"
+fixed_word (fixed_verbs.Search searches.Chr) = codes "chr"
+fixed_word (fixed_verbs.Search searches.Rchr) = codes "rchr"
+fixed_word (fixed_verbs.Computation computations.Assign) = codes "set"
+fixed_word (fixed_verbs.Computation computations.Add) = codes "add"
+fixed_word (fixed_verbs.Computation computations.Sub) = codes "sub"
+fixed_word (fixed_verbs.Growth growths.EcInit) = codes "ecinit"
+fixed_word (fixed_verbs.Growth growths.EcPut) = codes "ecput"
+fixed_word (fixed_verbs.Growth growths.EcCat) = codes "eccat"
+fixed_word (fixed_verbs.Growth growths.EcStr) = codes "ecstr"
+fixed_word fixed_verbs.Put = codes "put"
+fixed_word (fixed_verbs.Control controls.Repeat) = codes "repeat"
+fixed_word (fixed_verbs.Control controls.If) = codes "if"
+fixed_word (fixed_verbs.Control controls.Else) = codes "else"
+fixed_word (fixed_verbs.Control controls.End) = codes "end"
+
 -- the word of a verb
 abbrev pub verb_word : Verb → List ℕ
-verb_word (verbs.Origin origins.Let) = codes "let"
-verb_word (verbs.Origin origins.File) = codes "file"
-verb_word (verbs.Origin origins.Eager) = codes "eager"
-verb_word (verbs.Origin origins.Lazy) = codes "lazy"
-verb_word (verbs.Composition compositions.Chars) = codes "chars"
-verb_word (verbs.Composition compositions.Nul) = codes "nul"
-verb_word (verbs.Origin origins.FromFn) = codes "fn"
-verb_word (verbs.Composition compositions.Cat) = codes "cat"
+verb_word (verbs.Fixed verb) = fixed_word verb
 verb_word verbs.Catn = codes "catn"
-verb_word (verbs.Composition compositions.Catc) = codes "catc"
-verb_word (verbs.Composition compositions.Substr) = codes "substr"
-verb_word (verbs.Derivation derivations.Balance) = codes "balance"
-verb_word (verbs.Derivation derivations.EcToCord) = codes "ectocord"
 verb_word verbs.Sprintf = codes "sprintf"
-verb_word (verbs.Computation computations.Len) = codes "len"
-verb_word (verbs.Look looks.Fetch) = codes "fetch"
-verb_word (verbs.Look looks.Cmp) = codes "cmp"
-verb_word (verbs.Look looks.Ncmp) = codes "ncmp"
-verb_word (verbs.Search searches.Str) = codes "str"
-verb_word (verbs.Search searches.Chr) = codes "chr"
-verb_word (verbs.Search searches.Rchr) = codes "rchr"
-verb_word (verbs.Computation computations.Assign) = codes "set"
-verb_word (verbs.Computation computations.Add) = codes "add"
-verb_word (verbs.Computation computations.Sub) = codes "sub"
-verb_word (verbs.Growth growths.EcInit) = codes "ecinit"
-verb_word (verbs.Growth growths.EcPut) = codes "ecput"
-verb_word (verbs.Growth growths.EcCat) = codes "eccat"
-verb_word (verbs.Growth growths.EcStr) = codes "ecstr"
-verb_word verbs.Put = codes "put"
-verb_word (verbs.Control controls.Repeat) = codes "repeat"
-verb_word (verbs.Control controls.If) = codes "if"
-verb_word (verbs.Control controls.Else) = codes "else"
-verb_word (verbs.Control controls.End) = codes "end"
 
 -- what the words after it have to be, where their number is fixed
-abbrev pub verb_wants : Verb → List Want
-verb_wants (verbs.Origin origins.Let) = wants.Target kinds.Cord ∷ wants.Text ∷ []
-verb_wants (verbs.Origin origins.File) = wants.Target kinds.Cord ∷ wants.Path ∷ []
-verb_wants (verbs.Origin origins.Eager) = wants.Target kinds.Cord ∷ wants.Path ∷ []
-verb_wants (verbs.Origin origins.Lazy) = wants.Target kinds.Cord ∷ wants.Path ∷ []
-verb_wants (verbs.Composition compositions.Chars) = wants.Target kinds.Cord ∷ wants.Number ∷ wants.Number ∷ []
-verb_wants (verbs.Composition compositions.Nul) = wants.Target kinds.Cord ∷ wants.Number ∷ []
-verb_wants (verbs.Origin origins.FromFn) = wants.Target kinds.Cord ∷ wants.Function ∷ wants.Number ∷ []
-verb_wants (verbs.Composition compositions.Cat) = wants.Target kinds.Cord ∷ wants.Operand kinds.Cord ∷ wants.Operand kinds.Cord ∷ []
-verb_wants verbs.Catn = []
-verb_wants (verbs.Composition compositions.Catc) = wants.Target kinds.Cord ∷ wants.Operand kinds.Cord ∷ wants.Number ∷ []
-verb_wants (verbs.Composition compositions.Substr) = wants.Target kinds.Cord ∷ wants.Operand kinds.Cord ∷ wants.Number ∷ wants.Number ∷ []
-verb_wants (verbs.Derivation derivations.Balance) = wants.Target kinds.Cord ∷ wants.Operand kinds.Cord ∷ []
-verb_wants (verbs.Derivation derivations.EcToCord) = wants.Target kinds.Cord ∷ wants.Operand kinds.Extensible ∷ []
-verb_wants verbs.Sprintf = []
-verb_wants (verbs.Computation computations.Len) = wants.Target kinds.Number ∷ wants.Operand kinds.Cord ∷ []
-verb_wants (verbs.Look looks.Fetch) = wants.Target kinds.Number ∷ wants.Operand kinds.Cord ∷ wants.Number ∷ []
-verb_wants (verbs.Look looks.Cmp) = wants.Target kinds.Number ∷ wants.Operand kinds.Cord ∷ wants.Operand kinds.Cord ∷ []
-verb_wants (verbs.Look looks.Ncmp) = wants.Target kinds.Number ∷ wants.Operand kinds.Cord ∷ wants.Number ∷ wants.Operand kinds.Cord
+abbrev pub fixed_wants : FixedVerb → List Want
+fixed_wants (fixed_verbs.Origin origins.Let) = wants.Target kinds.Cord ∷ wants.Text ∷ []
+fixed_wants (fixed_verbs.Origin origins.File) = wants.Target kinds.Cord ∷ wants.Path ∷ []
+fixed_wants (fixed_verbs.Origin origins.Eager) = wants.Target kinds.Cord ∷ wants.Path ∷ []
+fixed_wants (fixed_verbs.Origin origins.Lazy) = wants.Target kinds.Cord ∷ wants.Path ∷ []
+fixed_wants (fixed_verbs.Composition compositions.Chars) = wants.Target kinds.Cord ∷ wants.Number ∷ wants.Number ∷ []
+fixed_wants (fixed_verbs.Composition compositions.Nul) = wants.Target kinds.Cord ∷ wants.Number ∷ []
+fixed_wants (fixed_verbs.Origin origins.FromFn) = wants.Target kinds.Cord ∷ wants.Function ∷ wants.Number ∷ []
+fixed_wants (fixed_verbs.Composition compositions.Cat) = wants.Target kinds.Cord ∷ wants.Operand kinds.Cord ∷ wants.Operand kinds.Cord ∷ []
+fixed_wants (fixed_verbs.Composition compositions.Catc) = wants.Target kinds.Cord ∷ wants.Operand kinds.Cord ∷ wants.Number ∷ []
+fixed_wants (fixed_verbs.Composition compositions.Substr) = wants.Target kinds.Cord ∷ wants.Operand kinds.Cord ∷ wants.Number ∷ wants.Number ∷ []
+fixed_wants (fixed_verbs.Derivation derivations.Balance) = wants.Target kinds.Cord ∷ wants.Operand kinds.Cord ∷ []
+fixed_wants (fixed_verbs.Derivation derivations.EcToCord) = wants.Target kinds.Cord ∷ wants.Operand kinds.Extensible ∷ []
+fixed_wants (fixed_verbs.Computation computations.Len) = wants.Target kinds.Number ∷ wants.Operand kinds.Cord ∷ []
+fixed_wants (fixed_verbs.Look looks.Fetch) = wants.Target kinds.Number ∷ wants.Operand kinds.Cord ∷ wants.Number ∷ []
+fixed_wants (fixed_verbs.Look looks.Cmp) = wants.Target kinds.Number ∷ wants.Operand kinds.Cord ∷ wants.Operand kinds.Cord ∷ []
+fixed_wants (fixed_verbs.Look looks.Ncmp) = wants.Target kinds.Number ∷ wants.Operand kinds.Cord ∷ wants.Number ∷ wants.Operand kinds.Cord
     ∷ wants.Number ∷ wants.Number ∷ []
-verb_wants (verbs.Search searches.Str) = wants.Target kinds.Number ∷ wants.Operand kinds.Cord ∷ wants.Number ∷ wants.Operand kinds.Cord ∷ []
-verb_wants (verbs.Search searches.Chr) = wants.Target kinds.Number ∷ wants.Operand kinds.Cord ∷ wants.Number ∷ wants.Number ∷ []
-verb_wants (verbs.Search searches.Rchr) = wants.Target kinds.Number ∷ wants.Operand kinds.Cord ∷ wants.Number ∷ wants.Number ∷ []
-verb_wants (verbs.Computation computations.Assign) = wants.Target kinds.Number ∷ wants.Number ∷ []
-verb_wants (verbs.Computation computations.Add) = wants.Target kinds.Number ∷ wants.Number ∷ wants.Number ∷ []
-verb_wants (verbs.Computation computations.Sub) = wants.Target kinds.Number ∷ wants.Number ∷ wants.Number ∷ []
-verb_wants (verbs.Growth growths.EcInit) = wants.Target kinds.Extensible ∷ []
-verb_wants (verbs.Growth growths.EcPut) = wants.Operand kinds.Extensible ∷ wants.Number ∷ []
-verb_wants (verbs.Growth growths.EcCat) = wants.Operand kinds.Extensible ∷ wants.Operand kinds.Cord ∷ []
-verb_wants (verbs.Growth growths.EcStr) = wants.Operand kinds.Extensible ∷ wants.Text ∷ []
-verb_wants verbs.Put = wants.Operand kinds.Cord ∷ []
-verb_wants (verbs.Control controls.Repeat) = wants.Number ∷ []
-verb_wants (verbs.Control controls.If) = wants.Number ∷ wants.Relation ∷ wants.Number ∷ []
-verb_wants (verbs.Control controls.Else) = []
-verb_wants (verbs.Control controls.End) = []
+fixed_wants (fixed_verbs.Search searches.Str) = wants.Target kinds.Number ∷ wants.Operand kinds.Cord ∷ wants.Number ∷ wants.Operand kinds.Cord ∷ []
+fixed_wants (fixed_verbs.Search searches.Chr) = wants.Target kinds.Number ∷ wants.Operand kinds.Cord ∷ wants.Number ∷ wants.Number ∷ []
+fixed_wants (fixed_verbs.Search searches.Rchr) = wants.Target kinds.Number ∷ wants.Operand kinds.Cord ∷ wants.Number ∷ wants.Number ∷ []
+fixed_wants (fixed_verbs.Computation computations.Assign) = wants.Target kinds.Number ∷ wants.Number ∷ []
+fixed_wants (fixed_verbs.Computation computations.Add) = wants.Target kinds.Number ∷ wants.Number ∷ wants.Number ∷ []
+fixed_wants (fixed_verbs.Computation computations.Sub) = wants.Target kinds.Number ∷ wants.Number ∷ wants.Number ∷ []
+fixed_wants (fixed_verbs.Growth growths.EcInit) = wants.Target kinds.Extensible ∷ []
+fixed_wants (fixed_verbs.Growth growths.EcPut) = wants.Operand kinds.Extensible ∷ wants.Number ∷ []
+fixed_wants (fixed_verbs.Growth growths.EcCat) = wants.Operand kinds.Extensible ∷ wants.Operand kinds.Cord ∷ []
+fixed_wants (fixed_verbs.Growth growths.EcStr) = wants.Operand kinds.Extensible ∷ wants.Text ∷ []
+fixed_wants fixed_verbs.Put = wants.Operand kinds.Cord ∷ []
+fixed_wants (fixed_verbs.Control controls.Repeat) = wants.Number ∷ []
+fixed_wants (fixed_verbs.Control controls.If) = wants.Number ∷ wants.Relation ∷ wants.Number ∷ []
+fixed_wants (fixed_verbs.Control controls.Else) = []
+fixed_wants (fixed_verbs.Control controls.End) = []
 
 -- the shape of the words after it
 abbrev pub verb_shape : Verb → Shape
+verb_shape (verbs.Fixed verb) = Words (fixed_wants verb)
 verb_shape verbs.Catn = Joined
 verb_shape verbs.Sprintf = Printed
-verb_shape verb = Words (verb_wants verb)
 
 -- the first of these verbs that has the word
 abbrev pub find_verb : List Verb → List ℕ → Option Verb
@@ -116,8 +120,12 @@ control_effect controls.Else = Turns
 control_effect controls.End = Closes
 
 -- what a statement of the verb does to the open blocks
+abbrev pub fixed_effect : FixedVerb → Effect
+fixed_effect (fixed_verbs.Control control) = control_effect control
+fixed_effect _ = Stays
+
 abbrev pub verb_effect : Verb → Effect
-verb_effect (verbs.Control control) = control_effect control
+verb_effect (verbs.Fixed verb) = fixed_effect verb
 verb_effect _ = Stays
 
 -- the form of the words after it

@@ -5,8 +5,8 @@ use Rattle.cord_script.specs.inner.Fields.{want_of}
 use Rattle.cord_script.proofs.Adding.{adds}
 use Rattle.cord_script.proofs.direct.take_settled.Goals as goal
 
-pub fixed_statement_of-requires-clause-wants : goal.fixed_statement_of-requires-clause-wants
-fixed_statement_of-requires-clause-wants c =
+pub fixed_statement_of-requires : goal.fixed_statement_of-requires
+fixed_statement_of-requires c =
     let fields = c.settled_fields.new.fields.items in
     let h = subst (λ xs. SaysSettled c.args.context.now.names xs c.in-Some.rest.now fields) c.wants_of.ensures
     (c.in-Ok-true.ensures c.in-Ok-true.field-0-test) in
@@ -14,11 +14,9 @@ fixed_statement_of-requires-clause-wants c =
 
 pub returns-clause-adds : goal.returns-clause-adds
 returns-clause-adds c = λ _.
-    let verb = c.in-Some.verb in
     let fields = c.settled_fields.new.fields.items in
     let h = subst (λ xs. SaysSettled c.args.context.now.names xs c.in-Some.rest.now fields) c.wants_of.ensures
     (c.in-Ok-true.ensures c.in-Ok-true.field-0-test) in
-    adds verb c.args.number c.args.line.now c.in-Some.rest.now (before_of c.args.context.now) fields c.of-cursor.result
-    c.fixed_statement_of.result c.args.statements.now.items c.push.new.self.items c.in-Some.ensures
-    (c.is_simple.ensures.shape c.if-not-is_simple.false) (c.is_simple.ensures.effect c.if-not-is_simple.false) h c.of-cursor.ensures
-    c.fixed_statement_of.ensures c.in_ok-push.ensures.items
+    adds c.in-Some.verb c.args.number c.args.line.now c.in-Some.rest.now (before_of c.args.context.now) fields c.of-cursor.result
+    c.fixed_statement_of.result c.args.statements.now.items c.push.new.self.items c.in-Some.ensures.word
+    c.in-Some.ensures.effect h c.of-cursor.ensures c.fixed_statement_of.ensures c.in_ok-push.ensures.items

@@ -1,20 +1,20 @@
-use Rattle.std.proofs.Common.{◌≢◌, ap, subst, ◌∙◌}
+use Rattle.std.proofs.Common.{◌≢◌, sym, ap, subst, ◌∙◌}
 use Rattle.std.specs.Prelude.{IfOk, IfErr}
 use Rattle.cord_script.specs.declared.refusals.RefusalKind.TheVariants.{NoMemory}
 use Rattle.cord_script.specs.Forms.{Shape}
 use Rattle.cord_script.specs.Forms.Shape.{Words}
 use Rattle.cord_script.specs.inner.Fields.{AreFields, HasFieldFlaw}
-use Rattle.cord_script.proofs.Built.{plain_shape}
+use Rattle.cord_script.specs.inner.Verbal.{verb_shape}
 use Rattle.cord_script.proofs.field_lists.fields_of.Goals as goal
 
-pub returns-in_default-clause-fields : goal.returns-in_default-clause-fields
-returns-in_default-clause-fields c =
-    let shape = ap Words c.wants_of.ensures ∙ plain_shape c.args.verb c.in_default.not-Catn c.in_default.not-Sprintf in
+pub returns-in-Fixed-clause-fields : goal.returns-in-Fixed-clause-fields
+returns-in-Fixed-clause-fields c =
+    let shape = ap Words c.wants_of.ensures ∙ ap verb_shape (sym c.in-Fixed.is) in
     subst (λ (s : Shape). IfOk c.plain_fields.result (λ list. AreFields s c.args.words.now.items list.fields.items list.format)) shape
     c.plain_fields.ensures.fields
 
-pub returns-in_default-clause-flaw : goal.returns-in_default-clause-flaw
-returns-in_default-clause-flaw c =
-    let shape = ap Words c.wants_of.ensures ∙ plain_shape c.args.verb c.in_default.not-Catn c.in_default.not-Sprintf in
+pub returns-in-Fixed-clause-flaw : goal.returns-in-Fixed-clause-flaw
+returns-in-Fixed-clause-flaw c =
+    let shape = ap Words c.wants_of.ensures ∙ ap verb_shape (sym c.in-Fixed.is) in
     subst (λ (s : Shape). IfErr c.plain_fields.result (λ kind. kind ≢ NoMemory → HasFieldFlaw s c.args.words.now.items kind)) shape
     c.plain_fields.ensures.flaw
