@@ -14,7 +14,8 @@ use Rattle.cord_operands.specs.declared.operands.Argument.{Argument}
 use Rattle.cord_operands.specs.declared.operands.Argument.TheVariants.{Number, Cord}
 use Rattle.cord_plan.specs.declared.flow.numbering.Numbering.{Numbering}
 use Rattle.cord_plan.specs.Operands.{has, is_name, cord_arguments, read_by}
-use Rattle.cord_plan.specs.inner.Numbering.{slot_of, place_of, names_of, number_by, number_of, Adds, AreDistinct, CoversTo}
+use Rattle.cord_operands.specs.Keys.{key_of, slot_at}
+use Rattle.cord_plan.specs.inner.Numbering.{place_of, names_of, number_by, number_of, Adds, AreDistinct, CoversTo}
 use Rattle.cord_plan.proofs.Named.{same_bytes, own_bytes, has_append}
 
 -- a name's place in the list that begins at its element
@@ -72,7 +73,7 @@ is_name_there names x n e = by_place (slice_get names n) e
 module _ (t : Numbering) (x : List ℕ) where
   -- the name of a number
   pub number_there : (n : ℕ) → number_of t x ≡ Some n → slice_get (names_of t) n ≡ Some x
-  number_there n e = by_guess (slice_get t.guesses.items (slot_of x)) e
+  number_there n e = by_guess (slice_get t.guesses.items (slot_at (key_of x))) e
     where
       by_guess : (o : Option ℕ) → number_by (names_of t) x o ≡ Some n → slice_get (names_of t) n ≡ Some x
       by_guess None f = place_found (names_of t) x n f
@@ -92,7 +93,7 @@ module _ (t : Numbering) (x : List ℕ) where
     pub within : number < length (names_of t)
 
   pub numbered : has (names_of t) x ≡ true → Numbered
-  numbered known = with_number (some_number (slice_get t.guesses.items (slot_of x)))
+  numbered known = with_number (some_number (slice_get t.guesses.items (slot_at (key_of x))))
     where
       by_right : (g : ℕ) (b : Bool) → (n : ℕ) × ((if b then Some g else place_of (names_of t) x) ≡ Some n)
       by_right g true = (g, refl)
@@ -209,7 +210,7 @@ last_there y (z ∷ names) = last_there y names
 
 -- a name without a number has no place
 pub new_name : (t : Numbering) (y : List ℕ) → number_of t y ≡ None → place_of (names_of t) y ≡ None
-new_name t y e = by_guess (slice_get t.guesses.items (slot_of y)) e
+new_name t y e = by_guess (slice_get t.guesses.items (slot_at (key_of y))) e
   where
     by_right : (g : ℕ) (b : Bool) → (if b then Some g else place_of (names_of t) y) ≡ None → place_of (names_of t) y ≡ None
     by_right g true h = let bad : ⊥ = cc in absurd bad
@@ -222,7 +223,7 @@ new_name t y e = by_guess (slice_get t.guesses.items (slot_of y)) e
 -- of names that are distinct a place is the number
 pub place_is_number : (t : Numbering) → AreDistinct (names_of t) → (x : List ℕ) (n : ℕ) → slice_get (names_of t) n ≡ Some x →
     number_of t x ≡ Some n
-place_is_number t distinct x n e = by_guess (slice_get t.guesses.items (slot_of x))
+place_is_number t distinct x n e = by_guess (slice_get t.guesses.items (slot_at (key_of x)))
   where
     by_right : (g : ℕ) (b : Bool) → is_name (slice_get (names_of t) g) x ≡ b → (if b then Some g else place_of (names_of t) x) ≡ Some n
     by_right g true right = sym (distinct g x (is_name_there (names_of t) x g right)) ∙ distinct n x e

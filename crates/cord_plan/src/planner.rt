@@ -39,7 +39,7 @@ fn is_dead(statement: &Statement, numbers: LineNumbers, place: usize, later: &La
         None => false,
         Some(target) => {
             let numbering = &later.numbering;
-            let number = numbering.number_with(target.as_slice(), numbers.target);
+            let number = numbering.number_with(target, numbers.target);
             !later.is_later(number, place)
         }
     }

@@ -1,19 +1,12 @@
 -- Names with numbers.
-use Rattle.std.specs.Prelude.{◌≡◌, ℕ, suc, ◌+◌, ◌*◌, ◌%◌, ◌<◌, true, List, [], ◌∷◌, length, if◌then◌else◌, Option, Some, None, slice_get}
+use Rattle.std.specs.Prelude.{◌≡◌, ℕ, suc, ◌<◌, true, List, [], ◌∷◌, length, if◌then◌else◌, Option, Some, None, slice_get}
 use Rattle.std.specs.Prelude.{option_map}
 use Rattle.std.specs.Str.{bytes_eq}
+use Rattle.cord_operands.specs.Keys.{key_of, slot_at}
 use Rattle.cord_syntax.specs.declared.statements.Statement.{Statement}
 use Rattle.cord_plan.specs.Operands.{has, is_name, read_by, reads_at, target_of}
 use Rattle.cord_plan.specs.declared.flow.numbering.Numbering.{Numbering}
 use Rattle.cord_plan.specs.declared.flow.line_numbers.LineNumbers.{LineNumbers}
-
--- the slot of a name, from this one on
-abbrev pub slot_from : ℕ → List ℕ → ℕ
-slot_from slot [] = slot
-slot_from slot (b ∷ bytes) = slot_from ((slot * 31 + b) % 4096) bytes
-
-abbrev pub slot_of : List ℕ → ℕ
-slot_of x = slot_from 0 x
 
 -- the first place of a name
 abbrev pub place_of : List (List ℕ) → List ℕ → Option ℕ
@@ -29,7 +22,7 @@ number_by names x None = place_of names x
 number_by names x (Some guess) = if is_name (slice_get names guess) x then Some guess else place_of names x
 
 abbrev pub number_of : Numbering → List ℕ → Option ℕ
-number_of t x = number_by (names_of t) x (slice_get t.guesses.items (slot_of x))
+number_of t x = number_by (names_of t) x (slice_get t.guesses.items (slot_at (key_of x)))
 
 -- no name has two places
 abbrev pub AreDistinct : List (List ℕ) → Type 0

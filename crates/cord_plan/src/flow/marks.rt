@@ -26,7 +26,7 @@ fn mark(numbering: &Numbering, group: usize, name: &Name, hint: Option<u8>) -> u
     requires { IsHint numbering.now name.now hint }
     ensures { Marks numbering.now group (λ x. bytes_eq x name.now) result }
 {
-    match numbering.number_with(name.as_slice(), hint) {
+    match numbering.number_with(name, hint) {
         Some(number) if number / GROUP == group => 1 << (number % GROUP),
         _ => 0,
     }

@@ -1,12 +1,13 @@
 // Names with numbers.
-ghost use Rattle.std.specs.Prelude.{◌≡◌, ◌+◌, ◌*◌, ◌%◌, ◌<◌, [], ◌∷◌, None, Some, IfOk, OnOk, length, slice_get};
+ghost use Rattle.std.specs.Prelude.{◌≡◌, [], ◌∷◌, None, Some, IfOk, OnOk, length, slice_get};
 ghost use Rattle.cord_plan.specs.Operands.{cord_arguments, is_name};
-ghost use Rattle.cord_plan.specs.inner.Numbering.{slot_of, place_of, number_of, names_of, Adds, IsHint};
+ghost use Rattle.cord_plan.specs.inner.Numbering.{place_of, number_of, names_of, Adds, IsHint};
 
-use cord_script::{Argument, Name, is_same};
+use cord_operands::slot_of;
+use cord_script::{Argument, Name};
 use std::alloc::{AllocError, Global};
 
-/// The number of slots that guess a name's number.
+/// The number of slots that guess a name's number, one for each that `slot_of` gives.
 const SLOTS: usize = 4_096;
 
 // In a script of fewer statements names are looked for without guesses: clearing them would cost more.
@@ -20,52 +21,14 @@ pub(crate) struct Numbering {
     guesses: Vec<u16>,
 }
 
-// The slot after one more byte.
-fn next_slot(slot: usize, byte: u8) -> usize
-    requires { slot < 4096 }
-    ensures slot { result ≡ (slot * 31 + byte) % 4096 }
-    ensures within { result < 4096 }
-{
-    (slot * 31 + byte as usize) % SLOTS
-}
-
-// The slot of a name of any length.
-fn slot_by_bytes(name: &[u8]) -> usize
-    ensures slot { result ≡ slot_of name.now }
-    ensures within { result < 4096 }
-{
-    let mut slot: usize = 0;
-    for byte in name {
-        slot = next_slot(slot, *byte);
-    }
-    slot
-}
-
-/// The slot of a name. Most names have at most four bytes: a loop would cost more.
-pub(crate) fn slot_of(name: &[u8]) -> usize
-    ensures slot { result ≡ slot_of name.now }
-    ensures within { result < 4096 }
-{
-    match name {
-        [a] => next_slot(0, *a),
-        [a, b] => next_slot(next_slot(0, *a), *b),
-        [a, b, c] => next_slot(next_slot(next_slot(0, *a), *b), *c),
-        [a, b, c, d] => {
-            let slot = next_slot(next_slot(0, *a), *b);
-            next_slot(next_slot(slot, *c), *d)
-        }
-        _ => slot_by_bytes(name),
-    }
-}
-
 // The first place of a name among others.
 #[cold]
 #[inline(never)]
-fn place_of(names: &[Name], name: &[u8]) -> Option<usize>
+fn place_of(names: &[Name], name: &Name) -> Option<usize>
     ensures { result ≡ place_of names.now name.now }
 {
     for (i, known) in names.iter().enumerate() {
-        if name == known.as_slice() {
+        if name.is(known) {
             return Some(i);
         }
     }
@@ -73,11 +36,11 @@ fn place_of(names: &[Name], name: &[u8]) -> Option<usize>
 }
 
 // Whether this is the name at a place.
-fn is_at(names: &[Name], place: usize, name: &[u8]) -> bool
+fn is_at(names: &[Name], place: usize, name: &Name) -> bool
     ensures { result ≡ is_name (slice_get names.now place) name.now }
 {
     match names.get(place) {
-        Some(known) => is_same(name, known.as_slice()),
+        Some(known) => name.is(known),
         None => false,
     }
 }
@@ -113,10 +76,10 @@ impl Numbering {
     }
 
     /// The number of a name.
-    pub(crate) fn number_of(&self, name: &[u8]) -> Option<usize>
+    pub(crate) fn number_of(&self, name: &Name) -> Option<usize>
         ensures { result ≡ number_of self.now name.now }
     {
-        match self.guesses.get(slot_of(name)) {
+        match self.guesses.get(slot_of(name.key())) {
             Some(guess) if is_at(&self.names, usize::from(*guess), name) => {
                 Some(usize::from(*guess))
             }
@@ -125,7 +88,7 @@ impl Numbering {
     }
 
     /// The number of a name, of which this is a hint.
-    pub(crate) fn number_with(&self, name: &[u8], hint: Option<u8>) -> Option<usize>
+    pub(crate) fn number_with(&self, name: &Name, hint: Option<u8>) -> Option<usize>
         requires { IsHint self.now name.now hint }
         ensures { result ≡ number_of self.now name.now }
     {
@@ -143,7 +106,7 @@ impl Numbering {
     {
         let number = self.count();
         let copy = name.clone()?;
-        set_guess(&mut self.guesses, slot_of(name.as_slice()), number);
+        set_guess(&mut self.guesses, slot_of(name.key()), number);
         self.names.push(copy)?;
         Ok(number)
     }
@@ -153,7 +116,7 @@ impl Numbering {
         ensures added { OnOk result (Adds (name.now ∷ []) (names_of self.old) (names_of self.new)) }
         ensures number { IfOk result (λ n. slice_get (names_of self.new) n ≡ Some name.now) }
     {
-        match self.number_of(name.as_slice()) {
+        match self.number_of(name) {
             Some(number) => Ok(number),
             None => self.add_new(alloc, name),
         }

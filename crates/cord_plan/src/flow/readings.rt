@@ -3,7 +3,7 @@ ghost use Rattle.std.specs.Prelude.{◌≡◌, [], ◌∷◌};
 ghost use Rattle.cord_plan.specs.Operands.{has, cord_arguments, read_by, reads, assigns};
 ghost use Rattle.cord_plan.specs.inner.Readings.{read_names};
 
-use cord_script::{Argument, Name, Statement, is_same};
+use cord_script::{Argument, Name, Statement};
 
 /// The cords whose bytes a line reads, from left to right.
 #[derive(Clone, Copy)]
@@ -44,37 +44,37 @@ pub(crate) fn reading_of(statement: &Statement) -> Reading
     }
 }
 
-fn is(operand: &Name, name: &[u8]) -> bool
+fn is(operand: &Name, name: &Name) -> bool
     ensures { result ≡ has (operand.now ∷ []) name.now }
 {
-    is_same(name, operand.as_slice())
+    name.is(operand)
 }
 
-fn is_either(left: &Name, right: &Name, name: &[u8]) -> bool
+fn is_either(left: &Name, right: &Name, name: &Name) -> bool
     ensures { result ≡ has (left.now ∷ right.now ∷ []) name.now }
 {
     is(left, name) || is(right, name)
 }
 
-fn is_among(names: &[Name], name: &[u8]) -> bool
+fn is_among(names: &[Name], name: &Name) -> bool
     ensures { result ≡ has names.now name.now }
 {
     for operand in names {
-        if name == operand.as_slice() {
+        if name.is(operand) {
             return true;
         }
     }
     false
 }
 
-fn is_argument(arguments: &[Argument], name: &[u8]) -> bool
+fn is_argument(arguments: &[Argument], name: &Name) -> bool
     ensures { result ≡ has (cord_arguments arguments.now) name.now }
 {
     for argument in arguments {
         match argument {
             Argument::Number(_) => {}
             Argument::Cord(operand) => {
-                if name == operand.as_slice() {
+                if name.is(operand) {
                     return true;
                 }
             }
@@ -84,7 +84,7 @@ fn is_argument(arguments: &[Argument], name: &[u8]) -> bool
 }
 
 /// Whether a line reads the bytes of a name.
-pub(crate) fn reads(statement: &Statement, name: &[u8]) -> bool
+pub(crate) fn reads(statement: &Statement, name: &Name) -> bool
     ensures { result ≡ reads statement.now name.now }
 {
     match reading_of(statement) {
@@ -97,11 +97,11 @@ pub(crate) fn reads(statement: &Statement, name: &[u8]) -> bool
 }
 
 /// Whether a line assigns a name.
-pub(crate) fn assigns(statement: &Statement, name: &[u8]) -> bool
+pub(crate) fn assigns(statement: &Statement, name: &Name) -> bool
     ensures { result ≡ assigns statement.now name.now }
 {
     match statement.target() {
         None => false,
-        Some(target) => is_same(name, target.as_slice()),
+        Some(target) => name.is(target),
     }
 }

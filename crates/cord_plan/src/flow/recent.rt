@@ -43,7 +43,7 @@ pub(crate) fn entry_at(places: &[Option<usize>], number: Option<usize>) -> Optio
 pub(crate) fn entry_of(
     numbering: &Numbering,
     places: &[Option<usize>],
-    name: &[u8],
+    name: &Name,
 ) -> Option<Option<usize>>
     ensures { result ≡ entry_of numbering.now places.now name.now }
 {
@@ -96,7 +96,7 @@ fn note(
     requires { IsHint numbering.now name.now hint }
     ensures { Notes numbering.now (λ x. bytes_eq x name.now) place places.old places.new }
 {
-    match numbering.number_with(name.as_slice(), hint) {
+    match numbering.number_with(name, hint) {
         Some(number) if number < places.len() => places[number] = Some(place),
         _ => {}
     }

@@ -17,7 +17,7 @@ use crate::flow::{LineNumbers, Recent, assigns};
 use crate::planner::parts::room_left;
 use crate::planner::staying::{nearest, stays};
 use crate::{Expr, MAX_EXPR_PARTS};
-use cord_script::{Name, Statement, is_same};
+use cord_script::{Name, Statement};
 use std::alloc::{AllocError, Global};
 
 /// What stands for an operand: its name, or the expression of the line at a place.
@@ -76,26 +76,26 @@ fn operand_count(operands: Operands) -> usize
 }
 
 // Whether a name stands once in a list.
-fn is_once_in(operands: &[Name], name: &[u8]) -> bool
+fn is_once_in(operands: &[Name], name: &Name) -> bool
     ensures { result ≡ (count name.now operands.now == 1) }
 {
     let mut times: usize = 0;
     for operand in operands {
-        if is_same(name, operand.as_slice()) {
+        if name.is(operand) {
             times += 1;
         }
     }
     times == 1
 }
 
-fn is(operand: &Name, name: &[u8]) -> bool
+fn is(operand: &Name, name: &Name) -> bool
     ensures { result ≡ bytes_eq name.now operand.now }
 {
-    is_same(name, operand.as_slice())
+    name.is(operand)
 }
 
 // Whether a name is one of the operands, and only once.
-fn is_named_once(operands: Operands, name: &[u8]) -> bool
+fn is_named_once(operands: Operands, name: &Name) -> bool
     ensures { result ≡ (count name.now (operands_view operands.entry) == 1) }
 {
     match operands {
@@ -107,7 +107,7 @@ fn is_named_once(operands: Operands, name: &[u8]) -> bool
 }
 
 // Whether no line after a line reads the name that it has as an operand, but for what the line itself assigns.
-fn is_free(line: &Line, name: &[u8], number: Option<usize>) -> bool
+fn is_free(line: &Line, name: &Name, number: Option<usize>) -> bool
     requires { number ≡ number_of line.now.recent.now.later.now.numbering name.now }
     ensures { result ≡ (assigns line.now.statement.now name.now || not
         (tells line.now.recent.now.later.now name.now line.now.place)) }
@@ -121,8 +121,7 @@ fn is_spare(line: &Line, operand: &Name, number: Option<usize>) -> bool
     ensures { result ≡ is_spare line.now.statements.now (tells line.now.recent.now.later.now) line.now.place
         line.now.statement.now (operands_view line.now.operands) operand.now }
 {
-    let name = operand.as_slice();
-    is_named_once(line.operands, name) && is_free(line, name, number)
+    is_named_once(line.operands, operand) && is_free(line, operand, number)
 }
 
 // The parts of a line's expression beside those of its operands.
@@ -215,9 +214,8 @@ pub(crate) fn choose<'a>(
         line.now.statement.now (operands_view line.now.operands) operand.now (map (option_map expr_view) table.now)
         (map choice_view chosen.now) (choice_view result) }
 {
-    let name = operand.as_slice();
-    let number = line.recent.later.numbering.number_with(name, hint);
-    match nearest(line, name, number) {
+    let number = line.recent.later.numbering.number_with(operand, hint);
+    match nearest(line, operand, number) {
         None => Choice::Named(operand),
         Some(source) => match expression_at(table, source) {
             None => Choice::Named(operand),

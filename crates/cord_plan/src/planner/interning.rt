@@ -5,10 +5,10 @@ ghost use Rattle.cord_plan.specs.Exprs as plain;
 ghost use Rattle.cord_plan.specs.Views.{shared_view};
 
 use crate::Expr;
-use crate::flow::slot_of;
 use crate::planner::constructors::{named, shared_byte};
 use cord_io::CordError;
-use cord_script::{Name, Number, is_same};
+use cord_operands::slot_of;
+use cord_script::{Name, Number};
 use std::alloc::{AllocError, Global};
 use std::rc::Rc;
 
@@ -31,7 +31,7 @@ fn find<'a>(slots: &'a [Option<Rc<Expr>>], slot: usize, name: &Name) -> Option<&
 {
     match slots.get(slot) {
         Some(Some(shared)) => match shared.as_ref() {
-            Expr::Name(known) if is_same(known.as_slice(), name.as_slice()) => Some(shared),
+            Expr::Name(known) if known.is(name) => Some(shared),
             _ => None,
         },
         _ => None,
@@ -98,7 +98,7 @@ impl Interner {
         ensures made { IfOk result (λ e. shared_view e ≡ plain.name name.now) }
         ensures refused { IsOkUnless result CordError.NoMemory }
     {
-        let slot = slot_of(name.as_slice()) % SLOTS;
+        let slot = slot_of(name.key()) % SLOTS;
         match find(&self.slots, slot, name) {
             Some(shared) => Ok(shared.clone()?),
             None => self.put(alloc, slot, shared_name(alloc, name)?),

@@ -5,25 +5,25 @@ ghost use Rattle.cord_plan.specs.inner.Recent.{lacks};
 ghost use Rattle.cord_plan.specs.Views.{expr_view, members_of, shared_view};
 
 use crate::Expr;
-use cord_script::{Number, is_same};
+use cord_script::{Name, Number};
 use std::rc::Rc;
 
-fn differs(known: &[u8], name: &[u8]) -> bool
+fn differs(known: &Name, name: &Name) -> bool
     ensures { result ≡ lacks (known.now ∷ []) name.now }
 {
-    !is_same(known, name)
+    !known.is(name)
 }
 
-fn number_lacks(number: &Number, name: &[u8]) -> bool
+fn number_lacks(number: &Number, name: &Name) -> bool
     ensures { result ≡ lacks (number_names number.now) name.now }
 {
     match number {
         Number::Numeral(_) => true,
-        Number::Named(known) => differs(known.as_slice(), name),
+        Number::Named(known) => differs(known, name),
     }
 }
 
-fn numbers_lack(first: &Number, second: &Number, name: &[u8]) -> bool
+fn numbers_lack(first: &Number, second: &Number, name: &Name) -> bool
     ensures { result ≡ lacks (number_names first.now ++ number_names second.now) name.now }
 {
     number_lacks(first, name) && number_lacks(second, name)
@@ -31,11 +31,11 @@ fn numbers_lack(first: &Number, second: &Number, name: &[u8]) -> bool
 
 /// Whether a name stands nowhere in an expression.
 #[cycle(lacks)]
-pub(crate) fn lacks(expression: &Expr, name: &[u8]) -> bool
+pub(crate) fn lacks(expression: &Expr, name: &Name) -> bool
     ensures { result ≡ lacks (names (expr_view expression.now)) name.now }
 {
     match expression {
-        Expr::Name(known) => differs(known.as_slice(), name),
+        Expr::Name(known) => differs(known, name),
         Expr::Run { byte, count } => numbers_lack(byte, count, name),
         Expr::Cat(members) => all_lack(members.as_slice(), name),
         Expr::Sub {
@@ -48,13 +48,13 @@ pub(crate) fn lacks(expression: &Expr, name: &[u8]) -> bool
 
 // The same of all these expressions.
 #[cycle(lacks)]
-fn all_lack(members: &[Rc<Expr>], name: &[u8]) -> bool
+fn all_lack(members: &[Rc<Expr>], name: &Name) -> bool
     ensures { result ≡ lacks (names_of (members_of (map shared_view members.now))) name.now }
 {
     for member in members {
         let expression = member.as_ref();
         let lacking = match expression {
-            Expr::Name(known) => differs(known.as_slice(), name),
+            Expr::Name(known) => differs(known, name),
             _ => lacks(expression, name),
         };
         if !lacking {

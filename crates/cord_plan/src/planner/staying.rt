@@ -12,21 +12,21 @@ use crate::Expr;
 use crate::flow::{assigns, entry_at, entry_of, is_before, is_block, reads, unless_after};
 use crate::planner::choosing::Line;
 use crate::planner::naming::lacks;
-use cord_script::{Number, Statement};
+use cord_script::{Name, Number, Statement};
 use std::rc::Rc;
 
 /// So many lines are looked at faster than the numbers of names.
 const NEAR: usize = 2;
 
 // Whether no pair goes over a line for a name.
-fn bars(statement: &Statement, name: &[u8]) -> bool
+fn bars(statement: &Statement, name: &Name) -> bool
     ensures { result ≡ bars statement.now name.now }
 {
     is_block(statement) || reads(statement, name)
 }
 
 // The nearest line, looked for line by line: so it is for a name without a number.
-fn nearest_by_lines(statements: &[Statement], place: usize, name: &[u8]) -> Option<usize>
+fn nearest_by_lines(statements: &[Statement], place: usize, name: &Name) -> Option<usize>
     requires { place ≤ length statements.now }
     ensures { result ≡ nearest statements.now name.now place }
 {
@@ -43,7 +43,7 @@ fn nearest_by_lines(statements: &[Statement], place: usize, name: &[u8]) -> Opti
 }
 
 /// The last line before a line that assigns a name of this number, where neither a block's line nor one that reads the name stands after it.
-pub(crate) fn nearest(line: &Line, name: &[u8], number: Option<usize>) -> Option<usize>
+pub(crate) fn nearest(line: &Line, name: &Name, number: Option<usize>) -> Option<usize>
     requires number { number ≡ number_of line.now.recent.now.later.now.numbering name.now }
     requires place { line.now.place ≤ length line.now.statements.now }
     requires recent { IsRecent line.now.statements.now line.now.place line.now.recent.now }
@@ -60,7 +60,7 @@ pub(crate) fn nearest(line: &Line, name: &[u8], number: Option<usize>) -> Option
 }
 
 // Whether no line from one place up to another assigns a name, line by line.
-fn stays_by_lines(statements: &[Statement], from: usize, to: usize, name: &[u8]) -> bool
+fn stays_by_lines(statements: &[Statement], from: usize, to: usize, name: &Name) -> bool
     requires { to ≤ length statements.now }
     ensures { result ≡ stay statements.now from to (name.now ∷ []) }
 {
@@ -73,7 +73,7 @@ fn stays_by_lines(statements: &[Statement], from: usize, to: usize, name: &[u8])
 }
 
 // Whether no line from a place up to a line assigns a name.
-fn name_stays(line: &Line, from: usize, name: &[u8]) -> bool
+fn name_stays(line: &Line, from: usize, name: &Name) -> bool
     requires place { line.now.place ≤ length line.now.statements.now }
     requires recent { IsRecent line.now.statements.now line.now.place line.now.recent.now }
     ensures { result ≡ stay line.now.statements.now from line.now.place (name.now ∷ []) }
@@ -92,7 +92,7 @@ fn number_stays(line: &Line, from: usize, number: &Number) -> bool
 {
     match number {
         Number::Numeral(_) => true,
-        Number::Named(name) => name_stays(line, from, name.as_slice()),
+        Number::Named(name) => name_stays(line, from, name),
     }
 }
 
@@ -113,7 +113,7 @@ fn stays_far(line: &Line, from: usize, expression: &Expr) -> bool
     ensures { result ≡ stay line.now.statements.now from line.now.place (names (expr_view expression.now)) }
 {
     match expression {
-        Expr::Name(name) => name_stays(line, from, name.as_slice()),
+        Expr::Name(name) => name_stays(line, from, name),
         Expr::Run { byte, count } => numbers_stay(line, from, byte, count),
         Expr::Cat(members) => all_stay_far(line, from, members.as_slice()),
         Expr::Sub {
@@ -148,7 +148,7 @@ fn preserves(statement: &Statement, expression: &Expr) -> bool
 {
     match statement.target() {
         None => true,
-        Some(target) => lacks(expression, target.as_slice()),
+        Some(target) => lacks(expression, target),
     }
 }
 

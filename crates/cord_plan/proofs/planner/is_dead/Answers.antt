@@ -1,4 +1,4 @@
-use Rattle.std.proofs.Common.{◌∙◌, ℕ, List, Option, ap, not}
+use Rattle.std.proofs.Common.{◌∙◌, ℕ, Option, ap, not}
 use Rattle.cord_plan.specs.inner.Liveness.{tells, tells_of}
 use Rattle.cord_plan.specs.Planned as plan
 use Rattle.cord_plan.proofs.planner.is_dead.Goals as goal
@@ -10,6 +10,5 @@ pub returns-in-Some : goal.returns-in-Some
 returns-in-Some c =
     let later = c.args.later.now in
     let p = c.args.place in
-    ap not (c.is_later.ensures ∙ (ap (λ (n : Option ℕ). tells_of later n p) c.number_with-number.ensures
-    ∙ ap (λ (x : List ℕ). tells later x p) c.as_slice.ensures))
+    ap not (c.is_later.ensures ∙ ap (λ (n : Option ℕ). tells_of later n p) c.number_with-number.ensures)
     ∙ ap (plan.is_dead (tells later) p) c.in-Some.ensures

@@ -3,8 +3,8 @@ use Rattle.std.specs.Str.{bytes_eq}
 use Rattle.cord_plan.proofs.Sweeps.{has_here, has_on}
 use Rattle.cord_plan.proofs.flow.readings.is_among.Goals as goal
 
-pub returns-then-eq : goal.returns-then-eq
-returns-then-eq c =
+pub returns-then-is : goal.returns-then-is
+returns-then-is c =
     let same : bytes_eq c.args.name.now c.operand-item.result ≡ true = cc in
     sym (c.loop-operand.invariant ∙ has_here c.args.names.now c.loop-operand.operand-index c.operand-item.result c.args.name.now
     c.loop-operand-test.true c.operand-item.is same)

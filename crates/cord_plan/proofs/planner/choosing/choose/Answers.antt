@@ -1,4 +1,4 @@
-use Rattle.std.proofs.Common.{◌≡◌, ℕ, ◌+◌, Bool, true, false, ◌&&◌, List, ◌∷◌, ◌++◌, map, drop, length, Some, None, sym, ap, ◌∙◌}
+use Rattle.std.proofs.Common.{◌≡◌, ◌+◌, Bool, true, false, ◌&&◌, List, ◌∷◌, ◌++◌, map, drop, length, Some, None, sym, ap, ◌∙◌}
 use Rattle.std.specs.Prelude.{option_map}
 use Rattle.cord_plan.specs.Exprs.{Expr, name}
 use Rattle.cord_plan.specs.Forced.{expr_of, expr_with, is_small}
@@ -15,7 +15,7 @@ returns-in-None c =
     let line = c.args.line.now in
     let before : List Expr = map (λ d. expr_of d) (map choice_view c.args.chosen.now) in
     let after : List Expr = map (λ y. name y) (drop (length (map choice_view c.args.chosen.now) + 1) (operands_view line.operands)) in
-    let far : nearest line.statements.now c.args.operand.now line.place ≡ None = ap (λ (x : List ℕ). nearest line.statements.now x line.place) (sym c.as_slice-name.ensures) ∙ sym c.in-None.ensures in
+    let far : nearest line.statements.now c.args.operand.now line.place ≡ None = sym c.in-None.ensures in
     λ t has. kept_far line.statements.now (tells line.recent.now.later.now) t line.place line.statement.now c.args.operand.now before after
     far
 
@@ -24,7 +24,7 @@ returns-in-None-expression_at c =
     let line = c.args.line.now in
     let before : List Expr = map (λ d. expr_of d) (map choice_view c.args.chosen.now) in
     let after : List Expr = map (λ y. name y) (drop (length (map choice_view c.args.chosen.now) + 1) (operands_view line.operands)) in
-    let near : nearest line.statements.now c.args.operand.now line.place ≡ Some c.in-Some.source = ap (λ (x : List ℕ). nearest line.statements.now x line.place) (sym c.as_slice-name.ensures) ∙ sym c.in-Some.ensures in
+    let near : nearest line.statements.now c.args.operand.now line.place ≡ Some c.in-Some.source = sym c.in-Some.ensures in
     let bare : None ≡ expression_in (map (option_map expr_view) c.args.table.now) c.in-Some.source = c.in-None-expression_at.ensures in
     λ t has. kept_bare line.statements.now (tells line.recent.now.later.now) t line.place line.statement.now c.args.operand.now before
     after c.in-Some.source near (sym (first_in (map (option_map expr_view) c.args.table.now) t c.in-Some.source has) ∙ sym bare)
@@ -35,7 +35,7 @@ returns-then-stays_small c =
     let r = expr_view c.in-Some-expression_at.expression.now in
     let before : List Expr = map (λ d. expr_of d) (map choice_view c.args.chosen.now) in
     let after : List Expr = map (λ y. name y) (drop (length (map choice_view c.args.chosen.now) + 1) (operands_view line.operands)) in
-    let near : nearest line.statements.now c.args.operand.now line.place ≡ Some c.in-Some.source = ap (λ (x : List ℕ). nearest line.statements.now x line.place) (sym c.as_slice-name.ensures) ∙ sym c.in-Some.ensures in
+    let near : nearest line.statements.now c.args.operand.now line.place ≡ Some c.in-Some.source = sym c.in-Some.ensures in
     let there : Some r ≡ expression_in (map (option_map expr_view) c.args.table.now) c.in-Some.source = c.in-Some-expression_at.ensures in
     let stable : stands line.statements.now (tells line.recent.now.later.now) r c.in-Some.source line.place line.statement.now (operands_view line.operands) c.args.operand.now ≡ c.stands.result = sym c.stands.ensures in
     let fit : stands line.statements.now (tells line.recent.now.later.now) r c.in-Some.source line.place line.statement.now (operands_view line.operands) c.args.operand.now ≡ true = stable ∙ c.if-stands.true in
@@ -51,7 +51,7 @@ returns-else-stands c =
     let r = expr_view c.in-Some-expression_at.expression.now in
     let before : List Expr = map (λ d. expr_of d) (map choice_view c.args.chosen.now) in
     let after : List Expr = map (λ y. name y) (drop (length (map choice_view c.args.chosen.now) + 1) (operands_view line.operands)) in
-    let near : nearest line.statements.now c.args.operand.now line.place ≡ Some c.in-Some.source = ap (λ (x : List ℕ). nearest line.statements.now x line.place) (sym c.as_slice-name.ensures) ∙ sym c.in-Some.ensures in
+    let near : nearest line.statements.now c.args.operand.now line.place ≡ Some c.in-Some.source = sym c.in-Some.ensures in
     let there : Some r ≡ expression_in (map (option_map expr_view) c.args.table.now) c.in-Some.source = c.in-Some-expression_at.ensures in
     let stable : stands line.statements.now (tells line.recent.now.later.now) r c.in-Some.source line.place line.statement.now (operands_view line.operands) c.args.operand.now ≡ c.stands.result = sym c.stands.ensures in
     let small = is_small (expr_with line.statement.now (before ++ r ∷ after)) in

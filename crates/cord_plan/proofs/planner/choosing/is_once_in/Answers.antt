@@ -5,16 +5,16 @@ use Rattle.std.proofs.lemmas.List.{at_drop_all}
 use Rattle.cord_plan.specs.Operands.{count}
 use Rattle.cord_plan.proofs.Nearest.{count_here}
 use Rattle.cord_plan.proofs.planner.choosing.is_once_in.Goals as goal
-use Rattle.cord_plan.proofs.planner.choosing.is_once_in.Goals.{then-is_same, else-is_same}
+use Rattle.cord_plan.proofs.planner.choosing.is_once_in.Goals.{then-is, else-is}
 
 pub loop-operand-preserved : goal.loop-operand-preserved
 loop-operand-preserved c =
     let here = count_here c.args.operands.now c.loop-operand.operand-index c.operand-item.result c.args.name.now c.loop-operand-test.true c.operand-item.is in
-    elim c.if-is_same.branch [
-      | then-is_same w ↦
+    elim c.if-is.branch [
+      | then-is w ↦
           let same : bytes_eq c.args.name.now c.operand-item.result ≡ true = cc in
           record { few = omega arith; counted = let more = rw same at here in omega (arith, more) }
-      | else-is_same w ↦
+      | else-is w ↦
           let other : bytes_eq c.args.name.now c.operand-item.result ≡ false = cc in
           record { few = omega arith; counted = let more = rw other at here in omega (arith, more) }
     ]

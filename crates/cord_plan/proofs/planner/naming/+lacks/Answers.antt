@@ -1,4 +1,4 @@
-use Rattle.std.proofs.Common.{◌≡◌, ℕ, ◌<◌, ◌+◌, Bool, true, false, ◌&&◌, List, [], ◌∷◌, ◌++◌, map, drop, sym, ap, subst, ◌∙◌, rules}
+use Rattle.std.proofs.Common.{◌≡◌, ◌<◌, ◌+◌, Bool, true, false, ◌&&◌, List, ◌++◌, map, drop, sym, ap, subst, ◌∙◌, rules}
 use Rattle.std.proofs.lemmas.List.{at_drop_all}
 use Rattle.cord_plan.specs.Exprs as plain
 use Rattle.cord_plan.specs.declared.expressions.Expr.{Expr}
@@ -22,9 +22,8 @@ all_lack-returns-then-not-lacking t c =
     let x = c.args.name.now in
     let told : c.match-expression.lacking ≡ lacks (names (shared_view c.member-item.result)) x = elim c.match-expression.branch [
       | all_lack-in-Name w ↦ w.lacking-is ∙ (w.differs-lacking.ensures
-          ∙ (ap (λ (y : List ℕ). lacks (y ∷ []) x) w.as_slice.ensures
           ∙ sym (ap (λ (e : plain.Expr). lacks (names e) x) (ap expr_view (sym c.as_ref-expression.ensures ∙ w.in-Name.is)
-          ∙ view-Name w.in-Name.known))))
+          ∙ view-Name w.in-Name.known)))
       | all_lack-in_default w ↦ w.lacking-is ∙ (w.lacks-lacking.ensures
           ∙ ap (λ (e : Expr). lacks (names (expr_view e)) x) c.as_ref-expression.ensures)
     ] in
@@ -39,9 +38,8 @@ all_lack-loop-member-preserved t c =
     let x = c.args.name.now in
     let told : c.match-expression.lacking ≡ lacks (names (shared_view c.member-item.result)) x = elim c.match-expression.branch [
       | all_lack-in-Name w ↦ w.lacking-is ∙ (w.differs-lacking.ensures
-          ∙ (ap (λ (y : List ℕ). lacks (y ∷ []) x) w.as_slice.ensures
           ∙ sym (ap (λ (e : plain.Expr). lacks (names e) x) (ap expr_view (sym c.as_ref-expression.ensures ∙ w.in-Name.is)
-          ∙ view-Name w.in-Name.known))))
+          ∙ view-Name w.in-Name.known)))
       | all_lack-in_default w ↦ w.lacking-is ∙ (w.lacks-lacking.ensures
           ∙ ap (λ (e : Expr). lacks (names (expr_view e)) x) c.as_ref-expression.ensures)
     ] in

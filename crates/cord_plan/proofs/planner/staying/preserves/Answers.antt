@@ -12,5 +12,5 @@ returns-in-None c =
 
 pub returns-in-Some : goal.returns-in-Some
 returns-in-Some c =
-    let some : target_of c.args.statement.now ≡ Some c.as_slice.result.now = cc in
-    c.lacks.ensures ∙ sym (preserves_lacking c.args.statement.now c.as_slice.result.now some (names (expr_view c.args.expression.now)))
+    let some : target_of c.args.statement.now ≡ Some c.in-Some.target.now = cc in
+    c.lacks.ensures ∙ sym (preserves_lacking c.args.statement.now c.in-Some.target.now some (names (expr_view c.args.expression.now)))
