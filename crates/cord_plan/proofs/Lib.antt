@@ -26,6 +26,7 @@ pub mod Kept
 pub mod PlannedPairs
 pub mod Numerals
 pub mod Followers
+pub mod Leading
 pub mod Words
 pub mod Numbers
 pub mod MarkedNames

@@ -15,7 +15,7 @@ use Rattle.cord_plan.specs.Operands.{has, reads_at}
 use Rattle.cord_plan.specs.Unread.{ReadBy, ReadLater, Unread, IsLater, successors, some_of}
 use Rattle.cord_plan.specs.inner.Numbering.{Covers, names_of}
 use Rattle.cord_plan.specs.inner.Marks.{IsBit, column}
-use Rattle.cord_plan.specs.inner.Liveness.{AreSuccessors, AreLive, AllLive, LiveTo, IsLive, at, live_of, tells, places_at}
+use Rattle.cord_plan.specs.inner.Liveness.{ArePaths, AreLive, AllLive, LiveTo, IsLive, at, live_of, tells, paths_at}
 use Rattle.cord_plan.proofs.Flows.{Found, shape_found, shape_held}
 use Rattle.cord_plan.proofs.Numbers.{Numbered, numbered, unnumbered}
 use Rattle.cord_plan.proofs.Sweeps.{path_in_table}
@@ -58,7 +58,7 @@ live_more s t k groups last size before live g lt = by_place (eq-or-lt_of_le (om
         let found : (group : Group) × (slice_get groups g ≡ Some group) × AreLive s t g group.words.items = before g less in
         (found.0, get_before groups last found.0 g found.1, found.2)
 
-module _ (s : List Statement) (t : Later) (successor_table : AreSuccessors (map shape_of s) t.successor_table.items) (covers : Covers s t.numbering) (groups : AllLive s t.numbering t.groups.items) where
+module _ (s : List Statement) (t : Later) (paths : ArePaths (map shape_of s) t.paths) (covers : Covers s t.numbering) (groups : AllLive s t.numbering t.groups.items) where
   module _ (x : List ℕ) where
     live : has (names_of t.numbering) x ≡ true → IsLive s x (live_of t x)
     live known =
@@ -89,7 +89,7 @@ module _ (s : List Statement) (t : Later) (successor_table : AreSuccessors (map 
     told_unread p true known e q next path r =
         let there : at (live_of t x) q ≡ true = path_in_table s x (live_of t x) (live known) q path r in
         let held : some_of (λ m. at (live_of t x) m) (successors (map shape_of s) p) ≡ true = shape_held (λ m. at (live_of t x) m) (map shape_of s) p (slice_get (map shape_of s) p) q next there in
-        let told : tells t x p ≡ true = rw (successor_table.told p) held in
+        let told : tells t x p ≡ true = rw (paths p) held in
         let bad : ⊥ = cc in
         bad
 
@@ -102,11 +102,11 @@ module _ (s : List Statement) (t : Later) (successor_table : AreSuccessors (map 
     told_read : (p : ℕ) (v : Bool) → has (names_of t.numbering) x ≡ v → tells t x p ≡ true → ReadLater s x p
     told_read p false known e =
         let none : live_of t x ≡ [] = none_live t x known in
-        let off : some_of (λ q. at [] q) (places_at t.successor_table.items p) ≡ true = rw none at e in
-        let bad : ⊥ = cc (some_none (places_at t.successor_table.items p)) in
+        let off : some_of (λ q. at [] q) (paths_at t.paths p) ≡ true = rw none at e in
+        let bad : ⊥ = cc (some_none (paths_at t.paths p)) in
         absurd bad
     told_read p true known e =
-        let held : some_of (λ q. at (live_of t x) q) (successors (map shape_of s) p) ≡ true = rw (successor_table.told p) at e in
+        let held : some_of (λ q. at (live_of t x) q) (successors (map shape_of s) p) ≡ true = rw (paths p) at e in
         read_found p (live known) (shape_found (λ q. at (live_of t x) q) (map shape_of s) p (slice_get (map shape_of s) p) held)
 
     -- a table that has the names that lines read tells exactly what is read later

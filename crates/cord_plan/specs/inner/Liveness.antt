@@ -1,10 +1,11 @@
 -- What the code that finds what is read later goes by.
-use Rattle.std.specs.Prelude.{◌≡◌, ℕ, zero, suc, ◌<◌, ◌/◌, ◌%◌, Bool, true, false, not, ◌&&◌, ◌||◌, List, [], ◌∷◌, map, length, get_or}
-use Rattle.std.specs.Prelude.{nat_le, Option, Some, None, slice_get}
+use Rattle.std.specs.Prelude.{◌≡◌, ℕ, zero, suc, ◌+◌, ◌<◌, ◌/◌, ◌%◌, Bool, true, false, not, ◌&&◌, ◌||◌, List, [], ◌∷◌, map, length, get_or}
+use Rattle.std.specs.Prelude.{nat_le, nat_lt, if◌then◌else◌, Option, Some, None, slice_get}
 use Rattle.std.specs.Option.{option_to_list}
 use Rattle.cord_syntax.specs.declared.statements.Statement.{Statement}
 use Rattle.cord_meaning.specs.Blocks as blocks
 use Rattle.cord_meaning.specs.Statements.{shape_of}
+use Rattle.cord_plan.specs.Forced.{is_block_at}
 use Rattle.cord_plan.specs.Operands.{reads_at, assigns_at}
 use Rattle.cord_plan.specs.inner.Numbering.{number_of, names_of}
 use Rattle.cord_plan.specs.inner.Marks.{column, IsBit}
@@ -15,6 +16,8 @@ use Rattle.cord_plan.specs.declared.flow.numbering.Numbering.{Numbering}
 use Rattle.cord_plan.specs.declared.flow.successors.Shape.{Shape}
 use Rattle.cord_plan.specs.declared.flow.successors.Shape.TheVariants.{Simple, Loop, Branch, Otherwise, Close}
 use Rattle.cord_plan.specs.declared.flow.successors.Successors.{Successors}
+use Rattle.cord_plan.specs.declared.flow.successors.Paths.{Paths}
+use Rattle.cord_plan.specs.declared.flow.successors.Paths.TheVariants.{Onward, Branching}
 use Rattle.cord_plan.specs.declared.flow.successors.Turn.{Turn}
 use Rattle.cord_plan.specs.declared.flow.successors.Turn.TheVariants.{Closed, Turned, Inside}
 
@@ -58,13 +61,26 @@ pub record AreSuccessors (shapes : List blocks.Shape) (successor_table : List Su
   pub size : length successor_table ≡ length shapes
   pub told : (p : ℕ) → places_at successor_table p ≡ successors shapes p
 
+-- the places that the program has for the place at p
+abbrev pub paths_at : Paths → ℕ → List ℕ
+paths_at (Onward n) p = if nat_lt p n then (p + 1) ∷ [] else []
+paths_at (Branching successor_table) p = places_at successor_table.items p
+
+-- these are the places that may come next after each place
+abbrev pub ArePaths : List blocks.Shape → Paths → Type 0
+ArePaths shapes paths = (p : ℕ) → paths_at paths p ≡ successors shapes p
+
+-- no line opens, parts or closes a block
+abbrev pub NoBlocks : List Statement → Type 0
+NoBlocks s = (p : ℕ) → is_block_at (slice_get s p) ≡ false
+
 -- whether one of these places that may come next after p is p or stands before it
 abbrev pub is_back : ℕ → List ℕ → Bool
 is_back p qs = some_of (λ q. nat_le q p) qs
 
 -- each place leads to later ones alone
-abbrev pub LeadOn : List Successors → Type 0
-LeadOn successor_table = (p : ℕ) → is_back p (places_at successor_table p) ≡ false
+abbrev pub LeadOn : (ℕ → List ℕ) → Type 0
+LeadOn after = (p : ℕ) → is_back p (after p) ≡ false
 
 -- whether a table of places has a place
 abbrev pub at : List Bool → ℕ → Bool
@@ -120,11 +136,11 @@ live_of t x = column_of t.groups.items (number_of t.numbering x)
 
 -- whether the name of a number is read later than the line at a place
 abbrev pub tells_of : Later → Option ℕ → ℕ → Bool
-tells_of t number p = some_of (λ q. at (column_of t.groups.items number) q) (places_at t.successor_table.items p)
+tells_of t number p = some_of (λ q. at (column_of t.groups.items number) q) (paths_at t.paths p)
 
 -- what a table tells: whether a name is read later than the line at a place
 abbrev pub tells : Later → List ℕ → ℕ → Bool
-tells t x p = some_of (λ q. at (live_of t x) q) (places_at t.successor_table.items p)
+tells t x p = some_of (λ q. at (live_of t x) q) (paths_at t.paths p)
 
 -- each of the first k groups is live
 abbrev pub LiveTo : List Statement → Numbering → ℕ → List Group → Type 0

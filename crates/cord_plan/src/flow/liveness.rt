@@ -6,13 +6,13 @@ ghost use Rattle.cord_plan.specs.Operands.{assigns, assigns_at, reads};
 ghost use Rattle.cord_plan.specs.Unread.{IsLater, successors, some_of};
 ghost use Rattle.cord_plan.specs.inner.Marks.{bit, column, room, IsBit};
 ghost use Rattle.cord_plan.specs.inner.Numbering.{AllHints, names_of};
-ghost use Rattle.cord_plan.specs.inner.Liveness.{places, places_at, AreSuccessors, LeadOn, at, tells, tells_of, flow};
+ghost use Rattle.cord_plan.specs.inner.Liveness.{places, paths_at, ArePaths, LeadOn, at, tells, tells_of, flow};
 ghost use Rattle.cord_plan.specs.inner.Liveness.{AreAssigned, ArePartly, AreLive, AllLive, column_of};
 
 use crate::flow::line_numbers::{LineNumbers, numbers_at, numbers_of};
 use crate::flow::marks::{GROUP, has_bit, mark_assigned, mark_read};
 use crate::flow::numbering::Numbering;
-use crate::flow::successors::{Successors, leads_back, successors_of};
+use crate::flow::successors::{Paths, Successors, paths_of};
 use cord_script::Statement;
 use std::alloc::{AllocError, Global};
 
@@ -25,7 +25,7 @@ struct Group {
 /// For each name and each line of a script whether some path after the line reads the bytes of the name before a line assigns it.
 #[derive(Drop)]
 pub(crate) struct Later {
-    successor_table: Vec<Successors>,
+    paths: Paths,
     pub(crate) numbering: Numbering,
     pub(crate) numbers: Vec<LineNumbers>,
     groups: Vec<Group>,
@@ -35,7 +35,7 @@ pub(crate) struct Later {
 #[derive(Clone, Copy)]
 struct Flow<'a> {
     statements: &'a [Statement],
-    successor_table: &'a [Successors],
+    paths: &'a Paths,
     numbering: &'a Numbering,
     numbers: &'a [LineNumbers],
     group: usize,
@@ -101,17 +101,17 @@ impl Flow<'_> {
     // The bits of the places that may come next after a place.
     fn successor_word_at(&self, words: &[u128], place: usize) -> u128
         ensures { (i : ℕ) → bit result i ≡ some_of (λ q. at (column words.now i) q)
-            (places_at self.now.successor_table.now place) }
+            (paths_at self.now.paths.now place) }
     {
-        match self.successor_table.get(place) {
-            Some(successors) => successor_word(words, *successors),
+        match self.paths.after(place) {
+            Some(successors) => successor_word(words, successors),
             None => 0,
         }
     }
 
     // What the flow back over the line at a place makes of its word.
     fn flow_at(&self, assigned: &[u128], words: &[u128], place: usize) -> u128
-        requires successor_table { AreSuccessors (map shape_of self.now.statements.now) self.now.successor_table.now }
+        requires paths { ArePaths (map shape_of self.now.statements.now) self.now.paths.now }
         requires assigned { AreAssigned self.now.statements.now self.now.numbering.now self.now.group assigned.now }
         ensures bits { (x : List ℕ) (i : ℕ) → IsBit self.now.numbering.now self.now.group x i →
             bit result i ≡ flow (at (column words.now i) place)
@@ -128,7 +128,7 @@ impl Flow<'_> {
 
     // One pass of the backwards flow over the lines, and whether it has found a place, so that another may find more.
     fn sweep(&self, assigned: &[u128], words: &mut [u128]) -> bool
-        requires successor_table { AreSuccessors (map shape_of self.now.statements.now) self.now.successor_table.now }
+        requires paths { ArePaths (map shape_of self.now.statements.now) self.now.paths.now }
         requires assigned { AreAssigned self.now.statements.now self.now.numbering.now self.now.group assigned.now }
         requires partly { ArePartly self.now.statements.now self.now.numbering.now self.now.group words.old }
         ensures partly { ArePartly self.now.statements.now self.now.numbering.now self.now.group words.new }
@@ -149,7 +149,7 @@ impl Flow<'_> {
 
     // For each place the names of the group that a path from there reads before a line assigns them.
     fn live_words(&self, alloc: Global) -> Result<Vec<u128>, AllocError>
-        requires successor_table { AreSuccessors (map shape_of self.now.statements.now) self.now.successor_table.now }
+        requires paths { ArePaths (map shape_of self.now.statements.now) self.now.paths.now }
         requires hints { AllHints self.now.statements.now self.now.numbering.now self.now.numbers.now }
         ensures { IfOk result (λ v. AreLive self.now.statements.now self.now.numbering.now self.now.group v.items) }
     {
@@ -162,7 +162,7 @@ impl Flow<'_> {
     // The word of a line, where those of the places that may come next are found: the names that it reads, and theirs
     // but for the name that it assigns.
     fn word_onward(&self, words: &[u128], place: usize, statement: &Statement) -> u128
-        requires successor_table { AreSuccessors (map shape_of self.now.statements.now) self.now.successor_table.now }
+        requires paths { ArePaths (map shape_of self.now.statements.now) self.now.paths.now }
         requires hints { AllHints self.now.statements.now self.now.numbering.now self.now.numbers.now }
         requires here { slice_get self.now.statements.now place ≡ Some statement.now }
         ensures { (x : List ℕ) (i : ℕ) → IsBit self.now.numbering.now self.now.group x i →
@@ -178,8 +178,8 @@ impl Flow<'_> {
 
     // Fills words that have no name yet, where each place leads to later ones alone: one pass from the last line back.
     fn fill_onward(&self, words: &mut [u128])
-        requires successor_table { AreSuccessors (map shape_of self.now.statements.now) self.now.successor_table.now }
-        requires onward { LeadOn self.now.successor_table.now }
+        requires paths { ArePaths (map shape_of self.now.statements.now) self.now.paths.now }
+        requires onward { LeadOn (λ p. paths_at self.now.paths.now p) }
         requires hints { AllHints self.now.statements.now self.now.numbering.now self.now.numbers.now }
         requires empty { words.old ≡ replicate (length self.now.statements.now) 0 }
         ensures { AreLive self.now.statements.now self.now.numbering.now self.now.group words.new }
@@ -191,8 +191,8 @@ impl Flow<'_> {
 
     // The same as `live_words` where each place leads to later ones alone.
     fn words_onward(&self, alloc: Global) -> Result<Vec<u128>, AllocError>
-        requires successor_table { AreSuccessors (map shape_of self.now.statements.now) self.now.successor_table.now }
-        requires onward { LeadOn self.now.successor_table.now }
+        requires paths { ArePaths (map shape_of self.now.statements.now) self.now.paths.now }
+        requires onward { LeadOn (λ p. paths_at self.now.paths.now p) }
         requires hints { AllHints self.now.statements.now self.now.numbering.now self.now.numbers.now }
         ensures { IfOk result (λ v. AreLive self.now.statements.now self.now.numbering.now self.now.group v.items) }
     {
@@ -203,8 +203,8 @@ impl Flow<'_> {
 
     // The same as `live_words`, where it is told whether some place may lead back.
     fn words_of(&self, alloc: Global, loops: bool) -> Result<Vec<u128>, AllocError>
-        requires successor_table { AreSuccessors (map shape_of self.now.statements.now) self.now.successor_table.now }
-        requires onward { loops ≡ false → LeadOn self.now.successor_table.now }
+        requires paths { ArePaths (map shape_of self.now.statements.now) self.now.paths.now }
+        requires onward { loops ≡ false → LeadOn (λ p. paths_at self.now.paths.now p) }
         requires hints { AllHints self.now.statements.now self.now.numbering.now self.now.numbers.now }
         ensures { IfOk result (λ v. AreLive self.now.statements.now self.now.numbering.now self.now.group v.items) }
     {
@@ -220,20 +220,20 @@ impl Flow<'_> {
 fn groups_of(
     alloc: Global,
     statements: &[Statement],
-    successor_table: &[Successors],
+    paths: &Paths,
     numbering: &Numbering,
     numbers: &[LineNumbers],
 ) -> Result<Vec<Group>, AllocError>
-    requires successor_table { AreSuccessors (map shape_of statements.now) successor_table.now }
+    requires paths { ArePaths (map shape_of statements.now) paths.now }
     requires hints { AllHints statements.now numbering.now numbers.now }
     ensures { IfOk result (λ v. AllLive statements.now numbering.now v.items) }
 {
     let mut groups = Vec::new(alloc);
-    let loops = leads_back(successor_table);
+    let loops = paths.lead_back();
     for group in 0..group_count(numbering) {
         let flow = Flow {
             statements,
-            successor_table,
+            paths,
             numbering,
             numbers,
             group,
@@ -262,11 +262,11 @@ impl Later {
         ensures later { IfOk result (λ t. IsLater statements.now (tells t)) }
         ensures hints { IfOk result (λ t. AllHints statements.now t.numbering t.numbers.items) }
     {
-        let successor_table = successors_of(alloc, statements)?;
+        let paths = paths_of(alloc, statements)?;
         let (numbering, numbers) = numbers_of(alloc, statements)?;
-        let groups = groups_of(alloc, statements, &successor_table, &numbering, &numbers)?;
+        let groups = groups_of(alloc, statements, &paths, &numbering, &numbers)?;
         Ok(Later {
-            successor_table,
+            paths,
             numbering,
             numbers,
             groups,
@@ -288,8 +288,8 @@ impl Later {
     pub(crate) fn is_later(&self, number: Option<usize>, place: usize) -> bool
         ensures { result ≡ tells_of self.now number place }
     {
-        match (self.successor_table.get(place), number) {
-            (Some(successors), Some(number)) => self.is_live_at_successors(number, *successors),
+        match (self.paths.after(place), number) {
+            (Some(successors), Some(number)) => self.is_live_at_successors(number, successors),
             _ => false,
         }
     }

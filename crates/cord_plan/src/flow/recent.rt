@@ -2,8 +2,6 @@
 ghost use Rattle.std.specs.Prelude.{◌≡◌, ◌+◌, ◌||◌, ℕ, List, Some, IfOk, slice_get};
 ghost use Rattle.std.specs.Str.{bytes_eq};
 ghost use Rattle.cord_syntax.specs.declared.statements.Statement.{Statement};
-ghost use Rattle.cord_meaning.specs.Statements.{shape_of};
-ghost use Rattle.cord_plan.specs.Forced.{is_block};
 ghost use Rattle.cord_plan.specs.Operands.{assigns, cord_arguments, has, reads};
 ghost use Rattle.cord_plan.specs.inner.Numbering.{AreHints, IsHint};
 ghost use Rattle.cord_plan.specs.inner.Recent.{IsRecent, Notes, entry_at, entry_of, is_before, is_after};
@@ -13,6 +11,7 @@ use crate::flow::line_numbers::LineNumbers;
 use crate::flow::liveness::Later;
 use crate::flow::numbering::Numbering;
 use crate::flow::readings::{Reading, reading_of};
+use crate::flow::successors::is_block;
 use cord_script::{Argument, Name, Statement};
 use std::alloc::{AllocError, Global};
 
@@ -179,19 +178,6 @@ fn note_assigned(
     match statement.target() {
         None => {}
         Some(target) => note(numbering, places, target, numbers.target, place),
-    }
-}
-
-/// Whether a line opens, parts or closes a block.
-pub(crate) fn is_block(statement: &Statement) -> bool
-    ensures { result ≡ is_block (shape_of statement.now) }
-{
-    match statement {
-        Statement::Repeat { .. }
-        | Statement::If { .. }
-        | Statement::Else { .. }
-        | Statement::End { .. } => true,
-        _ => false,
     }
 }
 

@@ -4,8 +4,10 @@ ghost use Rattle.std.specs.Prelude.{false};
 ghost use Rattle.cord_meaning.specs.Blocks.{to_end, to_else, jump};
 ghost use Rattle.cord_meaning.specs.Paths.{opened, open_at};
 ghost use Rattle.cord_meaning.specs.Statements.{shape_of};
+ghost use Rattle.cord_plan.specs.Forced.{is_block};
 ghost use Rattle.cord_plan.specs.Unread.{successors};
-ghost use Rattle.cord_plan.specs.inner.Liveness.{shape_view, turn_of, innermost, places, is_back, AreSuccessors, LeadOn};
+ghost use Rattle.cord_plan.specs.inner.Liveness.{shape_view, turn_of, innermost, places, places_at, places_of, paths_at};
+ghost use Rattle.cord_plan.specs.inner.Liveness.{is_back, AreSuccessors, ArePaths, LeadOn, NoBlocks};
 
 use cord_script::Statement;
 use std::alloc::{AllocError, Global};
@@ -52,6 +54,15 @@ impl Successors {
     }
 }
 
+/// The places that may come next after each place of a script.
+#[derive(Drop)]
+pub(crate) enum Paths {
+    /// Each of so many places leads to the next one alone, as in a script without blocks.
+    Onward(usize),
+    /// Each place leads to its own.
+    Branching(Vec<Successors>),
+}
+
 /// How a statement leads on a search for the end of a block, where so many blocks are open inside it.
 #[derive(Clone, Copy)]
 enum Turn {
@@ -73,6 +84,19 @@ pub(crate) fn shape_of(statement: &Statement) -> Shape
         Statement::Else { .. } => Shape::Otherwise,
         Statement::End { .. } => Shape::Close,
         _ => Shape::Simple,
+    }
+}
+
+/// Whether a line opens, parts or closes a block.
+pub(crate) fn is_block(statement: &Statement) -> bool
+    ensures { result ≡ is_block (shape_of statement.now) }
+{
+    match statement {
+        Statement::Repeat { .. }
+        | Statement::If { .. }
+        | Statement::Else { .. }
+        | Statement::End { .. } => true,
+        _ => false,
     }
 }
 
@@ -216,9 +240,9 @@ fn is_back(successors: Successors, place: usize) -> bool
     }
 }
 
-/// Whether some place may lead back.
-pub(crate) fn leads_back(successor_table: &[Successors]) -> bool
-    ensures { result ≡ false → LeadOn successor_table.now }
+// Whether some place may lead back.
+fn leads_back(successor_table: &[Successors]) -> bool
+    ensures { result ≡ false → LeadOn (λ p. places_at successor_table.now p) }
 {
     for (place, successors) in successor_table.iter().enumerate() {
         if is_back(*successors, place) {
@@ -228,13 +252,50 @@ pub(crate) fn leads_back(successor_table: &[Successors]) -> bool
     false
 }
 
-/// The places that may come next after each place of a script: each block is walked over once for each line that leads to its end.
-pub(crate) fn successors_of(
-    alloc: Global,
-    statements: &[Statement],
-) -> Result<Vec<Successors>, AllocError>
-    ensures { IfOk result (λ v. AreSuccessors (map shape_of statements.now) v.items) }
+// Whether some line opens, parts or closes a block.
+fn has_blocks(statements: &[Statement]) -> bool
+    ensures { result ≡ false → NoBlocks statements.now }
 {
+    for statement in statements {
+        if is_block(statement) {
+            return true;
+        }
+    }
+    false
+}
+
+/// The places that may come next after each place of a script. Without blocks nothing is made; else each block is walked over once
+/// for each line that leads to its end.
+pub(crate) fn paths_of(alloc: Global, statements: &[Statement]) -> Result<Paths, AllocError>
+    ensures { IfOk result (λ paths. ArePaths (map shape_of statements.now) paths) }
+{
+    if !has_blocks(statements) {
+        return Ok(Paths::Onward(statements.len()));
+    }
     let shapes = shapes_of(alloc, statements)?;
-    successor_table(alloc, &shapes)
+    Ok(Paths::Branching(successor_table(alloc, &shapes)?))
+}
+
+impl Paths {
+    /// The places that may come next after a place; after the script there is none.
+    #[inline(always)]
+    pub(crate) fn after(&self, place: usize) -> Option<Successors>
+        ensures { places_of result ≡ paths_at self.now place }
+    {
+        match self {
+            Paths::Onward(count) if place < *count => Some(Successors::one(place + 1)),
+            Paths::Onward(_) => None,
+            Paths::Branching(successor_table) => successor_table.get(place).copied(),
+        }
+    }
+
+    /// Whether some place may lead back.
+    pub(crate) fn lead_back(&self) -> bool
+        ensures { result ≡ false → LeadOn (λ p. paths_at self.now p) }
+    {
+        match self {
+            Paths::Onward(_) => false,
+            Paths::Branching(successor_table) => leads_back(successor_table),
+        }
+    }
 }

@@ -17,5 +17,5 @@ returns-clause-bits c = λ x i b.
     (assigns_at (slice_get c.args.self.now.statements.now c.args.place) x)
     (c.word_at-here.ensures.bits i)
     (c.successor_word_at-successors.ensures i ∙ ap (λ (qs : List ℕ). some_of (λ q. at (column c.args.words.now i) q) qs)
-    (c.requires.successor_table.told c.args.place))
+    (c.requires.paths c.args.place))
     (c.word_at-kill.ensures.bits i ∙ c.requires.assigned.told x i b c.args.place)

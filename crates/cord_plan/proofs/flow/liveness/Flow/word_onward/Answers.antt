@@ -16,7 +16,7 @@ returns c = λ x i b.
     (successors (map shape_of c.args.self.now.statements.now) c.args.place)) (assigns c.args.statement.now x)
     (c.mark_read-read.ensures x i b)
     (c.successor_word_at.ensures i ∙ ap (λ (qs : List ℕ). some_of (λ q. at (column c.args.words.now i) q) qs)
-    (c.requires.successor_table.told c.args.place))
+    (c.requires.paths c.args.place))
     (c.mark_assigned-assigned.ensures x i b)
 
 pub mark_read-read-requires : goal.mark_read-read-requires

@@ -1,0 +1,27 @@
+use Rattle.std.proofs.Common.{◌≡◌, ◌≤◌, ℕ, Some, false, inl, inr, length, refl, sym, ap, ◌∙◌, subst, arith}
+use Rattle.std.specs.Prelude.{slice_get}
+use Rattle.std.proofs.Math.Nat.{eq-or-lt_of_le}
+use Rattle.std.proofs.lemmas.Bool.Decides.{leb_tells}
+use Rattle.std.proofs.lemmas.Option.{slice_get_past, slice_get_read}
+use Rattle.cord_plan.specs.Forced.{is_block_at}
+use Rattle.cord_plan.proofs.flow.successors.has_blocks.Goals as goal
+
+pub loop-statement-preserved : goal.loop-statement-preserved
+loop-statement-preserved c =
+    let s = c.args.statements.now in
+    let n = c.loop-statement.statement-index in
+    let l = c.statement-item.result in
+    let there : slice_get s n ≡ Some l = slice_get_read s (length s) n l refl c.loop-statement-test.true c.statement-item.is in
+    let here : is_block_at (slice_get s n) ≡ false = ap is_block_at there ∙ (sym c.is_block.ensures ∙ c.if-is_block.false) in
+    λ p lt. elim (eq-or-lt_of_le (let le : p ≤ n = omega (arith, lt) in le)) [
+      | inl same ↦ subst (λ (k : ℕ). is_block_at (slice_get s k) ≡ false) (sym same) here
+      | inr less ↦ c.loop-statement.invariant p less
+    ]
+
+pub returns : goal.returns
+returns c =
+    let s = c.args.statements.now in
+    λ e p. elim (leb_tells (length s) p) [
+      | inl w ↦ ap is_block_at (slice_get_past s p w.1)
+      | inr w ↦ c.loop-statement.invariant p (omega (arith, w.1))
+    ]
