@@ -229,37 +229,44 @@ pub enum Statement {
     },
 }
 
+// The statements that assign a name, with one of the fields that they share.
+macro_rules! assignment {
+    ($field:ident) => {
+        Statement::Let { $field, .. }
+        | Statement::File { $field, .. }
+        | Statement::Eager { $field, .. }
+        | Statement::Lazy { $field, .. }
+        | Statement::Chars { $field, .. }
+        | Statement::Nul { $field, .. }
+        | Statement::FromFn { $field, .. }
+        | Statement::Cat { $field, .. }
+        | Statement::Catn { $field, .. }
+        | Statement::Catc { $field, .. }
+        | Statement::Substr { $field, .. }
+        | Statement::Balance { $field, .. }
+        | Statement::EcToCord { $field, .. }
+        | Statement::Sprintf { $field, .. }
+        | Statement::Len { $field, .. }
+        | Statement::Fetch { $field, .. }
+        | Statement::Cmp { $field, .. }
+        | Statement::Ncmp { $field, .. }
+        | Statement::Str { $field, .. }
+        | Statement::Chr { $field, .. }
+        | Statement::Rchr { $field, .. }
+        | Statement::Assign { $field, .. }
+        | Statement::Add { $field, .. }
+        | Statement::Sub { $field, .. }
+        | Statement::EcInit { $field, .. }
+    };
+}
+
 impl Statement {
     /// The number of its line, counted from 1.
     pub fn line(&self) -> u32
         ensures { result ≡ line_of self.now }
     {
         match self {
-            Statement::Let { line, .. }
-            | Statement::File { line, .. }
-            | Statement::Eager { line, .. }
-            | Statement::Lazy { line, .. }
-            | Statement::Chars { line, .. }
-            | Statement::Nul { line, .. }
-            | Statement::FromFn { line, .. }
-            | Statement::Cat { line, .. }
-            | Statement::Catn { line, .. }
-            | Statement::Catc { line, .. }
-            | Statement::Substr { line, .. }
-            | Statement::Balance { line, .. }
-            | Statement::EcToCord { line, .. }
-            | Statement::Sprintf { line, .. }
-            | Statement::Len { line, .. }
-            | Statement::Fetch { line, .. }
-            | Statement::Cmp { line, .. }
-            | Statement::Ncmp { line, .. }
-            | Statement::Str { line, .. }
-            | Statement::Chr { line, .. }
-            | Statement::Rchr { line, .. }
-            | Statement::Assign { line, .. }
-            | Statement::Add { line, .. }
-            | Statement::Sub { line, .. }
-            | Statement::EcInit { line, .. }
+            assignment!(line)
             | Statement::EcPut { line, .. }
             | Statement::EcCat { line, .. }
             | Statement::EcStr { line, .. }
@@ -276,31 +283,7 @@ impl Statement {
         ensures { option_map (λ n. n.now) result ≡ target_of self.now }
     {
         match self {
-            Statement::Let { target, .. }
-            | Statement::File { target, .. }
-            | Statement::Eager { target, .. }
-            | Statement::Lazy { target, .. }
-            | Statement::Chars { target, .. }
-            | Statement::Nul { target, .. }
-            | Statement::FromFn { target, .. }
-            | Statement::Cat { target, .. }
-            | Statement::Catn { target, .. }
-            | Statement::Catc { target, .. }
-            | Statement::Substr { target, .. }
-            | Statement::Balance { target, .. }
-            | Statement::EcToCord { target, .. }
-            | Statement::Sprintf { target, .. }
-            | Statement::Len { target, .. }
-            | Statement::Fetch { target, .. }
-            | Statement::Cmp { target, .. }
-            | Statement::Ncmp { target, .. }
-            | Statement::Str { target, .. }
-            | Statement::Chr { target, .. }
-            | Statement::Rchr { target, .. }
-            | Statement::Assign { target, .. }
-            | Statement::Add { target, .. }
-            | Statement::Sub { target, .. }
-            | Statement::EcInit { target, .. } => Some(target),
+            assignment!(target) => Some(target),
             _ => None,
         }
     }
