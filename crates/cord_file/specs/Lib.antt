@@ -2,6 +2,7 @@ pub mod Blocks
 pub mod Entries
 pub mod Faults
 pub mod Files
+pub mod Handing
 pub mod Making
 pub mod Opening
 pub mod Soundness

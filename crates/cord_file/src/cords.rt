@@ -1,12 +1,12 @@
 // Cords over files.
 ghost use Rattle.std.specs.Prelude.{◌≡◌, ◌+◌, ◌<◌, ◌≤◌, IfOk, IfErr, IsOkUnless, Some};
-ghost use Rattle.cord_io.specs.Device.{Folder, count_after};
+ghost use Rattle.cord_io.specs.Device.{Folder};
 ghost use Rattle.cord_core.specs.Cord.{bytes_of};
 ghost use Rattle.cord_file.specs.Faults.{has_failed};
 ghost use Rattle.cord_file.specs.Entries.{lengths_in, table_in};
-ghost use Rattle.cord_file.specs.Opening.{Grows, IsRefusalOver};
-ghost use Rattle.cord_file.specs.Making.{IsLeafOver, IsFuncOver, IsFileIn, IsWhole, IsLazy, IsWholeOrLazy};
+ghost use Rattle.cord_file.specs.Making.{IsLeafOver, IsFuncOver, IsWhole, IsLazy, IsWholeOrLazy};
 ghost use Rattle.cord_file.specs.Making.{IsReadRefusal, IsWholeRefusal, IsLazyRefusal, IsWholeOrLazyRefusal};
+ghost use Rattle.cord_file.specs.Handing.{HandsOver};
 ghost use Rattle.cord_file.specs.inner.Reading.{LeavesFiles};
 
 use crate::{FileError, SHORT_FILE, Sources};
@@ -22,17 +22,9 @@ impl<F: Files> Sources<F> {
     /// Refused as `open` is, or after it with `ReadFailed` where the device failed, or `NoMemory`: then the path
     /// stays open.
     pub fn eager(&mut self, alloc: Global, path: &str) -> Result<Cord, FileError>
-        ensures earlier { (folder : Folder) →
-            F.keeps (device_in self.new) folder → F.keeps (device_in self.old) folder }
-        ensures count { F.failures (device_in self.new)
-            ≡ count_after (has_failed result) (F.failures (device_in self.old)) }
-        ensures grows { Grows (opened_in self.old) (opened_in self.new) }
+        ensures files { HandsOver self.old self.new path.now result }
         ensures cord { IfOk result (IsWhole (opened_in self.old) (opened_in self.new) path.now) }
-        ensures file { (folder : Folder) → F.keeps (device_in self.new) folder →
-            IfOk result (IsFileIn folder (opened_in self.new) path.now) }
         ensures refused { IfErr result (IsWholeRefusal (opened_in self.old) (opened_in self.new) path.now) }
-        ensures cause { (folder : Folder) → F.keeps (device_in self.new) folder →
-            IfErr result (IsRefusalOver folder path.now) }
     {
         let (id, len) = self.open(alloc, path)?;
         self.read_whole(alloc, id, len)
@@ -58,17 +50,9 @@ impl<F: Files> Sources<F> {
     /// The file at a path as a cord of which no byte is read now, one function part over its entry. The path is
     /// opened as by `open`. Refused as `open` is, or after it with `NoMemory`: then the path stays open.
     pub fn lazy(&mut self, alloc: Global, path: &str) -> Result<Cord, FileError>
-        ensures earlier { (folder : Folder) →
-            F.keeps (device_in self.new) folder → F.keeps (device_in self.old) folder }
-        ensures count { F.failures (device_in self.new)
-            ≡ count_after (has_failed result) (F.failures (device_in self.old)) }
-        ensures grows { Grows (opened_in self.old) (opened_in self.new) }
+        ensures files { HandsOver self.old self.new path.now result }
         ensures cord { IfOk result (IsLazy (opened_in self.old) (opened_in self.new) path.now) }
-        ensures file { (folder : Folder) → F.keeps (device_in self.new) folder →
-            IfOk result (IsFileIn folder (opened_in self.new) path.now) }
         ensures refused { IfErr result (IsLazyRefusal (opened_in self.old) (opened_in self.new) path.now) }
-        ensures cause { (folder : Folder) → F.keeps (device_in self.new) folder →
-            IfErr result (IsRefusalOver folder path.now) }
     {
         let (id, len) = self.open(alloc, path)?;
         self.function_over(alloc, id, len)
@@ -90,17 +74,9 @@ impl<F: Files> Sources<F> {
     /// The file at a path as a cord: `eager` where it is short, of at most `SHORT_FILE` bytes, else `lazy`. Refused
     /// as that one is.
     pub fn from_file(&mut self, alloc: Global, path: &str) -> Result<Cord, FileError>
-        ensures earlier { (folder : Folder) →
-            F.keeps (device_in self.new) folder → F.keeps (device_in self.old) folder }
-        ensures count { F.failures (device_in self.new)
-            ≡ count_after (has_failed result) (F.failures (device_in self.old)) }
-        ensures grows { Grows (opened_in self.old) (opened_in self.new) }
+        ensures files { HandsOver self.old self.new path.now result }
         ensures cord { IfOk result (IsWholeOrLazy (opened_in self.old) (opened_in self.new) path.now) }
-        ensures file { (folder : Folder) → F.keeps (device_in self.new) folder →
-            IfOk result (IsFileIn folder (opened_in self.new) path.now) }
         ensures refused { IfErr result (IsWholeOrLazyRefusal (opened_in self.old) (opened_in self.new) path.now) }
-        ensures cause { (folder : Folder) → F.keeps (device_in self.new) folder →
-            IfErr result (IsRefusalOver folder path.now) }
     {
         let (id, len) = self.open(alloc, path)?;
         if len <= SHORT_FILE {

@@ -1,0 +1,24 @@
+-- What each call that makes a cord of the file at a path leaves behind it.
+use Rattle.std.specs.Prelude.{◌≡◌, ℕ, List, Option, IfOk, IfErr}
+use Rattle.std.specs.declared.result.Result.{Result}
+use Rattle.cord_io.specs.Device.{Folder, count_after}
+use Rattle.cord_io.specs.declared.reading.Files.{Ghosts}
+use Rattle.cord_node.specs.declared.Node.{Node}
+use Rattle.cord_file.specs.Faults.{has_failed}
+use Rattle.cord_file.specs.Making.{IsFileIn}
+use Rattle.cord_file.specs.Opening.{Grows, IsRefusalOver}
+use Rattle.cord_file.specs.Sources.{device_in, opened_in}
+use Rattle.cord_file.specs.declared.faults.FileError.{FileError}
+use Rattle.cord_file.specs.declared.sources.Sources.{Sources}
+
+-- a call opened the file at a path, and handed it over as a cord or was refused: it keeps no folder that wasn't kept before it, the device
+-- counted its failure, each entry stays, and over each folder that is kept the cord has the text of the file, or the refusal its cause
+abbrev pub HandsOver : {F : Type 0} {ghosts : Ghosts F} →
+    Sources F ghosts → Sources F ghosts → List ℕ → Result (Option Node) FileError → Type 0
+HandsOver {F} {ghosts} old new path result = record {
+  earlier : (folder : Folder) → ghosts.keeps (device_in new) folder → ghosts.keeps (device_in old) folder;
+  count : ghosts.failures (device_in new) ≡ count_after (has_failed result) (ghosts.failures (device_in old));
+  grows : Grows (opened_in old) (opened_in new);
+  file : (folder : Folder) → ghosts.keeps (device_in new) folder → IfOk result (IsFileIn folder (opened_in new) path);
+  cause : (folder : Folder) → ghosts.keeps (device_in new) folder → IfErr result (IsRefusalOver folder path);
+}
