@@ -1,7 +1,7 @@
 // Files that pass so many calls to the files inside, and then fail each.
-ghost use Rattle.std.specs.Prelude.{◌≡◌, ◌-◌, ◌<◌, ◌≤◌, ℕ, length, take, drop, is_err, IfOk, OnErr, IsErr, IsErrOf};
-ghost use Rattle.std.specs.Prelude.{IsSomeAnd};
-ghost use Rattle.cord_io.specs.Device.{Folder, file_at, bytes_at, count_after, open_failed, HandsOut};
+ghost use Rattle.std.specs.Prelude.{◌≡◌, ◌-◌, ◌<◌, length, is_err, IsErr, IsSomeAnd};
+ghost use Rattle.cord_io.specs.Device.{Folder, count_after, open_failed};
+ghost use Rattle.cord_io.specs.Passing.{TellsOpening, TellsReading};
 
 use crate::failures::Failures;
 use crate::{FileNo, Files, OpenFault, ReadFault};
@@ -60,18 +60,7 @@ impl<F: Files> Files for FuseFiles<F> {
     }
 
     fn open(&mut self, path: &str) -> Result<(FileNo, u64), OpenFault>
-        ensures earlier { (folder : Folder) → F.keeps (files_inside self.new) folder →
-            F.keeps (files_inside self.old) folder }
-        ensures count { ⟦<FuseFiles<F> as Files>⟧.failures self.new
-            ≡ count_after (open_failed result) (⟦<FuseFiles<F> as Files>⟧.failures self.old) }
-        ensures opened { IfOk result (λ r. HandsOut (F.opened (files_inside self.old))
-            (F.opened (files_inside self.new)) r.0.0 path.now r.1) }
-        ensures none_opened { OnErr result ((n : ℕ) →
-            F.opened (files_inside self.new) n ≡ F.opened (files_inside self.old) n) }
-        ensures found { (folder : Folder) → F.keeps (files_inside self.new) folder → IfOk result (λ r.
-            IsSomeAnd (file_at folder path.now) (λ bytes. r.1 ≡ length bytes)) }
-        ensures not_found { (folder : Folder) → F.keeps (files_inside self.new) folder →
-            IsErrOf result OpenFault.NotFound → file_at folder path.now ≡ None }
+        ensures told { TellsOpening ⟦<FuseFiles<F> as Files>⟧ self.old self.new path.now result }
 
         // A call that passes is a call of the files inside, one that doesn't is none.
         ensures left { passes_left self.new ≡ passes_left self.old - 1 }
@@ -98,15 +87,7 @@ impl<F: Files> Files for FuseFiles<F> {
     fn read_at(&mut self, no: FileNo, start: u64, out: &mut [u8]) -> Result<usize, ReadFault>
         requires inside { IsSomeAnd (F.opened (files_inside self.old) no.0) (λ told. start < told.1) }
         requires room { 0 < length out.old }
-        ensures earlier { (folder : Folder) → F.keeps (files_inside self.new) folder →
-            F.keeps (files_inside self.old) folder }
-        ensures count { ⟦<FuseFiles<F> as Files>⟧.failures self.new
-            ≡ count_after (is_err result) (⟦<FuseFiles<F> as Files>⟧.failures self.old) }
-        ensures opened { (n : ℕ) → F.opened (files_inside self.new) n ≡ F.opened (files_inside self.old) n }
-        ensures some { IfOk result (λ k. (0 < k) × (k ≤ length out.new)) }
-        ensures bytes { (folder : Folder) → F.keeps (files_inside self.new) folder → IfOk result (λ k.
-            IsSomeAnd (F.opened (files_inside self.old) no.0) (λ told.
-            take k out.new ≡ take k (drop start (bytes_at folder told.0)))) }
+        ensures told { TellsReading ⟦<FuseFiles<F> as Files>⟧ self.old self.new no.0 start out.new result }
 
         // A call that passes is a call of the files inside, one that doesn't is none.
         ensures left { passes_left self.new ≡ passes_left self.old - 1 }
