@@ -1,6 +1,6 @@
 // What a text has.
 ghost use Rattle.std.specs.Prelude.{◌≡◌, ◌⊎◌, ◌-◌, ◌<◌, ◌≤◌, ◌==◌, [], ◌∷◌, length, take, drop, min, Some};
-ghost use Rattle.std.specs.Prelude.{None, slice_get};
+ghost use Rattle.std.specs.Prelude.{None, slice_get, IfOk, OnErr};
 ghost use Rattle.std.specs.List.{count_by};
 ghost use Rattle.std.specs.Ordering.{nat_cmp};
 ghost use Rattle.std.specs.Cmp.Lexicographic.{slice_cmp};
@@ -15,7 +15,7 @@ use crate::Handle;
 use crate::code::{BAD_ARGUMENT, NO_MEMORY, NOT_FOUND, OK};
 use crate::copy::copy_from;
 use crate::pointer::missing;
-use cord::MAX_DEPTH;
+use cord::{CordError, MAX_DEPTH, Text};
 use std::alloc::Global;
 use std::cmp::Ordering;
 
@@ -175,13 +175,7 @@ pub extern "C" fn zc_cmp(alloc: Global, x: &mut Handle, y: &mut Handle, order: &
     if missing(x) || missing(y) || missing(order) {
         return BAD_ARGUMENT;
     }
-    match x.read_with(alloc, y) {
-        Ok((left, right)) => {
-            *order = sign(left.compare(&right));
-            OK
-        }
-        Err(_) => NO_MEMORY,
-    }
+    write_order(order, x.read_with(alloc, y))
 }
 
 /// As `zc_cmp`, of at most `count` bytes of `x` from `i` on and of `y` from `j` on.
@@ -206,14 +200,21 @@ pub extern "C" fn zc_ncmp(
     if missing(x) || missing(y) || missing(order) {
         return BAD_ARGUMENT;
     }
-    let Ok(here) = x.part(alloc, i, count) else {
-        return NO_MEMORY;
-    };
-    let Ok(there) = y.part(alloc, j, count) else {
-        return NO_MEMORY;
-    };
-    *order = sign(here.compare(&there));
-    OK
+    write_order(order, x.parts_with(alloc, i, y, j, count))
+}
+
+// Writes the order of two texts, where there was memory for them.
+fn write_order(order: &mut i32, texts: Result<(Text, Text), CordError>) -> i32
+    ensures order { IfOk texts (λ t. (result ≡ OK) × (order.new ≡ sign_of (slice_cmp nat_cmp t.0 t.1))) }
+    ensures refused { OnErr texts ((result ≡ NO_MEMORY) × (order.new ≡ order.old)) }
+{
+    match texts {
+        Ok((left, right)) => {
+            *order = sign(left.compare(&right));
+            OK
+        }
+        Err(_) => NO_MEMORY,
+    }
 }
 
 // An order as C is told it.

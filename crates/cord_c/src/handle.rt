@@ -104,6 +104,27 @@ impl Handle {
         part
     }
 
+    /// At most `count` of its bytes from `start` on and of those of another handle from `other_start` on, as two texts.
+    /// Refused for want of memory alone.
+    pub(crate) fn parts_with(
+        &mut self,
+        alloc: Global,
+        start: u64,
+        other: &mut Handle,
+        other_start: u64,
+        count: u64,
+    ) -> Result<(Text, Text), CordError>
+        ensures own { IfOk result (λ t. t.0 ≡ take count (drop start self.old.text)) }
+        ensures others { IfOk result (λ t. t.1 ≡ take count (drop other_start other.old.text)) }
+        ensures same { self.new.text ≡ self.old.text }
+        ensures other { other.new.text ≡ other.old.text }
+        ensures refused { IsOkUnless result CordError.NoMemory }
+    {
+        let own = self.part(alloc, start, count)?;
+        let others = other.part(alloc, other_start, count)?;
+        Ok((own, others))
+    }
+
     /// Its byte at a place, nothing at or past the end.
     pub(crate) fn get(&mut self, alloc: Global, place: u64) -> Option<u8>
         ensures byte { result ≡ slice_get self.old.text place }
