@@ -1,6 +1,7 @@
-pub mod Contexts
+pub mod Building
 pub mod Built
 pub mod ContextViews
+pub mod Contexts
 pub mod Fields
 pub mod Reading
 pub mod Settled

@@ -6,13 +6,14 @@ ghost use Rattle.cord_script.specs.Flaws.{first_pair, misfit};
 ghost use Rattle.cord_script.specs.inner.Fields.{HasTaken, counted_misfit, IsFormatOf, AreFields, HasFieldFlaw};
 ghost use Rattle.cord_script.specs.inner.Fields.{term_of};
 ghost use Rattle.cord_script.specs.inner.Settled.{AllSettled, AreSettled};
-ghost use Rattle.cord_script.specs.inner.Verbal.{verb_shape};
+ghost use Rattle.cord_script.specs.inner.Verbal.{fixed_wants, verb_shape};
+ghost use Rattle.cord_script.specs.inner.Building.{format_of, verb_of};
 
 use crate::fields::{Field, field_of};
 use crate::grammar::wants_of;
 use crate::kinds::{Kind, Want};
 use crate::table::Table;
-use crate::verbs::Verb;
+use crate::verbs::{FixedVerb, Verb};
 use crate::words::Word;
 use crate::{MAX_PARTS, MIN_PARTS, RefusalKind};
 use cord_printf::{ArgKind, Format, FormatError, Piece};
@@ -20,12 +21,20 @@ use std::alloc::Global;
 use std::collections::VecDeque;
 use std::mem;
 
-/// The fields of a statement, what the text of a `sprintf` is read as, and whether all fields are settled: none is
-/// a path, and each name is known and of its kind.
+/// What makes a statement of its fields: its verb, and what the text of a `sprintf` is read as.
+#[derive(Drop)]
+pub enum Builder {
+    Fixed(FixedVerb),
+    Catn,
+    Sprintf(Format),
+}
+
+/// The fields of a statement, what makes the statement of them, and whether all fields are settled: none is a path,
+/// and each name is known and of its kind.
 #[derive(Drop)]
 pub struct FieldList {
     pub fields: Vec<Field>,
-    pub format: Option<Format>,
+    pub builder: Builder,
     pub settled: bool,
 }
 
@@ -104,25 +113,26 @@ fn take_all(
     take_fields(alloc, names, wants, words, fields)
 }
 
-// The fields of words that have to be these.
+// The fields of words that have to be what a verb wants.
 fn plain_fields(
     alloc: Global,
     names: &Table,
-    wants: &[Want],
+    verb: FixedVerb,
     words: &mut VecDeque<Word>,
     buffer: &mut Vec<Field>,
 ) -> Result<FieldList, RefusalKind>
-    ensures fields { IfOk result (λ list. AreFields (Words wants.now) words.old.items list.fields.items
-        list.format) }
+    ensures fields { IfOk result (λ list. AreFields (Words (fixed_wants verb)) words.old.items list.fields.items
+        (format_of list.builder)) }
+    ensures builder { IfOk result (λ list. verb_of list.builder ≡ Verb.Fixed verb) }
     ensures settled { IfOk result (λ list. AreSettled list.settled names.now list.fields.items) }
     ensures flaw { IfErr result (λ kind. kind ≢ RefusalKind.NoMemory →
-        HasFieldFlaw (Words wants.now) words.old.items kind) }
+        HasFieldFlaw (Words (fixed_wants verb)) words.old.items kind) }
 {
     let mut fields = emptied(alloc, buffer);
-    let settled = take_all(alloc, names, wants, words, &mut fields)?;
+    let settled = take_all(alloc, names, wants_of(verb), words, &mut fields)?;
     Ok(FieldList {
         fields,
-        format: None,
+        builder: Builder::Fixed(verb),
         settled,
     })
 }
@@ -134,7 +144,8 @@ fn joined_fields(
     words: &mut VecDeque<Word>,
     buffer: &mut Vec<Field>,
 ) -> Result<FieldList, RefusalKind>
-    ensures fields { IfOk result (λ list. AreFields Joined words.old.items list.fields.items list.format) }
+    ensures fields { IfOk result (λ list. AreFields Joined words.old.items list.fields.items (format_of list.builder)) }
+    ensures builder { IfOk result (λ list. verb_of list.builder ≡ Verb.Catn) }
     ensures settled { IfOk result (λ list. AreSettled list.settled names.now list.fields.items) }
     ensures flaw { IfErr result (λ kind. kind ≢ RefusalKind.NoMemory → HasFieldFlaw Joined words.old.items kind) }
 {
@@ -147,7 +158,7 @@ fn joined_fields(
     let cords = take_fields(alloc, names, &CORDS[..count - 1], words, &mut fields)?;
     Ok(FieldList {
         fields,
-        format: None,
+        builder: Builder::Catn,
         settled: both(target, cords),
     })
 }
@@ -197,7 +208,8 @@ fn printed_fields(
     words: &mut VecDeque<Word>,
     buffer: &mut Vec<Field>,
 ) -> Result<FieldList, RefusalKind>
-    ensures fields { IfOk result (λ list. AreFields Printed words.old.items list.fields.items list.format) }
+    ensures fields { IfOk result (λ list. AreFields Printed words.old.items list.fields.items (format_of list.builder)) }
+    ensures builder { IfOk result (λ list. verb_of list.builder ≡ Verb.Sprintf) }
     ensures settled { IfOk result (λ list. AreSettled list.settled names.now list.fields.items) }
     ensures flaw { IfErr result (λ kind. kind ≢ RefusalKind.NoMemory → HasFieldFlaw Printed words.old.items kind) }
 {
@@ -215,7 +227,7 @@ fn printed_fields(
     let arguments = take_all(alloc, names, &wants, words, &mut fields)?;
     Ok(FieldList {
         fields,
-        format: Some(format),
+        builder: Builder::Sprintf(format),
         settled: both(front, arguments),
     })
 }
@@ -230,14 +242,15 @@ pub fn fields_of(
     buffer: &mut Vec<Field>,
 ) -> Result<FieldList, RefusalKind>
     ensures fields { IfOk result (λ list. AreFields (verb_shape verb) words.old.items list.fields.items
-        list.format) }
+        (format_of list.builder)) }
+    ensures builder { IfOk result (λ list. verb_of list.builder ≡ verb) }
     ensures settled { IfOk result (λ list. AreSettled list.settled names.now list.fields.items) }
     ensures flaw { IfErr result (λ kind. kind ≢ RefusalKind.NoMemory →
         HasFieldFlaw (verb_shape verb) words.old.items kind) }
 {
     match verb {
+        Verb::Fixed(fixed) => plain_fields(alloc, names, fixed, words, buffer),
         Verb::Catn => joined_fields(alloc, names, words, buffer),
         Verb::Sprintf => printed_fields(alloc, names, words, buffer),
-        Verb::Fixed(fixed) => plain_fields(alloc, names, wants_of(fixed), words, buffer),
     }
 }

@@ -4,6 +4,7 @@ ghost use Rattle.cord_script.specs.Flaws.{HasFormFlaw, HasBadWords};
 ghost use Rattle.cord_script.specs.Script.{Before, whole};
 ghost use Rattle.cord_script.specs.inner.ContextViews.{before_of, terms_flaw};
 ghost use Rattle.cord_script.specs.inner.Settled.{AreSettled};
+ghost use Rattle.cord_script.specs.inner.Building.{format_of, verb_of};
 ghost use Rattle.cord_script.specs.inner.Fields.{IsChecked, term_of};
 ghost use Rattle.cord_script.specs.inner.Contexts.{context_after, SaysAfter, AreNamed};
 ghost use Rattle.cord_script.specs.inner.Verbal.{verb_form, verb_word};
@@ -41,7 +42,8 @@ fn checked_fields(
     buffer: &mut Vec<Field>,
 ) -> Result<FieldList, RefusalKind>
     ensures fields { IfOk result (λ list. IsChecked (verb_form verb)
-        (before_of context.now) words.old.items list.fields.items list.format) }
+        (before_of context.now) words.old.items list.fields.items (format_of list.builder)) }
+    ensures builder { IfOk result (λ list. verb_of list.builder ≡ verb) }
     ensures flaw { IfErr result (λ kind. kind ≢ RefusalKind.NoMemory →
         HasFormFlaw (before_of context.now) (Some (verb_form verb)) words.old.items kind) }
     ensures settled { IfOk result (λ list. AreSettled list.settled context.now.names list.fields.items) }
@@ -109,12 +111,12 @@ pub fn read_statement(
     };
     let FieldList {
         fields,
-        format,
+        builder,
         settled,
     } = checked_fields(alloc, context, verb, words, buffer)?;
     leave(verb, number, context, settled, &fields)?;
     let mut cursor = FieldCursor::of(fields);
-    let statement = statement_of(alloc, verb, number, format, &mut cursor)?;
+    let statement = statement_of(alloc, builder, number, &mut cursor)?;
     *buffer = cursor.into_buffer();
     Ok(statement)
 }

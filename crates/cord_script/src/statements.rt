@@ -2,14 +2,17 @@
 #![tactic(auto, using(crate::proofs::Built::none_left))]
 
 ghost use Rattle.std.specs.Prelude.{◌≡◌, map, IfOk, IfErr};
+ghost use Rattle.cord_script.specs.declared.verbs.Verb.{Verb};
 ghost use Rattle.cord_script.specs.inner.Fields.{want_of};
 ghost use Rattle.cord_script.specs.inner.Verbal.{fixed_wants};
-ghost use Rattle.cord_script.specs.inner.Built.{IsJoined, IsPrinted, AreFieldsOf, IsStatementOf};
+ghost use Rattle.cord_script.specs.inner.Building.{format_of, verb_of};
+ghost use Rattle.cord_script.specs.inner.Built.{IsJoined, IsPrintedAs, AreFieldsOf, IsStatementOf};
 
 use crate::cursor::FieldCursor;
+use crate::field_lists::Builder;
 use crate::kinds::Kind;
 use crate::verbs::{
-    Composition, Computation, Control, Derivation, FixedVerb, Growth, Look, Origin, Search, Verb,
+    Composition, Computation, Control, Derivation, FixedVerb, Growth, Look, Origin, Search,
 };
 use crate::{RefusalKind, Statement};
 use cord_printf::Format;
@@ -278,14 +281,13 @@ fn catn_of(alloc: Global, line: u32, fields: &mut FieldCursor) -> Result<Stateme
 fn sprintf_of(
     alloc: Global,
     line: u32,
-    format: Option<Format>,
+    format: Format,
     fields: &mut FieldCursor,
 ) -> Result<Statement, RefusalKind>
-    requires { IsPrinted format fields.old }
+    requires { IsPrintedAs format fields.old }
     ensures statement { IfOk result (IsStatementOf Verb.Sprintf line fields.old) }
     ensures flaw { IfErr result (λ kind. kind ≡ RefusalKind.NoMemory) }
 {
-    let Some(format) = format else { unreachable!() };
     let target = fields.target(Kind::Cord);
     let text = fields.format();
     let arguments = fields.arguments(alloc)?;
@@ -316,21 +318,20 @@ pub fn fixed_statement_of(verb: FixedVerb, line: u32, fields: &mut FieldCursor) 
     }
 }
 
-/// The statement of a verb and its fields, and what the text of a `sprintf` is read as.
+/// The statement of fields, by what makes it of them.
 pub fn statement_of(
     alloc: Global,
-    verb: Verb,
+    builder: Builder,
     line: u32,
-    format: Option<Format>,
     fields: &mut FieldCursor,
 ) -> Result<Statement, RefusalKind>
-    requires { AreFieldsOf verb fields.old format }
-    ensures statement { IfOk result (IsStatementOf verb line fields.old) }
+    requires { AreFieldsOf (verb_of builder) fields.old (format_of builder) }
+    ensures statement { IfOk result (IsStatementOf (verb_of builder) line fields.old) }
     ensures flaw { IfErr result (λ kind. kind ≡ RefusalKind.NoMemory) }
 {
-    match verb {
-        Verb::Catn => catn_of(alloc, line, fields),
-        Verb::Sprintf => sprintf_of(alloc, line, format, fields),
-        Verb::Fixed(fixed) => Ok(fixed_statement_of(fixed, line, fields)),
+    match builder {
+        Builder::Fixed(verb) => Ok(fixed_statement_of(verb, line, fields)),
+        Builder::Catn => catn_of(alloc, line, fields),
+        Builder::Sprintf(format) => sprintf_of(alloc, line, format, fields),
     }
 }

@@ -1,9 +1,10 @@
 use Rattle.std.proofs.Common.{◌∙◌, sym, ap, subst, map}
 use Rattle.std.proofs.lemmas.Result.{err_from_is_err_and}
+use Rattle.cord_script.specs.inner.Building.{format_of}
 use Rattle.cord_script.specs.inner.ContextViews.{before_of}
 use Rattle.cord_script.specs.inner.Settled.{AreSettled}
 use Rattle.cord_script.specs.inner.Contexts.{context_after, AreNamed}
-use Rattle.cord_script.specs.inner.Built.{AreFieldsOf}
+use Rattle.cord_script.specs.inner.Built.{AreFieldsOf, IsStatementOf}
 use Rattle.cord_script.specs.inner.Fields.{term_of}
 use Rattle.cord_script.proofs.Contexts.{said, bad_words, terms_named}
 use Rattle.cord_script.proofs.Built.{fields_suit}
@@ -18,7 +19,10 @@ returns-in_err-fields-clause-flaw c =
 pub statement_of-requires : goal.statement_of-requires
 statement_of-requires c =
     let found = c.in_ok-fields.field-0 in
-    subst (λ ts. AreFieldsOf c.in-Some.verb ts found.format) (sym c.of-cursor.ensures) (fields_suit c.in-Some.verb _ found.fields.items found.format c.in_ok-fields.ensures.fields.says)
+    let format = format_of found.builder in
+    let suits = fields_suit c.in-Some.verb _ found.fields.items format c.in_ok-fields.ensures.fields.says in
+    subst (λ v. AreFieldsOf v c.of-cursor.result format) (sym c.in_ok-fields.ensures.builder)
+    (subst (λ ts. AreFieldsOf c.in-Some.verb ts format) (sym c.of-cursor.ensures) suits)
 
 pub returns-clause-said : goal.returns-clause-said
 returns-clause-said c =
@@ -28,8 +32,8 @@ returns-clause-said c =
     let context = c.in_ok-leave.ensures.context ∙ ap (λ ps. context_after verb c.args.number ps old) c.deref.ensures.value in
     let words = c.in-Some.ensures in
     said verb c.args.number old (before_of c.leave.new.context) c.args.words.now.items c.verb_in.new.words.items found.fields.items
-    found.format c.of-cursor.result c.in_ok-statement.statement words c.in_ok-fields.ensures.fields context c.of-cursor.ensures
-    c.in_ok-statement.ensures.statement
+    (format_of found.builder) c.of-cursor.result c.in_ok-statement.statement words c.in_ok-fields.ensures.fields context c.of-cursor.ensures
+    (subst (λ v. IsStatementOf v c.args.number c.of-cursor.result c.in_ok-statement.statement) c.in_ok-fields.ensures.builder c.in_ok-statement.ensures.statement)
 
 pub leave-requires-clause-settled : goal.leave-requires-clause-settled
 leave-requires-clause-settled c =
