@@ -23,6 +23,8 @@ module _ (s : List Statement) where
             target = λ x f k g. adds.stay k x (were.target x f k g);
             first = λ x f k g. adds.stay k x (were.first x f k g);
             second = λ x f k g. adds.stay k x (were.second x f k g);
+            read_told = were.read_told;
+            target_told = were.target_told;
           }
       by_item (inr w) =
           let read : slice_get s p ≡ Some l = ap (λ (q : ℕ). slice_get s q) (w.0 ∙ size) ∙ here in
@@ -37,4 +39,6 @@ module _ (s : List Statement) where
         target = λ x f k g. place_is_number t distinct x k (are.target x f k g);
         first = λ x f k g. place_is_number t distinct x k (are.first x f k g);
         second = λ x f k g. place_is_number t distinct x k (are.second x f k g);
+        read_told = are.read_told;
+        target_told = are.target_told;
       }

@@ -40,6 +40,8 @@ pub mod MemberTexts
 pub mod PartSums
 pub mod Nearest
 pub mod Recents
+pub mod Telling
+pub mod Noting
 pub mod Lacking
 pub mod Lasts
 pub mod Choices

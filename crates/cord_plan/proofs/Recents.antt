@@ -38,7 +38,7 @@ module _ (t : Numbering) (p : ℕ) where
   pub notes_nothing : (places : List (Option ℕ)) → Notes t (λ x. false) p places places
   notes_nothing places x = unnoted p (entry_of t places x)
 
-  notes_same : (f h : List ℕ → Bool) (old new : List (Option ℕ)) → ((x : List ℕ) → h x ≡ f x) → Notes t f p old new → Notes t h p old new
+  pub notes_same : (f h : List ℕ → Bool) (old new : List (Option ℕ)) → ((x : List ℕ) → h x ≡ f x) → Notes t f p old new → Notes t h p old new
   notes_same f h old new same notes x = notes x ∙ ap (λ (v : Bool). option_map (λ o. noted v p o) (entry_of t old x)) (sym (same x))
 
   pub notes_or : (f h : List ℕ → Bool) (old now new : List (Option ℕ)) → Notes t f p old now → Notes t h p now new →

@@ -1,6 +1,6 @@
 -- Names with numbers.
 use Rattle.std.specs.Prelude.{◌≡◌, ℕ, suc, ◌<◌, true, List, [], ◌∷◌, length, if◌then◌else◌, Option, Some, None, slice_get}
-use Rattle.std.specs.Prelude.{option_map}
+use Rattle.std.specs.Prelude.{option_map, is_some}
 use Rattle.std.specs.Str.{bytes_eq}
 use Rattle.cord_operands.specs.Keys.{key_of, slot_at}
 use Rattle.cord_syntax.specs.declared.statements.Statement.{Statement}
@@ -46,11 +46,25 @@ Covers s t = CoversTo s (length s) t
 abbrev pub IsHint : Numbering → List ℕ → Option ℕ → Type 0
 IsHint t x hint = (n : ℕ) → hint ≡ Some n → number_of t x ≡ Some n
 
--- the hints of the numbers of a line's names are right
+-- these hints are of all these names
+abbrev pub AreFor : List (List ℕ) → Option ℕ → Option ℕ → Type 0
+AreFor [] first second = (first ≡ None) × (second ≡ None)
+AreFor (x ∷ []) first second = (is_some first ≡ true) × (second ≡ None)
+AreFor (x ∷ y ∷ []) first second = (is_some first ≡ true) × (is_some second ≡ true)
+AreFor (x ∷ y ∷ z ∷ names) first second = ⊥
+
+-- there is a hint where there is a name, and only there
+abbrev pub IsFor : Option (List ℕ) → Option ℕ → Type 0
+IsFor None hint = hint ≡ None
+IsFor (Some x) hint = is_some hint ≡ true
+
+-- the hints of the numbers of a line's names are right, and where that is told they are all
 pub record AreHints (t : Numbering) (l : Statement) (numbers : LineNumbers) : Type 0 where
   pub target : (x : List ℕ) → target_of l ≡ Some x → IsHint t x numbers.target
   pub first : (x : List ℕ) → slice_get (read_by l) 0 ≡ Some x → IsHint t x numbers.first
   pub second : (x : List ℕ) → slice_get (read_by l) 1 ≡ Some x → IsHint t x numbers.second
+  pub read_told : numbers.read_is_told ≡ true → AreFor (read_by l) numbers.first numbers.second
+  pub target_told : numbers.target_is_told ≡ true → IsFor (target_of l) numbers.target
 
 -- and of the names of each line
 abbrev pub AllHints : List Statement → Numbering → List LineNumbers → Type 0
@@ -61,11 +75,13 @@ AllHints s t all =
 abbrev pub IsPlace : List (List ℕ) → List ℕ → Option ℕ → Type 0
 IsPlace names x hint = (n : ℕ) → hint ≡ Some n → slice_get names n ≡ Some x
 
--- the hints of the numbers of a line's names are places of the names
+-- the hints of the numbers of a line's names are places of the names, and where that is told they are all
 pub record ArePlaces (names : List (List ℕ)) (l : Statement) (numbers : LineNumbers) : Type 0 where
   pub target : (x : List ℕ) → target_of l ≡ Some x → IsPlace names x numbers.target
   pub first : (x : List ℕ) → slice_get (read_by l) 0 ≡ Some x → IsPlace names x numbers.first
   pub second : (x : List ℕ) → slice_get (read_by l) 1 ≡ Some x → IsPlace names x numbers.second
+  pub read_told : numbers.read_is_told ≡ true → AreFor (read_by l) numbers.first numbers.second
+  pub target_told : numbers.target_is_told ≡ true → IsFor (target_of l) numbers.target
 
 -- and of the names of each line
 abbrev pub AllPlaces : List Statement → List (List ℕ) → List LineNumbers → Type 0

@@ -1,9 +1,10 @@
 // The names of all lines and the numbers of each line's names, found in one pass.
-ghost use Rattle.std.specs.Prelude.{◌≡◌, ℕ, List, [], Some, IfOk, OnOk, slice_get};
+ghost use Rattle.std.specs.Prelude.{◌≡◌, ℕ, List, [], true, Some, IfOk, OnOk, slice_get};
 ghost use Rattle.cord_syntax.specs.declared.statements.Statement.{Statement};
 ghost use Rattle.cord_plan.specs.declared.flow.numbering.Numbering.{Numbering};
 ghost use Rattle.cord_plan.specs.Operands.{read_by, target_of};
-ghost use Rattle.cord_plan.specs.inner.Numbering.{Adds, AllHints, AreHints, ArePlaces, Covers, IsPlace, names_of};
+ghost use Rattle.cord_plan.specs.inner.Numbering.{Adds, AllHints, AreFor, AreHints, ArePlaces, Covers, IsFor, IsPlace};
+ghost use Rattle.cord_plan.specs.inner.Numbering.{names_of};
 ghost use Rattle.cord_plan.specs.inner.Readings.{read_names};
 
 use crate::flow::numbering::Numbering;
@@ -18,6 +19,10 @@ pub(crate) struct LineNumbers {
     pub(crate) target: Option<u8>,
     pub(crate) first: Option<u8>,
     pub(crate) second: Option<u8>,
+    /// Whether `first` and `second` are the numbers of all names whose bytes the line reads: then the line isn't asked for them.
+    pub(crate) read_is_told: bool,
+    /// Whether `target` is the number of the name that the line assigns, or it assigns none.
+    pub(crate) target_is_told: bool,
 }
 
 impl LineNumbers {
@@ -29,7 +34,24 @@ impl LineNumbers {
             target: None,
             first: None,
             second: None,
+            read_is_told: false,
+            target_is_told: false,
         }
+    }
+}
+
+// The numbers of the names that a line reads, and whether they are all.
+fn read_numbers(first: Option<u8>, second: Option<u8>, is_told: bool) -> LineNumbers
+    ensures first { result.first ≡ first }
+    ensures second { result.second ≡ second }
+    ensures told { result.read_is_told ≡ is_told }
+{
+    LineNumbers {
+        target: None,
+        first,
+        second,
+        read_is_told: is_told,
+        target_is_told: false,
     }
 }
 
@@ -45,50 +67,53 @@ fn add_reading(
     alloc: Global,
     numbering: &mut Numbering,
     reading: Reading,
-) -> Result<(Option<u8>, Option<u8>), AllocError>
+) -> Result<LineNumbers, AllocError>
     ensures added { OnOk result (Adds (read_names reading.entry) (names_of numbering.old) (names_of numbering.new)) }
     ensures first { IfOk result (λ r. (x : List ℕ) → slice_get (read_names reading.entry) 0 ≡ Some x →
-        IsPlace (names_of numbering.new) x r.0) }
+        IsPlace (names_of numbering.new) x r.first) }
     ensures second { IfOk result (λ r. (x : List ℕ) → slice_get (read_names reading.entry) 1 ≡ Some x →
-        IsPlace (names_of numbering.new) x r.1) }
+        IsPlace (names_of numbering.new) x r.second) }
+    ensures told { IfOk result (λ r. r.read_is_told ≡ true → AreFor (read_names reading.entry) r.first r.second) }
 {
     match reading {
-        Reading::Nothing => Ok((None, None)),
+        Reading::Nothing => Ok(read_numbers(None, None, true)),
         Reading::One(operand) => {
-            let number = numbering.add(alloc, operand)?;
-            Ok((hint_of(number), None))
+            let first = hint_of(numbering.add(alloc, operand)?);
+            Ok(read_numbers(first, None, first.is_some()))
         }
         Reading::Two(left, right) => {
             let first = numbering.add(alloc, left)?;
             let second = numbering.add(alloc, right)?;
-            Ok((hint_of(first), hint_of(second)))
+            let (first, second) = (hint_of(first), hint_of(second));
+            Ok(read_numbers(first, second, first.is_some() && second.is_some()))
         }
         Reading::Many(names) => {
             numbering.add_all(alloc, names)?;
-            Ok((None, None))
+            Ok(read_numbers(None, None, false))
         }
         Reading::Printed(arguments) => {
             numbering.add_arguments(alloc, arguments)?;
-            Ok((None, None))
+            Ok(read_numbers(None, None, false))
         }
     }
 }
 
-// Takes in the name that a line assigns, and gives its number.
+// Takes in the name that a line assigns, and gives its number, and whether that is told.
 fn add_target(
     alloc: Global,
     numbering: &mut Numbering,
     statement: &Statement,
-) -> Result<Option<u8>, AllocError>
+) -> Result<(Option<u8>, bool), AllocError>
     ensures added { OnOk result (Adds [] (names_of numbering.old) (names_of numbering.new)) }
-    ensures target { IfOk result (λ hint. (x : List ℕ) → target_of statement.now ≡ Some x →
-        IsPlace (names_of numbering.new) x hint) }
+    ensures target { IfOk result (λ r. (x : List ℕ) → target_of statement.now ≡ Some x →
+        IsPlace (names_of numbering.new) x r.0) }
+    ensures told { IfOk result (λ r. r.1 ≡ true → IsFor (target_of statement.now) r.0) }
 {
     match statement.target() {
-        None => Ok(None),
+        None => Ok((None, true)),
         Some(target) => {
-            let number = numbering.add(alloc, target)?;
-            Ok(hint_of(number))
+            let hint = hint_of(numbering.add(alloc, target)?);
+            Ok((hint, hint.is_some()))
         }
     }
 }
@@ -102,12 +127,14 @@ fn add_line(
     ensures added { OnOk result (Adds (read_by statement.now) (names_of numbering.old) (names_of numbering.new)) }
     ensures places { IfOk result (λ numbers. ArePlaces (names_of numbering.new) statement.now numbers) }
 {
-    let (first, second) = add_reading(alloc, numbering, reading_of(statement))?;
-    let target = add_target(alloc, numbering, statement)?;
+    let read = add_reading(alloc, numbering, reading_of(statement))?;
+    let (target, target_is_told) = add_target(alloc, numbering, statement)?;
     Ok(LineNumbers {
         target,
-        first,
-        second,
+        first: read.first,
+        second: read.second,
+        read_is_told: read.read_is_told,
+        target_is_told,
     })
 }
 

@@ -1,9 +1,10 @@
 // Sets of names by words: bit i of a word of a group stands for the name whose number is 128 times the group and i.
-ghost use Rattle.std.specs.Prelude.{◌≡◌, ◌<◌, ◌||◌};
+ghost use Rattle.std.specs.Prelude.{◌≡◌, ◌<◌, ◌||◌, ℕ, List, None, Some};
 ghost use Rattle.cord_plan.specs.inner.Marks.{bit, Marks};
 ghost use Rattle.cord_plan.specs.Operands.{has, cord_arguments, reads, assigns};
 ghost use Rattle.std.specs.Str.{bytes_eq};
-ghost use Rattle.cord_plan.specs.inner.Numbering.{AreHints, IsHint};
+ghost use Rattle.cord_plan.specs.declared.flow.numbering.Numbering.{Numbering};
+ghost use Rattle.cord_plan.specs.inner.Numbering.{AreHints, IsHint, number_of};
 
 use crate::flow::line_numbers::LineNumbers;
 use crate::flow::numbering::Numbering;
@@ -21,14 +22,37 @@ pub(crate) fn has_bit(word: u128, i: usize) -> bool
     (word >> i) & 1 == 1
 }
 
+// The word of the name of a number alone.
+fn mark_number(group: usize, number: usize) -> u128
+    ensures { (t : Numbering) (y : List ℕ) → number_of t y ≡ Some number → Marks t group (λ x. bytes_eq x y) result }
+{
+    if number / GROUP == group {
+        1 << (number % GROUP)
+    } else {
+        0
+    }
+}
+
+// The word of the name of a number, where there is one.
+fn mark_told(group: usize, told: Option<u8>) -> u128
+    ensures named { (t : Numbering) (y : List ℕ) (n : ℕ) → told ≡ Some n → number_of t y ≡ Some n →
+        Marks t group (λ x. bytes_eq x y) result }
+    ensures nothing { told ≡ None → result ≡ 0 }
+{
+    match told {
+        None => 0,
+        Some(number) => mark_number(group, usize::from(number)),
+    }
+}
+
 // The word of a name alone.
 fn mark(numbering: &Numbering, group: usize, name: &Name, hint: Option<u8>) -> u128
     requires { IsHint numbering.now name.now hint }
     ensures { Marks numbering.now group (λ x. bytes_eq x name.now) result }
 {
     match numbering.number_with(name, hint) {
-        Some(number) if number / GROUP == group => 1 << (number % GROUP),
-        _ => 0,
+        Some(number) => mark_number(group, number),
+        None => 0,
     }
 }
 
@@ -73,8 +97,8 @@ fn mark_two(
     first | mark(numbering, group, right, numbers.second)
 }
 
-/// The word of the names whose bytes a line reads.
-pub(crate) fn mark_read(
+// The word of the names whose bytes a line reads, by its names.
+fn mark_names(
     numbering: &Numbering,
     group: usize,
     statement: &Statement,
@@ -92,8 +116,26 @@ pub(crate) fn mark_read(
     }
 }
 
-/// The word of the name that a line assigns.
-pub(crate) fn mark_assigned(
+/// The word of the names whose bytes a line reads. Where their numbers are told the line isn't looked at.
+pub(crate) fn mark_read(
+    numbering: &Numbering,
+    group: usize,
+    statement: &Statement,
+    numbers: LineNumbers,
+) -> u128
+    requires { AreHints numbering.now statement.now numbers }
+    ensures { Marks numbering.now group (λ x. reads statement.now x) result }
+{
+    if numbers.read_is_told {
+        let first = mark_told(group, numbers.first);
+        first | mark_told(group, numbers.second)
+    } else {
+        mark_names(numbering, group, statement, numbers)
+    }
+}
+
+// The word of the name that a line assigns, by its name.
+fn mark_target(
     numbering: &Numbering,
     group: usize,
     statement: &Statement,
@@ -105,5 +147,22 @@ pub(crate) fn mark_assigned(
     match statement.target() {
         None => 0,
         Some(target) => mark(numbering, group, target, numbers.target),
+    }
+}
+
+/// The word of the name that a line assigns. Where its number is told the line isn't looked at.
+pub(crate) fn mark_assigned(
+    numbering: &Numbering,
+    group: usize,
+    statement: &Statement,
+    numbers: LineNumbers,
+) -> u128
+    requires { AreHints numbering.now statement.now numbers }
+    ensures { Marks numbering.now group (λ x. assigns statement.now x) result }
+{
+    if numbers.target_is_told {
+        mark_told(group, numbers.target)
+    } else {
+        mark_target(numbering, group, statement, numbers)
     }
 }

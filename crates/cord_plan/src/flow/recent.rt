@@ -1,9 +1,10 @@
 // The last lines so far that assign and read each name.
-ghost use Rattle.std.specs.Prelude.{◌≡◌, ◌+◌, ◌||◌, ℕ, List, Some, IfOk, slice_get};
+ghost use Rattle.std.specs.Prelude.{◌≡◌, ◌+◌, ◌||◌, ℕ, List, None, Some, IfOk, slice_get};
 ghost use Rattle.std.specs.Str.{bytes_eq};
 ghost use Rattle.cord_syntax.specs.declared.statements.Statement.{Statement};
 ghost use Rattle.cord_plan.specs.Operands.{assigns, cord_arguments, has, reads};
-ghost use Rattle.cord_plan.specs.inner.Numbering.{AreHints, IsHint};
+ghost use Rattle.cord_plan.specs.declared.flow.numbering.Numbering.{Numbering};
+ghost use Rattle.cord_plan.specs.inner.Numbering.{AreHints, IsHint, number_of};
 ghost use Rattle.cord_plan.specs.inner.Recent.{IsRecent, Notes, entry_at, entry_of, is_before, is_after};
 ghost use Rattle.cord_plan.specs.inner.Recent.{unless_after};
 
@@ -84,6 +85,28 @@ pub(crate) fn is_before(place: Option<usize>, other: usize) -> bool
     }
 }
 
+// Notes a place for the name of a number.
+fn note_number(places: &mut [Option<usize>], number: usize, place: usize)
+    ensures { (t : Numbering) (y : List ℕ) → number_of t y ≡ Some number →
+        Notes t (λ x. bytes_eq x y) place places.old places.new }
+{
+    if number < places.len() {
+        places[number] = Some(place);
+    }
+}
+
+// Notes a place for the name of a number, where there is one.
+fn note_told(places: &mut [Option<usize>], told: Option<u8>, place: usize)
+    ensures named { (t : Numbering) (y : List ℕ) (n : ℕ) → told ≡ Some n → number_of t y ≡ Some n →
+        Notes t (λ x. bytes_eq x y) place places.old places.new }
+    ensures nothing { told ≡ None → places.new ≡ places.old }
+{
+    match told {
+        None => {}
+        Some(number) => note_number(places, usize::from(number), place),
+    }
+}
+
 // Notes a place for a name.
 fn note(
     numbering: &Numbering,
@@ -96,8 +119,8 @@ fn note(
     ensures { Notes numbering.now (λ x. bytes_eq x name.now) place places.old places.new }
 {
     match numbering.number_with(name, hint) {
-        Some(number) if number < places.len() => places[number] = Some(place),
-        _ => {}
+        Some(number) => note_number(places, number, place),
+        None => {}
     }
 }
 
@@ -144,8 +167,8 @@ fn note_two(
     note(numbering, places, right, numbers.second, place);
 }
 
-// Notes it for the names that a line reads.
-fn note_read(
+// Notes it for the names that a line reads, by its names.
+fn note_names(
     numbering: &Numbering,
     places: &mut [Option<usize>],
     statement: &Statement,
@@ -164,8 +187,27 @@ fn note_read(
     }
 }
 
-// Notes it for the name that a line assigns.
-fn note_assigned(
+// Notes it for the names that a line reads. Where their numbers are told the line isn't looked at.
+fn note_read(
+    numbering: &Numbering,
+    places: &mut [Option<usize>],
+    statement: &Statement,
+    numbers: LineNumbers,
+    place: usize,
+)
+    requires { AreHints numbering.now statement.now numbers }
+    ensures { Notes numbering.now (λ x. reads statement.now x) place places.old places.new }
+{
+    if numbers.read_is_told {
+        note_told(places, numbers.first, place);
+        note_told(places, numbers.second, place);
+    } else {
+        note_names(numbering, places, statement, numbers, place);
+    }
+}
+
+// Notes it for the name that a line assigns, by its name.
+fn note_target(
     numbering: &Numbering,
     places: &mut [Option<usize>],
     statement: &Statement,
@@ -178,6 +220,24 @@ fn note_assigned(
     match statement.target() {
         None => {}
         Some(target) => note(numbering, places, target, numbers.target, place),
+    }
+}
+
+// Notes it for the name that a line assigns. Where its number is told the line isn't looked at.
+fn note_assigned(
+    numbering: &Numbering,
+    places: &mut [Option<usize>],
+    statement: &Statement,
+    numbers: LineNumbers,
+    place: usize,
+)
+    requires { AreHints numbering.now statement.now numbers }
+    ensures { Notes numbering.now (λ x. assigns statement.now x) place places.old places.new }
+{
+    if numbers.target_is_told {
+        note_told(places, numbers.target, place);
+    } else {
+        note_target(numbering, places, statement, numbers, place);
     }
 }
 
