@@ -54,7 +54,8 @@ const CORDS: [Want; MAX_PARTS] = [Want::Operand(Kind::Cord); MAX_PARTS];
 // The target and the format of a `sprintf`.
 const FORMAT: [Want; 2] = [Want::Target(Kind::Cord), Want::Format];
 
-// Takes a word for each want, from left to right, and tells whether all that they say is settled.
+// Takes a word for each want, from left to right, and tells whether all that they say is settled. Words that are too
+// few are refused, with the first of them that is wrong where there is one.
 fn take_fields(
     alloc: Global,
     names: &Table,
@@ -62,18 +63,17 @@ fn take_fields(
     words: &mut VecDeque<Word>,
     fields: &mut Vec<Field>,
 ) -> Result<bool, RefusalKind>
-    requires { length wants.now ≤ length words.old.items }
     ensures taken { OnOk result (HasTaken wants.now words.old.items words.new.items fields.old.items fields.new.items) }
     ensures fit { OnOk result (first_pair misfit wants.now words.old.items ≡ None) }
     ensures settled { IfOk result (λ settled. settled ≡ true → AllSettled names.now (map term_of fields.old.items) →
         AllSettled names.now (map term_of fields.new.items)) }
-    ensures flaw { IfErr result (λ kind. kind ≢ RefusalKind.NoMemory → first_pair misfit wants.now words.old.items
-        ≡ Some kind) }
+    ensures flaw { IfErr result (λ kind. kind ≢ RefusalKind.NoMemory → length wants.now ≤ length words.old.items →
+        first_pair misfit wants.now words.old.items ≡ Some kind) }
 {
     let mut settled = true;
     for want in wants {
         let Some(word) = words.pop_front() else {
-            unreachable!()
+            return Err(RefusalKind::WrongCount);
         };
         let (field, told) = field_of(alloc, names, *want, word)?;
         fields.push(field)?;

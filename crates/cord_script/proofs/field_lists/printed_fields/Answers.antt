@@ -12,7 +12,7 @@ pub returns-in_err-front-clause-flaw : goal.returns-in_err-front-clause-flaw
 returns-in_err-front-clause-flaw c =
     let p = err_from_is_err_and c.from_residual-in_err-front.result c.from_residual-in_err-front.ensures.1 in
     rw (p.1, p.2) (λ n. front_wrong c.args.words.now.items c.in_ok-read.read c.in_err-front.field-0.0
-    (omega arith) c.in_ok-read.ensures.format (c.in_err-front.ensures.flaw n))
+    (omega arith) c.in_ok-read.ensures.format (c.in_err-front.ensures.flaw n (omega arith)))
 
 pub returns-in_err-arguments-clause-flaw : goal.returns-in_err-arguments-clause-flaw
 returns-in_err-arguments-clause-flaw c =
