@@ -4,7 +4,7 @@ ghost use Rattle.cord_plan.specs.inner.Marks.{bit, Marks};
 ghost use Rattle.cord_plan.specs.Operands.{has, cord_arguments, reads, assigns};
 ghost use Rattle.std.specs.Str.{bytes_eq};
 ghost use Rattle.cord_plan.specs.declared.flow.numbering.Numbering.{Numbering};
-ghost use Rattle.cord_plan.specs.inner.Numbering.{AreHints, IsHint, number_of};
+ghost use Rattle.cord_plan.specs.inner.Numbering.{AreHints, number_of};
 
 use crate::flow::line_numbers::LineNumbers;
 use crate::flow::numbering::Numbering;
@@ -46,11 +46,10 @@ fn mark_told(group: usize, told: Option<u8>) -> u128
 }
 
 // The word of a name alone.
-fn mark(numbering: &Numbering, group: usize, name: &Name, hint: Option<u8>) -> u128
-    requires { IsHint numbering.now name.now hint }
+fn mark(numbering: &Numbering, group: usize, name: &Name) -> u128
     ensures { Marks numbering.now group (λ x. bytes_eq x name.now) result }
 {
-    match numbering.number_with(name, hint) {
+    match numbering.number_of(name) {
         Some(number) => mark_number(group, number),
         None => 0,
     }
@@ -62,7 +61,7 @@ fn mark_all(numbering: &Numbering, group: usize, names: &[Name]) -> u128
 {
     let mut word = 0;
     for name in names {
-        word |= mark(numbering, group, name, None);
+        word |= mark(numbering, group, name);
     }
     word
 }
@@ -75,42 +74,28 @@ fn mark_arguments(numbering: &Numbering, group: usize, arguments: &[Argument]) -
     for argument in arguments {
         match argument {
             Argument::Number(_) => {}
-            Argument::Cord(name) => word |= mark(numbering, group, name, None),
+            Argument::Cord(name) => word |= mark(numbering, group, name),
         }
     }
     word
 }
 
 // The word of two names.
-fn mark_two(
-    numbering: &Numbering,
-    group: usize,
-    left: &Name,
-    right: &Name,
-    numbers: LineNumbers,
-) -> u128
-    requires first { IsHint numbering.now left.now numbers.first }
-    requires second { IsHint numbering.now right.now numbers.second }
+fn mark_two(numbering: &Numbering, group: usize, left: &Name, right: &Name) -> u128
     ensures { Marks numbering.now group (λ x. bytes_eq x left.now || bytes_eq x right.now) result }
 {
-    let first = mark(numbering, group, left, numbers.first);
-    first | mark(numbering, group, right, numbers.second)
+    let first = mark(numbering, group, left);
+    first | mark(numbering, group, right)
 }
 
 // The word of the names whose bytes a line reads, by its names.
-fn mark_names(
-    numbering: &Numbering,
-    group: usize,
-    statement: &Statement,
-    numbers: LineNumbers,
-) -> u128
-    requires { AreHints numbering.now statement.now numbers }
+fn mark_names(numbering: &Numbering, group: usize, statement: &Statement) -> u128
     ensures { Marks numbering.now group (λ x. reads statement.now x) result }
 {
     match reading_of(statement) {
         Reading::Nothing => 0,
-        Reading::One(operand) => mark(numbering, group, operand, numbers.first),
-        Reading::Two(left, right) => mark_two(numbering, group, left, right, numbers),
+        Reading::One(operand) => mark(numbering, group, operand),
+        Reading::Two(left, right) => mark_two(numbering, group, left, right),
         Reading::Many(parts) => mark_all(numbering, group, parts),
         Reading::Printed(arguments) => mark_arguments(numbering, group, arguments),
     }
@@ -130,23 +115,17 @@ pub(crate) fn mark_read(
         let first = mark_told(group, numbers.first);
         first | mark_told(group, numbers.second)
     } else {
-        mark_names(numbering, group, statement, numbers)
+        mark_names(numbering, group, statement)
     }
 }
 
 // The word of the name that a line assigns, by its name.
-fn mark_target(
-    numbering: &Numbering,
-    group: usize,
-    statement: &Statement,
-    numbers: LineNumbers,
-) -> u128
-    requires { AreHints numbering.now statement.now numbers }
+fn mark_target(numbering: &Numbering, group: usize, statement: &Statement) -> u128
     ensures { Marks numbering.now group (λ x. assigns statement.now x) result }
 {
     match statement.target() {
         None => 0,
-        Some(target) => mark(numbering, group, target, numbers.target),
+        Some(target) => mark(numbering, group, target),
     }
 }
 
@@ -163,6 +142,6 @@ pub(crate) fn mark_assigned(
     if numbers.target_is_told {
         mark_told(group, numbers.target)
     } else {
-        mark_target(numbering, group, statement, numbers)
+        mark_target(numbering, group, statement)
     }
 }

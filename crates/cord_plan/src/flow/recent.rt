@@ -4,7 +4,7 @@ ghost use Rattle.std.specs.Str.{bytes_eq};
 ghost use Rattle.cord_syntax.specs.declared.statements.Statement.{Statement};
 ghost use Rattle.cord_plan.specs.Operands.{assigns, cord_arguments, has, reads};
 ghost use Rattle.cord_plan.specs.declared.flow.numbering.Numbering.{Numbering};
-ghost use Rattle.cord_plan.specs.inner.Numbering.{AreHints, IsHint, number_of};
+ghost use Rattle.cord_plan.specs.inner.Numbering.{AreHints, number_of};
 ghost use Rattle.cord_plan.specs.inner.Recent.{IsRecent, Notes, entry_at, entry_of, is_before, is_after};
 ghost use Rattle.cord_plan.specs.inner.Recent.{unless_after};
 
@@ -108,17 +108,10 @@ fn note_told(places: &mut [Option<usize>], told: Option<u8>, place: usize)
 }
 
 // Notes a place for a name.
-fn note(
-    numbering: &Numbering,
-    places: &mut [Option<usize>],
-    name: &Name,
-    hint: Option<u8>,
-    place: usize,
-)
-    requires { IsHint numbering.now name.now hint }
+fn note(numbering: &Numbering, places: &mut [Option<usize>], name: &Name, place: usize)
     ensures { Notes numbering.now (λ x. bytes_eq x name.now) place places.old places.new }
 {
-    match numbering.number_with(name, hint) {
+    match numbering.number_of(name) {
         Some(number) => note_number(places, number, place),
         None => {}
     }
@@ -129,7 +122,7 @@ fn note_all(numbering: &Numbering, places: &mut [Option<usize>], names: &[Name],
     ensures { Notes numbering.now (λ x. has names.now x) place places.old places.new }
 {
     for name in names {
-        note(numbering, places, name, None, place);
+        note(numbering, places, name, place);
     }
 }
 
@@ -145,7 +138,7 @@ fn note_arguments(
     for argument in arguments {
         match argument {
             Argument::Number(_) => {}
-            Argument::Cord(name) => note(numbering, places, name, None, place),
+            Argument::Cord(name) => note(numbering, places, name, place),
         }
     }
 }
@@ -156,15 +149,12 @@ fn note_two(
     places: &mut [Option<usize>],
     left: &Name,
     right: &Name,
-    numbers: LineNumbers,
     place: usize,
 )
-    requires first { IsHint numbering.now left.now numbers.first }
-    requires second { IsHint numbering.now right.now numbers.second }
     ensures { Notes numbering.now (λ x. bytes_eq x left.now || bytes_eq x right.now) place places.old places.new }
 {
-    note(numbering, places, left, numbers.first, place);
-    note(numbering, places, right, numbers.second, place);
+    note(numbering, places, left, place);
+    note(numbering, places, right, place);
 }
 
 // Notes it for the names that a line reads, by its names.
@@ -172,16 +162,14 @@ fn note_names(
     numbering: &Numbering,
     places: &mut [Option<usize>],
     statement: &Statement,
-    numbers: LineNumbers,
     place: usize,
 )
-    requires { AreHints numbering.now statement.now numbers }
     ensures { Notes numbering.now (λ x. reads statement.now x) place places.old places.new }
 {
     match reading_of(statement) {
         Reading::Nothing => {}
-        Reading::One(operand) => note(numbering, places, operand, numbers.first, place),
-        Reading::Two(left, right) => note_two(numbering, places, left, right, numbers, place),
+        Reading::One(operand) => note(numbering, places, operand, place),
+        Reading::Two(left, right) => note_two(numbering, places, left, right, place),
         Reading::Many(parts) => note_all(numbering, places, parts, place),
         Reading::Printed(arguments) => note_arguments(numbering, places, arguments, place),
     }
@@ -202,7 +190,7 @@ fn note_read(
         note_told(places, numbers.first, place);
         note_told(places, numbers.second, place);
     } else {
-        note_names(numbering, places, statement, numbers, place);
+        note_names(numbering, places, statement, place);
     }
 }
 
@@ -211,15 +199,13 @@ fn note_target(
     numbering: &Numbering,
     places: &mut [Option<usize>],
     statement: &Statement,
-    numbers: LineNumbers,
     place: usize,
 )
-    requires { AreHints numbering.now statement.now numbers }
     ensures { Notes numbering.now (λ x. assigns statement.now x) place places.old places.new }
 {
     match statement.target() {
         None => {}
-        Some(target) => note(numbering, places, target, numbers.target, place),
+        Some(target) => note(numbering, places, target, place),
     }
 }
 
@@ -237,7 +223,7 @@ fn note_assigned(
     if numbers.target_is_told {
         note_told(places, numbers.target, place);
     } else {
-        note_target(numbering, places, statement, numbers, place);
+        note_target(numbering, places, statement, place);
     }
 }
 
