@@ -20,7 +20,7 @@ use cord_core::Cord;
 use cord_ec::ExtCord;
 use cord_io::{CordError, MAX_LEN};
 use cord_mark::Mark;
-use cord_script::Number;
+use cord_script::{Name, Number};
 use std::alloc::{AllocError, Global};
 use std::rc::Rc;
 
@@ -34,7 +34,7 @@ pub(crate) enum Content {
 /// A name, and what it holds as the name of a cord, of a number and of an extensible cord.
 #[derive(Drop)]
 pub(crate) struct Entry {
-    pub(crate) name: Vec<u8>,
+    pub(crate) name: Name,
     pub(crate) content: Content,
     pub(crate) number: i64,
     pub(crate) extensible: Option<ExtCord>,
@@ -47,7 +47,7 @@ pub(crate) struct Store {
     pub(crate) entries: Vec<Entry>,
     // For each slot the place of a name of that slot: where it is another name's, the name is looked for. Empty before there is
     // an entry.
-    guesses: Vec<usize>,
+    guesses: Vec<u32>,
     // Tells the names that were fixed.
     marked: Option<Rc<Mark>>,
     ghost distinct: { are_distinct (names_in entries.items) ≡ true },
@@ -67,7 +67,7 @@ impl Store {
     }
 
     /// The place of a name.
-    pub(crate) fn place(&self, name: &[u8]) -> Option<usize>
+    pub(crate) fn place(&self, name: &Name) -> Option<usize>
         ensures within { IfSome result (λ place. place < length self.now.entries.items) }
         ensures some { IfSome result (IsEntryAt self.now.entries.items name.now) }
         ensures none { IfNone result (HasNoEntry self.now.entries.items name.now) }
@@ -76,7 +76,7 @@ impl Store {
     }
 
     /// The cord of a name, where it has one that isn't empty.
-    pub(crate) fn cord_of(&self, name: &[u8]) -> Option<&Cord>
+    pub(crate) fn cord_of(&self, name: &Name) -> Option<&Cord>
         ensures some { IfSome result (λ cord. cord.now ≡ cord_in (content_in self.now.entries.items name.now)) }
         ensures len { IfSome result (λ cord. text_len cord.now ≡ length_in self.now.entries.items name.now) }
         ensures none { IfNone result (cord_in (content_in self.now.entries.items name.now) ≡ None) }
@@ -92,7 +92,7 @@ impl Store {
 
     /// The length that is told of the name of a cord.
     #[inline(always)]
-    pub(crate) fn length_of(&self, name: &[u8]) -> u64
+    pub(crate) fn length_of(&self, name: &Name) -> u64
         ensures { result ≡ length_in self.now.entries.items name.now }
     {
         match self.place(name) {
@@ -110,12 +110,12 @@ impl Store {
     {
         match operand {
             Number::Numeral(value) => *value,
-            Number::Named(name) => self.number_of(name.as_slice()),
+            Number::Named(name) => self.number_of(name),
         }
     }
 
     // The number of a name.
-    fn number_of(&self, name: &[u8]) -> i64
+    fn number_of(&self, name: &Name) -> i64
         ensures { result ≡ number_in self.now.entries.items name.now }
     {
         match self.place(name) {
@@ -167,7 +167,7 @@ impl Store {
     pub(crate) fn assign(
         &mut self,
         alloc: Global,
-        name: &[u8],
+        name: &Name,
         content: Content,
     ) -> Result<(), AllocError>
         ensures { IfOk result (λ _. HasContent name.now content self.old.entries.items self.new.entries.items) }
@@ -181,7 +181,7 @@ impl Store {
     pub(crate) fn assign_number(
         &mut self,
         alloc: Global,
-        name: &[u8],
+        name: &Name,
         number: i64,
     ) -> Result<(), AllocError>
         ensures { IfOk result (λ _. HasNumber name.now number self.old.entries.items self.new.entries.items) }
@@ -195,7 +195,7 @@ impl Store {
     pub(crate) fn assign_extensible(
         &mut self,
         alloc: Global,
-        name: &[u8],
+        name: &Name,
         extensible: ExtCord,
     ) -> Result<(), AllocError>
         ensures { IfOk result (λ _. HasExtensible name.now (Some extensible.text) self.old.entries.items
@@ -210,7 +210,7 @@ impl Store {
     pub(crate) fn append(
         &mut self,
         alloc: Global,
-        name: &[u8],
+        name: &Name,
         bytes: &[u8],
     ) -> Result<(), CordError>
         ensures grown { IfOk result (λ _. Grew name.now bytes.now self.old.entries.items self.new.entries.items) }
@@ -237,7 +237,7 @@ impl Store {
     }
 
     /// Takes the extensible cord of a name out, which then has none.
-    pub(crate) fn take_extensible(&mut self, name: &[u8]) -> Option<ExtCord>
+    pub(crate) fn take_extensible(&mut self, name: &Name) -> Option<ExtCord>
         ensures taken { cells_in result ≡ extensible_in self.old.entries.items name.now }
         ensures left { HasExtensible name.now None self.old.entries.items self.new.entries.items }
     {

@@ -38,6 +38,7 @@ use cord_file::Sources;
 use cord_io::Files;
 use cord_meaning::FaultKind;
 use cord_plan::Made;
+use cord_script::Name;
 use std::alloc::Global;
 
 /// What a name gets of what it is made of.
@@ -55,7 +56,7 @@ pub(crate) fn serve_target<F: Files>(
     alloc: Global,
     store: &mut Store,
     sources: &mut Sources<F>,
-    target: &[u8],
+    target: &Name,
     made: &Made,
     gets: Gets,
 ) -> Result<(), Stop>
@@ -82,7 +83,7 @@ pub(crate) fn serve_target<F: Files>(
 }
 
 // Gives a name what was made for it.
-fn give(alloc: Global, store: &mut Store, target: &[u8], content: Content) -> Result<(), Stop>
+fn give(alloc: Global, store: &mut Store, target: &Name, content: Content) -> Result<(), Stop>
     ensures given { IfOk result (λ _. HasContent target.now content store.old.entries.items store.new.entries.items) }
     ensures refused { IfErr result (λ stop. stop ≡ Stop.NoMemory) }
 {
@@ -129,11 +130,11 @@ fn make_of_names(alloc: Global, store: &mut Store, made: Fileless<'_>) -> Result
         }
         Fileless::OfFunction { function, count } => start(alloc, function, store.value_of(count)),
         Fileless::Balanced(name) => {
-            let cord = balanced(alloc, store, name.as_slice())?;
+            let cord = balanced(alloc, store, name)?;
             Ok(cord)
         }
         Fileless::OfExtensible(name) => {
-            let cord = store.extended(alloc, name.as_slice())?;
+            let cord = store.extended(alloc, name)?;
             Ok(cord)
         }
         Fileless::Printed {
@@ -181,10 +182,8 @@ fn measure_of_names(alloc: Global, store: &Store, made: Fileless<'_>) -> Result<
         Fileless::Joined(expression) => length_or_stop(length_of(expression, store)),
         Fileless::Literal(text) => length_or_stop(as_length(text.as_slice().len() as u64)),
         Fileless::OfFunction { count, .. } => length_or_stop(start_length(store.value_of(count))),
-        Fileless::Balanced(name) => length_or_stop(as_length(store.length_of(name.as_slice()))),
-        Fileless::OfExtensible(name) => length_or_stop(as_length(store.extended_length(
-            name.as_slice(),
-        ))),
+        Fileless::Balanced(name) => length_or_stop(as_length(store.length_of(name))),
+        Fileless::OfExtensible(name) => length_or_stop(as_length(store.extended_length(name))),
         Fileless::Printed {
             format,
             arguments,

@@ -18,7 +18,7 @@ pub(crate) fn length_of(expression: &Expr, store: &Store) -> Result<u64, FaultKi
     ensures { result ≡ extent_in store.now.entries.items (expr_view expression.now) }
 {
     match expression {
-        Expr::Name(name) => Ok(store.length_of(name.as_slice())),
+        Expr::Name(name) => Ok(store.length_of(name)),
         Expr::Run { byte, count } => length_of_run(store.value_of(byte), store.value_of(count)),
         Expr::Cat(members) => match length_of_all(members.as_slice(), store) {
             Ok(len) => as_length(len),
@@ -44,7 +44,7 @@ fn length_of_all(members: &[Rc<Expr>], store: &Store) -> Result<u64, FaultKind>
     for member in members {
         let expression = member.as_ref();
         match expression {
-            Expr::Name(name) => total = total.saturating_add(store.length_of(name.as_slice())),
+            Expr::Name(name) => total = total.saturating_add(store.length_of(name)),
             _ => match length_of(expression, store) {
                 Ok(len) => total = total.saturating_add(len),
                 Err(kind) => return Err(kind),

@@ -18,7 +18,7 @@ use crate::store::Store;
 use cord_core::Cord;
 use cord_io::{CordError, MAX_LEN};
 use cord_plan::Expr;
-use cord_script::Number;
+use cord_script::{Name, Number};
 use std::alloc::Global;
 use std::rc::Rc;
 
@@ -100,7 +100,7 @@ pub(crate) fn add_range(
     ensures refused { IsOkUnless result CordError.NoMemory }
 {
     match expression {
-        Expr::Name(name) => add_name(alloc, name.as_slice(), store, wanted, pieces),
+        Expr::Name(name) => add_name(alloc, name, store, wanted, pieces),
         Expr::Run { byte, count } => add_run(alloc, byte, count, store, wanted, pieces),
         Expr::Cat(members) => add_members(alloc, members.as_slice(), store, wanted, pieces),
         Expr::Sub {
@@ -158,7 +158,7 @@ fn index_of(operand: &Number, store: &Store) -> u64
 // Adds what is wanted of the cord of a name.
 fn add_name(
     alloc: Global,
-    name: &[u8],
+    name: &Name,
     store: &Store,
     wanted: Wanted,
     pieces: &mut Vec<Cord>,

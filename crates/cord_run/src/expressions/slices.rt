@@ -11,6 +11,7 @@ use cord_core::Cord;
 use cord_io::MAX_LEN;
 use cord_node::Node;
 use cord_plan::Expr;
+use cord_script::Name;
 
 /// The text of an expression, where it is one leaf or a range of one. None for a fault, which whoever builds the expression meets.
 #[inline(always)]
@@ -18,13 +19,13 @@ pub(crate) fn slice_of<'a>(expression: &Expr, store: &'a Store) -> Option<&'a [u
     ensures { IfSome result (λ slice. IsTextIn store.now.entries.items (expr_view expression.now) slice.now) }
 {
     match expression {
-        Expr::Name(name) => named_slice(name.as_slice(), store),
+        Expr::Name(name) => named_slice(name, store),
         Expr::Sub {
             expression,
             start,
             count,
         } => match expression.as_ref() {
-            Expr::Name(name) => match named_slice(name.as_slice(), store) {
+            Expr::Name(name) => match named_slice(name, store) {
                 Some(slice) => range_of(slice, store.value_of(start), store.value_of(count)),
                 None => None,
             },
@@ -35,7 +36,7 @@ pub(crate) fn slice_of<'a>(expression: &Expr, store: &'a Store) -> Option<&'a [u
 }
 
 // The text of a name, where its cord is one leaf.
-fn named_slice<'a>(name: &[u8], store: &'a Store) -> Option<&'a [u8]>
+fn named_slice<'a>(name: &Name, store: &'a Store) -> Option<&'a [u8]>
     ensures { IfSome result (λ slice. IsSliceOf (cord_in (content_in store.now.entries.items name.now)) slice.now) }
 {
     match store.cord_of(name) {

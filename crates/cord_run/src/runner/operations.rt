@@ -49,10 +49,10 @@ pub(crate) fn serve<F: Files, S: Sink>(
 {
     match operation {
         Operation::Build { target, made, .. } => {
-            serve_target(alloc, store, sources, target.as_slice(), made, Gets::Cord)
+            serve_target(alloc, store, sources, target, made, Gets::Cord)
         }
         Operation::Measure { target, made, .. } => {
-            serve_target(alloc, store, sources, target.as_slice(), made, Gets::Length)
+            serve_target(alloc, store, sources, target, made, Gets::Length)
         }
         Operation::Write { expression, .. } => put(alloc, expression, store, sources, sink),
         Operation::Keep(statement) => serve_statement(alloc, store, sources, statement),

@@ -20,6 +20,7 @@ use cord_core::Cord;
 use cord_ec::ExtCord;
 use cord_io::CordError;
 use cord_meaning::FaultKind;
+use cord_script::Name;
 use cord_syntax::Growth;
 use std::alloc::Global;
 
@@ -31,23 +32,23 @@ pub(crate) fn serve_growth(alloc: Global, store: &mut Store, growth: Growth<'_>)
     ensures counts { (n : ℕ) → CountsReads n n result }
 {
     match growth {
-        Growth::EcInit { target } => begin(alloc, store, target.as_slice()),
+        Growth::EcInit { target } => begin(alloc, store, target),
         Growth::EcPut { extensible, byte } => {
             let byte = store.value_of(byte);
-            grow_by_number(alloc, store, extensible.as_slice(), byte)
+            grow_by_number(alloc, store, extensible, byte)
         }
         Growth::EcCat {
             extensible,
             operand,
-        } => grow_by_cord(alloc, store, extensible.as_slice(), operand.as_slice()),
+        } => grow_by_cord(alloc, store, extensible, operand),
         Growth::EcStr { extensible, text } => {
-            grow_by_bytes(alloc, store, extensible.as_slice(), text.as_slice())
+            grow_by_bytes(alloc, store, extensible, text.as_slice())
         }
     }
 }
 
 // Lets the extensible cord of a name grow by a number in the place of a byte.
-fn grow_by_number(alloc: Global, store: &mut Store, name: &[u8], byte: i64) -> Result<(), Stop>
+fn grow_by_number(alloc: Global, store: &mut Store, name: &Name, byte: i64) -> Result<(), Stop>
     ensures over { StaysOver store.old.entries.items store.new.entries.items result }
     ensures becomes { GrowsByByte name.now (meant.as_byte byte) store.old.entries.items store.new.entries.items result }
 {
@@ -58,7 +59,7 @@ fn grow_by_number(alloc: Global, store: &mut Store, name: &[u8], byte: i64) -> R
 }
 
 // Begins the extensible cord of a name, with no byte.
-fn begin(alloc: Global, store: &mut Store, name: &[u8]) -> Result<(), Stop>
+fn begin(alloc: Global, store: &mut Store, name: &Name) -> Result<(), Stop>
     ensures over { StaysOver store.old.entries.items store.new.entries.items result }
     ensures becomes { Becomes name.now (λ t. []) store.old.entries.items store.new.entries.items result }
 {
@@ -67,7 +68,7 @@ fn begin(alloc: Global, store: &mut Store, name: &[u8]) -> Result<(), Stop>
 }
 
 // Lets the extensible cord of a name grow by a byte.
-fn grow_by_byte(alloc: Global, store: &mut Store, name: &[u8], byte: u8) -> Result<(), Stop>
+fn grow_by_byte(alloc: Global, store: &mut Store, name: &Name, byte: u8) -> Result<(), Stop>
     ensures over { StaysOver store.old.entries.items store.new.entries.items result }
     ensures becomes { Becomes name.now (longer_text store.old.entries.items name.now (byte ∷ []))
         store.old.entries.items store.new.entries.items result }
@@ -79,7 +80,7 @@ fn grow_by_byte(alloc: Global, store: &mut Store, name: &[u8], byte: u8) -> Resu
 }
 
 // Lets it grow by bytes.
-fn grow_by_bytes(alloc: Global, store: &mut Store, name: &[u8], bytes: &[u8]) -> Result<(), Stop>
+fn grow_by_bytes(alloc: Global, store: &mut Store, name: &Name, bytes: &[u8]) -> Result<(), Stop>
     ensures over { StaysOver store.old.entries.items store.new.entries.items result }
     ensures becomes { Becomes name.now (longer_text store.old.entries.items name.now bytes.now) store.old.entries.items
         store.new.entries.items result }
@@ -91,7 +92,7 @@ fn grow_by_bytes(alloc: Global, store: &mut Store, name: &[u8], bytes: &[u8]) ->
 }
 
 // Lets it grow by the cord of another name.
-fn grow_by_cord(alloc: Global, store: &mut Store, name: &[u8], operand: &[u8]) -> Result<(), Stop>
+fn grow_by_cord(alloc: Global, store: &mut Store, name: &Name, operand: &Name) -> Result<(), Stop>
     ensures over { StaysOver store.old.entries.items store.new.entries.items result }
     ensures becomes { Becomes name.now (λ t. longer_text store.old.entries.items name.now
         (text_over t store.old.entries.items operand.now) t) store.old.entries.items store.new.entries.items result }
@@ -115,7 +116,7 @@ fn refusal(error: CordError) -> Stop
 }
 
 // The extensible cord of a name, taken out of its entry: an empty one where it was not begun.
-fn taken(alloc: Global, store: &mut Store, name: &[u8]) -> Result<ExtCord, Stop>
+fn taken(alloc: Global, store: &mut Store, name: &Name) -> Result<ExtCord, Stop>
     ensures taken { IfOk result (λ e. IsTaken name.now store.old.entries.items store.new.entries.items e.text) }
     ensures refused { IfErr result (λ stop. stop ≡ Stop.NoMemory) }
 {
@@ -126,7 +127,7 @@ fn taken(alloc: Global, store: &mut Store, name: &[u8]) -> Result<ExtCord, Stop>
 }
 
 // Gives a name its extensible cord.
-fn give(alloc: Global, store: &mut Store, name: &[u8], extensible: ExtCord) -> Result<(), Stop>
+fn give(alloc: Global, store: &mut Store, name: &Name, extensible: ExtCord) -> Result<(), Stop>
     ensures given { IfOk result (λ _. HasExtensible name.now (Some extensible.text) store.old.entries.items
         store.new.entries.items) }
     ensures refused { IfErr result (λ stop. stop ≡ Stop.NoMemory) }

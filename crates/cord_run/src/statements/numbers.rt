@@ -21,7 +21,7 @@ use crate::store::Store;
 use cord_core::Cord;
 use cord_io::Source;
 use cord_meaning::FaultKind;
-use cord_script::Statement;
+use cord_script::{Name, Statement};
 use cord_syntax::{Computation, Look, Search};
 use std::alloc::Global;
 
@@ -42,7 +42,7 @@ pub(crate) fn assign_found(
         Err(stop) => Err(stop),
         Ok(number) => match statement.target() {
             None => Ok(()),
-            Some(target) => give_number(alloc, store, target.as_slice(), number),
+            Some(target) => give_number(alloc, store, target, number),
         },
     }
 }
@@ -72,7 +72,7 @@ fn computed_number(store: &Store, computation: Computation<'_>) -> Result<i64, F
         FindsOver t (statement_of line (families.Computation computation.entry)) store.now.entries.items (number_or_stop result) }
 {
     match computation {
-        Computation::Len { operand, .. } => Ok(told_length(store, operand.as_slice())),
+        Computation::Len { operand, .. } => Ok(told_length(store, operand)),
         Computation::Assign { value, .. } => Ok(store.value_of(value)),
         Computation::Add { left, right, .. } => sum(store.value_of(left), store.value_of(right)),
         Computation::Sub { left, right, .. } => {
@@ -92,7 +92,7 @@ fn number_or_stop(number: Result<i64, FaultKind>) -> Result<i64, Stop>
 }
 
 // The length that is told of a name.
-fn told_length(store: &Store, name: &[u8]) -> i64
+fn told_length(store: &Store, name: &Name) -> i64
     requires { length_in store.now.entries.items name.now ≤ MAX_LEN }
     ensures { result ≡ pos (length_in store.now.entries.items name.now) }
 {
@@ -113,12 +113,12 @@ pub(crate) fn look_number<R: Source>(
     let empty = Cord::empty();
     match look {
         Look::Fetch { operand, index, .. } => {
-            let cord = cord_or(store, operand.as_slice(), &empty);
+            let cord = cord_or(store, operand, &empty);
             fetched(cord, store.value_of(index), source)
         }
         Look::Cmp { left, right, .. } => {
-            let left = cord_or(store, left.as_slice(), &empty);
-            compared(left, cord_or(store, right.as_slice(), &empty), source)
+            let left = cord_or(store, left, &empty);
+            compared(left, cord_or(store, right, &empty), source)
         }
         Look::Ncmp {
             left,
@@ -128,9 +128,9 @@ pub(crate) fn look_number<R: Source>(
             count,
             ..
         } => ranges_compared(
-            cord_or(store, left.as_slice(), &empty),
+            cord_or(store, left, &empty),
             store.value_of(left_start),
-            cord_or(store, right.as_slice(), &empty),
+            cord_or(store, right, &empty),
             store.value_of(right_start),
             store.value_of(count),
             source,
@@ -157,9 +157,9 @@ pub(crate) fn search_number<R: Source>(
             pattern,
             ..
         } => text_found(
-            cord_or(store, operand.as_slice(), &empty),
+            cord_or(store, operand, &empty),
             store.value_of(start),
-            cord_or(store, pattern.as_slice(), &empty),
+            cord_or(store, pattern, &empty),
             source,
         ),
         Search::Chr {
@@ -168,7 +168,7 @@ pub(crate) fn search_number<R: Source>(
             byte,
             ..
         } => {
-            let cord = cord_or(store, operand.as_slice(), &empty);
+            let cord = cord_or(store, operand, &empty);
             let start = store.value_of(start);
             let byte = store.value_of(byte);
             byte_found(cord, start, byte, Direction::Forward, source)
@@ -179,7 +179,7 @@ pub(crate) fn search_number<R: Source>(
             byte,
             ..
         } => {
-            let cord = cord_or(store, operand.as_slice(), &empty);
+            let cord = cord_or(store, operand, &empty);
             let start = store.value_of(start);
             let byte = store.value_of(byte);
             byte_found(cord, start, byte, Direction::Backward, source)
@@ -188,7 +188,7 @@ pub(crate) fn search_number<R: Source>(
 }
 
 /// The cord of a name, or this empty one where it has none.
-pub(crate) fn cord_or<'a>(store: &'a Store, name: &[u8], empty: &'a Cord) -> &'a Cord
+pub(crate) fn cord_or<'a>(store: &'a Store, name: &Name, empty: &'a Cord) -> &'a Cord
     requires { empty.now ≡ None }
     ensures { result.now ≡ cord_in (content_in store.now.entries.items name.now) }
 {
@@ -219,7 +219,7 @@ pub(crate) fn difference(left: i64, right: i64) -> Result<i64, FaultKind>
 }
 
 // Gives a name of a number its number.
-fn give_number(alloc: Global, store: &mut Store, target: &[u8], number: i64) -> Result<(), Stop>
+fn give_number(alloc: Global, store: &mut Store, target: &Name, number: i64) -> Result<(), Stop>
     ensures given { IfOk result (λ _. HasNumber target.now number store.old.entries.items store.new.entries.items) }
     ensures refused { IfErr result (λ stop. stop ≡ Stop.NoMemory) }
 {

@@ -8,6 +8,7 @@ ghost use Rattle.cord_run.specs.inner.Places.{StayFirst};
 use crate::store::Entry;
 use cord_ec::ExtCord;
 use cord_io::{CordError, MAX_LEN};
+use cord_script::Name;
 use std::alloc::Global;
 
 /// Lets the extensible cord in the entry at a place grow by bytes. Answers whether it did.
@@ -45,7 +46,7 @@ fn append_begun(alloc: Global, extensible: &mut Option<ExtCord>, bytes: &[u8]) -
 pub(crate) fn append_at(
     alloc: Global,
     entries: &mut [Entry],
-    name: &[u8],
+    name: &Name,
     place: usize,
     bytes: &[u8],
 ) -> Result<(), CordError>

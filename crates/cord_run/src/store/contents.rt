@@ -6,10 +6,11 @@ ghost use Rattle.cord_run.specs.inner.Places.{StayFirst};
 
 use crate::store::{Content, Entry};
 use cord_ec::ExtCord;
+use cord_script::Name;
 use std::mem::replace;
 
 /// Puts another content into the entry of a name.
-pub(crate) fn set_content(entries: &mut [Entry], name: &[u8], place: usize, content: Content)
+pub(crate) fn set_content(entries: &mut [Entry], name: &Name, place: usize, content: Content)
     requires within { place < length entries.old }
     requires place { IsEntryAt entries.old name.now place }
     ensures set { HasContent name.now content entries.old entries.new }
@@ -36,7 +37,7 @@ pub(crate) fn set_number(entries: &mut [Entry], place: usize, number: i64)
 /// Puts another extensible cord, or none, into the entry of a name, and answers what it had.
 pub(crate) fn set_extensible(
     entries: &mut [Entry],
-    name: &[u8],
+    name: &Name,
     place: usize,
     extensible: Option<ExtCord>,
 ) -> Option<ExtCord>

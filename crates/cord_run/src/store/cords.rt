@@ -7,10 +7,11 @@ use crate::store::Store;
 use cord_core::Cord;
 use cord_ec::ExtCord;
 use cord_io::CordError;
+use cord_script::Name;
 use std::alloc::Global;
 
 /// The cord of a name, shared. Refused only with `NoMemory`.
-pub(crate) fn shared(alloc: Global, store: &Store, name: &[u8]) -> Result<Cord, CordError>
+pub(crate) fn shared(alloc: Global, store: &Store, name: &Name) -> Result<Cord, CordError>
     ensures same { IfOk result (λ cord. cord ≡ cord_in (content_in store.now.entries.items name.now)) }
     ensures refused { IsOkUnless result CordError.NoMemory }
 {
@@ -21,7 +22,7 @@ pub(crate) fn shared(alloc: Global, store: &Store, name: &[u8]) -> Result<Cord, 
 }
 
 /// The text of a name as a balanced cord. Refused only with `NoMemory`.
-pub(crate) fn balanced(alloc: Global, store: &Store, name: &[u8]) -> Result<Cord, CordError>
+pub(crate) fn balanced(alloc: Global, store: &Store, name: &Name) -> Result<Cord, CordError>
     ensures made { IfOk result (IsTextOver store.now.entries.items (λ s. Ok (s.texts name.now))) }
     ensures refused { IsOkUnless result CordError.NoMemory }
 {
@@ -34,7 +35,7 @@ pub(crate) fn balanced(alloc: Global, store: &Store, name: &[u8]) -> Result<Cord
 impl Store {
     /// The text of the extensible cord of a name as a cord: no bytes where it was not begun. All names hold what they held.
     /// Refused only with `NoMemory`.
-    pub(crate) fn extended(&mut self, alloc: Global, name: &[u8]) -> Result<Cord, CordError>
+    pub(crate) fn extended(&mut self, alloc: Global, name: &Name) -> Result<Cord, CordError>
         ensures made { IfOk result (IsTextOver self.old.entries.items (λ s. Ok (s.extensibles name.now))) }
         ensures same { SameEntries self.old.entries.items self.new.entries.items }
         ensures refused { IsOkUnless result CordError.NoMemory }
@@ -49,7 +50,7 @@ impl Store {
     }
 
     /// The length of the extensible cord of a name: 0 where it was not begun.
-    pub(crate) fn extended_length(&self, name: &[u8]) -> u64
+    pub(crate) fn extended_length(&self, name: &Name) -> u64
         ensures { result ≡ extensible_length (extensible_in self.now.entries.items name.now) }
     {
         match self.place(name) {

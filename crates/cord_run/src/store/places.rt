@@ -5,7 +5,8 @@ ghost use Rattle.cord_run.specs.inner.Places.{StayFirst};
 
 use crate::store::{Content, Entry};
 use cord_core::Cord;
-use cord_script::is_same;
+use cord_operands::slot_of;
+use cord_script::Name;
 use std::alloc::{AllocError, Global};
 
 /// So many entries have few slots.
@@ -17,17 +18,16 @@ const FEW_SLOTS: usize = 256;
 /// The same where they are many.
 const SLOTS: usize = 4_096;
 
-// The slot of a name, of so many.
-fn slot_of(name: &[u8], slots: usize) -> usize {
-    let mut slot: usize = 0;
-    for byte in name {
-        slot = slot.wrapping_mul(31).wrapping_add(*byte as usize);
-    }
-    slot & slots.wrapping_sub(1)
+/// Guesses are of places below this one.
+const PLACES_GUESSED: usize = 1 << 32;
+
+// The slot of a key, of so many.
+fn slot_among(key: u64, slots: usize) -> usize {
+    slot_of(key) & slots.wrapping_sub(1)
 }
 
 // Whether this is the name at a place.
-fn is_at(entries: &[Entry], place: usize, name: &[u8]) -> bool
+fn is_at(entries: &[Entry], place: usize, name: &Name) -> bool
     requires { are_distinct (names_in entries.now) ≡ true }
     ensures within { result ≡ true → place < length entries.now }
     ensures place { result ≡ true → IsEntryAt entries.now name.now place }
@@ -36,7 +36,7 @@ fn is_at(entries: &[Entry], place: usize, name: &[u8]) -> bool
         return false;
     }
     let entry = &entries[place];
-    is_same(name, entry.name.as_slice())
+    name.is(&entry.name)
 }
 
 // Whether this byte alone is the name at a place.
@@ -55,33 +55,34 @@ fn is_byte_at(entries: &[Entry], place: usize, byte: u8) -> bool
     }
 }
 
-/// The place of a name: the one that is guessed, where it is right. The slot of a name of one byte is that byte.
+/// The place of a name: the one that is guessed, where it is right. The slot of a name of one byte is that byte, and
+/// a longer name has the slot of its key.
 #[inline(always)]
-pub(crate) fn place_by(entries: &[Entry], guesses: &[usize], name: &[u8]) -> Option<usize>
+pub(crate) fn place_by(entries: &[Entry], guesses: &[u32], name: &Name) -> Option<usize>
     requires distinct { are_distinct (names_in entries.now) ≡ true }
     ensures within { IfSome result (λ place. place < length entries.now) }
     ensures some { IfSome result (IsEntryAt entries.now name.now) }
     ensures none { IfNone result (HasNoEntry entries.now name.now) }
 {
-    match name {
+    match name.as_slice() {
         [byte] => match guesses.get(*byte as usize) {
-            Some(guess) if is_byte_at(entries, *guess, *byte) => Some(*guess),
+            Some(guess) if is_byte_at(entries, *guess as usize, *byte) => Some(*guess as usize),
             _ => place_of(entries, name),
         },
-        _ => place_of_long(entries, guesses, name),
+        _ => place_by_key(entries, guesses, name),
     }
 }
 
 // The same of a name of more bytes.
 #[inline(never)]
-fn place_of_long(entries: &[Entry], guesses: &[usize], name: &[u8]) -> Option<usize>
+fn place_by_key(entries: &[Entry], guesses: &[u32], name: &Name) -> Option<usize>
     requires distinct { are_distinct (names_in entries.now) ≡ true }
     ensures within { IfSome result (λ place. place < length entries.now) }
     ensures some { IfSome result (IsEntryAt entries.now name.now) }
     ensures none { IfNone result (HasNoEntry entries.now name.now) }
 {
-    match guesses.get(slot_of(name, guesses.len())) {
-        Some(guess) if is_at(entries, *guess, name) => Some(*guess),
+    match guesses.get(slot_among(name.key(), guesses.len())) {
+        Some(guess) if is_at(entries, *guess as usize, name) => Some(*guess as usize),
         _ => place_of(entries, name),
     }
 }
@@ -89,13 +90,13 @@ fn place_of_long(entries: &[Entry], guesses: &[usize], name: &[u8]) -> Option<us
 // The place of a name, which is looked for.
 #[cold]
 #[inline(never)]
-fn place_of(entries: &[Entry], name: &[u8]) -> Option<usize>
+fn place_of(entries: &[Entry], name: &Name) -> Option<usize>
     ensures within { IfSome result (λ place. place < length entries.now) }
     ensures some { IfSome result (IsEntryAt entries.now name.now) }
     ensures none { IfNone result (HasNoEntry entries.now name.now) }
 {
     for (place, entry) in entries.iter().enumerate() {
-        if is_same(name, entry.name.as_slice()) {
+        if name.is(&entry.name) {
             return Some(place);
         }
     }
@@ -107,8 +108,8 @@ fn place_of(entries: &[Entry], name: &[u8]) -> Option<usize>
 pub(crate) fn place_for(
     alloc: Global,
     entries: &mut Vec<Entry>,
-    guesses: &mut Vec<usize>,
-    name: &[u8],
+    guesses: &mut Vec<u32>,
+    name: &Name,
 ) -> Result<usize, AllocError>
     requires distinct { are_distinct (names_in entries.old.items) ≡ true }
     ensures within { IfOk result (λ place. place < length entries.new.items) }
@@ -129,8 +130,8 @@ pub(crate) fn place_for(
 fn new_place(
     alloc: Global,
     entries: &mut Vec<Entry>,
-    guesses: &mut Vec<usize>,
-    name: &[u8],
+    guesses: &mut Vec<u32>,
+    name: &Name,
 ) -> Result<usize, AllocError>
     requires absent { HasNoEntry entries.old.items name.now }
     requires distinct { are_distinct (names_in entries.old.items) ≡ true }
@@ -141,16 +142,16 @@ fn new_place(
     ensures first { StayFirst entries.old.items entries.new.items }
 {
     guess_place(alloc, entries, guesses, name, entries.len())?;
-    let name = Vec::from_slice(alloc, name)?;
+    let name = name.clone()?;
     add(entries, name)
 }
 
 // Adds an entry, of nothing yet, for a name that has none.
-fn add(entries: &mut Vec<Entry>, name: Vec<u8>) -> Result<usize, AllocError>
-    requires absent { HasNoEntry entries.old.items name.items }
+fn add(entries: &mut Vec<Entry>, name: Name) -> Result<usize, AllocError>
+    requires absent { HasNoEntry entries.old.items name }
     requires distinct { are_distinct (names_in entries.old.items) ≡ true }
     ensures within { IfOk result (λ place. place < length entries.new.items) }
-    ensures place { IfOk result (IsEntryAt entries.new.items name.items) }
+    ensures place { IfOk result (IsEntryAt entries.new.items name) }
     ensures same { IfOk result (λ _. SameEntries entries.old.items entries.new.items) }
     ensures distinct { are_distinct (names_in entries.new.items) ≡ true }
     ensures first { StayFirst entries.old.items entries.new.items }
@@ -169,25 +170,28 @@ fn add(entries: &mut Vec<Entry>, name: Vec<u8>) -> Result<usize, AllocError>
 fn guess_place(
     alloc: Global,
     entries: &[Entry],
-    guesses: &mut Vec<usize>,
-    name: &[u8],
+    guesses: &mut Vec<u32>,
+    name: &Name,
     place: usize,
 ) -> Result<(), AllocError> {
     let slots = if place < FEW { FEW_SLOTS } else { SLOTS };
     if guesses.len() < slots {
         *guesses = vec![in alloc; 0; slots]?;
         for (place, entry) in entries.iter().enumerate() {
-            set_guess(guesses, entry.name.as_slice(), place);
+            set_guess(guesses, &entry.name, place);
         }
     }
     set_guess(guesses, name, place);
     Ok(())
 }
 
-// Puts a place into the slot of a name.
-fn set_guess(guesses: &mut [usize], name: &[u8], place: usize) {
-    let slot = slot_of(name, guesses.len());
-    if slot < guesses.len() {
-        guesses[slot] = place;
+// Puts a place into the slot of a name, where a guess can be of it.
+fn set_guess(guesses: &mut [u32], name: &Name, place: usize) {
+    let slot = match name.as_slice() {
+        [byte] => *byte as usize,
+        _ => slot_among(name.key(), guesses.len()),
+    };
+    if slot < guesses.len() && place < PLACES_GUESSED {
+        guesses[slot] = place as u32;
     }
 }

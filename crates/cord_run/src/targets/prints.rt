@@ -69,7 +69,7 @@ fn given_argument(alloc: Global, store: &Store, argument: &Argument) -> Result<A
     match argument {
         Argument::Number(number) => Ok(Arg::Num(store.value_of(number))),
         Argument::Cord(name) => {
-            let cord = shared(alloc, store, name.as_slice())?;
+            let cord = shared(alloc, store, name)?;
             Ok(Arg::Cord(cord))
         }
     }

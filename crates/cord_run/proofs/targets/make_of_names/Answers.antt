@@ -31,14 +31,14 @@ returns-in-OfFunction-clause-built c =
 
 pub returns-in_ok-cord-in-Balanced-clause-built : goal.returns-in_ok-cord-in-Balanced-clause-built
 returns-in_ok-cord-in-Balanced-clause-built c =
-    balanced_made c.args.store.now.entries.items (fileless_view c.args.made) c.as_slice-in-Balanced.result.now
-    (ap fileless_view c.in-Balanced.is ∙ ap (λ (x : List ℕ). plan.Balanced x) (sym c.as_slice-in-Balanced.ensures))
+    balanced_made c.args.store.now.entries.items (fileless_view c.args.made) c.in-Balanced.name.now
+    (ap fileless_view c.in-Balanced.is)
     c.in_ok-cord-in-Balanced.cord c.in_ok-cord-in-Balanced.ensures.made
 
 pub returns-in_ok-cord-in-OfExtensible-clause-built : goal.returns-in_ok-cord-in-OfExtensible-clause-built
 returns-in_ok-cord-in-OfExtensible-clause-built c =
-    extensible_made c.args.store.now.entries.items (fileless_view c.args.made) c.as_slice-in-OfExtensible.result.now
-    (ap fileless_view c.in-OfExtensible.is ∙ ap (λ (x : List ℕ). plan.OfExtensible x) (sym c.as_slice-in-OfExtensible.ensures))
+    extensible_made c.args.store.now.entries.items (fileless_view c.args.made) c.in-OfExtensible.name.now
+    (ap fileless_view c.in-OfExtensible.is)
     c.in_ok-cord-in-OfExtensible.cord c.in_ok-cord-in-OfExtensible.ensures.made
 
 pub returns-in-Printed-clause-built : goal.returns-in-Printed-clause-built

@@ -1,4 +1,4 @@
-use Rattle.std.proofs.Common.{List, ℕ, ap, sym, ◌∙◌, FitsSigned, w64, to_z, of_z, rules}
+use Rattle.std.proofs.Common.{List, ap, sym, ◌∙◌, FitsSigned, w64, to_z, of_z, rules}
 use Rattle.std.proofs.lemmas.Int.{to_z-of_z}
 use Rattle.cord_operands.specs.declared.operands.Argument.{Argument}
 use Rattle.cord_plan.specs.Planned as plan
@@ -26,8 +26,8 @@ returns-in-OfFunction-clause-told c =
 
 pub returns-in-Balanced-clause-told : goal.returns-in-Balanced-clause-told
 returns-in-Balanced-clause-told c =
-    balanced_told c.args.store.now.entries.items (fileless_view c.args.made) c.as_slice-in-Balanced.result.now
-    (ap fileless_view c.in-Balanced.is ∙ ap (λ (x : List ℕ). plan.Balanced x) (sym c.as_slice-in-Balanced.ensures))
+    balanced_told c.args.store.now.entries.items (fileless_view c.args.made) c.in-Balanced.name.now
+    (ap fileless_view c.in-Balanced.is)
     c.length_of-in-Balanced.result c.length_of-in-Balanced.ensures c.as_length-in-Balanced.result c.as_length-in-Balanced.ensures
     c.length_or_stop-in-Balanced.result c.length_or_stop-in-Balanced.ensures.stops
 

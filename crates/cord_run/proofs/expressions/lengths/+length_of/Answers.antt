@@ -9,8 +9,8 @@ use Rattle.cord_run.proofs.expressions.lengths.+length_of.Goals as goal
 
 pub length_of-returns-in-Ok : goal.length_of-returns-in-Ok
 length_of-returns-in-Ok t c =
-    let es = members_seen c.as_slice-in-Cat.result.now in
-    let view : expr_view c.args.expression.now ≡ plain.cat es = ap expr_view c.in-Cat.is ∙ view-Cat c.in-Cat.members ∙ ap (λ (ms : plain.Exprs). plain.cat ms) c.as_slice-in-Cat.ensures in
+    let es = members_seen c.as_slice.result.now in
+    let view : expr_view c.args.expression.now ≡ plain.cat es = ap expr_view c.in-Cat.is ∙ view-Cat c.in-Cat.members ∙ ap (λ (ms : plain.Exprs). plain.cat ms) c.as_slice.ensures in
     c.as_length.ensures
     ∙ counted_length c.in-Ok.len (members_extent c.args.store.now.entries.items es) c.in-Ok.ensures
     ∙ ap (λ (e : plain.Expr). extent_in c.args.store.now.entries.items e) (sym view)

@@ -1,4 +1,4 @@
-use Rattle.std.proofs.Common.{◌≡◌, ◌<◌, ◌+◌, ℕ, List, drop, sym, ap, subst, ◌∙◌, rules, arith}
+use Rattle.std.proofs.Common.{◌≡◌, ◌<◌, ◌+◌, drop, sym, ap, subst, ◌∙◌, rules, arith}
 use Rattle.std.specs.Prelude.{IfOk}
 use Rattle.std.proofs.lemmas.List.{drop_all}
 use Rattle.cord_plan.specs.Exprs as plain
@@ -18,10 +18,10 @@ use Rattle.cord_run.proofs.expressions.ranges.+add_range.Goals as goal
 pub add_range-returns-in-Name-clause-added : goal.add_range-returns-in-Name-clause-added
 add_range-returns-in-Name-clause-added t c =
     let entries = c.args.store.now.entries.items in
-    let x = c.as_slice.result.now in
+    let x = c.in-Name.name in
     let old = c.args.pieces.now.items in
     let new = c.add_name.new.pieces.items in
-    let view : expr_view c.args.expression.now ≡ plain.name x = ap expr_view c.in-Name.is ∙ view-Name c.in-Name.name ∙ ap (λ (y : List ℕ). plain.name y) (sym c.as_slice.ensures) in
+    let view : expr_view c.args.expression.now ≡ plain.name x = ap expr_view c.in-Name.is ∙ view-Name x in
     subst (λ (e : plain.Expr). IfOk c.add_name.result (λ _. AddsExpression entries e c.args.wanted old new)) (sym view)
     (still_ok c.add_name.result (name_added entries x c.args.wanted old new) c.add_name.ensures.added)
 
@@ -37,18 +37,18 @@ add_range-returns-in-Run-clause-added t c =
 pub add_range-returns-in-Cat-clause-added : goal.add_range-returns-in-Cat-clause-added
 add_range-returns-in-Cat-clause-added t c =
     let entries = c.args.store.now.entries.items in
-    let es = members_seen c.as_slice-in-Cat.result.now in
+    let es = members_seen c.as_slice.result.now in
     let old = c.args.pieces.now.items in
     let new = c.add_members.new.pieces.items in
-    let view : expr_view c.args.expression.now ≡ plain.cat es = ap expr_view c.in-Cat.is ∙ view-Cat c.in-Cat.members ∙ ap (λ (ms : plain.Exprs). plain.cat ms) c.as_slice-in-Cat.ensures in
+    let view : expr_view c.args.expression.now ≡ plain.cat es = ap expr_view c.in-Cat.is ∙ view-Cat c.in-Cat.members ∙ ap (λ (ms : plain.Exprs). plain.cat ms) c.as_slice.ensures in
     subst (λ (e : plain.Expr). IfOk c.add_members.result (λ _. AddsExpression entries e c.args.wanted old new)) (sym view)
     (still_ok c.add_members.result (cat_added entries es c.args.wanted old new) c.add_members.ensures.added)
 
 pub add_range-returns-in-Cat-clause-past : goal.add_range-returns-in-Cat-clause-past
 add_range-returns-in-Cat-clause-past t c =
     let entries = c.args.store.now.entries.items in
-    let es = members_seen c.as_slice-in-Cat.result.now in
-    let view : expr_view c.args.expression.now ≡ plain.cat es = ap expr_view c.in-Cat.is ∙ view-Cat c.in-Cat.members ∙ ap (λ (ms : plain.Exprs). plain.cat ms) c.as_slice-in-Cat.ensures in
+    let es = members_seen c.as_slice.result.now in
+    let view : expr_view c.args.expression.now ≡ plain.cat es = ap expr_view c.in-Cat.is ∙ view-Cat c.in-Cat.members ∙ ap (λ (ms : plain.Exprs). plain.cat ms) c.as_slice.ensures in
     subst (λ (e : plain.Expr). IfOk c.add_members.result (λ after. IsAfter (extent_in entries e) c.args.wanted after)) (sym view)
     (still_ok_by (λ after. IsAfter (members_extent entries es) c.args.wanted after)
     (λ after. IsAfter (extent_in entries (plain.cat es)) c.args.wanted after) c.add_members.result

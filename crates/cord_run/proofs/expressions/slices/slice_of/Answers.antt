@@ -1,4 +1,4 @@
-use Rattle.std.proofs.Common.{◌≡◌, List, ℕ, Ok, ℤ, FitsSigned, IfSome, of_z, to_z, w64, sym, ap, subst, ◌∙◌, rules}
+use Rattle.std.proofs.Common.{◌≡◌, Ok, ℤ, FitsSigned, IfSome, of_z, to_z, w64, sym, ap, subst, ◌∙◌, rules}
 use Rattle.std.proofs.lemmas.Int.{to_z-of_z}
 use Rattle.cord_io.specs.declared.TheConstants.{MAX_LEN}
 use Rattle.cord_plan.specs.Exprs as plain
@@ -13,19 +13,19 @@ use Rattle.cord_run.proofs.expressions.slices.slice_of.Goals as goal
 pub returns-in-Name : goal.returns-in-Name
 returns-in-Name c =
     let entries = c.args.store.now.entries.items in
-    let x = c.as_slice.result.now in
-    let view : expr_view c.args.expression.now ≡ plain.name x = ap expr_view c.in-Name.is ∙ view-Name c.in-Name.name ∙ ap (λ (y : List ℕ). plain.name y) (sym c.as_slice.ensures) in
+    let x = c.in-Name.name in
+    let view : expr_view c.args.expression.now ≡ plain.name x = ap expr_view c.in-Name.is ∙ view-Name x in
     subst (λ (e : plain.Expr). IfSome c.named_slice.result (λ slice. IsTextIn entries e slice.now)) (sym view)
     (still_some c.named_slice.result (λ slice is. name_is entries x slice.now is) c.named_slice.ensures)
 
 pub returns-in-Some : goal.returns-in-Some
 returns-in-Some c =
     let entries = c.args.store.now.entries.items in
-    let x = c.as_slice-in-Name-as_ref.result.now in
+    let x = c.in-Name-as_ref.name in
     let i = c.in-Sub.start in
     let n = c.in-Sub.count in
     let whole = c.in-Some.slice.now in
-    let inner : expr_view c.in-Sub.expression.value ≡ plain.name x = ap expr_view (sym c.as_ref.ensures ∙ c.in-Name-as_ref.is) ∙ view-Name c.in-Name-as_ref.name ∙ ap (λ (y : List ℕ). plain.name y) (sym c.as_slice-in-Name-as_ref.ensures) in
+    let inner : expr_view c.in-Sub.expression.value ≡ plain.name x = ap expr_view (sym c.as_ref.ensures ∙ c.in-Name-as_ref.is) ∙ view-Name x in
     let view : expr_view c.args.expression.now ≡ plain.sub (plain.name x) i n = ap expr_view c.in-Sub.is ∙ view-Sub c.in-Sub.expression i n ∙ ap (λ (e : plain.Expr). plain.sub e i n) inner in
     let start_fits : FitsSigned w64 c.value_of.result = search rules in
     let count_fits : FitsSigned w64 c.value_of-in-Some.result = search rules in

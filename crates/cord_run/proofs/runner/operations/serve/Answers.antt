@@ -1,4 +1,4 @@
-use Rattle.std.proofs.Common.{sym, ap, subst}
+use Rattle.std.proofs.Common.{refl, sym, ap, subst}
 use Rattle.std.specs.Prelude.{IfErr}
 use Rattle.cord_io.specs.declared.TheConstants.{MAX_LEN}
 use Rattle.cord_file.specs.Entries.{table_in}
@@ -18,7 +18,7 @@ returns-in-Build-clause-serves g c = λ folder agrees.
     build_serves folder (holding_of (table_in (opened_in c.args.sources.now) folder) c.args.store.now.entries.items)
     (holding_of (table_in (opened_in c.serve_target.new.sources) folder) c.serve_target.new.store.entries.items)
     (g.S.Sink.taken c.args.sink.now) c.serve_target.result (operation_view c.args.operation.now) c.in-Build.line
-    c.as_slice.result.now c.in-Build.target (made_view c.in-Build.made) (ap operation_view c.in-Build.is) c.as_slice.ensures
+    c.in-Build.target c.in-Build.target (made_view c.in-Build.made) (ap operation_view c.in-Build.is) refl
     (c.serve_target.ensures.gives folder agrees)
 
 pub returns-in-Build-clause-fails : goal.returns-in-Build-clause-fails
@@ -30,8 +30,8 @@ returns-in-Measure-clause-serves g c = λ folder agrees.
     measure_serves folder (holding_of (table_in (opened_in c.args.sources.now) folder) c.args.store.now.entries.items)
     (holding_of (table_in (opened_in c.serve_target-in-Measure.new.sources) folder) c.serve_target-in-Measure.new.store.entries.items)
     (g.S.Sink.taken c.args.sink.now) c.serve_target-in-Measure.result (operation_view c.args.operation.now) c.in-Measure.line
-    c.as_slice-in-Measure.result.now c.in-Measure.target (made_view c.in-Measure.made)
-    (ap operation_view c.in-Measure.is) c.as_slice-in-Measure.ensures (c.serve_target-in-Measure.ensures.gives folder agrees)
+    c.in-Measure.target c.in-Measure.target (made_view c.in-Measure.made)
+    (ap operation_view c.in-Measure.is) refl (c.serve_target-in-Measure.ensures.gives folder agrees)
 
 pub returns-in-Measure-clause-fails : goal.returns-in-Measure-clause-fails
 returns-in-Measure-clause-fails g c = subst (λ (o : plan.Operation). IfErr c.serve_target-in-Measure.result (FailsIn o))

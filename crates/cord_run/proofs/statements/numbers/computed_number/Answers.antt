@@ -13,6 +13,6 @@ returns-in-Len c = λ t over line.
     let entries = c.args.store.now.entries.items in
     let z : ℤ = to_z w64 (of_z w64 c.told_length.result) in
     let fits : FitsSigned w64 c.told_length.result = search rules in
-    let told : z ≡ pos (length_in entries c.in-Len.operand.now) = to_z-of_z w64 c.told_length.result fits ∙ c.told_length.ensures ∙ ap (λ x. pos (length_in entries x)) c.as_slice.ensures in
+    let told : z ≡ pos (length_in entries c.in-Len.operand.now) = to_z-of_z w64 c.told_length.result fits ∙ c.told_length.ensures in
     subst (λ (f : Computation). FindsOver t (statement_of line (families.Computation f)) entries (Ok z)) (sym c.in-Len.is)
     (len_finds t entries line c.in-Len.target.now (Ok z) over c.in-Len.operand.now (ap (λ v. Ok v) (sym told)))

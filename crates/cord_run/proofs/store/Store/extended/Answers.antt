@@ -25,7 +25,7 @@ returns-in-Some-clause-same c =
     let to : Entry = record { name = from.name; content = from.content; number = from.number; extensible = c.cord_of.new.extensible } in
     let is = c.index_mut.ensures.value in
     extensible_same c.args.name.now from to entries c.in-Some.place c.in-Some.ensures.some
-    (ap (λ (e : Entry). e.name.items) is ∙ name_at_place entries c.args.name.now c.in-Some.place from c.in-Some.ensures.some)
+    (ap (λ (e : Entry). e.name) is ∙ name_at_place entries c.args.name.now c.in-Some.place from c.in-Some.ensures.some)
     (ap (λ (e : Entry). e.content) is) (ap (λ (e : Entry). e.number) is)
     (c.cord_of.ensures.same ∙ ap (λ (e : Entry). cells_in e.extensible) is)
 
@@ -35,7 +35,7 @@ invariant_of-self c =
     let to : Entry = record { name = from.name; content = from.content; number = from.number; extensible = c.cord_of.new.extensible } in
     record {
       distinct = distinct_set c.args.self.now.entries.items c.in-Some.place from to
-          (ap (λ (e : Entry). e.name.items) c.index_mut.ensures.value) c.args.self.now.distinct;
+          (ap (λ (e : Entry). e.name) c.index_mut.ensures.value) c.args.self.now.distinct;
       first = first_set c.args.self.now.entries.items c.in-Some.place from to
-          (ap (λ (e : Entry). e.name.items) c.index_mut.ensures.value) (names_fixed c.args.self.now.marked) c.args.self.now.first;
+          (ap (λ (e : Entry). e.name) c.index_mut.ensures.value) (names_fixed c.args.self.now.marked) c.args.self.now.first;
     }

@@ -12,9 +12,9 @@ returns-clause-place c =
     let entry : Entry = record { name = c.args.name; content = Whole None; number = pos 0; extensible = None } in
     let pushed : c.push.new.self.items ≡ c.args.entries.now.items ++ entry ∷ [] = search rules in
     let count : vec_len c.args.entries.now ≡ length c.args.entries.now.items = search rules in
-    subst (λ (n : ℕ). IsEntryAt c.push.new.self.items c.args.name.items n) (sym (c.len-place.ensures ∙ count))
-    (subst (λ (es : List Entry). IsEntryAt es c.args.name.items (length c.args.entries.now.items)) (sym pushed)
-    (added_place entry c.args.name.items refl c.args.entries.now.items c.requires.absent))
+    subst (λ (n : ℕ). IsEntryAt c.push.new.self.items c.args.name n) (sym (c.len-place.ensures ∙ count))
+    (subst (λ (es : List Entry). IsEntryAt es c.args.name (length c.args.entries.now.items)) (sym pushed)
+    (added_place entry c.args.name refl c.args.entries.now.items c.requires.absent))
 
 pub returns-clause-same : goal.returns-clause-same
 returns-clause-same c =
@@ -27,7 +27,7 @@ returns-clause-distinct c =
     let entry : Entry = record { name = c.args.name; content = Whole None; number = pos 0; extensible = None } in
     let pushed : c.push.new.self.items ≡ c.args.entries.now.items ++ entry ∷ [] = search rules in
     subst (λ (es : List Entry). are_distinct (names_in es) ≡ true) (sym pushed)
-    (distinct_behind c.args.entries.now.items entry c.args.name.items refl c.requires.absent c.requires.distinct)
+    (distinct_behind c.args.entries.now.items entry c.args.name refl c.requires.absent c.requires.distinct)
 
 pub returns-clause-first : goal.returns-clause-first
 returns-clause-first c =

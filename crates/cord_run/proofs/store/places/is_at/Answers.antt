@@ -1,4 +1,4 @@
-use Rattle.std.proofs.Common.{◌<◌, ℕ, List, length, sym, ◌∙◌, ap, arith}
+use Rattle.std.proofs.Common.{◌<◌, length, sym, ◌∙◌, ap, arith}
 use Rattle.std.specs.Str.{bytes_eq}
 use Rattle.cord_run.specs.declared.store.Entry.{Entry}
 use Rattle.cord_run.proofs.Entries.{entry_there}
@@ -7,6 +7,5 @@ use Rattle.cord_run.proofs.store.places.is_at.Goals as goal
 pub returns-clause-place : goal.returns-clause-place
 returns-clause-place c = λ is.
     let inside : c.args.place < length c.args.entries.now = omega arith in
-    let same = ap (λ (n : List ℕ). bytes_eq c.args.name.now n) (sym c.as_slice.ensures.value) ∙ sym c.is_same.ensures ∙ is in
     entry_there c.args.entries.now c.args.name.now c.args.place c.index-entries-place.result c.requires inside
-    (ap (λ (e : Entry). bytes_eq c.args.name.now e.name.items) (sym c.index-entries-place.is) ∙ same)
+    (ap (λ (e : Entry). bytes_eq c.args.name.now e.name) (sym c.index-entries-place.is) ∙ sym c.is.ensures ∙ is)
