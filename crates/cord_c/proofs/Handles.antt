@@ -26,12 +26,12 @@ use Rattle.std.specs.contracts.alloc.Global as heap
 use Rattle.std.specs.contracts.impls.GlobalAllocator.TheImpl.{ghosts}
 use Rattle.cord.proofs.text.Text.TheLaws as text_laws
 use Rattle.cord.specs.contracts.text.Text as text
-use Rattle.cord_c.proofs.Values.{loose_in}
+use Rattle.cord_c.proofs.Values.{owner_in}
 use Rattle.cord_c.specs.Handles.{the_heap, frees, handle_owns}
 use Rattle.cord_c.specs.contracts.handle.Handle as handle
-use Rattle.cord_c.specs.contracts.loose.Loose as loose
-use Rattle.cord_c.specs.declared.loose.Loose.{Loose}
-use Rattle.cord_c.proofs.loose.Loose.TheLaws as loose_laws
+use Rattle.cord_raw.specs.contracts.raw.Raw as owner
+use Rattle.cord_raw.specs.declared.raw.Raw.{Raw}
+use Rattle.cord_raw.proofs.raw.Raw.TheLaws as owner_laws
 use Rattle.cord_c.specs.declared.handle.Handle.{Handle}
 use Rattle.cord_c.proofs.handle.Handle.TheLaws as handle_laws
 
@@ -50,23 +50,23 @@ pub heap_typed : Yes (has_ty (lone heap.the_row.mir) heap_val) × WT heap_val
 heap_typed = (tt, ((tt, tt), tt))
 
 -- a text on the heap by its pointer
-abbrev pub LooseText : RattleType
-LooseText = loose.the_row text.the_row heap.the_row ghosts
+abbrev pub RawText : RattleType
+RawText = owner.the_row text.the_row heap.the_row ghosts
 
-abbrev pub loose_val : Loose (List ℕ) Global → Val
-loose_val r = vstruct (vcons (ptr_val r.at) (vcons heap_val vnil))
+abbrev pub owner_val : Raw (List ℕ) Global → Val
+owner_val r = vstruct (vcons (ptr_val r.at) (vcons heap_val vnil))
 
-abbrev loose_type : Owning
-loose_type = loose.the_type text.the_row heap.the_row ghosts
+abbrev owner_type : Owning
+owner_type = owner.the_type text.the_row heap.the_row ghosts
 
-abbrev loose_owning : OwningLaws loose_type
-loose_owning = loose_laws.the_laws text.the_row heap.the_row ghosts text_laws.the_row_laws heap_laws.the_row_laws heap_laws.the_told
+abbrev owner_owning : OwningLaws owner_type
+owner_owning = owner_laws.the_laws text.the_row heap.the_row ghosts text_laws.the_row_laws heap_laws.the_row_laws heap_laws.the_told
 
-loose_are : (r : Loose (List ℕ) Global) → Is (Struct (shape loose_type)) (to loose_type r) (loose_val r ∷ [])
-loose_are r = ((ptr_val r.at ∷ [], (heap_val ∷ [], tt)), (refl, (refl, (heap_is r.alloc, tt))))
+owner_are : (r : Raw (List ℕ) Global) → Is (Struct (shape owner_type)) (to owner_type r) (owner_val r ∷ [])
+owner_are r = ((ptr_val r.at ∷ [], (heap_val ∷ [], tt)), (refl, (refl, (heap_is r.alloc, tt))))
 
-pub loose_tells : (r : Loose (List ℕ) Global) (vs : List Val) → Is LooseText r vs → vs ≡ loose_val r ∷ []
-loose_tells = (loose_laws.lowers text.the_row heap.the_row ghosts text_laws.the_row_laws heap_laws.the_row_laws heap_laws.the_told).val_is
+pub owner_tells : (r : Raw (List ℕ) Global) (vs : List Val) → Is RawText r vs → vs ≡ owner_val r ∷ []
+owner_tells = (owner_laws.lowers text.the_row heap.the_row ghosts text_laws.the_row_laws heap_laws.the_row_laws heap_laws.the_told).val_is
 
 -- the two fields of a handle alone
 abbrev pub Fields : RattleType
@@ -85,9 +85,9 @@ fields_pure : (h : Handle) (vs : List Val) → Pure (Fields.own_val (fields_of h
 fields_pure h vs = Struct-Pure (shape handle.the_type) (RawPtr-plain, (heap_laws.the_field_plain, tt)) (fields_of h) vs
 
 module _ {M : Type 1} {𝓤 : Ura M} (𝓛 : Logic 𝓤) where
-  pub loose_typed : (r : Loose (List ℕ) Global) → Yes (has_ty (lone LooseText.mir) (loose_val r)) × WT (loose_val r)
-  loose_typed r = ((Struct-Lawful 𝓛 (shape loose_type) (lawfuls 𝓛 loose_type.parts loose_owning)).typed (to loose_type r)
-      (loose_val r ∷ []) (loose_are r)).0
+  pub owner_typed : (r : Raw (List ℕ) Global) → Yes (has_ty (lone RawText.mir) (owner_val r)) × WT (owner_val r)
+  owner_typed r = ((Struct-Lawful 𝓛 (shape owner_type) (lawfuls 𝓛 owner_type.parts owner_owning)).typed (to owner_type r)
+      (owner_val r ∷ []) (owner_are r)).0
 
   pub handle_typed : (h : Handle) → Yes (has_ty (layout (shape handle.the_type)) (handle_val h)) × WT (handle_val h)
   handle_typed h = ((Struct-Lawful 𝓛 (shape handle.the_type) (lawfuls 𝓛 handle.struct.parts handle_laws.the_laws)).typed (fields_of h)
@@ -114,13 +114,13 @@ module _ {M : Type 1} {𝓤 : Ura M} {𝓛 : Logic 𝓤} {X : Type 0} {Γ : List
       (fields_are h) $ fjoin t $ s)
 
   -- a text on the heap is made of it
-  pub packs_loose : X → (b o : ℕ) (a : Global) (c : List ℕ)
-      → Step X 𝓛 (‵ (LooseText.own_val (record { at = block_ptr b o; alloc = a; value = c })
-      (loose_val (record { at = block_ptr b o; alloc = a; value = c }) ∷ [])) ∷ Γ) G
+  pub packs_raw : X → (b o : ℕ) (a : Global) (c : List ℕ)
+      → Step X 𝓛 (‵ (RawText.own_val (record { at = block_ptr b o; alloc = a; value = c })
+      (owner_val (record { at = block_ptr b o; alloc = a; value = c }) ∷ [])) ∷ Γ) G
       (‵ (box_owns frees text.the_row (block_ptr b o) c) ∷ Γ) G
-  packs_loose t b o a c = step (λ s. pure_i t (heap.the_row.own_val a (heap_val ∷ [])) (heap_plain a (heap_val ∷ [])) (heap_is a) $ move t
+  packs_raw t b o a c = step (λ s. pure_i t (heap.the_row.own_val a (heap_val ∷ [])) (heap_plain a (heap_val ∷ [])) (heap_is a) $ move t
       (1 ∷ 0 ∷ []) $
-      loose_in text.the_row heap.the_row heap_laws.the_row_laws ghosts t b o heap_val a c $ s)
+      owner_in text.the_row heap.the_row ghosts t b o heap_val a c $ s)
 
   -- and taken apart to it
   pub unpacks : X → (h : Handle) (vs : List Val) → (vs ≡ handle_val h ∷ [] → Seq X 𝓛 (‵ (handle_owns h.at h.text) ∷ Γ) G) →

@@ -5,8 +5,8 @@ ghost use Rattle.cord_c.specs.Codes.{IsKeeping};
 ghost use Rattle.cord_c.specs.Handles.{handle_owns, lifted, IsLifted};
 
 use crate::code::{NO_MEMORY, OK};
-use crate::loose::Loose;
 use cord::{CordError, Text};
+use cord_raw::Raw;
 use std::alloc::Global;
 use std::marker::Model;
 use std::mem::replace;
@@ -26,7 +26,7 @@ impl Model for Handle {
 
 impl Drop for Handle {
     fn drop(self) {
-        if let Some(text) = self.into_loose() {
+        if let Some(text) = self.into_raw() {
             drop(text.into_box());
         }
     }
@@ -44,10 +44,10 @@ impl Handle {
     }
 
     /// The handle of a text on the heap.
-    pub(crate) fn of(text: Loose<Text, Global>) -> Handle
+    pub(crate) fn of(text: Raw<Text, Global>) -> Handle
         ensures { result.text ≡ text.value }
     {
-        let Loose { at, alloc } = text;
+        let Raw { at, alloc } = text;
         Handle {
             at: at as *mut u8,
             alloc,
@@ -55,14 +55,14 @@ impl Handle {
     }
 
     /// The text on the heap, nothing where the pointer is null.
-    pub(crate) fn into_loose(self) -> Option<Loose<Text, Global>>
+    pub(crate) fn into_raw(self) -> Option<Raw<Text, Global>>
         ensures { MatchOption result (self.text ≡ []) (λ l. l.value ≡ self.text) }
     {
         let Handle { at, alloc } = self;
         if at.is_null() {
             return None;
         }
-        Some(Loose {
+        Some(Raw {
             at: at as *mut Text,
             alloc,
         })
@@ -86,7 +86,7 @@ impl Handle {
         ensures left { self.new.text ≡ [] }
     {
         let held = replace(self, Handle::empty(alloc));
-        match held.into_loose() {
+        match held.into_raw() {
             None => None,
             Some(text) => Some(text.into_box()),
         }
@@ -143,7 +143,7 @@ impl Handle {
     {
         match text {
             Lifted::Nothing(_) => *self = Handle::empty(alloc),
-            Lifted::Held(text) => *self = Handle::of(Loose::of(text)),
+            Lifted::Held(text) => *self = Handle::of(Raw::of(text)),
         }
     }
 

@@ -10,7 +10,6 @@ mod extend;
 mod extensible;
 mod handle;
 mod list;
-mod loose;
 mod make;
 mod pointer;
 mod position;

@@ -1,21 +1,24 @@
 -- The owner of a raw allocation, as its callers' proofs meet it: two words, and what stands after the pointer.
 use Rattle.std.proofs.Common.{◌≡◌, ℕ, List, [], ◌∷◌, ◌++◌, refl, ap, ◌∙◌}
+use mir.Raw.{raw as bare}
+use base.Logic.{never, fst∗}
 use mathlib.Core.Bool.{true, ◌&&◌}
 use lib.Dec.{T as Yes}
 use seplogic.Ra.Ura.{Ura}
 use mir.Syntax.{impl, tnil, dnil}
 use mir.Val.{Val, vptr, vstruct, vcons, vnil, of_list, has_ty, WT}
-use types.Logic.{Logic}
-use types.Kit.{Item, Goal, Step, step, ‵, ◌$◌, move, fjoin, fpack, feq_i}
+use types.Logic.{Logic, sem}
+use types.Kit.{Item, Goal, Seq, Step, step, ‵, ◌$◌, move, drop, fsplit, fjoin, fpick, fpack, feq_i, feq_l}
 use denote.RattleType.{RattleType, Valss}
 use denote.Param.{param, layout}
 use denote.Param.Laws.{Laws, param_laws}
-use denote.RawPtr.{Ptr, RawPtr, block_ptr, ptr_val}
+use denote.Memory.{lone}
+use denote.RawPtr.{Ptr, RawPtr, block_ptr, null_ptr, ptr_val, in_a_block}
 use denote.Steps.{nothing}
 use denote.Struct.Owning.{shape}
 use denote.Struct.Struct.{within}
 use Rattle.core.specs.declared.alloc.Allocator.{Ghosts}
-use Rattle.core.proofs.alloc.Calls.{Al}
+use Rattle.core.proofs.alloc.Calls.{Al, handle_tells}
 use Rattle.core.proofs.cell.Inside.{Good}
 use Rattle.std_alloc.proofs.ResultValues.{and_tt}
 use Rattle.std.specs.Box.Ownership.{box_owns}
@@ -60,3 +63,15 @@ module _ (T A : RattleType) (L : Laws T) (K : Laws A) (g : Ghosts A.Denot) where
         (words b o h ∷ []) (words b o h ∷ []) refl $ fjoin t $
         fpack t (Valss (RawPtr ∷ Z ∷ [])) (within (shape (owner.the_type R Z g)) (block_ptr b o, (a, tt)) (words b o h ∷ []))
         (vptr b o ∷ [], (h ∷ [], tt)) $ fjoin t $ s)
+
+    -- and taken apart to them
+    pub unpacks : X → (d : O.Denot) (vs : List Val)
+        → ((b o : ℕ) (h : Val) → d.at ≡ block_ptr b o → vs ≡ words b o h ∷ [] → Good (layout Z) h →
+        Seq X 𝓛 (‵ (box_owns (g.dealloc_token d.alloc) R (block_ptr b o) d.value) ∷ ‵ (Z.own_val d.alloc (h ∷ [])) ∷ Γ) G)
+        → Seq X 𝓛 (‵ (O.own_val d vs) ∷ Γ) G
+    unpacks t d vs k =
+        fsplit t $ fpick t (λ vss. fsplit t $ feq_l t (λ both. fsplit t $ feq_l t (λ first. fsplit t $
+        handle_tells handle_of t d.alloc vss.1.0 (λ h second fits. move t (1 ∷ []) $ drop t $ move t (1 ∷ []) $
+        in_a_block t d.at (λ p. box_owns (g.dealloc_token d.alloc) R p d.value)
+        (fst∗ 𝓤 (never 𝓤) (sem 𝓛 (g.dealloc_token d.alloc (bare (lone R.mir)) null_ptr))) (λ b o place.
+        k b o h place (spells vs vss.0 vss.1.0 d.at b o h both first place second) fits)))))

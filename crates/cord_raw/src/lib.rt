@@ -9,3 +9,4 @@ mod raw;
 mod text;
 
 pub use buffer::RawBuf;
+pub use raw::Raw;

@@ -1,4 +1,4 @@
--- `into_loose` keeps pointer and allocator, where the pointer isn't null.
+-- `into_raw` keeps pointer and allocator, where the pointer isn't null.
 use Rattle.std.proofs.Common.{ℕ, List, [], ◌∷◌, refl, Global}
 use lib.Dec.{lit<}
 use seplogic.Ra.Ura.{Ura}
@@ -31,12 +31,12 @@ use Rattle.cord.specs.contracts.text.Text as text
 use Rattle.cord_c.specs.Handles.{frees, handle_owns}
 use Rattle.cord_c.specs.contracts.handle.Handle as handle
 use Rattle.cord_c.specs.declared.handle.Handle.{Handle}
-use Rattle.cord_c.specs.declared.loose.Loose.{Loose}
+use Rattle.cord_raw.specs.declared.raw.Raw.{Raw}
 use Rattle.cord_c.proofs.handle.Handle.TheLaws as handle_laws
-use Rattle.cord_c.proofs.Handles.{LooseText, loose_val, loose_typed, heap_val, heap_typed, handle_val, handle_typed, unpacks, packs_loose}
-use Rattle.cord_c.specs.contracts.handle.Handle.into_loose as f
-use Rattle.cord_c.proofs.handle.Handle.into_loose.Statement.{statement}
-use Rattle.cord_c.proofs.handle.Handle.into_loose.Code as code
+use Rattle.cord_c.proofs.Handles.{RawText, owner_val, owner_typed, heap_val, heap_typed, handle_val, handle_typed, unpacks, packs_raw}
+use Rattle.cord_c.specs.contracts.handle.Handle.into_raw as f
+use Rattle.cord_c.proofs.handle.Handle.into_raw.Statement.{statement}
+use Rattle.cord_c.proofs.handle.Handle.into_raw.Code as code
 
 abbrev stayed : Stays f.ended.signature.params f.ended.kept
 stayed = (stay_dropped (plain (λ _. handle.the_row)) yes, tt)
@@ -67,12 +67,12 @@ module _ {M : Type 1} (𝓤 : Ura M) (𝓛 : Logic 𝓤) (𝓜 : Model 𝓤 𝓛
       first ! $ branches ! (get ! refl)
       (λ yes. sets ! (agg ! (and_then ! (lit ! tt) (no_more !))) refl (tt, (record { fits = lit< tt }, tt)) $
       returns_within ! Post refl (look_at ! 0 refl) $ free_all ! refl $
-      use0 𝓛 (‵ ((OP.the_row LooseText).own_val None (live 0 (of_list []) ∷ []))) (none_of 𝓛 LooseText) $
+      use0 𝓛 (‵ ((OP.the_row RawText).own_val None (live 0 (of_list []) ∷ []))) (none_of 𝓛 RawText) $
       suffices ! _ (ends_at 𝓛 f.ended stayed (f.clauses 𝓛 𝓜.mem 𝓡.returns) y (live 0 (of_list [])) None (tt, tt) (tt, tt)) $ says ! none $
       nothing ! $ nothing ! $ join ! $ nothing ! $ done !)
       (λ no. absurd no)))
   at (block_ptr b o) t =
-      let En = env code.function.locals in let made : Loose (List ℕ) Global = record { at = block_ptr b o; alloc = h.alloc; value = h.text } in
+      let En = env code.function.locals in let made : Raw (List ℕ) Global = record { at = block_ptr b o; alloc = h.alloc; value = h.text } in
       qed 𝓛 (‵ (box_owns frees text.the_row (block_ptr b o) h.text) ∷ []) ∵
       enter ! (tables 𝓤 𝓛.H 𝓜 𝓡 𝓡.env).C (tables 𝓤 𝓛.H 𝓜 𝓡 𝓡.env).Λ code.function (word (block_ptr b o) ∷ []) Post $ alloc_all !
       (λ l. pass_all ! refl (handle_typed 𝓛 (as_if (block_ptr b o) t), tt) $
@@ -83,17 +83,17 @@ module _ {M : Type 1} (𝓤 : Ura M) (𝓛 : Logic 𝓤) (𝓜 : Model 𝓤 𝓛
       (λ no. skips ! $ exec ! (tables 𝓤 𝓛.H 𝓜 𝓡 𝓡.env).C (tables 𝓤 𝓛.H 𝓜 𝓡 𝓡.env).Λ (En l) (after 4 code.function.body)
       (at_ret (En l) Post) $
       sets ! (of_opd ! (get ! refl)) refl (Ptr-Good (block_ptr b o)) $
-      sets ! (agg ! (and_then ! (get ! refl) (and_then ! (get ! refl) (no_more !)))) refl (loose_typed 𝓛 made) $
+      sets ! (agg ! (and_then ! (get ! refl) (and_then ! (get ! refl) (no_more !)))) refl (owner_typed 𝓛 made) $
       sets ! (agg ! (and_then ! (lit ! tt) (and_then ! (get ! refl) (no_more !)))) refl
-      (tt, (record { fits = lit< tt }, ((loose_typed 𝓛 made).1, tt))) $
-      returns ! (look_at ! 0 refl) $ free_all ! refl $ packs_loose ! b o h.alloc h.text $
-      use1 𝓛 (‵ ((OP.the_row LooseText).own_val (Some made) (live 1 (of_list (loose_val made ∷ [])) ∷ []))) (Some-of 𝓛 LooseText made (loose_val made)) $
-      suffices ! _ (ends_at 𝓛 f.ended stayed (f.clauses 𝓛 𝓜.mem 𝓡.returns) y (live 1 (of_list (loose_val made ∷ []))) (Some made) (tt, tt)
+      (tt, (record { fits = lit< tt }, ((owner_typed 𝓛 made).1, tt))) $
+      returns ! (look_at ! 0 refl) $ free_all ! refl $ packs_raw ! b o h.alloc h.text $
+      use1 𝓛 (‵ ((OP.the_row RawText).own_val (Some made) (live 1 (of_list (owner_val made ∷ [])) ∷ []))) (Some-of 𝓛 RawText made (owner_val made)) $
+      suffices ! _ (ends_at 𝓛 f.ended stayed (f.clauses 𝓛 𝓜.mem 𝓡.returns) y (live 1 (of_list (owner_val made ∷ []))) (Some made) (tt, tt)
       (tt, tt)) $ says ! refl $
       nothing ! $ nothing ! $ join ! $ nothing ! $ done !))
 
-pub into_loose_spec : {M : Type 1} → statement M
-into_loose_spec 𝓤 𝓛 𝓜 𝓡 wired =
+pub into_raw_spec : {M : Type 1} → statement M
+into_raw_spec 𝓤 𝓛 𝓜 𝓡 wired =
     let c = f.clauses 𝓛 𝓜.mem 𝓡.returns in let W = walk_of 𝓛 f.ended stayed c in
     proved 𝓛 f.ended stayed c 𝓜 𝓡 (Goes-blank 𝓛 0 (plain (λ _. handle.the_row)) yes (λ κs x w. tt), tt)
     f.Key.name code.function (code.unfolded 𝓤 𝓛.H 𝓜 𝓡 wired)
