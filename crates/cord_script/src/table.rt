@@ -12,8 +12,8 @@ use crate::{Name, RefusalKind, key_of, slot_of};
 use std::alloc::Global;
 use std::marker::Model;
 
-/// The number of slots that guess the place of a name.
-const SLOTS: usize = 4_096;
+/// The number of slots that guess the place of a name: few, since they are cleared for the shortest script too.
+const SLOTS: usize = 1_024;
 
 /// How many slots are looked at, from the name's own on.
 const PROBES: usize = 8;
