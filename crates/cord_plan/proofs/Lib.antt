@@ -49,7 +49,5 @@ pub mod Joined
 pub mod Spacing
 pub mod ExprViews
 pub mod Marked
-pub mod PlannedLines
 pub mod OnlyKept
 pub mod Pushed
-mod Dead

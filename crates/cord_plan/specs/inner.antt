@@ -4,5 +4,5 @@ pub mod Marks
 pub mod Liveness
 pub mod Choices
 pub mod Recent
-pub mod Tables
+pub mod Steps
 pub mod Showing

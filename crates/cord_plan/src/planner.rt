@@ -1,34 +1,33 @@
 // The planner: what stands for each operand, the expression of each line, and its operation.
 mod choosing;
 mod constructors;
+mod expressions;
 mod interning;
 mod joining;
 mod lines;
+mod measuring;
 mod naming;
 mod parts;
 mod staying;
-mod table;
 
-ghost use Rattle.std.specs.Prelude.{◌≡◌, ◌<◌, ℕ, Bool, List, Some, IfOk, IsOkUnless, length, map, option_map};
-ghost use Rattle.std.specs.Prelude.{slice_get};
+ghost use Rattle.std.specs.Prelude.{◌≡◌, ℕ, Bool, List, IfOk, IsOkUnless, map};
 ghost use Rattle.cord_plan.specs.inner.Liveness.{tells};
 ghost use Rattle.cord_plan.specs.inner.Numbering.{AllHints, AreHints};
 ghost use Rattle.cord_plan.specs.Meaning.{IsPlanOf};
 ghost use Rattle.cord_plan.specs.Operands.{target_of};
 ghost use Rattle.cord_plan.specs.Planned as plan;
-ghost use Rattle.cord_plan.specs.inner.Tables.{AreDead, IsTableOf};
 ghost use Rattle.cord_plan.specs.Unread.{IsLater};
 ghost use Rattle.cord_plan.specs.Views.{operation_view};
 
 pub(crate) use self::constructors::own_expression;
+use self::expressions::next_expression;
 pub(crate) use self::interning::Interner;
 pub(crate) use self::lines::operation_of;
-use self::table::Table;
-use crate::flow::{Later, LineNumbers, numbers_at};
-use crate::{Expr, Operation, Plan};
+use crate::flow::{Later, LineNumbers, Recent, numbers_at};
+use crate::{Operation, Plan};
 use cord_io::CordError;
 use cord_script::{Script, Statement};
-use std::alloc::{AllocError, Global};
+use std::alloc::Global;
 
 // Whether a line has a target that isn't read later.
 fn is_dead(statement: &Statement, numbers: LineNumbers, place: usize, later: &Later) -> bool
@@ -45,56 +44,35 @@ fn is_dead(statement: &Statement, numbers: LineNumbers, place: usize, later: &La
     }
 }
 
-// Whether each line has a target that isn't read later.
-fn dead_lines(
-    alloc: Global,
-    statements: &[Statement],
-    later: &Later,
-) -> Result<Vec<bool>, AllocError>
-    requires { AllHints statements.now later.now.numbering later.now.numbers.items }
-    ensures { IfOk result (λ v. AreDead statements.now (tells later.now) v.items) }
-{
-    let mut dead = Vec::with_capacity(alloc, statements.len())?;
-    for (place, statement) in statements.iter().enumerate() {
-        let numbers = numbers_at(&later.numbers, place);
-        dead.push_reserved(is_dead(statement, numbers, place, later));
-    }
-    Ok(dead)
-}
-
-// Takes the expression at a place.
-fn take_at(expressions: &mut [Option<Expr>], place: usize) -> Option<Expr>
-    requires { place < length expressions.old }
-    ensures taken { Some result ≡ slice_get expressions.old place }
-    ensures others { (k : ℕ) → place < k → slice_get expressions.new k ≡ slice_get expressions.old k }
-    ensures size { length expressions.new ≡ length expressions.old }
-{
-    expressions[place].take()
-}
-
-// The operations of a script's lines. What is read later is given up first: a `bool` a line is left of it.
+// The operations of a script's lines. Where a line takes the expression of an earlier one, the earlier one's operation turns from
+// building to measuring.
 fn operations_of(
     alloc: Global,
     statements: &[Statement],
-    later: Later,
-    table: Table,
+    later: &Later,
 ) -> Result<Vec<Operation>, CordError>
-    requires hints { AllHints statements.now later.numbering later.numbers.items }
-    requires table { IsTableOf statements.now later table }
-    ensures made { IfOk result (λ os. map operation_view os.items ≡ plan.planned statements.now (tells later)) }
+    requires { AllHints statements.now later.now.numbering later.now.numbers.items }
+    ensures made { IfOk result (λ os. map operation_view os.items ≡ plan.planned statements.now (tells later.now)) }
     ensures refused { IsOkUnless result CordError.NoMemory }
 {
-    let dead = dead_lines(alloc, statements, &later)?;
-    drop(later);
     let mut operations = Vec::with_capacity(alloc, statements.len())?;
-    let Table {
-        mut expressions,
-        firsts,
-    } = table;
+    let mut interner = Interner::of(alloc);
+    let mut recent = Recent::of(alloc, later)?;
     for (place, statement) in statements.iter().enumerate() {
-        let expression = take_at(&mut expressions, place);
-        let (dead, first) = (dead[place], firsts[place]);
-        operations.push_reserved(operation_of(alloc, statement, expression, dead, first)?);
+        let numbers = numbers_at(&later.numbers, place);
+        let expression = next_expression(
+            alloc,
+            &mut interner,
+            statements,
+            place,
+            statement,
+            numbers,
+            &recent,
+            &mut operations,
+        )?;
+        let dead = is_dead(statement, numbers, place, later);
+        operations.push_reserved(operation_of(alloc, statement, expression, dead)?);
+        recent.note(statement, numbers, place);
     }
     Ok(operations)
 }
@@ -113,7 +91,6 @@ pub fn plan(alloc: Global, script: &Script) -> Result<Plan, CordError>
 {
     let statements = script.statements();
     let later = Later::of(alloc, statements)?;
-    let table = Table::of(alloc, statements, &later)?;
-    let operations = operations_of(alloc, statements, later, table)?;
+    let operations = operations_of(alloc, statements, &later)?;
     Ok(Plan::of(operations))
 }

@@ -10,13 +10,14 @@ ghost use Rattle.cord_plan.specs.inner.Choices.{choice_view, operands_view, IsCh
 ghost use Rattle.cord_plan.specs.inner.Liveness.{tells};
 ghost use Rattle.cord_plan.specs.inner.Numbering.{IsHint, number_of};
 ghost use Rattle.cord_plan.specs.inner.Recent.{IsRecent};
-ghost use Rattle.cord_plan.specs.Views.{expr_view};
+ghost use Rattle.cord_plan.specs.inner.Steps.{made_expression, operation_expression};
+ghost use Rattle.cord_plan.specs.Views.{expr_view, made_view, operation_view};
 ghost use Rattle.std.specs.Str.{bytes_eq};
 
 use crate::flow::{LineNumbers, Recent, assigns};
 use crate::planner::parts::room_left;
 use crate::planner::staying::{nearest, stays};
-use crate::{Expr, MAX_EXPR_PARTS};
+use crate::{Expr, MAX_EXPR_PARTS, Made, Operation};
 use cord_script::{Name, Statement};
 use std::alloc::{AllocError, Global};
 
@@ -170,12 +171,35 @@ fn stays_small(line: &Line, chosen: &[Choice], expression: &Expr) -> bool
     }
 }
 
-// The expression of the line at a place, where it has one.
-fn expression_at<'a>(table: &'a [Option<Expr>], place: usize) -> Option<&'a Expr>
-    ensures { option_map (λ e. expr_view e.now) result ≡ expression_in (map (option_map expr_view) table.now) place }
+// The expression of the operation at a place, where it has one.
+fn expression_at(operations: &[Operation], place: usize) -> Option<&Expr>
+    ensures { option_map (λ e. expr_view e.now) result
+        ≡ expression_in (map operation_expression (map operation_view operations.now)) place }
 {
-    match table.get(place) {
-        Some(Some(expression)) => Some(expression),
+    match operations.get(place) {
+        Some(operation) => expression_of(operation),
+        None => None,
+    }
+}
+
+// The expression of an operation, where it has one.
+fn expression_of(operation: &Operation) -> Option<&Expr>
+    ensures { option_map (λ e. expr_view e.now) result ≡ operation_expression (operation_view operation.now) }
+{
+    match operation {
+        Operation::Build { made, .. } => joined_of(made),
+        Operation::Measure { made, .. } => joined_of(made),
+        Operation::Write { expression, .. } => Some(expression),
+        Operation::Keep(_) => None,
+    }
+}
+
+// The expression that a name is made of, where it is one.
+fn joined_of(made: &Made) -> Option<&Expr>
+    ensures { option_map (λ e. expr_view e.now) result ≡ made_expression (made_view made.now) }
+{
+    match made {
+        Made::Joined(expression) => Some(expression),
         _ => None,
     }
 }
@@ -197,12 +221,12 @@ fn stands(
     is_spare(line, operand, number) && stays(line, source, expression)
 }
 
-/// What stands for the next operand of a line after those that were chosen for, where the lines before it have these expressions.
+/// What stands for the next operand of a line after those that were chosen for, where the lines before it have these operations.
 pub(crate) fn choose<'a>(
     line: &Line,
     operand: &'a Name,
     hint: Option<u8>,
-    table: &'a [Option<Expr>],
+    operations: &'a [Operation],
     chosen: &[Choice],
 ) -> Choice<'a>
     requires hint { IsHint line.now.recent.now.later.now.numbering operand.now hint }
@@ -211,13 +235,13 @@ pub(crate) fn choose<'a>(
     requires operands { simple_operands line.now.statement.now ≡ Some (operands_view line.now.operands) }
     requires more { length chosen.now < length (operands_view line.now.operands) }
     ensures { IsChoice line.now.statements.now (tells line.now.recent.now.later.now) line.now.place
-        line.now.statement.now (operands_view line.now.operands) operand.now (map (option_map expr_view) table.now)
+        line.now.statement.now (operands_view line.now.operands) operand.now (map operation_expression (map operation_view operations.now))
         (map choice_view chosen.now) (choice_view result) }
 {
     let number = line.recent.later.numbering.number_with(operand, hint);
     match nearest(line, operand, number) {
         None => Choice::Named(operand),
-        Some(source) => match expression_at(table, source) {
+        Some(source) => match expression_at(operations, source) {
             None => Choice::Named(operand),
             Some(expression) => {
                 if stands(line, operand, number, source, expression)
@@ -232,12 +256,12 @@ pub(crate) fn choose<'a>(
     }
 }
 
-/// What stands for each operand of a line, where the lines before it have these expressions.
+/// What stands for each operand of a line, where the lines before it have these operations.
 pub(crate) fn choose_all<'a>(
     alloc: Global,
     line: &Line<'a>,
     operands: &'a [Name],
-    table: &'a [Option<Expr>],
+    operations: &'a [Operation],
 ) -> Result<Vec<Choice<'a>>, AllocError>
     requires place { line.now.place ≤ length line.now.statements.now }
     requires recent { IsRecent line.now.statements.now line.now.place line.now.recent.now }
@@ -245,11 +269,11 @@ pub(crate) fn choose_all<'a>(
     requires operands { simple_operands line.now.statement.now ≡ Some (operands_view line.now.operands) }
     ensures { IfOk result (λ cs. AreChoices line.now.statements.now
         (tells line.now.recent.now.later.now) line.now.place line.now.statement.now
-        (map (option_map expr_view) table.now) (map choice_view cs.items)) }
+        (map operation_expression (map operation_view operations.now)) (map choice_view cs.items)) }
 {
     let mut chosen = Vec::with_capacity(alloc, operands.len())?;
     for operand in operands {
-        let choice = choose(line, operand, None, table, &chosen);
+        let choice = choose(line, operand, None, operations, &chosen);
         chosen.push(choice)?;
     }
     Ok(chosen)

@@ -1,5 +1,5 @@
 // The operation of a line.
-ghost use Rattle.std.specs.Prelude.{◌≡◌, Bool, IfOk, IsOkUnless, option_map};
+ghost use Rattle.std.specs.Prelude.{◌≡◌, Bool, false, IfOk, IsOkUnless, option_map};
 ghost use Rattle.cord_syntax.specs.Families.{statement_of};
 ghost use Rattle.cord_plan.specs.Exprs as plain;
 ghost use Rattle.cord_plan.specs.Planned as plan;
@@ -15,22 +15,21 @@ use std::alloc::Global;
 
 /// The operation of a line whose expression is this one.
 ///
-/// A line whose target is dead only measures, and so does the first line of a forced pair. Refused only with `NoMemory`.
+/// A line whose target is dead only measures. Refused only with `NoMemory`.
 pub(crate) fn operation_of(
     alloc: Global,
     statement: &Statement,
     expression: Option<Expr>,
     dead: bool,
-    paired: bool,
 ) -> Result<Operation, CordError>
     ensures made { IfOk result (λ o. operation_view o ≡ plan.operation statement.now
-        (plan.or_nothing (option_map expr_view expression)) dead paired) }
+        (plan.or_nothing (option_map expr_view expression)) dead false) }
     ensures refused { IsOkUnless result CordError.NoMemory }
 {
     let line = statement.line();
     match statement.family() {
         Family::Composition(composition) => {
-            operation_of_composition(alloc, line, composition, expression, dead, paired)
+            operation_of_composition(alloc, line, composition, expression, dead)
         }
         Family::Put { .. } => Ok(Operation::Write {
             line,
@@ -74,11 +73,10 @@ fn operation_of_composition(
     composition: Composition,
     expression: Option<Expr>,
     dead: bool,
-    paired: bool,
 ) -> Result<Operation, CordError>
     ensures made { IfOk result (λ o. operation_view o
         ≡ plan.operation (statement_of line (Family.Composition composition.entry))
-        (plan.or_nothing (option_map expr_view expression)) dead paired) }
+        (plan.or_nothing (option_map expr_view expression)) dead false) }
     ensures refused { IsOkUnless result CordError.NoMemory }
 {
     match composition {
@@ -89,7 +87,7 @@ fn operation_of_composition(
         | Composition::Catc { target, .. }
         | Composition::Substr { target, .. } => {
             let made = Made::Joined(or_nothing(alloc, expression));
-            copied_assignment(dead || paired, line, target, made)
+            copied_assignment(dead, line, target, made)
         }
     }
 }

@@ -1,9 +1,9 @@
 use Rattle.std.proofs.Common.{◌≡◌, ◌+◌, Bool, true, false, ◌&&◌, List, ◌∷◌, ◌++◌, map, drop, length, Some, None, sym, ap, ◌∙◌}
-use Rattle.std.specs.Prelude.{option_map}
 use Rattle.cord_plan.specs.Exprs.{Expr, name}
 use Rattle.cord_plan.specs.Forced.{expr_of, expr_with, is_small}
 use Rattle.cord_plan.specs.inner.Liveness.{tells}
-use Rattle.cord_plan.specs.Views.{expr_view}
+use Rattle.cord_plan.specs.inner.Steps.{operation_expression}
+use Rattle.cord_plan.specs.Views.{expr_view, operation_view}
 use Rattle.cord_plan.specs.inner.Choices.{operands_view, choice_view, nearest, stands, expression_in}
 use Rattle.cord_plan.proofs.Choices.{simple_reads}
 use Rattle.cord_plan.proofs.Nearest.{kept_far, kept_bare, by_tests, first_in}
@@ -25,9 +25,9 @@ returns-in-None-expression_at c =
     let before : List Expr = map (λ d. expr_of d) (map choice_view c.args.chosen.now) in
     let after : List Expr = map (λ y. name y) (drop (length (map choice_view c.args.chosen.now) + 1) (operands_view line.operands)) in
     let near : nearest line.statements.now c.args.operand.now line.place ≡ Some c.in-Some.source = sym c.in-Some.ensures in
-    let bare : None ≡ expression_in (map (option_map expr_view) c.args.table.now) c.in-Some.source = c.in-None-expression_at.ensures in
+    let bare : None ≡ expression_in (map operation_expression (map operation_view c.args.operations.now)) c.in-Some.source = c.in-None-expression_at.ensures in
     λ t has. kept_bare line.statements.now (tells line.recent.now.later.now) t line.place line.statement.now c.args.operand.now before
-    after c.in-Some.source near (sym (first_in (map (option_map expr_view) c.args.table.now) t c.in-Some.source has) ∙ sym bare)
+    after c.in-Some.source near (sym (first_in (map operation_expression (map operation_view c.args.operations.now)) t c.in-Some.source has) ∙ sym bare)
 
 pub returns-then-stays_small : goal.returns-then-stays_small
 returns-then-stays_small c =
@@ -36,13 +36,13 @@ returns-then-stays_small c =
     let before : List Expr = map (λ d. expr_of d) (map choice_view c.args.chosen.now) in
     let after : List Expr = map (λ y. name y) (drop (length (map choice_view c.args.chosen.now) + 1) (operands_view line.operands)) in
     let near : nearest line.statements.now c.args.operand.now line.place ≡ Some c.in-Some.source = sym c.in-Some.ensures in
-    let there : Some r ≡ expression_in (map (option_map expr_view) c.args.table.now) c.in-Some.source = c.in-Some-expression_at.ensures in
+    let there : Some r ≡ expression_in (map operation_expression (map operation_view c.args.operations.now)) c.in-Some.source = c.in-Some-expression_at.ensures in
     let stable : stands line.statements.now (tells line.recent.now.later.now) r c.in-Some.source line.place line.statement.now (operands_view line.operands) c.args.operand.now ≡ c.stands.result = sym c.stands.ensures in
     let fit : stands line.statements.now (tells line.recent.now.later.now) r c.in-Some.source line.place line.statement.now (operands_view line.operands) c.args.operand.now ≡ true = stable ∙ c.if-stands.true in
     let small : is_small (expr_with line.statement.now (before ++ r ∷ after)) ≡ true = sym c.stays_small.ensures ∙ c.if-stays_small.true in
     λ t has. by_tests line.statements.now (tells line.recent.now.later.now) t line.place line.statement.now c.args.operand.now before after
     (operands_view line.operands) (simple_reads line.statement.now (operands_view line.operands) c.requires.operands) c.in-Some.source r near
-    (sym (first_in (map (option_map expr_view) c.args.table.now) t c.in-Some.source has) ∙ sym there) true
+    (sym (first_in (map operation_expression (map operation_view c.args.operations.now)) t c.in-Some.source has) ∙ sym there) true
     (ap (λ (v : Bool). v && is_small (expr_with line.statement.now (before ++ r ∷ after))) fit ∙ small)
 
 pub returns-else-stands : goal.returns-else-stands
@@ -52,7 +52,7 @@ returns-else-stands c =
     let before : List Expr = map (λ d. expr_of d) (map choice_view c.args.chosen.now) in
     let after : List Expr = map (λ y. name y) (drop (length (map choice_view c.args.chosen.now) + 1) (operands_view line.operands)) in
     let near : nearest line.statements.now c.args.operand.now line.place ≡ Some c.in-Some.source = sym c.in-Some.ensures in
-    let there : Some r ≡ expression_in (map (option_map expr_view) c.args.table.now) c.in-Some.source = c.in-Some-expression_at.ensures in
+    let there : Some r ≡ expression_in (map operation_expression (map operation_view c.args.operations.now)) c.in-Some.source = c.in-Some-expression_at.ensures in
     let stable : stands line.statements.now (tells line.recent.now.later.now) r c.in-Some.source line.place line.statement.now (operands_view line.operands) c.args.operand.now ≡ c.stands.result = sym c.stands.ensures in
     let small = is_small (expr_with line.statement.now (before ++ r ∷ after)) in
     let refused : (stands line.statements.now (tells line.recent.now.later.now) r c.in-Some.source line.place line.statement.now (operands_view line.operands) c.args.operand.now && small) ≡ false = elim c.else-stands.branch [
@@ -62,4 +62,4 @@ returns-else-stands c =
     ] in
     λ t has. by_tests line.statements.now (tells line.recent.now.later.now) t line.place line.statement.now c.args.operand.now before after
     (operands_view line.operands) (simple_reads line.statement.now (operands_view line.operands) c.requires.operands) c.in-Some.source r near
-    (sym (first_in (map (option_map expr_view) c.args.table.now) t c.in-Some.source has) ∙ sym there) false refused
+    (sym (first_in (map operation_expression (map operation_view c.args.operations.now)) t c.in-Some.source has) ∙ sym there) false refused

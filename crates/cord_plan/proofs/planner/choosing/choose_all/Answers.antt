@@ -1,11 +1,11 @@
 use Rattle.std.proofs.Common.{◌≡◌, ℕ, ◌+◌, List, [], ◌∷◌, map, drop, length, Some, sym, ap, subst, ◌∙◌, arith, length-append}
-use Rattle.std.specs.Prelude.{option_map}
 use Rattle.std.proofs.lemmas.List.{map-append, at_drop_all, length-map}
 use Rattle.cord_plan.specs.declared.planner.choosing.Choice.{Choice}
 use Rattle.cord_plan.specs.inner.Choices.{operands_view, choice_view, IsChoice}
 use Rattle.cord_plan.specs.Forced as plain
 use Rattle.cord_plan.specs.inner.Liveness.{tells}
-use Rattle.cord_plan.specs.Views.{expr_view}
+use Rattle.cord_plan.specs.inner.Steps.{operation_expression}
+use Rattle.cord_plan.specs.Views.{operation_view}
 use Rattle.cord_plan.proofs.Choices.{more_chosen, simple_reads}
 use Rattle.cord_plan.proofs.planner.choosing.choose_all.Goals as goal
 
@@ -26,10 +26,10 @@ loop-operand-preserved c =
     let i = c.loop-operand.operand-index in
     let x = c.operand-item.result in
     let done = map choice_view c.loop-operand.chosen.items in
-    let made : IsChoice s later b l xs x (map (option_map expr_view) c.args.table.now) done (choice_view c.choose-choice.result) =
-    subst (λ (ys : List (List ℕ)). IsChoice s later b l ys x (map (option_map expr_view) c.args.table.now) done
+    let made : IsChoice s later b l xs x (map operation_expression (map operation_view c.args.operations.now)) done (choice_view c.choose-choice.result) =
+    subst (λ (ys : List (List ℕ)). IsChoice s later b l ys x (map operation_expression (map operation_view c.args.operations.now)) done
     (choice_view c.choose-choice.result)) c.requires.listed
-    (subst (λ (cs : List Choice). IsChoice s later b l (operands_view line.operands) x (map (option_map expr_view) c.args.table.now)
+    (subst (λ (cs : List Choice). IsChoice s later b l (operands_view line.operands) x (map operation_expression (map operation_view c.args.operations.now))
     (map choice_view cs) (choice_view c.choose-choice.result)) c.deref.ensures.value c.choose-choice.ensures) in
     let size : length done ≡ i = length-map c.loop-operand.chosen.items choice_view ∙ c.loop-operand.invariant.size in
     let long : length c.push.new.self.items ≡ length c.loop-operand.chosen.items + 1 = ap length c.in_ok-push.ensures.items ∙ length-append c.loop-operand.chosen.items (c.choose-choice.result ∷ []) in

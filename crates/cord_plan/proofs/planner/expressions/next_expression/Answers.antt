@@ -1,0 +1,12 @@
+use Rattle.std.proofs.Common.{◌≡◌, None, map, rules}
+use Rattle.cord_plan.specs.inner.Choices.{simple_operands}
+use Rattle.cord_plan.specs.inner.Liveness.{tells}
+use Rattle.cord_plan.specs.Views.{operation_view}
+use Rattle.cord_plan.proofs.Marked.{next_without}
+use Rattle.cord_plan.proofs.planner.expressions.next_expression.Goals as goal
+
+pub returns-in_default-clause-made : goal.returns-in_default-clause-made
+returns-in_default-clause-made c =
+    let none : simple_operands c.args.statement.now ≡ None = search rules in
+    next_without c.args.statements.now (tells c.args.recent.now.later.now) c.args.place c.args.statement.now
+    (map operation_view c.args.operations.now) none
