@@ -10,7 +10,7 @@ ghost use Rattle.cord_meaning.specs.Ends.{EndsHonestly, FailsWhere, NamesCause};
 ghost use Rattle.cord_plan.specs.Meaning.{IsPlanOf};
 ghost use Rattle.cord_plan.specs.Views.{operation_view};
 ghost use Rattle.cord_run.specs.Failing.{FailsAmong, FailsNowhereElse};
-ghost use Rattle.cord_run.specs.Runs.{IsPlanBy, NothingCalled, Runs, Way, counts_over};
+ghost use Rattle.cord_run.specs.Runs.{IsPlanBy, NothingCalled, Runs, TellsRun, Way, counts_over};
 ghost use Rattle.cord_run.specs.inner.Steps.{HonestPlan};
 ghost use Rattle.cord_script.specs.Flaws.{Flaw};
 ghost use Rattle.cord_script.specs.Forms.{Grammar};
@@ -115,15 +115,7 @@ pub fn run_text<F: Files, S: Sink>(
 ) -> (Result<End, Refusal>, F)
     requires files_count { F.failures files < 2 ^ 64 - 1 }
     requires sink_count { S.failures sink.old < 2 ^ 64 - 1 }
-    ensures run { IfOk result.0 (Runs script.now (F.keeps result.1) (S.taken sink.old) (S.taken sink.new)
-        (counts_over ⟦<F as Files>⟧ ⟦<S as Sink>⟧ files result.1 sink.old sink.new)) }
-    ensures cause { IfOk result.0 (NamesCause
-        (counts_over ⟦<F as Files>⟧ ⟦<S as Sink>⟧ files result.1 sink.old sink.new)) }
-    ensures refused { OnErr result.0 (S.taken sink.new ≡ S.taken sink.old) }
-    ensures unasked { OnErr result.0 (NothingCalled
-        (counts_over ⟦<F as Files>⟧ ⟦<S as Sink>⟧ files result.1 sink.old sink.new)) }
-    ensures flaw { IfErr result.0 (λ r. r.kind ≢ RefusalKind.NoMemory → Flaw script.now r.line r.kind) }
-    ensures earlier { (folder : Folder) → F.keeps result.1 folder → F.keeps files folder }
+    ensures told { TellsRun ⟦<F as Files>⟧ ⟦<S as Sink>⟧ script.now files sink.old sink.new result.0 result.1 }
 {
     match parse(alloc, script) {
         Err(refusal) => (Err(refusal), files),
@@ -144,15 +136,7 @@ pub fn run_unplanned<F: Files, S: Sink>(
 ) -> (Result<End, Refusal>, F)
     requires files_count { F.failures files < 2 ^ 64 - 1 }
     requires sink_count { S.failures sink.old < 2 ^ 64 - 1 }
-    ensures run { IfOk result.0 (Runs script.now (F.keeps result.1) (S.taken sink.old) (S.taken sink.new)
-        (counts_over ⟦<F as Files>⟧ ⟦<S as Sink>⟧ files result.1 sink.old sink.new)) }
-    ensures cause { IfOk result.0 (NamesCause
-        (counts_over ⟦<F as Files>⟧ ⟦<S as Sink>⟧ files result.1 sink.old sink.new)) }
-    ensures refused { OnErr result.0 (S.taken sink.new ≡ S.taken sink.old) }
-    ensures unasked { OnErr result.0 (NothingCalled
-        (counts_over ⟦<F as Files>⟧ ⟦<S as Sink>⟧ files result.1 sink.old sink.new)) }
-    ensures flaw { IfErr result.0 (λ r. r.kind ≢ RefusalKind.NoMemory → Flaw script.now r.line r.kind) }
-    ensures earlier { (folder : Folder) → F.keeps result.1 folder → F.keeps files folder }
+    ensures told { TellsRun ⟦<F as Files>⟧ ⟦<S as Sink>⟧ script.now files sink.old sink.new result.0 result.1 }
 {
     let read = match parse(alloc, script) {
         Ok(read) => read,

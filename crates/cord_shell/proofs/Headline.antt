@@ -1,5 +1,5 @@
 -- What the program answers over the machine's devices, by what its words come to.
-use Rattle.std.proofs.Common.{◌≡◌, ◌≢◌, ◌⊎◌, ℕ, List, [], ◌∷◌, Bool, true, false, Option, Some, None, refl, sym, ap, subst, ◌∙◌, inl, inr}
+use Rattle.std.proofs.Common.{◌≡◌, ◌≢◌, ◌⊎◌, ℕ, List, [], Bool, true, false, Option, Some, None, refl, sym, ap, subst, ◌∙◌, inl, inr}
 use Rattle.std.specs.Prelude.{unwrap_or}
 use Rattle.clap.specs.Kinds.{IsAmong}
 use Rattle.clap.specs.Faults.{fault_of}
@@ -10,7 +10,6 @@ use Rattle.cord_meaning.specs.declared.ends.End.{End}
 use Rattle.cord_meaning.specs.declared.ends.End.TheVariants as ends
 use Rattle.cord_plan.specs.Planned.{Operation}
 use Rattle.cord_plan.specs.Shown.{shown}
-use Rattle.cord_script.specs.Forms.{Grammar}
 use Rattle.cord_script.specs.Laws.{OneScript, ReadHasNoFlaw}
 use Rattle.cord_script.specs.Script.{Reads, whole}
 use Rattle.cord_script.specs.declared.refusals.Refusal.{Refusal}
@@ -23,8 +22,8 @@ use Rattle.cord_syntax.specs.declared.statements.Statement.{Statement}
 use Rattle.cord_script.specs.Refusals.{text_of}
 use Rattle.cord_shell.specs.CommandLine.{AsksFor, command}
 use Rattle.cord_shell.specs.Drives.{ComesTo, IsPlan, IsPlanText, IsWrong, Serves}
-use Rattle.cord_shell.specs.Headline.{Answer, AnswersEnd, counts_of, err_counts_of, IsOut, IsStopped, MissesOver, RefusesOver, RunsOver}
-use Rattle.cord_shell.specs.Headline.{ShowsOver, StopsBefore}
+use Rattle.cord_shell.specs.Headline.{Answer, AnswersEnd, counts_of, err_counts_of, IsOut, MissesOver, RefusesOver, RunsOver}
+use Rattle.cord_shell.specs.Headline.{ShowsOver}
 use Rattle.cord_shell.specs.Outcomes.{line_text, message_of, status_of_outcome, status_of_refusal}
 use Rattle.cord_shell.specs.Tells.{SinkCounts, Tells}
 use Rattle.cord_shell.specs.declared.outcome.Outcome.{Outcome}

@@ -5,7 +5,7 @@ use Rattle.cord_io.specs.declared.writing.Sink.{Ghosts}
 use Rattle.cord_meaning.specs.Ends.{Counts, EndsHonestly}
 use Rattle.cord_meaning.specs.Faults.{text_of as fault_text}
 use Rattle.cord_meaning.specs.declared.ends.End.{End}
-use Rattle.cord_meaning.specs.declared.ends.End.TheVariants.{Done, Fault, NoMemory, ReadFailed, WriteFailed}
+use Rattle.cord_meaning.specs.declared.ends.End.TheVariants.{Done, NoMemory, ReadFailed, WriteFailed}
 use Rattle.cord_meaning.specs.declared.ends.FaultKind.TheVariants.{NoFile}
 use Rattle.cord_plan.specs.Planned.{Operation}
 use Rattle.cord_plan.specs.Shown.{shown}

@@ -1,5 +1,5 @@
 -- What a sink got, and how often it failed and ended.
-use Rattle.std.specs.Prelude.{◌≡◌, ◌⊎◌, ◌+◌, ℕ, List, [], ◌∷◌, ◌++◌, take}
+use Rattle.std.specs.Prelude.{◌≡◌, ◌⊎◌, ◌+◌, ℕ, List, [], ◌∷◌, ◌++◌}
 use Rattle.cord_io.specs.Device.{raised}
 use Rattle.cord_iter.specs.Taking.{IsFrontOf, Takes}
 use Rattle.cord_meaning.specs.Ends.{Counts}

@@ -1,4 +1,4 @@
-use Rattle.std.proofs.Common.{ℕ, List, [], map}
+use Rattle.std.proofs.Common.{ℕ, List, map}
 use Rattle.std.specs.String.{string_bytes}
 use Rattle.cord_io.specs.Device.{Folder}
 use Rattle.cord_io.specs.DiskTold.{told_by}
