@@ -22,7 +22,7 @@ pub mod Literals
 pub mod Cords
 pub mod Prints
 pub mod Refusals
-pub mod Makings
+pub mod Definitions
 pub mod Files
 pub mod TargetNames
 pub mod Numbers

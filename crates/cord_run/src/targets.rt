@@ -1,7 +1,7 @@
 //! Names that get what a plan makes for them: a cord, or a length alone.
+mod definitions;
 mod files;
 mod literals;
-mod makings;
 mod prints;
 
 ghost use Rattle.std.specs.Prelude.{◌≡◌, ◌≢◌, Err, IfErr, IfOk, OnErr};
@@ -18,7 +18,7 @@ ghost use Rattle.cord_run.specs.inner.Contents.{has_failed, length_or_stop};
 ghost use Rattle.cord_run.specs.Failing.{FailsBy, FailsIn, IsFileMade};
 ghost use Rattle.cord_run.specs.inner.Entries.{HasContent, IsOver, SameEntries};
 ghost use Rattle.cord_run.specs.inner.Holdings.{holding_of};
-ghost use Rattle.cord_run.specs.inner.Makings.{fileless_view, making_view};
+ghost use Rattle.cord_run.specs.inner.Definitions.{definition_view, fileless_view};
 ghost use Rattle.cord_run.specs.inner.Outcomes.{CountsReads, Gives};
 ghost use Rattle.cord_run.specs.inner.Targets.{target_operation};
 ghost use Rattle.cord_run.specs.inner.Frames.{KeepNoMore};
@@ -31,7 +31,7 @@ use crate::store::cords::balanced;
 use crate::store::{Content, Store};
 use crate::targets::files::{file_cord, opened_length};
 use crate::targets::literals::{literal, start, start_length};
-use crate::targets::makings::{Fileless, Making, making_of};
+use crate::targets::definitions::{Definition, Fileless, definition_of};
 use crate::targets::prints::{print, print_length};
 use cord_core::Cord;
 use cord_file::Sources;
@@ -110,9 +110,9 @@ fn make<F: Files>(
     ensures counts { F.failures (device_in sources.new)
         ≡ count_after (has_failed result) (F.failures (device_in sources.old)) }
 {
-    match making_of(made) {
-        Making::OfFile { path, reading } => file_cord(alloc, sources, path, reading),
-        Making::Fileless(made) => make_of_names(alloc, store, made),
+    match definition_of(made) {
+        Definition::OfFile { path, reading } => file_cord(alloc, sources, path, reading),
+        Definition::Fileless(made) => make_of_names(alloc, store, made),
     }
 }
 
@@ -166,9 +166,9 @@ fn measure<F: Files>(
     ensures unread { OnErr result (opened_in sources.new ≡ opened_in sources.old) }
     ensures unbuilt { TakesNoMemory (made_view made.now) → result ≢ Err Stop.NoMemory }
 {
-    match making_of(made) {
-        Making::OfFile { path, .. } => opened_length(alloc, sources, path),
-        Making::Fileless(made) => measure_of_names(alloc, store, made),
+    match definition_of(made) {
+        Definition::OfFile { path, .. } => opened_length(alloc, sources, path),
+        Definition::Fileless(made) => measure_of_names(alloc, store, made),
     }
 }
 

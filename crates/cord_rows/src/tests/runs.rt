@@ -1,8 +1,8 @@
 //! Rows of scripts through `run_text` and `run_unplanned`: the end, and what is written.
 mod blocks;
+mod definitions;
 mod files;
 mod hostile;
-mod makings;
 mod malformed;
 mod plans;
 mod refusals;

@@ -7,7 +7,7 @@ use Rattle.cord_plan.specs.Planned.{Made}
 use Rattle.cord_plan.specs.Views.{made_view}
 use Rattle.cord_run.specs.Failing.{FailsBy, IsFileMade}
 use Rattle.cord_run.specs.inner.Contents.{IsMade, IsMadeOfNames, IsUnmade, IsUnmadeOfNames}
-use Rattle.cord_run.specs.inner.Makings.{file_made, fileless_view, making_view}
+use Rattle.cord_run.specs.inner.Definitions.{definition_view, file_made, fileless_view}
 use Rattle.cord_run.proofs.Failures.{fails_reading, never_fails}
 use Rattle.cord_run.proofs.Files.{file_built, file_unbuilt, of_file}
 use Rattle.cord_run.proofs.TargetNames.{names_made, names_unmade, no_device}
@@ -21,7 +21,7 @@ returns-in-OfFile g c =
     let entries = c.args.store.now.entries.items in
     let r = c.file_cord.result in
     let told = c.file_cord.ensures in
-    let is : file_made c.in-OfFile.reading c.in-OfFile.path.now ≡ made_view c.args.made.now = ap making_view (sym c.in-OfFile.is) ∙ c.making_of.ensures in
+    let is : file_made c.in-OfFile.reading c.in-OfFile.path.now ≡ made_view c.args.made.now = ap definition_view (sym c.in-OfFile.is) ∙ c.definition_of.ensures in
     record {
       built = subst (λ (m : Made). IfOk r (IsMade keeps old new entries m)) is
           (file_built keeps old entries c.in-OfFile.reading c.in-OfFile.path.now new r told.made);
@@ -43,7 +43,7 @@ returns-in-Fileless g c =
     let entries = c.args.store.now.entries.items in
     let r = c.make_of_names.result in
     let made = made_view c.args.made.now in
-    let is : fileless_view c.in-Fileless.made ≡ made = ap making_view (sym c.in-Fileless.is) ∙ c.making_of.ensures in
+    let is : fileless_view c.in-Fileless.made ≡ made = ap definition_view (sym c.in-Fileless.is) ∙ c.definition_of.ensures in
     record {
       built = names_made keeps (opened_in s) told entries c.requires.over made r
           (subst (λ (m : Made). IfOk r (IsMadeOfNames entries m)) is c.make_of_names.ensures.built);

@@ -3,9 +3,9 @@ use Rattle.std.proofs.lemmas.Int.{to_z-of_z}
 use Rattle.cord_operands.specs.declared.operands.Argument.{Argument}
 use Rattle.cord_plan.specs.Planned as plan
 use Rattle.cord_plan.specs.Views.{expr_view}
-use Rattle.cord_run.specs.inner.Makings.{fileless_view}
-use Rattle.cord_run.proofs.Makings.{balanced_made, extensible_made, joined_made, joined_unmade, literal_made, printed_made, printed_unmade}
-use Rattle.cord_run.proofs.Makings.{start_made}
+use Rattle.cord_run.specs.inner.Definitions.{fileless_view}
+use Rattle.cord_run.proofs.Definitions.{balanced_made, extensible_made, joined_made, joined_unmade, literal_made, printed_made, printed_unmade}
+use Rattle.cord_run.proofs.Definitions.{start_made}
 use Rattle.cord_run.proofs.targets.make_of_names.Goals as goal
 
 pub returns-in-Joined-clause-built : goal.returns-in-Joined-clause-built

@@ -7,7 +7,7 @@ use Rattle.cord_plan.specs.Planned.{Made}
 use Rattle.cord_plan.specs.Views.{made_view}
 use Rattle.cord_run.specs.Failing.{FailsBy, IsFileMade}
 use Rattle.cord_run.specs.inner.Contents.{IsLength, IsLengthOfNames, IsUnmeasured, IsUnmeasuredOfNames, TakesNoMemory}
-use Rattle.cord_run.specs.inner.Makings.{file_made, fileless_view, making_view}
+use Rattle.cord_run.specs.inner.Definitions.{definition_view, file_made, fileless_view}
 use Rattle.cord_run.proofs.Failures.{fails_reading, never_fails}
 use Rattle.cord_run.proofs.Files.{file_measured, file_unmeasured, of_file, takes_memory}
 use Rattle.cord_run.proofs.TargetNames.{names_told, names_untold, no_device}
@@ -20,7 +20,7 @@ returns-in-OfFile g c =
     let entries = c.args.store.now.entries.items in
     let r = c.opened_length.result in
     let told = c.opened_length.ensures in
-    let is : file_made c.in-OfFile.reading c.in-OfFile.path.now ≡ made_view c.args.made.now = ap making_view (sym c.in-OfFile.is) ∙ c.making_of.ensures in
+    let is : file_made c.in-OfFile.reading c.in-OfFile.path.now ≡ made_view c.args.made.now = ap definition_view (sym c.in-OfFile.is) ∙ c.definition_of.ensures in
     record {
       told = subst (λ (m : Made). IfOk r (IsLength keeps old entries m)) is
           (file_measured keeps old entries c.in-OfFile.reading c.in-OfFile.path.now r told.told);
@@ -43,7 +43,7 @@ returns-in-Fileless g c =
     let entries = c.args.store.now.entries.items in
     let r = c.measure_of_names.result in
     let made = made_view c.args.made.now in
-    let is : fileless_view c.in-Fileless.made ≡ made = ap making_view (sym c.in-Fileless.is) ∙ c.making_of.ensures in
+    let is : fileless_view c.in-Fileless.made ≡ made = ap definition_view (sym c.in-Fileless.is) ∙ c.definition_of.ensures in
     record {
       told = names_told keeps (opened_in s) told entries c.requires.over made r
           (subst (λ (m : Made). IfOk r (IsLengthOfNames entries m)) is c.measure_of_names.ensures.told);

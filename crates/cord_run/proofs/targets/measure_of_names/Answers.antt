@@ -3,8 +3,8 @@ use Rattle.std.proofs.lemmas.Int.{to_z-of_z}
 use Rattle.cord_operands.specs.declared.operands.Argument.{Argument}
 use Rattle.cord_plan.specs.Planned as plan
 use Rattle.cord_plan.specs.Views.{expr_view}
-use Rattle.cord_run.specs.inner.Makings.{fileless_view}
-use Rattle.cord_run.proofs.Makings.{balanced_told, joined_told, joined_untold, printed_told, printed_untold, start_measured}
+use Rattle.cord_run.specs.inner.Definitions.{fileless_view}
+use Rattle.cord_run.proofs.Definitions.{balanced_told, joined_told, joined_untold, printed_told, printed_untold, start_measured}
 use Rattle.cord_run.proofs.targets.measure_of_names.Goals as goal
 
 pub returns-in-Joined-clause-told : goal.returns-in-Joined-clause-told

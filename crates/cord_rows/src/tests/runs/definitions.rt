@@ -1,4 +1,4 @@
-//! Each kind of making, built and only measured: its length, or why there is none. A name that `len` alone reads is
+//! Each kind of definition, built and only measured: its length, or why there is none. A name that `len` alone reads is
 //! measured by the plan and built without one.
 use super::{expect_end, lines, numbered, run_way};
 use cord_io::{CutFiles, MemFiles, MemSink};

@@ -1,7 +1,7 @@
 // What a name is made of, by whether a file is needed.
 ghost use Rattle.std.specs.Prelude.{◌≡◌};
 ghost use Rattle.cord_plan.specs.Views.{made_view};
-ghost use Rattle.cord_run.specs.inner.Makings.{making_view};
+ghost use Rattle.cord_run.specs.inner.Definitions.{definition_view};
 
 use crate::targets::files::Reading;
 use cord_plan::{Expr, Made};
@@ -10,7 +10,7 @@ use cord_script::{Arguments, Function, Name, Number, Path, Text};
 
 /// What a name is made of. Its fields are lent.
 #[derive(Clone, Copy)]
-pub(crate) enum Making<'a> {
+pub(crate) enum Definition<'a> {
     /// A file, of which so much is read before it is looked at.
     OfFile { path: &'a Path, reading: Reading },
     /// What needs no file.
@@ -36,31 +36,31 @@ pub(crate) enum Fileless<'a> {
 }
 
 /// What a plan says of what a name is made of.
-pub(crate) fn making_of(made: &Made) -> Making<'_>
-    ensures { making_view result ≡ made_view made.now }
+pub(crate) fn definition_of(made: &Made) -> Definition<'_>
+    ensures { definition_view result ≡ made_view made.now }
 {
     match made {
-        Made::Joined(expression) => Making::Fileless(Fileless::Joined(expression)),
-        Made::Literal(text) => Making::Fileless(Fileless::Literal(text)),
-        Made::OfFile(path) => Making::OfFile {
+        Made::Joined(expression) => Definition::Fileless(Fileless::Joined(expression)),
+        Made::Literal(text) => Definition::Fileless(Fileless::Literal(text)),
+        Made::OfFile(path) => Definition::OfFile {
             path,
             reading: Reading::ByLength,
         },
-        Made::OfEager(path) => Making::OfFile {
+        Made::OfEager(path) => Definition::OfFile {
             path,
             reading: Reading::Eager,
         },
-        Made::OfLazy(path) => Making::OfFile {
+        Made::OfLazy(path) => Definition::OfFile {
             path,
             reading: Reading::Lazy,
         },
-        Made::OfFunction(function, count) => Making::Fileless(Fileless::OfFunction {
+        Made::OfFunction(function, count) => Definition::Fileless(Fileless::OfFunction {
             function: *function,
             count,
         }),
-        Made::Balanced(name) => Making::Fileless(Fileless::Balanced(name)),
-        Made::OfExtensible(name) => Making::Fileless(Fileless::OfExtensible(name)),
-        Made::Printed(text, format, arguments) => Making::Fileless(Fileless::Printed {
+        Made::Balanced(name) => Definition::Fileless(Fileless::Balanced(name)),
+        Made::OfExtensible(name) => Definition::Fileless(Fileless::OfExtensible(name)),
+        Made::Printed(text, format, arguments) => Definition::Fileless(Fileless::Printed {
             text,
             format,
             arguments,

@@ -4,10 +4,10 @@ use Rattle.cord_plan.specs.Planned.{Made, Joined, Literal, OfFile, OfEager, OfLa
 use Rattle.cord_plan.specs.Views.{expr_view}
 use Rattle.cord_run.specs.declared.targets.files.Reading.{Reading}
 use Rattle.cord_run.specs.declared.targets.files.Reading.TheVariants.{ByLength, Eager, Lazy}
-use Rattle.cord_run.specs.declared.targets.makings.Fileless.{Fileless}
-use Rattle.cord_run.specs.declared.targets.makings.Fileless.TheVariants as fileless
-use Rattle.cord_run.specs.declared.targets.makings.Making.{Making}
-use Rattle.cord_run.specs.declared.targets.makings.Making.TheVariants as makings
+use Rattle.cord_run.specs.declared.targets.definitions.Fileless.{Fileless}
+use Rattle.cord_run.specs.declared.targets.definitions.Fileless.TheVariants as fileless
+use Rattle.cord_run.specs.declared.targets.definitions.Definition.{Definition}
+use Rattle.cord_run.specs.declared.targets.definitions.Definition.TheVariants as definitions
 
 -- what is made of the file at a path that is read so
 abbrev pub file_made : Reading → List ℕ → Made
@@ -25,6 +25,6 @@ fileless_view (fileless.OfExtensible e) = OfExtensible e.now
 fileless_view (fileless.Printed text format arguments) = Printed text.now format.now arguments.now
 
 -- either
-abbrev pub making_view : Making → Made
-making_view (makings.OfFile path reading) = file_made reading path.now
-making_view (makings.Fileless made) = fileless_view made
+abbrev pub definition_view : Definition → Made
+definition_view (definitions.OfFile path reading) = file_made reading path.now
+definition_view (definitions.Fileless made) = fileless_view made
