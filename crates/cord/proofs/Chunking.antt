@@ -23,7 +23,8 @@ node_len n s f = length-bytes no_table (Some n) s f
 pub chunk_rest : (x : List ℕ) (place : ℕ) (chunk : Chunk) → place < length x → chunk_bytes chunk ≡ drop place x → IsChunkAt x place chunk
 chunk_rest x place chunk lt e =
     let n : length (chunk_bytes chunk) ≡ length (drop place x) = ap (λ (y : List ℕ). length y) e in
-    let none : drop (place + length (chunk_bytes chunk)) x ≡ [] = drop_all (place + length (chunk_bytes chunk)) x (omega (arith, n, length-drop place x, lt)) in
+    let none : drop (place + length (chunk_bytes chunk)) x ≡ [] =
+    drop_all (place + length (chunk_bytes chunk)) x (omega (arith, n, length-drop place x, lt)) in
     record {
       some = omega (arith, n, length-drop place x, lt);
       inside = omega (arith, n, length-drop place x, lt);

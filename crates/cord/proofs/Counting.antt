@@ -26,7 +26,8 @@ module _ (p : ℕ → Bool) (x : List ℕ) (place count : ℕ) (i : IsCounted p 
     counted_fits = omega (arith, rest, i.sum, count_by-le-length p x)
 
   pub counted_all : length x ≤ place → count ≡ count_by p x
-  counted_all le = let none : count_by p (drop place x) ≡ 0 = ap (λ (y : List ℕ). count_by p y) (drop_all place x le) in omega (arith, none, i.sum)
+  counted_all le = let none : count_by p (drop place x) ≡ 0 = ap (λ (y : List ℕ). count_by p y) (drop_all place x le) in
+      omega (arith, none, i.sum)
 
 -- as many places as bytes pass a test
 count_places : (p : ℕ → Bool) (hay : List ℕ) (i n : ℕ) → i + n ≡ length hay → length (places_from p hay i n) ≡ count_by p (drop i hay)
@@ -43,4 +44,5 @@ count_places p hay i (suc n) e = step (p (slice_index hay i)) refl (count_places
     step false h later = rw (h, all, h) (omega (arith, later))
 
 pub counted_places : (p : ℕ → Bool) (hay : List ℕ) → length (places p hay) ≡ count_by p hay
-counted_places p hay = let all : length hay - 0 ≡ length hay = omega arith in ap (λ (n : ℕ). length (places_from p hay 0 n)) all ∙ count_places p hay 0 (length hay) (omega arith)
+counted_places p hay = let all : length hay - 0 ≡ length hay = omega arith in
+    ap (λ (n : ℕ). length (places_from p hay 0 n)) all ∙ count_places p hay 0 (length hay) (omega arith)

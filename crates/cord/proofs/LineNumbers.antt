@@ -41,5 +41,7 @@ module _ (x : List ℕ) (n start : ℕ) (i : IsLineStart x n start) where
   line_there line after e =
       let here : drop n (bare_lines x) ≡ line ∷ after = sym i.rest ∙ e in
       let count : length (drop n (bare_lines x)) ≡ length (line ∷ after) = ap (λ (ys : List (List ℕ)). length ys) here in
-      let at : get_or (bare_lines x) n line ≡ line = ap (λ (k : ℕ). get_or (bare_lines x) k line) (omega arith) ∙ sym (get_or-drop n (bare_lines x) 0 line) ∙ ap (λ (ys : List (List ℕ)). get_or ys 0 line) here in
+      let at : get_or (bare_lines x) n line ≡ line =
+      ap (λ (k : ℕ). get_or (bare_lines x) k line) (omega arith) ∙ sym (get_or-drop n (bare_lines x) 0 line)
+      ∙ ap (λ (ys : List (List ℕ)). get_or ys 0 line) here in
       slice_get-get_or (bare_lines x) n line (omega (arith, count, length-drop n (bare_lines x))) ∙ ap (λ (y : List ℕ). Some y) at

@@ -55,7 +55,8 @@ last_of i (b ∷ y) lt e = not_ended i b y e
 module _ (x : List ℕ) (i : ℕ) (lt : i < length x) where
   -- what is found from a place on is found in what follows it
   found_in : (o : Option ℕ) → first x i (10 ∷ []) ≡ o → first_from i (drop i x) (10 ∷ []) ≡ o
-  found_in o e = let le : nat_le i (length x) ≡ true = grind (arith, nat_tests) in ap (λ (w : Bool). if w then first_from i (drop i x) (10 ∷ []) else None) (sym le) ∙ e
+  found_in o e = let le : nat_le i (length x) ≡ true = grind (arith, nat_tests) in
+      ap (λ (w : Bool). if w then first_from i (drop i x) (10 ∷ []) else None) (sym le) ∙ e
 
   module _ (p : ℕ) (e : first x i (10 ∷ []) ≡ Some p) where
     at : HasEnd i (drop i x) p
@@ -65,12 +66,14 @@ module _ (x : List ℕ) (i : ℕ) (lt : i < length x) where
     after = let n : i + suc at.0 ≡ p + 1 = omega (arith, at.1) in drop-drop (suc at.0) i x ∙ ap (λ (k : ℕ). drop k x) n
 
     pub next_with_end : lines_as true (drop i x) ≡ take (p + 1 - i) (drop i x) ∷ lines_as true (drop (p + 1) x)
-    next_with_end = let n : p + 1 - i ≡ suc at.0 = omega (arith, at.1) in rw n (at.2.line ∙ ap (λ (z : List ℕ). take (suc at.0) (drop i x) ∷ lines z) after)
+    next_with_end = let n : p + 1 - i ≡ suc at.0 = omega (arith, at.1) in
+        rw n (at.2.line ∙ ap (λ (z : List ℕ). take (suc at.0) (drop i x) ∷ lines z) after)
 
     pub next_bare : lines_as false (drop i x) ≡ take (p - i) (drop i x) ∷ lines_as false (drop (p + 1) x)
     next_bare =
         let n : p - i ≡ at.0 = omega (arith, at.1) in
-        let one : bare_lines (drop i x) ≡ bare (take (suc at.0) (drop i x)) ∷ bare_lines (drop (suc at.0) (drop i x)) = ap (map bare) at.2.line in
+        let one : bare_lines (drop i x) ≡ bare (take (suc at.0) (drop i x)) ∷ bare_lines (drop (suc at.0) (drop i x)) =
+        ap (map bare) at.2.line in
         rw n (one ∙ ap (λ (z : List ℕ). z ∷ bare_lines (drop (suc at.0) (drop i x))) at.2.bare
         ∙ ap (λ (z : List ℕ). take at.0 (drop i x) ∷ bare_lines z) after)
 

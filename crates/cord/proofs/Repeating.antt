@@ -39,7 +39,8 @@ pub most_len : (n half len : ℕ) → half + half ≤ n → half * len + half * 
 most_len n half len le =
     let rest = n - (half + half) in
     let e : n ≡ (half + half) + rest = omega (arith, le) in
-    let m : n * len ≡ (half * len + half * len) + rest * len = ap (λ (k : ℕ). k * len) e ∙ add-mul (half + half) rest len ∙ ap (λ (k : ℕ). k + rest * len) (add-mul half half len) in
+    let m : n * len ≡ (half * len + half * len) + rest * len =
+    ap (λ (k : ℕ). k * len) e ∙ add-mul (half + half) rest len ∙ ap (λ (k : ℕ). k + rest * len) (add-mul half half len) in
     omega (arith, m)
 
 -- of a text over no files

@@ -17,7 +17,8 @@ stand_by_each x [] p each = (drop p x, refl)
 stand_by_each x (b ∷ s) p each =
     let here : p + 0 ≡ p = omega arith in
     let first : slice_get x p ≡ Some b = ap (λ (n : ℕ). slice_get x n) (sym here) ∙ each 0 (omega arith) in
-    let more = stand_by_each x s (p + 1) (λ k lt. let e : (p + 1) + k ≡ p + suc k = omega arith in ap (λ (n : ℕ). slice_get x n) e ∙ each (suc k) (omega (arith, lt))) in
+    let more = stand_by_each x s (p + 1) (λ k lt. let e : (p + 1) + k ≡ p + suc k = omega arith in
+    ap (λ (n : ℕ). slice_get x n) e ∙ each (suc k) (omega (arith, lt))) in
     (more.0, from_byte x p b first ∙ ap (λ (y : List ℕ). b ∷ y) more.1)
 
 -- what stands as far before the end as it is long is the end
@@ -29,7 +30,8 @@ ends_there x s le (rest, e) = (
 )
   where
     none : rest ≡ []
-    none = nothing rest (let l : length (drop (length x - length s) x) ≡ length (s ++ rest) = ap (λ (y : List ℕ). length y) e in omega (arith, l, le, length-drop (length x - length s) x, length-append s rest))
+    none = nothing rest (let l : length (drop (length x - length s) x) ≡ length (s ++ rest) = ap (λ (y : List ℕ). length y) e in
+        omega (arith, l, le, length-drop (length x - length s) x, length-append s rest))
       where
         nothing : (y : List ℕ) → length y ≡ 0 → y ≡ []
         nothing [] h = refl

@@ -9,8 +9,8 @@ use cord_io::{CordError, MAX_LEN};
 use std::alloc::Global;
 use std::marker::Model;
 
-/// A text of at most `MAX_LEN` bytes that grows at its end, made of many small pieces: they are gathered to leaves of up
-/// to 4,096 bytes. After a refusal its bytes are as before.
+/// A text of at most `MAX_LEN` bytes that grows at its end, made of many small pieces: they are gathered to leaves of
+/// up to 4,096 bytes. After a refusal its bytes are as before.
 #[derive(Drop)]
 pub struct TextBuilder {
     grown: ExtCord,
@@ -91,8 +91,8 @@ impl TextBuilder {
         Ok(())
     }
 
-    /// Its bytes as a text, which shares its tree with the builder. The builder stays, and can grow further. Refused for
-    /// want of memory alone.
+    /// Its bytes as a text, which shares its tree with the builder. The builder stays, and can grow further. Refused
+    /// for want of memory alone.
     pub fn to_text(&mut self, alloc: Global) -> Result<Text, CordError>
         ensures text { IfOk result (λ t. t ≡ self.old) }
         ensures same { self.new ≡ self.old }

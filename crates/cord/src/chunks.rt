@@ -61,8 +61,8 @@ impl Text {
         }
     }
 
-    /// Its chunks from the last to the first: put together from the last that came to the first, they are the text. None
-    /// is copied.
+    /// Its chunks from the last to the first: put together from the last that came to the first, they are the text.
+    /// None is copied.
     pub fn chunks_back(&self) -> ChunksBack<'_>
         ensures text { result ≡ self.now }
         ensures joined { JoinBackTo result self.now }

@@ -12,8 +12,8 @@ use cord_core::Cord;
 use cord_io::{CordError, MAX_LEN};
 use std::alloc::Global;
 
-/// The text of a cord `times` times, made by doubling: it shares its tree with itself, and takes at most two nodes for each
-/// binary digit of `times`.
+/// The text of a cord `times` times, made by doubling: it shares its tree with itself, and takes at most two nodes for
+/// each binary digit of `times`.
 /// `TooLong` where that is more than `MAX_LEN` bytes, `NoMemory` where memory was refused.
 pub fn repeated(alloc: Global, cord: &Cord, times: u64) -> Result<Cord, CordError>
     ensures over { IfOk result (IsRepeated times cord.now) }
@@ -38,8 +38,8 @@ pub fn repeated(alloc: Global, cord: &Cord, times: u64) -> Result<Cord, CordErro
 }
 
 impl Text {
-    /// Its bytes `times` times. The result shares its tree with itself, and takes at most two nodes for each binary digit of
-    /// `times`.
+    /// Its bytes `times` times. The result shares its tree with itself, and takes at most two nodes for each binary
+    /// digit of `times`.
     /// `TooLong` where that is more than `MAX_LEN` bytes, `NoMemory` where memory was refused.
     pub fn repeated(&self, alloc: Global, times: u64) -> Result<Text, CordError>
         ensures text { IfOk result (λ t. t ≡ repeat times self.now) }

@@ -7,8 +7,8 @@ use cord_io::{CordError, MAX_LEN};
 use std::alloc::Global;
 
 impl Text {
-    /// The bytes from `start` on, at most `count` of them: none where `start` is at or past the end. Refused for want of
-    /// memory alone.
+    /// The bytes from `start` on, at most `count` of them: none where `start` is at or past the end. Refused for want
+    /// of memory alone.
     pub fn substr(&self, alloc: Global, start: u64, count: u64) -> Result<Text, CordError>
         ensures text { IfOk result (λ t. t ≡ take count (drop start self.now)) }
         ensures refused { IsOkUnless result CordError.NoMemory }
@@ -17,8 +17,8 @@ impl Text {
         Ok(Text { cord })
     }
 
-    /// The bytes before `at`, and those from `at` on: all and none where `at` is at or past the end. Refused for want of
-    /// memory alone.
+    /// The bytes before `at`, and those from `at` on: all and none where `at` is at or past the end. Refused for want
+    /// of memory alone.
     pub fn split_at(&self, alloc: Global, at: u64) -> Result<(Text, Text), CordError>
         ensures front { IfOk result (λ parts. parts.0 ≡ take at self.now) }
         ensures back { IfOk result (λ parts. parts.1 ≡ drop at self.now) }
@@ -55,8 +55,8 @@ impl Text {
         Ok(edited)
     }
 
-    /// This text with the bytes of `text` in the place of at most `count` of its bytes from `start` on: at its end where
-    /// `start` is at or past the end.
+    /// This text with the bytes of `text` in the place of at most `count` of its bytes from `start` on: at its end
+    /// where `start` is at or past the end.
     /// `TooLong` where the result would be longer than `MAX_LEN`, `NoMemory` where memory was refused.
     pub fn replace_range(
         &self,
@@ -79,8 +79,8 @@ impl Text {
         Ok(edited)
     }
 
-    /// The same bytes in a tree of a depth of about 1.44 times the binary logarithm of their number at most. Refused for
-    /// want of memory alone.
+    /// The same bytes in a tree of a depth of about 1.44 times the binary logarithm of their number at most. Refused
+    /// for want of memory alone.
     pub fn balance(&self, alloc: Global) -> Result<Text, CordError>
         ensures text { IfOk result (λ t. t ≡ self.now) }
         ensures refused { IsOkUnless result CordError.NoMemory }

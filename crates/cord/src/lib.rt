@@ -1,5 +1,5 @@
-//! The library of cords under one roof: `Text`, a cord over no files that is seen as its bytes alone, and the names that
-//! users need of the crates below.
+//! The library of cords under one roof: `Text`, a cord over no files that is seen as its bytes alone, and the names
+//! that users need of the crates below.
 //!
 //! A text that is kept in memory:
 //!
@@ -46,9 +46,9 @@
 //! }
 //! ```
 //!
-//! `put`, `to_vec`, `str`, `Position::fetch` and the other calls that look at the bytes of a cord have one condition, that
-//! it fits the source that they are given. A cord that `Sources` made fits them, as the clause `fits` of those calls says,
-//! and what `cat`, `substr` and the others make of cords that fit does too, by their clause `over`.
+//! `put`, `to_vec`, `str`, `Position::fetch` and the other calls that look at the bytes of a cord have one condition,
+//! that it fits the source that they are given. A cord that `Sources` made fits them, as the clause `fits` of those
+//! calls says, and what `cat`, `substr` and the others make of cords that fit does too, by their clause `over`.
 #![tactic(auto)]
 
 mod builder;

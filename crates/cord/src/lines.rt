@@ -7,8 +7,8 @@ use cord_io::CordError;
 use std::alloc::Global;
 use std::marker::Model;
 
-/// The lines of a text that are left, as texts that share its tree. A line ends with the byte 10, which the last one may
-/// lack. Where memory is refused a line is `NoMemory`, and the next ones follow.
+/// The lines of a text that are left, as texts that share its tree. A line ends with the byte 10, which the last one
+/// may lack. Where memory is refused a line is `NoMemory`, and the next ones follow.
 #[derive(Drop)]
 pub struct Lines<'a> {
     text: &'a Text,
@@ -55,8 +55,8 @@ impl Text {
         }
     }
 
-    /// Line `n`, from 0, without its end: none where there are no more than `n` lines. Those before it aren't made. Refused
-    /// for want of memory alone.
+    /// Line `n`, from 0, without its end: none where there are no more than `n` lines. Those before it aren't made.
+    /// Refused for want of memory alone.
     pub fn nth_line(&self, alloc: Global, n: u64) -> Result<Option<Text>, CordError>
         ensures line { IfOk result (λ line. line ≡ slice_get (bare_lines self.now) n) }
         ensures refused { IsOkUnless result CordError.NoMemory }

@@ -35,8 +35,9 @@ impl Text {
         place
     }
 
-    /// The first place from `start` on where `pattern` stands. No bytes stand at each place up to the end. Only a pattern of
-    /// more than `MOST_BYTES`, 16,384, that isn't longer than this text is copied, which takes memory and may be refused.
+    /// The first place from `start` on where `pattern` stands. No bytes stand at each place up to the end. Only a
+    /// pattern of more than `MOST_BYTES`, 16,384, that isn't longer than this text is copied, which takes memory and
+    /// may be refused.
     pub fn find(&self, alloc: Global, pattern: &[u8], start: u64) -> Result<Option<u64>, CordError>
         ensures first { IfOk result (λ found. found ≡ first self.now start pattern.now) }
         ensures from { IfOk result (λ found. IfSome found (λ place. start ≤ place)) }

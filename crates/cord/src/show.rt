@@ -13,7 +13,8 @@ const PIECE_LEN: usize = 64;
 /// The most bytes that a character has.
 const CHAR_LEN: usize = 4;
 
-/// `{:?}` is its length and its first 32 bytes, as `Text(11, b"hello world")`: two dots follow them where there are more.
+/// `{:?}` is its length and its first 32 bytes, as `Text(11, b"hello world")`: two dots follow them where there are
+/// more.
 /// `{:#?}` is its length and its tree: the form and the length of each node, of a join its depth too, and its two sides
 /// below it, all in at most 100 lines.
 impl fmt::Debug for Text {

@@ -6,8 +6,8 @@ use crate::{Text, TextBuilder};
 use cord_io::{CordError, Sink, WriteFault};
 use std::alloc::Global;
 
-/// A sink that keeps what it takes as a text, gathered to leaves of up to 4,096 bytes. A `put` takes all that it is offered;
-/// it fails where memory is refused or the text would be longer than `MAX_LEN`.
+/// A sink that keeps what it takes as a text, gathered to leaves of up to 4,096 bytes. A `put` takes all that it is
+/// offered; it fails where memory is refused or the text would be longer than `MAX_LEN`.
 ///
 /// ```rust in_memory
 /// use cord::{Cord, CordError, Source, Text, TextSink, put};
@@ -49,8 +49,8 @@ impl TextSink {
         })
     }
 
-    /// The bytes that it has taken as a text, which shares its tree with the sink. The sink stays, and can take more. Refused
-    /// for want of memory alone.
+    /// The bytes that it has taken as a text, which shares its tree with the sink. The sink stays, and can take more.
+    /// Refused for want of memory alone.
     pub fn to_text(&mut self) -> Result<Text, CordError>
         ensures text { IfOk result (λ t. t ≡ ⟦<TextSink as Sink>⟧.taken self.old) }
         ensures taken { ⟦<TextSink as Sink>⟧.taken self.new ≡ ⟦<TextSink as Sink>⟧.taken self.old }

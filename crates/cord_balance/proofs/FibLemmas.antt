@@ -21,7 +21,8 @@ fib_up (suc n) = omega arith
 pub fib_mono : (m n : ℕ) → m ≤ n → fib_of m ≤ fib_of n
 fib_mono m zero h = let e : m ≡ 0 = omega arith in rw e (omega arith)
 fib_mono m (suc n) h =
-    ⊎_elim (λ (a : m < suc n). let k : fib_of m ≤ fib_of n = fib_mono m n (omega arith) in let u : fib_of n ≤ fib_of (suc n) = fib_up n in omega arith)
+    ⊎_elim (λ (a : m < suc n). let k : fib_of m ≤ fib_of n = fib_mono m n (omega arith) in
+    let u : fib_of n ≤ fib_of (suc n) = fib_up n in omega arith)
     (λ (b : suc n ≤ m). let e : m ≡ suc n = omega arith in rw e (omega arith)) (cases_lt m (suc n))
 
 -- what is below an earlier one comes before it

@@ -94,15 +94,18 @@ AllFrom-by_last k (q ∷ r ∷ ps) p e f h =
 -- what is true of both depths is true of the greater one
 fib_max : (dl dr n : ℕ) → fib_of (dl + 1) ≤ n → fib_of (dr + 1) ≤ n → fib_of (max dl dr + 1) ≤ n
 fib_max dl dr n a b =
-    ⊎_elim (λ (h : dl < dr). let e : max dl dr ≡ dr = omega arith in rw e b) (λ (h : dr ≤ dl). let e : max dl dr ≡ dl = omega arith in rw e a) (cases_lt dl dr)
+    ⊎_elim (λ (h : dl < dr). let e : max dl dr ≡ dr = omega arith in rw e b) (λ (h : dr ≤ dl). let e : max dl dr ≡ dl = omega arith in
+    rw e a) (cases_lt dl dr)
 
 -- the join of two isn't too deep
 pub join_fits : (dl dr n : ℕ) → fib_of (dl + 1) ≤ n → fib_of (dr + 1) ≤ n → n ≤ MAX_LEN → max dl dr + 1 ≤ MAX_DEPTH
-join_fits dl dr n a b h = let k : fib_of (max dl dr + 1) ≤ n = fib_max dl dr n a b in let i : max dl dr + 1 < MAX_INDEX = fib_index (max dl dr + 1) (omega arith) in omega arith
+join_fits dl dr n a b h = let k : fib_of (max dl dr + 1) ≤ n = fib_max dl dr n a b in let i : max dl dr + 1 < MAX_INDEX =
+    fib_index (max dl dr + 1) (omega arith) in omega arith
 
 -- the join of two is shallow enough
 pub join_shallow : (d dl dr n : ℕ) → fib_of (dl + 1) ≤ n → fib_of (dr + 1) ≤ n → d ≤ max dl dr + 1 → fib_of d ≤ n
-join_shallow d dl dr n a b h = let k : fib_of (max dl dr + 1) ≤ n = fib_max dl dr n a b in let i : fib_of d ≤ fib_of (max dl dr + 1) = fib_mono d (max dl dr + 1) h in omega arith
+join_shallow d dl dr n a b h = let k : fib_of (max dl dr + 1) ≤ n = fib_max dl dr n a b in let i : fib_of d ≤ fib_of (max dl dr + 1) =
+    fib_mono d (max dl dr + 1) h in omega arith
 
 -- less deep, and so shallow
 pub fib_less : (d n : ℕ) → fib_of (d + 1) ≤ n → fib_of d ≤ n

@@ -27,12 +27,14 @@ gathering_start old below f = record {
 
 -- a piece is less deep than its slot's number
 pub depth_in_slot : (p : Piece) → IsPiece p → depth_of p.node.value < p.slot
-depth_in_slot p i = let h : depth_of p.node.value + 1 < p.slot + 1 = fib_below (depth_of p.node.value + 1) (p.slot + 1) (omega (arith, i.shallow, i.slot.below)) in omega arith
+depth_in_slot p i = let h : depth_of p.node.value + 1 < p.slot + 1 =
+    fib_below (depth_of p.node.value + 1) (p.slot + 1) (omega (arith, i.shallow, i.slot.below)) in omega arith
 
 -- a piece with what stands to its right is no deeper than its slot
 depth_put : (rest : List Piece) (p : Piece) (joined : Option Shared) (node : Shared) → IsPiece p → GoesRightOf joined (rest ++ p ∷ []) →
     IsPutLeft p.node joined node → depth_of node.value ≤ p.slot
-depth_put rest p None node i r u = let h : depth_of p.node.value < p.slot = depth_in_slot p i in let e : depth_of node.value ≡ depth_of p.node.value = u.alone in omega arith
+depth_put rest p None node i r u = let h : depth_of p.node.value < p.slot = depth_in_slot p i in
+    let e : depth_of node.value ≡ depth_of p.node.value = u.alone in omega arith
 depth_put rest p (Some n) node i r u =
     let h : depth_of p.node.value < p.slot = depth_in_slot p i in
     let k : depth_of n.value + 1 ≤ p.slot = AllFrom-last (depth_of n.value + 1) rest p r in
@@ -80,4 +82,5 @@ gathering_shallow old rest p joined below g x e =
 -- what is joined is no longer than all was
 pub gathering_fits : (old rest : List Piece) (p : Piece) (joined : Option Shared) (below : ℕ) →
     IsGathering old (rest ++ p ∷ []) joined below → forest_len old ≤ MAX_LEN → len_of p.node.value + piece_len joined ≤ MAX_LEN
-gathering_fits old rest p joined below g h = let e : forest_len (rest ++ p ∷ []) ≡ forest_len rest + len_of p.node.value = forest_len-snoc rest p in omega (arith, g.len)
+gathering_fits old rest p joined below g h = let e : forest_len (rest ++ p ∷ []) ≡ forest_len rest + len_of p.node.value =
+    forest_len-snoc rest p in omega (arith, g.len)

@@ -17,7 +17,8 @@ pub right_shallow : (dl dr ll lr : ℕ) → fib_of dl ≤ ll → fib_of (dl + 1)
 right_shallow dl dr ll lr a b c =
     ⊎_elim
     (λ (h : dl < dr). let e : max dl dr + 1 + 1 ≡ dr + 2 = omega arith in rw e (omega arith))
-    (λ (h : dr ≤ dl). let e : max dl dr ≡ dl = omega arith in let s : fib_of (dl + 1 + 1) ≡ fib_of dl + fib_of (dl + 1) = fib_sum dl (dl + 1 + 1) (omega arith) in rw e (omega arith))
+    (λ (h : dr ≤ dl). let e : max dl dr ≡ dl = omega arith in
+    let s : fib_of (dl + 1 + 1) ≡ fib_of dl + fib_of (dl + 1) = fib_sum dl (dl + 1 + 1) (omega arith) in rw e (omega arith))
     (cases_lt dl dr)
 
 -- their join is not too deep
@@ -50,8 +51,10 @@ gathered_fits slot len small i g x e =
 -- the joined node is no deeper than the slot
 pub joined_depth_in_slot : (slot len dr d : ℕ) (small : Option Shared) → IsSlotOf len slot → IsGathered slot small →
     fib_of (dr + 2) ≤ len → IfNone small (d ≡ dr) → IfSome small (λ l. d ≤ max (depth_of l.value) dr + 1) → d ≤ slot
-joined_depth_in_slot slot len dr d None i g b n s = let k : dr + 2 < slot + 1 = fib_below (dr + 2) (slot + 1) (omega (arith, i.below)) in omega arith
-joined_depth_in_slot slot len dr d (Some x) i g b n s = let k : dr + 2 < slot + 1 = fib_below (dr + 2) (slot + 1) (omega (arith, i.below)) in let h : depth_of x.value < slot = g.2 in omega arith
+joined_depth_in_slot slot len dr d None i g b n s = let k : dr + 2 < slot + 1 = fib_below (dr + 2) (slot + 1) (omega (arith, i.below)) in
+    omega arith
+joined_depth_in_slot slot len dr d (Some x) i g b n s = let k : dr + 2 < slot + 1 =
+    fib_below (dr + 2) (slot + 1) (omega (arith, i.below)) in let h : depth_of x.value < slot = g.2 in omega arith
 
 -- what is put into a forest is kept
 pub kept_insert : (old rest small n joined new : List Part) → Kept old (rest ++ small) → Kept (small ++ n) joined →

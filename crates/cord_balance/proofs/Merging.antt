@@ -22,8 +22,12 @@ pub merged_shallow : (de dy le ly t : ℕ) → fib_of (de + 1) ≤ le → fib_of
     fib_of (max de dy + 1 + 1) ≤ le + ly
 merged_shallow de dy le ly t a b h k u v =
     ⊎_elim
-    (λ (c : de < dy). let e : max de dy ≡ dy = omega arith in let s : fib_of (dy + 1 + 1) ≡ fib_of dy + fib_of (dy + 1) = fib_sum dy (dy + 1 + 1) (omega arith) in let m : fib_of dy ≤ fib_of t = fib_mono dy t k in rw e (omega arith))
-    (λ (c : dy ≤ de). let e : max de dy ≡ de = omega arith in let s : fib_of (de + 1 + 1) ≡ fib_of de + fib_of (de + 1) = fib_sum de (de + 1 + 1) (omega arith) in let m : fib_of de ≤ fib_of t = fib_mono de t h in rw e (omega arith))
+    (λ (c : de < dy). let e : max de dy ≡ dy = omega arith in
+    let s : fib_of (dy + 1 + 1) ≡ fib_of dy + fib_of (dy + 1) = fib_sum dy (dy + 1 + 1) (omega arith) in let m : fib_of dy ≤ fib_of t =
+    fib_mono dy t k in rw e (omega arith))
+    (λ (c : dy ≤ de). let e : max de dy ≡ de = omega arith in
+    let s : fib_of (de + 1 + 1) ≡ fib_of de + fib_of (de + 1) = fib_sum de (de + 1 + 1) (omega arith) in let m : fib_of de ≤ fib_of t =
+    fib_mono de t h in rw e (omega arith))
     (cases_lt de dy)
 
 -- the greatest depth that the join of the last piece and the node may have
@@ -42,16 +46,19 @@ merging_shallow old rest p node joined slot g b =
 pub merging_total : (old rest : List Piece) (p : Piece) (node joined : Shared) (slot : ℕ) →
     IsMerging old (rest ++ p ∷ []) node joined slot → forest_len old + len_of node.value ≤ MAX_LEN →
     len_of p.node.value + len_of joined.value ≤ MAX_LEN
-merging_total old rest p node joined slot g h = let e : forest_len (rest ++ p ∷ []) ≡ forest_len rest + len_of p.node.value = forest_len-snoc rest p in omega (arith, g.len)
+merging_total old rest p node joined slot g h = let e : forest_len (rest ++ p ∷ []) ≡ forest_len rest + len_of p.node.value =
+    forest_len-snoc rest p in omega (arith, g.len)
 
 -- their join is not too deep
 pub merging_depth : (old rest : List Piece) (p : Piece) (node joined : Shared) (slot : ℕ) →
     IsMerging old (rest ++ p ∷ []) node joined slot → p.slot < slot + 1 → forest_len old + len_of node.value ≤ MAX_LEN →
     max (depth_of p.node.value) (depth_of joined.value) + 1 ≤ MAX_DEPTH
 merging_depth old rest p node joined slot g b h =
-    let k : fib_of (max (depth_of p.node.value) (depth_of joined.value) + 1 + 1) ≤ len_of p.node.value + len_of joined.value = merging_shallow old rest p node joined slot g b in
+    let k : fib_of (max (depth_of p.node.value) (depth_of joined.value) + 1 + 1) ≤ len_of p.node.value + len_of joined.value =
+    merging_shallow old rest p node joined slot g b in
     let l : len_of p.node.value + len_of joined.value ≤ MAX_LEN = merging_total old rest p node joined slot g h in
-    let i : max (depth_of p.node.value) (depth_of joined.value) + 1 + 1 < MAX_INDEX = fib_index (max (depth_of p.node.value) (depth_of joined.value) + 1 + 1) (omega arith) in
+    let i : max (depth_of p.node.value) (depth_of joined.value) + 1 + 1 < MAX_INDEX =
+    fib_index (max (depth_of p.node.value) (depth_of joined.value) + 1 + 1) (omega arith) in
     omega arith
 
 -- one more piece was joined
@@ -65,8 +72,10 @@ merging_step old rest p node joined next slot slot' g b u s =
     let d : depth_of next.value ≤ max (depth_of p.node.value) (depth_of joined.value) + 1 = u.depth in
     let d1 : depth_of next.value + 1 ≤ max (depth_of p.node.value) (depth_of joined.value) + 1 + 1 = omega arith in
     let d2 : depth_of next.value ≤ p.slot + 1 = omega arith in
-    let f : fib_of (depth_of next.value + 1) ≤ fib_of (max (depth_of p.node.value) (depth_of joined.value) + 1 + 1) = fib_mono (depth_of next.value + 1) (max (depth_of p.node.value) (depth_of joined.value) + 1 + 1) d1 in
-    let m : fib_of (max (depth_of p.node.value) (depth_of joined.value) + 1 + 1) ≤ len_of p.node.value + len_of joined.value = merging_shallow old rest p node joined slot g b in
+    let f : fib_of (depth_of next.value + 1) ≤ fib_of (max (depth_of p.node.value) (depth_of joined.value) + 1 + 1) =
+    fib_mono (depth_of next.value + 1) (max (depth_of p.node.value) (depth_of joined.value) + 1 + 1) d1 in
+    let m : fib_of (max (depth_of p.node.value) (depth_of joined.value) + 1 + 1) ≤ len_of p.node.value + len_of joined.value =
+    merging_shallow old rest p node joined slot g b in
     let e : forest_len (rest ++ p ∷ []) ≡ forest_len rest + len_of p.node.value = forest_len-snoc rest p in
     record {
       forest = IsForest-init rest p g.forest;

@@ -244,7 +244,8 @@ pub extern "C" fn zc_count(alloc: Global, x: &mut Handle, byte: u8) -> u64
     answer
 }
 
-/// Copies as many bytes of `x` from `start` on as `bytes` has: `BAD_ARGUMENT` where there are fewer, and then `bytes` stays.
+/// Copies as many bytes of `x` from `start` on as `bytes` has: `BAD_ARGUMENT` where there are fewer, and then `bytes`
+/// stays.
 #[unsafe(no_mangle)]
 pub extern "C" fn zc_to_bytes(alloc: Global, x: &mut Handle, start: u64, bytes: &mut [u8]) -> i32
     requires places { Testable (as_mut_ptr x) }

@@ -175,8 +175,8 @@ impl Handle {
         Ok((own, others))
     }
 
-    /// Holds this text from now on, and frees the one that it held, whose place on the heap it takes. Refused for want of
-    /// memory alone, where the pointer is null: then it stays.
+    /// Holds this text from now on, and frees the one that it held, whose place on the heap it takes. Refused for want
+    /// of memory alone, where the pointer is null: then it stays.
     pub(crate) fn hold(&mut self, alloc: Global, text: Text) -> i32
         ensures held { result ≡ OK → self.new.text ≡ text }
         ensures kept { (result ≡ OK) ⊎ (self.new.text ≡ self.old.text) }

@@ -14,7 +14,8 @@ module _ {X : Type 0} where
   next_here [] zero x rest e = cc
   next_here [] (suc p) x rest e = cc
   next_here (y ∷ ys) zero x rest e = ap (λ (zs : List X). drop 1 zs) e
-  next_here (y ∷ ys) (suc p) x rest e = let more : suc p + 1 ≡ suc (p + 1) = omega arith in ap (λ (n : ℕ). drop n (y ∷ ys)) more ∙ next_here ys p x rest e
+  next_here (y ∷ ys) (suc p) x rest e = let more : suc p + 1 ≡ suc (p + 1) = omega arith in
+      ap (λ (n : ℕ). drop n (y ∷ ys)) more ∙ next_here ys p x rest e
 
   pub behind : (xs : List X) (p : ℕ) (front rest : List X) → drop p xs ≡ front ++ rest → drop (p + length front) xs ≡ rest
   behind xs p [] rest e = let same : p + 0 ≡ p = omega arith in ap (λ (n : ℕ). drop n xs) same ∙ e

@@ -67,7 +67,8 @@ module _ (x s : List ℕ) where
 
       pick : (v : Bool) → begins_with [] s ≡ v → IsFirst x p s (if v then Some p else None)
       pick true h = (omega arith, stands p [] e le h, λ q from to at. omega arith)
-      pick false h = λ q from at. let same : q ≡ p = omega (arith, long, at.within) in stands_not p [] e h (subst (λ (n : ℕ). StandsAt x s n) same at)
+      pick false h = λ q from at. let same : q ≡ p = omega (arith, long, at.within) in
+          stands_not p [] e h (subst (λ (n : ℕ). StandsAt x s n) same at)
   from_here (b ∷ y) p e le = pick (begins_with (b ∷ y) s) refl (from_here y (p + 1) (next_here x p b y e)
       (omega (arith, length-drop p x, ap (λ (z : List ℕ). length z) e)))
     where

@@ -12,8 +12,8 @@ use cord_node::sub_node;
 use std::alloc::Global;
 
 impl Cord {
-    /// The bytes from `i` on, at most `n` of them: nothing where `i` is at or past the end. Whole subtrees and the bytes of
-    /// leaves are shared. Refused for want of memory alone.
+    /// The bytes from `i` on, at most `n` of them: nothing where `i` is at or past the end. Whole subtrees and the
+    /// bytes of leaves are shared. Refused for want of memory alone.
     #[tactic(auto, using(crate::proofs::CordLemmas::ranges))]
     pub fn substr(&self, alloc: Global, i: u64, n: u64) -> Result<Cord, CordError>
         ensures text { IfOk result (λ c. text c ≡ take n (drop i (text self.now))) }

@@ -40,9 +40,14 @@ impl Model for ExtCord {
     ghost coded = { coded_growth };
 
     // The buffer's bytes are a leaf after the cord's parts.
-    ghost view = { λ e. record { text = text e.cord ++ map known e.buffer; parts = parts_of e.cord ++ leaf_parts e.buffer } };
+    ghost view = { λ e. record {
+      text = text e.cord ++ map known e.buffer;
+      parts = parts_of e.cord
+          ++ leaf_parts e.buffer;
+    } };
 
-    ghost invariant = { λ e. (text_len e.cord + length e.buffer ≤ MAX_LEN) × (text_len e.cord + e.room ≤ MAX_LEN) × (length (text e.cord) + e.room ≤ MAX_LEN) × (e.room ≤ CAP) };
+    ghost invariant = { λ e. (text_len e.cord + length e.buffer ≤ MAX_LEN) × (text_len e.cord + e.room ≤ MAX_LEN)
+        × (length (text e.cord) + e.room ≤ MAX_LEN) × (e.room ≤ CAP) };
 }
 
 impl ExtCord {
@@ -70,8 +75,8 @@ impl ExtCord {
     }
 
     /// Adds a byte at the end.
-    /// `TooLong` where the text would be longer than `MAX_LEN`, `NoMemory` where memory was refused. After either the text is as
-    /// before.
+    /// `TooLong` where the text would be longer than `MAX_LEN`, `NoMemory` where memory was refused. After either the
+    /// text is as before.
     pub fn append(&mut self, alloc: Global, byte: u8) -> Result<(), CordError>
         ensures text { IfOk result (λ _. self.new.text ≡ self.old.text ++ known byte ∷ []) }
         ensures over { IfOk result (λ _. IsGrownBy self.old.text self.new.text (byte ∷ [])) }
@@ -94,8 +99,8 @@ impl ExtCord {
     }
 
     /// Adds bytes at the end, as leaves of at most `RawBuf::CAP` bytes.
-    /// `TooLong` where the text would be longer than `MAX_LEN`, `NoMemory` where memory was refused. After either the text is as
-    /// before.
+    /// `TooLong` where the text would be longer than `MAX_LEN`, `NoMemory` where memory was refused. After either the
+    /// text is as before.
     pub fn append_bytes(&mut self, alloc: Global, bytes: &[u8]) -> Result<(), CordError>
         ensures text { IfOk result (λ _. self.new.text ≡ self.old.text ++ map known bytes.now) }
         ensures over { IfOk result (λ _. IsGrownBy self.old.text self.new.text bytes.now) }
@@ -122,8 +127,8 @@ impl ExtCord {
     }
 
     /// Adds the text of a cord at the end, which shares its tree.
-    /// `TooLong` where the text would be longer than `MAX_LEN`, `NoMemory` where memory was refused. After either the text is as
-    /// before.
+    /// `TooLong` where the text would be longer than `MAX_LEN`, `NoMemory` where memory was refused. After either the
+    /// text is as before.
     pub fn append_cord(&mut self, alloc: Global, cord: &Cord) -> Result<(), CordError>
         ensures text { IfOk result (λ _. self.new.text ≡ self.old.text ++ text cord.now) }
         ensures over { IfOk result (λ _. IsGrownByCord self.old.text self.new.text cord.now) }
@@ -228,8 +233,8 @@ fn flush(alloc: Global, cord: &mut Cord, buffer: &mut RawBuf) -> Result<(), Cord
     Ok(())
 }
 
-// Puts the bytes of the buffer into the cord, and a byte into the next buffer. It is seldom called, and what it needs stands apart
-// from the short way of an append.
+// Puts the bytes of the buffer into the cord, and a byte into the next buffer. It is seldom called, and what it needs
+// stands apart from the short way of an append.
 #[cold]
 #[inline(never)]
 fn begin_next(

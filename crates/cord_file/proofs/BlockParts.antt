@@ -18,7 +18,8 @@ use Rattle.cord_file.proofs.Growing.{place_inside}
 same_part : (size from count : ℕ) (xs ys : List ℕ) → from + count ≤ size → take size xs ≡ take size ys →
     take count (drop from xs) ≡ take count (drop from ys)
 same_part size from count xs ys fits same =
-    let front : take (from + count) xs ≡ take (from + count) ys = sym (take-take (from + count) size xs fits) ∙ ap (take (from + count)) same ∙ take-take (from + count) size ys fits in
+    let front : take (from + count) xs ≡ take (from + count) ys =
+    sym (take-take (from + count) size xs fits) ∙ ap (take (from + count)) same ∙ take-take (from + count) size ys fits in
     sym (drop-take from count xs) ∙ ap (drop from) front ∙ drop-take from count ys
 
 -- a part of a block is a range of the text
@@ -41,7 +42,8 @@ pub of_slot : (P : OpenFile → Type 0) {o : Option OpenFile} {file : OpenFile} 
 of_slot P e h = subst (λ o. IsSomeAnd o P) e h
 
 -- what was read as a block of the file that the device told is one of the file in its place, where the read didn't fail
-pub block_of_told : {A E : Type 0} (r : Result A E) (folder : Folder) (told : Option (List ℕ × ℕ)) (slot : Option OpenFile) (file : OpenFile)
+pub block_of_told : {A E : Type 0} (r : Result A E) (folder : Folder) (told : Option (List ℕ × ℕ)) (slot : Option OpenFile)
+    (file : OpenFile)
     (number : ℕ) (block : List ℕ) → told ≡ Some (told_of file) → slot ≡ Some file →
     OnOk r (IsSomeAnd told (λ t. IsBlock file.len (bytes_at folder t.0) number block)) → OnOk r (IsBlockIn folder slot number block)
 block_of_told (Err e) folder told slot file number block same here read = tt
@@ -62,15 +64,18 @@ in_slot P Q (Some f) h each = each f refl
 
 -- a block that was read of an opened file can be kept
 pub kept_of_read : (keeps : Folder → Type 0) (files : List OpenFile) (key : BlockKey) (block : HeapBlock) → key.place < length files →
-    ((folder : Folder) → keeps folder → IsBlockIn folder (slice_get files key.place) key.number block.value) → IsKept keeps files (key, block)
+    ((folder : Folder) → keeps folder → IsBlockIn folder (slice_get files key.place) key.number block.value) →
+    IsKept keeps files (key, block)
 kept_of_read keeps files key block opened read = record {
   opened = opened;
-  block = λ f e folder kept. of_slot (λ f. IsBlock f.len (bytes_at folder (string_bytes f.path)) key.number block.value) e (read folder kept);
+  block = λ f e folder kept. of_slot (λ f. IsBlock f.len (bytes_at folder (string_bytes f.path)) key.number block.value) e
+      (read folder kept);
 }
 
 -- what is copied of a block is the file's
 pub read_of_block : (files : List OpenFile) (place number : ℕ) (block out : List ℕ) (start : ℕ) (folder : Folder) →
-    IsBlockIn folder (slice_get files place) number block → number ≡ start / BLOCK → IsSomeAnd (slice_get files place) (λ file. start + length out ≤ file.len) →
+    IsBlockIn folder (slice_get files place) number block → number ≡ start / BLOCK →
+    IsSomeAnd (slice_get files place) (λ file. start + length out ≤ file.len) →
     start % BLOCK + length out ≤ BLOCK → out ≡ take (length out) (drop (start % BLOCK) block) →
     AreRead folder (slice_get files place) start out
 read_of_block files place number block out start folder is same inside part copied = at (slice_get files place) refl inside where
@@ -81,7 +86,8 @@ read_of_block files place number block out start folder is same inside part copi
       let place : number * BLOCK + start % BLOCK ≡ start = omega (arith, same) in
       let range : number * BLOCK + start % BLOCK + length out ≤ file.len = omega (arith, place, within) in
       let text : List ℕ = bytes_at folder (string_bytes file.path) in
-      copied ∙ part_of_block file.len number (start % BLOCK) (length out) text block part range (of_slot (λ f. IsBlock f.len (bytes_at folder (string_bytes f.path)) number block) e is)
+      copied ∙ part_of_block file.len number (start % BLOCK) (length out) text block part range
+      (of_slot (λ f. IsBlock f.len (bytes_at folder (string_bytes f.path)) number block) e is)
       ∙ ap (λ n. take (length out) (drop n text)) place
 
 -- what is copied of a kept block is the file's
@@ -91,7 +97,8 @@ pub read_of_kept : (keeps : Folder → Type 0) (files : List OpenFile) (key : Bl
     out ≡ take (length out) (drop (start % BLOCK) block.value) → (folder : Folder) → keeps folder →
     AreRead folder (slice_get files key.place) start out
 read_of_kept keeps files key block out start kept number inside part copied folder is =
-    read_of_block files key.place key.number block.value out start folder (in_slot _ _ (slice_get files key.place) inside (λ f e. kept.block f e folder is)) number inside part copied
+    read_of_block files key.place key.number block.value out start folder
+    (in_slot _ _ (slice_get files key.place) inside (λ f e. kept.block f e folder is)) number inside part copied
 
 -- one more block is kept
 pub kept_with : (keeps : Folder → Type 0) (files : List OpenFile) (old new : List Slotted) (entry : Entry) → AreKept keeps files old →

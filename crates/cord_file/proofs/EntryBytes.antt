@@ -24,10 +24,12 @@ length_past opened (suc (suc n)) h =
 -- the same of an opened file
 pub length_of_file : (files : List OpenFile) (id : ℕ) (o : Option OpenFile) → 2 ≤ id → slice_get files (id - 2) ≡ o →
     lengths_in (opened_of files) id ≡ option_map (λ file. file.len) o
-length_of_file files id o h e = length_past (opened_of files) id h ∙ ap (option_map (λ file. file.1)) (slice_get-map told_of files (id - 2) ∙ ap (option_map told_of) e) ∙ both o where
-  both : (o : Option OpenFile) → option_map (λ file. file.1) (option_map told_of o) ≡ option_map (λ file. file.len) o
-  both None = refl
-  both (Some file) = refl
+length_of_file files id o h e =
+    length_past (opened_of files) id h ∙ ap (option_map (λ file. file.1)) (slice_get-map told_of files (id - 2) ∙ ap (option_map told_of) e)
+    ∙ both o where
+      both : (o : Option OpenFile) → option_map (λ file. file.1) (option_map told_of o) ≡ option_map (λ file. file.len) o
+      both None = refl
+      both (Some file) = refl
 
 -- what holds of the length told of an entry that is a file holds of the file there
 pub in_slot : (P : ℕ → Type 0) (files : List OpenFile) (id : ℕ) → 2 ≤ id → IsSomeAnd (lengths_in (opened_of files) id) P →

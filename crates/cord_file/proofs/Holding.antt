@@ -48,7 +48,8 @@ found_there folder path len h = there_at (file_at folder path) len h
 pub holds_file : (folder : Folder) (opened : Opened) (path : List ℕ) (id len n : ℕ) → id ≡ suc (suc n) →
     slice_get opened n ≡ Some (path, len) → IsFound folder path len → HoldsFile folder opened path id len
 holds_file folder opened path id len n e slot found =
-    let here : table_in opened folder id ≡ bytes_at folder path = ap (table_in opened folder) e ∙ ap (λ o. unwrap_or (option_map (λ file. bytes_at folder file.0) o) []) slot in
+    let here : table_in opened folder id ≡ bytes_at folder path =
+    ap (table_in opened folder) e ∙ ap (λ o. unwrap_or (option_map (λ file. bytes_at folder file.0) o) []) slot in
     (found.0 ∙ ap (λ b. Some b) (sym here), sym found.1 ∙ ap (λ b. length b) (sym here))
 
 -- the file of an opened path
@@ -66,6 +67,7 @@ pub file_at_place : (files : List OpenFile) (path : List ℕ) (n : ℕ) → id_i
 file_at_place files path n h =
     let place = id_place 2 (opened_of files) path (n + 2) h in
     let same : place.0 ≡ n = omega (arith, place.2) in
-    let slot : slice_get (opened_of files) n ≡ Some (path, place.1) = subst (λ k. slice_get (opened_of files) k ≡ Some (path, place.1)) same place.3 in
+    let slot : slice_get (opened_of files) n ≡ Some (path, place.1) =
+    subst (λ k. slice_get (opened_of files) k ≡ Some (path, place.1)) same place.3 in
     let file = file_of files path place.1 n slot in
     (file.0, file.1, file.2)

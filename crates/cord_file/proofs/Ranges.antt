@@ -18,7 +18,8 @@ more_bytes : (done k room start : ℕ) (out part text : List ℕ) → done ≤ l
 more_bytes done k room start out part text fits inside before more =
     let rest : List ℕ = drop room (drop done out) in
     let len : length (take done out) ≡ done = length-take-le done out fits in
-    let split : take (length (take done out) + k) (take done out ++ (part ++ rest)) ≡ take done out ++ take k (part ++ rest) = take-append-add (take done out) (part ++ rest) k in
+    let split : take (length (take done out) + k) (take done out ++ (part ++ rest)) ≡ take done out ++ take k (part ++ rest) =
+    take-append-add (take done out) (part ++ rest) k in
     let front : take k (part ++ rest) ≡ take k part = take-append-le k part rest inside in
     let place : drop done (drop start text) ≡ drop (start + done) text = drop-drop done start text in
     ap (λ n. take (n + k) (take done out ++ (part ++ rest))) (sym len)

@@ -114,8 +114,8 @@ fn copy_slot(cache: &mut Blocks, slot: usize, key: BlockKey, from: usize, out: &
     }
 }
 
-// Copies a part of a block into `out`, where the block is kept, and answers whether it is. Reading mostly goes on in the
-// block used last, which is found without a look-up.
+// Copies a part of a block into `out`, where the block is kept, and answers whether it is. Reading mostly goes on in
+// the block used last, which is found without a look-up.
 pub(crate) fn copy_kept(
     cache: &mut Blocks,
     slots: &mut Slots,

@@ -1,5 +1,6 @@
 // Reading ranges of files.
-ghost use Rattle.std.specs.Prelude.{◌≡◌, ◌+◌, ◌*◌, ◌%◌, ◌<◌, ◌≤◌, ℕ, length, take, drop, is_err, slice_get, vec_len, IfErr};
+ghost use Rattle.std.specs.Prelude.{◌≡◌, ◌+◌, ◌*◌, ◌%◌, ◌<◌, ◌≤◌, ℕ, length, take, drop, is_err, slice_get, vec_len};
+ghost use Rattle.std.specs.Prelude.{IfErr};
 ghost use Rattle.std.specs.Prelude.{IfOk, OnOk, IsSomeAnd};
 ghost use Rattle.cord_io.specs.Device.{Folder, bytes_at, count_after};
 ghost use Rattle.cord_file.specs.Blocks.{AreRead, BeginsWithFile, IsBlockIn};
@@ -191,7 +192,8 @@ impl<F: Files> Sources<F> {
         Ok(())
     }
 
-    // Fills `out` with an opened file's bytes from a place on, past the kept blocks, by as few calls as the device allows.
+    // Fills `out` with an opened file's bytes from a place on, past the kept blocks, by as few calls as the device
+    // allows.
     pub(crate) fn read_past_blocks(
         &mut self,
         place: usize,

@@ -23,7 +23,8 @@ impl Slots {
         }
     }
 
-    // Where a block lies. Blocks that were read in order lie in order, so the slot after the last one is looked at first.
+    // Where a block lies. Blocks that were read in order lie in order, so the slot after the last one is looked at
+    // first.
     pub(crate) fn find(&mut self, key: BlockKey) -> Option<usize> {
         let next = self.last.wrapping_add(1) % MAX_BLOCKS;
         let slot = if self.keys[next] == key {

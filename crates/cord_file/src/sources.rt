@@ -16,9 +16,9 @@ use std::num::NonZeroUsize;
 
 /// Entries of bytes by id: 0 is the function `digits` (byte `48 + i mod 10` at place i) and 1 the function `bytes`
 /// (`i mod 256`), both `MAX_LEN` long, and from 2 on stand the files that were opened, at most `MAX_FILES` of them.
-/// Files are read by blocks of 512 bytes, of which the 32 used last are kept, but `eager` reads past them, and so do the
-/// whole blocks of a read of more bytes than all of them hold. No read is refused for want of memory: a block for which
-/// none is found isn't kept.
+/// Files are read by blocks of 512 bytes, of which the 32 used last are kept, but `eager` reads past them, and so do
+/// the whole blocks of a read of more bytes than all of them hold. No read is refused for want of memory: a block for
+/// which none is found isn't kept.
 #[derive(Drop)]
 pub struct Sources<F: Files> {
     pub(crate) files: F,
@@ -34,7 +34,8 @@ impl<F: Files> Sources<F> {
     ghost use Rattle.cord_file.specs.Sources.{device_in, opened_in};
 
     /// The functions alone, over files of which none is open here. Refused with `NoMemory` alone, and then the files
-    /// are given back. It has no condition, and the cords that these sources make can be read over them as long as they live.
+    /// are given back. It has no condition, and the cords that these sources make can be read over them as long as they
+    /// live.
     ///
     /// ```rust both_files
     /// use cord_core::Cord;

@@ -12,6 +12,7 @@ part_ahead first start count k bytes text out behind fits same copied =
     let whole : skipped + left ≡ count = omega arith in
     let inside : k ≤ left = omega arith in
     let place : first + skipped ≡ start = omega arith in
-    let rest : drop skipped (take count (drop first text)) ≡ take left (drop skipped (drop first text)) = ap (λ n. drop skipped (take n (drop first text))) (sym whole) ∙ drop-take skipped left (drop first text) in
+    let rest : drop skipped (take count (drop first text)) ≡ take left (drop skipped (drop first text)) =
+    ap (λ n. drop skipped (take n (drop first text))) (sym whole) ∙ drop-take skipped left (drop first text) in
     copied ∙ ap (λ xs. take k (drop skipped xs)) same ∙ ap (take k) rest ∙ take-take k left (drop skipped (drop first text)) inside
     ∙ ap (take k) (drop-drop skipped first text ∙ ap (λ n. drop n text) place)

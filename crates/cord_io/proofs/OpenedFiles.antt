@@ -52,7 +52,8 @@ pub given_read : {F : Type 0} (folder : Folder) (files : List (OpenedFile F)) (n
     take k out ≡ take k (drop start (bytes_at folder (string_bytes old.reader.path)))) → AgreesWithGiven folder (slice_set files n new) →
     IsSomeAnd (opened_of files n) (λ told. take k out ≡ take k (drop start (bytes_at folder told.0)))
 given_read folder files n old new k start out here read all =
-    let text : Option (OpenedFile _) → Type 0 = λ o. IsSomeAnd (option_map told_of o) (λ told. take k out ≡ take k (drop start (bytes_at folder told.0))) in
+    let text : Option (OpenedFile _) → Type 0 =
+    λ o. IsSomeAnd (option_map told_of o) (λ told. take k out ≡ take k (drop start (bytes_at folder told.0))) in
     subst text (sym here) (read (all n new (get_set_same files n old new here)))
 
 -- bytes that were told are those of the file
@@ -61,7 +62,8 @@ pub told_read : {F : Type 0} (folder : Folder) (files : List (OpenedFile F)) (n 
     Agrees folder (has_bytes (string_bytes old.reader.path) start (take k out) ∷ before) →
     IsSomeAnd (opened_of files n) (λ told. take k out ≡ take k (drop start (bytes_at folder told.0)))
 told_read folder files n old k start out before here fits agrees =
-    let text : Option (OpenedFile _) → Type 0 = λ o. IsSomeAnd (option_map told_of o) (λ told. take k out ≡ take k (drop start (bytes_at folder told.0))) in
+    let text : Option (OpenedFile _) → Type 0 =
+    λ o. IsSomeAnd (option_map told_of o) (λ told. take k out ≡ take k (drop start (bytes_at folder told.0))) in
     let path : List ℕ = string_bytes old.reader.path in
     subst text (sym here) (agrees.0 ∙ ap (λ m. take m (drop start (bytes_at folder path))) (length-take-le k out fits))
 
@@ -99,7 +101,8 @@ pub handed_out : {F : Type 0} (files more : List (OpenedFile F)) (file : OpenedF
     more ≡ files ++ file ∷ [] → n ≡ length files → string_bytes file.reader.path ≡ path →
     HandsOut (opened_of files) (opened_of more) n path file.len
 handed_out files more file n path is last same =
-    let by_path = subst (λ p. HandsOut (opened_of files) (opened_of (files ++ file ∷ [])) (length files) p file.len) same (handed_last files file) in
+    let by_path =
+    subst (λ p. HandsOut (opened_of files) (opened_of (files ++ file ∷ [])) (length files) p file.len) same (handed_last files file) in
     let by_number = subst (λ k. HandsOut (opened_of files) (opened_of (files ++ file ∷ [])) k path file.len) (sym last) by_path in
     subst (λ fs. HandsOut (opened_of files) (opened_of fs) n path file.len) (sym is) by_number
 

@@ -8,8 +8,8 @@ use Rattle.cord_io.specs.declared.faults.ReadFault.{ReadFault}
 use Rattle.cord_io.specs.declared.reading.FileNo.{FileNo}
 use Rattle.cord_io.specs.declared.reading.Files.{Ghosts}
 
--- opening a path: no folder is kept that wasn't kept before, a failure is counted, a number is handed out or none, and over each folder that
--- is kept the file is as long as was told, or isn't there
+-- opening a path: no folder is kept that wasn't kept before, a failure is counted, a number is handed out or none, and over each folder
+-- that is kept the file is as long as was told, or isn't there
 abbrev pub TellsOpening : {F : Type 0} → Ghosts F → F → F → List ℕ → Result (FileNo × ℕ) OpenFault → Type 0
 TellsOpening {F} files old new path result = record {
   earlier : (folder : Folder) → files.keeps new folder → files.keeps old folder;

@@ -15,12 +15,13 @@ use std::io::{self, ErrorKind, Seek, SeekFrom};
 use std::os::unix::fs::FileExt;
 use std::{fs, rt};
 
-/// The machine's files. They keep each folder with which all that they told agrees: a trace, which only proofs read and which
-/// costs nothing, holds each answer once and nothing else. Every fault of the machine but a missing path is a failure, which
-/// tells nothing: a read of 0 bytes inside the length told, a call that was interrupted, a directory, and want of memory in
-/// `open` too, where it was refused twice. A file that is read on is read ahead, by 4 KiB and then by twice as much each
-/// time up to 64 KiB, and one that is read elsewhere by as much as was read in order before, into memory that it does
-/// without where none is found: what fails there is met when its bytes are asked for. A read gives at most 64 KiB.
+/// The machine's files. They keep each folder with which all that they told agrees: a trace, which only proofs read and
+/// which costs nothing, holds each answer once and nothing else. Every fault of the machine but a missing path is a
+/// failure, which tells nothing: a read of 0 bytes inside the length told, a call that was interrupted, a directory,
+/// and want of memory in `open` too, where it was refused twice. A file that is read on is read ahead, by 4 KiB and
+/// then by twice as much each time up to 64 KiB, and one that is read elsewhere by as much as was read in order before,
+/// into memory that it does without where none is found: what fails there is met when its bytes are asked for. A read
+/// gives at most 64 KiB.
 #[derive(Drop)]
 pub struct DiskFiles<R: rt::Files> {
     runtime: R,

@@ -6,8 +6,8 @@ ghost use Rattle.cord_io.specs.Passing.{TellsOpening, TellsReading};
 use crate::failures::Failures;
 use crate::{FileNo, Files, OpenFault, ReadFault};
 
-/// Files that pass `k` calls of `open` and `read_at` to the files inside, and then fail each. Until then they are the files
-/// inside, whose failures are failures of their own.
+/// Files that pass `k` calls of `open` and `read_at` to the files inside, and then fail each. Until then they are the
+/// files inside, whose failures are failures of their own.
 #[derive(Drop)]
 pub struct FuseFiles<F> {
     inner: F,

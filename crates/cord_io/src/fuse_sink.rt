@@ -5,8 +5,8 @@ ghost use Rattle.cord_io.specs.Device.{count_after, finished_after};
 use crate::failures::Failures;
 use crate::{Sink, WriteFault};
 
-/// A sink that passes `k` calls of `put` and `finish` to the sink inside, offers it at most `most` bytes in each `put`, and then
-/// fails each call. Until then it is the sink inside, whose failures are failures of its own.
+/// A sink that passes `k` calls of `put` and `finish` to the sink inside, offers it at most `most` bytes in each `put`,
+/// and then fails each call. Until then it is the sink inside, whose failures are failures of its own.
 #[derive(Drop)]
 pub struct FuseSink<S> {
     inner: S,

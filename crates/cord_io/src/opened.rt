@@ -109,8 +109,8 @@ impl<F: FileExt> OpenedFile<F> {
         Some(copy_from(&self.bytes[..self.count], skipped as usize, out))
     }
 
-    // Reads ahead from a place on, as many bytes as the machine gives of those that are wanted. Where memory is refused,
-    // or the machine fails, nothing is read ahead: what fails is met when its bytes are asked for.
+    // Reads ahead from a place on, as many bytes as the machine gives of those that are wanted. Where memory is
+    // refused, or the machine fails, nothing is read ahead: what fails is met when its bytes are asked for.
     fn read_ahead(&mut self, alloc: Global, start: u64, wanted: usize)
         ensures path { self.new.reader.path ≡ self.old.reader.path }
         ensures len { self.new.len ≡ self.old.len }

@@ -25,8 +25,8 @@ pub trait Files {
     fn failures(&self) -> u64
         ensures { result ≡ failures self.now };
 
-    /// Opens the file at a path, and answers its number and its length in bytes. A fault is `NotFound`, where there is no such
-    /// file, or `Failed`, which tells nothing and raises the count.
+    /// Opens the file at a path, and answers its number and its length in bytes. A fault is `NotFound`, where there is
+    /// no such file, or `Failed`, which tells nothing and raises the count.
     fn open(&mut self, path: &str) -> Result<(FileNo, u64), OpenFault>
         ensures earlier { (folder : Folder) → keeps self.new folder → keeps self.old folder }
         ensures count { failures self.new ≡ count_after (open_failed result) (failures self.old) }
@@ -37,8 +37,8 @@ pub trait Files {
         ensures not_found { (folder : Folder) → keeps self.new folder → IsErrOf result OpenFault.NotFound →
             file_at folder path.now ≡ None };
 
-    /// Reads at least one byte of an opened file into the front of `out`, from place `start` on, and answers how many. What else
-    /// `out` holds is open, also after a fault, which tells nothing and raises the count.
+    /// Reads at least one byte of an opened file into the front of `out`, from place `start` on, and answers how many.
+    /// What else `out` holds is open, also after a fault, which tells nothing and raises the count.
     fn read_at(&mut self, no: FileNo, start: u64, out: &mut [u8]) -> Result<usize, ReadFault>
         requires inside { IsSomeAnd (opened self.old no.0) (λ told. start < told.1) }
         requires room { 0 < length out.old }

@@ -8,8 +8,9 @@ use crate::tally::{Taking, Tally};
 use crate::{Sink, WriteFault};
 use std::io::Write;
 
-/// A sink over a writer: it took the bytes that the writer answered it took, and where the writer tells its contents they grow by
-/// the same bytes. A write that takes 0 bytes and one that was interrupted are failures. `finish` flushes the writer.
+/// A sink over a writer: it took the bytes that the writer answered it took, and where the writer tells its contents
+/// they grow by the same bytes. A write that takes 0 bytes and one that was interrupted are failures. `finish` flushes
+/// the writer.
 #[derive(Drop)]
 pub struct StdSink<W> {
     writer: W,

@@ -68,7 +68,8 @@ range_front : (xs x y : List ℕ) (s a b n : ℕ) → a + b ≤ n → x ≡ take
     IsFrontOf (take n (drop s xs)) (x ++ y)
 range_front xs x y s a b n e h k =
     let m : n ≡ (a + b) + (n - (a + b)) = omega arith in
-    let first : take n (drop s xs) ≡ take (a + b) (drop s xs) ++ take (n - (a + b)) (drop (a + b) (drop s xs)) = ap (λ (l : ℕ). take l (drop s xs)) m ∙ take-add (a + b) (n - (a + b)) (drop s xs) in
+    let first : take n (drop s xs) ≡ take (a + b) (drop s xs) ++ take (n - (a + b)) (drop (a + b) (drop s xs)) =
+    ap (λ (l : ℕ). take l (drop s xs)) m ∙ take-add (a + b) (n - (a + b)) (drop s xs) in
     front_more (take n (drop s xs)) (take (a + b) (drop s xs)) (take (n - (a + b)) (drop (a + b) (drop s xs))) (x ++ y) first
     (rw h (front_join (take (a + b) (drop s xs)) (take a (drop s xs)) (take b (drop (s + a) xs)) y (range_join xs s a b) k))
 
@@ -90,7 +91,8 @@ pub cat_text : {before keeps : Folder → Type 0} (table : Folder → Table) (l 
     ((folder : Folder) → keeps folder → before folder) → IsTextOver before table l x → IsTextOver keeps table r y →
     IsTextOver keeps table n (x ++ y)
 cat_text table l r n x y e earlier h k = record {
-  len = length-append x y ∙ (let i : length x ≡ len_of l = h.len in let j : length y ≡ len_of r = k.len in let m : len_of n ≡ len_of l + len_of r = e.len in omega arith);
+  len = length-append x y ∙ (let i : length x ≡ len_of l = h.len in let j : length y ≡ len_of r = k.len in
+      let m : len_of n ≡ len_of l + len_of r = e.len in omega arith);
   text = λ folder kept. rw (h.text folder (earlier folder kept), k.text folder kept) (sym (e.bytes (table folder)));
 }
 
@@ -99,7 +101,8 @@ pub cat_left : {keeps : Folder → Type 0} (table : Folder → Table) (l r n : N
     IsPrefixOver keeps table l x → IsPrefixOver keeps table n x
 cat_left table l r n x e h = record {
   len = let i : length x ≤ len_of l = h.len in let m : len_of n ≡ len_of l + len_of r = e.len in omega arith;
-  front = λ folder kept. let t = table folder in front_more (bytes_over t n) (bytes_over t l) (bytes_over t r) x (e.bytes t) (h.front folder kept);
+  front = λ folder kept. let t = table folder in
+      front_more (bytes_over t n) (bytes_over t l) (bytes_over t r) x (e.bytes t) (h.front folder kept);
 }
 
 -- the left one and a prefix of the right one
@@ -107,8 +110,11 @@ pub cat_right : {before keeps : Folder → Type 0} (table : Folder → Table) (l
     ((folder : Folder) → keeps folder → before folder) → IsTextOver before table l x → IsPrefixOver keeps table r y →
     IsPrefixOver keeps table n (x ++ y)
 cat_right table l r n x y e earlier h k = record {
-  len = rw (length-append x y) (let i : length x ≡ len_of l = h.len in let j : length y ≤ len_of r = k.len in let m : len_of n ≡ len_of l + len_of r = e.len in omega arith);
-  front = λ folder kept. let t = table folder in rw (h.text folder (earlier folder kept)) (front_join (bytes_over t n) (bytes_over t l) (bytes_over t r) y (e.bytes t) (k.front folder kept));
+  len = rw (length-append x y) (let i : length x ≡ len_of l = h.len in let j : length y ≤ len_of r = k.len in
+      let m : len_of n ≡ len_of l + len_of r = e.len in omega arith);
+  front = λ folder kept. let t = table folder in
+      rw (h.text folder (earlier folder kept))
+      (front_join (bytes_over t n) (bytes_over t l) (bytes_over t r) y (e.bytes t) (k.front folder kept));
 }
 
 -- what holds where there is an error
@@ -122,8 +128,10 @@ run_front : (byte len done count : ℕ) (y : List ℕ) → done + count ≤ len 
 run_front byte len done count y h k =
     let e : done + (len - done) ≡ len = omega arith in
     let f : count + (len - done - count) ≡ len - done = omega arith in
-    let first : replicate len byte ≡ replicate done byte ++ replicate (len - done) byte = sym (replicate-append-replicate done (len - done) byte ∙ ap (λ (n : ℕ). replicate n byte) e) in
-    let next : replicate (len - done) byte ≡ replicate count byte ++ replicate (len - done - count) byte = sym (replicate-append-replicate count (len - done - count) byte ∙ ap (λ (n : ℕ). replicate n byte) f) in
+    let first : replicate len byte ≡ replicate done byte ++ replicate (len - done) byte =
+    sym (replicate-append-replicate done (len - done) byte ∙ ap (λ (n : ℕ). replicate n byte) e) in
+    let next : replicate (len - done) byte ≡ replicate count byte ++ replicate (len - done - count) byte =
+    sym (replicate-append-replicate count (len - done - count) byte ∙ ap (λ (n : ℕ). replicate n byte) f) in
     front_join (replicate len byte) (replicate done byte) (replicate (len - done) byte) y first
     (front_more (replicate (len - done) byte) (replicate count byte) (replicate (len - done - count) byte) y next k)
 

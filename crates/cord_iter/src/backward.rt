@@ -9,10 +9,10 @@ use cord_core::Cord;
 use cord_io::{CordError, Source};
 use cord_pos::Position;
 
-/// Hands a visitor the bytes of a cord from place `i` down to 0, one after another by `byte`, until it stops, after `CORD_riter4`
-/// of `cord.h`. The place is below the length, and each function part lies inside an entry of `src`. True exactly where the
-/// visitor stopped. Refused with `ReadFailed` where a read failed: then the visitor has walked over a prefix of those bytes
-/// without a stop.
+/// Hands a visitor the bytes of a cord from place `i` down to 0, one after another by `byte`, until it stops, after
+/// `CORD_riter4` of `cord.h`. The place is below the length, and each function part lies inside an entry of `src`. True
+/// exactly where the visitor stopped. Refused with `ReadFailed` where a read failed: then the visitor has walked over a
+/// prefix of those bytes without a stop.
 pub fn riter4<S: Source, V: Visitor>(
     cord: &Cord,
     i: u64,
@@ -45,8 +45,8 @@ pub fn riter4<S: Source, V: Visitor>(
     Ok(false)
 }
 
-/// Hands a visitor the bytes of a cord from the last one down to the first one until it stops, as `riter4` from its last place:
-/// the empty cord answers false without a call.
+/// Hands a visitor the bytes of a cord from the last one down to the first one until it stops, as `riter4` from its
+/// last place: the empty cord answers false without a call.
 pub fn riter<S: Source, V: Visitor>(
     cord: &Cord,
     src: &mut S,

@@ -14,10 +14,10 @@ use crate::{PIECE_LEN, Visitor};
 use cord_core::{Cord, Node};
 use cord_io::{CordError, MAX_LEN, ReadFault, Source, SourceId};
 
-/// Hands a visitor the bytes of a cord from place `i` on until it stops, after `CORD_iter5` of `cord.h`: whole slices of leaves,
-/// and runs and function parts in pieces of at most 512 bytes. The place is below the length, and each function part lies inside
-/// an entry of `src`. True exactly where the visitor stopped. Refused with `ReadFailed` where a read failed: then the visitor has
-/// walked over a prefix of those bytes without a stop.
+/// Hands a visitor the bytes of a cord from place `i` on until it stops, after `CORD_iter5` of `cord.h`: whole slices
+/// of leaves, and runs and function parts in pieces of at most 512 bytes. The place is below the length, and each
+/// function part lies inside an entry of `src`. True exactly where the visitor stopped. Refused with `ReadFailed` where
+/// a read failed: then the visitor has walked over a prefix of those bytes without a stop.
 pub fn iter5<S: Source, V: Visitor>(
     cord: &Cord,
     i: u64,
@@ -46,7 +46,8 @@ pub fn iter5<S: Source, V: Visitor>(
     Ok(stopped)
 }
 
-/// Hands a visitor the bytes of a cord until it stops, as `iter5` from place 0 on: the empty cord answers false without a call.
+/// Hands a visitor the bytes of a cord until it stops, as `iter5` from place 0 on: the empty cord answers false without
+/// a call.
 pub fn iter<S: Source, V: Visitor>(
     cord: &Cord,
     src: &mut S,

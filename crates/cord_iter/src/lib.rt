@@ -1,5 +1,5 @@
-//! Walks over the bytes of cords, forwards and backwards, and output of cords to sinks, after `CORD_iter5`, `CORD_riter4`
-//! and `CORD_put` of `cord.h` of the Boehm collector's distribution.
+//! Walks over the bytes of cords, forwards and backwards, and output of cords to sinks, after `CORD_iter5`,
+//! `CORD_riter4` and `CORD_put` of `cord.h` of the Boehm collector's distribution.
 #![tactic(auto)]
 
 mod backward;
@@ -19,7 +19,8 @@ pub use visitor::Visitor;
 /// The most bytes of a short run or of a function part that are handed over at once.
 pub(crate) const PIECE_LEN: usize = 512;
 
-/// The most bytes of a longer function part that are put at once: some blocks of a file, so that few of them are asked for twice.
+/// The most bytes of a longer function part that are put at once: some blocks of a file, so that few of them are asked
+/// for twice.
 pub(crate) const PAGE_LEN: usize = 4_096;
 
 /// The most bytes of a long run that are put at once: a buffer that has room for no more is passed over.

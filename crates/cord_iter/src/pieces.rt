@@ -6,7 +6,8 @@ ghost use Rattle.cord_iter.specs.Taking.{IsFrontOf, Takes};
 use crate::{BLOCK_LEN, PIECE_LEN};
 use cord_io::{Sink, WriteFault};
 
-/// Offers the bytes until the sink has taken them all: after a short `put` the rest. After a fault the sink has taken a prefix.
+/// Offers the bytes until the sink has taken them all: after a short `put` the rest. After a fault the sink has taken a
+/// prefix.
 pub fn put_all<W: Sink>(bytes: &[u8], sink: &mut W) -> Result<(), WriteFault>
     ensures ok { OnOk result ((W.taken sink.new ≡ W.taken sink.old ++ bytes.now) ×
         (W.failures sink.new ≡ W.failures sink.old)) }
@@ -36,7 +37,8 @@ pub(crate) fn put_run<W: Sink>(byte: u8, len: u64, sink: &mut W) -> Result<(), W
     }
 }
 
-// Puts `len` times the byte, at most `N` at once. It stands apart, so that only who calls it has room for them on the stack.
+// Puts `len` times the byte, at most `N` at once. It stands apart, so that only who calls it has room for them on the
+// stack.
 #[inline(never)]
 fn put_repeated<const N: usize, W: Sink>(byte: u8, len: u64, sink: &mut W) -> Result<(), WriteFault>
     requires some { 0 < N }

@@ -17,8 +17,8 @@ pub trait Visitor {
     fn byte(&mut self, byte: u8) -> bool
         ensures { (state self.new, result) ≡ step (state self.old) byte };
 
-    /// Looks at bytes as `byte` does at each one in order up to the first stop, and answers whether it stopped. A visitor that
-    /// can look at many at once, as `memchr` does, writes its own.
+    /// Looks at bytes as `byte` does at each one in order up to the first stop, and answers whether it stopped. A
+    /// visitor that can look at many at once, as `memchr` does, writes its own.
     fn bytes(&mut self, bytes: &[u8]) -> bool
         ensures { (state self.new, result) ≡ walk step (state self.old) bytes.now }
     {

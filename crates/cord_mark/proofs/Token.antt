@@ -64,5 +64,6 @@ module _ {M : Type 1} {𝓤 : Ura M} (𝓛 : Logic 𝓤) (T : Ended) (stays : St
       let beside : Carries 𝓤 H 𝓜 (A.tok every) = subst (Carries 𝓤 H 𝓜) 𝓛.turn_is 𝓡.carries in
       let tables : Tables 𝓤 H = tables_of 𝓤 H beside.inner (bare_tables 𝓤 H beside.inner 𝓡.allowed 𝓡.how 𝓡.env) in
       let unfolds = bare_unfolds 𝓤 H beside.inner 𝓡.allowed 𝓡.how 𝓡.env k e is in
-      let meets = walk_Meets 𝓛 T stays go held (WpFn 𝓤 H tables.C tables.Λ e) (WpFn-mono 𝓤 H 𝓛.laws tables e) (λ y. related e tables.C tables.Λ y (walk tables.C tables.Λ y)) in
+      let meets = walk_Meets 𝓛 T stays go held (WpFn 𝓤 H tables.C tables.Λ e) (WpFn-mono 𝓤 H 𝓛.laws tables e)
+      (λ y. related e tables.C tables.Λ y (walk tables.C tables.Λ y)) in
       hands 𝓛 T (A.tok every) c 𝓜 beside 𝓡 (𝓡.env k) (entered 𝓤 H (triple_of 𝓛 S (closing 𝓛 T held)) tables.C tables.Λ k e unfolds meets)

@@ -47,13 +47,15 @@ opened-close p (b ∷ blocks) = refl
 module _ (shapes : List Shape) where
   -- one statement further
   open_next : (p : ℕ) (o : Option Shape) → slice_get shapes p ≡ o → open_at shapes (p + 1) ≡ opened p (open_at shapes p) o
-  open_next p o e = let one : p + 1 ≡ suc p = omega arith in ap (λ (n : ℕ). open_at shapes n) one ∙ ap (λ (w : Option Shape). opened p (open_at shapes p) w) e
+  open_next p o e = let one : p + 1 ≡ suc p = omega arith in
+      ap (λ (n : ℕ). open_at shapes n) one ∙ ap (λ (w : Option Shape). opened p (open_at shapes p) w) e
 
   module _ (r : ℕ) (rest : List (Option ℕ)) where
     behind_loop : (p : ℕ) (xs : List (Option ℕ)) → slice_get shapes p ≡ Some Loop → Some p ∷ open_at shapes p ≡ xs ++ (Some r ∷ rest) →
         ((ys : List (Option ℕ)) → open_at shapes p ≡ ys ++ (Some r ∷ rest) → open_at shapes (r + 1) ≡ Some r ∷ rest) →
         open_at shapes (r + 1) ≡ Some r ∷ rest
-    behind_loop p [] s e ih = let same : p ≡ r = ap first_place e in subst (λ (n : ℕ). open_at shapes (n + 1) ≡ Some r ∷ rest) same (open_next p (Some Loop) s ∙ e)
+    behind_loop p [] s e ih = let same : p ≡ r = ap first_place e in
+        subst (λ (n : ℕ). open_at shapes (n + 1) ≡ Some r ∷ rest) same (open_next p (Some Loop) s ∙ e)
     behind_loop p (y ∷ ys) s e ih = ih ys (ap outer e)
 
     behind_branch : (p : ℕ) (xs : List (Option ℕ)) → None ∷ open_at shapes p ≡ xs ++ (Some r ∷ rest) →
@@ -132,15 +134,21 @@ module _ (shapes : List Shape) where
       slice_get shapes (q + to_end d ls) ≡ Some Close
   end_stands [] q d [] here n lt = absurd (omega arith)
   end_stands [] q d (b ∷ st) here n lt = absurd n
-  end_stands (Simple ∷ ls) q d st here n lt = let one : q + suc (to_end d ls) ≡ q + 1 + to_end d ls = omega arith in ap (λ (m : ℕ). slice_get shapes m) one ∙ end_stands ls (q + 1) d st (next_here shapes q Simple ls here) n lt
-  end_stands (Loop ∷ ls) q d st here n lt = let one : q + suc (to_end (suc d) ls) ≡ q + 1 + to_end (suc d) ls = omega arith in ap (λ (m : ℕ). slice_get shapes m) one ∙ end_stands ls (q + 1) (suc d) (false ∷ st) (next_here shapes q Loop ls here) n (omega arith)
-  end_stands (Branch ∷ ls) q d st here n lt = let one : q + suc (to_end (suc d) ls) ≡ q + 1 + to_end (suc d) ls = omega arith in ap (λ (m : ℕ). slice_get shapes m) one ∙ end_stands ls (q + 1) (suc d) (true ∷ st) (next_here shapes q Branch ls here) n (omega arith)
+  end_stands (Simple ∷ ls) q d st here n lt = let one : q + suc (to_end d ls) ≡ q + 1 + to_end d ls = omega arith in
+      ap (λ (m : ℕ). slice_get shapes m) one ∙ end_stands ls (q + 1) d st (next_here shapes q Simple ls here) n lt
+  end_stands (Loop ∷ ls) q d st here n lt = let one : q + suc (to_end (suc d) ls) ≡ q + 1 + to_end (suc d) ls = omega arith in
+      ap (λ (m : ℕ). slice_get shapes m) one ∙ end_stands ls (q + 1) (suc d) (false ∷ st) (next_here shapes q Loop ls here) n (omega arith)
+  end_stands (Branch ∷ ls) q d st here n lt = let one : q + suc (to_end (suc d) ls) ≡ q + 1 + to_end (suc d) ls = omega arith in
+      ap (λ (m : ℕ). slice_get shapes m) one ∙ end_stands ls (q + 1) (suc d) (true ∷ st) (next_here shapes q Branch ls here) n (omega arith)
   end_stands (Otherwise ∷ ls) q d [] here n lt = absurd n
   end_stands (Otherwise ∷ ls) q d (false ∷ st) here n lt = absurd n
-  end_stands (Otherwise ∷ ls) q d (true ∷ st) here n lt = let one : q + suc (to_end d ls) ≡ q + 1 + to_end d ls = omega arith in ap (λ (m : ℕ). slice_get shapes m) one ∙ end_stands ls (q + 1) d (false ∷ st) (next_here shapes q Otherwise ls here) n lt
-  end_stands (Close ∷ ls) q zero st here n lt = let same : q + 0 ≡ q = omega arith in ap (λ (m : ℕ). slice_get shapes m) same ∙ at_here shapes q Close ls here
+  end_stands (Otherwise ∷ ls) q d (true ∷ st) here n lt = let one : q + suc (to_end d ls) ≡ q + 1 + to_end d ls = omega arith in
+      ap (λ (m : ℕ). slice_get shapes m) one ∙ end_stands ls (q + 1) d (false ∷ st) (next_here shapes q Otherwise ls here) n lt
+  end_stands (Close ∷ ls) q zero st here n lt = let same : q + 0 ≡ q = omega arith in
+      ap (λ (m : ℕ). slice_get shapes m) same ∙ at_here shapes q Close ls here
   end_stands (Close ∷ ls) q (suc d) [] here n lt = absurd n
-  end_stands (Close ∷ ls) q (suc d) (b ∷ st) here n lt = let one : q + suc (to_end d ls) ≡ q + 1 + to_end d ls = omega arith in ap (λ (m : ℕ). slice_get shapes m) one ∙ end_stands ls (q + 1) d st (next_here shapes q Close ls here) n (omega arith)
+  end_stands (Close ∷ ls) q (suc d) (b ∷ st) here n lt = let one : q + suc (to_end d ls) ≡ q + 1 + to_end d ls = omega arith in
+      ap (λ (m : ℕ). slice_get shapes m) one ∙ end_stands ls (q + 1) d st (next_here shapes q Close ls here) n (omega arith)
 
   -- after the `else`, or up to the `end`, of an `if`
   else_comes : (ls : List Shape) (q d : ℕ) (st : List Bool) → drop q shapes ≡ ls → IsNested st ls → d < length st →
@@ -203,7 +211,8 @@ module _ (shapes : List Shape) where
         opened p (open_at shapes p) (Some x) ≡ b ∷ blocks → (st : List Bool) × IsNested st (drop (p + 1) shapes) × (0 < length st)
     one_open x blocks b s e =
         let behind = nested_at nested (p + 1) (omega (arith, inside)) in
-        let some : length (open_at shapes (p + 1)) ≡ length (b ∷ blocks) = ap (λ (bs : List (Option ℕ)). length bs) (open_next p (Some x) s ∙ e) in
+        let some : length (open_at shapes (p + 1)) ≡ length (b ∷ blocks) =
+        ap (λ (bs : List (Option ℕ)). length bs) (open_next p (Some x) s ∙ e) in
         (behind.0, behind.1, omega (arith, some, behind.2))
 
     -- after the `end` of a `repeat` the same blocks are open as before it
@@ -211,7 +220,8 @@ module _ (shapes : List Shape) where
     open_behind_loop s =
         let w = one_open Loop (open_at shapes p) (Some p) s refl in
         let e : ℕ = p + 1 + to_end 0 (drop (p + 1) shapes) in
-        let comes : open_at shapes e ≡ Some p ∷ open_at shapes p = end_comes (drop (p + 1) shapes) (p + 1) 0 w.0 refl w.1 w.2 ∙ open_next p (Some Loop) s in
+        let comes : open_at shapes e ≡ Some p ∷ open_at shapes p =
+        end_comes (drop (p + 1) shapes) (p + 1) 0 w.0 refl w.1 w.2 ∙ open_next p (Some Loop) s in
         let stands : slice_get shapes e ≡ Some Close = end_stands (drop (p + 1) shapes) (p + 1) 0 w.0 refl w.1 w.2 in
         open_next e (Some Close) stands ∙ ap (λ (bs : List (Option ℕ)). opened e bs (Some Close)) comes
 
@@ -230,7 +240,8 @@ module _ (shapes : List Shape) where
         let is : Some here.0 ≡ Some Otherwise = sym (at_here shapes p here.0 here.1 here.2) ∙ s in
         let some : 0 < length before.0 = some_block before.0 here.0 here.1 is now in
         let behind = nested_at nested (p + 1) (omega (arith, inside)) in
-        let same : length (open_at shapes (p + 1)) ≡ length (open_at shapes p) = ap (λ (bs : List (Option ℕ)). length bs) (open_next p (Some Otherwise) s) in
+        let same : length (open_at shapes (p + 1)) ≡ length (open_at shapes p) =
+        ap (λ (bs : List (Option ℕ)). length bs) (open_next p (Some Otherwise) s) in
         end_comes (drop (p + 1) shapes) (p + 1) 0 behind.0 refl behind.1 (omega (arith, some, same, behind.2, before.2))
         ∙ open_next p (Some Otherwise) s
       where

@@ -49,7 +49,8 @@ module _ (g : Grammar) where
       (subst (λ (bs : List scripts.Block). IsNested (may_turn_each bs) []) (sym shut) tt)
   lines_nested (line ∷ lines) n before ss (inl (idle, rest)) closed = lines_nested lines (n + 1) before ss rest closed
   lines_nested (line ∷ lines) n before ss (inr (busy, s, words, rest, is, has, says, others)) closed =
-      let shut : (after_all rest (scripts.after s before)).blocks ≡ [] = subst (λ (xs : List Statement). (after_all xs before).blocks ≡ []) is closed in
+      let shut : (after_all rest (scripts.after s before)).blocks ≡ [] =
+      subst (λ (xs : List Statement). (after_all xs before).blocks ≡ []) is closed in
       subst (λ (xs : List Statement). IsNested (may_turn_each before.blocks) (map shape_of xs)) (sym is)
       (one_nested (map shape_of rest) s before.blocks says.blocks (lines_nested lines (n + 1) (scripts.after s before) rest others shut))
 

@@ -87,7 +87,8 @@ module _ {S T : Type 0} where
       begins_beside most (notes c line []) (seen ++ theirs most c seen t same line ∷ []) t (noted most c seen t same line) c.place line n
       c.blocks
 
-module _ {L M S T : Type 0} (rules : Rules L S) (others : Rules M T) (most : ℕ) (statements : List L) (operations : List M) (Related : ℕ → S → T → Type 0) (sim : Simulates rules others statements operations Related) where
+module _ {L M S T : Type 0} (rules : Rules L S) (others : Rules M T) (most : ℕ) (statements : List L) (operations : List M)
+    (Related : ℕ → S → T → Type 0) (sim : Simulates rules others statements operations Related) where
   abbrev shapes : List Shape
   shapes = map rules.shape statements
 
@@ -109,7 +110,8 @@ module _ {L M S T : Type 0} (rules : Rules L S) (others : Rules M T) (most : ℕ
     abbrev beside : Config T
     beside = with_other c seen t
 
-    module _ (l : L) (m : M) (here : slice_get statements c.place ≡ Some l) (there : slice_get operations c.place ≡ Some m) (line : others.line m ≡ rules.line l) where
+    module _ (l : L) (m : M) (here : slice_get statements c.place ≡ Some l) (there : slice_get operations c.place ≡ Some m)
+        (line : others.line m ≡ rules.line l) where
       simple_alike : (r : Result (S × List ℕ) FaultKind) (u : Result (T × List ℕ) FaultKind) → Agree (Related (c.place + 1)) r u →
           Alike c.place (acted c (rules.line l) r) (acted beside (rules.line l) u)
       simple_alike (Ok r) (Ok u) g = record {
@@ -140,7 +142,9 @@ module _ {L M S T : Type 0} (rules : Rules L S) (others : Rules M T) (most : ℕ
         tells = b.tells;
         related = λ running next.
             let e : ℕ = (runs_shape rules most statements c l x).place in
-            let at : slice_get shapes c.place ≡ Some x = slice_get-map rules.shape statements c.place ∙ ap (λ (o : Option L). option_map rules.shape o) here ∙ ap (λ (w : Shape). Some w) is in
+            let at : slice_get shapes c.place ≡ Some x =
+            slice_get-map rules.shape statements c.place ∙ ap (λ (o : Option L). option_map rules.shape o) here
+            ∙ ap (λ (w : Shape). Some w) is in
             subst (λ (s : S). Related e s t) (sym b.state_is) (sim.moves c.place e x at control next c.state t rel);
       }
 
@@ -152,7 +156,8 @@ module _ {L M S T : Type 0} (rules : Rules L S) (others : Rules M T) (most : ℕ
           (simple_alike (rules.act c.place l c.state) (others.act c.place m t) (sim.acts c.place l m here there is c.state t rel))
       shape_alike Loop is =
           let count : rules.count l c.state ≡ others.count m t = sim.counts c.place l m here there is c.state t rel in
-          let same_step : repeats most beside (rules.line l) (jump_from rules most statements c.place) (rules.count l c.state) ≡ repeats most beside (others.line m) (jump_from others most operations c.place) (others.count m t) =
+          let same_step : repeats most beside (rules.line l) (jump_from rules most statements c.place) (rules.count l c.state)
+          ≡ repeats most beside (others.line m) (jump_from others most operations c.place) (others.count m t) =
           ap (λ (n : ℕ). repeats most beside n (jump_from rules most statements c.place) (rules.count l c.state)) (sym line)
           ∙ ap (λ (q : ℕ). repeats most beside (others.line m) q (rules.count l c.state)) (sym (same_jump c.place))
           ∙ ap (λ (z : ℤ). repeats most beside (others.line m) (jump_from others most operations c.place) z) count in
@@ -161,7 +166,8 @@ module _ {L M S T : Type 0} (rules : Rules L S) (others : Rules M T) (most : ℕ
           (repeats_beside most c seen t same (rules.line l) (jump_from rules most statements c.place) (rules.count l c.state)))
       shape_alike Branch is =
           let holds : rules.holds l c.state ≡ others.holds m t = sim.compares c.place l m here there is c.state t rel in
-          let same_step : chooses beside (rules.line l) (jump_from rules most statements c.place) (rules.holds l c.state) ≡ chooses beside (others.line m) (jump_from others most operations c.place) (others.holds m t) =
+          let same_step : chooses beside (rules.line l) (jump_from rules most statements c.place) (rules.holds l c.state)
+          ≡ chooses beside (others.line m) (jump_from others most operations c.place) (others.holds m t) =
           ap (λ (n : ℕ). chooses beside n (jump_from rules most statements c.place) (rules.holds l c.state)) (sym line)
           ∙ ap (λ (q : ℕ). chooses beside (others.line m) q (rules.holds l c.state)) (sym (same_jump c.place))
           ∙ ap (λ (v : Bool). chooses beside (others.line m) (jump_from others most operations c.place) v) holds in
@@ -202,8 +208,12 @@ module _ {L M S T : Type 0} (rules : Rules L S) (others : Rules M T) (most : ℕ
     next_alike : Alike c.place (runs rules most statements c (slice_get statements c.place))
         (runs others most operations beside (slice_get operations c.place))
     next_alike =
-        let e : option_map rules.shape (slice_get statements c.place) ≡ option_map others.shape (slice_get operations c.place) = sym (slice_get-map rules.shape statements c.place) ∙ ap (λ (xs : List Shape). slice_get xs c.place) sim.shapes ∙ slice_get-map others.shape operations c.place in
-        let f : option_map rules.line (slice_get statements c.place) ≡ option_map others.line (slice_get operations c.place) = sym (slice_get-map rules.line statements c.place) ∙ ap (λ (xs : List ℕ). slice_get xs c.place) sim.lines ∙ slice_get-map others.line operations c.place in
+        let e : option_map rules.shape (slice_get statements c.place) ≡ option_map others.shape (slice_get operations c.place) =
+        sym (slice_get-map rules.shape statements c.place) ∙ ap (λ (xs : List Shape). slice_get xs c.place) sim.shapes
+        ∙ slice_get-map others.shape operations c.place in
+        let f : option_map rules.line (slice_get statements c.place) ≡ option_map others.line (slice_get operations c.place) =
+        sym (slice_get-map rules.line statements c.place) ∙ ap (λ (xs : List ℕ). slice_get xs c.place) sim.lines
+        ∙ slice_get-map others.line operations c.place in
         runs_alike (slice_get statements c.place) refl (slice_get operations c.place) refl e f
 
   module _ (nested : IsNested [] shapes) (a : S) (b : T) (first : Related 0 a b) where
@@ -219,9 +229,12 @@ module _ {L M S T : Type 0} (rules : Rules L S) (others : Rules M T) (most : ℕ
         Together (after rules most statements k a) d → Together (after rules most statements (suc k) a) (step others most operations d)
     one_step k None e d h =
         let c : Config S = after rules most statements k a in
-        let stepped : step rules most statements c ≡ runs rules most statements c (slice_get statements c.place) = ap (λ (o : Option End). if_running o c (runs rules most statements c (slice_get statements c.place))) e in
+        let stepped : step rules most statements c ≡ runs rules most statements c (slice_get statements c.place) =
+        ap (λ (o : Option End). if_running o c (runs rules most statements c (slice_get statements c.place))) e in
         let beside : Config T = with_other c h.other h.state in
-        let others_step : step others most operations d ≡ runs others most operations beside (slice_get operations c.place) = ap (λ (x : Config T). step others most operations x) h.is ∙ ap (λ (o : Option End). if_running o beside (runs others most operations beside (slice_get operations c.place))) e in
+        let others_step : step others most operations d ≡ runs others most operations beside (slice_get operations c.place) =
+        ap (λ (x : Config T). step others most operations x) h.is
+        ∙ ap (λ (o : Option End). if_running o beside (runs others most operations beside (slice_get operations c.place))) e in
         let w = next_alike c h.other h.state h.tells (h.related e) in
         record {
           state = w.state;
@@ -230,15 +243,20 @@ module _ {L M S T : Type 0} (rules : Rules L S) (others : Rules M T) (most : ℕ
           tells = ap (λ (x : Config S). map told x.seen) stepped ∙ w.tells;
           related = λ running.
               let next : Next shapes c.place (step rules most statements c).place = follows rules most statements nested a k running in
-              let gone : (runs rules most statements c (slice_get statements c.place)).ended ≡ None = ap (λ (x : Config S). x.ended) (sym stepped) ∙ running in
-              let to : Next shapes c.place (runs rules most statements c (slice_get statements c.place)).place = subst (λ (x : Config S). Next shapes c.place x.place) stepped next in
+              let gone : (runs rules most statements c (slice_get statements c.place)).ended ≡ None =
+              ap (λ (x : Config S). x.ended) (sym stepped) ∙ running in
+              let to : Next shapes c.place (runs rules most statements c (slice_get statements c.place)).place =
+              subst (λ (x : Config S). Next shapes c.place x.place) stepped next in
               subst (λ (x : Config S). Related x.place x.state w.state) (sym stepped) (w.related gone to);
         }
     one_step k (Some x) e d h =
         let c : Config S = after rules most statements k a in
-        let stays : step rules most statements c ≡ c = ap (λ (o : Option End). if_running o c (runs rules most statements c (slice_get statements c.place))) e in
+        let stays : step rules most statements c ≡ c =
+        ap (λ (o : Option End). if_running o c (runs rules most statements c (slice_get statements c.place))) e in
         let beside : Config T = with_other c h.other h.state in
-        let others_stay : step others most operations d ≡ beside = ap (λ (y : Config T). step others most operations y) h.is ∙ ap (λ (o : Option End). if_running o beside (runs others most operations beside (slice_get operations c.place))) e in
+        let others_stay : step others most operations d ≡ beside =
+        ap (λ (y : Config T). step others most operations y) h.is
+        ∙ ap (λ (o : Option End). if_running o beside (runs others most operations beside (slice_get operations c.place))) e in
         record {
           state = h.state;
           other = h.other;

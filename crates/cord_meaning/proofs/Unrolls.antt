@@ -34,7 +34,8 @@ module _ {L S : Type 0} (rules : Rules L S) (most : ℕ) where
     over_one : (a b c : ℕ) (x : L) (shape : Shape) → rules.shape x ≡ shape →
         ((rest : List Shape) → count a (shape ∷ rest) ≡ suc (count b rest)) → (xs : List L) → Over b c xs → Over a c (x ∷ xs)
     over_one a b c x shape is one xs h more =
-        let first : count a (rules.shape x ∷ map rules.shape (xs ++ more)) ≡ suc (count b (map rules.shape (xs ++ more))) = ap (λ (w : Shape). count a (w ∷ map rules.shape (xs ++ more))) is ∙ one (map rules.shape (xs ++ more)) in
+        let first : count a (rules.shape x ∷ map rules.shape (xs ++ more)) ≡ suc (count b (map rules.shape (xs ++ more))) =
+        ap (λ (w : Shape). count a (w ∷ map rules.shape (xs ++ more))) is ∙ one (map rules.shape (xs ++ more)) in
         let ih = h more in
         omega (arith, first, ih)
 
@@ -92,8 +93,11 @@ module _ {L S : Type 0} (rules : Rules L S) (most : ℕ) where
     jump_here : (p : ℕ) (l : L) (rest : List L) → drop p statements ≡ l ∷ rest →
         jump_from rules most statements p ≡ jump_of (rules.shape l) p (map rules.shape rest)
     jump_here p l rest e =
-        let here : slice_get (map rules.shape statements) p ≡ Some (rules.shape l) = at_here (map rules.shape statements) p (rules.shape l) (map rules.shape rest) (drop-map rules.shape p statements ∙ ap (λ (xs : List L). map rules.shape xs) e) in
-        let behind : drop (p + 1) (map rules.shape statements) ≡ map rules.shape rest = drop-map rules.shape (p + 1) statements ∙ ap (λ (xs : List L). map rules.shape xs) (next_here statements p l rest e) in
+        let here : slice_get (map rules.shape statements) p ≡ Some (rules.shape l) =
+        at_here (map rules.shape statements) p (rules.shape l) (map rules.shape rest)
+        (drop-map rules.shape p statements ∙ ap (λ (xs : List L). map rules.shape xs) e) in
+        let behind : drop (p + 1) (map rules.shape statements) ≡ map rules.shape rest =
+        drop-map rules.shape (p + 1) statements ∙ ap (λ (xs : List L). map rules.shape xs) (next_here statements p l rest e) in
         ap (λ (o : Option Shape). jump_at o p (drop (p + 1) (map rules.shape statements))) here
         ∙ ap (λ (xs : List Shape). jump_of (rules.shape l) p xs) behind
 
@@ -114,7 +118,8 @@ module _ {L S : Type 0} (rules : Rules L S) (most : ℕ) where
     after_both : (k j : ℕ) (c : Config S) → after_from rules most statements (k + j) c
         ≡ after_from rules most statements j (after_from rules most statements k c)
     after_both k zero c = let e : k + 0 ≡ k = omega arith in ap (λ (n : ℕ). after_from rules most statements n c) e
-    after_both k (suc j) c = let e : k + suc j ≡ suc (k + j) = omega arith in ap (λ (n : ℕ). after_from rules most statements n c) e ∙ ap (λ (d : Config S). step rules most statements d) (after_both k j c)
+    after_both k (suc j) c = let e : k + suc j ≡ suc (k + j) = omega arith in
+        ap (λ (n : ℕ). after_from rules most statements n c) e ∙ ap (λ (d : Config S). step rules most statements d) (after_both k j c)
 
     reassociated : (d : Config S) (seen ms ns : List (Moment S)) (o : Option End) (t : ℕ) (s : S) (q : ℕ) (bs : List Block) →
         ComesTo d (seen ++ ms) ns o t s q bs → ComesTo d seen (ms ++ ns) o t s q bs
@@ -193,7 +198,8 @@ module _ {L S : Type 0} (rules : Rules L S) (most : ℕ) where
 
     module _ (p line : ℕ) (body : ℕ → S → Unrolled S) (e : ℕ) (closing : L) (rest : List L) (bs : List Block)
         (d : drop e statements ≡ closing ∷ rest) (is : rules.shape closing ≡ Close)
-        (body_does : (n t : ℕ) (s : S) (seen : List (Moment S)) → Does (at (p + 1) (Turns p line n ∷ bs) t seen s) seen (body t s) e (Turns p line n ∷ bs)) where
+        (body_does : (n t : ℕ) (s : S) (seen : List (Moment S)) → Does (at (p + 1) (Turns p line n ∷ bs) t seen s) seen (body t s) e
+        (Turns p line n ∷ bs)) where
       abbrev first_member : ℕ → S → Moment S
       first_member t s = record { line = line; turns = t; before = s; puts = [] }
 
@@ -262,7 +268,9 @@ module _ {L S : Type 0} (rules : Rules L S) (most : ℕ) where
     one_more p line bs t seen s q v branch other e r rest one taken otherwise then_rest =
         let m : Moment S = record { line = line; turns = t; before = s; puts = [] } in
         let x : Unrolled S = then_on (chosen v branch other t s) rest in
-        let all : Does (chooses (at p bs t seen s) line q v) (seen ++ m ∷ []) x r bs = both_do (chooses (at p bs t seen s) line q v) (seen ++ m ∷ []) (chosen v branch other t s) e r bs bs rest (by_truth v) then_rest in
+        let all : Does (chooses (at p bs t seen s) line q v) (seen ++ m ∷ []) x r bs =
+        both_do (chooses (at p bs t seen s) line q v) (seen ++ m ∷ []) (chosen v branch other t s) e r bs bs rest
+        (by_truth v) then_rest in
         later (at p bs t seen s) (chooses (at p bs t seen s) line q v) 1 one seen
         (then_on (member line t s [] None s) (λ t s. then_on (chosen v branch other t s) rest)) r bs (
           all.0,
@@ -299,8 +307,12 @@ module _ {L S : Type 0} (rules : Rules L S) (most : ℕ) where
       go (Then l rest) w p more d bs t s seen =
           let line : ℕ = rules.line l in
           let r : Result (S × List ℕ) FaultKind = rules.act 0 l s in
-          let one : step rules most statements (at p bs t seen s) ≡ acted (at p bs t seen s) line r = step_is p l (flat rest ++ more) Simple d w.0 bs t seen s ∙ ap (λ (x : Result (S × List ℕ) FaultKind). acted (at p bs t seen s) line x) (placeless p l s) in
-          let first : Does (at p bs t seen s) seen (acted_once line t s r) (p + 1) bs = later (at p bs t seen s) (acted (at p bs t seen s) line r) 1 one seen (acted_once line t s r) (p + 1) bs (0, acts_once p line bs t seen s r) in
+          let one : step rules most statements (at p bs t seen s) ≡ acted (at p bs t seen s) line r =
+          step_is p l (flat rest ++ more) Simple d w.0 bs t seen s
+          ∙ ap (λ (x : Result (S × List ℕ) FaultKind). acted (at p bs t seen s) line x) (placeless p l s) in
+          let first : Does (at p bs t seen s) seen (acted_once line t s r) (p + 1) bs =
+          later (at p bs t seen s) (acted (at p bs t seen s) line r) 1 one seen (acted_once line t s r) (p + 1) bs
+          (0, acts_once p line bs t seen s r) in
           at_place (at p bs t seen s) seen (unrolled rules most (Then l rest) t s) (p + 1 + length (flat rest))
           (p + suc (length (flat rest))) bs (omega arith)
           (both_do (at p bs t seen s) seen (acted_once line t s r) (p + 1) (p + 1 + length (flat rest)) bs bs
@@ -311,8 +323,14 @@ module _ {L S : Type 0} (rules : Rules L S) (most : ℕ) where
           let q : ℕ = p + 1 + length (flat body) in
           let run_body : ℕ → S → Unrolled S = λ t s. unrolled rules most body t s in
           let closing : drop q statements ≡ e ∷ (flat rest ++ more) = closing_here p l e (flat body) (flat rest) more d in
-          let jumps : jump_from rules most statements p ≡ q + 1 = jump_here statements p l (flat body ++ (e ∷ flat rest) ++ more) d ∙ ap (λ (x : Shape). jump_of x p (map rules.shape (flat body ++ (e ∷ flat rest) ++ more))) w.0 ∙ ap (λ (xs : List L). p + 1 + to_end 0 (map rules.shape xs) + 1) (append_assoc (flat body) (e ∷ flat rest) more) ∙ ap (λ (n : ℕ). p + 1 + n + 1) (end_behind body w.2 e w.1 (flat rest ++ more)) in
-          let one : step rules most statements (at p bs t seen s) ≡ repeats most (at p bs t seen s) line (q + 1) (rules.count l s) = step_is p l (flat body ++ (e ∷ flat rest) ++ more) Loop d w.0 bs t seen s ∙ ap (λ (n : ℕ). repeats most (at p bs t seen s) line n (rules.count l s)) jumps in
+          let jumps : jump_from rules most statements p ≡ q + 1 =
+          jump_here statements p l (flat body ++ (e ∷ flat rest) ++ more) d
+          ∙ ap (λ (x : Shape). jump_of x p (map rules.shape (flat body ++ (e ∷ flat rest) ++ more))) w.0
+          ∙ ap (λ (xs : List L). p + 1 + to_end 0 (map rules.shape xs) + 1) (append_assoc (flat body) (e ∷ flat rest) more)
+          ∙ ap (λ (n : ℕ). p + 1 + n + 1) (end_behind body w.2 e w.1 (flat rest ++ more)) in
+          let one : step rules most statements (at p bs t seen s) ≡ repeats most (at p bs t seen s) line (q + 1) (rules.count l s) =
+          step_is p l (flat body ++ (e ∷ flat rest) ++ more) Loop d w.0 bs t seen s
+          ∙ ap (λ (n : ℕ). repeats most (at p bs t seen s) line n (rules.count l s)) jumps in
           let first : Does (at p bs t seen s) seen (repeated most line run_body (rules.count l s) t s) (q + 1) bs =
           later (at p bs t seen s) (repeats most (at p bs t seen s) line (q + 1) (rules.count l s)) 1 one seen
           (repeated most line run_body (rules.count l s) t s) (q + 1) bs
@@ -331,8 +349,14 @@ module _ {L S : Type 0} (rules : Rules L S) (most : ℕ) where
           let v : Bool = rules.holds l s in
           let m : Moment S = record { line = line; turns = t; before = s; puts = [] } in
           let closing : drop q statements ≡ e ∷ (flat rest ++ more) = closing_here p l e (flat branch) (flat rest) more d in
-          let jumps : jump_from rules most statements p ≡ q = jump_here statements p l (flat branch ++ (e ∷ flat rest) ++ more) d ∙ ap (λ (x : Shape). jump_of x p (map rules.shape (flat branch ++ (e ∷ flat rest) ++ more))) w.0 ∙ ap (λ (xs : List L). p + 1 + to_else 0 (map rules.shape xs)) (append_assoc (flat branch) (e ∷ flat rest) more) ∙ ap (λ (n : ℕ). p + 1 + n) (no_else_behind branch w.2 e w.1 (flat rest ++ more)) in
-          let one : step rules most statements (at p bs t seen s) ≡ chooses (at p bs t seen s) line q v = step_is p l (flat branch ++ (e ∷ flat rest) ++ more) Branch d w.0 bs t seen s ∙ ap (λ (n : ℕ). chooses (at p bs t seen s) line n v) jumps in
+          let jumps : jump_from rules most statements p ≡ q =
+          jump_here statements p l (flat branch ++ (e ∷ flat rest) ++ more) d
+          ∙ ap (λ (x : Shape). jump_of x p (map rules.shape (flat branch ++ (e ∷ flat rest) ++ more))) w.0
+          ∙ ap (λ (xs : List L). p + 1 + to_else 0 (map rules.shape xs)) (append_assoc (flat branch) (e ∷ flat rest) more)
+          ∙ ap (λ (n : ℕ). p + 1 + n) (no_else_behind branch w.2 e w.1 (flat rest ++ more)) in
+          let one : step rules most statements (at p bs t seen s) ≡ chooses (at p bs t seen s) line q v =
+          step_is p l (flat branch ++ (e ∷ flat rest) ++ more) Branch d w.0 bs t seen s
+          ∙ ap (λ (n : ℕ). chooses (at p bs t seen s) line n v) jumps in
           let taken : Does (at (p + 1) (Chosen ∷ bs) t (seen ++ m ∷ []) s) (seen ++ m ∷ []) (run_branch t s) (q + 1) bs =
           and_step (at (p + 1) (Chosen ∷ bs) t (seen ++ m ∷ []) s) (seen ++ m ∷ []) (run_branch t s) q (q + 1) (Chosen ∷ bs) bs
           (go branch w.2 (p + 1) (e ∷ (flat rest ++ more)) (inner_here p l e (flat branch) (flat rest) more d) (Chosen ∷ bs) t s
@@ -363,9 +387,15 @@ module _ {L S : Type 0} (rules : Rules L S) (most : ℕ) where
           ∙ ap (λ (x : Shape). jump_of x p (map rules.shape (flat branch ++ (m ∷ behind_branch) ++ more))) w.0
           ∙ ap (λ (xs : List L). p + 1 + to_else 0 (map rules.shape xs)) (append_assoc (flat branch) (m ∷ behind_branch) more)
           ∙ ap (λ (n : ℕ). p + 1 + n) (else_behind branch w.3 m w.1 (behind_branch ++ more)) ∙ one_on p (length (flat branch)) in
-          let one : step rules most statements (at p bs t seen s) ≡ chooses (at p bs t seen s) line (a + 1) v = step_is p l (flat branch ++ (m ∷ behind_branch) ++ more) Branch d w.0 bs t seen s ∙ ap (λ (n : ℕ). chooses (at p bs t seen s) line n v) jumps in
-          let ends : to_end 0 (map rules.shape (behind_branch ++ more)) ≡ length (flat other) = ap (λ (xs : List L). to_end 0 (map rules.shape xs)) (append_assoc (flat other) (e ∷ flat rest) more) ∙ end_behind other w.4 e w.2 (flat rest ++ more) in
-          let to_middle : Does (at (p + 1) (Chosen ∷ bs) t seen_here s) seen_here (run_branch t s) a (Chosen ∷ bs) = go branch w.3 (p + 1) (m ∷ (behind_branch ++ more)) (inner_here p l m (flat branch) behind_branch more d) (Chosen ∷ bs) t s seen_here in
+          let one : step rules most statements (at p bs t seen s) ≡ chooses (at p bs t seen s) line (a + 1) v =
+          step_is p l (flat branch ++ (m ∷ behind_branch) ++ more) Branch d w.0 bs t seen s
+          ∙ ap (λ (n : ℕ). chooses (at p bs t seen s) line n v) jumps in
+          let ends : to_end 0 (map rules.shape (behind_branch ++ more)) ≡ length (flat other) =
+          ap (λ (xs : List L). to_end 0 (map rules.shape xs)) (append_assoc (flat other) (e ∷ flat rest) more)
+          ∙ end_behind other w.4 e w.2 (flat rest ++ more) in
+          let to_middle : Does (at (p + 1) (Chosen ∷ bs) t seen_here s) seen_here (run_branch t s) a (Chosen ∷ bs) =
+          go branch w.3 (p + 1) (m ∷ (behind_branch ++ more)) (inner_here p l m (flat branch) behind_branch more d) (Chosen ∷ bs)
+          t s seen_here in
           let taken : Does (at (p + 1) (Chosen ∷ bs) t seen_here s) seen_here (run_branch t s) (q + 1) bs =
           and_step (at (p + 1) (Chosen ∷ bs) t seen_here s) seen_here (run_branch t s) q (q + 1) (Chosen ∷ bs) bs
           (and_step (at (p + 1) (Chosen ∷ bs) t seen_here s) seen_here (run_branch t s) a q (Chosen ∷ bs) (Chosen ∷ bs) to_middle
@@ -386,7 +416,8 @@ module _ {L S : Type 0} (rules : Rules L S) (most : ℕ) where
           (λ t s. unrolled rules most rest t s) one taken otherwise
           (λ t s xs. go rest w.5 (q + 1) more (rest_here a m e (flat other) (flat rest) more middle) bs t s xs))
 
-module _ {L S : Type 0} (rules : Rules L S) (most : ℕ) (placeless : (p : ℕ) (l : L) (s : S) → rules.act p l s ≡ rules.act 0 l s) (parts : Parts L) (w : IsWell rules.shape parts) (s : S) where
+module _ {L S : Type 0} (rules : Rules L S) (most : ℕ) (placeless : (p : ℕ) (l : L) (s : S) → rules.act p l s ≡ rules.act 0 l s)
+    (parts : Parts L) (w : IsWell rules.shape parts) (s : S) where
   -- the run is over, and this is what it was
   whole_is : (k : ℕ) × ((after rules most (flat parts) k s).seen ≡ (unrolled rules most parts 0 s).members) ×
       ((after rules most (flat parts) k s).ended ≡ Some (unwrap_or (unrolled rules most parts 0 s).ended Done))
@@ -396,14 +427,16 @@ module _ {L S : Type 0} (rules : Rules L S) (most : ℕ) (placeless : (p : ℕ) 
       by_end u.members u.ended u.turns u.state all.0 all.1
     where
       past : slice_get (flat parts) (0 + length (flat parts)) ≡ None
-      past = let same : 0 + length (flat parts) ≡ length (flat parts) = omega arith in none_behind (flat parts) (0 + length (flat parts)) (ap (λ (n : ℕ). drop n (flat parts)) same ∙ drop-length (flat parts))
+      past = let same : 0 + length (flat parts) ≡ length (flat parts) = omega arith in
+          none_behind (flat parts) (0 + length (flat parts)) (ap (λ (n : ℕ). drop n (flat parts)) same ∙ drop-length (flat parts))
 
       by_end : (ms : List (Moment S)) (o : Option End) (t : ℕ) (x : S) (k : ℕ) →
           ComesTo rules most (flat parts) (after rules most (flat parts) k s) [] ms o t x (0 + length (flat parts)) [] → (j : ℕ) ×
           ((after rules most (flat parts) j s).seen ≡ ms) × ((after rules most (flat parts) j s).ended ≡ Some (unwrap_or o Done))
       by_end ms None t x k e =
           let d : Config S = record { place = 0 + length (flat parts); blocks = []; turns = t; seen = [] ++ ms; ended = None; state = x } in
-          let one : step rules most (flat parts) (after rules most (flat parts) k s) ≡ record d { ended = Some Done } = ap (λ (c : Config S). step rules most (flat parts) c) e ∙ ap (λ (o : Option L). runs rules most (flat parts) d o) past in
+          let one : step rules most (flat parts) (after rules most (flat parts) k s) ≡ record d { ended = Some Done } =
+          ap (λ (c : Config S). step rules most (flat parts) c) e ∙ ap (λ (o : Option L). runs rules most (flat parts) d o) past in
           (suc k, ap (λ (c : Config S). c.seen) one, ap (λ (c : Config S). c.ended) one)
       by_end ms (Some y) t x k e = (k, e.1, e.0)
 

@@ -20,7 +20,8 @@ ghost use Rattle.cord_meaning.specs.declared.ends.FaultKind.TheVariants.{TooLong
 use crate::MAX_TURNS;
 use cord_io::MAX_LEN;
 
-/// Every run ends, after at most so many steps: one more than the statements, for each turn that may begin and once more.
+/// Every run ends, after at most so many steps: one more than the statements, for each turn that may begin and once
+/// more.
 pub fn every_run_ends()
     ensures ends { (limit most : ℕ) (statements : List Statement) (files : Folder) →
         IsSome (run_within limit most statements files (enough most statements)).ended }
@@ -36,8 +37,8 @@ pub fn what_was_run_stays()
         Begins (run_within limit most statements files k).seen (moments_within limit most statements files) }
 {}
 
-/// The law of the limit: where a run with a smaller limit doesn't end with the fault `TooLong`, a greater limit changes nothing.
-/// So it is with the limit of 32 bits and with `MAX_LEN`.
+/// The law of the limit: where a run with a smaller limit doesn't end with the fault `TooLong`, a greater limit changes
+/// nothing. So it is with the limit of 32 bits and with `MAX_LEN`.
 pub fn limits_only_refuse()
     ensures moments { (small great most : ℕ) (statements : List Statement) (files : Folder) → small ≤ great →
         ((line : ℕ) → end_within small most statements files ≢ Fault line TooLong) →
@@ -53,8 +54,8 @@ pub fn limits_only_refuse()
         end_of statements files ≡ end_within (2 ^ 32 - 1) MAX_TURNS statements files }
 {}
 
-/// A run is the unrolled run: a `repeat` that reads n is its body n times, each after the beginning of its turn, and an `if` is the branch
-/// that its numbers choose. Statements whose blocks are closed are such parts.
+/// A run is the unrolled run: a `repeat` that reads n is its body n times, each after the beginning of its turn, and an
+/// `if` is the branch that its numbers choose. Statements whose blocks are closed are such parts.
 pub fn runs_are_unrolled()
     ensures moments { (limit most : ℕ) (parts : Parts Statement) (files : Folder) → IsWell shape_of parts →
         moments_within limit most (flat parts) files ≡ (unrolled (rules limit files) most parts 0 start_state).members }
@@ -65,7 +66,8 @@ pub fn runs_are_unrolled()
         IsWell shape_of parts × (flat parts ≡ statements) }
 {}
 
-/// A run follows paths: of a script whose blocks are closed, each step that doesn't end the run leads to a place that may come next.
+/// A run follows paths: of a script whose blocks are closed, each step that doesn't end the run leads to a place that
+/// may come next.
 pub fn runs_follow_paths()
     ensures { (limit most : ℕ) (statements : List Statement) (files : Folder) (k : ℕ) →
         IsNested [] (map shape_of statements) → (run_within limit most statements files (suc k)).ended ≡ None →

@@ -5,8 +5,8 @@ ghost use Rattle.std.specs.Prelude.{◌≡◌, length, IfOk};
 
 use std::alloc::{AllocError, Global};
 
-/// So many bytes: at each place the place modulo 251, a prime that divides no length of a block or a leaf. Refused where no
-/// memory is found.
+/// So many bytes: at each place the place modulo 251, a prime that divides no length of a block or a leaf. Refused
+/// where no memory is found.
 pub fn pattern(alloc: Global, count: usize) -> Result<Vec<u8>, AllocError>
     ensures len { IfOk result (λ text. length text.items ≡ count) }
 {

@@ -1,5 +1,5 @@
-//! Calls that are refused memory at most once, at a place that whoever runs the test names: each leaves its arguments as
-//! they were, and serves when it is made again.
+//! Calls that are refused memory at most once, at a place that whoever runs the test names: each leaves its arguments
+//! as they were, and serves when it is made again.
 
 // The value of a call, which is made again where it was refused memory.
 macro_rules! again {

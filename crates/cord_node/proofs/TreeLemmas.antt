@@ -20,7 +20,9 @@ length-cells (Leaf bytes start len mark) s =
     length-map (take len (drop start (rc_slice_items bytes))) known ∙ length-take-le len (drop start (rc_slice_items bytes)) d
 length-cells (Run byte len) s = length-replicate len (known byte)
 length-cells (Func id start len) s = length-map (range_with_len start len) (held_by id.0) ∙ length-range_with_len start len
-length-cells (Cat' p left q right len depth mark) s = length-append (cells left) (cells right) ∙ (let a : length (cells left) ≡ len_of left = length-cells left s.0 in let b : length (cells right) ≡ len_of right = length-cells right s.1 in omega arith)
+length-cells (Cat' p left q right len depth mark) s =
+    length-append (cells left) (cells right) ∙ (let a : length (cells left) ≡ len_of left = length-cells left s.0 in
+    let b : length (cells right) ≡ len_of right = length-cells right s.1 in omega arith)
 
 -- a range of a leaf's text
 pub range_of_leaf : (xs : List ℕ) (start len from count : ℕ) → from + count ≤ len → map known (take count (drop (start + from) xs))
@@ -29,7 +31,8 @@ range_of_leaf xs start len from count h = sym (rw (drop-map, take-map, range_of_
 
 -- a range of a run's text
 pub range_of_run : (x : Cell) (len from count : ℕ) → from + count ≤ len → replicate count x ≡ take count (drop from (replicate len x))
-range_of_run x len from count h = let k : count ≤ len - from = omega arith in sym (rw (drop-replicate from len x, take-replicate count (len - from) x k) refl)
+range_of_run x len from count h = let k : count ≤ len - from = omega arith in
+    sym (rw (drop-replicate from len x, take-replicate count (len - from) x k) refl)
 
 -- a range of a function part's text
 pub range_of_func : (f : ℕ → Cell) (start len from count : ℕ) → from + count ≤ len →
@@ -50,21 +53,24 @@ pub len_positive : (n : Node) → IsSound n → 0 < len_of n
 len_positive (Leaf bytes start len mark) s = s.0
 len_positive (Run byte len) s = s.0
 len_positive (Func id start len) s = s.0
-len_positive (Cat' p left q right len depth mark) s = let a : 0 < len_of left = len_positive left s.0 in let e : len ≡ len_of left + len_of right = s.2 in omega arith
+len_positive (Cat' p left q right len depth mark) s = let a : 0 < len_of left = len_positive left s.0 in
+    let e : len ≡ len_of left + len_of right = s.2 in omega arith
 
 -- the stored length is the true one
 pub true_len-len_of : (n : Node) → IsSound n → len_of n ≡ true_len n
 true_len-len_of (Leaf bytes start len mark) s = refl
 true_len-len_of (Run byte len) s = refl
 true_len-len_of (Func id start len) s = refl
-true_len-len_of (Cat' p left q right len depth mark) s = let a : len_of left ≡ true_len left = true_len-len_of left s.0 in let b : len_of right ≡ true_len right = true_len-len_of right s.1 in omega arith
+true_len-len_of (Cat' p left q right len depth mark) s = let a : len_of left ≡ true_len left = true_len-len_of left s.0 in
+    let b : len_of right ≡ true_len right = true_len-len_of right s.1 in omega arith
 
 -- the stored depth is the true one
 pub true_depth-depth_of : (n : Node) → IsSound n → depth_of n ≡ true_depth n
 true_depth-depth_of (Leaf bytes start len mark) s = refl
 true_depth-depth_of (Run byte len) s = refl
 true_depth-depth_of (Func id start len) s = refl
-true_depth-depth_of (Cat' p left q right len depth mark) s = let a : depth_of left ≡ true_depth left = true_depth-depth_of left s.0 in let b : depth_of right ≡ true_depth right = true_depth-depth_of right s.1 in omega arith
+true_depth-depth_of (Cat' p left q right len depth mark) s = let a : depth_of left ≡ true_depth left = true_depth-depth_of left s.0 in
+    let b : depth_of right ≡ true_depth right = true_depth-depth_of right s.1 in omega arith
 
 -- the places of one part
 abbrev pub part_cells : Part → List Cell

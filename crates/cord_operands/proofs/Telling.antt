@@ -18,7 +18,8 @@ same_digits [] (c ∷ cs) p q are_x are_y long e = let bad : ⊥ = cc in absurd 
 same_digits (b ∷ bs) [] p q are_x are_y long e = let bad : ⊥ = cc in absurd bad
 same_digits (b ∷ bs) (c ∷ cs) p q are_x are_y long e =
     let rest : length bs ≡ length cs = omega (arith, long) in
-    let ih : (p * 256 + b ≡ q * 256 + c) × (bs ≡ cs) = same_digits bs cs (p * 256 + b) (q * 256 + c) (λ k. are_x (suc k)) (λ k. are_y (suc k)) rest e in
+    let ih : (p * 256 + b ≡ q * 256 + c) × (bs ≡ cs) =
+    same_digits bs cs (p * 256 + b) (q * 256 + c) (λ k. are_x (suc k)) (λ k. are_y (suc k)) rest e in
     let low : b < 256 = are_x 0 in
     let other : c < 256 = are_y 0 in
     let heads : b ≡ c = omega (arith, ih.0, low, other) in

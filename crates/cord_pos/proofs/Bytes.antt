@@ -33,7 +33,8 @@ part_of lengths (Cat' p left q right len depth mark) s i h =
     let e = part_at-left p q left right len depth mark s i k in
     record { part = rw e m.part; sound = rw e m.sound; fits = rw e (λ f. m.fits f.0) })
     (λ (k : len_of left ≤ i).
-    let m : IsPartOf lengths right (part_at right (s + len_of left) (i - len_of left)).0 = part_of lengths right (s + len_of left) (i - len_of left) h.1 in
+    let m : IsPartOf lengths right (part_at right (s + len_of left) (i - len_of left)).0 =
+    part_of lengths right (s + len_of left) (i - len_of left) h.1 in
     let e = part_at-right p q left right len depth mark s i k in
     record { part = rw e m.part; sound = rw e m.sound; fits = rw e (λ f. m.fits f.1) })
     (cases_lt i (len_of left))
@@ -52,7 +53,8 @@ slice_left (x ∷ xs) ys (suc i) h = slice_left xs ys i (omega arith)
 slice_right : (xs ys : List ℕ) (i : ℕ) → length xs ≤ i → slice_get (xs ++ ys) i ≡ slice_get ys (i - length xs)
 slice_right [] ys i h = let e : i - 0 ≡ i = omega arith in rw e refl
 slice_right (x ∷ xs) ys zero h = absurd (omega arith)
-slice_right (x ∷ xs) ys (suc i) h = let e : suc i - suc (length xs) ≡ i - length xs = omega arith in rw e (slice_right xs ys i (omega arith))
+slice_right (x ∷ xs) ys (suc i) h = let e : suc i - suc (length xs) ≡ i - length xs = omega arith in
+    rw e (slice_right xs ys i (omega arith))
 
 -- over a table that the node fits, the byte of the part is that of the node
 pub part_byte : (t : Table) (n : Node) (s i at b : ℕ) → at ≡ s + i → IsSound n → i < len_of n → Fits t n →
@@ -67,7 +69,8 @@ part_byte t (Cat' p left q right len depth mark) s i at b z h k f e =
     let e' : HasByte t (part_at left s i).0 (at - (part_at left s i).1) b = rw (part_at-left p q left right len depth mark s i c) at e in
     slice_left (bytes_over t left) (bytes_over t right) i (omega arith) ∙ part_byte t left s i at b z h.0 c f.0 e')
     (λ (c : len_of left ≤ i).
-    let e' : HasByte t (part_at right (s + len_of left) (i - len_of left)).0 (at - (part_at right (s + len_of left) (i - len_of left)).1) b = rw (part_at-right p q left right len depth mark s i c) at e in
+    let e' : HasByte t (part_at right (s + len_of left) (i - len_of left)).0 (at - (part_at right (s + len_of left) (i - len_of left)).1)
+    b = rw (part_at-right p q left right len depth mark s i c) at e in
     slice_right (bytes_over t left) (bytes_over t right) i (omega arith)
     ∙ (rw len-left (part_byte t right (s + len_of left) (i - len_of left) at b (omega arith) h.1 (omega (arith, h.2)) f.1 e')))
     (cases_lt i (len_of left))

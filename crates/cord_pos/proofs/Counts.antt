@@ -88,8 +88,10 @@ preorder_next (Cat' p left q right len depth mark) i h e =
     ⊎_elim
     (λ (a : i < len_of left).
     let z : i + 1 - len_of left ≡ 0 = omega arith in
-    let pr : preorder (Cat' p left q right len depth mark) (i + 1) ≡ 1 + size left + preorder right 0 = rw (← z) (preorder-right p q left right len depth mark (i + 1) k) in
-    let lr : level (Cat' p left q right len depth mark) (i + 1) ≡ 1 + level right 0 = rw (← z) (level-right p q left right len depth mark (i + 1) k) in
+    let pr : preorder (Cat' p left q right len depth mark) (i + 1) ≡ 1 + size left + preorder right 0 =
+    rw (← z) (preorder-right p q left right len depth mark (i + 1) k) in
+    let lr : level (Cat' p left q right len depth mark) (i + 1) ≡ 1 + level right 0 =
+    rw (← z) (level-right p q left right len depth mark (i + 1) k) in
     omega (
       arith,
       pr,
@@ -101,7 +103,9 @@ preorder_next (Cat' p left q right len depth mark) i h e =
     ))
     (λ (a : len_of left ≤ i).
     let z : i + 1 - len_of left ≡ i - len_of left + 1 = omega arith in
-    let s : preorder right (i + 1 - len_of left) + shared_level right (i - len_of left) (i + 1 - len_of left) ≡ preorder right (i - len_of left) + level right (i + 1 - len_of left) = rw z (preorder_next right (i - len_of left) h.1 (omega (arith, h.2))) in
+    let s : preorder right (i + 1 - len_of left) + shared_level right (i - len_of left) (i + 1 - len_of left)
+    ≡ preorder right (i - len_of left) + level right (i + 1 - len_of left) =
+    rw z (preorder_next right (i - len_of left) h.1 (omega (arith, h.2))) in
     omega (
       arith,
       s,

@@ -50,8 +50,10 @@ under_root (Cat' p left q right len depth mark) s i (x ∷ front) rest n t h e =
     let u : IsUnder left s (length front) n t = under_root left s i front rest n t h.0 (cc) in
     record { sound = u.sound; from = u.from; to = omega (arith, h.2); depth = omega (arith, h.3) })
     (λ (k : len_of left ≤ i).
-    let b : below (Cat' p left q right len depth mark) s i ≡ way right (s + len_of left) (i - len_of left) = below-right p q left right len depth mark s i k in
-    let u : IsUnder right (s + len_of left) (length front) n t = under_root right (s + len_of left) (i - len_of left) front rest n t h.1 (cc) in
+    let b : below (Cat' p left q right len depth mark) s i ≡ way right (s + len_of left) (i - len_of left) =
+    below-right p q left right len depth mark s i k in
+    let u : IsUnder right (s + len_of left) (length front) n t =
+    under_root right (s + len_of left) (i - len_of left) front rest n t h.1 (cc) in
     record { sound = u.sound; from = omega arith; to = omega (arith, h.2); depth = omega (arith, h.3) })
     (cases_lt i (len_of left))
 
@@ -132,13 +134,18 @@ moved (Cat' p left q right len depth mark) s i j at (x ∷ front) rest n t z b h
       part = m.part ∙ sym (part_at-left p q left right len depth mark s j a);
     })
     (λ (k : len_of left ≤ i).
-    let f : below (Cat' p left q right len depth mark) s i ≡ way right (s + len_of left) (i - len_of left) = below-right p q left right len depth mark s i k in
+    let f : below (Cat' p left q right len depth mark) s i ≡ way right (s + len_of left) (i - len_of left) =
+    below-right p q left right len depth mark s i k in
     let w : way right (s + len_of left) (i - len_of left) ≡ front ++ (Some n, t) ∷ rest = cc in
-    let u : IsUnder right (s + len_of left) (length front) n t = under_root right (s + len_of left) (i - len_of left) front rest n t h.1 w in
+    let u : IsUnder right (s + len_of left) (length front) n t =
+    under_root right (s + len_of left) (i - len_of left) front rest n t h.1 w in
     let a : len_of left ≤ j = omega arith in
-    let m : IsMove right (s + len_of left) (i - len_of left) (j - len_of left) front n t at = moved right (s + len_of left) (i - len_of left) (j - len_of left) at front rest n t (omega arith) (omega (arith, h.2)) h.1 w g out in
+    let m : IsMove right (s + len_of left) (i - len_of left) (j - len_of left) front n t at =
+    moved right (s + len_of left) (i - len_of left) (j - len_of left) at front rest n t (omega arith)
+    (omega (arith, h.2)) h.1 w g out in
     let mw : front ++ way n t (at - t) ≡ way right (s + len_of left) (j - len_of left) = m.way in
-    let fj : below (Cat' p left q right len depth mark) s j ≡ way right (s + len_of left) (j - len_of left) = below-right p q left right len depth mark s j a in
+    let fj : below (Cat' p left q right len depth mark) s j ≡ way right (s + len_of left) (j - len_of left) =
+    below-right p q left right len depth mark s j a in
     record {
       way = cc;
       shared = omega (arith, m.shared, shared-right p q left right len depth mark i j k a);

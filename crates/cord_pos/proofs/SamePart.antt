@@ -28,8 +28,10 @@ has_range (Cat' p left q right len depth mark) s i h k =
     let e : part_at (Cat' p left q right len depth mark) s i ≡ part_at left s i = part_at-left p q left right len depth mark s i a in
     record { from = rw e r.from; to = rw e (omega (arith, h.2, r.to)); first = rw e r.first; last = rw e r.last })
     (λ (a : len_of left ≤ i).
-    let r : HasRange right (s + len_of left) (i - len_of left) = has_range right (s + len_of left) (i - len_of left) h.1 (omega (arith, h.2)) in
-    let e : part_at (Cat' p left q right len depth mark) s i ≡ part_at right (s + len_of left) (i - len_of left) = part_at-right p q left right len depth mark s i a in
+    let r : HasRange right (s + len_of left) (i - len_of left) =
+    has_range right (s + len_of left) (i - len_of left) h.1 (omega (arith, h.2)) in
+    let e : part_at (Cat' p left q right len depth mark) s i ≡ part_at right (s + len_of left) (i - len_of left) =
+    part_at-right p q left right len depth mark s i a in
     record {
       from = rw e (omega (arith, r.from));
       to = rw e (omega (arith, h.2, r.to));
@@ -73,15 +75,21 @@ same_part (Cat' p left q right len depth mark) s i j at z h k a b =
       );
     })
     (λ (c : len_of left ≤ i).
-    let r : HasRange right (s + len_of left) (i - len_of left) = has_range right (s + len_of left) (i - len_of left) h.1 (omega (arith, h.2)) in
-    let e : part_at (Cat' p left q right len depth mark) s i ≡ part_at right (s + len_of left) (i - len_of left) = part_at-right p q left right len depth mark s i c in
+    let r : HasRange right (s + len_of left) (i - len_of left) =
+    has_range right (s + len_of left) (i - len_of left) h.1 (omega (arith, h.2)) in
+    let e : part_at (Cat' p left q right len depth mark) s i ≡ part_at right (s + len_of left) (i - len_of left) =
+    part_at-right p q left right len depth mark s i c in
     let a' : (part_at right (s + len_of left) (i - len_of left)).1 ≤ at = rw (← e) a in
-    let b' : at < (part_at right (s + len_of left) (i - len_of left)).1 + len_of (part_at right (s + len_of left) (i - len_of left)).0 = rw (← e) b in
+    let b' : at < (part_at right (s + len_of left) (i - len_of left)).1 + len_of (part_at right (s + len_of left) (i - len_of left)).0 =
+    rw (← e) b in
     let d : len_of left ≤ j = omega (arith, r.from, a') in
-    let m : IsSamePart right (s + len_of left) (i - len_of left) (j - len_of left) = same_part right (s + len_of left) (i - len_of left) (j - len_of left) at (omega arith) h.1 (omega (arith, h.2)) a' b' in
+    let m : IsSamePart right (s + len_of left) (i - len_of left) (j - len_of left) =
+    same_part right (s + len_of left) (i - len_of left) (j - len_of left) at (omega arith) h.1 (omega (arith, h.2)) a' b' in
     let mw : way right (s + len_of left) (j - len_of left) ≡ way right (s + len_of left) (i - len_of left) = m.way in
-    let wi : below (Cat' p left q right len depth mark) s i ≡ way right (s + len_of left) (i - len_of left) = below-right p q left right len depth mark s i c in
-    let wj : below (Cat' p left q right len depth mark) s j ≡ way right (s + len_of left) (j - len_of left) = below-right p q left right len depth mark s j d in
+    let wi : below (Cat' p left q right len depth mark) s i ≡ way right (s + len_of left) (i - len_of left) =
+    below-right p q left right len depth mark s i c in
+    let wj : below (Cat' p left q right len depth mark) s j ≡ way right (s + len_of left) (j - len_of left) =
+    below-right p q left right len depth mark s j d in
     record {
       way = cc;
       part = part_at-right p q left right len depth mark s j d ∙ m.part ∙ sym e;

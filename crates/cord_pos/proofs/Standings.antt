@@ -61,7 +61,8 @@ still (Some n) spot path j on a b =
     let start : spot.part.start ≡ (part_at n 0 spot.index).1 = ap (λ (x : Node × ℕ). x.1) p.holder in
     let node : (node_of spot.part.node) ≡ (part_at n 0 spot.index).0 = ap (λ (x : Node × ℕ). x.0) p.holder in
     let len : len_of (node_of spot.part.node) ≡ len_of (part_at n 0 spot.index).0 = ap len_of node in
-    let m : IsSamePart n 0 spot.index j = same_part n 0 spot.index j j (omega arith) p.sound p.inside (omega arith) (omega (arith, p.end)) in
+    let m : IsSamePart n 0 spot.index j =
+    same_part n 0 spot.index j j (omega arith) p.sound p.inside (omega arith) (omega (arith, p.end)) in
     let shared : shared_level n spot.index j ≡ level n j = shared_same n spot.index j (sym m.preorder) in
     let r : HasRange n 0 spot.index = has_range n 0 spot.index p.sound p.inside in
     let inside : j < len_of n = omega (arith, p.end, r.to) in
@@ -100,7 +101,8 @@ prev_move c (suc i) h = let e : suc i - 1 ≡ i = omega arith in rw e refl
 -- a `next` inside one part
 pub next_still : (c : Option Node) (spot : Spot) (path : Path) → IsPosition c (Some spot) path → spot.index + 1 < spot.part.end →
     IsStill c spot path (spot.index + 1)
-next_still c spot path on k = let l : spot.part.start ≤ spot.index = start_below c spot path on in still c spot path (spot.index + 1) on (omega arith) k
+next_still c spot path on k = let l : spot.part.start ≤ spot.index = start_below c spot path on in
+    still c spot path (spot.index + 1) on (omega arith) k
 
 -- its index
 pub next_still_index : (c : Option Node) (spot : Spot) (path : Path) → IsPosition c (Some spot) path → spot.index + 1 < spot.part.end →

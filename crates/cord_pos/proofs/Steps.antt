@@ -27,7 +27,8 @@ record SameSide (m : Node) (o : ℕ) (l : Node) (k : ℕ) : Type 0 where
 
 -- from their equation, that of the nodes and of the beginnings
 same_side : (m : Node) (o : ℕ) (l : Node) (k : ℕ) → ◌≡◌ {A = Option (Node × ℕ)} (Some (m, o)) (Some (l, k)) → SameSide m o l k
-same_side m o l k e = let f : ◌≡◌ {A = Node × ℕ} (m, o) (l, k) = cc in record { node = ap (λ (x : Node × ℕ). x.0) f; offset = ap (λ (x : Node × ℕ). x.1) f }
+same_side m o l k e = let f : ◌≡◌ {A = Node × ℕ} (m, o) (l, k) = cc in
+    record { node = ap (λ (x : Node × ℕ). x.0) f; offset = ap (λ (x : Node × ℕ). x.1) f }
 
 -- a side that a step leads to is so
 pub is_side : (n : Node) (i : ℕ) (m : Node) (o : ℕ) → IsSound n → i < len_of n → side_at n i ≡ Some (m, o) → IsSide n i m o
@@ -79,5 +80,6 @@ ends_at_part (Func id s len) start i h = record { below = refl; level = refl; pa
 ends_at_part (Cat' p left q right len depth mark) start i h =
     ⊎_elim
     (λ (a : i < len_of left). let f : ◌≡◌ {A = Option (Node × ℕ)} (Some (left, 0)) None = rw (lt-ltb i (len_of left) a) at h in absurd (cc))
-    (λ (a : len_of left ≤ i). let f : ◌≡◌ {A = Option (Node × ℕ)} (Some (right, len_of left)) None = rw (not_less i (len_of left) a) at h in absurd (cc))
+    (λ (a : len_of left ≤ i). let f : ◌≡◌ {A = Option (Node × ℕ)} (Some (right, len_of left)) None = rw (not_less i (len_of left) a) at h in
+    absurd (cc))
     (cases_lt i (len_of left))

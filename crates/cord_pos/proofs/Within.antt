@@ -134,7 +134,9 @@ pub leaf_stretch : (m : Node) (s : Stretch) (items xs : List ℕ) (start len fro
     at + k ≤ len → 0 < k → xs ≡ take k (drop from items) → stretch_len s ≡ length xs → ((t : Table) → stretch_bytes t s ≡ xs) →
     ((lengths : Lengths) → StretchFitsIn lengths s) → IsStretchAt m at s
 leaf_stretch m s items xs start len from at k e long behind f h some is count bytes fits =
-    let whole : stretch_len s ≡ k = count ∙ ap (λ (ys : List ℕ). length ys) is ∙ length-take-le k (drop from items) (omega (arith, f, h, behind, length-drop from items)) in
+    let whole : stretch_len s ≡ k =
+    count ∙ ap (λ (ys : List ℕ). length ys) is
+    ∙ length-take-le k (drop from items) (omega (arith, f, h, behind, length-drop from items)) in
     record {
       some = omega (arith, whole, some);
       inside = omega (arith, whole, long, h);
@@ -168,7 +170,8 @@ func_stretch m s id start len from at k e sound f h some count bytes fits =
     record {
       some = omega (arith, count, some);
       inside = omega (arith, count, long, h);
-      fits = λ lengths held. let held' : start + len ≤ length_at lengths id.0 = rw e at held in fits lengths (omega (arith, held', f, h), omega (arith, limit.1, f, h));
+      fits = λ lengths held. let held' : start + len ≤ length_at lengths id.0 = rw e at held in
+          fits lengths (omega (arith, held', f, h), omega (arith, limit.1, f, h));
       text = λ t _. bytes t ∙ ap (λ (j : ℕ). take k (drop j (t id.0))) f ∙ sym (range_of_range (t id.0) at k start len h)
           ∙ ap (λ (n : Node). take k (drop at (bytes_over t n))) (sym e) ∙ ap (λ (j : ℕ). take j (drop at (bytes_over t m))) (sym count);
     }
@@ -185,7 +188,8 @@ part_within (Cat' p left q right len depth mark) s i at z h k =
     let w : IsWithin n i left i = within_left n i n i p left q right len depth mark refl (within_self n i h) in
     rw (part_at-left p q left right len depth mark s i a) (within_on n i left i _ _ w (part_within left s i at z h.0 a)))
     (λ (a : len_of left ≤ i).
-    let w : IsWithin n i right (i - len_of left) = within_right n i n i (i - len_of left) p left q right len depth mark refl (omega arith) (within_self n i h) in
+    let w : IsWithin n i right (i - len_of left) =
+    within_right n i n i (i - len_of left) p left q right len depth mark refl (omega arith) (within_self n i h) in
     rw (part_at-right p q left right len depth mark s i a) (within_on n i right (i - len_of left) _ _ w
     (part_within right (s + len_of left) (i - len_of left) at (omega arith) h.1 (omega (arith, h.2)))))
     (cases_lt i (len_of left))

@@ -31,9 +31,9 @@ struct Spot<'a> {
 
 /// A cord with an index below its length, or with none, as past the end or before the beginning.
 ///
-/// `fetch` asks for a valid position, which `is_valid` tells, and for function parts that lie inside entries of the source: so
-/// it is with every cord over no files, with those that the source made where it is a `Sources`, and with what `cat`, `substr`
-/// and the others make of them.
+/// `fetch` asks for a valid position, which `is_valid` tells, and for function parts that lie inside entries of the
+/// source: so it is with every cord over no files, with those that the source made where it is a `Sources`, and with
+/// what `cat`, `substr` and the others make of them.
 ///
 /// ```rust end_of_word
 /// use cord_core::Cord;
@@ -72,7 +72,11 @@ impl<'a> Model for Position<'a> {
 
     ghost use Rattle.cord_pos.specs.inner.Invariant.{IsPosition};
 
-    ghost view = { λ p. record { cord = p.tree.cord.now; index = option_map (λ s. s.index) p.spot; visits = p.path.visits.count } };
+    ghost view = { λ p. record {
+      cord = p.tree.cord.now;
+      index = option_map (λ s. s.index) p.spot;
+      visits = p.path.visits.count;
+    } };
 
     ghost invariant = { λ p. IsPosition p.tree.cord.now p.spot p.path };
 }
@@ -129,8 +133,8 @@ impl<'a> Position<'a> {
         self.tree.cord()
     }
 
-    /// How many nodes were visited since it was set: at 2^64 - 1 the count stays. A visit is a step down into a node, from
-    /// its parent or as the root; going up is none.
+    /// How many nodes were visited since it was set: at 2^64 - 1 the count stays. A visit is a step down into a node,
+    /// from its parent or as the root; going up is none.
     pub fn visits(&self) -> u64
         ensures { result ≡ self.now.visits }
     {

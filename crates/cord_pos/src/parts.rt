@@ -8,7 +8,8 @@ use crate::{Position, Spot};
 use cord_io::MAX_DEPTH;
 
 impl<'a> Position<'a> {
-    /// What the part that holds the index has from there on: none where the position is invalid. No byte is copied or read.
+    /// What the part that holds the index has from there on: none where the position is invalid. No byte is copied or
+    /// read.
     pub fn ahead(&self) -> Option<Stretch<'a>>
         ensures { IsAheadOf self.now.cord self.now.index result }
     {
@@ -19,8 +20,8 @@ impl<'a> Position<'a> {
         spot.part.node.stretch(from, spot.part.node.len())
     }
 
-    /// What the part that holds the index has up to there, with the byte at the index: none where the position is invalid. No byte
-    /// is copied or read.
+    /// What the part that holds the index has up to there, with the byte at the index: none where the position is
+    /// invalid. No byte is copied or read.
     pub fn behind(&self) -> Option<Stretch<'a>>
         ensures { IsBehindOf self.now.cord self.now.index result }
     {
@@ -31,9 +32,9 @@ impl<'a> Position<'a> {
         spot.part.node.stretch(0, to)
     }
 
-    /// To an index of the cord: past the end to none, and with none it stays. The way leads up to the last node that holds both
-    /// indices and down again. So from part to part, in order or in the order turned round, a move takes constant time, taken over
-    /// all of them.
+    /// To an index of the cord: past the end to none, and with none it stays. The way leads up to the last node that
+    /// holds both indices and down again. So from part to part, in order or in the order turned round, a move takes
+    /// constant time, taken over all of them.
     pub fn move_to(&mut self, index: u64)
         ensures cord { self.new.cord ≡ self.old.cord }
         ensures index { self.new.index ≡ moved_index self.old.cord self.old.index index }

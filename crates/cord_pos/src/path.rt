@@ -69,7 +69,8 @@ impl<'a> Path<'a> {
         self.descend(root, 0, index)
     }
 
-    /// From the part at the end of the path to the part that holds the index `at`: up to the last node that holds it, and down.
+    /// From the part at the end of the path to the part that holds the index `at`: up to the last node that holds it,
+    /// and down.
     pub(crate) fn go_to(&mut self, at: u64) -> Part<'a>
         requires on_way { IsOnWay (places self.old.stops.items) at }
         requires counted { self.old.visits.count ≤ u64.MAX }
@@ -125,7 +126,8 @@ impl<'a> Path<'a> {
         }
     }
 
-    // Goes up to the last node that holds the index `at` of the root's text, which visits nothing: that node, and where it begins.
+    // Goes up to the last node that holds the index `at` of the root's text, which visits nothing: that node, and where
+    // it begins.
     fn climb(&mut self, at: u64) -> Option<(Visited<'a>, u64)>
         ensures climb { IsClimb (places self.old.stops.items) (places self.new.stops.items) at }
         ensures found { MatchOption result (places self.new.stops.items ≡ [])

@@ -7,7 +7,8 @@ ghost use Rattle.cord_pos.specs.Stretches.{stretch_len, IsStretchAt, IsFrontOf};
 use cord_io::SourceId;
 use cord_node::Node;
 
-/// A text that lies in one part: bytes of a leaf, a byte `len` times, or `len` bytes of an entry of a source from place `start` on.
+/// A text that lies in one part: bytes of a leaf, a byte `len` times, or `len` bytes of an entry of a source from place
+/// `start` on.
 #[derive(Clone, Copy)]
 pub enum Stretch<'a> {
     Bytes(&'a [u8]),

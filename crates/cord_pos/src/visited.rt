@@ -1,6 +1,7 @@
-// Nodes that were visited. Elsewhere in the crate a node is a `Visited`, and a cord that is gone into a `Tree`; `stretch.rt` alone
-// is given a node, a part whose bytes it lends, and gives none out. The fields of the two are private to this file, and so is
-// what makes a `Visited`, which counts it. So the one way to a root, or from a node to its child, is a step that is counted.
+// Nodes that were visited. Elsewhere in the crate a node is a `Visited`, and a cord that is gone into a `Tree`;
+// `stretch.rt` alone is given a node, a part whose bytes it lends, and gives none out. The fields of the two are
+// private to this file, and so is what makes a `Visited`, which counts it. So the one way to a root, or from a node to
+// its child, is a step that is counted.
 ghost use Rattle.std.specs.Prelude.{◌≡◌, ◌+◌, ◌-◌, ◌<◌, ◌≤◌, min, true, is_err, is_some, IfOk, IfSome, Some, None};
 ghost use Rattle.std.specs.Prelude.{MatchOption};
 ghost use Rattle.cord_io.specs.Device.{Folder, count_after};
@@ -112,8 +113,8 @@ impl<'a> Visited<'a> {
         self.node.len()
     }
 
-    /// Steps down to the side that holds an index, if the node is no part. A step to the right reads the left side's length, which
-    /// is no visit.
+    /// Steps down to the side that holds an index, if the node is no part. A step to the right reads the left side's
+    /// length, which is no visit.
     pub(crate) fn step(self, index: u64, visits: &mut Visits) -> Option<Side<'a>>
         ensures side { MatchOption result (side_at (node_of self.entry) index ≡ None)
             (λ side. side_at (node_of self.entry) index ≡ Some (node_of side.node, side.offset)) }

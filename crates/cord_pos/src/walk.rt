@@ -7,8 +7,9 @@ use crate::Position;
 use cord_core::Cord;
 
 impl<'a> Position<'a> {
-    /// The position at this index of the cord, set at 0 and moved there by `next` alone. Its visits are one more than the
-    /// preorder number of the leaf that holds the index: each node that comes no later in the order was visited once.
+    /// The position at this index of the cord, set at 0 and moved there by `next` alone. Its visits are one more than
+    /// the preorder number of the leaf that holds the index: each node that comes no later in the order was visited
+    /// once.
     pub fn walk_to(cord: &'a Cord, index: u64) -> Position<'a>
         requires inside { index < text_len cord.now }
         ensures cord { result.cord ≡ cord.now }
@@ -22,8 +23,9 @@ impl<'a> Position<'a> {
         position
     }
 
-    /// The position at the last place of the cord, set at 0 and moved there by `next` alone; of the empty cord an invalid one.
-    /// Its visits are the number of all nodes in the cord, shared ones counted at each place: each was visited once.
+    /// The position at the last place of the cord, set at 0 and moved there by `next` alone; of the empty cord an
+    /// invalid one. Its visits are the number of all nodes in the cord, shared ones counted at each place: each was
+    /// visited once.
     pub fn walk_through(cord: &'a Cord) -> Position<'a>
         ensures cord { result.cord ≡ cord.now }
         ensures index { result.index ≡ index_at cord.now (text_len cord.now - 1) }

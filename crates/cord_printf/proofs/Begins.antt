@@ -73,8 +73,11 @@ not_allowed b m d p l r rest letter width flags precision q parts e f w point le
     let k = begun b m d p l r parts h in
     let c : Conversion = k.conversion in
     let same = same_letter r rest k.rest letter c.letter e k.same.rest in
-    let other : IsLettered c.letter (flags_of c.marks) (number_of c.digits) precision k.piece = lettered_of c precision k.piece (subst (λ x. IsPoint x precision) k.same.point point) k.spells in
-    let mine : IsLettered c.letter (flags_of c.marks) (number_of c.digits) precision q = same_lettered c.letter (number_of c.digits) (flags_of c.marks) letter width flags precision q same (ap flags_of (sym k.same.marks) ∙ sym f) (ap number_of (sym k.same.digits) ∙ sym w) lettered in
+    let other : IsLettered c.letter (flags_of c.marks) (number_of c.digits) precision k.piece =
+    lettered_of c precision k.piece (subst (λ x. IsPoint x precision) k.same.point point) k.spells in
+    let mine : IsLettered c.letter (flags_of c.marks) (number_of c.digits) precision q =
+    same_lettered c.letter (number_of c.digits) (flags_of c.marks) letter width flags precision q same
+    (ap flags_of (sym k.same.marks) ∙ sym f) (ap number_of (sym k.same.digits) ∙ sym w) lettered in
     let pieces : k.piece ≡ q = lettered-unique c.letter (number_of c.digits) (flags_of c.marks) precision k.piece q other mine in
     refused (same_allowed q k.piece m d p l c.marks c.digits c.point c.modifier pieces k.same.marks k.same.digits k.same.point
     k.same.modifier (allowed_of c k.piece k.spells))
@@ -96,7 +99,10 @@ converts b m d p l r rest letter width flags precision q parts e f w point lette
       point = point;
       modifier = parts.modifier_all;
     } in
-    let whole : b ≡ m ++ (d ++ (p ++ (l ++ letter ∷ rest))) = parts.marks_whole ∙ ap (λ x. m ++ x) (parts.digits_whole ∙ ap (λ x. d ++ x) (parts.dotted.0 ∙ ap (λ x. p ++ x) (parts.modifier_whole ∙ ap (λ x. l ++ x) e))) in (
+    let whole : b ≡ m ++ (d ++ (p ++ (l ++ letter ∷ rest))) =
+    parts.marks_whole
+    ∙ ap (λ x. m ++ x)
+    (parts.digits_whole ∙ ap (λ x. d ++ x) (parts.dotted.0 ∙ ap (λ x. p ++ x) (parts.modifier_whole ∙ ap (λ x. l ++ x) e))) in (
       c,
       spells_of c precision q has (same_lettered letter (number_of d) (flags_of m) letter width flags precision q refl (sym f)
           (sym w.0) lettered) allowed,

@@ -46,7 +46,8 @@ figures_step r n s bytes all some room h =
     let b : ℕ = base_of r in
     let f : ℕ → ℕ = figure r in
     let least = base_least r in
-    let last : map f (digits_of b n) ≡ map f (digits_of b (n / b)) ++ f (n % b) ∷ [] = ap (map f) (digits_of_step b n (omega arith) some) ∙ map-append f (digits_of b (n / b)) (n % b ∷ []) in
+    let last : map f (digits_of b n) ≡ map f (digits_of b (n / b)) ++ f (n % b) ∷ [] =
+    ap (map f) (digits_of_step b n (omega arith) some) ∙ map-append f (digits_of b (n / b)) (n % b ∷ []) in
     h ∙ ap (λ x. x ++ drop (s + 1) bytes) last ∙ append_assoc (map f (digits_of b (n / b))) (f (n % b) ∷ []) (drop (s + 1) bytes)
     ∙ ap (λ x. map f (digits_of b (n / b)) ++ x) (sym (drop-set bytes s (f (n % b)) room))
 
@@ -62,7 +63,8 @@ figures_before r n b v start bytes all base shown some within room h =
     let least = base_least r in
     let shorter = length-digits_of_step (base_of r) n (omega arith) some in
     let back : start ≡ (start - 1) + 1 = omega arith in
-    let step = figures_step r n (start - 1) bytes all some (omega arith) (h ∙ ap (λ x. map (figure r) (digits_of (base_of r) n) ++ drop x bytes) back) in
+    let step = figures_step r n (start - 1) bytes all some (omega arith)
+    (h ∙ ap (λ x. map (figure r) (digits_of (base_of r) n) ++ drop x bytes) back) in
     record {
       written = rw (shown, base) step;
       room = rw base (omega arith);

@@ -26,7 +26,8 @@ inner_length sign digits pad = simp (length-append, length-replicate) (omega ari
 zeros_between : (sign digits : List ℕ) (pad blanks : ℕ) → sign ++ replicate (pad + blanks) 48 ++ digits ++ [] ≡ sign ++ replicate blanks 48
     ++ (replicate pad 48 ++ digits)
 zeros_between sign digits pad blanks =
-    let run : replicate (pad + blanks) 48 ≡ replicate blanks 48 ++ replicate pad 48 = sym (replicate-append-replicate {A = ℕ} blanks pad 48 ∙ ap (λ n. replicate {A = ℕ} n 48) (omega arith)) in
+    let run : replicate (pad + blanks) 48 ≡ replicate blanks 48 ++ replicate pad 48 =
+    sym (replicate-append-replicate {A = ℕ} blanks pad 48 ∙ ap (λ n. replicate {A = ℕ} n 48) (omega arith)) in
     rw run (simp (append_assoc, append-nil))
 
 pub zero_layout : (flags : Flags) (width : ℕ) (precision sign : Option ℕ) (count pad blanks full : ℕ) →

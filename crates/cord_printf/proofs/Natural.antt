@@ -63,8 +63,10 @@ pub map-printed : {A B : Type 0} (f : A → B) (of_byte : ℕ → A) (pieces : L
     map f (printed of_byte pieces args) ≡ printed (λ b. f (of_byte b)) pieces (map (map_argument f) args)
 map-printed f of_byte [] args = refl
 map-printed f of_byte (p ∷ pieces) args =
-    let first = map-piece_text f of_byte p (argument_if (wants p) args) ∙ ap (piece_text (λ b. f (of_byte b)) p) (map-argument_if f (wants p) args) in
-    let rest = map-printed f of_byte pieces (others_if (wants p) args) ∙ ap (printed (λ b. f (of_byte b)) pieces) (map-others_if f (wants p) args) in
+    let first = map-piece_text f of_byte p (argument_if (wants p) args) ∙ ap (piece_text (λ b. f (of_byte b)) p)
+    (map-argument_if f (wants p) args) in
+    let rest = map-printed f of_byte pieces (others_if (wants p) args) ∙ ap (printed (λ b. f (of_byte b)) pieces)
+    (map-others_if f (wants p) args) in
     map-append f (piece_text of_byte p (argument_if (wants p) args)) (printed of_byte pieces (others_if (wants p) args)) ∙ cc (first, rest)
 
 same_refusal : {A B : Type 0} (f : A → B) (k : ℕ) (p : Piece) (a : Option (PieceArgument A)) →
@@ -88,7 +90,8 @@ pub first_refusal-map : {A B : Type 0} (f : A → B) (k : ℕ) (pieces : List Pi
 first_refusal-map f k [] args = refl
 first_refusal-map f k (p ∷ pieces) args =
     let here = ap (refusal k p) (sym (map-argument_if f (wants p) args)) ∙ same_refusal f k p (argument_if (wants p) args) in
-    let later = ap (first_refusal (k + count_if (wants p)) pieces) (sym (map-others_if f (wants p) args)) ∙ first_refusal-map f (k + count_if (wants p)) pieces (others_if (wants p) args) in
+    let later = ap (first_refusal (k + count_if (wants p)) pieces) (sym (map-others_if f (wants p) args))
+    ∙ first_refusal-map f (k + count_if (wants p)) pieces (others_if (wants p) args) in
     cc (here, later)
 
 -- and the kinds stay

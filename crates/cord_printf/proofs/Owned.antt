@@ -177,10 +177,16 @@ own_shown s p a text taken = own_length s ∙ ap (λ x. length x - length (body_
     own_length : (s : Shown) → shown_own s ≡ length (shown_text s) - length (body_taken s.body)
     own_length s =
         let front : length (map known (front_of s.layout)) ≡ length (front_of s.layout) = length-map (front_of s.layout) known in
-        let after : length (map known (replicate s.layout.after 32)) ≡ s.layout.after = length-map (replicate s.layout.after 32) known ∙ length-replicate s.layout.after 32 in
-        let body : length (body_text s.body ++ map known (replicate s.layout.after 32)) ≡ length (body_text s.body) + length (map known (replicate s.layout.after 32)) = length-append (body_text s.body) (map known (replicate s.layout.after 32)) in
-        let split : shown_text s ≡ map known (front_of s.layout) ++ (body_text s.body ++ map known (replicate s.layout.after 32)) = shown_split (map known (front_of s.layout)) (body_text s.body) (map known (replicate s.layout.after 32)) in
-        let all : length (shown_text s) ≡ length (map known (front_of s.layout)) + length (body_text s.body ++ map known (replicate s.layout.after 32)) = ap length split ∙ length-append (map known (front_of s.layout)) (body_text s.body ++ map known (replicate s.layout.after 32)) in
+        let after : length (map known (replicate s.layout.after 32)) ≡ s.layout.after =
+        length-map (replicate s.layout.after 32) known ∙ length-replicate s.layout.after 32 in
+        let body : length (body_text s.body ++ map known (replicate s.layout.after 32))
+        ≡ length (body_text s.body) + length (map known (replicate s.layout.after 32)) =
+        length-append (body_text s.body) (map known (replicate s.layout.after 32)) in
+        let split : shown_text s ≡ map known (front_of s.layout) ++ (body_text s.body ++ map known (replicate s.layout.after 32)) =
+        shown_split (map known (front_of s.layout)) (body_text s.body) (map known (replicate s.layout.after 32)) in
+        let all : length (shown_text s) ≡ length (map known (front_of s.layout)) + length
+        (body_text s.body ++ map known (replicate s.layout.after 32)) =
+        ap length split ∙ length-append (map known (front_of s.layout)) (body_text s.body ++ map known (replicate s.layout.after 32)) in
         omega (arith, front, after, body, all, body_length s.body)
 
 -- blanks, a sign and zeros
@@ -200,12 +206,17 @@ pub printing_step : (all : List Part) (own : ℕ) (made next given others ps res
     → IsPrintedFrom n (made ++ ps) next → IsPrinting all own next others after
 printing_step all own made next given others ps rest n left after h split k count step =
     let own_laws = printed_own in
-    let kept_parts : AreFromOr IsPrinted (made ++ ps) (made ++ given) = (start_from made given ps (made ++ ps) k (made_self IsPrinted own_laws (made ++ ps))).from_there in
-    let before : AreFromOr IsPrinted (made ++ (given ++ others)) all = subst (λ x. AreFromOr IsPrinted (made ++ x) all) split h.from_there in
+    let kept_parts : AreFromOr IsPrinted (made ++ ps) (made ++ given) =
+    (start_from made given ps (made ++ ps) k (made_self IsPrinted own_laws (made ++ ps))).from_there in
+    let before : AreFromOr IsPrinted (made ++ (given ++ others)) all =
+    subst (λ x. AreFromOr IsPrinted (made ++ x) all) split h.from_there in
     let there : AreFromOr IsPrinted ((made ++ given) ++ others) all = rw (append_assoc made given others) before in
     let mine : MadeOf IsPrinted 0 (made ++ given) (made ++ given) = made_self IsPrinted own_laws (made ++ given) in
-    let grown : AreFromOr IsPrinted next (made ++ given) = are_through IsPrinted own_laws next (made ++ ps) (made ++ given) step.from_there kept_parts in
-    let both : AreFromOr IsPrinted (next ++ others) ((made ++ given) ++ others) = are_both IsPrinted own_laws next others ((made ++ given) ++ others) (are_left IsPrinted own_laws next (made ++ given) others grown) (are_right IsPrinted own_laws others (made ++ given) others (are_self IsPrinted own_laws others)) in
+    let grown : AreFromOr IsPrinted next (made ++ given) =
+    are_through IsPrinted own_laws next (made ++ ps) (made ++ given) step.from_there kept_parts in
+    let both : AreFromOr IsPrinted (next ++ others) ((made ++ given) ++ others) =
+    are_both IsPrinted own_laws next others ((made ++ given) ++ others) (are_left IsPrinted own_laws next (made ++ given) others grown)
+    (are_right IsPrinted own_laws others (made ++ given) others (are_self IsPrinted own_laws others)) in
     record {
       no_more = omega (
         arith,

@@ -51,7 +51,8 @@ next : (place : ℕ) (pieces : List Piece) (i : ℕ) (p : Piece) (args others : 
     → IsNext place p (drop i pieces) (drop (i + 1) pieces) args others shown
 next place pieces i p args others a shown within is taken left text none are =
     let first = piece_at pieces i p within is in
-    let one = next_of place p (drop (i + 1) pieces) args (subst (λ x. refusal place p x ≡ None) taken none) (subst (λ x. AreWanted x args) first are) in
+    let one = next_of place p (drop (i + 1) pieces) args (subst (λ x. refusal place p x ≡ None) taken none)
+    (subst (λ x. AreWanted x args) first are) in
     rw (first, left, text, taken) one
 
 -- lengths are counted up to a greatest number
@@ -79,7 +80,8 @@ pub further : (all rest others : List Arg) (pieces : List Piece) (i : ℕ) (p : 
     → AreWanted (drop i pieces) (arguments_of rest) → length rest ≤ length all
     → IsFurther all rest others (drop i pieces) (drop (i + 1) pieces) shown
 further all rest others pieces i p a shown within is taken left text none are fewer =
-    let step = next (length all - length rest) pieces i p (arguments_of rest) (arguments_of others) a shown within is taken left text none are in
+    let step = next (length all - length rest) pieces i p (arguments_of rest) (arguments_of others) a shown within is taken left
+    text none are in
     let less = sym (ap (λ n. n + count_if (wants p)) (length-map others argument_of)) ∙ step.one_less ∙ length-map rest argument_of in
     record {
       wanted_are = step.wanted_are;

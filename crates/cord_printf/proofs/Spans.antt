@@ -40,8 +40,12 @@ pub record SameParts (m d p l r n e q k s : List ℕ) : Type 0 where
 
 pub parts-unique : (b m d p l r n e q k s : List ℕ) → AreParts b m d p l r → AreParts b n e q k s → SameParts m d p l r n e q k s
 parts-unique b m d p l r n e q k s x y =
-    let one = span-unique IsMark m x.after_marks n y.after_marks x.marks_all y.marks_all x.marks_end y.marks_end (sym x.marks_whole ∙ y.marks_whole) in
-    let two = span-unique IsDigit d x.after_digits e y.after_digits x.digits_all y.digits_all x.digits_end y.digits_end (sym x.digits_whole ∙ one.1 ∙ y.digits_whole) in
-    let three = dotted-unique x.after_digits p x.after_point q y.after_point x.dotted (subst (λ z. IsDotted z q y.after_point) (sym two.1) y.dotted) in
-    let four = span-unique (λ c. c ≡ 108) l r k s x.modifier_all y.modifier_all x.modifier_end y.modifier_end (sym x.modifier_whole ∙ three.1 ∙ y.modifier_whole) in
+    let one = span-unique IsMark m x.after_marks n y.after_marks x.marks_all y.marks_all x.marks_end y.marks_end
+    (sym x.marks_whole ∙ y.marks_whole) in
+    let two = span-unique IsDigit d x.after_digits e y.after_digits x.digits_all y.digits_all x.digits_end y.digits_end
+    (sym x.digits_whole ∙ one.1 ∙ y.digits_whole) in
+    let three = dotted-unique x.after_digits p x.after_point q y.after_point x.dotted
+    (subst (λ z. IsDotted z q y.after_point) (sym two.1) y.dotted) in
+    let four = span-unique (λ c. c ≡ 108) l r k s x.modifier_all y.modifier_all x.modifier_end y.modifier_end
+    (sym x.modifier_whole ∙ three.1 ∙ y.modifier_whole) in
     record { marks = one.0; digits = two.0; point = three.0; modifier = four.0; rest = four.1 }

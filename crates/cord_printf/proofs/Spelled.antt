@@ -140,9 +140,13 @@ pub spelled_parts : (c : Conversion) (rest : List ℕ) → IsSpelled c →
 spelled_parts c rest h =
     let three : List ℕ = c.modifier ++ c.letter ∷ rest in
     let two : List ℕ = c.point ++ three in
-    let three_digit : StartsNo IsDigit three = after_point IsDigit c.modifier rest c.letter h.modifier (λ d. omega (arith, d)) (not_digit c.letter h.last) in
-    let three_mark : StartsNo IsMark three = after_point IsMark c.modifier rest c.letter h.modifier (not_mark_of 108 (λ e. omega (arith, e)) (λ e. omega (arith, e)) (λ e. omega (arith, e))) (not_mark c.letter h.last) in
-    let three_dot : StartsNo (λ b. b ≡ 46) three = after_point (λ b. b ≡ 46) c.modifier rest c.letter h.modifier (λ e. omega (arith, e)) (not_dot c.letter h.last) in
+    let three_digit : StartsNo IsDigit three =
+    after_point IsDigit c.modifier rest c.letter h.modifier (λ d. omega (arith, d)) (not_digit c.letter h.last) in
+    let three_mark : StartsNo IsMark three =
+    after_point IsMark c.modifier rest c.letter h.modifier
+    (not_mark_of 108 (λ e. omega (arith, e)) (λ e. omega (arith, e)) (λ e. omega (arith, e))) (not_mark c.letter h.last) in
+    let three_dot : StartsNo (λ b. b ≡ 46) three =
+    after_point (λ b. b ≡ 46) c.modifier rest c.letter h.modifier (λ e. omega (arith, e)) (not_dot c.letter h.last) in
     record {
       after_marks = c.digits ++ two;
       after_digits = two;

@@ -108,5 +108,6 @@ pub length_of_print : (pieces : List Piece) (args : List Arg) (n : ℕ) → n �
     IsLengthOfPrint pieces args n
 length_of_print pieces args n e = λ t fit.
     let cells : List Cell = printed known pieces (arguments_of args) in
-    let bytes : map (byte_at t) cells ≡ printed (λ b. b) pieces (map (argument_over t) args) = map-printed (byte_at t) known pieces (arguments_of args) ∙ ap (printed (λ b. b) pieces) (arguments-over t args fit) in
+    let bytes : map (byte_at t) cells ≡ printed (λ b. b) pieces (map (argument_over t) args) =
+    map-printed (byte_at t) known pieces (arguments_of args) ∙ ap (printed (λ b. b) pieces) (arguments-over t args fit) in
     e ∙ sym (length-map cells (byte_at t)) ∙ ap length bytes

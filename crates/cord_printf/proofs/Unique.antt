@@ -68,8 +68,11 @@ conversions-unique b rest more p q h k =
     let point = point_of c p h.1 in
     let letters : c.letter ≡ d.letter = cc same.rest in
     let mine : IsLettered c.letter (flags_of c.marks) (number_of c.digits) point.0 p = lettered_of c point.0 p point.1 h.1 in
-    let yours : IsLettered d.letter (flags_of d.marks) (number_of d.digits) point.0 q = lettered_of d point.0 q (subst (λ x. IsPoint x point.0) same.point point.1) k.1 in
-    let theirs : IsLettered c.letter (flags_of c.marks) (number_of c.digits) point.0 q = same_lettered c.letter (number_of c.digits) (flags_of c.marks) d.letter (number_of d.digits) (flags_of d.marks) point.0 q letters (ap flags_of same.marks) (ap number_of same.digits) yours in
+    let yours : IsLettered d.letter (flags_of d.marks) (number_of d.digits) point.0 q =
+    lettered_of d point.0 q (subst (λ x. IsPoint x point.0) same.point point.1) k.1 in
+    let theirs : IsLettered c.letter (flags_of c.marks) (number_of c.digits) point.0 q =
+    same_lettered c.letter (number_of c.digits) (flags_of c.marks) d.letter (number_of d.digits) (flags_of d.marks) point.0 q letters
+    (ap flags_of same.marks) (ap number_of same.digits) yours in
     (lettered-unique c.letter (number_of c.digits) (flags_of c.marks) point.0 p q mine theirs, cc same.rest)
 
 -- one piece stands at the front, before one rest

@@ -29,8 +29,8 @@ const SHORT_RUN: usize = 64;
 // A join makes one leaf of two that are no longer than this together.
 const MOST_JOINED: usize = 64;
 
-/// A text that grows at its end: an extensible cord, which is made once it is wanted, and the bytes after it that are gathered
-/// without memory.
+/// A text that grows at its end: an extensible cord, which is made once it is wanted, and the bytes after it that are
+/// gathered without memory.
 #[derive(Drop)]
 pub struct Output {
     grown: Option<ExtCord>,
@@ -47,7 +47,11 @@ impl Model for Output {
 
     ghost coded = { coded_growth };
 
-    ghost view = { λ o. record { text = cells_of o.grown ++ map known o.gathered.items; parts = parts_in o.grown ++ leaf_parts o.gathered.items } };
+    ghost view = { λ o. record {
+      text = cells_of o.grown ++ map known o.gathered.items;
+      parts = parts_in o.grown
+          ++ leaf_parts o.gathered.items;
+    } };
 }
 
 impl Output {

@@ -25,7 +25,8 @@ run_length xs i n inside = length-take-le n (drop i xs) (let behind = length-dro
 -- a run of the first k bytes is one of them all
 pub run_of_first : (xs : List ℕ) (k i n : ℕ) → i + n ≤ length (take k xs) → run_of (take k xs) i n ≡ run_of xs i n
 run_of_first xs k i n inside =
-    let front = take k xs in let back = drop k xs in let rest : n ≤ length (drop i front) = let behind = length-drop i front in omega (arith, inside) in
+    let front = take k xs in let back = drop k xs in let rest : n ≤ length (drop i front) = let behind = length-drop i front in
+    omega (arith, inside) in
     sym (ap (λ ys. run_of ys i n) (sym (take-append-drop k xs)) ∙ ap (take n) (drop-append-le i front back (omega (arith, inside)))
     ∙ take-append-le n (drop i front) back rest)
 
@@ -55,7 +56,8 @@ module _ {M : Type 1} {𝓤 : Ura M} (𝓛 : Logic 𝓤) (q : Share) (xs : List 
   run_out =
       let front = take i xs in let run = run_of xs i n in let back = drop n (drop i xs) in
       let cut : xs ≡ front ++ (run ++ back) = sym (ap (λ t. front ++ t) (take-append-drop n (drop i xs)) ∙ take-append-drop i xs) in
-      let start : o + length front ≡ i + o = let long = front_long in omega arith in let end : i + o + length run ≡ i + o + n = ap (λ k. i + o + k) (run_length xs i n inside) in
+      let start : o + length front ≡ i + o = let long = front_long in omega arith in let end : i + o + length run ≡ i + o + n =
+      ap (λ k. i + o + k) (run_length xs i n inside) in
       qed 𝓛 (‵ (row u8 q xs b o) ∷ []) ∵ rewrite ! 0 (λ (ys : List ℕ). ‵ (row u8 q ys b o)) cut refl $
       use1 𝓛 (‵ (row u8 q front b o) ⊛ ‵ (row u8 q (run ++ back) b (o + length front))) (bytes_cut 𝓛 q front (run ++ back) b o) $ split ! $
       move ! (1 ∷ []) $
@@ -68,7 +70,8 @@ module _ {M : Type 1} {𝓤 : Ura M} (𝓛 : Logic 𝓤) (q : Share) (xs : List 
       (sem 𝓛 (row u8 q (with_run xs i n ys) b o))
   run_back ys long =
       let front = take i xs in let back = drop n (drop i xs) in
-      let start : i + o ≡ o + length front = let front_is = front_long in omega arith in let end : i + o + n ≡ i + o + length ys = ap (λ k. i + o + k) (sym long) in
+      let start : i + o ≡ o + length front = let front_is = front_long in omega arith in let end : i + o + n ≡ i + o + length ys =
+      ap (λ k. i + o + k) (sym long) in
       qed 𝓛 (‵ (row u8 q ys b (i + o)) ∷ ‵ around ∷ []) ∵ move ! (1 ∷ []) $ fsplit ! $ move ! (1 ∷ []) $ rewrite ! 0
       (λ (k : ℕ). ‵ (row u8 q back b k)) end refl $ move ! (2 ∷ 0 ∷ []) $
       use2 𝓛 (‵ (row u8 q (ys ++ back) b (i + o))) (bytes_glue 𝓛 q ys back b (i + o)) $ rewrite ! 0

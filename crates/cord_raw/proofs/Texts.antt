@@ -71,7 +71,8 @@ rest_behind : (xs ys : List ℕ) (start below rest : ℕ) → start + below ≤ 
     take rest (drop below (drop start xs ++ ys)) ≡ take rest ys
 rest_behind xs ys start below zero inside tight = refl
 rest_behind xs ys start below (suc r) inside tight =
-    let at_seam : length (drop start xs) ≡ below = length-drop start xs ∙ omega (arith, tight (omega arith)) in ap (take (suc r)) (drop_at (drop start xs) ys below at_seam)
+    let at_seam : length (drop start xs) ≡ below = length-drop start xs ∙ omega (arith, tight (omega arith)) in
+    ap (take (suc r)) (drop_at (drop start xs) ys below at_seam)
 
 -- a range that begins in the first text, of which rest bytes are in the second
 range_over_seam : (xs ys : List ℕ) (start below rest : ℕ) → start + below ≤ length xs → (0 < rest → start + below ≡ length xs)
@@ -96,7 +97,8 @@ from_next c i j within next =
 goes_behind : (c : Chain) (i k : ℕ) → IsFilled c → i ≤ length c.older → ROOM < k → k ≤ length (text (drop i (blocks_of c))) →
     (i < length c.older) × (length (text_of (block_at c i)) ≡ ROOM)
 goes_behind c i k filled within much there =
-    let more = goes_on c.older c.newest i k (omega (arith, filled.1, filled.2)) within much there in (more, full_at c.older c.newest i c.newest filled.0 more)
+    let more = goes_on c.older c.newest i k (omega (arith, filled.1, filled.2)) within much there in
+    (more, full_at c.older c.newest i c.newest filled.0 more)
 
 -- and all but a block's bytes stand in those
 pub left_behind : (c : Chain) (i j k : ℕ) → IsFilled c → i ≤ length c.older → j ≡ i + 1 → ROOM < k →
@@ -132,7 +134,8 @@ pub from_block : (c : Chain) (i j start run rest : ℕ) → IsFilled c → i ≤
     ≡ slice_range (text (drop i (blocks_of c))) start (start + (run + rest))
 from_block c i j start run rest filled within next fits tight there =
     let holds = holds_run c i (start + run) filled within fits (omega (arith, there)) in
-    let full : 0 < rest → length (text_of (block_at c i)) ≡ ROOM = λ some. (goes_behind c i (start + (run + rest)) filled within (omega (arith, tight some, some)) there).1 in
+    let full : 0 < rest → length (text_of (block_at c i)) ≡ ROOM =
+    λ some. (goes_behind c i (start + (run + rest)) filled within (omega (arith, tight some, some)) there).1 in
     range_over_seam (text_of (block_at c i)) (text (drop j (blocks_of c))) start run rest holds (λ some. tight some ∙ sym (full some))
     ∙ ap (λ xs. slice_range xs start (start + (run + rest))) (sym (from_next c i j within next))
 

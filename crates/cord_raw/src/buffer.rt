@@ -10,8 +10,8 @@ use std::rc::RcSlice;
 
 /// A list of at most `RawBuf::CAP` bytes that grows at its end.
 ///
-/// Its memory is a chain of at most 32 blocks of 128 bytes, of which all but the newest are full. It is freed once, when
-/// the buffer is dropped.
+/// Its memory is a chain of at most 32 blocks of 128 bytes, of which all but the newest are full. It is freed once,
+/// when the buffer is dropped.
 pub struct RawBuf {
     chain: Chain,
     len: usize,
@@ -27,7 +27,8 @@ impl Model for RawBuf {
 
     ghost view = { λ b. chain_text b.chain };
 
-    ghost invariant = { λ b. IsFilled b.chain × (b.len ≡ chain_len b.chain) × (b.len ≡ length (chain_text b.chain)) × (b.len ≤ ROOM * MOST_BLOCKS) };
+    ghost invariant = { λ b. IsFilled b.chain × (b.len ≡ chain_len b.chain) × (b.len ≡ length (chain_text b.chain))
+        × (b.len ≤ ROOM * MOST_BLOCKS) };
 }
 
 impl Drop for RawBuf {

@@ -97,7 +97,9 @@ pub same_on : (t : Table) (x : Option Node) (i : ℕ) (y : Option Node) (j done 
 same_on t x i y j done n piece other p q e f h s =
     let u = drop i (bytes_of t x) in
     let v = drop j (bytes_of t y) in
-    let next : take n (drop done u) ≡ take n (drop done v) = sym (piece_front (bytes_of t x) piece i done n e p) ∙ cmp_equal (take n piece) (take n other) (sym h) ∙ piece_front (bytes_of t y) other j done n f q in
+    let next : take n (drop done u) ≡ take n (drop done v) =
+    sym (piece_front (bytes_of t x) piece i done n e p) ∙ cmp_equal (take n piece) (take n other) (sym h)
+    ∙ piece_front (bytes_of t y) other j done n f q in
     take-add done n u ∙ ap (λ (zs : List ℕ). zs ++ take n (drop done u)) s ∙ ap (λ (zs : List ℕ). take done v ++ zs) next
     ∙ sym (take-add done n v)
 
@@ -136,7 +138,8 @@ pub no_different : (t : Table) (x : Option Node) (i a : ℕ) (y : Option Node) (
 no_different t x i a y j b done low high p q s =
     let u = drop i (bytes_of t x) in
     let v = drop j (bytes_of t y) in
-    let same : take done (take a u) ≡ take done (take b v) = take-take done a u (omega (arith, low)) ∙ s ∙ sym (take-take done b v (omega (arith, low))) in
+    let same : take done (take a u) ≡ take done (take b v) =
+    take-take done a u (omega (arith, low)) ∙ s ∙ sym (take-take done b v (omega (arith, low))) in
     ap (λ (k : ℕ). nat_cmp k b) (sym p) ∙ ap (λ (k : ℕ). nat_cmp (length (take a u)) k) (sym q)
     ∙ cmp_lengths (take a u) (take b v) done (omega (arith, p, q, high)) same
 
@@ -144,7 +147,8 @@ no_different t x i a y j b done low high p q s =
 pub range_len : (t : Table) (x : Option Node) (i a : ℕ) → length (bytes_of t x) ≡ text_len x → (0 < a → i + a ≤ text_len x) →
     length (take a (drop i (bytes_of t x))) ≡ a
 range_len t x i zero len inside = refl
-range_len t x i (suc a) len inside = let fits : i + suc a ≤ text_len x = inside (omega arith) in length-take-le (suc a) (drop i (bytes_of t x)) (omega (arith, fits, len, length-drop i (bytes_of t x)))
+range_len t x i (suc a) len inside = let fits : i + suc a ≤ text_len x = inside (omega arith) in
+    length-take-le (suc a) (drop i (bytes_of t x)) (omega (arith, fits, len, length-drop i (bytes_of t x)))
 
 -- the order of two texts as a number
 pub order_sign : (xs ys : List ℕ) → sign_of (slice_cmp nat_cmp xs ys) ≡ order xs ys
@@ -160,7 +164,8 @@ order_sign (b ∷ xs) (c ∷ ys) = pick (nat_lt b c) (nat_lt c b) (b == c) refl 
     pick false true true p q r ih = let more : c < b = ltb-true c b q in let same : b ≡ c = eqb-true b c r in absurd (omega arith)
     pick false true false p q r ih = refl
     pick false false true p q r ih = ih
-    pick false false false p q r ih = let one : c ≤ b = ltb-false b c p in let two : b ≤ c = ltb-false c b q in let e : b ≡ c = omega arith in absurd (eqb-false b c r e)
+    pick false false false p q r ih = let one : c ≤ b = ltb-false b c p in let two : b ≤ c = ltb-false c b q in let e : b ≡ c =
+        omega arith in absurd (eqb-false b c r e)
 
 -- a number that tells an order fits its type
 signed : (r : Ordering) → to_z w8 (of_z w8 (sign_of r)) ≡ sign_of r

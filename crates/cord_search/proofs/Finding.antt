@@ -21,7 +21,10 @@ use Rattle.cord_pos.specs.declared.stretch.Stretch.{Stretch}
 
 -- there is one first place
 same_first : (x s : List ℕ) (i : ℕ) (a b : Option ℕ) → IsFirst x i s a → IsFirst x i s b → a ≡ b
-same_first x s i (Some p) (Some q) (a, at, la) (b, bt, lb) = ⊎_elim (λ (lt : p < q). absurd (lb p a lt at)) (λ (le : q ≤ p). ⊎_elim (λ (lt : q < p). absurd (la q b lt bt)) (λ (ge : p ≤ q). let e : p ≡ q = omega arith in ap (λ (n : ℕ). Some n) e) (cases_lt q p)) (cases_lt p q)
+same_first x s i (Some p) (Some q) (a, at, la) (b, bt, lb) =
+    ⊎_elim (λ (lt : p < q). absurd (lb p a lt at))
+    (λ (le : q ≤ p). ⊎_elim (λ (lt : q < p). absurd (la q b lt bt)) (λ (ge : p ≤ q). let e : p ≡ q = omega arith in
+    ap (λ (n : ℕ). Some n) e) (cases_lt q p)) (cases_lt p q)
 same_first x s i (Some p) None (a, at, la) h = absurd (h p a at)
 same_first x s i None (Some q) h (b, bt, lb) = absurd (h q b bt)
 same_first x s i None None h k = refl
@@ -31,7 +34,10 @@ first_only x s i a h = same_first x s i a (first x i s) h (first_is_least x s i)
 
 -- and one last place
 same_last : (x : List ℕ) (i c : ℕ) (a b : Option ℕ) → IsLast x i c a → IsLast x i c b → a ≡ b
-same_last x i c (Some p) (Some q) (a, at, la) (b, bt, lb) = ⊎_elim (λ (lt : p < q). absurd (la q lt b bt)) (λ (le : q ≤ p). ⊎_elim (λ (lt : q < p). absurd (lb p lt a at)) (λ (ge : p ≤ q). let e : p ≡ q = omega arith in ap (λ (n : ℕ). Some n) e) (cases_lt q p)) (cases_lt p q)
+same_last x i c (Some p) (Some q) (a, at, la) (b, bt, lb) =
+    ⊎_elim (λ (lt : p < q). absurd (la q lt b bt))
+    (λ (le : q ≤ p). ⊎_elim (λ (lt : q < p). absurd (lb p lt a at)) (λ (ge : p ≤ q). let e : p ≡ q = omega arith in
+    ap (λ (n : ℕ). Some n) e) (cases_lt q p)) (cases_lt p q)
 same_last x i c (Some p) None (a, at, la) h = absurd (h p a at)
 same_last x i c None (Some q) h (b, bt, lb) = absurd (h q b bt)
 same_last x i c None None h k = refl
@@ -73,7 +79,8 @@ passes : (x xs : List ℕ) (c p q : ℕ) → xs ≡ take (length xs) (drop p x) 
     Passes (is_byte c) xs (q - p)
 passes x xs c p q e from to h =
     let m : p + (q - p) ≡ q = omega arith in
-    let there : get_or xs (q - p) 0 ≡ c = range_at x xs p (q - p) e (omega arith) ∙ ap (λ (k : ℕ). get_or x k 0) m ∙ get_or_from_slice_get x q c 0 h in
+    let there : get_or xs (q - p) 0 ≡ c =
+    range_at x xs p (q - p) e (omega arith) ∙ ap (λ (k : ℕ). get_or x k 0) m ∙ get_or_from_slice_get x q c 0 h in
     eq-eqb (get_or xs (q - p) 0) c there
 
 -- a byte that is found in a range stands in the text
@@ -98,7 +105,10 @@ pub first_found : (t : Table) (x : Option Node) (xs : List ℕ) (c from p k : �
 first_found t x xs c from p k r is h low e none =
     let text = bytes_of t x in
     let here : NoneBefore (Passes (is_byte c) xs) 0 (length xs) k × Passes (is_byte c) xs k = rw is at h in
-    let before : (q : ℕ) → from ≤ q → q < p + k → StandsAt text (c ∷ []) q → ⊥ = λ q low' to at. ⊎_elim (λ (lt : q < p). none q low' lt at) (λ (le : p ≤ q). let below : k < length xs = here.0.high in here.0.before (q - p) (omega arith) (omega arith) (passes text xs c p q e le (omega arith) (byte_there text c q at))) (cases_lt q p) in
+    let before : (q : ℕ) → from ≤ q → q < p + k → StandsAt text (c ∷ []) q → ⊥ =
+    λ q low' to at. ⊎_elim (λ (lt : q < p). none q low' lt at) (λ (le : p ≤ q). let below : k < length xs = here.0.high in
+    here.0.before (q - p) (omega arith) (omega arith) (passes text xs c p q e le (omega arith) (byte_there text c q at)))
+    (cases_lt q p) in
     first_only text (c ∷ []) from (Some (p + k)) (omega arith, byte_here text c (p + k) (found text xs c p k e here.0.high here.1), before)
 
 -- or at the end of the text
@@ -106,7 +116,8 @@ pub first_none : (t : Table) (x : Option Node) (c from p : ℕ) → text_len x �
     StandsNot t x (c ∷ []) from p → None ≡ first (bytes_of t x) from (c ∷ [])
 first_none t x c from p end len none =
     let text = bytes_of t x in
-    first_only text (c ∷ []) from None (λ q low at. let inside : q < length text = slice_get_within text q c (byte_there text c q at) in none q low (omega (arith, len, inside)) at)
+    first_only text (c ∷ []) from None (λ q low at. let inside : q < length text = slice_get_within text q c (byte_there text c q at) in
+    none q low (omega (arith, len, inside)) at)
 
 -- the same from after
 pub last_on : (t : Table) (x : Option Node) (xs : List ℕ) (c at p end : ℕ) (r : Option ℕ) → r ≡ None → IsLastByte (is_byte c) xs r →
@@ -123,7 +134,10 @@ last_found t x xs c at p k end r is h seam high e none =
     let text = bytes_of t x in
     let here : NoneAfter (Passes (is_byte c) xs) 0 (length xs) k × Passes (is_byte c) xs k = rw is at h in
     let below : k < length xs = here.0.high in
-    let behind : (q : ℕ) → p + k < q → q ≤ at → slice_get text q ≢ Some c = λ q low to there. ⊎_elim (λ (lt : q < end). here.0.after (q - p) (omega arith) (omega arith) (passes text xs c p q e (omega arith) (omega arith) there)) (λ (le : end ≤ q). none q le (omega arith) there) (cases_lt q end) in
+    let behind : (q : ℕ) → p + k < q → q ≤ at → slice_get text q ≢ Some c =
+    λ q low to there.
+    ⊎_elim (λ (lt : q < end). here.0.after (q - p) (omega arith) (omega arith)
+    (passes text xs c p q e (omega arith) (omega arith) there)) (λ (le : end ≤ q). none q le (omega arith) there) (cases_lt q end) in
     last_only text at c (Some (p + k)) (omega arith, found text xs c p k e below here.1, behind)
 
 pub last_none : (t : Table) (x : Option Node) (c at end : ℕ) → end ≤ 0 → HasNot t x c end (at + 1) → None ≡ last (bytes_of t x) at c
@@ -136,7 +150,9 @@ in_stretch t x p s c q fits sound h from to there =
     let text = bytes_of t x in
     let xs = stretch_bytes t s in
     let len : length text ≡ text_len x = sym (length-bytes t x sound fits) in
-    let long : length xs ≡ stretch_len s = ap (λ (ys : List ℕ). length ys) (h.text t fits) ∙ length-take-le (stretch_len s) (drop p text) (omega (arith, len, h.inside, length-drop p text)) in
+    let long : length xs ≡ stretch_len s =
+    ap (λ (ys : List ℕ). length ys) (h.text t fits) ∙ length-take-le (stretch_len s) (drop p text)
+    (omega (arith, len, h.inside, length-drop p text)) in
     let range : xs ≡ take (length xs) (drop p text) = h.text t fits ∙ ap (λ (k : ℕ). take k (drop p text)) (sym long) in
     let m : p + (q - p) ≡ q = omega arith in
     slice_get-get_or xs (q - p) 0 (omega (arith, long, from, to))

@@ -36,7 +36,8 @@ pub common_on : (t : Table) (x : Option Node) (i : ℕ) (y : Option Node) (j don
 common_on t x i y j done n piece other p q e f h s =
     let u = drop i (bytes_of t x) in
     let v = drop j (bytes_of t y) in
-    let next : take n (drop done u) ≡ take n (drop done v) = sym (piece_front (bytes_of t x) piece i done n e p) ∙ h ∙ piece_front (bytes_of t y) other j done n f q in
+    let next : take n (drop done u) ≡ take n (drop done v) =
+    sym (piece_front (bytes_of t x) piece i done n e p) ∙ h ∙ piece_front (bytes_of t y) other j done n f q in
     take-add done n u ∙ ap (λ (zs : List ℕ). zs ++ take n (drop done u)) s ∙ ap (λ (zs : List ℕ). take done v ++ zs) next
     ∙ sym (take-add done n v)
 
@@ -58,7 +59,10 @@ pub common_all : (t : Table) (x : Option Node) (i : ℕ) (y : Option Node) (j mo
     AreSame t x i y j done → IsCommon t x i y j most done
 common_all t x i y j most done le ge s = record { within = le; same = s; differ = λ lt. absurd (omega (arith, lt, ge)) }
 
-module _ (t : Table) (x s : Option Node) (place period count run : ℕ) (len : length (bytes_of t x) ≡ text_len x) (pattern_len : length (bytes_of t s) ≡ text_len s) (inside : period ≤ text_len s) (repeats : IsCommon t s 0 s period (text_len s - period) count) (runs : IsCommon t x place x (place + period) (text_len x - (place + period)) run) where
+module _ (t : Table) (x s : Option Node) (place period count run : ℕ) (len : length (bytes_of t x) ≡ text_len x)
+    (pattern_len : length (bytes_of t s) ≡ text_len s) (inside : period ≤ text_len s)
+    (repeats : IsCommon t s 0 s period (text_len s - period) count)
+    (runs : IsCommon t x place x (place + period) (text_len x - (place + period)) run) where
   -- what the text has at two places of the pattern, one a period after the other
   here : (q k : ℕ) → StandsAt (bytes_of t x) (bytes_of t s) q → k + period < text_len s →
       get_or (bytes_of t x) (q + k) 0 ≡ get_or (bytes_of t s) k 0

@@ -34,7 +34,8 @@ within_bytes n place m at k t w f h = ap (λ (j : ℕ). take k (drop j (bytes_ov
 pub spots_alike : (n : Node) (i : ℕ) (m : Node) (a : ℕ) (o : Node) (j : ℕ) (l : Node) (b k : ℕ) → IsWithin n i m a → IsWithin o j l b →
     a ≡ b → len_of m ≡ len_of l → cells m ≡ cells l → a + k ≤ len_of m → AreAlike (Some n) i (Some o) j k
 spots_alike n i m a o j l b k v w here long one h = λ t f g.
-    let same : bytes_over t m ≡ bytes_over t l = bytes-cells t m (v.fits (lengths_of t) f) ∙ ap (λ (xs : List Cell). map (byte_at t) xs) one ∙ sym (bytes-cells t l (w.fits (lengths_of t) g)) in
+    let same : bytes_over t m ≡ bytes_over t l = bytes-cells t m (v.fits (lengths_of t) f) ∙ ap (λ (xs : List Cell). map (byte_at t) xs) one
+    ∙ sym (bytes-cells t l (w.fits (lengths_of t) g)) in
     within_bytes n i m a k t v f h ∙ ap (λ (xs : List ℕ). take k (drop a xs)) same ∙ ap (λ (q : ℕ). take k (drop q (bytes_over t l))) here
     ∙ sym (within_bytes o j l b k t w g (omega (arith, here, long, h)))
 
@@ -56,12 +57,15 @@ pub alike_add : (c : Option Node) (i : ℕ) (d : Option Node) (j k n : ℕ) → 
 alike_add c i d j k n h g = λ t f e.
     let u = drop i (bytes_of t c) in
     let v = drop j (bytes_of t d) in
-    let next : take n (drop k u) ≡ take n (drop k v) = ap (λ (ys : List ℕ). take n ys) (drop-drop k i (bytes_of t c)) ∙ g t f e ∙ ap (λ (ys : List ℕ). take n ys) (sym (drop-drop k j (bytes_of t d))) in
+    let next : take n (drop k u) ≡ take n (drop k v) =
+    ap (λ (ys : List ℕ). take n ys) (drop-drop k i (bytes_of t c)) ∙ g t f e
+    ∙ ap (λ (ys : List ℕ). take n ys) (sym (drop-drop k j (bytes_of t d))) in
     take-add k n u ∙ ap (λ (zs : List ℕ). zs ++ take n (drop k u)) (h t f e) ∙ ap (λ (zs : List ℕ). take k v ++ zs) next
     ∙ sym (take-add k n v)
 
 -- two stretches of the same bytes
-pub same_begin : (s other : Stretch) (xs ys : List ℕ) → ((t : Table) → stretch_bytes t s ≡ xs) → ((t : Table) → stretch_bytes t other ≡ ys) →
+pub same_begin : (s other : Stretch) (xs ys : List ℕ) → ((t : Table) → stretch_bytes t s ≡ xs) →
+    ((t : Table) → stretch_bytes t other ≡ ys) →
     xs ≡ ys → BeginAlike s other
 same_begin s other xs ys e f h = λ t n le more. ap (λ (zs : List ℕ). take n zs) (e t ∙ h ∙ sym (f t))
 
@@ -95,6 +99,8 @@ pub alike_on : (ls : Lengths) (t : Table) (x : Option Node) (i : ℕ) (y : Optio
 alike_on ls t x i y j done n told f g alike same =
     let u = drop i (bytes_of t x) in
     let v = drop j (bytes_of t y) in
-    let next : take n (drop done u) ≡ take n (drop done v) = ap (λ (ys : List ℕ). take n ys) (drop-drop done i (bytes_of t x)) ∙ alike t (cord_told ls t x told f) (cord_told ls t y told g) ∙ ap (λ (ys : List ℕ). take n ys) (sym (drop-drop done j (bytes_of t y))) in
+    let next : take n (drop done u) ≡ take n (drop done v) =
+    ap (λ (ys : List ℕ). take n ys) (drop-drop done i (bytes_of t x)) ∙ alike t (cord_told ls t x told f) (cord_told ls t y told g)
+    ∙ ap (λ (ys : List ℕ). take n ys) (sym (drop-drop done j (bytes_of t y))) in
     take-add done n u ∙ ap (λ (zs : List ℕ). zs ++ take n (drop done u)) same ∙ ap (λ (zs : List ℕ). take done v ++ zs) next
     ∙ sym (take-add done n v)

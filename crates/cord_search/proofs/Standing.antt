@@ -31,7 +31,8 @@ pub filled_on : (t : Table) (c : Option Node) (place done k n : ℕ) (out part :
     IsPieceOf t c (place + done) part → length part ≡ n → done ≤ length out → IsFilled t c place (done + n) (put_mid done k out part)
 filled_on t c place done k n out part h e long q =
     let x = drop place (bytes_of t c) in
-    let next : part ≡ take n (drop done x) = sym (take_all n part (omega (arith, long))) ∙ piece_front (bytes_of t c) part place done n e (omega (arith, long)) in
+    let next : part ≡ take n (drop done x) =
+    sym (take_all n part (omega (arith, long))) ∙ piece_front (bytes_of t c) part place done n e (omega (arith, long)) in
     take-put_mid done k out part (done + n) (omega (arith, long)) q ∙ ap (λ (ys : List ℕ). ys ++ part) h
     ∙ ap (λ (ys : List ℕ). take done x ++ ys) next ∙ sym (take-add done n x)
 
@@ -116,8 +117,11 @@ misfit_on ls t x start place n stretch head told sound fits h misfit none =
     differ q at le d =
         let xs = bytes_of t x in
         let text = h.text t (cord_told ls t x told fits) in
-        let long : length (stretch_bytes t stretch) ≡ stretch_len stretch = ap (λ (ys : List ℕ). length ys) text ∙ length-take-le (stretch_len stretch) (drop place xs) (omega (arith, h.inside, cord_len ls t x told sound fits, length-drop place xs)) in
-        let range : stretch_bytes t stretch ≡ take (length (stretch_bytes t stretch)) (drop place xs) = text ∙ ap (λ (k : ℕ). take k (drop place xs)) (sym long) in
+        let long : length (stretch_bytes t stretch) ≡ stretch_len stretch =
+        ap (λ (ys : List ℕ). length ys) text ∙ length-take-le (stretch_len stretch) (drop place xs)
+        (omega (arith, h.inside, cord_len ls t x told sound fits, length-drop place xs)) in
+        let range : stretch_bytes t stretch ≡ take (length (stretch_bytes t stretch)) (drop place xs) =
+        text ∙ ap (λ (k : ℕ). take k (drop place xs)) (sym long) in
         let here : place + (q - place + d.at) ≡ q + d.at = omega (arith, le) in
         d.differs (range_at xs (stretch_bytes t stretch) place (q - place + d.at) range (omega (arith, long, d.within))
         ∙ ap (λ (k : ℕ). get_or xs k 0) here ∙ stands_get xs head q d.at at d.inside)
@@ -126,7 +130,8 @@ misfit_on ls t x start place n stretch head told sound fits h misfit none =
 pub stands_on : (t : Table) (x s : Option Node) (start place : ℕ) → IsStanding t x place s false →
     StandsNot t x (bytes_of t s) start place → StandsNot t x (bytes_of t s) start (place + 1)
 stands_on t x s start place h none =
-    λ k low to at. ⊎_elim (λ (lt : k < place). none k low lt at) (λ (le : place ≤ k). let same : k ≡ place = omega arith in h (subst (λ (n : ℕ). StandsAt (bytes_of t x) (bytes_of t s) n) same at)) (cases_lt k place)
+    λ k low to at. ⊎_elim (λ (lt : k < place). none k low lt at) (λ (le : place ≤ k). let same : k ≡ place = omega arith in
+    h (subst (λ (n : ℕ). StandsAt (bytes_of t x) (bytes_of t s) n) same at)) (cases_lt k place)
 
 -- the first place
 pub stands_first : (t : Table) (x s : Option Node) (start place : ℕ) → start ≤ place → IsStanding t x place s true →
@@ -154,14 +159,16 @@ front_stands x s head q f at = record {
 pub front_on : (t : Table) (x s : Option Node) (start place q : ℕ) (head : List ℕ) → Some q ≡ first (bytes_of t x) place head →
     IsPieceOf t s 0 head → StandsNot t x (bytes_of t s) start place → StandsNot t x (bytes_of t s) start q
 front_on t x s start place q head is f none =
-    let least : IsFirst (bytes_of t x) place head (Some q) = subst (λ (r : Option ℕ). IsFirst (bytes_of t x) place head r) (sym is) (first_is_least (bytes_of t x) head place) in
+    let least : IsFirst (bytes_of t x) place head (Some q) =
+    subst (λ (r : Option ℕ). IsFirst (bytes_of t x) place head r) (sym is) (first_is_least (bytes_of t x) head place) in
     λ k low to at. ⊎_elim (λ (lt : k < place). none k low lt at)
     (λ (le : place ≤ k). least.2 k le to (front_stands (bytes_of t x) (bytes_of t s) head k f at)) (cases_lt k place)
 
 pub front_none : (t : Table) (x s : Option Node) (start place : ℕ) (head : List ℕ) → None ≡ first (bytes_of t x) place head →
     IsPieceOf t s 0 head → StandsNot t x (bytes_of t s) start place → None ≡ first (bytes_of t x) start (bytes_of t s)
 front_none t x s start place head is f none =
-    let least : IsFirst (bytes_of t x) place head None = subst (λ (r : Option ℕ). IsFirst (bytes_of t x) place head r) (sym is) (first_is_least (bytes_of t x) head place) in
+    let least : IsFirst (bytes_of t x) place head None =
+    subst (λ (r : Option ℕ). IsFirst (bytes_of t x) place head r) (sym is) (first_is_least (bytes_of t x) head place) in
     first_only (bytes_of t x) (bytes_of t s) start None (λ k low at.
     ⊎_elim (λ (lt : k < place). none k low lt at) (λ (le : place ≤ k).
     least k le (front_stands (bytes_of t x) (bytes_of t s) head k f at)) (cases_lt k place))
@@ -194,7 +201,8 @@ pub order_stands : (t : Table) (x s : Option Node) (place n m : ℕ) (r : Orderi
     IsOrderOf t x place n s 0 m r → IsStanding t x place s true
 order_stands t x s place n m r is inside d e p q h =
     let y = drop place (bytes_of t x) in
-    let same : take n y ≡ bytes_of t s = cmp_equal (take n y) (take m (bytes_of t s)) (sym h ∙ is) ∙ take_all m (bytes_of t s) (omega (arith, e, q)) in
+    let same : take n y ≡ bytes_of t s =
+    cmp_equal (take n y) (take m (bytes_of t s)) (sym h ∙ is) ∙ take_all m (bytes_of t s) (omega (arith, e, q)) in
     record {
       within = omega (arith, p, inside);
       rest = drop n y;

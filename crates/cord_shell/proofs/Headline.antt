@@ -98,7 +98,8 @@ refused_memory a refusal is status tells = (
 )
 
 module _ (keeps : Folder → Type 0) (folder : Folder) (kept : keeps folder) (path : List ℕ) (u : Bool) (a : Answer) where
-  module _ (one : OneScript) (sound : ReadHasNoFlaw) (b : List ℕ) (ss : List Statement) (at : file_at folder path ≡ Some b) (reads : Reads b ss) where
+  module _ (one : OneScript) (sound : ReadHasNoFlaw) (b : List ℕ) (ss : List Statement) (at : file_at folder path ≡ Some b)
+      (reads : Reads b ss) where
     same_bytes : (c : List ℕ) → file_at folder path ≡ Some c → c ≡ b
     same_bytes c other = same_some (sym other ∙ at)
 
@@ -235,7 +236,8 @@ tells_of_new message said old n failed ended taken h =
     (subst (λ (k : ℕ). Tells old said (record n { failed_before = 0; ended_before = k }) message) ended
     (subst (λ (k : ℕ). Tells old said (record n { failed_before = k }) message) failed h))
 
-module _ (keeps : Folder → Type 0) (words : List (List ℕ)) (a : Answer) (drove : Drove keeps words a) (folder : Folder) (kept : keeps folder) (path : List ℕ) where
+module _ (keeps : Folder → Type 0) (words : List (List ℕ)) (a : Answer) (drove : Drove keeps words a) (folder : Folder)
+    (kept : keeps folder) (path : List ℕ) where
   pub runs_over : OneScript → ReadHasNoFlaw → (b : List ℕ) (unplanned : Bool) (ss : List Statement) → AsksFor words path unplanned false
       → file_at folder path ≡ Some b → Reads b ss → RunsOver ss folder a
   runs_over one sound b unplanned ss asks at reads =

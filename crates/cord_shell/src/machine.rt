@@ -35,10 +35,10 @@ pub struct Ran<R: rt::Files, O, E> {
 /// `[--unplanned] [--show-plan] SCRIPT`, as clap reads them. It is judged by what the machine told: by each folder with
 /// which all answers of the machine's files agree, and by the bytes that the streams told they took.
 ///
-/// `run`: where the bytes at SCRIPT are read as a script, the script is run. Standard output took exactly the bytes that
-/// the script puts over the folder, and the status and the line on standard error are those of the script's end. Or it
-/// took a prefix of those bytes, and they are those of the cause that came: a failed read, a failed write, or want
-/// of memory.
+/// `run`: where the bytes at SCRIPT are read as a script, the script is run. Standard output took exactly the bytes
+/// that the script puts over the folder, and the status and the line on standard error are those of the script's end.
+/// Or it took a prefix of those bytes, and they are those of the cause that came: a failed read, a failed write, or
+/// want of memory.
 /// `shown`: with `--show-plan` standard output took the text of its plan, or a prefix where it failed, and nothing
 /// was run.
 /// `refused`: bytes that no script has are refused for their first flaw, and nothing is written.

@@ -1,7 +1,8 @@
 -- The statement of a line and of a family's member.
 use Rattle.std.specs.Prelude.{ℕ}
 use Rattle.cord_syntax.specs.declared.families.Family.{Family}
-use Rattle.cord_syntax.specs.declared.families.Family.TheVariants.{Origin, Composition, Derivation, Computation, Look, Search, Growth, Control}
+use Rattle.cord_syntax.specs.declared.families.Family.TheVariants.{Origin, Composition, Derivation, Computation, Look, Search, Growth}
+use Rattle.cord_syntax.specs.declared.families.Family.TheVariants.{Control}
 use Rattle.cord_syntax.specs.declared.families.Family.TheVariants as families
 use Rattle.cord_syntax.specs.declared.families.Origin.TheVariants as origins
 use Rattle.cord_syntax.specs.declared.families.Composition.TheVariants as compositions

@@ -212,7 +212,8 @@ pub enum Statement {
         line: u32,
         count: Number,
     },
-    /// `if a r b`: where a r b holds the lines up to its `else` or `end` are run, else those between its `else` and its `end`.
+    /// `if a r b`: where a r b holds the lines up to its `else` or `end` are run, else those between its `else` and its
+    /// `end`.
     If {
         line: u32,
         left: Number,

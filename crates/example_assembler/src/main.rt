@@ -1,7 +1,7 @@
 //! A text assembler: it puts a text together from a template, files and values, and writes a part of it.
 //!
-//! `example_assembler TEMPLATE FROM COUNT [NAME=VALUE]..` writes COUNT bytes of the text, from byte FROM on. The template
-//! is a text in which braces stand for something else:
+//! `example_assembler TEMPLATE FROM COUNT [NAME=VALUE]..` writes COUNT bytes of the text, from byte FROM on. The
+//! template is a text in which braces stand for something else:
 //!
 //! | in the template | in the text |
 //! |---|---|
@@ -21,11 +21,12 @@
 //!
 //! - `Sources` gives files as entries by number, of which nothing is read before it is wanted. A cord over an entry is
 //!   one node, whatever the length of the file.
-//! - A text that stands n times is made by doubling and shares itself: at most two nodes for each bit of n. So the text of
-//!   560 gigabytes is about fifty nodes.
+//! - A text that stands n times is made by doubling and shares itself: at most two nodes for each bit of n. So the text
+//!   of 560 gigabytes is about fifty nodes.
 //! - A range of it is cut by going down from the root once, and `put` writes it in pieces of at most 64 KiB, so memory
 //!   stays the same whether a line is written or all.
-//! - The contract of `write_range` says what is written, over any files: that range of the meaning of the template's segments.
+//! - The contract of `write_range` says what is written, over any files: that range of the meaning of the template's
+//!   segments.
 #![tactic(auto)]
 
 mod assemble;

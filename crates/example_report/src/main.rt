@@ -6,8 +6,8 @@
 //! apples,120,35
 //! ```
 //!
-//! The report has five rows a page. Each page has a head with its number and that of all pages, and ends with the sum so
-//! far; the last one ends with the total, and after it come the lines that are no records, each with what is wrong.
+//! The report has five rows a page. Each page has a head with its number and that of all pages, and ends with the sum
+//! so far; the last one ends with the total, and after it come the lines that are no records, each with what is wrong.
 //! `rt try` runs the program on the records in the file `stdin`, unproved, and `rt run` proves it first.
 //!
 //! What it shows of the library:

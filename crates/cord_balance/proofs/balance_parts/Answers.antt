@@ -23,8 +23,10 @@ loop-rope-init c = record {
 
 pub loop-rope-preserved : goal.loop-rope-preserved
 loop-rope-preserved c =
-    let e : drop c.loop-rope.rope-index c.args.ropes.now ≡ c.rope-item.result ∷ drop (c.loop-rope.rope-index + 1) c.args.ropes.now = rw c.rope-item.is (drop_more c.args.ropes.now c.loop-rope.rope-index c.rope-item.result (omega arith)) in
-    let i : IsFilling c.args.ropes.now (c.rope-item.result ∷ drop (c.loop-rope.rope-index + 1) c.args.ropes.now) c.loop-rope.forest.items = rw (← e) c.loop-rope.invariant.filling in
+    let e : drop c.loop-rope.rope-index c.args.ropes.now ≡ c.rope-item.result ∷ drop (c.loop-rope.rope-index + 1) c.args.ropes.now =
+    rw c.rope-item.is (drop_more c.args.ropes.now c.loop-rope.rope-index c.rope-item.result (omega arith)) in
+    let i : IsFilling c.args.ropes.now (c.rope-item.result ∷ drop (c.loop-rope.rope-index + 1) c.args.ropes.now) c.loop-rope.forest.items =
+    rw (← e) c.loop-rope.invariant.filling in
     record {
       filling = filling_step c.args.ropes.now c.rope-item.result (drop (c.loop-rope.rope-index + 1) c.args.ropes.now)
           c.loop-rope.forest.items c.insert_once.new.forest.items i c.in_ok-insert_once.ensures.rest c.in_ok-insert_once.ensures.text

@@ -3,7 +3,8 @@ ghost use Rattle.std.specs.Prelude.{◌≡◌, ◌≤◌, length};
 
 use cord_io::{ReadFault, Source, SourceId};
 
-// A source whose entry 2 is these bytes: it reads so often, and then every read fails, as does one that goes past `cut`.
+// A source whose entry 2 is these bytes: it reads so often, and then every read fails, as does one that goes past
+// `cut`.
 #[derive(Drop)]
 pub(super) struct Entry<'a> {
     pub(super) bytes: &'a [u8],

@@ -139,8 +139,8 @@ fn refused_cat(rt: HostRuntime) {
     expect_text(&rt, &whole, b"abcdddd");
 }
 
-// Joins cords of these texts, of which the first is 60 deep. 18 is the slot of 4,030 bytes, between the Fibonacci numbers 2,584
-// and 4,181.
+// Joins cords of these texts, of which the first is 60 deep. 18 is the slot of 4,030 bytes, between the Fibonacci
+// numbers 2,584 and 4,181.
 fn cat_that_balances(rt: &impl Abort, alloc: Global, front: &[u8], last: &[u8]) -> Cord {
     let left = deep(rt, alloc, front);
     let right = cord_of(rt, alloc, last);

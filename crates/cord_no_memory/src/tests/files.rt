@@ -42,8 +42,8 @@ fn two_files(rt: &impl Abort, alloc: Global) -> MemFiles
     files
 }
 
-// Adds `newer` at a path; the files are these then, and "a" and "b" as they were after a refusal. Files are added only before any
-// is read: so one run looks at what a refusal left, and one makes the call again.
+// Adds `newer` at a path; the files are these then, and "a" and "b" as they were after a refusal. Files are added only
+// before any is read: so one run looks at what a refusal left, and one makes the call again.
 fn add(rt: &impl Abort, alloc: Global, path: &str, after: &Folder) {
     let before = [
         ("a", Some(b"old".as_slice())),

@@ -30,7 +30,8 @@ fn refused_to_vec(rt: HostRuntime) {
     expect_bytes(&rt, &text, b"abccd");
 }
 
-// Puts the cord "abccd". A sink that found no memory has taken nothing of the one leaf, and takes it when it is offered again.
+// Puts the cord "abccd". A sink that found no memory has taken nothing of the one leaf, and takes it when it is offered
+// again.
 fn put_text(rt: &impl Abort, alloc: Global, sources: &mut Sources<MemFiles>, sink: &mut MemSink) {
     let cord = again!(rt, Cord::from_bytes(alloc, b"abccd"));
     if let Err(error) = put(&cord, sources, sink) {

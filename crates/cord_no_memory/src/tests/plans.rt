@@ -19,7 +19,8 @@ struct Planned {
 const SEAM: Planned = Planned {
     script: "let a \"abc\"\nlet b \"def\"\ncat t a b\nsubstr z t 2 3\nput z",
     lines: 5,
-    planned: "1 build a literal(3)\n2 build b literal(3)\n3 measure t cat(a b)\n4 measure z sub(cat(a b) 2 3)\n5 write sub(cat(a b) 2 3)\n",
+    planned: "1 build a literal(3)\n2 build b literal(3)\n3 measure t cat(a b)\n4 measure z sub(cat(a b) 2 3)\n\
+        5 write sub(cat(a b) 2 3)\n",
     unplanned: "1 build a literal(3)\n2 build b literal(3)\n3 build t cat(a b)\n4 build z sub(t 2 3)\n5 write z\n",
 };
 
@@ -33,8 +34,10 @@ const NEXT_TURN: Planned = Planned {
 const BOTH_ASSIGN: Planned = Planned {
     script: "let x \"a\"\nlen n x\nif n eq 1\nlet x \"b\"\nelse\nlet x \"c\"\nend\nput x",
     lines: 8,
-    planned: "1 measure x literal(1)\n2 number n len(x)\n3 if n eq 1\n4 build x literal(1)\n5 else\n6 build x literal(1)\n7 end\n8 write x\n",
-    unplanned: "1 build x literal(1)\n2 number n len(x)\n3 if n eq 1\n4 build x literal(1)\n5 else\n6 build x literal(1)\n7 end\n8 write x\n",
+    planned: "1 measure x literal(1)\n2 number n len(x)\n3 if n eq 1\n4 build x literal(1)\n5 else\n\
+        6 build x literal(1)\n7 end\n8 write x\n",
+    unplanned: "1 build x literal(1)\n2 number n len(x)\n3 if n eq 1\n4 build x literal(1)\n5 else\n\
+        6 build x literal(1)\n7 end\n8 write x\n",
 };
 
 // That a plan shows a text to a new sink.
@@ -131,15 +134,16 @@ fn jumps_of(rt: &impl Abort, alloc: Global, made: &Plan, count: usize) -> Vec<us
     }
 }
 
-// A `repeat` leads after its `end`, an `if` after its `else` or to its `end`, an `else` to its `end`, and any other to the next
-// place.
+// A `repeat` leads after its `end`, an `if` after its `else` or to its `end`, an `else` to its `end`, and any other to
+// the next place.
 #[test]
 fn refused_jumps(rt: HostRuntime) {
     let alloc = rt.alloc();
     let script = read(
         &rt,
         alloc,
-        "let x \"a\"\nrepeat 2\nlen n x\nif n eq 1\nlet x \"b\"\nelse\nlet x \"c\"\nend\nif n gt 1\nput x\nend\nend\nput x",
+        "let x \"a\"\nrepeat 2\nlen n x\nif n eq 1\nlet x \"b\"\nelse\nlet x \"c\"\nend\nif n gt 1\nput x\nend\n\
+            end\nput x",
         13,
     );
     let made = again!(&rt, Plan::trivial(alloc, &script));

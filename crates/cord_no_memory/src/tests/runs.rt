@@ -7,7 +7,8 @@ use cord_script::Refusal;
 use std::alloc::Global;
 use std::process::Abort;
 
-// A script in which no loop puts, how many lines it has, the line and the bytes of each `put`, and the bytes of the file "f".
+// A script in which no loop puts, how many lines it has, the line and the bytes of each `put`, and the bytes of the
+// file "f".
 #[derive(Drop)]
 struct Run<'a> {
     script: &'a str,
@@ -113,7 +114,8 @@ fn run_both(rt: &impl Abort, alloc: Global, run: &Run) {
 #[test]
 fn refused_doubled_thirty_times(rt: HostRuntime) {
     let run = Run {
-        script: "let x \"ab\"\nrepeat 30\ncat x x x\nend\nlen n x\nfetch c x 2147483647\nsprintf z \"%d %c\" n c\nput z",
+        script: "let x \"ab\"\nrepeat 30\ncat x x x\nend\nlen n x\nfetch c x 2147483647\nsprintf z \"%d %c\" n c\n\
+            put z",
         lines: 8,
         puts: &[(8, b"2147483648 b")],
         long: b"",
@@ -146,7 +148,8 @@ fn refused_sprintf_pads(rt: HostRuntime) {
 #[test]
 fn refused_ec_goes_on_after_tocord(rt: HostRuntime) {
     let run = Run {
-        script: "ecinit e\nrepeat 129\necput e 65\nend\nectocord z e\necput e 66\nput z\nectocord y e\nlen n y\nsprintf t \"%d\" n\nput t",
+        script: "ecinit e\nrepeat 129\necput e 65\nend\nectocord z e\necput e 66\nput z\nectocord y e\nlen n y\n\
+            sprintf t \"%d\" n\nput t",
         lines: 11,
         puts: &[(7, &[b'A'; 129]), (11, b"130")],
         long: b"",

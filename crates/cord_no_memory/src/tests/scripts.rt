@@ -73,7 +73,8 @@ fn refused_parse_of_searches(rt: HostRuntime) {
     read(
         &rt,
         rt.alloc(),
-        "let x \"abcx\"\nlet y \"zabcy\"\nfetch n x 0\ncmp n x y\nncmp n x 0 y 1 3\nstr n x 0 y\nchr n x 0 99\nrchr n x 3 99",
+        "let x \"abcx\"\nlet y \"zabcy\"\nfetch n x 0\ncmp n x y\nncmp n x 0 y 1 3\nstr n x 0 y\nchr n x 0 99\n\
+            rchr n x 3 99",
         8,
     );
 }

@@ -190,8 +190,8 @@ fn put_all(rt: &impl Abort, alloc: Global, sources: &mut Sources<MemFiles>, byte
     expect_bytes(rt, sink.bytes(), bytes);
 }
 
-// Puts the file "f" of these bytes. No read is refused; a sink that found no memory has taken a prefix, and another one takes
-// all.
+// Puts the file "f" of these bytes. No read is refused; a sink that found no memory has taken a prefix, and another one
+// takes all.
 fn expect_put(rt: &impl Abort, alloc: Global, sources: &mut Sources<MemFiles>, bytes: &[u8]) {
     let mut sink = MemSink::new(alloc);
     match put_file(alloc, sources, &mut sink) {

@@ -51,7 +51,8 @@ fn substr_over_seam(rt: HostRuntime) {
     expect_planned(
         &rt,
         SEAM,
-        b"1 build a literal(3)\n2 build b literal(3)\n3 measure t cat(a b)\n4 measure z sub(cat(a b) 2 3)\n5 write sub(cat(a b) 2 3)\n",
+        b"1 build a literal(3)\n2 build b literal(3)\n3 measure t cat(a b)\n4 measure z sub(cat(a b) 2 3)\n\
+            5 write sub(cat(a b) 2 3)\n",
     );
     expect_unplanned(
         &rt,
@@ -73,7 +74,8 @@ fn substr_of_unread_cat_too_long(rt: HostRuntime) {
     expect_planned(
         &rt,
         b"chars a 0 1099511627775\nlet b \"b\"\ncat t a b\nsubstr z t 0 1\nput b\n",
-        b"1 measure a run(0 1099511627775)\n2 build b literal(1)\n3 measure t cat(run(0 1099511627775) b)\n4 measure z sub(cat(run(0 1099511627775) b) 0 1)\n5 write b\n",
+        b"1 measure a run(0 1099511627775)\n2 build b literal(1)\n3 measure t cat(run(0 1099511627775) b)\n\
+            4 measure z sub(cat(run(0 1099511627775) b) 0 1)\n5 write b\n",
     );
 }
 
@@ -82,7 +84,8 @@ fn operand_assigned_between(rt: HostRuntime) {
     expect_planned(
         &rt,
         b"let a \"a\"\nlet b \"b\"\ncat t a b\nlet a \"z\"\nsubstr z t 0 2\nput z\n",
-        b"1 build a literal(1)\n2 build b literal(1)\n3 build t cat(a b)\n4 measure a literal(1)\n5 measure z sub(t 0 2)\n6 write sub(t 0 2)\n",
+        b"1 build a literal(1)\n2 build b literal(1)\n3 build t cat(a b)\n4 measure a literal(1)\n\
+            5 measure z sub(t 0 2)\n6 write sub(t 0 2)\n",
     );
 }
 
@@ -100,7 +103,8 @@ fn if_else_both_assign(rt: HostRuntime) {
     expect_planned(
         &rt,
         b"let x \"a\"\nlen n x\nif n eq 1\nlet x \"b\"\nelse\nlet x \"c\"\nend\nput x\n",
-        b"1 measure x literal(1)\n2 number n len(x)\n3 if n eq 1\n4 build x literal(1)\n5 else\n6 build x literal(1)\n7 end\n8 write x\n",
+        b"1 measure x literal(1)\n2 number n len(x)\n3 if n eq 1\n4 build x literal(1)\n5 else\n\
+            6 build x literal(1)\n7 end\n8 write x\n",
     );
 }
 
@@ -118,7 +122,8 @@ fn a_loop_and_a_branch(rt: HostRuntime) {
     expect_unplanned(
         &rt,
         b"let x \"a\"\nrepeat 3\nput x\ncatc x x 65\nend\nlen n x\nif n gt 1\nelse\nend\n",
-        b"1 build x literal(1)\n2 repeat 3\n3 write x\n4 build x cat(x run(65 1))\n5 end\n6 number n len(x)\n7 if n gt 1\n8 else\n9 end\n",
+        b"1 build x literal(1)\n2 repeat 3\n3 write x\n4 build x cat(x run(65 1))\n5 end\n6 number n len(x)\n\
+            7 if n gt 1\n8 else\n9 end\n",
     );
 }
 

@@ -1,11 +1,11 @@
-//! Rows of scripts over files, with the plan and without: whole ones, ones that fail after some calls, and ones that give no
-//! byte after a place.
+//! Rows of scripts over files, with the plan and without: whole ones, ones that fail after some calls, and ones that
+//! give no byte after a place.
 use super::{Driven, WAYS, add, drive_over, expect_come, files_and, filled, lines, numbered};
 use cord_io::{CutFiles, FuseFiles, MemFiles};
 use std::process::Abort;
 
-// A name, a script that is shown, the bytes of the file "f", how many calls the files pass, what is told, and how many bytes of
-// the file are written at most.
+// A name, a script that is shown, the bytes of the file "f", how many calls the files pass, what is told, and how many
+// bytes of the file are written at most.
 type Failing = (&'static str, &'static str, usize, u64, &'static [u8], usize);
 
 const LAZY: &str = r#"lazy x "f" ; put x"#;
@@ -180,8 +180,8 @@ fn blocks_by_entry(rt: HostRuntime) {
     }
 }
 
-// Of a file that no one reads the plan reads no byte, and the run without a plan does. The calls that pass are the opening and
-// the reading of the script, and the opening of the file.
+// Of a file that no one reads the plan reads no byte, and the run without a plan does. The calls that pass are the
+// opening and the reading of the script, and the opening of the file.
 #[test]
 fn unplanned_reads_what_is_unread(rt: HostRuntime) {
     for (words, status) in [(["--", "s"], 0), (["--unplanned", "s"], 4)] {

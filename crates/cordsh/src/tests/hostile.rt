@@ -1,4 +1,5 @@
-//! Devices that fail after some calls, under `drive`: the status, the line that is told, and what is written until then.
+//! Devices that fail after some calls, under `drive`: the status, the line that is told, and what is written until
+//! then.
 use super::{WAYS, add, files_and, files_with, lines, numbered, words_of};
 use cord_io::{Files, FuseFiles, FuseSink, MemFiles, MemSink, Sink};
 use cord_shell::drive;
@@ -57,8 +58,8 @@ pub(super) fn whole(rt: &(impl AllocGlobal + Abort), hostile: &Hostile<'_>) -> V
     put_below(rt, hostile, 10)
 }
 
-// Whether a run may have stopped at a line with these bytes: all that the lines before it put, and a prefix of what it puts.
-// At line 0 nothing is put.
+// Whether a run may have stopped at a line with these bytes: all that the lines before it put, and a prefix of what it
+// puts. At line 0 nothing is put.
 fn stops_at(rt: &(impl AllocGlobal + Abort), hostile: &Hostile<'_>, line: u32, out: &[u8]) -> bool {
     let before = put_below(rt, hostile, line);
     let until = put_below(rt, hostile, line.saturating_add(1));
@@ -77,9 +78,9 @@ fn told_line(rt: &(impl AllocGlobal + Abort), told: &[u8], cause: &str) -> Optio
     None
 }
 
-/// Compares a run that stopped for want of memory or a failing device: the line is told with the cause that the status says,
-/// and what is written ends there. It is all where the failure was that of the end, and nothing where memory was refused to the
-/// reading of a line; the line is answered.
+/// Compares a run that stopped for want of memory or a failing device: the line is told with the cause that the status
+/// says, and what is written ends there. It is all where the failure was that of the end, and nothing where memory was
+/// refused to the reading of a line; the line is answered.
 pub(super) fn expect_stopped(
     rt: &(impl AllocGlobal + Abort),
     hostile: &Hostile<'_>,
@@ -175,7 +176,8 @@ fn fuse_files(rt: &(impl AllocGlobal + Abort), hostile: &Hostile<'_>, words: &[&
     panic!(rt; "not done");
 }
 
-// Whether so many calls that were served have taken these bytes of all: each call takes one of them at least, and so many at most.
+// Whether so many calls that were served have taken these bytes of all: each call takes one of them at least, and so
+// many at most.
 fn is_taken_by(calls: u64, most: u64, out: usize, all: usize) -> bool {
     out as u64 >= calls.min(all as u64) && out as u64 <= calls.saturating_mul(most)
 }

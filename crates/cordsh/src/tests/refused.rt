@@ -1,5 +1,5 @@
-//! The program with one allocation refused, which whoever runs a test names: it stops where it says, and serves when it is
-//! called again.
+//! The program with one allocation refused, which whoever runs a test names: it stops where it says, and serves when it
+//! is called again.
 use super::hostile::{FILE_TWICE, Hostile, expect_stopped, files_of, whole};
 use super::{Driven, WAYS, drive_over};
 use cord_io::Sink;
@@ -17,8 +17,8 @@ const PAST_END: Hostile<'static> = Hostile {
     puts: &[(2, b"ab")],
 };
 
-// Whether a run has come to its end: the status, the whole output and the message. Where the growth of `err` was refused a
-// prefix of the message stands there, and nothing else is changed.
+// Whether a run has come to its end: the status, the whole output and the message. Where the growth of `err` was
+// refused a prefix of the message stands there, and nothing else is changed.
 fn is_served(
     rt: &(impl AllocGlobal + Abort),
     hostile: &Hostile<'_>,
@@ -33,8 +33,8 @@ fn is_served(
     come.status == status && written && (all_told || cut)
 }
 
-// Drives a script both ways. A run that was refused memory, in its work or on `out`, tells it whole, since only one allocation is
-// refused; the next run is served.
+// Drives a script both ways. A run that was refused memory, in its work or on `out`, tells it whole, since only one
+// allocation is refused; the next run is served.
 fn expect_refusable(
     rt: &(impl AllocGlobal + Abort),
     hostile: &Hostile<'_>,

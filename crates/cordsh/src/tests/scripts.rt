@@ -163,7 +163,8 @@ fn substrings(rt: &(impl AllocGlobal + Abort)) -> Vec<u8> {
 }
 
 const EC_GOES_ON: &str =
-    r#"ecinit e ; repeat 129 ; ecput e 65 ; end ; ectocord z e ; ecput e 66 ; put z ; ectocord y e ; len n y ; sprintf t "%d" n ; put t"#;
+    "ecinit e ; repeat 129 ; ecput e 65 ; end ; ectocord z e ; ecput e 66 ; put z ; ectocord y e ; len n y ; \
+        sprintf t \"%d\" n ; put t";
 
 // One name too many; an extensible cord that goes on after its text was taken; substrings that share their text.
 #[test]

@@ -16,7 +16,8 @@ const TWICE_TRIVIAL: &[u8] = b"1 build x literal(1)\n2 build x literal(2)\n3 wri
 const SEAM: &[u8] = b"let a \"abc\"\nlet b \"def\"\ncat t a b\nsubstr z t 2 3\nput z\n";
 
 const SEAM_PLAN: &[u8] =
-    b"1 build a literal(3)\n2 build b literal(3)\n3 measure t cat(a b)\n4 measure z sub(cat(a b) 2 3)\n5 write sub(cat(a b) 2 3)\n";
+    b"1 build a literal(3)\n2 build b literal(3)\n3 measure t cat(a b)\n4 measure z sub(cat(a b) 2 3)\n\
+        5 write sub(cat(a b) 2 3)\n";
 
 const SEAM_TRIVIAL: &[u8] =
     b"1 build a literal(3)\n2 build b literal(3)\n3 build t cat(a b)\n4 build z sub(t 2 3)\n5 write z\n";

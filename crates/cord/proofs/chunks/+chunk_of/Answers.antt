@@ -39,6 +39,8 @@ returns-else-place-seam t c =
     let sound = rw c.in-Cat.is at c.requires.sound in
     let plain = rw c.in-Cat.is at c.requires.plain in
     let seam : c.len-seam.result ≡ len_of left = c.len-seam.ensures.stored ∙ ap len_of c.deref.ensures in
-    let at : place ≡ length (bytes_over no_table left) + (place - c.len-seam.result) = omega (arith, seam, c.if-place-seam.false, node_len left sound.0 plain.0) in
-    let found : IsChunkAt (bytes_over no_table right) (place - c.len-seam.result) c.chunk_of-else-place-seam.result = rw c.as_ref-else-place-seam.ensures at c.chunk_of-else-place-seam.ensures in
+    let at : place ≡ length (bytes_over no_table left) + (place - c.len-seam.result) =
+    omega (arith, seam, c.if-place-seam.false, node_len left sound.0 plain.0) in
+    let found : IsChunkAt (bytes_over no_table right) (place - c.len-seam.result) c.chunk_of-else-place-seam.result =
+    rw c.as_ref-else-place-seam.ensures at c.chunk_of-else-place-seam.ensures in
     rw c.in-Cat.is (chunk_right (bytes_over no_table left) (bytes_over no_table right) place _ (place - c.len-seam.result) at found)

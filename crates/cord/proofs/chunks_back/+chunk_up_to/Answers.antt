@@ -53,6 +53,8 @@ returns-else-end-seam t c =
     let sound = rw c.in-Cat.is at c.requires.sound in
     let plain = rw c.in-Cat.is at c.requires.plain in
     let seam : c.len-seam.result ≡ len_of left = c.len-seam.ensures.stored ∙ ap len_of c.deref.ensures in
-    let at : end ≡ length (bytes_over no_table left) + (end - c.len-seam.result) = omega (arith, seam, c.if-end-seam.false, node_len left sound.0 plain.0) in
-    let found : IsChunkBefore (bytes_over no_table right) (end - c.len-seam.result) c.chunk_up_to-else-end-seam.result = rw c.as_ref-else-end-seam.ensures at c.chunk_up_to-else-end-seam.ensures in
+    let at : end ≡ length (bytes_over no_table left) + (end - c.len-seam.result) =
+    omega (arith, seam, c.if-end-seam.false, node_len left sound.0 plain.0) in
+    let found : IsChunkBefore (bytes_over no_table right) (end - c.len-seam.result) c.chunk_up_to-else-end-seam.result =
+    rw c.as_ref-else-end-seam.ensures at c.chunk_up_to-else-end-seam.ensures in
     rw c.in-Cat.is (before_right (bytes_over no_table left) (bytes_over no_table right) end _ (end - c.len-seam.result) at found)

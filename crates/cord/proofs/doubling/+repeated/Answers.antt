@@ -63,7 +63,8 @@ returns-clause-over t c =
     let odd = c.if-times-eq0-2.false in
     let half = c.args.times / 2 in
     let e : c.args.times ≡ half + half + 1 = omega (arith, odd) in
-    let even = twice (half + half) half c.args.cord.now c.in_ok-half.half c.in_ok-twice.twice refl c.in_ok-half.ensures.over c.in_ok-twice.ensures.over in
+    let even = twice (half + half) half c.args.cord.now c.in_ok-half.half c.in_ok-twice.twice refl c.in_ok-half.ensures.over
+    c.in_ok-twice.ensures.over in
     once_more c.args.times (half + half) c.args.cord.now c.in_ok-twice.twice c.in_ok-odd.odd e even c.in_ok-odd.ensures.over
 
 pub returns-clause-means : goal.returns-clause-means

@@ -13,8 +13,10 @@ loop-arg-preserved c =
     let args = c.args.args.now in
     let i = c.loop-arg.arg-index in
     let pushed : c.push.new.self.items ≡ c.loop-arg.made.items ++ c.in_ok-arg.arg ∷ [] = search rules in
-    let taken : take (c.loop-arg.arg-index + 1) c.args.args.now ≡ take c.loop-arg.arg-index c.args.args.now ++ c.arg-item.result ∷ [] = rw c.arg-item.is (take_more c.args.args.now c.loop-arg.arg-index c.arg-item.result (omega arith)) in
-    let one = one_made (take i args) c.arg-item.result c.loop-arg.made.items c.in_ok-arg.arg c.loop-arg.invariant c.in_ok-arg.ensures.made in
+    let taken : take (c.loop-arg.arg-index + 1) c.args.args.now ≡ take c.loop-arg.arg-index c.args.args.now ++ c.arg-item.result ∷ [] =
+    rw c.arg-item.is (take_more c.args.args.now c.loop-arg.arg-index c.arg-item.result (omega arith)) in
+    let one = one_made (take i args) c.arg-item.result c.loop-arg.made.items c.in_ok-arg.arg c.loop-arg.invariant
+    c.in_ok-arg.ensures.made in
     rw (taken, pushed) one
 
 pub returns-clause-made : goal.returns-clause-made

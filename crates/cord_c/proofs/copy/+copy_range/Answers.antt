@@ -29,7 +29,8 @@ returns-in-Run t c =
     let byte = c.in-Run.byte in
     let inside : from + n ≤ len = rw c.in-Run.is at c.requires.inside in
     let filled : c.fill.new.self ≡ replicate n byte = search rules in
-    filled ∙ sym (take-replicate n (len - from) byte (omega (arith, inside))) ∙ ap (λ (xs : List ℕ). take n xs) (sym (drop-replicate from len byte))
+    filled ∙ sym (take-replicate n (len - from) byte (omega (arith, inside)))
+    ∙ ap (λ (xs : List ℕ). take n xs) (sym (drop-replicate from len byte))
     ∙ ap (λ (m : Node). take n (drop from (bytes_over no_table m))) (sym c.in-Run.is)
 
 pub returns-then-middle-from : goal.returns-then-middle-from
@@ -41,7 +42,8 @@ returns-then-middle-from t c =
     let middle = c.len-middle.result in
     let sound = rw c.in-Cat.is at c.requires.sound in
     let plain = rw c.in-Cat.is at c.requires.plain in
-    let seam : middle ≡ length (bytes_over no_table left) = c.len-middle.ensures.stored ∙ ap len_of c.deref.ensures ∙ node_len left sound.0 plain.0 in
+    let seam : middle ≡ length (bytes_over no_table left) =
+    c.len-middle.ensures.stored ∙ ap len_of c.deref.ensures ∙ node_len left sound.0 plain.0 in
     let copied : c.copy_range-then-middle-from.new.bytes ≡ take n (drop (from - middle) (bytes_over no_table right)) =
     rw c.as_ref-then-middle-from.ensures at c.copy_range-then-middle-from.ensures in
     rw c.in-Cat.is (copied ∙ ap (λ (k : ℕ). take n (drop (from - k) (bytes_over no_table right))) seam
@@ -56,7 +58,8 @@ returns-else-middle-from t c =
     let middle = c.len-middle.result in
     let sound = rw c.in-Cat.is at c.requires.sound in
     let plain = rw c.in-Cat.is at c.requires.plain in
-    let seam : middle ≡ length (bytes_over no_table left) = c.len-middle.ensures.stored ∙ ap len_of c.deref.ensures ∙ node_len left sound.0 plain.0 in
+    let seam : middle ≡ length (bytes_over no_table left) =
+    c.len-middle.ensures.stored ∙ ap len_of c.deref.ensures ∙ node_len left sound.0 plain.0 in
     let front : c.copy_range-else-middle-from.new.bytes ≡ take (middle - from) (drop from (bytes_over no_table left)) = search rules in
     let back : c.copy_range-else-middle-from-2.new.bytes ≡ take (from + n - middle) (drop 0 (bytes_over no_table right)) = search rules in
     let both = range_both (bytes_over no_table left) (bytes_over no_table right) from n

@@ -13,4 +13,6 @@ loop-place-preserved c =
     let pushed : c.push.new.self.items ≡ c.loop-place.made.items ++ c.with-arg.result ∷ [] = search rules in
     let inside : c.loop-place.place < length args = omega (arith, ap length c.requires.texts ∙ length-map args (λ x. x.text.text)) in
     let has : of_texts.given_by c.with-arg.result ≡ given_by a = cc (c.with-arg.ensures, c.index-args-place.is) in
-    ap of_texts.given pushed ∙ map-append of_texts.given_by c.loop-place.made.items (c.with-arg.result ∷ []) ∙ one_more given_by args (given args) made c.loop-place.place c.index-args-place.result (of_texts.given_by c.with-arg.result) inside refl has c.loop-place.invariant
+    ap of_texts.given pushed ∙ map-append of_texts.given_by c.loop-place.made.items (c.with-arg.result ∷ [])
+    ∙ one_more given_by args (given args) made c.loop-place.place c.index-args-place.result (of_texts.given_by c.with-arg.result) inside
+    refl has c.loop-place.invariant

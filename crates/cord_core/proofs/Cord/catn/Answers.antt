@@ -9,8 +9,10 @@ loop-cord-init c = catting_start c.args.cords.now c.empty-all.result c.empty-all
 
 pub loop-cord-preserved : goal.loop-cord-preserved
 loop-cord-preserved c =
-    let e : drop c.loop-cord.cord-index c.args.cords.now ≡ c.cord-item.result ∷ drop (c.loop-cord.cord-index + 1) c.args.cords.now = rw c.cord-item.is (drop_more c.args.cords.now c.loop-cord.cord-index c.cord-item.result (omega arith)) in
-    let i : IsCatting c.args.cords.now (c.cord-item.result ∷ drop (c.loop-cord.cord-index + 1) c.args.cords.now) c.loop-cord.all = rw (← e) c.loop-cord.invariant in
+    let e : drop c.loop-cord.cord-index c.args.cords.now ≡ c.cord-item.result ∷ drop (c.loop-cord.cord-index + 1) c.args.cords.now =
+    rw c.cord-item.is (drop_more c.args.cords.now c.loop-cord.cord-index c.cord-item.result (omega arith)) in
+    let i : IsCatting c.args.cords.now (c.cord-item.result ∷ drop (c.loop-cord.cord-index + 1) c.args.cords.now) c.loop-cord.all =
+    rw (← e) c.loop-cord.invariant in
     catting_step c.args.cords.now c.cord-item.result (drop (c.loop-cord.cord-index + 1) c.args.cords.now) c.loop-cord.all c.in_ok-all.all i
     c.in_ok-all.ensures.sound c.in_ok-all.ensures.text c.in_ok-all.ensures.len c.in_ok-all.ensures.kept
 

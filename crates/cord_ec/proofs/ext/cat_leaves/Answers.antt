@@ -17,7 +17,8 @@ loop-rest-preserved-in_ok-longer c =
     let rest : List ℕ = c.loop-rest.rest.now in
     let bytes_are : b ≡ run = c.in_ok-extend.ensures.added ∙ ap (λ (x : List ℕ). x ++ run) c.clear.ensures in
     let some : 0 < length rest = grind (arith, common_steps) in
-    let sum : length run + length left ≡ length rest = omega (arith, c.split_at.ensures.front_len, c.split_at.ensures.back_len, c.min.ensures) in
+    let sum : length run + length left ≡ length rest =
+    omega (arith, c.split_at.ensures.front_len, c.split_at.ensures.back_len, c.min.ensures) in
     let most : length run ≡ min (length rest) CAP = omega (arith, c.split_at.ensures.front_len, c.min.ensures) in
     record {
       text_is = leaf_text (text c.loop-rest.longer) (text c.in_ok-leaf.leaf) (text c.in_ok-longer.longer)

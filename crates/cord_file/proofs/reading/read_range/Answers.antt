@@ -16,7 +16,8 @@ loop-done-preserved g c =
       opened = λ n. c.read_at.ensures.opened n ∙ c.loop-done.invariant.opened n;
       count = search rules;
       bytes = λ folder kept.
-          let Piece : Option (List ℕ × ℕ) → Type 0 = λ told. IsSomeAnd told (λ file. take k part ≡ take k (drop (c.args.start + loop.done) (bytes_at folder file.0))) in
+          let Piece : Option (List ℕ × ℕ) → Type 0 =
+          λ told. IsSomeAnd told (λ file. take k part ≡ take k (drop (c.args.start + loop.done) (bytes_at folder file.0))) in
           more_read (λ file. file.0) folder (g.F.Files.opened c.args.files.now no) loop.done k _ c.args.start loop.out part
           loop.invariant.done c.in_ok-done.ensures.some.1
           (loop.invariant.bytes folder (c.in_ok-done.ensures.earlier folder kept))

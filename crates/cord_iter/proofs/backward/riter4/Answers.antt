@@ -21,8 +21,10 @@ returns-then-byte-clause-walked g c folder kept =
     let before = c.fetch.ensures.earlier folder kept in
     let told = g.met.S.Source.lengths_of_table c.args.src.now folder (c.loop-position.invariant.earlier folder before) in
     let len = cord_len (g.S.Source.lengths c.args.src.now) t cord told c.set-position.ensures.sound c.requires.fits in
-    let byte : IsByteAt t cord index c.in_ok-byte.byte = rw (c.loop-position.invariant.table, c.loop-position.invariant.cord) at c.in_ok-byte.ensures.byte folder kept in
-    let stop : (state c.byte.new.self, true) ≡ step (state c.loop-position.visitor) c.in_ok-byte.byte = rw c.if-byte.true at c.byte.ensures in
+    let byte : IsByteAt t cord index c.in_ok-byte.byte =
+    rw (c.loop-position.invariant.table, c.loop-position.invariant.cord) at c.in_ok-byte.ensures.byte folder kept in
+    let stop : (state c.byte.new.self, true) ≡ step (state c.loop-position.visitor) c.in_ok-byte.byte =
+    rw c.if-byte.true at c.byte.ensures in
     back_stop step (state c.args.visitor.now) (state c.loop-position.visitor)
     (state c.byte.new.self) t cord c.args.i index c.in_ok-byte.byte len c.requires.inside c.loop-position.invariant.below byte stop
     (c.loop-position.invariant.walked folder before)
@@ -33,7 +35,8 @@ loop-position-preserved g c =
     let step = g.V.Visitor.step in
     let cord = c.args.cord.now in
     let index = c.loop-position.position.index in
-    let on : (state c.byte.new.self, false) ≡ step (state c.loop-position.visitor) c.in_ok-byte.byte = rw c.if-byte.false at c.byte.ensures in
+    let on : (state c.byte.new.self, false) ≡ step (state c.loop-position.visitor) c.in_ok-byte.byte =
+    rw c.if-byte.false at c.byte.ensures in
     let to : c.prev.new.self.index ≡ prev_index index = rw c.fetch.ensures.stays at c.prev.ensures.index in
     let same : c.prev.new.self.cord ≡ cord = (rw c.fetch.ensures.stays at c.prev.ensures.cord) ∙ c.loop-position.invariant.cord in
     record {
@@ -44,7 +47,8 @@ loop-position-preserved g c =
           let before = c.fetch.ensures.earlier folder kept in
           let told = g.met.S.Source.lengths_of_table c.args.src.now folder (c.loop-position.invariant.earlier folder before) in
           let len = cord_len (g.S.Source.lengths c.args.src.now) t cord told c.set-position.ensures.sound c.requires.fits in
-          let byte : IsByteAt t cord index c.in_ok-byte.byte = rw (c.loop-position.invariant.table, c.loop-position.invariant.cord) at c.in_ok-byte.ensures.byte folder kept in
+          let byte : IsByteAt t cord index c.in_ok-byte.byte =
+          rw (c.loop-position.invariant.table, c.loop-position.invariant.cord) at c.in_ok-byte.ensures.byte folder kept in
           rw to (back_on step (state c.args.visitor.now) (state c.loop-position.visitor)
           (state c.byte.new.self) t cord c.args.i index c.in_ok-byte.byte len c.requires.inside c.loop-position.invariant.below byte on
           (c.loop-position.invariant.walked folder before));

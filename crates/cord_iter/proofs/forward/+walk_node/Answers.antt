@@ -21,7 +21,8 @@ returns-in_err-walk_node-in-Cat-clause-prefix g t c folder kept =
     let left = c.in-Cat.left.value in
     let right = c.in-Cat.right.value in
     let told = g.met.S.Source.lengths_of_table c.args.src.now folder (c.walk_node-else-seam-from.ensures.source.earlier folder kept) in
-    let cut : IsCut text left right node = cut_of (g.S.Source.lengths c.args.src.now) text _ left _ right _ _ _ node c.in-Cat.is c.requires.sound c.requires.fits told in
+    let cut : IsCut text left right node =
+    cut_of (g.S.Source.lengths c.args.src.now) text _ left _ right _ _ _ node c.in-Cat.is c.requires.sound c.requires.fits told in
     let seam : c.len-seam.result ≡ len_of left = c.len-seam.ensures.stored ∙ ap len_of c.deref.ensures in
     let inside : c.args.from ≤ len_of left = omega (arith, seam, c.if-seam-from.false) in
     on_err c.from_residual.result (cut_front step (state c.args.visitor.now) (state c.walk_node-else-seam-from.new.visitor) text left right
@@ -66,7 +67,8 @@ returns-then-branch-clause-walked g t c folder kept =
     let left = c.in-Cat.left.value in
     let right = c.in-Cat.right.value in
     let told = g.met.S.Source.lengths_of_table c.args.src.now folder (c.walk_node-else-seam-from.ensures.source.earlier folder kept) in
-    let cut : IsCut text left right node = cut_of (g.S.Source.lengths c.args.src.now) text _ left _ right _ _ _ node c.in-Cat.is c.requires.sound c.requires.fits told in
+    let cut : IsCut text left right node =
+    cut_of (g.S.Source.lengths c.args.src.now) text _ left _ right _ _ _ node c.in-Cat.is c.requires.sound c.requires.fits told in
     let seam : c.len-seam.result ≡ len_of left = c.len-seam.ensures.stored ∙ ap len_of c.deref.ensures in
     let inside : c.args.from ≤ len_of left = omega (arith, seam, c.if-seam-from.false) in
     cut_stop step (state c.args.visitor.now) (state c.walk_node-else-seam-from.new.visitor) text left right node c.args.from cut inside
@@ -79,7 +81,8 @@ returns-in-Func-clause-walked g t c folder kept =
     let text = g.S.Source.table c.args.src.now folder in
     let node = c.args.node.now in
     let inside : c.args.from ≤ c.in-Func.len = rw c.in-Func.is at c.requires.inside in
-    let rest = range_rest (text c.in-Func.id.0) c.in-Func.start c.in-Func.len c.args.from inside ∙ ap (λ (n : Node). drop c.args.from (bytes_over text n)) (sym c.in-Func.is) in
+    let rest = range_rest (text c.in-Func.id.0) c.in-Func.start c.in-Func.len c.args.from inside
+    ∙ ap (λ (n : Node). drop c.args.from (bytes_over text n)) (sym c.in-Func.is) in
     subst (λ xs. IfOk c.walk_func.result (λ stopped. walk step (state c.args.visitor.now) xs ≡ (state c.walk_func.new.visitor, stopped)))
     rest (c.walk_func.ensures.walked folder kept)
 
@@ -90,7 +93,8 @@ returns-in-Func-clause-prefix g t c folder kept =
     let text = g.S.Source.table c.args.src.now folder in
     let node = c.args.node.now in
     let inside : c.args.from ≤ c.in-Func.len = rw c.in-Func.is at c.requires.inside in
-    let rest = range_rest (text c.in-Func.id.0) c.in-Func.start c.in-Func.len c.args.from inside ∙ ap (λ (n : Node). drop c.args.from (bytes_over text n)) (sym c.in-Func.is) in
+    let rest = range_rest (text c.in-Func.id.0) c.in-Func.start c.in-Func.len c.args.from inside
+    ∙ ap (λ (n : Node). drop c.args.from (bytes_over text n)) (sym c.in-Func.is) in
     subst (λ xs. OnErr c.walk_func.result (WalkedFront step (state c.args.visitor.now) (state c.walk_func.new.visitor) xs)) rest
     (c.walk_func.ensures.prefix folder kept)
 
@@ -103,7 +107,8 @@ returns-then-seam-from-clause-walked g t c folder kept =
     let left = c.in-Cat.left.value in
     let right = c.in-Cat.right.value in
     let told = g.met.S.Source.lengths_of_table c.args.src.now folder (c.walk_node.ensures.source.earlier folder kept) in
-    let cut : IsCut text left right node = cut_of (g.S.Source.lengths c.args.src.now) text _ left _ right _ _ _ node c.in-Cat.is c.requires.sound c.requires.fits told in
+    let cut : IsCut text left right node =
+    cut_of (g.S.Source.lengths c.args.src.now) text _ left _ right _ _ _ node c.in-Cat.is c.requires.sound c.requires.fits told in
     let seam : c.len-seam.result ≡ len_of left = c.len-seam.ensures.stored ∙ ap len_of c.deref.ensures in
     let inside : len_of left ≤ c.args.from = subst (λ k. k ≤ c.args.from) seam c.if-seam-from.true in
     cut_past (λ xs. IfOk c.walk_node.result (λ stopped. walk step (state c.args.visitor.now) xs
@@ -119,7 +124,8 @@ returns-then-seam-from-clause-prefix g t c folder kept =
     let left = c.in-Cat.left.value in
     let right = c.in-Cat.right.value in
     let told = g.met.S.Source.lengths_of_table c.args.src.now folder (c.walk_node.ensures.source.earlier folder kept) in
-    let cut : IsCut text left right node = cut_of (g.S.Source.lengths c.args.src.now) text _ left _ right _ _ _ node c.in-Cat.is c.requires.sound c.requires.fits told in
+    let cut : IsCut text left right node =
+    cut_of (g.S.Source.lengths c.args.src.now) text _ left _ right _ _ _ node c.in-Cat.is c.requires.sound c.requires.fits told in
     let seam : c.len-seam.result ≡ len_of left = c.len-seam.ensures.stored ∙ ap len_of c.deref.ensures in
     let inside : len_of left ≤ c.args.from = subst (λ k. k ≤ c.args.from) seam c.if-seam-from.true in
     cut_past (λ xs. OnErr c.walk_node.result (WalkedFront step (state c.args.visitor.now) (state c.walk_node.new.visitor) xs)) text left
@@ -135,7 +141,8 @@ returns-else-branch-clause-walked g t c folder kept =
     let right = c.in-Cat.right.value in
     let before = c.walk_node-else-branch.ensures.source.earlier folder kept in
     let told = g.met.S.Source.lengths_of_table c.args.src.now folder (c.walk_node-else-seam-from.ensures.source.earlier folder before) in
-    let cut : IsCut text left right node = cut_of (g.S.Source.lengths c.args.src.now) text _ left _ right _ _ _ node c.in-Cat.is c.requires.sound c.requires.fits told in
+    let cut : IsCut text left right node =
+    cut_of (g.S.Source.lengths c.args.src.now) text _ left _ right _ _ _ node c.in-Cat.is c.requires.sound c.requires.fits told in
     let seam : c.len-seam.result ≡ len_of left = c.len-seam.ensures.stored ∙ ap len_of c.deref.ensures in
     let inside : c.args.from ≤ len_of left = omega (arith, seam, c.if-seam-from.false) in
     let stays = rw (c.as_ref-else-seam-from.ensures, c.if-branch.false) at c.in_ok-walk_node-in-Cat.ensures.walked folder before in
@@ -154,7 +161,8 @@ returns-else-branch-clause-prefix g t c folder kept =
     let right = c.in-Cat.right.value in
     let before = c.walk_node-else-branch.ensures.source.earlier folder kept in
     let told = g.met.S.Source.lengths_of_table c.args.src.now folder (c.walk_node-else-seam-from.ensures.source.earlier folder before) in
-    let cut : IsCut text left right node = cut_of (g.S.Source.lengths c.args.src.now) text _ left _ right _ _ _ node c.in-Cat.is c.requires.sound c.requires.fits told in
+    let cut : IsCut text left right node =
+    cut_of (g.S.Source.lengths c.args.src.now) text _ left _ right _ _ _ node c.in-Cat.is c.requires.sound c.requires.fits told in
     let seam : c.len-seam.result ≡ len_of left = c.len-seam.ensures.stored ∙ ap len_of c.deref.ensures in
     let inside : c.args.from ≤ len_of left = omega (arith, seam, c.if-seam-from.false) in
     let stays = rw (c.as_ref-else-seam-from.ensures, c.if-branch.false) at c.in_ok-walk_node-in-Cat.ensures.walked folder before in

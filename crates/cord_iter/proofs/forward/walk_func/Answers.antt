@@ -19,7 +19,9 @@ returns-then-branch-clause-walked g c folder kept =
     let t = g.S.Source.table c.args.src.now folder in
     let walked = c.loop-done.invariant.walked folder (c.walk_piece.ensures.source.earlier folder kept) in
     let inside : c.loop-done.done + c.piece_len-count.result ≤ c.args.len = omega (arith, c.piece_len-count.ensures.inside) in
-    let piece : walk step (state c.loop-done.visitor) (take c.piece_len-count.result (drop (c.args.start + c.loop-done.done) (t c.args.id.0))) ≡ (state c.walk_piece.new.visitor, true) = rw (c.loop-done.invariant.table, c.if-branch.true) at c.in_ok-walk_piece.ensures.walked folder kept in
+    let piece : walk step (state c.loop-done.visitor)
+    (take c.piece_len-count.result (drop (c.args.start + c.loop-done.done) (t c.args.id.0))) ≡ (state c.walk_piece.new.visitor, true) =
+    rw (c.loop-done.invariant.table, c.if-branch.true) at c.in_ok-walk_piece.ensures.walked folder kept in
     func_stop step (state c.args.visitor.now) (state c.loop-done.visitor) (state c.walk_piece.new.visitor) t c.args.id.0 c.args.start
     c.args.len c.loop-done.done c.piece_len-count.result inside walked piece
 
@@ -32,7 +34,10 @@ loop-done-preserved g c =
       walked = λ folder kept.
           let t = g.S.Source.table c.args.src.now folder in
           let walked = c.loop-done.invariant.walked folder (c.walk_piece.ensures.source.earlier folder kept) in
-          let piece : walk step (state c.loop-done.visitor) (take c.piece_len-count.result (drop (c.args.start + c.loop-done.done) (t c.args.id.0))) ≡ (state c.walk_piece.new.visitor, false) = rw (c.loop-done.invariant.table, c.if-branch.false) at c.in_ok-walk_piece.ensures.walked folder kept in
+          let piece : walk step (state c.loop-done.visitor)
+          (take c.piece_len-count.result (drop (c.args.start + c.loop-done.done) (t c.args.id.0)))
+          ≡ (state c.walk_piece.new.visitor, false) =
+          rw (c.loop-done.invariant.table, c.if-branch.false) at c.in_ok-walk_piece.ensures.walked folder kept in
           func_on step (state c.args.visitor.now) (state c.loop-done.visitor) (state c.walk_piece.new.visitor, false) t c.args.id.0
           c.args.start c.loop-done.done c.piece_len-count.result walked piece;
       reads = c.in_ok-walk_piece.ensures.count ∙ c.loop-done.invariant.reads;

@@ -10,7 +10,8 @@ returns-in_err-put_node-in-Cat-clause-prefix g t c =
     let left = c.in-Cat.left.value in
     let right = c.in-Cat.right.value in
     let sides : AreSides left right node = cat_sides _ left _ right _ _ _ node c.in-Cat.is c.requires.sound in
-    let first : Takes (IsPrefixOver (keeps c.put_node.new.src) table left) (g.W.Sink.taken c.args.sink.now) (g.W.Sink.taken c.put_node.new.sink) = rw c.as_ref.ensures at c.in_err-put_node-in-Cat.ensures.prefix in
+    let first : Takes (IsPrefixOver (keeps c.put_node.new.src) table left) (g.W.Sink.taken c.args.sink.now)
+    (g.W.Sink.taken c.put_node.new.sink) = rw c.as_ref.ensures at c.in_err-put_node-in-Cat.ensures.prefix in
     on_err c.from_residual-in_err-put_node-in-Cat.result (takes_such first (λ x. cat_left table left right node x sides))
 
 pub returns-in_err-put_node-in-Cat-2-clause-prefix : goal.returns-in_err-put_node-in-Cat-2-clause-prefix
@@ -21,8 +22,11 @@ returns-in_err-put_node-in-Cat-2-clause-prefix g t c =
     let left = c.in-Cat.left.value in
     let right = c.in-Cat.right.value in
     let sides : AreSides left right node = cat_sides _ left _ right _ _ _ node c.in-Cat.is c.requires.sound in
-    let first : Takes (IsTextOver (keeps c.put_node.new.src) table left) (g.W.Sink.taken c.args.sink.now) (g.W.Sink.taken c.put_node.new.sink) = rw c.as_ref.ensures at c.in_ok-put_node-in-Cat.ensures.text in
-    let second : Takes (IsPrefixOver (keeps c.put_node-in-Cat.new.src) table right) (g.W.Sink.taken c.put_node.new.sink) (g.W.Sink.taken c.put_node-in-Cat.new.sink) = rw (c.as_ref-in-Cat.ensures, c.put_node.ensures.source.table) at c.in_err-put_node-in-Cat-2.ensures.prefix in
+    let first : Takes (IsTextOver (keeps c.put_node.new.src) table left) (g.W.Sink.taken c.args.sink.now)
+    (g.W.Sink.taken c.put_node.new.sink) = rw c.as_ref.ensures at c.in_ok-put_node-in-Cat.ensures.text in
+    let second : Takes (IsPrefixOver (keeps c.put_node-in-Cat.new.src) table right) (g.W.Sink.taken c.put_node.new.sink)
+    (g.W.Sink.taken c.put_node-in-Cat.new.sink) =
+    rw (c.as_ref-in-Cat.ensures, c.put_node.ensures.source.table) at c.in_err-put_node-in-Cat-2.ensures.prefix in
     on_err c.from_residual-in_err-put_node-in-Cat-2.result (takes_both first second
     (λ x y. cat_right table left right node x y sides c.put_node-in-Cat.ensures.source.earlier))
 
@@ -34,6 +38,9 @@ returns-in_ok-put_node-in-Cat-2-clause-text g t c =
     let left = c.in-Cat.left.value in
     let right = c.in-Cat.right.value in
     let sides : AreSides left right node = cat_sides _ left _ right _ _ _ node c.in-Cat.is c.requires.sound in
-    let first : Takes (IsTextOver (keeps c.put_node.new.src) table left) (g.W.Sink.taken c.args.sink.now) (g.W.Sink.taken c.put_node.new.sink) = rw c.as_ref.ensures at c.in_ok-put_node-in-Cat.ensures.text in
-    let second : Takes (IsTextOver (keeps c.put_node-in-Cat.new.src) table right) (g.W.Sink.taken c.put_node.new.sink) (g.W.Sink.taken c.put_node-in-Cat.new.sink) = rw (c.as_ref-in-Cat.ensures, c.put_node.ensures.source.table) at c.in_ok-put_node-in-Cat-2.ensures.text in
+    let first : Takes (IsTextOver (keeps c.put_node.new.src) table left) (g.W.Sink.taken c.args.sink.now)
+    (g.W.Sink.taken c.put_node.new.sink) = rw c.as_ref.ensures at c.in_ok-put_node-in-Cat.ensures.text in
+    let second : Takes (IsTextOver (keeps c.put_node-in-Cat.new.src) table right) (g.W.Sink.taken c.put_node.new.sink)
+    (g.W.Sink.taken c.put_node-in-Cat.new.sink) =
+    rw (c.as_ref-in-Cat.ensures, c.put_node.ensures.source.table) at c.in_ok-put_node-in-Cat-2.ensures.text in
     takes_both first second (λ x y. cat_text table left right node x y sides c.put_node-in-Cat.ensures.source.earlier)

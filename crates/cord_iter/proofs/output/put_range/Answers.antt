@@ -13,7 +13,9 @@ returns-in_err-put_piece-clause-prefix g c =
     let room : count ≤ length c.loop-done.buffer = subst (λ n. count ≤ n) (sym c.loop-done.invariant.room) c.piece_len-count.ensures.most in
     let whole : length (take count c.loop-done.buffer) ≡ count = length-take-le count c.loop-done.buffer room in
     let inside : done + count ≤ c.args.len = omega (arith, c.piece_len-count.ensures.inside) in
-    let piece : Takes (IsPrefixOver (g.S.Source.keeps c.put_piece.new.src) table (Func c.args.id (c.args.start + done) count)) (g.W.Sink.taken c.loop-done.sink) (g.W.Sink.taken c.put_piece.new.sink) = rw (c.loop-done.invariant.table, whole) at c.in_err-put_piece.ensures.prefix in
+    let piece : Takes (IsPrefixOver (g.S.Source.keeps c.put_piece.new.src) table (Func c.args.id (c.args.start + done) count))
+    (g.W.Sink.taken c.loop-done.sink) (g.W.Sink.taken c.put_piece.new.sink) =
+    rw (c.loop-done.invariant.table, whole) at c.in_err-put_piece.ensures.prefix in
     on_err c.from_residual.result (takes_both c.loop-done.invariant.taken piece
     (λ x y. func_prefix table c.args.id c.args.start done count c.args.len x y inside c.put_piece.ensures.source.earlier))
 
@@ -24,10 +26,14 @@ loop-done-preserved g c =
     let count = c.piece_len-count.result in
     let room : count ≤ length c.loop-done.buffer = subst (λ n. count ≤ n) (sym c.loop-done.invariant.room) c.piece_len-count.ensures.most in
     let whole : length (take count c.loop-done.buffer) ≡ count = length-take-le count c.loop-done.buffer room in
-    let piece : Takes (IsTextOver (g.S.Source.keeps c.put_piece.new.src) table (Func c.args.id (c.args.start + done) count)) (g.W.Sink.taken c.loop-done.sink) (g.W.Sink.taken c.put_piece.new.sink) = rw (c.loop-done.invariant.table, whole) at c.in_ok-put_piece.ensures.text in
+    let piece : Takes (IsTextOver (g.S.Source.keeps c.put_piece.new.src) table (Func c.args.id (c.args.start + done) count))
+    (g.W.Sink.taken c.loop-done.sink) (g.W.Sink.taken c.put_piece.new.sink) =
+    rw (c.loop-done.invariant.table, whole) at c.in_ok-put_piece.ensures.text in
     record {
       in_range = omega (arith, c.piece_len-count.ensures.inside);
-      room = length-append c.put_piece.new.piece (drop count c.loop-done.buffer) ∙ (let front : length c.put_piece.new.piece ≡ count = c.put_piece.auto.piece ∙ whole in let rest = length-drop count c.loop-done.buffer in omega (arith, front, rest, room, c.loop-done.invariant.room));
+      room = length-append c.put_piece.new.piece (drop count c.loop-done.buffer)
+          ∙ (let front : length c.put_piece.new.piece ≡ count = c.put_piece.auto.piece ∙ whole in
+          let rest = length-drop count c.loop-done.buffer in omega (arith, front, rest, room, c.loop-done.invariant.room));
       taken = takes_both c.loop-done.invariant.taken piece (λ x y.
           func_text table c.args.id c.args.start done count x y c.put_piece.ensures.source.earlier);
       reads = c.in_ok-put_piece.ensures.faults.0 ∙ c.loop-done.invariant.reads;

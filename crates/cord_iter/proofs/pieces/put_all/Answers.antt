@@ -23,7 +23,8 @@ loop-done-preserved g c =
     let k = c.in_ok-done.field-0 in
     let rest : take (length bytes - done) (drop done bytes) ≡ drop done bytes = take_rest bytes done in
     let within : k ≤ length (drop done bytes) = subst (λ xs. k ≤ length xs) rest c.in_ok-done.ensures.some.1 in
-    let both = appends_both (taken c.args.sink.now) (taken c.loop-done.sink) (taken c.put.new.self) (take done bytes) (take k (take (length bytes - done) (drop done bytes))) c.loop-done.invariant.taken c.in_ok-done.ensures.taken in
+    let both = appends_both (taken c.args.sink.now) (taken c.loop-done.sink) (taken c.put.new.self) (take done bytes)
+    (take k (take (length bytes - done) (drop done bytes))) c.loop-done.invariant.taken c.in_ok-done.ensures.taken in
     record {
       in_range = omega (arith, within, length-drop done bytes);
       taken = both ∙ ap (λ xs. taken c.args.sink.now ++ xs) (ap (λ xs. take done bytes ++ take k xs) rest ∙ sym (take-add done k bytes));

@@ -74,7 +74,10 @@ pub returns-clause-write_failure_as_no_memory : goal.returns-clause-write_failur
 returns-clause-write_failure_as_no_memory c = λ n rose once h. let asked = h.names.asked in absurd (omega (arith, rose, once, asked))
 
 pub returns-clause-nothing_reads_there : goal.returns-clause-nothing_reads_there
-returns-clause-nothing_reads_there c = λ n h. ⊎_elim (λ first. first.1) (λ others. ⊎_elim (λ second. let bad : ⊥ = cc in bad) (λ none. none) others) h.fails
+returns-clause-nothing_reads_there c =
+    λ n h. ⊎_elim (λ first. first.1) (λ others. ⊎_elim (λ second. let bad : ⊥ = cc in bad) (λ none. none) others) h.fails
 
 pub returns-clause-nothing_puts_there : goal.returns-clause-nothing_puts_there
-returns-clause-nothing_puts_there c = λ n h. ⊎_elim (λ none. let bad : ⊥ = cc in bad) (λ some. ⊎_elim (λ first. first.1) (λ others. ⊎_elim (λ second. let bad : ⊥ = cc in bad) (λ none. none) others) some) h.fails
+returns-clause-nothing_puts_there c =
+    λ n h. ⊎_elim (λ none. let bad : ⊥ = cc in
+    bad) (λ some. ⊎_elim (λ first. first.1) (λ others. ⊎_elim (λ second. let bad : ⊥ = cc in bad) (λ none. none) others) some) h.fails

@@ -5,7 +5,9 @@ use Rattle.cord_node.proofs.TreeLemmas.{true_len-len_of, length-cells}
 use Rattle.cord_node.proofs.Node.len.Goals as goal
 
 pub returns-clause-truth : goal.returns-clause-truth
-returns-clause-truth c = λ s. let e : c.match-self.len.now ≡ len_of c.args.self.now = grind (arith, common_steps) in e ∙ true_len-len_of c.args.self.now s
+returns-clause-truth c = λ s. let e : c.match-self.len.now ≡ len_of c.args.self.now = grind (arith, common_steps) in
+    e ∙ true_len-len_of c.args.self.now s
 
 pub returns-clause-text : goal.returns-clause-text
-returns-clause-text c = λ s. let e : c.match-self.len.now ≡ len_of c.args.self.now = grind (arith, common_steps) in e ∙ sym (length-cells c.args.self.now s)
+returns-clause-text c = λ s. let e : c.match-self.len.now ≡ len_of c.args.self.now = grind (arith, common_steps) in
+    e ∙ sym (length-cells c.args.self.now s)

@@ -7,7 +7,8 @@ use Rattle.cord_node.proofs.make.join.Goals as goal
 
 pub returns-in_ok-node-in-Some-Some-clause-over : goal.returns-in_ok-node-in-Some-Some-clause-over
 returns-in_ok-node-in-Some-Some-clause-over c =
-    let e : cells c.in_ok-node-in-Some-Some.node.value ≡ cells c.args.left.now.value ++ cells c.args.right.now.value = grind (arith, common_steps) in
+    let e : cells c.in_ok-node-in-Some-Some.node.value ≡ cells c.args.left.now.value ++ cells c.args.right.now.value =
+    grind (arith, common_steps) in
     join_over c.args.left.now.value c.args.right.now.value c.in_ok-node-in-Some-Some.node.value c.in_ok-node-in-Some-Some.ensures.sound e
 
 pub returns-in_ok-node-in_default-clause-over : goal.returns-in_ok-node-in_default-clause-over

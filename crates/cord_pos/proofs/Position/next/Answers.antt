@@ -26,7 +26,8 @@ returns-then-index-len-clause-visits c =
     let cord = position_cord _ _ _ on in
     let v = rw (← c.self.view_is, c.in-Some.is) at c.go_to.ensures.visits in
     let k : c.in-Some.spot.index + 1 < text_len c.self.inside.tree.cord.now = omega (arith, c.len.ensures, c.if-index-len.true) in
-    let m : next_visits c.self.inside.tree.cord.now (Some c.in-Some.spot.index) ≡ move_visits c.self.inside.tree.cord.now c.in-Some.spot.index (c.in-Some.spot.index + 1) = next_move _ _ cord k in
+    let m : next_visits c.self.inside.tree.cord.now (Some c.in-Some.spot.index) ≡ move_visits c.self.inside.tree.cord.now
+    c.in-Some.spot.index (c.in-Some.spot.index + 1) = next_move _ _ cord k in
     rw (← c.self.view_is, c.in-Some.is, m) v
 
 pub returns-then-index-len-clause-bound : goal.returns-then-index-len-clause-bound

@@ -38,4 +38,7 @@ returns-then-is_allowed-clause-some c =
 pub returns-clause-none : goal.returns-clause-none
 returns-clause-none c =
     let parts = c.split_parts-parts.result in
-    not_allowed c.args.bytes.now parts.marks.now parts.digits.now parts.point.now parts.modifier.now parts.rest.now c.in_ok-letter.rest.now c.in_ok-letter.letter c.in_ok-width.width c.flags_in.result c.in_ok-precision.precision c.in_ok-piece.piece c.split_parts-parts.ensures c.in_ok-letter.ensures c.flags_in.ensures c.in_ok-width.ensures.some.0 c.in_ok-precision.ensures.some c.in_ok-piece.ensures.some (λ allowed. let no = c.if-is_allowed.ensures.1 allowed in absurd (cc no))
+    not_allowed c.args.bytes.now parts.marks.now parts.digits.now parts.point.now parts.modifier.now parts.rest.now c.in_ok-letter.rest.now
+    c.in_ok-letter.letter c.in_ok-width.width c.flags_in.result c.in_ok-precision.precision c.in_ok-piece.piece
+    c.split_parts-parts.ensures c.in_ok-letter.ensures c.flags_in.ensures c.in_ok-width.ensures.some.0 c.in_ok-precision.ensures.some
+    c.in_ok-piece.ensures.some (λ allowed. let no = c.if-is_allowed.ensures.1 allowed in absurd (cc no))

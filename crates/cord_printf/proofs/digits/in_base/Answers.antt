@@ -16,7 +16,9 @@ digits-init c = record {
 pub digits-preserved : goal.digits-preserved
 digits-preserved c =
     let all = map (figure c.args.radix) (digits_of (base_of c.args.radix) c.args.number) in
-    let step = figures_before c.args.radix c.digits.rest c.base-base.result c.figure_of.result c.digits.start c.digits.bytes all c.base-base.ensures c.figure_of.ensures c.digits-test.true c.digits.invariant.within c.digits.invariant.room c.digits.invariant.written in
+    let step = figures_before c.args.radix c.digits.rest c.base-base.result c.figure_of.result c.digits.start c.digits.bytes all
+    c.base-base.ensures c.figure_of.ensures c.digits-test.true c.digits.invariant.within c.digits.invariant.room
+    c.digits.invariant.written in
     record {
       written = step.written;
       room = step.room;

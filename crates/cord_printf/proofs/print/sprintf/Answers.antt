@@ -40,7 +40,10 @@ loop-piece-preserved c =
     let taken = option_map (λ a. a.now) c.next_argument.result.0 in
     let argument = option_map (λ a. argument_of a.now) c.next_argument.result.0 in
     let after = printed known (drop (c.loop-piece.piece-index + 1) pieces) (arguments_of others) in
-    let step = further c.args.args.now rest others pieces c.loop-piece.piece-index c.piece-item.result (option_map (λ a. argument_of a.now) c.next_argument.result.0) shown c.loop-piece-test.true c.piece-item.is c.next_argument.ensures.argument c.next_argument.ensures.others c.in_ok-shown.ensures.text c.in_ok-shown.ensures.taken c.loop-piece.invariant.wanted_are c.loop-piece.invariant.fewer in
+    let step = further c.args.args.now rest others pieces c.loop-piece.piece-index c.piece-item.result
+    (option_map (λ a. argument_of a.now) c.next_argument.result.0) shown c.loop-piece-test.true c.piece-item.is
+    c.next_argument.ensures.argument c.next_argument.ensures.others c.in_ok-shown.ensures.text c.in_ok-shown.ensures.taken
+    c.loop-piece.invariant.wanted_are c.loop-piece.invariant.fewer in
     record {
       wanted_are = step.wanted_are;
       fewer = step.fewer;

@@ -14,7 +14,10 @@ loop-piece-preserved c =
     let others = c.next_argument.result.1.now in
     let pieces = c.pieces-piece-items.result.now in
     let shown = shown_text c.in_ok-shown.shown in
-    let step = further c.args.args.now rest others pieces c.loop-piece.piece-index c.piece-item.result (option_map (λ a. argument_of a.now) c.next_argument.result.0) shown c.loop-piece-test.true c.piece-item.is c.next_argument.ensures.argument c.next_argument.ensures.others c.in_ok-shown.ensures.text c.in_ok-shown.ensures.taken c.loop-piece.invariant.wanted_are c.loop-piece.invariant.fewer in
+    let step = further c.args.args.now rest others pieces c.loop-piece.piece-index c.piece-item.result
+    (option_map (λ a. argument_of a.now) c.next_argument.result.0) shown c.loop-piece-test.true c.piece-item.is
+    c.next_argument.ensures.argument c.next_argument.ensures.others c.in_ok-shown.ensures.text c.in_ok-shown.ensures.taken
+    c.loop-piece.invariant.wanted_are c.loop-piece.invariant.fewer in
     record {
       wanted_are = step.wanted_are;
       fewer = step.fewer;
@@ -29,5 +32,7 @@ pub returns-clause-over : goal.returns-clause-over
 returns-clause-over c =
     let whole = printed known c.args.format.now (arguments_of c.args.args.now) in
     let below : MAX_LEN < 2 ^ 64 - 1 = omega arith in
-    let counted = all_counted c.pieces-piece-items.result.now c.loop-piece.piece-index (arguments_of c.loop-piece.rest.now) c.loop-piece.total (length whole) (2 ^ 64 - 1) MAX_LEN c.loop-piece-test.false c.loop-piece.invariant.counted c.if-total-gt-MAX_LEN.false below in
+    let counted =
+    all_counted c.pieces-piece-items.result.now c.loop-piece.piece-index (arguments_of c.loop-piece.rest.now) c.loop-piece.total
+    (length whole) (2 ^ 64 - 1) MAX_LEN c.loop-piece-test.false c.loop-piece.invariant.counted c.if-total-gt-MAX_LEN.false below in
     length_of_print c.args.format.now c.args.args.now c.loop-piece.total counted

@@ -55,7 +55,8 @@ fn expect_part(rt: &(impl AllocGlobal + Abort), part: &str, written: &[u8]) {
     expect_end(rt, part, &script, End::Done, written);
 }
 
-// Some bytes of two texts, one after the other: each gets its own start and count, and one that gets no byte isn't touched.
+// Some bytes of two texts, one after the other: each gets its own start and count, and one that gets no byte isn't
+// touched.
 #[test]
 fn parts_of_two_texts(rt: HostRuntime) {
     expect_part(&rt, "2 3", b"cde");
@@ -125,8 +126,8 @@ fn expect_cut(
     assert!(rt; answer == Ok(end), "{line}");
 }
 
-// A file that is only measured isn't read, whatever it is; one that is built is read at once where it is eager, or has at
-// most 131,072 bytes.
+// A file that is only measured isn't read, whatever it is; one that is built is read at once where it is eager, or has
+// at most 131,072 bytes.
 #[test]
 fn files_that_fail_where_they_are_read(rt: HostRuntime) {
     let file = "file z \"p\"";

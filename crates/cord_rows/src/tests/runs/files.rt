@@ -44,7 +44,8 @@ fn expect_both<F: Files + Drop>(
     expect_way(rt, script, unplanned, false, end, written);
 }
 
-// That a read for line 2 of a script fails, when at most so many numbered bytes were written: by its plan or without one.
+// That a read for line 2 of a script fails, when at most so many numbered bytes were written: by its plan or without
+// one.
 fn expect_cut_off<F: Files + Drop>(
     rt: &(impl AllocGlobal + Abort),
     script: &str,

@@ -12,7 +12,8 @@ struct Put {
     count: usize,
 }
 
-// A script over the files "p" and "f" that has no loop, the number of its lines, and its lines that put something, in order.
+// A script over the files "p" and "f" that has no loop, the number of its lines, and its lines that put something, in
+// order.
 struct Hostile {
     script: &'static str,
     lines: u32,
@@ -92,7 +93,8 @@ fn put_up_to(rt: &(impl AllocGlobal + Abort), hostile: &Hostile, line: u32) -> V
     out
 }
 
-// Whether a run stopped in a line of a script: what the lines before it put is written, and then a prefix of what it puts.
+// Whether a run stopped in a line of a script: what the lines before it put is written, and then a prefix of what it
+// puts.
 fn is_stopped(rt: &(impl AllocGlobal + Abort), hostile: &Hostile, line: u32, out: &[u8]) -> bool {
     if line == 0 || line > hostile.lines {
         return false;
@@ -102,8 +104,9 @@ fn is_stopped(rt: &(impl AllocGlobal + Abort), hostile: &Hostile, line: u32, out
     out.starts_with(&before) && with_it.starts_with(out)
 }
 
-// Whether an end is honest of a run that has no fault, where the files and the sink failed so often: it is done and all is
-// written, or it stopped in a line or in the finish, and the device that is named has failed once and the other one never.
+// Whether an end is honest of a run that has no fault, where the files and the sink failed so often: it is done and all
+// is written, or it stopped in a line or in the finish, and the device that is named has failed once and the other one
+// never.
 fn is_honest(
     rt: &(impl AllocGlobal + Abort),
     hostile: &Hostile,
@@ -133,7 +136,8 @@ fn ended(
     (result, files.failures())
 }
 
-// Runs a script over files that pass so many calls and a sink that passes so many of at most so many bytes; whether it was done.
+// Runs a script over files that pass so many calls and a sink that passes so many of at most so many bytes; whether it
+// was done.
 fn run_fused(
     rt: &(impl AllocGlobal + Abort),
     hostile: &Hostile,

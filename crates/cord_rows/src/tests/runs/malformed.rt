@@ -1,4 +1,5 @@
-//! Scripts that are cut off, and scripts with a byte changed: each is refused and nothing is written, or it runs to its end.
+//! Scripts that are cut off, and scripts with a byte changed: each is refused and nothing is written, or it runs to its
+//! end.
 ghost use Rattle.std.specs.Prelude.{◌≡◌, ◌<◌, length};
 
 use super::refusals::REFUSALS;

@@ -206,7 +206,8 @@ pub(super) const BLOCKS: &[Row] = &[
     ),
     (
         "numbers-turn-by-turn",
-        r#"set a 0 ; repeat 3 ; add a a 2 ; if a gt 3 ; sub a a 5 ; else ; add a a 1 ; end ; end ; sprintf t "%d" a ; put t"#,
+        "set a 0 ; repeat 3 ; add a a 2 ; if a gt 3 ; sub a a 5 ; else ; add a a 1 ; end ; end ; \
+            sprintf t \"%d\" a ; put t",
         End::Done,
         b"3",
     ),
@@ -331,7 +332,8 @@ pub(super) const FAULTS: &[Row] = &[
 ];
 
 pub(super) const EC_GOES_ON: &str =
-    r#"ecinit e ; repeat 129 ; ecput e 65 ; end ; ectocord z e ; ecput e 66 ; put z ; ectocord y e ; len n y ; sprintf t "%d" n ; put t"#;
+    "ecinit e ; repeat 129 ; ecput e 65 ; end ; ectocord z e ; ecput e 66 ; put z ; ectocord y e ; len n y ; \
+        sprintf t \"%d\" n ; put t";
 
 fn expect_rows(rt: &(impl AllocGlobal + Abort), rows: &[Row]) {
     for (name, script, end, out) in rows {

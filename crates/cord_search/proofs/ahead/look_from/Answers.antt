@@ -32,8 +32,10 @@ returns-then-begin_alike c =
     let next = c.stretch_at-next.result in
     let le : k ≤ stretch_len stretch = omega (arith, c.min-count.ensures, c.min-2.ensures, c.len-2.ensures) in
     let more : k ≤ stretch_len next = omega (arith, c.min-count.ensures, c.len-3.ensures) in
-    let left : IsStretchOf (Some s.node.now) s.place stretch = stretch_on s.node.now s.place u.node.now u.place stretch c.meet.ensures.left c.stretch_at-stretch.ensures in
-    let right : IsStretchOf (Some o.node.now) o.place next = stretch_on o.node.now o.place v.node.now v.place next c.meet.ensures.right c.stretch_at-next.ensures in (
+    let left : IsStretchOf (Some s.node.now) s.place stretch =
+    stretch_on s.node.now s.place u.node.now u.place stretch c.meet.ensures.left c.stretch_at-stretch.ensures in
+    let right : IsStretchOf (Some o.node.now) o.place next =
+    stretch_on o.node.now o.place v.node.now v.place next c.meet.ensures.right c.stretch_at-next.ensures in (
       omega (arith, c.min-count.ensures, c.min-2.ensures, c.len-2.ensures, c.len-3.ensures, c.requires.some, left.some, right.some),
       omega (arith, c.min-count.ensures, c.min-2.ensures),
       stretches_alike (Some s.node.now) s.place (Some o.node.now) o.place stretch next k left right
@@ -51,9 +53,12 @@ returns c =
     let next = c.stretch_at-next.result in
     let le : k ≤ stretch_len stretch = omega (arith, c.min-count.ensures, c.min-2.ensures, c.len-2.ensures) in
     let more : k ≤ stretch_len next = omega (arith, c.min-count.ensures, c.len-3.ensures) in
-    let left : IsStretchOf (Some s.node.now) s.place stretch = stretch_on s.node.now s.place u.node.now u.place stretch c.meet.ensures.left c.stretch_at-stretch.ensures in
-    let right : IsStretchOf (Some o.node.now) o.place next = stretch_on o.node.now o.place v.node.now v.place next c.meet.ensures.right c.stretch_at-next.ensures in
-    let some : 0 < k = omega (arith, c.min-count.ensures, c.min-2.ensures, c.len-2.ensures, c.len-3.ensures, c.requires.some, left.some, right.some) in (
+    let left : IsStretchOf (Some s.node.now) s.place stretch =
+    stretch_on s.node.now s.place u.node.now u.place stretch c.meet.ensures.left c.stretch_at-stretch.ensures in
+    let right : IsStretchOf (Some o.node.now) o.place next =
+    stretch_on o.node.now o.place v.node.now v.place next c.meet.ensures.right c.stretch_at-next.ensures in
+    let some : 0 < k =
+    omega (arith, c.min-count.ensures, c.min-2.ensures, c.len-2.ensures, c.len-3.ensures, c.requires.some, left.some, right.some) in (
       front_stretch (Some s.node.now) s.place stretch c.up_to.result k some le left c.up_to.ensures,
       front_stretch (Some o.node.now) o.place next c.up_to-2.result k some more right c.up_to-2.ensures,
       omega (arith, c.up_to.ensures.len, c.up_to-2.ensures.len),

@@ -16,5 +16,7 @@ returns-clause-byte g c = λ folder kept.
     let out = c.copy_front.new.out in
     let told = g.met.S.Source.lengths_of_table c.args.src.now folder (c.in_ok-copy_front.ensures.read.earlier folder kept) in
     let stretch = c.cord_stretch_at.ensures in
-    let text : IsPieceOf t x c.args.i out = piece_within lengths t x c.args.i c.cord_stretch_at.result 0 c.args.i out told c.requires.fits stretch (omega (arith, stretch.some, c.copy_front.auto.out)) (omega arith) (c.in_ok-copy_front.ensures.text folder kept) in
+    let text : IsPieceOf t x c.args.i out =
+    piece_within lengths t x c.args.i c.cord_stretch_at.result 0 c.args.i out told c.requires.fits stretch
+    (omega (arith, stretch.some, c.copy_front.auto.out)) (omega arith) (c.in_ok-copy_front.ensures.text folder kept) in
     byte_of_range (bytes_of t x) out c.args.i text (omega (arith, c.copy_front.auto.out))

@@ -26,7 +26,8 @@ stretch_from-stretch-requires-clause-inside g c = rw c.loop-place.invariant.cord
 pub first_piece-requires-clause-fits : goal.first_piece-requires-clause-fits
 first_piece-requires-clause-fits g c =
     let x = c.args.x.now in
-    let stretch : IsStretchOf x c.loop-place.place c.stretch_from-stretch.result = rw c.loop-place.invariant.cord at c.stretch_from-stretch.ensures.stretch in
+    let stretch : IsStretchOf x c.loop-place.place c.stretch_from-stretch.result =
+    rw c.loop-place.invariant.cord at c.stretch_from-stretch.ensures.stretch in
     rw c.loop-place.invariant.lengths (c.in_block-block.ensures.front.fits (g.S.Source.lengths c.args.src.now)
     (stretch.fits (g.S.Source.lengths c.args.src.now) c.requires.fits))
 
@@ -41,7 +42,9 @@ loop-place-preserved-in-Some g c =
       high = omega (arith, whole, stretch.inside, c.len-len.ensures.stored);
       none = λ folder kept.
           let told = g.met.S.Source.lengths_of_table c.args.src.now folder (c.loop-place.invariant.earlier folder kept) in
-          let none = first_past (g.S.Source.lengths c.args.src.now) (g.S.Source.table c.args.src.now folder) x s c.args.byte c.args.from c.loop-place.place told c.requires.fits c.set-position.ensures.sound stretch c.in-Some.ensures.without (c.loop-place.invariant.none folder kept) in
+          let none = first_past (g.S.Source.lengths c.args.src.now) (g.S.Source.table c.args.src.now folder) x s c.args.byte c.args.from
+          c.loop-place.place told c.requires.fits c.set-position.ensures.sound stretch c.in-Some.ensures.without
+          (c.loop-place.invariant.none folder kept) in
           rw whole none;
       cord = c.stretch_from-stretch.ensures.cord ∙ c.loop-place.invariant.cord;
       valid = c.stretch_from-stretch.ensures.valid;
@@ -59,9 +62,12 @@ returns-in-Some-memchr-clause-first g c = λ folder kept.
     let piece = c.in_ok-piece.piece.now in
     let before = c.in_ok-piece.ensures.read.earlier folder kept in
     let told = g.met.S.Source.lengths_of_table c.args.src.now folder (c.loop-place.invariant.earlier folder before) in
-    let stretch : IsStretchOf x place c.stretch_from-stretch.result = rw c.loop-place.invariant.cord at c.stretch_from-stretch.ensures.stretch in
+    let stretch : IsStretchOf x place c.stretch_from-stretch.result =
+    rw c.loop-place.invariant.cord at c.stretch_from-stretch.ensures.stretch in
     let block = c.in_block-block.ensures in
-    let text = block_piece (g.S.Source.lengths c.args.src.now) t x place c.stretch_from-stretch.result c.in_block-block.result piece told c.requires.fits stretch block.some block.few block.front c.in_ok-piece.ensures.inside (rw c.loop-place.invariant.table at c.in_ok-piece.ensures.text folder kept) in
+    let text = block_piece (g.S.Source.lengths c.args.src.now) t x place c.stretch_from-stretch.result c.in_block-block.result piece told
+    c.requires.fits stretch block.some block.few block.front c.in_ok-piece.ensures.inside
+    (rw c.loop-place.invariant.table at c.in_ok-piece.ensures.text folder kept) in
     first_found t x piece c.args.byte c.args.from place c.in-Some-memchr.found _ c.in-Some-memchr.is c.memchr.ensures
     c.loop-place.invariant.low text (c.loop-place.invariant.none folder before)
 
@@ -69,7 +75,8 @@ pub loop-place-preserved : goal.loop-place-preserved
 loop-place-preserved g c =
     let x = c.args.x.now in
     let place = c.loop-place.place in
-    let stretch : IsStretchOf x place c.stretch_from-stretch.result = rw c.loop-place.invariant.cord at c.stretch_from-stretch.ensures.stretch in
+    let stretch : IsStretchOf x place c.stretch_from-stretch.result =
+    rw c.loop-place.invariant.cord at c.stretch_from-stretch.ensures.stretch in
     let block = c.in_block-block.ensures in
     record {
       low = omega (arith, c.loop-place.invariant.low);
@@ -79,7 +86,9 @@ loop-place-preserved g c =
           let piece = c.in_ok-piece.piece.now in
           let before = c.in_ok-piece.ensures.read.earlier folder kept in
           let told = g.met.S.Source.lengths_of_table c.args.src.now folder (c.loop-place.invariant.earlier folder before) in
-          let text = block_piece (g.S.Source.lengths c.args.src.now) t x place c.stretch_from-stretch.result c.in_block-block.result piece told c.requires.fits stretch block.some block.few block.front c.in_ok-piece.ensures.inside (rw c.loop-place.invariant.table at c.in_ok-piece.ensures.text folder kept) in
+          let text = block_piece (g.S.Source.lengths c.args.src.now) t x place c.stretch_from-stretch.result c.in_block-block.result piece
+          told c.requires.fits stretch block.some block.few block.front c.in_ok-piece.ensures.inside
+          (rw c.loop-place.invariant.table at c.in_ok-piece.ensures.text folder kept) in
           first_on t x piece c.args.byte c.args.from place _ c.in-None.is c.memchr.ensures text (c.loop-place.invariant.none folder before);
       cord = c.stretch_from-stretch.ensures.cord ∙ c.loop-place.invariant.cord;
       valid = c.stretch_from-stretch.ensures.valid;

@@ -16,7 +16,9 @@ returns-in-Some-clause-first g c = λ folder kept.
     let piece = c.in_ok-piece.piece.now in
     let told = g.met.S.Source.lengths_of_table c.args.src.now folder (c.in_ok-piece.ensures.read.earlier folder kept) in
     let block = c.in_block-stretch.ensures in
-    let text = block_piece (g.S.Source.lengths c.args.src.now) t x from c.cord_stretch_at.result c.in_block-stretch.result piece told c.requires.fits c.cord_stretch_at.ensures block.some block.few block.front c.in_ok-piece.ensures.inside (c.in_ok-piece.ensures.text folder kept) in
+    let text = block_piece (g.S.Source.lengths c.args.src.now) t x from c.cord_stretch_at.result c.in_block-stretch.result piece told
+    c.requires.fits c.cord_stretch_at.ensures block.some block.few block.front c.in_ok-piece.ensures.inside
+    (c.in_ok-piece.ensures.text folder kept) in
     first_found t x piece c.args.byte from from c.in-Some.found _ c.in-Some.is c.memchr.ensures (omega arith) text
     (λ q low to at. absurd (omega (arith, low, to)))
 
@@ -28,7 +30,9 @@ first_after-requires-clause-none g c = rw c.first_piece.ensures.read.table (λ f
     let piece = c.in_ok-piece.piece.now in
     let told = g.met.S.Source.lengths_of_table c.args.src.now folder (c.in_ok-piece.ensures.read.earlier folder kept) in
     let block = c.in_block-stretch.ensures in
-    let text = block_piece (g.S.Source.lengths c.args.src.now) t x from c.cord_stretch_at.result c.in_block-stretch.result piece told c.requires.fits c.cord_stretch_at.ensures block.some block.few block.front c.in_ok-piece.ensures.inside (c.in_ok-piece.ensures.text folder kept) in
+    let text = block_piece (g.S.Source.lengths c.args.src.now) t x from c.cord_stretch_at.result c.in_block-stretch.result piece told
+    c.requires.fits c.cord_stretch_at.ensures block.some block.few block.front c.in_ok-piece.ensures.inside
+    (c.in_ok-piece.ensures.text folder kept) in
     first_on t x piece c.args.byte from from _ c.in-None.is c.memchr.ensures text (λ q low to at. absurd (omega (arith, low, to))))
 
 pub returns-else-after-len-clause-first : goal.returns-else-after-len-clause-first
@@ -40,7 +44,8 @@ returns-else-after-len-clause-first g c = λ folder kept.
     let lengths = g.S.Source.lengths c.args.src.now in
     let told = g.met.S.Source.lengths_of_table c.args.src.now folder (c.in_ok-piece.ensures.read.earlier folder kept) in
     let block = c.in_block-stretch.ensures in
-    let text = block_piece lengths t x from c.cord_stretch_at.result c.in_block-stretch.result piece told c.requires.fits c.cord_stretch_at.ensures block.some block.few block.front c.in_ok-piece.ensures.inside (c.in_ok-piece.ensures.text folder kept) in
+    let text = block_piece lengths t x from c.cord_stretch_at.result c.in_block-stretch.result piece told c.requires.fits
+    c.cord_stretch_at.ensures block.some block.few block.front c.in_ok-piece.ensures.inside (c.in_ok-piece.ensures.text folder kept) in
     first_none t x c.args.byte from _ (omega (arith, c.if-after-len.false, c.len-len.ensures.stored))
     (cord_len lengths t x told c.len-len.ensures.sound c.requires.fits)
     (first_on t x piece c.args.byte from from _ c.in-None.is c.memchr.ensures text (λ q low to at. absurd (omega (arith, low, to))))

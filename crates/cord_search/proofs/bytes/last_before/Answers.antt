@@ -25,7 +25,8 @@ stretch_up_to-stretch-requires-clause-inside g c = rw c.loop-end.invariant.cord
 pub last_piece-requires-clause-fits : goal.last_piece-requires-clause-fits
 last_piece-requires-clause-fits g c =
     let s = c.stretch_up_to-stretch.result in
-    let stretch : IsStretchOf c.args.x.now (c.loop-end.end - stretch_len s) s = rw c.loop-end.invariant.cord at c.stretch_up_to-stretch.ensures.stretch in
+    let stretch : IsStretchOf c.args.x.now (c.loop-end.end - stretch_len s) s =
+    rw c.loop-end.invariant.cord at c.stretch_up_to-stretch.ensures.stretch in
     rw c.loop-end.invariant.lengths (stretch.fits (g.S.Source.lengths c.args.src.now) c.requires.fits)
 
 pub loop-end-preserved-in-Some : goal.loop-end-preserved-in-Some
@@ -41,7 +42,10 @@ loop-end-preserved-in-Some g c =
       none = λ folder kept.
           let t = g.S.Source.table c.args.src.now folder in
           let told = g.met.S.Source.lengths_of_table c.args.src.now folder (c.loop-end.invariant.earlier folder kept) in
-          let none : HasNot t x c.args.byte (end - stretch_len s) (c.args.at + 1) = last_past (g.S.Source.lengths c.args.src.now) t x s c.args.byte c.args.at (end - stretch_len s) end told c.requires.fits c.set-position.ensures.sound (omega (arith, inside)) stretch c.in-Some.ensures.without (c.loop-end.invariant.none folder kept) in
+          let none : HasNot t x c.args.byte (end - stretch_len s) (c.args.at + 1) =
+          last_past (g.S.Source.lengths c.args.src.now) t x s c.args.byte c.args.at (end - stretch_len s) end told c.requires.fits
+          c.set-position.ensures.sound (omega (arith, inside)) stretch c.in-Some.ensures.without
+          (c.loop-end.invariant.none folder kept) in
           rw whole none;
       cord = c.stretch_up_to-stretch.ensures.cord ∙ c.loop-end.invariant.cord;
       valid = c.stretch_up_to-stretch.ensures.valid;
@@ -63,7 +67,10 @@ returns-in-Some-memrchr-clause-last g c = λ folder kept.
     let short : length piece ≤ stretch_len s = c.in_ok-piece.ensures.inside in
     let before = c.in_ok-piece.ensures.read.earlier folder kept in
     let told = g.met.S.Source.lengths_of_table c.args.src.now folder (c.loop-end.invariant.earlier folder before) in
-    let text : IsPieceOf t x (end - length piece) piece = piece_within (g.S.Source.lengths c.args.src.now) t x (end - stretch_len s) s (stretch_len s - length piece) (end - length piece) piece told c.requires.fits stretch (omega (arith, short)) (omega (arith, short, inside)) (rw c.loop-end.invariant.table at c.in_ok-piece.ensures.text folder kept) in
+    let text : IsPieceOf t x (end - length piece) piece =
+    piece_within (g.S.Source.lengths c.args.src.now) t x (end - stretch_len s) s (stretch_len s - length piece) (end - length piece)
+    piece told c.requires.fits stretch (omega (arith, short)) (omega (arith, short, inside))
+    (rw c.loop-end.invariant.table at c.in_ok-piece.ensures.text folder kept) in
     last_found t x piece c.args.byte c.args.at (end - length piece) c.in-Some-memrchr.found end _ c.in-Some-memrchr.is c.memrchr.ensures
     (omega (arith, short, inside)) c.loop-end.invariant.high text (c.loop-end.invariant.none folder before)
 
@@ -82,7 +89,10 @@ loop-end-preserved g c =
           let t = g.S.Source.table c.args.src.now folder in
           let before = c.in_ok-piece.ensures.read.earlier folder kept in
           let told = g.met.S.Source.lengths_of_table c.args.src.now folder (c.loop-end.invariant.earlier folder before) in
-          let text : IsPieceOf t x (end - length piece) piece = piece_within (g.S.Source.lengths c.args.src.now) t x (end - stretch_len s) s (stretch_len s - length piece) (end - length piece) piece told c.requires.fits stretch (omega (arith, short)) (omega (arith, short, inside)) (rw c.loop-end.invariant.table at c.in_ok-piece.ensures.text folder kept) in
+          let text : IsPieceOf t x (end - length piece) piece =
+          piece_within (g.S.Source.lengths c.args.src.now) t x (end - stretch_len s) s (stretch_len s - length piece)
+          (end - length piece) piece told c.requires.fits stretch (omega (arith, short)) (omega (arith, short, inside))
+          (rw c.loop-end.invariant.table at c.in_ok-piece.ensures.text folder kept) in
           last_on t x piece c.args.byte c.args.at (end - length piece) end _ c.in-None.is c.memrchr.ensures
           (omega (arith, short, inside)) text (c.loop-end.invariant.none folder before);
       cord = c.stretch_up_to-stretch.ensures.cord ∙ c.loop-end.invariant.cord;

@@ -19,7 +19,10 @@ returns-in-Some-clause-last g c = λ folder kept.
     let inside : stretch_len s ≤ end = c.cord_stretch_to-stretch.ensures.inside in
     let short : length piece ≤ stretch_len s = c.in_ok-piece.ensures.inside in
     let told = g.met.S.Source.lengths_of_table c.args.src.now folder (c.in_ok-piece.ensures.read.earlier folder kept) in
-    let text : IsPieceOf t x (end - length piece) piece = piece_within (g.S.Source.lengths c.args.src.now) t x (end - stretch_len s) s (stretch_len s - length piece) (end - length piece) piece told c.requires.fits c.cord_stretch_to-stretch.ensures.stretch (omega (arith, short)) (omega (arith, short, inside)) (c.in_ok-piece.ensures.text folder kept) in
+    let text : IsPieceOf t x (end - length piece) piece =
+    piece_within (g.S.Source.lengths c.args.src.now) t x (end - stretch_len s) s (stretch_len s - length piece) (end - length piece)
+    piece told c.requires.fits c.cord_stretch_to-stretch.ensures.stretch (omega (arith, short)) (omega (arith, short, inside))
+    (c.in_ok-piece.ensures.text folder kept) in
     rw start (last_found t x piece c.args.byte c.args.at (end - length piece) c.in-Some.found end _ c.in-Some.is c.memrchr.ensures
     (omega (arith, short, inside)) (omega arith) text (λ q low to there. absurd (omega (arith, low, to))))
 
@@ -34,7 +37,10 @@ last_before-requires-clause-none g c = rw c.last_piece.ensures.read.table (λ fo
     let inside : stretch_len s ≤ end = c.cord_stretch_to-stretch.ensures.inside in
     let short : length piece ≤ stretch_len s = c.in_ok-piece.ensures.inside in
     let told = g.met.S.Source.lengths_of_table c.args.src.now folder (c.in_ok-piece.ensures.read.earlier folder kept) in
-    let text : IsPieceOf t x (end - length piece) piece = piece_within (g.S.Source.lengths c.args.src.now) t x (end - stretch_len s) s (stretch_len s - length piece) (end - length piece) piece told c.requires.fits c.cord_stretch_to-stretch.ensures.stretch (omega (arith, short)) (omega (arith, short, inside)) (c.in_ok-piece.ensures.text folder kept) in
+    let text : IsPieceOf t x (end - length piece) piece =
+    piece_within (g.S.Source.lengths c.args.src.now) t x (end - stretch_len s) s (stretch_len s - length piece) (end - length piece)
+    piece told c.requires.fits c.cord_stretch_to-stretch.ensures.stretch (omega (arith, short)) (omega (arith, short, inside))
+    (c.in_ok-piece.ensures.text folder kept) in
     rw start (last_on t x piece c.args.byte c.args.at (end - length piece) end _ c.in-None.is c.memrchr.ensures
     (omega (arith, short, inside)) text (λ q low to there. absurd (omega (arith, low, to)))))
 
@@ -48,7 +54,10 @@ returns-then-start-eq0-clause-last g c = λ folder kept.
     let inside : stretch_len s ≤ end = c.cord_stretch_to-stretch.ensures.inside in
     let short : length piece ≤ stretch_len s = c.in_ok-piece.ensures.inside in
     let told = g.met.S.Source.lengths_of_table c.args.src.now folder (c.in_ok-piece.ensures.read.earlier folder kept) in
-    let text : IsPieceOf t x (end - length piece) piece = piece_within (g.S.Source.lengths c.args.src.now) t x (end - stretch_len s) s (stretch_len s - length piece) (end - length piece) piece told c.requires.fits c.cord_stretch_to-stretch.ensures.stretch (omega (arith, short)) (omega (arith, short, inside)) (c.in_ok-piece.ensures.text folder kept) in
+    let text : IsPieceOf t x (end - length piece) piece =
+    piece_within (g.S.Source.lengths c.args.src.now) t x (end - stretch_len s) s (stretch_len s - length piece) (end - length piece)
+    piece told c.requires.fits c.cord_stretch_to-stretch.ensures.stretch (omega (arith, short)) (omega (arith, short, inside))
+    (c.in_ok-piece.ensures.text folder kept) in
     last_none t x c.args.byte c.args.at (end - length piece) (omega (arith, c.if-start-eq0.true, c.in_ok-piece.ensures.some))
     (last_on t x piece c.args.byte c.args.at (end - length piece) end _ c.in-None.is c.memrchr.ensures
     (omega (arith, short, inside)) text (λ q low to there. absurd (omega (arith, low, to))))

@@ -63,9 +63,18 @@ loop-done-preserved g c = record {
       let told = g.met.S.Source.lengths_of_table c.args.src.now folder (c.loop-done.invariant.earlier folder before) in
       let from = c.args.i + done in
       let other_from = c.args.j + done in
-      let text : IsPieceOf t c.args.x.now from piece = piece_within lengths t c.args.x.now from c.in-Apart.stretch 0 from piece told c.requires.left_fits c.in-Apart.ensures.0 (omega (arith, c.in_ok-piece-in-Apart.ensures.inside)) (omega arith) (rw c.loop-done.invariant.table at c.in_ok-piece-in-Apart.ensures.text folder after) in
-      let other_text : IsPieceOf t c.args.y.now other_from other = piece_within lengths t c.args.y.now other_from c.in-Apart.other 0 other_from other told c.requires.right_fits c.in-Apart.ensures.1 (omega (arith, c.in_ok-other-in-Apart.ensures.inside)) (omega arith) (rw (c.first_piece.ensures.read.table, c.loop-done.invariant.table) at c.in_ok-other-in-Apart.ensures.text folder kept) in
-      let first : AreSame t c.args.x.now c.args.i c.args.y.now c.args.j (done + n) = same_on t c.args.x.now c.args.i c.args.y.now c.args.j done n piece other (omega (arith, c.min-count.ensures)) (omega (arith, c.min-count.ensures)) text other_text (sym c.in-Equal.is ∙ c.cmp.ensures) (c.loop-done.invariant.same folder before) in
+      let text : IsPieceOf t c.args.x.now from piece =
+      piece_within lengths t c.args.x.now from c.in-Apart.stretch 0 from piece told c.requires.left_fits c.in-Apart.ensures.0
+      (omega (arith, c.in_ok-piece-in-Apart.ensures.inside)) (omega arith)
+      (rw c.loop-done.invariant.table at c.in_ok-piece-in-Apart.ensures.text folder after) in
+      let other_text : IsPieceOf t c.args.y.now other_from other =
+      piece_within lengths t c.args.y.now other_from c.in-Apart.other 0 other_from other told c.requires.right_fits c.in-Apart.ensures.1
+      (omega (arith, c.in_ok-other-in-Apart.ensures.inside)) (omega arith)
+      (rw (c.first_piece.ensures.read.table, c.loop-done.invariant.table) at c.in_ok-other-in-Apart.ensures.text folder kept) in
+      let first : AreSame t c.args.x.now c.args.i c.args.y.now c.args.j (done + n) =
+      same_on t c.args.x.now c.args.i c.args.y.now c.args.j done n piece other (omega (arith, c.min-count.ensures))
+      (omega (arith, c.min-count.ensures)) text other_text (sym c.in-Equal.is ∙ c.cmp.ensures)
+      (c.loop-done.invariant.same folder before) in
       alike_on lengths t c.args.x.now c.args.i c.args.y.now c.args.j (done + n) c.common_behind-done.result told c.requires.left_fits
       c.requires.right_fits c.common_behind-done.ensures.alike first;
   reads = c.in_ok-other-in-Apart.ensures.read.count ∙ (c.in_ok-piece-in-Apart.ensures.read.count ∙ c.loop-done.invariant.reads);
@@ -88,8 +97,14 @@ returns-in_default-clause-order g c = λ folder kept.
     let told = g.met.S.Source.lengths_of_table c.args.src.now folder (c.loop-done.invariant.earlier folder before) in
     let from = c.args.i + done in
     let other_from = c.args.j + done in
-    let text : IsPieceOf t c.args.x.now from piece = piece_within lengths t c.args.x.now from c.in-Apart.stretch 0 from piece told c.requires.left_fits c.in-Apart.ensures.0 (omega (arith, c.in_ok-piece-in-Apart.ensures.inside)) (omega arith) (rw c.loop-done.invariant.table at c.in_ok-piece-in-Apart.ensures.text folder after) in
-    let other_text : IsPieceOf t c.args.y.now other_from other = piece_within lengths t c.args.y.now other_from c.in-Apart.other 0 other_from other told c.requires.right_fits c.in-Apart.ensures.1 (omega (arith, c.in_ok-other-in-Apart.ensures.inside)) (omega arith) (rw (c.first_piece.ensures.read.table, c.loop-done.invariant.table) at c.in_ok-other-in-Apart.ensures.text folder kept) in
+    let text : IsPieceOf t c.args.x.now from piece =
+    piece_within lengths t c.args.x.now from c.in-Apart.stretch 0 from piece told c.requires.left_fits c.in-Apart.ensures.0
+    (omega (arith, c.in_ok-piece-in-Apart.ensures.inside)) (omega arith)
+    (rw c.loop-done.invariant.table at c.in_ok-piece-in-Apart.ensures.text folder after) in
+    let other_text : IsPieceOf t c.args.y.now other_from other =
+    piece_within lengths t c.args.y.now other_from c.in-Apart.other 0 other_from other told c.requires.right_fits c.in-Apart.ensures.1
+    (omega (arith, c.in_ok-other-in-Apart.ensures.inside)) (omega arith)
+    (rw (c.first_piece.ensures.read.table, c.loop-done.invariant.table) at c.in_ok-other-in-Apart.ensures.text folder kept) in
     different t c.args.x.now c.args.i c.args.left c.args.y.now c.args.j c.args.right done n piece other c.cmp.result
     (omega (
       arith,
@@ -113,8 +128,10 @@ returns-clause-order g c = λ folder kept.
     let t = g.S.Source.table c.args.src.now folder in
     let lengths = g.S.Source.lengths c.args.src.now in
     let told = g.met.S.Source.lengths_of_table c.args.src.now folder (c.loop-done.invariant.earlier folder kept) in
-    let left = range_len t c.args.x.now c.args.i c.args.left (cord_len lengths t c.args.x.now told c.requires.left_sound c.requires.left_fits) c.requires.left_inside in
-    let right = range_len t c.args.y.now c.args.j c.args.right (cord_len lengths t c.args.y.now told c.requires.right_sound c.requires.right_fits) c.requires.right_inside in
+    let left = range_len t c.args.x.now c.args.i c.args.left
+    (cord_len lengths t c.args.x.now told c.requires.left_sound c.requires.left_fits) c.requires.left_inside in
+    let right = range_len t c.args.y.now c.args.j c.args.right
+    (cord_len lengths t c.args.y.now told c.requires.right_sound c.requires.right_fits) c.requires.right_inside in
     rw c.cmp-2.ensures (no_different t c.args.x.now c.args.i c.args.left c.args.y.now c.args.j c.args.right c.loop-done.done
     (omega (arith, c.min-both.ensures, c.loop-done.invariant.in_range)) (omega (arith, c.min-both.ensures, c.loop-done-test.false))
     left right (c.loop-done.invariant.same folder kept))

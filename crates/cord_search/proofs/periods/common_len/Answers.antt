@@ -55,8 +55,14 @@ loop-done-preserved g c = record {
       let told = g.met.S.Source.lengths_of_table c.args.src.now folder (c.loop-done.invariant.earlier folder before) in
       let from = c.args.i + done in
       let other_from = c.args.j + done in
-      let text : IsPieceOf t c.args.x.now from piece = piece_within lengths t c.args.x.now from c.in-Apart.stretch 0 from piece told c.requires.left_fits c.in-Apart.ensures.0 (omega (arith, c.in_ok-piece-in-Apart.ensures.inside)) (omega arith) (rw c.loop-done.invariant.table at c.in_ok-piece-in-Apart.ensures.text folder after) in
-      let other_text : IsPieceOf t c.args.y.now other_from other = piece_within lengths t c.args.y.now other_from c.in-Apart.other 0 other_from other told c.requires.right_fits c.in-Apart.ensures.1 (omega (arith, c.in_ok-other-in-Apart.ensures.inside)) (omega arith) (rw (c.first_piece.ensures.read.table, c.loop-done.invariant.table) at c.in_ok-other-in-Apart.ensures.text folder kept) in
+      let text : IsPieceOf t c.args.x.now from piece =
+      piece_within lengths t c.args.x.now from c.in-Apart.stretch 0 from piece told c.requires.left_fits c.in-Apart.ensures.0
+      (omega (arith, c.in_ok-piece-in-Apart.ensures.inside)) (omega arith)
+      (rw c.loop-done.invariant.table at c.in_ok-piece-in-Apart.ensures.text folder after) in
+      let other_text : IsPieceOf t c.args.y.now other_from other =
+      piece_within lengths t c.args.y.now other_from c.in-Apart.other 0 other_from other told c.requires.right_fits c.in-Apart.ensures.1
+      (omega (arith, c.in_ok-other-in-Apart.ensures.inside)) (omega arith)
+      (rw (c.first_piece.ensures.read.table, c.loop-done.invariant.table) at c.in_ok-other-in-Apart.ensures.text folder kept) in
       common_on t c.args.x.now c.args.i c.args.y.now c.args.j done n piece other c.agreeing-count.ensures.left
       c.agreeing-count.ensures.right text other_text c.agreeing-count.ensures.same (c.loop-done.invariant.same folder before);
   reads = c.in_ok-other-in-Apart.ensures.read.count ∙ (c.in_ok-piece-in-Apart.ensures.read.count ∙ c.loop-done.invariant.reads);
@@ -81,8 +87,14 @@ returns-then-count-both-clause-common g c = λ folder kept.
     let other_from = c.args.j + done in
     let left : n < length piece = omega (arith, c.if-count-both.true, c.min-both.ensures) in
     let right : n < length other = omega (arith, c.if-count-both.true, c.min-both.ensures) in
-    let text : IsPieceOf t c.args.x.now from piece = piece_within lengths t c.args.x.now from c.in-Apart.stretch 0 from piece told c.requires.left_fits c.in-Apart.ensures.0 (omega (arith, c.in_ok-piece-in-Apart.ensures.inside)) (omega arith) (rw c.loop-done.invariant.table at c.in_ok-piece-in-Apart.ensures.text folder after) in
-    let other_text : IsPieceOf t c.args.y.now other_from other = piece_within lengths t c.args.y.now other_from c.in-Apart.other 0 other_from other told c.requires.right_fits c.in-Apart.ensures.1 (omega (arith, c.in_ok-other-in-Apart.ensures.inside)) (omega arith) (rw (c.first_piece.ensures.read.table, c.loop-done.invariant.table) at c.in_ok-other-in-Apart.ensures.text folder kept) in
+    let text : IsPieceOf t c.args.x.now from piece =
+    piece_within lengths t c.args.x.now from c.in-Apart.stretch 0 from piece told c.requires.left_fits c.in-Apart.ensures.0
+    (omega (arith, c.in_ok-piece-in-Apart.ensures.inside)) (omega arith)
+    (rw c.loop-done.invariant.table at c.in_ok-piece-in-Apart.ensures.text folder after) in
+    let other_text : IsPieceOf t c.args.y.now other_from other =
+    piece_within lengths t c.args.y.now other_from c.in-Apart.other 0 other_from other told c.requires.right_fits c.in-Apart.ensures.1
+    (omega (arith, c.in_ok-other-in-Apart.ensures.inside)) (omega arith)
+    (rw (c.first_piece.ensures.read.table, c.loop-done.invariant.table) at c.in_ok-other-in-Apart.ensures.text folder kept) in
     common_end t c.args.x.now c.args.i c.args.y.now c.args.j c.args.most done n piece other
     (omega (arith, left, c.in_ok-piece-in-Apart.ensures.inside, c.in-Apart.ensures.3, c.loop-done-test.true)) left right text
     other_text c.agreeing-count.ensures.same (c.agreeing-count.ensures.differ left right) (c.loop-done.invariant.same folder before)

@@ -17,8 +17,10 @@ returns-then-run-count-clause-none g c = λ folder kept.
     let told = g.met.S.Source.lengths_of_table c.args.src.now folder before in
     let p = c.in-Some.repeated.period in
     let n = c.in-Some.repeated.count in
-    let repeats : IsCommon t c.args.s.now 0 c.args.s.now p (text_len c.args.s.now - p) n = rw c.in-Some.is at c.requires.repeats folder before in
-    let runs : IsCommon t c.args.x.now c.args.place c.args.x.now (c.args.place + p) (text_len c.args.x.now - (c.args.place + p)) c.in_ok-run.run' = rw c.len-len.ensures.stored at c.in_ok-run.ensures.common folder kept in
+    let repeats : IsCommon t c.args.s.now 0 c.args.s.now p (text_len c.args.s.now - p) n =
+    rw c.in-Some.is at c.requires.repeats folder before in
+    let runs : IsCommon t c.args.x.now c.args.place c.args.x.now (c.args.place + p) (text_len c.args.x.now - (c.args.place + p))
+    c.in_ok-run.run' = rw c.len-len.ensures.stored at c.in_ok-run.ensures.common folder kept in
     passed_short t c.args.x.now c.args.s.now c.args.place p n c.in_ok-run.run'
     (cord_len lengths t c.args.x.now told c.requires.sound c.requires.fits)
     (cord_len lengths t c.args.s.now told c.requires.pattern_sound c.requires.pattern_fits)
@@ -32,8 +34,10 @@ returns-then-count-most-clause-none g c = λ folder kept.
     let told = g.met.S.Source.lengths_of_table c.args.src.now folder before in
     let p = c.in-Some.repeated.period in
     let n = c.in-Some.repeated.count in
-    let repeats : IsCommon t c.args.s.now 0 c.args.s.now p (text_len c.args.s.now - p) n = rw c.in-Some.is at c.requires.repeats folder before in
-    let runs : IsCommon t c.args.x.now c.args.place c.args.x.now (c.args.place + p) (text_len c.args.x.now - (c.args.place + p)) c.in_ok-run.run' = rw c.len-len.ensures.stored at c.in_ok-run.ensures.common folder kept in
+    let repeats : IsCommon t c.args.s.now 0 c.args.s.now p (text_len c.args.s.now - p) n =
+    rw c.in-Some.is at c.requires.repeats folder before in
+    let runs : IsCommon t c.args.x.now c.args.place c.args.x.now (c.args.place + p) (text_len c.args.x.now - (c.args.place + p))
+    c.in_ok-run.run' = rw c.len-len.ensures.stored at c.in_ok-run.ensures.common folder kept in
     passed_long t c.args.x.now c.args.s.now c.args.place p n c.in_ok-run.run'
     (cord_len lengths t c.args.x.now told c.requires.sound c.requires.fits)
     (cord_len lengths t c.args.s.now told c.requires.pattern_sound c.requires.pattern_fits)

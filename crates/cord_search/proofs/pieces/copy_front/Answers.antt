@@ -21,5 +21,6 @@ pub read-requires : goal.read-requires
 read-requires g c =
     let held = c.requires.fits in
     let whole : stretch_len c.args.stretch ≡ c.in-Func.len = ap stretch_len c.in-Func.is in
-    let inside : c.in-Func.start + c.in-Func.len ≤ length_at (g.S.Source.lengths c.args.src.now) c.in-Func.id.0 = (rw c.in-Func.is at held).0 in
+    let inside : c.in-Func.start + c.in-Func.len ≤ length_at (g.S.Source.lengths c.args.src.now) c.in-Func.id.0 =
+    (rw c.in-Func.is at held).0 in
     search (rules, whole, inside)

@@ -22,16 +22,19 @@ stretch_from-stretch-requires-clause-inside g c = rw c.loop-done.invariant.cord
 
 pub copy_front-requires-clause-fits : goal.copy_front-requires-clause-fits
 copy_front-requires-clause-fits g c =
-    let stretch : IsStretchOf c.args.position.now.cord (c.args.place + c.loop-done.done) c.stretch_from-stretch.result = rw c.loop-done.invariant.cord at c.stretch_from-stretch.ensures.stretch in
+    let stretch : IsStretchOf c.args.position.now.cord (c.args.place + c.loop-done.done) c.stretch_from-stretch.result =
+    rw c.loop-done.invariant.cord at c.stretch_from-stretch.ensures.stretch in
     rw c.loop-done.invariant.lengths (stretch.fits (g.S.Source.lengths c.args.src.now) c.requires.fits)
 
 pub loop-done-preserved : goal.loop-done-preserved
 loop-done-preserved g c =
     let done = c.loop-done.done in
-    let stretch : IsStretchOf c.args.position.now.cord (c.args.place + done) c.stretch_from-stretch.result = rw c.loop-done.invariant.cord at c.stretch_from-stretch.ensures.stretch in
+    let stretch : IsStretchOf c.args.position.now.cord (c.args.place + done) c.stretch_from-stretch.result =
+    rw c.loop-done.invariant.cord at c.stretch_from-stretch.ensures.stretch in
     let n = c.min-count.result in
     let part = c.copy_front.new.out in
-    let cut = length-take-le (done + n - done) (drop done c.loop-done.out) (omega (arith, c.min-count.ensures, length-drop done c.loop-done.out)) in
+    let cut = length-take-le (done + n - done) (drop done c.loop-done.out)
+    (omega (arith, c.min-count.ensures, length-drop done c.loop-done.out)) in
     let long : length part ≡ n = omega (arith, c.copy_front.auto.out ∙ cut) in
     record {
       in_range = filled_inside done _ n c.loop-done.out part long c.loop-done.invariant.in_range;
@@ -40,7 +43,10 @@ loop-done-preserved g c =
           let lengths = g.S.Source.lengths c.args.src.now in
           let before = c.in_ok-copy_front.ensures.read.earlier folder kept in
           let told = g.met.S.Source.lengths_of_table c.args.src.now folder (c.loop-done.invariant.earlier folder before) in
-          let text : IsPieceOf t c.args.position.now.cord (c.args.place + done) part = piece_within lengths t c.args.position.now.cord (c.args.place + done) c.stretch_from-stretch.result 0 (c.args.place + done) part told c.requires.fits stretch (omega (arith, long, c.min-count.ensures, c.len.ensures)) (omega arith) (rw c.loop-done.invariant.table at c.in_ok-copy_front.ensures.text folder kept) in
+          let text : IsPieceOf t c.args.position.now.cord (c.args.place + done) part =
+          piece_within lengths t c.args.position.now.cord (c.args.place + done) c.stretch_from-stretch.result 0 (c.args.place + done)
+          part told c.requires.fits stretch (omega (arith, long, c.min-count.ensures, c.len.ensures)) (omega arith)
+          (rw c.loop-done.invariant.table at c.in_ok-copy_front.ensures.text folder kept) in
           filled_on t c.args.position.now.cord c.args.place done _ n c.loop-done.out part (c.loop-done.invariant.filled folder before) text
           long c.loop-done.invariant.in_range;
       cord = c.stretch_from-stretch.ensures.cord ∙ c.loop-done.invariant.cord;

@@ -10,12 +10,18 @@ unreachable-requires c = behind_some c.args.position.now.cord c.args.position.no
 
 pub returns-clause-inside : goal.returns-clause-inside
 returns-clause-inside c =
-    let there : EndsAt c.args.position.now.cord (c.args.end - 1) c.in-Some.stretch = behind_there c.args.position.now.cord c.args.position.now.index (c.args.end - 1) c.in-Some.stretch c.requires.valid (omega (arith, c.requires.some, c.requires.inside)) (rw (c.in-Some.is, c.move_to.ensures.cord, c.move_to.ensures.index) at c.behind.ensures) in
+    let there : EndsAt c.args.position.now.cord (c.args.end - 1) c.in-Some.stretch =
+    behind_there c.args.position.now.cord c.args.position.now.index (c.args.end - 1) c.in-Some.stretch c.requires.valid
+    (omega (arith, c.requires.some, c.requires.inside))
+    (rw (c.in-Some.is, c.move_to.ensures.cord, c.move_to.ensures.index) at c.behind.ensures) in
     omega (arith, c.requires.some, there.inside)
 
 pub returns-clause-stretch : goal.returns-clause-stretch
 returns-clause-stretch c =
-    let there : EndsAt c.args.position.now.cord (c.args.end - 1) c.in-Some.stretch = behind_there c.args.position.now.cord c.args.position.now.index (c.args.end - 1) c.in-Some.stretch c.requires.valid (omega (arith, c.requires.some, c.requires.inside)) (rw (c.in-Some.is, c.move_to.ensures.cord, c.move_to.ensures.index) at c.behind.ensures) in
+    let there : EndsAt c.args.position.now.cord (c.args.end - 1) c.in-Some.stretch =
+    behind_there c.args.position.now.cord c.args.position.now.index (c.args.end - 1) c.in-Some.stretch c.requires.valid
+    (omega (arith, c.requires.some, c.requires.inside))
+    (rw (c.in-Some.is, c.move_to.ensures.cord, c.move_to.ensures.index) at c.behind.ensures) in
     ends_there c.args.position.now.cord c.args.end c.in-Some.stretch c.requires.some there
 
 pub returns-clause-valid : goal.returns-clause-valid

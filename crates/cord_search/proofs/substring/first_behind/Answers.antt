@@ -32,7 +32,9 @@ loop-head-preserved g c = record {
       let window = c.in_ok-window.window.now in
       let head = c.args.finder.now in
       let before = c.in_ok-window.ensures.read.earlier folder kept in
-      let text : IsPieceOf t c.args.x.now c.loop-head.place window = rw (c.loop-head.invariant.table, c.stretch_from-stretch.ensures.cord, c.loop-head.invariant.cord) at c.in_ok-window.ensures.text folder kept in
+      let text : IsPieceOf t c.args.x.now c.loop-head.place window =
+      rw (c.loop-head.invariant.table, c.stretch_from-stretch.ensures.cord, c.loop-head.invariant.cord)
+      at c.in_ok-window.ensures.text folder kept in
       let enough : length head ≤ length window = rw c.needle-head.ensures at c.in_ok-window.ensures.enough in
       rw c.needle-head.ensures (window_none t c.args.x.now c.args.start c.loop-head.place window head c.find.result c.in-None.is
       c.find.ensures enough text (c.loop-head.invariant.none folder before));
@@ -50,7 +52,9 @@ returns-in-Some-clause-first g c = λ folder kept.
     let window = c.in_ok-window.window.now in
     let head = c.args.finder.now in
     let before = c.in_ok-window.ensures.read.earlier folder kept in
-    let text : IsPieceOf t c.args.x.now c.loop-head.place window = rw (c.loop-head.invariant.table, c.stretch_from-stretch.ensures.cord, c.loop-head.invariant.cord) at c.in_ok-window.ensures.text folder kept in
+    let text : IsPieceOf t c.args.x.now c.loop-head.place window =
+    rw (c.loop-head.invariant.table, c.stretch_from-stretch.ensures.cord, c.loop-head.invariant.cord)
+    at c.in_ok-window.ensures.text folder kept in
     window_some t c.args.x.now c.args.start c.loop-head.place c.in-Some.found window head c.find.result c.in-Some.is c.requires.some
     c.find.ensures c.loop-head.invariant.low text (c.loop-head.invariant.none folder before)
 

@@ -29,7 +29,9 @@ first_behind-requires-in-None-clause-none g c = λ folder kept.
     let whole : stretch_len s ≡ length leaf = ap stretch_len c.in-Bytes.is in
     let long : length c.needle-head.result.now ≡ length head = ap (λ (ys : List ℕ). length ys) c.needle-head.ensures in
     let enough : length head ≤ length leaf = omega (arith, long, c.if-leaf-head.false) in
-    let text : IsPieceOf t x start leaf = piece_within lengths t x start s 0 start leaf told c.requires.fits c.cord_stretch_at.ensures (omega (arith, whole)) (omega arith) (whole_part t s leaf 0 (λ t. ap (λ (r : Stretch). stretch_bytes t r) c.in-Bytes.is) refl) in
+    let text : IsPieceOf t x start leaf =
+    piece_within lengths t x start s 0 start leaf told c.requires.fits c.cord_stretch_at.ensures (omega (arith, whole)) (omega arith)
+    (whole_part t s leaf 0 (λ t. ap (λ (r : Stretch). stretch_bytes t r) c.in-Bytes.is) refl) in
     rw c.needle-head.ensures (window_none t x start start leaf head c.find.result c.in-None.is c.find.ensures enough text
     (stands_start t x head start))
 
@@ -44,6 +46,8 @@ returns-in-Some-clause-first g c = λ folder kept.
     let s = c.cord_stretch_at.result in
     let leaf = c.in-Bytes.leaf.now in
     let whole : stretch_len s ≡ length leaf = ap stretch_len c.in-Bytes.is in
-    let text : IsPieceOf t x start leaf = piece_within lengths t x start s 0 start leaf told c.requires.fits c.cord_stretch_at.ensures (omega (arith, whole)) (omega arith) (whole_part t s leaf 0 (λ t. ap (λ (r : Stretch). stretch_bytes t r) c.in-Bytes.is) refl) in
+    let text : IsPieceOf t x start leaf =
+    piece_within lengths t x start s 0 start leaf told c.requires.fits c.cord_stretch_at.ensures (omega (arith, whole)) (omega arith)
+    (whole_part t s leaf 0 (λ t. ap (λ (r : Stretch). stretch_bytes t r) c.in-Bytes.is) refl) in
     window_some t x start start c.in-Some.found leaf head c.find.result c.in-Some.is c.requires.some c.find.ensures (omega arith) text
     (stands_start t x head start)

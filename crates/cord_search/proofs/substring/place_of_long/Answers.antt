@@ -2,7 +2,8 @@ use Rattle.std.proofs.Common.{rules}
 use Rattle.cord_search.proofs.substring.place_of_long.Goals as goal
 
 pub returns-clause-first : goal.returns-clause-first
-returns-clause-first g c = λ folder kept. rw (c.repeats_of.ensures.read.table, c.gather.ensures.read.table) at c.in_ok-place.ensures.first folder kept
+returns-clause-first g c =
+    λ folder kept. rw (c.repeats_of.ensures.read.table, c.gather.ensures.read.table) at c.in_ok-place.ensures.first folder kept
 
 pub returns-clause-read : goal.returns-clause-read
 returns-clause-read g c = record {

@@ -23,7 +23,9 @@ returns-in-Equal-clause-stands g c = λ folder kept.
 pub returns-in-Less-clause-stands : goal.returns-in-Less-clause-stands
 returns-in-Less-clause-stands g c = λ folder kept.
     let t = g.S.Source.table c.args.src.now folder in
-    let len = cord_len (g.S.Source.lengths c.args.src.now) t c.args.s.now (g.met.S.Source.lengths_of_table c.args.src.now folder (c.in_ok-compare.ensures.read.earlier folder kept)) c.requires.pattern_sound c.requires.pattern_fits in
+    let len = cord_len (g.S.Source.lengths c.args.src.now) t c.args.s.now
+    (g.met.S.Source.lengths_of_table c.args.src.now folder (c.in_ok-compare.ensures.read.earlier folder kept)) c.requires.pattern_sound
+    c.requires.pattern_fits in
     order_stands_not t c.args.x.now c.args.s.now c.args.place c.len.result c.len-2.result c.in_ok-compare.field-0
     (λ e. less_not_equal (sym c.in-Less.is ∙ e)) c.len.ensures.stored c.len-2.ensures.stored len
     (c.in_ok-compare.ensures.order folder kept)
@@ -31,7 +33,9 @@ returns-in-Less-clause-stands g c = λ folder kept.
 pub returns-in-Greater-clause-stands : goal.returns-in-Greater-clause-stands
 returns-in-Greater-clause-stands g c = λ folder kept.
     let t = g.S.Source.table c.args.src.now folder in
-    let len = cord_len (g.S.Source.lengths c.args.src.now) t c.args.s.now (g.met.S.Source.lengths_of_table c.args.src.now folder (c.in_ok-compare.ensures.read.earlier folder kept)) c.requires.pattern_sound c.requires.pattern_fits in
+    let len = cord_len (g.S.Source.lengths c.args.src.now) t c.args.s.now
+    (g.met.S.Source.lengths_of_table c.args.src.now folder (c.in_ok-compare.ensures.read.earlier folder kept)) c.requires.pattern_sound
+    c.requires.pattern_fits in
     order_stands_not t c.args.x.now c.args.s.now c.args.place c.len.result c.len-2.result c.in_ok-compare.field-0
     (λ e. greater_not_equal (sym c.in-Greater.is ∙ e)) c.len.ensures.stored c.len-2.ensures.stored len
     (c.in_ok-compare.ensures.order folder kept)

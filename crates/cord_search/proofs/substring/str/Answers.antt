@@ -22,6 +22,9 @@ returns-then-count-eq0-clause-first g c = λ folder kept.
     let lengths = g.S.Source.lengths c.args.src.now in
     let told = g.met.S.Source.lengths_of_table c.args.src.now folder kept in
     let inside : c.args.start + c.len-count.result ≤ c.len.result = c.lies_inside.ensures.inside c.if-not-lies_inside.false in
-    let here : IsStanding t c.args.x.now c.args.start c.args.s.now true = nothing_stands t c.args.x.now c.args.s.now c.args.start (omega (arith, inside, c.len.ensures.stored)) (sym c.len-count.ensures.stored ∙ c.if-count-eq0.true) (cord_len lengths t c.args.x.now told c.len.ensures.sound c.requires.fits) (cord_len lengths t c.args.s.now told c.len-count.ensures.sound c.requires.pattern_fits) in
+    let here : IsStanding t c.args.x.now c.args.start c.args.s.now true =
+    nothing_stands t c.args.x.now c.args.s.now c.args.start (omega (arith, inside, c.len.ensures.stored))
+    (sym c.len-count.ensures.stored ∙ c.if-count-eq0.true) (cord_len lengths t c.args.x.now told c.len.ensures.sound c.requires.fits)
+    (cord_len lengths t c.args.s.now told c.len-count.ensures.sound c.requires.pattern_fits) in
     stands_first t c.args.x.now c.args.s.now c.args.start c.args.start (omega arith) here
     (stands_start t c.args.x.now (bytes_of t c.args.s.now) c.args.start)

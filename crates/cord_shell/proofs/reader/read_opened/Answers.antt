@@ -15,7 +15,8 @@ reading-preserved g c =
           let same = before.kept c.args.no.0 in
           let at : c.len-done.result ≡ length c.reading.bytes.items = search rules in
           let rest : List ℕ = drop c.min-room.result c.reading.block in
-          let more : c.extend_from_slice.new.self.items ≡ c.reading.bytes.items ++ take c.in-Ok.count (c.read_at.new.out ++ rest) = search rules in
+          let more : c.extend_from_slice.new.self.items ≡ c.reading.bytes.items ++ take c.in-Ok.count (c.read_at.new.out ++ rest) =
+          search rules in
           more_of_told (bytes_at folder) (g.F.Files.opened c.args.files.now c.args.no.0) c.reading.bytes.items
           c.extend_from_slice.new.self.items c.read_at.new.out rest c.in-Ok.count
           (before.read folder (read.earlier folder kept)) (rw (sym same, sym at) (read.bytes folder kept)) read.some.1 more;

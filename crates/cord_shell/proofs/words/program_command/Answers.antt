@@ -8,9 +8,16 @@ use Rattle.cord_shell.proofs.words.program_command.Goals as goal
 pub returns-clause-required : goal.returns-clause-required
 returns-clause-required c =
     let made = c.new.ensures in
-    let start = still_bare c.new.result c.no_binary_name.result c.no_binary_name.ensures (made.empty.0, made.empty.1, made.local, made.negates) in
+    let start = still_bare c.new.result c.no_binary_name.result c.no_binary_name.ensures
+    (made.empty.0, made.empty.1, made.local, made.negates) in
     let helped = c.after_help-bare.ensures in
-    let bare : IsBare c.after_help-bare.result = (ap (λ f. f.args.items) helped ∙ start.0, ap (λ f. f.groups.items) helped ∙ start.1, ap (λ f. f.has_globals) helped ∙ start.2, ap (λ f. f.subcommand_negates_reqs) helped ∙ start.3) in
+    let bare : IsBare c.after_help-bare.result = (
+      ap (λ f. f.args.items) helped ∙ start.0,
+      ap (λ f. f.groups.items) helped ∙ start.1,
+      ap (λ f. f.has_globals) helped
+          ∙ start.2,
+      ap (λ f. f.subcommand_negates_reqs) helped ∙ start.3,
+    ) in
     let unplanned = c.flag-unplanned.ensures in
     let show_plan = c.flag-show_plan.ensures in
     let script = c.script_word-script.ensures in

@@ -15,6 +15,16 @@ put_left-requires-clause-within_limit c = gathering_fits c.args.forest.now.items
 
 pub loop-piece-preserved : goal.loop-piece-preserved
 loop-piece-preserved c =
-    let u : IsPutLeft c.in-Some.piece.node c.loop-piece.joined c.in_ok-put_left.field-0 = record { sound = c.in_ok-put_left.ensures.sound; text = c.in_ok-put_left.ensures.text; len = c.in_ok-put_left.ensures.len; kept = c.in_ok-put_left.ensures.kept; shallow = c.in_ok-put_left.ensures.shallow; alone = c.in_ok-put_left.ensures.alone; depth = c.in_ok-put_left.ensures.depth } in
+    let u : IsPutLeft c.in-Some.piece.node c.loop-piece.joined c.in_ok-put_left.field-0 =
+    record {
+      sound = c.in_ok-put_left.ensures.sound;
+      text = c.in_ok-put_left.ensures.text;
+      len = c.in_ok-put_left.ensures.len;
+      kept = c.in_ok-put_left.ensures.kept;
+      shallow = c.in_ok-put_left.ensures.shallow;
+      alone = c.in_ok-put_left.ensures.alone;
+      depth =
+          c.in_ok-put_left.ensures.depth;
+    } in
     gathering_step c.args.forest.now.items c.pop_below.new.forest.items c.in-Some.piece c.loop-piece.joined c.in_ok-put_left.field-0
     c.args.below (rw (← c.in-Some.ensures.taken) c.loop-piece.invariant) c.in-Some.ensures.below u

@@ -15,7 +15,8 @@ returns-clause-text c =
     let n = c.in-Some.node.value in
     let rest = c.gather.new.forest.items in
     let len : forest_len c.args.forest.now.items ≡ forest_len rest + len_of n = rw c.in-Some.is at c.in_ok-node.ensures.len in
-    let none : rest ≡ [] = all_taken c.args.forest.now.items rest (len_of n) c.in_ok-node.ensures.rest c.in_ok-node.ensures.from c.requires.within_limit len in
+    let none : rest ≡ [] =
+    all_taken c.args.forest.now.items rest (len_of n) c.in_ok-node.ensures.rest c.in_ok-node.ensures.from c.requires.within_limit len in
     let text : forest_cells c.args.forest.now.items ≡ forest_cells rest ++ cells n = rw c.in-Some.is at c.in_ok-node.ensures.text in
     sym (text ∙ ap (λ (ps : List Piece). forest_cells ps ++ cells n) none)
 
@@ -24,7 +25,8 @@ returns-clause-len c =
     let n = c.in-Some.node.value in
     let rest = c.gather.new.forest.items in
     let len : forest_len c.args.forest.now.items ≡ forest_len rest + len_of n = rw c.in-Some.is at c.in_ok-node.ensures.len in
-    let none : rest ≡ [] = all_taken c.args.forest.now.items rest (len_of n) c.in_ok-node.ensures.rest c.in_ok-node.ensures.from c.requires.within_limit len in
+    let none : rest ≡ [] =
+    all_taken c.args.forest.now.items rest (len_of n) c.in_ok-node.ensures.rest c.in_ok-node.ensures.from c.requires.within_limit len in
     let zero : forest_len rest ≡ 0 = ap forest_len none in
     omega (arith, len, zero)
 
@@ -33,6 +35,7 @@ returns-clause-kept c =
     let n = c.in-Some.node.value in
     let rest = c.gather.new.forest.items in
     let len : forest_len c.args.forest.now.items ≡ forest_len rest + len_of n = rw c.in-Some.is at c.in_ok-node.ensures.len in
-    let none : rest ≡ [] = all_taken c.args.forest.now.items rest (len_of n) c.in_ok-node.ensures.rest c.in_ok-node.ensures.from c.requires.within_limit len in
+    let none : rest ≡ [] =
+    all_taken c.args.forest.now.items rest (len_of n) c.in_ok-node.ensures.rest c.in_ok-node.ensures.from c.requires.within_limit len in
     let kept : Kept (forest_parts c.args.forest.now.items) (forest_parts rest ++ parts n) = rw c.in-Some.is at c.in_ok-node.ensures.kept in
     subst (λ (ps : List Piece). Kept (forest_parts c.args.forest.now.items) (forest_parts ps ++ parts n)) none kept

@@ -14,13 +14,18 @@ slot_of-slot-requires-clause-not_empty c = rw (c.len.ensures.stored, c.deref.ens
 
 pub put_right-requires-clause-left_fits : goal.put_right-requires-clause-left_fits
 put_right-requires-clause-left_fits c =
-    let i : IsSlotOf (len_of c.args.node.value) c.slot_of-slot.result = rw (← c.deref.ensures, ← c.len.ensures.stored) c.slot_of-slot.ensures in
+    let i : IsSlotOf (len_of c.args.node.value) c.slot_of-slot.result =
+    rw (← c.deref.ensures, ← c.len.ensures.stored) c.slot_of-slot.ensures in
     gathered_fits c.slot_of-slot.result (len_of c.args.node.value) c.in_ok-small.small i c.in_ok-small.ensures.gathered
 
 pub merge-requires-clause-behind : goal.merge-requires-clause-behind
 merge-requires-clause-behind c =
-    let i : IsSlotOf (len_of c.args.node.value) c.slot_of-slot.result = rw (← c.deref.ensures, ← c.len.ensures.stored) c.slot_of-slot.ensures in
-    let d : depth_of c.in_ok-joined.joined.value ≤ c.slot_of-slot.result = joined_depth_in_slot c.slot_of-slot.result (len_of c.args.node.value) (depth_of c.args.node.value) (depth_of c.in_ok-joined.joined.value) c.in_ok-small.small i c.in_ok-small.ensures.gathered c.requires.balanced c.in_ok-joined.ensures.alone c.in_ok-joined.ensures.depth in
+    let i : IsSlotOf (len_of c.args.node.value) c.slot_of-slot.result =
+    rw (← c.deref.ensures, ← c.len.ensures.stored) c.slot_of-slot.ensures in
+    let d : depth_of c.in_ok-joined.joined.value ≤ c.slot_of-slot.result =
+    joined_depth_in_slot c.slot_of-slot.result (len_of c.args.node.value) (depth_of c.args.node.value)
+    (depth_of c.in_ok-joined.joined.value) c.in_ok-small.small i c.in_ok-small.ensures.gathered c.requires.balanced
+    c.in_ok-joined.ensures.alone c.in_ok-joined.ensures.depth in
     AllFrom-lower (depth_of c.in_ok-joined.joined.value) c.slot_of-slot.result c.gather.new.forest.items d c.in_ok-small.ensures.from
 
 pub returns-clause-kept : goal.returns-clause-kept

@@ -15,7 +15,8 @@ slot_of-slot-requires-clause-not_empty c = rw (c.len.ensures.stored, c.deref.ens
 
 pub loop-piece-init : goal.loop-piece-init
 loop-piece-init c =
-    let i : IsSlotOf (len_of c.args.node.value) c.slot_of-slot.result = rw (← c.deref.ensures, ← c.len.ensures.stored) c.slot_of-slot.ensures in
+    let i : IsSlotOf (len_of c.args.node.value) c.slot_of-slot.result =
+    rw (← c.deref.ensures, ← c.len.ensures.stored) c.slot_of-slot.ensures in
     merging_start c.args.forest.now.items c.args.node c.slot_of-slot.result c.requires.forest c.requires.sound i c.requires.shallow
     c.requires.behind
 
@@ -41,14 +42,23 @@ slot_of-slot-requires-in-Some-clause-not_empty c = rw (c.len-in-Some.ensures.sto
 
 pub loop-piece-preserved : goal.loop-piece-preserved
 loop-piece-preserved c =
-    let i : IsSlotOf (len_of c.in_ok-joined.joined.value) c.slot_of-slot-in-Some.result = rw (← c.deref-in-Some.ensures, ← c.len-in-Some.ensures.stored) c.slot_of-slot-in-Some.ensures in
-    let u : IsJoinOf c.in-Some.piece.node c.loop-piece.joined c.in_ok-joined.joined = record { sound = c.in_ok-joined.ensures.sound; text = c.in_ok-joined.ensures.text; len = c.in_ok-joined.ensures.len; depth = c.in_ok-joined.ensures.depth_bound; kept = c.in_ok-joined.ensures.kept } in
+    let i : IsSlotOf (len_of c.in_ok-joined.joined.value) c.slot_of-slot-in-Some.result =
+    rw (← c.deref-in-Some.ensures, ← c.len-in-Some.ensures.stored) c.slot_of-slot-in-Some.ensures in
+    let u : IsJoinOf c.in-Some.piece.node c.loop-piece.joined c.in_ok-joined.joined =
+    record {
+      sound = c.in_ok-joined.ensures.sound;
+      text = c.in_ok-joined.ensures.text;
+      len = c.in_ok-joined.ensures.len;
+      depth = c.in_ok-joined.ensures.depth_bound;
+      kept = c.in_ok-joined.ensures.kept;
+    } in
     merging_step c.args.forest.now.items c.pop_below.new.forest.items c.in-Some.piece c.args.node c.loop-piece.joined c.in_ok-joined.joined
     c.loop-piece.slot c.slot_of-slot-in-Some.result (rw (← c.in-Some.ensures.taken) c.loop-piece.invariant) c.in-Some.ensures.below u i
 
 pub returns-clause-rest : goal.returns-clause-rest
 returns-clause-rest c =
-    let g : IsMerging c.args.forest.now.items c.pop_below.new.forest.items c.args.node c.loop-piece.joined c.loop-piece.slot = rw c.in_default.ensures.unchanged c.loop-piece.invariant in
+    let g : IsMerging c.args.forest.now.items c.pop_below.new.forest.items c.args.node c.loop-piece.joined c.loop-piece.slot =
+    rw c.in_default.ensures.unchanged c.loop-piece.invariant in
     rw c.in_ok-push.ensures.items (merging_end c.args.forest.now.items c.pop_below.new.forest.items c.args.node c.loop-piece.joined
     c.loop-piece.slot g c.in_default.ensures.none)
 

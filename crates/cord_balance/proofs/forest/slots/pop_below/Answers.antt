@@ -5,7 +5,8 @@ use Rattle.cord_balance.proofs.forest.slots.pop_below.Goals as goal
 
 pub returns-then-below-slot-clause-none : goal.returns-then-below-slot-clause-none
 returns-then-below-slot-clause-none c =
-    let e : Some c.in_ok-slot.field-0.now ≡ slice_get c.args.forest.now.items (length c.args.forest.now.items - 1) = rw (← c.deref.ensures.value) c.in_ok-slot.ensures.value in
+    let e : Some c.in_ok-slot.field-0.now ≡ slice_get c.args.forest.now.items (length c.args.forest.now.items - 1) =
+    rw (← c.deref.ensures.value) c.in_ok-slot.ensures.value in
     AllFrom-by_last c.args.below c.args.forest.now.items c.in_ok-slot.field-0.now e c.requires (omega arith)
 
 pub returns-clause-piece : goal.returns-clause-piece

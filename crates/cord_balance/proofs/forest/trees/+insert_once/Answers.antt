@@ -34,7 +34,9 @@ returns-in-Some-clause-kept t c =
 
 pub gather_all-requires-clause-some : goal.gather_all-requires-clause-some
 gather_all-requires-clause-some t c =
-    let some : 0 < len_of c.in-Cat.right.value = right_some c.args.node.now.value _ c.in-Cat.left.value _ c.in-Cat.right.value _ _ _ (sym c.as_ref.ensures ∙ c.in-Cat.is) c.requires.sound in
+    let some : 0 < len_of c.in-Cat.right.value =
+    right_some c.args.node.now.value _ c.in-Cat.left.value _ c.in-Cat.right.value _ _ _ (sym c.as_ref.ensures ∙ c.in-Cat.is)
+    c.requires.sound in
     omega (arith, some, c.in_ok-insert_once-3.ensures.len)
 
 pub returns-clause-known : goal.returns-clause-known
@@ -54,10 +56,15 @@ returns-clause-known t c =
       len = c.in_ok-insert_once-3.ensures.len;
       kept = c.in_ok-insert_once-3.ensures.kept;
     } in
-    let both : IsPut own all n = cat_put own mid all n _ c.in-Cat.left.value _ c.in-Cat.right.value _ _ _ (sym c.as_ref.ensures ∙ c.in-Cat.is) c.requires.sound one two in
-    let is : IsForm n form = form_of_put own all n form c.new-own.ensures.items both c.in_ok-form.ensures.sound c.in_ok-form.ensures.text c.in_ok-form.ensures.len c.in_ok-form.ensures.kept in
+    let both : IsPut own all n =
+    cat_put own mid all n _ c.in-Cat.left.value _ c.in-Cat.right.value _ _ _ (sym c.as_ref.ensures ∙ c.in-Cat.is)
+    c.requires.sound one two in
+    let is : IsForm n form =
+    form_of_put own all n form c.new-own.ensures.items both c.in_ok-form.ensures.sound c.in_ok-form.ensures.text
+    c.in_ok-form.ensures.len c.in_ok-form.ensures.kept in
     let same : c.in_ok-node.node.value ≡ n = c.in_ok-node.ensures.cases in
-    let pair : IsSound c.in_ok-node.node.value × IsForm c.in_ok-node.node.value form = subst (λ (m : Node). IsSound m × IsForm m form) (sym same) (c.requires.sound, is) in
+    let pair : IsSound c.in_ok-node.node.value × IsForm c.in_ok-node.node.value form =
+    subst (λ (m : Node). IsSound m × IsForm m form) (sym same) (c.requires.sound, is) in
     subst (λ (ks : List Known). All IsKnown ks) (sym c.in_ok-push.ensures.items)
     (All-push IsKnown c.insert_once-3.new.known.items _ c.in_ok-insert_once-3.ensures.known pair)
 
@@ -78,8 +85,12 @@ returns-clause-kept t c =
       len = c.in_ok-insert_once-3.ensures.len;
       kept = c.in_ok-insert_once-3.ensures.kept;
     } in
-    let both : IsPut own all n = cat_put own mid all n _ c.in-Cat.left.value _ c.in-Cat.right.value _ _ _ (sym c.as_ref.ensures ∙ c.in-Cat.is) c.requires.sound one two in
-    let is : IsForm n form = form_of_put own all n form c.new-own.ensures.items both c.in_ok-form.ensures.sound c.in_ok-form.ensures.text c.in_ok-form.ensures.len c.in_ok-form.ensures.kept in
+    let both : IsPut own all n =
+    cat_put own mid all n _ c.in-Cat.left.value _ c.in-Cat.right.value _ _ _ (sym c.as_ref.ensures ∙ c.in-Cat.is)
+    c.requires.sound one two in
+    let is : IsForm n form =
+    form_of_put own all n form c.new-own.ensures.items both c.in_ok-form.ensures.sound c.in_ok-form.ensures.text
+    c.in_ok-form.ensures.len c.in_ok-form.ensures.kept in
     let old = c.args.forest.now.items in
     let new = c.insert_tree-2.new.forest.items in
     let put : IsPut old new form = record {

@@ -41,7 +41,8 @@ use Rattle.cord_c.proofs.handle.Handle.into_raw.Code as code
 abbrev stayed : Stays f.ended.signature.params f.ended.kept
 stayed = (stay_dropped (plain (λ _. handle.the_row)) yes, tt)
 
-module _ {M : Type 1} (𝓤 : Ura M) (𝓛 : Logic 𝓤) (𝓜 : Model 𝓤 𝓛.H) (𝓡 : Running 𝓤 𝓛.H 𝓜) (y : (walk_of 𝓛 f.ended stayed (f.clauses 𝓛 𝓜.mem 𝓡.returns)).Ghost) where
+module _ {M : Type 1} (𝓤 : Ura M) (𝓛 : Logic 𝓤) (𝓜 : Model 𝓤 𝓛.H) (𝓡 : Running 𝓤 𝓛.H 𝓜)
+    (y : (walk_of 𝓛 f.ended stayed (f.clauses 𝓛 𝓜.mem 𝓡.returns)).Ghost) where
   abbrev h : Handle
   h = y.0.3.0
 
@@ -72,7 +73,8 @@ module _ {M : Type 1} (𝓤 : Ura M) (𝓛 : Logic 𝓤) (𝓜 : Model 𝓤 𝓛
       nothing ! $ nothing ! $ join ! $ nothing ! $ done !)
       (λ no. absurd no)))
   at (block_ptr b o) t =
-      let En = env code.function.locals in let made : Raw (List ℕ) Global = record { at = block_ptr b o; alloc = h.alloc; value = h.text } in
+      let En = env code.function.locals in let made : Raw (List ℕ) Global =
+      record { at = block_ptr b o; alloc = h.alloc; value = h.text } in
       qed 𝓛 (‵ (box_owns frees text.the_row (block_ptr b o) h.text) ∷ []) ∵
       enter ! (tables 𝓤 𝓛.H 𝓜 𝓡 𝓡.env).C (tables 𝓤 𝓛.H 𝓜 𝓡 𝓡.env).Λ code.function (word (block_ptr b o) ∷ []) Post $ alloc_all !
       (λ l. pass_all ! refl (handle_typed 𝓛 (as_if (block_ptr b o) t), tt) $
@@ -87,7 +89,8 @@ module _ {M : Type 1} (𝓤 : Ura M) (𝓛 : Logic 𝓤) (𝓜 : Model 𝓤 𝓛
       sets ! (agg ! (and_then ! (lit ! tt) (and_then ! (get ! refl) (no_more !)))) refl
       (tt, (record { fits = lit< tt }, ((owner_typed 𝓛 made).1, tt))) $
       returns ! (look_at ! 0 refl) $ free_all ! refl $ packs_raw ! b o h.alloc h.text $
-      use1 𝓛 (‵ ((OP.the_row RawText).own_val (Some made) (live 1 (of_list (owner_val made ∷ [])) ∷ []))) (Some-of 𝓛 RawText made (owner_val made)) $
+      use1 𝓛 (‵ ((OP.the_row RawText).own_val (Some made) (live 1 (of_list (owner_val made ∷ [])) ∷ [])))
+      (Some-of 𝓛 RawText made (owner_val made)) $
       suffices ! _ (ends_at 𝓛 f.ended stayed (f.clauses 𝓛 𝓜.mem 𝓡.returns) y (live 1 (of_list (owner_val made ∷ []))) (Some made) (tt, tt)
       (tt, tt)) $ says ! refl $
       nothing ! $ nothing ! $ join ! $ nothing ! $ done !))

@@ -24,14 +24,16 @@ returns-then-len-self-clause-gathered c =
     let ps : List Part = parts_of c.self.inside.cord in
     let buffer : List ℕ = c.self.inside.buffer in
     let fits : length (buffer ++ c.args.byte ∷ []) ≤ CAP = omega (arith, length-append buffer (c.args.byte ∷ [])) in
-    let longer : Gathered 1 (ps ++ leaf_parts buffer) (ps ++ leaf_parts c.push.new.self) = rw c.in_ok-push.ensures.added (tail_grown ps buffer (c.args.byte ∷ []) 1 fits (omega arith)) in
+    let longer : Gathered 1 (ps ++ leaf_parts buffer) (ps ++ leaf_parts c.push.new.self) =
+    rw c.in_ok-push.ensures.added (tail_grown ps buffer (c.args.byte ∷ []) 1 fits (omega arith)) in
     subst (λ (before : List Part). Gathered 1 before (ps ++ leaf_parts c.push.new.self))
     (ap (λ (g : Growth). g.parts) c.self.view_is) longer
 
 pub returns-then-len-self-clause-within_limit : goal.returns-then-len-self-clause-within_limit
 returns-then-len-self-clause-within_limit c =
     let before : List Cell = text c.self.inside.cord ++ map known c.self.inside.buffer in
-    let size : length before ≡ length (text c.self.inside.cord) + length c.self.inside.buffer = length_both (text c.self.inside.cord) c.self.inside.buffer in
+    let size : length before ≡ length (text c.self.inside.cord) + length c.self.inside.buffer =
+    length_both (text c.self.inside.cord) c.self.inside.buffer in
     let short : length before + 1 ≤ MAX_LEN = omega (arith, size, c.self.invariant.2) in
     subst (λ (xs : List Cell). length xs + 1 ≤ MAX_LEN) (ap (λ (g : Growth). g.text) c.self.view_is) short
 
@@ -47,6 +49,7 @@ pub returns-clause-gathered : goal.returns-clause-gathered
 returns-clause-gathered c =
     let before : List Part = parts_of c.self.inside.cord ++ leaf_parts c.self.inside.buffer in
     let longer : List Part = parts_of c.begin_next.new.cord in
-    let begun : Gathered 1 before (longer ++ leaf_parts c.begin_next.new.buffer) = rw c.in_ok-begin_next.ensures.begun (leaf_begun before longer (c.args.byte ∷ []) (omega arith) c.in_ok-begin_next.ensures.kept) in
+    let begun : Gathered 1 before (longer ++ leaf_parts c.begin_next.new.buffer) =
+    rw c.in_ok-begin_next.ensures.begun (leaf_begun before longer (c.args.byte ∷ []) (omega arith) c.in_ok-begin_next.ensures.kept) in
     subst (λ (old : List Part). Gathered 1 old (longer ++ leaf_parts c.begin_next.new.buffer))
     (ap (λ (g : Growth). g.parts) c.self.view_is) begun

@@ -24,15 +24,18 @@ returns-then-saturating_add-self-clause-gathered c = λ k few.
     let ps : List Part = parts_of c.self.inside.cord in
     let buffer : List ℕ = c.self.inside.buffer in
     let fits : length (buffer ++ c.args.bytes.now) ≤ CAP = omega (arith, length-append buffer c.args.bytes.now) in
-    let longer : Gathered k (ps ++ leaf_parts buffer) (ps ++ leaf_parts c.extend.new.self) = rw c.in_ok-extend.ensures.added (tail_grown ps buffer c.args.bytes.now k fits few) in
+    let longer : Gathered k (ps ++ leaf_parts buffer) (ps ++ leaf_parts c.extend.new.self) =
+    rw c.in_ok-extend.ensures.added (tail_grown ps buffer c.args.bytes.now k fits few) in
     subst (λ (before : List Part). Gathered k before (ps ++ leaf_parts c.extend.new.self))
     (ap (λ (g : Growth). g.parts) c.self.view_is) longer
 
 pub returns-then-saturating_add-self-clause-within_limit : goal.returns-then-saturating_add-self-clause-within_limit
 returns-then-saturating_add-self-clause-within_limit c =
     let before : List Cell = text c.self.inside.cord ++ map known c.self.inside.buffer in
-    let size : length before ≡ length (text c.self.inside.cord) + length c.self.inside.buffer = length_both (text c.self.inside.cord) c.self.inside.buffer in
-    let short : length before + length c.args.bytes.now ≤ MAX_LEN = omega (arith, size, c.self.invariant.2, c.len.ensures.value, c.saturating_add.ensures, c.if-saturating_add-self.true) in
+    let size : length before ≡ length (text c.self.inside.cord) + length c.self.inside.buffer =
+    length_both (text c.self.inside.cord) c.self.inside.buffer in
+    let short : length before + length c.args.bytes.now ≤ MAX_LEN =
+    omega (arith, size, c.self.invariant.2, c.len.ensures.value, c.saturating_add.ensures, c.if-saturating_add-self.true) in
     subst (λ (xs : List Cell). length xs + length c.args.bytes.now ≤ MAX_LEN) (ap (λ (g : Growth). g.text) c.self.view_is) short
 
 pub returns-clause-over : goal.returns-clause-over

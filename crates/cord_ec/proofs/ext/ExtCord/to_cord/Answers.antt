@@ -25,7 +25,8 @@ pub returns-in_err-flush-clause-stays : goal.returns-in_err-flush-clause-stays
 returns-in_err-flush-clause-stays c =
     let before : List Part = parts_of c.self.inside.cord ++ leaf_parts c.self.inside.buffer in
     let cord : parts_of c.flush.new.cord ≡ parts_of c.self.inside.cord = ap parts_of (c.in_err-flush.ensures.cord_unchanged refl) in
-    let buffer : leaf_parts c.flush.new.buffer ≡ leaf_parts c.self.inside.buffer = ap leaf_parts (c.in_err-flush.ensures.buffer_unchanged refl) in
+    let buffer : leaf_parts c.flush.new.buffer ≡ leaf_parts c.self.inside.buffer =
+    ap leaf_parts (c.in_err-flush.ensures.buffer_unchanged refl) in
     subst (λ (old : List Part). Kept old (parts_of c.flush.new.cord ++ leaf_parts c.flush.new.buffer))
     (ap (λ (g : Growth). g.parts) c.self.view_is)
     (Kept_same before (parts_of c.flush.new.cord ++ leaf_parts c.flush.new.buffer)

@@ -39,10 +39,12 @@ invariant_of-self-2 g c =
     let files = old.entries.items in
     let file : OpenFile = record { path = c.in_ok-kept.kept; no = c.in_ok-no.no; len = c.in_ok-no.len } in
     let path : string_bytes file.path ≡ c.args.path.now = c.in_ok-kept.ensures.ok in
-    let hands : HandsOut (g.F.Files.opened old.files) (g.F.Files.opened c.open.new.self) file.no.0 c.args.path.now file.len = c.in_ok-no.ensures.opened in
+    let hands : HandsOut (g.F.Files.opened old.files) (g.F.Files.opened c.open.new.self) file.no.0 c.args.path.now file.len =
+    c.in_ok-no.ensures.opened in
     let Keeps : Folder → Type 0 = g.F.Files.keeps c.open.new.self in
     let earlier : (folder : Folder) → Keeps folder → g.F.Files.keeps old.files folder = c.open.ensures.earlier in
-    let found : (folder : Folder) → Keeps folder → IsFound folder (string_bytes file.path) file.len = λ folder kept. subst (λ p. IsFound folder p file.len) (sym path) (found_there folder _ _ (c.in_ok-no.ensures.found folder kept)) in
+    let found : (folder : Folder) → Keeps folder → IsFound folder (string_bytes file.path) file.len =
+    λ folder kept. subst (λ p. IsFound folder p file.len) (sym path) (found_there folder _ _ (c.in_ok-no.ensures.found folder kept)) in
     record {
       few = search rules;
       sound = record {
@@ -72,7 +74,8 @@ returns-clause-opens g c =
     let files = old.entries.items in
     let file : OpenFile = record { path = c.in_ok-kept.kept; no = c.in_ok-no.no; len = c.in_ok-no.len } in
     let path : string_bytes file.path ≡ c.args.path.now = c.in_ok-kept.ensures.ok in
-    let more : opened_of c.push.new.self.items ≡ opened_of files ++ (c.args.path.now, file.len) ∷ [] = ap opened_of c.in_ok-push.ensures.items ∙ opened_more files file c.args.path.now path in
+    let more : opened_of c.push.new.self.items ≡ opened_of files ++ (c.args.path.now, file.len) ∷ [] =
+    ap opened_of c.in_ok-push.ensures.items ∙ opened_more files file c.args.path.now path in
     let count : length (opened_of files) ≡ length files = length-map files told_of in
     let room : length (opened_of files) < MAX_FILES = search rules in
     let limit : file.len ≤ MAX_LEN = search rules in
@@ -87,7 +90,8 @@ returns-clause-file g c = λ folder kept.
     let files = old.entries.items in
     let file : OpenFile = record { path = c.in_ok-kept.kept; no = c.in_ok-no.no; len = c.in_ok-no.len } in
     let path : string_bytes file.path ≡ c.args.path.now = c.in_ok-kept.ensures.ok in
-    let more : opened_of c.push.new.self.items ≡ opened_of files ++ (c.args.path.now, file.len) ∷ [] = ap opened_of c.in_ok-push.ensures.items ∙ opened_more files file c.args.path.now path in
+    let more : opened_of c.push.new.self.items ≡ opened_of files ++ (c.args.path.now, file.len) ∷ [] =
+    ap opened_of c.in_ok-push.ensures.items ∙ opened_more files file c.args.path.now path in
     let count : length (opened_of files) ≡ length files = length-map files told_of in
     let id : c.len-2.result + 2 ≡ suc (suc (length (opened_of files))) = search rules in
     let slot : slice_get (opened_of c.push.new.self.items) (length (opened_of files)) ≡ Some (c.args.path.now, file.len) =

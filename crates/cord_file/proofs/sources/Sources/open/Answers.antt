@@ -31,11 +31,14 @@ returns-in-Some-clause-opens g c =
     let n = c.in-Some.place in
     let e : OpenFile = c.index.result.now in
     let path = c.args.path.now in
-    let found : id_in (opened_of files) path ≡ Some (n + 2) = ap (λ xs. id_in (opened_of xs) path) (sym c.deref.ensures.value) ∙ c.in-Some.ensures.found in
+    let found : id_in (opened_of files) path ≡ Some (n + 2) =
+    ap (λ xs. id_in (opened_of xs) path) (sym c.deref.ensures.value) ∙ c.in-Some.ensures.found in
     let inside : n < length files = subst (λ xs. n < length xs) c.deref.ensures.value c.in-Some.ensures.inside in
     let here : slice_get files n ≡ Some e = slice_get_read files _ n e refl inside c.index.ensures in
     let id : n + 2 ≡ suc (suc n) = omega arith in
-    let told : lengths_in (opened_of files) (n + 2) ≡ Some e.len = ap (lengths_in (opened_of files)) id ∙ ap (option_map (λ file. file.1)) (slice_get-map told_of files n ∙ ap (option_map told_of) here) in
+    let told : lengths_in (opened_of files) (n + 2) ≡ Some e.len =
+    ap (lengths_in (opened_of files)) id
+    ∙ ap (option_map (λ file. file.1)) (slice_get-map told_of files n ∙ ap (option_map told_of) here) in
     opens_again (opened_of files) path (n + 2) e.len found told (self.sound.short_enough n e here)
 
 pub returns-in-Some-clause-file : goal.returns-in-Some-clause-file
@@ -45,13 +48,16 @@ returns-in-Some-clause-file g c = λ folder kept.
     let n = c.in-Some.place in
     let e : OpenFile = c.index.result.now in
     let path = c.args.path.now in
-    let found : id_in (opened_of files) path ≡ Some (n + 2) = ap (λ xs. id_in (opened_of xs) path) (sym c.deref.ensures.value) ∙ c.in-Some.ensures.found in
+    let found : id_in (opened_of files) path ≡ Some (n + 2) =
+    ap (λ xs. id_in (opened_of xs) path) (sym c.deref.ensures.value) ∙ c.in-Some.ensures.found in
     let inside : n < length files = subst (λ xs. n < length xs) c.deref.ensures.value c.in-Some.ensures.inside in
     let here : slice_get files n ≡ Some e = slice_get_read files _ n e refl inside c.index.ensures in
     let file = file_at_place files path n found in
     let same : file.0 ≡ e = some_inj (sym file.1 ∙ here) in
     let at : string_bytes e.path ≡ path = ap (λ f. string_bytes f.path) (sym same) ∙ file.2 in
     let id : n + 2 ≡ suc (suc n) = omega arith in
-    let slot : slice_get (opened_of files) n ≡ Some (path, e.len) = slice_get-map told_of files n ∙ ap (option_map told_of) here ∙ ap (λ p. Some (p, e.len)) at in
-    let there : IsFound folder path e.len = subst (λ p. IsFound folder p e.len) at (self.sound.there n e here folder kept, self.sound.as_long n e here folder kept) in
+    let slot : slice_get (opened_of files) n ≡ Some (path, e.len) =
+    slice_get-map told_of files n ∙ ap (option_map told_of) here ∙ ap (λ p. Some (p, e.len)) at in
+    let there : IsFound folder path e.len =
+    subst (λ p. IsFound folder p e.len) at (self.sound.there n e here folder kept, self.sound.as_long n e here folder kept) in
     holds_file folder (opened_of files) path (n + 2) e.len n id slot there

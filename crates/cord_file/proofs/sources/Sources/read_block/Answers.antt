@@ -10,31 +10,38 @@ use Rattle.cord_file.proofs.sources.Sources.read_block.Goals as goal
 pub index-file-requires : goal.index-file-requires
 index-file-requires g c =
     let self = c.args.self.now in
-    let inside : c.args.place < length self.entries.items = inside_opened self.entries.items c.args.place (λ file. c.args.number * BLOCK < file.len) c.requires.inside in
+    let inside : c.args.place < length self.entries.items =
+    inside_opened self.entries.items c.args.place (λ file. c.args.number * BLOCK < file.len) c.requires.inside in
     search rules
 
 pub read_block-requires-clause-told : goal.read_block-requires-clause-told
 read_block-requires-clause-told g c =
     let self = c.args.self.now in
     let file : OpenFile = c.index-file.result.now in
-    let inside : c.args.place < length self.entries.items = inside_opened self.entries.items c.args.place (λ f. c.args.number * BLOCK < f.len) c.requires.inside in
-    let here : slice_get self.entries.items c.args.place ≡ Some file = slice_get_read self.entries.items (length self.entries.items) c.args.place file refl inside c.index-file.ensures in
+    let inside : c.args.place < length self.entries.items =
+    inside_opened self.entries.items c.args.place (λ f. c.args.number * BLOCK < f.len) c.requires.inside in
+    let here : slice_get self.entries.items c.args.place ≡ Some file =
+    slice_get_read self.entries.items (length self.entries.items) c.args.place file refl inside c.index-file.ensures in
     of_told (λ n. file.len ≡ n) (g.F.Files.opened self.files file.no.0) file (self.sound.handed_out c.args.place file here) refl
 
 pub read_block-requires-clause-inside : goal.read_block-requires-clause-inside
 read_block-requires-clause-inside g c =
     let self = c.args.self.now in
     let file : OpenFile = c.index-file.result.now in
-    let inside : c.args.place < length self.entries.items = inside_opened self.entries.items c.args.place (λ f. c.args.number * BLOCK < f.len) c.requires.inside in
-    let here : slice_get self.entries.items c.args.place ≡ Some file = slice_get_read self.entries.items (length self.entries.items) c.args.place file refl inside c.index-file.ensures in
+    let inside : c.args.place < length self.entries.items =
+    inside_opened self.entries.items c.args.place (λ f. c.args.number * BLOCK < f.len) c.requires.inside in
+    let here : slice_get self.entries.items c.args.place ≡ Some file =
+    slice_get_read self.entries.items (length self.entries.items) c.args.place file refl inside c.index-file.ensures in
     of_slot (λ f. c.args.number * BLOCK < f.len) here c.requires.inside
 
 pub read_block-requires-clause-limit : goal.read_block-requires-clause-limit
 read_block-requires-clause-limit g c =
     let self = c.args.self.now in
     let file : OpenFile = c.index-file.result.now in
-    let inside : c.args.place < length self.entries.items = inside_opened self.entries.items c.args.place (λ f. c.args.number * BLOCK < f.len) c.requires.inside in
-    let here : slice_get self.entries.items c.args.place ≡ Some file = slice_get_read self.entries.items (length self.entries.items) c.args.place file refl inside c.index-file.ensures in
+    let inside : c.args.place < length self.entries.items =
+    inside_opened self.entries.items c.args.place (λ f. c.args.number * BLOCK < f.len) c.requires.inside in
+    let here : slice_get self.entries.items c.args.place ≡ Some file =
+    slice_get_read self.entries.items (length self.entries.items) c.args.place file refl inside c.index-file.ensures in
     self.sound.short_enough c.args.place file here
 
 pub invariant_of-self : goal.invariant_of-self
@@ -51,7 +58,10 @@ pub returns-clause-block : goal.returns-clause-block
 returns-clause-block g c = λ folder is.
     let self = c.args.self.now in
     let file : OpenFile = c.index-file.result.now in
-    let inside : c.args.place < length self.entries.items = inside_opened self.entries.items c.args.place (λ f. c.args.number * BLOCK < f.len) c.requires.inside in
-    let here : slice_get self.entries.items c.args.place ≡ Some file = slice_get_read self.entries.items (length self.entries.items) c.args.place file refl inside c.index-file.ensures in
-    block_of_told c.read_block.result folder (g.F.Files.opened self.files file.no.0) (slice_get self.entries.items c.args.place) file c.args.number
+    let inside : c.args.place < length self.entries.items =
+    inside_opened self.entries.items c.args.place (λ f. c.args.number * BLOCK < f.len) c.requires.inside in
+    let here : slice_get self.entries.items c.args.place ≡ Some file =
+    slice_get_read self.entries.items (length self.entries.items) c.args.place file refl inside c.index-file.ensures in
+    block_of_told c.read_block.result folder (g.F.Files.opened self.files file.no.0) (slice_get self.entries.items c.args.place)
+    file c.args.number
     c.read_block.new.block (self.sound.handed_out c.args.place file here) here (c.read_block.ensures.block folder is)

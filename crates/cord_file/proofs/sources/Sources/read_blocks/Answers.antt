@@ -21,7 +21,8 @@ loop-done-preserved g c =
       entries = c.read_one.ensures.files.entries ∙ loop.invariant.entries;
       count = search rules;
       bytes = λ folder kept.
-          let read : AreRead folder at (c.args.start + loop.done) part = subst (λ o. AreRead folder o (c.args.start + loop.done) part) here (c.in_ok-read_one.ensures.bytes folder kept) in
+          let read : AreRead folder at (c.args.start + loop.done) part =
+          subst (λ o. AreRead folder o (c.args.start + loop.done) part) here (c.in_ok-read_one.ensures.bytes folder kept) in
           more_read (λ f. string_bytes f.path) folder at loop.done size _ c.args.start loop.out part loop.invariant.done
           (omega (arith, count))
           (loop.invariant.bytes folder (c.in_ok-read_one.ensures.files.earlier folder kept))

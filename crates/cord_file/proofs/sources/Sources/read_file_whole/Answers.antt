@@ -19,7 +19,8 @@ read_all-requires-clause-inside g c =
     let files = self.entries.items in
     let file : OpenFile = c.index-file.result.now in
     let inside : c.args.place < length files = inside_opened files c.args.place (λ f. f.len ≡ c.args.len) c.requires.file in
-    let here : slice_get files c.args.place ≡ Some file = slice_get_read files (length files) c.args.place file refl inside c.index-file.ensures in
+    let here : slice_get files c.args.place ≡ Some file =
+    slice_get_read files (length files) c.args.place file refl inside c.index-file.ensures in
     let len : file.len ≡ c.args.len = of_slot (λ f. f.len ≡ c.args.len) here c.requires.file in
     let within : c.args.len ≤ file.len = omega (arith, len) in
     of_told (λ n. c.args.len ≤ n) (g.F.Files.opened self.files file.no.0) file (self.sound.handed_out c.args.place file here) within
@@ -37,7 +38,8 @@ returns-clause-bytes g c = λ folder kept.
     let files = self.entries.items in
     let file : OpenFile = c.index-file.result.now in
     let inside : c.args.place < length files = inside_opened files c.args.place (λ f. f.len ≡ c.args.len) c.requires.file in
-    let here : slice_get files c.args.place ≡ Some file = slice_get_read files (length files) c.args.place file refl inside c.index-file.ensures in
+    let here : slice_get files c.args.place ≡ Some file =
+    slice_get_read files (length files) c.args.place file refl inside c.index-file.ensures in
     let count : length c.read_all.new.bytes.items ≡ c.args.len = sym c.read_all.new.bytes.ok.0 ∙ c.in_ok-read_all.ensures.len in
     whole_read folder (g.F.Files.opened self.files file.no.0) (slice_get files c.args.place) file c.args.len c.read_all.new.bytes.items
     (self.sound.handed_out c.args.place file here) here count (c.in_ok-read_all.ensures.bytes folder kept)

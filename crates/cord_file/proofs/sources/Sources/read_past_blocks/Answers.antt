@@ -11,7 +11,8 @@ use Rattle.cord_file.proofs.sources.Sources.read_past_blocks.Goals as goal
 pub index-file-requires : goal.index-file-requires
 index-file-requires g c =
     let files = c.args.self.now.entries.items in
-    let inside : c.args.place < length files = inside_opened files c.args.place (λ f. c.args.start + length c.args.out.now ≤ f.len) c.requires.inside in
+    let inside : c.args.place < length files =
+    inside_opened files c.args.place (λ f. c.args.start + length c.args.out.now ≤ f.len) c.requires.inside in
     search rules
 
 pub read_range-requires-clause-inside : goal.read_range-requires-clause-inside
@@ -19,8 +20,10 @@ read_range-requires-clause-inside g c =
     let self = c.args.self.now in
     let files = self.entries.items in
     let file : OpenFile = c.index-file.result.now in
-    let inside : c.args.place < length files = inside_opened files c.args.place (λ f. c.args.start + length c.args.out.now ≤ f.len) c.requires.inside in
-    let here : slice_get files c.args.place ≡ Some file = slice_get_read files (length files) c.args.place file refl inside c.index-file.ensures in
+    let inside : c.args.place < length files =
+    inside_opened files c.args.place (λ f. c.args.start + length c.args.out.now ≤ f.len) c.requires.inside in
+    let here : slice_get files c.args.place ≡ Some file =
+    slice_get_read files (length files) c.args.place file refl inside c.index-file.ensures in
     of_told (λ n. c.args.start + length c.args.out.now ≤ n) (g.F.Files.opened self.files file.no.0) file
     (self.sound.handed_out c.args.place file here) (of_slot (λ f. c.args.start + length c.args.out.now ≤ f.len) here c.requires.inside)
 
@@ -29,9 +32,12 @@ read_range-requires-clause-limit g c =
     let self = c.args.self.now in
     let files = self.entries.items in
     let file : OpenFile = c.index-file.result.now in
-    let inside : c.args.place < length files = inside_opened files c.args.place (λ f. c.args.start + length c.args.out.now ≤ f.len) c.requires.inside in
-    let here : slice_get files c.args.place ≡ Some file = slice_get_read files (length files) c.args.place file refl inside c.index-file.ensures in
-    let within : c.args.start + length c.args.out.now ≤ file.len = of_slot (λ f. c.args.start + length c.args.out.now ≤ f.len) here c.requires.inside in
+    let inside : c.args.place < length files =
+    inside_opened files c.args.place (λ f. c.args.start + length c.args.out.now ≤ f.len) c.requires.inside in
+    let here : slice_get files c.args.place ≡ Some file =
+    slice_get_read files (length files) c.args.place file refl inside c.index-file.ensures in
+    let within : c.args.start + length c.args.out.now ≤ file.len =
+    of_slot (λ f. c.args.start + length c.args.out.now ≤ f.len) here c.requires.inside in
     let short : file.len ≤ MAX_LEN = self.sound.short_enough c.args.place file here in
     omega (arith, within, short)
 
@@ -47,7 +53,9 @@ returns-clause-bytes g c = λ folder kept.
     let self = c.args.self.now in
     let files = self.entries.items in
     let file : OpenFile = c.index-file.result.now in
-    let inside : c.args.place < length files = inside_opened files c.args.place (λ f. c.args.start + length c.args.out.now ≤ f.len) c.requires.inside in
-    let here : slice_get files c.args.place ≡ Some file = slice_get_read files (length files) c.args.place file refl inside c.index-file.ensures in
+    let inside : c.args.place < length files =
+    inside_opened files c.args.place (λ f. c.args.start + length c.args.out.now ≤ f.len) c.requires.inside in
+    let here : slice_get files c.args.place ≡ Some file =
+    slice_get_read files (length files) c.args.place file refl inside c.index-file.ensures in
     read_of_told c.read_range.result folder (g.F.Files.opened self.files file.no.0) (slice_get files c.args.place) file c.args.start
     c.read_range.new.out (self.sound.handed_out c.args.place file here) here (c.read_range.ensures.bytes folder kept)

@@ -6,7 +6,8 @@ use Rattle.cord_file.proofs.sources.Sources.read_unkept.Goals as goal
 
 pub read_block-requires : goal.read_block-requires
 read_block-requires g c = record {
-  inside = begins_inside (slice_get c.args.self.now.entries.items c.args.place) c.args.start (length c.args.out.now) c.requires.some c.requires.inside;
+  inside = begins_inside (slice_get c.args.self.now.entries.items c.args.place) c.args.start (length c.args.out.now) c.requires.some
+      c.requires.inside;
 }
 
 pub returns-clause-bytes : goal.returns-clause-bytes

@@ -19,7 +19,8 @@ use Rattle.cord_file.proofs.sources.Sources.read_whole.Goals as goal
 pub read_file_whole-requires : goal.read_file_whole-requires
 read_file_whole-requires g c =
     let files = c.args.self.now.entries.items in
-    let told : IsSomeAnd (lengths_in (opened_of files) c.args.id.0) (λ n. n ≡ c.args.len) = subst (λ o. IsSomeAnd o (λ n. n ≡ c.args.len)) (sym c.requires.len) refl in
+    let told : IsSomeAnd (lengths_in (opened_of files) c.args.id.0) (λ n. n ≡ c.args.len) =
+    subst (λ o. IsSomeAnd o (λ n. n ≡ c.args.len)) (sym c.requires.len) refl in
     record { file = in_slot (λ n. n ≡ c.args.len) files c.args.id.0 c.requires.file told }
 
 pub returns-clause-cord : goal.returns-clause-cord
@@ -37,7 +38,8 @@ returns-clause-text g c = λ folder kept.
     let self = c.args.self.now in
     let files = self.entries.items in
     let items : rc_slice_items c.in_ok-shared.shared ≡ c.in_ok-bytes.bytes.items = c.in_ok-shared.ensures in
-    let told = as_long_as_told (g.F.Files.keeps self.files) files self.sound.as_long folder (c.in_ok-bytes.ensures.files.earlier folder kept) in
+    let told = as_long_as_told (g.F.Files.keeps self.files) files self.sound.as_long folder
+    (c.in_ok-bytes.ensures.files.earlier folder kept) in
     c.in_ok-cord.ensures.over.bytes (table_in (opened_of files) folder) ∙ items
     ∙ entry_bytes folder files c.args.id.0 c.args.len c.in_ok-bytes.bytes.items c.requires.file told c.requires.len
     c.in_ok-bytes.ensures.len (c.in_ok-bytes.ensures.bytes folder kept)
@@ -60,4 +62,5 @@ returns-in_err-cord-clause-refused g c =
     let limit : c.args.len ≤ MAX_LEN = entry_limit self.entries.items self.sound.short_enough c.args.id.0 c.args.len c.requires.len in
     let same : length (rc_slice_items c.in_ok-shared.shared) ≡ c.args.len = ap length items ∙ c.in_ok-bytes.ensures.len in
     refusal c.from_residual-in_err-cord.result c.in_err-cord.field-0.0 c.from_residual-in_err-cord.ensures.1 c.in_err-cord.ensures.refused
-    (λ e. let over : MAX_LEN < length (rc_slice_items c.in_ok-shared.shared) = c.in_err-cord.ensures.too_long (ap (λ x. Err x) e) in absurd (omega (arith, over, same, limit)))
+    (λ e. let over : MAX_LEN < length (rc_slice_items c.in_ok-shared.shared) = c.in_err-cord.ensures.too_long (ap (λ x. Err x) e) in
+    absurd (omega (arith, over, same, limit)))

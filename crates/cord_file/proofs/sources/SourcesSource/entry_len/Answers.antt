@@ -11,7 +11,9 @@ returns-in-Some g c =
     let past : 2 ≤ c.args.id.0 = search rules in
     let value : c.deref.result.now ≡ files = c.deref.ensures.value in
     let file : OpenFile = c.in-Some.file.now in
-    let found : slice_get c.deref.result.now (c.args.id.0 - 2) ≡ Some file = slice_get_read c.deref.result.now (length c.deref.result.now) (c.args.id.0 - 2) file refl (search rules) c.in-Some.ensures.lookup.1 in
+    let found : slice_get c.deref.result.now (c.args.id.0 - 2) ≡ Some file =
+    slice_get_read c.deref.result.now (length c.deref.result.now) (c.args.id.0 - 2) file refl (search rules)
+    c.in-Some.ensures.lookup.1 in
     sym (length_of_file files c.args.id.0 (Some file) past (subst (λ xs. slice_get xs (c.args.id.0 - 2) ≡ Some file) value found))
 
 pub returns-in-None : goal.returns-in-None

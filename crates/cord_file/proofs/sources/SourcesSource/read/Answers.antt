@@ -17,7 +17,8 @@ returns-in-0-clause-bytes g c = λ folder kept.
     let self = c.args.self.now in
     let same : length c.fill.new.out ≡ length c.args.out.now = c.fill.auto.out in
     let below : c.args.id.0 < 2 = c.in-0.is in
-    let range : c.args.start + length c.args.out.now ≤ MAX_LEN = function_limit (opened_of self.entries.items) c.args.id.0 (c.args.start + length c.args.out.now) below c.requires.inside in
+    let range : c.args.start + length c.args.out.now ≤ MAX_LEN =
+    function_limit (opened_of self.entries.items) c.args.id.0 (c.args.start + length c.args.out.now) below c.requires.inside in
     let limit : c.args.start + length c.fill.new.out ≤ MAX_LEN = subst (λ n. c.args.start + n ≤ MAX_LEN) (sym same) range in
     function_bytes folder (opened_of self.entries.items) c.args.id.0 c.args.start c.fill.new.out below limit c.fill.ensures
 

@@ -8,7 +8,8 @@ returns-in-Err-NotFound-clause-told g c = search rules
 
 pub returns-in-Err-NotFound-clause-not_found : goal.returns-in-Err-NotFound-clause-not_found
 returns-in-Err-NotFound-clause-not_found g c = λ folder agrees _.
-    let all : Agrees folder (is_missing c.args.path.now ∷ c.args.self.now.trace.told) = subst (Agrees folder) (returns-in-Err-NotFound-clause-told g c) agrees in
+    let all : Agrees folder (is_missing c.args.path.now ∷ c.args.self.now.trace.told) =
+    subst (Agrees folder) (returns-in-Err-NotFound-clause-told g c) agrees in
     all.0
 
 pub returns-then-is_ok-clause-told : goal.returns-then-is_ok-clause-told
@@ -16,7 +17,8 @@ returns-then-is_ok-clause-told g c = search rules
 
 pub returns-then-is_ok-clause-found : goal.returns-then-is_ok-clause-found
 returns-then-is_ok-clause-found g c = λ folder agrees.
-    let all : Agrees folder (has_len c.args.path.now c.in-Ok.file.len ∷ c.args.self.now.trace.told) = subst (Agrees folder) (returns-then-is_ok-clause-told g c) agrees in
+    let all : Agrees folder (has_len c.args.path.now c.in-Ok.file.len ∷ c.args.self.now.trace.told) =
+    subst (Agrees folder) (returns-then-is_ok-clause-told g c) agrees in
     all.0
 
 pub returns-then-is_ok-clause-opened : goal.returns-then-is_ok-clause-opened

@@ -15,8 +15,10 @@ returns-in-Ok-clause-told g c =
     let files = c.args.self.now.opened.items in
     let old = c.index_mut-opened.result.now in
     let before = c.args.self.now.trace.told in
-    let here : slice_get files c.args.no.0 ≡ Some old = has_number files c.args.no.0 old _ c.requires.inside c.index_mut-opened.ensures.value in
-    let told : c.then-self.result.told ≡ has_bytes (string_bytes old.reader.path) c.args.start (take c.in-Ok.count c.read.new.out) ∷ before = search rules in
+    let here : slice_get files c.args.no.0 ≡ Some old =
+    has_number files c.args.no.0 old _ c.requires.inside c.index_mut-opened.ensures.value in
+    let told : c.then-self.result.told ≡ has_bytes (string_bytes old.reader.path) c.args.start (take c.in-Ok.count c.read.new.out) ∷
+    before = search rules in
     subst (λ o. c.then-self.result.told ≡ after_reading {E = ReadFault} (option_map told_of o) c.args.start c.read.new.out
     (Ok c.in-Ok.count) before) (sym here) told
 
@@ -25,8 +27,10 @@ returns-in-Ok-clause-bytes g c = λ folder agrees.
     let files = c.args.self.now.opened.items in
     let old = c.index_mut-opened.result.now in
     let before = c.args.self.now.trace.told in
-    let here : slice_get files c.args.no.0 ≡ Some old = has_number files c.args.no.0 old _ c.requires.inside c.index_mut-opened.ensures.value in
-    let told : c.then-self.result.told ≡ has_bytes (string_bytes old.reader.path) c.args.start (take c.in-Ok.count c.read.new.out) ∷ before = search rules in
+    let here : slice_get files c.args.no.0 ≡ Some old =
+    has_number files c.args.no.0 old _ c.requires.inside c.index_mut-opened.ensures.value in
+    let told : c.then-self.result.told ≡ has_bytes (string_bytes old.reader.path) c.args.start (take c.in-Ok.count c.read.new.out) ∷
+    before = search rules in
     told_read folder files c.args.no.0 old c.in-Ok.count c.args.start c.read.new.out before here c.in-Ok.ensures.some.1
     (subst (Agrees folder) told agrees)
 
@@ -34,21 +38,24 @@ pub returns-in-Ok-clause-given_earlier : goal.returns-in-Ok-clause-given_earlier
 returns-in-Ok-clause-given_earlier g c = λ folder.
     let files = c.args.self.now.opened.items in
     let old = c.index_mut-opened.result.now in
-    let here : slice_get files c.args.no.0 ≡ Some old = has_number files c.args.no.0 old _ c.requires.inside c.index_mut-opened.ensures.value in
+    let here : slice_get files c.args.no.0 ≡ Some old =
+    has_number files c.args.no.0 old _ c.requires.inside c.index_mut-opened.ensures.value in
     given_before folder files c.args.no.0 old c.read.new.self here (c.read.ensures.earlier folder)
 
 pub returns-in-Ok-clause-given : goal.returns-in-Ok-clause-given
 returns-in-Ok-clause-given g c = λ folder.
     let files = c.args.self.now.opened.items in
     let old = c.index_mut-opened.result.now in
-    let here : slice_get files c.args.no.0 ≡ Some old = has_number files c.args.no.0 old _ c.requires.inside c.index_mut-opened.ensures.value in
+    let here : slice_get files c.args.no.0 ≡ Some old =
+    has_number files c.args.no.0 old _ c.requires.inside c.index_mut-opened.ensures.value in
     given_read folder files c.args.no.0 old c.read.new.self c.in-Ok.count c.args.start c.read.new.out here (c.in-Ok.ensures.bytes folder)
 
 pub returns-in-Err-clause-opened : goal.returns-in-Err-clause-opened
 returns-in-Err-clause-opened g c =
     let files = c.args.self.now.opened.items in
     let old = c.index_mut-opened.result.now in
-    let here : slice_get files c.args.no.0 ≡ Some old = has_number files c.args.no.0 old _ c.requires.inside c.index_mut-opened.ensures.value in
+    let here : slice_get files c.args.no.0 ≡ Some old =
+    has_number files c.args.no.0 old _ c.requires.inside c.index_mut-opened.ensures.value in
     let same : told_of c.read.new.self ≡ told_of old = search rules in
     told_after files c.args.no.0 old c.read.new.self here same
 
@@ -56,5 +63,6 @@ pub returns-in-Err-clause-given_earlier : goal.returns-in-Err-clause-given_earli
 returns-in-Err-clause-given_earlier g c = λ folder.
     let files = c.args.self.now.opened.items in
     let old = c.index_mut-opened.result.now in
-    let here : slice_get files c.args.no.0 ≡ Some old = has_number files c.args.no.0 old _ c.requires.inside c.index_mut-opened.ensures.value in
+    let here : slice_get files c.args.no.0 ≡ Some old =
+    has_number files c.args.no.0 old _ c.requires.inside c.index_mut-opened.ensures.value in
     given_before folder files c.args.no.0 old c.read.new.self here (c.read.ensures.earlier folder)

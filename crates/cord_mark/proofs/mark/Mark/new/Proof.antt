@@ -35,7 +35,8 @@ new_spec 𝓤 𝓛 𝓜 𝓡 wired X Y LX LY =
     let c = clauses X Y 𝓛 𝓜.mem 𝓡.returns in
     let args = layouts (a_type ∷ a_type ∷ []) (X, (Y, tt)) in
     let fn : Fn = inst_fn args compiled.function in
-    let stays : Stays T.signature.params T.kept = (stay_dropped (parameter T.signature.params 0) T.kept.0, (stay_dropped (parameter T.signature.params 1) T.kept.1.0, tt)) in
+    let stays : Stays T.signature.params T.kept =
+    (stay_dropped (parameter T.signature.params 0) T.kept.0, (stay_dropped (parameter T.signature.params 1) T.kept.1.0, tt)) in
     let C = (tables 𝓤 H 𝓜 𝓡 𝓡.env).C in
     let Λ = (tables 𝓤 H 𝓜 𝓡 𝓡.env).Λ in
     proved_at 𝓛 T stays c 𝓜 𝓡 (

@@ -43,7 +43,10 @@ same_spec 𝓤 𝓛 𝓜 𝓡 wired =
     let H = 𝓛.H in
     let c₀ = clauses 𝓛 𝓜.mem 𝓡.returns in
     let fn : Fn = compiled.function in
-    let stays : Stays ended.signature.params ended.kept = (stay_dropped (parameter ended.signature.params 0) ended.kept.0, (stay_dropped (parameter ended.signature.params 1) ended.kept.1.0, tt)) in
+    let stays : Stays ended.signature.params ended.kept = (
+      stay_dropped (parameter ended.signature.params 0) ended.kept.0,
+      (stay_dropped (parameter ended.signature.params 1) ended.kept.1.0, tt),
+    ) in
     let c = held 𝓛 ended stays c₀ in
     met_with_token 𝓛 ended stays c₀ 𝓜 𝓡 (
       Goes-dropped 𝓛 2 (parameter ended.signature.params 0) ended.kept.0 (λ κs x f. refl),
@@ -63,14 +66,16 @@ same_spec 𝓤 𝓛 𝓜 𝓡 wired =
     let e = a.1.0.ref_ptr.1 in
     let s : List Part = a.0.now in
     let t : List Part = a.1.0.now in
-    let exits : (y : Bool) → (y ≡ true → s ≡ t) → ent 𝓤 (⋆ 𝓛 (‵ (flft κ q) ∷ ‵ (ftok every) ∷ ‵ (flft μ r) ∷ [])) (Post (vbool y)) = λ y says.
+    let exits : (y : Bool) → (y ≡ true → s ≡ t) → ent 𝓤 (⋆ 𝓛 (‵ (flft κ q) ∷ ‵ (ftok every) ∷ ‵ (flft μ r) ∷ [])) (Post (vbool y)) =
+    λ y says.
     qed 𝓛 (‵ (flft κ q) ∷ ‵ (ftok every) ∷ ‵ (flft μ r) ∷ []) ∵
     use0 𝓛 (raw (fact 𝓤 (y ≡ true → s ≡ t))) (fact_i 𝓤 (y ≡ true → s ≡ t) (emp 𝓤) says) $ move ! (2 ∷ 0 ∷ []) $ join ! $
     feq_i ! (List Val) (vbool y ∷ []) (vbool y ∷ []) refl $ nothing ! $ nothing ! $ fjoin ! $ nothing ! $ fjoin ! $
     nothing ! $ move ! (5 ∷ 0 ∷ []) $ join ! $ move ! (4 ∷ 0 ∷ []) $ join ! $ move ! (0 ∷ 1 ∷ 2 ∷ []) $
     by ! (leaves 𝓛 ended stays c z (vbool y) y (tt, (tt, tt)) (tt, (tt, tt))) in
     -- one mark
-    let one_mark : (γ : GName) → s ≡ t → ent 𝓤 (⋆ 𝓛 (‵ (na_bor κ (γ, 0) (fields_at Fields b o)) ∷ ‵ (flft κ q) ∷ ‵ (ftok every) ∷ ‵ (flft μ r) ∷ []))
+    let one_mark : (γ : GName) → s ≡ t →
+    ent 𝓤 (⋆ 𝓛 (‵ (na_bor κ (γ, 0) (fields_at Fields b o)) ∷ ‵ (flft κ q) ∷ ‵ (ftok every) ∷ ‵ (flft μ r) ∷ []))
     (WpFn 𝓤 H C Λ fn (vptr b o ∷ vptr b o ∷ []) Post) = λ γ says.
     qed 𝓛 (‵ (na_bor κ (γ, 0) (fields_at Fields b o)) ∷ ‵ (flft κ q) ∷ ‵ (ftok every) ∷ ‵ (flft μ r) ∷ []) ∵
     enter ! C Λ fn (vptr b o ∷ vptr b o ∷ []) Post $
@@ -89,7 +94,9 @@ same_spec 𝓤 𝓛 𝓜 𝓡 wired =
     shuts_mark b o ! tt every (γ, 0) (not y) $
     returns ! (look_at ! 0 refl) $ free_all ! refl $ keep ! (0 ∷ 1 ∷ 2 ∷ []) $ by ! (exits (not (beq (not y) y)) (λ _. says)))) in
     -- two names
-    let two_marks : (γ δ : GName) → ¬ (◌≡◌ {A = Key} (γ, 0) (δ, 0)) → ent 𝓤 (⋆ 𝓛 (‵ (na_bor κ (γ, 0) (fields_at Fields b o)) ∷ ‵ (flft κ q) ∷ ‵ (ftok every) ∷ ‵ (na_bor μ (δ, 0) (fields_at Fields d e)) ∷ ‵ (flft μ r) ∷ []))
+    let two_marks : (γ δ : GName) → ¬ (◌≡◌ {A = Key} (γ, 0) (δ, 0)) →
+    ent 𝓤 (⋆ 𝓛 (‵ (na_bor κ (γ, 0) (fields_at Fields b o)) ∷ ‵ (flft κ q) ∷ ‵ (ftok every) ∷ ‵ (na_bor μ (δ, 0) (fields_at Fields d e))
+    ∷ ‵ (flft μ r) ∷ []))
     (WpFn 𝓤 H C Λ fn (vptr b o ∷ vptr d e ∷ []) Post) = λ γ δ apart. let E : Mask = less every (γ, 0) in
     qed 𝓛 (‵ (na_bor κ (γ, 0) (fields_at Fields b o)) ∷ ‵ (flft κ q) ∷ ‵ (ftok every) ∷ ‵ (na_bor μ (δ, 0) (fields_at Fields d e))
     ∷ ‵ (flft μ r) ∷ []) ∵

@@ -26,7 +26,8 @@ loop-side-preserved c =
 pub returns : goal.returns
 returns c =
     let i = c.loop-side.invariant in
-    let h : EndsAt (node_of c.loop-side.node) c.loop-side.start c.loop-side.index = ends_at_part (node_of c.loop-side.node) c.loop-side.start c.loop-side.index c.in_default.ensures.side in
+    let h : EndsAt (node_of c.loop-side.node) c.loop-side.start c.loop-side.index =
+    ends_at_part (node_of c.loop-side.node) c.loop-side.start c.loop-side.index c.in_default.ensures.side in
     record {
       places = grind (arith, common_steps);
       visits = omega (arith, i.visits, i.counted, h.level, c.in_default.ensures.count);

@@ -21,7 +21,8 @@ returns-in-Leaf-clause-stretch c =
     let count = start + to - (start + from) in
     let inside : to ≤ len = rw c.in-Leaf.is at c.requires.inside in
     let some : from < to = c.requires.some in
-    let sound : (0 < len) × (start + len ≤ length (rc_slice_items c.in-Leaf.bytes)) × (len ≤ MAX_LEN) × (c.in-Leaf.mark ≡ leaf_part (rc_slice_items c.in-Leaf.bytes) start len ∷ []) = rw c.in-Leaf.is at c.requires.sound in
+    let sound : (0 < len) × (start + len ≤ length (rc_slice_items c.in-Leaf.bytes)) × (len ≤ MAX_LEN)
+    × (c.in-Leaf.mark ≡ leaf_part (rc_slice_items c.in-Leaf.bytes) start len ∷ []) = rw c.in-Leaf.is at c.requires.sound in
     leaf_stretch node _ slice (take count (drop (start + from) slice)) start len (start + from) from count
     (λ t. ap (λ (n : Node). bytes_over t n) c.in-Leaf.is ∙ ap (λ (xs : List ℕ). take len (drop start xs))
     (sym c.as_slice.ensures.value)) (ap len_of c.in-Leaf.is) (omega (arith, sound.1, c.as_slice.ensures.len)) refl
@@ -36,8 +37,10 @@ returns-in-Leaf-clause-len c =
     let slice = c.as_slice.result.now in
     let count = start + to - (start + from) in
     let inside : to ≤ len = rw c.in-Leaf.is at c.requires.inside in
-    let sound : (0 < len) × (start + len ≤ length (rc_slice_items c.in-Leaf.bytes)) × (len ≤ MAX_LEN) × (c.in-Leaf.mark ≡ leaf_part (rc_slice_items c.in-Leaf.bytes) start len ∷ []) = rw c.in-Leaf.is at c.requires.sound in
-    let behind : count ≤ length (drop (start + from) slice) = omega (arith, sound.1, inside, c.as_slice.ensures.len, length-drop (start + from) slice) in
+    let sound : (0 < len) × (start + len ≤ length (rc_slice_items c.in-Leaf.bytes)) × (len ≤ MAX_LEN)
+    × (c.in-Leaf.mark ≡ leaf_part (rc_slice_items c.in-Leaf.bytes) start len ∷ []) = rw c.in-Leaf.is at c.requires.sound in
+    let behind : count ≤ length (drop (start + from) slice) =
+    omega (arith, sound.1, inside, c.as_slice.ensures.len, length-drop (start + from) slice) in
     let long : length (take count (drop (start + from) slice)) ≡ count = length-take-le count (drop (start + from) slice) behind in
     omega (arith, long)
 

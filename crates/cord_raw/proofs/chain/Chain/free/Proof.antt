@@ -105,14 +105,19 @@ module _ {M : Type 1} (𝓤 : Ura M) (𝓛 : Logic 𝓤) (𝓜 : Model 𝓤 𝓛
     turns null_ptr (x ∷ xs) few = fsplit ! $ fsplit ! $ keep ! (0 ∷ []) $ by ! (never_e 𝓤 _)
     turns (block_ptr b o) (x ∷ xs) few =
         let here : Left = (block_ptr b o, x ∷ xs, few) in let many : ℕ = suc (length xs) in let one : 1 ≤ many = omega arith in
-        let fewer : length xs < 2 ^ 64 = omega (arith, few) in let fits : many - 1 < 2 ^ 64 = omega (arith, few) in let less : many - 1 ≡ length xs = omega arith in
+        let fewer : length xs < 2 ^ 64 = omega (arith, few) in let fits : many - 1 < 2 ^ 64 = omega (arith, few) in
+        let less : many - 1 ≡ length xs = omega arith in
         let drops = code.calls-cord_raw::Destruct++none::drop 𝓡.env wired in
         let drops_handle = no_drop.glues bare_drop 𝓡.env drops A A_laws M 𝓤 𝓛 𝓜 𝓡 in
         let drops_block = no_drop.glues bare_drop 𝓡.env drops B B_laws M 𝓤 𝓛 𝓜 𝓡 in
-        let allocates = heap_met.passed 𝓡.env (code.calls-std_heap::GlobalAllocator::allocate 𝓡.env wired) (code.calls-std_heap::GlobalAllocator::deallocate 𝓡.env wired)
+        let allocates =
+        heap_met.passed 𝓡.env (code.calls-std_heap::GlobalAllocator::allocate 𝓡.env wired)
+        (code.calls-std_heap::GlobalAllocator::deallocate 𝓡.env wired)
         (code.calls-std_heap::GlobalAllocator::grow 𝓡.env wired) (code.calls-std_heap::GlobalAllocator::shrink 𝓡.env wired) M 𝓤 𝓛 𝓜 𝓡 in
-        let boxes = from_raw.met 𝓤 𝓛 𝓜 𝓡 (code.calls-std_alloc::boxed::Box::from_raw 𝓡.env wired) B A B_laws A_laws ghosts dict (goes A) allocates drops_handle in
-        let frees = let_go.met 𝓤 𝓛 𝓜 𝓡 (code.calls-std_alloc::boxed::Box::drop 𝓡.env wired) B A B_laws A_laws ghosts dict (goes B) (goes A) allocates drops_block drops_handle in
+        let boxes = from_raw.met 𝓤 𝓛 𝓜 𝓡 (code.calls-std_alloc::boxed::Box::from_raw 𝓡.env wired) B A B_laws A_laws ghosts dict (goes A)
+        allocates drops_handle in
+        let frees = let_go.met 𝓤 𝓛 𝓜 𝓡 (code.calls-std_alloc::boxed::Box::drop 𝓡.env wired) B A B_laws A_laws ghosts dict (goes B) (goes A)
+        allocates drops_block drops_handle in
         let fm = framed 𝓤 H 𝓜 (tables 𝓤 H 𝓜 𝓡 𝓡.env) in let mem = 𝓜.mem in let run = 𝓡.returns in
         sets ! (of_opd ! (get ! refl)) refl (tt, record { fits = few }) $ sets ! (bin ! (lit ! tt) (get ! refl) tt) refl (tt, tt) $
         first ! $ branches ! (get ! refl) (λ more. skips ! $ exec ! 𝓣.C 𝓣.Λ En (after 3 turn) (any_q (Turned here)) $

@@ -70,15 +70,18 @@ get_run_spec 𝓤 𝓛 𝓜 𝓡 wired =
     (λ κs. (shr_vals, ((λ p. place_val p ∷ []), (uint_vals w64, (mut_slice_vals, tt)))))
     (λ κs. (shr_Tells (named 0) κs.0 C, (place_laws.lowers.val_is, (uint_Tells w64, (mut_slice_Tells (named 1) κs.1.0 u8, tt)))))
     (λ κs qs bounds a told are.
-    let κ = κs.0 in let q = qs.0 in let κ' = κs.1.0 in let q' = qs.1.0 in let d = a.0.now in let p = a.1.0 in let start : ℕ = a.1.1.0 in let out = a.1.1.1.0 in let n : ℕ = length out.now in
-    let x : Block = block_at d p.index in let vals : List Val × (List Val × (List Val × (List Val × Unit {0}))) = (shr_vals a.0, (place_val p ∷ [], (uint_vals w64 start, (mut_slice_vals out, tt)))) in
+    let κ = κs.0 in let q = qs.0 in let κ' = κs.1.0 in let q' = qs.1.0 in let d = a.0.now in let p = a.1.0 in let start : ℕ = a.1.1.0 in
+    let out = a.1.1.1.0 in let n : ℕ = length out.now in
+    let x : Block = block_at d p.index in let vals : List Val × (List Val × (List Val × (List Val × Unit {0}))) =
+    (shr_vals a.0, (place_val p ∷ [], (uint_vals w64 start, (mut_slice_vals out, tt)))) in
     let y : W.Ghost = ((κs, qs, bounds, a, vals), told) in
     let Asks : Type 0 = IsPlaceOf d p × (start + n ≤ length (text_of x)) in
     qed 𝓛 (((‵ (flft κ q) ⊛ ‵ (flft κ' q') ⊛ ‵ ftrue) ⊛ ‵ (owns (ShrRef (named 0) κ C ∷ P ∷ usize ∷ MutSlice (named 1) κ' u8 ∷ []) a vals))
     ∷ raw (fact 𝓤 Asks) ∷ []) ∵
     move ! (1 ∷ []) $ heard ! Asks (λ asked. split ! $ split3 ! $ move ! (3 ∷ []) $ fsplit ! $ move ! (1 ∷ []) $ fsplit ! $ move !
     (1 ∷ []) $ fsplit ! $ move ! (1 ∷ []) $ fsplit ! $ keep ! (4 ∷ 0 ∷ 5 ∷ 6 ∷ []) $
-    let roomy : Room u8 n = are.1.1.1.0.0.1 in let inside : start + n ≤ length x.bytes = let all = length-take x.len x.bytes in omega (arith, asked.1) in
+    let roomy : Room u8 n = are.1.1.1.0.0.1 in let inside : start + n ≤ length x.bytes = let all = length-take x.len x.bytes in
+    omega (arith, asked.1) in
     fsplit ! $ drop ! $ use1 𝓛 (‵ (hidden_shr C κ d a.0.ref_ptr.0 a.0.ref_ptr.1) ⊛ ‵ (fields_lent 𝓛 κ a.0.ref_ptr.0 a.0.ref_ptr.1 d) ⊛ ‵
     (fhide (chain_lent d.first d.older d.last d.newest κ))) (lends 𝓛 κ a.0.ref_ptr.0 a.0.ref_ptr.1 d) $ split3 ! $
     keep ! (2 ∷ 3 ∷ 4 ∷ 5 ∷ []) $ unhide ! $ rewrite ! 0 (λ (r : Ptr). ‵ (chain_lent d.first d.older r d.newest κ)) d.leads refl $
@@ -87,10 +90,12 @@ get_run_spec 𝓤 𝓛 𝓜 𝓡 wired =
     rewrite ! 0 (λ (r : Ptr). ‵ (lent_at B r x κ)) (sym asked.0.0) refl $
     fsplit ! $ use1 𝓛 (raw (fact 𝓤 (InBlock p.at))) (in_block_says 𝓛 p.at) $ heard ! (InBlock p.at) (λ lies. hide ! $
     -- [a `&` to the block; the bytes that are to be written; the tokens]
-    let b = block_of p.at in let at : ℕ = start + (count_of p.at + 16) in let run : Bor (List ℕ) = record { ref_ptr = (b, at); now = run_of x.bytes start n } in
+    let b = block_of p.at in let at : ℕ = start + (count_of p.at + 16) in let run : Bor (List ℕ) =
+    record { ref_ptr = (b, at); now = run_of x.bytes start n } in
     use1 𝓛 (‵ (feq ℕ (length x.bytes) 128) ⊛ ‵ ((ShrSlice (named 1) κ u8).own_val run (shr_slice_vals run)))
     (run_seen 𝓛 κ b x (count_of p.at) start n inside roomy) $ split ! $ feq_l ! (λ all.
-    let end_fits : start + n < 2 ^ 64 = omega (arith, inside) in let long : length run.now ≡ n = run_length x.bytes start n inside in let only_run : start + n - start ≡ length run.now = omega arith in
+    let end_fits : start + n < 2 ^ 64 = omega (arith, inside) in let long : length run.now ≡ n = run_length x.bytes start n inside in
+    let only_run : start + n - start ≡ length run.now = omega arith in
     let run_fits : length run.now < 2 ^ 64 = omega (arith, roomy.0) in let below : start ≤ start + n = omega arith in
     enter ! _ _ _ _ _ $ alloc_all !
     (λ l. pass_all ! refl (
@@ -118,7 +123,8 @@ get_run_spec 𝓤 𝓛 𝓜 𝓡 wired =
     let z = copying 𝓛 𝓜.mem 𝓡.returns κ' κ q' q out run in
     move ! (1 ∷ 3 ∷ 0 ∷ 2 ∷ []) $ group ! 4 $ use1 𝓛 (raw ((Copies 𝓛 𝓜.mem 𝓡.returns).pre z))
     (asks 𝓛 𝓜.mem 𝓡.returns κ' κ q' q out run (sym long)) $
-    let copies = copied 𝓛 𝓜 𝓡 (code.calls-core::slice::edits::slice+T::copy_from_slice 𝓡.env wired) (code.calls-core::clone::U8Clone::clone 𝓡.env wired) in
+    let copies = copied 𝓛 𝓜 𝓡 (code.calls-core::slice::edits::slice+T::copy_from_slice 𝓡.env wired)
+    (code.calls-core::clone::U8Clone::clone 𝓡.env wired) in
     calls_at_last ! (framed 𝓤 𝓛.H 𝓜 𝓣) (Copies 𝓛 𝓜.mem 𝓡.returns) copies z (and_then ! (get ! refl) (and_then ! (get ! refl) (no_more !)))
     (λ v.
     use1 𝓛 (later (given (v ≡ vunit) (‵ (finally u8 out.ghost_name run.now) ⊛ ‵

@@ -49,7 +49,8 @@ linked d e few = record {
   older = d.older ++ pointing d.newest e.first ∷ e.older;
   newest = e.newest;
   leads = e.leads ∙ sym (place_append d.first d.older (pointing d.newest e.first ∷ e.older));
-  counted = let many = length-append d.older (pointing d.newest e.first ∷ e.older) in let here = d.counted in let there = e.counted in omega arith;
+  counted = let many = length-append d.older (pointing d.newest e.first ∷ e.older) in let here = d.counted in
+      let there = e.counted in omega arith;
   few = let here = d.counted in let there = e.counted in omega arith;
 }
 
@@ -60,7 +61,8 @@ link_spec 𝓤 𝓛 𝓜 𝓡 wired =
     f.Key.name fn (code.unfolded 𝓤 𝓛.H 𝓜 𝓡 wired)
     (λ κs. (mut_vals, ((λ d. chain_val d ∷ []), tt))) (λ κs. (mut_Tells (named 0) κs.0 C, (chain_laws.lowers.val_is, tt)))
     (λ κs qs bounds a g are.
-    let κ = κs.0 in let q = qs.0 in let ab = a.0.ref_ptr.0 in let ao = a.0.ref_ptr.1 in let d = a.0.now in let other = a.1.0 in let vs = mut_vals a.0 in
+    let κ = κs.0 in let q = qs.0 in let ab = a.0.ref_ptr.0 in let ao = a.0.ref_ptr.1 in let d = a.0.now in let other = a.1.0 in
+    let vs = mut_vals a.0 in
     let y : W.Ghost = ((κs, qs, bounds, a, (vs, (chain_val other ∷ [], tt))), g) in
     qed 𝓛 (((‵ (flft κ q) ⊛ ‵ ftrue) ⊛ ‵ (owns (MutRef (named 0) κ C ∷ C ∷ []) a (vs, (chain_val other ∷ [], tt))))
     ∷ raw (fact 𝓤 (length d.older + length other.older + 2 ≤ MOST_BLOCKS)) ∷ []) ∵

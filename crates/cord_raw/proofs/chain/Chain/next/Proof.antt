@@ -54,13 +54,17 @@ next_spec 𝓤 𝓛 𝓜 𝓡 wired =
     f.Key.name fn (code.unfolded 𝓤 𝓛.H 𝓜 𝓡 wired)
     (λ κs. (shr_vals, ((λ p. place_val p ∷ []), tt))) (λ κs. (shr_Tells (named 0) κs.0 C, (place_laws.lowers.val_is, tt)))
     (λ κs qs bounds a told are.
-    let κ = κs.0 in let q = qs.0 in let cb = a.0.ref_ptr.0 in let co = a.0.ref_ptr.1 in let d = a.0.now in let this = a.1.0 in let i : ℕ = this.index in let x : Block = block_at d i in
-    let vals : List Val × (List Val × Unit {0}) = (shr_vals a.0, (place_val this ∷ [], tt)) in let y : W.Ghost = ((κs, qs, bounds, a, vals), told) in
+    let κ = κs.0 in let q = qs.0 in let cb = a.0.ref_ptr.0 in let co = a.0.ref_ptr.1 in let d = a.0.now in let this = a.1.0 in
+    let i : ℕ = this.index in let x : Block = block_at d i in
+    let vals : List Val × (List Val × Unit {0}) = (shr_vals a.0, (place_val this ∷ [], tt)) in let y : W.Ghost =
+    ((κs, qs, bounds, a, vals), told) in
     let Asks : Type 0 = IsPlaceOf d this × (i < length d.older) in let Blocks = λ (r : Ptr). chain_lent d.first d.older r d.newest κ in
     qed 𝓛 (((‵ (flft κ q) ⊛ ‵ ftrue) ⊛ ‵ (owns (ShrRef (named 0) κ C ∷ P ∷ []) a vals)) ∷ raw (fact 𝓤 Asks) ∷ []) ∵
     move ! (1 ∷ []) $ heard ! Asks (λ asked. split ! $ split ! $ move ! (2 ∷ []) $ fsplit ! $ fsplit ! $ drop ! $ keep ! (0 ∷ 2 ∷ []) $
     let p : Ptr = x.next in let more : i < length d.older = asked.1 in
-    let leads : p ≡ place_after d.first (take (suc i) d.older) = ap (λ (z : Block). z.next) (get_or_append_left d.older (d.newest ∷ []) d.newest i more) ∙ next_place d.first d.older i d.newest more in
+    let leads : p ≡ place_after d.first (take (suc i) d.older) =
+    ap (λ (z : Block). z.next) (get_or_append_left d.older (d.newest ∷ []) d.newest i more)
+    ∙ next_place d.first d.older i d.newest more in
     -- the next block lies somewhere
     use1 𝓛 (‵ (hidden_shr C κ d cb co) ⊛ ‵ (fields_lent 𝓛 κ cb co d) ⊛ ‵ (fhide (Blocks d.last))) (lends 𝓛 κ cb co d) $ split3 ! $ move !
     (2 ∷ []) $ unhide ! $ rewrite ! 0 (λ (r : Ptr). ‵ (Blocks r)) d.leads refl $
@@ -76,8 +80,10 @@ next_spec 𝓤 𝓛 𝓜 𝓡 wired =
     fsplit ! $ use1 𝓛 (raw (fact 𝓤 (InBlock this.at))) (in_block_says 𝓛 this.at) $ heard ! (InBlock this.at)
     (λ lies. hide ! $ keep ! (0 ∷ 3 ∷ []) $
     -- [a `&` to this block; the token]
-    let b = block_of this.at in let o = count_of this.at in let place : Place = record { at = block_ptr (block_of p) (count_of p); index = i + 1 } in
-    let many = d.few in let counted = d.counted in let small : place.index < 2 ^ 64 = omega arith in let here : i < 2 ^ 64 = omega arith in let onward : suc i ≡ i + 1 = omega arith in
+    let b = block_of this.at in let o = count_of this.at in let place : Place =
+    record { at = block_ptr (block_of p) (count_of p); index = i + 1 } in
+    let many = d.few in let counted = d.counted in let small : place.index < 2 ^ 64 = omega arith in let here : i < 2 ^ 64 = omega arith in
+    let onward : suc i ≡ i + 1 = omega arith in
     enter ! _ _ _ _ _ $ alloc_all ! (λ l. pass_all ! refl ((tt, tt), (place_typed 𝓛 this are.1.0, tt)) $
     take_at ! 2 $ rewrite ! 0
     (λ (r : Ptr). ‵ (fat full_share place_laws.mir (l 2) 0 (vstruct (vcons (ptr_val r) (vcons (vint w64 i) vnil)))))

@@ -41,7 +41,8 @@ of_spec 𝓤 𝓛 𝓜 𝓡 wired =
       tt,
     )) (λ κs qs bounds a g are.
     let r = a.0 in let y : W.Ghost = ((κs, qs, bounds, a, (owner_val r ∷ [], tt)), g) in
-    let made : Chain = record { first = r.at; last = r.at; count = 1; older = []; newest = r.value; leads = refl; counted = refl; few = lit< tt } in
+    let made : Chain =
+    record { first = r.at; last = r.at; count = 1; older = []; newest = r.value; leads = refl; counted = refl; few = lit< tt } in
     qed 𝓛 ((‵ ftrue ⊛ ‵ (Owner.own_val r (owner_val r ∷ [])) ⊛ ‵ ftrue) ∷ ‵ ftrue ∷ []) ∵ split ! $ drop ! $ split ! $ fsplit ! $ keep !
     (1 ∷ []) $
     -- [the block]

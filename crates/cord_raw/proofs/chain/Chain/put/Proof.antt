@@ -50,7 +50,8 @@ put_spec 𝓤 𝓛 𝓜 𝓡 wired =
     proved 𝓛 f.ended stayed c 𝓜 𝓡 (Goes-ref 𝓛 1 0 tt (plain (λ _. C)), (Goes-dropped 𝓛 1 (plain (λ _. u8)) yes (λ κs x w. refl), tt))
     f.Key.name fn (code.unfolded 𝓤 𝓛.H 𝓜 𝓡 wired)
     (λ κs. (mut_vals, (uint_vals w8, tt))) (λ κs. (mut_Tells (named 0) κs.0 C, (uint_Tells w8, tt))) (λ κs qs bounds a g are.
-    let κ = κs.0 in let q = qs.0 in let ab = a.0.ref_ptr.0 in let ao = a.0.ref_ptr.1 in let d = a.0.now in let n = a.1.0 in let vs = mut_vals a.0 in let x : Block = d.newest in
+    let κ = κs.0 in let q = qs.0 in let ab = a.0.ref_ptr.0 in let ao = a.0.ref_ptr.1 in let d = a.0.now in let n = a.1.0 in
+    let vs = mut_vals a.0 in let x : Block = d.newest in
     let y : W.Ghost = ((κs, qs, bounds, a, (vs, (uint_vals w8 n, tt))), g) in
     qed 𝓛 (((‵ (flft κ q) ⊛ ‵ ftrue) ⊛ ‵ (owns (MutRef (named 0) κ C ∷ u8 ∷ []) a (vs, (uint_vals w8 n, tt))))
     ∷ raw (fact 𝓤 (x.len < ROOM)) ∷ []) ∵

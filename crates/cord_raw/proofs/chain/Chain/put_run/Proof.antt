@@ -71,7 +71,8 @@ put_run_spec 𝓤 𝓛 𝓜 𝓡 wired =
     move ! (1 ∷ []) $ heard ! (x.len + n ≤ ROOM) (λ room. split ! $ split3 ! $ move ! (3 ∷ []) $ fsplit ! $ move !
     (1 ∷ []) $ fsplit ! $ keep ! (2 ∷ 3 ∷ 0 ∷ 4 ∷ []) $
     -- [self; its token; the run; its token]
-    let new = with_newest d (with_bytes x run) in let place : x.len < 2 ^ 64 = omega arith in let more : x.len + n < 2 ^ 64 = omega arith in let fits : n < 2 ^ 64 = omega arith in
+    let new = with_newest d (with_bytes x run) in let place : x.len < 2 ^ 64 = omega arith in let more : x.len + n < 2 ^ 64 = omega arith in
+    let fits : n < 2 ^ 64 = omega arith in
     enter ! _ _ _ _ _ $ alloc_all ! (λ l. pass_all ! refl ((tt, tt), ((tt, (tt, (record { fits = fits }, tt))), tt)) $
     fsplit3 ! $ move ! (1 ∷ 2 ∷ 3 ∷ []) $ opens ! tt C ab ao (λ us.
     move ! (1 ∷ []) $ unpacks ! d us (λ word. fsplit ! $ move ! (1 ∷ []) $ lies ! d.last x (λ b o e.
@@ -108,7 +109,8 @@ put_run_spec 𝓤 𝓛 𝓜 𝓡 wired =
     let z = copying 𝓛 𝓜.mem 𝓡.returns κ₀ κ' full_share q' loan src in
     move ! (0 ∷ 2 ∷ 14 ∷ 15 ∷ []) $ group ! 4 $ use1 𝓛 (raw ((Copies 𝓛 𝓜.mem 𝓡.returns).pre z))
     (asks 𝓛 𝓜.mem 𝓡.returns κ₀ κ' full_share q' loan src long) $
-    let copies = copied 𝓛 𝓜 𝓡 (code.calls-core::slice::edits::slice+T::copy_from_slice 𝓡.env wired) (code.calls-core::clone::U8Clone::clone 𝓡.env wired) in
+    let copies = copied 𝓛 𝓜 𝓡 (code.calls-core::slice::edits::slice+T::copy_from_slice 𝓡.env wired)
+    (code.calls-core::clone::U8Clone::clone 𝓡.env wired) in
     calls_at ! (framed 𝓤 𝓛.H 𝓜 𝓣) (Copies 𝓛 𝓜.mem 𝓡.returns) copies z (and_then ! (get ! refl) (and_then ! (get ! refl) (no_more !))) (λ v.
     use1 𝓛 (later (given (v ≡ vunit) (‵ (finally u8 γ run) ⊛ ‵ (fbor κ₀ (Held u8 (length old) b at γ)) ⊛ ‵ (flft κ₀ full_share) ⊛ ‵
     (flft κ' q')))) (gives 𝓛 𝓜.mem 𝓡.returns κ₀ κ' full_share q' loan src v) $ await ! tt $ learn !

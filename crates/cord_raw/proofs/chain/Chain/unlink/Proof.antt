@@ -66,7 +66,8 @@ unlink_spec 𝓤 𝓛 𝓜 𝓡 wired =
     qed 𝓛 (((‵ (flft κ q) ⊛ ‵ ftrue) ⊛ ‵ (owns (MutRef (named 0) κ C ∷ []) a (vs, tt))) ∷ raw (fact 𝓤 (0 < length d.older)) ∷ []) ∵
     move ! (1 ∷ []) $ heard ! (0 < length d.older) (λ more. split ! $ split ! $ move ! (2 ∷ []) $ fsplit ! $ keep ! (0 ∷ 2 ∷ []) $
     -- [self; the token]
-    let parts = uncons d.older more in let x = parts.0 in let xs = parts.1 in let e' = parts.2 in let given = rest d x xs e' in let kept = front d x in
+    let parts = uncons d.older more in let x = parts.0 in let xs = parts.1 in let e' = parts.2 in let given = rest d x xs e' in
+    let kept = front d x in
     let counted = d.counted in let least : 1 ≤ d.count = omega arith in
     enter ! _ _ _ _ _ $ alloc_all ! (λ l. pass_all ! refl ((tt, tt), tt) $
     fsplit3 ! $ move ! (1 ∷ 2 ∷ 3 ∷ []) $ opens ! tt C ab ao (λ us. move ! (1 ∷ []) $ unpacks ! d us (λ word. fsplit ! $

@@ -48,13 +48,15 @@ of_spec 𝓤 𝓛 𝓜 𝓡 wired T A L K g d dx dd allocates drops_value drops_
     let stays : Stays E.signature.params E.kept = (stay_dropped (plain (λ _. B)) no, tt) in
     proved_at 𝓛 E stays c 𝓜 𝓡 (Goes-blank 𝓛 2 (plain (λ _. B)) no (λ κs x w. tt), tt) (f.Key.name at) fn
     (code.unfolded 𝓤 𝓛.H 𝓜 𝓡 wired (T, (A, tt)) d dx dd) (λ y are.
-    let κs = y.0.0 in let qs = y.0.1 in let x = y.0.3.0 in let Post = (walk_of 𝓛 E stays c).post y in let Runs : List Val → SProp 𝓤 = λ ws. WpFn 𝓤 𝓛.H 𝓣.C 𝓣.Λ fn ws Post in
+    let κs = y.0.0 in let qs = y.0.1 in let x = y.0.3.0 in let Post = (walk_of 𝓛 E stays c).post y in let Runs : List Val → SProp 𝓤 =
+    λ ws. WpFn 𝓤 𝓛.H 𝓣.C 𝓣.Λ fn ws Post in
     let tokens = ‵ (flft κs.0 qs.0) ⊛ ‵ (flft κs.1.0 qs.1.0) ⊛ ‵ ftrue in
     qed 𝓛 ((tokens ⊛ ‵ (owns (types_at E.signature.params κs) y.0.3 y.0.4)) ∷ raw ((c κs y.0.3).requires y.1) ∷ []) ∵
     split ! $ move ! (1 ∷ []) $ fsplit ! $ box_out form ! x y.0.4.0 (λ b o h e spelled fits. box_in form ! x b o x.value e refl $
     -- [the box; nothing; the tokens; the lifetimes]
     let G = triple_of 𝓛 (taken.signature T A g d dd dx) (taken.spec T A g d dd dx 𝓛 𝓜.mem 𝓡.returns) in
-    let w = box.word form h b o in let z : G.Ghost = ((κs, qs, tt, (x, tt), (w ∷ [], tt)), tt) in let boxed = box.box_typed form h b o fits in
+    let w = box.word form h b o in let z : G.Ghost = ((κs, qs, tt, (x, tt), (w ∷ [], tt)), tt) in
+    let boxed = box.box_typed form h b o fits in
     fjoin ! $ move ! (1 ∷ 0 ∷ []) $ join ! $ join ! $ use1 𝓛 (raw (G.pre z)) (id⊢ 𝓤 _) $
     suffices ! (Runs (w ∷ [])) (subst (λ (us : List Val). ent 𝓤 (Runs (w ∷ [])) (Runs us)) (sym (ap (λ (us : List Val). us ++ []) spelled))
     (id⊢ 𝓤 (Runs (w ∷ [])))) $

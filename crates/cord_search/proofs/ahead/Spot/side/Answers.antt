@@ -8,7 +8,9 @@ pub returns-then-self-seam-clause-within : goal.returns-then-self-seam-clause-wi
 returns-then-self-seam-clause-within c =
     let node = c.args.self.node.now in
     let place = c.args.self.place in
-    let within : IsWithin node place c.in-Cat.left.value place = within_left node place node place _ c.in-Cat.left.value _ c.in-Cat.right.value _ _ _ c.in-Cat.is (within_self node place c.requires.0) in
+    let within : IsWithin node place c.in-Cat.left.value place =
+    within_left node place node place _ c.in-Cat.left.value _ c.in-Cat.right.value _ _ _ c.in-Cat.is
+    (within_self node place c.requires.0) in
     rw c.as_ref.ensures within
 
 pub returns-then-self-seam-clause-shorter : goal.returns-then-self-seam-clause-shorter
@@ -22,7 +24,9 @@ returns-clause-within c =
     let next = place - c.len-seam.result in
     let seam : c.len-seam.result ≡ len_of c.in-Cat.left.value = c.len-seam.ensures.stored ∙ ap len_of c.deref.ensures in
     let behind : place ≡ len_of c.in-Cat.left.value + next = omega (arith, seam, c.if-self-seam.false) in
-    let within : IsWithin node place c.in-Cat.right.value next = within_right node place node place next _ c.in-Cat.left.value _ c.in-Cat.right.value _ _ _ c.in-Cat.is behind (within_self node place c.requires.0) in
+    let within : IsWithin node place c.in-Cat.right.value next =
+    within_right node place node place next _ c.in-Cat.left.value _ c.in-Cat.right.value _ _ _ c.in-Cat.is behind
+    (within_self node place c.requires.0) in
     rw c.as_ref-2.ensures within
 
 pub returns-clause-shorter : goal.returns-clause-shorter
