@@ -13,7 +13,7 @@ ghost use Rattle.cord_run.specs.inner.Holdings.{holding_of};
 ghost use Rattle.cord_run.specs.inner.Output.{CountsStops};
 ghost use Rattle.cord_run.specs.inner.Outcomes.{Serves};
 ghost use Rattle.cord_io.specs.Device.{Folder};
-ghost use Rattle.cord_run.specs.inner.Frames.{KeepNoMore};
+ghost use Rattle.cord_run.specs.inner.Frames.{KeepNoMore, failures_in};
 
 use crate::expressions::output::write;
 use crate::statements::serve_statement;
@@ -44,8 +44,8 @@ pub(crate) fn serve<F: Files, S: Sink>(
         (S.taken sink.old) (S.taken sink.new) result }
     ensures finished { S.finished sink.new ≡ S.finished sink.old }
     ensures fails { IfErr result (FailsIn (operation_view operation.now)) }
-    ensures counts { CountsStops (record { source = F.failures (device_in sources.old); sink = S.failures sink.old })
-        (record { source = F.failures (device_in sources.new); sink = S.failures sink.new }) result }
+    ensures counts { CountsStops (failures_in ⟦<F as Files>⟧ ⟦<S as Sink>⟧ (device_in sources.old) sink.old)
+        (failures_in ⟦<F as Files>⟧ ⟦<S as Sink>⟧ (device_in sources.new) sink.new) result }
 {
     match operation {
         Operation::Build { target, made, .. } => {
@@ -76,8 +76,8 @@ fn put<F: Files, S: Sink>(
         (holding_of (table_in (opened_in sources.new) folder) store.now.entries.items)
         (S.taken sink.old) (S.taken sink.new) result }
     ensures finished { S.finished sink.new ≡ S.finished sink.old }
-    ensures counts { CountsStops (record { source = F.failures (device_in sources.old); sink = S.failures sink.old })
-        (record { source = F.failures (device_in sources.new); sink = S.failures sink.new }) result }
+    ensures counts { CountsStops (failures_in ⟦<F as Files>⟧ ⟦<S as Sink>⟧ (device_in sources.old) sink.old)
+        (failures_in ⟦<F as Files>⟧ ⟦<S as Sink>⟧ (device_in sources.new) sink.new) result }
 {
     write(alloc, expression, store, sources, sink)
 }
