@@ -1,6 +1,7 @@
 // The text of a cord in a vector.
 ghost use Rattle.std.specs.Prelude.{◌≡◌, ◌<◌, length, is_err, IfOk};
 ghost use Rattle.cord_io.specs.Device.{Folder};
+ghost use Rattle.cord_io.specs.Frames.{LeavesSource};
 ghost use Rattle.cord_core.specs.Cord.{text_len, bytes_of, CordFitsIn};
 ghost use Rattle.cord_iter.specs.Taking.{CountsReads};
 
@@ -39,9 +40,7 @@ pub fn to_vec<S: Source>(alloc: Global, cord: &Cord, src: &mut S) -> Result<Vec<
         IfOk result (λ v. v.items ≡ bytes_of (S.table src.old folder) cord.now) }
     ensures len { IfOk result (λ v. length v.items ≡ text_len cord.now) }
     ensures reads { CountsReads (S.failures src.old) (S.failures src.new) result }
-    ensures lengths { S.lengths src.new ≡ S.lengths src.old }
-    ensures table { S.table src.new ≡ S.table src.old }
-    ensures earlier { (folder : Folder) → S.keeps src.new folder → S.keeps src.old folder }
+    ensures source { LeavesSource ⟦<S as Source>⟧ src.old src.new }
 {
     let mut sink = Collector {
         bytes: Vec::with_capacity(alloc, cord.len() as usize)?,

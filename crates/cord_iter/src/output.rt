@@ -1,12 +1,12 @@
 // Output of cords.
 ghost use Rattle.std.specs.Prelude.{◌≡◌, ◌+◌, ◌<◌, ◌≤◌, ◌++◌, OnOk, OnErr, IsOk, length};
 ghost use Rattle.cord_io.specs.Device.{Folder};
+ghost use Rattle.cord_io.specs.Frames.{LeavesSource};
 ghost use Rattle.cord_io.specs.Table.{length_at};
 ghost use Rattle.cord_node.specs.Tree.{IsSound};
 ghost use Rattle.cord_node.specs.Tables.{FitsIn};
 ghost use Rattle.cord_core.specs.Cord.{text_len, bytes_of, CordFitsIn};
 ghost use Rattle.cord_iter.specs.Taking.{IsFrontOf, IsTextOver, IsPrefixOver, Takes, CountsFaults};
-ghost use Rattle.cord_iter.specs.inner.Sources.{LeavesSource};
 
 use crate::pieces::{piece_len, put_all, put_run};
 use crate::{BLOCK_LEN, PAGE_LEN, PIECE_LEN};
@@ -54,9 +54,7 @@ pub fn put<S: Source, W: Sink>(cord: &Cord, src: &mut S, sink: &mut W) -> Result
         (record { source = S.failures src.new; sink = W.failures sink.new }) result }
     ensures steady { S.failures src.old < u64.MAX → W.failures sink.old < u64.MAX →
         S.failures src.new ≡ S.failures src.old → W.failures sink.new ≡ W.failures sink.old → IsOk result }
-    ensures lengths { S.lengths src.new ≡ S.lengths src.old }
-    ensures table { S.table src.new ≡ S.table src.old }
-    ensures earlier { (folder : Folder) → S.keeps src.new folder → S.keeps src.old folder }
+    ensures source { LeavesSource ⟦<S as Source>⟧ src.old src.new }
     ensures finished { W.finished sink.new ≡ W.finished sink.old }
 {
     if let Some(root) = cord.root() {

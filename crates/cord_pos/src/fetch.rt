@@ -1,6 +1,7 @@
 // The byte at a position.
 ghost use Rattle.std.specs.Prelude.{◌≡◌, ◌<◌, is_err, IfOk, IfErr, IsOk, IsSome};
 ghost use Rattle.cord_io.specs.Device.{Folder, count_after};
+ghost use Rattle.cord_io.specs.Frames.{LeavesSource};
 ghost use Rattle.cord_core.specs.Cord.{CordFitsIn};
 ghost use Rattle.cord_pos.specs.Position.{IsByteAt};
 
@@ -20,9 +21,7 @@ impl<'a> Position<'a> {
         ensures refused { IfErr result (λ e. e ≡ CordError.ReadFailed) }
         ensures count { S.failures src.new ≡ count_after (is_err result) (S.failures src.old) }
         ensures steady { S.failures src.old < u64.MAX → S.failures src.new ≡ S.failures src.old → IsOk result }
-        ensures lengths { S.lengths src.new ≡ S.lengths src.old }
-        ensures table { S.table src.new ≡ S.table src.old }
-        ensures earlier { (folder : Folder) → S.keeps src.new folder → S.keeps src.old folder }
+        ensures source { LeavesSource ⟦<S as Source>⟧ src.old src.new }
     {
         let Some(spot) = self.spot else {
             unreachable!()

@@ -5,6 +5,7 @@
 ghost use Rattle.std.specs.Prelude.{◌≡◌, ◌+◌, ◌-◌, ◌<◌, ◌≤◌, min, true, is_err, is_some, IfOk, IfSome, Some, None};
 ghost use Rattle.std.specs.Prelude.{MatchOption};
 ghost use Rattle.cord_io.specs.Device.{Folder, count_after};
+ghost use Rattle.cord_io.specs.Frames.{LeavesSource};
 ghost use Rattle.cord_node.specs.Tree.{len_of, IsSound};
 ghost use Rattle.cord_node.specs.Tables.{FitsIn};
 ghost use Rattle.cord_core.specs.Cord.{text_len, IsCord};
@@ -155,9 +156,7 @@ impl<'a> Visited<'a> {
         ensures byte { (folder : Folder) → S.keeps src.new folder →
             IfOk result (λ b. HasByte (S.table src.old folder) (node_of self.entry) place b) }
         ensures count { S.failures src.new ≡ count_after (is_err result) (S.failures src.old) }
-        ensures lengths { S.lengths src.new ≡ S.lengths src.old }
-        ensures table { S.table src.new ≡ S.table src.old }
-        ensures earlier { (folder : Folder) → S.keeps src.new folder → S.keeps src.old folder }
+        ensures source { LeavesSource ⟦<S as Source>⟧ src.old src.new }
     {
         match self.node {
             Node::Leaf { bytes, start, .. } => Ok(bytes.as_slice()[(*start + place) as usize]),

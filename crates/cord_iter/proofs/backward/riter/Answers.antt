@@ -14,7 +14,7 @@ returns-then-len-eq0-clause-walked g c folder kept =
 pub returns-in_err-stopped-clause-prefix : goal.returns-in_err-stopped-clause-prefix
 returns-in_err-stopped-clause-prefix g c folder kept =
     let t = g.S.Source.table c.args.src.now folder in
-    let told = g.met.S.Source.lengths_of_table c.args.src.now folder (c.riter4.ensures.earlier folder kept) in
+    let told = g.met.S.Source.lengths_of_table c.args.src.now folder (c.riter4.ensures.source.earlier folder kept) in
     let len = cord_len (g.S.Source.lengths c.args.src.now) t c.args.cord.now told c.len-len.ensures.sound c.requires.fits in
     let some : 0 < c.len-len.result = omega (arith, c.if-len-eq0.false) in
     on_err c.from_residual.result (all_front g.V.Visitor.step (g.V.Visitor.state c.args.visitor.now)
@@ -24,7 +24,7 @@ returns-in_err-stopped-clause-prefix g c folder kept =
 pub returns-clause-walked : goal.returns-clause-walked
 returns-clause-walked g c folder kept =
     let t = g.S.Source.table c.args.src.now folder in
-    let told = g.met.S.Source.lengths_of_table c.args.src.now folder (c.riter4.ensures.earlier folder kept) in
+    let told = g.met.S.Source.lengths_of_table c.args.src.now folder (c.riter4.ensures.source.earlier folder kept) in
     let len = cord_len (g.S.Source.lengths c.args.src.now) t c.args.cord.now told c.len-len.ensures.sound c.requires.fits in
     let some : 0 < c.len-len.result = omega (arith, c.if-len-eq0.false) in
     all_walk g.V.Visitor.step (g.V.Visitor.state c.args.visitor.now) _ t c.args.cord.now c.len-len.result len c.len-len.ensures.stored some

@@ -7,7 +7,7 @@ use Rattle.cord_iter.proofs.backward.riter4.Goals as goal
 pub returns-in_err-byte-clause-prefix : goal.returns-in_err-byte-clause-prefix
 returns-in_err-byte-clause-prefix g c folder kept =
     let state = g.V.Visitor.state in
-    let walked = c.loop-position.invariant.walked folder (c.fetch.ensures.earlier folder kept) in
+    let walked = c.loop-position.invariant.walked folder (c.fetch.ensures.source.earlier folder kept) in
     on_err c.from_residual.result (back_front g.V.Visitor.step (state c.args.visitor.now) (state c.loop-position.visitor)
     (g.S.Source.table c.args.src.now folder) c.args.cord.now c.args.i _ walked)
 
@@ -18,7 +18,7 @@ returns-then-byte-clause-walked g c folder kept =
     let t = g.S.Source.table c.args.src.now folder in
     let cord = c.args.cord.now in
     let index = c.loop-position.position.index in
-    let before = c.fetch.ensures.earlier folder kept in
+    let before = c.fetch.ensures.source.earlier folder kept in
     let told = g.met.S.Source.lengths_of_table c.args.src.now folder (c.loop-position.invariant.earlier folder before) in
     let len = cord_len (g.S.Source.lengths c.args.src.now) t cord told c.set-position.ensures.sound c.requires.fits in
     let byte : IsByteAt t cord index c.in_ok-byte.byte =
@@ -44,7 +44,7 @@ loop-position-preserved g c =
       below = rw to (left_prev index (c.args.i + 1) c.loop-position.invariant.below);
       walked = λ folder kept.
           let t = g.S.Source.table c.args.src.now folder in
-          let before = c.fetch.ensures.earlier folder kept in
+          let before = c.fetch.ensures.source.earlier folder kept in
           let told = g.met.S.Source.lengths_of_table c.args.src.now folder (c.loop-position.invariant.earlier folder before) in
           let len = cord_len (g.S.Source.lengths c.args.src.now) t cord told c.set-position.ensures.sound c.requires.fits in
           let byte : IsByteAt t cord index c.in_ok-byte.byte =
@@ -53,7 +53,7 @@ loop-position-preserved g c =
           (state c.byte.new.self) t cord c.args.i index c.in_ok-byte.byte len c.requires.inside c.loop-position.invariant.below byte on
           (c.loop-position.invariant.walked folder before));
       reads = c.in_ok-byte.ensures.count ∙ c.loop-position.invariant.reads;
-      lengths = c.fetch.ensures.lengths ∙ c.loop-position.invariant.lengths;
-      table = c.fetch.ensures.table ∙ c.loop-position.invariant.table;
-      earlier = λ folder kept. c.loop-position.invariant.earlier folder (c.fetch.ensures.earlier folder kept);
+      lengths = c.fetch.ensures.source.lengths ∙ c.loop-position.invariant.lengths;
+      table = c.fetch.ensures.source.table ∙ c.loop-position.invariant.table;
+      earlier = λ folder kept. c.loop-position.invariant.earlier folder (c.fetch.ensures.source.earlier folder kept);
     }
