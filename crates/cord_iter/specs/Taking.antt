@@ -5,6 +5,8 @@ use Rattle.cord_io.specs.Device.{Folder, raised}
 use Rattle.cord_io.specs.Table.{Table}
 use Rattle.cord_io.specs.declared.faults.CordError.{CordError}
 use Rattle.cord_io.specs.declared.faults.CordError.TheVariants.{NoMemory, TooLong, ReadFailed, WriteFailed}
+use Rattle.cord_io.specs.declared.sources.Source as sources
+use Rattle.cord_io.specs.declared.writing.Sink as sinks
 use Rattle.cord_node.specs.declared.Node.{Node}
 use Rattle.cord_node.specs.Tree.{len_of}
 use Rattle.cord_node.specs.Tables.{bytes_over}
@@ -33,6 +35,10 @@ pub record Takes (P : List ℕ → Type 0) (old new : List ℕ) : Type 0 where
 pub record Counts : Type 0 where
   pub source : ℕ
   pub sink : ℕ
+
+-- how often these two have failed
+abbrev pub failures_of : {S W : Type 0} → sources.Ghosts S → sinks.Ghosts W → S → W → Counts
+failures_of source sink src out = record { source = source.failures src; sink = sink.failures out }
 
 -- where the call is Ok no device failed; a fault names the one that failed, once, and there is no other fault
 abbrev pub CountsFaults : {T : Type 0} → Counts → Counts → Result T CordError → Type 0

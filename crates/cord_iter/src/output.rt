@@ -6,7 +6,7 @@ ghost use Rattle.cord_io.specs.Table.{length_at};
 ghost use Rattle.cord_node.specs.Tree.{IsSound};
 ghost use Rattle.cord_node.specs.Tables.{FitsIn};
 ghost use Rattle.cord_core.specs.Cord.{text_len, bytes_of, CordFitsIn};
-ghost use Rattle.cord_iter.specs.Taking.{IsFrontOf, IsTextOver, IsPrefixOver, Takes, CountsFaults};
+ghost use Rattle.cord_iter.specs.Taking.{IsFrontOf, IsTextOver, IsPrefixOver, Takes, CountsFaults, failures_of};
 
 use crate::pieces::{piece_len, put_all, put_run};
 use crate::{BLOCK_LEN, PAGE_LEN, PIECE_LEN};
@@ -50,8 +50,8 @@ pub fn put<S: Source, W: Sink>(cord: &Cord, src: &mut S, sink: &mut W) -> Result
         (W.taken sink.new)) }
     ensures len { OnOk result (Takes (λ out. length out ≡ text_len cord.now) (W.taken sink.old) (W.taken sink.new)) }
     ensures most { OnErr result (Takes (λ out. length out ≤ text_len cord.now) (W.taken sink.old) (W.taken sink.new)) }
-    ensures faults { CountsFaults (record { source = S.failures src.old; sink = W.failures sink.old })
-        (record { source = S.failures src.new; sink = W.failures sink.new }) result }
+    ensures faults { CountsFaults (failures_of ⟦<S as Source>⟧ ⟦<W as Sink>⟧ src.old sink.old)
+        (failures_of ⟦<S as Source>⟧ ⟦<W as Sink>⟧ src.new sink.new) result }
     ensures steady { S.failures src.old < u64.MAX → W.failures sink.old < u64.MAX →
         S.failures src.new ≡ S.failures src.old → W.failures sink.new ≡ W.failures sink.old → IsOk result }
     ensures source { LeavesSource ⟦<S as Source>⟧ src.old src.new }
@@ -71,8 +71,8 @@ fn put_node<S: Source, W: Sink>(node: &Node, src: &mut S, sink: &mut W) -> Resul
         (W.taken sink.new)) }
     ensures prefix { OnErr result (Takes (IsPrefixOver (S.keeps src.new) (S.table src.old) node.now) (W.taken sink.old)
         (W.taken sink.new)) }
-    ensures faults { CountsFaults (record { source = S.failures src.old; sink = W.failures sink.old })
-        (record { source = S.failures src.new; sink = W.failures sink.new }) result }
+    ensures faults { CountsFaults (failures_of ⟦<S as Source>⟧ ⟦<W as Sink>⟧ src.old sink.old)
+        (failures_of ⟦<S as Source>⟧ ⟦<W as Sink>⟧ src.new sink.new) result }
     ensures source { LeavesSource ⟦<S as Source>⟧ src.old src.new }
     ensures finished { W.finished sink.new ≡ W.finished sink.old }
 {
@@ -112,8 +112,8 @@ fn put_func<S: Source, W: Sink>(
         (W.taken sink.old) (W.taken sink.new)) }
     ensures prefix { OnErr result (Takes (IsPrefixOver (S.keeps src.new) (S.table src.old) (Node.Func id start len))
         (W.taken sink.old) (W.taken sink.new)) }
-    ensures faults { CountsFaults (record { source = S.failures src.old; sink = W.failures sink.old })
-        (record { source = S.failures src.new; sink = W.failures sink.new }) result }
+    ensures faults { CountsFaults (failures_of ⟦<S as Source>⟧ ⟦<W as Sink>⟧ src.old sink.old)
+        (failures_of ⟦<S as Source>⟧ ⟦<W as Sink>⟧ src.new sink.new) result }
     ensures source { LeavesSource ⟦<S as Source>⟧ src.old src.new }
     ensures finished { W.finished sink.new ≡ W.finished sink.old }
 {
@@ -144,8 +144,8 @@ fn put_range<const N: usize, S: Source, W: Sink>(
         (W.taken sink.old) (W.taken sink.new)) }
     ensures prefix { OnErr result (Takes (IsPrefixOver (S.keeps src.new) (S.table src.old) (Node.Func id start len))
         (W.taken sink.old) (W.taken sink.new)) }
-    ensures faults { CountsFaults (record { source = S.failures src.old; sink = W.failures sink.old })
-        (record { source = S.failures src.new; sink = W.failures sink.new }) result }
+    ensures faults { CountsFaults (failures_of ⟦<S as Source>⟧ ⟦<W as Sink>⟧ src.old sink.old)
+        (failures_of ⟦<S as Source>⟧ ⟦<W as Sink>⟧ src.new sink.new) result }
     ensures source { LeavesSource ⟦<S as Source>⟧ src.old src.new }
     ensures finished { W.finished sink.new ≡ W.finished sink.old }
 {
@@ -175,8 +175,8 @@ fn put_piece<S: Source, W: Sink>(
     ensures prefix { OnErr result
         (Takes (IsPrefixOver (S.keeps src.new) (S.table src.old) (Node.Func id start (length piece.old)))
         (W.taken sink.old) (W.taken sink.new)) }
-    ensures faults { CountsFaults (record { source = S.failures src.old; sink = W.failures sink.old })
-        (record { source = S.failures src.new; sink = W.failures sink.new }) result }
+    ensures faults { CountsFaults (failures_of ⟦<S as Source>⟧ ⟦<W as Sink>⟧ src.old sink.old)
+        (failures_of ⟦<S as Source>⟧ ⟦<W as Sink>⟧ src.new sink.new) result }
     ensures source { LeavesSource ⟦<S as Source>⟧ src.old src.new }
     ensures finished { W.finished sink.new ≡ W.finished sink.old }
 {
