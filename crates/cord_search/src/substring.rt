@@ -1,6 +1,7 @@
 // The places of a text in another.
 ghost use Rattle.std.specs.Prelude.{◌≡◌, ◌+◌, ◌<◌, ◌≤◌, length, true, false, is_err, IsOk, IfOk, IfErr, IfSome};
 ghost use Rattle.cord_io.specs.Device.{Folder, count_after};
+ghost use Rattle.cord_io.specs.Frames.{LeavesSource};
 ghost use Rattle.cord_core.specs.Cord.{text_len, bytes_of, IsCord, CordFitsIn};
 ghost use Rattle.cord_core.specs.Texts.{first};
 ghost use Rattle.cord_search.specs.inner.Pieces.{IsPieceOf, IsStanding, StandsNot};
@@ -61,9 +62,7 @@ pub fn str<S: Source>(x: &Cord, start: u64, s: &Cord, src: &mut S) -> Result<Opt
     ensures refused { IfErr result (λ e. e ≡ CordError.ReadFailed) }
     ensures count { S.failures src.new ≡ count_after (is_err result) (S.failures src.old) }
     ensures steady { S.failures src.old < u64.MAX → S.failures src.new ≡ S.failures src.old → IsOk result }
-    ensures lengths { S.lengths src.new ≡ S.lengths src.old }
-    ensures table { S.table src.new ≡ S.table src.old }
-    ensures earlier { (folder : Folder) → S.keeps src.new folder → S.keeps src.old folder }
+    ensures source { LeavesSource ⟦<S as Source>⟧ src.old src.new }
 {
     let count = s.len();
     if !lies_inside(start, count, x.len()) {
@@ -97,9 +96,7 @@ pub fn find_bytes<S: Source>(
     ensures refused { IfErr result (λ e. e ≡ CordError.ReadFailed) }
     ensures count { S.failures src.new ≡ count_after (is_err result) (S.failures src.old) }
     ensures steady { S.failures src.old < u64.MAX → S.failures src.new ≡ S.failures src.old → IsOk result }
-    ensures lengths { S.lengths src.new ≡ S.lengths src.old }
-    ensures table { S.table src.new ≡ S.table src.old }
-    ensures earlier { (folder : Folder) → S.keeps src.new folder → S.keeps src.old folder }
+    ensures source { LeavesSource ⟦<S as Source>⟧ src.old src.new }
 {
     if !lies_inside(start, bytes.len() as u64, x.len()) {
         return Ok(None);
