@@ -12,4 +12,4 @@ put-requires g c = record { fits = c.in_ok-range.ensures.over.fits (g.S.Source.l
 
 pub returns : goal.returns
 returns g c folder kept = joined_written _ _ _ _ c.loop-segment-test.false c.loop-segment.invariant c.in_ok-range.ensures.over
-    (g.met.S.Source.lengths_of_table c.args.src.now folder (c.put.ensures.earlier folder kept)) (c.put.ensures.text folder kept)
+    (g.met.S.Source.lengths_of_table c.args.src.now folder (c.put.ensures.source.earlier folder kept)) (c.put.ensures.text folder kept)

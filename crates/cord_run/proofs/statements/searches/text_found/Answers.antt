@@ -16,6 +16,6 @@ returns-in-Ok-clause-found g c = λ folder agrees.
     (sym (to_z-of_z w64 c.place_number.result fits))
     (text_placed (g.R.Source.lengths c.args.source.now) c.args.cord.now c.len-len.ensures.sound c.requires.fits c.args.start
     c.in_ok-index.index checked c.args.pattern.now table (g.met.R.Source.lengths_of_table c.args.source.now folder
-    (c.in-Ok.ensures.earlier folder agrees)) c.in-Ok.place c.place_number.result
+    (c.in-Ok.ensures.source.earlier folder agrees)) c.in-Ok.place c.place_number.result
     (λ within. c.place_number.ensures (subst (λ (n : ℕ). IfSome c.in-Ok.place (λ p. p ≤ n)) (sym c.len-len.ensures.stored) within))
     (c.in-Ok.ensures.first folder agrees))
