@@ -7,6 +7,8 @@ pub mod Either
 pub mod Filled
 pub mod Firsts
 pub mod Found
+pub mod Given
+pub mod LineFields
 pub mod Lines
 pub mod Magnitudes
 pub mod Readings

@@ -1,5 +1,5 @@
 -- What the names that are known settle.
-use Rattle.std.proofs.Common.{Some, None, ◌≡◌, ℕ, List, [], ◌∷◌, ◌++◌, true, refl, sym, ◌∙◌, ap, subst, length, map}
+use Rattle.std.proofs.Common.{inl, Some, None, ◌≡◌, ℕ, List, [], ◌∷◌, ◌++◌, true, refl, sym, ◌∙◌, ap, subst, length, map}
 use Rattle.std.specs.Prelude.{Option, IfSome, is_some, if◌then◌else◌}
 use Rattle.cord_script.specs.declared.kinds.Kind.{Kind}
 use Rattle.cord_script.specs.declared.kinds.Kind.TheVariants as kinds
@@ -8,9 +8,12 @@ use Rattle.cord_script.specs.declared.table.Known.{Known}
 use Rattle.cord_script.specs.declared.verbs.Verb.{Verb}
 use Rattle.cord_script.specs.declared.fields.Field.{Field}
 use Rattle.cord_script.specs.declared.refusals.RefusalKind.{RefusalKind}
-use Rattle.cord_script.specs.Forms.{Term}
+use Rattle.cord_syntax.specs.declared.statements.Statement.{Statement}
+use Rattle.cord_syntax.specs.Lines.{line_of}
+use Rattle.cord_script.specs.Forms.{Term, terms_of, effect_of}
+use Rattle.cord_script.specs.Forms.Effect.{Stays}
 use Rattle.cord_script.specs.Forms.Term.{Target, Operand, Value, Literal, FilePath, Applies, Compares, Formats}
-use Rattle.cord_script.specs.Script.{Before, Block, kind_of, names_after, paths_after, blocks_after}
+use Rattle.cord_script.specs.Script.{Before, Block, IsAllowed, AreAllowed, kind_of, after, names_after, paths_after, blocks_after}
 use Rattle.cord_script.specs.declared.refusals.RefusalKind.TheVariants.{WrongKind}
 use Rattle.cord_script.specs.Flaws.{first_of, unless, same_kind, assigned_flaw}
 use Rattle.cord_script.specs.inner.Fields.{term_of}
@@ -121,6 +124,41 @@ settled_left verb n ps old blocks h b =
     let names = settled_names old.names (map term_of ps) h in
     let paths = settled_paths old.names old.paths (map term_of ps) h in
     cc
+
+-- a settled term is allowed
+term_allowed : (before : Before) (t : Term) → IsSettled before.names t → IsAllowed before t
+term_allowed before (Target kind name) h = inl h
+term_allowed before (Operand kind name) h = h
+term_allowed before (Value (Numeral v)) h = tt
+term_allowed before (Value (Named name)) h = h
+term_allowed before (Literal text) h = tt
+term_allowed before (FilePath path) h = absurd h
+term_allowed before (Applies function) h = tt
+term_allowed before (Compares relation) h = tt
+term_allowed before (Formats text) h = tt
+
+pub settled_allowed : (before : Before) (ts : List Term) → AllSettled before.names ts → AreAllowed before ts
+settled_allowed before [] h = tt
+settled_allowed before (t ∷ ts) h = (term_allowed before t h.0, settled_allowed before ts h.1)
+
+-- a statement of settled terms that leaves the blocks alone changes nothing
+pub settled_after : (before : Before) (s : Statement) → AllSettled before.names (terms_of s) → effect_of s ≡ Stays → after s before ≡ before
+settled_after before s h e =
+    ap (λ names. record {
+      names = names;
+      paths = paths_after (terms_of s) before.paths;
+      blocks = blocks_after (effect_of s) (line_of s) before.blocks;
+    }) (settled_names before.names (terms_of s) h)
+    ∙ ap (λ paths. record {
+      names = before.names;
+      paths = paths;
+      blocks = blocks_after (effect_of s) (line_of s) before.blocks;
+    }) (settled_paths before.names before.paths (terms_of s) h)
+    ∙ ap (λ effect. record {
+      names = before.names;
+      paths = before.paths;
+      blocks = blocks_after effect (line_of s) before.blocks;
+    }) e
 
 settled_more : (names : List Known) (ps : List Field) (p : Field) → AllSettled names (map term_of ps) → IsSettled names (term_of p) →
     AllSettled names (map term_of (ps ++ p ∷ []))

@@ -3,6 +3,7 @@ pub mod Built
 pub mod ContextViews
 pub mod Contexts
 pub mod Fields
+pub mod Given
 pub mod Reading
 pub mod Settled
 pub mod Steps

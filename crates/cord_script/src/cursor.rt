@@ -5,6 +5,7 @@ ghost use Rattle.cord_script.specs.Forms.Term.{Target, Operand, Value, Literal, 
 ghost use Rattle.cord_script.specs.inner.Fields.{term_of, want_of, next_want};
 ghost use Rattle.cord_script.specs.inner.Built.{are_cords, are_arguments};
 
+use crate::field_source::FieldSource;
 use crate::fields::Field;
 use crate::kinds::{Kind, Want};
 use crate::{
@@ -12,6 +13,7 @@ use crate::{
 };
 use std::alloc::Global;
 use std::collections::VecDeque;
+use std::convert::Infallible;
 use std::marker::Model;
 
 // The next field, which is of one of these variants: what is wanted says so.
@@ -60,64 +62,6 @@ impl FieldCursor {
         Vec::from(self.rest)
     }
 
-    /// The target, of this kind.
-    pub fn target(&mut self, kind: Kind) -> Name
-        requires { next_want (map want_of self.old) ≡ Some (Want.Target kind) }
-        ensures { self.old ≡ Target kind result ∷ self.new }
-    {
-        let _kind = kind;
-        next!(self, Field::Target(_, name) => name)
-    }
-
-    /// A name that is used, of this kind.
-    pub fn operand(&mut self, kind: Kind) -> Name
-        requires { next_want (map want_of self.old) ≡ Some (Want.Operand kind) }
-        ensures { self.old ≡ Operand kind result ∷ self.new }
-    {
-        let _kind = kind;
-        next!(self, Field::Operand(_, name) => name)
-    }
-
-    /// A number operand.
-    pub fn number(&mut self) -> Number
-        requires { next_want (map want_of self.old) ≡ Some Want.Number }
-        ensures { self.old ≡ Value result ∷ self.new }
-    {
-        next!(self, Field::Value(number) => number)
-    }
-
-    /// A text.
-    pub fn text(&mut self) -> Text
-        requires { next_want (map want_of self.old) ≡ Some Want.Text }
-        ensures { self.old ≡ Literal result ∷ self.new }
-    {
-        next!(self, Field::Literal(text) => text)
-    }
-
-    /// A path.
-    pub fn path(&mut self) -> Path
-        requires { next_want (map want_of self.old) ≡ Some Want.Path }
-        ensures { self.old ≡ FilePath result ∷ self.new }
-    {
-        next!(self, Field::FilePath(path) => path)
-    }
-
-    /// A function.
-    pub fn function(&mut self) -> Function
-        requires { next_want (map want_of self.old) ≡ Some Want.Function }
-        ensures { self.old ≡ Applies result ∷ self.new }
-    {
-        next!(self, Field::Applies(function) => function)
-    }
-
-    /// A relation.
-    pub fn relation(&mut self) -> Relation
-        requires { next_want (map want_of self.old) ≡ Some Want.Relation }
-        ensures { self.old ≡ Compares result ∷ self.new }
-    {
-        next!(self, Field::Compares(relation) => relation)
-    }
-
     /// The text of a format.
     pub fn format(&mut self) -> Text
         requires { next_want (map want_of self.old) ≡ Some Want.Format }
@@ -154,8 +98,9 @@ impl FieldCursor {
     {
         let mut names = Vec::new(alloc);
         'cords: while !self.is_empty() {
-            let name = self.operand(Kind::Cord);
-            names.push(name)?;
+            match self.operand(Kind::Cord) {
+                Ok(name) => names.push(name)?,
+            }
         }
         Ok(Names::of(names))
     }
@@ -172,5 +117,46 @@ impl FieldCursor {
             arguments.push(argument)?;
         }
         Ok(Arguments::of(arguments))
+    }
+}
+
+impl FieldSource for FieldCursor {
+    type Error = Infallible;
+
+    ghost use Rattle.std.specs.Prelude.{◌≡◌, ◌∷◌, map};
+    ghost use Rattle.cord_script.specs.inner.Fields.{want_of};
+
+    ghost wants = { λ ts. map want_of ts };
+
+    ghost gives = { λ ts t us. ts ≡ t ∷ us };
+
+    fn target(&mut self, kind: Kind) -> Result<Name, Infallible> {
+        let _kind = kind;
+        next!(self, Field::Target(_, name) => Ok(name))
+    }
+
+    fn operand(&mut self, kind: Kind) -> Result<Name, Infallible> {
+        let _kind = kind;
+        next!(self, Field::Operand(_, name) => Ok(name))
+    }
+
+    fn number(&mut self) -> Result<Number, Infallible> {
+        next!(self, Field::Value(number) => Ok(number))
+    }
+
+    fn text(&mut self) -> Result<Text, Infallible> {
+        next!(self, Field::Literal(text) => Ok(text))
+    }
+
+    fn path(&mut self) -> Result<Path, Infallible> {
+        next!(self, Field::FilePath(path) => Ok(path))
+    }
+
+    fn function(&mut self) -> Result<Function, Infallible> {
+        next!(self, Field::Applies(function) => Ok(function))
+    }
+
+    fn relation(&mut self) -> Result<Relation, Infallible> {
+        next!(self, Field::Compares(relation) => Ok(relation))
     }
 }

@@ -1,75 +1,84 @@
 // Lines whose names are known and of their kinds: each of their words is a field at once, without a list of the words.
-ghost use Rattle.std.specs.Prelude.{◌≡◌, ◌++◌, ◌∷◌, [], true, false, IfSome, IfOk, IfErr};
+ghost use Rattle.std.specs.Prelude.{◌≡◌, true, false, IfSome, IfOk, IfErr};
 ghost use Rattle.cord_script.specs.Words.{HasWord};
 ghost use Rattle.cord_script.specs.declared.words.Word.TheVariants.{Plain};
 ghost use Rattle.cord_script.specs.Forms.Effect.{Stays};
 ghost use Rattle.cord_script.specs.inner.ContextViews.{before_of};
 ghost use Rattle.cord_script.specs.inner.Settled.{SaysSettled};
 ghost use Rattle.cord_script.specs.inner.Steps.{Adds};
-ghost use Rattle.cord_script.specs.inner.Verbal.{fixed_word, fixed_effect};
+ghost use Rattle.cord_script.specs.inner.Verbal.{verb_word, verb_effect};
 
 use crate::context::Context;
-use crate::cursor::FieldCursor;
-use crate::field_lists::emptied;
-use crate::fields::{Field, field_of};
 use crate::grammar::{verb_of, wants_of};
-use crate::kinds::Want;
+use crate::kinds::Kind;
+use crate::line_fields::LineFields;
+use crate::line_words::{LineWords, Unsettled};
 use crate::statements::fixed_statement_of;
-use crate::table::Table;
 use crate::verbs::{FixedVerb, Verb};
-use crate::words::{blanks, next_word, plain_word};
+use crate::words::plain_word;
 use crate::{RefusalKind, Statement};
 use std::alloc::Global;
 
-// The verb, where it has a fixed number of words and leaves the open blocks alone.
-fn simple_verb(verb: Verb) -> Option<FixedVerb>
-    ensures verb { IfSome result (λ fixed. verb ≡ Verb.Fixed fixed) }
-    ensures effect { IfSome result (λ fixed. fixed_effect fixed ≡ Stays) }
+// Whether a statement of the verb leaves the open blocks alone.
+fn leaves_blocks(verb: Verb) -> bool
+    ensures { result ≡ true → verb_effect verb ≡ Stays }
 {
     match verb {
-        Verb::Catn | Verb::Sprintf | Verb::Fixed(FixedVerb::Control(_)) => None,
-        Verb::Fixed(fixed) => Some(fixed),
+        Verb::Fixed(FixedVerb::Control(_)) => false,
+        Verb::Fixed(_) => true,
+        Verb::Catn | Verb::Sprintf => true,
     }
 }
 
-// The verb of a line's first word, where it is a simple one, and what follows that word.
-fn front_verb(line: &[u8]) -> Option<(FixedVerb, &[u8])>
-    ensures word { IfSome result (λ r. HasWord line.now (Plain (fixed_word r.0)) r.1.now) }
-    ensures effect { IfSome result (λ r. fixed_effect r.0 ≡ Stays) }
+// The verb of a line's first word, where it leaves the open blocks alone, and what follows that word.
+fn front_verb(line: &[u8]) -> Option<(Verb, &[u8])>
+    ensures word { IfSome result (λ r. HasWord line.now (Plain (verb_word r.0)) r.1.now) }
+    ensures effect { IfSome result (λ r. verb_effect r.0 ≡ Stays) }
 {
     let (word, rest) = plain_word(line)?;
     let verb = verb_of(word)?;
-    let fixed = simple_verb(verb)?;
-    Some((fixed, rest))
+    if !leaves_blocks(verb) {
+        return None;
+    }
+    Some((verb, rest))
 }
 
-// Takes a word of the line for each want, and tells whether all are settled and no word is left. Else the fields say
-// nothing, nor does a flaw: it need not be the first one.
+// The statement of words whose number the verb fixes.
 #[inline(always)]
-fn settled_fields(
-    alloc: Global,
-    names: &Table,
-    wants: &[Want],
-    line: &[u8],
-    fields: &mut Vec<Field>,
-) -> Result<bool, RefusalKind>
-    requires { fields.old.items ≡ [] }
-    ensures { IfOk result (λ settled. settled ≡ true →
-        SaysSettled names.now wants.now line.now fields.new.items) }
+fn fixed_statement(verb: FixedVerb, number: u32, words: LineWords) -> Result<Statement, Unsettled>
+    ensures { IfOk result (SaysSettled words.entry.names (Verb.Fixed verb) number words.entry.rest) }
 {
-    let mut rest = line;
-    for want in wants {
-        let Some((word, behind)) = next_word(alloc, rest)? else {
-            return Ok(false);
-        };
-        let (field, settled) = field_of(alloc, names, *want, word)?;
-        if !settled {
-            return Ok(false);
-        }
-        fields.push(field)?;
-        rest = behind;
+    let mut fields = LineFields::of(words, wants_of(verb));
+    let built = fixed_statement_of(verb, number, &mut fields);
+    if fields.is_done() {
+        return built;
     }
-    Ok(blanks(rest) == rest.len())
+    Err(Unsettled)
+}
+
+// The statement of a target and cords.
+fn joined_statement(line: u32, mut words: LineWords) -> Result<Statement, Unsettled>
+    ensures { IfOk result (SaysSettled words.entry.names Verb.Catn line words.entry.rest) }
+{
+    let target = words.name(Kind::Cord)?;
+    let parts = words.cords()?;
+    Ok(Statement::Catn {
+        line,
+        target,
+        parts,
+    })
+}
+
+// The statement of a verb and of the words that follow it, if they are settled and no further word is left.
+#[inline(always)]
+fn settled_statement(verb: Verb, number: u32, words: LineWords) -> Result<Statement, Unsettled>
+    ensures { IfOk result (SaysSettled words.entry.names verb number words.entry.rest) }
+{
+    match verb {
+        Verb::Fixed(fixed) => fixed_statement(fixed, number, words),
+        Verb::Catn => joined_statement(number, words),
+        Verb::Sprintf => Err(Unsettled),
+    }
 }
 
 /// Adds the statement of a line that leaves what the lines before it leave, and tells whether the line is one. Any
@@ -80,7 +89,6 @@ pub fn take_settled(
     number: u32,
     line: &[u8],
     context: &Context,
-    buffer: &mut Vec<Field>,
     statements: &mut Vec<Statement>,
 ) -> Result<bool, RefusalKind>
     ensures adds { IfOk result (λ taken. taken ≡ true → Adds number line.now (before_of context.now) statements.old.items
@@ -91,12 +99,10 @@ pub fn take_settled(
     let Some((verb, rest)) = front_verb(line) else {
         return Ok(false);
     };
-    let mut fields = emptied(alloc, buffer);
-    let Ok(true) = settled_fields(alloc, &context.names, wants_of(verb), rest, &mut fields) else {
+    let words = LineWords::of(alloc, &context.names, rest);
+    let Ok(statement) = settled_statement(verb, number, words) else {
         return Ok(false);
     };
-    let mut cursor = FieldCursor::of(fields);
-    statements.push(fixed_statement_of(verb, number, &mut cursor))?;
-    *buffer = cursor.into_buffer();
+    statements.push(statement)?;
     Ok(true)
 }

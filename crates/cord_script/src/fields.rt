@@ -52,8 +52,8 @@ fn name_of(alloc: Global, names: &Table, word: Word) -> Result<(Name, Option<Kin
     Ok(names.name_of(alloc, name.as_slice())?)
 }
 
-// Whether a word begins as a numeral: with a digit or `-`.
-fn begins_numeral(word: &[u8]) -> bool
+/// Whether a word begins as a numeral: with a digit or `-`.
+pub fn begins_numeral(word: &[u8]) -> bool
     ensures { result ≡ begins_numeral word.now }
 {
     match word {
@@ -135,8 +135,8 @@ fn path_of(word: Word) -> Result<Path, RefusalKind>
     Ok(path)
 }
 
-// Where a function is wanted.
-fn function_of(word: &Word) -> Result<Function, RefusalKind>
+/// Where a function is wanted.
+pub fn function_of(word: &Word) -> Result<Function, RefusalKind>
     ensures function { IfOk result (λ function. word.now ≡ Word.Plain (function_word function)) }
     ensures flaw { IfErr result (λ kind. function_misfit word.now ≡ Some kind) }
 {
@@ -152,8 +152,8 @@ fn function_of(word: &Word) -> Result<Function, RefusalKind>
     Err(RefusalKind::BadName)
 }
 
-// Where a relation is wanted.
-fn relation_of(word: &Word) -> Result<Relation, RefusalKind>
+/// Where a relation is wanted.
+pub fn relation_of(word: &Word) -> Result<Relation, RefusalKind>
     ensures relation { IfOk result (λ relation. word.now ≡ Word.Plain (relation_word relation)) }
     ensures flaw { IfErr result (λ kind. relation_misfit word.now ≡ Some kind) }
 {

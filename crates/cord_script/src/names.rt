@@ -42,7 +42,8 @@ pub fn is_name(word: &[u8]) -> bool
     }
 }
 
-fn is_same(a: Kind, b: Kind) -> bool
+/// Whether two kinds are one.
+pub fn is_same(a: Kind, b: Kind) -> bool
     ensures { result ≡ same_kind a b }
 {
     matches!(

@@ -81,7 +81,7 @@ fn take_line<'a>(
     if is_idle(line) {
         return Ok(());
     }
-    if take_settled(alloc, number, line, context, buffer, statements)? {
+    if take_settled(alloc, number, line, context, statements)? {
         return Ok(());
     }
     take_words(alloc, number, line, words, buffer, context, statements)

@@ -1,264 +1,217 @@
 // Statements of their fields, family by family.
-#![tactic(auto, using(crate::proofs::Built::none_left))]
 
-ghost use Rattle.std.specs.Prelude.{◌≡◌, map, IfOk, IfErr};
+ghost use Rattle.std.specs.Prelude.{◌≡◌, [], ◌∷◌, Some, map, IfOk, IfErr, OnOk};
 ghost use Rattle.cord_script.specs.declared.verbs.Verb.{Verb};
-ghost use Rattle.cord_script.specs.inner.Fields.{want_of};
+ghost use Rattle.cord_script.specs.Forms.Term.{Target};
+ghost use Rattle.cord_script.specs.inner.Fields.{want_of, next_want};
 ghost use Rattle.cord_script.specs.inner.Verbal.{fixed_wants};
 ghost use Rattle.cord_script.specs.inner.Building.{format_of, verb_of};
 ghost use Rattle.cord_script.specs.inner.Built.{IsJoined, IsPrintedAs, AreFieldsOf, IsStatementOf};
+ghost use Rattle.cord_script.specs.inner.Given.{IsBuilt};
 
 use crate::cursor::FieldCursor;
 use crate::field_lists::Builder;
-use crate::kinds::Kind;
+use crate::field_source::FieldSource;
+use crate::kinds::{Kind, Want};
 use crate::verbs::{
     Composition, Computation, Control, Derivation, FixedVerb, Growth, Look, Origin, Search,
 };
-use crate::{RefusalKind, Statement};
+use crate::{Name, RefusalKind, Statement};
 use cord_printf::Format;
 use std::alloc::Global;
 
+// The statement of a variant, each of its fields being asked for by a method of the source, where its name or its kind of
+// names stands.
+macro_rules! statement {
+    ($fields:ident, $line:ident, $variant:ident $(, $field:ident: $method:ident($($kind:ident)?))*) => {{
+        $(let $field = $fields.$method($(Kind::$kind)?)?;)*
+        Ok(Statement::$variant { line: $line $(, $field)* })
+    }};
+}
+
 // A statement that makes a cord of no other name's value.
-fn origin_of(verb: Origin, line: u32, fields: &mut FieldCursor) -> Statement
-    requires { map want_of fields.old ≡ fixed_wants (FixedVerb.Origin verb) }
-    ensures { IsStatementOf (Verb.Fixed (FixedVerb.Origin verb)) line fields.old result }
+fn origin_of<F: FieldSource>(verb: Origin, line: u32, fields: &mut F) -> Result<Statement, F::Error>
+    requires { F.wants fields.old ≡ fixed_wants (FixedVerb.Origin verb) }
+    ensures built { IfOk result (IsBuilt F.gives (Verb.Fixed (FixedVerb.Origin verb)) line fields.old fields.new) }
+    ensures done { OnOk result (F.wants fields.new ≡ []) }
 {
     match verb {
-        Origin::Let => Statement::Let {
-            line,
-            target: fields.target(Kind::Cord),
-            text: fields.text(),
-        },
-        Origin::File => Statement::File {
-            line,
-            target: fields.target(Kind::Cord),
-            path: fields.path(),
-        },
-        Origin::Eager => Statement::Eager {
-            line,
-            target: fields.target(Kind::Cord),
-            path: fields.path(),
-        },
-        Origin::Lazy => Statement::Lazy {
-            line,
-            target: fields.target(Kind::Cord),
-            path: fields.path(),
-        },
-        Origin::FromFn => Statement::FromFn {
-            line,
-            target: fields.target(Kind::Cord),
-            function: fields.function(),
-            count: fields.number(),
-        },
+        Origin::Let => statement!(fields, line, Let, target: target(Cord), text: text()),
+        Origin::File => statement!(fields, line, File, target: target(Cord), path: path()),
+        Origin::Eager => statement!(fields, line, Eager, target: target(Cord), path: path()),
+        Origin::Lazy => statement!(fields, line, Lazy, target: target(Cord), path: path()),
+        Origin::FromFn => statement!(
+            fields, line, FromFn, target: target(Cord), function: function(), count: number()
+        ),
     }
 }
 
 // A statement that makes a cord that an expression gives.
-fn composition_of(verb: Composition, line: u32, fields: &mut FieldCursor) -> Statement
-    requires { map want_of fields.old ≡ fixed_wants (FixedVerb.Composition verb) }
-    ensures { IsStatementOf (Verb.Fixed (FixedVerb.Composition verb)) line fields.old result }
+fn composition_of<F: FieldSource>(
+    verb: Composition,
+    line: u32,
+    fields: &mut F,
+) -> Result<Statement, F::Error>
+    requires { F.wants fields.old ≡ fixed_wants (FixedVerb.Composition verb) }
+    ensures built { IfOk result (IsBuilt F.gives (Verb.Fixed (FixedVerb.Composition verb)) line fields.old fields.new) }
+    ensures done { OnOk result (F.wants fields.new ≡ []) }
 {
     match verb {
-        Composition::Chars => Statement::Chars {
-            line,
-            target: fields.target(Kind::Cord),
-            byte: fields.number(),
-            count: fields.number(),
-        },
-        Composition::Nul => Statement::Nul {
-            line,
-            target: fields.target(Kind::Cord),
-            count: fields.number(),
-        },
-        Composition::Cat => Statement::Cat {
-            line,
-            target: fields.target(Kind::Cord),
-            left: fields.operand(Kind::Cord),
-            right: fields.operand(Kind::Cord),
-        },
-        Composition::Catc => Statement::Catc {
-            line,
-            target: fields.target(Kind::Cord),
-            operand: fields.operand(Kind::Cord),
-            byte: fields.number(),
-        },
-        Composition::Substr => Statement::Substr {
-            line,
-            target: fields.target(Kind::Cord),
-            operand: fields.operand(Kind::Cord),
-            start: fields.number(),
-            count: fields.number(),
-        },
+        Composition::Chars => statement!(
+            fields, line, Chars, target: target(Cord), byte: number(), count: number()
+        ),
+        Composition::Nul => statement!(fields, line, Nul, target: target(Cord), count: number()),
+        Composition::Cat => statement!(
+            fields, line, Cat, target: target(Cord), left: operand(Cord), right: operand(Cord)
+        ),
+        Composition::Catc => statement!(
+            fields, line, Catc, target: target(Cord), operand: operand(Cord), byte: number()
+        ),
+        Composition::Substr => statement!(
+            fields, line, Substr, target: target(Cord), operand: operand(Cord), start: number(),
+            count: number()
+        ),
     }
 }
 
 // A statement that makes a cord anew of a cord or an extensible cord.
-fn derivation_of(verb: Derivation, line: u32, fields: &mut FieldCursor) -> Statement
-    requires { map want_of fields.old ≡ fixed_wants (FixedVerb.Derivation verb) }
-    ensures { IsStatementOf (Verb.Fixed (FixedVerb.Derivation verb)) line fields.old result }
+fn derivation_of<F: FieldSource>(
+    verb: Derivation,
+    line: u32,
+    fields: &mut F,
+) -> Result<Statement, F::Error>
+    requires { F.wants fields.old ≡ fixed_wants (FixedVerb.Derivation verb) }
+    ensures built { IfOk result (IsBuilt F.gives (Verb.Fixed (FixedVerb.Derivation verb)) line fields.old fields.new) }
+    ensures done { OnOk result (F.wants fields.new ≡ []) }
 {
     match verb {
-        Derivation::Balance => Statement::Balance {
-            line,
-            target: fields.target(Kind::Cord),
-            operand: fields.operand(Kind::Cord),
-        },
-        Derivation::EcToCord => Statement::EcToCord {
-            line,
-            target: fields.target(Kind::Cord),
-            extensible: fields.operand(Kind::Extensible),
-        },
+        Derivation::Balance =>
+            statement!(fields, line, Balance, target: target(Cord), operand: operand(Cord)),
+        Derivation::EcToCord => statement!(
+            fields, line, EcToCord, target: target(Cord), extensible: operand(Extensible)
+        ),
     }
 }
 
 // A statement that computes a number, which needs no byte.
-fn computation_of(verb: Computation, line: u32, fields: &mut FieldCursor) -> Statement
-    requires { map want_of fields.old ≡ fixed_wants (FixedVerb.Computation verb) }
-    ensures { IsStatementOf (Verb.Fixed (FixedVerb.Computation verb)) line fields.old result }
+fn computation_of<F: FieldSource>(
+    verb: Computation,
+    line: u32,
+    fields: &mut F,
+) -> Result<Statement, F::Error>
+    requires { F.wants fields.old ≡ fixed_wants (FixedVerb.Computation verb) }
+    ensures built { IfOk result (IsBuilt F.gives (Verb.Fixed (FixedVerb.Computation verb)) line fields.old fields.new) }
+    ensures done { OnOk result (F.wants fields.new ≡ []) }
 {
     match verb {
-        Computation::Len => Statement::Len {
-            line,
-            target: fields.target(Kind::Number),
-            operand: fields.operand(Kind::Cord),
-        },
-        Computation::Assign => Statement::Assign {
-            line,
-            target: fields.target(Kind::Number),
-            value: fields.number(),
-        },
-        Computation::Add => Statement::Add {
-            line,
-            target: fields.target(Kind::Number),
-            left: fields.number(),
-            right: fields.number(),
-        },
-        Computation::Sub => Statement::Sub {
-            line,
-            target: fields.target(Kind::Number),
-            left: fields.number(),
-            right: fields.number(),
-        },
+        Computation::Len =>
+            statement!(fields, line, Len, target: target(Number), operand: operand(Cord)),
+        Computation::Assign =>
+            statement!(fields, line, Assign, target: target(Number), value: number()),
+        Computation::Add => statement!(
+            fields, line, Add, target: target(Number), left: number(), right: number()
+        ),
+        Computation::Sub => statement!(
+            fields, line, Sub, target: target(Number), left: number(), right: number()
+        ),
     }
 }
 
 // A statement that looks at bytes.
-fn look_of(verb: Look, line: u32, fields: &mut FieldCursor) -> Statement
-    requires { map want_of fields.old ≡ fixed_wants (FixedVerb.Look verb) }
-    ensures { IsStatementOf (Verb.Fixed (FixedVerb.Look verb)) line fields.old result }
+fn look_of<F: FieldSource>(verb: Look, line: u32, fields: &mut F) -> Result<Statement, F::Error>
+    requires { F.wants fields.old ≡ fixed_wants (FixedVerb.Look verb) }
+    ensures built { IfOk result (IsBuilt F.gives (Verb.Fixed (FixedVerb.Look verb)) line fields.old fields.new) }
+    ensures done { OnOk result (F.wants fields.new ≡ []) }
 {
     match verb {
-        Look::Fetch => Statement::Fetch {
-            line,
-            target: fields.target(Kind::Number),
-            operand: fields.operand(Kind::Cord),
-            index: fields.number(),
-        },
-        Look::Cmp => Statement::Cmp {
-            line,
-            target: fields.target(Kind::Number),
-            left: fields.operand(Kind::Cord),
-            right: fields.operand(Kind::Cord),
-        },
-        Look::Ncmp => Statement::Ncmp {
-            line,
-            target: fields.target(Kind::Number),
-            left: fields.operand(Kind::Cord),
-            left_start: fields.number(),
-            right: fields.operand(Kind::Cord),
-            right_start: fields.number(),
-            count: fields.number(),
-        },
+        Look::Fetch => statement!(
+            fields, line, Fetch, target: target(Number), operand: operand(Cord), index: number()
+        ),
+        Look::Cmp => statement!(
+            fields, line, Cmp, target: target(Number), left: operand(Cord), right: operand(Cord)
+        ),
+        Look::Ncmp => statement!(
+            fields, line, Ncmp, target: target(Number), left: operand(Cord), left_start: number(),
+            right: operand(Cord), right_start: number(), count: number()
+        ),
     }
 }
 
 // A statement that searches a cord.
-fn search_of(verb: Search, line: u32, fields: &mut FieldCursor) -> Statement
-    requires { map want_of fields.old ≡ fixed_wants (FixedVerb.Search verb) }
-    ensures { IsStatementOf (Verb.Fixed (FixedVerb.Search verb)) line fields.old result }
+fn search_of<F: FieldSource>(verb: Search, line: u32, fields: &mut F) -> Result<Statement, F::Error>
+    requires { F.wants fields.old ≡ fixed_wants (FixedVerb.Search verb) }
+    ensures built { IfOk result (IsBuilt F.gives (Verb.Fixed (FixedVerb.Search verb)) line fields.old fields.new) }
+    ensures done { OnOk result (F.wants fields.new ≡ []) }
 {
     match verb {
-        Search::Str => Statement::Str {
-            line,
-            target: fields.target(Kind::Number),
-            operand: fields.operand(Kind::Cord),
-            start: fields.number(),
-            pattern: fields.operand(Kind::Cord),
-        },
-        Search::Chr => Statement::Chr {
-            line,
-            target: fields.target(Kind::Number),
-            operand: fields.operand(Kind::Cord),
-            start: fields.number(),
-            byte: fields.number(),
-        },
-        Search::Rchr => Statement::Rchr {
-            line,
-            target: fields.target(Kind::Number),
-            operand: fields.operand(Kind::Cord),
-            start: fields.number(),
-            byte: fields.number(),
-        },
+        Search::Str => statement!(
+            fields, line, Str, target: target(Number), operand: operand(Cord), start: number(),
+            pattern: operand(Cord)
+        ),
+        Search::Chr => statement!(
+            fields, line, Chr, target: target(Number), operand: operand(Cord), start: number(),
+            byte: number()
+        ),
+        Search::Rchr => statement!(
+            fields, line, Rchr, target: target(Number), operand: operand(Cord), start: number(),
+            byte: number()
+        ),
     }
 }
 
 // A statement that makes an extensible cord, or one that grows.
-fn growth_of(verb: Growth, line: u32, fields: &mut FieldCursor) -> Statement
-    requires { map want_of fields.old ≡ fixed_wants (FixedVerb.Growth verb) }
-    ensures { IsStatementOf (Verb.Fixed (FixedVerb.Growth verb)) line fields.old result }
+fn growth_of<F: FieldSource>(verb: Growth, line: u32, fields: &mut F) -> Result<Statement, F::Error>
+    requires { F.wants fields.old ≡ fixed_wants (FixedVerb.Growth verb) }
+    ensures built { IfOk result (IsBuilt F.gives (Verb.Fixed (FixedVerb.Growth verb)) line fields.old fields.new) }
+    ensures done { OnOk result (F.wants fields.new ≡ []) }
 {
     match verb {
-        Growth::EcInit => Statement::EcInit {
-            line,
-            target: fields.target(Kind::Extensible),
-        },
-        Growth::EcPut => Statement::EcPut {
-            line,
-            extensible: fields.operand(Kind::Extensible),
-            byte: fields.number(),
-        },
-        Growth::EcCat => Statement::EcCat {
-            line,
-            extensible: fields.operand(Kind::Extensible),
-            operand: fields.operand(Kind::Cord),
-        },
-        Growth::EcStr => Statement::EcStr {
-            line,
-            extensible: fields.operand(Kind::Extensible),
-            text: fields.text(),
-        },
+        Growth::EcInit => statement!(fields, line, EcInit, target: target(Extensible)),
+        Growth::EcPut =>
+            statement!(fields, line, EcPut, extensible: operand(Extensible), byte: number()),
+        Growth::EcCat => statement!(
+            fields, line, EcCat, extensible: operand(Extensible), operand: operand(Cord)
+        ),
+        Growth::EcStr =>
+            statement!(fields, line, EcStr, extensible: operand(Extensible), text: text()),
     }
 }
 
 // A statement that says which lines run next.
-fn control_of(verb: Control, line: u32, fields: &mut FieldCursor) -> Statement
-    requires { map want_of fields.old ≡ fixed_wants (FixedVerb.Control verb) }
-    ensures { IsStatementOf (Verb.Fixed (FixedVerb.Control verb)) line fields.old result }
+fn control_of<F: FieldSource>(
+    verb: Control,
+    line: u32,
+    fields: &mut F,
+) -> Result<Statement, F::Error>
+    requires { F.wants fields.old ≡ fixed_wants (FixedVerb.Control verb) }
+    ensures built { IfOk result (IsBuilt F.gives (Verb.Fixed (FixedVerb.Control verb)) line fields.old fields.new) }
+    ensures done { OnOk result (F.wants fields.new ≡ []) }
 {
     match verb {
-        Control::Repeat => Statement::Repeat {
-            line,
-            count: fields.number(),
-        },
-        Control::If => Statement::If {
-            line,
-            left: fields.number(),
-            relation: fields.relation(),
-            right: fields.number(),
-        },
-        Control::Else => Statement::Else { line },
-        Control::End => Statement::End { line },
+        Control::Repeat => statement!(fields, line, Repeat, count: number()),
+        Control::If =>
+            statement!(fields, line, If, left: number(), relation: relation(), right: number()),
+        Control::Else => statement!(fields, line, Else),
+        Control::End => statement!(fields, line, End),
     }
 }
 
 // A `put`.
-fn put_of(line: u32, fields: &mut FieldCursor) -> Statement
-    requires { map want_of fields.old ≡ fixed_wants FixedVerb.Put }
-    ensures { IsStatementOf (Verb.Fixed FixedVerb.Put) line fields.old result }
+fn put_of<F: FieldSource>(line: u32, fields: &mut F) -> Result<Statement, F::Error>
+    requires { F.wants fields.old ≡ fixed_wants FixedVerb.Put }
+    ensures built { IfOk result (IsBuilt F.gives (Verb.Fixed FixedVerb.Put) line fields.old fields.new) }
+    ensures done { OnOk result (F.wants fields.new ≡ []) }
 {
-    Statement::Put {
-        line,
-        operand: fields.operand(Kind::Cord),
+    statement!(fields, line, Put, operand: operand(Cord))
+}
+
+// The target of checked fields, which is a cord.
+fn cord_target(fields: &mut FieldCursor) -> Name
+    requires { next_want (map want_of fields.old) ≡ Some (Want.Target Kind.Cord) }
+    ensures { fields.old ≡ Target Kind.Cord result ∷ fields.new }
+{
+    match fields.target(Kind::Cord) {
+        Ok(target) => target,
     }
 }
 
@@ -268,7 +221,7 @@ fn catn_of(alloc: Global, line: u32, fields: &mut FieldCursor) -> Result<Stateme
     ensures statement { IfOk result (IsStatementOf Verb.Catn line fields.old) }
     ensures flaw { IfErr result (λ kind. kind ≡ RefusalKind.NoMemory) }
 {
-    let target = fields.target(Kind::Cord);
+    let target = cord_target(fields);
     let parts = fields.cords(alloc)?;
     Ok(Statement::Catn {
         line,
@@ -288,7 +241,7 @@ fn sprintf_of(
     ensures statement { IfOk result (IsStatementOf Verb.Sprintf line fields.old) }
     ensures flaw { IfErr result (λ kind. kind ≡ RefusalKind.NoMemory) }
 {
-    let target = fields.target(Kind::Cord);
+    let target = cord_target(fields);
     let text = fields.format();
     let arguments = fields.arguments(alloc)?;
     Ok(Statement::Sprintf {
@@ -300,10 +253,15 @@ fn sprintf_of(
     })
 }
 
-/// The statement of a verb that has a fixed number of words, and of its fields.
-pub fn fixed_statement_of(verb: FixedVerb, line: u32, fields: &mut FieldCursor) -> Statement
-    requires { map want_of fields.old ≡ fixed_wants verb }
-    ensures { IsStatementOf (Verb.Fixed verb) line fields.old result }
+/// The statement of a verb that has a fixed number of words, and of the fields that are given.
+pub fn fixed_statement_of<F: FieldSource>(
+    verb: FixedVerb,
+    line: u32,
+    fields: &mut F,
+) -> Result<Statement, F::Error>
+    requires { F.wants fields.old ≡ fixed_wants verb }
+    ensures built { IfOk result (IsBuilt F.gives (Verb.Fixed verb) line fields.old fields.new) }
+    ensures done { OnOk result (F.wants fields.new ≡ []) }
 {
     match verb {
         FixedVerb::Origin(origin) => origin_of(origin, line, fields),
@@ -315,6 +273,16 @@ pub fn fixed_statement_of(verb: FixedVerb, line: u32, fields: &mut FieldCursor) 
         FixedVerb::Search(search) => search_of(search, line, fields),
         FixedVerb::Growth(growth) => growth_of(growth, line, fields),
         FixedVerb::Control(control) => control_of(control, line, fields),
+    }
+}
+
+// The statement of checked fields, whose number the verb fixes.
+fn checked_statement_of(verb: FixedVerb, line: u32, fields: &mut FieldCursor) -> Statement
+    requires { map want_of fields.old ≡ fixed_wants verb }
+    ensures { IsStatementOf (Verb.Fixed verb) line fields.old result }
+{
+    match fixed_statement_of(verb, line, fields) {
+        Ok(statement) => statement,
     }
 }
 
@@ -330,7 +298,7 @@ pub fn statement_of(
     ensures flaw { IfErr result (λ kind. kind ≡ RefusalKind.NoMemory) }
 {
     match builder {
-        Builder::Fixed(verb) => Ok(fixed_statement_of(verb, line, fields)),
+        Builder::Fixed(verb) => Ok(checked_statement_of(verb, line, fields)),
         Builder::Catn => catn_of(alloc, line, fields),
         Builder::Sprintf(format) => sprintf_of(alloc, line, format, fields),
     }

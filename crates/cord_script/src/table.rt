@@ -7,7 +7,7 @@ ghost use Rattle.cord_script.specs.Flaws.{unless};
 ghost use Rattle.cord_operands.specs.Keys.{key_of};
 
 use crate::kinds::Kind;
-use crate::names::is_name;
+use crate::names::{is_name, is_same};
 use crate::{Name, RefusalKind, key_of, slot_of};
 use std::alloc::Global;
 use std::marker::Model;
@@ -154,6 +154,22 @@ impl Table {
             return Err(RefusalKind::BadName);
         }
         Ok((Name::of(alloc, bytes)?, None))
+    }
+
+    /// The name of these bytes, which it shares with the table, where it is known and of this kind.
+    pub fn known_name(&self, bytes: &[u8], kind: Kind) -> Option<Name>
+        ensures name { IfSome result (λ name. name ≡ bytes.now) }
+        ensures is_name { IfSome result (λ name. is_name name ≡ true) }
+        ensures kind { IfSome result (λ name. kind_of self.now name ≡ Some kind) }
+    {
+        let entry = self.find(key_of(bytes), bytes)?;
+        if !is_same(entry.kind, kind) {
+            return None;
+        }
+        match entry.name.clone() {
+            Ok(name) => Some(name),
+            Err(_) => None,
+        }
     }
 
     // Leads the key's slot, or the first free one after it, to a place.

@@ -1,0 +1,7 @@
+use Rattle.cord_script.specs.declared.verbs.Verb.TheVariants.{Fixed}
+use Rattle.cord_script.proofs.Given.{is_statement}
+use Rattle.cord_script.proofs.statements.checked_statement_of.Goals as goal
+
+pub returns : goal.returns
+returns c = is_statement (Fixed c.args.verb) c.args.line c.args.fields.now c.fixed_statement_of.new.fields c.in-Ok.statement
+    c.in-Ok.ensures.built c.in-Ok.ensures.done
