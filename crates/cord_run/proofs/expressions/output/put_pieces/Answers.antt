@@ -36,7 +36,7 @@ returns-in-Err-clause-puts g c = λ folder agrees.
     let a = g.S.Sink.taken c.args.sink.now in
     let b = g.S.Sink.taken c.loop-piece.sink in
     let d = g.S.Sink.taken c.put.new.sink in
-    let before = c.in-Err.ensures.earlier folder agrees in
+    let before = c.in-Err.ensures.source.earlier folder agrees in
     puts_cut (g.R.Source.table c.args.source.now folder) c.args.pieces.now c.loop-piece.piece-index piece c.loop-piece-test.true
     c.piece-item.is a b d (c.loop-piece.invariant.puts folder before)
     (subst (λ (table : Folder → Table). Takes (IsFrontOf (bytes_of (table folder) piece)) b d) c.loop-piece.invariant.table
@@ -58,14 +58,14 @@ loop-piece-preserved g c =
     let b = g.S.Sink.taken c.loop-piece.sink in
     let d = g.S.Sink.taken c.put.new.sink in
     record {
-      lengths = c.in-Ok.ensures.lengths ∙ c.loop-piece.invariant.lengths;
-      table = c.in-Ok.ensures.table ∙ c.loop-piece.invariant.table;
-      earlier = λ folder agrees. c.loop-piece.invariant.earlier folder (c.in-Ok.ensures.earlier folder agrees);
+      lengths = c.in-Ok.ensures.source.lengths ∙ c.loop-piece.invariant.lengths;
+      table = c.in-Ok.ensures.source.table ∙ c.loop-piece.invariant.table;
+      earlier = λ folder agrees. c.loop-piece.invariant.earlier folder (c.in-Ok.ensures.source.earlier folder agrees);
       source = c.in-Ok.ensures.faults.0 ∙ c.loop-piece.invariant.source;
       sink = c.in-Ok.ensures.faults.1 ∙ c.loop-piece.invariant.sink;
       finished = c.in-Ok.ensures.finished ∙ c.loop-piece.invariant.finished;
       puts = λ folder agrees.
-          let before = c.in-Ok.ensures.earlier folder agrees in
+          let before = c.in-Ok.ensures.source.earlier folder agrees in
           puts_next (g.R.Source.table c.args.source.now folder) c.args.pieces.now c.loop-piece.piece-index piece c.loop-piece-test.true
           c.piece-item.is a b d (c.loop-piece.invariant.puts folder before)
           (subst (λ (table : Folder → Table). d ≡ b ++ bytes_of (table folder) piece) c.loop-piece.invariant.table
