@@ -46,7 +46,8 @@ pub spelled : {V : Type 0} (of : V → FixedVerb) {a b : V} → a ≡ b → fixe
 spelled of e = ap (λ v. fixed_word (of v)) (sym e)
 
 -- fields of which none is left are those that were given
-pub all_given : (ts us vs : List Term) → GivesAll (λ (a : List Term) (t : Term) (b : List Term). a ≡ t ∷ b) us ts vs → map want_of vs ≡ [] → ts ≡ us
+all_given : (ts us vs : List Term) → GivesAll (λ (a : List Term) (t : Term) (b : List Term). a ≡ t ∷ b) us ts vs →
+    map want_of vs ≡ [] → ts ≡ us
 unfolding GivesAll
 all_given [] us vs h none = none_left vs none ∙ sym h
 all_given (t ∷ ts) us vs h none = ap (λ k. t ∷ k) (all_given ts h.0 vs h.2 none) ∙ sym h.1.is

@@ -1,11 +1,10 @@
 -- The fields that the words of a line give.
-use Rattle.std.proofs.Common.{Some, ◌≡◌, ℕ, List, [], ◌∷◌, ◌++◌, true, refl, sym, ap, subst, drop, map}
+use Rattle.std.proofs.Common.{Some, ◌≡◌, ℕ, List, [], ◌∷◌, ◌++◌, true, refl, sym, ap, subst, map}
 use Rattle.std.specs.Prelude.{All}
 use Rattle.cord_script.specs.declared.kinds.Kind.{Kind}
 use Rattle.cord_script.specs.declared.kinds.Kind.TheVariants as kinds
 use Rattle.cord_script.specs.declared.verbs.Verb.{Verb}
 use Rattle.cord_syntax.specs.declared.statements.Statement.{Statement}
-use Rattle.cord_script.specs.declared.kinds.Want.{Want}
 use Rattle.cord_script.specs.declared.words.Word.{Word}
 use Rattle.cord_script.specs.declared.words.Word.TheVariants.{Plain}
 use Rattle.cord_script.specs.Words.{IsBlank, StartsWith}
@@ -13,14 +12,8 @@ use Rattle.cord_script.specs.Tests.{is_name}
 use Rattle.cord_script.specs.Forms.{Term, terms_of}
 use Rattle.cord_script.specs.Forms.Term.{Target, Operand}
 use Rattle.cord_script.specs.Script.{kind_of, AreTerms}
-use Rattle.cord_script.specs.inner.Fields.{next_want}
 use Rattle.cord_script.specs.inner.Given.{GivesAll, IsBuilt}
 use Rattle.cord_script.specs.inner.Settled.{AllSettled, LineView, FieldsView, PassesWord, GivesSettled, SaysSettled}
-
--- what is wanted first, and then
-pub first_left : (xs ys : List Want) (x : Want) → next_want xs ≡ Some x → ys ≡ drop 1 xs → xs ≡ x ∷ ys
-first_left [] ys x h e = cc
-first_left (y ∷ more) ys x h e = cc
 
 -- a name that is known gives a target, and an operand
 pub target_given : (kind : Kind) (name : List ℕ) (old new : LineView) → PassesWord old (Plain name) new → is_name name ≡ true →
@@ -32,13 +25,13 @@ pub operand_given : (kind : Kind) (name : List ℕ) (old new : LineView) → Pas
 operand_given kind name old new passes is settled = record { word = Plain name; passes = passes; says = (refl, is); settled = settled }
 
 -- the words that say the terms that were given
-pub record HasGiven (old : LineView) (ts : List Term) (new : LineView) : Type 0 where
+record HasGiven (old : LineView) (ts : List Term) (new : LineView) : Type 0 where
   pub words : List Word
   pub starts : StartsWith old.rest words new.rest
   pub says : AreTerms words ts
   pub settled : AllSettled old.names ts
 
-pub words_given : (old new : LineView) (ts : List Term) → GivesAll GivesSettled old ts new → HasGiven old ts new
+words_given : (old new : LineView) (ts : List Term) → GivesAll GivesSettled old ts new → HasGiven old ts new
 unfolding GivesAll
 words_given old new [] h = record { words = []; starts = ap (λ (f : LineView). f.rest) h; says = tt; settled = tt }
 words_given old new (t ∷ ts) h =
@@ -67,7 +60,8 @@ says_settled v n old new s h blank =
     }
 
 -- fields that are given by the words of a line
-pub words_of_fields : (old new : FieldsView) (ts : List Term) → GivesAll (λ (a : FieldsView) (t : Term) (b : FieldsView). GivesSettled a.words t b.words) old ts new →
+words_of_fields : (old new : FieldsView) (ts : List Term) →
+    GivesAll (λ (a : FieldsView) (t : Term) (b : FieldsView). GivesSettled a.words t b.words) old ts new →
     GivesAll GivesSettled old.words ts new.words
 unfolding GivesAll
 words_of_fields old new [] h = ap (λ (f : FieldsView). f.words) h

@@ -149,27 +149,3 @@ two_in_front (w ∷ x ∷ y ∷ front) behind ws h e = absurd (omega arith)
 -- the words after a target and a format
 pub arguments_left : (ws behind : List Word) (ps qs : List Field) → HasTaken format_wants ws behind ps qs → argument_words ws ≡ behind
 arguments_left ws behind ps qs h = two_in_front h.front behind ws (front_count format_wants ws behind ps qs h) h.words
-
--- more words behind those that are left
-pub more_behind : (xs : List Want) (old new vs : List Word) (ps qs : List Field) → HasTaken xs old new ps qs →
-    HasTaken xs (old ++ vs) (new ++ vs) ps qs
-more_behind xs old new vs ps qs h = record {
-  front = h.front;
-  more = h.more;
-  words = ap (λ z. z ++ vs) h.words ∙ append_assoc h.front new vs;
-  fields = h.fields;
-  terms = h.terms;
-  wanted = h.wanted;
-}
-
--- words of which none is left say the fields that are wanted
-pub none_behind : (xs : List Want) (ws : List Word) (none ps : List Field) → none ≡ [] → HasTaken xs ws [] none ps →
-    AreFields (Words xs) ws ps None
-none_behind xs ws none ps empty h =
-    let counted = left_count xs ws [] none ps h in
-    all_taken xs ws [] none ps (omega (arith, counted)) empty h
-    (ap (λ k. first_pair misfit k ws) (sym (append-nil xs)) ∙ behind_taken xs [] ws [] none ps h)
-
--- no words, and no fields of them
-pub nothing_taken : (ps : List Field) → ps ≡ [] → HasTaken [] [] [] [] ps
-nothing_taken ps e = record { front = []; more = []; words = refl; fields = e; terms = tt; wanted = refl }

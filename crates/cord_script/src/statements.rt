@@ -1,5 +1,4 @@
 // Statements of their fields, family by family.
-
 ghost use Rattle.std.specs.Prelude.{◌≡◌, [], ◌∷◌, Some, map, IfOk, IfErr, OnOk};
 ghost use Rattle.cord_script.specs.declared.verbs.Verb.{Verb};
 ghost use Rattle.cord_script.specs.Forms.Term.{Target};
@@ -20,8 +19,7 @@ use crate::{Name, RefusalKind, Statement};
 use cord_printf::Format;
 use std::alloc::Global;
 
-// The statement of a variant, each of its fields being asked for by a method of the source, where its name or its kind of
-// names stands.
+// The statement of a variant: each of its fields is asked for by a method of the source, with the kind of a name.
 macro_rules! statement {
     ($fields:ident, $line:ident, $variant:ident $(, $field:ident: $method:ident($($kind:ident)?))*) => {{
         $(let $field = $fields.$method($(Kind::$kind)?)?;)*

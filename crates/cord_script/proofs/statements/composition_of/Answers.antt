@@ -39,6 +39,7 @@ pub returns-in_ok-count-in-Substr-clause-built : goal.returns-in_ok-count-in-Sub
 returns-in_ok-count-in-Substr-clause-built g c = record {
   word = spelled Composition c.in-Substr.is;
   numbered = refl;
-  given = four_fields c.in_ok-target-in-Substr.ensures.given c.in_ok-operand-in-Substr.ensures.given c.in_ok-start-in-Substr.ensures.given c.in_ok-count-in-Substr.ensures.given;
+  given = four_fields c.in_ok-target-in-Substr.ensures.given c.in_ok-operand-in-Substr.ensures.given
+      c.in_ok-start-in-Substr.ensures.given c.in_ok-count-in-Substr.ensures.given;
   suits = tt;
 }

@@ -23,6 +23,7 @@ pub returns-in_ok-count-in-Ncmp-clause-built : goal.returns-in_ok-count-in-Ncmp-
 returns-in_ok-count-in-Ncmp-clause-built g c = record {
   word = spelled Look c.in-Ncmp.is;
   numbered = refl;
-  given = six_fields c.in_ok-target-in-Ncmp.ensures.given c.in_ok-left-in-Ncmp.ensures.given c.in_ok-left_start-in-Ncmp.ensures.given c.in_ok-right-in-Ncmp.ensures.given c.in_ok-right_start-in-Ncmp.ensures.given c.in_ok-count-in-Ncmp.ensures.given;
+  given = six_fields c.in_ok-target-in-Ncmp.ensures.given c.in_ok-left-in-Ncmp.ensures.given c.in_ok-left_start-in-Ncmp.ensures.given
+      c.in_ok-right-in-Ncmp.ensures.given c.in_ok-right_start-in-Ncmp.ensures.given c.in_ok-count-in-Ncmp.ensures.given;
   suits = tt;
 }

@@ -39,6 +39,7 @@ pub returns-in_ok-count-in-FromFn-clause-built : goal.returns-in_ok-count-in-Fro
 returns-in_ok-count-in-FromFn-clause-built g c = record {
   word = spelled Origin c.in-FromFn.is;
   numbered = refl;
-  given = three_fields c.in_ok-target-in-FromFn.ensures.given c.in_ok-function-in-FromFn.ensures.given c.in_ok-count-in-FromFn.ensures.given;
+  given = three_fields c.in_ok-target-in-FromFn.ensures.given c.in_ok-function-in-FromFn.ensures.given
+      c.in_ok-count-in-FromFn.ensures.given;
   suits = tt;
 }

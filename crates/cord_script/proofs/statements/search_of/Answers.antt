@@ -7,7 +7,8 @@ pub returns-in_ok-pattern-in-Str-clause-built : goal.returns-in_ok-pattern-in-St
 returns-in_ok-pattern-in-Str-clause-built g c = record {
   word = spelled Search c.in-Str.is;
   numbered = refl;
-  given = four_fields c.in_ok-target-in-Str.ensures.given c.in_ok-operand-in-Str.ensures.given c.in_ok-start-in-Str.ensures.given c.in_ok-pattern-in-Str.ensures.given;
+  given = four_fields c.in_ok-target-in-Str.ensures.given c.in_ok-operand-in-Str.ensures.given c.in_ok-start-in-Str.ensures.given
+      c.in_ok-pattern-in-Str.ensures.given;
   suits = tt;
 }
 
@@ -15,7 +16,8 @@ pub returns-in_ok-byte-in-Chr-clause-built : goal.returns-in_ok-byte-in-Chr-clau
 returns-in_ok-byte-in-Chr-clause-built g c = record {
   word = spelled Search c.in-Chr.is;
   numbered = refl;
-  given = four_fields c.in_ok-target-in-Chr.ensures.given c.in_ok-operand-in-Chr.ensures.given c.in_ok-start-in-Chr.ensures.given c.in_ok-byte-in-Chr.ensures.given;
+  given = four_fields c.in_ok-target-in-Chr.ensures.given c.in_ok-operand-in-Chr.ensures.given c.in_ok-start-in-Chr.ensures.given
+      c.in_ok-byte-in-Chr.ensures.given;
   suits = tt;
 }
 
@@ -23,6 +25,7 @@ pub returns-in_ok-byte-in-Rchr-clause-built : goal.returns-in_ok-byte-in-Rchr-cl
 returns-in_ok-byte-in-Rchr-clause-built g c = record {
   word = spelled Search c.in-Rchr.is;
   numbered = refl;
-  given = four_fields c.in_ok-target-in-Rchr.ensures.given c.in_ok-operand-in-Rchr.ensures.given c.in_ok-start-in-Rchr.ensures.given c.in_ok-byte-in-Rchr.ensures.given;
+  given = four_fields c.in_ok-target-in-Rchr.ensures.given c.in_ok-operand-in-Rchr.ensures.given c.in_ok-start-in-Rchr.ensures.given
+      c.in_ok-byte-in-Rchr.ensures.given;
   suits = tt;
 }

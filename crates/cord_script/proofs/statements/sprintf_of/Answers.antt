@@ -12,8 +12,9 @@ arguments-requires c = printed_arguments c.args.format c.args.fields.now c.cord_
 pub returns-clause-statement : goal.returns-clause-statement
 returns-clause-statement c =
     let left = c.format-text.ensures ∙ ap (λ k. Formats c.format-text.result ∷ k) c.in_ok-arguments.ensures.arguments in
-    let terms = sym (c.cord_target-target.ensures ∙ ap (λ k. Target kinds.Cord c.cord_target-target.result ∷ k) left) in
-    let suits = printed_suits c.args.format c.args.fields.now c.cord_target-target.new.fields c.format-text.new.self c.cord_target-target.result
+    let target = c.cord_target-target.result in
+    let terms = sym (c.cord_target-target.ensures ∙ ap (λ k. Target kinds.Cord target ∷ k) left) in
+    let suits = printed_suits c.args.format c.args.fields.now c.cord_target-target.new.fields c.format-text.new.self target
     c.format-text.result c.in_ok-arguments.arguments c.requires
     c.cord_target-target.ensures c.format-text.ensures c.in_ok-arguments.ensures.arguments in
     (refl, refl, terms, suits)
