@@ -1,6 +1,6 @@
 -- What the names that are known settle.
-use Rattle.std.proofs.Common.{inl, Some, None, ◌≡◌, ℕ, List, [], ◌∷◌, ◌++◌, true, refl, sym, ◌∙◌, ap, subst, length, map}
-use Rattle.std.specs.Prelude.{Option, IfSome, is_some, if◌then◌else◌}
+use Rattle.std.proofs.Common.{inl, None, ◌≡◌, ℕ, List, [], ◌∷◌, ◌++◌, true, refl, sym, ◌∙◌, ap, subst, length, map}
+use Rattle.std.specs.Prelude.{Option, is_some, if◌then◌else◌}
 use Rattle.cord_script.specs.declared.kinds.Kind.{Kind}
 use Rattle.cord_script.specs.declared.kinds.Kind.TheVariants as kinds
 use Rattle.cord_operands.specs.declared.operands.Number.TheVariants.{Numeral, Named}
@@ -173,8 +173,3 @@ settled_push names ps qs p e h k = subst (λ xs. AllSettled names (map term_of x
 -- no field is settled
 pub none_settled : (names : List Known) (ps : List Field) → ps ≡ [] → AllSettled names (map term_of ps)
 none_settled names ps e = subst (λ xs. AllSettled names (map term_of xs)) (sym e) tt
-
--- the kind that is told of a name
-pub told_kind : (names : List Known) (name bytes : List ℕ) (has : Option Kind) (kind : Kind) → name ≡ bytes →
-    IfSome has (λ k. kind_of names bytes ≡ Some k) → has ≡ Some kind → kind_of names name ≡ Some kind
-told_kind names name bytes has kind e h k = ap (kind_of names) e ∙ subst (λ o. IfSome o (λ x. kind_of names bytes ≡ Some x)) k h

@@ -79,6 +79,7 @@ impl<'a> LineWords<'a> {
     }
 
     /// The name that a word is, if it is known and of this kind.
+    #[inline(always)]
     pub fn named(&self, word: &[u8], kind: Kind) -> Result<Name, Unsettled>
         ensures word { IfOk result (λ name. name ≡ word.now) }
         ensures is_name { IfOk result (λ name. is_name name ≡ true) }

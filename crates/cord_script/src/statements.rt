@@ -28,6 +28,7 @@ macro_rules! statement {
 }
 
 // A statement that makes a cord of no other name's value.
+#[inline(always)]
 fn origin_of<F: FieldSource>(verb: Origin, line: u32, fields: &mut F) -> Result<Statement, F::Error>
     requires { F.wants fields.old ≡ fixed_wants (FixedVerb.Origin verb) }
     ensures built { IfOk result (IsBuilt F.gives (Verb.Fixed (FixedVerb.Origin verb)) line fields.old fields.new) }
@@ -45,6 +46,7 @@ fn origin_of<F: FieldSource>(verb: Origin, line: u32, fields: &mut F) -> Result<
 }
 
 // A statement that makes a cord that an expression gives.
+#[inline(always)]
 fn composition_of<F: FieldSource>(
     verb: Composition,
     line: u32,
@@ -73,6 +75,7 @@ fn composition_of<F: FieldSource>(
 }
 
 // A statement that makes a cord anew of a cord or an extensible cord.
+#[inline(always)]
 fn derivation_of<F: FieldSource>(
     verb: Derivation,
     line: u32,
@@ -92,6 +95,7 @@ fn derivation_of<F: FieldSource>(
 }
 
 // A statement that computes a number, which needs no byte.
+#[inline(always)]
 fn computation_of<F: FieldSource>(
     verb: Computation,
     line: u32,
@@ -116,6 +120,7 @@ fn computation_of<F: FieldSource>(
 }
 
 // A statement that looks at bytes.
+#[inline(always)]
 fn look_of<F: FieldSource>(verb: Look, line: u32, fields: &mut F) -> Result<Statement, F::Error>
     requires { F.wants fields.old ≡ fixed_wants (FixedVerb.Look verb) }
     ensures built { IfOk result (IsBuilt F.gives (Verb.Fixed (FixedVerb.Look verb)) line fields.old fields.new) }
@@ -136,6 +141,7 @@ fn look_of<F: FieldSource>(verb: Look, line: u32, fields: &mut F) -> Result<Stat
 }
 
 // A statement that searches a cord.
+#[inline(always)]
 fn search_of<F: FieldSource>(verb: Search, line: u32, fields: &mut F) -> Result<Statement, F::Error>
     requires { F.wants fields.old ≡ fixed_wants (FixedVerb.Search verb) }
     ensures built { IfOk result (IsBuilt F.gives (Verb.Fixed (FixedVerb.Search verb)) line fields.old fields.new) }
@@ -158,6 +164,7 @@ fn search_of<F: FieldSource>(verb: Search, line: u32, fields: &mut F) -> Result<
 }
 
 // A statement that makes an extensible cord, or one that grows.
+#[inline(always)]
 fn growth_of<F: FieldSource>(verb: Growth, line: u32, fields: &mut F) -> Result<Statement, F::Error>
     requires { F.wants fields.old ≡ fixed_wants (FixedVerb.Growth verb) }
     ensures built { IfOk result (IsBuilt F.gives (Verb.Fixed (FixedVerb.Growth verb)) line fields.old fields.new) }
@@ -176,6 +183,7 @@ fn growth_of<F: FieldSource>(verb: Growth, line: u32, fields: &mut F) -> Result<
 }
 
 // A statement that says which lines run next.
+#[inline(always)]
 fn control_of<F: FieldSource>(
     verb: Control,
     line: u32,
@@ -195,6 +203,7 @@ fn control_of<F: FieldSource>(
 }
 
 // A `put`.
+#[inline(always)]
 fn put_of<F: FieldSource>(line: u32, fields: &mut F) -> Result<Statement, F::Error>
     requires { F.wants fields.old ≡ fixed_wants FixedVerb.Put }
     ensures built { IfOk result (IsBuilt F.gives (Verb.Fixed FixedVerb.Put) line fields.old fields.new) }
@@ -252,6 +261,7 @@ fn sprintf_of(
 }
 
 /// The statement of a verb that has a fixed number of words, and of the fields that are given.
+#[inline(always)]
 pub fn fixed_statement_of<F: FieldSource>(
     verb: FixedVerb,
     line: u32,

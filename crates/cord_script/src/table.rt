@@ -157,6 +157,7 @@ impl Table {
     }
 
     /// The name of these bytes, which it shares with the table, where it is known and of this kind.
+    #[inline(always)]
     pub fn known_name(&self, bytes: &[u8], kind: Kind) -> Option<Name>
         ensures name { IfSome result (λ name. name ≡ bytes.now) }
         ensures is_name { IfSome result (λ name. is_name name ≡ true) }

@@ -199,6 +199,7 @@ fn quoted(alloc: Global, inner: &[u8]) -> Result<(Text, &[u8]), RefusalKind>
 }
 
 /// The first word of a line and what follows it, if it is a plain word.
+#[inline(always)]
 pub fn plain_word(line: &[u8]) -> Option<(&[u8], &[u8])>
     ensures { IfSome result (λ r. HasWord line.now (Word.Plain r.0.now) r.1.now) }
 {
