@@ -1,9 +1,10 @@
 -- The equations of `expr_view`, one for each variant, and of `members_view`.
-use Rattle.std.proofs.Common.{◌≡◌, ℕ, List, [], ◌∷◌, map, Global, refl, sym, ap, ◌∙◌}
+use Rattle.std.proofs.Common.{◌≡◌, ℕ, List, [], ◌∷◌, map, Option, Some, None, Global, Vec, refl, sym, ap, ◌∙◌}
 use Rattle.std.specs.declared.rc.Rc.{Rc}
 use Rattle.cord_operands.specs.declared.operands.Number.{Number}
 use Rattle.cord_plan.specs.Exprs as plain
-use Rattle.cord_plan.specs.Views.{expr_view, expr_step, members_of, members_view, members_step, shared_view}
+use Rattle.cord_plan.specs.Exprs.{append}
+use Rattle.cord_plan.specs.Views.{expr_view, expr_step, members_of, members_view, members_step, shared_view, Shared}
 use Rattle.cord_plan.specs.declared.expressions.Expr.{Expr, Expr-F, fold-roll-Expr}
 use Rattle.cord_plan.specs.declared.expressions.Expr.TheVariants.{Name, Run, Cat, Sub, rolls-Name, rolls-Run, rolls-Cat, rolls-Sub}
 use Rattle.cord_plan.specs.declared.expressions.Expr.TheOpen.{Members-F}
@@ -27,9 +28,32 @@ map_twice : {A B C : Type 0} (f : A → B) (g : B → C) (xs : List A) → map g
 map_twice f g [] = refl
 map_twice f g (x ∷ xs) = ap (λ ys. g (f x) ∷ ys) (map_twice f g xs)
 
-pub members_made : (m : Members-F Expr Members) → members_view (roll-Members m) ≡ members_of (map shared_view m.members.items)
-members_made m = fold-roll-Members plain.Expr plain.Exprs expr_step members_step m ∙ ap members_of (map_twice _ _ m.members.items)
+-- the members in front, where there are any
+abbrev pub front_seen : Option (Rc Members Global) → plain.Exprs
+front_seen None = plain.nothing
+front_seen (Some front) = members_view front.value
 
-pub members_there : (ms : Members) → members_view ms ≡ members_of (map shared_view (out-Members ms).members.items)
-members_there ms = fold_out-Members plain.Expr plain.Exprs expr_step members_step ms
-    ∙ ap members_of (map_twice _ _ (out-Members ms).members.items)
+pub members_made : (front : Option (Rc Members Global)) (rest : Vec Shared Global) →
+    members_view (roll-Members (record { front = front; rest = rest }))
+    ≡ append (front_seen front) (members_of (map shared_view rest.items))
+members_made None rest =
+    fold-roll-Members plain.Expr plain.Exprs expr_step members_step (record { front = None; rest = rest })
+    ∙ ap members_of (map_twice _ _ rest.items)
+members_made (Some front) rest =
+    fold-roll-Members plain.Expr plain.Exprs expr_step members_step (record { front = Some front; rest = rest })
+    ∙ ap (λ es. append (members_view front.value) (members_of es)) (map_twice _ _ rest.items)
+
+pub members_there : (ms : Members) → members_view ms
+    ≡ append (front_seen (out-Members ms).front) (members_of (map shared_view (out-Members ms).rest.items))
+members_there ms =
+    let m = out-Members ms in
+    fold_out-Members plain.Expr plain.Exprs expr_step members_step ms
+    ∙ (sym (fold-roll-Members plain.Expr plain.Exprs expr_step members_step m) ∙ members_made m.front m.rest)
+
+-- the same of the two fields as they are told
+pub members_told : (ms : Members) (front : Option (Rc Members Global)) (rest : List Shared) → (out-Members ms).front ≡ front →
+    rest ≡ (out-Members ms).rest.items → members_view ms ≡ append (front_seen front) (members_of (map shared_view rest))
+members_told ms front rest first last =
+    members_there ms
+    ∙ (ap (λ (o : Option (Rc Members Global)). append (front_seen o) (members_of (map shared_view (out-Members ms).rest.items))) first
+    ∙ ap (λ (es : List Shared). append (front_seen front) (members_of (map shared_view es))) (sym last))

@@ -5,11 +5,12 @@ use Rattle.std.specs.Prelude.{not}
 use Rattle.std.specs.Str.{bytes_eq}
 use Rattle.std.proofs.lemmas.List.{at_drop_more}
 use Rattle.cord_syntax.specs.declared.statements.Statement.{Statement}
-use Rattle.cord_plan.specs.Exprs.{names, names_of}
+use Rattle.cord_plan.specs.Exprs.{Exprs, append, names, names_of}
 use Rattle.cord_plan.specs.Views.{Shared, members_of, shared_view}
 use Rattle.cord_plan.specs.Operands.{is_name, target_of}
 use Rattle.cord_plan.specs.Forced.{preserves}
 use Rattle.cord_plan.specs.inner.Recent.{lacks}
+use Rattle.cord_plan.proofs.Appending.{names_append}
 
 module _ (x : List ℕ) where
   pub lacks_append : (ys zs : List (List ℕ)) → lacks (ys ++ zs) x ≡ (lacks ys x && lacks zs x)
@@ -28,6 +29,13 @@ module _ (x : List ℕ) where
       at_drop_more (λ (es : List Shared). lacks (names_of (members_of (map shared_view es))) x) ms k m lt
       ∙ (ap (λ (e : Shared). lacks (names_of (members_of (map shared_view (e ∷ drop (k + 1) ms)))) x) (sym is)
       ∙ lacks_append (names (shared_view m)) (names_of (members_of (map shared_view (drop (k + 1) ms)))))
+
+  -- what the names of members lack, by those in front
+  pub lacks_both : (all front rest : Exprs) → all ≡ append front rest →
+      lacks (names_of all) x ≡ (lacks (names_of front) x && lacks (names_of rest) x)
+  lacks_both all front rest e =
+      ap (λ (es : Exprs). lacks (names_of es) x) e
+      ∙ (ap (λ (xs : List (List ℕ)). lacks xs x) (names_append front rest) ∙ lacks_append (names_of front) (names_of rest))
 
 module _ (l : Statement) where
   pub preserves_all : target_of l ≡ None → (xs : List (List ℕ)) → preserves (Some l) xs ≡ true

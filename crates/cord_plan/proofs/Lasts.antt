@@ -7,7 +7,7 @@ use Rattle.std.proofs.lemmas.Bool.{le-leb}
 use Rattle.std.proofs.lemmas.Bool.Decides.{leb_tells}
 use Rattle.cord_syntax.specs.declared.statements.Statement.{Statement}
 use Rattle.std.proofs.lemmas.List.{at_drop_more}
-use Rattle.cord_plan.specs.Exprs.{names, names_of}
+use Rattle.cord_plan.specs.Exprs.{Exprs, append, names, names_of}
 use Rattle.cord_plan.specs.Views.{Shared, members_of, shared_view}
 use Rattle.cord_meaning.specs.Statements.{shape_of}
 use Rattle.cord_plan.specs.Operands.{assigns, assigns_at, reads, reads_at}
@@ -15,6 +15,7 @@ use Rattle.cord_plan.specs.declared.flow.numbering.Numbering.{Numbering}
 use Rattle.cord_plan.specs.Forced.{each_from, is_block, is_block_at, preserves, setter}
 use Rattle.cord_plan.specs.inner.Choices.{nearest}
 use Rattle.cord_plan.specs.inner.Recent.{Notes, entry_of, reader, blocker, is_before, is_after, stay, unless_after}
+use Rattle.cord_plan.proofs.Appending.{names_append}
 use Rattle.cord_plan.proofs.Chosen.{setter_is}
 use Rattle.cord_plan.proofs.Nearest.{each_more}
 use Rattle.cord_plan.proofs.PartSums.{preserves_append}
@@ -173,6 +174,13 @@ module _ (s : List Statement) (a b : ℕ) where
       at_drop_more (λ (es : List Shared). stay s a b (names_of (members_of (map shared_view es)))) ms k m lt
       ∙ (ap (λ (x : Shared). stay s a b (names_of (members_of (map shared_view (x ∷ drop (k + 1) ms))))) (sym is)
       ∙ stay_append (names (shared_view m)) (names_of (members_of (map shared_view (drop (k + 1) ms)))))
+
+  -- what stays of members, by those in front
+  pub stay_both : (all front rest : Exprs) → all ≡ append front rest →
+      stay s a b (names_of all) ≡ (stay s a b (names_of front) && stay s a b (names_of rest))
+  stay_both all front rest e =
+      ap (λ (es : Exprs). stay s a b (names_of es)) e
+      ∙ (ap (λ (xs : List (List ℕ)). stay s a b xs) (names_append front rest) ∙ stay_append (names_of front) (names_of rest))
 
 -- a line more
 module _ (s : List Statement) (t : Numbering) (b : ℕ) (l : Statement) (here : slice_get s b ≡ Some l) where

@@ -45,6 +45,9 @@ pub mod Noting
 pub mod Lacking
 pub mod Lasts
 pub mod Choices
+pub mod Appending
+pub mod Halves
+pub mod Sharing
 pub mod Joined
 pub mod Spacing
 pub mod ExprViews

@@ -1,7 +1,9 @@
 -- The members of a `cat`: how their text grows, and that each is smaller than all of them.
-use Rattle.std.proofs.Common.{◌≡◌, ◌<◌, ℕ, zero, suc, ◌+◌, List, [], ◌∷◌, length, map, get_or, refl, sym, subst, arith}
+use Rattle.std.proofs.Common.{◌≡◌, ◌<◌, ℕ, zero, suc, ◌+◌, List, [], ◌∷◌, ◌++◌, length, map, get_or, refl, sym, ap, ◌∙◌, subst, append_assoc, arith}
+use Rattle.std.specs.Prelude.{if◌then◌else◌}
 use Rattle.cord_plan.specs.Exprs as plain
 use Rattle.cord_plan.specs.Shown.{expr, exprs, more_exprs}
+use Rattle.cord_plan.specs.Exprs.{is_nothing}
 use Rattle.cord_plan.specs.Views.{Shared, members_of, shared_view}
 use Rattle.cord_plan.proofs.Spacing.{AreSpaced}
 
@@ -9,7 +11,7 @@ abbrev mutual
   pub weight : plain.Expr → ℕ
   weight (plain.name x) = 1
   weight (plain.run c n) = 1
-  weight (plain.cat es) = weights es + 1
+  weight (plain.cat es) = weights es + 2
   weight (plain.sub e i n) = weight e + 1
 
   pub weights : plain.Exprs → ℕ
@@ -30,6 +32,17 @@ members_text ms = exprs (members_of (map shared_view ms))
 -- each after a blank
 abbrev pub more_text : List Shared → List ℕ
 more_text ms = more_exprs (members_of (map shared_view ms))
+
+more_append : (a b : plain.Exprs) → more_exprs (plain.append a b) ≡ more_exprs a ++ more_exprs b
+more_append plain.nothing b = refl
+more_append (plain.member e a) b = ap (λ (text : List ℕ). 32 ∷ expr e ++ text) (more_append a b)
+    ∙ sym (append_assoc (32 ∷ expr e) (more_exprs a) (more_exprs b))
+
+-- the text of members after others
+pub exprs_append : (a b : plain.Exprs) → exprs (plain.append a b) ≡ exprs a ++ (if is_nothing a then exprs b else more_exprs b)
+exprs_append plain.nothing b = refl
+exprs_append (plain.member e a) b = ap (λ (text : List ℕ). expr e ++ text) (more_append a b)
+    ∙ sym (append_assoc (expr e) (more_exprs a) (more_exprs b))
 
 -- one of them
 abbrev pub member_text : Shared → List ℕ

@@ -13,6 +13,7 @@ use Rattle.cord_plan.specs.Views.{Shared, members_of, shared_view}
 use Rattle.cord_plan.specs.Operands.{assigns_at}
 use Rattle.cord_plan.specs.Forced.{Choice, expr_of, preserves, is_small, expr_with}
 use Rattle.cord_plan.specs.inner.Choices.{room_left, room_left_by, simple_operands, parts_beside}
+use Rattle.cord_plan.proofs.Appending.{parts_append}
 
 -- where one count of parts is too large, so is it with more
 over_more : (n m room : ℕ) → nat_le n room ≡ false → nat_le (n + m) room ≡ false
@@ -65,6 +66,11 @@ parts_member ms k m lt is =
     at_drop_more (λ (es : List Shared). parts_of (members_of (map shared_view es))) ms k m lt
     ∙ ap (λ (e : Shared). parts_of (members_of (map shared_view (e ∷ drop (k + 1) ms)))) (sym is)
 
+-- the room that members leave, by those in front
+pub parts_both : (all front rest : Exprs) (room : ℕ) → all ≡ append front rest →
+    room_left (parts_of all) room ≡ room_left (parts_of front + parts_of rest) room
+parts_both all front rest room e = ap (λ (n : ℕ). room_left n room) (ap parts_of e ∙ parts_append front rest)
+
 -- what preserves the names of two lists
 pub preserves_append : (l : Option Statement) (xs ys : List (List ℕ)) → preserves l (xs ++ ys) ≡ preserves l xs && preserves l ys
 preserves_append l [] ys = refl
@@ -77,10 +83,6 @@ preserves_append l (x ∷ xs) ys = pick (not (assigns_at l x)) (preserves_append
 abbrev pub sum_parts : List Expr → ℕ
 sum_parts [] = 0
 sum_parts (e ∷ es) = parts e + sum_parts es
-
-parts_append : (a b : Exprs) → parts_of (append a b) ≡ parts_of a + parts_of b
-parts_append nothing b = omega arith
-parts_append (member e a) b = let more : parts_of (append a b) ≡ parts_of a + parts_of b = parts_append a b in omega arith
 
 parts_front : (e : Expr) (b : Exprs) → parts_of (in_front e b) ≡ parts e + parts_of b
 parts_front (name x) b = refl

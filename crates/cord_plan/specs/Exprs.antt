@@ -1,5 +1,5 @@
 -- Expressions: what a line makes of names of cords and of runs of a byte.
-use Rattle.std.specs.Prelude.{ℕ, ◌+◌, List, [], ◌∷◌, ◌++◌}
+use Rattle.std.specs.Prelude.{ℕ, ◌+◌, Bool, true, false, List, [], ◌∷◌, ◌++◌}
 use Rattle.cord_operands.specs.declared.operands.Number.{Number}
 use Rattle.cord_operands.specs.declared.operands.Number.TheVariants.{Numeral, Named}
 
@@ -43,6 +43,11 @@ abbrev mutual
   pub names_of : Exprs → List (List ℕ)
   names_of nothing = []
   names_of (member e es) = names e ++ names_of es
+
+-- whether there are no members
+abbrev pub is_nothing : Exprs → Bool
+is_nothing nothing = true
+is_nothing (member e es) = false
 
 abbrev pub append : Exprs → Exprs → Exprs
 append nothing others = others

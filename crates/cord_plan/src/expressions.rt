@@ -1,7 +1,9 @@
 // Expressions of plans.
-ghost use Rattle.std.specs.Prelude.{◌≡◌, map};
-ghost use Rattle.cord_plan.specs.Views.{members_of, members_view, shared_view};
+ghost use Rattle.std.specs.Prelude.{◌≡◌, ◌<◌, ◌++◌, IfSome, IsOkUnless, OnOk, length, map};
+ghost use Rattle.cord_plan.specs.Exprs.{append, is_nothing, member, nothing};
+ghost use Rattle.cord_plan.specs.Views.{front_view, members_of, members_view, shared_view};
 
+use cord_io::CordError;
 use cord_script::{Name, Number};
 use std::rc::Rc;
 
@@ -26,11 +28,12 @@ pub enum Expr {
     },
 }
 
-/// The members of a `cat`, in order. Expressions share members: a copy of one is a count.
+/// The members of a `cat`, in order. Expressions share members: a copy of one is a count, and so is a copy of all those in front.
 #[derive(Drop)]
 #[cycle(expressions)]
 pub struct Members {
-    members: Vec<Rc<Expr>>,
+    front: Option<Rc<Members>>,
+    rest: Vec<Rc<Expr>>,
 }
 
 impl Members {
@@ -38,13 +41,87 @@ impl Members {
     pub fn of(members: Vec<Rc<Expr>>) -> Self
         ensures { members_view result ≡ members_of (map shared_view members.items) }
     {
-        Members { members }
+        Members {
+            front: None,
+            rest: members,
+        }
     }
 
-    /// The members in order.
-    pub fn as_slice(&self) -> &[Rc<Expr>]
-        ensures { members_view self.now ≡ members_of (map shared_view result.now) }
+    /// The members in front, where other expressions may share them, and those after them. Where there are some in front, others stand
+    /// after them.
+    pub fn halves(&self) -> (Option<&Members>, &[Rc<Expr>])
+        ensures members { members_view self.now ≡ append (front_view result.0) (members_of (map shared_view result.1.now)) }
+        ensures after { IfSome result.0 (λ _. 0 < length result.1.now) }
     {
-        &self.members
+        match &self.front {
+            None => (None, &self.rest),
+            Some(front) if self.rest.is_empty() => front.as_ref().halves(),
+            Some(front) => (Some(front.as_ref()), &self.rest),
+        }
     }
+
+    /// Whether there are no members.
+    pub(crate) fn is_nothing(&self) -> bool
+        ensures { result ≡ is_nothing (members_view self.now) }
+    {
+        self.halves().1.is_empty()
+    }
+
+    /// How many members stand after those in front.
+    pub(crate) fn rest_len(&self) -> usize {
+        self.rest.len()
+    }
+
+    /// Puts a member after these. Refused only with `NoMemory`.
+    pub(crate) fn push(&mut self, last: Rc<Expr>) -> Result<(), CordError>
+        ensures made { OnOk result (members_view self.new ≡ append (members_view self.old) (member (shared_view last) nothing)) }
+        ensures refused { IsOkUnless result CordError.NoMemory }
+    {
+        self.rest.push(last)?;
+        Ok(())
+    }
+
+    /// Puts members after these, which share them: where there are none yet, those in front at once. Refused only with `NoMemory`.
+    pub(crate) fn share(&mut self, others: &Members) -> Result<(), CordError>
+        ensures made { OnOk result (members_view self.new ≡ append (members_view self.old) (members_view others.now)) }
+        ensures refused { IsOkUnless result CordError.NoMemory }
+    {
+        match &others.front {
+            Some(front) if self.is_nothing() => {
+                self.front = Some(front.clone()?);
+                share_onto(&others.rest, &mut self.rest)?;
+            }
+            _ => share_all_onto(others, &mut self.rest)?,
+        }
+        Ok(())
+    }
+}
+
+// Puts these members after others, which share them; room for them is made at once.
+fn share_onto(members: &[Rc<Expr>], shared: &mut Vec<Rc<Expr>>) -> Result<(), CordError>
+    ensures made { OnOk result (map shared_view shared.new.items ≡ map shared_view shared.old.items
+        ++ map shared_view members.now) }
+    ensures refused { IsOkUnless result CordError.NoMemory }
+{
+    shared.reserve(members.len())?;
+    for member in members {
+        shared.push_reserved(member.clone()?);
+    }
+    Ok(())
+}
+
+// The same of those in front and of those after them.
+fn share_all_onto(members: &Members, shared: &mut Vec<Rc<Expr>>) -> Result<(), CordError>
+    ensures made { OnOk result (members_of (map shared_view shared.new.items)
+        ≡ append (members_of (map shared_view shared.old.items)) (members_view members.now)) }
+    ensures refused { IsOkUnless result CordError.NoMemory }
+{
+    match &members.front {
+        None => share_onto(&members.rest, shared)?,
+        Some(front) => {
+            share_all_onto(front.as_ref(), shared)?;
+            share_onto(&members.rest, shared)?;
+        }
+    }
+    Ok(())
 }

@@ -5,13 +5,13 @@ ghost use Rattle.cord_plan.specs.Exprs.{append, in_front, members, nothing};
 ghost use Rattle.cord_operands.specs.declared.operands.Number.TheVariants.{Numeral};
 ghost use Rattle.cord_plan.specs.Forced.{expr_of, expr_with};
 ghost use Rattle.cord_plan.specs.inner.Choices.{choice_view};
-ghost use Rattle.cord_plan.specs.Views.{expr_view, members_of, shared_view};
+ghost use Rattle.cord_plan.specs.Views.{expr_view, members_view, shared_view};
 
-use crate::Expr;
 use crate::planner::choosing::Choice;
-use crate::planner::constructors::{cat, named, run, run_of, sub_of};
+use crate::planner::constructors::{named, run, run_of, sub_of};
 use crate::planner::interning::Interner;
-use crate::planner::parts::{copy, share_onto};
+use crate::planner::parts::copy;
+use crate::{Expr, Members};
 use cord_io::CordError;
 use cord_script::{Number, Statement};
 use std::alloc::Global;
@@ -37,13 +37,13 @@ fn shared_copy(alloc: Global, expression: &Expr) -> Result<Rc<Expr>, CordError>
 }
 
 // Puts a copy of an expression after the members of a `cat`; of a `cat` its members, which are shared.
-fn add_copy(alloc: Global, members: &mut Vec<Rc<Expr>>, expression: &Expr) -> Result<(), CordError>
-    ensures added { OnOk result (members_of (map shared_view members.new.items)
-        ≡ append (members_of (map shared_view members.old.items)) (in_front (expr_view expression.now) nothing)) }
+fn add_copy(alloc: Global, members: &mut Members, expression: &Expr) -> Result<(), CordError>
+    ensures added { OnOk result (members_view members.new
+        ≡ append (members_view members.old) (in_front (expr_view expression.now) nothing)) }
     ensures refused { IsOkUnless result CordError.NoMemory }
 {
     match expression {
-        Expr::Cat(inner) => share_onto(inner.as_slice(), members)?,
+        Expr::Cat(inner) => members.share(inner)?,
         Expr::Name(_) => members.push(shared_copy(alloc, expression)?)?,
         Expr::Run { .. } => members.push(shared_copy(alloc, expression)?)?,
         Expr::Sub { .. } => members.push(shared_copy(alloc, expression)?)?,
@@ -55,12 +55,11 @@ fn add_copy(alloc: Global, members: &mut Vec<Rc<Expr>>, expression: &Expr) -> Re
 fn add(
     alloc: Global,
     interner: &mut Interner,
-    members: &mut Vec<Rc<Expr>>,
+    members: &mut Members,
     choice: &Choice,
 ) -> Result<(), CordError>
-    ensures added { OnOk result (members_of (map shared_view members.new.items)
-        ≡ append (members_of (map shared_view members.old.items))
-        (in_front (expr_of (choice_view choice.now)) nothing)) }
+    ensures added { OnOk result (members_view members.new
+        ≡ append (members_view members.old) (in_front (expr_of (choice_view choice.now)) nothing)) }
     ensures refused { IsOkUnless result CordError.NoMemory }
 {
     match choice {
@@ -70,10 +69,10 @@ fn add(
     Ok(())
 }
 
-// How many members what stands for an operand gives to a `cat`.
+// How many members what stands for an operand gives to a `cat`, but for those that are shared at once.
 fn member_count(choice: &Choice) -> usize {
     match choice {
-        Choice::Replaced(_, Expr::Cat(members)) => members.as_slice().len(),
+        Choice::Replaced(_, Expr::Cat(members)) => members.rest_len(),
         _ => 1,
     }
 }
@@ -93,13 +92,12 @@ fn joined(
     interner: &mut Interner,
     choices: &[Choice],
     more: usize,
-) -> Result<Vec<Rc<Expr>>, CordError>
-    ensures made { IfOk result (λ ms. members_of (map shared_view ms.items)
-        ≡ members (map expr_of (map choice_view choices.now))) }
+) -> Result<Members, CordError>
+    ensures made { IfOk result (λ ms. members_view ms ≡ members (map expr_of (map choice_view choices.now))) }
     ensures refused { IsOkUnless result CordError.NoMemory }
 {
     let room = room_for(choices).saturating_add(more);
-    let mut members = Vec::with_capacity(alloc, room)?;
+    let mut members = Members::of(Vec::with_capacity(alloc, room)?);
     'choices: for choice in choices {
         add(alloc, interner, &mut members, choice)?;
     }
@@ -111,7 +109,7 @@ fn joined_all(alloc: Global, interner: &mut Interner, choices: &[Choice]) -> Res
     ensures made { IfOk result (λ e. expr_view e ≡ plain.cat (members (map expr_of (map choice_view choices.now)))) }
     ensures refused { IsOkUnless result CordError.NoMemory }
 {
-    Ok(cat(joined(alloc, interner, choices, 0)?))
+    Ok(Expr::Cat(joined(alloc, interner, choices, 0)?))
 }
 
 // `cat` of these expressions and one byte.
@@ -127,7 +125,7 @@ fn joined_with(
 {
     let mut members = joined(alloc, interner, choices, 1)?;
     members.push(interner.byte(alloc, byte)?)?;
-    Ok(cat(members))
+    Ok(Expr::Cat(members))
 }
 
 // An expression that stands for an operand, to be shared.

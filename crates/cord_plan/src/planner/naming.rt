@@ -2,9 +2,9 @@
 ghost use Rattle.std.specs.Prelude.{◌≡◌, ◌++◌, [], ◌∷◌, map};
 ghost use Rattle.cord_plan.specs.Exprs.{names, names_of, number_names};
 ghost use Rattle.cord_plan.specs.inner.Recent.{lacks};
-ghost use Rattle.cord_plan.specs.Views.{expr_view, members_of, shared_view};
+ghost use Rattle.cord_plan.specs.Views.{expr_view, members_of, members_view, shared_view};
 
-use crate::Expr;
+use crate::{Expr, Members};
 use cord_script::{Name, Number};
 use std::rc::Rc;
 
@@ -38,12 +38,24 @@ pub(crate) fn lacks(expression: &Expr, name: &Name) -> bool
     match expression {
         Expr::Name(known) => differs(known, name),
         Expr::Run { byte, count } => numbers_lack(byte, count, name),
-        Expr::Cat(members) => all_lack(members.as_slice(), name),
+        Expr::Cat(members) => members_lack(members, name),
         Expr::Sub {
             expression,
             start,
             count,
         } => { lacks(expression.as_ref(), name) && numbers_lack(start, count, name) }
+    }
+}
+
+// The same of members.
+#[cycle(lacks)]
+fn members_lack(members: &Members, name: &Name) -> bool
+    ensures { result ≡ lacks (names_of (members_view members.now)) name.now }
+{
+    let (front, rest) = members.halves();
+    match front {
+        None => all_lack(rest, name),
+        Some(front) => members_lack(front, name) && all_lack(rest, name),
     }
 }
 

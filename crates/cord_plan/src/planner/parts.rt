@@ -1,11 +1,11 @@
 // Walks over expressions: their parts, copies of them.
-ghost use Rattle.std.specs.Prelude.{◌≡◌, ◌++◌, IfOk, IsOkUnless, OnOk, map};
+ghost use Rattle.std.specs.Prelude.{◌≡◌, IfOk, IsOkUnless, map};
 ghost use Rattle.cord_plan.specs.Exprs.{parts, parts_of};
 ghost use Rattle.cord_plan.specs.inner.Choices.{room_left};
-ghost use Rattle.cord_plan.specs.Views.{expr_view, members_of, shared_view};
+ghost use Rattle.cord_plan.specs.Views.{expr_view, members_of, members_view, shared_view};
 
-use crate::Expr;
-use crate::planner::constructors::{cat, named, run_of, sub_of};
+use crate::planner::constructors::{named, run_of, sub_of};
+use crate::{Expr, Members};
 use cord_io::CordError;
 use std::alloc::Global;
 use std::rc::Rc;
@@ -17,7 +17,7 @@ pub(crate) fn room_left(expression: &Expr, room: u32) -> Option<u32>
 {
     match expression {
         Expr::Name(_) | Expr::Run { .. } => room.checked_sub(1),
-        Expr::Cat(members) => room_left_all(members.as_slice(), room),
+        Expr::Cat(members) => room_left_members(members, room),
         Expr::Sub { expression, .. } => match room_left(expression.as_ref(), room) {
             Some(rest) => rest.checked_sub(1),
             None => None,
@@ -25,9 +25,24 @@ pub(crate) fn room_left(expression: &Expr, room: u32) -> Option<u32>
     }
 }
 
-/// The same of all these expressions.
+// The same of members.
 #[cycle(room_left)]
-pub(crate) fn room_left_all(members: &[Rc<Expr>], room: u32) -> Option<u32>
+fn room_left_members(members: &Members, room: u32) -> Option<u32>
+    ensures { result ≡ room_left (parts_of (members_view members.now)) room }
+{
+    let (front, rest) = members.halves();
+    match front {
+        None => room_left_all(rest, room),
+        Some(front) => match room_left_members(front, room) {
+            Some(less) => room_left_all(rest, less),
+            None => None,
+        },
+    }
+}
+
+// The same of all these expressions.
+#[cycle(room_left)]
+fn room_left_all(members: &[Rc<Expr>], room: u32) -> Option<u32>
     ensures { result ≡ room_left (parts_of (members_of (map shared_view members.now))) room }
 {
     let mut rest = room;
@@ -54,9 +69,9 @@ pub(crate) fn copy(alloc: Global, expression: &Expr) -> Result<Expr, CordError>
         Expr::Name(name) => named(name),
         Expr::Run { byte, count } => run_of(byte, count),
         Expr::Cat(members) => {
-            let mut shared = Vec::new(alloc);
-            share_onto(members.as_slice(), &mut shared)?;
-            Ok(cat(shared))
+            let mut shared = Members::of(Vec::new(alloc));
+            shared.share(members)?;
+            Ok(Expr::Cat(shared))
         }
         Expr::Sub {
             expression,
@@ -67,17 +82,4 @@ pub(crate) fn copy(alloc: Global, expression: &Expr) -> Result<Expr, CordError>
             sub_of(shared, start, count)
         }
     }
-}
-
-/// Puts these members after others, which share them; room for them is made at once. Refused only with `NoMemory`.
-pub(crate) fn share_onto(members: &[Rc<Expr>], shared: &mut Vec<Rc<Expr>>) -> Result<(), CordError>
-    ensures made { OnOk result (map shared_view shared.new.items ≡ map shared_view shared.old.items
-        ++ map shared_view members.now) }
-    ensures refused { IsOkUnless result CordError.NoMemory }
-{
-    shared.reserve(members.len())?;
-    for member in members {
-        shared.push_reserved(member.clone()?);
-    }
-    Ok(())
 }

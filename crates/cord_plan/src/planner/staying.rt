@@ -6,12 +6,12 @@ ghost use Rattle.cord_plan.specs.Forced.{preserves};
 ghost use Rattle.cord_plan.specs.inner.Choices.{nearest};
 ghost use Rattle.cord_plan.specs.inner.Numbering.{number_of};
 ghost use Rattle.cord_plan.specs.inner.Recent.{IsRecent, stay, bars};
-ghost use Rattle.cord_plan.specs.Views.{expr_view, members_of, shared_view};
+ghost use Rattle.cord_plan.specs.Views.{expr_view, members_of, members_view, shared_view};
 
-use crate::Expr;
 use crate::flow::{assigns, entry_at, entry_of, is_before, is_block, reads, unless_after};
 use crate::planner::choosing::Line;
 use crate::planner::naming::lacks;
+use crate::{Expr, Members};
 use cord_script::{Name, Number, Statement};
 use std::rc::Rc;
 
@@ -115,7 +115,7 @@ fn stays_far(line: &Line, from: usize, expression: &Expr) -> bool
     match expression {
         Expr::Name(name) => name_stays(line, from, name),
         Expr::Run { byte, count } => numbers_stay(line, from, byte, count),
-        Expr::Cat(members) => all_stay_far(line, from, members.as_slice()),
+        Expr::Cat(members) => members_stay_far(line, from, members),
         Expr::Sub {
             expression,
             start,
@@ -123,6 +123,20 @@ fn stays_far(line: &Line, from: usize, expression: &Expr) -> bool
         } => {
             stays_far(line, from, expression.as_ref()) && numbers_stay(line, from, start, count)
         }
+    }
+}
+
+// The same of members.
+#[cycle(stays_far)]
+fn members_stay_far(line: &Line, from: usize, members: &Members) -> bool
+    requires place { line.now.place ≤ length line.now.statements.now }
+    requires recent { IsRecent line.now.statements.now line.now.place line.now.recent.now }
+    ensures { result ≡ stay line.now.statements.now from line.now.place (names_of (members_view members.now)) }
+{
+    let (front, rest) = members.halves();
+    match front {
+        None => all_stay_far(line, from, rest),
+        Some(front) => members_stay_far(line, from, front) && all_stay_far(line, from, rest),
     }
 }
 

@@ -1,11 +1,11 @@
 // The text of expressions.
 ghost use Rattle.std.specs.Prelude.{map};
-ghost use Rattle.cord_plan.specs.Shown.{expr, exprs};
+ghost use Rattle.cord_plan.specs.Shown.{expr, exprs, more_exprs};
 ghost use Rattle.cord_plan.specs.inner.Showing.{Writes};
-ghost use Rattle.cord_plan.specs.Views.{expr_view, members_of, shared_view};
+ghost use Rattle.cord_plan.specs.Views.{expr_view, members_of, members_view, shared_view};
 
 use super::fragments::{Fragment, put_fragments, put_text};
-use crate::Expr;
+use crate::{Expr, Members};
 use cord_io::{Sink, WriteFault};
 use std::rc::Rc;
 
@@ -29,7 +29,7 @@ pub(crate) fn put_expression<W: Sink>(expression: &Expr, sink: &mut W) -> Result
         }
         Expr::Cat(members) => {
             put_text(b"cat(", sink)?;
-            put_members(members.as_slice(), sink)?;
+            put_members(members, sink)?;
             put_text(b")", sink)
         }
         Expr::Sub {
@@ -53,7 +53,27 @@ pub(crate) fn put_expression<W: Sink>(expression: &Expr, sink: &mut W) -> Result
 
 // The members of a `cat`, separated by one blank.
 #[cycle(shown_expressions)]
-fn put_members<W: Sink>(members: &[Rc<Expr>], sink: &mut W) -> Result<(), WriteFault>
+fn put_members<W: Sink>(members: &Members, sink: &mut W) -> Result<(), WriteFault>
+    ensures { Writes (exprs (members_view members.now)) (W.taken sink.old) (W.taken sink.new) (W.failures sink.old)
+        (W.failures sink.new) (W.finished sink.old) (W.finished sink.new) result }
+{
+    let (front, rest) = members.halves();
+    match front {
+        None => put_listed(rest, sink),
+        Some(front) => {
+            put_members(front, sink)?;
+            if front.is_nothing() {
+                put_listed(rest, sink)
+            } else {
+                put_more(rest, sink)
+            }
+        }
+    }
+}
+
+// The same of these members.
+#[cycle(shown_expressions)]
+fn put_listed<W: Sink>(members: &[Rc<Expr>], sink: &mut W) -> Result<(), WriteFault>
     ensures { Writes (exprs (members_of (map shared_view members.now))) (W.taken sink.old) (W.taken sink.new)
         (W.failures sink.old) (W.failures sink.new) (W.finished sink.old) (W.finished sink.new) result }
 {
@@ -62,6 +82,19 @@ fn put_members<W: Sink>(members: &[Rc<Expr>], sink: &mut W) -> Result<(), WriteF
         put_text(blank, sink)?;
         put_expression(member.as_ref(), sink)?;
         blank = b" ";
+    }
+    Ok(())
+}
+
+// Each of these members after a blank.
+#[cycle(shown_expressions)]
+fn put_more<W: Sink>(members: &[Rc<Expr>], sink: &mut W) -> Result<(), WriteFault>
+    ensures { Writes (more_exprs (members_of (map shared_view members.now))) (W.taken sink.old) (W.taken sink.new)
+        (W.failures sink.old) (W.failures sink.new) (W.finished sink.old) (W.finished sink.new) result }
+{
+    for member in members {
+        put_text(b" ", sink)?;
+        put_expression(member.as_ref(), sink)?;
     }
     Ok(())
 }

@@ -4,10 +4,11 @@ use Rattle.cord_plan.specs.Exprs as plain
 use Rattle.cord_plan.specs.declared.expressions.Expr.{Expr}
 use Rattle.cord_plan.specs.Exprs.{names, names_of, number_names}
 use Rattle.cord_plan.specs.inner.Recent.{lacks}
-use Rattle.cord_plan.specs.Views.{Shared, expr_view, members_of, shared_view}
+use Rattle.cord_plan.specs.Views.{Shared, expr_view, members_of, members_view, shared_view}
 use Rattle.cord_plan.proofs.ExprViews.{view-Name, view-Sub}
 use Rattle.cord_plan.proofs.MemberTexts.{weight, weights, member_there}
-use Rattle.cord_plan.proofs.Lacking.{lacks_append, lacks_member}
+use Rattle.cord_plan.proofs.Halves.{front_falls, halves_None, halves_Some, rest_falls}
+use Rattle.cord_plan.proofs.Lacking.{lacks_append, lacks_both, lacks_member}
 use Rattle.cord_plan.proofs.planner.naming.+lacks.Goals as goal
 use Rattle.cord_plan.proofs.planner.naming.+lacks.Goals.{all_lack-in-Name, all_lack-in_default}
 
@@ -76,3 +77,41 @@ all_lack-returns t c =
     sym (c.loop-member.invariant
     ∙ at_drop_all (λ (es : List Shared). lacks (names_of (members_of (map shared_view es))) c.args.name.now) c.args.members.now
     c.loop-member.member-index c.loop-member-test.false)
+
+pub members_lack-all_lack-requires : goal.members_lack-all_lack-requires
+members_lack-all_lack-requires t c =
+    let below : weights (members_of (map shared_view c.halves.result.1.now)) < weights (members_view c.args.members.now) + 1 = rest_falls (members_view c.args.members.now) c.halves.result.0 c.halves.result.1.now c.halves.ensures.members in
+    search (rules, below)
+
+pub members_lack-members_lack-requires : goal.members_lack-members_lack-requires
+members_lack-members_lack-requires t c =
+    let below : weights (members_view c.in-Some.front.now) + 1 < weights (members_view c.args.members.now) + 1 = front_falls (members_view c.args.members.now) c.halves.result.0 c.halves.result.1.now c.halves.ensures.members c.halves.ensures.after c.in-Some.front c.in-Some.is in
+    search (rules, below)
+
+pub members_lack-all_lack-requires-then-members_lack : goal.members_lack-all_lack-requires-then-members_lack
+members_lack-all_lack-requires-then-members_lack t c =
+    let below : weights (members_of (map shared_view c.halves.result.1.now)) < weights (members_view c.args.members.now) + 1 = rest_falls (members_view c.args.members.now) c.halves.result.0 c.halves.result.1.now c.halves.ensures.members in
+    search (rules, below)
+
+pub members_lack-returns-in-None : goal.members_lack-returns-in-None
+members_lack-returns-in-None t c =
+    c.all_lack.ensures
+    ∙ ap (λ (es : plain.Exprs). lacks (names_of es) c.args.name.now) (sym (halves_None (members_view c.args.members.now) c.halves.result.0 c.halves.result.1.now c.halves.ensures.members c.in-None.is))
+
+pub members_lack-returns-then-members_lack : goal.members_lack-returns-then-members_lack
+members_lack-returns-then-members_lack t c =
+    let x = c.args.name.now in
+    let rest = members_of (map shared_view c.halves.result.1.now) in
+    c.all_lack-then-members_lack.ensures
+    ∙ sym (lacks_both x (members_view c.args.members.now) (members_view c.in-Some.front.now) rest
+    (halves_Some (members_view c.args.members.now) c.halves.result.0 c.halves.result.1.now c.halves.ensures.members c.in-Some.front c.in-Some.is)
+    ∙ ap (λ (v : Bool). v && lacks (names_of rest) x) (sym c.members_lack.ensures ∙ c.if-members_lack.true))
+
+pub members_lack-returns-else-members_lack : goal.members_lack-returns-else-members_lack
+members_lack-returns-else-members_lack t c =
+    let x = c.args.name.now in
+    let rest = members_of (map shared_view c.halves.result.1.now) in
+    c.if-members_lack.false
+    ∙ sym (lacks_both x (members_view c.args.members.now) (members_view c.in-Some.front.now) rest
+    (halves_Some (members_view c.args.members.now) c.halves.result.0 c.halves.result.1.now c.halves.ensures.members c.in-Some.front c.in-Some.is)
+    ∙ ap (λ (v : Bool). v && lacks (names_of rest) x) (sym c.members_lack.ensures ∙ c.if-members_lack.false))

@@ -3,9 +3,10 @@ use Rattle.cord_plan.specs.Exprs as plain
 use Rattle.cord_plan.specs.declared.expressions.Expr.{Expr}
 use Rattle.cord_plan.specs.Exprs.{parts, parts_of}
 use Rattle.cord_plan.specs.inner.Choices.{room_left}
-use Rattle.cord_plan.specs.Views.{expr_view, members_of, shared_view}
+use Rattle.cord_plan.specs.Views.{expr_view, members_of, members_view, shared_view}
 use Rattle.cord_plan.proofs.ExprViews.{view-Name}
-use Rattle.cord_plan.proofs.PartSums.{none_for_more, room_for_more, parts_member}
+use Rattle.cord_plan.proofs.Halves.{front_falls, halves_None, halves_Some, rest_falls}
+use Rattle.cord_plan.proofs.PartSums.{none_for_more, room_for_more, parts_both, parts_member}
 use Rattle.cord_plan.proofs.MemberTexts.{weight, weights, member_there}
 use Rattle.cord_plan.proofs.planner.parts.+room_left.Goals as goal
 use Rattle.cord_plan.proofs.planner.parts.+room_left.Goals.{room_left_all-in-Name, room_left_all-in_default}
@@ -41,3 +42,38 @@ room_left_all-loop-member-preserved t c =
     c.loop-member.invariant ∙ ap (λ (n : ℕ). room_left n c.loop-member.rest)
     (parts_member c.args.members.now c.loop-member.member-index c.member-item.result c.loop-member-test.true c.member-item.is) in
     first ∙ room_for_more (parts (shared_view c.member-item.result)) rest c.loop-member.rest c.in-Some.less (sym c.in-Some.is ∙ told)
+
+pub room_left_members-room_left_all-requires : goal.room_left_members-room_left_all-requires
+room_left_members-room_left_all-requires t c =
+    let below : weights (members_of (map shared_view c.halves.result.1.now)) < weights (members_view c.args.members.now) + 1 = rest_falls (members_view c.args.members.now) c.halves.result.0 c.halves.result.1.now c.halves.ensures.members in
+    search (rules, below)
+
+pub room_left_members-room_left_members-requires : goal.room_left_members-room_left_members-requires
+room_left_members-room_left_members-requires t c =
+    let below : weights (members_view c.in-Some.front.now) + 1 < weights (members_view c.args.members.now) + 1 = front_falls (members_view c.args.members.now) c.halves.result.0 c.halves.result.1.now c.halves.ensures.members c.halves.ensures.after c.in-Some.front c.in-Some.is in
+    search (rules, below)
+
+pub room_left_members-room_left_all-requires-in-Some-room_left_members : goal.room_left_members-room_left_all-requires-in-Some-room_left_members
+room_left_members-room_left_all-requires-in-Some-room_left_members t c =
+    let below : weights (members_of (map shared_view c.halves.result.1.now)) < weights (members_view c.args.members.now) + 1 = rest_falls (members_view c.args.members.now) c.halves.result.0 c.halves.result.1.now c.halves.ensures.members in
+    search (rules, below)
+
+pub room_left_members-returns-in-None : goal.room_left_members-returns-in-None
+room_left_members-returns-in-None t c =
+    c.room_left_all.ensures
+    ∙ ap (λ (es : plain.Exprs). room_left (parts_of es) c.args.room) (sym (halves_None (members_view c.args.members.now) c.halves.result.0 c.halves.result.1.now c.halves.ensures.members c.in-None.is))
+
+pub room_left_members-returns-in-Some-room_left_members : goal.room_left_members-returns-in-Some-room_left_members
+room_left_members-returns-in-Some-room_left_members t c =
+    let front = members_view c.in-Some.front.now in
+    let rest = members_of (map shared_view c.halves.result.1.now) in
+    c.room_left_all-in-Some-room_left_members.ensures
+    ∙ sym (parts_both (members_view c.args.members.now) front rest c.args.room (halves_Some (members_view c.args.members.now) c.halves.result.0 c.halves.result.1.now c.halves.ensures.members c.in-Some.front c.in-Some.is)
+    ∙ room_for_more (parts_of front) (parts_of rest) c.args.room c.in-Some-room_left_members.less (sym c.in-Some-room_left_members.is ∙ c.room_left_members.ensures))
+
+pub room_left_members-returns-in-None-room_left_members : goal.room_left_members-returns-in-None-room_left_members
+room_left_members-returns-in-None-room_left_members t c =
+    let front = members_view c.in-Some.front.now in
+    let rest = members_of (map shared_view c.halves.result.1.now) in
+    none_for_more (parts_of front) (parts_of rest) c.args.room (sym c.in-None-room_left_members.is ∙ c.room_left_members.ensures)
+    ∙ sym (parts_both (members_view c.args.members.now) front rest c.args.room (halves_Some (members_view c.args.members.now) c.halves.result.0 c.halves.result.1.now c.halves.ensures.members c.in-Some.front c.in-Some.is))

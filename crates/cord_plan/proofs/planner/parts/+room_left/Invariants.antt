@@ -1,12 +1,15 @@
-use Rattle.std.proofs.Common.{◌≡◌, map, drop}
+use Rattle.std.proofs.Common.{◌≡◌, ◌+◌, map, drop}
 use Rattle.cord_plan.specs.Exprs.{parts_of}
 use Rattle.cord_plan.specs.inner.Choices.{room_left}
-use Rattle.cord_plan.specs.Views.{expr_view, members_of, shared_view}
+use Rattle.cord_plan.specs.Views.{expr_view, members_of, members_view, shared_view}
 use Rattle.cord_plan.proofs.MemberTexts.{weight, weights}
 use Rattle.cord_plan.proofs.planner.parts.+room_left.Given as goal
 
 abbrev pub decreases-room_left : goal.decreases-room_left
 decreases-room_left l = weight (expr_view l.expression.now)
+
+abbrev pub decreases-room_left_members : goal.decreases-room_left_members
+decreases-room_left_members l = weights (members_view l.members.now) + 1
 
 abbrev pub decreases-room_left_all : goal.decreases-room_left_all
 decreases-room_left_all l = weights (members_of (map shared_view l.members.now))

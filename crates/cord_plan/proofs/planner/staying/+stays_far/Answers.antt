@@ -4,10 +4,11 @@ use Rattle.cord_plan.specs.Exprs as plain
 use Rattle.cord_plan.specs.declared.expressions.Expr.{Expr}
 use Rattle.cord_plan.specs.Exprs.{names, names_of, number_names}
 use Rattle.cord_plan.specs.inner.Recent.{stay}
-use Rattle.cord_plan.specs.Views.{Shared, expr_view, members_of, shared_view}
+use Rattle.cord_plan.specs.Views.{Shared, expr_view, members_of, members_view, shared_view}
 use Rattle.cord_plan.proofs.ExprViews.{view-Sub}
 use Rattle.cord_plan.proofs.MemberTexts.{weight, weights, member_there}
-use Rattle.cord_plan.proofs.Lasts.{stay_append, stay_member, stay_nothing}
+use Rattle.cord_plan.proofs.Halves.{front_falls, halves_None, halves_Some, rest_falls}
+use Rattle.cord_plan.proofs.Lasts.{stay_append, stay_both, stay_member, stay_nothing}
 use Rattle.cord_plan.proofs.planner.staying.+stays_far.Goals as goal
 
 pub all_stay_far-stays_far-requires : goal.all_stay_far-stays_far-requires
@@ -66,3 +67,42 @@ all_stay_far-returns t c =
     ∙ (at_drop_all (λ (es : List Shared). stable (names_of (members_of (map shared_view es)))) c.args.members.now c.loop-member.member-index
     c.loop-member-test.false
     ∙ stay_nothing line.statements.now c.args.from line.place))
+
+pub members_stay_far-all_stay_far-requires : goal.members_stay_far-all_stay_far-requires
+members_stay_far-all_stay_far-requires t c =
+    let below : weights (members_of (map shared_view c.halves.result.1.now)) < weights (members_view c.args.members.now) + 1 = rest_falls (members_view c.args.members.now) c.halves.result.0 c.halves.result.1.now c.halves.ensures.members in
+    search (rules, below)
+
+pub members_stay_far-members_stay_far-requires : goal.members_stay_far-members_stay_far-requires
+members_stay_far-members_stay_far-requires t c =
+    let below : weights (members_view c.in-Some.front.now) + 1 < weights (members_view c.args.members.now) + 1 = front_falls (members_view c.args.members.now) c.halves.result.0 c.halves.result.1.now c.halves.ensures.members c.halves.ensures.after c.in-Some.front c.in-Some.is in
+    search (rules, below)
+
+pub members_stay_far-all_stay_far-requires-then-members_stay_far : goal.members_stay_far-all_stay_far-requires-then-members_stay_far
+members_stay_far-all_stay_far-requires-then-members_stay_far t c =
+    let below : weights (members_of (map shared_view c.halves.result.1.now)) < weights (members_view c.args.members.now) + 1 = rest_falls (members_view c.args.members.now) c.halves.result.0 c.halves.result.1.now c.halves.ensures.members in
+    search (rules, below)
+
+pub members_stay_far-returns-in-None : goal.members_stay_far-returns-in-None
+members_stay_far-returns-in-None t c =
+    c.all_stay_far.ensures
+    ∙ ap (λ (es : plain.Exprs). stay c.args.line.now.statements.now c.args.from c.args.line.now.place (names_of es))
+    (sym (halves_None (members_view c.args.members.now) c.halves.result.0 c.halves.result.1.now c.halves.ensures.members c.in-None.is))
+
+pub members_stay_far-returns-then-members_stay_far : goal.members_stay_far-returns-then-members_stay_far
+members_stay_far-returns-then-members_stay_far t c =
+    let stable = stay c.args.line.now.statements.now c.args.from c.args.line.now.place in
+    let rest = members_of (map shared_view c.halves.result.1.now) in
+    c.all_stay_far-then-members_stay_far.ensures
+    ∙ sym (stay_both c.args.line.now.statements.now c.args.from c.args.line.now.place (members_view c.args.members.now)
+    (members_view c.in-Some.front.now) rest (halves_Some (members_view c.args.members.now) c.halves.result.0 c.halves.result.1.now c.halves.ensures.members c.in-Some.front c.in-Some.is)
+    ∙ ap (λ (v : Bool). v && stable (names_of rest)) (sym c.members_stay_far.ensures ∙ c.if-members_stay_far.true))
+
+pub members_stay_far-returns-else-members_stay_far : goal.members_stay_far-returns-else-members_stay_far
+members_stay_far-returns-else-members_stay_far t c =
+    let stable = stay c.args.line.now.statements.now c.args.from c.args.line.now.place in
+    let rest = members_of (map shared_view c.halves.result.1.now) in
+    c.if-members_stay_far.false
+    ∙ sym (stay_both c.args.line.now.statements.now c.args.from c.args.line.now.place (members_view c.args.members.now)
+    (members_view c.in-Some.front.now) rest (halves_Some (members_view c.args.members.now) c.halves.result.0 c.halves.result.1.now c.halves.ensures.members c.in-Some.front c.in-Some.is)
+    ∙ ap (λ (v : Bool). v && stable (names_of rest)) (sym c.members_stay_far.ensures ∙ c.if-members_stay_far.false))

@@ -1,12 +1,15 @@
-use Rattle.std.proofs.Common.{◌≡◌, map, drop}
+use Rattle.std.proofs.Common.{◌≡◌, ◌+◌, map, drop}
 use Rattle.cord_plan.specs.Exprs.{names_of}
 use Rattle.cord_plan.specs.inner.Recent.{stay}
-use Rattle.cord_plan.specs.Views.{expr_view, members_of, shared_view}
+use Rattle.cord_plan.specs.Views.{expr_view, members_of, members_view, shared_view}
 use Rattle.cord_plan.proofs.MemberTexts.{weight, weights}
 use Rattle.cord_plan.proofs.planner.staying.+stays_far.Given as goal
 
 abbrev pub decreases-stays_far : goal.decreases-stays_far
 decreases-stays_far l = weight (expr_view l.expression.now)
+
+abbrev pub decreases-members_stay_far : goal.decreases-members_stay_far
+decreases-members_stay_far l = weights (members_view l.members.now) + 1
 
 abbrev pub decreases-all_stay_far : goal.decreases-all_stay_far
 decreases-all_stay_far l = weights (members_of (map shared_view l.members.now))

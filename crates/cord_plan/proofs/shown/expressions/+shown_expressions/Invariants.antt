@@ -1,7 +1,7 @@
-use Rattle.std.proofs.Common.{◌≡◌, take, map, Ok}
+use Rattle.std.proofs.Common.{◌≡◌, ◌+◌, take, map, Ok}
 use Rattle.cord_plan.specs.inner.Showing.{Writes}
-use Rattle.cord_plan.specs.Views.{expr_view, members_of, shared_view}
-use Rattle.cord_plan.proofs.MemberTexts.{weight, weights, members_text}
+use Rattle.cord_plan.specs.Views.{expr_view, members_of, members_view, shared_view}
+use Rattle.cord_plan.proofs.MemberTexts.{weight, weights, members_text, more_text}
 use Rattle.cord_plan.proofs.Spacing.{blank_at}
 use Rattle.cord_plan.proofs.shown.expressions.+shown_expressions.Given as goal
 
@@ -9,10 +9,21 @@ abbrev pub decreases-put_expression : goal.decreases-put_expression
 decreases-put_expression g l = weight (expr_view l.expression.now)
 
 abbrev pub decreases-put_members : goal.decreases-put_members
-decreases-put_members g l = weights (members_of (map shared_view l.members.now))
+decreases-put_members g l = weights (members_view l.members.now) + 1
 
-abbrev pub invariant-put_members-loop-member : goal.invariant-put_members-loop-member
-invariant-put_members-loop-member g l = record {
+abbrev pub decreases-put_listed : goal.decreases-put_listed
+decreases-put_listed g l = weights (members_of (map shared_view l.members.now))
+
+abbrev pub decreases-put_more : goal.decreases-put_more
+decreases-put_more g l = weights (members_of (map shared_view l.members.now))
+
+abbrev pub invariant-put_more-loop-member : goal.invariant-put_more-loop-member
+invariant-put_more-loop-member g l = Writes (more_text (take l.member-index l.members)) (g.W.Sink.taken l.initial.sink)
+    (g.W.Sink.taken l.sink) (g.W.Sink.failures l.initial.sink) (g.W.Sink.failures l.sink) (g.W.Sink.finished l.initial.sink)
+    (g.W.Sink.finished l.sink) (Ok tt)
+
+abbrev pub invariant-put_listed-loop-member : goal.invariant-put_listed-loop-member
+invariant-put_listed-loop-member g l = record {
   taken : Writes (members_text (take l.member-index l.members)) (g.W.Sink.taken l.initial.sink) (g.W.Sink.taken l.sink)
       (g.W.Sink.failures l.initial.sink) (g.W.Sink.failures l.sink) (g.W.Sink.finished l.initial.sink) (g.W.Sink.finished l.sink) (Ok tt);
   blank : l.blank ≡ blank_at l.member-index;

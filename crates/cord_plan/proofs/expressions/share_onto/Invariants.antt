@@ -1,7 +1,7 @@
 use Rattle.std.proofs.Common.{◌≡◌, ◌≤◌, ◌+◌, ◌-◌, ◌++◌, map, take, length}
 use Rattle.std.specs.Prelude.{vec_len, vec_capacity}
 use Rattle.cord_plan.specs.Views.{shared_view}
-use Rattle.cord_plan.proofs.planner.parts.share_onto.Given as goal
+use Rattle.cord_plan.proofs.expressions.share_onto.Given as goal
 
 -- the members so far, and room for those that are left
 abbrev pub invariant-loop-member : goal.invariant-loop-member
