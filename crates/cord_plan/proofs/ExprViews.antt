@@ -7,7 +7,6 @@ use Rattle.cord_plan.specs.Exprs.{append}
 use Rattle.cord_plan.specs.Views.{expr_view, expr_step, members_of, members_view, members_step, shared_view, Shared}
 use Rattle.cord_plan.specs.declared.expressions.Expr.{Expr, Expr-F, fold-roll-Expr}
 use Rattle.cord_plan.specs.declared.expressions.Expr.TheVariants.{Name, Run, Cat, Sub, rolls-Name, rolls-Run, rolls-Cat, rolls-Sub}
-use Rattle.cord_plan.specs.declared.expressions.Expr.TheOpen.{Members-F}
 use Rattle.cord_plan.specs.declared.expressions.Expr.TheViews.{out-Members, roll-Members}
 use Rattle.cord_plan.specs.declared.expressions.Expr.TheFolds.{fold-roll-Members, fold_out-Members}
 use Rattle.cord_plan.specs.declared.expressions.Members.{Members}

@@ -1,12 +1,12 @@
 -- The members in front and those after them, on a walk over both.
-use Rattle.std.proofs.Common.{◌≡◌, ◌<◌, ◌≤◌, ℕ, ◌+◌, Bool, true, false, List, [], ◌∷◌, length, map, Option, Some, None, Bor, refl, sym, ap, ◌∙◌, subst, arith}
+use Rattle.std.proofs.Common.{◌≡◌, ◌<◌, ◌≤◌, ◌+◌, false, List, [], ◌∷◌, length, map, Option, Some, None, Bor, refl, sym, ap, ◌∙◌, subst, arith}
 use Rattle.std.specs.Prelude.{IfSome, ◌==◌}
 use Rattle.std.proofs.lemmas.Bool.{ne_eqb}
 use Rattle.cord_plan.specs.Exprs as plain
 use Rattle.cord_plan.specs.Exprs.{append, is_nothing}
 use Rattle.cord_plan.specs.Views.{Shared, front_view, members_of, members_view, shared_view}
 use Rattle.cord_plan.specs.declared.expressions.Members.{Members}
-use Rattle.cord_plan.proofs.MemberTexts.{weight, weights}
+use Rattle.cord_plan.proofs.MemberTexts.{weights}
 
 weights_append : (a b : plain.Exprs) → weights (append a b) ≡ weights a + weights b
 weights_append plain.nothing b = omega arith

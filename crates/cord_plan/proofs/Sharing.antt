@@ -1,5 +1,5 @@
 -- Members that share others.
-use Rattle.std.proofs.Common.{◌≡◌, true, List, [], ◌∷◌, ◌++◌, map, Option, Some, None, Global, Vec, refl, sym, ap, ◌∙◌}
+use Rattle.std.proofs.Common.{◌≡◌, true, List, [], ◌∷◌, ◌++◌, map, Some, Global, Vec, refl, sym, ap, ◌∙◌}
 use Rattle.std.specs.declared.rc.Rc.{Rc}
 use Rattle.cord_plan.specs.Exprs.{Exprs, nothing, member, append, is_nothing}
 use Rattle.cord_plan.specs.Views.{Shared, members_of, members_view, shared_view}

@@ -1,11 +1,15 @@
 // Expressions of plans.
-ghost use Rattle.std.specs.Prelude.{◌≡◌, ◌<◌, ◌++◌, IfSome, IsOkUnless, OnOk, length, map};
+ghost use Rattle.std.specs.Prelude.{◌≡◌, ◌<◌, ◌++◌, IfOk, IfSome, IsOkUnless, OnOk, length, map};
 ghost use Rattle.cord_plan.specs.Exprs.{append, is_nothing, member, nothing};
 ghost use Rattle.cord_plan.specs.Views.{front_view, members_of, members_view, shared_view};
 
 use cord_io::CordError;
 use cord_script::{Name, Number};
+use std::alloc::Global;
 use std::rc::Rc;
+
+/// So many members after those in front are put in front of those that follow.
+const CHUNK: usize = 16;
 
 /// An expression of a plan: what a line makes of names of cords and of runs of a byte. Expressions share what stands in them.
 #[derive(Drop)]
@@ -28,7 +32,7 @@ pub enum Expr {
     },
 }
 
-/// The members of a `cat`, in order. Expressions share members: a copy of one is a count, and so is a copy of all those in front.
+/// The members of a `cat`, in order. Expressions share members: a copy of one, or of all in front, is a count.
 #[derive(Drop)]
 #[cycle(expressions)]
 pub struct Members {
@@ -47,10 +51,10 @@ impl Members {
         }
     }
 
-    /// The members in front, where other expressions may share them, and those after them. Where there are some in front, others stand
-    /// after them.
+    /// The members in front, where other expressions may share them, and those after them. Some stand after a front.
     pub fn halves(&self) -> (Option<&Members>, &[Rc<Expr>])
-        ensures members { members_view self.now ≡ append (front_view result.0) (members_of (map shared_view result.1.now)) }
+        ensures members { members_view self.now
+            ≡ append (front_view result.0) (members_of (map shared_view result.1.now)) }
         ensures after { IfSome result.0 (λ _. 0 < length result.1.now) }
     {
         match &self.front {
@@ -58,6 +62,21 @@ impl Members {
             Some(front) if self.rest.is_empty() => front.as_ref().halves(),
             Some(front) => (Some(front.as_ref()), &self.rest),
         }
+    }
+
+    /// The same members, in front of those that follow where many stand after the front: so others share them.
+    /// Refused only with `NoMemory`.
+    pub(crate) fn to_share(self, alloc: Global) -> Result<Self, CordError>
+        ensures made { IfOk result (λ ms. members_view ms ≡ members_view self) }
+        ensures refused { IsOkUnless result CordError.NoMemory }
+    {
+        if self.rest.len() < CHUNK {
+            return Ok(self);
+        }
+        Ok(Members {
+            front: Some(Rc::new(alloc, self)?),
+            rest: Vec::new(alloc),
+        })
     }
 
     /// Whether there are no members.
@@ -74,14 +93,17 @@ impl Members {
 
     /// Puts a member after these. Refused only with `NoMemory`.
     pub(crate) fn push(&mut self, last: Rc<Expr>) -> Result<(), CordError>
-        ensures made { OnOk result (members_view self.new ≡ append (members_view self.old) (member (shared_view last) nothing)) }
+        ensures made { OnOk result (members_view self.new
+            ≡ append (members_view self.old) (member (shared_view last) nothing)) }
         ensures refused { IsOkUnless result CordError.NoMemory }
     {
         self.rest.push(last)?;
         Ok(())
     }
 
-    /// Puts members after these, which share them: where there are none yet, those in front at once. Refused only with `NoMemory`.
+    /// Puts members after these, which share them: where there are none yet, those in front at once.
+    ///
+    /// Refused only with `NoMemory`.
     pub(crate) fn share(&mut self, others: &Members) -> Result<(), CordError>
         ensures made { OnOk result (members_view self.new ≡ append (members_view self.old) (members_view others.now)) }
         ensures refused { IsOkUnless result CordError.NoMemory }

@@ -104,12 +104,24 @@ fn joined(
     Ok(members)
 }
 
+// `cat` of the members that these expressions give: others share them, where the first of them are another line's.
+fn cat_of(alloc: Global, choices: &[Choice], members: Members) -> Result<Expr, CordError>
+    ensures made { IfOk result (λ e. expr_view e ≡ plain.cat (members_view members)) }
+    ensures refused { IsOkUnless result CordError.NoMemory }
+{
+    match choices {
+        [Choice::Replaced(..), ..] => Ok(Expr::Cat(members.to_share(alloc)?)),
+        _ => Ok(Expr::Cat(members)),
+    }
+}
+
 // `cat` of these expressions.
 fn joined_all(alloc: Global, interner: &mut Interner, choices: &[Choice]) -> Result<Expr, CordError>
     ensures made { IfOk result (λ e. expr_view e ≡ plain.cat (members (map expr_of (map choice_view choices.now)))) }
     ensures refused { IsOkUnless result CordError.NoMemory }
 {
-    Ok(Expr::Cat(joined(alloc, interner, choices, 0)?))
+    let members = joined(alloc, interner, choices, 0)?;
+    Ok(cat_of(alloc, choices, members)?)
 }
 
 // `cat` of these expressions and one byte.
@@ -125,7 +137,7 @@ fn joined_with(
 {
     let mut members = joined(alloc, interner, choices, 1)?;
     members.push(interner.byte(alloc, byte)?)?;
-    Ok(Expr::Cat(members))
+    Ok(cat_of(alloc, choices, members)?)
 }
 
 // An expression that stands for an operand, to be shared.

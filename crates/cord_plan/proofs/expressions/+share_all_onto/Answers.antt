@@ -1,4 +1,4 @@
-use Rattle.std.proofs.Common.{List, map, None, sym, ap, ◌∙◌}
+use Rattle.std.proofs.Common.{map, None, sym, ap, ◌∙◌}
 use Rattle.cord_plan.specs.Exprs.{Exprs, append}
 use Rattle.cord_plan.specs.Views.{members_of, shared_view}
 use Rattle.cord_plan.proofs.ExprViews.{members_told}

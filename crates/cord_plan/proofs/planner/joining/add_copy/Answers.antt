@@ -1,4 +1,4 @@
-use Rattle.std.proofs.Common.{refl, sym, ap, ◌∙◌}
+use Rattle.std.proofs.Common.{refl, ap, ◌∙◌}
 use Rattle.cord_plan.specs.Exprs as plain
 use Rattle.cord_plan.specs.Views.{expr_view, members_view, shared_view}
 use Rattle.cord_plan.proofs.ExprViews.{view-Name, view-Run, view-Cat, view-Sub}

@@ -3,13 +3,12 @@ use Rattle.cord_operands.specs.declared.operands.Number.TheVariants.{Numeral}
 use Rattle.cord_plan.specs.Forced.{expr_of}
 use Rattle.cord_plan.specs.inner.Choices.{choice_view}
 use Rattle.cord_plan.specs.Views.{members_view, shared_view}
-use Rattle.cord_plan.proofs.ExprViews.{view-Cat}
 use Rattle.cord_plan.proofs.Joined.{joined_more}
 use Rattle.cord_plan.proofs.planner.joining.joined_with.Goals as goal
 
 pub returns-clause-made : goal.returns-clause-made
 returns-clause-made c =
-    view-Cat c.push.new.self
+    c.in_ok-cat_of.ensures.made
     ∙ joined_more (map (λ d. expr_of d) (map choice_view c.args.choices.now)) (members_view c.in_ok-members.members)
     (members_view c.push.new.self) (shared_view c.in_ok-byte.field-0) c.args.byte.now (Numeral (pos 1)) c.in_ok-members.ensures.made
     c.in_ok-push.ensures.made c.in_ok-byte.ensures.made
