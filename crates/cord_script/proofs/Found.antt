@@ -62,7 +62,8 @@ shown (c ∷ cs) = elim (blank_or_not c) [
   ]
 ]
 
-not_idle : (line rest : List ℕ) (c : ℕ) → Begins line c rest → c ≢ 35 → ¬ IsIdle line
+-- a line that begins with another byte than `#` says something
+pub not_idle : (line rest : List ℕ) (c : ℕ) → Begins line c rest → c ≢ 35 → ¬ IsIdle line
 not_idle line rest c b n (inl all) = no_beginning line rest c b all
 not_idle line rest c b n (inr note) =
     n ((one_beginning line rest note.1 c 35 b (record { front = note.0; blank = note.2; shows = note_shows; whole = note.3 })).0)

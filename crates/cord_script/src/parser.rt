@@ -78,10 +78,10 @@ fn take_line<'a>(
         statements.new.items) }
     ensures flaw { IfErr result (λ kind. kind ≢ RefusalKind.NoMemory → HasWrong line.now (before_of context.old) kind) }
 {
-    if is_idle(line) {
+    if take_settled(alloc, number, line, context, statements)? {
         return Ok(());
     }
-    if take_settled(alloc, number, line, context, statements)? {
+    if is_idle(line) {
         return Ok(());
     }
     take_words(alloc, number, line, words, buffer, context, statements)

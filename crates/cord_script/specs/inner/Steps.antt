@@ -24,6 +24,7 @@ pub record Adds (n : ℕ) (line : List ℕ) (before : Before) (ss grown : List S
   pub statement : Statement
   pub says : SaysAfter n before before words statement
   pub added : grown ≡ ss ++ statement ∷ []
+  pub shows : ¬ IsIdle line
 
 -- what is wrong with a line after the lines before it
 abbrev pub HasWrong : List ℕ → Before → RefusalKind → Type 0

@@ -1,4 +1,4 @@
-use Rattle.std.proofs.Common.{Some, subst}
+use Rattle.std.proofs.Common.{Some, None, ◌∙◌, refl, sym, subst, append-nil}
 use Rattle.std.specs.Prelude.{OnOk}
 use Rattle.cord_script.specs.inner.ContextViews.{before_of}
 use Rattle.cord_script.specs.inner.Steps.{Takes}
@@ -7,7 +7,12 @@ use Rattle.cord_script.proofs.parser.take_line.Goals as goal
 pub returns-then-branch-clause-takes : goal.returns-then-branch-clause-takes
 returns-then-branch-clause-takes c =
     let h = c.in_ok-take_settled.ensures.adds c.if-branch.true in
-    (Some h.statement, (c.if-is_idle.ensures, h.words, h.has, h.says), h.added)
+    (Some h.statement, (h.shows, h.words, h.has, h.says), h.added)
+
+pub returns-then-is_idle-clause-takes : goal.returns-then-is_idle-clause-takes
+returns-then-is_idle-clause-takes c =
+    let kept = c.in_ok-take_settled.ensures.keeps c.if-branch.false in
+    (None, (c.if-is_idle.ensures, refl), kept ∙ sym (append-nil c.args.statements.now.items))
 
 pub returns-clause-takes : goal.returns-clause-takes
 returns-clause-takes c =
