@@ -16,7 +16,8 @@ slice_get_drop : {X : Type 0} (k : ℕ) (xs : List X) (n : ℕ) → slice_get (d
 slice_get_drop zero xs n = let same : n ≡ zero + n = omega arith in ap (λ (m : ℕ). slice_get xs m) same
 slice_get_drop (suc k) [] zero = refl
 slice_get_drop (suc k) [] (suc n) = refl
-slice_get_drop (suc k) (x ∷ xs) n = let same : suc (k + n) ≡ suc k + n = omega arith in slice_get_drop k xs n ∙ ap (λ (m : ℕ). slice_get (x ∷ xs) m) same
+slice_get_drop (suc k) (x ∷ xs) n = let same : suc (k + n) ≡ suc k + n = omega arith in
+    slice_get_drop k xs n ∙ ap (λ (m : ℕ). slice_get (x ∷ xs) m) same
 
 to_end_lands : (d : ℕ) (ls : List Shape) → bars (slice_get ls (to_end d ls)) ≡ true
 to_end_lands d [] = refl

@@ -75,7 +75,8 @@ module _ (later : List ℕ → ℕ → Bool) (table : Table) where
   built_later p (l ∷ rest) [] k line x made e = let bad : ⊥ = cc in absurd bad
   built_later p (l ∷ rest) (entry ∷ entries) zero line x made e =
       let o : built (operation l (or_nothing entry.0) (is_dead later p (target_of l)) (is_first p table)) ≡ Some x = cc in
-      let b : Builds (target_of l) (is_dead later p (target_of l)) x = builds l (or_nothing entry.0) (is_dead later p (target_of l)) (is_first p table) x o in
+      let b : Builds (target_of l) (is_dead later p (target_of l)) x =
+      builds l (or_nothing entry.0) (is_dead later p (target_of l)) (is_first p table) x o in
       let same : p ≡ p + 0 = omega arith in
       subst (λ (n : ℕ). later x n ≡ true) same (lives later p (target_of l) x b.assigned b.living)
   built_later p (l ∷ rest) (entry ∷ entries) (suc k) line x made e =

@@ -172,7 +172,8 @@ module _ (s : List Statement) (later : List ℕ → ℕ → Bool) where
       let more : Option Expr × List Choice = operands_chosen s later table b l (own l) in
       grown_keeps (table ++ more ∷ []) (b + 1) rest k en (keep_behind table (more ∷ []) k en e)
 
-  module _ (P : ℕ → Option Expr × List Choice → Type 0) (step : (table : Table) (b : ℕ) (l : Statement) → slice_get s b ≡ Some l → IsFront table → EachEntry P table → P b (operands_chosen s later table b l (own l))) where
+  module _ (P : ℕ → Option Expr × List Choice → Type 0) (step : (table : Table) (b : ℕ) (l : Statement) → slice_get s b ≡ Some l →
+      IsFront table → EachEntry P table → P b (operands_chosen s later table b l (own l))) where
     entry_then : (table : Table) (en : Option Expr × List Choice) → EachEntry P table → P (length table) en → EachEntry P (table ++ en ∷ [])
     entry_then table en each one k other e = pick (last_or table en k other e)
       where
@@ -188,11 +189,16 @@ module _ (s : List Statement) (later : List ℕ → ℕ → Bool) where
         let first : length table + 0 ≡ length table = omega arith in
         let at : slice_get s (length table) ≡ Some l = ap (λ (n : ℕ). slice_get s n) (sym first) ∙ here 0 in
         let long : length (table ++ en ∷ []) ≡ length table + 1 = length-append table (en ∷ []) in
-        let next_at : (k : ℕ) → slice_get s (length (table ++ en ∷ []) + k) ≡ slice_get rest k = λ k. (let sum : length (table ++ en ∷ []) + k ≡ length table + suc k = omega (arith, long) in ap (λ (n : ℕ). slice_get s n) sum ∙ here (suc k)) in
-        let front : IsFront table = λ k other e. subst (λ (t : Table). slice_get t k ≡ Some other) whole (grown_keeps table (length table) (l ∷ rest) k other e) in
-        let next_whole : grown s later (table ++ en ∷ []) (length (table ++ en ∷ [])) rest ≡ exprs s later = ap (λ (n : ℕ). grown s later (table ++ en ∷ []) n rest) long ∙ whole in
+        let next_at : (k : ℕ) → slice_get s (length (table ++ en ∷ []) + k) ≡ slice_get rest k =
+        λ k. (let sum : length (table ++ en ∷ []) + k ≡ length table + suc k = omega (arith, long) in
+        ap (λ (n : ℕ). slice_get s n) sum ∙ here (suc k)) in
+        let front : IsFront table =
+        λ k other e. subst (λ (t : Table). slice_get t k ≡ Some other) whole (grown_keeps table (length table) (l ∷ rest) k other e) in
+        let next_whole : grown s later (table ++ en ∷ []) (length (table ++ en ∷ [])) rest ≡ exprs s later =
+        ap (λ (n : ℕ). grown s later (table ++ en ∷ []) n rest) long ∙ whole in
         grown_each (table ++ en ∷ []) rest next_at next_whole (entry_then table en each (step table (length table) l at front each))
 
     -- by what holds of a line's entry, where it holds of those before it
     pub each_entry : EachEntry P (exprs s later)
-    each_entry = grown_each [] s (λ k. (let sum : length {A = Option Expr × List Choice} [] + k ≡ k = omega arith in ap (λ (n : ℕ). slice_get s n) sum)) refl (λ k en e. (let bad : ⊥ = cc in absurd bad))
+    each_entry = grown_each [] s (λ k. (let sum : length {A = Option Expr × List Choice} [] + k ≡ k = omega arith in
+        ap (λ (n : ℕ). slice_get s n) sum)) refl (λ k en e. (let bad : ⊥ = cc in absurd bad))

@@ -87,15 +87,19 @@ module _ (H : List ℕ → Type 0) where
   each_then (f ∷ es) e a b = (a.0, each_then es e a.1 b)
 
   line_each : (l : Statement) (es : List Expr) (e : Expr) → expr_with l es ≡ Some e → EachOf es → Each e
-  line_each (Cat line target left right) es e h a = let same : cat (members es) ≡ e = cc in subst (λ (w : Expr). Each w) same (λ y i. members_each es a y i)
-  line_each (Catn line target parts) es e h a = let same : cat (members es) ≡ e = cc in subst (λ (w : Expr). Each w) same (λ y i. members_each es a y i)
+  line_each (Cat line target left right) es e h a = let same : cat (members es) ≡ e = cc in
+      subst (λ (w : Expr). Each w) same (λ y i. members_each es a y i)
+  line_each (Catn line target parts) es e h a = let same : cat (members es) ≡ e = cc in
+      subst (λ (w : Expr). Each w) same (λ y i. members_each es a y i)
   line_each (Catc line target x byte) es e h a =
       let same : cat (members (es ++ run byte (Numeral (pos 1)) ∷ [])) ≡ e = cc in
       subst (λ (w : Expr). Each w) same (λ y i. members_each (es ++ run byte (Numeral (pos 1)) ∷ [])
       (each_then es (run byte (Numeral (pos 1))) a (λ y i. absurd i)) y i)
   line_each (Chars line target byte n) es e h a = let same : run byte n ≡ e = cc in subst (λ (w : Expr). Each w) same (λ y i. absurd i)
-  line_each (Nul line target n) es e h a = let same : run (Numeral (pos 0)) n ≡ e = cc in subst (λ (w : Expr). Each w) same (λ y i. absurd i)
-  line_each (Substr line target x start n) (g ∷ es) e h a = let same : sub g start n ≡ e = cc in subst (λ (w : Expr). Each w) same (λ y i. a.0 y i)
+  line_each (Nul line target n) es e h a = let same : run (Numeral (pos 0)) n ≡ e = cc in
+      subst (λ (w : Expr). Each w) same (λ y i. absurd i)
+  line_each (Substr line target x start n) (g ∷ es) e h a = let same : sub g start n ≡ e = cc in
+      subst (λ (w : Expr). Each w) same (λ y i. a.0 y i)
   line_each (Put line x) (g ∷ es) e h a = let same : g ≡ e = cc in subst (λ (w : Expr). Each w) same a.0
   line_each l es e h a = let bad : ⊥ = cc in absurd bad
 
@@ -217,7 +221,8 @@ module _ (s : List Statement) (d : Decisions) (ok : MeetsConditions s d) (limit 
         module _ (made : Made) (r : Result (List ℕ) FaultKind) (acts : act limit files l f ≡ gives_text f z r)
             (to_build : all_texts h (texts_to_build made) ≡ true) (built : made_text limit files made (plain h) ≡ r)
             (to_measure : all_texts h (texts_to_measure made) ≡ true) (measured : made_length limit files made h ≡ length_of r)
-            (knows : (t : List ℕ) → r ≡ Ok t → is_simple_at (slice_get s p) ≡ true → Ready s d ok limit (d.exprs p) f h × (text_in limit f (d.exprs p) ≡ Ok t)) where
+            (knows : (t : List ℕ) → r ≡ Ok t → is_simple_at (slice_get s p) ≡ true → Ready s d ok limit (d.exprs p) f h
+            × (text_in limit f (d.exprs p) ≡ Ok t)) where
           makes_agree : (v : Bool) → (v ≡ true → Excused) → Agree (Related (p + 1)) (act limit files l f)
               (does limit files (gives v line z made) h)
           makes_agree true excuse =
@@ -299,7 +304,8 @@ module _ (s : List Statement) (d : Decisions) (ok : MeetsConditions s d) (limit 
         let is : stands d p x ≡ d.exprs p = cc in
         put_agrees limit files (Related (p + 1)) f h line x (d.exprs p) (there_here l e q refl)
         (value_here l e q refl ∙ ap (λ (w : Expr). text_in limit f w) (sym is) ∙ (stand_here l e q refl).0)
-        (inv_on s d ok limit p l e q f h inv f h refl refl inv.numbers inv.extensibles (λ y unset. refl) refl (λ y simple assigned. let bad : ⊥ = cc in bad))
+        (inv_on s d ok limit p l e q f h inv f h refl refl inv.numbers inv.extensibles (λ y unset. refl) refl
+        (λ y simple assigned. let bad : ⊥ = cc in bad))
     agrees (Let line z bytes) e q = other_agrees (Let line z bytes) e q line z refl refl (Literal bytes) (within limit bytes)
         (sets_within limit f z bytes) refl refl refl (within_length limit bytes)
     agrees (File line z path) e q = other_agrees (File line z path) e q line z refl refl (OfFile path) (opened limit files path)
@@ -310,7 +316,9 @@ module _ (s : List Statement) (d : Decisions) (ok : MeetsConditions s d) (limit 
         (gives_after limit f z (file_text files path)) refl refl refl refl
     agrees (FromFn line z function count) e q =
         let made : Made = OfFunction function count in
-        let built : made_text limit files made (plain h) ≡ made_text limit files made f = ap (λ (w : ℤ). and_then (as_index w) (λ k. and_then (as_length limit k) (λ _. within limit (function_text function k)))) (plain_number h f inv.numbers count) in
+        let built : made_text limit files made (plain h) ≡ made_text limit files made f =
+        ap (λ (w : ℤ). and_then (as_index w) (λ k. and_then (as_length limit k) (λ _. within limit (function_text function k))))
+        (plain_number h f inv.numbers count) in
         other_agrees (FromFn line z function count) e q line z refl refl made (made_text limit files made f)
         (function_gives limit f z files line function count) refl built refl (ap length_of built)
     agrees (Balance line z x) e q =
@@ -320,7 +328,8 @@ module _ (s : List Statement) (d : Decisions) (ok : MeetsConditions s d) (limit 
         (ap (λ (k : Held). within limit (held_text k)) there) refl
         (ap (λ (n : ℕ). as_length limit n) (lengths s d ok limit p f h inv x) ∙ within_length limit (f.texts x))
     agrees (EcToCord line z extensible) e q =
-        let built : within limit (h.extensibles extensible) ≡ within limit (f.extensibles extensible) = ap (λ (g : List ℕ → List ℕ). within limit (g extensible)) inv.extensibles in
+        let built : within limit (h.extensibles extensible) ≡ within limit (f.extensibles extensible) =
+        ap (λ (g : List ℕ → List ℕ). within limit (g extensible)) inv.extensibles in
         other_agrees (EcToCord line z extensible) e q line z refl refl (OfExtensible extensible) (within limit (f.extensibles extensible))
         (sets_within limit f z (f.extensibles extensible)) refl built refl
         (within_length limit (h.extensibles extensible) ∙ ap length_of built)
@@ -328,7 +337,9 @@ module _ (s : List Statement) (d : Decisions) (ok : MeetsConditions s d) (limit 
         let l : Statement = Sprintf line z bytes format args in
         let made : Made = Printed bytes format args in
         let there : all_texts h (cord_arguments args) ≡ true = all_held f h (cord_arguments args) (texts_read l e q refl) in
-        let built : made_text limit files made (plain h) ≡ made_text limit files made f = ap (λ (r : Result (List ℕ) FaultKind). and_then r (λ t. within limit t)) (format_same f h inv.numbers format args (agree_held f h (cord_arguments args) (texts_read l e q refl))) in
+        let built : made_text limit files made (plain h) ≡ made_text limit files made f =
+        ap (λ (r : Result (List ℕ) FaultKind). and_then r (λ t. within limit t))
+        (format_same f h inv.numbers format args (agree_held f h (cord_arguments args) (texts_read l e q refl))) in
         other_agrees l e q line z refl refl made (made_text limit files made f) (gives_after limit f z (format_text f format args)) there
         built there (ap length_of built)
     agrees (Len line z x) e q =

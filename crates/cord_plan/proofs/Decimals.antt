@@ -22,7 +22,8 @@ decimal_is (suc n) fits = above_zero (suc n) (omega arith) fits
 
 signed_same : (z : ℤ) → mag z < 2 ^ 63 → std.signed_decimal z ≡ signed_decimal z
 signed_same (pos n) fits = decimal_is n (omega (arith, fits))
-signed_same (negsuc n) fits = let e : suc n ≡ n + 1 = omega arith in ap (λ x. 45 ∷ x) (ap std.decimal e ∙ decimal_is (n + 1) (omega (arith, fits)))
+signed_same (negsuc n) fits = let e : suc n ≡ n + 1 = omega arith in
+    ap (λ x. 45 ∷ x) (ap std.decimal e ∙ decimal_is (n + 1) (omega (arith, fits)))
 
 -- as a register of 64 bits has it
 pub signed_decimal_is : (z : ℤ) → SFits w64 z → std.signed_decimal (to_z w64 (of_z w64 z)) ≡ signed_decimal z

@@ -60,7 +60,9 @@ module _ (limit : ℕ) (files : Folder) (Related : State → Option Holding → 
   abbrev pub with_others : State → Holding
   with_others u = record h { numbers = u.numbers; extensibles = u.extensibles }
 
-  module _ (l : Statement) (numbers : h.numbers ≡ s.numbers) (extensibles : h.extensibles ≡ s.extensibles) (related : (u : State) (puts : List ℕ) → act limit files l s ≡ Ok (u, puts) → u.texts ≡ s.texts → Related u (Some (with_others u))) where
+  module _ (l : Statement) (numbers : h.numbers ≡ s.numbers) (extensibles : h.extensibles ≡ s.extensibles)
+      (related : (u : State) (puts : List ℕ) → act limit files l s ≡ Ok (u, puts) → u.texts ≡ s.texts →
+      Related u (Some (with_others u))) where
     -- the outcome of a statement that makes no cord, by the outcome over plain texts
     outcome_agrees : (r : Outcome) → act limit files l s ≡ r → r ≡ with_texts s.texts r →
         Agree Related r (and_then (with_texts (plain h).texts r) (λ r. Ok (Some (with_others r.0), r.1)))
@@ -82,10 +84,16 @@ module _ (limit : ℕ) (files : Folder) (Related : State → Option Holding → 
     pub kept_agrees : IsKept l → all_texts h (read_by l) ≡ true → Agrees (plain h).texts s.texts (read_by l) →
         Agree Related (act limit files l s) (keeps limit files l h)
     kept_agrees k there same =
-        let is_plain : plain h ≡ record s { texts = (plain h).texts } = λ i. record { texts = (plain h).texts; numbers = numbers i; extensibles = extensibles i } in
-        let does_same : act limit files l (plain h) ≡ with_texts (plain h).texts (act limit files l s) = ap (λ (u : State). act limit files l u) is_plain ∙ kept_same (plain h).texts s limit files l k same in
-        let one : Agree Related (act limit files l s) (and_then (with_texts (plain h).texts (act limit files l s)) (λ r. Ok (Some (with_others r.0), r.1))) = outcome_agrees (act limit files l s) refl (kept_same s.texts s limit files l k (all_same s.texts (read_by l))) in
-        let two : Agree Related (act limit files l s) (and_then (act limit files l (plain h)) (λ r. Ok (Some (with_others r.0), r.1))) = subst (λ (w : Outcome). Agree Related (act limit files l s) (and_then w (λ r. Ok (Some (with_others r.0), r.1)))) (sym does_same) one in
+        let is_plain : plain h ≡ record s { texts = (plain h).texts } =
+        λ i. record { texts = (plain h).texts; numbers = numbers i; extensibles = extensibles i } in
+        let does_same : act limit files l (plain h) ≡ with_texts (plain h).texts (act limit files l s) =
+        ap (λ (u : State). act limit files l u) is_plain ∙ kept_same (plain h).texts s limit files l k same in
+        let one : Agree Related (act limit files l s)
+        (and_then (with_texts (plain h).texts (act limit files l s)) (λ r. Ok (Some (with_others r.0), r.1))) =
+        outcome_agrees (act limit files l s) refl (kept_same s.texts s limit files l k (all_same s.texts (read_by l))) in
+        let two : Agree Related (act limit files l s) (and_then (act limit files l (plain h)) (λ r. Ok (Some (with_others r.0), r.1))) =
+        subst (λ (w : Outcome). Agree Related (act limit files l s) (and_then w (λ r. Ok (Some (with_others r.0), r.1))))
+        (sym does_same) one in
         by_kept l k (subst (λ (v : Bool). Agree Related (act limit files l s)
         (if_all v (and_then (act limit files l (plain h)) (λ r. Ok (Some (with_others r.0), r.1))))) (sym there) two)
       where
@@ -118,5 +126,6 @@ module _ (limit : ℕ) (files : Folder) (Related : State → Option Holding → 
       (does limit files (Keep (Len line target x)) h)
   len_agrees line target x numbers extensibles related e =
       let u : State = record s { numbers = with_value s.numbers target (pos (length (s.texts x))) } in
-      let same : with_others u ≡ record h { numbers = with_value h.numbers target (pos (held_length (h.held x))) } = λ i. record h { numbers = with_value (sym numbers i) target (pos (sym e i)); extensibles = sym extensibles i } in
+      let same : with_others u ≡ record h { numbers = with_value h.numbers target (pos (held_length (h.held x))) } =
+      λ i. record h { numbers = with_value (sym numbers i) target (pos (sym e i)); extensibles = sym extensibles i } in
       (refl, subst (λ (k : Holding). Related u (Some k)) same (related u [] refl refl))

@@ -22,7 +22,8 @@ use Rattle.cord_plan.proofs.Flattening.{MeanSame, replaced_means}
 use Rattle.cord_plan.proofs.Owns.{Means, own_means, sets_within}
 
 -- ---- what a simple line does, by the value of its own expression, where its operands stand as expressions of their texts
-module _ (limit : ℕ) (files : Folder) (s : State) (l : Statement) (es : List Expr) (e o : Expr) (stand : HaveTexts limit s es (map s.texts (read_by l))) (is : expr_with l es ≡ Some e) (own_is : own l ≡ Some o) where
+module _ (limit : ℕ) (files : Folder) (s : State) (l : Statement) (es : List Expr) (e o : Expr)
+    (stand : HaveTexts limit s es (map s.texts (read_by l))) (is : expr_with l es ≡ Some e) (own_is : own l ≡ Some o) where
   same_own : text_in limit s e ≡ text_in limit s o
   same_own = subst (λ (q : Option Expr). MeanSame limit s (Some e) q) own_is
       (subst (λ (q : Option Expr). MeanSame limit s q (own l)) is (replaced_means limit s l es stand))

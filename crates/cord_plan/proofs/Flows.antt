@@ -8,7 +8,8 @@ use Rattle.cord_meaning.specs.Blocks.{Shape, Simple, Loop, Branch, Otherwise, Cl
 use Rattle.cord_meaning.specs.Paths.{Next, NextOf, NextOfClose, open_at}
 use Rattle.cord_meaning.specs.Statements.{shape_of}
 use Rattle.cord_plan.specs.Operands.{reads_at, assigns_at}
-use Rattle.cord_plan.specs.Unread.{ReadBy, ReadLater, IsLater, IsFixed, successors, close_successors, shape_successors, some_of, live, later_within}
+use Rattle.cord_plan.specs.Unread.{ReadBy, ReadLater, IsLater, IsFixed, successors, close_successors, shape_successors, some_of, live}
+use Rattle.cord_plan.specs.Unread.{later_within}
 
 pub or_true : (a b : Bool) → (a || b) ≡ true → (a ≡ true) ⊎ (b ≡ true)
 or_true true b e = inl refl
@@ -69,7 +70,8 @@ module _ (holds : ℕ → Bool) where
     two_held a b q (inl n) h = to_first a q (b ∷ []) n h
     two_held a b q (inr n) h = to_second a b q n h
 
-    close_held : (blocks : List (Option ℕ)) (q : ℕ) → NextOfClose p blocks q → holds q ≡ true → some_of holds (close_successors p blocks) ≡ true
+    close_held : (blocks : List (Option ℕ)) (q : ℕ) → NextOfClose p blocks q → holds q ≡ true →
+        some_of holds (close_successors p blocks) ≡ true
     close_held [] q n h = to_first (p + 1) q [] n h
     close_held (None ∷ blocks) q n h = to_first (p + 1) q [] n h
     close_held (Some r ∷ blocks) q n h = two_held (r + 1) (p + 1) q n h
@@ -110,14 +112,16 @@ module _ (s : List Statement) (k : ℕ) (x : List ℕ) (p : ℕ) (ih : (q : ℕ)
       ((not (assigns_at (slice_get s p) x) && some_of (λ q. live s k x q) (successors (map shape_of s) p)) ≡ true) → Reading s x p
   reading_step (inl r) = record { path = []; reads = r }
   reading_step (inr e) =
-      let both : (assigns_at (slice_get s p) x ≡ false) × (some_of (λ q. live s k x q) (successors (map shape_of s) p) ≡ true) = and_true (assigns_at (slice_get s p) x) (some_of (λ q. live s k x q) (successors (map shape_of s) p)) e in
+      let both : (assigns_at (slice_get s p) x ≡ false) × (some_of (λ q. live s k x q) (successors (map shape_of s) p) ≡ true) =
+      and_true (assigns_at (slice_get s p) x) (some_of (λ q. live s k x q) (successors (map shape_of s) p)) e in
       reading_behind both.0 (shape_found (λ q. live s k x q) (map shape_of s) p (slice_get (map shape_of s) p) both.1)
 
 -- what the backwards flow found after k steps, a path reads
 pub path_of : (s : List Statement) (k : ℕ) (x : List ℕ) (p : ℕ) → live s k x p ≡ true → Reading s x p
 path_of s zero x p e = record { path = []; reads = e }
 path_of s (suc k) x p e = reading_step s k x p (λ q h. path_of s k x q h)
-    (or_true (reads_at (slice_get s p) x) (not (assigns_at (slice_get s p) x) && some_of (λ q. live s k x q) (successors (map shape_of s) p)) e)
+    (or_true (reads_at (slice_get s p) x)
+    (not (assigns_at (slice_get s p) x) && some_of (λ q. live s k x q) (successors (map shape_of s) p)) e)
 
 module _ (s : List Statement) (k : ℕ) where
   later_read : (x : List ℕ) (p : ℕ) → Found (λ q. live s k x q) (map shape_of s) p (Next (map shape_of s) p) → ReadLater s x p
@@ -130,7 +134,8 @@ module _ (s : List Statement) (k : ℕ) where
   settled fixed = record {
     unread = λ x p e q n path r.
         let there : live s k x q ≡ true = path_in s (λ y m. live s k y m) fixed x q path r in
-        let held : later_within s k x p ≡ true = shape_held (λ m. live s k x m) (map shape_of s) p (slice_get (map shape_of s) p) q n there in
+        let held : later_within s k x p ≡ true =
+        shape_held (λ m. live s k x m) (map shape_of s) p (slice_get (map shape_of s) p) q n there in
         cc;
     read = λ x p e. later_read x p (shape_found (λ q. live s k x q) (map shape_of s) p (slice_get (map shape_of s) p) e);
   }

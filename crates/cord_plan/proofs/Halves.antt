@@ -1,5 +1,6 @@
 -- The members in front and those after them, on a walk over both.
-use Rattle.std.proofs.Common.{◌≡◌, ◌<◌, ◌≤◌, ◌+◌, false, List, [], ◌∷◌, length, map, Option, Some, None, Bor, refl, sym, ap, ◌∙◌, subst, arith}
+use Rattle.std.proofs.Common.{◌≡◌, ◌<◌, ◌≤◌, ◌+◌, false, List, [], ◌∷◌, length, map, Option, Some, None, Bor, refl, sym, ap, ◌∙◌, subst}
+use Rattle.std.proofs.Common.{arith}
 use Rattle.std.specs.Prelude.{IfSome, ◌==◌}
 use Rattle.std.proofs.lemmas.Bool.{ne_eqb}
 use Rattle.cord_plan.specs.Exprs as plain
@@ -42,7 +43,8 @@ module _ (all : plain.Exprs) (o : Option (Bor Members)) (rest : List Shared)
   -- those after the front are no heavier than all of them, and the front is lighter
   pub rest_lighter : weights (members_of (map shared_view rest)) ≤ weights all
   rest_lighter =
-      let sum : weights all ≡ weights (front_view o) + weights (members_of (map shared_view rest)) = ap weights halves ∙ weights_append (front_view o) (members_of (map shared_view rest)) in
+      let sum : weights all ≡ weights (front_view o) + weights (members_of (map shared_view rest)) =
+      ap weights halves ∙ weights_append (front_view o) (members_of (map shared_view rest)) in
       omega (arith, sum)
 
   pub front_lighter : IfSome o (λ _. 0 < length rest) → (front : Bor Members) → o ≡ Some front →
@@ -50,7 +52,8 @@ module _ (all : plain.Exprs) (o : Option (Bor Members)) (rest : List Shared)
   front_lighter after front is =
       let some : 0 < length rest = subst (λ (p : Option (Bor Members)). IfSome p (λ _. 0 < length rest)) is after in
       let more : 0 < weights (members_of (map shared_view rest)) = some_weight rest some in
-      let sum : weights all ≡ weights (members_view front.now) + weights (members_of (map shared_view rest)) = ap weights (halves_Some front is) ∙ weights_append (members_view front.now) (members_of (map shared_view rest)) in
+      let sum : weights all ≡ weights (members_view front.now) + weights (members_of (map shared_view rest)) =
+      ap weights (halves_Some front is) ∙ weights_append (members_view front.now) (members_of (map shared_view rest)) in
       omega (arith, more, sum)
 
   -- so the measures of walks over members fall

@@ -32,7 +32,8 @@ module _ (s : List Statement) where
           subst (λ (k : Statement). ArePlaces new k numbers) same (subst (λ (k : LineNumbers). ArePlaces new l k) w.1 is)
 
   -- of names that are distinct the places are the numbers
-  pub places_are_hints : (t : Numbering) → AreDistinct (names_of t) → (all : List LineNumbers) → AllPlaces s (names_of t) all → AllHints s t all
+  pub places_are_hints : (t : Numbering) → AreDistinct (names_of t) → (all : List LineNumbers) → AllPlaces s (names_of t) all →
+      AllHints s t all
   places_are_hints t distinct all places p l numbers there e =
       let are : ArePlaces (names_of t) l numbers = places p l numbers there e in
       record {

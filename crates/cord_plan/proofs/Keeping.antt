@@ -125,7 +125,8 @@ module _ (s : List Statement) (d : Decisions) (ok : MeetsConditions s d) (limit 
     where
       pick : (o : Option Statement) → slice_get s p ≡ o → (l : Statement) × (slice_get s p ≡ Some l) × (shape_of l ≡ x)
       pick None f = let same : None ≡ Some x = sym (shape_at p None f) ∙ e in let bad : ⊥ = cc in absurd bad
-      pick (Some l) f = let same : Some (shape_of l) ≡ Some x = sym (shape_at p (Some l) f) ∙ e in let shape : shape_of l ≡ x = cc in (l, f, shape)
+      pick (Some l) f = let same : Some (shape_of l) ≡ Some x = sym (shape_at p (Some l) f) ∙ e in let shape : shape_of l ≡ x =
+          cc in (l, f, shape)
 
   simple_line : (p : ℕ) → is_simple_at (slice_get s p) ≡ true → (l : Statement) × (slice_get s p ≡ Some l) × (shape_of l ≡ Simple)
   simple_line p e = pick (slice_get s p) refl
@@ -148,7 +149,8 @@ module _ (s : List Statement) (d : Decisions) (ok : MeetsConditions s d) (limit 
       let within : b < length s = slice_get_within s b last.0 last.1 in
       let here = some_here s m (omega arith) in
       let line : slice_get s m ≡ Some here.0 = at_here s m here.0 here.1 here.2 in
-      let open_here : bars (slice_get shapes m) ≡ false = ap bars (shape_at m (Some here.0) line) ∙ ap is_block_at (sym line) ∙ fd.straight m low high in
+      let open_here : bars (slice_get shapes m) ≡ false =
+      ap bars (shape_at m (Some here.0) line) ∙ ap is_block_at (sym line) ∙ fd.straight m low high in
       not_both (bars (slice_get shapes m)) bar open_here
 
   -- a pair is not under way at a place that control enters otherwise than from the line before
@@ -205,7 +207,8 @@ module _ (s : List Statement) (d : Decisions) (ok : MeetsConditions s d) (limit 
       Inv q f h
   moves p q x at k n f h inv =
       let line = line_of_shape p x at in
-      let unset : (y : List ℕ) → assigns_at (slice_get s p) y ≡ false = λ y. ap (λ (o : Option Statement). assigns_at o y) line.1 ∙ block_unset line.0 x line.2 k y in
+      let unset : (y : List ℕ) → assigns_at (slice_get s p) y ≡ false =
+      λ y. ap (λ (o : Option Statement). assigns_at o y) line.1 ∙ block_unset line.0 x line.2 k y in
       record {
         held = λ y. held_on (Spare y p) (Spare y q) (h.held y) (f.texts y) (spare_on y p q (unset y) n) (inv.held y);
         numbers = inv.numbers;
@@ -214,7 +217,8 @@ module _ (s : List Statement) (d : Decisions) (ok : MeetsConditions s d) (limit 
       }
 
   -- ---- a line that gives a text to a name
-  module _ (p : ℕ) (l : Statement) (here : slice_get s p ≡ Some l) (plain : shape_of l ≡ Simple) (f : State) (h : Holding) (inv : Inv p f h) where
+  module _ (p : ℕ) (l : Statement) (here : slice_get s p ≡ Some l) (plain : shape_of l ≡ Simple) (f : State) (h : Holding)
+      (inv : Inv p f h) where
     next_here : Next shapes p (p + 1)
     next_here = subst (λ (o : Option Shape). NextOf shapes p o (p + 1)) (sym (shape_at p (Some l) here ∙ ap (λ (x : Shape). Some x) plain))
         refl
@@ -303,7 +307,8 @@ module _ (s : List Statement) (d : Decisions) (ok : MeetsConditions s d) (limit 
     -- ---- a line that gives no text to a name
     module _ (u : State) (h_on : Holding) (texts : u.texts ≡ f.texts) (held : h_on.held ≡ h.held) (numbers : h_on.numbers ≡ u.numbers)
         (extensibles : h_on.extensibles ≡ u.extensibles)
-        (others : (y : List ℕ) → assigns l y ≡ false → u.numbers y ≡ f.numbers y) (no_cord : makes_cord l ≡ false) (bare : (x : List ℕ) → is_simple l ≡ true → assigns l x ≡ true → ⊥) where
+        (others : (y : List ℕ) → assigns l y ≡ false → u.numbers y ≡ f.numbers y) (no_cord : makes_cord l ≡ false)
+        (bare : (x : List ℕ) → is_simple l ≡ true → assigns l x ≡ true → ⊥) where
       -- what is assigned otherwise than as a cord is read by no line
       no_reader : (x : List ℕ) → assigns l x ≡ true → (q : ℕ) → reads_at (slice_get s q) x ≡ false
       no_reader x e q = ok.kinds p q x (ap (λ (o : Option Statement). assigns_other_at o x) here ∙ (λ i. not (no_cord i) && e i))
@@ -328,7 +333,8 @@ module _ (s : List Statement) (d : Decisions) (ok : MeetsConditions s d) (limit 
           let until : p ≤ b = omega arith in
           let old = inv.flight a b x (record { before = lt; until = until; from = fl.from }) in
           let fixed : preserves (slice_get s p) (names (d.exprs a)) ≡ true = fd.fixed p low on in
-          let unset : (y : List ℕ) → In y (names (d.exprs a)) → assigns l y ≡ false = λ y i. ap (λ (o : Option Statement). assigns_at o y) (sym here) ∙ kept_name (slice_get s p) (names (d.exprs a)) fixed y i in (
+          let unset : (y : List ℕ) → In y (names (d.exprs a)) → assigns l y ≡ false =
+          λ y i. ap (λ (o : Option Statement). assigns_at o y) (sym here) ∙ kept_name (slice_get s p) (names (d.exprs a)) fixed y i in (
             (λ y i. (λ r. held r y) ∙ old.0 y i ∙ (λ r. Text (sym texts r y))),
             value_same limit u f (d.exprs a) (λ y i. λ r. texts r y) (λ y i. others y (unset y i)) ∙ old.1 ∙ (λ r. Ok (sym texts r x)),
           )

@@ -145,13 +145,15 @@ module _ (s : List Statement) (a b : ℕ) where
   stay_append_from : (xs ys : List (List ℕ)) (n k : ℕ) → each_from (λ m. preserves (slice_get s m) (xs ++ ys)) n k
       ≡ (each_from (λ m. preserves (slice_get s m) xs) n k && each_from (λ m. preserves (slice_get s m) ys) n k)
   stay_append_from xs ys zero k = refl
-  stay_append_from xs ys (suc n) k = pick (preserves (slice_get s k) xs) (preserves (slice_get s k) ys) (preserves (slice_get s k) (xs ++ ys))
+  stay_append_from xs ys (suc n) k =
+      pick (preserves (slice_get s k) xs) (preserves (slice_get s k) ys) (preserves (slice_get s k) (xs ++ ys))
       (preserves_append (slice_get s k) xs ys) (stay_append_from xs ys n (k + 1))
     where
       pick : (v w u : Bool) → u ≡ (v && w) → each_from (λ m. preserves (slice_get s m) (xs ++ ys)) n (k + 1)
           ≡ (each_from (λ m. preserves (slice_get s m) xs) n (k + 1) && each_from (λ m. preserves (slice_get s m) ys) n (k + 1))
           → (u && each_from (λ m. preserves (slice_get s m) (xs ++ ys)) n (k + 1))
-          ≡ ((v && each_from (λ m. preserves (slice_get s m) xs) n (k + 1)) && (w && each_from (λ m. preserves (slice_get s m) ys) n (k + 1)))
+          ≡ ((v && each_from (λ m. preserves (slice_get s m) xs) n (k + 1))
+          && (w && each_from (λ m. preserves (slice_get s m) ys) n (k + 1)))
       pick true true u e ih = rw e ih
       pick true false u e ih = rw e (sym (and-false (each_from (λ m. preserves (slice_get s m) xs) n (k + 1))))
       pick false w u e ih = rw e refl

@@ -160,7 +160,8 @@ put_back os k gap o r lt is made =
 
 -- one place more of a list
 pub measured_more : (ps : List (Option ℕ)) (i : ℕ) (p : Option ℕ) (os now all : List Operation) → i < length ps →
-    now ≡ measured_from 0 (p ∷ []) os → measured_from 0 (drop i ps) os ≡ all → p ≡ get_or ps i p → measured_from 0 (drop (i + 1) ps) now ≡ all
+    now ≡ measured_from 0 (p ∷ []) os → measured_from 0 (drop i ps) os ≡ all → p ≡ get_or ps i p →
+    measured_from 0 (drop (i + 1) ps) now ≡ all
 measured_more ps i p os now all lt one so_far is =
     ap (measured_from 0 (drop (i + 1) ps)) one
     ∙ (measured_then 0 (p ∷ []) (drop (i + 1) ps) os

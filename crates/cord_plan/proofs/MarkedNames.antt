@@ -80,7 +80,8 @@ has_one y x = or-false (bytes_eq x y)
 pub has_more : (names : List (List ℕ)) (i : ℕ) (y x : List ℕ) → i < length names → y ≡ get_or names i y →
     has (take (i + 1) names) x ≡ (has (take i names) x || bytes_eq x y)
 has_more names i y x lt is =
-    let front : take (i + 1) names ≡ take i names ++ y ∷ [] = take_more names i y lt ∙ ap (λ (z : List ℕ). take i names ++ z ∷ []) (sym is) in
+    let front : take (i + 1) names ≡ take i names ++ y ∷ [] =
+    take_more names i y lt ∙ ap (λ (z : List ℕ). take i names ++ z ∷ []) (sym is) in
     rw (front, has_both (take i names) (y ∷ []) x, has_one y x) refl
 
 module _ (t : Numbering) (g : ℕ) where

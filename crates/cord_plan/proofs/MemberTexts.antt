@@ -1,5 +1,6 @@
 -- The members of a `cat`: how their text grows, and that each is smaller than all of them.
-use Rattle.std.proofs.Common.{◌≡◌, ◌<◌, ℕ, zero, suc, ◌+◌, List, [], ◌∷◌, ◌++◌, length, map, get_or, refl, sym, ap, ◌∙◌, subst, append_assoc, arith}
+use Rattle.std.proofs.Common.{◌≡◌, ◌<◌, ℕ, zero, suc, ◌+◌, List, [], ◌∷◌, ◌++◌, length, map, get_or, refl, sym, ap, ◌∙◌, subst}
+use Rattle.std.proofs.Common.{append_assoc, arith}
 use Rattle.std.specs.Prelude.{if◌then◌else◌}
 use Rattle.cord_plan.specs.Exprs as plain
 use Rattle.cord_plan.specs.Shown.{expr, exprs, more_exprs}

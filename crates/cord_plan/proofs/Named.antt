@@ -100,7 +100,8 @@ each_at holds (suc n) a m e low high = pick (nat_le m a) refl (λ above below.
         let above : a < m = leb-false m a f in
         others (omega arith) (omega arith)
 
-pub preserves_at : (l : Option Statement) (xs : List (List ℕ)) (y : List ℕ) → preserves l xs ≡ true → has xs y ≡ true → assigns_at l y ≡ false
+pub preserves_at : (l : Option Statement) (xs : List (List ℕ)) (y : List ℕ) → preserves l xs ≡ true → has xs y ≡ true →
+    assigns_at l y ≡ false
 preserves_at l [] y e h = let bad : ⊥ = cc in absurd bad
 preserves_at l (x ∷ xs) y e h = pick (or_true (bytes_eq y x) (has xs y) h)
     (λ f. preserves_at l xs y (both_true (not (assigns_at l x)) (preserves l xs) e).1 f)

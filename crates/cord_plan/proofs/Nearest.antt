@@ -173,7 +173,8 @@ near_here s x p l pos le is =
 
 -- what each line preserves, by the first
 pub keep_here : (s : List Statement) (xs : List (List ℕ)) (p end : ℕ) (l : Statement) → p < end → end ≤ length s → l ≡ get_or s p l →
-    each_from (λ m. preserves (slice_get s m) xs) (end - p) p ≡ preserves (Some l) xs && each_from (λ m. preserves (slice_get s m) xs) (end - (p + 1))
+    each_from (λ m. preserves (slice_get s m) xs) (end - p) p ≡ preserves (Some l) xs && each_from (λ m. preserves (slice_get s m) xs)
+    (end - (p + 1))
     (p + 1)
 keep_here s xs p end l lt le is =
     let more : end - p ≡ suc (end - (p + 1)) = omega arith in

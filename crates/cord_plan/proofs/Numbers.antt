@@ -270,7 +270,8 @@ then_added xs ys a b c one two = record {
 pub more_added : (names : List (List ℕ)) (i : ℕ) (y : List ℕ) (a b c : List (List ℕ)) → i < length names → y ≡ get_or names i y →
     Adds (take i names) a b → Adds (y ∷ []) b c → Adds (take (i + 1) names) a c
 more_added names i y a b c lt is one two =
-    let front : take (i + 1) names ≡ take i names ++ y ∷ [] = take_more names i y lt ∙ ap (λ (z : List ℕ). take i names ++ z ∷ []) (sym is) in
+    let front : take (i + 1) names ≡ take i names ++ y ∷ [] =
+    take_more names i y lt ∙ ap (λ (z : List ℕ). take i names ++ z ∷ []) (sym is) in
     rw front (both_added (take i names) (y ∷ []) a b c one two)
 
 cords_append : (xs ys : List Argument) → cord_arguments (xs ++ ys) ≡ cord_arguments xs ++ cord_arguments ys
@@ -281,7 +282,8 @@ cords_append (Cord y ∷ xs) ys = ap (λ (zs : List (List ℕ)). y ∷ zs) (cord
 pub arguments_more : (arguments : List Argument) (i : ℕ) (e : Argument) → i < length arguments → e ≡ get_or arguments i e →
     cord_arguments (take (i + 1) arguments) ≡ cord_arguments (take i arguments) ++ cord_arguments (e ∷ [])
 arguments_more arguments i e lt is =
-    let front : take (i + 1) arguments ≡ take i arguments ++ e ∷ [] = take_more arguments i e lt ∙ ap (λ (z : Argument). take i arguments ++ z ∷ []) (sym is) in
+    let front : take (i + 1) arguments ≡ take i arguments ++ e ∷ [] =
+    take_more arguments i e lt ∙ ap (λ (z : Argument). take i arguments ++ z ∷ []) (sym is) in
     rw front (cords_append (take i arguments) (e ∷ []))
 
 pub more_arguments : (arguments : List Argument) (i : ℕ) (e : Argument) (a b c : List (List ℕ)) → i < length arguments →

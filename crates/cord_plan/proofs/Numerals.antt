@@ -28,12 +28,18 @@ greatest_length =
     let d5 : digits_of 10 10995 ≡ 1 ∷ 0 ∷ 9 ∷ 9 ∷ 5 ∷ [] = ends_with 10995 (1 ∷ 0 ∷ 9 ∷ 9 ∷ []) (omega arith) d4 in
     let d6 : digits_of 10 109951 ≡ 1 ∷ 0 ∷ 9 ∷ 9 ∷ 5 ∷ 1 ∷ [] = ends_with 109951 (1 ∷ 0 ∷ 9 ∷ 9 ∷ 5 ∷ []) (omega arith) d5 in
     let d7 : digits_of 10 1099511 ≡ 1 ∷ 0 ∷ 9 ∷ 9 ∷ 5 ∷ 1 ∷ 1 ∷ [] = ends_with 1099511 (1 ∷ 0 ∷ 9 ∷ 9 ∷ 5 ∷ 1 ∷ []) (omega arith) d6 in
-    let d8 : digits_of 10 10995116 ≡ 1 ∷ 0 ∷ 9 ∷ 9 ∷ 5 ∷ 1 ∷ 1 ∷ 6 ∷ [] = ends_with 10995116 (1 ∷ 0 ∷ 9 ∷ 9 ∷ 5 ∷ 1 ∷ 1 ∷ []) (omega arith) d7 in
-    let d9 : digits_of 10 109951162 ≡ 1 ∷ 0 ∷ 9 ∷ 9 ∷ 5 ∷ 1 ∷ 1 ∷ 6 ∷ 2 ∷ [] = ends_with 109951162 (1 ∷ 0 ∷ 9 ∷ 9 ∷ 5 ∷ 1 ∷ 1 ∷ 6 ∷ []) (omega arith) d8 in
-    let d10 : digits_of 10 1099511627 ≡ 1 ∷ 0 ∷ 9 ∷ 9 ∷ 5 ∷ 1 ∷ 1 ∷ 6 ∷ 2 ∷ 7 ∷ [] = ends_with 1099511627 (1 ∷ 0 ∷ 9 ∷ 9 ∷ 5 ∷ 1 ∷ 1 ∷ 6 ∷ 2 ∷ []) (omega arith) d9 in
-    let d11 : digits_of 10 10995116277 ≡ 1 ∷ 0 ∷ 9 ∷ 9 ∷ 5 ∷ 1 ∷ 1 ∷ 6 ∷ 2 ∷ 7 ∷ 7 ∷ [] = ends_with 10995116277 (1 ∷ 0 ∷ 9 ∷ 9 ∷ 5 ∷ 1 ∷ 1 ∷ 6 ∷ 2 ∷ 7 ∷ []) (omega arith) d10 in
-    let d12 : digits_of 10 109951162777 ≡ 1 ∷ 0 ∷ 9 ∷ 9 ∷ 5 ∷ 1 ∷ 1 ∷ 6 ∷ 2 ∷ 7 ∷ 7 ∷ 7 ∷ [] = ends_with 109951162777 (1 ∷ 0 ∷ 9 ∷ 9 ∷ 5 ∷ 1 ∷ 1 ∷ 6 ∷ 2 ∷ 7 ∷ 7 ∷ []) (omega arith) d11 in
-    let d13 : digits_of 10 1099511627775 ≡ 1 ∷ 0 ∷ 9 ∷ 9 ∷ 5 ∷ 1 ∷ 1 ∷ 6 ∷ 2 ∷ 7 ∷ 7 ∷ 7 ∷ 5 ∷ [] = ends_with 1099511627775 (1 ∷ 0 ∷ 9 ∷ 9 ∷ 5 ∷ 1 ∷ 1 ∷ 6 ∷ 2 ∷ 7 ∷ 7 ∷ 7 ∷ []) (omega arith) d12 in
+    let d8 : digits_of 10 10995116 ≡ 1 ∷ 0 ∷ 9 ∷ 9 ∷ 5 ∷ 1 ∷ 1 ∷ 6 ∷ [] =
+    ends_with 10995116 (1 ∷ 0 ∷ 9 ∷ 9 ∷ 5 ∷ 1 ∷ 1 ∷ []) (omega arith) d7 in
+    let d9 : digits_of 10 109951162 ≡ 1 ∷ 0 ∷ 9 ∷ 9 ∷ 5 ∷ 1 ∷ 1 ∷ 6 ∷ 2 ∷ [] =
+    ends_with 109951162 (1 ∷ 0 ∷ 9 ∷ 9 ∷ 5 ∷ 1 ∷ 1 ∷ 6 ∷ []) (omega arith) d8 in
+    let d10 : digits_of 10 1099511627 ≡ 1 ∷ 0 ∷ 9 ∷ 9 ∷ 5 ∷ 1 ∷ 1 ∷ 6 ∷ 2 ∷ 7 ∷ [] =
+    ends_with 1099511627 (1 ∷ 0 ∷ 9 ∷ 9 ∷ 5 ∷ 1 ∷ 1 ∷ 6 ∷ 2 ∷ []) (omega arith) d9 in
+    let d11 : digits_of 10 10995116277 ≡ 1 ∷ 0 ∷ 9 ∷ 9 ∷ 5 ∷ 1 ∷ 1 ∷ 6 ∷ 2 ∷ 7 ∷ 7 ∷ [] =
+    ends_with 10995116277 (1 ∷ 0 ∷ 9 ∷ 9 ∷ 5 ∷ 1 ∷ 1 ∷ 6 ∷ 2 ∷ 7 ∷ []) (omega arith) d10 in
+    let d12 : digits_of 10 109951162777 ≡ 1 ∷ 0 ∷ 9 ∷ 9 ∷ 5 ∷ 1 ∷ 1 ∷ 6 ∷ 2 ∷ 7 ∷ 7 ∷ 7 ∷ [] =
+    ends_with 109951162777 (1 ∷ 0 ∷ 9 ∷ 9 ∷ 5 ∷ 1 ∷ 1 ∷ 6 ∷ 2 ∷ 7 ∷ 7 ∷ []) (omega arith) d11 in
+    let d13 : digits_of 10 1099511627775 ≡ 1 ∷ 0 ∷ 9 ∷ 9 ∷ 5 ∷ 1 ∷ 1 ∷ 6 ∷ 2 ∷ 7 ∷ 7 ∷ 7 ∷ 5 ∷ [] =
+    ends_with 1099511627775 (1 ∷ 0 ∷ 9 ∷ 9 ∷ 5 ∷ 1 ∷ 1 ∷ 6 ∷ 2 ∷ 7 ∷ 7 ∷ 7 ∷ []) (omega arith) d12 in
     figures_of 1099511627775 (1 ∷ 0 ∷ 9 ∷ 9 ∷ 5 ∷ 1 ∷ 1 ∷ 6 ∷ 2 ∷ 7 ∷ 7 ∷ 7 ∷ 5 ∷ []) d13
 
 -- a plan whose first line measures n bytes, in parts that don't depend on n

@@ -84,9 +84,11 @@ module _ (s : List Statement) (x : List ℕ) (table : List Bool) (p : ℕ) (b : 
       tells k le = some_past table p b k le (successors (map shape_of s) k) (on k)
 
       same : (k : ℕ) → p ≤ k → (v : Bool) → at (set table p b) k ≡ v →
-          finds s x (set table p b) k ≡ (not v && (some_of (λ q. at table q) (successors (map shape_of s) k) && not (assigns_at (slice_get s k) x)))
+          finds s x (set table p b) k
+          ≡ (not v && (some_of (λ q. at table q) (successors (map shape_of s) k) && not (assigns_at (slice_get s k) x)))
       same k le v e =
-          ap (λ (w : Bool). not w && (some_of (λ q. at (set table p b) q) (successors (map shape_of s) k) && not (assigns_at (slice_get s k) x))) e
+          ap (λ (w : Bool). not w
+          && (some_of (λ q. at (set table p b) q) (successors (map shape_of s) k) && not (assigns_at (slice_get s k) x))) e
           ∙ ap (λ (w : Bool). not v && (w && not (assigns_at (slice_get s k) x))) (tells k le)
 
       here : finds s x (set table p b) p ≡ false

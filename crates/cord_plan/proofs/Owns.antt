@@ -68,7 +68,8 @@ module _ (limit : ℕ) (s : State) where
       pick true e = sets_within target (text ++ b ∷ [])
       pick false e =
           let few : limit < 1 = leb-false 1 limit e in
-          let long : nat_le (length (text ++ b ∷ [])) limit ≡ false = lt-leb (length (text ++ b ∷ [])) limit (omega (arith, length-append text (b ∷ []))) in
+          let long : nat_le (length (text ++ b ∷ [])) limit ≡ false =
+          lt-leb (length (text ++ b ∷ [])) limit (omega (arith, length-append text (b ∷ []))) in
           ap (λ (v : Bool). and_then {A = ℕ} (if v then Ok (length (text ++ b ∷ [])) else Err TooLong)
           (λ _. Ok (record s { texts = with_value s.texts target (text ++ b ∷ []) }, []))) long
 

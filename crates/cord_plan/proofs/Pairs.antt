@@ -10,7 +10,8 @@ use Rattle.cord_syntax.specs.declared.statements.Statement.{Statement}
 use Rattle.cord_plan.specs.declared.TheConstants.{MAX_EXPR_PARTS}
 use Rattle.cord_plan.specs.Exprs.{Expr, parts, names}
 use Rattle.cord_plan.specs.Operands.{count, has, read_by, reads_at, assigns, assigns_at}
-use Rattle.cord_plan.specs.Forced.{Table, Choice, named, replaced, expr_of, expr_with, is_small, is_block_at, each_from, preserves, first_of}
+use Rattle.cord_plan.specs.Forced.{Table, Choice, named, replaced, expr_of, expr_with, is_small, is_block_at, each_from, preserves}
+use Rattle.cord_plan.specs.Forced.{first_of}
 use Rattle.cord_plan.specs.Forced.{own, choices, operands_chosen}
 use Rattle.cord_plan.specs.Pairs.{IsPair, numbers_named, numbers_named_at, IsNoNumber}
 use Rattle.cord_plan.proofs.Chosen.{both_true, Taken, Chosen, AreChosen, are_chosen, stay_small, EachEntry, IsFront, each_entry}
@@ -30,7 +31,8 @@ module _ (s : List Statement) (later : List ℕ → ℕ → Bool) where
       let before : a < b = h.set.before in
       let quiet : ℕ → Bool = λ m. not (is_block_at (slice_get s m)) && not (reads_at (slice_get s m) x) in
       let keeping : ℕ → Bool = λ m. preserves (slice_get s m) (names r) in
-      let p = both_true (each_from quiet (b - (a + 1)) (a + 1)) ((count x (read_by l) == 1) && ((assigns l x || not (later x b)) && each_from keeping (b - a) a)) h.fit in
+      let p = both_true (each_from quiet (b - (a + 1)) (a + 1))
+      ((count x (read_by l) == 1) && ((assigns l x || not (later x b)) && each_from keeping (b - a) a)) h.fit in
       let q = both_true (count x (read_by l) == 1) ((assigns l x || not (later x b)) && each_from keeping (b - a) a) p.1 in
       let w = both_true (assigns l x || not (later x b)) (each_from keeping (b - a) a) q.1 in
       record {
@@ -38,7 +40,8 @@ module _ (s : List Statement) (later : List ℕ → ℕ → Bool) where
             (both_true (not (is_block_at (slice_get s m))) (not (reads_at (slice_get s m) x))
             (each_at quiet (b - (a + 1)) (a + 1) m p.0 (omega arith) (omega arith))).1;
         once = eqb-true (count x (read_by l)) 1 q.0;
-        stays = λ m y low high is_named. preserves_at (slice_get s m) (names r) y (each_at keeping (b - a) a m w.1 low (omega arith)) is_named;
+        stays = λ m y low high is_named. preserves_at (slice_get s m) (names r) y
+            (each_at keeping (b - a) a m w.1 low (omega arith)) is_named;
       }
 
   -- a line reads the bytes of a name, or has it as the name of a number
@@ -69,7 +72,8 @@ module _ (s : List Statement) (later : List ℕ → ℕ → Bool) where
   chosen_at table b l [] [] k f h e = let bad : ⊥ = cc in absurd bad
   chosen_at table b l [] (c ∷ cs) k f h e = absurd h
   chosen_at table b l (x ∷ xs) [] k f h e = absurd h
-  chosen_at table b l (x ∷ xs) (c ∷ cs) zero f h e = record { operand = x; choice = c; is_operand = refl; is_choice = refl; is = (let same : expr_of c ≡ f = cc in same); chosen = h.0 }
+  chosen_at table b l (x ∷ xs) (c ∷ cs) zero f h e =
+      record { operand = x; choice = c; is_operand = refl; is_choice = refl; is = (let same : expr_of c ≡ f = cc in same); chosen = h.0 }
   chosen_at table b l (x ∷ xs) (c ∷ cs) (suc k) f h e =
       let r : ChosenAt table b l xs cs k f = chosen_at table b l xs cs k f h.1 e in
       record { operand = r.operand; choice = r.choice; is_operand = r.is_operand; is_choice = r.is_choice; is = r.is; chosen = r.chosen }
@@ -122,7 +126,8 @@ module _ (s : List Statement) (later : List ℕ → ℕ → Bool) where
         let f : Facts r a b l x = taken_facts table b l x a r h in
         let low : n.place ≤ a = n.up_to in
         let before : a < b = h.set.before in
-        let stays : (m : ℕ) → n.place ≤ m → m < b → assigns_at (slice_get s m) y ≡ false = λ m least most. two m least most (nat_le a m) refl in
+        let stays : (m : ℕ) → n.place ≤ m → m < b → assigns_at (slice_get s m) y ≡ false =
+        λ m least most. two m least most (nat_le a m) refl in
         (record { place = n.place; up_to = omega arith; names_it = n.names_it; stays = stays }, low)
       where
         two : (m : ℕ) → (each a (entry_of table a r h.from).en (entry_of table a r h.from).at r y
@@ -155,7 +160,8 @@ module _ (s : List Statement) (later : List ℕ → ℕ → Bool) where
             h.names_it
         pick (inr h) = named_here y (inr h)
 
-    module _ (t : List ℕ) (a i : ℕ) (r : Expr) (operand : slice_get (read_by l) i ≡ Some t) (is_replaced : slice_get made i ≡ Some (replaced a r)) (no_number : IsNoNumber s t) where
+    module _ (t : List ℕ) (a i : ℕ) (r : Expr) (operand : slice_get (read_by l) i ≡ Some t)
+        (is_replaced : slice_get made i ≡ Some (replaced a r)) (no_number : IsNoNumber s t) where
       taken : Taken s later table b l t a r
       taken = taken_at table b l (read_by l) made i t a r are_made operand is_replaced
 
@@ -191,7 +197,8 @@ module _ (s : List Statement) (later : List ℕ → ℕ → Bool) where
       not_chosen k f c is_named = pick c.choice c.is c.is_choice c.chosen
         where
           pick : (d : Choice) → expr_of d ≡ f → slice_get made k ≡ Some d → Chosen s later table b l c.operand d → ⊥
-          pick (named z) same there is = one (or_true (bytes_eq t z) false (subst (λ (g : Expr). has (names g) t ≡ true) (sym same) is_named))
+          pick (named z) same there is =
+              one (or_true (bytes_eq t z) false (subst (λ (g : Expr). has (names g) t ≡ true) (sym same) is_named))
             where
               one : (bytes_eq t z ≡ true) ⊎ (false ≡ true) → ⊥
               one (inr bad) = let no_one : ⊥ = cc in no_one
@@ -236,7 +243,8 @@ module _ (s : List Statement) (later : List ℕ → ℕ → Bool) where
     entry_named table b l at is_named (own l),
     λ line t a i r e line_at is operand is_replaced no_number. (
         let same : l ≡ line = (let both : Some l ≡ Some line = sym at ∙ line_at in cc) in
-        entry_out table b l at is_named (own l) t a i r e is (subst (λ (x : Statement). slice_get (read_by x) i ≡ Some t) (sym same) operand)
+        entry_out table b l at is_named (own l) t a i r e is
+        (subst (λ (x : Statement). slice_get (read_by x) i ≡ Some t) (sym same) operand)
         is_replaced no_number),
   )
     where
@@ -254,7 +262,8 @@ module _ (s : List Statement) (later : List ℕ → ℕ → Bool) where
   small_of table b l None e i a r is is_replaced = let bad : ⊥ = cc in absurd bad
   small_of table b l (Some first) e i a r is is_replaced =
       let cs : List Choice = choices s later table b l [] (read_by l) in
-      let small : is_small (expr_with l (map (λ c. expr_of c) cs ++ [])) ≡ true = stay_small s later table b l [] (read_by l) (λ k n q f. (let bad : ⊥ = cc in absurd bad)) i a r is_replaced in
+      let small : is_small (expr_with l (map (λ c. expr_of c) cs ++ [])) ≡ true =
+      stay_small s later table b l [] (read_by l) (λ k n q f. (let bad : ⊥ = cc in absurd bad)) i a r is_replaced in
       leb-true (parts e) MAX_EXPR_PARTS (ap (λ (o : Option Expr). is_small o) (sym is) ∙ ap (λ (es : List Expr). is_small (expr_with l es))
       (sym (append-nil (map (λ c. expr_of c) cs))) ∙ small)
 

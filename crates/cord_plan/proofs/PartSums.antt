@@ -76,7 +76,8 @@ pub preserves_append : (l : Option Statement) (xs ys : List (List ℕ)) → pres
 preserves_append l [] ys = refl
 preserves_append l (x ∷ xs) ys = pick (not (assigns_at l x)) (preserves_append l xs ys)
   where
-    pick : (v : Bool) → preserves l (xs ++ ys) ≡ (preserves l xs && preserves l ys) → (v && preserves l (xs ++ ys)) ≡ ((v && preserves l xs) && preserves l ys)
+    pick : (v : Bool) → preserves l (xs ++ ys) ≡ (preserves l xs && preserves l ys) → (v && preserves l (xs ++ ys))
+        ≡ ((v && preserves l xs) && preserves l ys)
     pick true more = more
     pick false more = refl
 
@@ -109,14 +110,17 @@ small_sum (Cat line target left right) es xs e f g = ap (λ (n : ℕ). nat_le n 
 small_sum (Catn line target many) es xs e f g = ap (λ (n : ℕ). nat_le n 64) (parts_members es ∙ omega arith)
 small_sum (Catc line target operand byte) es xs e f g =
     ap (λ (n : ℕ). nat_le n 64) (parts_members (es ++ run byte (Numeral (pos 1)) ∷ []) ∙ sum_append es (run byte (Numeral (pos 1)) ∷ []))
-small_sum (Chars line target byte n) es xs e f g = let none : xs ≡ [] = cc in let empty : length xs ≡ 0 = ap length none in absurd (omega arith)
+small_sum (Chars line target byte n) es xs e f g = let none : xs ≡ [] = cc in let empty : length xs ≡ 0 = ap length none in
+    absurd (omega arith)
 small_sum (Nul line target n) es xs e f g = let none : xs ≡ [] = cc in let empty : length xs ≡ 0 = ap length none in absurd (omega arith)
 small_sum (Substr line target operand start n) [] xs e f g = absurd (omega arith)
 small_sum (Substr line target operand start n) (r ∷ []) xs e f g = ap (λ (n : ℕ). nat_le n 64) (omega arith)
-small_sum (Substr line target operand start n) (r ∷ q ∷ es) xs e f g = let one : xs ≡ operand ∷ [] = cc in let few : length xs ≡ 1 = ap length one in absurd (omega arith)
+small_sum (Substr line target operand start n) (r ∷ q ∷ es) xs e f g = let one : xs ≡ operand ∷ [] = cc in let few : length xs ≡ 1 =
+    ap length one in absurd (omega arith)
 small_sum (Put line operand) [] xs e f g = absurd (omega arith)
 small_sum (Put line operand) (r ∷ []) xs e f g = ap (λ (n : ℕ). nat_le n 64) (omega arith)
-small_sum (Put line operand) (r ∷ q ∷ es) xs e f g = let one : xs ≡ operand ∷ [] = cc in let few : length xs ≡ 1 = ap length one in absurd (omega arith)
+small_sum (Put line operand) (r ∷ q ∷ es) xs e f g = let one : xs ≡ operand ∷ [] = cc in let few : length xs ≡ 1 = ap length one in
+    absurd (omega arith)
 small_sum l es xs e f g = let bad : ⊥ = cc in absurd bad
 
 sum_choices : (cs : List Choice) → sum_parts (map (λ c. expr_of c) cs) ≡ sum_by (λ c. parts (expr_of c)) cs
@@ -134,18 +138,23 @@ module _ (l : Statement) (xs : List (List ℕ)) (done : List Choice) (e : Expr) 
 
     standing_size : length standing ≡ length xs
     standing_size =
-        let both : length standing ≡ length (map (λ c. expr_of c) done) + length (e ∷ map (λ y. name y) (drop (length done + 1) xs)) = length-append (map (λ c. expr_of c) done) (e ∷ map (λ y. name y) (drop (length done + 1) xs)) in
+        let both : length standing ≡ length (map (λ c. expr_of c) done) + length (e ∷ map (λ y. name y) (drop (length done + 1) xs)) =
+        length-append (map (λ c. expr_of c) done) (e ∷ map (λ y. name y) (drop (length done + 1) xs)) in
         let front : length (map (λ c. expr_of c) done) ≡ length done = length-map done (λ c. expr_of c) in
-        let back : length (map (λ y. name y) (drop (length done + 1) xs)) ≡ length (drop (length done + 1) xs) = length-map (drop (length done + 1) xs) (λ y. name y) in
+        let back : length (map (λ y. name y) (drop (length done + 1) xs)) ≡ length (drop (length done + 1) xs) =
+        length-map (drop (length done + 1) xs) (λ y. name y) in
         let left : length (drop (length done + 1) xs) ≡ length xs - k - 1 = behind in
         omega arith
 
     standing_sum : sum_parts standing + parts_beside l ≡ sum_by (λ c. parts (expr_of c)) done
         + (parts e + (length xs - k - 1 + parts_beside l))
     standing_sum =
-        let both : sum_parts standing ≡ sum_parts (map (λ c. expr_of c) done) + sum_parts (e ∷ map (λ y. name y) (drop (length done + 1) xs)) = sum_append (map (λ c. expr_of c) done) (e ∷ map (λ y. name y) (drop (length done + 1) xs)) in
+        let both : sum_parts standing ≡ sum_parts (map (λ c. expr_of c) done) + sum_parts
+        (e ∷ map (λ y. name y) (drop (length done + 1) xs)) =
+        sum_append (map (λ c. expr_of c) done) (e ∷ map (λ y. name y) (drop (length done + 1) xs)) in
         let front : sum_parts (map (λ c. expr_of c) done) ≡ sum_by (λ c. parts (expr_of c)) done = sum_choices done in
-        let back : sum_parts (map (λ y. name y) (drop (length done + 1) xs)) ≡ length (drop (length done + 1) xs) = sum_names (drop (length done + 1) xs) in
+        let back : sum_parts (map (λ y. name y) (drop (length done + 1) xs)) ≡ length (drop (length done + 1) xs) =
+        sum_names (drop (length done + 1) xs) in
         let left : length (drop (length done + 1) xs) ≡ length xs - k - 1 = behind in
         omega arith
 

@@ -114,7 +114,9 @@ module _ (s : List Statement) (later : List ℕ → ℕ → Bool) where
       slice_get (operands_chosen s later table b l o).1 i ≡ Some (replaced a r) → Earlier a t r
   earlier_of table b l front None t a i r e is operand is_replaced = let bad : ⊥ = cc in absurd bad
   earlier_of table b l front (Some first) t a i r e is operand is_replaced =
-      let taken : Taken s later table b l t a r = taken_at s later table b l (read_by l) (choices s later table b l [] (read_by l)) i t a r (are_chosen s later table b l [] [] (read_by l) tt) operand is_replaced in
+      let taken : Taken s later table b l t a r =
+      taken_at s later table b l (read_by l) (choices s later table b l [] (read_by l)) i t a r
+      (are_chosen s later table b l [] [] (read_by l) tt) operand is_replaced in
       let en : EntryOf s later table a r = entry_of s later table a r taken.from in
       record { assigned = taken.set.assigns; entry = record { en = en.en; at = front a en.en en.at; is = en.is } }
 
@@ -143,11 +145,15 @@ module _ (s : List Statement) (later : List ℕ → ℕ → Bool) where
     -- the earlier one only measures the name
     pub earlier_operation : (line : ℕ) × (slice_get (planned s later) a ≡ Some (Measure line t (Joined pair.earlier)))
     earlier_operation =
-        let earlier : Earlier a t pair.earlier = each_entry s later EntryEarlier entry_earlier b (Some e, pair.choices) pair.is_expression pair.line t a pair.operand pair.earlier e pair.is_line refl pair.is_operand pair.is_replaced in
+        let earlier : Earlier a t pair.earlier =
+        each_entry s later EntryEarlier entry_earlier b (Some e, pair.choices) pair.is_expression pair.line t a pair.operand
+        pair.earlier e pair.is_line refl pair.is_operand pair.is_replaced in
         let line : LineAt s a t = line_at s a t earlier.assigned in
         let en : Option Expr × List Choice = earlier.entry.en in
         let own_is : HasOwn (own line.line) = has_own a en line.line pair.earlier earlier.entry.at line.at earlier.entry.is in
-        let first : is_first a (exprs s later) ≡ true = first_found a b (exprs s later) (Some e, pair.choices) pair.is_expression (some_found a pair.operand pair.earlier pair.choices pair.is_replaced) in
+        let first : is_first a (exprs s later) ≡ true =
+        first_found a b (exprs s later) (Some e, pair.choices) pair.is_expression
+        (some_found a pair.operand pair.earlier pair.choices pair.is_replaced) in
         let place : 0 + a ≡ a = omega arith in (
           line_of line.line,
           operation_at later (exprs s later) 0 s (exprs s later) a line.line en line.at earlier.entry.at

@@ -257,10 +257,12 @@ module _ (s : List Statement) (later : List ℕ → ℕ → Bool) where
   fit_told r a b l x h =
       let quiet : ℕ → Bool = λ m. not (is_block_at (slice_get s m)) && not (reads_at (slice_get s m) x) in
       let keeping : ℕ → Bool = λ m. preserves (slice_get s m) (names r) in
-      let p = both_true (each_from quiet (b - (a + 1)) (a + 1)) ((count x (read_by l) == 1) && ((assigns l x || not (later x b)) && each_from keeping (b - a) a)) h in
+      let p = both_true (each_from quiet (b - (a + 1)) (a + 1))
+      ((count x (read_by l) == 1) && ((assigns l x || not (later x b)) && each_from keeping (b - a) a)) h in
       let q = both_true (count x (read_by l) == 1) ((assigns l x || not (later x b)) && each_from keeping (b - a) a) p.1 in
       let w = both_true (assigns l x || not (later x b)) (each_from keeping (b - a) a) q.1 in
-      let between : (m : ℕ) → a < m → m < b → quiet m ≡ true = λ m low high. each_at quiet (b - (a + 1)) (a + 1) m p.0 (omega arith) (omega arith) in
+      let between : (m : ℕ) → a < m → m < b → quiet m ≡ true =
+      λ m low high. each_at quiet (b - (a + 1)) (a + 1) m p.0 (omega arith) (omega arith) in
       record {
         straight = λ m low high. not_true (is_block_at (slice_get s m))
             (both_true (not (is_block_at (slice_get s m))) (not (reads_at (slice_get s m) x)) (between m low high)).0;
@@ -285,8 +287,11 @@ module _ (s : List Statement) (later : List ℕ → ℕ → Bool) where
   pub grown_length : (table : Table) (b : ℕ) (rest : List Statement) → length (grown s later table b rest) ≡ length table + length rest
   grown_length table b [] = omega arith
   grown_length table b (l ∷ rest) =
-      let ih : length (grown s later (table ++ operands_chosen s later table b l (own l) ∷ []) (b + 1) rest) ≡ length (table ++ operands_chosen s later table b l (own l) ∷ []) + length rest = grown_length (table ++ operands_chosen s later table b l (own l) ∷ []) (b + 1) rest in
-      let long : length (table ++ operands_chosen s later table b l (own l) ∷ []) ≡ length table + 1 = length-append table (operands_chosen s later table b l (own l) ∷ []) in
+      let ih : length (grown s later (table ++ operands_chosen s later table b l (own l) ∷ []) (b + 1) rest)
+      ≡ length (table ++ operands_chosen s later table b l (own l) ∷ []) + length rest =
+      grown_length (table ++ operands_chosen s later table b l (own l) ∷ []) (b + 1) rest in
+      let long : length (table ++ operands_chosen s later table b l (own l) ∷ []) ≡ length table + 1 =
+      length-append table (operands_chosen s later table b l (own l) ∷ []) in
       omega (arith, ih, long)
 
   -- the entry of a line, chosen over a front of the table
@@ -303,7 +308,8 @@ module _ (s : List Statement) (later : List ℕ → ℕ → Bool) where
       let en : Option Expr × List Choice = operands_chosen s later table b m (own m) in
       let same : m ≡ l = cc in
       let place : b ≡ b + 0 = omega arith in
-      let here : slice_get (grown s later (table ++ en ∷ []) (b + 1) rest) b ≡ Some en = grown_keeps (table ++ en ∷ []) (b + 1) rest b en (get_last table en) in
+      let here : slice_get (grown s later (table ++ en ∷ []) (b + 1) rest) b ≡ Some en =
+      grown_keeps (table ++ en ∷ []) (b + 1) rest b en (get_last table en) in
       subst (λ (n : ℕ). EntryAt (grown s later (table ++ en ∷ []) (b + 1) rest) n l) place
       (subst (λ (w : Statement). EntryAt (grown s later (table ++ en ∷ []) (b + 1) rest) b w) same
       (record {
@@ -356,13 +362,16 @@ module _ (s : List Statement) (later : List ℕ → ℕ → Bool) where
       let entry_is : slice_get whole_table p ≡ Some en = ap (λ (n : ℕ). slice_get whole_table n) place ∙ here 0 in
       let fewer : length entries ≡ length rest = omega (arith, long) in
       λ i. operation l (or_nothing (first_of (sym entry_is i))) (is_dead later p (target_at (sym line_is i))) (is_first p whole_table)
-      ∷ operations_decided (p + 1) rest entries fewer (λ k. (let more : p + 1 + k ≡ p + suc k = omega arith in ap (λ (n : ℕ). slice_get s n) more ∙ line (suc k))) (λ k. (let more : p + 1 + k ≡ p + suc k = omega arith in ap (λ (n : ℕ). slice_get whole_table n) more ∙ here (suc k))) i
+      ∷ operations_decided (p + 1) rest entries fewer (λ k. (let more : p + 1 + k ≡ p + suc k = omega arith in
+      ap (λ (n : ℕ). slice_get s n) more ∙ line (suc k))) (λ k. (let more : p + 1 + k ≡ p + suc k = omega arith in
+      ap (λ (n : ℕ). slice_get whole_table n) more ∙ here (suc k))) i
 
   pub planned_decided : planned s later ≡ decided decisions s
   planned_decided =
       let none : length {A = Option Expr × List Choice} [] ≡ 0 = refl in
       let long : length whole_table ≡ length s = grown_length [] 0 s ∙ omega (arith, none) in
-      operations_decided 0 s whole_table long (λ k. (let same : 0 + k ≡ k = omega arith in ap (λ (n : ℕ). slice_get s n) same)) (λ k. (let same : 0 + k ≡ k = omega arith in ap (λ (n : ℕ). slice_get whole_table n) same))
+      operations_decided 0 s whole_table long (λ k. (let same : 0 + k ≡ k = omega arith in ap (λ (n : ℕ). slice_get s n) same))
+      (λ k. (let same : 0 + k ≡ k = omega arith in ap (λ (n : ℕ). slice_get whole_table n) same))
 
   -- ---- a line with an expression
   module _ (b : ℕ) (l : Statement) (here : slice_get s b ≡ Some l) where
@@ -399,7 +408,8 @@ module _ (s : List Statement) (later : List ℕ → ℕ → Bool) where
           absurd (has_source (read_by l) chosen_here x i a r operand choice source)
       stands_here i x c operand choice h (Some a) source =
           let f : Found (read_by l) chosen_here x a = found (read_by l) chosen_here x a source in
-          let p : Picked at.front b l x (replaced a f.expression) = picked_at at.front b l (read_by l) chosen_here f.place x a f.expression picked_here f.operand f.choice in
+          let p : Picked at.front b l x (replaced a f.expression) =
+          picked_at at.front b l (read_by l) chosen_here f.place x a f.expression picked_here f.operand f.choice in
           let once : count x (read_by l) ≡ 1 = (fit_told f.expression a b l x p.2).once in
           let place : i ≡ f.place = one_place x (read_by l) i f.place once operand f.operand in
           let same : Some c ≡ Some (replaced a f.expression) = sym choice ∙ ap (λ (n : ℕ). slice_get chosen_here n) place ∙ f.choice in
@@ -426,7 +436,9 @@ module _ (s : List Statement) (later : List ℕ → ℕ → Bool) where
       pick : (o : Option Expr) → own l ≡ o → is_simple l ≡ true
       pick (Some first) f = simple_own l first f
       pick None f =
-          let same : Some en ≡ Some (operands_chosen s later (entry_at a l here).front a l None) = sym e ∙ (entry_at a l here).entry_is ∙ ap (λ (o : Option Expr). Some (operands_chosen s later (entry_at a l here).front a l o)) f in
+          let same : Some en ≡ Some (operands_chosen s later (entry_at a l here).front a l None) =
+          sym e ∙ (entry_at a l here).entry_is
+          ∙ ap (λ (o : Option Expr). Some (operands_chosen s later (entry_at a l here).front a l o)) f in
           let none : en.0 ≡ None = ap (λ (o : Option (Option Expr × List Choice)). first_of o) same in
           let bad : ⊥ = (let clash : Some r ≡ None = sym first ∙ none in cc) in
           absurd bad
@@ -443,8 +455,11 @@ module _ (s : List Statement) (later : List ℕ → ℕ → Bool) where
     module _ (b : ℕ) (l : Statement) (here : slice_get s b ≡ Some l) (e : Expr) (own_is : own l ≡ Some e) where
       forced_here : (a : ℕ) (x : List ℕ) → decisions.source b x ≡ Some a → IsForced s decisions a b x
       forced_here a x from =
-          let f : Found (read_by l) (chosen_here b l here) x a = found (read_by l) (chosen_here b l here) x a (sym (source_is b l here e own_is x) ∙ from) in
-          let p : Picked (at b l here).front b l x (replaced a f.expression) = picked_at (at b l here).front b l (read_by l) (chosen_here b l here) f.place x a f.expression (picked_here b l here) f.operand f.choice in
+          let f : Found (read_by l) (chosen_here b l here) x a =
+          found (read_by l) (chosen_here b l here) x a (sym (source_is b l here e own_is x) ∙ from) in
+          let p : Picked (at b l here).front b l x (replaced a f.expression) =
+          picked_at (at b l here).front b l (read_by l) (chosen_here b l here) f.place x a f.expression (picked_here b l here)
+          f.operand f.choice in
           let last : IsLast s x b a = last_told s x b a p.0 in
           let fit : IsFit f.expression a b l x = fit_told f.expression a b l x p.2 in
           let line = assigning_line a x last.sets in
@@ -471,7 +486,9 @@ module _ (s : List Statement) (later : List ℕ → ℕ → Bool) where
       own_here : is_simple l ≡ true → expr_with l (map (λ x. stands decisions b x) (read_by l)) ≡ Some (decisions.exprs b)
       own_here simple =
           let w = expr_there (λ x. stands decisions b x) l simple in
-          let is : decisions.exprs b ≡ w.0 = ap (λ (o : Option (Option Expr × List Choice)). or_nothing (first_of o)) (entry_chosen b l here e own_is) ∙ ap or_nothing (sym (own_stands b l here e own_is) ∙ w.1) in
+          let is : decisions.exprs b ≡ w.0 =
+          ap (λ (o : Option (Option Expr × List Choice)). or_nothing (first_of o)) (entry_chosen b l here e own_is)
+          ∙ ap or_nothing (sym (own_stands b l here e own_is) ∙ w.1) in
           w.1 ∙ ap (λ (r : Expr). Some r) (sym is)
 
     forced_at : (a b : ℕ) (x : List ℕ) → decisions.source b x ≡ Some a → IsForced s decisions a b x
@@ -480,8 +497,10 @@ module _ (s : List Statement) (later : List ℕ → ℕ → Bool) where
         by_own : (l : Statement) → slice_get s b ≡ Some l → (o : Option Expr) → own l ≡ o → IsForced s decisions a b x
         by_own l here (Some e) f = forced_here b l here e f a x from
         by_own l here None f =
-            let entry_is : slice_get whole_table b ≡ Some (None, []) = (entry_at b l here).entry_is ∙ ap (λ (o : Option Expr). Some (operands_chosen s later (entry_at b l here).front b l o)) f in
-            let none : decisions.source b x ≡ None = (λ i. source_in (read_at (here i)) (choices_at (entry_is i)) x) ∙ no_choices (read_by l) x in
+            let entry_is : slice_get whole_table b ≡ Some (None, []) =
+            (entry_at b l here).entry_is ∙ ap (λ (o : Option Expr). Some (operands_chosen s later (entry_at b l here).front b l o)) f in
+            let none : decisions.source b x ≡ None =
+            (λ i. source_in (read_at (here i)) (choices_at (entry_is i)) x) ∙ no_choices (read_by l) x in
             let bad : None ≡ Some a = sym none ∙ from in
             let no_one : ⊥ = cc in
             absurd no_one
@@ -517,17 +536,22 @@ module _ (s : List Statement) (later : List ℕ → ℕ → Bool) where
             slice_get en.1 i ≡ Some (replaced p r) → (l : Statement) → slice_get s b ≡ Some l → (o : Option Expr) → own l ≡ o → (b : ℕ) ×
             (decisions.source b x ≡ Some p)
         by_own b en entry i r choice l here None g =
-            let same : Some en ≡ Some (None, []) = sym entry ∙ (entry_at b l here).entry_is ∙ ap (λ (o : Option Expr). Some (operands_chosen s later (entry_at b l here).front b l o)) g in
+            let same : Some en ≡ Some (None, []) =
+            sym entry ∙ (entry_at b l here).entry_is
+            ∙ ap (λ (o : Option Expr). Some (operands_chosen s later (entry_at b l here).front b l o)) g in
             let none : en.1 ≡ [] = ap (λ (o : Option (Option Expr × List Choice)). choices_at o) same in
             let gone : slice_get {X = Choice} [] i ≡ Some (replaced p r) = ap (λ (cs : List Choice). slice_get cs i) (sym none) ∙ choice in
             let bad : ⊥ = cc in
             absurd bad
         by_own b en entry i r choice l here (Some first) g =
-            let same : Some en ≡ Some (expr_with l (map (λ c. expr_of c) (chosen_here b l here)), chosen_here b l here) = sym entry ∙ entry_chosen b l here first g in
+            let same : Some en ≡ Some (expr_with l (map (λ c. expr_of c) (chosen_here b l here)), chosen_here b l here) =
+            sym entry ∙ entry_chosen b l here first g in
             let cs_is : en.1 ≡ chosen_here b l here = ap (λ (o : Option (Option Expr × List Choice)). choices_at o) same in
-            let chosen : slice_get (chosen_here b l here) i ≡ Some (replaced p r) = ap (λ (cs : List Choice). slice_get cs i) (sym cs_is) ∙ choice in
+            let chosen : slice_get (chosen_here b l here) i ≡ Some (replaced p r) =
+            ap (λ (cs : List Choice). slice_get cs i) (sym cs_is) ∙ choice in
             let y = operand_of (at b l here).front b l (read_by l) (chosen_here b l here) i (replaced p r) (picked_here b l here) chosen in
-            let q : Picked (at b l here).front b l y.0 (replaced p r) = picked_at (at b l here).front b l (read_by l) (chosen_here b l here) i y.0 p r (picked_here b l here) y.1 chosen in
+            let q : Picked (at b l here).front b l y.0 (replaced p r) =
+            picked_at (at b l here).front b l (read_by l) (chosen_here b l here) i y.0 p r (picked_here b l here) y.1 chosen in
             let last : IsLast s y.0 b p = last_told s y.0 b p q.0 in
             let name_is : x ≡ y.0 = one_target (slice_get s p) x y.0 f last.sets in
             (b, by_source y.0 name_is (source_in (read_by l) (chosen_here b l here) y.0) refl q.0 y.1 chosen)
@@ -539,7 +563,9 @@ module _ (s : List Statement) (later : List ℕ → ℕ → Bool) where
                 (has_source (read_by l) (chosen_here b l here) y i p r operand chosen source)
             by_source y same (Some a) source set operand chosen =
                 let t : Found (read_by l) (chosen_here b l here) y a = found (read_by l) (chosen_here b l here) y a source in
-                let other : Picked (at b l here).front b l y (replaced a t.expression) = picked_at (at b l here).front b l (read_by l) (chosen_here b l here) t.place y a t.expression (picked_here b l here) t.operand t.choice in
+                let other : Picked (at b l here).front b l y (replaced a t.expression) =
+                picked_at (at b l here).front b l (read_by l) (chosen_here b l here) t.place y a t.expression (picked_here b l here)
+                t.operand t.choice in
                 ap (λ (w : List ℕ). decisions.source b w) same ∙ source_is b l here first g y ∙ source ∙ sym other.0 ∙ set
 
         by_line : (b : ℕ) (en : Option Expr × List Choice) → slice_get whole_table b ≡ Some en → (i : ℕ) (r : Expr) →

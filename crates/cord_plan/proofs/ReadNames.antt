@@ -72,7 +72,8 @@ module _ (g : Grammar) where
   pub line_said : (lines : List (List ℕ)) (n : ℕ) (before : Before) (ss : List Statement) (p : ℕ) (l : Statement) →
       LinesSay g n before lines ss → slice_get ss p ≡ Some l → IsSaid l (after_all ss before).names
   line_said [] n before ss p l none e =
-      let bad : ⊥ = (let gone : slice_get {X = Statement} [] p ≡ Some l = subst (λ (xs : List Statement). slice_get xs p ≡ Some l) none e in cc) in
+      let bad : ⊥ =
+      (let gone : slice_get {X = Statement} [] p ≡ Some l = subst (λ (xs : List Statement). slice_get xs p ≡ Some l) none e in cc) in
       absurd bad
   line_said (line ∷ lines) n before ss p l (inl (idle, rest)) e = line_said lines (n + 1) before ss p l rest e
   line_said (line ∷ lines) n before ss p l (inr (busy, s, words, rest, is, has, says, others)) e =
@@ -161,6 +162,7 @@ no_number g b s p k l e t read at is operand = λ q. at_line (slice_get s q) q r
     at_line None q here = refl
     at_line (Some m) q here = no_true (has (numbers_named m) t) (λ named. (
         let said : IsSaid m last = line_said g read.lines 1 start s q m read.say here in
-        let number : kind_of last t ≡ Some kinds.Number = said.stays.kept t kinds.Number (numbers_known m said.before t said.allowed named) in
+        let number : kind_of last t ≡ Some kinds.Number =
+        said.stays.kept t kinds.Number (numbers_known m said.before t said.allowed named) in
         let bad : Some kinds.Cord ≡ Some kinds.Number = sym cord ∙ number in
         cc))

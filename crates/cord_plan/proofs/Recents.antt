@@ -38,7 +38,8 @@ module _ (t : Numbering) (p : ℕ) where
   pub notes_nothing : (places : List (Option ℕ)) → Notes t (λ x. false) p places places
   notes_nothing places x = unnoted p (entry_of t places x)
 
-  pub notes_same : (f h : List ℕ → Bool) (old new : List (Option ℕ)) → ((x : List ℕ) → h x ≡ f x) → Notes t f p old new → Notes t h p old new
+  pub notes_same : (f h : List ℕ → Bool) (old new : List (Option ℕ)) → ((x : List ℕ) → h x ≡ f x) → Notes t f p old new →
+      Notes t h p old new
   notes_same f h old new same notes x = notes x ∙ ap (λ (v : Bool). option_map (λ o. noted v p o) (entry_of t old x)) (sym (same x))
 
   pub notes_or : (f h : List ℕ → Bool) (old now new : List (Option ℕ)) → Notes t f p old now → Notes t h p now new →
@@ -61,7 +62,9 @@ module _ (t : Numbering) (p : ℕ) where
         by_name : (v : Bool) → bytes_eq x y ≡ v → entry_of t places x ≡ option_map (λ q. noted v p q) (entry_of t places x)
         by_name false e = unnoted p (entry_of t places x)
         by_name true e =
-            let none : entry_of t places x ≡ None = ap (λ (z : List ℕ). entry_of t places z) (same_bytes x y e) ∙ (ap (λ (o : Option ℕ). entry_at places o) is ∙ slice_get_past places n past) in
+            let none : entry_of t places x ≡ None =
+            ap (λ (z : List ℕ). entry_of t places z) (same_bytes x y e)
+            ∙ (ap (λ (o : Option ℕ). entry_at places o) is ∙ slice_get_past places n past) in
             rw none refl
 
     pub notes_there : n < length places → Notes t (λ x. bytes_eq x y) p places (set places n (Some p))
@@ -102,7 +105,8 @@ module _ (t : Numbering) (p : ℕ) where
       by_name : (v : Bool) → bytes_eq x y ≡ v → entry_of t places x ≡ option_map (λ q. noted v p q) (entry_of t places x)
       by_name false e = unnoted p (entry_of t places x)
       by_name true e =
-          let none : entry_of t places x ≡ None = ap (λ (z : List ℕ). entry_of t places z) (same_bytes x y e) ∙ ap (λ (o : Option ℕ). entry_at places o) is in
+          let none : entry_of t places x ≡ None =
+          ap (λ (z : List ℕ). entry_of t places z) (same_bytes x y e) ∙ ap (λ (o : Option ℕ). entry_at places o) is in
           rw none refl
 
   pub notes_more : (names : List (List ℕ)) (i : ℕ) (y : List ℕ) (old now new : List (Option ℕ)) → i < length names → y ≡ get_or names i y →

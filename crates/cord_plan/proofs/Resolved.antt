@@ -73,7 +73,8 @@ module _ (limit : ℕ) (s : State) where
       pick true e_is =
           let m = min n (length t - i) in
           let fits : length (take m (drop i t)) ≤ limit = omega (arith, length-take m (drop i t), length-drop i t) in
-          let part : take m (drop i t) ≡ take n (drop i t) = ap (λ (k : ℕ). take (min n k) (drop i t)) (sym (length-drop i t)) ∙ take_min n (drop i t) in
+          let part : take m (drop i t) ≡ take n (drop i t) =
+          ap (λ (k : ℕ). take (min n k) (drop i t)) (sym (length-drop i t)) ∙ take_min n (drop i t) in
           ap (λ (r : Result (List ℕ) FaultKind). and_then (and_then r (λ text. within limit (take m (drop i text))))
           (λ text. and_then (joined_in limit s others) (λ more. Ok (text ++ more)))) h
           ∙ ap (λ (r : Result (List ℕ) FaultKind). and_then r (λ text. and_then (joined_in limit s others) (λ more. Ok (text ++ more))))
@@ -84,7 +85,8 @@ module _ (limit : ℕ) (s : State) where
 
   told_length : (e : Expr) (t : List ℕ) (len : ℕ) → length_in limit s e ≡ Ok len → text_in limit s e ≡ Ok t → length t ≡ len
   told_length e t len h k =
-      let told : Ok (length t) ≡ length_in limit s e = ap (λ (r : Result (List ℕ) FaultKind). length_of r) (sym k) ∙ sym (measure_is limit s.texts (λ n. number_value s n) e) in
+      let told : Ok (length t) ≡ length_in limit s e =
+      ap (λ (r : Result (List ℕ) FaultKind). length_of r) (sym k) ∙ sym (measure_is limit s.texts (λ n. number_value s n) e) in
       cc
 
   resolved_joined : (es : Exprs) (lens text : List ℕ) (i n : ℕ) → HaveLengths limit s es lens → joined_in limit s es ≡ Ok text →
@@ -103,8 +105,11 @@ module _ (limit : ℕ) (s : State) where
       let sum : length t + length u ≡ length text = sym (length-append t u) ∙ ap (λ (x : List ℕ). length x) whole in
       let is : length t ≡ len = told_length e t len lengths.0 p.first in
       let rest : List ℕ = take (n - (length t - i)) (drop (i - length t) u) in
-      let others : joined_in limit s (resolved es lens (i - length t) (n - (length t - i))) ≡ Ok rest = resolved_joined es lens u (i - length t) (n - (length t - i)) lengths.1 q.first (omega arith) in
-      let mine : joined_in limit s (picked e (length t) i n (resolved es lens (i - length t) (n - (length t - i)))) ≡ Ok (take n (drop i t) ++ rest) = picked_joined e t i n (resolved es lens (i - length t) (n - (length t - i))) rest p.first (omega arith) others in
+      let others : joined_in limit s (resolved es lens (i - length t) (n - (length t - i))) ≡ Ok rest =
+      resolved_joined es lens u (i - length t) (n - (length t - i)) lengths.1 q.first (omega arith) in
+      let mine : joined_in limit s (picked e (length t) i n (resolved es lens (i - length t) (n - (length t - i))))
+      ≡ Ok (take n (drop i t) ++ rest) =
+      picked_joined e t i n (resolved es lens (i - length t) (n - (length t - i))) rest p.first (omega arith) others in
       ap (λ (k : ℕ). joined_in limit s (picked e k i n (resolved es lens (i - k) (n - (k - i))))) (sym is)
       ∙ mine
       ∙ ap (λ (x : List ℕ). Ok x) (sym (part_both i n t u) ∙ ap (λ (x : List ℕ). take n (drop i x)) whole)

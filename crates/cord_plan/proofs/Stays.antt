@@ -58,7 +58,8 @@ module _ {M T : Type 0} (rules : Rules M T) (most : ℕ) (ops : List M) where
   -- J holds of place and state at each step, and so P of the state
   module _ (nested : IsNested [] shapes) (J : ℕ → T → Type 0) (P : T → Type 0) (tells : (p : ℕ) (t : T) → J p t → P t)
       (moves : (p q : ℕ) (x : Shape) → slice_get shapes p ≡ Some x → IsControl x → Next shapes p q → (t : T) → J p t → J q t)
-      (acts : (p : ℕ) (m : M) → slice_get ops p ≡ Some m → rules.shape m ≡ Simple → (t : T) → J p t → (r : T × List ℕ) → rules.act p m t ≡ Ok r → J (p + 1) r.0) where
+      (acts : (p : ℕ) (m : M) → slice_get ops p ≡ Some m → rules.shape m ≡ Simple → (t : T) → J p t → (r : T × List ℕ) → rules.act p m t
+      ≡ Ok r → J (p + 1) r.0) where
     -- what a step from p makes
     record Made (p : ℕ) (c : Config T) : Type 0 where
       state : P c.state
@@ -101,12 +102,15 @@ module _ {M T : Type 0} (rules : Rules M T) (most : ℕ) (ops : List M) where
           Stays (after rules most ops (suc k) a)
       one_step k None e h =
           let c : Config T = after rules most ops k a in
-          let stepped : runs rules most ops c (slice_get ops c.place) ≡ step rules most ops c = ap (λ (o : Option End). if_running o c (runs rules most ops c (slice_get ops c.place))) (sym e) in
-          let made : Made c.place (step rules most ops c) = subst (λ (d : Config T). Made c.place d) stepped (runs_made c (h.on e) (slice_get ops c.place) refl) in
+          let stepped : runs rules most ops c (slice_get ops c.place) ≡ step rules most ops c =
+          ap (λ (o : Option End). if_running o c (runs rules most ops c (slice_get ops c.place))) (sym e) in
+          let made : Made c.place (step rules most ops c) =
+          subst (λ (d : Config T). Made c.place d) stepped (runs_made c (h.on e) (slice_get ops c.place) refl) in
           record { state = made.state; on = λ running. made.on running (follows rules most ops nested a k running) }
       one_step k (Some x) e h =
           let c : Config T = after rules most ops k a in
-          let stays : c ≡ step rules most ops c = ap (λ (o : Option End). if_running o c (runs rules most ops c (slice_get ops c.place))) (sym e) in
+          let stays : c ≡ step rules most ops c =
+          ap (λ (o : Option End). if_running o c (runs rules most ops c (slice_get ops c.place))) (sym e) in
           subst (λ (d : Config T). Stays d) stays h
 
       along : (k : ℕ) → Stays (after rules most ops k a)
@@ -117,7 +121,9 @@ module _ {M T : Type 0} (rules : Rules M T) (most : ℕ) (ops : List M) where
       each_state k = (along k).state
 
 -- of each state of a run that is simulated, what is told by a state that it is related to
-module _ {L M S T : Type 0} (rules : Rules L S) (others : Rules M T) (most : ℕ) (statements : List L) (operations : List M) (Related : ℕ → S → T → Type 0) (sim : Simulates rules others statements operations Related) (P : T → Type 0) (tells : (p : ℕ) (s : S) (t : T) → Related p s t → P t) where
+module _ {L M S T : Type 0} (rules : Rules L S) (others : Rules M T) (most : ℕ) (statements : List L) (operations : List M)
+    (Related : ℕ → S → T → Type 0) (sim : Simulates rules others statements operations Related) (P : T → Type 0)
+    (tells : (p : ℕ) (s : S) (t : T) → Related p s t → P t) where
   abbrev Beside : ℕ → T → Type 0
   Beside p t = (s : S) × Related p s t
 

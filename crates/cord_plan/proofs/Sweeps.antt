@@ -118,7 +118,9 @@ module _ (s : List Statement) (x : List ℕ) where
 
     path_there : IsPartly s x table → finds s x table p ≡ true → (path : List ℕ) × ReadBy s x p path
     path_there partly e =
-        let parts : (at table p ≡ false) × (some_of (λ q. at table q) (successors (map shape_of s) p) ≡ true) × (assigns_at (slice_get s p) x ≡ false) = found_parts (at table p) (some_of (λ q. at table q) (successors (map shape_of s) p)) (assigns_at (slice_get s p) x) e in
+        let parts : (at table p ≡ false) × (some_of (λ q. at table q) (successors (map shape_of s) p) ≡ true)
+        × (assigns_at (slice_get s p) x ≡ false) =
+        found_parts (at table p) (some_of (λ q. at table q) (successors (map shape_of s) p)) (assigns_at (slice_get s p) x) e in
         path_over partly parts.2 (shape_found (λ q. at table q) (map shape_of s) p (slice_get (map shape_of s) p) parts.1)
 
     -- the place that was found is taken in
@@ -162,7 +164,8 @@ module _ (s : List Statement) (x : List ℕ) where
   path_in_table table live p [] r = live.partly.reads p r
   path_in_table table live p (q ∷ path) r =
       let there : at table q ≡ true = path_in_table table live q path r.2 in
-      let held : some_of (λ m. at table m) (successors (map shape_of s) p) ≡ true = shape_held (λ m. at table m) (map shape_of s) p (slice_get (map shape_of s) p) q r.1 there in
+      let held : some_of (λ m. at table m) (successors (map shape_of s) p) ≡ true =
+      shape_held (λ m. at table m) (map shape_of s) p (slice_get (map shape_of s) p) q r.1 there in
       none_found (at table p) (some_of (λ m. at table m) (successors (map shape_of s) p)) (assigns_at (slice_get s p) x)
       (live.resting p) held r.0
 

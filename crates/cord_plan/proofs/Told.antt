@@ -58,13 +58,16 @@ live_more s t k groups last size before live g lt = by_place (eq-or-lt_of_le (om
         let found : (group : Group) × (slice_get groups g ≡ Some group) × AreLive s t g group.words.items = before g less in
         (found.0, get_before groups last found.0 g found.1, found.2)
 
-module _ (s : List Statement) (t : Later) (paths : ArePaths (map shape_of s) t.paths) (covers : Covers s t.numbering) (groups : AllLive s t.numbering t.groups.items) where
+module _ (s : List Statement) (t : Later) (paths : ArePaths (map shape_of s) t.paths) (covers : Covers s t.numbering)
+    (groups : AllLive s t.numbering t.groups.items) where
   module _ (x : List ℕ) where
     live : has (names_of t.numbering) x ≡ true → IsLive s x (live_of t x)
     live known =
         let found : Numbered t.numbering x = numbered t.numbering x known in
-        let group : (group : Group) × (slice_get t.groups.items (found.number / 128) ≡ Some group) × AreLive s t.numbering (found.number / 128) group.words.items = groups found.number found.within in
-        let bit : IsBit t.numbering (found.number / 128) x (found.number % 128) = record { within = bit_within found.number; number = found.is ∙ ap Some (sym (split_number found.number)) } in
+        let group : (group : Group) × (slice_get t.groups.items (found.number / 128) ≡ Some group)
+        × AreLive s t.numbering (found.number / 128) group.words.items = groups found.number found.within in
+        let bit : IsBit t.numbering (found.number / 128) x (found.number % 128) =
+        record { within = bit_within found.number; number = found.is ∙ ap Some (sym (split_number found.number)) } in
         let there : live_of t x ≡ column group.0.words.items (found.number % 128) = rw (found.is, group.1) refl in
         rw there (group.2 x (found.number % 128) bit)
 
@@ -88,7 +91,8 @@ module _ (s : List Statement) (t : Later) (paths : ArePaths (map shape_of s) t.p
         bad
     told_unread p true known e q next path r =
         let there : at (live_of t x) q ≡ true = path_in_table s x (live_of t x) (live known) q path r in
-        let held : some_of (λ m. at (live_of t x) m) (successors (map shape_of s) p) ≡ true = shape_held (λ m. at (live_of t x) m) (map shape_of s) p (slice_get (map shape_of s) p) q next there in
+        let held : some_of (λ m. at (live_of t x) m) (successors (map shape_of s) p) ≡ true =
+        shape_held (λ m. at (live_of t x) m) (map shape_of s) p (slice_get (map shape_of s) p) q next there in
         let told : tells t x p ≡ true = rw (paths p) held in
         let bad : ⊥ = cc in
         bad

@@ -125,7 +125,8 @@ module _ (limit : ℕ) (files : Folder) (p : ℕ) (s : State) where
 trivial_at : (s : List Statement) (p : ℕ) (l : Statement) (o : Operation) → slice_get s p ≡ Some l → slice_get (trivial s) p ≡ Some o →
     operation l (or_nothing (own l)) false false ≡ o
 trivial_at [] p l o e f = let bad : ⊥ = cc in absurd bad
-trivial_at (k ∷ s) zero l o e f = let same : k ≡ l = cc in subst (λ (w : Statement). operation w (or_nothing (own w)) false false ≡ o) same cc
+trivial_at (k ∷ s) zero l o e f = let same : k ≡ l = cc in
+    subst (λ (w : Statement). operation w (or_nothing (own w)) false false ≡ o) same cc
 trivial_at (k ∷ s) (suc p) l o e f = trivial_at s p l o e f
 
 trivial_shapes : (s : List Statement) → map shape_of s ≡ map operation_shape (trivial s)

@@ -22,7 +22,8 @@ from_place s p (l ∷ rest) here =
     let place : p ≡ p + 0 = omega arith in
     let line : slice_get s p ≡ Some l = ap (λ (n : ℕ). slice_get s n) place ∙ here 0 in
     λ i. operation l (own_at (sym line i)) false false
-    ∷ from_place s (p + 1) rest (λ k. (let more : p + 1 + k ≡ p + suc k = omega arith in ap (λ (n : ℕ). slice_get s n) more ∙ here (suc k))) i
+    ∷ from_place s (p + 1) rest (λ k. (let more : p + 1 + k ≡ p + suc k = omega arith in ap (λ (n : ℕ). slice_get s n) more ∙ here (suc k)))
+    i
 
 pub trivial_decided : (s : List Statement) → trivial s ≡ decided (plain_decisions s) s
 trivial_decided s = from_place s 0 s (λ k. (let same : 0 + k ≡ k = omega arith in ap (λ (n : ℕ). slice_get s n) same))

@@ -76,7 +76,8 @@ part_length limit text start count = by_checks (as_index start) (as_index count)
     by_checks (Err kind) rn = refl
     by_checks (Ok i) (Err kind) = refl
     by_checks (Ok i) (Ok n) =
-        let len : length (take n (drop i text)) ≡ min n (length text - i) = length-take n (drop i text) ∙ ap (λ (k : ℕ). min n k) (length-drop i text) in
+        let len : length (take n (drop i text)) ≡ min n (length text - i) =
+        length-take n (drop i text) ∙ ap (λ (k : ℕ). min n k) (length-drop i text) in
         ap (λ (k : ℕ). as_length limit k) (sym len) ∙ within_length limit (take n (drop i text))
 
 joined_length : (limit : ℕ) (r : Result (List ℕ) FaultKind) → and_then (length_of r) (λ len. as_length limit len)

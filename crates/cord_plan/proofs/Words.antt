@@ -56,7 +56,8 @@ bit_one_same k within =
 
 pub bit_one_other : (k i : ℕ) → k < 128 → i ≢ k → bit (1 * 2 ^ k % 2 ^ 128) i ≡ false
 bit_one_other k i within other =
-    let there : bit_at (1 * 2 ^ k % 2 ^ 128) i ≡ 0 = rw (or_zero_l (1 * 2 ^ k % 2 ^ 128), bit_at-zero i) at (bit_at_set_other w128 0 k within i other) in
+    let there : bit_at (1 * 2 ^ k % 2 ^ 128) i ≡ 0 =
+    rw (or_zero_l (1 * 2 ^ k % 2 ^ 128), bit_at-zero i) at (bit_at_set_other w128 0 k within i other) in
     rw there refl
 
 -- what the flow makes of a word

@@ -85,7 +85,8 @@ pub joined_all : {A : Type 0} (text : List A → List ℕ) (one : A → List ℕ
     text xs ≡ text (take i xs) ++ text (drop i xs)
 joined_all text one xs i j = ap text (sym (take-append-drop i xs)) ∙ joined_append text one (take i xs) (drop i xs) j
 
-module _ {A : Type 0} (text : List A → List ℕ) (one : A → List ℕ) (j : AreJoined text one) (xs : List A) (i : ℕ) (d : A) (inside : i < length xs) where
+module _ {A : Type 0} (text : List A → List ℕ) (one : A → List ℕ) (j : AreJoined text one) (xs : List A) (i : ℕ) (d : A)
+    (inside : i < length xs) where
   -- one more was taken
   pub writes_next : {a b c : List ℕ} {n m k s t u : ℕ} → Writes (text (take i xs)) a b n m s t (Ok tt) →
       Writes (one (get_or xs i d)) b c m k t u (Ok tt) → Writes (text (take (i + 1) xs)) a c n k s u (Ok tt)

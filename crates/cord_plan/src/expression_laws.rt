@@ -12,7 +12,8 @@ ghost use Rattle.cord_plan.specs.Values.{text_in, length_in, length_of, gives_te
 ghost use Rattle.cord_plan.specs.Flattening.{nested, HaveTexts};
 ghost use Rattle.cord_plan.specs.Resolved.{resolved, HaveLengths};
 
-/// A line does what its own expression means: its target gets the expression's text, `put` puts it, or the line meets its fault.
+/// A line does what its own expression means: its target gets the expression's text, `put` puts it, or the line meets
+/// its fault.
 pub fn own_expressions_mean_their_lines()
     ensures gives { (limit : ℕ) (files : Folder) (l : Statement) (s : State) (e : Expr) (target : List ℕ) →
         own l ≡ Some e → target_of l ≡ Some target → act limit files l s ≡ gives_text s target (text_in limit s e) }
@@ -25,8 +26,8 @@ pub fn measures_are_lengths()
     ensures { (limit : ℕ) (s : State) (e : Expr) → length_in limit s e ≡ length_of (text_in limit s e) }
 {}
 
-/// A `cat` flattened means what the nested one means, wherever the nested one has no fault. So a line's expression means what
-/// its own one means, text or fault, where each operand stands as an expression that has the operand's text.
+/// A `cat` flattened means what the nested one means, wherever the nested one has no fault. So a line's expression
+/// means what its own one means, text or fault, where each operand stands as an expression that has the operand's text.
 pub fn flattened_cats_mean_the_nested()
     ensures flattened { (limit : ℕ) (s : State) (es : List Expr) (text : List ℕ) →
         text_in limit s (cat (nested es)) ≡ Ok text → text_in limit s (cat (members es)) ≡ Ok text }

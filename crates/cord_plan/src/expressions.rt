@@ -11,7 +11,8 @@ use std::rc::Rc;
 /// So many members after those in front are put in front of those that follow.
 const CHUNK: usize = 16;
 
-/// An expression of a plan: what a line makes of names of cords and of runs of a byte. Expressions share what stands in them.
+/// An expression of a plan: what a line makes of names of cords and of runs of a byte. Expressions share what stands in
+/// them.
 #[derive(Drop)]
 #[cycle(expressions)]
 pub enum Expr {

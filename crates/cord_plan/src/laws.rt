@@ -5,8 +5,9 @@ ghost use Rattle.cord_plan.specs.Unread.{ReadBy, ReadLater, IsLater, IsFixed, li
 ghost use Rattle.cord_plan.specs.Planned.{Made, Operation, Build, planned};
 ghost use Rattle.cord_plan.specs.Flat.{IsFlatOperation};
 
-/// What a backwards fixed point over the lines tells: a name that it doesn't have at a place is read by no path from there before it is
-/// assigned, a name that so many steps found is read by a path, and where those steps leave a fixed point they tell exactly what is read later.
+/// What a backwards fixed point over the lines tells: a name that it doesn't have at a place is read by no path from
+/// there before it is assigned, a name that so many steps found is read by a path, and where those steps leave a fixed
+/// point they tell exactly what is read later.
 pub fn fixed_points_tell_what_is_read()
     ensures unread { (s : List Statement) (table : List ℕ → ℕ → Bool) (x : List ℕ) (p : ℕ) → IsFixed s table →
         table x p ≡ false → (path : List ℕ) → ReadBy s x p path → ⊥ }
@@ -28,7 +29,8 @@ pub fn plans_are_one()
         planned s one ≡ planned s other }
 {}
 
-/// No plan builds a dead target: where an operation builds a name, some path after its line reads that name before it is assigned again.
+/// No plan builds a dead target: where an operation builds a name, some path after its line reads that name before it
+/// is assigned again.
 pub fn dead_targets_are_not_built()
     ensures { (s : List Statement) (later : List ℕ → ℕ → Bool) (p line : ℕ) (x : List ℕ) (made : Made) →
         IsLater s later → slice_get (planned s later) p ≡ Some (Build line x made) → ReadLater s x p }

@@ -1,8 +1,8 @@
 //! Plans: what a run of a script makes, what it only measures, and in which order.
 //!
-//! `plans`, `operations` and `expressions` are what a plan consists of. `flow` finds which names each line reads and which are read
-//! later; `planner` chooses by it what stands for each operand, and makes the operations. `shown` writes a plan as text. `laws`,
-//! `meaning` and their like state what holds of all plans.
+//! `plans`, `operations` and `expressions` are what a plan consists of. `flow` finds which names each line reads and
+//! which are read later; `planner` chooses by it what stands for each operand, and makes the operations. `shown` writes
+//! a plan as text. `laws`, `meaning` and their like state what holds of all plans.
 #![tactic(auto)]
 
 mod expression_laws;

@@ -13,8 +13,8 @@ ghost use Rattle.cord_plan.specs.Planned.{planned, trivial};
 ghost use Rattle.cord_plan.specs.Meaning.{plan_moments, plan_end, IsNeverStuck};
 ghost use Rattle.cord_plan.specs.Conditions.{Decisions, HasKinds, MeetsConditions, decided};
 
-/// The trivial plan of a script whose blocks are closed is never stuck, and has, over all files and with all limits, member by member
-/// the lines and the puts of the script, and its end.
+/// The trivial plan of a script whose blocks are closed is never stuck, and has, over all files and with all limits,
+/// member by member the lines and the puts of the script, and its end.
 pub fn trivial_plans_keep_the_meaning()
     ensures never_stuck { (limit most : ℕ) (s : List Statement) (files : Folder) → IsNested [] (map shape_of s) →
         IsNeverStuck limit most (trivial s) files }
@@ -24,8 +24,8 @@ pub fn trivial_plans_keep_the_meaning()
         plan_end limit most (trivial s) files ≡ end_within limit most s files }
 {}
 
-/// Each plan that meets the conditions on dead targets, on what is measured and on forced pairs is never stuck, and has, over all files
-/// and with all limits, member by member the lines and the puts of its script, and its end.
+/// Each plan that meets the conditions on dead targets, on what is measured and on forced pairs is never stuck, and
+/// has, over all files and with all limits, member by member the lines and the puts of its script, and its end.
 pub fn plans_keep_the_meaning()
     ensures never_stuck { (limit most : ℕ) (s : List Statement) (files : Folder) (d : Decisions) →
         IsNested [] (map shape_of s) → MeetsConditions s d → IsNeverStuck limit most (decided d s) files }
@@ -37,8 +37,9 @@ pub fn plans_keep_the_meaning()
         plan_end limit most (decided d s) files ≡ end_within limit most s files }
 {}
 
-/// The plan of a script, given what is read later, is one that meets the conditions, wherever no name that is assigned as a number or
-/// an extensible cord is read as a cord; so it is in every script that is read. The trivial plan is the one without pairs and measures.
+/// The plan of a script, given what is read later, is one that meets the conditions, wherever no name that is assigned
+/// as a number or an extensible cord is read as a cord; so it is in every script that is read. The trivial plan is the
+/// one without pairs and measures.
 pub fn planned_scripts_meet_the_conditions()
     ensures meets { (s : List Statement) (later : List ℕ → ℕ → Bool) → IsLater s later → HasKinds s → (d : Decisions) ×
         MeetsConditions s d × (planned s later ≡ decided d s) }
@@ -48,8 +49,8 @@ pub fn planned_scripts_meet_the_conditions()
     ensures kinds { (g : Grammar) (text : List ℕ) (s : List Statement) → ReadsBy g text s → HasKinds s }
 {}
 
-/// The plan of a script that is read, given what is read later, is never stuck, and has, over all files and with all limits, member by
-/// member the lines and the puts of the script, and its end.
+/// The plan of a script that is read, given what is read later, is never stuck, and has, over all files and with all
+/// limits, member by member the lines and the puts of the script, and its end.
 pub fn planned_scripts_keep_the_meaning()
     ensures never_stuck { (limit most : ℕ) (g : Grammar) (text : List ℕ) (s : List Statement) (files : Folder)
         (later : List ℕ → ℕ → Bool) → ReadsBy g text s → IsLater s later →

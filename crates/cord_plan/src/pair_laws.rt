@@ -17,8 +17,8 @@ pub fn replacements_keep_expressions_small()
         IsPair s later a b t e → parts e ≤ MAX_EXPR_PARTS }
 {}
 
-/// At a forced pair for a name the later line's expression doesn't name it: wherever no line names a number so, and so in every
-/// script that is read.
+/// At a forced pair for a name the later line's expression doesn't name it: wherever no line names a number so, and so
+/// in every script that is read.
 pub fn pairs_leave_their_name_out()
     ensures of_cords { (s : List Statement) (later : List ℕ → ℕ → Bool) (a b : ℕ) (t : List ℕ) (e : Expr) →
         IsPair s later a b t e → IsNoNumber s t → has (names e) t ≡ false }

@@ -44,8 +44,8 @@ fn is_dead(statement: &Statement, numbers: LineNumbers, place: usize, later: &La
     }
 }
 
-// The operations of a script's lines. Where a line takes the expression of an earlier one, the earlier one's operation turns from
-// building to measuring.
+// The operations of a script's lines. Where a line takes the expression of an earlier one, the earlier one's operation
+// turns from building to measuring.
 fn operations_of(
     alloc: Global,
     statements: &[Statement],
@@ -77,8 +77,8 @@ fn operations_of(
     Ok(operations)
 }
 
-/// The plan of a script: a name that nobody reads gets a length alone, and what is read once, in the expression of a later line,
-/// is made there.
+/// The plan of a script: a name that nobody reads gets a length alone, and what is read once, in the expression of a
+/// later line, is made there.
 ///
 /// Refused only with `NoMemory`.
 pub fn plan(alloc: Global, script: &Script) -> Result<Plan, CordError>

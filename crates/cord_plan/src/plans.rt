@@ -86,9 +86,9 @@ impl Plan {
         &self.operations
     }
 
-    /// For each operation the place that it leads to where it passes others over: a `repeat` after its `end`, an `if` after its
-    /// `else` or, where it has none, to its `end`, an `else` to its `end`, and any other to the next one. Refused only with
-    /// `NoMemory`.
+    /// For each operation the place that it leads to where it passes others over: a `repeat` after its `end`, an `if`
+    /// after its `else` or, where it has none, to its `end`, an `else` to its `end`, and any other to the next one.
+    /// Refused only with `NoMemory`.
     pub fn jumps(&self, alloc: Global) -> Result<Vec<usize>, CordError>
         ensures size { IfOk result (λ v. length v.items ≡ length self.now) }
         ensures told { IfOk result (λ v. (p : ℕ) → p < length self.now →
@@ -98,8 +98,8 @@ impl Plan {
         Ok(jumps(alloc, &self.operations)?)
     }
 
-    /// Hands a sink the text of the plan: one line an operation, ended by byte 10. Refused with `WriteFailed` where the sink
-    /// failed: then it took a prefix of the text.
+    /// Hands a sink the text of the plan: one line an operation, ended by byte 10. Refused with `WriteFailed` where the
+    /// sink failed: then it took a prefix of the text.
     pub fn show<W: Sink>(&self, sink: &mut W) -> Result<(), CordError>
         ensures ok { OnOk result ((W.taken sink.new ≡ W.taken sink.old ++ shown (map operation_view self.now)) ×
             (W.failures sink.new ≡ W.failures sink.old)) }

@@ -20,8 +20,8 @@ use crate::{Expr, Made, Operation};
 use cord_io::{CordError, Sink, WriteFault};
 use cord_script::{Function, Statement};
 
-/// Hands a sink the text of operations: one line each, ended by byte 10. Refused with `WriteFailed` where the sink failed: then it took
-/// a prefix of the text.
+/// Hands a sink the text of operations: one line each, ended by byte 10. Refused with `WriteFailed` where the sink
+/// failed: then it took a prefix of the text.
 pub(crate) fn show_operations<W: Sink>(
     operations: &[Operation],
     sink: &mut W,

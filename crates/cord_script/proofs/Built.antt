@@ -41,7 +41,8 @@ kinds_are_arguments (printed.Cord ∷ ks) = kinds_are_arguments ks
 others_same : (pieces : List Piece) (ts us vs : List Term) (name text : List ℕ) (h : IsPrintedAs pieces ts) →
     ts ≡ Target kinds.Cord name ∷ us → us ≡ Formats text ∷ vs → (h.text ≡ text) × (h.others ≡ vs)
 others_same pieces ts us vs name text h e f =
-    let whole : Target kinds.Cord h.target ∷ Formats h.text ∷ h.others ≡ Target kinds.Cord name ∷ Formats text ∷ vs = sym h.is ∙ e ∙ ap (λ k. Target kinds.Cord name ∷ k) f in
+    let whole : Target kinds.Cord h.target ∷ Formats h.text ∷ h.others ≡ Target kinds.Cord name ∷ Formats text ∷ vs =
+    sym h.is ∙ e ∙ ap (λ k. Target kinds.Cord name ∷ k) f in
     (cc, cc)
 
 -- what stands after a format are arguments
@@ -102,7 +103,8 @@ joined_fields (w ∷ ws) (t ∷ ts) count wanted terms =
 printed_by : (w : Word) (text : List ℕ) (ws : List Word) (ts : List Term) (format : Option (List Piece)) → IsReadAs text format →
     first_of (first_misfit format_wants (w ∷ Quoted text ∷ ws)) (arguments_flaw (wanted_by format) ws) ≡ None →
     wants_of Printed (wanted_by format) (w ∷ Quoted text ∷ ws) ≡ map want_of ts → AreTerms (w ∷ Quoted text ∷ ws) ts → IsPrinted format ts
-printed_by w text ws ts None read fit wanted terms = let wrong = (neither (first_misfit format_wants (w ∷ Quoted text ∷ ws)) (Some BadFormat) fit).1 in cc
+printed_by w text ws ts None read fit wanted terms = let wrong =
+    (neither (first_misfit format_wants (w ∷ Quoted text ∷ ws)) (Some BadFormat) fit).1 in cc
 printed_by w text ws [] (Some pieces) read fit wanted terms = cc
 printed_by w text ws (t ∷ []) (Some pieces) read fit wanted terms = cc
 printed_by w text ws (t ∷ u ∷ ts) (Some pieces) read fit wanted terms =

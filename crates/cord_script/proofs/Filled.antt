@@ -265,7 +265,8 @@ printed_filled n (w ∷ Quoted text ∷ ws) (Some xs) has count fit =
     let number = eqb-true (length ws) (length xs) (holds (length ws == length xs) WrongCount q.0) in
     let said = words_say (map want_of_kind ks) ws (number ∙ ap length has.2) (ap (λ k. first_misfit k ws) (sym has.2) ∙ q.1) in
     let args = arguments_said ks said.0 in
-    let others : xs ≡ map want_of (map argument_term args.0) = has.2 ∙ sym (terms_want (map want_of_kind ks) said.0) ∙ ap (map want_of) args.1 in
+    let others : xs ≡ map want_of (map argument_term args.0) =
+    has.2 ∙ sym (terms_want (map want_of_kind ks) said.0) ∙ ap (map want_of) args.1 in
     record {
       statement = Sprintf n target.0 text has.0 args.0;
       named = refl;
@@ -279,7 +280,8 @@ printed_filled n (w ∷ Quoted text ∷ ws) (Some xs) has count fit =
 filled : (v : Verb) (n : ℕ) (ws : List Word) (formats : Option (List Want)) → HasFormat (verb_shape v) ws formats →
     is_count (verb_shape v) (length ws) ≡ true → words_flaw (verb_shape v) formats ws ≡ None →
     IsFilled (verb_word v) (verb_shape v) n ws formats
-filled (verbs.Fixed (fixed_verbs.Origin origins.Let)) n ws formats has count fit = fixed n ws formats count fit (λ h. made (Let n h.0 h.1.0) refl refl refl tt)
+filled (verbs.Fixed (fixed_verbs.Origin origins.Let)) n ws formats has count fit =
+    fixed n ws formats count fit (λ h. made (Let n h.0 h.1.0) refl refl refl tt)
 filled (verbs.Fixed (fixed_verbs.Origin origins.File)) n ws formats has count fit = fixed n ws formats count fit
     (λ h. made (File n h.0 h.1.0) refl refl refl tt)
 filled (verbs.Fixed (fixed_verbs.Origin origins.Eager)) n ws formats has count fit = fixed n ws formats count fit
@@ -324,7 +326,8 @@ filled (verbs.Fixed (fixed_verbs.Computation computations.Add)) n ws formats has
     (λ h. made (Add n h.0 h.1.0 h.1.1.0) refl refl refl tt)
 filled (verbs.Fixed (fixed_verbs.Computation computations.Sub)) n ws formats has count fit = fixed n ws formats count fit
     (λ h. made (Sub n h.0 h.1.0 h.1.1.0) refl refl refl tt)
-filled (verbs.Fixed (fixed_verbs.Growth growths.EcInit)) n ws formats has count fit = fixed n ws formats count fit (λ h. made (EcInit n h.0) refl refl refl tt)
+filled (verbs.Fixed (fixed_verbs.Growth growths.EcInit)) n ws formats has count fit =
+    fixed n ws formats count fit (λ h. made (EcInit n h.0) refl refl refl tt)
 filled (verbs.Fixed (fixed_verbs.Growth growths.EcPut)) n ws formats has count fit = fixed n ws formats count fit
     (λ h. made (EcPut n h.0 h.1.0) refl refl refl tt)
 filled (verbs.Fixed (fixed_verbs.Growth growths.EcCat)) n ws formats has count fit = fixed n ws formats count fit
@@ -336,8 +339,10 @@ filled (verbs.Fixed (fixed_verbs.Control controls.Repeat)) n ws formats has coun
     (λ h. made (Repeat n h.0) refl refl refl tt)
 filled (verbs.Fixed (fixed_verbs.Control controls.If)) n ws formats has count fit = fixed n ws formats count fit
     (λ h. made (If n h.0 h.1.0 h.1.1.0) refl refl refl tt)
-filled (verbs.Fixed (fixed_verbs.Control controls.Else)) n ws formats has count fit = fixed n ws formats count fit (λ h. made (Else n) refl refl refl tt)
-filled (verbs.Fixed (fixed_verbs.Control controls.End)) n ws formats has count fit = fixed n ws formats count fit (λ h. made (End n) refl refl refl tt)
+filled (verbs.Fixed (fixed_verbs.Control controls.Else)) n ws formats has count fit =
+    fixed n ws formats count fit (λ h. made (Else n) refl refl refl tt)
+filled (verbs.Fixed (fixed_verbs.Control controls.End)) n ws formats has count fit =
+    fixed n ws formats count fit (λ h. made (End n) refl refl refl tt)
 
 -- what the conversions of the format want
 converts_of : FormatOrBad → (text : List ℕ) → (formats : Option (List Want)) × Converts text formats
@@ -365,12 +370,14 @@ well_said g n before p ws v formats has spelled format fine =
     let shape = verb_shape v in
     let names = names_flaw before (wants_of shape formats ws) ws in
     let blocks = block_flaw (verb_effect v) before.blocks in
-    let a = neither (unless (is_count shape (length ws)) WrongCount) (first_of (words_flaw shape formats ws) (first_of names blocks)) fine in
+    let a = neither (unless (is_count shape (length ws)) WrongCount)
+    (first_of (words_flaw shape formats ws) (first_of names blocks)) fine in
     let b = neither (words_flaw shape formats ws) (first_of names blocks) a.1 in
     let c = neither names blocks b.1 in
     let f = filled v n ws formats format (holds (is_count shape (length ws)) WrongCount a.0) b.0 in
     let ts = terms_of f.statement in
-    let known : terms_flaw before ts ≡ None = sym (names_same before ws ts f.terms) ∙ ap (λ k. names_flaw before k ws) (sym f.wanted) ∙ c.0 in
+    let known : terms_flaw before ts ≡ None =
+    sym (names_same before ws ts f.terms) ∙ ap (λ k. names_flaw before k ws) (sym f.wanted) ∙ c.0 in
     let effect = same_effect v ws f.statement f.named f.terms f.suits in (
       f.statement,
       record {

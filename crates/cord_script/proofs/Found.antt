@@ -214,7 +214,8 @@ record HasFirst (line : List ℕ) : Type 0 where
 plain_first : (line rest : List ℕ) (c : ℕ) → Begins line c rest → c ≢ 34 → HasFirst line
 plain_first line rest c b n =
     let l = plain_front rest in
-    let whole : line ≡ b.front ++ (c ∷ l.front) ++ l.rest = b.whole ∙ ap (λ x. b.front ++ c ∷ x) l.whole ∙ sym (append_assoc b.front (c ∷ l.front) l.rest) in
+    let whole : line ≡ b.front ++ (c ∷ l.front) ++ l.rest =
+    b.whole ∙ ap (λ x. b.front ++ c ∷ x) l.whole ∙ sym (append_assoc b.front (c ∷ l.front) l.rest) in
     record {
       word = Plain (c ∷ l.front);
       rest = l.rest;
@@ -226,7 +227,8 @@ quoted_first : (line inner front : List ℕ) → All IsBlank front → line ≡ 
     ((kind : RefusalKind) × BeginsBadText line kind)
 quoted_first line inner front blank e (inr bad) = inr (bad.0, (front, inner, blank, e, bad.1))
 quoted_first line inner front blank e (inl h) =
-    let whole : line ≡ (front ++ 34 ∷ h.0) ++ 34 ∷ h.1 = e ∙ ap (λ x. front ++ 34 ∷ x) h.3 ∙ sym (append_assoc front (34 ∷ h.0) (34 ∷ h.1)) in
+    let whole : line ≡ (front ++ 34 ∷ h.0) ++ 34 ∷ h.1 =
+    e ∙ ap (λ x. front ++ 34 ∷ x) h.3 ∙ sym (append_assoc front (34 ∷ h.0) (34 ∷ h.1)) in
     inl (record {
       word = Quoted h.2;
       rest = h.1;

@@ -22,7 +22,8 @@ one_saying one bad g n before (line ∷ lines) ss more (inr h) (inl k) = absurd 
 one_saying one bad g n before (line ∷ lines) ss more (inr h) (inr k) =
     let words = one_words line h.2 k.2 h.5 k.5 in
     let s = one_statement one bad g n before h.2 h.1 k.1 h.6 (subst (λ ws. Says g n before ws k.1) (sym words) k.6) in
-    let rest = one_saying one bad g (n + 1) (after h.1 before) lines h.3 k.3 h.7 (subst (λ x. LinesSay g (n + 1) (after x before) lines k.3) (sym s) k.7) in
+    let rest = one_saying one bad g (n + 1) (after h.1 before) lines h.3 k.3 h.7
+    (subst (λ x. LinesSay g (n + 1) (after x before) lines k.3) (sym s) k.7) in
     h.4 ∙ ap (λ x. x ∷ h.3) s ∙ ap (λ x. k.1 ∷ x) rest ∙ sym k.4
 
 -- a line that says something isn't wrong
@@ -115,7 +116,8 @@ one_stop one bad g n m k before [] line later [] line' later' ss more kind other
     let same : line ≡ line' = cc in
     let numbers : k ≡ m = omega arith in
     let here = subst (λ x. HasBadLine g m (after_all x before) line kind) h w in
-    let there = subst (λ x. HasBadLine g x before line' other) numbers (subst (λ x. HasBadLine g k (after_all x before) line' other) h' w') in
+    let there = subst (λ x. HasBadLine g x before line' other) numbers
+    (subst (λ x. HasBadLine g k (after_all x before) line' other) h' w') in
     (sym numbers, one_bad_line one bad g m before line kind other here (subst (λ x. HasBadLine g m before x other) (sym same) there))
 one_stop one bad g n m k before [] line later (y ∷ front') line' later' ss more kind other e f lines h h' w w' =
     let same : line ≡ y = cc in
@@ -127,7 +129,8 @@ one_stop one bad g n m k before (x ∷ front) line later [] line' later' ss more
     let same : line' ≡ x = cc in
     let number : k ≡ n = omega arith in
     let few : n ≤ MAX_LINES = omega (arith, bad_number g m (after_all ss before) line kind w) in
-    let there = subst (λ z. HasBadLine g z before line' other) number (subst (λ z. HasBadLine g k (after_all z before) line' other) h' w') in
+    let there = subst (λ z. HasBadLine g z before line' other) number
+    (subst (λ z. HasBadLine g k (after_all z before) line' other) h' w') in
     absurd (says_fine one bad g n before x front ss other few h (subst (λ z. HasBadLine g n before z other) same there))
 one_stop one bad g n m k before (x ∷ front) line later (y ∷ front') line' later' ss more kind other e f lines (inl h) (inl h') w w' =
     let others : front ++ line ∷ later ≡ front' ++ line' ∷ later' = cc in
@@ -173,7 +176,8 @@ one_flaw one bad g b m n kind other (inr (inr h)) (inr (inl k)) =
     absurd (read_goes_on one bad g b h.lines h.statements n other h.split h.count h.say k)
 one_flaw one bad g b m n kind other (inr (inr h)) (inr (inr k)) =
     let lines = one_split b k.lines h.lines k.split h.split in
-    let same = one_saying one bad g 1 start h.lines k.statements h.statements (subst (λ x. LinesSay g 1 start x k.statements) lines k.say) h.say in
+    let same = one_saying one bad g 1 start h.lines k.statements h.statements
+    (subst (λ x. LinesSay g 1 start x k.statements) lines k.say) h.say in
     let blocks : h.block ∷ h.others ≡ k.block ∷ k.others = sym h.blocks ∙ ap (λ x. (after_all x start).blocks) (sym same) ∙ k.blocks in
     let block : h.block ≡ k.block = cc in
     one_left h.block m n kind other h.left (subst (λ x. IsLeft x n other) (sym block) k.left)

@@ -84,7 +84,8 @@ right_catn : (others : List Word) (n : ℕ) (target : List ℕ) (parts : List (L
 right_catn [] n target parts is h suits = absurd h
 right_catn (w ∷ ws) n target parts is h suits =
     let r = cords_are ws parts h.1 in
-    let same : wants.Target kinds.Cord ∷ cords ws ≡ wants.Target kinds.Cord ∷ map want_of (map (Operand kinds.Cord) parts) = ap (λ k. wants.Target kinds.Cord ∷ k) r.0 in
+    let same : wants.Target kinds.Cord ∷ cords ws ≡ wants.Target kinds.Cord ∷ map want_of (map (Operand kinds.Cord) parts) =
+    ap (λ k. wants.Target kinds.Cord ∷ k) r.0 in
     let lengths = r.1 in
     let low : 1 + MIN_PARTS ≤ length (w ∷ ws) = omega (arith, suits.0) in
     let high : length (w ∷ ws) ≤ 1 + MAX_PARTS = omega (arith, suits.1) in
@@ -138,7 +139,8 @@ right_sprintf (w ∷ x ∷ ws) n target text format args is h suits =
       wants = ap (λ k. wants.Target kinds.Cord ∷ wants.Format ∷ k) (sym r.0);
       count = le-leb 2 (length (w ∷ x ∷ ws)) two;
       words = λ m.
-          let p = neither (misfit (wants.Target kinds.Cord) w) (first_of (misfit wants.Format x) (first_pair misfit (map want_of (map argument_term args)) ws)) m in
+          let p = neither (misfit (wants.Target kinds.Cord) w)
+          (first_of (misfit wants.Format x) (first_pair misfit (map want_of (map argument_term args)) ws)) m in
           let q = neither (misfit wants.Format x) (first_pair misfit (map want_of (map argument_term args)) ws) p.1 in
           print_none (misfit (wants.Target kinds.Cord) w) (misfit wants.Format x) (first_pair misfit xs ws) None
           (length ws == length xs) p.0 q.0 (eq-eqb (length ws) (length xs) r.1) (ap (λ k. first_pair misfit k ws) (sym r.0) ∙ q.1);
@@ -206,9 +208,15 @@ fine_form g n before words s says r =
     let others = says.others in
     let xs = wants_of r.form.shape r.formats others in
     let fit = r.words (pairs_none misfit before others ts (λ w t h a. term_fits w t before h a) says.terms says.allowed) in
-    let known : first_pair (operand_flaw before.names) xs others ≡ None = ap (λ k. first_pair (operand_flaw before.names) k others) r.wants ∙ pairs_none (operand_flaw before.names) before others ts (λ w t h a. term_known w t before h a) says.terms says.allowed in
-    let assigned : first_pair (word_target_flaw before.names) xs others ≡ None = ap (λ k. first_pair (word_target_flaw before.names) k others) r.wants ∙ pairs_none (word_target_flaw before.names) before others ts (λ w t h a. term_assigned w t before h a) says.terms says.allowed in
-    let opened : first_pair (word_path_flaw before.paths) xs others ≡ None = ap (λ k. first_pair (word_path_flaw before.paths) k others) r.wants ∙ pairs_none (word_path_flaw before.paths) before others ts (λ w t h a. term_opened w t before h a) says.terms says.allowed in
+    let known : first_pair (operand_flaw before.names) xs others ≡ None =
+    ap (λ k. first_pair (operand_flaw before.names) k others) r.wants ∙ pairs_none (operand_flaw before.names) before others ts
+    (λ w t h a. term_known w t before h a) says.terms says.allowed in
+    let assigned : first_pair (word_target_flaw before.names) xs others ≡ None =
+    ap (λ k. first_pair (word_target_flaw before.names) k others) r.wants ∙ pairs_none (word_target_flaw before.names) before others ts
+    (λ w t h a. term_assigned w t before h a) says.terms says.allowed in
+    let opened : first_pair (word_path_flaw before.paths) xs others ≡ None =
+    ap (λ k. first_pair (word_path_flaw before.paths) k others) r.wants ∙ pairs_none (word_path_flaw before.paths) before others ts
+    (λ w t h a. term_opened w t before h a) says.terms says.allowed in
     all_none (unless (is_count r.form.shape (length others)) WrongCount) (words_flaw r.form.shape r.formats others)
     (names_flaw before xs others) (block_flaw r.form.effect before.blocks)
     (ap (λ b. unless b WrongCount) r.count)
@@ -250,7 +258,8 @@ good_words one bad g n before words s kind says h =
     let at = subst (λ ws. HasBadWords g before ws kind) says.word h in
     let f = flaw_at before (form_in g (word_of s)) r.form says.others kind (in_grammar g (word_of s) says.has ∙ r.is) at in
     let formats = one_format one bad r.form.shape says.others f.0 r.formats f.1 r.has in
-    let clash : None ≡ Some kind = sym (fine_form g n before words s says r) ∙ ap (λ k. form_flaw r.form before k says.others) (sym formats) ∙ f.2 in
+    let clash : None ≡ Some kind =
+    sym (fine_form g n before words s says r) ∙ ap (λ k. form_flaw r.form before k says.others) (sym formats) ∙ f.2 in
     cc
 
 one_form_flaw : OneFormat → BadIsNoFormat → (before : Before) (f : Option Form) (ws : List Word) (kind kind' : RefusalKind) →
@@ -562,10 +571,19 @@ one_statement one bad g n before words s s' says says' =
     let forms : Some r.form ≡ Some r'.form = sym r.is ∙ ap form_of word ∙ r'.is in
     let form : r.form ≡ r'.form = cc in
     let has' = subst (λ k. HasFormat k.shape says'.others r'.formats) (sym form) r'.has in
-    let formats = one_format one bad r.form.shape says.others r.formats r'.formats r.has (subst (λ k. HasFormat r.form.shape k r'.formats) (sym others) has') in
-    let wants : map want_of (terms_of s) ≡ map want_of (terms_of s') = sym r.wants ∙ ap (λ k. wants_of k.shape r.formats says.others) form ∙ ap (λ k. wants_of r'.form.shape k says.others) formats ∙ ap (λ k. wants_of r'.form.shape r'.formats k) others ∙ r'.wants in
-    let terms = one_list says.others (terms_of s) (terms_of s') says.terms (subst (λ k. AreTerms k (terms_of s')) (sym others) says'.terms) wants in
-    let pieces = one_printed one (terms_of s) (pieces_of s) (pieces_of s') (printed s says.suits) (subst (λ k. IsPrinted k (pieces_of s')) (sym terms) (printed s' says'.suits)) in
+    let formats =
+    one_format one bad r.form.shape says.others r.formats r'.formats r.has
+    (subst (λ k. HasFormat r.form.shape k r'.formats) (sym others) has') in
+    let wants : map want_of (terms_of s) ≡ map want_of (terms_of s') =
+    sym r.wants ∙ ap (λ k. wants_of k.shape r.formats says.others) form ∙ ap (λ k. wants_of r'.form.shape k says.others) formats
+    ∙ ap (λ k. wants_of r'.form.shape r'.formats k) others ∙ r'.wants in
+    let terms = one_list says.others (terms_of s) (terms_of s') says.terms
+    (subst (λ k. AreTerms k (terms_of s')) (sym others) says'.terms) wants in
+    let pieces = one_printed one (terms_of s) (pieces_of s) (pieces_of s') (printed s says.suits)
+    (subst (λ k. IsPrinted k (pieces_of s')) (sym terms) (printed s' says'.suits)) in
     let line : line_of s ≡ line_of s' = says.line ∙ sym says'.line in
-    let same : Some s ≡ Some s' = sym (made_is s) ∙ ap (λ k. made k (line_of s) (pieces_of s) (terms_of s)) word ∙ ap (λ k. made (word_of s') k (pieces_of s) (terms_of s)) line ∙ ap (λ k. made (word_of s') (line_of s') k (terms_of s)) pieces ∙ ap (λ k. made (word_of s') (line_of s') (pieces_of s') k) terms ∙ made_is s' in
+    let same : Some s ≡ Some s' =
+    sym (made_is s) ∙ ap (λ k. made k (line_of s) (pieces_of s) (terms_of s)) word
+    ∙ ap (λ k. made (word_of s') k (pieces_of s) (terms_of s)) line ∙ ap (λ k. made (word_of s') (line_of s') k (terms_of s)) pieces
+    ∙ ap (λ k. made (word_of s') (line_of s') (pieces_of s') k) terms ∙ made_is s' in
     cc

@@ -258,7 +258,8 @@ one_word line rest rest' (Plain p) (Plain p') h h' =
     let b = plain_begins line p rest h in
     let b' = plain_begins line p' rest' h' in
     let r = one_beginning line (b.others ++ rest) (b'.others ++ rest') b.first b'.first b.begins b'.begins in
-    let whole : p ++ rest ≡ p' ++ rest' = ap (λ x. x ++ rest) b.is ∙ ap (λ x. x ∷ b.others ++ rest) r.0 ∙ ap (λ x. b'.first ∷ x) r.1 ∙ sym (ap (λ x. x ++ rest') b'.is) in
+    let whole : p ++ rest ≡ p' ++ rest' = ap (λ x. x ++ rest) b.is ∙ ap (λ x. x ∷ b.others ++ rest) r.0 ∙ ap (λ x. b'.first ∷ x) r.1
+    ∙ sym (ap (λ x. x ++ rest') b'.is) in
     let q = one_run p p' rest rest' h.4 h.5 h'.4 h'.5 whole in
     (ap Plain q.0, q.1)
 one_word line rest rest' (Plain p) (Quoted t') h h' =
@@ -270,7 +271,8 @@ one_word line rest rest' (Quoted t) (Plain p') h h' =
     let r = one_beginning line (b.others ++ rest') (h.1 ++ 34 ∷ rest) b.first 34 b.begins (quoted_begins line t rest h) in
     absurd (b.no_quote r.0)
 one_word line rest rest' (Quoted t) (Quoted t') h h' =
-    let r = one_beginning line (h.1 ++ 34 ∷ rest) (h'.1 ++ 34 ∷ rest') 34 34 (quoted_begins line t rest h) (quoted_begins line t' rest' h') in
+    let r = one_beginning line (h.1 ++ 34 ∷ rest) (h'.1 ++ 34 ∷ rest') 34 34 (quoted_begins line t rest h)
+    (quoted_begins line t' rest' h') in
     let q = one_text h.1 h'.1 (34 ∷ rest) (34 ∷ rest') t t' h.4 h'.4 r.1 refl refl in
     let behind : rest ≡ rest' = let e = q.1 in cc in
     (ap Quoted q.0, behind)

@@ -59,7 +59,8 @@ pub cords_wrong : (ws mid : List Word) (ps qs : List Field) (n : ℕ) (kind : Re
     n ≤ 1 + MAX_PARTS → HasTaken TARGET ws mid ps qs → first_pair misfit (take (n - 1) CORDS) mid ≡ Some kind → HasFieldFlaw Joined ws kind
 cords_wrong ws mid ps qs n kind e low high h wrong =
     let count = within (1 + MIN_PARTS) (1 + MAX_PARTS) (length ws) (omega arith) (omega arith) in
-    let first = ap (λ k. first_pair misfit k ws) (sym (joined_are ws n e (omega arith) high)) ∙ behind_taken TARGET (take (n - 1) CORDS) ws mid ps qs h ∙ wrong in
+    let first = ap (λ k. first_pair misfit k ws) (sym (joined_are ws n e (omega arith) high)) ∙ behind_taken TARGET (take (n - 1) CORDS) ws
+    mid ps qs h ∙ wrong in
     (None, refl, ap (λ b. first_of (unless b WrongCount) (first_misfit (joined ws) ws)) count ∙ first)
 
 -- a target and its cords
@@ -110,7 +111,8 @@ pub arguments_taken : (ws mid behind : List Word) (none qs rs : List Field) (pie
 arguments_taken ws mid behind none qs rs pieces some has empty h fit same k fine =
     let xs = wants_of_pieces pieces in
     let left = left_count format_wants ws mid none qs h in
-    let whole = whole_taken (format_wants ++ xs) ws behind none rs (omega arith) empty (both_taken format_wants xs ws mid behind none qs rs h k) in
+    let whole = whole_taken (format_wants ++ xs) ws behind none rs (omega arith) empty
+    (both_taken format_wants xs ws mid behind none qs rs h k) in
     record {
       has = has;
       count = le-leb 2 (length ws) some;

@@ -24,7 +24,9 @@ pub quoted_next : (line rest inner w after text : List ℕ) (b first : ℕ) → 
     inner ≡ w ++ 34 ∷ after → All IsBlank (take b line) → Spells w text → length text ≤ MAX_TEXT → HasWord line (Quoted text) after ×
     (length after < length line)
 quoted_next line rest inner w after text b first r q f i blank s few =
-    let whole : line ≡ take b line ++ 34 ∷ w ++ 34 ∷ after = parts b line ∙ ap (λ x. take b line ++ x) (sym r ∙ q ∙ ap (λ x. x ∷ inner) f ∙ ap (λ x. 34 ∷ x) i) ∙ sym (append_assoc (take b line) (34 ∷ w) (34 ∷ after)) in (
+    let whole : line ≡ take b line ++ 34 ∷ w ++ 34 ∷ after =
+    parts b line ∙ ap (λ x. take b line ++ x) (sym r ∙ q ∙ ap (λ x. x ∷ inner) f ∙ ap (λ x. 34 ∷ x) i)
+    ∙ sym (append_assoc (take b line) (34 ∷ w) (34 ∷ after)) in (
       (take b line, w, blank, whole, s, few),
       omega (
         arith,
@@ -44,8 +46,12 @@ pub plain_next : (line rest inner p after : List ℕ) (c b len : ℕ) → p ≡ 
     EndsPlain (drop len rest) → HasWord line (Plain p) after × (length after < length line)
 plain_next line rest inner p after c b len ep ea r q blank stops nq plain ends =
     let nb : ¬ IsBlank c = subst StartsNoBlank (sym r ∙ q) stops in
-    let some : take len rest ≢ [] = subst (λ x. take len x ≢ []) (sym q) (some_plain c inner len nb nq (subst (λ x. EndsPlain (drop len x)) q ends)) in
-    let whole : line ≡ take b line ++ p ++ after = parts b line ∙ ap (λ x. take b line ++ x) (sym r ∙ parts len rest) ∙ sym (append_assoc (take b line) (take len rest) (drop len rest)) ∙ ap (λ x. take b line ++ x ++ drop len rest) (sym ep) ∙ ap (λ x. take b line ++ p ++ x) (sym ea) in
+    let some : take len rest ≢ [] =
+    subst (λ x. take len x ≢ []) (sym q) (some_plain c inner len nb nq (subst (λ x. EndsPlain (drop len x)) q ends)) in
+    let whole : line ≡ take b line ++ p ++ after =
+    parts b line ∙ ap (λ x. take b line ++ x) (sym r ∙ parts len rest)
+    ∙ sym (append_assoc (take b line) (take len rest) (drop len rest)) ∙ ap (λ x. take b line ++ x ++ drop len rest) (sym ep)
+    ∙ ap (λ x. take b line ++ p ++ x) (sym ea) in
     let one : p ≢ [] = λ e. some (sym ep ∙ e) in (
       (take b line, blank, whole, one, subst (All IsPlain) (sym ep) plain, subst EndsPlain (sym ea) ends),
       shorter line (take b line) p after whole one,

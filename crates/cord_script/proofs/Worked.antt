@@ -161,7 +161,17 @@ let_says t = record {
 }
 
 let_first : (t : List ℕ) → IsLine 108 (codes "et") (let_chunks t) → LinesSay whole 1 start (let_line t ∷ []) (Let 1 (codes "x") t ∷ [])
-let_first t h = inr (says_something 108 (codes "et") (let_chunks t) h, Let 1 (codes "x") t, chunk_words (Bare [] (codes "let") ∷ let_chunks t), [], refl, words_well (Bare [] (codes "let") ∷ let_chunks t) h.words, let_says t, refl)
+let_first t h =
+    inr (
+      says_something 108 (codes "et") (let_chunks t) h,
+      Let 1 (codes "x") t,
+      chunk_words (Bare [] (codes "let") ∷ let_chunks t),
+      [],
+      refl,
+      words_well (Bare [] (codes "let") ∷ let_chunks t) h.words,
+      let_says t,
+      refl,
+    )
 
 -- `let x` and a quoted word that is none
 abbrev let_open : List ℕ → List ℕ
@@ -262,7 +272,8 @@ unfolding form_of
 unknown_before_wrong_kind = bad_behind_let 97 (codes "dd") (codes "n" ∷ codes "y" ∷ codes "x" ∷ []) UnknownName (lit≤ tt) refl
     (record { shows = refl; no_note = refl; words = refl }) (None, refl, refl)
 
-hello : ReadsBy whole (codes "let x " ++ quote (codes "hello") ++ 10 ∷ codes "put x") (Let 1 (codes "x") (codes "hello") ∷ Put 2 (codes "x") ∷ [])
+hello : ReadsBy whole (codes "let x " ++ quote (codes "hello") ++ 10 ∷ codes "put x")
+    (Let 1 (codes "x") (codes "hello") ∷ Put 2 (codes "x") ∷ [])
 hello = record {
   size = lit≤ tt;
   lines = let_line (codes "hello") ∷ codes "put x" ∷ [];

@@ -13,7 +13,8 @@ quote t = 34 ∷ t ++ 34 ∷ []
 
 -- The rows under their names.
 pub record Rows : Type 0 where
-  pub hello : ReadsBy whole (codes "let x " ++ quote (codes "hello") ++ 10 ∷ codes "put x") (Let 1 (codes "x") (codes "hello") ∷ Put 2 (codes "x") ∷ [])
+  pub hello : ReadsBy whole (codes "let x " ++ quote (codes "hello") ++ 10 ∷ codes "put x")
+      (Let 1 (codes "x") (codes "hello") ∷ Put 2 (codes "x") ∷ [])
   pub unknown_name : FlawBy whole (codes "put x") 1 UnknownName
   pub cat_one_operand : FlawBy whole (codes "cat z x") 1 WrongCount
   pub put_two_words : FlawBy whole (codes "put x y") 1 WrongCount

@@ -91,7 +91,8 @@ pub fn take_settled(
     context: &Context,
     statements: &mut Vec<Statement>,
 ) -> Result<bool, RefusalKind>
-    ensures adds { IfOk result (λ taken. taken ≡ true → Adds number line.now (before_of context.now) statements.old.items
+    ensures adds { IfOk result
+        (λ taken. taken ≡ true → Adds number line.now (before_of context.now) statements.old.items
         statements.new.items) }
     ensures keeps { IfOk result (λ taken. taken ≡ false → statements.new.items ≡ statements.old.items) }
     ensures flaw { IfErr result (λ kind. kind ≡ RefusalKind.NoMemory) }

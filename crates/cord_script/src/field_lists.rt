@@ -208,7 +208,8 @@ fn printed_fields(
     words: &mut VecDeque<Word>,
     buffer: &mut Vec<Field>,
 ) -> Result<FieldList, RefusalKind>
-    ensures fields { IfOk result (λ list. AreFields Printed words.old.items list.fields.items (format_of list.builder)) }
+    ensures fields { IfOk result
+        (λ list. AreFields Printed words.old.items list.fields.items (format_of list.builder)) }
     ensures builder { IfOk result (λ list. verb_of list.builder ≡ Verb.Sprintf) }
     ensures settled { IfOk result (λ list. AreSettled list.settled names.now list.fields.items) }
     ensures flaw { IfErr result (λ kind. kind ≢ RefusalKind.NoMemory → HasFieldFlaw Printed words.old.items kind) }

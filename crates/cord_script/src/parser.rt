@@ -54,7 +54,8 @@ fn take_words<'a>(
     statements: &mut Vec<Statement>,
 ) -> Result<(), RefusalKind>
     requires { ¬ IsIdle line.now }
-    ensures takes { OnOk result (Takes number line.now (before_of context.old) (before_of context.new) statements.old.items
+    ensures takes { OnOk result
+        (Takes number line.now (before_of context.old) (before_of context.new) statements.old.items
         statements.new.items) }
     ensures flaw { IfErr result (λ kind. kind ≢ RefusalKind.NoMemory → HasWrong line.now (before_of context.old) kind) }
 {
@@ -74,7 +75,8 @@ fn take_line<'a>(
     context: &mut Context,
     statements: &mut Vec<Statement>,
 ) -> Result<(), RefusalKind>
-    ensures takes { OnOk result (Takes number line.now (before_of context.old) (before_of context.new) statements.old.items
+    ensures takes { OnOk result
+        (Takes number line.now (before_of context.old) (before_of context.new) statements.old.items
         statements.new.items) }
     ensures flaw { IfErr result (λ kind. kind ≢ RefusalKind.NoMemory → HasWrong line.now (before_of context.old) kind) }
 {
@@ -90,9 +92,9 @@ fn take_line<'a>(
 /// Reads a script: lines that end with byte 10, or with the script, and on each one statement, a comment or nothing.
 /// docs/GRAMMAR.md gives the grammar.
 ///
-/// Refused with the line of the first flaw, counted from 1, and what it is: the bytes of a line come first, then its verb, the
-/// number of its words, the words, and the names. Line 0 is the script as a whole. `NoMemory` comes
-/// at the line that was being read, and says nothing of the script but that the lines before are read.
+/// Refused with the line of the first flaw, counted from 1, and what it is: the bytes of a line come first, then its
+/// verb, the number of its words, the words, and the names. Line 0 is the script as a whole. `NoMemory` comes at the
+/// line that was being read, and says nothing of the script but that the lines before are read.
 pub fn parse(alloc: Global, script: &[u8]) -> Result<Script, Refusal>
     // The bytes are these statements.
     ensures reads { IfOk result (λ s. Reads script.now s) }

@@ -12,14 +12,15 @@ use crate::flow::readings::{Reading, reading_of};
 use cord_script::Statement;
 use std::alloc::{AllocError, Global};
 
-/// The numbers of the name that a line assigns and of the first two whose bytes it reads, as far as they are small: hints, so that a
-/// name is not looked for again.
+/// The numbers of the name that a line assigns and of the first two whose bytes it reads, as far as they are small:
+/// hints, so that a name is not looked for again.
 #[derive(Clone, Copy)]
 pub(crate) struct LineNumbers {
     pub(crate) target: Option<u8>,
     pub(crate) first: Option<u8>,
     pub(crate) second: Option<u8>,
-    /// Whether `first` and `second` are the numbers of all names whose bytes the line reads: then the line isn't asked for them.
+    /// Whether `first` and `second` are the numbers of all names whose bytes the line reads: then the line isn't asked
+    /// for them.
     pub(crate) read_is_told: bool,
     /// Whether `target` is the number of the name that the line assigns, or it assigns none.
     pub(crate) target_is_told: bool,

@@ -22,7 +22,8 @@ struct Group {
     words: Vec<u128>,
 }
 
-/// For each name and each line of a script whether some path after the line reads the bytes of the name before a line assigns it.
+/// For each name and each line of a script whether some path after the line reads the bytes of the name before a line
+/// assigns it.
 #[derive(Drop)]
 pub(crate) struct Later {
     paths: Paths,
@@ -62,7 +63,8 @@ fn successor_word(words: &[u128], successors: Successors) -> u128
     }
 }
 
-// What the backwards flow over a line makes of its word: what the places after it have, but for what the line assigns, is added.
+// What the backwards flow over a line makes of its word: what the places after it have, but for what the line assigns,
+// is added.
 fn flowed(word: u128, successors: u128, assigned: u128) -> u128
     ensures bits { (i : ℕ) → i < 128 → bit result i ≡ flow (bit word i) (bit successors i) (bit assigned i) }
     ensures grows { word ≤ result }
@@ -132,7 +134,8 @@ impl Flow<'_> {
         requires assigned { AreAssigned self.now.statements.now self.now.numbering.now self.now.group assigned.now }
         requires partly { ArePartly self.now.statements.now self.now.numbering.now self.now.group words.old }
         ensures partly { ArePartly self.now.statements.now self.now.numbering.now self.now.group words.new }
-        ensures live { result ≡ false → AreLive self.now.statements.now self.now.numbering.now self.now.group words.new }
+        ensures live { result ≡ false → AreLive self.now.statements.now self.now.numbering.now
+            self.now.group words.new }
         ensures fewer { result ≡ true → room words.new < room words.old }
     {
         let mut again = false;

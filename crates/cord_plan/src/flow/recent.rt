@@ -16,8 +16,8 @@ use crate::flow::successors::is_block;
 use cord_script::{Argument, Name, Statement};
 use std::alloc::{AllocError, Global};
 
-/// For each number of a name the last line so far that assigns the name, and the last one that reads its bytes; and the last line
-/// of a block.
+/// For each number of a name the last line so far that assigns the name, and the last one that reads its bytes; and the
+/// last line of a block.
 #[derive(Drop)]
 pub(crate) struct Recent<'a> {
     pub(crate) later: &'a Later,

@@ -6,7 +6,8 @@ ghost use Rattle.cord_meaning.specs.Paths.{opened, open_at};
 ghost use Rattle.cord_meaning.specs.Statements.{shape_of};
 ghost use Rattle.cord_plan.specs.Forced.{is_block};
 ghost use Rattle.cord_plan.specs.Unread.{successors};
-ghost use Rattle.cord_plan.specs.inner.Liveness.{shape_view, turn_of, innermost, places, places_at, places_of, paths_at};
+ghost use Rattle.cord_plan.specs.inner.Liveness.{shape_view, turn_of, innermost, places, places_at, places_of};
+ghost use Rattle.cord_plan.specs.inner.Liveness.{paths_at};
 ghost use Rattle.cord_plan.specs.inner.Liveness.{is_back, AreSuccessors, ArePaths, LeadOn, NoBlocks};
 
 use cord_script::Statement;
@@ -171,8 +172,8 @@ fn open_or_close(blocks: &mut Vec<Option<usize>>, p: usize, shape: Shape) -> Res
     Ok(())
 }
 
-/// The place that the statement at a place leads to where it passes others over: a `repeat` after its `end`, an `if` after its
-/// `else` or, where it has none, to its `end`, an `else` to its `end`, and any other to the next one.
+/// The place that the statement at a place leads to where it passes others over: a `repeat` after its `end`, an `if`
+/// after its `else` or, where it has none, to its `end`, an `else` to its `end`, and any other to the next one.
 pub(crate) fn jump(shapes: &[Shape], place: usize) -> usize
     requires { place < length shapes.now }
     ensures { result ≡ jump (map shape_view shapes.now) place }
@@ -264,8 +265,8 @@ fn has_blocks(statements: &[Statement]) -> bool
     false
 }
 
-/// The places that may come next after each place of a script. Without blocks nothing is made; else each block is walked over once
-/// for each line that leads to its end.
+/// The places that may come next after each place of a script. Without blocks nothing is made; else each block is
+/// walked over once for each line that leads to its end.
 pub(crate) fn paths_of(alloc: Global, statements: &[Statement]) -> Result<Paths, AllocError>
     ensures { IfOk result (λ paths. ArePaths (map shape_of statements.now) paths) }
 {

@@ -116,7 +116,8 @@ fn is_free(line: &Line, name: &Name, number: Option<usize>) -> bool
     assigns(line.statement, name) || !line.recent.later.is_later(number, line.place)
 }
 
-// Whether nothing but a line itself needs the text of an operand: the line names it once, and assigns it or it isn't read later.
+// Whether nothing but a line itself needs the text of an operand: the line names it once, and assigns it or it isn't
+// read later.
 fn is_spare(line: &Line, operand: &Name, number: Option<usize>) -> bool
     requires { number ≡ number_of line.now.recent.now.later.now.numbering operand.now }
     ensures { result ≡ is_spare line.now.statements.now (tells line.now.recent.now.later.now) line.now.place
@@ -221,7 +222,8 @@ fn stands(
     is_spare(line, operand, number) && stays(line, source, expression)
 }
 
-/// What stands for the next operand of a line after those that were chosen for, where the lines before it have these operations.
+/// What stands for the next operand of a line after those that were chosen for, where the lines before it have these
+/// operations.
 pub(crate) fn choose<'a>(
     line: &Line,
     operand: &'a Name,
@@ -235,7 +237,8 @@ pub(crate) fn choose<'a>(
     requires operands { simple_operands line.now.statement.now ≡ Some (operands_view line.now.operands) }
     requires more { length chosen.now < length (operands_view line.now.operands) }
     ensures { IsChoice line.now.statements.now (tells line.now.recent.now.later.now) line.now.place
-        line.now.statement.now (operands_view line.now.operands) operand.now (map operation_expression (map operation_view operations.now))
+        line.now.statement.now (operands_view line.now.operands) operand.now
+        (map operation_expression (map operation_view operations.now))
         (map choice_view chosen.now) (choice_view result) }
 {
     let number = line.recent.later.numbering.number_with(operand, hint);

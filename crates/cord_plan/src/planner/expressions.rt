@@ -20,7 +20,7 @@ use std::alloc::Global;
 
 /// The expression of a line, where it is a simple one, and the lines whose expressions it takes.
 #[derive(Drop)]
-struct Taking {
+struct LineExpression {
     expression: Option<Expr>,
     sources: Sources,
 }
@@ -31,7 +31,7 @@ fn expression_over<'a>(
     interner: &mut Interner,
     line: &Line<'a>,
     operations: &'a [Operation],
-) -> Result<Taking, CordError>
+) -> Result<LineExpression, CordError>
     requires place { line.now.place ≤ length line.now.statements.now }
     requires recent { IsRecent line.now.statements.now line.now.place line.now.recent.now }
     requires operands { simple_operands line.now.statement.now ≡ Some (operands_view line.now.operands) }
@@ -43,13 +43,13 @@ fn expression_over<'a>(
 {
     let (statement, numbers) = (line.statement, line.numbers);
     match line.operands {
-        Operands::Nothing => Ok(Taking {
+        Operands::Nothing => Ok(LineExpression {
             expression: expression_with(alloc, interner, statement, &[])?,
             sources: Sources::Nothing,
         }),
         Operands::One(operand) => {
             let choice = choose(line, operand, numbers.first, operations, &[]);
-            Ok(Taking {
+            Ok(LineExpression {
                 expression: expression_with(alloc, interner, statement, &[choice])?,
                 sources: Sources::One(source_of(&choice)),
             })
@@ -57,7 +57,7 @@ fn expression_over<'a>(
         Operands::Two(left, right) => {
             let first = choose(line, left, numbers.first, operations, &[]);
             let second = choose(line, right, numbers.second, operations, &[first]);
-            Ok(Taking {
+            Ok(LineExpression {
                 expression: expression_with(alloc, interner, statement, &[first, second])?,
                 sources: Sources::Two(source_of(&first), source_of(&second)),
             })
@@ -66,7 +66,7 @@ fn expression_over<'a>(
             let choices = choose_all(alloc, line, operands, operations)?;
             let expression = expression_with(alloc, interner, statement, &choices)?;
             let sources = Sources::Listed(sources_of(alloc, &choices)?);
-            Ok(Taking {
+            Ok(LineExpression {
                 expression,
                 sources,
             })
@@ -74,8 +74,8 @@ fn expression_over<'a>(
     }
 }
 
-/// The expression of the next line after those that have these operations. The operations of the lines that it takes only measure
-/// from then on. Refused only with `NoMemory`.
+/// The expression of the next line after those that have these operations. The operations of the lines that it takes
+/// only measure from then on. Refused only with `NoMemory`.
 pub(crate) fn next_expression(
     alloc: Global,
     interner: &mut Interner,
@@ -104,7 +104,7 @@ pub(crate) fn next_expression(
         numbers,
         recent,
     };
-    let Taking {
+    let LineExpression {
         expression,
         sources,
     } = expression_over(alloc, interner, &line, operations)?;

@@ -18,8 +18,8 @@ const SLOTS: usize = 2_048;
 /// The number of slots in which single bytes are looked for, which stand after those of names.
 const BYTE_SLOTS: usize = 256;
 
-/// Names and single bytes as expressions, each made once and then shared: of two names of one slot the last one stands there.
-/// The slots take no memory before the first of them.
+/// Names and single bytes as expressions, each made once and then shared: of two names of one slot the last one stands
+/// there. The slots take no memory before the first of them.
 #[derive(Drop)]
 pub(crate) struct Interner {
     slots: Vec<Option<Rc<Expr>>>,

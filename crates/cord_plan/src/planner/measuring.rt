@@ -86,7 +86,8 @@ fn measure_all(operations: &mut [Operation], sources: &[Option<usize>])
 
 /// The same of the places of the lines that a line takes.
 pub(crate) fn measure(operations: &mut [Operation], sources: Sources)
-    ensures { map operation_view operations.new ≡ measured_from 0 (sources_view sources) (map operation_view operations.old) }
+    ensures { map operation_view operations.new ≡ measured_from 0 (sources_view sources)
+        (map operation_view operations.old) }
 {
     match sources {
         Sources::Nothing => measure_all(operations, &[]),

@@ -42,7 +42,8 @@ fn nearest_by_lines(statements: &[Statement], place: usize, name: &Name) -> Opti
     None
 }
 
-/// The last line before a line that assigns a name of this number, where neither a block's line nor one that reads the name stands after it.
+/// The last line before a line that assigns a name of this number, where neither a block's line nor one that reads the
+/// name stands after it.
 pub(crate) fn nearest(line: &Line, name: &Name, number: Option<usize>) -> Option<usize>
     requires number { number ≡ number_of line.now.recent.now.later.now.numbering name.now }
     requires place { line.now.place ≤ length line.now.statements.now }

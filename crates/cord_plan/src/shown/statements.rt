@@ -108,7 +108,8 @@ fn put_search<W: Sink>(sought: Search, sink: &mut W) -> Result<(), WriteFault>
 
 // The text of a statement that computes a number and reads no byte.
 fn put_computation<W: Sink>(computation: Computation, sink: &mut W) -> Result<(), WriteFault>
-    ensures { (line : ℕ) → Writes (statement (statement_of line (Family.Computation computation.entry))) (W.taken sink.old)
+    ensures { (line : ℕ) → Writes (statement (statement_of line (Family.Computation computation.entry)))
+        (W.taken sink.old)
         (W.taken sink.new) (W.failures sink.old) (W.failures sink.new) (W.finished sink.old) (W.finished sink.new)
         result }
 {

@@ -72,7 +72,8 @@ fixed_wants (fixed_verbs.Composition compositions.Nul) = wants.Target kinds.Cord
 fixed_wants (fixed_verbs.Origin origins.FromFn) = wants.Target kinds.Cord ∷ wants.Function ∷ wants.Number ∷ []
 fixed_wants (fixed_verbs.Composition compositions.Cat) = wants.Target kinds.Cord ∷ wants.Operand kinds.Cord ∷ wants.Operand kinds.Cord ∷ []
 fixed_wants (fixed_verbs.Composition compositions.Catc) = wants.Target kinds.Cord ∷ wants.Operand kinds.Cord ∷ wants.Number ∷ []
-fixed_wants (fixed_verbs.Composition compositions.Substr) = wants.Target kinds.Cord ∷ wants.Operand kinds.Cord ∷ wants.Number ∷ wants.Number ∷ []
+fixed_wants (fixed_verbs.Composition compositions.Substr) =
+    wants.Target kinds.Cord ∷ wants.Operand kinds.Cord ∷ wants.Number ∷ wants.Number ∷ []
 fixed_wants (fixed_verbs.Derivation derivations.Balance) = wants.Target kinds.Cord ∷ wants.Operand kinds.Cord ∷ []
 fixed_wants (fixed_verbs.Derivation derivations.EcToCord) = wants.Target kinds.Cord ∷ wants.Operand kinds.Extensible ∷ []
 fixed_wants (fixed_verbs.Computation computations.Len) = wants.Target kinds.Number ∷ wants.Operand kinds.Cord ∷ []
@@ -80,7 +81,8 @@ fixed_wants (fixed_verbs.Look looks.Fetch) = wants.Target kinds.Number ∷ wants
 fixed_wants (fixed_verbs.Look looks.Cmp) = wants.Target kinds.Number ∷ wants.Operand kinds.Cord ∷ wants.Operand kinds.Cord ∷ []
 fixed_wants (fixed_verbs.Look looks.Ncmp) = wants.Target kinds.Number ∷ wants.Operand kinds.Cord ∷ wants.Number ∷ wants.Operand kinds.Cord
     ∷ wants.Number ∷ wants.Number ∷ []
-fixed_wants (fixed_verbs.Search searches.Str) = wants.Target kinds.Number ∷ wants.Operand kinds.Cord ∷ wants.Number ∷ wants.Operand kinds.Cord ∷ []
+fixed_wants (fixed_verbs.Search searches.Str) =
+    wants.Target kinds.Number ∷ wants.Operand kinds.Cord ∷ wants.Number ∷ wants.Operand kinds.Cord ∷ []
 fixed_wants (fixed_verbs.Search searches.Chr) = wants.Target kinds.Number ∷ wants.Operand kinds.Cord ∷ wants.Number ∷ wants.Number ∷ []
 fixed_wants (fixed_verbs.Search searches.Rchr) = wants.Target kinds.Number ∷ wants.Operand kinds.Cord ∷ wants.Number ∷ wants.Number ∷ []
 fixed_wants (fixed_verbs.Computation computations.Assign) = wants.Target kinds.Number ∷ wants.Number ∷ []

@@ -20,7 +20,8 @@ as_many shapes operations same =
 pub loop-place-preserved : goal.loop-place-preserved
 loop-place-preserved c =
     let shapes = c.in_ok-shapes.shapes.items in
-    let is : c.jump.result ≡ jump (map shape_view shapes) c.loop-place.place = c.jump.ensures ∙ ap (λ (xs : List Shape). jump (map shape_view xs) c.loop-place.place) c.deref.ensures.value in
+    let is : c.jump.result ≡ jump (map shape_view shapes) c.loop-place.place =
+    c.jump.ensures ∙ ap (λ (xs : List Shape). jump (map shape_view xs) c.loop-place.place) c.deref.ensures.value in
     record {
       size = size_more c.loop-place.places.items c.push.new.self.items c.jump.result c.loop-place.place c.in_ok-push.ensures.items
           c.loop-place.invariant.size;
@@ -30,11 +31,13 @@ loop-place-preserved c =
 
 pub returns-clause-size : goal.returns-clause-size
 returns-clause-size c =
-    let many : length c.in_ok-shapes.shapes.items ≡ length c.args.operations.now = as_many c.in_ok-shapes.shapes.items c.args.operations.now c.in_ok-shapes.ensures in
+    let many : length c.in_ok-shapes.shapes.items ≡ length c.args.operations.now =
+    as_many c.in_ok-shapes.shapes.items c.args.operations.now c.in_ok-shapes.ensures in
     omega arith
 
 pub returns-clause-told : goal.returns-clause-told
 returns-clause-told c = λ p lt.
-    let many : length c.in_ok-shapes.shapes.items ≡ length c.args.operations.now = as_many c.in_ok-shapes.shapes.items c.args.operations.now c.in_ok-shapes.ensures in
+    let many : length c.in_ok-shapes.shapes.items ≡ length c.args.operations.now =
+    as_many c.in_ok-shapes.shapes.items c.args.operations.now c.in_ok-shapes.ensures in
     let before : p < c.loop-place.place = omega arith in
     c.loop-place.invariant.told p before ∙ ap (λ (xs : List blocks.Shape). Some (jump xs p)) c.in_ok-shapes.ensures

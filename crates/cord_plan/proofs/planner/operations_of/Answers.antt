@@ -26,16 +26,27 @@ loop-place-preserved c =
     let old = c.loop-place.operations.items in
     let new = c.next_expression.new.operations in
     let size : length new ≡ c.loop-place.operations.len = c.next_expression.auto.operations ∙ c.deref_mut.ensures.len in
-    let next : IsStep s later b l (map operation_view old) (map operation_view new) (option_map expr_view e) = rw (← c.loop-place.invariant.later, ← c.deref_mut.ensures.value) c.in_ok-expression.ensures.made in
+    let next : IsStep s later b l (map operation_view old) (map operation_view new) (option_map expr_view e) =
+    rw (← c.loop-place.invariant.later, ← c.deref_mut.ensures.value) c.in_ok-expression.ensures.made in
     let here : slice_get s b ≡ Some l = slice_get_read s (length s) b l refl c.loop-place-test.true c.index-statements-place.is in
     let made : operation_view o ≡ plan.operation l (plan.or_nothing (option_map expr_view e)) (plan.is_dead later b (target_of l)) false =
     c.in_ok-operation_of.ensures.made
     ∙ ap (λ (v : Bool). plan.operation l (plan.or_nothing (option_map expr_view e)) v false) c.is_dead-dead.ensures in
     record {
-      begun = rw (c.push_reserved.ensures.items, written_back c.loop-place.operations.len new old size, map-append operation_view new (o ∷ []))
+      begun = rw (
+        c.push_reserved.ensures.items,
+        written_back c.loop-place.operations.len new old size,
+        map-append operation_view new (o ∷ []),
+      )
           (begun_then s later b l (map operation_view old) (map operation_view new) (option_map expr_view e) (operation_view o)
           c.loop-place-test.true c.index-statements-place.is c.loop-place.invariant.begun next made);
-      room = omega (arith, c.loop-place-test.true, c.loop-place.invariant.room, c.push_reserved.ensures.len, c.push_reserved.ensures.capacity);
+      room = omega (
+        arith,
+        c.loop-place-test.true,
+        c.loop-place.invariant.room,
+        c.push_reserved.ensures.len,
+        c.push_reserved.ensures.capacity,
+      );
       later = c.note.ensures.later ∙ c.loop-place.invariant.later;
       recent = c.note.ensures.recent s here c.loop-place.invariant.recent;
     }

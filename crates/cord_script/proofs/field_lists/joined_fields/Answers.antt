@@ -7,14 +7,16 @@ use Rattle.cord_script.proofs.field_lists.joined_fields.Goals as goal
 pub returns-in_err-cords-clause-flaw : goal.returns-in_err-cords-clause-flaw
 returns-in_err-cords-clause-flaw c =
     let p = err_from_is_err_and c.from_residual-in_err-cords.result c.from_residual-in_err-cords.ensures.1 in
-    rw (p.1, p.2) (λ n. cords_wrong c.args.words.now.items c.take_fields.new.words.items c.emptied-fields.result.items c.take_fields.new.fields.items
+    rw (p.1, p.2) (λ n. cords_wrong c.args.words.now.items c.take_fields.new.words.items c.emptied-fields.result.items
+    c.take_fields.new.fields.items
     c.len-count.result c.in_err-cords.field-0.0 (omega arith) (omega arith) (omega arith) c.in_ok-target.ensures.taken
     (c.in_err-cords.ensures.flaw n (cords_left c.args.words.now.items c.take_fields.new.words.items c.emptied-fields.result.items
     c.take_fields.new.fields.items c.len-count.result (omega arith) (omega arith) (omega arith) c.in_ok-target.ensures.taken)))
 
 pub returns-clause-fields : goal.returns-clause-fields
 returns-clause-fields c = cords_taken c.args.words.now.items c.take_fields.new.words.items c.take_fields-2.new.words.items
-    c.emptied-fields.result.items c.take_fields.new.fields.items c.take_fields-2.new.fields.items c.len-count.result (omega arith) (omega arith)
+    c.emptied-fields.result.items c.take_fields.new.fields.items c.take_fields-2.new.fields.items c.len-count.result
+    (omega arith) (omega arith)
     (omega arith) c.emptied-fields.ensures c.in_ok-target.ensures.taken c.in_ok-cords.ensures.taken
     c.in_ok-cords.ensures.fit
 

@@ -13,4 +13,5 @@ returns-clause-fields c =
     subst (λ xs. AreFields (Words xs) c.args.words.now.items c.take_all.new.fields.items _) c.wants_of.ensures taken
 
 pub returns-clause-settled : goal.returns-clause-settled
-returns-clause-settled c = λ h. c.in_ok-settled.ensures.settled h (none_settled c.args.names.now c.emptied-fields.result.items c.emptied-fields.ensures)
+returns-clause-settled c =
+    λ h. c.in_ok-settled.ensures.settled h (none_settled c.args.names.now c.emptied-fields.result.items c.emptied-fields.ensures)

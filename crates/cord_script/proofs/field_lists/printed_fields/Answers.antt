@@ -20,7 +20,8 @@ returns-in_err-arguments-clause-flaw c =
     let has = subst (IsFormatOf Printed c.args.words.now.items) c.in-Some.is c.in_ok-read.ensures.format in
     let same = c.deref.ensures.value ∙ c.in_ok-wants.ensures.wants ∙ ap wants_of_pieces c.pieces.ensures in
     let mid = c.take_fields.new.words.items in
-    rw (p.1, p.2) (λ n. arguments_wrong c.args.words.now.items mid c.emptied-fields.result.items c.take_fields.new.fields.items c.in-Some.format
+    rw (p.1, p.2) (λ n. arguments_wrong c.args.words.now.items mid c.emptied-fields.result.items c.take_fields.new.fields.items
+    c.in-Some.format
     c.in_err-arguments.field-0.0 (omega arith) has c.in_ok-front.ensures.taken c.in_ok-front.ensures.fit
     (ap (λ k. counted_misfit k mid) (sym same) ∙ c.in_err-arguments.ensures.flaw n))
 
@@ -29,7 +30,8 @@ returns-clause-fields c =
     let has = subst (IsFormatOf Printed c.args.words.now.items) c.in-Some.is c.in_ok-read.ensures.format in
     let same = c.deref.ensures.value ∙ c.in_ok-wants.ensures.wants ∙ ap wants_of_pieces c.pieces.ensures in
     let mid = c.take_fields.new.words.items in
-    let taken = subst (λ k. HasTaken k mid c.take_all.new.words.items c.take_fields.new.fields.items c.take_all.new.fields.items) same c.in_ok-arguments.ensures.taken in
+    let taken = subst (λ k. HasTaken k mid c.take_all.new.words.items c.take_fields.new.fields.items c.take_all.new.fields.items) same
+    c.in_ok-arguments.ensures.taken in
     arguments_taken c.args.words.now.items mid c.take_all.new.words.items c.emptied-fields.result.items c.take_fields.new.fields.items
     c.take_all.new.fields.items c.in-Some.format (omega arith) has c.emptied-fields.ensures c.in_ok-front.ensures.taken
     c.in_ok-front.ensures.fit (c.in_ok-arguments.ensures.count ∙ ap length same) taken

@@ -18,20 +18,24 @@ pub returns-in-Some-clause-flaw : goal.returns-in-Some-clause-flaw
 returns-in-Some-clause-flaw c =
     let before = before_of c.args.context.now in
     let names = ap (λ ps. terms_flaw before (map term_of ps)) (sym c.deref.ensures.value) ∙ sym c.unsettled_flaw.ensures ∙ c.in-Some.is in
-    λ n. names_wrong before (verb_form c.args.verb) c.args.words.now.items c.in_ok-list.list.fields.items (format_of c.in_ok-list.list.builder)
+    λ n. names_wrong before (verb_form c.args.verb) c.args.words.now.items c.in_ok-list.list.fields.items
+    (format_of c.in_ok-list.list.builder)
     c.in-Some.kind c.in_ok-list.ensures.fields names
 
 pub returns-in-Some-block_flaw-clause-flaw : goal.returns-in-Some-block_flaw-clause-flaw
 returns-in-Some-block_flaw-clause-flaw c =
     let before = before_of c.args.context.now in
-    let names = ap (λ ps. terms_flaw before (map term_of ps)) (sym c.deref.ensures.value) ∙ sym c.unsettled_flaw.ensures ∙ c.in_default.is in
-    λ n. blocks_wrong before (verb_form c.args.verb) c.args.words.now.items c.in_ok-list.list.fields.items (format_of c.in_ok-list.list.builder)
+    let names = ap (λ ps. terms_flaw before (map term_of ps)) (sym c.deref.ensures.value) ∙ sym c.unsettled_flaw.ensures
+    ∙ c.in_default.is in
+    λ n. blocks_wrong before (verb_form c.args.verb) c.args.words.now.items c.in_ok-list.list.fields.items
+    (format_of c.in_ok-list.list.builder)
     c.in-Some-block_flaw.kind c.in_ok-list.ensures.fields names (sym c.block_flaw.ensures ∙ c.in-Some-block_flaw.is)
 
 pub returns-clause-fields : goal.returns-clause-fields
 returns-clause-fields c =
     let before = before_of c.args.context.now in
-    let names = ap (λ ps. terms_flaw before (map term_of ps)) (sym c.deref.ensures.value) ∙ sym c.unsettled_flaw.ensures ∙ c.in_default.is in
+    let names = ap (λ ps. terms_flaw before (map term_of ps)) (sym c.deref.ensures.value) ∙ sym c.unsettled_flaw.ensures
+    ∙ c.in_default.is in
     checked before (verb_form c.args.verb) c.args.words.now.items c.in_ok-list.list.fields.items (format_of c.in_ok-list.list.builder)
     c.in_ok-list.ensures.fields names (sym c.block_flaw.ensures ∙ c.in_default-block_flaw.is)
 

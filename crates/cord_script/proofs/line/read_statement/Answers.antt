@@ -33,7 +33,8 @@ returns-clause-said c =
     let words = c.in-Some.ensures in
     said verb c.args.number old (before_of c.leave.new.context) c.args.words.now.items c.verb_in.new.words.items found.fields.items
     (format_of found.builder) c.of-cursor.result c.in_ok-statement.statement words c.in_ok-fields.ensures.fields context c.of-cursor.ensures
-    (subst (λ v. IsStatementOf v c.args.number c.of-cursor.result c.in_ok-statement.statement) c.in_ok-fields.ensures.builder c.in_ok-statement.ensures.statement)
+    (subst (λ v. IsStatementOf v c.args.number c.of-cursor.result c.in_ok-statement.statement) c.in_ok-fields.ensures.builder
+    c.in_ok-statement.ensures.statement)
 
 pub leave-requires-clause-settled : goal.leave-requires-clause-settled
 leave-requires-clause-settled c =

@@ -37,7 +37,8 @@ lines-preserved c = record {
 
 pub returns-in-Some-clause-flaw : goal.returns-in-Some-clause-flaw
 returns-in-Some-clause-flaw c = λ n.
-    leaves_open c.args.script.now c.lines.rest.now c.lines.number c.in-Some.refusal.line (before_of c.lines.context) c.lines.statements.items
+    leaves_open c.args.script.now c.lines.rest.now c.lines.number c.in-Some.refusal.line (before_of c.lines.context)
+    c.lines.statements.items
     c.in-Some.refusal.kind (omega arith) c.lines.invariant.few
     (no_bytes c.lines.rest.now (eqb-true (length c.lines.rest.now) 0 (sym c.lines-test.ensures))) c.lines.invariant.read
     c.in-Some.ensures
@@ -47,4 +48,7 @@ returns-in-Some-clause-no_memory c = λ n. absurd (left_found _ c.in-Some.refusa
 
 pub returns-clause-reads : goal.returns-clause-reads
 returns-clause-reads c =
-    subst (Reads c.args.script.now) (sym c.of.ensures) (read_whole c.args.script.now c.lines.rest.now c.lines.number (before_of c.lines.context) c.lines.statements.items (omega arith) c.lines.invariant.few (no_bytes c.lines.rest.now (eqb-true (length c.lines.rest.now) 0 (sym c.lines-test.ensures))) c.lines.invariant.read c.in_default-open_flaw.ensures)
+    subst (Reads c.args.script.now) (sym c.of.ensures)
+    (read_whole c.args.script.now c.lines.rest.now c.lines.number (before_of c.lines.context) c.lines.statements.items (omega arith)
+    c.lines.invariant.few (no_bytes c.lines.rest.now (eqb-true (length c.lines.rest.now) 0 (sym c.lines-test.ensures)))
+    c.lines.invariant.read c.in_default-open_flaw.ensures)

@@ -16,4 +16,7 @@ returns-then-first-eq34-clause-word c =
     c.in-Some.first c.tail-rest.ensures c.in-Some.ensures c.if-first-eq34.true read.1 c.blanks.ensures.blank read.2 read.3
 
 pub returns-clause-word : goal.returns-clause-word
-returns-clause-word c = plain_next c.args.line.now c.tail-rest.result.now c.in-Some.inner.now c.of.result c.tail.result.now c.in-Some.first c.blanks.result c.plain_len-len.result (c.of.ensures ∙ c.head.ensures) c.tail.ensures c.tail-rest.ensures c.in-Some.ensures c.blanks.ensures.blank c.blanks.ensures.stops c.if-first-eq34.false c.plain_len-len.ensures.plain c.plain_len-len.ensures.ends
+returns-clause-word c =
+    plain_next c.args.line.now c.tail-rest.result.now c.in-Some.inner.now c.of.result c.tail.result.now c.in-Some.first c.blanks.result
+    c.plain_len-len.result (c.of.ensures ∙ c.head.ensures) c.tail.ensures c.tail-rest.ensures c.in-Some.ensures c.blanks.ensures.blank
+    c.blanks.ensures.stops c.if-first-eq34.false c.plain_len-len.ensures.plain c.plain_len-len.ensures.ends

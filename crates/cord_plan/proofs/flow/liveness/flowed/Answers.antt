@@ -17,5 +17,6 @@ pub returns-clause-fits : goal.returns-clause-fits
 returns-clause-fits c =
     let word : c.args.word < 2 ^ 128 = c.ranges.word.fits in
     let low : c.args.successors < 2 ^ 128 = c.ranges.successors.fits in
-    let within : bit_and c.args.successors (bit_not w128 c.args.assigned) ≤ c.args.successors = and_le_l c.args.successors (bit_not w128 c.args.assigned) in
+    let within : bit_and c.args.successors (bit_not w128 c.args.assigned) ≤ c.args.successors =
+    and_le_l c.args.successors (bit_not w128 c.args.assigned) in
     or_lt 128 c.args.word (bit_and c.args.successors (bit_not w128 c.args.assigned)) word (omega arith)

@@ -13,7 +13,8 @@ loop-place-preserved c =
     let n = c.loop-place.place in
     let none : Successors = record { first = 0; second = None } in
     let there : slice_get bs n ≡ Some (get_or bs n none) = slice_get-get_or bs n none c.loop-place-test.true in
-    let here : is_back n (places_at bs n) ≡ false = ap (λ (o : Option Successors). is_back n (places_of o)) there ∙ (sym c.is_back.ensures ∙ c.if-is_back.false) in
+    let here : is_back n (places_at bs n) ≡ false =
+    ap (λ (o : Option Successors). is_back n (places_of o)) there ∙ (sym c.is_back.ensures ∙ c.if-is_back.false) in
     λ p lt. elim (eq-or-lt_of_le (let le : p ≤ n = omega (arith, lt) in le)) [
       | inl same ↦ subst (λ (k : ℕ). is_back k (places_at bs k) ≡ false) (sym same) here
       | inr less ↦ c.loop-place.invariant p less

@@ -12,7 +12,8 @@ loop-p-preserved c = record {
       (reverse c.open_or_close.new.blocks.items) c.loop-p-test.true c.loop-p.invariant.opened c.in_ok-open_or_close.ensures;
   size = omega (arith, c.loop-p.invariant.size, simp length-append at (ap length c.push_reserved.ensures.items));
   room = omega (arith, c.loop-p-test.true, c.loop-p.invariant.room, c.push_reserved.ensures.len, c.push_reserved.ensures.capacity);
-  told = told_more c.loop-p.found.items c.push_reserved.new.self.items c.successors_at.result (successors (map shape_view c.args.shapes.now)) c.loop-p.p
+  told = told_more c.loop-p.found.items c.push_reserved.new.self.items c.successors_at.result
+      (successors (map shape_view c.args.shapes.now)) c.loop-p.p
       c.loop-p.invariant.size c.push_reserved.ensures.items c.loop-p.invariant.told c.successors_at.ensures;
 }
 

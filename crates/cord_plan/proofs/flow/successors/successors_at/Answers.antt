@@ -7,7 +7,8 @@ use Rattle.cord_plan.proofs.flow.successors.successors_at.Goals as goal
 
 pub overflow_add-repeat : goal.overflow_add-repeat
 overflow_add-repeat c =
-    let before : c.in-Some.repeat < c.args.p = block_below (map shape_view c.args.shapes.now) c.args.p c.in-Some.repeat (sym c.in-Some.is ∙ c.requires.block) in
+    let before : c.in-Some.repeat < c.args.p =
+    block_below (map shape_view c.args.shapes.now) c.args.p c.in-Some.repeat (sym c.in-Some.is ∙ c.requires.block) in
     omega arith
 
 pub returns-in-Simple : goal.returns-in-Simple

@@ -25,9 +25,11 @@ returns-in-None-expression_at c =
     let before : List Expr = map (λ d. expr_of d) (map choice_view c.args.chosen.now) in
     let after : List Expr = map (λ y. name y) (drop (length (map choice_view c.args.chosen.now) + 1) (operands_view line.operands)) in
     let near : nearest line.statements.now c.args.operand.now line.place ≡ Some c.in-Some.source = sym c.in-Some.ensures in
-    let bare : None ≡ expression_in (map operation_expression (map operation_view c.args.operations.now)) c.in-Some.source = c.in-None-expression_at.ensures in
+    let bare : None ≡ expression_in (map operation_expression (map operation_view c.args.operations.now)) c.in-Some.source =
+    c.in-None-expression_at.ensures in
     λ t has. kept_bare line.statements.now (tells line.recent.now.later.now) t line.place line.statement.now c.args.operand.now before
-    after c.in-Some.source near (sym (first_in (map operation_expression (map operation_view c.args.operations.now)) t c.in-Some.source has) ∙ sym bare)
+    after c.in-Some.source near
+    (sym (first_in (map operation_expression (map operation_view c.args.operations.now)) t c.in-Some.source has) ∙ sym bare)
 
 pub returns-then-stays_small : goal.returns-then-stays_small
 returns-then-stays_small c =
@@ -36,12 +38,16 @@ returns-then-stays_small c =
     let before : List Expr = map (λ d. expr_of d) (map choice_view c.args.chosen.now) in
     let after : List Expr = map (λ y. name y) (drop (length (map choice_view c.args.chosen.now) + 1) (operands_view line.operands)) in
     let near : nearest line.statements.now c.args.operand.now line.place ≡ Some c.in-Some.source = sym c.in-Some.ensures in
-    let there : Some r ≡ expression_in (map operation_expression (map operation_view c.args.operations.now)) c.in-Some.source = c.in-Some-expression_at.ensures in
-    let stable : stands line.statements.now (tells line.recent.now.later.now) r c.in-Some.source line.place line.statement.now (operands_view line.operands) c.args.operand.now ≡ c.stands.result = sym c.stands.ensures in
-    let fit : stands line.statements.now (tells line.recent.now.later.now) r c.in-Some.source line.place line.statement.now (operands_view line.operands) c.args.operand.now ≡ true = stable ∙ c.if-stands.true in
+    let there : Some r ≡ expression_in (map operation_expression (map operation_view c.args.operations.now)) c.in-Some.source =
+    c.in-Some-expression_at.ensures in
+    let stable : stands line.statements.now (tells line.recent.now.later.now) r c.in-Some.source line.place line.statement.now
+    (operands_view line.operands) c.args.operand.now ≡ c.stands.result = sym c.stands.ensures in
+    let fit : stands line.statements.now (tells line.recent.now.later.now) r c.in-Some.source line.place line.statement.now
+    (operands_view line.operands) c.args.operand.now ≡ true = stable ∙ c.if-stands.true in
     let small : is_small (expr_with line.statement.now (before ++ r ∷ after)) ≡ true = sym c.stays_small.ensures ∙ c.if-stays_small.true in
     λ t has. by_tests line.statements.now (tells line.recent.now.later.now) t line.place line.statement.now c.args.operand.now before after
-    (operands_view line.operands) (simple_reads line.statement.now (operands_view line.operands) c.requires.operands) c.in-Some.source r near
+    (operands_view line.operands) (simple_reads line.statement.now (operands_view line.operands) c.requires.operands)
+    c.in-Some.source r near
     (sym (first_in (map operation_expression (map operation_view c.args.operations.now)) t c.in-Some.source has) ∙ sym there) true
     (ap (λ (v : Bool). v && is_small (expr_with line.statement.now (before ++ r ∷ after))) fit ∙ small)
 
@@ -52,14 +58,18 @@ returns-else-stands c =
     let before : List Expr = map (λ d. expr_of d) (map choice_view c.args.chosen.now) in
     let after : List Expr = map (λ y. name y) (drop (length (map choice_view c.args.chosen.now) + 1) (operands_view line.operands)) in
     let near : nearest line.statements.now c.args.operand.now line.place ≡ Some c.in-Some.source = sym c.in-Some.ensures in
-    let there : Some r ≡ expression_in (map operation_expression (map operation_view c.args.operations.now)) c.in-Some.source = c.in-Some-expression_at.ensures in
-    let stable : stands line.statements.now (tells line.recent.now.later.now) r c.in-Some.source line.place line.statement.now (operands_view line.operands) c.args.operand.now ≡ c.stands.result = sym c.stands.ensures in
+    let there : Some r ≡ expression_in (map operation_expression (map operation_view c.args.operations.now)) c.in-Some.source =
+    c.in-Some-expression_at.ensures in
+    let stable : stands line.statements.now (tells line.recent.now.later.now) r c.in-Some.source line.place line.statement.now
+    (operands_view line.operands) c.args.operand.now ≡ c.stands.result = sym c.stands.ensures in
     let small = is_small (expr_with line.statement.now (before ++ r ∷ after)) in
-    let refused : (stands line.statements.now (tells line.recent.now.later.now) r c.in-Some.source line.place line.statement.now (operands_view line.operands) c.args.operand.now && small) ≡ false = elim c.else-stands.branch [
+    let refused : (stands line.statements.now (tells line.recent.now.later.now) r c.in-Some.source line.place line.statement.now
+    (operands_view line.operands) c.args.operand.now && small) ≡ false = elim c.else-stands.branch [
       | else-stands-via-then-stands+else-stays_small w ↦ ap (λ (v : Bool). v && small) (stable ∙ w.if-stands.true)
           ∙ (sym w.stays_small.ensures ∙ w.if-stays_small.false)
       | else-stands-via-else-stands w ↦ ap (λ (v : Bool). v && small) (stable ∙ w.if-stands.false)
     ] in
     λ t has. by_tests line.statements.now (tells line.recent.now.later.now) t line.place line.statement.now c.args.operand.now before after
-    (operands_view line.operands) (simple_reads line.statement.now (operands_view line.operands) c.requires.operands) c.in-Some.source r near
+    (operands_view line.operands) (simple_reads line.statement.now (operands_view line.operands) c.requires.operands)
+    c.in-Some.source r near
     (sym (first_in (map operation_expression (map operation_view c.args.operations.now)) t c.in-Some.source has) ∙ sym there) false refused

@@ -26,13 +26,16 @@ loop-operand-preserved c =
     let i = c.loop-operand.operand-index in
     let x = c.operand-item.result in
     let done = map choice_view c.loop-operand.chosen.items in
-    let made : IsChoice s later b l xs x (map operation_expression (map operation_view c.args.operations.now)) done (choice_view c.choose-choice.result) =
+    let made : IsChoice s later b l xs x (map operation_expression (map operation_view c.args.operations.now)) done
+    (choice_view c.choose-choice.result) =
     subst (λ (ys : List (List ℕ)). IsChoice s later b l ys x (map operation_expression (map operation_view c.args.operations.now)) done
     (choice_view c.choose-choice.result)) c.requires.listed
-    (subst (λ (cs : List Choice). IsChoice s later b l (operands_view line.operands) x (map operation_expression (map operation_view c.args.operations.now))
+    (subst (λ (cs : List Choice). IsChoice s later b l (operands_view line.operands) x
+    (map operation_expression (map operation_view c.args.operations.now))
     (map choice_view cs) (choice_view c.choose-choice.result)) c.deref.ensures.value c.choose-choice.ensures) in
     let size : length done ≡ i = length-map c.loop-operand.chosen.items choice_view ∙ c.loop-operand.invariant.size in
-    let long : length c.push.new.self.items ≡ length c.loop-operand.chosen.items + 1 = ap length c.in_ok-push.ensures.items ∙ length-append c.loop-operand.chosen.items (c.choose-choice.result ∷ []) in
+    let long : length c.push.new.self.items ≡ length c.loop-operand.chosen.items + 1 =
+    ap length c.in_ok-push.ensures.items ∙ length-append c.loop-operand.chosen.items (c.choose-choice.result ∷ []) in
     record {
       size = omega arith;
       so_far = λ t has.
@@ -57,4 +60,5 @@ returns c =
     sym (at_drop_all (λ (ys : List (List ℕ)). plain.choices s later t b l done ys) xs c.loop-operand.operand-index
     c.loop-operand-test.false)
     ∙ (c.loop-operand.invariant.so_far t has
-    ∙ ap (λ (ys : List (List ℕ)). plain.choices s later t b l [] ys) (sym (simple_reads l xs (c.requires.operands ∙ ap (λ (ys : List (List ℕ)). Some ys) c.requires.listed))))
+    ∙ ap (λ (ys : List (List ℕ)). plain.choices s later t b l [] ys)
+    (sym (simple_reads l xs (c.requires.operands ∙ ap (λ (ys : List (List ℕ)). Some ys) c.requires.listed))))

@@ -20,7 +20,8 @@ pub returns-in-Some : goal.returns-in-Some
 returns-in-Some c =
     let os = c.args.operations.now in
     let o = c.in-Some.operation.now in
-    let found : slice_get os c.args.place ≡ Some o = slice_get_read os (length os) c.args.place o refl c.in-Some.ensures.lookup.3.0 c.in-Some.ensures.lookup.1 in
+    let found : slice_get os c.args.place ≡ Some o =
+    slice_get_read os (length os) c.args.place o refl c.in-Some.ensures.lookup.3.0 c.in-Some.ensures.lookup.1 in
     c.expression_of.ensures ∙ there os c.args.place (Some o) (sym found)
 
 pub returns-in-None : goal.returns-in-None

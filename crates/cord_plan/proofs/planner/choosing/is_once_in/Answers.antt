@@ -9,7 +9,8 @@ use Rattle.cord_plan.proofs.planner.choosing.is_once_in.Goals.{then-is, else-is}
 
 pub loop-operand-preserved : goal.loop-operand-preserved
 loop-operand-preserved c =
-    let here = count_here c.args.operands.now c.loop-operand.operand-index c.operand-item.result c.args.name.now c.loop-operand-test.true c.operand-item.is in
+    let here = count_here c.args.operands.now c.loop-operand.operand-index c.operand-item.result c.args.name.now c.loop-operand-test.true
+    c.operand-item.is in
     elim c.if-is.branch [
       | then-is w ↦
           let same : bytes_eq c.args.name.now c.operand-item.result ≡ true = cc in
@@ -21,6 +22,7 @@ loop-operand-preserved c =
 
 pub returns : goal.returns
 returns c =
-    let all : count c.args.name.now (drop c.loop-operand.operand-index c.args.operands.now) ≡ 0 = at_drop_all (count c.args.name.now) c.args.operands.now c.loop-operand.operand-index (omega arith) in
+    let all : count c.args.name.now (drop c.loop-operand.operand-index c.args.operands.now) ≡ 0 =
+    at_drop_all (count c.args.name.now) c.args.operands.now c.loop-operand.operand-index (omega arith) in
     let times : c.loop-operand.times ≡ count c.args.name.now c.args.operands.now = omega arith in
     ap (λ (n : ℕ). n == 1) times

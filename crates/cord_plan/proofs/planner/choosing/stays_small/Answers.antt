@@ -23,7 +23,8 @@ pub returns-in-Some-room_left : goal.returns-in-Some-room_left
 returns-in-Some-room_left c =
     let line = c.args.line.now in
     ap (λ (n : ℕ). nat_le (n - length c.args.chosen.now - 1 + c.parts_beside.result) c.in-Some-room_left.rest) c.operand_count.ensures
-    ∙ (ap (λ (n : ℕ). nat_le (length (operands_view line.operands) - length c.args.chosen.now - 1 + n) c.in-Some-room_left.rest) c.parts_beside.ensures
+    ∙ (ap (λ (n : ℕ). nat_le (length (operands_view line.operands) - length c.args.chosen.now - 1 + n) c.in-Some-room_left.rest)
+    c.parts_beside.ensures
     ∙ small_some_some line.statement.now (operands_view line.operands) (map choice_view c.args.chosen.now) (expr_view c.args.expression.now)
     (length c.args.chosen.now) c.requires.operands (length-map c.args.chosen.now choice_view) c.requires.more c.in-Some.room
     c.in-Some-room_left.rest c.in-Some.ensures c.in-Some-room_left.ensures)

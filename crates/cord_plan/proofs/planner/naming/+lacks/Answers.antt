@@ -14,8 +14,11 @@ use Rattle.cord_plan.proofs.planner.naming.+lacks.Goals.{all_lack-in-Name, all_l
 
 pub all_lack-lacks-lacking-requires : goal.all_lack-lacks-lacking-requires
 all_lack-lacks-lacking-requires t c =
-    let there : weight (shared_view c.member-item.result) < weights (members_of (map shared_view c.args.members.now)) = member_there c.args.members.now c.loop-member.member-index c.member-item.result c.loop-member-test.true c.member-item.is in
-    let below : weight (expr_view c.as_ref-expression.result.now) < weights (members_of (map shared_view c.args.members.now)) = subst (λ (e : Expr). weight (expr_view e) < weights (members_of (map shared_view c.args.members.now))) (sym c.as_ref-expression.ensures) there in
+    let there : weight (shared_view c.member-item.result) < weights (members_of (map shared_view c.args.members.now)) =
+    member_there c.args.members.now c.loop-member.member-index c.member-item.result c.loop-member-test.true c.member-item.is in
+    let below : weight (expr_view c.as_ref-expression.result.now) < weights (members_of (map shared_view c.args.members.now)) =
+    subst (λ (e : Expr). weight (expr_view e) < weights (members_of (map shared_view c.args.members.now)))
+    (sym c.as_ref-expression.ensures) there in
     search (rules, below)
 
 pub all_lack-returns-then-not-lacking : goal.all_lack-returns-then-not-lacking
@@ -53,8 +56,10 @@ all_lack-loop-member-preserved t c =
 pub lacks-returns-then-lacks : goal.lacks-returns-then-lacks
 lacks-returns-then-lacks t c =
     let x = c.args.name.now in
-    let view : expr_view c.args.expression.now ≡ plain.sub (expr_view c.in-Sub.expression.value) c.in-Sub.start c.in-Sub.count = ap expr_view c.in-Sub.is ∙ view-Sub c.in-Sub.expression c.in-Sub.start c.in-Sub.count in
-    let inner : lacks (names (expr_view c.in-Sub.expression.value)) x ≡ true = ap (λ (e : Expr). lacks (names (expr_view e)) x) (sym c.as_ref.ensures) ∙ (sym c.lacks.ensures ∙ c.if-lacks.true) in
+    let view : expr_view c.args.expression.now ≡ plain.sub (expr_view c.in-Sub.expression.value) c.in-Sub.start c.in-Sub.count =
+    ap expr_view c.in-Sub.is ∙ view-Sub c.in-Sub.expression c.in-Sub.start c.in-Sub.count in
+    let inner : lacks (names (expr_view c.in-Sub.expression.value)) x ≡ true =
+    ap (λ (e : Expr). lacks (names (expr_view e)) x) (sym c.as_ref.ensures) ∙ (sym c.lacks.ensures ∙ c.if-lacks.true) in
     let whole : lacks (names (expr_view c.args.expression.now)) x ≡ lacks (number_names c.in-Sub.start ++ number_names c.in-Sub.count) x =
     ap (λ (e : plain.Expr). lacks (names e) x) view
     ∙ (lacks_append x (names (expr_view c.in-Sub.expression.value)) (number_names c.in-Sub.start ++ number_names c.in-Sub.count)
@@ -64,8 +69,10 @@ lacks-returns-then-lacks t c =
 pub lacks-returns-else-lacks : goal.lacks-returns-else-lacks
 lacks-returns-else-lacks t c =
     let x = c.args.name.now in
-    let view : expr_view c.args.expression.now ≡ plain.sub (expr_view c.in-Sub.expression.value) c.in-Sub.start c.in-Sub.count = ap expr_view c.in-Sub.is ∙ view-Sub c.in-Sub.expression c.in-Sub.start c.in-Sub.count in
-    let inner : lacks (names (expr_view c.in-Sub.expression.value)) x ≡ false = ap (λ (e : Expr). lacks (names (expr_view e)) x) (sym c.as_ref.ensures) ∙ (sym c.lacks.ensures ∙ c.if-lacks.false) in
+    let view : expr_view c.args.expression.now ≡ plain.sub (expr_view c.in-Sub.expression.value) c.in-Sub.start c.in-Sub.count =
+    ap expr_view c.in-Sub.is ∙ view-Sub c.in-Sub.expression c.in-Sub.start c.in-Sub.count in
+    let inner : lacks (names (expr_view c.in-Sub.expression.value)) x ≡ false =
+    ap (λ (e : Expr). lacks (names (expr_view e)) x) (sym c.as_ref.ensures) ∙ (sym c.lacks.ensures ∙ c.if-lacks.false) in
     let whole : lacks (names (expr_view c.args.expression.now)) x ≡ false =
     ap (λ (e : plain.Expr). lacks (names e) x) view
     ∙ (lacks_append x (names (expr_view c.in-Sub.expression.value)) (number_names c.in-Sub.start ++ number_names c.in-Sub.count)
@@ -80,23 +87,28 @@ all_lack-returns t c =
 
 pub members_lack-all_lack-requires : goal.members_lack-all_lack-requires
 members_lack-all_lack-requires t c =
-    let below : weights (members_of (map shared_view c.halves.result.1.now)) < weights (members_view c.args.members.now) + 1 = rest_falls (members_view c.args.members.now) c.halves.result.0 c.halves.result.1.now c.halves.ensures.members in
+    let below : weights (members_of (map shared_view c.halves.result.1.now)) < weights (members_view c.args.members.now) + 1 =
+    rest_falls (members_view c.args.members.now) c.halves.result.0 c.halves.result.1.now c.halves.ensures.members in
     search (rules, below)
 
 pub members_lack-members_lack-requires : goal.members_lack-members_lack-requires
 members_lack-members_lack-requires t c =
-    let below : weights (members_view c.in-Some.front.now) + 1 < weights (members_view c.args.members.now) + 1 = front_falls (members_view c.args.members.now) c.halves.result.0 c.halves.result.1.now c.halves.ensures.members c.halves.ensures.after c.in-Some.front c.in-Some.is in
+    let below : weights (members_view c.in-Some.front.now) + 1 < weights (members_view c.args.members.now) + 1 =
+    front_falls (members_view c.args.members.now) c.halves.result.0 c.halves.result.1.now c.halves.ensures.members
+    c.halves.ensures.after c.in-Some.front c.in-Some.is in
     search (rules, below)
 
 pub members_lack-all_lack-requires-then-members_lack : goal.members_lack-all_lack-requires-then-members_lack
 members_lack-all_lack-requires-then-members_lack t c =
-    let below : weights (members_of (map shared_view c.halves.result.1.now)) < weights (members_view c.args.members.now) + 1 = rest_falls (members_view c.args.members.now) c.halves.result.0 c.halves.result.1.now c.halves.ensures.members in
+    let below : weights (members_of (map shared_view c.halves.result.1.now)) < weights (members_view c.args.members.now) + 1 =
+    rest_falls (members_view c.args.members.now) c.halves.result.0 c.halves.result.1.now c.halves.ensures.members in
     search (rules, below)
 
 pub members_lack-returns-in-None : goal.members_lack-returns-in-None
 members_lack-returns-in-None t c =
     c.all_lack.ensures
-    ∙ ap (λ (es : plain.Exprs). lacks (names_of es) c.args.name.now) (sym (halves_None (members_view c.args.members.now) c.halves.result.0 c.halves.result.1.now c.halves.ensures.members c.in-None.is))
+    ∙ ap (λ (es : plain.Exprs). lacks (names_of es) c.args.name.now)
+    (sym (halves_None (members_view c.args.members.now) c.halves.result.0 c.halves.result.1.now c.halves.ensures.members c.in-None.is))
 
 pub members_lack-returns-then-members_lack : goal.members_lack-returns-then-members_lack
 members_lack-returns-then-members_lack t c =
@@ -104,7 +116,8 @@ members_lack-returns-then-members_lack t c =
     let rest = members_of (map shared_view c.halves.result.1.now) in
     c.all_lack-then-members_lack.ensures
     ∙ sym (lacks_both x (members_view c.args.members.now) (members_view c.in-Some.front.now) rest
-    (halves_Some (members_view c.args.members.now) c.halves.result.0 c.halves.result.1.now c.halves.ensures.members c.in-Some.front c.in-Some.is)
+    (halves_Some (members_view c.args.members.now) c.halves.result.0 c.halves.result.1.now c.halves.ensures.members
+    c.in-Some.front c.in-Some.is)
     ∙ ap (λ (v : Bool). v && lacks (names_of rest) x) (sym c.members_lack.ensures ∙ c.if-members_lack.true))
 
 pub members_lack-returns-else-members_lack : goal.members_lack-returns-else-members_lack
@@ -113,5 +126,6 @@ members_lack-returns-else-members_lack t c =
     let rest = members_of (map shared_view c.halves.result.1.now) in
     c.if-members_lack.false
     ∙ sym (lacks_both x (members_view c.args.members.now) (members_view c.in-Some.front.now) rest
-    (halves_Some (members_view c.args.members.now) c.halves.result.0 c.halves.result.1.now c.halves.ensures.members c.in-Some.front c.in-Some.is)
+    (halves_Some (members_view c.args.members.now) c.halves.result.0 c.halves.result.1.now c.halves.ensures.members
+    c.in-Some.front c.in-Some.is)
     ∙ ap (λ (v : Bool). v && lacks (names_of rest) x) (sym c.members_lack.ensures ∙ c.if-members_lack.false))

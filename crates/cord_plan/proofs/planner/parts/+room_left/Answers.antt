@@ -13,67 +13,87 @@ use Rattle.cord_plan.proofs.planner.parts.+room_left.Goals.{room_left_all-in-Nam
 
 pub room_left_all-room_left-after-requires : goal.room_left_all-room_left-after-requires
 room_left_all-room_left-after-requires t c =
-    let there : weight (shared_view c.member-item.result) < weights (members_of (map shared_view c.args.members.now)) = member_there c.args.members.now c.loop-member.member-index c.member-item.result c.loop-member-test.true c.member-item.is in
-    let below : weight (expr_view c.as_ref-expression.result.now) < weights (members_of (map shared_view c.args.members.now)) = subst (λ (e : Expr). weight (expr_view e) < weights (members_of (map shared_view c.args.members.now))) (sym c.as_ref-expression.ensures) there in
+    let there : weight (shared_view c.member-item.result) < weights (members_of (map shared_view c.args.members.now)) =
+    member_there c.args.members.now c.loop-member.member-index c.member-item.result c.loop-member-test.true c.member-item.is in
+    let below : weight (expr_view c.as_ref-expression.result.now) < weights (members_of (map shared_view c.args.members.now)) =
+    subst (λ (e : Expr). weight (expr_view e) < weights (members_of (map shared_view c.args.members.now)))
+    (sym c.as_ref-expression.ensures) there in
     search (rules, below)
 
 pub room_left_all-returns-in-None : goal.room_left_all-returns-in-None
 room_left_all-returns-in-None t c =
-    let told : c.match-expression.after ≡ room_left (parts (shared_view c.member-item.result)) c.loop-member.rest = elim c.match-expression.branch [
-      | room_left_all-in-Name w ↦ let view : shared_view c.member-item.result ≡ plain.name w.in-Name.field-0 = ap expr_view (sym c.as_ref-expression.ensures ∙ w.in-Name.is) ∙ view-Name w.in-Name.field-0 in search (rules, view)
+    let told : c.match-expression.after ≡ room_left (parts (shared_view c.member-item.result)) c.loop-member.rest =
+    elim c.match-expression.branch [
+      | room_left_all-in-Name w ↦ let view : shared_view c.member-item.result ≡ plain.name w.in-Name.field-0 =
+          ap expr_view (sym c.as_ref-expression.ensures ∙ w.in-Name.is) ∙ view-Name w.in-Name.field-0 in search (rules, view)
       | room_left_all-in_default w ↦ w.after-is ∙ (w.room_left-after.ensures
           ∙ ap (λ (e : Expr). room_left (parts (expr_view e)) c.loop-member.rest) c.as_ref-expression.ensures)
     ] in
     let rest = parts_of (members_of (map shared_view (drop (c.loop-member.member-index + 1) c.args.members.now))) in
-    let first : room_left (parts_of (members_of (map shared_view c.args.members.now))) c.args.room ≡ room_left (parts (shared_view c.member-item.result) + rest) c.loop-member.rest =
+    let first : room_left (parts_of (members_of (map shared_view c.args.members.now))) c.args.room
+    ≡ room_left (parts (shared_view c.member-item.result) + rest) c.loop-member.rest =
     c.loop-member.invariant ∙ ap (λ (n : ℕ). room_left n c.loop-member.rest)
     (parts_member c.args.members.now c.loop-member.member-index c.member-item.result c.loop-member-test.true c.member-item.is) in
     none_for_more (parts (shared_view c.member-item.result)) rest c.loop-member.rest (sym c.in-None.is ∙ told) ∙ sym first
 
 pub room_left_all-loop-member-preserved : goal.room_left_all-loop-member-preserved
 room_left_all-loop-member-preserved t c =
-    let told : c.match-expression.after ≡ room_left (parts (shared_view c.member-item.result)) c.loop-member.rest = elim c.match-expression.branch [
-      | room_left_all-in-Name w ↦ let view : shared_view c.member-item.result ≡ plain.name w.in-Name.field-0 = ap expr_view (sym c.as_ref-expression.ensures ∙ w.in-Name.is) ∙ view-Name w.in-Name.field-0 in search (rules, view)
+    let told : c.match-expression.after ≡ room_left (parts (shared_view c.member-item.result)) c.loop-member.rest =
+    elim c.match-expression.branch [
+      | room_left_all-in-Name w ↦ let view : shared_view c.member-item.result ≡ plain.name w.in-Name.field-0 =
+          ap expr_view (sym c.as_ref-expression.ensures ∙ w.in-Name.is) ∙ view-Name w.in-Name.field-0 in search (rules, view)
       | room_left_all-in_default w ↦ w.after-is ∙ (w.room_left-after.ensures
           ∙ ap (λ (e : Expr). room_left (parts (expr_view e)) c.loop-member.rest) c.as_ref-expression.ensures)
     ] in
     let rest = parts_of (members_of (map shared_view (drop (c.loop-member.member-index + 1) c.args.members.now))) in
-    let first : room_left (parts_of (members_of (map shared_view c.args.members.now))) c.args.room ≡ room_left (parts (shared_view c.member-item.result) + rest) c.loop-member.rest =
+    let first : room_left (parts_of (members_of (map shared_view c.args.members.now))) c.args.room
+    ≡ room_left (parts (shared_view c.member-item.result) + rest) c.loop-member.rest =
     c.loop-member.invariant ∙ ap (λ (n : ℕ). room_left n c.loop-member.rest)
     (parts_member c.args.members.now c.loop-member.member-index c.member-item.result c.loop-member-test.true c.member-item.is) in
     first ∙ room_for_more (parts (shared_view c.member-item.result)) rest c.loop-member.rest c.in-Some.less (sym c.in-Some.is ∙ told)
 
 pub room_left_members-room_left_all-requires : goal.room_left_members-room_left_all-requires
 room_left_members-room_left_all-requires t c =
-    let below : weights (members_of (map shared_view c.halves.result.1.now)) < weights (members_view c.args.members.now) + 1 = rest_falls (members_view c.args.members.now) c.halves.result.0 c.halves.result.1.now c.halves.ensures.members in
+    let below : weights (members_of (map shared_view c.halves.result.1.now)) < weights (members_view c.args.members.now) + 1 =
+    rest_falls (members_view c.args.members.now) c.halves.result.0 c.halves.result.1.now c.halves.ensures.members in
     search (rules, below)
 
 pub room_left_members-room_left_members-requires : goal.room_left_members-room_left_members-requires
 room_left_members-room_left_members-requires t c =
-    let below : weights (members_view c.in-Some.front.now) + 1 < weights (members_view c.args.members.now) + 1 = front_falls (members_view c.args.members.now) c.halves.result.0 c.halves.result.1.now c.halves.ensures.members c.halves.ensures.after c.in-Some.front c.in-Some.is in
+    let below : weights (members_view c.in-Some.front.now) + 1 < weights (members_view c.args.members.now) + 1 =
+    front_falls (members_view c.args.members.now) c.halves.result.0 c.halves.result.1.now c.halves.ensures.members
+    c.halves.ensures.after c.in-Some.front c.in-Some.is in
     search (rules, below)
 
-pub room_left_members-room_left_all-requires-in-Some-room_left_members : goal.room_left_members-room_left_all-requires-in-Some-room_left_members
+pub room_left_members-room_left_all-requires-in-Some-room_left_members :
+    goal.room_left_members-room_left_all-requires-in-Some-room_left_members
 room_left_members-room_left_all-requires-in-Some-room_left_members t c =
-    let below : weights (members_of (map shared_view c.halves.result.1.now)) < weights (members_view c.args.members.now) + 1 = rest_falls (members_view c.args.members.now) c.halves.result.0 c.halves.result.1.now c.halves.ensures.members in
+    let below : weights (members_of (map shared_view c.halves.result.1.now)) < weights (members_view c.args.members.now) + 1 =
+    rest_falls (members_view c.args.members.now) c.halves.result.0 c.halves.result.1.now c.halves.ensures.members in
     search (rules, below)
 
 pub room_left_members-returns-in-None : goal.room_left_members-returns-in-None
 room_left_members-returns-in-None t c =
     c.room_left_all.ensures
-    ∙ ap (λ (es : plain.Exprs). room_left (parts_of es) c.args.room) (sym (halves_None (members_view c.args.members.now) c.halves.result.0 c.halves.result.1.now c.halves.ensures.members c.in-None.is))
+    ∙ ap (λ (es : plain.Exprs). room_left (parts_of es) c.args.room)
+    (sym (halves_None (members_view c.args.members.now) c.halves.result.0 c.halves.result.1.now c.halves.ensures.members c.in-None.is))
 
 pub room_left_members-returns-in-Some-room_left_members : goal.room_left_members-returns-in-Some-room_left_members
 room_left_members-returns-in-Some-room_left_members t c =
     let front = members_view c.in-Some.front.now in
     let rest = members_of (map shared_view c.halves.result.1.now) in
     c.room_left_all-in-Some-room_left_members.ensures
-    ∙ sym (parts_both (members_view c.args.members.now) front rest c.args.room (halves_Some (members_view c.args.members.now) c.halves.result.0 c.halves.result.1.now c.halves.ensures.members c.in-Some.front c.in-Some.is)
-    ∙ room_for_more (parts_of front) (parts_of rest) c.args.room c.in-Some-room_left_members.less (sym c.in-Some-room_left_members.is ∙ c.room_left_members.ensures))
+    ∙ sym (parts_both (members_view c.args.members.now) front rest c.args.room
+    (halves_Some (members_view c.args.members.now) c.halves.result.0 c.halves.result.1.now c.halves.ensures.members
+    c.in-Some.front c.in-Some.is)
+    ∙ room_for_more (parts_of front) (parts_of rest) c.args.room c.in-Some-room_left_members.less
+    (sym c.in-Some-room_left_members.is ∙ c.room_left_members.ensures))
 
 pub room_left_members-returns-in-None-room_left_members : goal.room_left_members-returns-in-None-room_left_members
 room_left_members-returns-in-None-room_left_members t c =
     let front = members_view c.in-Some.front.now in
     let rest = members_of (map shared_view c.halves.result.1.now) in
     none_for_more (parts_of front) (parts_of rest) c.args.room (sym c.in-None-room_left_members.is ∙ c.room_left_members.ensures)
-    ∙ sym (parts_both (members_view c.args.members.now) front rest c.args.room (halves_Some (members_view c.args.members.now) c.halves.result.0 c.halves.result.1.now c.halves.ensures.members c.in-Some.front c.in-Some.is))
+    ∙ sym (parts_both (members_view c.args.members.now) front rest c.args.room
+    (halves_Some (members_view c.args.members.now) c.halves.result.0 c.halves.result.1.now c.halves.ensures.members
+    c.in-Some.front c.in-Some.is))

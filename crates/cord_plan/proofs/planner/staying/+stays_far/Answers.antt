@@ -13,13 +13,18 @@ use Rattle.cord_plan.proofs.planner.staying.+stays_far.Goals as goal
 
 pub all_stay_far-stays_far-requires : goal.all_stay_far-stays_far-requires
 all_stay_far-stays_far-requires t c =
-    let there : weight (shared_view c.member-item.result) < weights (members_of (map shared_view c.args.members.now)) = member_there c.args.members.now c.loop-member.member-index c.member-item.result c.loop-member-test.true c.member-item.is in
-    let below : weight (expr_view c.as_ref.result.now) < weights (members_of (map shared_view c.args.members.now)) = subst (λ (e : Expr). weight (expr_view e) < weights (members_of (map shared_view c.args.members.now))) (sym c.as_ref.ensures) there in
+    let there : weight (shared_view c.member-item.result) < weights (members_of (map shared_view c.args.members.now)) =
+    member_there c.args.members.now c.loop-member.member-index c.member-item.result c.loop-member-test.true c.member-item.is in
+    let below : weight (expr_view c.as_ref.result.now) < weights (members_of (map shared_view c.args.members.now)) =
+    subst (λ (e : Expr). weight (expr_view e) < weights (members_of (map shared_view c.args.members.now)))
+    (sym c.as_ref.ensures) there in
     search (rules, below)
 
 pub all_stay_far-returns-then-not-stays_far : goal.all_stay_far-returns-then-not-stays_far
 all_stay_far-returns-then-not-stays_far t c =
-    let stable : stay c.args.line.now.statements.now c.args.from c.args.line.now.place (names (shared_view c.member-item.result)) ≡ false = ap (λ (e : Expr). stay c.args.line.now.statements.now c.args.from c.args.line.now.place (names (expr_view e))) (sym c.as_ref.ensures) ∙ (sym c.stays_far.ensures ∙ c.if-not-stays_far.true) in
+    let stable : stay c.args.line.now.statements.now c.args.from c.args.line.now.place (names (shared_view c.member-item.result)) ≡ false =
+    ap (λ (e : Expr). stay c.args.line.now.statements.now c.args.from c.args.line.now.place (names (expr_view e)))
+    (sym c.as_ref.ensures) ∙ (sym c.stays_far.ensures ∙ c.if-not-stays_far.true) in
     sym (c.loop-member.invariant
     ∙ (stay_member c.args.line.now.statements.now c.args.from c.args.line.now.place c.args.members.now c.loop-member.member-index
     c.member-item.result c.loop-member-test.true c.member-item.is
@@ -28,7 +33,9 @@ all_stay_far-returns-then-not-stays_far t c =
 
 pub all_stay_far-loop-member-preserved : goal.all_stay_far-loop-member-preserved
 all_stay_far-loop-member-preserved t c =
-    let stable : stay c.args.line.now.statements.now c.args.from c.args.line.now.place (names (shared_view c.member-item.result)) ≡ true = ap (λ (e : Expr). stay c.args.line.now.statements.now c.args.from c.args.line.now.place (names (expr_view e))) (sym c.as_ref.ensures) ∙ (sym c.stays_far.ensures ∙ c.if-not-stays_far.false) in
+    let stable : stay c.args.line.now.statements.now c.args.from c.args.line.now.place (names (shared_view c.member-item.result)) ≡ true =
+    ap (λ (e : Expr). stay c.args.line.now.statements.now c.args.from c.args.line.now.place (names (expr_view e)))
+    (sym c.as_ref.ensures) ∙ (sym c.stays_far.ensures ∙ c.if-not-stays_far.false) in
     c.loop-member.invariant
     ∙ (stay_member c.args.line.now.statements.now c.args.from c.args.line.now.place c.args.members.now c.loop-member.member-index
     c.member-item.result c.loop-member-test.true c.member-item.is
@@ -38,8 +45,10 @@ all_stay_far-loop-member-preserved t c =
 pub stays_far-returns-then-stays_far : goal.stays_far-returns-then-stays_far
 stays_far-returns-then-stays_far t c =
     let stable = stay c.args.line.now.statements.now c.args.from c.args.line.now.place in
-    let view : expr_view c.args.expression.now ≡ plain.sub (expr_view c.in-Sub.expression.value) c.in-Sub.start c.in-Sub.count = ap expr_view c.in-Sub.is ∙ view-Sub c.in-Sub.expression c.in-Sub.start c.in-Sub.count in
-    let inner : stable (names (expr_view c.in-Sub.expression.value)) ≡ true = ap (λ (e : Expr). stable (names (expr_view e))) (sym c.as_ref.ensures) ∙ (sym c.stays_far.ensures ∙ c.if-stays_far.true) in
+    let view : expr_view c.args.expression.now ≡ plain.sub (expr_view c.in-Sub.expression.value) c.in-Sub.start c.in-Sub.count =
+    ap expr_view c.in-Sub.is ∙ view-Sub c.in-Sub.expression c.in-Sub.start c.in-Sub.count in
+    let inner : stable (names (expr_view c.in-Sub.expression.value)) ≡ true =
+    ap (λ (e : Expr). stable (names (expr_view e))) (sym c.as_ref.ensures) ∙ (sym c.stays_far.ensures ∙ c.if-stays_far.true) in
     let whole : stable (names (expr_view c.args.expression.now)) ≡ stable (number_names c.in-Sub.start ++ number_names c.in-Sub.count) =
     ap (λ (e : plain.Expr). stable (names e)) view
     ∙ (stay_append c.args.line.now.statements.now c.args.from c.args.line.now.place (names (expr_view c.in-Sub.expression.value))
@@ -50,8 +59,10 @@ stays_far-returns-then-stays_far t c =
 pub stays_far-returns-else-stays_far : goal.stays_far-returns-else-stays_far
 stays_far-returns-else-stays_far t c =
     let stable = stay c.args.line.now.statements.now c.args.from c.args.line.now.place in
-    let view : expr_view c.args.expression.now ≡ plain.sub (expr_view c.in-Sub.expression.value) c.in-Sub.start c.in-Sub.count = ap expr_view c.in-Sub.is ∙ view-Sub c.in-Sub.expression c.in-Sub.start c.in-Sub.count in
-    let inner : stable (names (expr_view c.in-Sub.expression.value)) ≡ false = ap (λ (e : Expr). stable (names (expr_view e))) (sym c.as_ref.ensures) ∙ (sym c.stays_far.ensures ∙ c.if-stays_far.false) in
+    let view : expr_view c.args.expression.now ≡ plain.sub (expr_view c.in-Sub.expression.value) c.in-Sub.start c.in-Sub.count =
+    ap expr_view c.in-Sub.is ∙ view-Sub c.in-Sub.expression c.in-Sub.start c.in-Sub.count in
+    let inner : stable (names (expr_view c.in-Sub.expression.value)) ≡ false =
+    ap (λ (e : Expr). stable (names (expr_view e))) (sym c.as_ref.ensures) ∙ (sym c.stays_far.ensures ∙ c.if-stays_far.false) in
     let whole : stable (names (expr_view c.args.expression.now)) ≡ false =
     ap (λ (e : plain.Expr). stable (names e)) view
     ∙ (stay_append c.args.line.now.statements.now c.args.from c.args.line.now.place (names (expr_view c.in-Sub.expression.value))
@@ -70,17 +81,21 @@ all_stay_far-returns t c =
 
 pub members_stay_far-all_stay_far-requires : goal.members_stay_far-all_stay_far-requires
 members_stay_far-all_stay_far-requires t c =
-    let below : weights (members_of (map shared_view c.halves.result.1.now)) < weights (members_view c.args.members.now) + 1 = rest_falls (members_view c.args.members.now) c.halves.result.0 c.halves.result.1.now c.halves.ensures.members in
+    let below : weights (members_of (map shared_view c.halves.result.1.now)) < weights (members_view c.args.members.now) + 1 =
+    rest_falls (members_view c.args.members.now) c.halves.result.0 c.halves.result.1.now c.halves.ensures.members in
     search (rules, below)
 
 pub members_stay_far-members_stay_far-requires : goal.members_stay_far-members_stay_far-requires
 members_stay_far-members_stay_far-requires t c =
-    let below : weights (members_view c.in-Some.front.now) + 1 < weights (members_view c.args.members.now) + 1 = front_falls (members_view c.args.members.now) c.halves.result.0 c.halves.result.1.now c.halves.ensures.members c.halves.ensures.after c.in-Some.front c.in-Some.is in
+    let below : weights (members_view c.in-Some.front.now) + 1 < weights (members_view c.args.members.now) + 1 =
+    front_falls (members_view c.args.members.now) c.halves.result.0 c.halves.result.1.now c.halves.ensures.members
+    c.halves.ensures.after c.in-Some.front c.in-Some.is in
     search (rules, below)
 
 pub members_stay_far-all_stay_far-requires-then-members_stay_far : goal.members_stay_far-all_stay_far-requires-then-members_stay_far
 members_stay_far-all_stay_far-requires-then-members_stay_far t c =
-    let below : weights (members_of (map shared_view c.halves.result.1.now)) < weights (members_view c.args.members.now) + 1 = rest_falls (members_view c.args.members.now) c.halves.result.0 c.halves.result.1.now c.halves.ensures.members in
+    let below : weights (members_of (map shared_view c.halves.result.1.now)) < weights (members_view c.args.members.now) + 1 =
+    rest_falls (members_view c.args.members.now) c.halves.result.0 c.halves.result.1.now c.halves.ensures.members in
     search (rules, below)
 
 pub members_stay_far-returns-in-None : goal.members_stay_far-returns-in-None
@@ -95,7 +110,8 @@ members_stay_far-returns-then-members_stay_far t c =
     let rest = members_of (map shared_view c.halves.result.1.now) in
     c.all_stay_far-then-members_stay_far.ensures
     ∙ sym (stay_both c.args.line.now.statements.now c.args.from c.args.line.now.place (members_view c.args.members.now)
-    (members_view c.in-Some.front.now) rest (halves_Some (members_view c.args.members.now) c.halves.result.0 c.halves.result.1.now c.halves.ensures.members c.in-Some.front c.in-Some.is)
+    (members_view c.in-Some.front.now) rest (halves_Some (members_view c.args.members.now) c.halves.result.0 c.halves.result.1.now
+    c.halves.ensures.members c.in-Some.front c.in-Some.is)
     ∙ ap (λ (v : Bool). v && stable (names_of rest)) (sym c.members_stay_far.ensures ∙ c.if-members_stay_far.true))
 
 pub members_stay_far-returns-else-members_stay_far : goal.members_stay_far-returns-else-members_stay_far
@@ -104,5 +120,6 @@ members_stay_far-returns-else-members_stay_far t c =
     let rest = members_of (map shared_view c.halves.result.1.now) in
     c.if-members_stay_far.false
     ∙ sym (stay_both c.args.line.now.statements.now c.args.from c.args.line.now.place (members_view c.args.members.now)
-    (members_view c.in-Some.front.now) rest (halves_Some (members_view c.args.members.now) c.halves.result.0 c.halves.result.1.now c.halves.ensures.members c.in-Some.front c.in-Some.is)
+    (members_view c.in-Some.front.now) rest (halves_Some (members_view c.args.members.now) c.halves.result.0 c.halves.result.1.now
+    c.halves.ensures.members c.in-Some.front c.in-Some.is)
     ∙ ap (λ (v : Bool). v && stable (names_of rest)) (sym c.members_stay_far.ensures ∙ c.if-members_stay_far.false))

@@ -10,6 +10,8 @@ returns-in-Some c =
     let x = c.args.name.now in
     let t = line.recent.now.later.now.numbering in
     let last = c.in-Some.last in
-    let one : last ≡ setter line.statements.now x line.place = c.requires.recent.assigned x last (ap (λ (places : List (Option ℕ)). entry_of t places x) (sym c.deref.ensures.value) ∙ (sym c.entry_of.ensures ∙ c.in-Some.is)) in
+    let one : last ≡ setter line.statements.now x line.place =
+    c.requires.recent.assigned x last (ap (λ (places : List (Option ℕ)). entry_of t places x) (sym c.deref.ensures.value)
+    ∙ (sym c.entry_of.ensures ∙ c.in-Some.is)) in
     c.is_before.ensures ∙ (ap (λ (o : Option ℕ). is_before o c.args.from) one
     ∙ sym (stay_by_last line.statements.now x c.args.from line.place))

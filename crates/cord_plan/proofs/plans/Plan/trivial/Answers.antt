@@ -7,7 +7,11 @@ use Rattle.cord_plan.proofs.OnlyKept.{kept_trivial}
 use Rattle.cord_plan.proofs.plans.Plan.trivial.Goals as goal
 
 pub of-requires : goal.of-requires
-of-requires c = record { kept = subst (λ (os : List Operation). All KeepsNoOther os) (sym c.in_ok-operations.ensures.made) (kept_trivial c.statements.result.now) }
+of-requires c =
+    record {
+      kept = subst (λ (os : List Operation). All KeepsNoOther os) (sym c.in_ok-operations.ensures.made)
+          (kept_trivial c.statements.result.now);
+    }
 
 pub returns-clause-means : goal.returns-clause-means
 returns-clause-means c = λ g text read limit most files.

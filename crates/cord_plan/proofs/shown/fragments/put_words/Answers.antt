@@ -20,7 +20,8 @@ returns-in_err-put_text g c =
     let fs = c.args.words.now in
     let i = c.loop-word.word-index in
     let item = c.word-item.result in
-    let next = spaced_next text more fragment_text spaces fs i item c.loop-word-test.true ∙ ap (λ (x : Fragment). text (take i fs) ++ (blank_at i ++ fragment_text x)) (sym c.word-item.is) in
+    let next = spaced_next text more fragment_text spaces fs i item c.loop-word-test.true
+    ∙ ap (λ (x : Fragment). text (take i fs) ++ (blank_at i ++ fragment_text x)) (sym c.word-item.is) in
     writes_failed c.from_residual.ensures.0 (writes_cut (rest_of text more fragment_text spaces (i + 1) fs)
     (spaced_all text more fragment_text spaces fs (i + 1)) next c.loop-word.invariant.taken
     (writes_stopped (fragment_text item) (writes_same c.loop-word.invariant.blank c.in_err-put_text.ensures)))
@@ -30,7 +31,8 @@ returns-in_err-put_fragment g c =
     let fs = c.args.words.now in
     let i = c.loop-word.word-index in
     let item = c.word-item.result in
-    let next = spaced_next text more fragment_text spaces fs i item c.loop-word-test.true ∙ ap (λ (x : Fragment). text (take i fs) ++ (blank_at i ++ fragment_text x)) (sym c.word-item.is) in
+    let next = spaced_next text more fragment_text spaces fs i item c.loop-word-test.true
+    ∙ ap (λ (x : Fragment). text (take i fs) ++ (blank_at i ++ fragment_text x)) (sym c.word-item.is) in
     writes_failed c.from_residual-in_err-put_fragment.ensures.0
     (writes_cut (rest_of text more fragment_text spaces (i + 1) fs) (spaced_all text more fragment_text spaces fs (i + 1)) next
     c.loop-word.invariant.taken
@@ -41,7 +43,8 @@ loop-word-preserved g c =
     let fs = c.args.words.now in
     let i = c.loop-word.word-index in
     let item = c.word-item.result in
-    let next = spaced_next text more fragment_text spaces fs i item c.loop-word-test.true ∙ ap (λ (x : Fragment). text (take i fs) ++ (blank_at i ++ fragment_text x)) (sym c.word-item.is) in
+    let next = spaced_next text more fragment_text spaces fs i item c.loop-word-test.true
+    ∙ ap (λ (x : Fragment). text (take i fs) ++ (blank_at i ++ fragment_text x)) (sym c.word-item.is) in
     record {
       taken = writes_same (sym next) (writes_then c.loop-word.invariant.taken
           (writes_then (writes_same c.loop-word.invariant.blank c.in_ok-put_text.ensures) c.in_ok-put_fragment.ensures));

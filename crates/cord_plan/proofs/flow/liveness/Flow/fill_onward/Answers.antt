@@ -36,12 +36,15 @@ loop-p-preserved c =
     let before = c.loop-p.invariant in
     let within : p < length words = let size = before.size in omega (arith, size, c.loop-p-test.true) in
     let l = get_or s p c.index-self-p.result in
-    let here : slice_get s p ≡ Some l = slice_get_read s (length s) p c.index-self-p.result refl (let size = before.size in omega (arith, size, c.loop-p-test.true)) c.index-self-p.is ∙ ap Some c.index-self-p.is in
+    let here : slice_get s p ≡ Some l = slice_get_read s (length s) p c.index-self-p.result refl (let size = before.size in
+    omega (arith, size, c.loop-p-test.true)) c.index-self-p.is ∙ ap Some c.index-self-p.is in
     let onward = λ (m : ℕ). ap (is_back m) (sym (c.requires.paths m)) ∙ c.requires.onward m in
     let is : (x : List ℕ) (i : ℕ) → IsBit c.args.self.now.numbering.now c.args.self.now.group x i →
-    bit w i ≡ flow (reads_at (slice_get s p) x) (some_of (λ q. at (column words i) q) (successors (map shape_of s) p)) (assigns_at (slice_get s p) x) =
+    bit w i ≡ flow (reads_at (slice_get s p) x) (some_of (λ q. at (column words i) q) (successors (map shape_of s) p))
+    (assigns_at (slice_get s p) x) =
     λ x i b. c.word_onward.ensures x i b
-    ∙ ap (λ (o : Option Statement). flow (reads_at o x) (some_of (λ q. at (column words i) q) (successors (map shape_of s) p)) (assigns_at o x)) (sym here) in
+    ∙ ap (λ (o : Option Statement). flow (reads_at o x) (some_of (λ q. at (column words i) q) (successors (map shape_of s) p))
+    (assigns_at o x)) (sym here) in
     record {
       size = length-set words p w ∙ before.size;
       paths = λ x i b. rw (map-set (λ v. bit v i) words p w)

@@ -9,7 +9,8 @@ use Rattle.cord_plan.proofs.flow.liveness.Flow.sweep.Goals as goal
 pub loop-p-init : goal.loop-p-init
 loop-p-init c = record {
   partly = c.requires.partly;
-  resting = λ e x i b k le. rests_past c.args.self.now.statements.now x (column c.args.words.now i) k (let size = c.requires.partly.size in omega arith);
+  resting = λ e x i b k le. rests_past c.args.self.now.statements.now x (column c.args.words.now i) k (let size = c.requires.partly.size in
+      omega arith);
   few = omega arith;
   fewer = λ e. let bad : ⊥ = cc in absurd bad;
 }
@@ -21,7 +22,8 @@ loop-p-preserved-then-word-here c =
     let grows : get_or c.loop-p.words (c.loop-p.p - 1) 0 ≤ c.flow_at-word.result = c.flow_at-word.ensures.grows in
     let less : get_or c.loop-p.words (c.loop-p.p - 1) 0 < c.flow_at-word.result = let differ = c.if-word-here.true in omega arith in
     let fits : c.flow_at-word.result < 2 ^ 128 = c.flow_at-word.ensures.fits in
-    let fewer : room (set c.loop-p.words (c.loop-p.p - 1) c.flow_at-word.result) < room c.loop-p.words = room_less c.loop-p.words (c.loop-p.p - 1) c.flow_at-word.result within less fits in
+    let fewer : room (set c.loop-p.words (c.loop-p.p - 1) c.flow_at-word.result) < room c.loop-p.words =
+    room_less c.loop-p.words (c.loop-p.p - 1) c.flow_at-word.result within less fits in
     let few : room c.loop-p.words ≤ room c.args.words.now = c.loop-p.invariant.few in
     record {
       partly = record {

@@ -10,8 +10,10 @@ returns-then-is_block-clause-recent c =
     let t = c.args.self.now.later.now.numbering in
     let l = c.args.statement.now in
     let b = c.args.place in
-    let assigned : Notes t (λ x. assigns l x) b c.args.self.now.assigned.items c.note_assigned.new.places = rw (← c.deref_mut.ensures.value) c.note_assigned.ensures in
-    let read : Notes t (λ x. reads l x) b c.args.self.now.read.items c.note_read.new.places = rw (← c.deref_mut-2.ensures.value) c.note_read.ensures in
+    let assigned : Notes t (λ x. assigns l x) b c.args.self.now.assigned.items c.note_assigned.new.places =
+    rw (← c.deref_mut.ensures.value) c.note_assigned.ensures in
+    let read : Notes t (λ x. reads l x) b c.args.self.now.read.items c.note_read.new.places =
+    rw (← c.deref_mut-2.ensures.value) c.note_read.ensures in
     λ s here old. record {
       assigned = rw (written_back c.args.self.now.assigned.len c.note_assigned.new.places c.args.self.now.assigned.items
           (c.note_assigned.auto.places ∙ c.deref_mut.ensures.len))
@@ -27,8 +29,10 @@ returns-else-is_block-clause-recent c =
     let t = c.args.self.now.later.now.numbering in
     let l = c.args.statement.now in
     let b = c.args.place in
-    let assigned : Notes t (λ x. assigns l x) b c.args.self.now.assigned.items c.note_assigned.new.places = rw (← c.deref_mut.ensures.value) c.note_assigned.ensures in
-    let read : Notes t (λ x. reads l x) b c.args.self.now.read.items c.note_read.new.places = rw (← c.deref_mut-2.ensures.value) c.note_read.ensures in
+    let assigned : Notes t (λ x. assigns l x) b c.args.self.now.assigned.items c.note_assigned.new.places =
+    rw (← c.deref_mut.ensures.value) c.note_assigned.ensures in
+    let read : Notes t (λ x. reads l x) b c.args.self.now.read.items c.note_read.new.places =
+    rw (← c.deref_mut-2.ensures.value) c.note_read.ensures in
     λ s here old. record {
       assigned = rw (written_back c.args.self.now.assigned.len c.note_assigned.new.places c.args.self.now.assigned.items
           (c.note_assigned.auto.places ∙ c.deref_mut.ensures.len))
