@@ -106,10 +106,10 @@ fn computation_of<F: FieldSource>(
     ensures done { OnOk result (F.wants fields.new ≡ []) }
 {
     match verb {
-        Computation::Len =>
-            statement!(fields, line, Len, target: target(Number), operand: operand(Cord)),
         Computation::Assign =>
             statement!(fields, line, Assign, target: target(Number), value: number()),
+        Computation::Len =>
+            statement!(fields, line, Len, target: target(Number), operand: operand(Cord)),
         Computation::Add => statement!(
             fields, line, Add, target: target(Number), left: number(), right: number()
         ),
