@@ -51,7 +51,7 @@ pub(crate) struct Store {
     // Tells the names that were fixed.
     marked: Option<Rc<Mark>>,
     ghost distinct: { are_distinct (names_in entries.items) ≡ true },
-    ghost first: { Begin (names_fixed marked) (names_in entries.items) } by { Begin-prop (names_fixed marked) (names_in entries.items) },
+    ghost first: { Begin (names_fixed marked) (names_in entries.items) } by { Begin-prop _ _ },
 }
 
 impl Store {

@@ -2,7 +2,7 @@
 ghost use Rattle.std.specs.Prelude.{◌≡◌, true, IfNone, IfSome};
 ghost use Rattle.cord_core.specs.Cord.{all_bytes, AllFitIn};
 ghost use Rattle.cord_io.specs.declared.TheConstants.{MAX_LEN};
-ghost use Rattle.cord_iter.specs.Taking.{CountsFaults};
+ghost use Rattle.cord_iter.specs.Taking.{CountsFaults, failures_of};
 ghost use Rattle.cord_plan.specs.Meaning.{all_texts, cords};
 ghost use Rattle.cord_plan.specs.Values.{text_in};
 ghost use Rattle.cord_plan.specs.Views.{expr_view};
@@ -39,8 +39,8 @@ pub(crate) fn write<R: Source, S: Sink>(
         all_texts (holding_of (R.table source.old folder) store.now.entries.items) (cords (expr_view expression.now))
         ≡ true → Wrote (text_in MAX_LEN (plain_of (R.table source.old folder) store.now.entries.items)
         (expr_view expression.now)) (S.taken sink.old) (S.taken sink.new) result }
-    ensures counts { CountsStops (record { source = R.failures source.old; sink = S.failures sink.old })
-        (record { source = R.failures source.new; sink = S.failures sink.new }) result }
+    ensures counts { CountsStops (failures_of ⟦<R as Source>⟧ ⟦<S as Sink>⟧ source.old sink.old)
+        (failures_of ⟦<R as Source>⟧ ⟦<S as Sink>⟧ source.new sink.new) result }
     ensures finished { S.finished sink.new ≡ S.finished sink.old }
     ensures source { IsSameSource ⟦<R as Source>⟧ source.old source.new }
 {
@@ -112,8 +112,8 @@ fn put_pieces<R: Source, S: Sink>(
     requires fits { AllFitIn (R.lengths source.old) pieces.now }
     ensures puts { (folder : Folder) → R.keeps source.new folder →
         Puts (all_bytes (R.table source.old folder) pieces.now) (S.taken sink.old) (S.taken sink.new) result }
-    ensures faults { CountsFaults (record { source = R.failures source.old; sink = S.failures sink.old })
-        (record { source = R.failures source.new; sink = S.failures sink.new }) result }
+    ensures faults { CountsFaults (failures_of ⟦<R as Source>⟧ ⟦<S as Sink>⟧ source.old sink.old)
+        (failures_of ⟦<R as Source>⟧ ⟦<S as Sink>⟧ source.new sink.new) result }
     ensures finished { S.finished sink.new ≡ S.finished sink.old }
     ensures source { IsSameSource ⟦<R as Source>⟧ source.old source.new }
 {
