@@ -12,8 +12,26 @@ use cord_meaning::FaultKind;
 use cord_script::Function;
 use std::alloc::Global;
 
-/// The cord of a literal text, which an extensible cord gathers. `TooLong` where it is longer than `MAX_LEN`.
+/// A literal text of at most so many bytes is one leaf; of a longer one each leaf has so many.
+const LEAF: usize = 4_096;
+
+/// The cord of a literal text. `TooLong` where it is longer than `MAX_LEN`.
 pub(crate) fn literal(alloc: Global, text: &[u8]) -> Result<Cord, CordError>
+    ensures made { IfOk result (IsTextOf text.now) }
+    ensures too_long { result ≡ Err CordError.TooLong → MAX_LEN < length text.now }
+    ensures refused { IfErr result IsRefusal }
+{
+    if text.len() <= LEAF {
+        let leaf = Cord::from_bytes(alloc, text)?;
+        return Ok(leaf);
+    }
+    gathered(alloc, text)
+}
+
+// The same of a longer one, whose leaves an extensible cord gathers.
+#[cold]
+#[inline(never)]
+fn gathered(alloc: Global, text: &[u8]) -> Result<Cord, CordError>
     ensures made { IfOk result (IsTextOf text.now) }
     ensures too_long { result ≡ Err CordError.TooLong → MAX_LEN < length text.now }
     ensures refused { IfErr result IsRefusal }

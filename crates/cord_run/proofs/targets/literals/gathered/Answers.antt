@@ -1,5 +1,5 @@
 use Rattle.cord_run.proofs.Literals.{gathered_text}
-use Rattle.cord_run.proofs.targets.literals.literal.Goals as goal
+use Rattle.cord_run.proofs.targets.literals.gathered.Goals as goal
 
 pub returns-clause-made : goal.returns-clause-made
 returns-clause-made c =
