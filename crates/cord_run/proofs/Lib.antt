@@ -1,6 +1,7 @@
 pub mod Entries
 pub mod Members
 pub mod Lengths
+pub mod Fronts
 pub mod MemberRanges
 pub mod Ranges
 pub mod Origins
@@ -8,6 +9,7 @@ pub mod Joins
 pub mod Tables
 pub mod Assignments
 pub mod ExpressionCords
+pub mod Parts
 pub mod Output
 pub mod Failures
 pub mod Operations

@@ -11,18 +11,16 @@ use Rattle.cord_node.specs.Tables.{lengths_of}
 use Rattle.cord_node.proofs.Ranges.{range_left, range_right, range_both}
 use Rattle.cord_core.specs.Cord.{all_bytes, AllFitIn}
 use Rattle.cord_meaning.specs.declared.ends.FaultKind.{FaultKind}
-use Rattle.cord_meaning.specs.State.{and_then}
-use Rattle.cord_plan.specs.Exprs.{Expr, Exprs, member, nothing}
+use Rattle.cord_plan.specs.Exprs.{Expr, Exprs, append, member, nothing}
 use Rattle.cord_plan.specs.Meaning.{all_texts, cords, cords_of}
 use Rattle.cord_plan.specs.Values.{text_in}
-use Rattle.cord_plan.proofs.Values.{passes}
 use Rattle.cord_run.specs.declared.expressions.ranges.Wanted.{Wanted}
 use Rattle.cord_run.specs.declared.store.Entry.{Entry}
 use Rattle.cord_run.specs.inner.Extents.{extent_in, members_extent}
 use Rattle.cord_run.specs.inner.Entries.{IsOver}
 use Rattle.cord_run.specs.inner.Holdings.{holding_of, plain_of}
-use Rattle.cord_run.specs.inner.Ranges.{AddsExpression, AddsMembers, IsAfter, IsPast, joined_over}
-use Rattle.cord_run.proofs.Lengths.{texts_split, text_length}
+use Rattle.cord_run.specs.inner.Ranges.{AddsExpression, AddsMembers, AddsRange, IsAfter, IsPast, joined_over}
+use Rattle.cord_run.proofs.Fronts.{IsFront, added, extent_both, member_front, members_front, parts_of}
 
 -- ---- texts
 -- a range of a text that has no byte of it
@@ -120,48 +118,31 @@ pub ends_last : (entries : List Entry) (es : Exprs) (wanted : Wanted) (old : Lis
 ends_last entries es wanted old left now s =
     ends entries es wanted old nothing left now (λ t rest is. let none : [] ≡ rest = cc in nothing_taken rest left.skip left.count (subst (λ (xs : List ℕ). min left.count (length xs - left.skip) ≡ 0) none (omega arith))) s
 
--- the texts of the first member that is left, and of the others
-record Parts (entries : List Entry) (e : Expr) (others : Exprs) (t : Table) (rest : List ℕ) : Type 0 where
-  first : List ℕ
-  second : List ℕ
-  first_is : text_in MAX_LEN (plain_of t entries) e ≡ Ok first
-  first_there : all_texts (holding_of t entries) (cords e) ≡ true
-  second_is : joined_over entries others t ≡ Ok second
-  second_there : all_texts (holding_of t entries) (cords_of others) ≡ true
-  joined : first ++ second ≡ rest
-  extent : extent_in entries e ≡ Ok (length first)
-
-parts_of : (entries : List Entry) (e : Expr) (others : Exprs) (t : Table) → IsOver (lengths_of t) entries → (rest : List ℕ) →
-    joined_over entries (member e others) t ≡ Ok rest → all_texts (holding_of t entries) (cords_of (member e others)) ≡ true →
-    Parts entries e others t rest
-parts_of entries e others t over rest is there =
-    let split = texts_split (holding_of t entries) (cords e) (cords_of others) there in
-    let p = passes (text_in MAX_LEN (plain_of t entries) e) (λ text. and_then (joined_over entries others t) (λ more. Ok (text ++ more))) rest is in
-    let q = passes (joined_over entries others t) (λ more. Ok (p.middle ++ more)) rest p.next in
-    let joined : p.middle ++ q.middle ≡ rest = cc in
-    record {
-      first = p.middle;
-      second = q.middle;
-      first_is = p.first;
-      first_there = split.first;
-      second_is = q.first;
-      second_there = split.second;
-      joined = joined;
-      extent = text_length t entries over e split.first p.middle p.first;
-    }
-
--- a member more
-pub goes_on : (entries : List Entry) (es : Exprs) (wanted : Wanted) (old : List (Option Node)) (e : Expr) (others : Exprs)
-    (left after : Wanted) (now next : List (Option Node)) → SoFar entries es wanted old (member e others) left now →
-    AddsExpression entries e left now next → IsAfter (extent_in entries e) left after → SoFar entries es wanted old others after next
-goes_on entries es wanted old e others left after now next s part past = record {
+-- and those that are left are added
+pub ends_added : (entries : List Entry) (es : Exprs) (wanted : Wanted) (old : List (Option Node)) (left_over : Exprs) (left : Wanted)
+    (now next : List (Option Node)) → SoFar entries es wanted old left_over left now → AddsMembers entries left_over left now next →
+    AddsMembers entries es wanted old next
+ends_added entries es wanted old left_over left now next s part = record {
   fits = λ lengths over all. part.fits lengths over (s.fits lengths over all);
   bytes = λ t over there text is.
       let r = s.bytes t over there text is in
-      let p = parts_of entries e others t over r.rest r.joined r.there in
-      let at : IsPast (length p.first) left after = subst (λ (q : Result ℕ FaultKind). IsAfter q left after) p.extent past in
+      part.bytes t over r.there r.rest r.joined ∙ r.whole;
+}
+
+-- what is in front of the others is added
+passed : (entries : List Entry) (es : Exprs) (wanted : Wanted) (old : List (Option Node)) (all others : Exprs)
+    (needed : List (List ℕ)) (first : Table → Result (List ℕ) FaultKind) (extent : Result ℕ FaultKind) →
+    IsFront entries all others needed first extent → (left after : Wanted) (now next : List (Option Node)) →
+    SoFar entries es wanted old all left now → AddsRange entries needed first left now next → IsAfter extent left after →
+    SoFar entries es wanted old others after next
+passed entries es wanted old all others needed first extent front left after now next s part past = record {
+  fits = λ lengths over fit. part.fits lengths over (s.fits lengths over fit);
+  bytes = λ t over there text is.
+      let r = s.bytes t over there text is in
+      let p = parts_of entries all others needed first extent front t over r.rest r.joined r.there in
+      let at : IsPast (length p.first) left after = subst (λ (q : Result ℕ FaultKind). IsAfter q left after) p.extent_is past in
       let split : take left.count (drop left.skip r.rest) ≡ take left.count (drop left.skip p.first) ++ take after.count (drop after.skip p.second) =
-      ap (λ (u : List ℕ). take left.count (drop left.skip u)) (sym p.joined)
+      ap (λ (u : List ℕ). take left.count (drop left.skip u)) (sym p.whole)
       ∙ range_over p.first p.second left.skip left.count
       ∙ (λ i. take left.count (drop left.skip p.first) ++ take (sym at.count i) (drop (sym at.skip i) p.second)) in
       record {
@@ -175,7 +156,34 @@ goes_on entries es wanted old e others left after now next s part past = record 
       };
 }
 
+-- a member more
+pub goes_on : (entries : List Entry) (es : Exprs) (wanted : Wanted) (old : List (Option Node)) (e : Expr) (others : Exprs)
+    (left after : Wanted) (now next : List (Option Node)) → SoFar entries es wanted old (member e others) left now →
+    AddsExpression entries e left now next → IsAfter (extent_in entries e) left after → SoFar entries es wanted old others after next
+goes_on entries es wanted old e others left after now next s part past = passed entries es wanted old (member e others) others (cords e)
+    (λ t. text_in MAX_LEN (plain_of t entries) e) (extent_in entries e) (member_front entries e others) left after now next s part past
+
+-- those in front, and then the others
+pub both_added : (entries : List Entry) (es others : Exprs) (wanted left : Wanted) (old now next : List (Option Node)) →
+    AddsMembers entries es wanted old now → IsAfter (members_extent entries es) wanted left → AddsMembers entries others left now next →
+    AddsMembers entries (append es others) wanted old next
+both_added entries es others wanted left old now next first past second =
+    let all = append es others in
+    ends_added entries all wanted old others left now next
+    (passed entries all wanted old all others (cords_of es) (λ t. joined_over entries es t) (members_extent entries es)
+    (members_front entries es others) wanted left old now (starts entries all wanted old) first past) second
+
 -- ---- what is wanted after the members
+-- after one length and another
+after_both : (r q : Result ℕ FaultKind) (wanted left after : Wanted) → IsAfter r wanted left → IsAfter q left after →
+    IsAfter (added r q) wanted after
+after_both (Err kind) q wanted left after past h = tt
+after_both (Ok len) (Err kind) wanted left after past h = tt
+after_both (Ok len) (Ok more) wanted left after past h = record {
+  skip = omega (arith, past.skip, h.skip);
+  count = omega (arith, past.skip, past.count, h.count);
+}
+
 -- what is wanted after those that are left is wanted after all
 abbrev pub WantedSoFar : List Entry → Exprs → Wanted → Exprs → Wanted → Type 0
 WantedSoFar entries es wanted left_over left = (last : Wanted) → IsAfter (members_extent entries left_over) left last →
@@ -186,16 +194,15 @@ pub wanted_goes_on : (entries : List Entry) (es : Exprs) (wanted : Wanted) (e : 
     WantedSoFar entries es wanted (member e others) left → IsAfter (extent_in entries e) left after →
     WantedSoFar entries es wanted others after
 wanted_goes_on entries es wanted e others left after s past last h =
-    s last (by_extents (extent_in entries e) (members_extent entries others) past h)
-  where
-    by_extents : (r q : Result ℕ FaultKind) → IsAfter r left after → IsAfter q after last →
-        IsAfter (and_then r (λ len. and_then q (λ more. Ok (len + more)))) left last
-    by_extents (Err kind) q past h = tt
-    by_extents (Ok len) (Err kind) past h = tt
-    by_extents (Ok len) (Ok more) past h = record {
-      skip = omega (arith, past.skip, h.skip);
-      count = omega (arith, past.skip, past.count, h.count);
-    }
+    s last (after_both (extent_in entries e) (members_extent entries others) left after last past h)
+
+-- after those in front and the others
+pub wanted_after_both : (entries : List Entry) (es others : Exprs) (wanted left after : Wanted) →
+    IsAfter (members_extent entries es) wanted left → IsAfter (members_extent entries others) left after →
+    IsAfter (members_extent entries (append es others)) wanted after
+wanted_after_both entries es others wanted left after first second =
+    subst (λ (r : Result ℕ FaultKind). IsAfter r wanted after) (sym (extent_both entries es others))
+    (after_both (members_extent entries es) (members_extent entries others) wanted left after first second)
 
 -- where nothing more is wanted, nothing is after all
 pub wanted_ends_early : (entries : List Entry) (es : Exprs) (wanted : Wanted) (left_over : Exprs) (left : Wanted) → left.skip ≡ 0 →

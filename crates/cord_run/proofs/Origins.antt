@@ -2,9 +2,10 @@
 use Rattle.std.proofs.Common.{◌≡◌, List, [], ◌∷◌, ◌++◌, sym, ap, subst, ◌∙◌, append-nil, append_assoc, inl, inr, ⊎_elim}
 use Rattle.std.specs.Prelude.{Option}
 use Rattle.cord_node.specs.declared.Node.{Node}
-use Rattle.cord_plan.specs.Exprs.{Expr, Exprs, member}
+use Rattle.cord_plan.specs.Exprs.{Expr, Exprs, append, member}
 use Rattle.cord_run.specs.declared.store.Entry.{Entry}
 use Rattle.cord_run.specs.inner.Origins.{Origin, origins, origins_of, InTurn, AddsInTurn}
+use Rattle.cord_run.proofs.Fronts.{origins_both}
 
 -- no pieces
 pub none_in_turn : (entries : List Entry) (os : List Origin) → InTurn entries os []
@@ -18,7 +19,7 @@ turn_passed entries o os [] h = tt
 turn_passed entries o os (p ∷ ps) h = inr h
 
 -- pieces of origins, and then those of others
-turns_joined : (entries : List Entry) (os others : List Origin) (ps more : List (Option Node)) → InTurn entries os ps →
+pub turns_joined : (entries : List Entry) (os others : List Origin) (ps more : List (Option Node)) → InTurn entries os ps →
     InTurn entries others more → InTurn entries (os ++ others) (ps ++ more)
 turns_joined entries [] others [] more h k = k
 turns_joined entries [] others (p ∷ ps) more h k = absurd h
@@ -55,4 +56,14 @@ turns_end entries es old left_over now s = record {
   is = s.is;
   each = subst (λ (all : List (Option Node)). InTurn entries (origins_of es) all) (append-nil s.added)
       (s.more [] (none_in_turn entries (origins_of left_over)));
+}
+
+-- pieces of those in front, and then of the others
+pub turns_both : (entries : List Entry) (es others : Exprs) (old now next : List (Option Node)) → AddsInTurn entries (origins_of es) old now →
+    AddsInTurn entries (origins_of others) now next → AddsInTurn entries (origins_of (append es others)) old next
+turns_both entries es others old now next first second = record {
+  added = first.added ++ second.added;
+  is = second.is ∙ ap (λ (ps : List (Option Node)). ps ++ second.added) first.is ∙ append_assoc old first.added second.added;
+  each = subst (λ (os : List Origin). InTurn entries os (first.added ++ second.added)) (sym (origins_both es others))
+      (turns_joined entries (origins_of es) (origins_of others) first.added second.added first.each second.each);
 }

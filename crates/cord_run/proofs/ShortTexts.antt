@@ -1,18 +1,19 @@
 -- Texts side by side that are gathered.
-use Rattle.std.proofs.Common.{◌≡◌, ◌<◌, ◌≤◌, ◌+◌, ℕ, List, [], ◌++◌, drop, length, get_or, Result, Ok, refl, sym, ap, subst, ◌∙◌}
+use Rattle.std.proofs.Common.{◌≡◌, ◌<◌, ◌≤◌, ◌+◌, ℕ, true, List, [], ◌++◌, drop, length, get_or, Result, Ok, refl, sym, ap, subst, ◌∙◌}
 use Rattle.std.proofs.Common.{append_assoc, append-nil}
 use Rattle.std.proofs.lemmas.List.{drop_all}
 use Rattle.cord_io.specs.declared.TheConstants.{MAX_LEN}
 use Rattle.cord_meaning.specs.declared.ends.FaultKind.{FaultKind}
 use Rattle.cord_meaning.specs.State.{and_then}
 use Rattle.cord_plan.specs.Exprs as plain
-use Rattle.cord_plan.specs.Meaning.{cords, cords_of}
+use Rattle.cord_plan.specs.Meaning.{all_texts, cords, cords_of}
 use Rattle.cord_plan.specs.Values.{within}
 use Rattle.cord_plan.specs.Views.{Shared, shared_view}
 use Rattle.cord_run.specs.declared.store.Entry.{Entry}
 use Rattle.cord_run.specs.inner.Extents.{members_seen}
 use Rattle.cord_run.specs.inner.Holdings.{holding_of, plain_of}
 use Rattle.cord_run.specs.inner.Slices.{AreTextsIn, IsTextIn, texts_in}
+use Rattle.cord_run.proofs.Fronts.{joined, joined_both, names_both}
 use Rattle.cord_run.proofs.Members.{members_left}
 use Rattle.cord_run.proofs.Files.{short_text}
 use Rattle.cord_run.proofs.Lengths.{texts_split}
@@ -27,27 +28,42 @@ module _ (entries : List Entry) where
       (first t split.first)
       ∙ ap (λ (r : Result (List ℕ) FaultKind). and_then r (λ v. Ok (text ++ v))) (behind t split.second)
 
-  -- those gathered so far, whatever the others are
-  abbrev pub GatheredOf : List Shared → ℕ → List ℕ → Type 0
-  GatheredOf ms i text = (rest : List ℕ) → AreTextsIn entries (members_seen (drop i ms)) rest →
-      AreTextsIn entries (members_seen ms) (text ++ rest)
+  -- those in front, and then the others
+  pub texts_both : (es others : plain.Exprs) (text rest : List ℕ) → AreTextsIn entries es text → AreTextsIn entries others rest →
+      AreTextsIn entries (plain.append es others) (text ++ rest)
+  texts_both es others text rest first behind = λ t there.
+      let names : all_texts (holding_of t entries) (cords_of es ++ cords_of others) ≡ true = ap (λ (xs : List (List ℕ)). all_texts (holding_of t entries) xs) (sym (names_both es others)) ∙ there in
+      let split = texts_split (holding_of t entries) (cords_of es) (cords_of others) names in
+      joined_both entries es others t
+      ∙ ap (λ (r : Result (List ℕ) FaultKind). joined r (texts_in MAX_LEN (plain_of t entries) others)) (first t split.first)
+      ∙ ap (λ (r : Result (List ℕ) FaultKind). and_then r (λ v. Ok (text ++ v))) (behind t split.second)
 
-  pub gathered_none : (ms : List Shared) (text : List ℕ) → text ≡ [] → GatheredOf ms 0 text
-  gathered_none ms text none = λ rest behind. subst (λ (u : List ℕ). AreTextsIn entries (members_seen ms) (u ++ rest)) (sym none) behind
+  -- those gathered so far after earlier ones, whatever the others are
+  abbrev pub GatheredOf : List ℕ → List Shared → ℕ → List ℕ → Type 0
+  GatheredOf before ms i text = (earlier : plain.Exprs) → AreTextsIn entries earlier before → (rest : List ℕ) →
+      AreTextsIn entries (members_seen (drop i ms)) rest → AreTextsIn entries (plain.append earlier (members_seen ms)) (text ++ rest)
 
-  pub gathered_more : (ms : List Shared) (i : ℕ) (m : Shared) → i < length ms → m ≡ get_or ms i m → (text slice more : List ℕ) →
-      IsTextIn entries (shared_view m) slice → more ≡ text ++ slice → GatheredOf ms i text → GatheredOf ms (i + 1) more
-  gathered_more ms i m here is text slice more first grown so_far = λ rest behind.
+  pub gathered_none : (before : List ℕ) (ms : List Shared) → GatheredOf before ms 0 before
+  gathered_none before ms = λ earlier are rest behind. texts_both earlier (members_seen ms) before rest are behind
+
+  pub gathered_more : (before : List ℕ) (ms : List Shared) (i : ℕ) (m : Shared) → i < length ms → m ≡ get_or ms i m →
+      (text slice more : List ℕ) → IsTextIn entries (shared_view m) slice → more ≡ text ++ slice → GatheredOf before ms i text →
+      GatheredOf before ms (i + 1) more
+  gathered_more before ms i m here is text slice more first grown so_far = λ earlier are rest behind.
       let others : plain.Exprs = members_seen (drop (i + 1) ms) in
-      let left = so_far (slice ++ rest) (subst (λ (es : plain.Exprs). AreTextsIn entries es (slice ++ rest)) (sym (members_left ms i m here is)) (member_texts (shared_view m) others slice rest first behind)) in
-      subst (λ (u : List ℕ). AreTextsIn entries (members_seen ms) u)
+      let left = so_far earlier are (slice ++ rest) (subst (λ (es : plain.Exprs). AreTextsIn entries es (slice ++ rest)) (sym (members_left ms i m here is)) (member_texts (shared_view m) others slice rest first behind)) in
+      subst (λ (u : List ℕ). AreTextsIn entries (plain.append earlier (members_seen ms)) u)
       (sym (ap (λ (u : List ℕ). u ++ rest) grown ∙ append_assoc text slice rest)) left
 
-  pub gathered_all : (ms : List Shared) (i : ℕ) (text : List ℕ) → length ms ≤ i → GatheredOf ms i text →
-      AreTextsIn entries (members_seen ms) text
-  gathered_all ms i text past so_far =
+  pub gathered_all : (before : List ℕ) (ms : List Shared) (i : ℕ) (text : List ℕ) → length ms ≤ i → GatheredOf before ms i text →
+      (earlier : plain.Exprs) → AreTextsIn entries earlier before → AreTextsIn entries (plain.append earlier (members_seen ms)) text
+  gathered_all before ms i text past so_far earlier are =
       let none : AreTextsIn entries (members_seen (drop i ms)) [] = subst (λ (xs : List Shared). AreTextsIn entries (members_seen xs) []) (sym (drop_all i ms past)) (λ t there. refl) in
-      subst (λ (u : List ℕ). AreTextsIn entries (members_seen ms) u) (append-nil text) (so_far [] none)
+      subst (λ (u : List ℕ). AreTextsIn entries (plain.append earlier (members_seen ms)) u) (append-nil text) (so_far earlier are [] none)
+
+  -- no members have no text
+  pub texts_none : (text : List ℕ) → text ≡ [] → AreTextsIn entries plain.nothing text
+  texts_none text none = λ t there. ap (λ (u : List ℕ). Ok u) (sym none)
 
   -- members that are short together, joined
   pub cat_text : (es : plain.Exprs) (text : List ℕ) → AreTextsIn entries es text → length text ≤ MAX_LEN →

@@ -2,6 +2,7 @@
 mod joins;
 pub(crate) mod lengths;
 pub(crate) mod output;
+pub(crate) mod parts;
 mod ranges;
 mod short_texts;
 pub(crate) mod slices;
@@ -14,6 +15,7 @@ ghost use Rattle.cord_run.specs.inner.Expressions.{AreWhole, IsBuilt, IsUnbuilt}
 
 use crate::expressions::joins::join_all;
 use crate::expressions::lengths::length_of;
+use crate::expressions::parts::{build_pair, build_part, is_part, pair_of};
 use crate::expressions::ranges::{Wanted, add_range};
 use crate::stops::Stop;
 use crate::store::Store;
@@ -24,6 +26,22 @@ use std::alloc::Global;
 
 /// The cord of an expression. Refused with its fault, or with `NoMemory`.
 pub(crate) fn build(alloc: Global, expression: &Expr, store: &Store) -> Result<Cord, Stop>
+    ensures built { IfOk result (IsBuilt store.now.entries.items (expr_view expression.now)) }
+    ensures refused { IfErr result (IsUnbuilt store.now.entries.items (expr_view expression.now)) }
+{
+    match expression {
+        Expr::Cat(members) => match pair_of(members) {
+            Some((left, right)) if is_part(left) && is_part(right) => {
+                build_pair(alloc, left, right, store)
+            }
+            _ => build_of_pieces(alloc, expression, store),
+        },
+        _ => build_part(alloc, expression, store),
+    }
+}
+
+/// The same, of cords of its parts that are joined.
+pub(crate) fn build_of_pieces(alloc: Global, expression: &Expr, store: &Store) -> Result<Cord, Stop>
     ensures built { IfOk result (IsBuilt store.now.entries.items (expr_view expression.now)) }
     ensures refused { IfErr result (IsUnbuilt store.now.entries.items (expr_view expression.now)) }
 {

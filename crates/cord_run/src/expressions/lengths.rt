@@ -2,14 +2,14 @@
 ghost use Rattle.std.specs.Prelude.{◌≡◌, ◌≤◌, Err, IfErr, IfOk, Ok};
 ghost use Rattle.cord_meaning.specs.State as meant;
 ghost use Rattle.cord_plan.specs.Values.{measured_copies, measured_part};
-ghost use Rattle.cord_plan.specs.Views.{expr_view};
+ghost use Rattle.cord_plan.specs.Views.{expr_view, members_view};
 ghost use Rattle.cord_run.specs.inner.Extents.{counted, extent_in, members_extent, members_seen};
 
 use crate::checks::{as_byte, as_index, as_length};
 use crate::store::Store;
 use cord_io::MAX_LEN;
 use cord_meaning::FaultKind;
-use cord_plan::Expr;
+use cord_plan::{Expr, Members};
 use std::rc::Rc;
 
 /// The length of an expression, or its fault. No byte is read.
@@ -20,7 +20,7 @@ pub(crate) fn length_of(expression: &Expr, store: &Store) -> Result<u64, FaultKi
     match expression {
         Expr::Name(name) => Ok(store.length_of(name)),
         Expr::Run { byte, count } => length_of_run(store.value_of(byte), store.value_of(count)),
-        Expr::Cat(members) => match length_of_all(members.as_slice(), store) {
+        Expr::Cat(members) => match length_of_members(members, store) {
             Ok(len) => as_length(len),
             Err(kind) => Err(kind),
         },
@@ -35,12 +35,27 @@ pub(crate) fn length_of(expression: &Expr, store: &Store) -> Result<u64, FaultKi
     }
 }
 
-// The length of all these expressions together, as far as a number goes, or their first fault.
+// The length of members together, as far as a number goes, or their first fault.
 #[cycle(length_of)]
-fn length_of_all(members: &[Rc<Expr>], store: &Store) -> Result<u64, FaultKind>
-    ensures { result ≡ counted 0 (members_extent store.now.entries.items (members_seen members.now)) }
+fn length_of_members(members: &Members, store: &Store) -> Result<u64, FaultKind>
+    ensures { result ≡ counted 0 (members_extent store.now.entries.items (members_view members.now)) }
 {
-    let mut total: u64 = 0;
+    let (front, rest) = members.halves();
+    match front {
+        None => length_after(0, rest, store),
+        Some(front) => match length_of_members(front, store) {
+            Ok(total) => length_after(total, rest, store),
+            Err(kind) => Err(kind),
+        },
+    }
+}
+
+// A length, and that of all these expressions after it.
+#[cycle(length_of)]
+fn length_after(before: u64, members: &[Rc<Expr>], store: &Store) -> Result<u64, FaultKind>
+    ensures { result ≡ counted before (members_extent store.now.entries.items (members_seen members.now)) }
+{
+    let mut total = before;
     for member in members {
         let expression = member.as_ref();
         match expression {

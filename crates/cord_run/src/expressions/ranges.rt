@@ -1,11 +1,11 @@
 // What is wanted of an expression, as cords: one for each name and each run that has some of it. What is wanted is handed on
 // from member to member, so each length is asked for once. A `sub` hands on less, and makes no cord of what it is cut from.
 ghost use Rattle.std.specs.Prelude.{◌≡◌, ◌+◌, ◌-◌, ◌<◌, ◌≤◌, ◌^◌, ℤ, min, replicate, true, IfOk, IsOkUnless, Ok};
-ghost use Rattle.cord_core.specs.Cord.{text_len};
+ghost use Rattle.cord_core.specs.Cord.{IsCord, text_len};
 ghost use Rattle.cord_core.specs.Equations.{HasText};
 ghost use Rattle.cord_meaning.specs.State as meant;
 ghost use Rattle.cord_plan.specs.Values.{measured_copies};
-ghost use Rattle.cord_plan.specs.Views.{expr_view};
+ghost use Rattle.cord_plan.specs.Views.{expr_view, members_view};
 ghost use Rattle.cord_run.specs.inner.Extents.{extent_in, members_extent, members_seen};
 ghost use Rattle.cord_run.specs.inner.Entries.{content_in, cord_in, length_in, operand_in};
 ghost use Rattle.cord_run.specs.inner.Ranges.{AddsCopies, AddsExpression, AddsMembers, AddsCordRange, AddsRun, AreFew};
@@ -17,7 +17,7 @@ use crate::expressions::lengths::copies_asked;
 use crate::store::Store;
 use cord_core::Cord;
 use cord_io::{CordError, MAX_LEN};
-use cord_plan::Expr;
+use cord_plan::{Expr, Members};
 use cord_script::{Name, Number};
 use std::alloc::Global;
 use std::rc::Rc;
@@ -102,7 +102,7 @@ pub(crate) fn add_range(
     match expression {
         Expr::Name(name) => add_name(alloc, name, store, wanted, pieces),
         Expr::Run { byte, count } => add_run(alloc, byte, count, store, wanted, pieces),
-        Expr::Cat(members) => add_members(alloc, members.as_slice(), store, wanted, pieces),
+        Expr::Cat(members) => add_members(alloc, members, store, wanted, pieces),
         Expr::Sub {
             expression,
             start,
@@ -116,9 +116,36 @@ pub(crate) fn add_range(
     }
 }
 
-// The same of all these expressions, joined.
+// The same of members, joined.
 #[cycle(add_range)]
 fn add_members(
+    alloc: Global,
+    members: &Members,
+    store: &Store,
+    wanted: Wanted,
+    pieces: &mut Vec<Cord>,
+) -> Result<Wanted, CordError>
+    ensures added { IfOk result (λ _. AddsMembers store.now.entries.items
+        (members_view members.now) wanted pieces.old.items pieces.new.items) }
+    ensures in_turn { IfOk result (λ _. AddsInTurn store.now.entries.items
+        (origins_of (members_view members.now)) pieces.old.items pieces.new.items) }
+    ensures past { IfOk result (IsAfter (members_extent store.now.entries.items (members_view members.now)) wanted) }
+    ensures few { IfOk result (λ after. AreFew wanted after pieces.old.items pieces.new.items) }
+    ensures refused { IsOkUnless result CordError.NoMemory }
+{
+    let (front, rest) = members.halves();
+    match front {
+        None => add_all(alloc, rest, store, wanted, pieces),
+        Some(front) => {
+            let left = add_members(alloc, front, store, wanted, pieces)?;
+            add_all(alloc, rest, store, left, pieces)
+        }
+    }
+}
+
+// The same of all these expressions, joined.
+#[cycle(add_range)]
+fn add_all(
     alloc: Global,
     members: &[Rc<Expr>],
     store: &Store,
@@ -246,11 +273,12 @@ fn add_copies(alloc: Global, byte: u8, count: u64, pieces: &mut Vec<Cord>) -> Re
     Ok(())
 }
 
-// So many copies of a byte: one leaf of a few, which joins a short leaf beside it, and one run of more.
-fn copies_of(alloc: Global, byte: u8, count: u64) -> Result<Cord, CordError>
+/// So many copies of a byte: one leaf of a few, which joins a short leaf beside it, and one run of more.
+pub(crate) fn copies_of(alloc: Global, byte: u8, count: u64) -> Result<Cord, CordError>
     requires short { count ≤ MAX_LEN }
     ensures over { IfOk result (HasText (replicate count byte)) }
     ensures len { IfOk result (λ cord. text_len cord ≡ count) }
+    ensures sound { IfOk result IsCord }
     ensures refused { IsOkUnless result CordError.NoMemory }
 {
     if count > FEW {

@@ -1,13 +1,14 @@
 // Expressions of short texts side by side, whose text is gathered without memory.
 ghost use Rattle.std.specs.Prelude.{◌≡◌, ◌≤◌, [], length, true};
-ghost use Rattle.cord_plan.specs.Views.{expr_view};
+ghost use Rattle.cord_plan.specs.Exprs.{Exprs, append};
+ghost use Rattle.cord_plan.specs.Views.{expr_view, members_view};
 ghost use Rattle.cord_run.specs.inner.Extents.{members_seen};
 ghost use Rattle.cord_run.specs.inner.Slices.{AreTextsIn, IsTextIn};
 
 use crate::expressions::slices::slice_of;
 use crate::store::Store;
 use arrayvec::ArrayVec;
-use cord_plan::Expr;
+use cord_plan::{Expr, Members};
 use std::rc::Rc;
 
 /// So many bytes are gathered at most.
@@ -24,15 +25,29 @@ pub(crate) fn gather(
     ensures { result ≡ true → IsTextIn store.now.entries.items (expr_view expression.now) text.new.items }
 {
     match expression {
-        Expr::Cat(members) => gather_all(members.as_slice(), store, text),
+        Expr::Cat(members) => gather_members(members, store, text),
         _ => false,
     }
 }
 
-// The same of all these expressions, joined.
-fn gather_all(members: &[Rc<Expr>], store: &Store, text: &mut ArrayVec<u8, MOST_GATHERED>) -> bool
+// The same of members, joined.
+fn gather_members(members: &Members, store: &Store, text: &mut ArrayVec<u8, MOST_GATHERED>) -> bool
     requires { text.old.items ≡ [] }
-    ensures texts { result ≡ true → AreTextsIn store.now.entries.items (members_seen members.now) text.new.items }
+    ensures texts { result ≡ true → AreTextsIn store.now.entries.items (members_view members.now) text.new.items }
+    ensures short { result ≡ true → length text.new.items ≤ MOST_GATHERED }
+{
+    let (front, rest) = members.halves();
+    match front {
+        None => gather_all(rest, store, text),
+        Some(front) => gather_members(front, store, text) && gather_all(rest, store, text),
+    }
+}
+
+// Gathers the text of all these expressions after what was gathered.
+fn gather_all(members: &[Rc<Expr>], store: &Store, text: &mut ArrayVec<u8, MOST_GATHERED>) -> bool
+    requires { length text.old.items ≤ MOST_GATHERED }
+    ensures texts { result ≡ true → (earlier : Exprs) → AreTextsIn store.now.entries.items earlier text.old.items →
+        AreTextsIn store.now.entries.items (append earlier (members_seen members.now)) text.new.items }
     ensures short { result ≡ true → length text.new.items ≤ MOST_GATHERED }
 {
     for member in members {

@@ -1,5 +1,6 @@
 // Cords of what names hold.
 ghost use Rattle.std.specs.Prelude.{◌≡◌, IfOk, IsOkUnless, Ok};
+ghost use Rattle.cord_core.specs.Cord.{IsCord};
 ghost use Rattle.cord_run.specs.inner.Contents.{IsExtended, IsTextOver, extensible_length};
 ghost use Rattle.cord_run.specs.inner.Entries.{SameEntries, cells_in, content_in, cord_in, extensible_in};
 
@@ -13,6 +14,7 @@ use std::alloc::Global;
 /// The cord of a name, shared. Refused only with `NoMemory`.
 pub(crate) fn shared(alloc: Global, store: &Store, name: &Name) -> Result<Cord, CordError>
     ensures same { IfOk result (λ cord. cord ≡ cord_in (content_in store.now.entries.items name.now)) }
+    ensures sound { IfOk result IsCord }
     ensures refused { IsOkUnless result CordError.NoMemory }
 {
     match store.cord_of(name) {

@@ -1,5 +1,5 @@
-use Rattle.std.proofs.Common.{◌≡◌, ◌<◌, ◌^◌, drop}
-use Rattle.cord_plan.specs.Views.{expr_view}
+use Rattle.std.proofs.Common.{◌≡◌, ◌+◌, ◌<◌, ◌^◌, drop}
+use Rattle.cord_plan.specs.Views.{expr_view, members_view}
 use Rattle.cord_run.specs.inner.Extents.{counted, members_extent, members_seen}
 use Rattle.cord_run.proofs.Members.{weight, weights}
 use Rattle.cord_run.proofs.expressions.lengths.+length_of.Given as goal
@@ -7,12 +7,15 @@ use Rattle.cord_run.proofs.expressions.lengths.+length_of.Given as goal
 abbrev pub decreases-length_of : goal.decreases-length_of
 decreases-length_of l = weight (expr_view l.expression.now)
 
-abbrev pub decreases-length_of_all : goal.decreases-length_of_all
-decreases-length_of_all l = weights (members_seen l.members.now)
+abbrev pub decreases-length_of_members : goal.decreases-length_of_members
+decreases-length_of_members l = weights (members_view l.members.now) + 1
 
-abbrev pub invariant-length_of_all-loop-member : goal.invariant-length_of_all-loop-member
-invariant-length_of_all-loop-member l = record {
-  extent : counted 0 (members_extent l.store.entries.items (members_seen l.members))
+abbrev pub decreases-length_after : goal.decreases-length_after
+decreases-length_after l = weights (members_seen l.members.now)
+
+abbrev pub invariant-length_after-loop-member : goal.invariant-length_after-loop-member
+invariant-length_after-loop-member l = record {
+  extent : counted l.before (members_extent l.store.entries.items (members_seen l.members))
       ≡ counted l.total (members_extent l.store.entries.items (members_seen (drop l.member-index l.members)));
   small : l.total < 2 ^ 64;
 }

@@ -3,16 +3,17 @@ use Rattle.std.specs.Prelude.{IfOk}
 use Rattle.std.proofs.lemmas.List.{drop_all}
 use Rattle.cord_plan.specs.Exprs as plain
 use Rattle.cord_plan.specs.declared.expressions.Expr.{Expr}
-use Rattle.cord_plan.specs.Views.{expr_view, shared_view}
+use Rattle.cord_plan.specs.Views.{expr_view, members_view, shared_view}
 use Rattle.cord_plan.proofs.ExprViews.{view-Name, view-Run, view-Cat, view-Sub}
 use Rattle.cord_run.specs.inner.Extents.{extent_in, members_extent, members_seen}
-use Rattle.cord_run.specs.inner.Ranges.{AddsExpression, IsAfter}
-use Rattle.cord_run.specs.inner.Origins.{AddsInTurn, origins}
+use Rattle.cord_plan.proofs.Halves.{front_falls, halves_Some, rest_falls}
+use Rattle.cord_run.specs.inner.Ranges.{AddsExpression, AddsMembers, IsAfter}
+use Rattle.cord_run.specs.inner.Origins.{AddsInTurn, origins, origins_of}
 use Rattle.cord_run.proofs.Members.{weight, weights, member_smaller, members_left}
 use Rattle.cord_run.proofs.Ranges.{name_added, run_added, cat_added, cat_past, sub_added, sub_past, still_ok, still_ok_by}
 use Rattle.cord_run.proofs.MemberRanges.{SoFar, WantedSoFar, starts, goes_on, ends_early, ends_last, wanted_goes_on, wanted_ends_early}
-use Rattle.cord_run.proofs.MemberRanges.{wanted_ends}
-use Rattle.cord_run.proofs.Origins.{TurnsSoFar, turns_start, turns_go_on, turns_end}
+use Rattle.cord_run.proofs.MemberRanges.{both_added, wanted_after_both, wanted_ends}
+use Rattle.cord_run.proofs.Origins.{TurnsSoFar, turns_both, turns_start, turns_go_on, turns_end}
 use Rattle.cord_run.proofs.expressions.ranges.+add_range.Goals as goal
 
 pub add_range-returns-in-Name-clause-added : goal.add_range-returns-in-Name-clause-added
@@ -37,18 +38,18 @@ add_range-returns-in-Run-clause-added t c =
 pub add_range-returns-in-Cat-clause-added : goal.add_range-returns-in-Cat-clause-added
 add_range-returns-in-Cat-clause-added t c =
     let entries = c.args.store.now.entries.items in
-    let es = members_seen c.as_slice.result.now in
+    let es = members_view c.in-Cat.members in
     let old = c.args.pieces.now.items in
     let new = c.add_members.new.pieces.items in
-    let view : expr_view c.args.expression.now ≡ plain.cat es = ap expr_view c.in-Cat.is ∙ view-Cat c.in-Cat.members ∙ ap (λ (ms : plain.Exprs). plain.cat ms) c.as_slice.ensures in
+    let view : expr_view c.args.expression.now ≡ plain.cat es = ap expr_view c.in-Cat.is ∙ view-Cat c.in-Cat.members in
     subst (λ (e : plain.Expr). IfOk c.add_members.result (λ _. AddsExpression entries e c.args.wanted old new)) (sym view)
     (still_ok c.add_members.result (cat_added entries es c.args.wanted old new) c.add_members.ensures.added)
 
 pub add_range-returns-in-Cat-clause-past : goal.add_range-returns-in-Cat-clause-past
 add_range-returns-in-Cat-clause-past t c =
     let entries = c.args.store.now.entries.items in
-    let es = members_seen c.as_slice.result.now in
-    let view : expr_view c.args.expression.now ≡ plain.cat es = ap expr_view c.in-Cat.is ∙ view-Cat c.in-Cat.members ∙ ap (λ (ms : plain.Exprs). plain.cat ms) c.as_slice.ensures in
+    let es = members_view c.in-Cat.members in
+    let view : expr_view c.args.expression.now ≡ plain.cat es = ap expr_view c.in-Cat.is ∙ view-Cat c.in-Cat.members in
     subst (λ (e : plain.Expr). IfOk c.add_members.result (λ after. IsAfter (extent_in entries e) c.args.wanted after)) (sym view)
     (still_ok_by (λ after. IsAfter (members_extent entries es) c.args.wanted after)
     (λ after. IsAfter (extent_in entries (plain.cat es)) c.args.wanted after) c.add_members.result
@@ -79,42 +80,42 @@ add_range-returns-in_ok-rest-in-Sub-clause-past t c =
     (sub_past entries inner c.in-Sub.start c.in-Sub.count c.index_of.result c.index_of-most.result c.args.wanted wanted
     c.index_of.ensures.is c.index_of-most.ensures.is c.inside-inner.ensures rest c.outside.result c.outside.ensures past)
 
-pub add_members-loop-member-init : goal.add_members-loop-member-init
-add_members-loop-member-init t c = record {
+pub add_all-loop-member-init : goal.add_all-loop-member-init
+add_all-loop-member-init t c = record {
   added = starts c.args.store.now.entries.items (members_seen c.args.members.now) c.args.wanted c.args.pieces.now.items;
   in_turn = turns_start c.args.store.now.entries.items (members_seen c.args.members.now) c.args.pieces.now.items;
   past = λ last h. h;
   few = omega arith;
 }
 
-pub add_members-returns-then-is_nothing-clause-added : goal.add_members-returns-then-is_nothing-clause-added
-add_members-returns-then-is_nothing-clause-added t c =
+pub add_all-returns-then-is_nothing-clause-added : goal.add_all-returns-then-is_nothing-clause-added
+add_all-returns-then-is_nothing-clause-added t c =
     let ms = c.args.members.now in
     ends_early c.args.store.now.entries.items (members_seen ms) c.args.wanted c.args.pieces.now.items
     (members_seen (drop c.loop-member.member-index ms)) c.loop-member.left c.loop-member.pieces.items
     (c.is_nothing.ensures.count c.if-is_nothing.true) c.loop-member.invariant.added
 
-pub add_members-returns-then-is_nothing-clause-in_turn : goal.add_members-returns-then-is_nothing-clause-in_turn
-add_members-returns-then-is_nothing-clause-in_turn t c =
+pub add_all-returns-then-is_nothing-clause-in_turn : goal.add_all-returns-then-is_nothing-clause-in_turn
+add_all-returns-then-is_nothing-clause-in_turn t c =
     let ms = c.args.members.now in
     turns_end c.args.store.now.entries.items (members_seen ms) c.args.pieces.now.items (members_seen (drop c.loop-member.member-index ms))
     c.loop-member.pieces.items c.loop-member.invariant.in_turn
 
-pub add_members-returns-then-is_nothing-clause-past : goal.add_members-returns-then-is_nothing-clause-past
-add_members-returns-then-is_nothing-clause-past t c =
+pub add_all-returns-then-is_nothing-clause-past : goal.add_all-returns-then-is_nothing-clause-past
+add_all-returns-then-is_nothing-clause-past t c =
     let ms = c.args.members.now in
     wanted_ends_early c.args.store.now.entries.items (members_seen ms) c.args.wanted (members_seen (drop c.loop-member.member-index ms))
     c.loop-member.left (c.is_nothing.ensures.skip c.if-is_nothing.true) (c.is_nothing.ensures.count c.if-is_nothing.true)
     c.loop-member.invariant.past
 
-pub add_members-add_range-requires : goal.add_members-add_range-requires
-add_members-add_range-requires t c =
+pub add_all-add_range-requires : goal.add_all-add_range-requires
+add_all-add_range-requires t c =
     let there : weight (shared_view c.member-item.result) < weights (members_seen c.args.members.now) = member_smaller c.args.members.now c.loop-member.member-index c.member-item.result c.loop-member-test.true c.member-item.is in
     let below : weight (expr_view c.as_ref-expression.result.now) < weights (members_seen c.args.members.now) = subst (λ (x : Expr). weight (expr_view x) < weights (members_seen c.args.members.now)) (sym c.as_ref-expression.ensures) there in
     search (rules, below)
 
-pub add_members-loop-member-preserved : goal.add_members-loop-member-preserved
-add_members-loop-member-preserved t c =
+pub add_all-loop-member-preserved : goal.add_all-loop-member-preserved
+add_all-loop-member-preserved t c =
     let entries = c.args.store.now.entries.items in
     let ms = c.args.members.now in
     let k = c.loop-member.member-index in
@@ -140,8 +141,8 @@ add_members-loop-member-preserved t c =
       few = omega (arith, c.in_ok-left.ensures.few, c.loop-member.invariant.few);
     }
 
-pub add_members-returns-clause-added : goal.add_members-returns-clause-added
-add_members-returns-clause-added t c =
+pub add_all-returns-clause-added : goal.add_all-returns-clause-added
+add_all-returns-clause-added t c =
     let entries = c.args.store.now.entries.items in
     let ms = c.args.members.now in
     let left = c.loop-member.left in
@@ -151,17 +152,65 @@ add_members-returns-clause-added t c =
     (subst (λ (xs : plain.Exprs). SoFar entries (members_seen ms) c.args.wanted c.args.pieces.now.items xs left now) none
     c.loop-member.invariant.added)
 
-pub add_members-returns-clause-in_turn : goal.add_members-returns-clause-in_turn
-add_members-returns-clause-in_turn t c =
+pub add_all-returns-clause-in_turn : goal.add_all-returns-clause-in_turn
+add_all-returns-clause-in_turn t c =
     let ms = c.args.members.now in
     turns_end c.args.store.now.entries.items (members_seen ms) c.args.pieces.now.items (members_seen (drop c.loop-member.member-index ms))
     c.loop-member.pieces.items c.loop-member.invariant.in_turn
 
-pub add_members-returns-clause-past : goal.add_members-returns-clause-past
-add_members-returns-clause-past t c =
+pub add_all-returns-clause-past : goal.add_all-returns-clause-past
+add_all-returns-clause-past t c =
     let entries = c.args.store.now.entries.items in
     let ms = c.args.members.now in
     let left = c.loop-member.left in
     let none : members_seen (drop c.loop-member.member-index ms) ≡ plain.nothing = ap members_seen (drop_all c.loop-member.member-index ms c.loop-member-test.false) in
     wanted_ends entries (members_seen ms) c.args.wanted left
     (subst (λ (xs : plain.Exprs). WantedSoFar entries (members_seen ms) c.args.wanted xs left) none c.loop-member.invariant.past)
+
+pub add_members-add_members-requires : goal.add_members-add_members-requires
+add_members-add_members-requires t c =
+    let below : weights (members_view c.in-Some.front.now) + 1 < weights (members_view c.args.members.now) + 1 = front_falls (members_view c.args.members.now) c.halves.result.0 c.halves.result.1.now c.halves.ensures.members c.halves.ensures.after c.in-Some.front c.in-Some.is in
+    search (rules, below)
+
+pub add_members-add_all-requires-in-Some : goal.add_members-add_all-requires-in-Some
+add_members-add_all-requires-in-Some t c =
+    let below : weights (members_seen c.halves.result.1.now) < weights (members_view c.args.members.now) + 1 = rest_falls (members_view c.args.members.now) c.halves.result.0 c.halves.result.1.now c.halves.ensures.members in
+    search (rules, below)
+
+pub add_members-returns-in_ok-left-in-Some-clause-added : goal.add_members-returns-in_ok-left-in-Some-clause-added
+add_members-returns-in_ok-left-in-Some-clause-added t c =
+    let entries = c.args.store.now.entries.items in
+    let front = members_view c.in-Some.front.now in
+    let rest = members_seen c.halves.result.1.now in
+    let old = c.args.pieces.now.items in
+    let now = c.add_members.new.pieces.items in
+    let next = c.add_all-in-Some.new.pieces.items in
+    let whole = halves_Some (members_view c.args.members.now) c.halves.result.0 c.halves.result.1.now c.halves.ensures.members c.in-Some.front c.in-Some.is in
+    subst (λ (es : plain.Exprs). IfOk c.add_all-in-Some.result (λ _. AddsMembers entries es c.args.wanted old next)) (sym whole)
+    (still_ok c.add_all-in-Some.result (both_added entries front rest c.args.wanted c.in_ok-left-in-Some.left old now next
+    c.in_ok-left-in-Some.ensures.added c.in_ok-left-in-Some.ensures.past) c.add_all-in-Some.ensures.added)
+
+pub add_members-returns-in_ok-left-in-Some-clause-in_turn : goal.add_members-returns-in_ok-left-in-Some-clause-in_turn
+add_members-returns-in_ok-left-in-Some-clause-in_turn t c =
+    let entries = c.args.store.now.entries.items in
+    let front = members_view c.in-Some.front.now in
+    let rest = members_seen c.halves.result.1.now in
+    let old = c.args.pieces.now.items in
+    let now = c.add_members.new.pieces.items in
+    let next = c.add_all-in-Some.new.pieces.items in
+    let whole = halves_Some (members_view c.args.members.now) c.halves.result.0 c.halves.result.1.now c.halves.ensures.members c.in-Some.front c.in-Some.is in
+    subst (λ (es : plain.Exprs). IfOk c.add_all-in-Some.result (λ _. AddsInTurn entries (origins_of es) old next)) (sym whole)
+    (still_ok c.add_all-in-Some.result (turns_both entries front rest old now next c.in_ok-left-in-Some.ensures.in_turn)
+    c.add_all-in-Some.ensures.in_turn)
+
+pub add_members-returns-in_ok-left-in-Some-clause-past : goal.add_members-returns-in_ok-left-in-Some-clause-past
+add_members-returns-in_ok-left-in-Some-clause-past t c =
+    let entries = c.args.store.now.entries.items in
+    let front = members_view c.in-Some.front.now in
+    let rest = members_seen c.halves.result.1.now in
+    let whole = halves_Some (members_view c.args.members.now) c.halves.result.0 c.halves.result.1.now c.halves.ensures.members c.in-Some.front c.in-Some.is in
+    subst (λ (es : plain.Exprs). IfOk c.add_all-in-Some.result (IsAfter (members_extent entries es) c.args.wanted)) (sym whole)
+    (still_ok_by (IsAfter (members_extent entries rest) c.in_ok-left-in-Some.left)
+    (IsAfter (members_extent entries (plain.append front rest)) c.args.wanted) c.add_all-in-Some.result
+    (λ after past. wanted_after_both entries front rest c.args.wanted c.in_ok-left-in-Some.left after c.in_ok-left-in-Some.ensures.past past)
+    c.add_all-in-Some.ensures.past)

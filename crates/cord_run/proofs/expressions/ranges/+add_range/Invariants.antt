@@ -1,5 +1,5 @@
-use Rattle.std.proofs.Common.{drop}
-use Rattle.cord_plan.specs.Views.{expr_view}
+use Rattle.std.proofs.Common.{◌+◌, drop}
+use Rattle.cord_plan.specs.Views.{expr_view, members_view}
 use Rattle.cord_run.specs.inner.Extents.{members_seen}
 use Rattle.cord_run.specs.inner.Ranges.{AreFew}
 use Rattle.cord_run.proofs.Members.{weight, weights}
@@ -11,10 +11,13 @@ abbrev pub decreases-add_range : goal.decreases-add_range
 decreases-add_range l = weight (expr_view l.expression.now)
 
 abbrev pub decreases-add_members : goal.decreases-add_members
-decreases-add_members l = weights (members_seen l.members.now)
+decreases-add_members l = weights (members_view l.members.now) + 1
 
-abbrev pub invariant-add_members-loop-member : goal.invariant-add_members-loop-member
-invariant-add_members-loop-member l = record {
+abbrev pub decreases-add_all : goal.decreases-add_all
+decreases-add_all l = weights (members_seen l.members.now)
+
+abbrev pub invariant-add_all-loop-member : goal.invariant-add_all-loop-member
+invariant-add_all-loop-member l = record {
   added : SoFar l.store.entries.items (members_seen l.members) l.fn.wanted l.initial.pieces.items
       (members_seen (drop l.member-index l.members)) l.left l.pieces.items;
   in_turn : TurnsSoFar l.store.entries.items (members_seen l.members) l.initial.pieces.items (members_seen (drop l.member-index l.members))

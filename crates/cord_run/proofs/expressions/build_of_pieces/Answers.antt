@@ -6,7 +6,7 @@ use Rattle.cord_core.specs.Cord.{all_parts, parts_of}
 use Rattle.cord_core.specs.Equations.{IsAllOf}
 use Rattle.cord_plan.specs.Views.{expr_view}
 use Rattle.cord_run.proofs.ExpressionCords.{whole_built}
-use Rattle.cord_run.proofs.expressions.build.Goals as goal
+use Rattle.cord_run.proofs.expressions.build_of_pieces.Goals as goal
 
 pub returns-in-Ok-clause-built : goal.returns-in-Ok-clause-built
 returns-in-Ok-clause-built c =

@@ -1,0 +1,291 @@
+-- The cords of expressions of one part or of two.
+use Rattle.std.proofs.Common.{◌≡◌, ◌+◌, ◌≤◌, ◌<◌, ℕ, true, ℤ, List, [], ◌∷◌, ◌++◌, length, take, drop, replicate, Result, Ok, Err, refl, sym, ap, subst, ◌∙◌}
+use Rattle.std.proofs.Common.{inl, append-nil, append_assoc, length-append, arith}
+use Rattle.std.specs.Prelude.{Option}
+use Rattle.std.proofs.lemmas.List.{take_all}
+use Rattle.cord_io.specs.Table.{Table, Lengths}
+use Rattle.cord_io.specs.declared.TheConstants.{MAX_LEN}
+use Rattle.cord_io.specs.declared.faults.CordError.{CordError}
+use Rattle.cord_io.specs.declared.faults.CordError.TheVariants as errors
+use Rattle.cord_node.specs.declared.Node.{Node}
+use Rattle.cord_node.specs.Kept.{Part, Kept}
+use Rattle.cord_node.specs.Tables.{lengths_of}
+use Rattle.cord_node.proofs.KeptLemmas.{Kept-join, Kept-self, Kept_same}
+use Rattle.cord_core.specs.Cord.{bytes_of, text_len, parts_of, CordFits, CordFitsIn, IsCord, all_bytes, all_parts, AllFitIn}
+use Rattle.cord_core.specs.Equations.{IsCatOf, IsSubstring, HasText}
+use Rattle.cord_core.specs.Refusals.{IsRefusal}
+use Rattle.cord_core.proofs.OverLemmas.{length-bytes}
+use Rattle.cord_operands.specs.declared.operands.Number.{Number}
+use Rattle.cord_meaning.specs.declared.ends.FaultKind.{FaultKind}
+use Rattle.cord_meaning.specs.declared.ends.FaultKind.TheVariants.{TooLong}
+use Rattle.cord_meaning.specs.State.{number_value, and_then, as_index, as_byte, as_length}
+use Rattle.cord_plan.specs.Exprs.{Expr, name, run, cat, sub, member, nothing}
+use Rattle.cord_plan.specs.Meaning.{all_texts, cords}
+use Rattle.cord_plan.specs.Values.{copies, measured_copies, part_of, text_in, within}
+use Rattle.cord_run.specs.declared.stops.Stop.{Stop}
+use Rattle.cord_run.specs.declared.stops.Stop.TheVariants as stops
+use Rattle.cord_run.specs.declared.store.Entry.{Entry}
+use Rattle.cord_run.specs.inner.Contents.{stop_of_cord}
+use Rattle.cord_run.specs.inner.Entries.{content_in, cord_in, operand_in, IsOver}
+use Rattle.cord_run.specs.inner.Holdings.{holding_of, plain_of}
+use Rattle.cord_run.specs.inner.Expressions.{AreWhole, IsBuilt, IsUnbuilt}
+use Rattle.cord_run.specs.inner.Origins.{Origin, named, copied, origins, InTurn, IsCutOf, IsPieceOf, AreCopies}
+use Rattle.cord_run.proofs.Files.{long_text, short_text}
+use Rattle.cord_run.proofs.Fronts.{joined}
+use Rattle.cord_run.proofs.Lengths.{Both, cord_fits, content_text, length_passed, operand_value, texts_split}
+use Rattle.cord_run.proofs.Makings.{cord_limit}
+use Rattle.cord_run.proofs.Origins.{turns_joined}
+
+-- ---- one part
+module _ (entries : List Entry) where
+  -- one cord of one origin
+  one_built : (e : Expr) (o : Origin) (cord : Option Node) → origins e ≡ o ∷ [] → IsPieceOf entries o cord → IsCord cord →
+      ((lengths : Lengths) → IsOver lengths entries → CordFitsIn lengths cord) →
+      ((t : Table) → IsOver (lengths_of t) entries → text_in MAX_LEN (plain_of t entries) e ≡ Ok (bytes_of t cord)) → IsBuilt entries e cord
+  one_built e o cord from piece sound fits text = record {
+    sound = sound;
+    fits = fits;
+    bytes = λ t over there. text t over;
+    pieces = cord ∷ [];
+    whole = record {
+      fits = λ lengths over. (fits lengths over, tt);
+      bytes = λ t over there. text t over ∙ ap (λ (u : List ℕ). Ok u) (sym (append-nil (bytes_of t cord)));
+    };
+    in_turn = subst (λ (os : List Origin). InTurn entries os (cord ∷ [])) (sym from) (inl (piece, tt));
+    shared = subst (λ (ps : List Part). Kept ps (parts_of cord)) (sym (append-nil (parts_of cord))) (Kept-self (parts_of cord));
+  }
+
+  -- a text that a cord has is within the limit
+  cord_within : (t : Table) (cord : Option Node) → IsCord cord → CordFits t cord → within MAX_LEN (bytes_of t cord) ≡ Ok (bytes_of t cord)
+  cord_within t cord sound fits = short_text (bytes_of t cord)
+      (subst (λ (n : ℕ). n ≤ MAX_LEN) (length-bytes t cord sound fits) (cord_limit cord sound))
+
+  -- a name
+  whole_cut : (cord : Option Node) → IsCord cord → IsCutOf cord cord
+  whole_cut cord sound = record {
+    start = 0;
+    count = text_len cord;
+    range = record {
+      fits = λ lengths h. h;
+      bytes = λ t h. sym (take_all (text_len cord) (bytes_of t cord) (let long : text_len cord ≡ length (bytes_of t cord) = length-bytes t cord sound h in omega (arith, long)));
+    };
+    shared = Kept-self (parts_of cord);
+  }
+
+  pub name_built : (x : List ℕ) (cord : Option Node) → cord ≡ cord_in (content_in entries x) → IsCord cord → IsBuilt entries (name x) cord
+  name_built x cord is sound =
+      let there : Option Node = cord_in (content_in entries x) in
+      let sound_there : IsCord there = subst (λ (c : Option Node). IsCord c) is sound in
+      subst (λ (c : Option Node). IsBuilt entries (name x) c) (sym is)
+      (one_built (name x) (named x) there refl (whole_cut there sound_there) sound_there
+      (λ lengths over. cord_fits lengths (content_in entries x) (over.contents x))
+      (λ t over. ap (λ (u : List ℕ). Ok u) (content_text t (content_in entries x))))
+
+  -- a range of a name
+  module _ (x : List ℕ) (i n : Number) where
+    range_text : (t : Table) (text : List ℕ) (start count : ℕ) → as_index (operand_in entries i) ≡ Ok start →
+        as_index (operand_in entries n) ≡ Ok count →
+        part_of MAX_LEN text (number_value (plain_of t entries) i) (number_value (plain_of t entries) n)
+        ≡ within MAX_LEN (take count (drop start text))
+    range_text t text start count first second =
+        sym (λ j. part_of MAX_LEN text (operand_value t entries i j) (operand_value t entries n j))
+        ∙ (λ j. and_then (first j) (λ a. and_then (second j) (λ m. within MAX_LEN (take m (drop a text)))))
+
+    pub range_built : (start count : ℕ) (cord range : Option Node) → as_index (operand_in entries i) ≡ Ok start →
+        as_index (operand_in entries n) ≡ Ok count → cord ≡ cord_in (content_in entries x) → IsSubstring start count cord range →
+        Kept (parts_of cord) (parts_of range) → IsCord range → IsBuilt entries (sub (name x) i n) range
+    range_built start count cord range first second is cut kept sound =
+        let there : Option Node = cord_in (content_in entries x) in
+        let cut_there : IsSubstring start count there range = subst (λ (c : Option Node). IsSubstring start count c range) is cut in
+        let kept_there : Kept (parts_of there) (parts_of range) = subst (λ (c : Option Node). Kept (parts_of c) (parts_of range)) is kept in
+        one_built (sub (name x) i n) (named x) range refl (record { start = start; count = count; range = cut_there; shared = kept_there }) sound
+        (λ lengths over. cut_there.fits lengths (cord_fits lengths (content_in entries x) (over.contents x)))
+        (λ t over.
+        let fits : CordFits t there = cord_fits (lengths_of t) (content_in entries x) (over.contents x) in
+        ap (λ (u : List ℕ). part_of MAX_LEN u (number_value (plain_of t entries) i) (number_value (plain_of t entries) n)) (content_text t (content_in entries x))
+        ∙ range_text t (bytes_of t there) start count first second
+        ∙ ap (λ (u : List ℕ). within MAX_LEN u) (sym (cut_there.bytes t fits))
+        ∙ cord_within t range sound (cut_there.fits (lengths_of t) fits))
+
+    -- its first number is none
+    pub range_start_faulty : (kind : FaultKind) → as_index (operand_in entries i) ≡ Err kind →
+        IsUnbuilt entries (sub (name x) i n) (stops.Fault kind)
+    range_start_faulty kind first = λ t over there.
+        sym (λ j. and_then (as_index (operand_value t entries i j)) (λ a. and_then (as_index (number_value (plain_of t entries) n))
+        (λ m. within MAX_LEN (take m (drop a ((plain_of t entries).texts x))))))
+        ∙ ap (λ (r : Result ℕ FaultKind). and_then r (λ a. and_then (as_index (number_value (plain_of t entries) n))
+        (λ m. within MAX_LEN (take m (drop a ((plain_of t entries).texts x)))))) first
+
+    -- its second number is none
+    pub range_count_faulty : (start : ℕ) (kind : FaultKind) → as_index (operand_in entries i) ≡ Ok start →
+        as_index (operand_in entries n) ≡ Err kind → IsUnbuilt entries (sub (name x) i n) (stops.Fault kind)
+    range_count_faulty start kind first second = λ t over there.
+        sym (λ j. part_of MAX_LEN ((plain_of t entries).texts x) (operand_value t entries i j) (operand_value t entries n j))
+        ∙ (λ j. and_then (first j) (λ a. and_then (second j) (λ m. within MAX_LEN (take m (drop a ((plain_of t entries).texts x))))))
+
+  -- copies of a byte
+  module _ (c n : Number) where
+    numbers_same : (t : Table) → text_in MAX_LEN (plain_of t entries) (run c n) ≡ copies MAX_LEN (operand_in entries c) (operand_in entries n)
+    numbers_same t = sym (λ j. copies MAX_LEN (operand_value t entries c j) (operand_value t entries n j))
+
+    copies_made : (z w : ℤ) (b count : ℕ) → as_byte z ≡ Ok b → measured_copies MAX_LEN z w ≡ Ok count →
+        copies MAX_LEN z w ≡ Ok (replicate count b)
+    copies_made z w b count byte told = by_count (as_index w) refl
+      where
+        by_length : (m : ℕ) (r : Result ℕ FaultKind) → as_length MAX_LEN m ≡ r → r ≡ Ok count →
+            and_then r (λ _. Ok (replicate m b)) ≡ Ok (replicate count b)
+        by_length m (Ok k) e f =
+            let same : m ≡ count = let passed : m ≡ k = (length_passed m k e).0 in cc in
+            ap (λ (j : ℕ). Ok (replicate j b)) same
+        by_length m (Err kind) e f = let bad : ⊥ = cc in absurd bad
+
+        by_count : (r : Result ℕ FaultKind) → as_index w ≡ r → copies MAX_LEN z w ≡ Ok (replicate count b)
+        by_count (Ok m) e =
+            (λ j. and_then (byte j) (λ a. and_then (e j) (λ k. and_then (as_length MAX_LEN k) (λ _. Ok (replicate k a)))))
+            ∙ by_length m (as_length MAX_LEN m) refl
+            (sym (λ j. and_then (byte j) (λ a. and_then (e j) (λ k. as_length MAX_LEN k))) ∙ told)
+        by_count (Err kind) e =
+            let none : Err kind ≡ Ok count = sym (λ j. and_then (byte j) (λ a. and_then (e j) (λ k. as_length MAX_LEN k))) ∙ told in
+            let bad : ⊥ = cc in absurd bad
+
+    copies_faulty : (z w : ℤ) (kind : FaultKind) → measured_copies MAX_LEN z w ≡ Err kind → copies MAX_LEN z w ≡ Err kind
+    copies_faulty z w kind told = by_checks (as_byte z) (as_index w) told
+      where
+        by_length : (b m : ℕ) (r : Result ℕ FaultKind) → r ≡ Err kind → and_then r (λ _. Ok (replicate m b)) ≡ Err kind
+        by_length b m (Ok k) e = let bad : ⊥ = cc in absurd bad
+        by_length b m (Err other) e = let same : other ≡ kind = cc in ap (λ (k : FaultKind). Err k) same
+
+        by_checks : (rb rn : Result ℕ FaultKind) → and_then rb (λ b. and_then rn (λ m. as_length MAX_LEN m)) ≡ Err kind →
+            and_then rb (λ b. and_then rn (λ m. and_then (as_length MAX_LEN m) (λ _. Ok (replicate m b)))) ≡ Err kind
+        by_checks (Err other) rn e = let same : other ≡ kind = cc in ap (λ (k : FaultKind). Err k) same
+        by_checks (Ok b) (Err other) e = let same : other ≡ kind = cc in ap (λ (k : FaultKind). Err k) same
+        by_checks (Ok b) (Ok m) e = by_length b m (as_length MAX_LEN m) e
+
+    pub run_built : (b count : ℕ) (cord : Option Node) → as_byte (operand_in entries c) ≡ Ok b →
+        measured_copies MAX_LEN (operand_in entries c) (operand_in entries n) ≡ Ok count → HasText (replicate count b) cord → IsCord cord →
+        IsBuilt entries (run c n) cord
+    run_built b count cord byte told has sound = one_built (run c n) (copied c) cord refl
+        (record { value = b; count = count; is = byte; text = has }) sound (λ lengths over. has.fits lengths)
+        (λ t over. numbers_same t ∙ copies_made (operand_in entries c) (operand_in entries n) b count byte told
+        ∙ ap (λ (u : List ℕ). Ok u) (sym (has.bytes t)))
+
+    pub run_unbuilt : (kind : FaultKind) → measured_copies MAX_LEN (operand_in entries c) (operand_in entries n) ≡ Err kind →
+        IsUnbuilt entries (run c n) (stops.Fault kind)
+    run_unbuilt kind told = λ t over there. numbers_same t ∙ copies_faulty (operand_in entries c) (operand_in entries n) kind told
+
+-- ---- two parts
+all_fit_both : (lengths : Lengths) (ps qs : List (Option Node)) → AllFitIn lengths ps → AllFitIn lengths qs → AllFitIn lengths (ps ++ qs)
+all_fit_both lengths [] qs first second = second
+all_fit_both lengths (p ∷ ps) qs first second = (first.0, all_fit_both lengths ps qs first.1 second)
+
+all_bytes_both : (t : Table) (ps qs : List (Option Node)) → all_bytes t (ps ++ qs) ≡ all_bytes t ps ++ all_bytes t qs
+all_bytes_both t [] qs = refl
+all_bytes_both t (p ∷ ps) qs = ap (λ (u : List ℕ). bytes_of t p ++ u) (all_bytes_both t ps qs)
+    ∙ sym (append_assoc (bytes_of t p) (all_bytes t ps) (all_bytes t qs))
+
+-- a text that is told twice
+same_text : (r : Result (List ℕ) FaultKind) (u v : List ℕ) → r ≡ Ok u → r ≡ Ok v → u ≡ v
+same_text r u v first second = cc
+
+all_parts_both : (ps qs : List (Option Node)) → all_parts (ps ++ qs) ≡ all_parts ps ++ all_parts qs
+all_parts_both [] qs = refl
+all_parts_both (p ∷ ps) qs = ap (λ (u : List Part). parts_of p ++ u) (all_parts_both ps qs)
+    ∙ sym (append_assoc (parts_of p) (all_parts ps) (all_parts qs))
+
+module _ (entries : List Entry) (d e : Expr) where
+  abbrev pub both : Expr
+  both = cat (member d (member e nothing))
+
+  -- the names of both hold texts
+  here : (t : Table) → all_texts (holding_of t entries) (cords both) ≡ true →
+      Both (all_texts (holding_of t entries) (cords d)) (all_texts (holding_of t entries) (cords e))
+  here t there =
+      let split = texts_split (holding_of t entries) (cords d) (cords e ++ []) there in
+      record {
+        first = split.first;
+        second = subst (λ (xs : List (List ℕ)). all_texts (holding_of t entries) xs ≡ true) (append-nil (cords e)) split.second;
+      }
+
+  -- the texts of both, joined
+  both_text : (t : Table) (u v : List ℕ) → text_in MAX_LEN (plain_of t entries) d ≡ Ok u → text_in MAX_LEN (plain_of t entries) e ≡ Ok v →
+      text_in MAX_LEN (plain_of t entries) both ≡ within MAX_LEN (u ++ v)
+  both_text t u v first second =
+      (λ j. and_then (joined (first j) (joined (second j) (Ok []))) (λ text. within MAX_LEN text))
+      ∙ ap (λ (w : List ℕ). within MAX_LEN (u ++ w)) (append-nil v)
+
+  module _ (front behind : Option Node) (one : IsBuilt entries d front) (other : IsBuilt entries e behind) where
+    long : (t : Table) → IsOver (lengths_of t) entries → text_len front + text_len behind ≡ length (bytes_of t front ++ bytes_of t behind)
+    long t over =
+        let first : text_len front ≡ length (bytes_of t front) = length-bytes t front one.sound (one.fits (lengths_of t) over) in
+        let second : text_len behind ≡ length (bytes_of t behind) = length-bytes t behind other.sound (other.fits (lengths_of t) over) in
+        omega (arith, first, second, length-append (bytes_of t front) (bytes_of t behind))
+
+    pair_text : (t : Table) → IsOver (lengths_of t) entries → all_texts (holding_of t entries) (cords both) ≡ true →
+        text_len front + text_len behind ≤ MAX_LEN → text_in MAX_LEN (plain_of t entries) both ≡ Ok (bytes_of t front ++ bytes_of t behind)
+    pair_text t over there short =
+        let h = here t there in
+        both_text t (bytes_of t front) (bytes_of t behind) (one.bytes t over h.first) (other.bytes t over h.second)
+        ∙ short_text (bytes_of t front ++ bytes_of t behind) (subst (λ (n : ℕ). n ≤ MAX_LEN) (long t over) short)
+
+    -- the bytes of the pieces of both
+    pieces_same : (t : Table) → IsOver (lengths_of t) entries → all_texts (holding_of t entries) (cords both) ≡ true →
+        bytes_of t front ++ bytes_of t behind ≡ all_bytes t (one.pieces ++ other.pieces)
+    pieces_same t over there =
+        let h = here t there in
+        let front_same : bytes_of t front ≡ all_bytes t one.pieces = same_text _ (bytes_of t front) (all_bytes t one.pieces) (one.bytes t over h.first) (one.whole.bytes t over h.first) in
+        let behind_same : bytes_of t behind ≡ all_bytes t other.pieces = same_text _ (bytes_of t behind) (all_bytes t other.pieces) (other.bytes t over h.second) (other.whole.bytes t over h.second) in
+        (λ j. front_same j ++ behind_same j) ∙ sym (all_bytes_both t one.pieces other.pieces)
+
+    pub pair_built : (cord : Option Node) → IsCatOf front behind cord → IsCord cord →
+        Kept (parts_of front ++ parts_of behind) (parts_of cord) → text_len front + text_len behind ≤ MAX_LEN → IsBuilt entries both cord
+    pair_built cord is sound kept short = record {
+      sound = sound;
+      fits = λ lengths over. is.fits lengths (one.fits lengths over) (other.fits lengths over);
+      bytes = λ t over there. pair_text t over there short
+          ∙ ap (λ (u : List ℕ). Ok u) (sym (is.bytes t (one.fits (lengths_of t) over) (other.fits (lengths_of t) over)));
+      pieces = one.pieces ++ other.pieces;
+      whole = record {
+        fits = λ lengths over. all_fit_both lengths one.pieces other.pieces (one.whole.fits lengths over) (other.whole.fits lengths over);
+        bytes = λ t over there. pair_text t over there short ∙ ap (λ (u : List ℕ). Ok u) (pieces_same t over there);
+      };
+      in_turn = turns_joined entries (origins d) (origins e ++ []) one.pieces other.pieces one.in_turn
+          (subst (λ (os : List Origin). InTurn entries os other.pieces) (sym (append-nil (origins e))) other.in_turn);
+      shared = subst (λ (ps : List Part). Kept ps (parts_of cord)) (sym (all_parts_both one.pieces other.pieces))
+          (Kept-join (all_parts one.pieces) (all_parts other.pieces) (parts_of front) (parts_of behind) (parts_of cord) one.shared
+          other.shared kept);
+    }
+
+    -- they are too long together
+    pub pair_too_long : MAX_LEN < text_len front + text_len behind → IsUnbuilt entries both (stops.Fault TooLong)
+    pair_too_long above = λ t over there.
+        let h = here t there in
+        both_text t (bytes_of t front) (bytes_of t behind) (one.bytes t over h.first) (other.bytes t over h.second)
+        ∙ long_text (bytes_of t front ++ bytes_of t behind) (subst (λ (n : ℕ). MAX_LEN < n) (long t over) above)
+
+    -- their join is refused
+    abbrev pub TellsTooLong : Result (Option Node) CordError → Type 0
+    TellsTooLong r = r ≡ Err errors.TooLong → MAX_LEN < text_len front + text_len behind
+
+    pub pair_refused : (error : CordError) → IsRefusal error → TellsTooLong (Err error) → IsUnbuilt entries both (stop_of_cord error)
+    pair_refused errors.NoMemory refused above = tt
+    pair_refused errors.TooLong refused above = pair_too_long (above refl)
+    pair_refused errors.ReadFailed refused above = refused
+    pair_refused errors.WriteFailed refused above = refused
+
+  -- the first has a fault, or no memory
+  pub first_unbuilt : (stop : Stop) → IsUnbuilt entries d stop → IsUnbuilt entries both stop
+  first_unbuilt (stops.Fault kind) faulty = λ t over there.
+      ap (λ (r : Result (List ℕ) FaultKind). and_then (joined r (joined (text_in MAX_LEN (plain_of t entries) e) (Ok [])))
+      (λ text. within MAX_LEN text)) (faulty t over (here t there).first)
+  first_unbuilt stops.NoMemory h = tt
+  first_unbuilt stops.ReadFailed h = h
+  first_unbuilt stops.WriteFailed h = h
+
+  -- the first one was built, and the other has a fault, or no memory
+  pub second_unbuilt : (front : Option Node) → IsBuilt entries d front → (stop : Stop) → IsUnbuilt entries e stop → IsUnbuilt entries both stop
+  second_unbuilt front one (stops.Fault kind) faulty = λ t over there.
+      let h = here t there in
+      (λ j. and_then (joined (one.bytes t over h.first j) (joined (faulty t over h.second j) (Ok []))) (λ text. within MAX_LEN text))
+  second_unbuilt front one stops.NoMemory h = tt
+  second_unbuilt front one stops.ReadFailed h = h
+  second_unbuilt front one stops.WriteFailed h = h

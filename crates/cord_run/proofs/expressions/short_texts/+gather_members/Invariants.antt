@@ -1,0 +1,6 @@
+use Rattle.cord_plan.specs.Views.{members_view}
+use Rattle.cord_run.proofs.Members.{weights}
+use Rattle.cord_run.proofs.expressions.short_texts.+gather_members.Given as goal
+
+abbrev pub decreases-gather_members : goal.decreases-gather_members
+decreases-gather_members l = weights (members_view l.members.now)

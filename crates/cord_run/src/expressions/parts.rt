@@ -1,0 +1,116 @@
+// Expressions of one part or of two: their cords are made without a list of pieces.
+ghost use Rattle.std.specs.Prelude.{◌≡◌, IfErr, IfOk, IfSome};
+ghost use Rattle.cord_plan.specs.Exprs as plain;
+ghost use Rattle.cord_plan.specs.Views.{expr_view, members_view};
+ghost use Rattle.cord_run.specs.inner.Expressions.{IsBuilt, IsUnbuilt};
+
+use crate::checks::as_index;
+use crate::expressions::build_of_pieces;
+use crate::expressions::lengths::copies_asked;
+use crate::expressions::ranges::copies_of;
+use crate::stops::Stop;
+use crate::store::Store;
+use crate::store::cords::shared;
+use cord_core::Cord;
+use cord_plan::{Expr, Members};
+use cord_script::{Name, Number};
+use std::alloc::Global;
+
+/// The members where they are two.
+pub(crate) fn pair_of(members: &Members) -> Option<(&Expr, &Expr)>
+    ensures { IfSome result (λ pair. members_view members.now
+        ≡ plain.member (expr_view pair.0.now) (plain.member (expr_view pair.1.now) plain.nothing)) }
+{
+    let (front, rest) = members.halves();
+    if front.is_some() || rest.len() != 2 {
+        return None;
+    }
+    Some((rest[0].as_ref(), rest[1].as_ref()))
+}
+
+/// Whether an expression is one part: a name, copies of a byte, or a range of a name.
+pub(crate) fn is_part(expression: &Expr) -> bool {
+    match expression {
+        Expr::Name(_) | Expr::Run { .. } => true,
+        Expr::Sub { expression, .. } => match expression.as_ref() {
+            Expr::Name(_) => true,
+            _ => false,
+        },
+        Expr::Cat(_) => false,
+    }
+}
+
+/// The cord of two expressions, joined. Refused with their fault, or with `NoMemory`.
+pub(crate) fn build_pair(
+    alloc: Global,
+    left: &Expr,
+    right: &Expr,
+    store: &Store,
+) -> Result<Cord, Stop>
+    ensures built { IfOk result (IsBuilt store.now.entries.items
+        (plain.cat (plain.member (expr_view left.now) (plain.member (expr_view right.now) plain.nothing)))) }
+    ensures refused { IfErr result (IsUnbuilt store.now.entries.items
+        (plain.cat (plain.member (expr_view left.now) (plain.member (expr_view right.now) plain.nothing)))) }
+{
+    let front = build_part(alloc, left, store)?;
+    let behind = build_part(alloc, right, store)?;
+    let both = Cord::cat(alloc, &front, &behind)?;
+    Ok(both)
+}
+
+/// The cord of an expression, which is best one part. Refused with its fault, or with `NoMemory`.
+pub(crate) fn build_part(alloc: Global, expression: &Expr, store: &Store) -> Result<Cord, Stop>
+    ensures built { IfOk result (IsBuilt store.now.entries.items (expr_view expression.now)) }
+    ensures refused { IfErr result (IsUnbuilt store.now.entries.items (expr_view expression.now)) }
+{
+    match expression {
+        Expr::Name(name) => build_name(alloc, name, store),
+        Expr::Run { byte, count } => build_run(alloc, byte, count, store),
+        Expr::Sub {
+            expression: whole,
+            start,
+            count,
+        } => match whole.as_ref() {
+            Expr::Name(name) => build_range(alloc, name, start, count, store),
+            _ => build_of_pieces(alloc, expression, store),
+        },
+        Expr::Cat(_) => build_of_pieces(alloc, expression, store),
+    }
+}
+
+// The cord of a name.
+fn build_name(alloc: Global, name: &Name, store: &Store) -> Result<Cord, Stop>
+    ensures built { IfOk result (IsBuilt store.now.entries.items (plain.name name.now)) }
+    ensures refused { IfErr result (IsUnbuilt store.now.entries.items (plain.name name.now)) }
+{
+    let cord = shared(alloc, store, name)?;
+    Ok(cord)
+}
+
+// The cord of copies of a byte.
+fn build_run(alloc: Global, byte: &Number, count: &Number, store: &Store) -> Result<Cord, Stop>
+    ensures built { IfOk result (IsBuilt store.now.entries.items (plain.run byte.now count.now)) }
+    ensures refused { IfErr result (IsUnbuilt store.now.entries.items (plain.run byte.now count.now)) }
+{
+    let copies = copies_asked(store.value_of(byte), store.value_of(count))?;
+    let cord = copies_of(alloc, copies.byte, copies.count)?;
+    Ok(cord)
+}
+
+// The cord of a range of a name.
+fn build_range(
+    alloc: Global,
+    name: &Name,
+    start: &Number,
+    count: &Number,
+    store: &Store,
+) -> Result<Cord, Stop>
+    ensures built { IfOk result (IsBuilt store.now.entries.items (plain.sub (plain.name name.now) start.now count.now)) }
+    ensures refused { IfErr result (IsUnbuilt store.now.entries.items (plain.sub (plain.name name.now) start.now count.now)) }
+{
+    let start = as_index(store.value_of(start))?;
+    let count = as_index(store.value_of(count))?;
+    let cord = shared(alloc, store, name)?;
+    let range = cord.substr(alloc, start, count)?;
+    Ok(range)
+}
