@@ -1,5 +1,6 @@
 -- Members in front of others: their names, origins, lengths and texts.
-use Rattle.std.proofs.Common.{◌≡◌, ℕ, ◌+◌, ◌-◌, ◌^◌, true, List, [], ◌++◌, length, Result, Ok, Err, refl, sym, ap, ◌∙◌, append_assoc, length-append, arith}
+use Rattle.std.proofs.Common.{◌≡◌, ℕ, ◌+◌, ◌-◌, ◌^◌, true, List, [], ◌++◌, length, Result, Ok, Err, refl, sym, ap, ◌∙◌, append_assoc}
+use Rattle.std.proofs.Common.{length-append, arith}
 use Rattle.std.specs.Prelude.{min}
 use Rattle.cord_io.specs.Table.{Table}
 use Rattle.cord_node.specs.Tables.{lengths_of}
@@ -113,9 +114,11 @@ pub parts_of : (entries : List Entry) (all others : Exprs) (needed : List (List 
     (rest : List ℕ) → joined_over entries all t ≡ Ok rest → all_texts (holding_of t entries) (cords_of all) ≡ true →
     Parts entries others needed (first t) extent t rest
 parts_of entries all others needed first extent front t over rest is there =
-    let names : all_texts (holding_of t entries) (needed ++ cords_of others) ≡ true = ap (λ (xs : List (List ℕ)). all_texts (holding_of t entries) xs) (sym front.names) ∙ there in
+    let names : all_texts (holding_of t entries) (needed ++ cords_of others) ≡ true =
+    ap (λ (xs : List (List ℕ)). all_texts (holding_of t entries) xs) (sym front.names) ∙ there in
     let split = texts_split (holding_of t entries) needed (cords_of others) names in
-    let p = passes (first t) (λ text. and_then (joined_over entries others t) (λ more. Ok (text ++ more))) rest (sym (front.texts t) ∙ is) in
+    let p = passes (first t) (λ text. and_then (joined_over entries others t) (λ more. Ok (text ++ more))) rest
+    (sym (front.texts t) ∙ is) in
     let q = passes (joined_over entries others t) (λ more. Ok (p.middle ++ more)) rest p.next in
     let whole : p.middle ++ q.middle ≡ rest = cc in
     record {
@@ -144,9 +147,11 @@ pub members_length : (entries : List Entry) (t : Table) → IsOver (lengths_of t
     members_extent entries es ≡ Ok (length text)
 members_length entries t over nothing there text is = let none : [] ≡ text = cc in ap (λ (xs : List ℕ). Ok (length xs)) none
 members_length entries t over (member e es) there text is =
-    let p = parts_of entries (member e es) es (cords e) (λ u. text_in MAX_LEN (plain_of u entries) e) (extent_in entries e) (member_front entries e es) t over text is there in
+    let p = parts_of entries (member e es) es (cords e) (λ u. text_in MAX_LEN (plain_of u entries) e) (extent_in entries e)
+    (member_front entries e es) t over text is there in
     let behind = members_length entries t over es p.second_there p.second p.second_is in
-    let long : length p.first + length p.second ≡ length text = sym (length-append p.first p.second) ∙ ap (λ (xs : List ℕ). length xs) p.whole in
+    let long : length p.first + length p.second ≡ length text =
+    sym (length-append p.first p.second) ∙ ap (λ (xs : List ℕ). length xs) p.whole in
     ap (λ (r : Result ℕ FaultKind). added r (members_extent entries es)) p.extent_is
     ∙ ap (λ (r : Result ℕ FaultKind). added (Ok (length p.first)) r) behind
     ∙ ap (λ (n : ℕ). Ok n) long

@@ -65,8 +65,10 @@ module _ {S T : Type 0} (ms : List (Moment S)) (ns : List (Moment T)) (same : ma
   -- a stop inside the same member
   stop_same : (line : ℕ) (out : List ℕ) → StopsAt ms line out → StopsAt ns line out
   stop_same line out s =
-      let p = split ns (map told s.earlier) (told s.moment) (map told s.later) (sym same ∙ ap (λ (xs : List (Moment S)). map told xs) s.run ∙ map-append told s.earlier (s.moment ∷ s.later)) in
-      let before : output s.earlier ≡ output p.front = output_told s.earlier ∙ ap (λ (ts : List Told). flat_map (λ (t : Told). t.2) ts) (sym p.front_told) ∙ sym (output_told p.front) in
+      let p = split ns (map told s.earlier) (told s.moment) (map told s.later) (sym same ∙ ap (λ (xs : List (Moment S)). map told xs) s.run
+      ∙ map-append told s.earlier (s.moment ∷ s.later)) in
+      let before : output s.earlier ≡ output p.front =
+      output_told s.earlier ∙ ap (λ (ts : List Told). flat_map (λ (t : Told). t.2) ts) (sym p.front_told) ∙ sym (output_told p.front) in
       record {
         earlier = p.front;
         moment = p.here;

@@ -88,13 +88,15 @@ texts_split h (x ∷ xs) ys e =
     let rest = texts_split h xs ys here.second in
     record { first = ap (λ (v : Bool). v && all_texts h xs) here.first ∙ rest.first; second = rest.second }
 
-module _ (t : Table) (entries : List Entry) (over : IsOver (lengths_of t) entries) (e : Expr) (there : all_texts (holding_of t entries) (cords e) ≡ true) where
+module _ (t : Table) (entries : List Entry) (over : IsOver (lengths_of t) entries) (e : Expr)
+    (there : all_texts (holding_of t entries) (cords e) ≡ true) where
   -- the length told of an expression whose names all hold texts is that of its text
   pub text_told : extent_in entries e ≡ length_of (text_in MAX_LEN (plain_of t entries) e)
   text_told =
       let h : Holding = holding_of t entries in
       let full : State = record { texts = λ x. padded (h.held x); numbers = h.numbers; extensibles = h.extensibles } in
-      let same : text_in MAX_LEN (plain h) e ≡ text_in MAX_LEN full e = value_same MAX_LEN (plain h) full e (λ y i. padded_same (h.held y) (text_there h (cords e) y there i)) (λ y i. refl) in
+      let same : text_in MAX_LEN (plain h) e ≡ text_in MAX_LEN full e =
+      value_same MAX_LEN (plain h) full e (λ y i. padded_same (h.held y) (text_there h (cords e) y there i)) (λ y i. refl) in
       told_extent t entries over e ∙ extent_is MAX_LEN h full refl (λ y. padded_length (h.held y)) e ∙ ap length_of (sym same)
 
   -- such an expression is as long as its text

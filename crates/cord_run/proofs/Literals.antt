@@ -23,7 +23,8 @@ gathered_text text before after cord none short grown of sound = record {
   short = let more : length text ≤ length before + length text = omega arith in omega (arith, more, short);
   whole = record {
     fits = λ lengths. of.fits lengths (held lengths);
-    bytes = λ t. of.bytes t (held (lengths_of t)) ∙ grown.bytes t (nothing (lengths_of t)) ∙ ap (λ (xs : List Cell). bytes_over t xs ++ text) none;
+    bytes = λ t. of.bytes t (held (lengths_of t)) ∙ grown.bytes t (nothing (lengths_of t))
+        ∙ ap (λ (xs : List Cell). bytes_over t xs ++ text) none;
   };
 }
   where
@@ -46,12 +47,16 @@ module _ (count : ℕ) (cord : Option Node) (short : count ≤ MAX_LEN) (sound :
   start_by Digits range = record {
     sound = sound;
     fits = λ now. range.fits (lengths_in now) (inl inside);
-    bytes = λ now folder. range.bytes (table_in now folder) (inl (let long : length (text_of digit_at MAX_LEN) ≡ MAX_LEN = length-text_of digit_at MAX_LEN in subst (λ (n : ℕ). 0 + count ≤ n) (sym long) inside)) ∙ start_text digit_at MAX_LEN count short;
+    bytes = λ now folder. range.bytes (table_in now folder)
+        (inl (let long : length (text_of digit_at MAX_LEN) ≡ MAX_LEN = length-text_of digit_at MAX_LEN in
+        subst (λ (n : ℕ). 0 + count ≤ n) (sym long) inside)) ∙ start_text digit_at MAX_LEN count short;
   }
   start_by Bytes range = record {
     sound = sound;
     fits = λ now. range.fits (lengths_in now) (inl inside);
-    bytes = λ now folder. range.bytes (table_in now folder) (inl (let long : length (text_of byte_value_at MAX_LEN) ≡ MAX_LEN = length-text_of byte_value_at MAX_LEN in subst (λ (n : ℕ). 0 + count ≤ n) (sym long) inside)) ∙ start_text byte_value_at MAX_LEN count short;
+    bytes = λ now folder. range.bytes (table_in now folder)
+        (inl (let long : length (text_of byte_value_at MAX_LEN) ≡ MAX_LEN = length-text_of byte_value_at MAX_LEN in
+        subst (λ (n : ℕ). 0 + count ≤ n) (sym long) inside)) ∙ start_text byte_value_at MAX_LEN count short;
   }
 
   pub start_made : (function : Function) (id : ℕ) → id ≡ entry_of function → IsEntryRange id 0 count cord → IsStartOf function count cord

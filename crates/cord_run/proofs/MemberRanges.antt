@@ -75,14 +75,16 @@ range_over u v skip left = by_test (nat_le (length u) skip) refl
 
 -- ---- the text that is added
 -- what is left to add of the members that are left, over a table
-pub record Remains (entries : List Entry) (t : Table) (left_over : Exprs) (left : Wanted) (now : List (Option Node)) (goal : List ℕ) : Type 0 where
+pub record Remains (entries : List Entry) (t : Table) (left_over : Exprs) (left : Wanted) (now : List (Option Node))
+    (goal : List ℕ) : Type 0 where
   pub rest : List ℕ
   pub joined : joined_over entries left_over t ≡ Ok rest
   pub there : all_texts (holding_of t entries) (cords_of left_over) ≡ true
   pub whole : all_bytes t now ++ take left.count (drop left.skip rest) ≡ goal
 
 -- how far the walk is: these members are left, and this is wanted of them
-pub record SoFar (entries : List Entry) (es : Exprs) (wanted : Wanted) (old : List (Option Node)) (left_over : Exprs) (left : Wanted) (now : List (Option Node)) : Type 0 where
+pub record SoFar (entries : List Entry) (es : Exprs) (wanted : Wanted) (old : List (Option Node)) (left_over : Exprs) (left : Wanted)
+    (now : List (Option Node)) : Type 0 where
   pub fits : (lengths : Lengths) → IsOver lengths entries → AllFitIn lengths old → AllFitIn lengths now
   pub bytes : (t : Table) → IsOver (lengths_of t) entries → all_texts (holding_of t entries) (cords_of es) ≡ true → (text : List ℕ) →
       joined_over entries es t ≡ Ok text → Remains entries t left_over left now
@@ -116,7 +118,8 @@ ends_early entries es wanted old left_over left now zero s = ends entries es wan
 pub ends_last : (entries : List Entry) (es : Exprs) (wanted : Wanted) (old : List (Option Node)) (left : Wanted)
     (now : List (Option Node)) → SoFar entries es wanted old nothing left now → AddsMembers entries es wanted old now
 ends_last entries es wanted old left now s =
-    ends entries es wanted old nothing left now (λ t rest is. let none : [] ≡ rest = cc in nothing_taken rest left.skip left.count (subst (λ (xs : List ℕ). min left.count (length xs - left.skip) ≡ 0) none (omega arith))) s
+    ends entries es wanted old nothing left now (λ t rest is. let none : [] ≡ rest = cc in
+    nothing_taken rest left.skip left.count (subst (λ (xs : List ℕ). min left.count (length xs - left.skip) ≡ 0) none (omega arith))) s
 
 -- and those that are left are added
 pub ends_added : (entries : List Entry) (es : Exprs) (wanted : Wanted) (old : List (Option Node)) (left_over : Exprs) (left : Wanted)
@@ -141,7 +144,8 @@ passed entries es wanted old all others needed first extent front left after now
       let r = s.bytes t over there text is in
       let p = parts_of entries all others needed first extent front t over r.rest r.joined r.there in
       let at : IsPast (length p.first) left after = subst (λ (q : Result ℕ FaultKind). IsAfter q left after) p.extent_is past in
-      let split : take left.count (drop left.skip r.rest) ≡ take left.count (drop left.skip p.first) ++ take after.count (drop after.skip p.second) =
+      let split : take left.count (drop left.skip r.rest) ≡ take left.count (drop left.skip p.first)
+      ++ take after.count (drop after.skip p.second) =
       ap (λ (u : List ℕ). take left.count (drop left.skip u)) (sym p.whole)
       ∙ range_over p.first p.second left.skip left.count
       ∙ (λ i. take left.count (drop left.skip p.first) ++ take (sym at.count i) (drop (sym at.skip i) p.second)) in

@@ -30,7 +30,8 @@ turns_joined entries (o ∷ os) others (p ∷ ps) more h k =
     (λ rest. inr (turns_joined entries os others (p ∷ ps) more rest k)) h
 
 -- a walk over members: pieces of those that it has passed, to which pieces of those that are left can be added
-pub record TurnsSoFar (entries : List Entry) (es : Exprs) (old : List (Option Node)) (left_over : Exprs) (now : List (Option Node)) : Type 0 where
+pub record TurnsSoFar (entries : List Entry) (es : Exprs) (old : List (Option Node)) (left_over : Exprs)
+    (now : List (Option Node)) : Type 0 where
   pub added : List (Option Node)
   pub is : now ≡ old ++ added
   pub more : (others : List (Option Node)) → InTurn entries (origins_of left_over) others → InTurn entries (origins_of es) (added ++ others)
@@ -59,7 +60,8 @@ turns_end entries es old left_over now s = record {
 }
 
 -- pieces of those in front, and then of the others
-pub turns_both : (entries : List Entry) (es others : Exprs) (old now next : List (Option Node)) → AddsInTurn entries (origins_of es) old now →
+pub turns_both : (entries : List Entry) (es others : Exprs) (old now next : List (Option Node)) →
+    AddsInTurn entries (origins_of es) old now →
     AddsInTurn entries (origins_of others) now next → AddsInTurn entries (origins_of (append es others)) old next
 turns_both entries es others old now next first second = record {
   added = first.added ++ second.added;

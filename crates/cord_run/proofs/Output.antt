@@ -40,7 +40,8 @@ pieces_joined t = record { nil = refl; cons = λ p ps. refl }
 pub puts_none : (t : Table) (ps : List (Option Node)) (a : List ℕ) → a ≡ a ++ all_bytes t (take 0 ps)
 puts_none t ps a = sym (append-nil a)
 
-module _ (t : Table) (ps : List (Option Node)) (i : ℕ) (p : Option Node) (inside : i < length ps) (is : p ≡ get_or ps i p) (a b c : List ℕ) (so_far : b ≡ a ++ all_bytes t (take i ps)) where
+module _ (t : Table) (ps : List (Option Node)) (i : ℕ) (p : Option Node) (inside : i < length ps) (is : p ≡ get_or ps i p) (a b c : List ℕ)
+    (so_far : b ≡ a ++ all_bytes t (take i ps)) where
   abbrev front : List ℕ
   front = all_bytes t (take i ps)
 
@@ -55,7 +56,8 @@ module _ (t : Table) (ps : List (Option Node)) (i : ℕ) (p : Option Node) (insi
   -- the next was not taken whole
   pub puts_cut : Takes (IsFrontOf (bytes_of t p)) b c → Takes (IsFrontOf (all_bytes t ps)) a c
   puts_cut took =
-      let whole : all_bytes t ps ≡ all_bytes t (take (i + 1) ps) ++ all_bytes t (drop (i + 1) ps) = joined_all (λ (qs : List (Option Node)). all_bytes t qs) (λ (q : Option Node). bytes_of t q) ps (i + 1) (pieces_joined t) in
+      let whole : all_bytes t ps ≡ all_bytes t (take (i + 1) ps) ++ all_bytes t (drop (i + 1) ps) =
+      joined_all (λ (qs : List (Option Node)). all_bytes t qs) (λ (q : Option Node). bytes_of t q) ps (i + 1) (pieces_joined t) in
       record {
         out = front ++ took.out;
         such = front_more (all_bytes t ps) (all_bytes t (take (i + 1) ps)) (all_bytes t (drop (i + 1) ps)) (front ++ took.out) whole
@@ -69,7 +71,8 @@ pub puts_all : (t : Table) (ps : List (Option Node)) (i : ℕ) (a b : List ℕ) 
 puts_all t ps i a b h k = subst (λ (qs : List (Option Node)). b ≡ a ++ all_bytes t qs) (take_all i ps h) k
 
 -- ---- an expression
-module _ (entries : List Entry) (e : Expr) (ls : Lengths) (over : IsOver ls entries) (a b : List ℕ) (t : Table) (told : HasLengths ls t) (there : all_texts (holding_of t entries) (cords e) ≡ true) where
+module _ (entries : List Entry) (e : Expr) (ls : Lengths) (over : IsOver ls entries) (a b : List ℕ) (t : Table) (told : HasLengths ls t)
+    (there : all_texts (holding_of t entries) (cords e) ≡ true) where
   abbrev meant : Result (List ℕ) FaultKind
   meant = text_in MAX_LEN (plain_of t entries) e
 
@@ -93,7 +96,8 @@ module _ (entries : List Entry) (e : Expr) (ls : Lengths) (over : IsOver ls entr
   wrote_part ps WriteFailed whole h = (all_bytes t ps, whole.bytes t (over_told ls t told entries over) there, h)
 
 -- a failure of a device was counted as such
-pub stop_counts : (error : CordError) (n m : Counts) → CountsFaults {T = Unit {0}} n m (Err error) → CountsStops n m (Err (stop_of_failure error))
+pub stop_counts : (error : CordError) (n m : Counts) → CountsFaults {T = Unit {0}} n m (Err error) →
+    CountsStops n m (Err (stop_of_failure error))
 stop_counts NoMemory n m h = absurd h
 stop_counts TooLong n m h = absurd h
 stop_counts ReadFailed n m h = h

@@ -1,5 +1,6 @@
 -- The cords of expressions of one part or of two.
-use Rattle.std.proofs.Common.{◌≡◌, ◌+◌, ◌≤◌, ◌<◌, ℕ, true, ℤ, List, [], ◌∷◌, ◌++◌, length, take, drop, replicate, Result, Ok, Err, refl, sym, ap, subst, ◌∙◌}
+use Rattle.std.proofs.Common.{◌≡◌, ◌+◌, ◌≤◌, ◌<◌, ℕ, true, ℤ, List, [], ◌∷◌, ◌++◌, length, take, drop, replicate, Result, Ok, Err, refl}
+use Rattle.std.proofs.Common.{sym, ap, subst, ◌∙◌}
 use Rattle.std.proofs.Common.{inl, append-nil, append_assoc, length-append, arith}
 use Rattle.std.specs.Prelude.{Option}
 use Rattle.std.proofs.lemmas.List.{take_all}
@@ -67,7 +68,9 @@ module _ (entries : List Entry) where
     count = text_len cord;
     range = record {
       fits = λ lengths h. h;
-      bytes = λ t h. sym (take_all (text_len cord) (bytes_of t cord) (let long : text_len cord ≡ length (bytes_of t cord) = length-bytes t cord sound h in omega (arith, long)));
+      bytes = λ t h.
+          sym (take_all (text_len cord) (bytes_of t cord)
+          (let long : text_len cord ≡ length (bytes_of t cord) = length-bytes t cord sound h in omega (arith, long)));
     };
     shared = Kept-self (parts_of cord);
   }
@@ -98,11 +101,13 @@ module _ (entries : List Entry) where
         let there : Option Node = cord_in (content_in entries x) in
         let cut_there : IsSubstring start count there range = subst (λ (c : Option Node). IsSubstring start count c range) is cut in
         let kept_there : Kept (parts_of there) (parts_of range) = subst (λ (c : Option Node). Kept (parts_of c) (parts_of range)) is kept in
-        one_built (sub (name x) i n) (named x) range refl (record { start = start; count = count; range = cut_there; shared = kept_there }) sound
+        one_built (sub (name x) i n) (named x) range refl (record { start = start; count = count; range = cut_there; shared = kept_there })
+        sound
         (λ lengths over. cut_there.fits lengths (cord_fits lengths (content_in entries x) (over.contents x)))
         (λ t over.
         let fits : CordFits t there = cord_fits (lengths_of t) (content_in entries x) (over.contents x) in
-        ap (λ (u : List ℕ). part_of MAX_LEN u (number_value (plain_of t entries) i) (number_value (plain_of t entries) n)) (content_text t (content_in entries x))
+        ap (λ (u : List ℕ). part_of MAX_LEN u (number_value (plain_of t entries) i) (number_value (plain_of t entries) n))
+        (content_text t (content_in entries x))
         ∙ range_text t (bytes_of t there) start count first second
         ∙ ap (λ (u : List ℕ). within MAX_LEN u) (sym (cut_there.bytes t fits))
         ∙ cord_within t range sound (cut_there.fits (lengths_of t) fits))
@@ -125,7 +130,8 @@ module _ (entries : List Entry) where
 
   -- copies of a byte
   module _ (c n : Number) where
-    numbers_same : (t : Table) → text_in MAX_LEN (plain_of t entries) (run c n) ≡ copies MAX_LEN (operand_in entries c) (operand_in entries n)
+    numbers_same : (t : Table) → text_in MAX_LEN (plain_of t entries) (run c n)
+        ≡ copies MAX_LEN (operand_in entries c) (operand_in entries n)
     numbers_same t = sym (λ j. copies MAX_LEN (operand_value t entries c j) (operand_value t entries n j))
 
     copies_made : (z w : ℤ) (b count : ℕ) → as_byte z ≡ Ok b → measured_copies MAX_LEN z w ≡ Ok count →
@@ -232,8 +238,10 @@ module _ (entries : List Entry) (d e : Expr) where
         bytes_of t front ++ bytes_of t behind ≡ all_bytes t (one.pieces ++ other.pieces)
     pieces_same t over there =
         let h = here t there in
-        let front_same : bytes_of t front ≡ all_bytes t one.pieces = same_text _ (bytes_of t front) (all_bytes t one.pieces) (one.bytes t over h.first) (one.whole.bytes t over h.first) in
-        let behind_same : bytes_of t behind ≡ all_bytes t other.pieces = same_text _ (bytes_of t behind) (all_bytes t other.pieces) (other.bytes t over h.second) (other.whole.bytes t over h.second) in
+        let front_same : bytes_of t front ≡ all_bytes t one.pieces =
+        same_text _ (bytes_of t front) (all_bytes t one.pieces) (one.bytes t over h.first) (one.whole.bytes t over h.first) in
+        let behind_same : bytes_of t behind ≡ all_bytes t other.pieces =
+        same_text _ (bytes_of t behind) (all_bytes t other.pieces) (other.bytes t over h.second) (other.whole.bytes t over h.second) in
         (λ j. front_same j ++ behind_same j) ∙ sym (all_bytes_both t one.pieces other.pieces)
 
     pub pair_built : (cord : Option Node) → IsCatOf front behind cord → IsCord cord →
@@ -282,7 +290,8 @@ module _ (entries : List Entry) (d e : Expr) where
   first_unbuilt stops.WriteFailed h = h
 
   -- the first one was built, and the other has a fault, or no memory
-  pub second_unbuilt : (front : Option Node) → IsBuilt entries d front → (stop : Stop) → IsUnbuilt entries e stop → IsUnbuilt entries both stop
+  pub second_unbuilt : (front : Option Node) → IsBuilt entries d front → (stop : Stop) → IsUnbuilt entries e stop →
+      IsUnbuilt entries both stop
   second_unbuilt front one (stops.Fault kind) faulty = λ t over there.
       let h = here t there in
       (λ j. and_then (joined (one.bytes t over h.first j) (joined (faulty t over h.second j) (Ok []))) (λ text. within MAX_LEN text))

@@ -71,8 +71,10 @@ record Prints (entries : List Entry) (format : List Piece) (list : List Argument
 prints : (entries : List Entry) (format : List Piece) (list : List Argument) (t : Table) → IsOver (lengths_of t) entries →
     Prints entries format list t
 prints entries format list t over =
-    let cells : map (argument_over t) (given_by entries list) ≡ map (map_argument (byte_at t)) (arguments_of (given_by entries list)) = cells_over t (given_by entries list) (given_fits (lengths_of t) entries over list) in
-    let same : map (λ a. given (plain_of t entries) a) list ≡ map (map_argument (byte_at t)) (arguments_of (given_by entries list)) = sym (given_over t entries list) ∙ cells in
+    let cells : map (argument_over t) (given_by entries list) ≡ map (map_argument (byte_at t)) (arguments_of (given_by entries list)) =
+    cells_over t (given_by entries list) (given_fits (lengths_of t) entries over list) in
+    let same : map (λ a. given (plain_of t entries) a) list ≡ map (map_argument (byte_at t)) (arguments_of (given_by entries list)) =
+    sym (given_over t entries list) ∙ cells in
     record {
       refused = ap (λ (vs : List (PieceArgument ℕ)). first_refusal 0 format vs) same
           ∙ first_refusal-map (byte_at t) 0 format (arguments_of (given_by entries list));
@@ -119,7 +121,9 @@ module _ (entries : List Entry) (format : List Piece) (list : List Argument) whe
       short = short;
       told = λ t over.
           let meant : List ℕ = printed (λ b. b) format (map (λ a. given (plain_of t entries) a) list) in
-          let long : len ≡ length meant = is ∙ ap (λ (some : List Arg). length (printed known format (arguments_of some))) same ∙ (prints entries format list t over).long in
+          let long : len ≡ length meant =
+          is ∙ ap (λ (some : List Arg). length (printed known format (arguments_of some))) same
+          ∙ (prints entries format list t over).long in
           ap (λ (r : Result (List ℕ) FaultKind). length_of (and_then r (λ text. within MAX_LEN text)))
           (accepted t over (subst (λ (some : List Arg). first_refusal 0 format (arguments_of some) ≡ None) same printable.none_refused))
           ∙ ap (λ (r : Result (List ℕ) FaultKind). length_of r) (is_within MAX_LEN meant (subst (λ (n : ℕ). n ≤ MAX_LEN) long short))
@@ -135,7 +139,9 @@ module _ (entries : List Entry) (format : List Piece) (list : List Argument) whe
         (subst (λ (some : List Arg). first_refusal 0 format (arguments_of some) ≡ Some (refusals.BadByte k)) same h.1)
     unprinted refusals.TooLong h = λ t over.
         let meant : List ℕ = printed (λ b. b) format (map (λ a. given (plain_of t entries) a) list) in
-        let long : MAX_LEN < length meant = subst (λ (n : ℕ). MAX_LEN < n) (ap (λ (some : List Arg). length (printed known format (arguments_of some))) same ∙ (prints entries format list t over).long) h.2 in
+        let long : MAX_LEN < length meant =
+        subst (λ (n : ℕ). MAX_LEN < n) (ap (λ (some : List Arg). length (printed known format (arguments_of some))) same
+        ∙ (prints entries format list t over).long) h.2 in
         ap (λ (r : Result (List ℕ) FaultKind). and_then r (λ text. within MAX_LEN text))
         (accepted t over (subst (λ (some : List Arg). first_refusal 0 format (arguments_of some) ≡ None) same h.1))
         ∙ ap (λ (r : Result ℕ FaultKind). and_then r (λ _. Ok meant)) (length_above MAX_LEN (length meant) long)

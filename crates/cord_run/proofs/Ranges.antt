@@ -23,7 +23,8 @@ use Rattle.cord_run.specs.declared.store.Entry.{Entry}
 use Rattle.cord_run.specs.inner.Extents.{extent_in, members_extent}
 use Rattle.cord_run.specs.inner.Entries.{content_in, cord_in, operand_in}
 use Rattle.cord_run.specs.inner.Holdings.{holding_of, plain_of}
-use Rattle.cord_run.specs.inner.Ranges.{AddsCordRange, AddsCopies, AddsRun, AddsExpression, AddsMembers, AreFew, IsAfter, IsInside, IsOutside}
+use Rattle.cord_run.specs.inner.Ranges.{AddsCordRange, AddsCopies, AddsRun, AddsExpression, AddsMembers, AreFew, IsAfter, IsInside}
+use Rattle.cord_run.specs.inner.Ranges.{IsOutside}
 use Rattle.cord_run.specs.inner.Ranges.{IsPast}
 use Rattle.cord_run.proofs.MemberRanges.{nothing_taken}
 use Rattle.cord_run.proofs.Lengths.{cord_fits, content_text, operand_value, length_passed}
@@ -160,7 +161,8 @@ module _ (z w : ℤ) (wanted : Wanted) (old : List (Option Node)) where
     bytes = λ t whole is.
         let made = run_made z w whole is in
         let same : len ≡ made.count = let told_made = made.told in cc in
-        let empty : min wanted.count (made.count - wanted.skip) ≡ 0 = ap (λ (k : ℕ). min wanted.count (k - wanted.skip)) (sym same) ∙ none in
+        let empty : min wanted.count (made.count - wanted.skip) ≡ 0 =
+        ap (λ (k : ℕ). min wanted.count (k - wanted.skip)) (sym same) ∙ none in
         sym (append-nil (all_bytes t old))
         ∙ ap (λ (u : List ℕ). all_bytes t old ++ u) (ap (λ (k : ℕ). replicate k made.byte) (sym empty)
         ∙ range_of_copies wanted.skip wanted.count made.count made.byte
@@ -264,14 +266,18 @@ part_known u z w whole h = by_checks (as_index z) (as_index w) refl refl h
 pub ok_value : {A E : Type 0} (P : A → Type 0) (r : Result A E) (a : A) → IfOk r P → r ≡ Ok a → P a
 ok_value P r a h e = subst (λ q. IfOk q P) e h
 
-module _ (entries : List Entry) (e : Expr) (i n : Number) (start most : ℕ) (wanted inner : Wanted) (start_is : IfOk (as_index (operand_in entries i)) (λ k. start ≡ k)) (most_is : IfOk (as_index (operand_in entries n)) (λ k. most ≡ k)) (inside : IsInside start most wanted inner) where
+module _ (entries : List Entry) (e : Expr) (i n : Number) (start most : ℕ) (wanted inner : Wanted)
+    (start_is : IfOk (as_index (operand_in entries i)) (λ k. start ≡ k)) (most_is : IfOk (as_index (operand_in entries n)) (λ k. most ≡ k))
+    (inside : IsInside start most wanted inner) where
   pub sub_added : (old new : List (Option Node)) → AddsExpression entries e inner old new →
       AddsExpression entries (sub e i n) wanted old new
   sub_added old new part = record {
     fits = part.fits;
     bytes = λ t over there whole is.
-        let q = passes (text_in MAX_LEN (plain_of t entries) e) (λ u. part_of MAX_LEN u (number_value (plain_of t entries) i) (number_value (plain_of t entries) n)) whole is in
-        let p = part_known q.middle (operand_in entries i) (operand_in entries n) whole ((λ j. part_of MAX_LEN q.middle (operand_value t entries i j) (operand_value t entries n j)) ∙ q.next) in
+        let q = passes (text_in MAX_LEN (plain_of t entries) e)
+        (λ u. part_of MAX_LEN u (number_value (plain_of t entries) i) (number_value (plain_of t entries) n)) whole is in
+        let p = part_known q.middle (operand_in entries i) (operand_in entries n) whole
+        ((λ j. part_of MAX_LEN q.middle (operand_value t entries i j) (operand_value t entries n j)) ∙ q.next) in
         let at : start ≡ p.first = ok_value (λ k. start ≡ k) (as_index (operand_in entries i)) p.first start_is p.start_is in
         let up_to : most ≡ p.most = ok_value (λ k. most ≡ k) (as_index (operand_in entries n)) p.most most_is p.count_is in
         part.bytes t over there q.middle q.first

@@ -32,7 +32,8 @@ module _ (entries : List Entry) where
   pub texts_both : (es others : plain.Exprs) (text rest : List ℕ) → AreTextsIn entries es text → AreTextsIn entries others rest →
       AreTextsIn entries (plain.append es others) (text ++ rest)
   texts_both es others text rest first behind = λ t there.
-      let names : all_texts (holding_of t entries) (cords_of es ++ cords_of others) ≡ true = ap (λ (xs : List (List ℕ)). all_texts (holding_of t entries) xs) (sym (names_both es others)) ∙ there in
+      let names : all_texts (holding_of t entries) (cords_of es ++ cords_of others) ≡ true =
+      ap (λ (xs : List (List ℕ)). all_texts (holding_of t entries) xs) (sym (names_both es others)) ∙ there in
       let split = texts_split (holding_of t entries) (cords_of es) (cords_of others) names in
       joined_both entries es others t
       ∙ ap (λ (r : Result (List ℕ) FaultKind). joined r (texts_in MAX_LEN (plain_of t entries) others)) (first t split.first)
@@ -51,14 +52,17 @@ module _ (entries : List Entry) where
       GatheredOf before ms (i + 1) more
   gathered_more before ms i m here is text slice more first grown so_far = λ earlier are rest behind.
       let others : plain.Exprs = members_seen (drop (i + 1) ms) in
-      let left = so_far earlier are (slice ++ rest) (subst (λ (es : plain.Exprs). AreTextsIn entries es (slice ++ rest)) (sym (members_left ms i m here is)) (member_texts (shared_view m) others slice rest first behind)) in
+      let left = so_far earlier are (slice ++ rest)
+      (subst (λ (es : plain.Exprs). AreTextsIn entries es (slice ++ rest)) (sym (members_left ms i m here is))
+      (member_texts (shared_view m) others slice rest first behind)) in
       subst (λ (u : List ℕ). AreTextsIn entries (plain.append earlier (members_seen ms)) u)
       (sym (ap (λ (u : List ℕ). u ++ rest) grown ∙ append_assoc text slice rest)) left
 
   pub gathered_all : (before : List ℕ) (ms : List Shared) (i : ℕ) (text : List ℕ) → length ms ≤ i → GatheredOf before ms i text →
       (earlier : plain.Exprs) → AreTextsIn entries earlier before → AreTextsIn entries (plain.append earlier (members_seen ms)) text
   gathered_all before ms i text past so_far earlier are =
-      let none : AreTextsIn entries (members_seen (drop i ms)) [] = subst (λ (xs : List Shared). AreTextsIn entries (members_seen xs) []) (sym (drop_all i ms past)) (λ t there. refl) in
+      let none : AreTextsIn entries (members_seen (drop i ms)) [] =
+      subst (λ (xs : List Shared). AreTextsIn entries (members_seen xs) []) (sym (drop_all i ms past)) (λ t there. refl) in
       subst (λ (u : List ℕ). AreTextsIn entries (plain.append earlier (members_seen ms)) u) (append-nil text) (so_far earlier are [] none)
 
   -- no members have no text

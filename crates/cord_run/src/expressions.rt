@@ -53,7 +53,8 @@ pub(crate) fn build_of_pieces(alloc: Global, expression: &Expr, store: &Store) -
     }
 }
 
-/// Cords of the text of an expression, in order: each is a range of the cord of one of its names, or copies of a byte. Refused with its fault, or with `NoMemory`.
+/// Cords of the text of an expression, in order: each is a range of the cord of one of its names, or copies of a byte.
+/// Refused with its fault, or with `NoMemory`.
 pub(crate) fn pieces_of(alloc: Global, expression: &Expr, store: &Store) -> Result<Vec<Cord>, Stop>
     ensures whole { IfOk result (λ pieces. AreWhole store.now.entries.items (expr_view expression.now) pieces.items) }
     ensures in_turn { IfOk result (λ pieces. InTurn store.now.entries.items

@@ -1,4 +1,5 @@
-//! Loops, and what makes their turns quick: operations whose names are resolved to places, and names that grow in place.
+//! Loops, and what makes their turns quick: operations whose names are resolved to places, and names that grow in
+//! place.
 pub(crate) mod growth;
 pub(crate) mod interpreter;
 pub(crate) mod resolution;

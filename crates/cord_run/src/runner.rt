@@ -41,15 +41,16 @@ fn run_over<F: Files, S: Sink>(
         HonestPlan folder (map operation_view plan.now) (S.taken sink.old) (S.taken sink.new) result }
     ensures fails { FailsAmong (map operation_view plan.now) result }
     ensures cause { NamesCause
-        (counts_over ⟦<F as Files>⟧ ⟦<S as Sink>⟧ (device_in sources.old) (device_in sources.new) sink.old sink.new) result }
+        (counts_over ⟦<F as Files>⟧ ⟦<S as Sink>⟧ (device_in sources.old) (device_in sources.new) sink.old sink.new)
+        result }
 {
     let own = end_of_run(run_plan(alloc, plan, sources, sink));
     close_output(own, sink)
 }
 
-/// Runs a plan over files, ends the output with one `finish`, unless writing failed, and hands the files back. Where a script is
-/// read from some bytes, and this is a plan of it, the end is an honest one of the script's run, over each folder that the files
-/// keep then. Which device failed, and where one may fail, is said over any files.
+/// Runs a plan over files, ends the output with one `finish`, unless writing failed, and hands the files back. Where a
+/// script is read from some bytes, and this is a plan of it, the end is an honest one of the script's run, over each
+/// folder that the files keep then. Which device failed, and where one may fail, is said over any files.
 pub fn run<F: Files, S: Sink>(alloc: Global, plan: &Plan, files: F, sink: &mut S) -> (End, F)
     requires files_count { F.failures files < 2 ^ 64 - 1 }
     requires sink_count { S.failures sink.old < 2 ^ 64 - 1 }
@@ -105,8 +106,8 @@ fn run_by<F: Files, S: Sink>(
     }
 }
 
-/// Parses a script and runs it by its plan. A script that is refused writes nothing, and the files are handed back. Where no memory
-/// is found for the plan the end is `NoMemory(0)`.
+/// Parses a script and runs it by its plan. A script that is refused writes nothing, and the files are handed back.
+/// Where no memory is found for the plan the end is `NoMemory(0)`.
 pub fn run_text<F: Files, S: Sink>(
     alloc: Global,
     script: &[u8],
@@ -126,8 +127,8 @@ pub fn run_text<F: Files, S: Sink>(
     }
 }
 
-/// The same as `run_text`, by the plan that does what the script says, statement by statement: it too ends with `NoMemory(0)` where
-/// no memory is found for it.
+/// The same as `run_text`, by the plan that does what the script says, statement by statement: it too ends with
+/// `NoMemory(0)` where no memory is found for it.
 pub fn run_unplanned<F: Files, S: Sink>(
     alloc: Global,
     script: &[u8],

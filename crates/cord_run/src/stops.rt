@@ -61,7 +61,8 @@ impl From<CordError> for Stop {
 impl From<FileError> for Stop {
     ghost from_gives = { λ error stop. stop ≡ stop_of_file error };
 
-    // A script that is read names no more paths than can be open, so there are never too many; then there would be no memory.
+    // A script that is read names no more paths than can be open, so there are never too many; then there would be no
+    // memory.
     fn from(error: FileError) -> Stop {
         match error {
             FileError::NoFile => Stop::Fault(FaultKind::NoFile),
@@ -75,7 +76,8 @@ impl From<FileError> for Stop {
 impl From<PrintError> for Stop {
     ghost from_gives = { λ error stop. stop ≡ stop_of_print error };
 
-    // A script that is read gives each format the arguments that it wants, so none is wrong; then there would be no memory.
+    // A script that is read gives each format the arguments that it wants, so none is wrong; then there would be no
+    // memory.
     fn from(error: PrintError) -> Stop {
         match error {
             PrintError::Negative(_) => Stop::Fault(FaultKind::Negative),

@@ -45,8 +45,8 @@ pub(crate) struct Entry {
 #[derive(Drop)]
 pub(crate) struct Store {
     pub(crate) entries: Vec<Entry>,
-    // For each slot the place of a name of that slot: where it is another name's, the name is looked for. Empty before there is
-    // an entry.
+    // For each slot the place of a name of that slot: where it is another name's, the name is looked for. Empty before
+    // there is an entry.
     guesses: Vec<u32>,
     // Tells the names that were fixed.
     marked: Option<Rc<Mark>>,
@@ -223,7 +223,8 @@ impl Store {
         append_at(alloc, &mut self.entries, name, place, bytes)
     }
 
-    /// Lets the extensible cord of the name of the entry at a place grow by bytes. Answers whether it did: else nothing has changed.
+    /// Lets the extensible cord of the name of the entry at a place grow by bytes. Answers whether it did: else nothing
+    /// has changed.
     pub(crate) fn append_at(&mut self, alloc: Global, place: usize, bytes: &[u8]) -> bool
         requires { place < length self.old.entries.items }
         ensures grown { result ≡ true → (name : List ℕ) → IsEntryAt self.old.entries.items name place →

@@ -50,8 +50,8 @@ pub(crate) enum Gets {
     Length,
 }
 
-/// Gives a name what it gets of what it is made of. Refused with the fault that this means, with `ReadFailed` where the files failed,
-/// or with `NoMemory`.
+/// Gives a name what it gets of what it is made of. Refused with the fault that this means, with `ReadFailed` where the
+/// files failed, or with `NoMemory`.
 pub(crate) fn serve_target<F: Files>(
     alloc: Global,
     store: &mut Store,
@@ -145,8 +145,8 @@ fn make_of_names(alloc: Global, store: &mut Store, made: Fileless<'_>) -> Result
     }
 }
 
-// Tells the length for a name. No cord is made: memory is wanted for what is printed alone. A file is opened and not read: after
-// a refusal no file more is open.
+// Tells the length for a name. No cord is made: memory is wanted for what is printed alone. A file is opened and not
+// read: after a refusal no file more is open.
 fn measure<F: Files>(
     alloc: Global,
     store: &Store,

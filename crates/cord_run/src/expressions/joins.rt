@@ -9,8 +9,9 @@ use cord_io::CordError;
 use cord_node::SMALL_LEN;
 use std::alloc::Global;
 
-/// The texts of all these cords in order. Short ones beside one another are joined first, up to `SMALL_LEN` bytes together: so
-/// small leaves become one, and the rope gets deeper by that one alone. Refused with `TooLong` or `NoMemory`.
+/// The texts of all these cords in order. Short ones beside one another are joined first, up to `SMALL_LEN` bytes
+/// together: so small leaves become one, and the rope gets deeper by that one alone. Refused with `TooLong` or
+/// `NoMemory`.
 pub(crate) fn join_all(alloc: Global, cords: &[Cord]) -> Result<Cord, CordError>
     ensures over { IfOk result (IsAllOf cords.now) }
     ensures sound { IfOk result IsCord }

@@ -24,9 +24,9 @@ use cord_iter::put_all;
 use cord_plan::Expr;
 use std::alloc::Global;
 
-/// Hands a sink the text of an expression, short parts at once and others one by one: no cord is made of the whole. Where all its
-/// names hold texts, the sink took the text, or the expression's fault is answered and nothing was put, or after a failure of a
-/// device a prefix.
+/// Hands a sink the text of an expression, short parts at once and others one by one: no cord is made of the whole.
+/// Where all its names hold texts, the sink took the text, or the expression's fault is answered and nothing was put,
+/// or after a failure of a device a prefix.
 pub(crate) fn write<R: Source, S: Sink>(
     alloc: Global,
     expression: &Expr,
@@ -59,10 +59,11 @@ pub(crate) fn write<R: Source, S: Sink>(
     }
 }
 
-// Hands a sink the text of an expression that is a leaf or a range of one, or short ones side by side. None where it is neither:
-// then the sink is left alone.
+// Hands a sink the text of an expression that is a leaf or a range of one, or short ones side by side. None where it is
+// neither: then the sink is left alone.
 fn put_short<S: Sink>(expression: &Expr, store: &Store, sink: &mut S) -> Option<Result<(), Stop>>
-    ensures put { IfSome result (PutsText ⟦<S as Sink>⟧ store.now.entries.items (expr_view expression.now) sink.old sink.new) }
+    ensures put { IfSome result
+        (PutsText ⟦<S as Sink>⟧ store.now.entries.items (expr_view expression.now) sink.old sink.new) }
     ensures left { IfNone result (sink.new ≡ sink.old) }
 {
     match slice_of(expression, store) {
@@ -73,7 +74,8 @@ fn put_short<S: Sink>(expression: &Expr, store: &Store, sink: &mut S) -> Option<
 
 // The same of short ones side by side alone.
 fn put_gathered<S: Sink>(expression: &Expr, store: &Store, sink: &mut S) -> Option<Result<(), Stop>>
-    ensures put { IfSome result (PutsText ⟦<S as Sink>⟧ store.now.entries.items (expr_view expression.now) sink.old sink.new) }
+    ensures put { IfSome result
+        (PutsText ⟦<S as Sink>⟧ store.now.entries.items (expr_view expression.now) sink.old sink.new) }
     ensures left { IfNone result (sink.new ≡ sink.old) }
 {
     let mut text = ArrayVec::new();

@@ -105,8 +105,10 @@ fn build_range(
     count: &Number,
     store: &Store,
 ) -> Result<Cord, Stop>
-    ensures built { IfOk result (IsBuilt store.now.entries.items (plain.sub (plain.name name.now) start.now count.now)) }
-    ensures refused { IfErr result (IsUnbuilt store.now.entries.items (plain.sub (plain.name name.now) start.now count.now)) }
+    ensures built { IfOk result
+        (IsBuilt store.now.entries.items (plain.sub (plain.name name.now) start.now count.now)) }
+    ensures refused { IfErr result
+        (IsUnbuilt store.now.entries.items (plain.sub (plain.name name.now) start.now count.now)) }
 {
     let start = as_index(store.value_of(start))?;
     let count = as_index(store.value_of(count))?;

@@ -1,5 +1,6 @@
-// What is wanted of an expression, as cords: one for each name and each run that has some of it. What is wanted is handed on
-// from member to member, so each length is asked for once. A `sub` hands on less, and makes no cord of what it is cut from.
+// What is wanted of an expression, as cords: one for each name and each run that has some of it. What is wanted is
+// handed on from member to member, so each length is asked for once. A `sub` hands on less, and makes no cord of what
+// it is cut from.
 ghost use Rattle.std.specs.Prelude.{◌≡◌, ◌+◌, ◌-◌, ◌<◌, ◌≤◌, ◌^◌, ℤ, min, replicate, true, IfOk, IsOkUnless, Ok};
 ghost use Rattle.cord_core.specs.Cord.{IsCord, text_len};
 ghost use Rattle.cord_core.specs.Equations.{HasText};

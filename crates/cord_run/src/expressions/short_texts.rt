@@ -14,8 +14,8 @@ use std::rc::Rc;
 /// So many bytes are gathered at most.
 pub(crate) const MOST_GATHERED: usize = 256;
 
-/// Gathers the text of expressions side by side, where each is one leaf or a range of one, and they are short together. Answers
-/// whether it did.
+/// Gathers the text of expressions side by side, where each is one leaf or a range of one, and they are short together.
+/// Answers whether it did.
 pub(crate) fn gather(
     expression: &Expr,
     store: &Store,

@@ -13,7 +13,8 @@ use cord_node::Node;
 use cord_plan::Expr;
 use cord_script::Name;
 
-/// The text of an expression, where it is one leaf or a range of one. None for a fault, which whoever builds the expression meets.
+/// The text of an expression, where it is one leaf or a range of one. None for a fault, which whoever builds the
+/// expression meets.
 #[inline(always)]
 pub(crate) fn slice_of<'a>(expression: &Expr, store: &'a Store) -> Option<&'a [u8]>
     ensures { IfSome result (λ slice. IsTextIn store.now.entries.items (expr_view expression.now) slice.now) }

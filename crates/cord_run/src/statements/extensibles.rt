@@ -28,7 +28,8 @@ use std::alloc::Global;
 pub(crate) fn serve_growth(alloc: Global, store: &mut Store, growth: Growth<'_>) -> Result<(), Stop>
     ensures over { StaysOver store.old.entries.items store.new.entries.items result }
     ensures means { (t : Table) → IsOver (lengths_of t) store.old.entries.items → (line : ℕ) →
-        MeansOver t (statement_of line (families.Growth growth.entry)) store.old.entries.items store.new.entries.items result }
+        MeansOver t (statement_of line (families.Growth growth.entry)) store.old.entries.items
+        store.new.entries.items result }
     ensures counts { (n : ℕ) → CountsReads n n result }
 {
     match growth {

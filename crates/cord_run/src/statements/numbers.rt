@@ -69,7 +69,8 @@ pub(crate) fn assign_computed(
 fn computed_number(store: &Store, computation: Computation<'_>) -> Result<i64, FaultKind>
     requires short { (x : List ℕ) → length_in store.now.entries.items x ≤ MAX_LEN }
     ensures { (t : Table) → IsOver (lengths_of t) store.now.entries.items → (line : ℕ) →
-        FindsOver t (statement_of line (families.Computation computation.entry)) store.now.entries.items (number_or_stop result) }
+        FindsOver t (statement_of line (families.Computation computation.entry)) store.now.entries.items
+        (number_or_stop result) }
 {
     match computation {
         Computation::Len { operand, .. } => Ok(told_length(store, operand)),
@@ -107,7 +108,8 @@ pub(crate) fn look_number<R: Source>(
 ) -> Result<i64, Stop>
     requires over { IsOver (R.lengths source.old) store.now.entries.items }
     ensures found { (folder : Folder) → R.keeps source.new folder → (line : ℕ) →
-        FindsOver (R.table source.old folder) (statement_of line (families.Look look.entry)) store.now.entries.items result }
+        FindsOver (R.table source.old folder) (statement_of line (families.Look look.entry))
+        store.now.entries.items result }
     ensures read { HasRead ⟦<R as Source>⟧ source.old source.new result }
 {
     let empty = Cord::empty();
@@ -146,7 +148,8 @@ pub(crate) fn search_number<R: Source>(
 ) -> Result<i64, Stop>
     requires over { IsOver (R.lengths source.old) store.now.entries.items }
     ensures found { (folder : Folder) → R.keeps source.new folder → (line : ℕ) →
-        FindsOver (R.table source.old folder) (statement_of line (families.Search search.entry)) store.now.entries.items result }
+        FindsOver (R.table source.old folder) (statement_of line (families.Search search.entry))
+        store.now.entries.items result }
     ensures read { HasRead ⟦<R as Source>⟧ source.old source.new result }
 {
     let empty = Cord::empty();

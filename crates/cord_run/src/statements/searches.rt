@@ -57,7 +57,8 @@ pub(crate) fn compared<R: Source>(left: &Cord, right: &Cord, source: &mut R) -> 
     }
 }
 
-/// The order of at most `count` bytes of a cord from one place on and of another cord from another place on: -1, 0 or 1.
+/// The order of at most `count` bytes of a cord from one place on and of another cord from another place on: -1, 0 or
+/// 1.
 pub(crate) fn ranges_compared<R: Source>(
     left: &Cord,
     left_start: i64,

@@ -35,8 +35,8 @@ pub(crate) fn balanced(alloc: Global, store: &Store, name: &Name) -> Result<Cord
 }
 
 impl Store {
-    /// The text of the extensible cord of a name as a cord: no bytes where it was not begun. All names hold what they held.
-    /// Refused only with `NoMemory`.
+    /// The text of the extensible cord of a name as a cord: no bytes where it was not begun. All names hold what they
+    /// held. Refused only with `NoMemory`.
     pub(crate) fn extended(&mut self, alloc: Global, name: &Name) -> Result<Cord, CordError>
         ensures made { IfOk result (IsTextOver self.old.entries.items (λ s. Ok (s.extensibles name.now))) }
         ensures same { SameEntries self.old.entries.items self.new.entries.items }

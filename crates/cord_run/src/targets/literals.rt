@@ -42,7 +42,8 @@ fn gathered(alloc: Global, text: &[u8]) -> Result<Cord, CordError>
     Ok(cord)
 }
 
-/// The cord of as many first bytes of a function as a number asks for. Refused with the number's fault, or with `NoMemory`.
+/// The cord of as many first bytes of a function as a number asks for. Refused with the number's fault, or with
+/// `NoMemory`.
 pub(crate) fn start(alloc: Global, function: Function, count: i64) -> Result<Cord, Stop>
     ensures made { IfOk result (IsStartAsked function count) }
     ensures refused { IfErr result (IsStopBy (λ kind. start_extent count ≡ Err kind)) }

@@ -14,8 +14,8 @@ use cord_printf::{Arg, Format, sprintf, sprintf_len};
 use cord_script::Argument;
 use std::alloc::Global;
 
-/// The cord that a format prints with these arguments, which shares theirs. Refused with the fault of the first argument that
-/// is refused, or else with `TooLong`, or with `NoMemory`.
+/// The cord that a format prints with these arguments, which shares theirs. Refused with the fault of the first
+/// argument that is refused, or else with `TooLong`, or with `NoMemory`.
 pub(crate) fn print(
     alloc: Global,
     store: &Store,

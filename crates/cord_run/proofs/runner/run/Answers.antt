@@ -18,10 +18,12 @@ returns-in-Ok-clause-honest g c = λ statements plan alike grammar script reads 
       finished_after = g.S.Sink.finished c.run_over-end.new.sink;
     } in
     let m : Counts = record n { files_before = g.F.Files.failures c.args.files; files_after = g.F.Files.failures c.close.result } in
-    let names = subst (λ (k : ℕ). NamesCause (record n { files_before = k; files_after = g.F.Files.failures c.close.result }) e) (ap g.F.Files.failures c.in-Ok.ensures.made.0)
+    let names = subst (λ (k : ℕ). NamesCause (record n { files_before = k; files_after = g.F.Files.failures c.close.result }) e)
+    (ap g.F.Files.failures c.in-Ok.ensures.made.0)
     (subst (λ (k : ℕ). NamesCause (record n { files_after = k }) e)
     (sym (ap g.F.Files.failures c.close.ensures)) c.run_over-end.ensures.cause) in
-    let there : g.F.Files.keeps (device_in c.run_over-end.new.sources) folder = subst (λ f. g.F.Files.keeps f folder) c.close.ensures agrees in
+    let there : g.F.Files.keeps (device_in c.run_over-end.new.sources) folder =
+    subst (λ f. g.F.Files.keeps f folder) c.close.ensures agrees in
     ends_honestly statements (map operation_view c.args.plan.now) plan grammar script reads alike folder (g.S.Sink.taken c.args.sink.now)
     (g.S.Sink.taken c.run_over-end.new.sink) m e (c.run_over-end.ensures.honest folder there) c.run_over-end.ensures.fails names
 

@@ -11,7 +11,9 @@ pub returns-in-Ok-clause-run : goal.returns-in-Ok-clause-run
 returns-in-Ok-clause-run g c = λ script reads.
     let s = c.args.read.now in
     let operations = map operation_view c.in-Ok.plan in
-    let chosen : IsPlanBy g.way s operations = subst (λ made. IfOk made (λ plan. IsPlanBy g.way s (map operation_view plan))) c.in-Ok.is c.requires.1.1.0 in
-    let means : IsPlanOf s operations = subst (λ made. IfOk made (λ plan. IsPlanOf s (map operation_view plan))) c.in-Ok.is c.requires.1.1.1.0 in
+    let chosen : IsPlanBy g.way s operations =
+    subst (λ made. IfOk made (λ plan. IsPlanBy g.way s (map operation_view plan))) c.in-Ok.is c.requires.1.1.0 in
+    let means : IsPlanOf s operations =
+    subst (λ made. IfOk made (λ plan. IsPlanOf s (map operation_view plan))) c.in-Ok.is c.requires.1.1.1.0 in
     let alike = plan_alike g.way s operations chosen in
     (s, reads, (λ folder agrees. c.run.ensures.honest s means alike whole script reads folder agrees), c.run.ensures.fails s alike)

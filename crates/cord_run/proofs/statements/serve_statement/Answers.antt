@@ -76,8 +76,10 @@ returns-in-Search g c =
       over = subst (λ (ls : Lengths). IfOk c.assign_found-in-Search.result (λ _. IsOver ls new)) (sym read.1.0)
           (stays_there (lengths_in opened) old new c.assign_found-in-Search.result c.assign_found-in-Search.ensures.over c.requires.over);
       earlier = read.1.2;
-      gives = λ folder agrees. gives_read l old new c.assign_found-in-Search.result opened folder (opened_in c.search_number-number.new.source) read.1.1
-          (c.assign_found-in-Search.ensures.means (table_in opened folder) (subst (λ (s : Statement). FindsOver (table_in opened folder) s old
+      gives = λ folder agrees. gives_read l old new c.assign_found-in-Search.result opened folder
+          (opened_in c.search_number-number.new.source) read.1.1
+          (c.assign_found-in-Search.ensures.means (table_in opened folder)
+          (subst (λ (s : Statement). FindsOver (table_in opened folder) s old
           c.search_number-number.result) is (c.search_number-number.ensures.found folder agrees line)) reads.1);
       fails = reading_fails l reads.0 _ _ c.assign_found-in-Search.result (c.assign_found-in-Search.ensures.counts _ _ read.0);
       counts = c.assign_found-in-Search.ensures.counts _ _ read.0;

@@ -21,7 +21,8 @@ returns-in-OfFile g c =
     let entries = c.args.store.now.entries.items in
     let r = c.file_cord.result in
     let told = c.file_cord.ensures in
-    let is : file_made c.in-OfFile.reading c.in-OfFile.path.now ≡ made_view c.args.made.now = ap definition_view (sym c.in-OfFile.is) ∙ c.definition_of.ensures in
+    let is : file_made c.in-OfFile.reading c.in-OfFile.path.now ≡ made_view c.args.made.now =
+    ap definition_view (sym c.in-OfFile.is) ∙ c.definition_of.ensures in
     record {
       built = subst (λ (m : Made). IfOk r (IsMade keeps old new entries m)) is
           (file_built keeps old entries c.in-OfFile.reading c.in-OfFile.path.now new r told.made);

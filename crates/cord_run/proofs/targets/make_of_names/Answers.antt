@@ -4,7 +4,8 @@ use Rattle.cord_operands.specs.declared.operands.Argument.{Argument}
 use Rattle.cord_plan.specs.Planned as plan
 use Rattle.cord_plan.specs.Views.{expr_view}
 use Rattle.cord_run.specs.inner.Definitions.{fileless_view}
-use Rattle.cord_run.proofs.Definitions.{balanced_made, extensible_made, joined_made, joined_unmade, literal_made, printed_made, printed_unmade}
+use Rattle.cord_run.proofs.Definitions.{balanced_made, extensible_made, joined_made, joined_unmade, literal_made, printed_made}
+use Rattle.cord_run.proofs.Definitions.{printed_unmade}
 use Rattle.cord_run.proofs.Definitions.{start_made}
 use Rattle.cord_run.proofs.targets.make_of_names.Goals as goal
 

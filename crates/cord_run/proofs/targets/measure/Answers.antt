@@ -20,7 +20,8 @@ returns-in-OfFile g c =
     let entries = c.args.store.now.entries.items in
     let r = c.opened_length.result in
     let told = c.opened_length.ensures in
-    let is : file_made c.in-OfFile.reading c.in-OfFile.path.now ≡ made_view c.args.made.now = ap definition_view (sym c.in-OfFile.is) ∙ c.definition_of.ensures in
+    let is : file_made c.in-OfFile.reading c.in-OfFile.path.now ≡ made_view c.args.made.now =
+    ap definition_view (sym c.in-OfFile.is) ∙ c.definition_of.ensures in
     record {
       told = subst (λ (m : Made). IfOk r (IsLength keeps old entries m)) is
           (file_measured keeps old entries c.in-OfFile.reading c.in-OfFile.path.now r told.told);

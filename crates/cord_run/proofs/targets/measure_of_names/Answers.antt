@@ -8,7 +8,8 @@ use Rattle.cord_run.proofs.Definitions.{balanced_told, joined_told, joined_untol
 use Rattle.cord_run.proofs.targets.measure_of_names.Goals as goal
 
 pub returns-in-Joined-clause-told : goal.returns-in-Joined-clause-told
-returns-in-Joined-clause-told c = joined_told c.args.store.now.entries.items (fileless_view c.args.made) (expr_view c.in-Joined.expression.now)
+returns-in-Joined-clause-told c =
+    joined_told c.args.store.now.entries.items (fileless_view c.args.made) (expr_view c.in-Joined.expression.now)
     (ap fileless_view c.in-Joined.is) c.length_of.result c.length_of.ensures c.length_or_stop.result c.length_or_stop.ensures.stops
 
 pub returns-in-Joined-clause-refused : goal.returns-in-Joined-clause-refused

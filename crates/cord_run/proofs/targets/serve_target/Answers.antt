@@ -15,7 +15,8 @@ use Rattle.cord_run.proofs.targets.serve_target.Goals as goal
 
 pub returns-in_ok-cord-in-Cord-clause-over : goal.returns-in_ok-cord-in-Cord-clause-over
 returns-in_ok-cord-in-Cord-clause-over g c =
-    target_over (opened_in c.args.sources.now) (opened_in c.make.new.sources) c.in_ok-cord-in-Cord.ensures.grows c.args.store.now.entries.items
+    target_over (opened_in c.args.sources.now) (opened_in c.make.new.sources) c.in_ok-cord-in-Cord.ensures.grows
+    c.args.store.now.entries.items
     c.make.new.store.entries.items c.give.new.store.entries.items c.requires.over c.in_ok-cord-in-Cord.ensures.same
     c.args.target.now (made_view c.args.made.now) (Whole c.in_ok-cord-in-Cord.cord)
     (c.in_ok-cord-in-Cord.ensures.built.sound, c.in_ok-cord-in-Cord.ensures.built.fits) c.give.result c.give.ensures.given
@@ -35,9 +36,11 @@ returns-in_ok-cord-in-Cord-clause-gives g c = λ folder agrees.
 
 pub returns-in_ok-len-in-Length-clause-over : goal.returns-in_ok-len-in-Length-clause-over
 returns-in_ok-len-in-Length-clause-over g c =
-    target_over (opened_in c.args.sources.now) (opened_in c.measure.new.sources) c.in_ok-len-in-Length.ensures.grows c.args.store.now.entries.items
+    target_over (opened_in c.args.sources.now) (opened_in c.measure.new.sources) c.in_ok-len-in-Length.ensures.grows
+    c.args.store.now.entries.items
     c.args.store.now.entries.items c.give-in-Length.new.store.entries.items c.requires.over (nothing_changed c.args.store.now.entries.items)
-    c.args.target.now (made_view c.args.made.now) (Long c.in_ok-len-in-Length.len) c.in_ok-len-in-Length.ensures.told.short c.give-in-Length.result
+    c.args.target.now (made_view c.args.made.now) (Long c.in_ok-len-in-Length.len) c.in_ok-len-in-Length.ensures.told.short
+    c.give-in-Length.result
     c.give-in-Length.ensures.given
 
 pub returns-in_ok-len-in-Length-clause-gives : goal.returns-in_ok-len-in-Length-clause-gives
@@ -52,4 +55,5 @@ returns-in_ok-len-in-Length-clause-gives g c = λ folder agrees.
     c.args.store.now.entries.items c.give-in-Length.new.store.entries.items c.requires.over (nothing_changed c.args.store.now.entries.items)
     c.args.target.now (made_view c.args.made.now) (g.F.Files.keeps (device_in c.measure.new.sources)) folder agrees
     (as_long_as_told (g.F.Files.keeps (device_in s)) s.entries.items s.sound.as_long folder before)
-    c.in_ok-len-in-Length.len c.in_ok-len-in-Length.ensures.told c.give-in-Length.result c.give-in-Length.ensures.given c.give-in-Length.ensures.refused)
+    c.in_ok-len-in-Length.len c.in_ok-len-in-Length.ensures.told c.give-in-Length.result c.give-in-Length.ensures.given
+    c.give-in-Length.ensures.refused)

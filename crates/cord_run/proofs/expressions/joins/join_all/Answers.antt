@@ -40,4 +40,5 @@ returns-clause-over c = all_over c.args.cords.now c.in_ok-whole.whole c.in_ok-wh
     (catting_end c.args.cords.now c.in_ok-whole.whole (whole c))
 
 pub returns-clause-parts : goal.returns-clause-parts
-returns-clause-parts c = subst (λ (ps : List Part). Kept (all_parts c.args.cords.now) ps) (append-nil (parts_of c.in_ok-whole.whole)) (whole c).kept
+returns-clause-parts c =
+    subst (λ (ps : List Part). Kept (all_parts c.args.cords.now) ps) (append-nil (parts_of c.in_ok-whole.whole)) (whole c).kept

@@ -21,8 +21,10 @@ length_of-returns-in-Ok t c =
 
 pub length_after-length_of-requires-in_default : goal.length_after-length_of-requires-in_default
 length_after-length_of-requires-in_default t c =
-    let there : weight (shared_view c.member-item.result) < weights (members_seen c.args.members.now) = member_smaller c.args.members.now c.loop-member.member-index c.member-item.result c.loop-member-test.true c.member-item.is in
-    let below : weight (expr_view c.as_ref-expression.result.now) < weights (members_seen c.args.members.now) = subst (λ (e : Expr). weight (expr_view e) < weights (members_seen c.args.members.now)) (sym c.as_ref-expression.ensures) there in
+    let there : weight (shared_view c.member-item.result) < weights (members_seen c.args.members.now) =
+    member_smaller c.args.members.now c.loop-member.member-index c.member-item.result c.loop-member-test.true c.member-item.is in
+    let below : weight (expr_view c.as_ref-expression.result.now) < weights (members_seen c.args.members.now) =
+    subst (λ (e : Expr). weight (expr_view e) < weights (members_seen c.args.members.now)) (sym c.as_ref-expression.ensures) there in
     search (rules, below)
 
 pub length_after-returns-in-Err : goal.length_after-returns-in-Err
@@ -39,12 +41,15 @@ length_after-returns t c =
 
 pub length_of_members-length_of_members-requires : goal.length_of_members-length_of_members-requires
 length_of_members-length_of_members-requires t c =
-    let below : weights (members_view c.in-Some.front.now) + 1 < weights (members_view c.args.members.now) + 1 = front_falls (members_view c.args.members.now) c.halves.result.0 c.halves.result.1.now c.halves.ensures.members c.halves.ensures.after c.in-Some.front c.in-Some.is in
+    let below : weights (members_view c.in-Some.front.now) + 1 < weights (members_view c.args.members.now) + 1 =
+    front_falls (members_view c.args.members.now) c.halves.result.0 c.halves.result.1.now c.halves.ensures.members
+    c.halves.ensures.after c.in-Some.front c.in-Some.is in
     search (rules, below)
 
 pub length_of_members-length_after-requires-in-Ok : goal.length_of_members-length_after-requires-in-Ok
 length_of_members-length_after-requires-in-Ok t c =
-    let below : weights (members_seen c.halves.result.1.now) < weights (members_view c.args.members.now) + 1 = rest_falls (members_view c.args.members.now) c.halves.result.0 c.halves.result.1.now c.halves.ensures.members in
+    let below : weights (members_seen c.halves.result.1.now) < weights (members_view c.args.members.now) + 1 =
+    rest_falls (members_view c.args.members.now) c.halves.result.0 c.halves.result.1.now c.halves.ensures.members in
     search (rules, below)
 
 pub length_of_members-returns-in-Ok : goal.length_of_members-returns-in-Ok
@@ -52,7 +57,8 @@ length_of_members-returns-in-Ok t c =
     let entries = c.args.store.now.entries.items in
     let front = members_view c.in-Some.front.now in
     let rest = members_seen c.halves.result.1.now in
-    let whole = halves_Some (members_view c.args.members.now) c.halves.result.0 c.halves.result.1.now c.halves.ensures.members c.in-Some.front c.in-Some.is in
+    let whole = halves_Some (members_view c.args.members.now) c.halves.result.0 c.halves.result.1.now c.halves.ensures.members
+    c.in-Some.front c.in-Some.is in
     c.length_after-in-Ok.ensures
     ∙ sym (ap (λ (es : plain.Exprs). counted 0 (members_extent entries es)) whole ∙ all_counted entries front rest
     ∙ ap (λ (r : Result ℕ FaultKind). and_then r (λ total. counted total (members_extent entries rest))) (sym c.in-Ok.ensures))
@@ -62,6 +68,7 @@ length_of_members-returns-in-Err t c =
     let entries = c.args.store.now.entries.items in
     let front = members_view c.in-Some.front.now in
     let rest = members_seen c.halves.result.1.now in
-    let whole = halves_Some (members_view c.args.members.now) c.halves.result.0 c.halves.result.1.now c.halves.ensures.members c.in-Some.front c.in-Some.is in
+    let whole = halves_Some (members_view c.args.members.now) c.halves.result.0 c.halves.result.1.now c.halves.ensures.members
+    c.in-Some.front c.in-Some.is in
     sym (ap (λ (es : plain.Exprs). counted 0 (members_extent entries es)) whole ∙ all_counted entries front rest
     ∙ ap (λ (r : Result ℕ FaultKind). and_then r (λ total. counted total (members_extent entries rest))) (sym c.in-Err.ensures))

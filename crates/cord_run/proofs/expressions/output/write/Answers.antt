@@ -9,7 +9,8 @@ use Rattle.cord_plan.specs.Views.{expr_view}
 use Rattle.cord_run.specs.declared.stops.Stop.{Stop}
 use Rattle.cord_run.specs.inner.Holdings.{plain_of}
 use Rattle.cord_run.specs.inner.Output.{Wrote, CountsStops}
-use Rattle.cord_run.proofs.Output.{short_counts, short_finished, short_wrote, stop_counts, unbuilt_counts, wrote_nothing, wrote_part, wrote_whole}
+use Rattle.cord_run.proofs.Output.{short_counts, short_finished, short_wrote, stop_counts, unbuilt_counts, wrote_nothing, wrote_part}
+use Rattle.cord_run.proofs.Output.{wrote_whole}
 use Rattle.cord_run.proofs.expressions.output.write.Goals as goal
 
 pub returns-in-Some : goal.returns-in-Some

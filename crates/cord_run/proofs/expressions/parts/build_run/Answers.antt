@@ -13,8 +13,10 @@ returns-clause-built c =
     let copies = c.in_ok-copies.copies in
     let byte_fits : FitsSigned w64 c.value_of.result = search rules in
     let count_fits : FitsSigned w64 c.value_of-2.result = search rules in
-    let byte : to_z w64 (of_z w64 c.value_of.result) ≡ operand_in entries c.args.byte.now = to_z-of_z w64 c.value_of.result byte_fits ∙ c.value_of.ensures in
-    let count : to_z w64 (of_z w64 c.value_of-2.result) ≡ operand_in entries c.args.count.now = to_z-of_z w64 c.value_of-2.result count_fits ∙ c.value_of-2.ensures in
+    let byte : to_z w64 (of_z w64 c.value_of.result) ≡ operand_in entries c.args.byte.now =
+    to_z-of_z w64 c.value_of.result byte_fits ∙ c.value_of.ensures in
+    let count : to_z w64 (of_z w64 c.value_of-2.result) ≡ operand_in entries c.args.count.now =
+    to_z-of_z w64 c.value_of-2.result count_fits ∙ c.value_of-2.ensures in
     let asked : as_byte (operand_in entries c.args.byte.now) ≡ Ok copies.byte = sym (λ i. as_byte (byte i)) ∙ c.in_ok-copies.ensures.byte in
     let told : measured_copies MAX_LEN (operand_in entries c.args.byte.now) (operand_in entries c.args.count.now) ≡ Ok copies.count =
     sym (λ i. measured_copies MAX_LEN (byte i) (count i)) ∙ c.in_ok-copies.ensures.count in

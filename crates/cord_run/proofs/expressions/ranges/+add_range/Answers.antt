@@ -31,7 +31,8 @@ add_range-returns-in-Run-clause-added t c =
     let entries = c.args.store.now.entries.items in
     let old = c.args.pieces.now.items in
     let new = c.add_run.new.pieces.items in
-    let view : expr_view c.args.expression.now ≡ plain.run c.in-Run.byte c.in-Run.count = ap expr_view c.in-Run.is ∙ view-Run c.in-Run.byte c.in-Run.count in
+    let view : expr_view c.args.expression.now ≡ plain.run c.in-Run.byte c.in-Run.count =
+    ap expr_view c.in-Run.is ∙ view-Run c.in-Run.byte c.in-Run.count in
     subst (λ (e : plain.Expr). IfOk c.add_run.result (λ _. AddsExpression entries e c.args.wanted old new)) (sym view)
     (still_ok c.add_run.result (run_added entries c.in-Run.byte c.in-Run.count c.args.wanted old new) c.add_run.ensures.added)
 
@@ -62,8 +63,10 @@ add_range-returns-in_ok-rest-in-Sub-clause-added t c =
     let old = c.args.pieces.now.items in
     let new = c.add_range.new.pieces.items in
     let wanted = c.inside-inner.result in
-    let view : expr_view c.args.expression.now ≡ plain.sub inner c.in-Sub.start c.in-Sub.count = ap expr_view c.in-Sub.is ∙ view-Sub c.in-Sub.expression c.in-Sub.start c.in-Sub.count in
-    let added : AddsExpression entries inner wanted old new = subst (λ (e : Expr). AddsExpression entries (expr_view e) wanted old new) c.as_ref.ensures c.in_ok-rest-in-Sub.ensures.added in
+    let view : expr_view c.args.expression.now ≡ plain.sub inner c.in-Sub.start c.in-Sub.count =
+    ap expr_view c.in-Sub.is ∙ view-Sub c.in-Sub.expression c.in-Sub.start c.in-Sub.count in
+    let added : AddsExpression entries inner wanted old new =
+    subst (λ (e : Expr). AddsExpression entries (expr_view e) wanted old new) c.as_ref.ensures c.in_ok-rest-in-Sub.ensures.added in
     subst (λ (e : plain.Expr). AddsExpression entries e c.args.wanted old new) (sym view)
     (sub_added entries inner c.in-Sub.start c.in-Sub.count c.index_of.result c.index_of-most.result c.args.wanted wanted
     c.index_of.ensures.is c.index_of-most.ensures.is c.inside-inner.ensures old new added)
@@ -74,8 +77,10 @@ add_range-returns-in_ok-rest-in-Sub-clause-past t c =
     let inner = expr_view c.in-Sub.expression.value in
     let wanted = c.inside-inner.result in
     let rest = c.in_ok-rest-in-Sub.rest in
-    let view : expr_view c.args.expression.now ≡ plain.sub inner c.in-Sub.start c.in-Sub.count = ap expr_view c.in-Sub.is ∙ view-Sub c.in-Sub.expression c.in-Sub.start c.in-Sub.count in
-    let past : IsAfter (extent_in entries inner) wanted rest = subst (λ (e : Expr). IsAfter (extent_in entries (expr_view e)) wanted rest) c.as_ref.ensures c.in_ok-rest-in-Sub.ensures.past in
+    let view : expr_view c.args.expression.now ≡ plain.sub inner c.in-Sub.start c.in-Sub.count =
+    ap expr_view c.in-Sub.is ∙ view-Sub c.in-Sub.expression c.in-Sub.start c.in-Sub.count in
+    let past : IsAfter (extent_in entries inner) wanted rest =
+    subst (λ (e : Expr). IsAfter (extent_in entries (expr_view e)) wanted rest) c.as_ref.ensures c.in_ok-rest-in-Sub.ensures.past in
     subst (λ (e : plain.Expr). IsAfter (extent_in entries e) c.args.wanted c.outside.result) (sym view)
     (sub_past entries inner c.in-Sub.start c.in-Sub.count c.index_of.result c.index_of-most.result c.args.wanted wanted
     c.index_of.ensures.is c.index_of-most.ensures.is c.inside-inner.ensures rest c.outside.result c.outside.ensures past)
@@ -110,8 +115,10 @@ add_all-returns-then-is_nothing-clause-past t c =
 
 pub add_all-add_range-requires : goal.add_all-add_range-requires
 add_all-add_range-requires t c =
-    let there : weight (shared_view c.member-item.result) < weights (members_seen c.args.members.now) = member_smaller c.args.members.now c.loop-member.member-index c.member-item.result c.loop-member-test.true c.member-item.is in
-    let below : weight (expr_view c.as_ref-expression.result.now) < weights (members_seen c.args.members.now) = subst (λ (x : Expr). weight (expr_view x) < weights (members_seen c.args.members.now)) (sym c.as_ref-expression.ensures) there in
+    let there : weight (shared_view c.member-item.result) < weights (members_seen c.args.members.now) =
+    member_smaller c.args.members.now c.loop-member.member-index c.member-item.result c.loop-member-test.true c.member-item.is in
+    let below : weight (expr_view c.as_ref-expression.result.now) < weights (members_seen c.args.members.now) =
+    subst (λ (x : Expr). weight (expr_view x) < weights (members_seen c.args.members.now)) (sym c.as_ref-expression.ensures) there in
     search (rules, below)
 
 pub add_all-loop-member-preserved : goal.add_all-loop-member-preserved
@@ -127,10 +134,15 @@ add_all-loop-member-preserved t c =
     let now = c.loop-member.pieces.items in
     let next = c.add_range.new.pieces.items in
     let after = c.in_ok-left.left in
-    let at : members_seen (drop k ms) ≡ plain.member e others = members_left ms k c.member-item.result c.loop-member-test.true c.member-item.is in
-    let added : AddsExpression entries e left now next = subst (λ (x : Expr). AddsExpression entries (expr_view x) left now next) c.as_ref-expression.ensures c.in_ok-left.ensures.added in
-    let in_turn : AddsInTurn entries (origins e) now next = subst (λ (x : Expr). AddsInTurn entries (origins (expr_view x)) now next) c.as_ref-expression.ensures c.in_ok-left.ensures.in_turn in
-    let past : IsAfter (extent_in entries e) left after = subst (λ (x : Expr). IsAfter (extent_in entries (expr_view x)) left after) c.as_ref-expression.ensures c.in_ok-left.ensures.past in
+    let at : members_seen (drop k ms) ≡ plain.member e others =
+    members_left ms k c.member-item.result c.loop-member-test.true c.member-item.is in
+    let added : AddsExpression entries e left now next =
+    subst (λ (x : Expr). AddsExpression entries (expr_view x) left now next) c.as_ref-expression.ensures c.in_ok-left.ensures.added in
+    let in_turn : AddsInTurn entries (origins e) now next =
+    subst (λ (x : Expr). AddsInTurn entries (origins (expr_view x)) now next) c.as_ref-expression.ensures
+    c.in_ok-left.ensures.in_turn in
+    let past : IsAfter (extent_in entries e) left after =
+    subst (λ (x : Expr). IsAfter (extent_in entries (expr_view x)) left after) c.as_ref-expression.ensures c.in_ok-left.ensures.past in
     record {
       added = goes_on entries es c.args.wanted old e others left after now next
           (subst (λ (xs : plain.Exprs). SoFar entries es c.args.wanted old xs left now) at c.loop-member.invariant.added) added past;
@@ -147,7 +159,8 @@ add_all-returns-clause-added t c =
     let ms = c.args.members.now in
     let left = c.loop-member.left in
     let now = c.loop-member.pieces.items in
-    let none : members_seen (drop c.loop-member.member-index ms) ≡ plain.nothing = ap members_seen (drop_all c.loop-member.member-index ms c.loop-member-test.false) in
+    let none : members_seen (drop c.loop-member.member-index ms) ≡ plain.nothing =
+    ap members_seen (drop_all c.loop-member.member-index ms c.loop-member-test.false) in
     ends_last entries (members_seen ms) c.args.wanted c.args.pieces.now.items left now
     (subst (λ (xs : plain.Exprs). SoFar entries (members_seen ms) c.args.wanted c.args.pieces.now.items xs left now) none
     c.loop-member.invariant.added)
@@ -163,18 +176,22 @@ add_all-returns-clause-past t c =
     let entries = c.args.store.now.entries.items in
     let ms = c.args.members.now in
     let left = c.loop-member.left in
-    let none : members_seen (drop c.loop-member.member-index ms) ≡ plain.nothing = ap members_seen (drop_all c.loop-member.member-index ms c.loop-member-test.false) in
+    let none : members_seen (drop c.loop-member.member-index ms) ≡ plain.nothing =
+    ap members_seen (drop_all c.loop-member.member-index ms c.loop-member-test.false) in
     wanted_ends entries (members_seen ms) c.args.wanted left
     (subst (λ (xs : plain.Exprs). WantedSoFar entries (members_seen ms) c.args.wanted xs left) none c.loop-member.invariant.past)
 
 pub add_members-add_members-requires : goal.add_members-add_members-requires
 add_members-add_members-requires t c =
-    let below : weights (members_view c.in-Some.front.now) + 1 < weights (members_view c.args.members.now) + 1 = front_falls (members_view c.args.members.now) c.halves.result.0 c.halves.result.1.now c.halves.ensures.members c.halves.ensures.after c.in-Some.front c.in-Some.is in
+    let below : weights (members_view c.in-Some.front.now) + 1 < weights (members_view c.args.members.now) + 1 =
+    front_falls (members_view c.args.members.now) c.halves.result.0 c.halves.result.1.now c.halves.ensures.members
+    c.halves.ensures.after c.in-Some.front c.in-Some.is in
     search (rules, below)
 
 pub add_members-add_all-requires-in-Some : goal.add_members-add_all-requires-in-Some
 add_members-add_all-requires-in-Some t c =
-    let below : weights (members_seen c.halves.result.1.now) < weights (members_view c.args.members.now) + 1 = rest_falls (members_view c.args.members.now) c.halves.result.0 c.halves.result.1.now c.halves.ensures.members in
+    let below : weights (members_seen c.halves.result.1.now) < weights (members_view c.args.members.now) + 1 =
+    rest_falls (members_view c.args.members.now) c.halves.result.0 c.halves.result.1.now c.halves.ensures.members in
     search (rules, below)
 
 pub add_members-returns-in_ok-left-in-Some-clause-added : goal.add_members-returns-in_ok-left-in-Some-clause-added
@@ -185,7 +202,8 @@ add_members-returns-in_ok-left-in-Some-clause-added t c =
     let old = c.args.pieces.now.items in
     let now = c.add_members.new.pieces.items in
     let next = c.add_all-in-Some.new.pieces.items in
-    let whole = halves_Some (members_view c.args.members.now) c.halves.result.0 c.halves.result.1.now c.halves.ensures.members c.in-Some.front c.in-Some.is in
+    let whole = halves_Some (members_view c.args.members.now) c.halves.result.0 c.halves.result.1.now c.halves.ensures.members
+    c.in-Some.front c.in-Some.is in
     subst (λ (es : plain.Exprs). IfOk c.add_all-in-Some.result (λ _. AddsMembers entries es c.args.wanted old next)) (sym whole)
     (still_ok c.add_all-in-Some.result (both_added entries front rest c.args.wanted c.in_ok-left-in-Some.left old now next
     c.in_ok-left-in-Some.ensures.added c.in_ok-left-in-Some.ensures.past) c.add_all-in-Some.ensures.added)
@@ -198,7 +216,8 @@ add_members-returns-in_ok-left-in-Some-clause-in_turn t c =
     let old = c.args.pieces.now.items in
     let now = c.add_members.new.pieces.items in
     let next = c.add_all-in-Some.new.pieces.items in
-    let whole = halves_Some (members_view c.args.members.now) c.halves.result.0 c.halves.result.1.now c.halves.ensures.members c.in-Some.front c.in-Some.is in
+    let whole = halves_Some (members_view c.args.members.now) c.halves.result.0 c.halves.result.1.now c.halves.ensures.members
+    c.in-Some.front c.in-Some.is in
     subst (λ (es : plain.Exprs). IfOk c.add_all-in-Some.result (λ _. AddsInTurn entries (origins_of es) old next)) (sym whole)
     (still_ok c.add_all-in-Some.result (turns_both entries front rest old now next c.in_ok-left-in-Some.ensures.in_turn)
     c.add_all-in-Some.ensures.in_turn)
@@ -208,9 +227,11 @@ add_members-returns-in_ok-left-in-Some-clause-past t c =
     let entries = c.args.store.now.entries.items in
     let front = members_view c.in-Some.front.now in
     let rest = members_seen c.halves.result.1.now in
-    let whole = halves_Some (members_view c.args.members.now) c.halves.result.0 c.halves.result.1.now c.halves.ensures.members c.in-Some.front c.in-Some.is in
+    let whole = halves_Some (members_view c.args.members.now) c.halves.result.0 c.halves.result.1.now c.halves.ensures.members
+    c.in-Some.front c.in-Some.is in
     subst (λ (es : plain.Exprs). IfOk c.add_all-in-Some.result (IsAfter (members_extent entries es) c.args.wanted)) (sym whole)
     (still_ok_by (IsAfter (members_extent entries rest) c.in_ok-left-in-Some.left)
     (IsAfter (members_extent entries (plain.append front rest)) c.args.wanted) c.add_all-in-Some.result
-    (λ after past. wanted_after_both entries front rest c.args.wanted c.in_ok-left-in-Some.left after c.in_ok-left-in-Some.ensures.past past)
+    (λ after past. wanted_after_both entries front rest c.args.wanted c.in_ok-left-in-Some.left after
+    c.in_ok-left-in-Some.ensures.past past)
     c.add_all-in-Some.ensures.past)

@@ -6,7 +6,8 @@ use Rattle.cord_run.proofs.expressions.ranges.add_cord_range.Goals as goal
 pub returns-then-of-eq0-clause-added : goal.returns-then-of-eq0-clause-added
 returns-then-of-eq0-clause-added c =
     part_passed c.args.cord.now c.args.wanted c.args.pieces.now.items
-    (λ t fits. ap (λ (n : ℕ). min c.args.wanted.count (n - c.args.wanted.skip)) (sym (c.len-len.ensures.over t fits)) ∙ sym c.of.ensures ∙ c.if-of-eq0.true)
+    (λ t fits. ap (λ (n : ℕ). min c.args.wanted.count (n - c.args.wanted.skip)) (sym (c.len-len.ensures.over t fits)) ∙ sym c.of.ensures
+    ∙ c.if-of-eq0.true)
 
 pub returns-clause-added : goal.returns-clause-added
 returns-clause-added c =

@@ -15,7 +15,8 @@ pub loop-member-preserved : goal.loop-member-preserved
 loop-member-preserved c =
     let short : length c.try_extend_from_slice.new.self.items ≤ 256 = search rules in
     record {
-      gathered = gathered_more c.args.store.now.entries.items c.args.text.now.items c.args.members.now c.loop-member.member-index c.member-item.result
+      gathered = gathered_more c.args.store.now.entries.items c.args.text.now.items c.args.members.now c.loop-member.member-index
+          c.member-item.result
           c.loop-member-test.true c.member-item.is c.loop-member.text.items c.in-Some.slice.now c.try_extend_from_slice.new.self.items
           (subst (λ (e : Expr). IsTextIn c.args.store.now.entries.items (expr_view e) c.in-Some.slice.now) c.as_ref.ensures
           c.in-Some.ensures) c.in-Ok.ensures.ok c.loop-member.invariant.gathered;
@@ -23,5 +24,6 @@ loop-member-preserved c =
     }
 
 pub returns-clause-texts : goal.returns-clause-texts
-returns-clause-texts c = λ done. gathered_all c.args.store.now.entries.items c.args.text.now.items c.args.members.now c.loop-member.member-index
+returns-clause-texts c =
+    λ done. gathered_all c.args.store.now.entries.items c.args.text.now.items c.args.members.now c.loop-member.member-index
     c.loop-member.text.items c.loop-member-test.false c.loop-member.invariant.gathered

@@ -25,12 +25,16 @@ returns-in-Some c =
     let i = c.in-Sub.start in
     let n = c.in-Sub.count in
     let whole = c.in-Some.slice.now in
-    let inner : expr_view c.in-Sub.expression.value ≡ plain.name x = ap expr_view (sym c.as_ref.ensures ∙ c.in-Name-as_ref.is) ∙ view-Name x in
-    let view : expr_view c.args.expression.now ≡ plain.sub (plain.name x) i n = ap expr_view c.in-Sub.is ∙ view-Sub c.in-Sub.expression i n ∙ ap (λ (e : plain.Expr). plain.sub e i n) inner in
+    let inner : expr_view c.in-Sub.expression.value ≡ plain.name x =
+    ap expr_view (sym c.as_ref.ensures ∙ c.in-Name-as_ref.is) ∙ view-Name x in
+    let view : expr_view c.args.expression.now ≡ plain.sub (plain.name x) i n =
+    ap expr_view c.in-Sub.is ∙ view-Sub c.in-Sub.expression i n ∙ ap (λ (e : plain.Expr). plain.sub e i n) inner in
     let start_fits : FitsSigned w64 c.value_of.result = search rules in
     let count_fits : FitsSigned w64 c.value_of-in-Some.result = search rules in
-    let start : to_z w64 (of_z w64 c.value_of.result) ≡ operand_in entries i = to_z-of_z w64 c.value_of.result start_fits ∙ c.value_of.ensures in
-    let count : to_z w64 (of_z w64 c.value_of-in-Some.result) ≡ operand_in entries n = to_z-of_z w64 c.value_of-in-Some.result count_fits ∙ c.value_of-in-Some.ensures in
+    let start : to_z w64 (of_z w64 c.value_of.result) ≡ operand_in entries i =
+    to_z-of_z w64 c.value_of.result start_fits ∙ c.value_of.ensures in
+    let count : to_z w64 (of_z w64 c.value_of-in-Some.result) ≡ operand_in entries n =
+    to_z-of_z w64 c.value_of-in-Some.result count_fits ∙ c.value_of-in-Some.ensures in
     subst (λ (e : plain.Expr). IfSome c.range_of.result (λ range. IsTextIn entries e range.now)) (sym view)
     (still_some c.range_of.result (λ range is. sub_is entries x whole c.in-Some.ensures i n range.now
     (subst (λ (z : ℤ). part_of MAX_LEN whole z (operand_in entries n) ≡ Ok range.now) start

@@ -12,8 +12,11 @@ pub returns-clause-grown : goal.returns-clause-grown
 returns-clause-grown c =
     let old = c.args.self.now.entries.items in
     let middle = c.deref_mut.result.now in
-    let same : SameEntries old middle = subst (λ (es : List Entry). SameEntries old es) (sym c.deref_mut.ensures.value) c.in_ok-place.ensures.same in
-    let grown : IfOk c.append_at.result (λ _. Grew c.args.name.now c.args.bytes.now old c.append_at.new.entries) = if_grew (Grew c.args.name.now c.args.bytes.now middle c.append_at.new.entries) (Grew c.args.name.now c.args.bytes.now old c.append_at.new.entries) c.append_at.result
+    let same : SameEntries old middle =
+    subst (λ (es : List Entry). SameEntries old es) (sym c.deref_mut.ensures.value) c.in_ok-place.ensures.same in
+    let grown : IfOk c.append_at.result (λ _. Grew c.args.name.now c.args.bytes.now old c.append_at.new.entries) =
+    if_grew (Grew c.args.name.now c.args.bytes.now middle c.append_at.new.entries)
+    (Grew c.args.name.now c.args.bytes.now old c.append_at.new.entries) c.append_at.result
     (λ g. grew_after c.args.name.now c.args.bytes.now old middle c.append_at.new.entries same g) c.append_at.ensures.grown in
     subst (λ (es : List Entry). IfOk c.append_at.result (λ _. Grew c.args.name.now c.args.bytes.now old es))
     (sym (come_back _ c.append_at.new.entries _ (c.append_at.auto.entries ∙ c.deref_mut.ensures.len))) grown
