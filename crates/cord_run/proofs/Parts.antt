@@ -34,7 +34,7 @@ use Rattle.cord_run.specs.inner.Origins.{Origin, named, copied, origins, InTurn,
 use Rattle.cord_run.proofs.Files.{long_text, short_text}
 use Rattle.cord_run.proofs.Fronts.{joined}
 use Rattle.cord_run.proofs.Lengths.{Both, cord_fits, content_text, length_passed, operand_value, texts_split}
-use Rattle.cord_run.proofs.Makings.{cord_limit}
+use Rattle.cord_run.proofs.Definitions.{cord_limit}
 use Rattle.cord_run.proofs.Origins.{turns_joined}
 
 -- ---- one part
