@@ -563,6 +563,64 @@ static void walks(void) {
     zc_pos_free(&position);
 }
 
+/* Goes to the next chunk, which has to have these bytes. */
+static void expect_chunk(zc_chunks *chunks, const char *bytes, size_t count, int line) {
+    expect(zc_chunks_next(chunks) == count, "the number that the call gives", line);
+    expect(chunks->count == count, "the number of the chunk's bytes", line);
+    expect(memcmp(chunks->bytes, bytes, count) == 0, "the chunk's bytes", line);
+}
+#define EXPECT_CHUNK(chunks, text) expect_chunk((chunks), (text), sizeof(text) - 1, __LINE__)
+
+static void chunks_in_order(void) {
+    zc_cord a = ZC_EMPTY, b = ZC_EMPTY, both = ZC_EMPTY;
+    zc_chunks chunks = ZC_CHUNKS_EMPTY;
+    EXPECT_CHUNK(&chunks, "");
+    DO(zc_from_bytes("abc", 3, &a));
+    DO(zc_chars('y', 2, &b));
+    DO(zc_cat(&a, &b, &both));
+    DO(zc_chunks_set(&both, 0, &chunks));
+    EXPECT(chunks.count == 0);
+    EXPECT_CHUNK(&chunks, "abcyy");
+    EXPECT_CHUNK(&chunks, "");
+    EXPECT_CHUNK(&chunks, "");
+    DO(zc_chunks_set(&both, 2, &chunks));
+    zc_free(&both); /* the chunks have a share of their own */
+    EXPECT_CHUNK(&chunks, "cyy");
+    DO(zc_chunks_set(&a, 3, &chunks));
+    EXPECT_CHUNK(&chunks, "");
+    DO(zc_chunks_set(&a, UINT64_MAX, &chunks));
+    EXPECT_CHUNK(&chunks, "");
+    DO(zc_chunks_set(&a, 1, &chunks));
+    zc_chunks_free(&chunks);
+    EXPECT(chunks.count == 0);
+    EXPECT_CHUNK(&chunks, "");
+    zc_chunks_free(&chunks);
+    zc_free(&a);
+    zc_free(&b);
+}
+
+/* Each chunk but the last one has 4,096 bytes. */
+static void long_chunks(void) {
+    zc_cord a = ZC_EMPTY, b = ZC_EMPTY;
+    zc_chunks chunks = ZC_CHUNKS_EMPTY;
+    DO(zc_chars('y', 5000, &a));
+    DO(zc_cat_char(&a, 'z', &b));
+    DO(zc_chunks_set(&b, 1, &chunks));
+    EXPECT(zc_chunks_next(&chunks) == 4096 && chunks.count == 4096);
+    EXPECT(chunks.bytes[0] == 'y' && chunks.bytes[4095] == 'y');
+    EXPECT(zc_chunks_next(&chunks) == 904 && chunks.count == 904);
+    EXPECT(chunks.bytes[902] == 'y' && chunks.bytes[903] == 'z');
+    EXPECT(zc_chunks_next(&chunks) == 0);
+    DO(zc_chars('x', ZC_MAX_LEN, &a));
+    DO(zc_chunks_set(&a, ZC_MAX_LEN - 4097, &chunks));
+    EXPECT(zc_chunks_next(&chunks) == 4096);
+    EXPECT_CHUNK(&chunks, "x");
+    EXPECT_CHUNK(&chunks, "");
+    zc_chunks_free(&chunks);
+    zc_free(&a);
+    zc_free(&b);
+}
+
 /* Puts bytes to a file, from this place on. */
 static void put_at(zc_cord *x, int fd, off_t place) {
     int code = zc_put(x, fd);
@@ -658,9 +716,11 @@ static void nulls_of_the_rest(void) {
     zc_cord *volatile none = NULL;
     zc_ext *volatile no_ext = NULL;
     zc_pos *volatile no_pos = NULL;
+    zc_chunks *volatile no_chunks = NULL;
     unsigned char *volatile no_byte = NULL, byte = 7;
     zc_ext grown = ZC_EXT_EMPTY;
     zc_pos position = ZC_POS_NOWHERE;
+    zc_chunks chunks = ZC_CHUNKS_EMPTY;
     zc_cord a = ZC_EMPTY;
     EXPECT(zc_catn(&a, 1, none) == ZC_BAD_ARGUMENT);
     EXPECT(zc_sprintf("", 0, NULL, 0, none) == ZC_BAD_ARGUMENT);
@@ -681,6 +741,10 @@ static void nulls_of_the_rest(void) {
     zc_pos_next(no_pos);
     zc_pos_prev(no_pos);
     zc_pos_free(no_pos);
+    EXPECT(zc_chunks_set(none, 0, &chunks) == ZC_BAD_ARGUMENT);
+    EXPECT(zc_chunks_set(&a, 0, no_chunks) == ZC_BAD_ARGUMENT);
+    EXPECT(zc_chunks_next(no_chunks) == 0);
+    zc_chunks_free(no_chunks);
     EXPECT(byte == 7);
 }
 
@@ -710,6 +774,8 @@ int main(int count, char **words) {
     grows_by_leaves();
     grows_no_longer();
     walks();
+    chunks_in_order();
+    long_chunks();
     files();
     paths();
     formats();

@@ -235,6 +235,36 @@ void zc_pos_prev(zc_pos *position);
 /* Frees what it owns; it then stands nowhere in the cord of no bytes, and may be set or freed again. Null is fine. */
 void zc_pos_free(zc_pos *position);
 
+/* ---- chunks ---- */
+
+/* A cord that is gone over from the front, and the chunk of it that was reached: count bytes at bytes, which are a copy
+   and stay until the next call. It owns a share of the cord, so it is never copied, and the cord may be freed before it.
+   Begin with ZC_CHUNKS_EMPTY or zeros, end with zc_chunks_free:
+
+       if (zc_chunks_set(&x, 0, &chunks) == ZC_OK)
+           while (zc_chunks_next(&chunks) != 0) fwrite(chunks.bytes, 1, chunks.count, stdout);
+       zc_chunks_free(&chunks); */
+typedef struct zc_chunks {
+    zc_cord text; /* for the library alone, as are all fields but count and bytes */
+    uint64_t length;
+    uint64_t next;
+    size_t count;
+    unsigned char bytes[4096];
+} zc_chunks;
+
+#define ZC_CHUNKS_EMPTY {ZC_EMPTY, 0, 0, 0, {0}}
+
+/* Goes over the bytes of x from start on from now on: none where start is at or past the end. There is no chunk yet.
+   ZC_NO_MEMORY: chunks stays. O(1). */
+int zc_chunks_set(zc_cord *x, uint64_t start, zc_chunks *chunks);
+
+/* Goes to the next chunk, of at most 4,096 bytes, and gives its count: 0 at the end, and of null. It takes no memory.
+   O(count + d). */
+size_t zc_chunks_next(zc_chunks *chunks);
+
+/* Frees what it owns; no bytes are left in it, and it may be set or freed again. Null is fine. */
+void zc_chunks_free(zc_chunks *chunks);
+
 /* ---- formats ---- */
 
 /* What a conversion of a format is given: the cord in text where is_text isn't 0, else the number. It owns the cord: a

@@ -1,4 +1,5 @@
 pub mod Values
 pub mod Handles
 pub mod Lists
+pub mod Scanning
 pub mod Arguments

@@ -1,4 +1,5 @@
 pub mod Answers
+pub mod Chunks
 pub mod Codes
 pub mod Grown
 pub mod Handles

@@ -3,6 +3,7 @@
 
 mod argument;
 mod ask;
+mod chunks;
 mod code;
 mod copy;
 mod edit;
@@ -14,9 +15,11 @@ mod make;
 mod pointer;
 mod position;
 mod print;
+mod scan;
 mod walk;
 
 pub use argument::Argument;
+pub use chunks::{CHUNK, Chunks};
 pub use code::{BAD_ARGUMENT, NO_MEMORY, NOT_FOUND, OK, TOO_LONG};
 pub use extensible::{Extensible, ROOM};
 pub use handle::Handle;

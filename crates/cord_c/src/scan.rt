@@ -1,0 +1,89 @@
+// Texts that are gone over a chunk at a time.
+ghost use Rattle.std.specs.Prelude.{◌≡◌, ◌⊎◌, ◌++◌, [], length, drop};
+ghost use Rattle.cord_c.specs.Codes.{IsKeeping};
+ghost use Rattle.cord_c.specs.Chunks.{chunk_of, left_of};
+ghost use denote.RawPtr.{Testable};
+ghost use Rattle.core.specs.Ptr.{as_mut_ptr};
+
+use crate::code::{BAD_ARGUMENT, NO_MEMORY, OK};
+use crate::copy::copy_from;
+use crate::pointer::missing;
+use crate::{Chunks, Handle};
+use std::alloc::Global;
+
+/// Goes over the bytes of `x` from `start` on from now on. The first chunk is that of the next call of `zc_chunks_next`.
+#[unsafe(no_mangle)]
+pub extern "C" fn zc_chunks_set(
+    alloc: Global,
+    x: &mut Handle,
+    start: u64,
+    chunks: &mut Chunks,
+) -> i32
+    requires places { Testable (as_mut_ptr x) × Testable (as_mut_ptr chunks) }
+    ensures left { result ≡ OK → left_of chunks.new ≡ drop start x.old.text }
+    ensures none { result ≡ OK → chunk_of chunks.new ≡ [] }
+    ensures left_kept { (result ≡ OK) ⊎ (left_of chunks.new ≡ left_of chunks.old) }
+    ensures chunk_kept { (result ≡ OK) ⊎ (chunk_of chunks.new ≡ chunk_of chunks.old) }
+    ensures code { IsKeeping result }
+    ensures x { x.new.text ≡ x.old.text }
+{
+    if missing(x) || missing(chunks) {
+        return BAD_ARGUMENT;
+    }
+    let Ok(text) = x.read(alloc) else {
+        return NO_MEMORY;
+    };
+    let len = text.len();
+    if chunks.text.hold(alloc, text) != OK {
+        return NO_MEMORY;
+    }
+    chunks.len = len;
+    chunks.next = start.min(len);
+    chunks.count = 0;
+    OK
+}
+
+/// Goes to the next chunk, and answers how many bytes it has: 0 where no bytes are left.
+#[unsafe(no_mangle)]
+pub extern "C" fn zc_chunks_next(alloc: Global, chunks: &mut Chunks) -> usize
+    requires places { Testable (as_mut_ptr chunks) }
+    ensures chunk { chunk_of chunks.new ++ left_of chunks.new ≡ left_of chunks.old }
+    ensures count { result ≡ length (chunk_of chunks.new) }
+    ensures end { result ≡ 0 → left_of chunks.old ≡ [] }
+{
+    if missing(chunks) {
+        return 0;
+    }
+    let text = chunks.text.lift(alloc);
+    let count = copy_from(text.text(), chunks.next, &mut chunks.bytes);
+    chunks.text.lower(alloc, text);
+    chunks.count = count;
+    chunks.next += count as u64;
+    count
+}
+
+/// Frees what `chunks` owns, of which then no bytes are left.
+#[unsafe(no_mangle)]
+pub extern "C" fn zc_chunks_free(alloc: Global, chunks: &mut Chunks)
+    requires places { Testable (as_mut_ptr chunks) }
+    ensures left { left_of chunks.new ≡ [] }
+    ensures none { chunk_of chunks.new ≡ [] }
+{
+    if missing(chunks) {
+        return;
+    }
+    chunks.clear(alloc);
+}
+
+impl Chunks {
+    // Frees the text, and forgets the chunk.
+    fn clear(&mut self, alloc: Global)
+        ensures left { left_of self.new ≡ [] }
+        ensures none { chunk_of self.new ≡ [] }
+    {
+        self.text = Handle::empty(alloc);
+        self.len = 0;
+        self.next = 0;
+        self.count = 0;
+    }
+}
