@@ -1,9 +1,10 @@
-/* The core of an editor: a buffer whose every version is kept, since versions share what they have in common.
+/* The core of an editor: a buffer whose every version is kept, since versions share what they have in common. The file is
+ * opened lazily, so it may be greater than the memory: what isn't looked at stays in it.
  *
  *     editor FILE < COMMANDS
  *
  * A command a line: 'i PLACE TEXT' inserts, 'd PLACE COUNT' deletes, 'f TEXT' tells where the text stands first,
- * 'u' takes the last change back, 's PATH' saves. */
+ * 'u' takes the last change back, 's PATH' saves: under another name than the file's, which has to keep its bytes. */
 #define _POSIX_C_SOURCE 200809L
 #include <inttypes.h>
 #include <stdio.h>
@@ -13,7 +14,9 @@
 
 enum { MOST_VERSIONS = 1000, LONGEST_LINE = 4096 };
 
-static zc_cord versions[MOST_VERSIONS]; /* zeros are cords of no bytes */
+static zc_files files;                     /* zeros are no files */
+static zc_lazy versions[MOST_VERSIONS];    /* and cords of no bytes */
+static zc_lazy front, back, added, joined; /* the parts of the next version */
 static int current = 0;
 
 static void must(int code) {
@@ -24,35 +27,45 @@ static void must(int code) {
 }
 
 /* The version after the current one; without room for more, the oldest goes. */
-static zc_cord *next_version(void) {
+static zc_lazy *next_version(void) {
     if (current + 1 == MOST_VERSIONS) {
-        zc_free(&versions[0]);
+        zc_lazy_free(&versions[0]);
         memmove(versions, versions + 1, sizeof versions - sizeof versions[0]);
-        versions[current--] = (zc_cord)ZC_EMPTY;
+        versions[current--] = (zc_lazy)ZC_LAZY_EMPTY;
     }
     return &versions[current + 1];
 }
 
+/* The text as a cord. */
+static void take(const char *text) {
+    zc_cord bytes = ZC_EMPTY;
+    must(zc_from_bytes(text, strlen(text), &bytes));
+    must(zc_lazy_from_cord(&bytes, &added));
+    zc_free(&bytes);
+}
+
 static void insert(uint64_t place, const char *text) {
-    zc_cord added = ZC_EMPTY, *next = next_version();
-    must(zc_from_bytes(text, strlen(text), &added));
-    must(zc_insert(&versions[current], place, &added, next));
-    zc_free(&added);
+    zc_lazy *next = next_version();
+    take(text);
+    must(zc_lazy_substr(&versions[current], 0, place, &front));
+    must(zc_lazy_substr(&versions[current], place, ZC_MAX_LEN, &back));
+    must(zc_lazy_cat(&front, &added, &joined));
+    must(zc_lazy_cat(&joined, &back, next));
     current++;
 }
 
 static void delete(uint64_t place, uint64_t count) {
-    zc_cord *next = next_version();
-    must(zc_remove(&versions[current], place, count, next));
+    zc_lazy *next = next_version();
+    uint64_t end = place < ZC_MAX_LEN && count < ZC_MAX_LEN - place ? place + count : ZC_MAX_LEN;
+    must(zc_lazy_substr(&versions[current], 0, place, &front));
+    must(zc_lazy_substr(&versions[current], end, ZC_MAX_LEN, &back));
+    must(zc_lazy_cat(&front, &back, next));
     current++;
 }
 
 static void find(const char *text) {
-    uint64_t place;
-    zc_cord pattern = ZC_EMPTY;
-    must(zc_from_bytes(text, strlen(text), &pattern));
-    must(zc_str(&versions[current], 0, &pattern, &place));
-    zc_free(&pattern);
+    uint64_t place = ZC_NOT_FOUND;
+    must(zc_lazy_find(&files, &versions[current], 0, text, strlen(text), &place));
     if (place == ZC_NOT_FOUND)
         puts("not found");
     else
@@ -62,7 +75,7 @@ static void find(const char *text) {
 static void save(const char *path) {
     FILE *file = fopen(path, "wb");
     if (file == NULL) must(ZC_WRITE_FAILED);
-    must(zc_put(&versions[current], fileno(file)));
+    must(zc_lazy_put(&files, &versions[current], fileno(file)));
     if (fclose(file) != 0) must(ZC_WRITE_FAILED);
 }
 
@@ -89,11 +102,16 @@ int main(int words, char **word) {
         fprintf(stderr, "usage: editor FILE\n");
         return 2;
     }
-    must(zc_from_path(word[1], &versions[0]));
+    must(zc_lazy_from_path(&files, word[1], &versions[0]));
     while (fgets(line, sizeof line, stdin) != NULL) {
         line[strcspn(line, "\n")] = 0;
         run(line);
     }
-    for (int i = 0; i < MOST_VERSIONS; i++) zc_free(&versions[i]);
+    for (int i = 0; i < MOST_VERSIONS; i++) zc_lazy_free(&versions[i]);
+    zc_lazy_free(&front);
+    zc_lazy_free(&back);
+    zc_lazy_free(&added);
+    zc_lazy_free(&joined);
+    zc_files_free(&files);
     return 0;
 }

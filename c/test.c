@@ -748,6 +748,267 @@ static void nulls_of_the_rest(void) {
     EXPECT(byte == 7);
 }
 
+/* A file of this text, "0123456789" so many times, and this end: its path is written to path. */
+static void write_file(char *path, unsigned long tens, const char *end) {
+    int fd = mkstemp(path);
+    FILE *file = fd < 0 ? NULL : fdopen(fd, "wb");
+    if (file == NULL && may_want) file = fdopen(fd, "wb");
+    EXPECT(file != NULL);
+    for (unsigned long i = 0; i < tens; i++) EXPECT(fputs("0123456789", file) >= 0);
+    EXPECT(fputs(end, file) >= 0 && fclose(file) == 0);
+}
+
+static void open_lazily(zc_files *files, const char *path, zc_lazy *out) {
+    DO(zc_lazy_from_path(files, path, out));
+}
+
+static void expect_lazy(zc_files *files, zc_lazy *x, uint64_t start, const char *bytes, size_t count, int line) {
+    char copy[64];
+    size_t got = 99;
+    memset(copy, '#', sizeof copy);
+    expect(zc_lazy_read(files, x, start, copy, count, &got) == ZC_OK, "a read", line);
+    expect(got == count && memcmp(copy, bytes, count) == 0, "the bytes", line);
+    expect(copy[count] == '#', "the rest", line);
+}
+#define EXPECT_LAZY(files, x, start, text) expect_lazy((files), (x), (start), (text), sizeof(text) - 1, __LINE__)
+
+static uint64_t lazy_place(zc_files *files, zc_lazy *x, uint64_t start, const char *bytes) {
+    uint64_t place = 12345;
+    DO(zc_lazy_find(files, x, start, bytes, strlen(bytes), &place));
+    return place;
+}
+
+static uint64_t lazy_byte_place(zc_files *files, zc_lazy *x, uint64_t start, char byte) {
+    uint64_t place = 12345;
+    EXPECT(zc_lazy_chr(files, x, start, (unsigned char)byte, &place) == ZC_OK);
+    return place;
+}
+
+static void lazy_of(const char *text, zc_lazy *out) {
+    zc_cord plain = ZC_EMPTY;
+    DO(zc_from_bytes(text, strlen(text), &plain));
+    DO(zc_lazy_from_cord(&plain, out));
+    zc_free(&plain);
+}
+
+/* A file that is opened, cut, joined with a cord in memory, read and searched. */
+static void lazies(void) {
+    char path[] = "/tmp/zomtsje_XXXXXX", bytes[8] = "";
+    zc_files files = ZC_FILES_NONE;
+    zc_lazy a = ZC_LAZY_EMPTY, b = ZC_LAZY_EMPTY, c = ZC_LAZY_EMPTY, word = ZC_LAZY_EMPTY;
+    size_t got = 99;
+    write_file(path, 20000, "end\n");
+    open_lazily(&files, path, &a);
+    EXPECT(zc_lazy_len(&a) == 200004);
+    EXPECT_LAZY(&files, &a, 0, "0123");
+    EXPECT_LAZY(&files, &a, 199998, "89end\n");
+    EXPECT(zc_lazy_read(&files, &a, 200002, bytes, sizeof bytes, &got) == ZC_OK && got == 2);
+    EXPECT(memcmp(bytes, "d\n\0", 3) == 0);
+    EXPECT(zc_lazy_read(&files, &a, 200004, bytes, sizeof bytes, &got) == ZC_OK && got == 0);
+    DO(zc_lazy_substr(&a, 199995, 8, &b));
+    lazy_of("<in memory>", &word);
+    DO(zc_lazy_cat(&b, &word, &c));
+    EXPECT(zc_lazy_len(&c) == 19);
+    EXPECT_LAZY(&files, &c, 0, "56789end<in memory>");
+    DO(zc_lazy_cat(&a, &c, &b));
+    EXPECT_LAZY(&files, &b, 200001, "nd\n56789end<in memory>");
+    EXPECT(lazy_byte_place(&files, &b, 0, 'e') == 200000);
+    EXPECT(lazy_byte_place(&files, &b, 200001, 'e') == 200009);
+    EXPECT(lazy_byte_place(&files, &b, 0, '!') == ZC_NOT_FOUND);
+    EXPECT(lazy_place(&files, &b, 0, "end<") == 200009);
+    EXPECT(lazy_place(&files, &a, 0, "end<") == ZC_NOT_FOUND);
+    EXPECT(lazy_place(&files, &a, 65530, "9012345") == 65539);
+    DO(zc_lazy_share(&b, &word));
+    zc_lazy_free(&a);
+    zc_lazy_free(&b);
+    EXPECT_LAZY(&files, &word, 199998, "89end\n56789end<in memory>");
+    EXPECT(unlink(path) == 0);
+    zc_lazy_free(&c);
+    zc_lazy_free(&word);
+    zc_files_free(&files);
+    EXPECT(files.count == 0);
+}
+
+static void copy_lazily(zc_files *files, zc_lazy *x, zc_cord *out) {
+    int code = zc_lazy_to_cord(files, x, out);
+    while (code == ZC_NO_MEMORY && may_want && wants++ < 100) code = zc_lazy_to_cord(files, x, out);
+    EXPECT(code == ZC_OK);
+}
+
+/* A file and one more byte, balanced, and copied into memory. */
+static void lazies_balanced(void) {
+    char path[] = "/tmp/zomtsje_XXXXXX";
+    zc_files files = ZC_FILES_NONE;
+    zc_lazy a = ZC_LAZY_EMPTY, b = ZC_LAZY_EMPTY, byte = ZC_LAZY_EMPTY;
+    zc_cord plain = ZC_EMPTY;
+    write_file(path, 2, "z");
+    open_lazily(&files, path, &a);
+    EXPECT(zc_lazy_depth(&a) == 0);
+    lazy_of("x", &byte);
+    DO(zc_lazy_cat(&a, &byte, &b));
+    EXPECT(zc_lazy_depth(&b) == 1);
+    DO(zc_lazy_balance(&b, &a));
+    EXPECT_LAZY(&files, &a, 0, "01234567890123456789zx");
+    copy_lazily(&files, &b, &plain);
+    EXPECT(unlink(path) == 0);
+    zc_lazy_free(&a);
+    zc_lazy_free(&b);
+    zc_lazy_free(&byte);
+    zc_files_free(&files);
+    EXPECT_TEXT(&plain, "01234567890123456789zx");
+    zc_free(&plain);
+}
+
+/* Where a file can't be opened or read, and cords over other files. */
+static void lazies_refused(void) {
+    char path[] = "/tmp/zomtsje_XXXXXX", other[] = "/tmp/zomtsje_XXXXXX";
+    zc_files files = ZC_FILES_NONE, others = ZC_FILES_NONE;
+    zc_lazy a = ZC_LAZY_EMPTY, b = ZC_LAZY_EMPTY;
+    zc_cord plain = ZC_EMPTY;
+    unsigned char byte = 7;
+    uint64_t place = 7;
+    size_t got = 7;
+    write_file(path, 3, "");
+    write_file(other, 1, "");
+    open_lazily(&files, path, &a);
+    EXPECT(zc_lazy_from_path(&files, "/tmp/zomtsje_none", &a) == ZC_READ_FAILED);
+    EXPECT(zc_lazy_from_path(&files, "/tmp", &a) == ZC_READ_FAILED);
+    EXPECT(zc_lazy_of_file(0, ZC_MAX_LEN + 1, &a) == ZC_TOO_LONG);
+    EXPECT_LAZY(&files, &a, 25, "56789");
+    EXPECT(zc_lazy_read(&others, &a, 0, &byte, 1, &got) == ZC_READ_FAILED && got == 7);
+    open_lazily(&others, other, &b);
+    EXPECT_LAZY(&others, &a, 5, "56789");
+    EXPECT(zc_lazy_read(&others, &a, 10, &byte, 1, &got) == ZC_READ_FAILED && got == 7);
+    EXPECT(zc_lazy_chr(&others, &a, 0, 'x', &place) == ZC_READ_FAILED && place == 7);
+    EXPECT(zc_lazy_to_cord(&others, &a, &plain) == ZC_READ_FAILED || may_want);
+    EXPECT(zc_len(&plain) == 0 && byte == 7);
+    EXPECT(unlink(path) == 0 && unlink(other) == 0);
+    zc_lazy_free(&a);
+    zc_lazy_free(&b);
+    zc_files_free(&files);
+    zc_files_free(&others);
+}
+
+/* Whether the byte at a place lies in a file. */
+static int lies_in_file(zc_lazy *x, uint64_t start) {
+    unsigned char byte = 7;
+    size_t got = 0;
+    uint32_t file = 0;
+    uint64_t place = 0;
+    return zc_lazy_part(x, start, &byte, 1, &got, &file, &place) == ZC_IN_FILE;
+}
+
+/* A short file is read at once, and one that is a byte longer isn't. */
+static void lazies_by_length(void) {
+    char path[] = "/tmp/zomtsje_XXXXXX", longer[] = "/tmp/zomtsje_XXXXXX";
+    zc_files files = ZC_FILES_NONE;
+    zc_lazy a = ZC_LAZY_EMPTY, b = ZC_LAZY_EMPTY;
+    write_file(path, 13107, "xx");
+    write_file(longer, 13107, "xxx");
+    DO(zc_lazy_by_length(&files, path, &a));
+    DO(zc_lazy_by_length(&files, longer, &b));
+    EXPECT(zc_lazy_len(&a) == ZC_SHORT_FILE && zc_lazy_len(&b) == ZC_SHORT_FILE + 1);
+    EXPECT(!lies_in_file(&a, 0) && lies_in_file(&b, 0));
+    EXPECT_LAZY(&files, &a, 131069, "9xx");
+    EXPECT_LAZY(&files, &b, 131069, "9xxx");
+    EXPECT(unlink(path) == 0 && unlink(longer) == 0);
+    EXPECT(zc_lazy_by_length(&files, path, &a) == ZC_READ_FAILED);
+    EXPECT(zc_lazy_by_length(&files, path, NULL) == ZC_BAD_ARGUMENT);
+    EXPECT(zc_lazy_len(&a) == ZC_SHORT_FILE);
+    zc_lazy_free(&a);
+    zc_lazy_free(&b);
+    zc_files_free(&files);
+}
+
+/* A file of five gigabytes, of which a few bytes are read. */
+static void lazies_are_long(void) {
+    char path[] = "/tmp/zomtsje_XXXXXX";
+    zc_files files = ZC_FILES_NONE;
+    zc_lazy a = ZC_LAZY_EMPTY, end = ZC_LAZY_EMPTY, both = ZC_LAZY_EMPTY;
+    int fd = mkstemp(path);
+    EXPECT(fd >= 0 && pwrite(fd, "last", 4, 4999999996) == 4 && close(fd) == 0);
+    open_lazily(&files, path, &a);
+    EXPECT(zc_lazy_len(&a) == 5000000000);
+    DO(zc_lazy_substr(&a, 4999999990, 100, &end));
+    DO(zc_lazy_cat(&end, &a, &both));
+    EXPECT(zc_lazy_len(&both) == 5000000010);
+    EXPECT_LAZY(&files, &both, 6, "last\0\0\0");
+    EXPECT_LAZY(&files, &both, 5000000006, "last");
+    EXPECT(lazy_byte_place(&files, &both, 5000000000, 't') == 5000000009);
+    EXPECT(unlink(path) == 0);
+    zc_lazy_free(&a);
+    zc_lazy_free(&end);
+    zc_lazy_free(&both);
+    zc_files_free(&files);
+}
+
+/* As many files as can be open. */
+static void lazies_at_most(void) {
+    char paths[65][24];
+    zc_files files = ZC_FILES_NONE;
+    zc_lazy a = ZC_LAZY_EMPTY;
+    for (int i = 0; i < 65; i++) {
+        strcpy(paths[i], "/tmp/zomtsje_XXXXXX");
+        write_file(paths[i], 1, "");
+        if (i < 64) open_lazily(&files, paths[i], &a);
+    }
+    EXPECT(zc_lazy_from_path(&files, paths[64], &a) == ZC_TOO_MANY_FILES);
+    EXPECT_LAZY(&files, &a, 0, "0123456789");
+    for (int i = 0; i < 65; i++) EXPECT(unlink(paths[i]) == 0);
+    zc_lazy_free(&a);
+    zc_files_free(&files);
+}
+
+static void put_lazily(void) {
+    char path[] = "/tmp/zomtsje_XXXXXX";
+    zc_files files = ZC_FILES_NONE;
+    zc_lazy a = ZC_LAZY_EMPTY, word = ZC_LAZY_EMPTY, both = ZC_LAZY_EMPTY;
+    zc_cord read = ZC_EMPTY;
+    FILE *file = tmpfile();
+    if (file == NULL && may_want) file = tmpfile();
+    EXPECT(file != NULL);
+    write_file(path, 10000, "");
+    open_lazily(&files, path, &a);
+    lazy_of("!", &word);
+    DO(zc_lazy_cat(&a, &word, &both));
+    EXPECT(zc_lazy_put(&files, &both, fileno(file)) == ZC_OK);
+    read_all(fileno(file), &read);
+    EXPECT(zc_len(&read) == 100001 && zc_count(&read, '7') == 10000 && zc_chr(&read, 0, '!') == 100000);
+    if (!may_want) EXPECT(zc_lazy_put(&files, &both, -1) == ZC_WRITE_FAILED);
+    EXPECT(fclose(file) == 0 && unlink(path) == 0);
+    zc_free(&read);
+    zc_lazy_free(&a);
+    zc_lazy_free(&word);
+    zc_lazy_free(&both);
+    zc_files_free(&files);
+}
+
+static void nulls_of_lazies(void) {
+    zc_lazy *volatile none = NULL;
+    zc_cord *volatile no_cord = NULL;
+    uint64_t *volatile no_place = NULL, place = 7;
+    uint32_t *volatile no_file = NULL, file = 7;
+    size_t *volatile no_count = NULL, got = 7;
+    unsigned char byte = 7;
+    zc_cord plain = ZC_EMPTY;
+    zc_lazy a = ZC_LAZY_EMPTY, b = ZC_LAZY_EMPTY;
+    EXPECT(zc_lazy_of_file(0, 1, none) == ZC_BAD_ARGUMENT);
+    EXPECT(zc_lazy_from_cord(no_cord, &a) == ZC_BAD_ARGUMENT && zc_lazy_from_cord(&plain, none) == ZC_BAD_ARGUMENT);
+    EXPECT(zc_lazy_cat(none, &a, &b) == ZC_BAD_ARGUMENT && zc_lazy_cat(&a, none, &b) == ZC_BAD_ARGUMENT);
+    EXPECT(zc_lazy_cat(&a, &b, none) == ZC_BAD_ARGUMENT);
+    EXPECT(zc_lazy_substr(none, 0, 1, &a) == ZC_BAD_ARGUMENT && zc_lazy_substr(&a, 0, 1, none) == ZC_BAD_ARGUMENT);
+    EXPECT(zc_lazy_balance(none, &a) == ZC_BAD_ARGUMENT && zc_lazy_balance(&a, none) == ZC_BAD_ARGUMENT);
+    EXPECT(zc_lazy_share(none, &a) == ZC_BAD_ARGUMENT && zc_lazy_share(&a, none) == ZC_BAD_ARGUMENT);
+    EXPECT(zc_lazy_len(none) == 0 && zc_lazy_depth(none) == 0);
+    EXPECT(zc_lazy_part(none, 0, &byte, 1, &got, &file, &place) == ZC_BAD_ARGUMENT);
+    EXPECT(zc_lazy_part(&a, 0, &byte, 1, no_count, &file, &place) == ZC_BAD_ARGUMENT);
+    EXPECT(zc_lazy_part(&a, 0, &byte, 1, &got, no_file, &place) == ZC_BAD_ARGUMENT);
+    EXPECT(zc_lazy_part(&a, 0, &byte, 1, &got, &file, no_place) == ZC_BAD_ARGUMENT);
+    zc_lazy_free(none);
+    zc_files_free(NULL);
+    EXPECT(byte == 7 && place == 7 && got == 7 && file == 7);
+}
+
 static void messages(void) {
     EXPECT(strcmp(zc_message(ZC_OK), "done") == 0);
     EXPECT(strcmp(zc_message(ZC_TOO_LONG), "too long") == 0);
@@ -755,6 +1016,8 @@ static void messages(void) {
     EXPECT(strcmp(zc_message(ZC_READ_FAILED), "read failed") == 0);
     EXPECT(strcmp(zc_message(ZC_WRITE_FAILED), "write failed") == 0);
     EXPECT(strcmp(zc_message(ZC_BAD_ARGUMENT), "bad argument") == 0);
+    EXPECT(strcmp(zc_message(ZC_IN_FILE), "in a file") == 0);
+    EXPECT(strcmp(zc_message(ZC_TOO_MANY_FILES), "too many files") == 0);
     EXPECT(strcmp(zc_message(-1), "unknown code") == 0);
 }
 
@@ -782,6 +1045,14 @@ int main(int count, char **words) {
     formats_refused();
     nulls();
     nulls_of_the_rest();
+    lazies();
+    lazies_balanced();
+    lazies_refused();
+    lazies_by_length();
+    lazies_are_long();
+    lazies_at_most();
+    put_lazily();
+    nulls_of_lazies();
     messages();
     if (!may_want) trees();
     printf("%lu rows, %lu refused\n", rows, wants);

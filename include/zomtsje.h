@@ -35,6 +35,8 @@
 #ifndef _WIN32
 #include <errno.h>
 #include <fcntl.h>
+#include <string.h>
+#include <sys/stat.h>
 #include <unistd.h>
 #endif
 
@@ -62,7 +64,9 @@ enum {
     ZC_NO_MEMORY = 2,    /* memory was refused */
     ZC_READ_FAILED = 3,  /* read failed */
     ZC_WRITE_FAILED = 4, /* write failed */
-    ZC_BAD_ARGUMENT = 5  /* a null pointer, or a place that isn't there */
+    ZC_BAD_ARGUMENT = 5, /* a null pointer, or a place that isn't there */
+    ZC_IN_FILE = 6,       /* the bytes lie in a file */
+    ZC_TOO_MANY_FILES = 7 /* 64 files are open */
 };
 
 /* A code in words. */
@@ -74,6 +78,8 @@ static inline const char *zc_message(int code) {
     case ZC_READ_FAILED: return "read failed";
     case ZC_WRITE_FAILED: return "write failed";
     case ZC_BAD_ARGUMENT: return "bad argument";
+    case ZC_IN_FILE: return "in a file";
+    case ZC_TOO_MANY_FILES: return "too many files";
     default: return "unknown code";
     }
 }
@@ -286,10 +292,65 @@ typedef struct zc_arg {
    O(format_count + count), and O(d) for each cord. */
 int zc_sprintf(const void *format, size_t format_count, zc_arg *args, size_t count, zc_cord *out);
 
+/* ---- cords over files ---- */
+
+/* A zc_lazy is a handle as zc_cord is one, of a cord whose parts may lie in files. No call of the library reads a file:
+   zc_lazy_part tells what lies where, and the calls below, for POSIX, read it. Begin with ZC_LAZY_EMPTY or zeros, and end
+   with zc_lazy_free. */
+typedef struct zc_lazy {
+    void *tree; /* for the library alone; null for no bytes */
+} zc_lazy;
+
+#define ZC_LAZY_EMPTY {0}
+
+/* The first length bytes of a file, for which the caller has this number. ZC_TOO_LONG, ZC_NO_MEMORY. O(1). */
+int zc_lazy_of_file(uint32_t file, uint64_t length, zc_lazy *out);
+
+/* The bytes of x, whose tree is shared. ZC_NO_MEMORY. O(1). */
+int zc_lazy_from_cord(zc_cord *x, zc_lazy *out);
+
+/* The bytes of x and then those of y. ZC_TOO_LONG, ZC_NO_MEMORY. As zc_cat. */
+int zc_lazy_cat(zc_lazy *x, zc_lazy *y, zc_lazy *out);
+
+/* The bytes of x from start on, at most count of them: none where start is at or past the end. ZC_NO_MEMORY. O(d). */
+int zc_lazy_substr(zc_lazy *x, uint64_t start, uint64_t count, zc_lazy *out);
+
+/* The bytes of x in a tree that isn't deep, as zc_balance. ZC_NO_MEMORY. */
+int zc_lazy_balance(zc_lazy *x, zc_lazy *out);
+
+/* The same cord once more. ZC_NO_MEMORY. O(1). */
+int zc_lazy_share(zc_lazy *x, zc_lazy *out);
+
+/* The number of bytes; 0 of null. O(1). */
+uint64_t zc_lazy_len(zc_lazy *x);
+
+/* The depth of the tree: 0 for one part and for no bytes, and of null. O(1). */
+uint32_t zc_lazy_depth(zc_lazy *x);
+
+/* The part of x at start, of at most count bytes: writes how many to *got, 0 at or past the end, and the bytes to bytes.
+   ZC_IN_FILE where they are those of a file: then its number goes to *file and their place in it to *place, and bytes
+   stays. It takes no memory. O(count + d). */
+int zc_lazy_part(zc_lazy *x, uint64_t start, void *bytes, size_t count, size_t *got, uint32_t *file, uint64_t *place);
+
+/* Frees what x owns; x is then ZC_LAZY_EMPTY, and may be used or freed again. Null is fine. */
+void zc_lazy_free(zc_lazy *x);
+
 /* ---- files, by the descriptors of POSIX ---- */
 
-/* These three are in C here, over the calls above: no proof speaks of them. */
+/* These are in C here, over the calls above: no proof speaks of them. */
 #ifndef _WIN32
+
+/* Writes so many bytes to the descriptor fd. ZC_WRITE_FAILED: then a prefix of them is written. */
+static inline int zc_write(const unsigned char *bytes, size_t count, int fd) {
+    size_t done = 0;
+    while (done < count) {
+        ssize_t more = write(fd, bytes + done, count - done);
+        if (more < 0 && errno == EINTR) continue;
+        if (more <= 0) return ZC_WRITE_FAILED;
+        done += (size_t)more;
+    }
+    return ZC_OK;
+}
 
 /* Writes all bytes of x to the descriptor fd. ZC_WRITE_FAILED: then a prefix of them is written. It takes no memory.
    O(n), and O(d) for each 16,384 bytes. */
@@ -298,15 +359,10 @@ static inline int zc_put(zc_cord *x, int fd) {
     size_t got = 0;
     uint64_t start;
     for (start = 0;; start += got) {
-        size_t done = 0;
         int code = zc_read(x, start, bytes, sizeof bytes, &got);
         if (code != ZC_OK || got == 0) return code;
-        while (done < got) {
-            ssize_t count = write(fd, bytes + done, got - done);
-            if (count < 0 && errno == EINTR) continue;
-            if (count <= 0) return ZC_WRITE_FAILED;
-            done += (size_t)count;
-        }
+        code = zc_write(bytes, got, fd);
+        if (code != ZC_OK) return code;
     }
 }
 
@@ -338,6 +394,152 @@ static inline int zc_from_path(const char *path, zc_cord *out) {
     code = zc_from_fd(fd, out);
     close(fd);
     return code;
+}
+
+/* The files that lazy cords have parts in, at most 64. They have to keep their bytes while they are open: save to another
+   path, and rename. Begin with ZC_FILES_NONE or zeros, end with zc_files_free. A lazy cord is read over the zc_files that
+   its files were opened with; over others it has bytes of theirs, or ZC_READ_FAILED. */
+typedef struct zc_files {
+    int fds[64];
+    uint32_t count;
+} zc_files;
+
+#define ZC_FILES_NONE {{0}, 0}
+
+/* What zc_lazy_by_length takes for a short file, in bytes. */
+#define ZC_SHORT_FILE 131072
+
+/* The bytes of the file at path, a string that ends with 0, of which nothing is read now; it stays open. ZC_READ_FAILED
+   where it can't be opened or isn't a file, ZC_TOO_MANY_FILES; ZC_TOO_LONG, ZC_NO_MEMORY. O(1). */
+static inline int zc_lazy_from_path(zc_files *files, const char *path, zc_lazy *out) {
+    struct stat told;
+    int fd, code = ZC_READ_FAILED;
+    if (files == NULL || path == NULL || out == NULL) return ZC_BAD_ARGUMENT;
+    if (files->count == 64) return ZC_TOO_MANY_FILES;
+    do fd = open(path, O_RDONLY);
+    while (fd < 0 && errno == EINTR);
+    if (fd < 0) return ZC_READ_FAILED;
+    if (fstat(fd, &told) == 0 && S_ISREG(told.st_mode))
+        code = zc_lazy_of_file(files->count, (uint64_t)told.st_size, out);
+    if (code == ZC_OK)
+        files->fds[files->count++] = fd;
+    else
+        close(fd);
+    return code;
+}
+
+/* Copies bytes of x from start on to bytes, as many as there are and at most count, and writes their number to *got:
+   0 at or past the end. ZC_READ_FAILED: then *got stays, and what bytes has is open. O(count), and O(d) for each part. */
+static inline int zc_lazy_read(zc_files *files, zc_lazy *x, uint64_t start, void *bytes, size_t count, size_t *got) {
+    unsigned char *to = (unsigned char *)bytes;
+    size_t done = 0, part = 0;
+    if (files == NULL || x == NULL || got == NULL) return ZC_BAD_ARGUMENT;
+    while (done < count) {
+        uint32_t file = 0;
+        uint64_t place = 0;
+        if (zc_lazy_part(x, start + done, to + done, count - done, &part, &file, &place) == ZC_IN_FILE) {
+            ssize_t more = -1;
+            errno = 0;
+            if (file < files->count && lseek(files->fds[file], (off_t)place, SEEK_SET) == (off_t)place)
+                more = read(files->fds[file], to + done, part);
+            if (more < 0 && errno == EINTR) continue;
+            if (more <= 0) return ZC_READ_FAILED;
+            part = (size_t)more;
+        }
+        if (part == 0) break;
+        done += part;
+    }
+    *got = done;
+    return ZC_OK;
+}
+
+/* Writes all bytes of x to the descriptor fd. ZC_READ_FAILED, ZC_WRITE_FAILED: then a prefix of them is written. */
+static inline int zc_lazy_put(zc_files *files, zc_lazy *x, int fd) {
+    unsigned char bytes[16384];
+    size_t got = 0;
+    uint64_t start;
+    for (start = 0;; start += got) {
+        int code = zc_lazy_read(files, x, start, bytes, sizeof bytes, &got);
+        if (code == ZC_OK && got > 0) code = zc_write(bytes, got, fd);
+        if (code != ZC_OK || got == 0) return code;
+    }
+}
+
+/* Writes the first place of x from start on that has the byte to *place, or ZC_NOT_FOUND. ZC_READ_FAILED: *place stays.
+   O(n). */
+static inline int zc_lazy_chr(zc_files *files, zc_lazy *x, uint64_t start, unsigned char byte, uint64_t *place) {
+    unsigned char bytes[16384], *found = NULL;
+    size_t got = 0;
+    if (place == NULL) return ZC_BAD_ARGUMENT;
+    for (; found == NULL; start += got) {
+        int code = zc_lazy_read(files, x, start, bytes, sizeof bytes, &got);
+        if (code != ZC_OK) return code;
+        if (got == 0) break;
+        found = (unsigned char *)memchr(bytes, byte, got);
+        if (found != NULL) got = (size_t)(found - bytes);
+    }
+    *place = found == NULL ? ZC_NOT_FOUND : start;
+    return ZC_OK;
+}
+
+/* The bytes of x as a cord in memory. ZC_READ_FAILED, ZC_NO_MEMORY. O(n). */
+static inline int zc_lazy_to_cord(zc_files *files, zc_lazy *x, zc_cord *out) {
+    unsigned char bytes[16384];
+    zc_ext all = ZC_EXT_EMPTY;
+    size_t got = 0;
+    uint64_t start = 0;
+    int code;
+    do {
+        code = zc_lazy_read(files, x, start, bytes, sizeof bytes, &got);
+        if (code == ZC_OK) code = zc_ext_bytes(&all, bytes, got);
+        start += got;
+    } while (code == ZC_OK && got > 0);
+    if (code == ZC_OK) code = zc_ext_to_cord(&all, out);
+    zc_ext_free(&all);
+    return code;
+}
+
+/* The file at path as zc_lazy_from_path opens it, but its bytes are in memory where it has at most ZC_SHORT_FILE of them.
+   As zc_lazy_from_path; O(n) of a short file. */
+static inline int zc_lazy_by_length(zc_files *files, const char *path, zc_lazy *out) {
+    zc_lazy file = ZC_LAZY_EMPTY;
+    zc_cord whole = ZC_EMPTY;
+    int code = out == NULL ? ZC_BAD_ARGUMENT : zc_lazy_from_path(files, path, &file);
+    if (code == ZC_OK && zc_lazy_len(&file) > ZC_SHORT_FILE) {
+        code = zc_lazy_share(&file, out);
+    } else if (code == ZC_OK) {
+        code = zc_lazy_to_cord(files, &file, &whole);
+        if (code == ZC_OK) code = zc_lazy_from_cord(&whole, out);
+    }
+    zc_free(&whole);
+    zc_lazy_free(&file);
+    return code;
+}
+
+/* Writes the first place of x from start on where these bytes, at least one, stand to *place, or ZC_NOT_FOUND.
+   ZC_READ_FAILED, ZC_NO_MEMORY: *place stays. O(n) for most texts; it copies 65,536 bytes at a time. */
+static inline int zc_lazy_find(zc_files *files, zc_lazy *x, uint64_t start, const void *bytes, size_t count,
+                               uint64_t *place) {
+    zc_lazy window = ZC_LAZY_EMPTY;
+    zc_cord copy = ZC_EMPTY;
+    uint64_t found = ZC_NOT_FOUND, left = 65536 + (uint64_t)count;
+    int code = place == NULL || count == 0 ? ZC_BAD_ARGUMENT : ZC_OK;
+    while (code == ZC_OK && found == ZC_NOT_FOUND && left == 65536 + (uint64_t)count) {
+        code = zc_lazy_substr(x, start, left, &window);
+        if (code == ZC_OK) code = zc_lazy_to_cord(files, &window, &copy);
+        if (code == ZC_OK) code = zc_find(&copy, 0, bytes, count, &found);
+        left = zc_len(&copy);
+        if (found == ZC_NOT_FOUND) start += 65536;
+    }
+    if (code == ZC_OK) *place = found == ZC_NOT_FOUND ? found : start + found;
+    zc_free(&copy);
+    zc_lazy_free(&window);
+    return code;
+}
+
+/* Closes the files; none is open then. Null is fine. */
+static inline void zc_files_free(zc_files *files) {
+    while (files != NULL && files->count > 0) close(files->fds[--files->count]);
 }
 
 #endif

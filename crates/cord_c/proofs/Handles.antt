@@ -1,72 +1,42 @@
--- The rows and machine values of handles, as the walks meet them.
+-- The machine values of handles, as the walks meet them.
 use Rattle.std.proofs.Common.{◌≡◌, ℕ, List, [], ◌∷◌, refl, Global}
 use lib.Dec.{T as Yes}
 use mir.Raw.{raw as bare}
-use mir.Val.{Val, vunit, vstruct, vcons, vnil, has_ty, WT}
+use mir.Val.{Val, vstruct, vcons, vnil, has_ty, WT}
 use seplogic.Ra.Ura.{Ura}
-use base.Fraction.{full_share}
-use base.Logic.{ent, via, fst∗, snd∗, never, never_e, guard, guard_i, id⊢}
-use contract.Monad.{fact_use}
+use base.Logic.{ent, via, fst∗, never, never_e, guard, id⊢}
 use types.Logic.{Logic, sem}
-use types.Kit.{Item, Goal, Seq, Step, step, ‵, ◌$◌, move, drop, fsplit, fjoin}
+use types.Kit.{Item, Goal, Seq, Step, step, ‵, ◌$◌, drop, fsplit, fjoin}
 use denote.Laws.{Is, shows}
 use denote.Memory.{lone}
 use denote.RattleType.{RattleType}
-use denote.RawPtr.{Ptr, block_ptr, null_ptr, ptr_val, lies_at, Testable}
+use denote.RawPtr.{Ptr, block_ptr, null_ptr, ptr_val, Testable}
 use denote.Shadow.{pure_i, Pure}
 use denote.Steps.{peeks}
 use denote.Struct.Laws.{RawPtr-plain, lawfuls}
-use denote.Struct.Owning.{Owning, shape, to}
-use denote.Struct.OwningLaws.{Laws as OwningLaws}
+use denote.Struct.Owning.{shape, to}
 use denote.Struct.Struct.{Struct, Struct-Pure, Struct-Lawful, layout}
-use Rattle.std.proofs.GlobalToken.{dealloc_token-Testable}
 use Rattle.std.proofs.alloc.Global.TheLaws as heap_laws
 use Rattle.std.specs.Box.Ownership.{box_owns}
-use Rattle.std.specs.contracts.alloc.Global as heap
-use Rattle.std.specs.contracts.impls.GlobalAllocator.TheImpl.{ghosts}
 use Rattle.cord.proofs.text.Text.TheLaws as text_laws
 use Rattle.cord.specs.contracts.text.Text as text
-use Rattle.cord_c.proofs.Values.{owner_in}
-use Rattle.cord_c.specs.Handles.{the_heap, frees, handle_owns}
+use Rattle.cord_c.proofs.Held as heap
+use Rattle.cord_c.proofs.Held.{heap_val, heap_is}
+use Rattle.cord_c.specs.Handles.{frees, handle_owns}
 use Rattle.cord_c.specs.contracts.handle.Handle as handle
-use Rattle.cord_raw.specs.contracts.raw.Raw as owner
 use Rattle.cord_raw.specs.declared.raw.Raw.{Raw}
-use Rattle.cord_raw.proofs.raw.Raw.TheLaws as owner_laws
 use Rattle.cord_c.specs.declared.handle.Handle.{Handle}
 use Rattle.cord_c.proofs.handle.Handle.TheLaws as handle_laws
 
--- the allocator's handle is one value
-abbrev pub heap_val : Val
-heap_val = vstruct (vcons (vstruct (vcons vunit vnil)) vnil)
-
-pub heap_is : (a : Global) → Is heap.the_row a (heap_val ∷ [])
-heap_is a = ((vstruct (vcons vunit vnil) ∷ [], tt), (refl, (((vunit ∷ [], tt), (refl, (refl, tt))), tt)))
-
--- and owns nothing
-pub heap_plain : (a : Global) (vs : List Val) → Pure (heap.the_row.own_val a vs)
-heap_plain a vs = heap_laws.the_field_plain (heap.the_type.to a) vs
-
-pub heap_typed : Yes (has_ty (lone heap.the_row.mir) heap_val) × WT heap_val
-heap_typed = (tt, ((tt, tt), tt))
-
--- a text on the heap by its pointer
+-- a text, on the heap by its pointer
 abbrev pub RawText : RattleType
-RawText = owner.the_row text.the_row heap.the_row ghosts
+RawText = heap.RawOf text.the_row text_laws.the_row_laws
 
 abbrev pub owner_val : Raw (List ℕ) Global → Val
-owner_val r = vstruct (vcons (ptr_val r.at) (vcons heap_val vnil))
-
-abbrev owner_type : Owning
-owner_type = owner.the_type text.the_row heap.the_row ghosts
-
-abbrev owner_owning : OwningLaws owner_type
-owner_owning = owner_laws.the_laws text.the_row heap.the_row ghosts text_laws.the_row_laws heap_laws.the_row_laws heap_laws.the_told
-
-owner_are : (r : Raw (List ℕ) Global) → Is (Struct (shape owner_type)) (to owner_type r) (owner_val r ∷ [])
-owner_are r = ((ptr_val r.at ∷ [], (heap_val ∷ [], tt)), (refl, (refl, (heap_is r.alloc, tt))))
+owner_val r = heap.raw_val text.the_row text_laws.the_row_laws r
 
 pub owner_tells : (r : Raw (List ℕ) Global) (vs : List Val) → Is RawText r vs → vs ≡ owner_val r ∷ []
-owner_tells = (owner_laws.lowers text.the_row heap.the_row ghosts text_laws.the_row_laws heap_laws.the_row_laws heap_laws.the_told).val_is
+owner_tells = heap.raw_tells text.the_row text_laws.the_row_laws
 
 -- the two fields of a handle alone
 abbrev pub Fields : RattleType
@@ -86,8 +56,11 @@ fields_pure h vs = Struct-Pure (shape handle.the_type) (RawPtr-plain, (heap_laws
 
 module _ {M : Type 1} {𝓤 : Ura M} (𝓛 : Logic 𝓤) where
   pub owner_typed : (r : Raw (List ℕ) Global) → Yes (has_ty (lone RawText.mir) (owner_val r)) × WT (owner_val r)
-  owner_typed r = ((Struct-Lawful 𝓛 (shape owner_type) (lawfuls 𝓛 owner_type.parts owner_owning)).typed (to owner_type r)
-      (owner_val r ∷ []) (owner_are r)).0
+  owner_typed = heap.raw_typed text.the_row text_laws.the_row_laws 𝓛
+
+  pub tested : (p : Ptr) (c : List ℕ) → ent 𝓤 (sem 𝓛 (box_owns frees text.the_row p c))
+      (guard 𝓤 (Testable p) (sem 𝓛 (box_owns frees text.the_row p c)))
+  tested = heap.tested text.the_row text_laws.the_row_laws 𝓛
 
   pub handle_typed : (h : Handle) → Yes (has_ty (layout (shape handle.the_type)) (handle_val h)) × WT (handle_val h)
   handle_typed h = ((Struct-Lawful 𝓛 (shape handle.the_type) (lawfuls 𝓛 handle.struct.parts handle_laws.the_laws)).typed (fields_of h)
@@ -99,31 +72,21 @@ module _ {M : Type 1} {𝓤 : Ura M} (𝓛 : Logic 𝓤) where
   held null_ptr c = via 𝓤 (never 𝓤) (fst∗ 𝓤 (never 𝓤) (sem 𝓛 (frees (bare (lone text.the_row.mir)) null_ptr)))
       (never_e 𝓤 (sem 𝓛 (handle_owns null_ptr c)))
 
-  -- and lies where a pointer may be compared with null
-  pub tested : (p : Ptr) (c : List ℕ) → ent 𝓤 (sem 𝓛 (box_owns frees text.the_row p c))
-      (guard 𝓤 (Testable p) (sem 𝓛 (box_owns frees text.the_row p c)))
-  tested p c = fact_use 𝓤 (Testable p) (via 𝓤 (sem 𝓛 (frees (bare (lone text.the_row.mir)) p))
-      (snd∗ 𝓤 (sem 𝓛 (lies_at text.the_row full_share p c)) (sem 𝓛 (frees (bare (lone text.the_row.mir)) p)))
-      (dealloc_token-Testable 𝓛 the_heap (bare (lone text.the_row.mir)) p))
-      (guard_i 𝓤 (Testable p) (sem 𝓛 (box_owns frees text.the_row p c)))
-
 module _ {M : Type 1} {𝓤 : Ura M} {𝓛 : Logic 𝓤} {X : Type 0} {Γ : List (Item 𝓤)} {G : Goal 𝓤 𝓛.H} where
   -- a handle is made of what it owns
   pub packs : X → (h : Handle) → Step X 𝓛 (‵ (handle.the_row.own_val h (handle_val h ∷ [])) ∷ Γ) G (‵ (handle_owns h.at h.text) ∷ Γ) G
   packs t h = step (λ s. pure_i t (Fields.own_val (fields_of h) (handle_val h ∷ [])) (fields_pure h (handle_val h ∷ []))
       (fields_are h) $ fjoin t $ s)
 
-  -- a text on the heap is made of it
-  pub packs_raw : X → (b o : ℕ) (a : Global) (c : List ℕ)
-      → Step X 𝓛 (‵ (RawText.own_val (record { at = block_ptr b o; alloc = a; value = c })
-      (owner_val (record { at = block_ptr b o; alloc = a; value = c }) ∷ [])) ∷ Γ) G
-      (‵ (box_owns frees text.the_row (block_ptr b o) c) ∷ Γ) G
-  packs_raw t b o a c = step (λ s. pure_i t (heap.the_row.own_val a (heap_val ∷ [])) (heap_plain a (heap_val ∷ [])) (heap_is a) $ move t
-      (1 ∷ 0 ∷ []) $
-      owner_in text.the_row heap.the_row ghosts t b o heap_val a c $ s)
-
   -- and taken apart to it
   pub unpacks : X → (h : Handle) (vs : List Val) → (vs ≡ handle_val h ∷ [] → Seq X 𝓛 (‵ (handle_owns h.at h.text) ∷ Γ) G) →
       Seq X 𝓛 (‵ (handle.the_row.own_val h vs) ∷ Γ) G
   unpacks t h vs rest = peeks t handle.the_row (Is handle.the_row) (shows 𝓛 handle.the_row) h vs
       (λ is. fsplit t $ drop t $ rest (handle_laws.lowers.val_is h vs is))
+
+  -- the owner of a text on the heap is made of it
+  pub packs_raw : X → (b o : ℕ) (a : Global) (c : List ℕ)
+      → Step X 𝓛 (‵ (RawText.own_val (record { at = block_ptr b o; alloc = a; value = c })
+      (owner_val (record { at = block_ptr b o; alloc = a; value = c }) ∷ [])) ∷ Γ) G
+      (‵ (box_owns frees text.the_row (block_ptr b o) c) ∷ Γ) G
+  packs_raw = heap.packs_raw text.the_row text_laws.the_row_laws

@@ -16,6 +16,9 @@ pub const NO_MEMORY: i32 = 2;
 /// A pointer was null, or there is no such place.
 pub const BAD_ARGUMENT: i32 = 5;
 
+/// The bytes lie in a file.
+pub const IN_FILE: i32 = 6;
+
 /// The place that a search gives where it found none.
 pub const NOT_FOUND: u64 = u64::MAX;
 

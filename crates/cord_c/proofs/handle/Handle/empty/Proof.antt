@@ -16,7 +16,8 @@ use Rattle.std.proofs.raw_atomic.Walks.{proved}
 use Rattle.std.specs.contracts.alloc.Global as heap
 use Rattle.std.proofs.alloc.Global.TheLaws as heap_laws
 use Rattle.cord_c.specs.declared.handle.Handle.{Handle}
-use Rattle.cord_c.proofs.Handles.{heap_val, heap_typed, handle_val, handle_typed, packs}
+use Rattle.cord_c.proofs.Held.{heap_val, heap_typed}
+use Rattle.cord_c.proofs.Handles.{handle_val, handle_typed, packs}
 use Rattle.cord_c.specs.contracts.handle.Handle.empty as f
 use Rattle.cord_c.proofs.handle.Handle.empty.Statement.{statement}
 use Rattle.cord_c.proofs.handle.Handle.empty.Code as code

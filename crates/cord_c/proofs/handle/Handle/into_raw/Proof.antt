@@ -33,7 +33,8 @@ use Rattle.cord_c.specs.contracts.handle.Handle as handle
 use Rattle.cord_c.specs.declared.handle.Handle.{Handle}
 use Rattle.cord_raw.specs.declared.raw.Raw.{Raw}
 use Rattle.cord_c.proofs.handle.Handle.TheLaws as handle_laws
-use Rattle.cord_c.proofs.Handles.{RawText, owner_val, owner_typed, heap_val, heap_typed, handle_val, handle_typed, unpacks, packs_raw}
+use Rattle.cord_c.proofs.Held.{heap_val, heap_typed}
+use Rattle.cord_c.proofs.Handles.{RawText, owner_val, owner_typed, handle_val, handle_typed, unpacks, packs_raw}
 use Rattle.cord_c.specs.contracts.handle.Handle.into_raw as f
 use Rattle.cord_c.proofs.handle.Handle.into_raw.Statement.{statement}
 use Rattle.cord_c.proofs.handle.Handle.into_raw.Code as code

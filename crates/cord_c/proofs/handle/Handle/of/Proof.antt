@@ -18,7 +18,8 @@ use Rattle.std.specs.Box.Ownership.{box_owns}
 use Rattle.cord.specs.contracts.text.Text as text
 use Rattle.cord_c.specs.Handles.{frees, handle_owns}
 use Rattle.cord_c.specs.declared.handle.Handle.{Handle}
-use Rattle.cord_c.proofs.Handles.{RawText, owner_val, owner_tells, owner_typed, heap_typed, handle_val, handle_typed, packs, held, tested}
+use Rattle.cord_c.proofs.Held.{heap_typed}
+use Rattle.cord_c.proofs.Handles.{RawText, owner_val, owner_tells, owner_typed, handle_val, handle_typed, packs, held, tested}
 use Rattle.cord_c.specs.contracts.handle.Handle.of as f
 use Rattle.cord_c.proofs.handle.Handle.of.Statement.{statement}
 use Rattle.cord_c.proofs.handle.Handle.of.Code as code

@@ -1,0 +1,44 @@
+-- `empty` makes the null pointer's handle.
+use Rattle.std.proofs.Common.{[], ◌∷◌, refl}
+use lib.Dec.{lit<}
+use base.Fml.{ftrue}
+use types.Kit.{‵, ◌⊛◌, ◌$◌, ◌∵◌, !, qed, done, keep, join, feq_i, suffices}
+use types.Run.{lit, no_more, and_then, returns, enter}
+use types.ByLocal.{alloc_all, pass_all, free_all, look_at, get, sets}
+use types.Part.{agg}
+use contract.Running.{tables}
+use denote.Exit.{yes}
+use denote.RawPtr.{null_ptr}
+use denote.Signature.{plain}
+use denote.Steps.{nothing}
+use denote.Triple.Walked.{Stays, stay_dropped, walk_of, ends_at, says, Goes-dropped}
+use Rattle.std.proofs.raw_atomic.Walks.{proved}
+use Rattle.std.specs.contracts.alloc.Global as heap
+use Rattle.std.proofs.alloc.Global.TheLaws as heap_laws
+use Rattle.cord_c.specs.declared.slot.Slot.{Slot}
+use Rattle.cord_c.specs.declared.slot.Kept.{Kept}
+use Rattle.cord_c.specs.declared.slot.Kept.TheVariants.{Nothing}
+use Rattle.cord_c.proofs.Held.{heap_val, heap_typed}
+use Rattle.cord_c.proofs.Slots.{slot_val, slot_typed, packs}
+use Rattle.cord_c.specs.contracts.slot.Slot.empty as f
+use Rattle.cord_c.proofs.slot.Slot.empty.Statement.{statement}
+use Rattle.cord_c.proofs.slot.Slot.empty.Code as code
+
+abbrev stayed : Stays f.ended.signature.params f.ended.kept
+stayed = (stay_dropped (plain (λ _. heap.the_row)) yes, tt)
+
+pub empty_spec : {M : Type 1} → statement M
+empty_spec 𝓤 𝓛 𝓜 𝓡 wired =
+    let c = f.clauses 𝓛 𝓜.mem 𝓡.returns in let W = walk_of 𝓛 f.ended stayed c in let 𝓣 = tables 𝓤 𝓛.H 𝓜 𝓡 𝓡.env in
+    proved 𝓛 f.ended stayed c 𝓜 𝓡 (Goes-dropped 𝓛 0 (plain (λ _. heap.the_row)) yes (λ κs x w. refl), tt)
+    f.Key.name code.function (code.unfolded 𝓤 𝓛.H 𝓜 𝓡 wired)
+    (λ κs. ((λ h. heap_val ∷ []), tt)) (λ κs. (heap_laws.lowers.val_is, tt)) (λ κs qs bounds a g are.
+    let y : W.Ghost = ((κs, qs, bounds, a, (heap_val ∷ [], tt)), g) in
+    let made : Slot = record { at = null_ptr; alloc = a.0; kept = Nothing; testable = lit< tt } in
+    qed 𝓛 ((‵ ftrue ⊛ ‵ (heap.the_row.own_val a.0 (heap_val ∷ [])) ⊛ ‵ ftrue) ∷ ‵ ftrue ∷ []) ∵ keep ! [] $
+    enter ! _ _ _ _ _ $ alloc_all ! (λ l. pass_all ! refl (heap_typed, tt) $
+    sets ! (agg ! (and_then ! (lit ! tt) (and_then ! (get ! refl) (no_more !)))) refl (slot_typed 𝓛 made) $
+    feq_i ! Kept Nothing Nothing refl $ packs ! made $
+    returns ! (look_at ! 0 refl) $ free_all ! refl $
+    suffices ! _ (ends_at 𝓛 f.ended stayed c y (slot_val made) made (tt, tt) (tt, tt)) $ says ! refl $
+    nothing ! $ nothing ! $ join ! $ nothing ! $ done !))
