@@ -24,11 +24,13 @@ class Function:
 
 
 def exported(root):
-    """The names that the text of a crate's root makes public."""
-    names = set()
+    """The names that the text of a crate's root makes public, alone and with the module that has them."""
+    names = set(re.findall(r"^pub (?:fn|struct|enum|trait) (\w+)", root, re.M))
+    names |= {f"lib::{it}" for it in names}
     for path in re.findall(r"pub use ([^;]+);", root):
-        names |= {it.split("::")[-1].strip() for it in re.sub(r"^[^{]*\{|\}$", "", path).split(",")}
-    return names | set(re.findall(r"^pub (?:fn|struct|enum|trait) (\w+)", root, re.M))
+        own = {it.split("::")[-1].strip() for it in re.sub(r"^[^{]*\{|\}$", "", path).split(",")}
+        names |= own | {f"{path.split('::')[0].strip()}::{it}" for it in own}
+    return names
 
 
 def last_line(lines, begin, indent):
@@ -56,7 +58,8 @@ def functions_of(file, inside, names):
             continue
         end, has_body = last_line(lines, number, begun[1])
         name = f"{owner}::{begun['name']}" if begun[1] else begun['name']
-        is_named = (owner if begun[1] else begun['name']) in names
+        module = re.sub(r"\.rt$", "", inside.split("/")[1])
+        is_named = (owner if begun[1] else f"{module}::{begun['name']}") in names
         is_public = bool(begun["exported"]) or is_named and (begun[2] == "pub " or bool(begun[1]) and of_trait)
         body = "\n".join(lines[number : end + 1])
         is_law = not begun[1] and f"fn {name}()\n" in body and "\n    ensures" in body
