@@ -11,7 +11,7 @@ use crate::pointer::missing;
 use crate::{Chunks, Handle};
 use std::alloc::Global;
 
-/// Goes over the bytes of `x` from `start` on from now on. The first chunk is that of the next call of `zc_chunks_next`.
+/// Goes over the bytes of `x` from `start` on from now on. `zc_chunks_next` gives the first chunk.
 #[unsafe(no_mangle)]
 pub extern "C" fn zc_chunks_set(
     alloc: Global,
