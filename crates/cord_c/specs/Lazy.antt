@@ -6,4 +6,4 @@ use Rattle.cord_c.specs.declared.lazy.LazyHandle.{LazyHandle}
 
 -- the cord of a handle
 abbrev pub cord_of : LazyHandle → Option Node
-cord_of x = cord_by x.slot.kept
+cord_of x = cord_by x.handle.kept

@@ -8,4 +8,3 @@ pub mod Lazy
 pub mod Lists
 pub mod Positions
 pub mod Prints
-pub mod Slots

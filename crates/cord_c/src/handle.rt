@@ -1,33 +1,42 @@
 //! What a `zc_cord` of C is: a pointer to a text on the heap, or null for the text of no bytes.
-ghost use Rattle.std.specs.Prelude.{◌≡◌, ◌⊎◌, ℕ, List, [], take, drop, IfOk, IsOkUnless, MatchOption, slice_get};
+ghost use Rattle.std.specs.Prelude.{◌≡◌, ◌⊎◌, ℕ, List, take, drop, IfOk, IsOkUnless, MatchOption, slice_get};
 ghost use denote.RawPtr.{Testable};
 ghost use Rattle.cord_c.specs.Codes.{IsKeeping};
-ghost use Rattle.cord_c.specs.Handles.{handle_owns, lifted, IsLifted};
+ghost use Rattle.cord_c.specs.Handles.{handle_owns};
+ghost use Rattle.cord_c.specs.Kept.{kept_in, text_by};
+ghost use Rattle.cord_c.specs.contracts.kept.Kept as row;
+ghost use Rattle.cord_c.specs.declared.kept.Kept.{Kept};
 
 use crate::code::{NO_MEMORY, OK};
+use crate::kept::Kept;
+use crate::lifted::Lifted;
 use cord::{CordError, Text};
+use cord_core::Cord;
 use cord_raw::Raw;
 use std::alloc::Global;
 use std::marker::Model;
 use std::mem::replace;
 
-/// Owns the text at the pointer, where it isn't null. In C it is a struct of one pointer, which doesn't say to what.
+/// Owns what lies at the pointer, where it isn't null: a text, or a cord if it is a `LazyHandle`'s. In C it is a struct
+/// of one pointer, which doesn't say to what. Its `text` is that of the text, and has no bytes where there is none.
 #[repr(C)]
 pub struct Handle {
     at: *mut u8,
     alloc: Global,
+    pub ghost kept: { Kept } by { row.the_row.coded },
     pub ghost text: { List ℕ },
+    ghost told: { text ≡ text_by kept },
     ghost testable: { Testable at },
 }
 
 impl Model for Handle {
-    ghost also_owns = { λ h. handle_owns h.at h.text };
+    ghost also_owns = { λ h. handle_owns h.at h.kept };
 }
 
 impl Drop for Handle {
     fn drop(self) {
-        if let Some(text) = self.into_raw() {
-            drop(text.into_box());
+        if let Some(kept) = self.into_raw() {
+            drop(kept.into_box());
         }
     }
 }
@@ -35,7 +44,7 @@ impl Drop for Handle {
 impl Handle {
     /// The handle of the text of no bytes: null.
     pub(crate) fn empty(alloc: Global) -> Handle
-        ensures { result.text ≡ [] }
+        ensures { result.kept ≡ Kept.Nothing }
     {
         Handle {
             at: std::ptr::null_mut(),
@@ -43,53 +52,103 @@ impl Handle {
         }
     }
 
-    /// The handle of a text on the heap.
-    pub(crate) fn of(text: Raw<Text, Global>) -> Handle
-        ensures { result.text ≡ text.value }
+    /// The handle of what lies on the heap.
+    pub(crate) fn of(kept: Raw<Kept, Global>) -> Handle
+        ensures { result.kept ≡ kept.value }
     {
-        let Raw { at, alloc } = text;
+        let Raw { at, alloc } = kept;
         Handle {
             at: at as *mut u8,
             alloc,
         }
     }
 
-    /// The text on the heap, nothing where the pointer is null.
-    pub(crate) fn into_raw(self) -> Option<Raw<Text, Global>>
-        ensures { MatchOption result (self.text ≡ []) (λ l. l.value ≡ self.text) }
+    /// What lies on the heap, nothing where the pointer is null.
+    pub(crate) fn into_raw(self) -> Option<Raw<Kept, Global>>
+        ensures { MatchOption result (self.kept ≡ Kept.Nothing) (λ l. l.value ≡ self.kept) }
     {
         let Handle { at, alloc } = self;
         if at.is_null() {
             return None;
         }
         Some(Raw {
-            at: at as *mut Text,
+            at: at as *mut Kept,
             alloc,
         })
     }
 
-    /// Takes the text away, and leaves none of the bytes.
+    /// Takes away what it holds, and leaves nothing.
     pub(crate) fn lift(&mut self, alloc: Global) -> Lifted
-        ensures text { lifted result ≡ self.old.text }
-        ensures form { IsLifted result }
-        ensures left { self.new.text ≡ [] }
+        ensures kept { kept_in result.held ≡ self.old.kept }
+        ensures text { text_by (kept_in result.held) ≡ self.old.text }
+        ensures left { self.new.kept ≡ Kept.Nothing }
     {
-        match self.lift_box(alloc) {
-            None => Lifted::Nothing(Text::empty()),
-            Some(text) => Lifted::Held(text),
+        Lifted {
+            held: self.lift_box(alloc),
+            no_text: Text::empty(),
+            no_cord: Cord::empty(),
         }
     }
 
     // As `lift`: nothing where the pointer is null.
-    fn lift_box(&mut self, alloc: Global) -> Option<Box<Text, Global>>
-        ensures text { MatchOption result (self.old.text ≡ []) (λ b. b.value ≡ self.old.text) }
-        ensures left { self.new.text ≡ [] }
+    fn lift_box(&mut self, alloc: Global) -> Option<Box<Kept, Global>>
+        ensures kept { kept_in result ≡ self.old.kept }
+        ensures left { self.new.kept ≡ Kept.Nothing }
     {
         let held = replace(self, Handle::empty(alloc));
         match held.into_raw() {
             None => None,
-            Some(text) => Some(text.into_box()),
+            Some(kept) => Some(kept.into_box()),
         }
+    }
+
+    /// Holds what was lifted from now on.
+    pub(crate) fn lower(&mut self, alloc: Global, held: Lifted)
+        ensures kept { self.new.kept ≡ kept_in held.held }
+        ensures text { self.new.text ≡ text_by (kept_in held.held) }
+    {
+        let Lifted { held, .. } = held;
+        self.lower_box(alloc, held);
+    }
+
+    // As `lower`: nothing makes the pointer null.
+    fn lower_box(&mut self, alloc: Global, held: Option<Box<Kept, Global>>)
+        ensures { self.new.kept ≡ kept_in held }
+    {
+        match held {
+            None => *self = Handle::empty(alloc),
+            Some(kept) => *self = Handle::of(Raw::of(kept)),
+        }
+    }
+
+    /// Holds this from now on, and frees what it held, whose place on the heap it takes. Refused for want of memory
+    /// alone, where the pointer is null: then it stays.
+    pub(crate) fn keep(&mut self, alloc: Global, kept: Kept) -> i32
+        ensures held { result ≡ OK → self.new.kept ≡ kept }
+        ensures same { (result ≡ OK) ⊎ (self.new.kept ≡ self.old.kept) }
+        ensures code { IsKeeping result }
+    {
+        let held = match self.lift_box(alloc) {
+            Some(mut held) => {
+                *held = kept;
+                held
+            }
+            None => match Box::new(alloc, kept) {
+                Ok(held) => held,
+                Err(_) => return NO_MEMORY,
+            },
+        };
+        self.lower_box(alloc, Some(held));
+        OK
+    }
+
+    /// Holds this text from now on, as `keep`.
+    pub(crate) fn hold(&mut self, alloc: Global, text: Text) -> i32
+        ensures held { result ≡ OK → self.new.text ≡ text }
+        ensures kept { (result ≡ OK) ⊎ (self.new.text ≡ self.old.text) }
+        ensures code { IsKeeping result }
+    {
+        self.keep(alloc, Kept::Text(text))
     }
 
     /// At most `count` of its bytes from `start` on, as a text that shares its tree. Refused for want of memory alone.
@@ -136,17 +195,6 @@ impl Handle {
         found
     }
 
-    /// Holds a lifted text from now on.
-    pub(crate) fn lower(&mut self, alloc: Global, text: Lifted)
-        requires { IsLifted text }
-        ensures { self.new.text ≡ lifted text }
-    {
-        match text {
-            Lifted::Nothing(_) => *self = Handle::empty(alloc),
-            Lifted::Held(text) => *self = Handle::of(Raw::of(text)),
-        }
-    }
-
     /// The text once more, which shares its tree. Refused for want of memory alone.
     pub(crate) fn read(&mut self, alloc: Global) -> Result<Text, CordError>
         ensures text { IfOk result (λ t. t ≡ self.old.text) }
@@ -173,47 +221,5 @@ impl Handle {
         let own = self.read(alloc)?;
         let others = other.read(alloc)?;
         Ok((own, others))
-    }
-
-    /// Holds this text from now on, and frees the one that it held, whose place on the heap it takes. Refused for want
-    /// of memory alone, where the pointer is null: then it stays.
-    pub(crate) fn hold(&mut self, alloc: Global, text: Text) -> i32
-        ensures held { result ≡ OK → self.new.text ≡ text }
-        ensures kept { (result ≡ OK) ⊎ (self.new.text ≡ self.old.text) }
-        ensures code { IsKeeping result }
-    {
-        let held = match self.lift_box(alloc) {
-            Some(mut held) => {
-                *held = text;
-                held
-            }
-            None => match Box::new(alloc, text) {
-                Ok(held) => held,
-                Err(_) => return NO_MEMORY,
-            },
-        };
-        self.lower(alloc, Lifted::Held(held));
-        OK
-    }
-}
-
-/// A text that is out of its handle while a call uses it.
-#[derive(Drop)]
-pub(crate) enum Lifted {
-    /// That of a null pointer, which has no bytes.
-    Nothing(Text),
-    /// One on the heap.
-    Held(Box<Text, Global>),
-}
-
-impl Lifted {
-    /// The text.
-    pub(crate) fn text(&self) -> &Text
-        ensures { result.now ≡ lifted self.now }
-    {
-        match self {
-            Lifted::Nothing(empty) => empty,
-            Lifted::Held(text) => text.as_ref(),
-        }
     }
 }

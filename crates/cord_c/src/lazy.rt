@@ -1,13 +1,11 @@
 //! What a `zc_lazy` of C is: a cord that may have parts in files.
-ghost use Rattle.std.specs.Prelude.{◌≡◌, ◌⊎◌, None, IfOk, IsOkUnless};
-ghost use Rattle.cord_core.specs.Cord.{IsCord};
+ghost use Rattle.std.specs.Prelude.{◌≡◌, ◌⊎◌, IfOk, IsOkUnless};
 ghost use Rattle.cord_c.specs.Codes.{IsKeeping};
-ghost use Rattle.cord_c.specs.Kept.{cord_by};
 ghost use Rattle.cord_c.specs.Lazy.{cord_of};
-ghost use Rattle.cord_c.specs.Slots.{kept_in};
 
+use crate::Handle;
 use crate::code::OK;
-use crate::slot::{Kept, Slot};
+use crate::kept::Kept;
 use cord::CordError;
 use cord_core::Cord;
 use std::alloc::Global;
@@ -16,23 +14,7 @@ use std::alloc::Global;
 #[repr(C)]
 #[derive(Drop)]
 pub struct LazyHandle {
-    pub(crate) slot: Slot,
-}
-
-/// The cord that is lifted, or this one of no bytes.
-pub(crate) fn cord_in<'a>(held: &'a Option<Box<Kept, Global>>, none: &'a Cord) -> &'a Cord
-    requires { none.now ≡ None }
-    ensures cord { result.now ≡ cord_by (kept_in held.now) }
-    ensures sound { IsCord result.now }
-{
-    if let Some(kept) = held {
-        if let Kept::Cord(cord) = kept.as_ref() {
-            if cord.root().is_some() {
-                return cord;
-            }
-        }
-    }
-    none
+    pub(crate) handle: Handle,
 }
 
 impl LazyHandle {
@@ -42,9 +24,9 @@ impl LazyHandle {
         ensures same { cord_of self.new ≡ cord_of self.old }
         ensures refused { IsOkUnless result CordError.NoMemory }
     {
-        let held = self.slot.lift(alloc);
-        let shared = cord_in(&held, &Cord::empty()).share(alloc);
-        self.slot.lower(alloc, held);
+        let held = self.handle.lift(alloc);
+        let shared = held.cord().share(alloc);
+        self.handle.lower(alloc, held);
         shared
     }
 
@@ -71,6 +53,6 @@ impl LazyHandle {
         ensures kept { (result ≡ OK) ⊎ (cord_of self.new ≡ cord_of self.old) }
         ensures code { IsKeeping result }
     {
-        self.slot.hold(alloc, Kept::Cord(cord))
+        self.handle.keep(alloc, Kept::Cord(cord))
     }
 }

@@ -10,9 +10,7 @@ ghost use denote.RawPtr.{Testable};
 ghost use Rattle.core.specs.Ptr.{as_mut_ptr};
 
 use crate::code::{BAD_ARGUMENT, NO_MEMORY, OK, TOO_LONG, code_of};
-use crate::lazy::cord_in;
 use crate::pointer::missing;
-use crate::slot::Slot;
 use crate::{Handle, LazyHandle};
 use cord::{MAX_DEPTH, MAX_LEN};
 use cord_core::Cord;
@@ -29,9 +27,9 @@ pub extern "C" fn zc_lazy_len(alloc: Global, x: &mut LazyHandle) -> u64
     if missing(x) {
         return 0;
     }
-    let held = x.slot.lift(alloc);
-    let answer = cord_in(&held, &Cord::empty()).len();
-    x.slot.lower(alloc, held);
+    let held = x.handle.lift(alloc);
+    let answer = held.cord().len();
+    x.handle.lower(alloc, held);
     answer
 }
 
@@ -46,9 +44,9 @@ pub extern "C" fn zc_lazy_depth(alloc: Global, x: &mut LazyHandle) -> u32
     if missing(x) {
         return 0;
     }
-    let held = x.slot.lift(alloc);
-    let answer = cord_in(&held, &Cord::empty()).depth();
-    x.slot.lower(alloc, held);
+    let held = x.handle.lift(alloc);
+    let answer = held.cord().depth();
+    x.handle.lower(alloc, held);
     answer
 }
 
@@ -175,5 +173,5 @@ pub extern "C" fn zc_lazy_free(alloc: Global, x: &mut LazyHandle)
     if missing(x) {
         return;
     }
-    x.slot = Slot::empty(alloc);
+    x.handle = Handle::empty(alloc);
 }

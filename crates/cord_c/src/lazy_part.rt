@@ -10,7 +10,6 @@ ghost use Rattle.core.specs.Ptr.{as_mut_ptr};
 
 use crate::LazyHandle;
 use crate::code::{BAD_ARGUMENT, IN_FILE, NO_MEMORY, OK, TOO_LONG};
-use crate::lazy::cord_in;
 use crate::pointer::missing;
 use cord::MAX_LEN;
 use cord_core::Cord;
@@ -69,9 +68,8 @@ pub extern "C" fn zc_lazy_part(
     if missing(x) || missing(got) || missing(file) || missing(place) {
         return BAD_ARGUMENT;
     }
-    let held = x.slot.lift(alloc);
-    let none = Cord::empty();
-    let ahead = Position::set(cord_in(&held, &none), start).ahead();
+    let held = x.handle.lift(alloc);
+    let ahead = Position::set(held.cord(), start).ahead();
     let mut code = OK;
     *got = 0;
     if let Some(stretch) = ahead {
@@ -87,6 +85,6 @@ pub extern "C" fn zc_lazy_part(
             }
         }
     }
-    x.slot.lower(alloc, held);
+    x.handle.lower(alloc, held);
     code
 }

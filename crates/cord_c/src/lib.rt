@@ -10,16 +10,17 @@ mod edit;
 mod extend;
 mod extensible;
 mod handle;
+mod kept;
 mod lazy;
 mod lazy_make;
 mod lazy_part;
+mod lifted;
 mod list;
 mod make;
 mod pointer;
 mod position;
 mod print;
 mod scan;
-mod slot;
 mod walk;
 
 pub use argument::Argument;

@@ -11,7 +11,7 @@ returns-clause-chunk c =
     let text = c.text.result.now in
     let after = drop (chunks.next + count) c.lower.new.self.text in
     let room = length chunks.bytes in
-    let same : c.lower.new.self.text ≡ text = c.lower.ensures ∙ sym c.text.ensures in
+    let same : c.lower.new.self.text ≡ text = c.lower.ensures.text ∙ sym c.text.ensures in
     let old : text ≡ chunks.text.text = c.text.ensures ∙ c.lift-text.ensures.text in
     ap (λ (front : List ℕ). front ++ after) c.copy_from-count.ensures.bytes
     ∙ ap (λ (t : List ℕ). take room (drop chunks.next text) ++ drop (chunks.next + count) t) same
