@@ -867,6 +867,7 @@ static void lazies_refused(void) {
     zc_cord plain = ZC_EMPTY;
     unsigned char byte = 7;
     uint64_t place = 7;
+    int32_t order = 7;
     size_t got = 7;
     write_file(path, 3, "");
     write_file(other, 1, "");
@@ -880,6 +881,10 @@ static void lazies_refused(void) {
     EXPECT_LAZY(&others, &a, 5, "56789");
     EXPECT(zc_lazy_read(&others, &a, 10, &byte, 1, &got) == ZC_READ_FAILED && got == 7);
     EXPECT(zc_lazy_chr(&others, &a, 0, 'x', &place) == ZC_READ_FAILED && place == 7);
+    EXPECT(zc_lazy_rchr(&others, &a, 30, 'x', &place) == ZC_READ_FAILED && place == 7);
+    EXPECT(zc_lazy_fetch(&others, &a, 10, &byte) == ZC_READ_FAILED);
+    EXPECT(zc_lazy_cmp(&others, &a, &b, &order) == ZC_READ_FAILED && order == 7);
+    EXPECT(zc_lazy_cmp(&others, &b, &a, &order) == ZC_READ_FAILED && order == 7);
     EXPECT(zc_lazy_to_cord(&others, &a, &plain) == ZC_READ_FAILED || may_want);
     EXPECT(zc_len(&plain) == 0 && byte == 7);
     EXPECT(unlink(path) == 0 && unlink(other) == 0);
@@ -887,6 +892,95 @@ static void lazies_refused(void) {
     zc_lazy_free(&b);
     zc_files_free(&files);
     zc_files_free(&others);
+}
+
+static uint64_t lazy_last_place(zc_files *files, zc_lazy *x, uint64_t end, char byte) {
+    uint64_t place = 12345;
+    EXPECT(zc_lazy_rchr(files, x, end, (unsigned char)byte, &place) == ZC_OK);
+    return place;
+}
+
+static int32_t lazy_order(zc_files *files, zc_lazy *x, zc_lazy *y) {
+    int32_t order = 12345;
+    EXPECT(zc_lazy_cmp(files, x, y, &order) == ZC_OK);
+    return order;
+}
+
+/* A cord with the byte ? in front of its byte at a place. */
+static void mark_lazily(zc_lazy *x, uint64_t place, zc_lazy *out) {
+    zc_lazy front = ZC_LAZY_EMPTY, mark = ZC_LAZY_EMPTY, both = ZC_LAZY_EMPTY, back = ZC_LAZY_EMPTY;
+    DO(zc_lazy_substr(x, 0, place, &front));
+    DO(zc_lazy_substr(x, place, ZC_MAX_LEN, &back));
+    lazy_of("?", &mark);
+    DO(zc_lazy_cat(&front, &mark, &both));
+    DO(zc_lazy_cat(&both, &back, out));
+    zc_lazy_free(&front);
+    zc_lazy_free(&mark);
+    zc_lazy_free(&both);
+    zc_lazy_free(&back);
+}
+
+/* The last places and the bytes of a file, and of one with a byte at each side of the end of a block of 16,384. */
+static void lazies_from_the_end(void) {
+    char path[] = "/tmp/zomtsje_XXXXXX";
+    zc_files files = ZC_FILES_NONE;
+    zc_lazy a = ZC_LAZY_EMPTY, b = ZC_LAZY_EMPTY;
+    unsigned char byte = 7;
+    write_file(path, 5000, "!");
+    open_lazily(&files, path, &a);
+    EXPECT(lazy_last_place(&files, &a, UINT64_MAX, '!') == 50000 && lazy_last_place(&files, &a, 50001, '!') == 50000);
+    EXPECT(lazy_last_place(&files, &a, 50000, '!') == ZC_NOT_FOUND);
+    EXPECT(lazy_last_place(&files, &a, 50001, '0') == 49990 && lazy_last_place(&files, &a, 49990, '0') == 49980);
+    EXPECT(lazy_last_place(&files, &a, 7, '6') == 6 && lazy_last_place(&files, &a, 6, '6') == ZC_NOT_FOUND);
+    EXPECT(lazy_last_place(&files, &b, 1, '0') == ZC_NOT_FOUND);
+    mark_lazily(&a, 0, &b);
+    EXPECT(lazy_last_place(&files, &b, UINT64_MAX, '?') == 0);
+    mark_lazily(&a, 33617, &b);
+    EXPECT(zc_lazy_len(&b) == 50002 && lazy_last_place(&files, &b, 50002, '?') == 33617);
+    mark_lazily(&a, 33618, &b);
+    EXPECT(lazy_last_place(&files, &b, 50002, '?') == 33618);
+    EXPECT(zc_lazy_fetch(&files, &b, 33618, &byte) == ZC_OK && byte == '?');
+    EXPECT(zc_lazy_fetch(&files, &b, 33617, &byte) == ZC_OK && byte == '7');
+    EXPECT(zc_lazy_fetch(&files, &b, 33619, &byte) == ZC_OK && byte == '8');
+    EXPECT(zc_lazy_fetch(&files, &a, 50000, &byte) == ZC_OK && byte == '!');
+    EXPECT(zc_lazy_fetch(&files, &a, 50001, &byte) == ZC_BAD_ARGUMENT && byte == '!');
+    EXPECT(zc_lazy_fetch(&files, &a, UINT64_MAX, &byte) == ZC_BAD_ARGUMENT && byte == '!');
+    EXPECT(unlink(path) == 0);
+    zc_lazy_free(&a);
+    zc_lazy_free(&b);
+    zc_files_free(&files);
+}
+
+/* The orders of cords over a file. */
+static void lazies_in_order(void) {
+    char path[] = "/tmp/zomtsje_XXXXXX";
+    zc_files files = ZC_FILES_NONE;
+    zc_lazy a = ZC_LAZY_EMPTY, b = ZC_LAZY_EMPTY, c = ZC_LAZY_EMPTY, none = ZC_LAZY_EMPTY;
+    write_file(path, 5000, "!");
+    open_lazily(&files, path, &a);
+    EXPECT(lazy_order(&files, &none, &b) == 0);
+    EXPECT(lazy_order(&files, &none, &a) == -1 && lazy_order(&files, &a, &none) == 1);
+    DO(zc_lazy_share(&a, &b));
+    EXPECT(lazy_order(&files, &a, &b) == 0);
+    DO(zc_lazy_substr(&a, 0, 50000, &b));
+    EXPECT(lazy_order(&files, &a, &b) == 1 && lazy_order(&files, &b, &a) == -1);
+    DO(zc_lazy_substr(&a, 0, 8192, &b));
+    DO(zc_lazy_substr(&a, 0, 16384, &c));
+    EXPECT(lazy_order(&files, &b, &c) == -1 && lazy_order(&files, &c, &b) == 1);
+    mark_lazily(&a, 33617, &b);
+    mark_lazily(&a, 33618, &c);
+    EXPECT(lazy_order(&files, &b, &c) == 1 && lazy_order(&files, &c, &b) == -1);
+    mark_lazily(&a, 33617, &c);
+    EXPECT(lazy_order(&files, &b, &c) == 0);
+    lazy_of("\x80", &b);
+    lazy_of("a", &c);
+    EXPECT(lazy_order(&files, &b, &c) == 1 && lazy_order(&files, &c, &b) == -1);
+    EXPECT(unlink(path) == 0);
+    zc_lazy_free(&a);
+    zc_lazy_free(&b);
+    zc_lazy_free(&c);
+    zc_lazy_free(&none);
+    zc_files_free(&files);
 }
 
 /* Whether the byte at a place lies in a file. */
@@ -1021,6 +1115,28 @@ static void messages(void) {
     EXPECT(strcmp(zc_message(-1), "unknown code") == 0);
 }
 
+static void nulls_of_lazy_reads(void) {
+    zc_files *volatile no_files = NULL;
+    zc_lazy *volatile none = NULL;
+    uint64_t *volatile no_place = NULL, place = 7;
+    unsigned char *volatile no_byte = NULL, byte = 7;
+    int32_t *volatile no_order = NULL, order = 7;
+    zc_files files = ZC_FILES_NONE;
+    zc_lazy a = ZC_LAZY_EMPTY, b = ZC_LAZY_EMPTY;
+    EXPECT(zc_lazy_rchr(no_files, &a, 1, 'x', &place) == ZC_BAD_ARGUMENT);
+    EXPECT(zc_lazy_rchr(&files, none, 1, 'x', &place) == ZC_BAD_ARGUMENT);
+    EXPECT(zc_lazy_rchr(&files, &a, 1, 'x', no_place) == ZC_BAD_ARGUMENT);
+    EXPECT(zc_lazy_fetch(no_files, &a, 0, &byte) == ZC_BAD_ARGUMENT);
+    EXPECT(zc_lazy_fetch(&files, none, 0, &byte) == ZC_BAD_ARGUMENT);
+    EXPECT(zc_lazy_fetch(&files, &a, 0, no_byte) == ZC_BAD_ARGUMENT);
+    EXPECT(zc_lazy_fetch(&files, &a, 0, &byte) == ZC_BAD_ARGUMENT);
+    EXPECT(zc_lazy_cmp(no_files, &a, &b, &order) == ZC_BAD_ARGUMENT);
+    EXPECT(zc_lazy_cmp(&files, none, &b, &order) == ZC_BAD_ARGUMENT);
+    EXPECT(zc_lazy_cmp(&files, &a, none, &order) == ZC_BAD_ARGUMENT);
+    EXPECT(zc_lazy_cmp(&files, &a, &b, no_order) == ZC_BAD_ARGUMENT);
+    EXPECT(place == 7 && byte == 7 && order == 7);
+}
+
 int main(int count, char **words) {
     (void)words;
     may_want = count > 1;
@@ -1048,11 +1164,14 @@ int main(int count, char **words) {
     lazies();
     lazies_balanced();
     lazies_refused();
+    lazies_from_the_end();
+    lazies_in_order();
     lazies_by_length();
     lazies_are_long();
     lazies_at_most();
     put_lazily();
     nulls_of_lazies();
+    nulls_of_lazy_reads();
     messages();
     if (!may_want) trees();
     printf("%lu rows, %lu refused\n", rows, wants);

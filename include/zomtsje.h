@@ -482,6 +482,55 @@ static inline int zc_lazy_chr(zc_files *files, zc_lazy *x, uint64_t start, unsig
     return ZC_OK;
 }
 
+/* Writes the last place of x before end that has the byte to *place, or ZC_NOT_FOUND. ZC_READ_FAILED: *place stays.
+   O(n). */
+static inline int zc_lazy_rchr(zc_files *files, zc_lazy *x, uint64_t end, unsigned char byte, uint64_t *place) {
+    unsigned char bytes[16384];
+    uint64_t at = zc_lazy_len(x) < end ? zc_lazy_len(x) : end, from = at;
+    if (files == NULL || x == NULL || place == NULL) return ZC_BAD_ARGUMENT;
+    for (; at > 0; at--) {
+        if (at == from) {
+            size_t count = at < sizeof bytes ? (size_t)at : sizeof bytes;
+            int code = zc_lazy_read(files, x, at - count, bytes, count, &count);
+            if (code != ZC_OK) return code;
+            from = at - count;
+        }
+        if (bytes[at - 1 - from] == byte) break;
+    }
+    *place = at == 0 ? ZC_NOT_FOUND : at - 1;
+    return ZC_OK;
+}
+
+/* Writes the byte of x at place to *byte. ZC_BAD_ARGUMENT at or past the end, ZC_READ_FAILED: *byte stays. O(d). */
+static inline int zc_lazy_fetch(zc_files *files, zc_lazy *x, uint64_t place, unsigned char *byte) {
+    unsigned char found = 0;
+    size_t got = 0;
+    int code = byte == NULL ? ZC_BAD_ARGUMENT : zc_lazy_read(files, x, place, &found, 1, &got);
+    if (code == ZC_OK && got == 0) code = ZC_BAD_ARGUMENT;
+    if (code == ZC_OK) *byte = found;
+    return code;
+}
+
+/* Writes the order of x and y, which lie in the same files, to *order, as zc_cmp. ZC_READ_FAILED: *order stays. It takes
+   no memory. O(n) at most: it reads both up to where they differ, and in parts in common too. */
+static inline int zc_lazy_cmp(zc_files *files, zc_lazy *x, zc_lazy *y, int32_t *order) {
+    unsigned char own[8192], others[8192];
+    uint64_t start = 0;
+    size_t got = 0, other = 0;
+    int found = 0;
+    if (order == NULL) return ZC_BAD_ARGUMENT;
+    do {
+        int code = zc_lazy_read(files, x, start, own, sizeof own, &got);
+        if (code == ZC_OK) code = zc_lazy_read(files, y, start, others, sizeof others, &other);
+        if (code != ZC_OK) return code;
+        found = memcmp(own, others, got < other ? got : other);
+        if (found == 0) found = (got > other) - (got < other);
+        start += got;
+    } while (found == 0 && got > 0);
+    *order = (found > 0) - (found < 0);
+    return ZC_OK;
+}
+
 /* The bytes of x as a cord in memory. ZC_READ_FAILED, ZC_NO_MEMORY. O(n). */
 static inline int zc_lazy_to_cord(zc_files *files, zc_lazy *x, zc_cord *out) {
     unsigned char bytes[16384];
