@@ -1,5 +1,5 @@
 // Lines whose names are known and of their kinds: each of their words is a field at once, without a list of the words.
-ghost use Rattle.std.specs.Prelude.{◌≡◌, true, false, IfSome, IfOk, IfErr};
+ghost use Rattle.std.specs.Prelude.{◌≡◌, true, false, IfSome, Ok, IfOk, IfErr};
 ghost use Rattle.cord_script.specs.Words.{HasWord};
 ghost use Rattle.cord_script.specs.declared.words.Word.TheVariants.{Plain};
 ghost use Rattle.cord_script.specs.Forms.Effect.{Stays};
@@ -43,6 +43,14 @@ fn front_verb(line: &[u8]) -> Option<(Verb, &[u8])>
     Some((verb, rest))
 }
 
+// What was built, if it was built of all words.
+#[inline(always)]
+fn built_of_all<T: Drop>(is_done: bool, built: Result<T, Unsettled>) -> Result<T, Unsettled>
+    ensures { IfOk result (λ it. (is_done ≡ true) × (built ≡ Ok it)) }
+{
+    if is_done { built } else { Err(Unsettled) }
+}
+
 // The statement of words whose number the verb fixes.
 #[inline(always)]
 fn fixed_statement(verb: FixedVerb, number: u32, words: LineWords) -> Result<Statement, Unsettled>
@@ -50,10 +58,7 @@ fn fixed_statement(verb: FixedVerb, number: u32, words: LineWords) -> Result<Sta
 {
     let mut fields = LineFields::of(words, wants_of(verb));
     let built = fixed_statement_of(verb, number, &mut fields);
-    if fields.is_done() {
-        return built;
-    }
-    Err(Unsettled)
+    built_of_all(fields.is_done(), built)
 }
 
 // The statement of a target and cords.
