@@ -60,14 +60,24 @@ fn find_verb(verbs: &[Verb], word: &[u8]) -> Option<Verb>
     None
 }
 
-// The verb of a word, by its length and bytes.
+// The verb of a word of two letters.
 #[inline(always)]
-fn likely_verb(word: &[u8]) -> Option<Verb>
+fn verb_of_two(word: &[u8]) -> Option<Verb>
     ensures { IfSome result (λ verb. word.now ≡ verb_word verb) }
 {
     match word {
         b"fn" => Some(Verb::Fixed(FixedVerb::Origin(Origin::FromFn))),
         b"if" => Some(Verb::Fixed(FixedVerb::Control(Control::If))),
+        _ => None,
+    }
+}
+
+// The verb of a word of three letters.
+#[inline(always)]
+fn verb_of_three(word: &[u8]) -> Option<Verb>
+    ensures { IfSome result (λ verb. word.now ≡ verb_word verb) }
+{
+    match word {
         b"add" => Some(Verb::Fixed(FixedVerb::Computation(Computation::Add))),
         b"cat" => Some(Verb::Fixed(FixedVerb::Composition(Composition::Cat))),
         b"chr" => Some(Verb::Fixed(FixedVerb::Search(Search::Chr))),
@@ -80,6 +90,16 @@ fn likely_verb(word: &[u8]) -> Option<Verb>
         b"set" => Some(Verb::Fixed(FixedVerb::Computation(Computation::Assign))),
         b"str" => Some(Verb::Fixed(FixedVerb::Search(Search::Str))),
         b"sub" => Some(Verb::Fixed(FixedVerb::Computation(Computation::Sub))),
+        _ => None,
+    }
+}
+
+// The verb of a word of four letters.
+#[inline(always)]
+fn verb_of_four(word: &[u8]) -> Option<Verb>
+    ensures { IfSome result (λ verb. word.now ≡ verb_word verb) }
+{
+    match word {
         b"catc" => Some(Verb::Fixed(FixedVerb::Composition(Composition::Catc))),
         b"catn" => Some(Verb::Catn),
         b"else" => Some(Verb::Fixed(FixedVerb::Control(Control::Else))),
@@ -87,18 +107,75 @@ fn likely_verb(word: &[u8]) -> Option<Verb>
         b"lazy" => Some(Verb::Fixed(FixedVerb::Origin(Origin::Lazy))),
         b"ncmp" => Some(Verb::Fixed(FixedVerb::Look(Look::Ncmp))),
         b"rchr" => Some(Verb::Fixed(FixedVerb::Search(Search::Rchr))),
+        _ => None,
+    }
+}
+
+// The verb of a word of five letters.
+#[inline(always)]
+fn verb_of_five(word: &[u8]) -> Option<Verb>
+    ensures { IfSome result (λ verb. word.now ≡ verb_word verb) }
+{
+    match word {
         b"chars" => Some(Verb::Fixed(FixedVerb::Composition(Composition::Chars))),
         b"eager" => Some(Verb::Fixed(FixedVerb::Origin(Origin::Eager))),
         b"eccat" => Some(Verb::Fixed(FixedVerb::Growth(Growth::EcCat))),
         b"ecput" => Some(Verb::Fixed(FixedVerb::Growth(Growth::EcPut))),
         b"ecstr" => Some(Verb::Fixed(FixedVerb::Growth(Growth::EcStr))),
         b"fetch" => Some(Verb::Fixed(FixedVerb::Look(Look::Fetch))),
+        _ => None,
+    }
+}
+
+// The verb of a word of six letters.
+#[inline(always)]
+fn verb_of_six(word: &[u8]) -> Option<Verb>
+    ensures { IfSome result (λ verb. word.now ≡ verb_word verb) }
+{
+    match word {
         b"ecinit" => Some(Verb::Fixed(FixedVerb::Growth(Growth::EcInit))),
         b"repeat" => Some(Verb::Fixed(FixedVerb::Control(Control::Repeat))),
         b"substr" => Some(Verb::Fixed(FixedVerb::Composition(Composition::Substr))),
+        _ => None,
+    }
+}
+
+// The verb of a word of seven letters.
+#[inline(always)]
+fn verb_of_seven(word: &[u8]) -> Option<Verb>
+    ensures { IfSome result (λ verb. word.now ≡ verb_word verb) }
+{
+    match word {
         b"balance" => Some(Verb::Fixed(FixedVerb::Derivation(Derivation::Balance))),
         b"sprintf" => Some(Verb::Sprintf),
+        _ => None,
+    }
+}
+
+// The verb of a word of eight letters.
+#[inline(always)]
+fn verb_of_eight(word: &[u8]) -> Option<Verb>
+    ensures { IfSome result (λ verb. word.now ≡ verb_word verb) }
+{
+    match word {
         b"ectocord" => Some(Verb::Fixed(FixedVerb::Derivation(Derivation::EcToCord))),
+        _ => None,
+    }
+}
+
+// The verb of a word, by its length and bytes.
+#[inline(always)]
+fn likely_verb(word: &[u8]) -> Option<Verb>
+    ensures { IfSome result (λ verb. word.now ≡ verb_word verb) }
+{
+    match word.len() {
+        2 => verb_of_two(word),
+        3 => verb_of_three(word),
+        4 => verb_of_four(word),
+        5 => verb_of_five(word),
+        6 => verb_of_six(word),
+        7 => verb_of_seven(word),
+        8 => verb_of_eight(word),
         _ => None,
     }
 }
