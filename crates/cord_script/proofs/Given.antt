@@ -1,11 +1,12 @@
 -- Fields that were given one after another.
-use Rattle.std.proofs.Common.{◌≡◌, ◌∙◌, ℕ, List, [], ◌∷◌, map, refl, sym, ap}
+use Rattle.std.proofs.Common.{◌≡◌, ◌∙◌, ℕ, List, [], ◌∷◌, map, refl, sym, ap, ◌++◌, subst, IfOk}
+use Rattle.std.specs.Prelude.{Result, Ok, Err}
 use Rattle.cord_script.specs.declared.verbs.FixedVerb.{FixedVerb}
 use Rattle.cord_script.specs.declared.verbs.Verb.{Verb}
 use Rattle.cord_syntax.specs.declared.statements.Statement.{Statement}
 use Rattle.cord_script.specs.Forms.{Term, terms_of}
 use Rattle.cord_script.specs.inner.Fields.{want_of}
-use Rattle.cord_script.specs.inner.Given.{Gave, GivesAll, IsBuilt}
+use Rattle.cord_script.specs.inner.Given.{Gave, GivesAll, paired, IsBuilt}
 use Rattle.cord_script.specs.inner.Built.{IsStatementOf}
 use Rattle.cord_script.specs.inner.Verbal.{fixed_word}
 use Rattle.cord_script.proofs.Built.{none_left}
@@ -23,23 +24,20 @@ first_given {b = b} c ts h more = (b, h, more)
 pub one_field : {S : Type 0} {gives : S → Term → S → Type 0} {a b : S} {t : Term} → Gave gives a t b → GivesAll gives a (t ∷ []) b
 one_field {gives = gives} {b = b} h = first_given b [] h (no_field gives b)
 
-pub two_fields : {S : Type 0} {gives : S → Term → S → Type 0} {a b c : S} {t u : Term} → Gave gives a t b → Gave gives b u c →
-    GivesAll gives a (t ∷ u ∷ []) c
-two_fields {c = c} {u = u} h i = first_given c (u ∷ []) h (one_field i)
+-- one more field, after others
+last_given : {S : Type 0} (gives : S → Term → S → Type 0) (ts : List Term) (t : Term) (a b c : S) → GivesAll gives a ts b →
+    Gave gives b t c → GivesAll gives a (ts ++ t ∷ []) c
+unfolding GivesAll
+last_given gives [] t a b c h k = (c, subst (λ s. Gave gives s t c) (sym h) k, refl)
+last_given gives (u ∷ us) t a b c h k = (h.0, h.1, last_given gives us t h.0 b c h.2 k)
 
-pub three_fields : {S : Type 0} {gives : S → Term → S → Type 0} {a b c d : S} {t u v : Term} → Gave gives a t b → Gave gives b u c →
-    Gave gives c v d → GivesAll gives a (t ∷ u ∷ v ∷ []) d
-three_fields {d = d} {u = u} {v = v} h i j = first_given d (u ∷ v ∷ []) h (two_fields i j)
-
-pub four_fields : {S : Type 0} {gives : S → Term → S → Type 0} {a b c d e : S} {t u v w : Term} → Gave gives a t b → Gave gives b u c →
-    Gave gives c v d → Gave gives d w e → GivesAll gives a (t ∷ u ∷ v ∷ w ∷ []) e
-four_fields {e = e} {u = u} {v = v} {w = w} h i j k = first_given e (u ∷ v ∷ w ∷ []) h (three_fields i j k)
-
-pub six_fields : {S : Type 0} {gives : S → Term → S → Type 0} {a b c d e f g : S} {t u v w x y : Term} → Gave gives a t b →
-    Gave gives b u c → Gave gives c v d → Gave gives d w e → Gave gives e x f → Gave gives f y g →
-    GivesAll gives a (t ∷ u ∷ v ∷ w ∷ x ∷ y ∷ []) g
-six_fields {g = g} {u = u} {v = v} {w = w} {x = x} {y = y} h i j k l m =
-    first_given g (u ∷ v ∷ w ∷ x ∷ y ∷ []) h (first_given g (v ∷ w ∷ x ∷ y ∷ []) i (four_fields j k l m))
+-- a field that was asked for after others, unless it was refused
+pub next_given : {S X Y E : Type 0} (gives : S → Term → S → Type 0) (ts : X → List Term) (u : Y → Term) (a b c : S) (before : X)
+    (next : Result Y E) (all : Result (X × Y) E) → GivesAll gives a (ts before) b → all ≡ paired before next →
+    IfOk next (λ y. Gave gives b (u y) c) → IfOk all (λ p. GivesAll gives a (ts p.0 ++ u p.1 ∷ []) c)
+next_given gives ts u a b c before (Ok y) all h e k =
+    subst (λ r. IfOk r (λ p. GivesAll gives a (ts p.0 ++ u p.1 ∷ []) c)) (sym e) (last_given gives (ts before) (u y) a b c h k)
+next_given gives ts u a b c before (Err x) all h e k = subst (λ r. IfOk r (λ p. GivesAll gives a (ts p.0 ++ u p.1 ∷ []) c)) (sym e) tt
 
 -- the word of a verb that is told
 pub spelled : {V : Type 0} (of : V → FixedVerb) {a b : V} → a ≡ b → fixed_word (of b) ≡ fixed_word (of a)

@@ -5,6 +5,7 @@ mod blocks;
 mod context;
 mod cursor;
 mod direct;
+mod field_groups;
 mod field_lists;
 mod field_source;
 mod fields;

@@ -9,6 +9,10 @@ ghost use Rattle.cord_script.specs.inner.Built.{IsJoined, IsPrintedAs, AreFields
 ghost use Rattle.cord_script.specs.inner.Given.{IsBuilt};
 
 use crate::cursor::FieldCursor;
+use crate::field_groups::{
+    paired, target_and_number, target_and_numbers, target_and_operand, target_and_operands,
+    target_and_path, target_operand_number, target_operand_number_operand, target_operand_numbers,
+};
 use crate::field_lists::Builder;
 use crate::field_source::FieldSource;
 use crate::kinds::{Kind, Want};
@@ -19,12 +23,27 @@ use crate::{Name, RefusalKind, Statement};
 use cord_printf::Format;
 use std::alloc::Global;
 
-// The statement of a variant: each of its fields is asked for by a method of the source, with the kind of a name.
+// The fields of a variant, as they are nested where one after another was asked for.
+macro_rules! nested {
+    ($fields:tt) => {
+        $fields
+    };
+    ($fields:tt $next:ident $($more:ident)*) => {
+        nested!(($fields, $next) $($more)*)
+    };
+}
+
+// The statement of a variant, of fields that were asked for.
 macro_rules! statement {
-    ($fields:ident, $line:ident, $variant:ident $(, $field:ident: $method:ident($($kind:ident)?))*) => {{
-        $(let $field = $fields.$method($(Kind::$kind)?)?;)*
-        Ok(Statement::$variant { line: $line $(, $field)* })
-    }};
+    ($line:ident, $variant:ident, ($($field:ident),+) = $given:expr) => {
+        match $given {
+            Ok(fields) => {
+                let nested!($($field)+) = fields;
+                Ok(Statement::$variant { line: $line, $($field),+ })
+            }
+            Err(error) => Err(error),
+        }
+    };
 }
 
 // A statement that makes a cord of no other name's value.
@@ -35,12 +54,21 @@ fn origin_of<F: FieldSource>(verb: Origin, line: u32, fields: &mut F) -> Result<
     ensures done { OnOk result (F.wants fields.new ≡ []) }
 {
     match verb {
-        Origin::Let => statement!(fields, line, Let, target: target(Cord), text: text()),
-        Origin::File => statement!(fields, line, File, target: target(Cord), path: path()),
-        Origin::Eager => statement!(fields, line, Eager, target: target(Cord), path: path()),
-        Origin::Lazy => statement!(fields, line, Lazy, target: target(Cord), path: path()),
+        Origin::Let => statement!(
+            line,
+            Let,
+            (target, text) = paired(fields.target(Kind::Cord)?, fields.text())
+        ),
+        Origin::File => statement!(line, File, (target, path) = target_and_path(fields)),
+        Origin::Eager => statement!(line, Eager, (target, path) = target_and_path(fields)),
+        Origin::Lazy => statement!(line, Lazy, (target, path) = target_and_path(fields)),
         Origin::FromFn => statement!(
-            fields, line, FromFn, target: target(Cord), function: function(), count: number()
+            line,
+            FromFn,
+            (target, function, count) = paired(
+                paired(fields.target(Kind::Cord)?, fields.function())?,
+                fields.number()
+            )
         ),
     }
 }
@@ -58,18 +86,29 @@ fn composition_of<F: FieldSource>(
 {
     match verb {
         Composition::Chars => statement!(
-            fields, line, Chars, target: target(Cord), byte: number(), count: number()
+            line,
+            Chars,
+            (target, byte, count) = target_and_numbers(Kind::Cord, fields)
         ),
-        Composition::Nul => statement!(fields, line, Nul, target: target(Cord), count: number()),
+        Composition::Nul => statement!(
+            line,
+            Nul,
+            (target, count) = target_and_number(Kind::Cord, fields)
+        ),
         Composition::Cat => statement!(
-            fields, line, Cat, target: target(Cord), left: operand(Cord), right: operand(Cord)
+            line,
+            Cat,
+            (target, left, right) = target_and_operands(Kind::Cord, fields)
         ),
         Composition::Catc => statement!(
-            fields, line, Catc, target: target(Cord), operand: operand(Cord), byte: number()
+            line,
+            Catc,
+            (target, operand, byte) = target_operand_number(Kind::Cord, fields)
         ),
         Composition::Substr => statement!(
-            fields, line, Substr, target: target(Cord), operand: operand(Cord), start: number(),
-            count: number()
+            line,
+            Substr,
+            (target, operand, start, count) = target_operand_numbers(Kind::Cord, fields)
         ),
     }
 }
@@ -86,10 +125,15 @@ fn derivation_of<F: FieldSource>(
     ensures done { OnOk result (F.wants fields.new ≡ []) }
 {
     match verb {
-        Derivation::Balance =>
-            statement!(fields, line, Balance, target: target(Cord), operand: operand(Cord)),
+        Derivation::Balance => statement!(
+            line,
+            Balance,
+            (target, operand) = target_and_operand(Kind::Cord, Kind::Cord, fields)
+        ),
         Derivation::EcToCord => statement!(
-            fields, line, EcToCord, target: target(Cord), extensible: operand(Extensible)
+            line,
+            EcToCord,
+            (target, extensible) = target_and_operand(Kind::Cord, Kind::Extensible, fields)
         ),
     }
 }
@@ -106,15 +150,25 @@ fn computation_of<F: FieldSource>(
     ensures done { OnOk result (F.wants fields.new ≡ []) }
 {
     match verb {
-        Computation::Assign =>
-            statement!(fields, line, Assign, target: target(Number), value: number()),
-        Computation::Len =>
-            statement!(fields, line, Len, target: target(Number), operand: operand(Cord)),
+        Computation::Assign => statement!(
+            line,
+            Assign,
+            (target, value) = target_and_number(Kind::Number, fields)
+        ),
+        Computation::Len => statement!(
+            line,
+            Len,
+            (target, operand) = target_and_operand(Kind::Number, Kind::Cord, fields)
+        ),
         Computation::Add => statement!(
-            fields, line, Add, target: target(Number), left: number(), right: number()
+            line,
+            Add,
+            (target, left, right) = target_and_numbers(Kind::Number, fields)
         ),
         Computation::Sub => statement!(
-            fields, line, Sub, target: target(Number), left: number(), right: number()
+            line,
+            Sub,
+            (target, left, right) = target_and_numbers(Kind::Number, fields)
         ),
     }
 }
@@ -128,14 +182,25 @@ fn look_of<F: FieldSource>(verb: Look, line: u32, fields: &mut F) -> Result<Stat
 {
     match verb {
         Look::Fetch => statement!(
-            fields, line, Fetch, target: target(Number), operand: operand(Cord), index: number()
+            line,
+            Fetch,
+            (target, operand, index) = target_operand_number(Kind::Number, fields)
         ),
         Look::Cmp => statement!(
-            fields, line, Cmp, target: target(Number), left: operand(Cord), right: operand(Cord)
+            line,
+            Cmp,
+            (target, left, right) = target_and_operands(Kind::Number, fields)
         ),
         Look::Ncmp => statement!(
-            fields, line, Ncmp, target: target(Number), left: operand(Cord), left_start: number(),
-            right: operand(Cord), right_start: number(), count: number()
+            line,
+            Ncmp,
+            (target, left, left_start, right, right_start, count) = paired(
+                paired(
+                    target_operand_number_operand(Kind::Number, fields)?,
+                    fields.number()
+                )?,
+                fields.number()
+            )
         ),
     }
 }
@@ -149,16 +214,19 @@ fn search_of<F: FieldSource>(verb: Search, line: u32, fields: &mut F) -> Result<
 {
     match verb {
         Search::Str => statement!(
-            fields, line, Str, target: target(Number), operand: operand(Cord), start: number(),
-            pattern: operand(Cord)
+            line,
+            Str,
+            (target, operand, start, pattern) = target_operand_number_operand(Kind::Number, fields)
         ),
         Search::Chr => statement!(
-            fields, line, Chr, target: target(Number), operand: operand(Cord), start: number(),
-            byte: number()
+            line,
+            Chr,
+            (target, operand, start, byte) = target_operand_numbers(Kind::Number, fields)
         ),
         Search::Rchr => statement!(
-            fields, line, Rchr, target: target(Number), operand: operand(Cord), start: number(),
-            byte: number()
+            line,
+            Rchr,
+            (target, operand, start, byte) = target_operand_numbers(Kind::Number, fields)
         ),
     }
 }
@@ -171,14 +239,25 @@ fn growth_of<F: FieldSource>(verb: Growth, line: u32, fields: &mut F) -> Result<
     ensures done { OnOk result (F.wants fields.new ≡ []) }
 {
     match verb {
-        Growth::EcInit => statement!(fields, line, EcInit, target: target(Extensible)),
-        Growth::EcPut =>
-            statement!(fields, line, EcPut, extensible: operand(Extensible), byte: number()),
-        Growth::EcCat => statement!(
-            fields, line, EcCat, extensible: operand(Extensible), operand: operand(Cord)
+        Growth::EcInit => statement!(line, EcInit, (target) = fields.target(Kind::Extensible)),
+        Growth::EcPut => statement!(
+            line,
+            EcPut,
+            (extensible, byte) = paired(fields.operand(Kind::Extensible)?, fields.number())
         ),
-        Growth::EcStr =>
-            statement!(fields, line, EcStr, extensible: operand(Extensible), text: text()),
+        Growth::EcCat => statement!(
+            line,
+            EcCat,
+            (extensible, operand) = paired(
+                fields.operand(Kind::Extensible)?,
+                fields.operand(Kind::Cord)
+            )
+        ),
+        Growth::EcStr => statement!(
+            line,
+            EcStr,
+            (extensible, text) = paired(fields.operand(Kind::Extensible)?, fields.text())
+        ),
     }
 }
 
@@ -194,11 +273,17 @@ fn control_of<F: FieldSource>(
     ensures done { OnOk result (F.wants fields.new ≡ []) }
 {
     match verb {
-        Control::Repeat => statement!(fields, line, Repeat, count: number()),
-        Control::If =>
-            statement!(fields, line, If, left: number(), relation: relation(), right: number()),
-        Control::Else => statement!(fields, line, Else),
-        Control::End => statement!(fields, line, End),
+        Control::Repeat => statement!(line, Repeat, (count) = fields.number()),
+        Control::If => statement!(
+            line,
+            If,
+            (left, relation, right) = paired(
+                paired(fields.number()?, fields.relation())?,
+                fields.number()
+            )
+        ),
+        Control::Else => Ok(Statement::Else { line }),
+        Control::End => Ok(Statement::End { line }),
     }
 }
 
@@ -209,7 +294,7 @@ fn put_of<F: FieldSource>(line: u32, fields: &mut F) -> Result<Statement, F::Err
     ensures built { IfOk result (IsBuilt F.gives (Verb.Fixed FixedVerb.Put) line fields.old fields.new) }
     ensures done { OnOk result (F.wants fields.new ≡ []) }
 {
-    statement!(fields, line, Put, operand: operand(Cord))
+    statement!(line, Put, (operand) = fields.operand(Kind::Cord))
 }
 
 // The target of checked fields, which is a cord.

@@ -1,5 +1,5 @@
 -- What sources of fields give.
-use Rattle.std.specs.Prelude.{◌≡◌, ℕ, List, [], ◌∷◌}
+use Rattle.std.specs.Prelude.{◌≡◌, ℕ, List, [], ◌∷◌, Result, Ok, Err}
 use Rattle.cord_script.specs.declared.verbs.Verb.{Verb}
 use Rattle.cord_syntax.specs.declared.statements.Statement.{Statement}
 use Rattle.cord_syntax.specs.Lines.{line_of}
@@ -22,3 +22,8 @@ pub record IsBuilt {S : Type 0} (gives : S → Term → S → Type 0) (verb : Ve
   pub numbered : line_of s ≡ line
   pub given : GivesAll gives old (terms_of s) new
   pub suits : Suits s
+
+-- what came before and the next one, unless that is refused
+abbrev pub paired : {A B E : Type 0} → A → Result B E → Result (A × B) E
+paired before (Ok next) = Ok (before, next)
+paired before (Err error) = Err error

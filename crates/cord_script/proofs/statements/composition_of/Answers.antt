@@ -1,45 +1,44 @@
 use Rattle.std.proofs.Common.{refl}
 use Rattle.cord_script.specs.declared.verbs.FixedVerb.TheVariants.{Composition}
-use Rattle.cord_script.proofs.Given.{spelled, two_fields, three_fields, four_fields}
+use Rattle.cord_script.proofs.Given.{spelled}
 use Rattle.cord_script.proofs.statements.composition_of.Goals as goal
 
-pub returns-in_ok-count-in-Chars-clause-built : goal.returns-in_ok-count-in-Chars-clause-built
-returns-in_ok-count-in-Chars-clause-built g c = record {
+pub returns-in-Ok-clause-built : goal.returns-in-Ok-clause-built
+returns-in-Ok-clause-built g c = record {
   word = spelled Composition c.in-Chars.is;
   numbered = refl;
-  given = three_fields c.in_ok-target-in-Chars.ensures.given c.in_ok-byte-in-Chars.ensures.given c.in_ok-count-in-Chars.ensures.given;
+  given = c.in-Ok.ensures.given;
   suits = tt;
 }
 
-pub returns-in_ok-count-in-Nul-clause-built : goal.returns-in_ok-count-in-Nul-clause-built
-returns-in_ok-count-in-Nul-clause-built g c = record {
+pub returns-in-Ok-target_and_number-clause-built : goal.returns-in-Ok-target_and_number-clause-built
+returns-in-Ok-target_and_number-clause-built g c = record {
   word = spelled Composition c.in-Nul.is;
   numbered = refl;
-  given = two_fields c.in_ok-target-in-Nul.ensures.given c.in_ok-count-in-Nul.ensures.given;
+  given = c.in-Ok-target_and_number.ensures.given;
   suits = tt;
 }
 
-pub returns-in_ok-right-in-Cat-clause-built : goal.returns-in_ok-right-in-Cat-clause-built
-returns-in_ok-right-in-Cat-clause-built g c = record {
+pub returns-in-Ok-target_and_operands-clause-built : goal.returns-in-Ok-target_and_operands-clause-built
+returns-in-Ok-target_and_operands-clause-built g c = record {
   word = spelled Composition c.in-Cat.is;
   numbered = refl;
-  given = three_fields c.in_ok-target-in-Cat.ensures.given c.in_ok-left-in-Cat.ensures.given c.in_ok-right-in-Cat.ensures.given;
+  given = c.in-Ok-target_and_operands.ensures.given;
   suits = tt;
 }
 
-pub returns-in_ok-byte-in-Catc-clause-built : goal.returns-in_ok-byte-in-Catc-clause-built
-returns-in_ok-byte-in-Catc-clause-built g c = record {
+pub returns-in-Ok-target_operand_number-clause-built : goal.returns-in-Ok-target_operand_number-clause-built
+returns-in-Ok-target_operand_number-clause-built g c = record {
   word = spelled Composition c.in-Catc.is;
   numbered = refl;
-  given = three_fields c.in_ok-target-in-Catc.ensures.given c.in_ok-operand-in-Catc.ensures.given c.in_ok-byte-in-Catc.ensures.given;
+  given = c.in-Ok-target_operand_number.ensures.given;
   suits = tt;
 }
 
-pub returns-in_ok-count-in-Substr-clause-built : goal.returns-in_ok-count-in-Substr-clause-built
-returns-in_ok-count-in-Substr-clause-built g c = record {
+pub returns-in-Ok-target_operand_numbers-clause-built : goal.returns-in-Ok-target_operand_numbers-clause-built
+returns-in-Ok-target_operand_numbers-clause-built g c = record {
   word = spelled Composition c.in-Substr.is;
   numbered = refl;
-  given = four_fields c.in_ok-target-in-Substr.ensures.given c.in_ok-operand-in-Substr.ensures.given
-      c.in_ok-start-in-Substr.ensures.given c.in_ok-count-in-Substr.ensures.given;
+  given = c.in-Ok-target_operand_numbers.ensures.given;
   suits = tt;
 }

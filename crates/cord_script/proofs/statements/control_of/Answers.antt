@@ -1,26 +1,41 @@
-use Rattle.std.proofs.Common.{refl}
+use Rattle.std.proofs.Common.{[], ◌∷◌, refl}
 use Rattle.cord_script.specs.declared.verbs.FixedVerb.TheVariants.{Control}
-use Rattle.cord_script.proofs.Given.{spelled, no_field, one_field, three_fields}
+use Rattle.cord_operands.specs.declared.operands.Number.{Number}
+use Rattle.cord_operands.specs.declared.operands.Relation.{Relation}
+use Rattle.cord_script.specs.Forms.Term.{Value, Compares}
+use Rattle.cord_script.proofs.Given.{spelled, no_field, one_field, next_given}
 use Rattle.cord_script.proofs.statements.control_of.Goals as goal
 
-pub returns-in_ok-count-in-Repeat-clause-built : goal.returns-in_ok-count-in-Repeat-clause-built
-returns-in_ok-count-in-Repeat-clause-built g c = record {
+pub returns-in-Ok-clause-built : goal.returns-in-Ok-clause-built
+returns-in-Ok-clause-built g c = record {
   word = spelled Control c.in-Repeat.is;
   numbered = refl;
-  given = one_field c.in_ok-count-in-Repeat.ensures.given;
+  given = one_field c.in-Ok.ensures.given;
   suits = tt;
 }
 
-pub returns-in_ok-right-in-If-clause-built : goal.returns-in_ok-right-in-If-clause-built
-returns-in_ok-right-in-If-clause-built g c = record {
+pub returns-in-Ok-paired-clause-built : goal.returns-in-Ok-paired-clause-built
+returns-in-Ok-paired-clause-built g c = record {
   word = spelled Control c.in-If.is;
   numbered = refl;
-  given = three_fields c.in_ok-left-in-If.ensures.given c.in_ok-relation-in-If.ensures.given c.in_ok-right-in-If.ensures.given;
+  given = next_given _ (λ (p : Number × Relation). Value p.0 ∷ Compares p.1 ∷ []) Value _ _ _ _ _ _
+      (next_given _ (λ (left : Number). Value left ∷ []) Compares _ _ _ _ _ _ (one_field c.in_ok-number-in-If.ensures.given)
+      c.in_ok-paired-in-If.ensures c.relation.ensures.given) c.in-Ok-paired.ensures c.number-in-If-2.ensures.given;
   suits = tt;
 }
 
 pub returns-in-Else-clause-built : goal.returns-in-Else-clause-built
-returns-in-Else-clause-built g c = record { word = spelled Control c.in-Else.is; numbered = refl; given = no_field _ _; suits = tt }
+returns-in-Else-clause-built g c = record {
+  word = spelled Control c.in-Else.is;
+  numbered = refl;
+  given = no_field _ _;
+  suits = tt;
+}
 
 pub returns-in-End-clause-built : goal.returns-in-End-clause-built
-returns-in-End-clause-built g c = record { word = spelled Control c.in-End.is; numbered = refl; given = no_field _ _; suits = tt }
+returns-in-End-clause-built g c = record {
+  word = spelled Control c.in-End.is;
+  numbered = refl;
+  given = no_field _ _;
+  suits = tt;
+}

@@ -1,36 +1,41 @@
-use Rattle.std.proofs.Common.{refl}
+use Rattle.std.proofs.Common.{ℕ, List, [], ◌∷◌, refl}
 use Rattle.cord_script.specs.declared.verbs.FixedVerb.TheVariants.{Growth}
-use Rattle.cord_script.proofs.Given.{spelled, one_field, two_fields}
+use Rattle.cord_script.specs.declared.kinds.Kind.TheVariants as kinds
+use Rattle.cord_script.specs.Forms.Term.{Operand, Value, Literal}
+use Rattle.cord_script.proofs.Given.{spelled, one_field, next_given}
 use Rattle.cord_script.proofs.statements.growth_of.Goals as goal
 
-pub returns-in_ok-target-in-EcInit-clause-built : goal.returns-in_ok-target-in-EcInit-clause-built
-returns-in_ok-target-in-EcInit-clause-built g c = record {
+pub returns-in-Ok-clause-built : goal.returns-in-Ok-clause-built
+returns-in-Ok-clause-built g c = record {
   word = spelled Growth c.in-EcInit.is;
   numbered = refl;
-  given = one_field c.in_ok-target-in-EcInit.ensures.given;
+  given = one_field c.in-Ok.ensures.given;
   suits = tt;
 }
 
-pub returns-in_ok-byte-in-EcPut-clause-built : goal.returns-in_ok-byte-in-EcPut-clause-built
-returns-in_ok-byte-in-EcPut-clause-built g c = record {
+pub returns-in-Ok-paired-clause-built : goal.returns-in-Ok-paired-clause-built
+returns-in-Ok-paired-clause-built g c = record {
   word = spelled Growth c.in-EcPut.is;
   numbered = refl;
-  given = two_fields c.in_ok-extensible-in-EcPut.ensures.given c.in_ok-byte-in-EcPut.ensures.given;
+  given = next_given _ (λ (name : List ℕ). Operand kinds.Extensible name ∷ []) Value
+      _ _ _ _ _ _ (one_field c.in_ok-operand-in-EcPut.ensures.given) c.in-Ok-paired.ensures c.number.ensures.given;
   suits = tt;
 }
 
-pub returns-in_ok-operand-in-EcCat-clause-built : goal.returns-in_ok-operand-in-EcCat-clause-built
-returns-in_ok-operand-in-EcCat-clause-built g c = record {
+pub returns-in-Ok-paired-2-clause-built : goal.returns-in-Ok-paired-2-clause-built
+returns-in-Ok-paired-2-clause-built g c = record {
   word = spelled Growth c.in-EcCat.is;
   numbered = refl;
-  given = two_fields c.in_ok-extensible-in-EcCat.ensures.given c.in_ok-operand-in-EcCat.ensures.given;
+  given = next_given _ (λ (name : List ℕ). Operand kinds.Extensible name ∷ []) (Operand kinds.Cord)
+      _ _ _ _ _ _ (one_field c.in_ok-operand-in-EcCat.ensures.given) c.in-Ok-paired-2.ensures c.operand-in-EcCat-2.ensures.given;
   suits = tt;
 }
 
-pub returns-in_ok-text-in-EcStr-clause-built : goal.returns-in_ok-text-in-EcStr-clause-built
-returns-in_ok-text-in-EcStr-clause-built g c = record {
+pub returns-in-Ok-paired-3-clause-built : goal.returns-in-Ok-paired-3-clause-built
+returns-in-Ok-paired-3-clause-built g c = record {
   word = spelled Growth c.in-EcStr.is;
   numbered = refl;
-  given = two_fields c.in_ok-extensible-in-EcStr.ensures.given c.in_ok-text-in-EcStr.ensures.given;
+  given = next_given _ (λ (name : List ℕ). Operand kinds.Extensible name ∷ []) Literal
+      _ _ _ _ _ _ (one_field c.in_ok-operand-in-EcStr.ensures.given) c.in-Ok-paired-3.ensures c.text.ensures.given;
   suits = tt;
 }

@@ -1,29 +1,35 @@
-use Rattle.std.proofs.Common.{refl}
+use Rattle.std.proofs.Common.{ℕ, List, [], ◌∷◌, refl}
 use Rattle.cord_script.specs.declared.verbs.FixedVerb.TheVariants.{Look}
-use Rattle.cord_script.proofs.Given.{spelled, three_fields, six_fields}
+use Rattle.cord_operands.specs.declared.operands.Number.{Number}
+use Rattle.cord_script.specs.declared.kinds.Kind.TheVariants as kinds
+use Rattle.cord_script.specs.Forms.Term.{Target, Operand, Value}
+use Rattle.cord_script.proofs.Given.{spelled, next_given}
 use Rattle.cord_script.proofs.statements.look_of.Goals as goal
 
-pub returns-in_ok-index-in-Fetch-clause-built : goal.returns-in_ok-index-in-Fetch-clause-built
-returns-in_ok-index-in-Fetch-clause-built g c = record {
+pub returns-in-Ok-clause-built : goal.returns-in-Ok-clause-built
+returns-in-Ok-clause-built g c = record {
   word = spelled Look c.in-Fetch.is;
   numbered = refl;
-  given = three_fields c.in_ok-target-in-Fetch.ensures.given c.in_ok-operand-in-Fetch.ensures.given c.in_ok-index-in-Fetch.ensures.given;
+  given = c.in-Ok.ensures.given;
   suits = tt;
 }
 
-pub returns-in_ok-right-in-Cmp-clause-built : goal.returns-in_ok-right-in-Cmp-clause-built
-returns-in_ok-right-in-Cmp-clause-built g c = record {
+pub returns-in-Ok-target_and_operands-clause-built : goal.returns-in-Ok-target_and_operands-clause-built
+returns-in-Ok-target_and_operands-clause-built g c = record {
   word = spelled Look c.in-Cmp.is;
   numbered = refl;
-  given = three_fields c.in_ok-target-in-Cmp.ensures.given c.in_ok-left-in-Cmp.ensures.given c.in_ok-right-in-Cmp.ensures.given;
+  given = c.in-Ok-target_and_operands.ensures.given;
   suits = tt;
 }
 
-pub returns-in_ok-count-in-Ncmp-clause-built : goal.returns-in_ok-count-in-Ncmp-clause-built
-returns-in_ok-count-in-Ncmp-clause-built g c = record {
+pub returns-in-Ok-paired-clause-built : goal.returns-in-Ok-paired-clause-built
+returns-in-Ok-paired-clause-built g c = record {
   word = spelled Look c.in-Ncmp.is;
   numbered = refl;
-  given = six_fields c.in_ok-target-in-Ncmp.ensures.given c.in_ok-left-in-Ncmp.ensures.given c.in_ok-left_start-in-Ncmp.ensures.given
-      c.in_ok-right-in-Ncmp.ensures.given c.in_ok-right_start-in-Ncmp.ensures.given c.in_ok-count-in-Ncmp.ensures.given;
+  given = next_given _ (λ (p : (((List ℕ × List ℕ) × Number) × List ℕ) × Number). Target kinds.Number p.0.0.0.0
+      ∷ Operand kinds.Cord p.0.0.0.1 ∷ Value p.0.0.1 ∷ Operand kinds.Cord p.0.1 ∷ Value p.1 ∷ []) Value _ _ _ _ _ _
+      (next_given _ (λ (p : ((List ℕ × List ℕ) × Number) × List ℕ). Target kinds.Number p.0.0.0 ∷ Operand kinds.Cord p.0.0.1 ∷ Value p.0.1
+      ∷ Operand kinds.Cord p.1 ∷ []) Value _ _ _ _ _ _ c.in_ok-target_operand_number_operand-in-Ncmp.ensures.given
+      c.in_ok-paired-in-Ncmp.ensures c.number.ensures.given) c.in-Ok-paired.ensures c.number-in-Ncmp.ensures.given;
   suits = tt;
 }

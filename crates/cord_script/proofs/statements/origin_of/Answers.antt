@@ -1,45 +1,50 @@
-use Rattle.std.proofs.Common.{refl}
+use Rattle.std.proofs.Common.{ℕ, List, [], ◌∷◌, refl}
 use Rattle.cord_script.specs.declared.verbs.FixedVerb.TheVariants.{Origin}
-use Rattle.cord_script.proofs.Given.{spelled, two_fields, three_fields}
+use Rattle.cord_operands.specs.declared.operands.Function.{Function}
+use Rattle.cord_script.specs.declared.kinds.Kind.TheVariants as kinds
+use Rattle.cord_script.specs.Forms.Term.{Target, Literal, Applies, Value}
+use Rattle.cord_script.proofs.Given.{spelled, one_field, next_given}
 use Rattle.cord_script.proofs.statements.origin_of.Goals as goal
 
-pub returns-in_ok-text-in-Let-clause-built : goal.returns-in_ok-text-in-Let-clause-built
-returns-in_ok-text-in-Let-clause-built g c = record {
+pub returns-in-Ok-clause-built : goal.returns-in-Ok-clause-built
+returns-in-Ok-clause-built g c = record {
   word = spelled Origin c.in-Let.is;
   numbered = refl;
-  given = two_fields c.in_ok-target-in-Let.ensures.given c.in_ok-text-in-Let.ensures.given;
+  given = next_given _ (λ (name : List ℕ). Target kinds.Cord name ∷ []) Literal _ _ _ _ _ _ (one_field c.in_ok-target-in-Let.ensures.given)
+      c.in-Ok.ensures c.text.ensures.given;
   suits = tt;
 }
 
-pub returns-in_ok-path-in-File-clause-built : goal.returns-in_ok-path-in-File-clause-built
-returns-in_ok-path-in-File-clause-built g c = record {
+pub returns-in-Ok-target_and_path-clause-built : goal.returns-in-Ok-target_and_path-clause-built
+returns-in-Ok-target_and_path-clause-built g c = record {
   word = spelled Origin c.in-File.is;
   numbered = refl;
-  given = two_fields c.in_ok-target-in-File.ensures.given c.in_ok-path-in-File.ensures.given;
+  given = c.in-Ok-target_and_path.ensures.given;
   suits = tt;
 }
 
-pub returns-in_ok-path-in-Eager-clause-built : goal.returns-in_ok-path-in-Eager-clause-built
-returns-in_ok-path-in-Eager-clause-built g c = record {
+pub returns-in-Ok-target_and_path-2-clause-built : goal.returns-in-Ok-target_and_path-2-clause-built
+returns-in-Ok-target_and_path-2-clause-built g c = record {
   word = spelled Origin c.in-Eager.is;
   numbered = refl;
-  given = two_fields c.in_ok-target-in-Eager.ensures.given c.in_ok-path-in-Eager.ensures.given;
+  given = c.in-Ok-target_and_path-2.ensures.given;
   suits = tt;
 }
 
-pub returns-in_ok-path-in-Lazy-clause-built : goal.returns-in_ok-path-in-Lazy-clause-built
-returns-in_ok-path-in-Lazy-clause-built g c = record {
+pub returns-in-Ok-target_and_path-3-clause-built : goal.returns-in-Ok-target_and_path-3-clause-built
+returns-in-Ok-target_and_path-3-clause-built g c = record {
   word = spelled Origin c.in-Lazy.is;
   numbered = refl;
-  given = two_fields c.in_ok-target-in-Lazy.ensures.given c.in_ok-path-in-Lazy.ensures.given;
+  given = c.in-Ok-target_and_path-3.ensures.given;
   suits = tt;
 }
 
-pub returns-in_ok-count-in-FromFn-clause-built : goal.returns-in_ok-count-in-FromFn-clause-built
-returns-in_ok-count-in-FromFn-clause-built g c = record {
+pub returns-in-Ok-paired-clause-built : goal.returns-in-Ok-paired-clause-built
+returns-in-Ok-paired-clause-built g c = record {
   word = spelled Origin c.in-FromFn.is;
   numbered = refl;
-  given = three_fields c.in_ok-target-in-FromFn.ensures.given c.in_ok-function-in-FromFn.ensures.given
-      c.in_ok-count-in-FromFn.ensures.given;
+  given = next_given _ (λ (p : List ℕ × Function). Target kinds.Cord p.0 ∷ Applies p.1 ∷ []) Value _ _ _ _ _ _
+      (next_given _ (λ (name : List ℕ). Target kinds.Cord name ∷ []) Applies _ _ _ _ _ _ (one_field c.in_ok-target-in-FromFn.ensures.given)
+      c.in_ok-paired-in-FromFn.ensures c.function.ensures.given) c.in-Ok-paired.ensures c.number.ensures.given;
   suits = tt;
 }

@@ -1,0 +1,158 @@
+// Fields that stand one after another in several statements. What follows a refused one isn't asked for.
+ghost use Rattle.std.specs.Prelude.{◌≡◌, [], ◌∷◌, take, drop, IfOk, OnOk};
+ghost use Rattle.cord_script.specs.declared.kinds.Want.{Want};
+ghost use Rattle.cord_script.specs.Forms.Term.{Target, Operand, Value, FilePath};
+ghost use Rattle.cord_script.specs.inner.Given.{GivesAll, paired};
+
+use crate::field_source::FieldSource;
+use crate::kinds::{Kind, Want};
+use crate::{Name, Number, Path};
+
+/// The fields before and the next one, unless that is refused.
+#[inline(always)]
+pub fn paired<A: Drop, B: Drop, E: Drop>(before: A, next: Result<B, E>) -> Result<(A, B), E>
+    ensures { result ≡ paired before next }
+{
+    match next {
+        Ok(next) => Ok((before, next)),
+        Err(error) => Err(error),
+    }
+}
+
+/// The target, a cord, and a path.
+#[inline(always)]
+pub fn target_and_path<F: FieldSource>(fields: &mut F) -> Result<(Name, Path), F::Error>
+    requires { take 2 (F.wants fields.old) ≡ Want.Target Kind.Cord ∷ Want.Path ∷ [] }
+    ensures left { OnOk result (F.wants fields.new ≡ drop 2 (F.wants fields.old)) }
+    ensures given { IfOk result (λ all. GivesAll F.gives fields.old
+        (Target Kind.Cord all.0 ∷ FilePath all.1 ∷ []) fields.new) }
+{
+    match fields.target(Kind::Cord) {
+        Ok(front) => paired(front, fields.path()),
+        Err(error) => Err(error),
+    }
+}
+
+/// The target and a number.
+#[inline(always)]
+pub fn target_and_number<F: FieldSource>(
+    target: Kind,
+    fields: &mut F,
+) -> Result<(Name, Number), F::Error>
+    requires { take 2 (F.wants fields.old) ≡ Want.Target target ∷ Want.Number ∷ [] }
+    ensures left { OnOk result (F.wants fields.new ≡ drop 2 (F.wants fields.old)) }
+    ensures given { IfOk result (λ all. GivesAll F.gives fields.old
+        (Target target all.0 ∷ Value all.1 ∷ []) fields.new) }
+{
+    match fields.target(target) {
+        Ok(front) => paired(front, fields.number()),
+        Err(error) => Err(error),
+    }
+}
+
+/// The target and a name that is used.
+#[inline(always)]
+pub fn target_and_operand<F: FieldSource>(
+    target: Kind,
+    operand: Kind,
+    fields: &mut F,
+) -> Result<(Name, Name), F::Error>
+    requires { take 2 (F.wants fields.old) ≡ Want.Target target ∷ Want.Operand operand ∷ [] }
+    ensures left { OnOk result (F.wants fields.new ≡ drop 2 (F.wants fields.old)) }
+    ensures given { IfOk result (λ all. GivesAll F.gives fields.old
+        (Target target all.0 ∷ Operand operand all.1 ∷ []) fields.new) }
+{
+    match fields.target(target) {
+        Ok(front) => paired(front, fields.operand(operand)),
+        Err(error) => Err(error),
+    }
+}
+
+/// The target and two numbers.
+#[inline(always)]
+pub fn target_and_numbers<F: FieldSource>(
+    target: Kind,
+    fields: &mut F,
+) -> Result<((Name, Number), Number), F::Error>
+    requires { take 3 (F.wants fields.old) ≡ Want.Target target ∷ Want.Number ∷ Want.Number ∷ [] }
+    ensures left { OnOk result (F.wants fields.new ≡ drop 3 (F.wants fields.old)) }
+    ensures given { IfOk result (λ all. GivesAll F.gives fields.old
+        (Target target all.0.0 ∷ Value all.0.1 ∷ Value all.1 ∷ []) fields.new) }
+{
+    match target_and_number(target, fields) {
+        Ok(front) => paired(front, fields.number()),
+        Err(error) => Err(error),
+    }
+}
+
+/// The target and two cords.
+#[inline(always)]
+pub fn target_and_operands<F: FieldSource>(
+    target: Kind,
+    fields: &mut F,
+) -> Result<((Name, Name), Name), F::Error>
+    requires { take 3 (F.wants fields.old) ≡
+        Want.Target target ∷ Want.Operand Kind.Cord ∷ Want.Operand Kind.Cord ∷ [] }
+    ensures left { OnOk result (F.wants fields.new ≡ drop 3 (F.wants fields.old)) }
+    ensures given { IfOk result (λ all. GivesAll F.gives fields.old
+        (Target target all.0.0 ∷ Operand Kind.Cord all.0.1 ∷ Operand Kind.Cord all.1 ∷ []) fields.new) }
+{
+    match target_and_operand(target, Kind::Cord, fields) {
+        Ok(front) => paired(front, fields.operand(Kind::Cord)),
+        Err(error) => Err(error),
+    }
+}
+
+/// The target, a cord and a number.
+#[inline(always)]
+pub fn target_operand_number<F: FieldSource>(
+    target: Kind,
+    fields: &mut F,
+) -> Result<((Name, Name), Number), F::Error>
+    requires { take 3 (F.wants fields.old) ≡ Want.Target target ∷ Want.Operand Kind.Cord ∷ Want.Number ∷ [] }
+    ensures left { OnOk result (F.wants fields.new ≡ drop 3 (F.wants fields.old)) }
+    ensures given { IfOk result (λ all. GivesAll F.gives fields.old
+        (Target target all.0.0 ∷ Operand Kind.Cord all.0.1 ∷ Value all.1 ∷ []) fields.new) }
+{
+    match target_and_operand(target, Kind::Cord, fields) {
+        Ok(front) => paired(front, fields.number()),
+        Err(error) => Err(error),
+    }
+}
+
+/// The target, a cord and two numbers.
+#[inline(always)]
+pub fn target_operand_numbers<F: FieldSource>(
+    target: Kind,
+    fields: &mut F,
+) -> Result<(((Name, Name), Number), Number), F::Error>
+    requires { take 4 (F.wants fields.old) ≡
+        Want.Target target ∷ Want.Operand Kind.Cord ∷ Want.Number ∷ Want.Number ∷ [] }
+    ensures left { OnOk result (F.wants fields.new ≡ drop 4 (F.wants fields.old)) }
+    ensures given { IfOk result (λ all. GivesAll F.gives fields.old
+        (Target target all.0.0.0 ∷ Operand Kind.Cord all.0.0.1 ∷ Value all.0.1 ∷ Value all.1 ∷ []) fields.new) }
+{
+    match target_operand_number(target, fields) {
+        Ok(front) => paired(front, fields.number()),
+        Err(error) => Err(error),
+    }
+}
+
+/// The target, a cord, a number and another cord.
+#[inline(always)]
+pub fn target_operand_number_operand<F: FieldSource>(
+    target: Kind,
+    fields: &mut F,
+) -> Result<(((Name, Name), Number), Name), F::Error>
+    requires { take 4 (F.wants fields.old) ≡
+        Want.Target target ∷ Want.Operand Kind.Cord ∷ Want.Number ∷ Want.Operand Kind.Cord ∷ [] }
+    ensures left { OnOk result (F.wants fields.new ≡ drop 4 (F.wants fields.old)) }
+    ensures given { IfOk result (λ all. GivesAll F.gives fields.old
+        (Target target all.0.0.0 ∷ Operand Kind.Cord all.0.0.1 ∷ Value all.0.1 ∷ Operand Kind.Cord all.1 ∷ [])
+        fields.new) }
+{
+    match target_operand_number(target, fields) {
+        Ok(front) => paired(front, fields.operand(Kind::Cord)),
+        Err(error) => Err(error),
+    }
+}
