@@ -2,9 +2,9 @@ pub mod Entries
 pub mod Members
 pub mod Lengths
 pub mod Fronts
+pub mod Origins
 pub mod MemberRanges
 pub mod Ranges
-pub mod Origins
 pub mod Joins
 pub mod Tables
 pub mod Assignments

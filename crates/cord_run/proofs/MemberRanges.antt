@@ -19,8 +19,10 @@ use Rattle.cord_run.specs.declared.store.Entry.{Entry}
 use Rattle.cord_run.specs.inner.Extents.{extent_in, members_extent}
 use Rattle.cord_run.specs.inner.Entries.{IsOver}
 use Rattle.cord_run.specs.inner.Holdings.{holding_of, plain_of}
+use Rattle.cord_run.specs.inner.Origins.{Origin, origins, origins_of}
 use Rattle.cord_run.specs.inner.Ranges.{AddsExpression, AddsMembers, AddsRange, IsAfter, IsPast, joined_over}
-use Rattle.cord_run.proofs.Fronts.{IsFront, added, extent_both, member_front, members_front, parts_of}
+use Rattle.cord_run.proofs.Fronts.{IsFront, added, extent_both, member_front, members_front, origins_both, parts_of}
+use Rattle.cord_run.proofs.Origins.{TurnsSoFar, turns_added, turns_end, turns_go_on, turns_start}
 
 -- ---- texts
 -- a range of a text that has no byte of it
@@ -89,12 +91,14 @@ pub record SoFar (entries : List Entry) (es : Exprs) (wanted : Wanted) (old : Li
   pub bytes : (t : Table) → IsOver (lengths_of t) entries → all_texts (holding_of t entries) (cords_of es) ≡ true → (text : List ℕ) →
       joined_over entries es t ≡ Ok text → Remains entries t left_over left now
       (all_bytes t old ++ take wanted.count (drop wanted.skip text))
+  pub turns : TurnsSoFar entries es old left_over now
 
 -- at the start
 pub starts : (entries : List Entry) (es : Exprs) (wanted : Wanted) (old : List (Option Node)) → SoFar entries es wanted old es wanted old
 starts entries es wanted old = record {
   fits = λ lengths over all. all;
   bytes = λ t over there text is. record { rest = text; joined = is; there = there; whole = refl };
+  turns = turns_start entries es old;
 }
 
 -- at the end, where nothing more is added
@@ -106,6 +110,7 @@ ends entries es wanted old left_over left now none s = record {
   bytes = λ t over there text is.
       let r = s.bytes t over there text is in
       sym (append-nil (all_bytes t now)) ∙ ap (λ (u : List ℕ). all_bytes t now ++ u) (sym (none t r.rest r.joined)) ∙ r.whole;
+  in_turn = turns_end entries es old left_over now s.turns;
 }
 
 -- since nothing more is wanted
@@ -130,15 +135,16 @@ ends_added entries es wanted old left_over left now next s part = record {
   bytes = λ t over there text is.
       let r = s.bytes t over there text is in
       part.bytes t over r.there r.rest r.joined ∙ r.whole;
+  in_turn = turns_added entries es old left_over now next s.turns part.in_turn;
 }
 
 -- what is in front of the others is added
 passed : (entries : List Entry) (es : Exprs) (wanted : Wanted) (old : List (Option Node)) (all others : Exprs)
-    (needed : List (List ℕ)) (first : Table → Result (List ℕ) FaultKind) (extent : Result ℕ FaultKind) →
-    IsFront entries all others needed first extent → (left after : Wanted) (now next : List (Option Node)) →
-    SoFar entries es wanted old all left now → AddsRange entries needed first left now next → IsAfter extent left after →
-    SoFar entries es wanted old others after next
-passed entries es wanted old all others needed first extent front left after now next s part past = record {
+    (needed : List (List ℕ)) (from : List Origin) (first : Table → Result (List ℕ) FaultKind) (extent : Result ℕ FaultKind) →
+    IsFront entries all others needed first extent → origins_of all ≡ from ++ origins_of others → (left after : Wanted)
+    (now next : List (Option Node)) → SoFar entries es wanted old all left now → AddsRange entries needed from first left now next →
+    IsAfter extent left after → SoFar entries es wanted old others after next
+passed entries es wanted old all others needed from first extent front turns left after now next s part past = record {
   fits = λ lengths over fit. part.fits lengths over (s.fits lengths over fit);
   bytes = λ t over there text is.
       let r = s.bytes t over there text is in
@@ -158,6 +164,7 @@ passed entries es wanted old all others needed first extent front left after now
             ∙ ap (λ (u : List ℕ). all_bytes t now ++ u) (sym split)
             ∙ r.whole;
       };
+  turns = turns_go_on entries es old from all others now next turns s.turns part.in_turn;
 }
 
 -- a member more
@@ -165,7 +172,8 @@ pub goes_on : (entries : List Entry) (es : Exprs) (wanted : Wanted) (old : List 
     (left after : Wanted) (now next : List (Option Node)) → SoFar entries es wanted old (member e others) left now →
     AddsExpression entries e left now next → IsAfter (extent_in entries e) left after → SoFar entries es wanted old others after next
 goes_on entries es wanted old e others left after now next s part past = passed entries es wanted old (member e others) others (cords e)
-    (λ t. text_in MAX_LEN (plain_of t entries) e) (extent_in entries e) (member_front entries e others) left after now next s part past
+    (origins e) (λ t. text_in MAX_LEN (plain_of t entries) e) (extent_in entries e) (member_front entries e others) refl left after now next
+    s part past
 
 -- those in front, and then the others
 pub both_added : (entries : List Entry) (es others : Exprs) (wanted left : Wanted) (old now next : List (Option Node)) →
@@ -174,8 +182,8 @@ pub both_added : (entries : List Entry) (es others : Exprs) (wanted left : Wante
 both_added entries es others wanted left old now next first past second =
     let all = append es others in
     ends_added entries all wanted old others left now next
-    (passed entries all wanted old all others (cords_of es) (λ t. joined_over entries es t) (members_extent entries es)
-    (members_front entries es others) wanted left old now (starts entries all wanted old) first past) second
+    (passed entries all wanted old all others (cords_of es) (origins_of es) (λ t. joined_over entries es t) (members_extent entries es)
+    (members_front entries es others) (origins_both es others) wanted left old now (starts entries all wanted old) first past) second
 
 -- ---- what is wanted after the members
 -- after one length and another

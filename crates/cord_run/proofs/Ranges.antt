@@ -23,10 +23,12 @@ use Rattle.cord_run.specs.declared.store.Entry.{Entry}
 use Rattle.cord_run.specs.inner.Extents.{extent_in, members_extent}
 use Rattle.cord_run.specs.inner.Entries.{content_in, cord_in, operand_in}
 use Rattle.cord_run.specs.inner.Holdings.{holding_of, plain_of}
+use Rattle.cord_run.specs.inner.Origins.{AddsAtMostOne, AreCopies, IsCutOf, named, copied}
 use Rattle.cord_run.specs.inner.Ranges.{AddsCordRange, AddsCopies, AddsRun, AddsExpression, AddsMembers, AreFew, IsAfter, IsInside}
 use Rattle.cord_run.specs.inner.Ranges.{IsOutside}
 use Rattle.cord_run.specs.inner.Ranges.{IsPast}
 use Rattle.cord_run.proofs.MemberRanges.{nothing_taken}
+use Rattle.cord_run.proofs.Origins.{one_in_turn}
 use Rattle.cord_run.proofs.Lengths.{cord_fits, content_text, operand_value, length_passed}
 
 -- ---- one cord more
@@ -85,13 +87,15 @@ copies_added z b count made old new is text len pushed = subst (AddsCopies z cou
 
 -- ---- a name
 pub name_added : (entries : List Entry) (x : List ℕ) (wanted : Wanted) (old new : List (Option Node)) →
-    AddsCordRange (cord_in (content_in entries x)) wanted old new → AddsExpression entries (name x) wanted old new
-name_added entries x wanted old new part = record {
+    AddsCordRange (cord_in (content_in entries x)) wanted old new →
+    AddsAtMostOne (IsCutOf (cord_in (content_in entries x))) old new → AddsExpression entries (name x) wanted old new
+name_added entries x wanted old new part turn = record {
   fits = λ lengths over all. part.fits lengths (cord_fits lengths (content_in entries x) (over.contents x)) all;
   bytes = λ t over there whole is.
       let same : held_text ((holding_of t entries).held x) ≡ whole = cc in
       part.bytes t (cord_fits (lengths_of t) (content_in entries x) (over.contents x))
       ∙ ap (λ (u : List ℕ). all_bytes t old ++ take wanted.count (drop wanted.skip u)) (sym (content_text t (content_in entries x)) ∙ same);
+  in_turn = one_in_turn entries (named x) old new turn;
 }
 
 -- ---- copies
@@ -177,11 +181,13 @@ module _ (z w : ℤ) (wanted : Wanted) (old : List (Option Node)) where
   }
 
 pub run_added : (entries : List Entry) (c n : Number) (wanted : Wanted) (old new : List (Option Node)) →
-    AddsRun (operand_in entries c) (operand_in entries n) wanted old new → AddsExpression entries (run c n) wanted old new
-run_added entries c n wanted old new part = record {
+    AddsRun (operand_in entries c) (operand_in entries n) wanted old new →
+    AddsAtMostOne (AreCopies (operand_in entries c)) old new → AddsExpression entries (run c n) wanted old new
+run_added entries c n wanted old new part turn = record {
   fits = λ lengths over all. part.fits lengths all;
   bytes = λ t over there whole is. part.bytes t whole ((λ i. copies MAX_LEN (operand_value t entries c i) (operand_value t entries n i))
       ∙ is);
+  in_turn = one_in_turn entries (copied c) old new turn;
 }
 
 -- ---- a `cat`
@@ -190,6 +196,7 @@ pub cat_added : (entries : List Entry) (es : Exprs) (wanted : Wanted) (old new :
 cat_added entries es wanted old new part = record {
   fits = part.fits;
   bytes = λ t over there whole is. part.bytes t over there whole (cat_joined MAX_LEN (plain_of t entries) es whole is).joined;
+  in_turn = part.in_turn;
 }
 
 pub cat_past : (entries : List Entry) (es : Exprs) (wanted after : Wanted) → IsAfter (members_extent entries es) wanted after →
@@ -285,6 +292,7 @@ module _ (entries : List Entry) (e : Expr) (i n : Number) (start most : ℕ) (wa
         ∙ range_within q.middle start most wanted.skip wanted.count
         ∙ (λ j. take wanted.count (drop wanted.skip (take (up_to j) (drop (at j) q.middle))))
         ∙ ap (λ (u : List ℕ). take wanted.count (drop wanted.skip u)) p.same);
+    in_turn = part.in_turn;
   }
 
   module _ (rest after : Wanted) (outside : IsOutside most wanted inner rest after) where
@@ -318,6 +326,10 @@ module _ (entries : List Entry) (e : Expr) (i n : Number) (start most : ℕ) (wa
 pub still_ok : {A E P Q : Type 0} (r : Result A E) → (P → Q) → IfOk r (λ _. P) → IfOk r (λ _. Q)
 still_ok (Ok x) f p = f p
 still_ok (Err e) f p = tt
+
+pub still_ok_both : {A E P Q R : Type 0} (r : Result A E) → (P → Q → R) → IfOk r (λ _. P) → IfOk r (λ _. Q) → IfOk r (λ _. R)
+still_ok_both (Ok x) f p q = f p q
+still_ok_both (Err e) f p q = tt
 
 -- the same of what holds of its value
 pub still_ok_by : {A E : Type 0} (P Q : A → Type 0) (r : Result A E) → ((a : A) → P a → Q a) → IfOk r P → IfOk r Q

@@ -11,7 +11,7 @@ ghost use Rattle.cord_run.specs.inner.Extents.{extent_in, members_extent, member
 ghost use Rattle.cord_run.specs.inner.Entries.{content_in, cord_in, length_in, operand_in};
 ghost use Rattle.cord_run.specs.inner.Ranges.{AddsCopies, AddsExpression, AddsMembers, AddsCordRange, AddsRun, AreFew};
 ghost use Rattle.cord_run.specs.inner.Ranges.{IsAfter, IsInside, IsOutside, IsPast};
-ghost use Rattle.cord_run.specs.inner.Origins.{AddsAtMostOne, AddsInTurn, AreCopies, IsCutOf, origins, origins_of};
+ghost use Rattle.cord_run.specs.inner.Origins.{AddsAtMostOne, AreCopies, IsCutOf};
 
 use crate::checks::as_index;
 use crate::expressions::lengths::copies_asked;
@@ -94,8 +94,6 @@ pub(crate) fn add_range(
 ) -> Result<Wanted, CordError>
     ensures added { IfOk result (λ _. AddsExpression store.now.entries.items
         (expr_view expression.now) wanted pieces.old.items pieces.new.items) }
-    ensures in_turn { IfOk result (λ _. AddsInTurn store.now.entries.items
-        (origins (expr_view expression.now)) pieces.old.items pieces.new.items) }
     ensures past { IfOk result (IsAfter (extent_in store.now.entries.items (expr_view expression.now)) wanted) }
     ensures few { IfOk result (λ after. AreFew wanted after pieces.old.items pieces.new.items) }
     ensures refused { IsOkUnless result CordError.NoMemory }
@@ -128,8 +126,6 @@ fn add_members(
 ) -> Result<Wanted, CordError>
     ensures added { IfOk result (λ _. AddsMembers store.now.entries.items
         (members_view members.now) wanted pieces.old.items pieces.new.items) }
-    ensures in_turn { IfOk result (λ _. AddsInTurn store.now.entries.items
-        (origins_of (members_view members.now)) pieces.old.items pieces.new.items) }
     ensures past { IfOk result (IsAfter (members_extent store.now.entries.items (members_view members.now)) wanted) }
     ensures few { IfOk result (λ after. AreFew wanted after pieces.old.items pieces.new.items) }
     ensures refused { IsOkUnless result CordError.NoMemory }
@@ -155,8 +151,6 @@ fn add_all(
 ) -> Result<Wanted, CordError>
     ensures added { IfOk result (λ _. AddsMembers store.now.entries.items
         (members_seen members.now) wanted pieces.old.items pieces.new.items) }
-    ensures in_turn { IfOk result (λ _. AddsInTurn store.now.entries.items
-        (origins_of (members_seen members.now)) pieces.old.items pieces.new.items) }
     ensures past { IfOk result (IsAfter (members_extent store.now.entries.items (members_seen members.now)) wanted) }
     ensures few { IfOk result (λ after. AreFew wanted after pieces.old.items pieces.new.items) }
     ensures refused { IsOkUnless result CordError.NoMemory }

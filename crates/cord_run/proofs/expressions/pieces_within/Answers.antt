@@ -24,4 +24,4 @@ returns-then-len-eq0-clause-in_turn c =
 
 pub returns-clause-in_turn : goal.returns-clause-in_turn
 returns-clause-in_turn c = whole_in_turn c.args.store.now.entries.items (expr_view c.args.expression.now) c.new-pieces.result.items
-    c.add_range.new.pieces.items c.new-pieces.ensures.items c.in_ok-add_range.ensures.in_turn
+    c.add_range.new.pieces.items c.new-pieces.ensures.items c.in_ok-add_range.ensures.added.in_turn

@@ -8,12 +8,11 @@ use Rattle.cord_plan.proofs.ExprViews.{view-Name, view-Run, view-Cat, view-Sub}
 use Rattle.cord_run.specs.inner.Extents.{extent_in, members_extent, members_seen}
 use Rattle.cord_plan.proofs.Halves.{front_falls, halves_Some, rest_falls}
 use Rattle.cord_run.specs.inner.Ranges.{AddsExpression, AddsMembers, IsAfter}
-use Rattle.cord_run.specs.inner.Origins.{AddsInTurn, origins, origins_of}
 use Rattle.cord_run.proofs.Members.{weight, weights, member_smaller, members_left}
-use Rattle.cord_run.proofs.Ranges.{name_added, run_added, cat_added, cat_past, sub_added, sub_past, still_ok, still_ok_by}
+use Rattle.cord_run.proofs.Ranges.{name_added, run_added, cat_added, cat_past, sub_added, sub_past}
+use Rattle.cord_run.proofs.Ranges.{still_ok, still_ok_both, still_ok_by}
 use Rattle.cord_run.proofs.MemberRanges.{SoFar, WantedSoFar, starts, goes_on, ends_early, ends_last, wanted_goes_on, wanted_ends_early}
 use Rattle.cord_run.proofs.MemberRanges.{both_added, wanted_after_both, wanted_ends}
-use Rattle.cord_run.proofs.Origins.{TurnsSoFar, turns_both, turns_start, turns_go_on, turns_end}
 use Rattle.cord_run.proofs.expressions.ranges.+add_range.Goals as goal
 
 pub add_range-returns-in-Name-clause-added : goal.add_range-returns-in-Name-clause-added
@@ -24,7 +23,7 @@ add_range-returns-in-Name-clause-added t c =
     let new = c.add_name.new.pieces.items in
     let view : expr_view c.args.expression.now ≡ plain.name x = ap expr_view c.in-Name.is ∙ view-Name x in
     subst (λ (e : plain.Expr). IfOk c.add_name.result (λ _. AddsExpression entries e c.args.wanted old new)) (sym view)
-    (still_ok c.add_name.result (name_added entries x c.args.wanted old new) c.add_name.ensures.added)
+    (still_ok_both c.add_name.result (name_added entries x c.args.wanted old new) c.add_name.ensures.added c.add_name.ensures.in_turn)
 
 pub add_range-returns-in-Run-clause-added : goal.add_range-returns-in-Run-clause-added
 add_range-returns-in-Run-clause-added t c =
@@ -34,7 +33,8 @@ add_range-returns-in-Run-clause-added t c =
     let view : expr_view c.args.expression.now ≡ plain.run c.in-Run.byte c.in-Run.count =
     ap expr_view c.in-Run.is ∙ view-Run c.in-Run.byte c.in-Run.count in
     subst (λ (e : plain.Expr). IfOk c.add_run.result (λ _. AddsExpression entries e c.args.wanted old new)) (sym view)
-    (still_ok c.add_run.result (run_added entries c.in-Run.byte c.in-Run.count c.args.wanted old new) c.add_run.ensures.added)
+    (still_ok_both c.add_run.result (run_added entries c.in-Run.byte c.in-Run.count c.args.wanted old new) c.add_run.ensures.added
+    c.add_run.ensures.in_turn)
 
 pub add_range-returns-in-Cat-clause-added : goal.add_range-returns-in-Cat-clause-added
 add_range-returns-in-Cat-clause-added t c =
@@ -88,7 +88,6 @@ add_range-returns-in_ok-rest-in-Sub-clause-past t c =
 pub add_all-loop-member-init : goal.add_all-loop-member-init
 add_all-loop-member-init t c = record {
   added = starts c.args.store.now.entries.items (members_seen c.args.members.now) c.args.wanted c.args.pieces.now.items;
-  in_turn = turns_start c.args.store.now.entries.items (members_seen c.args.members.now) c.args.pieces.now.items;
   past = λ last h. h;
   few = omega arith;
 }
@@ -99,12 +98,6 @@ add_all-returns-then-is_nothing-clause-added t c =
     ends_early c.args.store.now.entries.items (members_seen ms) c.args.wanted c.args.pieces.now.items
     (members_seen (drop c.loop-member.member-index ms)) c.loop-member.left c.loop-member.pieces.items
     (c.is_nothing.ensures.count c.if-is_nothing.true) c.loop-member.invariant.added
-
-pub add_all-returns-then-is_nothing-clause-in_turn : goal.add_all-returns-then-is_nothing-clause-in_turn
-add_all-returns-then-is_nothing-clause-in_turn t c =
-    let ms = c.args.members.now in
-    turns_end c.args.store.now.entries.items (members_seen ms) c.args.pieces.now.items (members_seen (drop c.loop-member.member-index ms))
-    c.loop-member.pieces.items c.loop-member.invariant.in_turn
 
 pub add_all-returns-then-is_nothing-clause-past : goal.add_all-returns-then-is_nothing-clause-past
 add_all-returns-then-is_nothing-clause-past t c =
@@ -138,16 +131,11 @@ add_all-loop-member-preserved t c =
     members_left ms k c.member-item.result c.loop-member-test.true c.member-item.is in
     let added : AddsExpression entries e left now next =
     subst (λ (x : Expr). AddsExpression entries (expr_view x) left now next) c.as_ref-expression.ensures c.in_ok-left.ensures.added in
-    let in_turn : AddsInTurn entries (origins e) now next =
-    subst (λ (x : Expr). AddsInTurn entries (origins (expr_view x)) now next) c.as_ref-expression.ensures
-    c.in_ok-left.ensures.in_turn in
     let past : IsAfter (extent_in entries e) left after =
     subst (λ (x : Expr). IsAfter (extent_in entries (expr_view x)) left after) c.as_ref-expression.ensures c.in_ok-left.ensures.past in
     record {
       added = goes_on entries es c.args.wanted old e others left after now next
           (subst (λ (xs : plain.Exprs). SoFar entries es c.args.wanted old xs left now) at c.loop-member.invariant.added) added past;
-      in_turn = turns_go_on entries es old e others now next
-          (subst (λ (xs : plain.Exprs). TurnsSoFar entries es old xs now) at c.loop-member.invariant.in_turn) in_turn;
       past = wanted_goes_on entries es c.args.wanted e others left after
           (subst (λ (xs : plain.Exprs). WantedSoFar entries es c.args.wanted xs left) at c.loop-member.invariant.past) past;
       few = omega (arith, c.in_ok-left.ensures.few, c.loop-member.invariant.few);
@@ -164,12 +152,6 @@ add_all-returns-clause-added t c =
     ends_last entries (members_seen ms) c.args.wanted c.args.pieces.now.items left now
     (subst (λ (xs : plain.Exprs). SoFar entries (members_seen ms) c.args.wanted c.args.pieces.now.items xs left now) none
     c.loop-member.invariant.added)
-
-pub add_all-returns-clause-in_turn : goal.add_all-returns-clause-in_turn
-add_all-returns-clause-in_turn t c =
-    let ms = c.args.members.now in
-    turns_end c.args.store.now.entries.items (members_seen ms) c.args.pieces.now.items (members_seen (drop c.loop-member.member-index ms))
-    c.loop-member.pieces.items c.loop-member.invariant.in_turn
 
 pub add_all-returns-clause-past : goal.add_all-returns-clause-past
 add_all-returns-clause-past t c =
@@ -207,20 +189,6 @@ add_members-returns-in_ok-left-in-Some-clause-added t c =
     subst (λ (es : plain.Exprs). IfOk c.add_all-in-Some.result (λ _. AddsMembers entries es c.args.wanted old next)) (sym whole)
     (still_ok c.add_all-in-Some.result (both_added entries front rest c.args.wanted c.in_ok-left-in-Some.left old now next
     c.in_ok-left-in-Some.ensures.added c.in_ok-left-in-Some.ensures.past) c.add_all-in-Some.ensures.added)
-
-pub add_members-returns-in_ok-left-in-Some-clause-in_turn : goal.add_members-returns-in_ok-left-in-Some-clause-in_turn
-add_members-returns-in_ok-left-in-Some-clause-in_turn t c =
-    let entries = c.args.store.now.entries.items in
-    let front = members_view c.in-Some.front.now in
-    let rest = members_seen c.halves.result.1.now in
-    let old = c.args.pieces.now.items in
-    let now = c.add_members.new.pieces.items in
-    let next = c.add_all-in-Some.new.pieces.items in
-    let whole = halves_Some (members_view c.args.members.now) c.halves.result.0 c.halves.result.1.now c.halves.ensures.members
-    c.in-Some.front c.in-Some.is in
-    subst (λ (es : plain.Exprs). IfOk c.add_all-in-Some.result (λ _. AddsInTurn entries (origins_of es) old next)) (sym whole)
-    (still_ok c.add_all-in-Some.result (turns_both entries front rest old now next c.in_ok-left-in-Some.ensures.in_turn)
-    c.add_all-in-Some.ensures.in_turn)
 
 pub add_members-returns-in_ok-left-in-Some-clause-past : goal.add_members-returns-in_ok-left-in-Some-clause-past
 add_members-returns-in_ok-left-in-Some-clause-past t c =

@@ -4,7 +4,6 @@ use Rattle.cord_run.specs.inner.Extents.{members_seen}
 use Rattle.cord_run.specs.inner.Ranges.{AreFew}
 use Rattle.cord_run.proofs.Members.{weight, weights}
 use Rattle.cord_run.proofs.MemberRanges.{SoFar, WantedSoFar}
-use Rattle.cord_run.proofs.Origins.{TurnsSoFar}
 use Rattle.cord_run.proofs.expressions.ranges.+add_range.Given as goal
 
 abbrev pub decreases-add_range : goal.decreases-add_range
@@ -20,8 +19,6 @@ abbrev pub invariant-add_all-loop-member : goal.invariant-add_all-loop-member
 invariant-add_all-loop-member l = record {
   added : SoFar l.store.entries.items (members_seen l.members) l.fn.wanted l.initial.pieces.items
       (members_seen (drop l.member-index l.members)) l.left l.pieces.items;
-  in_turn : TurnsSoFar l.store.entries.items (members_seen l.members) l.initial.pieces.items (members_seen (drop l.member-index l.members))
-      l.pieces.items;
   past : WantedSoFar l.store.entries.items (members_seen l.members) l.fn.wanted (members_seen (drop l.member-index l.members)) l.left;
   few : AreFew l.fn.wanted l.left l.initial.pieces.items l.pieces.items;
 }
