@@ -1,8 +1,9 @@
 // The lengths of expressions, by the lengths of their names.
-ghost use Rattle.std.specs.Prelude.{◌≡◌, ◌≤◌, Err, IfErr, IfOk, Ok};
+ghost use Rattle.std.specs.Prelude.{◌≡◌, ◌≤◌, Err, IfErr, IfOk, IfSome, Ok};
 ghost use Rattle.cord_meaning.specs.State as meant;
 ghost use Rattle.cord_plan.specs.Values.{measured_copies, measured_part};
 ghost use Rattle.cord_plan.specs.Views.{expr_view, members_view};
+ghost use Rattle.cord_run.specs.inner.Entries.{length_in};
 ghost use Rattle.cord_run.specs.inner.Extents.{counted, extent_in, members_extent, members_seen};
 
 use crate::checks::{as_byte, as_index, as_length};
@@ -10,6 +11,7 @@ use crate::store::Store;
 use cord_io::MAX_LEN;
 use cord_meaning::FaultKind;
 use cord_plan::{Expr, Members};
+use cord_script::Name;
 use std::rc::Rc;
 
 /// The length of an expression, or its fault. No byte is read.
@@ -56,10 +58,15 @@ fn length_after(before: u64, members: &[Rc<Expr>], store: &Store) -> Result<u64,
     ensures { result ≡ counted before (members_extent store.now.entries.items (members_seen members.now)) }
 {
     let mut total = before;
+    let mut last = None;
     for member in members {
         let expression = member.as_ref();
         match expression {
-            Expr::Name(name) => total = total.saturating_add(store.length_of(name)),
+            Expr::Name(name) => {
+                let known = with_length(last, name, store);
+                total = total.saturating_add(known.len);
+                last = Some(known);
+            }
             _ => match length_of(expression, store) {
                 Ok(len) => total = total.saturating_add(len),
                 Err(kind) => return Err(kind),
@@ -67,6 +74,29 @@ fn length_after(before: u64, members: &[Rc<Expr>], store: &Store) -> Result<u64,
         }
     }
     Ok(total)
+}
+
+// A name, and the length that is told of it.
+#[derive(Clone, Copy)]
+struct Named<'a> {
+    name: &'a Name,
+    len: u64,
+}
+
+// A name with its length, which isn't looked for where the last name was the same one.
+#[inline(always)]
+fn with_length<'a>(last: Option<Named<'a>>, name: &'a Name, store: &Store) -> Named<'a>
+    requires { IfSome last (λ known. known.len ≡ length_in store.now.entries.items known.name.now) }
+    ensures len { result.len ≡ length_in store.now.entries.items name.now }
+    ensures known { result.len ≡ length_in store.now.entries.items result.name.now }
+{
+    match last {
+        Some(last) if last.name.is(name) => last,
+        _ => Named {
+            name,
+            len: store.length_of(name),
+        },
+    }
 }
 
 /// So many copies of a byte.

@@ -1,15 +1,19 @@
-use Rattle.std.proofs.Common.{◌≡◌, ◌<◌, ◌+◌, ℕ, Result, sym, ap, subst, ◌∙◌, rules}
+use Rattle.std.proofs.Common.{◌≡◌, ◌<◌, ◌+◌, ℕ, Result, Ok, drop, sym, ap, subst, ◌∙◌, rules}
+use Rattle.std.specs.Prelude.{IfSome, Option}
 use Rattle.cord_plan.specs.Exprs as plain
 use Rattle.cord_plan.specs.declared.expressions.Expr.{Expr}
 use Rattle.cord_plan.specs.Views.{expr_view, members_view, shared_view}
-use Rattle.cord_plan.proofs.ExprViews.{view-Cat}
+use Rattle.cord_plan.proofs.ExprViews.{view-Cat, view-Name}
 use Rattle.cord_meaning.specs.declared.ends.FaultKind.{FaultKind}
 use Rattle.cord_meaning.specs.State.{and_then}
 use Rattle.cord_plan.proofs.Halves.{front_falls, halves_Some, rest_falls}
+use Rattle.cord_run.specs.declared.expressions.lengths.Named.{Named}
+use Rattle.cord_run.specs.inner.Entries.{length_in}
 use Rattle.cord_run.specs.inner.Extents.{counted, extent_in, members_extent, members_seen}
 use Rattle.cord_run.proofs.Fronts.{all_counted}
-use Rattle.cord_run.proofs.Members.{weight, weights, member_smaller, member_faulty, resolve_all, counted_length}
+use Rattle.cord_run.proofs.Members.{weight, weights, member_counted, member_smaller, member_faulty, resolve_all, counted_length}
 use Rattle.cord_run.proofs.expressions.lengths.+length_of.Goals as goal
+use Rattle.cord_run.proofs.expressions.lengths.+length_of.Goals.{length_after-in-Name, length_after-in_default+in-Ok}
 
 pub length_of-returns-in-Ok : goal.length_of-returns-in-Ok
 length_of-returns-in-Ok t c =
@@ -19,13 +23,47 @@ length_of-returns-in-Ok t c =
     ∙ counted_length c.in-Ok.len (members_extent c.args.store.now.entries.items es) c.in-Ok.ensures
     ∙ ap (λ (e : plain.Expr). extent_in c.args.store.now.entries.items e) (sym view)
 
-pub length_after-length_of-requires-in_default : goal.length_after-length_of-requires-in_default
-length_after-length_of-requires-in_default t c =
+pub length_after-length_of-requires : goal.length_after-length_of-requires
+length_after-length_of-requires t c =
     let there : weight (shared_view c.member-item.result) < weights (members_seen c.args.members.now) =
     member_smaller c.args.members.now c.loop-member.member-index c.member-item.result c.loop-member-test.true c.member-item.is in
     let below : weight (expr_view c.as_ref-expression.result.now) < weights (members_seen c.args.members.now) =
     subst (λ (e : Expr). weight (expr_view e) < weights (members_seen c.args.members.now)) (sym c.as_ref-expression.ensures) there in
     search (rules, below)
+
+pub length_after-loop-member-preserved : goal.length_after-loop-member-preserved
+length_after-loop-member-preserved t c =
+    let entries = c.args.store.now.entries.items in
+    let ms = c.args.members.now in
+    let i = c.loop-member.member-index in
+    let left = members_extent entries (members_seen (drop (i + 1) ms)) in
+    let seen : extent_in entries (shared_view c.member-item.result) ≡ extent_in entries (expr_view c.as_ref-expression.result.now) =
+    ap (λ (e : Expr). extent_in entries (expr_view e)) (sym c.as_ref-expression.ensures) in
+    elim c.match-expression.branch [
+      | length_after-in-Name w ↦
+          let len = w.with_length-known.result.len in
+          let told : extent_in entries (expr_view c.as_ref-expression.result.now) ≡ Ok len =
+          ap (λ (e : plain.Expr). extent_in entries e) (ap expr_view w.in-Name.is ∙ view-Name w.in-Name.name)
+          ∙ ap (λ (n : ℕ). Ok n) (sym w.with_length-known.ensures.len) in
+          record {
+            extent = c.loop-member.invariant.extent
+                ∙ member_counted entries ms i c.member-item.result c.loop-member-test.true c.member-item.is c.loop-member.total len (seen ∙ told)
+                ∙ ap (λ (n : ℕ). counted n left) (sym (w.total-is ∙ w.saturating_add-total.ensures));
+            small = search rules;
+            known = subst (λ (last : Option Named). IfSome last (λ known. known.len ≡ length_in entries known.name.now)) (sym w.last-is)
+                w.with_length-known.ensures.known;
+          }
+      | length_after-in_default+in-Ok w ↦
+          record {
+            extent = c.loop-member.invariant.extent
+                ∙ member_counted entries ms i c.member-item.result c.loop-member-test.true c.member-item.is c.loop-member.total w.in-Ok.len
+                (seen ∙ sym w.in-Ok.ensures)
+                ∙ ap (λ (n : ℕ). counted n left) (sym (w.total-is ∙ w.saturating_add-total-in-Ok.ensures));
+            small = search rules;
+            known = subst (λ (last : Option Named). IfSome last (λ known. known.len ≡ length_in entries known.name.now)) (sym w.last-is)
+                c.loop-member.invariant.known;
+          }
+    ]
 
 pub length_after-returns-in-Err : goal.length_after-returns-in-Err
 length_after-returns-in-Err t c =

@@ -1,5 +1,7 @@
 use Rattle.std.proofs.Common.{◌≡◌, ◌+◌, ◌<◌, ◌^◌, drop}
+use Rattle.std.specs.Prelude.{IfSome}
 use Rattle.cord_plan.specs.Views.{expr_view, members_view}
+use Rattle.cord_run.specs.inner.Entries.{length_in}
 use Rattle.cord_run.specs.inner.Extents.{counted, members_extent, members_seen}
 use Rattle.cord_run.proofs.Members.{weight, weights}
 use Rattle.cord_run.proofs.expressions.lengths.+length_of.Given as goal
@@ -18,4 +20,5 @@ invariant-length_after-loop-member l = record {
   extent : counted l.before (members_extent l.store.entries.items (members_seen l.members))
       ≡ counted l.total (members_extent l.store.entries.items (members_seen (drop l.member-index l.members)));
   small : l.total < 2 ^ 64;
+  known : IfSome l.last (λ known. known.len ≡ length_in l.store.entries.items known.name.now);
 }
