@@ -6,7 +6,7 @@ use Rattle.std.proofs.Math.Seq.{take-append_seam}
 use Rattle.std.proofs.Math.Bool.{or_assoc}
 use Rattle.std.proofs.lemmas.Bool.{ne_eqb}
 use Rattle.std.proofs.lemmas.Option.{slice_get_read}
-use Rattle.std.proofs.lemmas.List.{at_drop_more, at_drop_all, map-append, map-set, set-set}
+use Rattle.std.proofs.lemmas.List.{at_drop_more, at_drop_all, map-append, map-set}
 use Rattle.std.proofs.lemmas.List.Recursion.{or_push}
 use Rattle.cord_syntax.specs.declared.statements.Statement.{Statement}
 use Rattle.cord_syntax.specs.declared.statements.Statement.TheVariants.{Let, File, Eager, Lazy, Chars, Nul, FromFn, Cat, Catn, Catc, Substr}
@@ -148,15 +148,14 @@ measured_there p (suc k) a (q ∷ os) o place lt is =
     λ i. sym (ap (λ (v : Bool). measured (v || false) (operation_view q)) other ∙ measured_false (operation_view q)) i
     ∷ measured_there (p + 1) k a os o next below is i
 
--- an operation that is taken out, measured and put back
-pub put_back : (os : List program.Operation) (k : ℕ) (gap o r : program.Operation) → k < length os → o ≡ get_or os k o →
+-- an operation that only measures now
+pub measured_at : (os : List program.Operation) (k : ℕ) (o r : program.Operation) → k < length os → o ≡ get_or os k o →
     operation_view r ≡ measured true (operation_view o) →
-    map operation_view (set (set os k gap) k r) ≡ measured_from 0 (Some k ∷ []) (map operation_view os)
-put_back os k gap o r lt is made =
-    ap (map operation_view) (set-set os k gap r)
-    ∙ (map-set operation_view os k r
+    map operation_view (set os k r) ≡ measured_from 0 (Some k ∷ []) (map operation_view os)
+measured_at os k o r lt is made =
+    map-set operation_view os k r
     ∙ (ap (set (map operation_view os) k) made
-    ∙ measured_there 0 k k os o (let same : 0 + k ≡ k = omega arith in same) lt is))
+    ∙ measured_there 0 k k os o (let same : 0 + k ≡ k = omega arith in same) lt is)
 
 -- one place more of a list
 pub measured_more : (ps : List (Option ℕ)) (i : ℕ) (p : Option ℕ) (os now all : List Operation) → i < length ps →

@@ -59,6 +59,15 @@ fn measured(operation: Operation) -> Operation
     }
 }
 
+// Lets an operation only measure.
+fn let_measure(operation: &mut Operation)
+    ensures { operation_view operation.new ≡ measured true (operation_view operation.old) }
+{
+    let gap = Operation::Keep(Statement::End { line: 0 });
+    let taken = replace(operation, gap);
+    drop(replace(operation, measured(taken)));
+}
+
 // Lets the operation at a place, where there is one, only measure.
 fn measure_at(operations: &mut [Operation], source: Option<usize>)
     ensures { map operation_view operations.new ≡ measured_from 0 (source ∷ []) (map operation_view operations.old) }
@@ -67,9 +76,7 @@ fn measure_at(operations: &mut [Operation], source: Option<usize>)
         None => {}
         Some(place) => {
             if place < operations.len() {
-                let gap = Operation::Keep(Statement::End { line: 0 });
-                let operation = replace(&mut operations[place], gap);
-                operations[place] = measured(operation);
+                let_measure(&mut operations[place]);
             }
         }
     }

@@ -3,15 +3,14 @@ use Rattle.std.proofs.lemmas.List.{length-map}
 use Rattle.cord_plan.specs.inner.Steps.{measured}
 use Rattle.cord_plan.specs.Views.{operation_view}
 use Rattle.cord_plan.specs.declared.operations.Operation.{Operation}
-use Rattle.cord_plan.proofs.Marked.{nowhere_measured, past, put_back}
+use Rattle.cord_plan.proofs.Marked.{measured_at, nowhere_measured, past}
 use Rattle.cord_plan.proofs.planner.measuring.measure_at.Goals as goal
 
 pub returns-then-place-operations : goal.returns-then-place-operations
 returns-then-place-operations c = rw c.in-Some.is
-    (put_back c.args.operations.now c.in-Some.place c.replace-operation.new.dest c.index-operations-place.result c.measured.result
+    (measured_at c.args.operations.now c.in-Some.place c.index-operations-place.result c.let_measure.new.operation
     c.if-place-operations.true c.index-operations-place.is
-    (c.measured.ensures ∙ ap (λ (o : Operation). measured true (operation_view o))
-    (c.replace-operation.ensures.value ∙ sym c.index-operations-place.is)))
+    (c.let_measure.ensures ∙ ap (λ (o : Operation). measured true (operation_view o)) (sym c.index-operations-place.is)))
 
 pub returns-else-place-operations : goal.returns-else-place-operations
 returns-else-place-operations c =
