@@ -1137,6 +1137,187 @@ static void nulls_of_lazy_reads(void) {
     EXPECT(place == 7 && byte == 7 && order == 7);
 }
 
+/* A text, and then the same once more. */
+static void twice(zc_cord *x) {
+    zc_cord copy = ZC_EMPTY, both = ZC_EMPTY;
+    DO(zc_share(x, &copy));
+    DO(zc_cat(x, &copy, &both));
+    zc_free(x);
+    zc_free(&copy);
+    *x = both;
+}
+
+/* The byte at a place of "ab", 65,536 times, and a "c". */
+static unsigned char pattern_at(uint64_t place) {
+    if (place == 131072) return 'c';
+    return place % 2 == 0 ? 'a' : 'b';
+}
+
+/* Goes over that text from a place to its end, by chunks and byte by byte. */
+static void expect_pattern(zc_cord *x) {
+    zc_chunks chunks = ZC_CHUNKS_EMPTY;
+    zc_pos position = ZC_POS_NOWHERE;
+    uint64_t start = may_want ? 131000 : 65535, place = start;
+    unsigned char byte = 0;
+    EXPECT(zc_len(x) == 131073);
+    DO(zc_chunks_set(x, start, &chunks));
+    while (zc_chunks_next(&chunks) != 0)
+        for (size_t i = 0; i < chunks.count; i++, place++) EXPECT(chunks.bytes[i] == pattern_at(place));
+    EXPECT(place == 131073);
+    DO(zc_pos_set(x, start, &position));
+    for (place = start; zc_pos_fetch(&position, &byte) == ZC_OK; place++) {
+        EXPECT(byte == pattern_at(place));
+        zc_pos_next(&position);
+    }
+    EXPECT(place == 131073);
+    zc_chunks_free(&chunks);
+    zc_pos_free(&position);
+}
+
+/* A text that is doubled again and again, gone over and cut, and the same of it balanced. */
+static void doubles(void) {
+    zc_cord x = ZC_EMPTY, y = ZC_EMPTY, part = ZC_EMPTY;
+    DO(zc_from_bytes("ab", 2, &y));
+    twice(&y);
+    EXPECT_TEXT(&y, "abab");
+    for (int i = 1; i < 16; i++) twice(&y);
+    DO(zc_cat_char(&y, 'c', &x));
+    expect_pattern(&x);
+    DO(zc_substr(&x, 1023, 5, &part));
+    EXPECT_TEXT(&part, "babab");
+    DO(zc_substr(&x, 1024, 8, &part));
+    EXPECT_TEXT(&part, "abababab");
+    DO(zc_substr(&x, 131071, 8, &part));
+    EXPECT_TEXT(&part, "bc");
+    DO(zc_balance(&x, &y));
+    expect_pattern(&y);
+    DO(zc_substr(&y, 1023, 5, &part));
+    EXPECT_TEXT(&part, "babab");
+    zc_free(&x);
+    zc_free(&y);
+    zc_free(&part);
+}
+
+#define LETTERS "abcdefghijklmnopqrstuvwxyz0123456789"
+
+/* Texts of many letters: joined in two ways, balanced, and longer ones in order. */
+static void orders(zc_cord *letters, zc_cord *out) {
+    zc_cord parts[3] = {ZC_EMPTY, ZC_EMPTY, ZC_EMPTY}, x = ZC_EMPTY, y = ZC_EMPTY, end = ZC_EMPTY;
+    for (int i = 0; i < 3; i++) DO(zc_share(letters, &parts[i]));
+    DO(zc_catn(parts, 3, &x));
+    DO(zc_cat(&parts[0], &parts[1], &y));
+    DO(zc_cat(&y, &parts[2], &end));
+    EXPECT(order_of(&x, &end) == 0);
+    DO(zc_from_bytes("{}", 2, &x));
+    for (int i = 1; i < 100; i++) {
+        DO(zc_cat(&x, letters, &y));
+        zc_cord longer = y;
+        y = x, x = longer; /* the two handles change places */
+    }
+    DO(zc_balance(&x, out));
+    EXPECT(zc_len(out) == 3566 && order_of(&x, out) == 0);
+    DO(zc_chars(0, 13, &end));
+    DO(zc_cat(out, &end, &y));
+    EXPECT(order_of(&x, &y) < 0);
+    DO(zc_cat(&x, &end, &y));
+    EXPECT(order_of(&y, out) > 0);
+    DO(zc_from_bytes("13", 2, &end));
+    DO(zc_cat(out, &end, &y));
+    EXPECT(order_of(&x, &y) < 0);
+    for (int i = 0; i < 3; i++) zc_free(&parts[i]);
+    zc_free(&x);
+    zc_free(&y);
+    zc_free(&end);
+}
+
+/* The same text in a file: read at once, read lazily, cut and searched. */
+static void orders_in_a_file(zc_cord *letters, zc_cord *text) {
+    char path[] = "/tmp/zomtsje_XXXXXX";
+    zc_files files = ZC_FILES_NONE;
+    zc_lazy lazy = ZC_LAZY_EMPTY, whole = ZC_LAZY_EMPTY;
+    zc_cord x = ZC_EMPTY, part = ZC_EMPTY;
+    int32_t order = 12345;
+    int fd = mkstemp(path);
+    EXPECT(fd >= 0);
+    put_at(text, fd, 0);
+    read_path(path, &x);
+    EXPECT(zc_len(&x) == 3566 && order_of(&x, text) == 0);
+    DO(zc_substr(&x, 50 * 36 + 2, 36, &part));
+    EXPECT(order_of(&part, letters) == 0);
+    open_lazily(&files, path, &lazy);
+    DO(zc_lazy_from_cord(&x, &whole));
+    DO(zc_lazy_cmp(&files, &lazy, &whole, &order));
+    EXPECT(order == 0);
+    EXPECT(zc_chr(&x, 0, '9') == 37 && lazy_byte_place(&files, &lazy, 0, '9') == 37);
+    EXPECT(zc_chr(&x, 3, 'a') == 38 && lazy_byte_place(&files, &lazy, 3, 'a') == 38);
+    EXPECT(zc_rchr(&x, 3566, '}') == 1);
+    EXPECT(close(fd) == 0 && unlink(path) == 0);
+    zc_lazy_free(&lazy);
+    zc_lazy_free(&whole);
+    zc_files_free(&files);
+    zc_free(&x);
+    zc_free(&part);
+}
+
+/* The letters 8,192 times, through a file: cut and searched. */
+static void searches_of_long_texts(zc_cord *x) {
+    char path[] = "/tmp/zomtsje_XXXXXX";
+    zc_cord read = ZC_EMPTY, part = ZC_EMPTY;
+    int fd = mkstemp(path);
+    EXPECT(fd >= 0);
+    for (int i = 1; i < 14; i++) twice(x);
+    put_at(x, fd, 0);
+    read_path(path, &read);
+    EXPECT(zc_len(&read) == 294912 && order_of(&read, x) == 0);
+    DO(zc_substr(&read, 36000, 36, &part));
+    EXPECT_TEXT(&part, LETTERS);
+    DO(zc_substr(&read, 36000, 2, &part));
+    EXPECT_TEXT(&part, "ab");
+    EXPECT(place_of_bytes(x, 1, "9a") == 35);
+    EXPECT(place_of_bytes(x, 0, "9abcdefghijk") == 35);
+    EXPECT(place_of_bytes(x, 0, "9abcdefghijx") == ZC_NOT_FOUND);
+    EXPECT(place_of_bytes(x, 0, "9>") == ZC_NOT_FOUND);
+    EXPECT(close(fd) == 0 && unlink(path) == 0);
+    zc_free(&read);
+    zc_free(&part);
+}
+
+static void long_texts(void) {
+    zc_cord letters = ZC_EMPTY, text = ZC_EMPTY;
+    DO(zc_from_bytes(LETTERS, 36, &letters));
+    orders(&letters, &text);
+    orders_in_a_file(&letters, &text);
+    searches_of_long_texts(&letters);
+    zc_free(&letters);
+    zc_free(&text);
+}
+
+/* Prints beside those of the C library. */
+static void prints(void) {
+    zc_arg words[3] = {ZC_TEXT, ZC_NUMBER('x'), ZC_TEXT}, text = ZC_TEXT;
+    zc_arg numbers[3] = {ZC_NUMBER(123), ZC_NUMBER(4567), ZC_NUMBER(0x4abc)};
+    zc_cord out = ZC_EMPTY;
+    char wanted[200], copy[124];
+    DO(zc_from_bytes("abcd", 4, &words[0].text));
+    DO(zc_from_bytes("yz", 2, &words[2].text));
+    DO(format("%-7.2s%c%s", words, 3, &out));
+    EXPECT_TEXT(&out, "ab     xyz");
+    DO(zc_from_bytes("abcdefghij", 10, &text.text));
+    for (int i = 0; i < 3; i++) twice(&text.text);
+    EXPECT(snprintf(wanted, sizeof wanted, "->%-120.78s!\n",
+                    "abcdefghijabcdefghijabcdefghijabcdefghijabcdefghijabcdefghijabcdefghijabcdefghij") == 124);
+    DO(format("->%-120.78s!\n", &text, 1, &out));
+    EXPECT(zc_len(&out) == 124);
+    DO(zc_to_bytes(&out, 0, copy, sizeof copy));
+    EXPECT(memcmp(copy, wanted, sizeof copy) == 0);
+    DO(format("%lu %ld 0x%lx", numbers, 3, &out));
+    EXPECT_TEXT(&out, "123 4567 0x4abc");
+    zc_free(&words[0].text);
+    zc_free(&words[2].text);
+    zc_free(&text.text);
+    zc_free(&out);
+}
+
 int main(int count, char **words) {
     (void)words;
     may_want = count > 1;
@@ -1172,6 +1353,9 @@ int main(int count, char **words) {
     put_lazily();
     nulls_of_lazies();
     nulls_of_lazy_reads();
+    doubles();
+    long_texts();
+    prints();
     messages();
     if (!may_want) trees();
     printf("%lu rows, %lu refused\n", rows, wants);
