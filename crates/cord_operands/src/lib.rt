@@ -5,8 +5,10 @@ mod keys;
 mod names;
 mod operands;
 mod sequences;
+mod shared;
 
 pub use keys::{key_of, slot_of};
 pub use names::{Name, Names, Path, Text};
 pub use operands::{Argument, Arguments, Function, Number, Relation};
 pub use sequences::Sequence;
+pub use shared::Shared;
