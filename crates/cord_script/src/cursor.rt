@@ -9,11 +9,10 @@ use crate::field_source::FieldSource;
 use crate::fields::Field;
 use crate::kinds::{Kind, Want};
 use crate::{
-    Argument, Arguments, Function, Name, Names, Number, Path, RefusalKind, Relation, Text,
+    Argument, Arguments, Function, Name, Names, Number, Path, RefusalKind, Relation, Shared, Text,
 };
-use std::alloc::Global;
+use std::alloc::{AllocError, Global};
 use std::collections::VecDeque;
-use std::convert::Infallible;
 use std::marker::Model;
 
 // The next field, which is of one of these variants: what is wanted says so.
@@ -62,12 +61,30 @@ impl FieldCursor {
         Vec::from(self.rest)
     }
 
-    /// The text of a format.
-    pub fn format(&mut self) -> Text
+    /// The target, which is a cord.
+    pub fn cord_target(&mut self) -> Name
+        requires { next_want (map want_of self.old) ≡ Some (Want.Target Kind.Cord) }
+        ensures { self.old ≡ Target Kind.Cord result ∷ self.new }
+    {
+        next!(self, Field::Target(_, name) => name)
+    }
+
+    // The text of a format.
+    fn format(&mut self) -> Text
         requires { next_want (map want_of self.old) ≡ Some Want.Format }
         ensures { self.old ≡ Formats result ∷ self.new }
     {
         next!(self, Field::Formats(text) => text)
+    }
+
+    /// The text of a format, on the heap.
+    pub fn shared_format(&mut self, alloc: Global) -> Result<Shared<Text>, RefusalKind>
+        requires { next_want (map want_of self.old) ≡ Some Want.Format }
+        ensures format { IfOk result (λ text. self.old ≡ Formats text ∷ self.new) }
+        ensures flaw { IfErr result (λ kind. kind ≡ RefusalKind.NoMemory) }
+    {
+        let text = self.format();
+        Ok(Shared::new(alloc, text)?)
     }
 
     // Whether all fields are taken.
@@ -98,15 +115,14 @@ impl FieldCursor {
     {
         let mut names = Vec::new(alloc);
         'cords: while !self.is_empty() {
-            match self.operand(Kind::Cord) {
-                Ok(name) => names.push(name)?,
-            }
+            let name = self.operand(Kind::Cord)?;
+            names.push(name)?;
         }
         Ok(Names::of(names))
     }
 
-    /// The fields that are left, each an argument of a format.
-    pub fn arguments(&mut self, alloc: Global) -> Result<Arguments, RefusalKind>
+    /// The fields that are left, each an argument of a format. The list of them is on the heap.
+    pub fn arguments(&mut self, alloc: Global) -> Result<Shared<Arguments>, RefusalKind>
         requires { are_arguments (map want_of self.old) ≡ true }
         ensures arguments { IfOk result (λ arguments. self.old ≡ map argument_term arguments) }
         ensures flaw { IfErr result (λ kind. kind ≡ RefusalKind.NoMemory) }
@@ -116,12 +132,12 @@ impl FieldCursor {
             let argument = self.argument();
             arguments.push(argument)?;
         }
-        Ok(Arguments::of(arguments))
+        Ok(Shared::new(alloc, Arguments::of(arguments))?)
     }
 }
 
 impl FieldSource for FieldCursor {
-    type Error = Infallible;
+    type Error = AllocError;
 
     ghost use Rattle.std.specs.Prelude.{◌≡◌, ◌∷◌, map};
     ghost use Rattle.cord_script.specs.inner.Fields.{want_of};
@@ -130,33 +146,38 @@ impl FieldSource for FieldCursor {
 
     ghost gives = { λ ts t us. ts ≡ t ∷ us };
 
-    fn target(&mut self, kind: Kind) -> Result<Name, Infallible> {
+    fn target(&mut self, kind: Kind) -> Result<Name, AllocError> {
         let _kind = kind;
         next!(self, Field::Target(_, name) => Ok(name))
     }
 
-    fn operand(&mut self, kind: Kind) -> Result<Name, Infallible> {
+    fn operand(&mut self, kind: Kind) -> Result<Name, AllocError> {
         let _kind = kind;
         next!(self, Field::Operand(_, name) => Ok(name))
     }
 
-    fn number(&mut self) -> Result<Number, Infallible> {
+    fn number(&mut self) -> Result<Number, AllocError> {
         next!(self, Field::Value(number) => Ok(number))
     }
 
-    fn text(&mut self) -> Result<Text, Infallible> {
+    fn shared_number(&mut self, alloc: Global) -> Result<Shared<Number>, AllocError> {
+        let number = self.number()?;
+        Shared::new(alloc, number)
+    }
+
+    fn text(&mut self) -> Result<Text, AllocError> {
         next!(self, Field::Literal(text) => Ok(text))
     }
 
-    fn path(&mut self) -> Result<Path, Infallible> {
+    fn path(&mut self) -> Result<Path, AllocError> {
         next!(self, Field::FilePath(path) => Ok(path))
     }
 
-    fn function(&mut self) -> Result<Function, Infallible> {
+    fn function(&mut self) -> Result<Function, AllocError> {
         next!(self, Field::Applies(function) => Ok(function))
     }
 
-    fn relation(&mut self) -> Result<Relation, Infallible> {
+    fn relation(&mut self) -> Result<Relation, AllocError> {
         next!(self, Field::Compares(relation) => Ok(relation))
     }
 }

@@ -53,11 +53,16 @@ fn built_of_all<T: Drop>(is_done: bool, built: Result<T, Unsettled>) -> Result<T
 
 // The statement of words whose number the verb fixes.
 #[inline(always)]
-fn fixed_statement(verb: FixedVerb, number: u32, words: LineWords) -> Result<Statement, Unsettled>
+fn fixed_statement(
+    alloc: Global,
+    verb: FixedVerb,
+    number: u32,
+    words: LineWords,
+) -> Result<Statement, Unsettled>
     ensures { IfOk result (SaysSettled words.entry.names (Verb.Fixed verb) number words.entry.rest) }
 {
     let mut fields = LineFields::of(words, wants_of(verb));
-    let built = fixed_statement_of(verb, number, &mut fields);
+    let built = fixed_statement_of(alloc, verb, number, &mut fields);
     built_of_all(fields.is_done(), built)
 }
 
@@ -76,11 +81,16 @@ fn joined_statement(line: u32, mut words: LineWords) -> Result<Statement, Unsett
 
 // The statement of a verb and of the words that follow it, if they are settled and no further word is left.
 #[inline(always)]
-fn settled_statement(verb: Verb, number: u32, words: LineWords) -> Result<Statement, Unsettled>
+fn settled_statement(
+    alloc: Global,
+    verb: Verb,
+    number: u32,
+    words: LineWords,
+) -> Result<Statement, Unsettled>
     ensures { IfOk result (SaysSettled words.entry.names verb number words.entry.rest) }
 {
     match verb {
-        Verb::Fixed(fixed) => fixed_statement(fixed, number, words),
+        Verb::Fixed(fixed) => fixed_statement(alloc, fixed, number, words),
         Verb::Catn => joined_statement(number, words),
         Verb::Sprintf => Err(Unsettled),
     }
@@ -106,7 +116,7 @@ pub fn take_settled(
         return Ok(false);
     };
     let words = LineWords::of(alloc, &context.names, rest);
-    let Ok(statement) = settled_statement(verb, number, words) else {
+    let Ok(statement) = settled_statement(alloc, verb, number, words) else {
         return Ok(false);
     };
     statements.push(statement)?;

@@ -6,7 +6,8 @@ ghost use Rattle.cord_script.specs.inner.Given.{GivesAll, paired};
 
 use crate::field_source::FieldSource;
 use crate::kinds::{Kind, Want};
-use crate::{Name, Number, Path};
+use crate::{Name, Number, Path, Shared};
+use std::alloc::Global;
 
 /// The fields before and the next one, unless that is refused.
 #[inline(always)]
@@ -152,6 +153,44 @@ pub fn target_operand_number_operand<F: FieldSource>(
         fields.new) }
 {
     match target_operand_number(target, fields) {
+        Ok(front) => paired(front, fields.operand(Kind::Cord)),
+        Err(error) => Err(error),
+    }
+}
+
+// The target, a cord and a number on the heap.
+#[inline(always)]
+fn target_operand_shared<F: FieldSource>(
+    alloc: Global,
+    target: Kind,
+    fields: &mut F,
+) -> Result<((Name, Name), Shared<Number>), F::Error>
+    requires { take 3 (F.wants fields.old) ≡ Want.Target target ∷ Want.Operand Kind.Cord ∷ Want.Number ∷ [] }
+    ensures left { OnOk result (F.wants fields.new ≡ drop 3 (F.wants fields.old)) }
+    ensures given { IfOk result (λ all. GivesAll F.gives fields.old
+        (Target target all.0.0 ∷ Operand Kind.Cord all.0.1 ∷ Value all.1 ∷ []) fields.new) }
+{
+    match target_and_operand(target, Kind::Cord, fields) {
+        Ok(front) => paired(front, fields.shared_number(alloc)),
+        Err(error) => Err(error),
+    }
+}
+
+/// The target, a cord, a number on the heap and another cord.
+#[inline(always)]
+pub fn target_operand_shared_operand<F: FieldSource>(
+    alloc: Global,
+    target: Kind,
+    fields: &mut F,
+) -> Result<(((Name, Name), Shared<Number>), Name), F::Error>
+    requires { take 4 (F.wants fields.old) ≡
+        Want.Target target ∷ Want.Operand Kind.Cord ∷ Want.Number ∷ Want.Operand Kind.Cord ∷ [] }
+    ensures left { OnOk result (F.wants fields.new ≡ drop 4 (F.wants fields.old)) }
+    ensures given { IfOk result (λ all. GivesAll F.gives fields.old
+        (Target target all.0.0.0 ∷ Operand Kind.Cord all.0.0.1 ∷ Value all.0.1 ∷ Operand Kind.Cord all.1 ∷ [])
+        fields.new) }
+{
+    match target_operand_shared(alloc, target, fields) {
         Ok(front) => paired(front, fields.operand(Kind::Cord)),
         Err(error) => Err(error),
     }

@@ -15,7 +15,7 @@ use crate::kinds::{Kind, Want};
 use crate::table::Table;
 use crate::verbs::{FixedVerb, Verb};
 use crate::words::Word;
-use crate::{MAX_PARTS, MIN_PARTS, RefusalKind};
+use crate::{MAX_PARTS, MIN_PARTS, RefusalKind, Shared};
 use cord_printf::{ArgKind, Format, FormatError, Piece};
 use std::alloc::Global;
 use std::collections::VecDeque;
@@ -26,7 +26,7 @@ use std::mem;
 pub enum Builder {
     Fixed(FixedVerb),
     Catn,
-    Sprintf(Format),
+    Sprintf(Shared<Format>),
 }
 
 /// The fields of a statement, what makes the statement of them, and whether all fields are settled: none is a path,
@@ -164,7 +164,7 @@ fn joined_fields(
 }
 
 // What the second word is read as: no format where it is a plain word, or the text of none.
-fn format_in(alloc: Global, words: &VecDeque<Word>) -> Result<Option<Format>, RefusalKind>
+fn format_in(alloc: Global, words: &VecDeque<Word>) -> Result<Option<Shared<Format>>, RefusalKind>
     ensures format { IfOk result (λ format. IsFormatOf Printed words.now.items format) }
     ensures flaw { IfErr result (λ kind. kind ≡ RefusalKind.NoMemory) }
 {
@@ -172,7 +172,7 @@ fn format_in(alloc: Global, words: &VecDeque<Word>) -> Result<Option<Format>, Re
         return Ok(None);
     };
     match Format::parse(alloc, text.as_slice()) {
-        Ok(format) => Ok(Some(format)),
+        Ok(format) => Ok(Some(Shared::new(alloc, format)?)),
         Err(FormatError::BadFormat(_)) => Ok(None),
         Err(FormatError::NoMemory) => Err(RefusalKind::NoMemory),
     }
@@ -224,7 +224,7 @@ fn printed_fields(
     let Some(format) = read else {
         return Err(RefusalKind::BadFormat);
     };
-    let wants = wants_of_pieces(alloc, format.pieces())?;
+    let wants = wants_of_pieces(alloc, format.as_ref().pieces())?;
     let arguments = take_all(alloc, names, &wants, words, &mut fields)?;
     Ok(FieldList {
         fields,

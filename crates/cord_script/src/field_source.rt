@@ -7,7 +7,8 @@ ghost use Rattle.cord_script.specs.inner.Fields.{next_want};
 ghost use Rattle.cord_script.specs.inner.Given.{Gave};
 
 use crate::kinds::{Kind, Want};
-use crate::{Function, Name, Number, Path, Relation, Text};
+use crate::{Function, Name, Number, Path, Relation, Shared, Text};
+use std::alloc::Global;
 
 /// What gives the fields of a statement, from left to right: it has to be asked for those that are wanted, in order.
 pub trait FieldSource {
@@ -34,6 +35,12 @@ pub trait FieldSource {
 
     /// A number operand.
     fn number(&mut self) -> Result<Number, Self::Error>
+        requires { next_want (wants self.old) ≡ Some Want.Number }
+        ensures left { OnOk result (wants self.old ≡ Want.Number ∷ wants self.new) }
+        ensures given { IfOk result (λ number. Gave gives self.old (Value number) self.new) };
+
+    /// A number operand, on the heap.
+    fn shared_number(&mut self, alloc: Global) -> Result<Shared<Number>, Self::Error>
         requires { next_want (wants self.old) ≡ Some Want.Number }
         ensures left { OnOk result (wants self.old ≡ Want.Number ∷ wants self.new) }
         ensures given { IfOk result (λ number. Gave gives self.old (Value number) self.new) };

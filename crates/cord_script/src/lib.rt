@@ -26,7 +26,8 @@ mod verbs;
 mod words;
 
 pub use cord_operands::{
-    Argument, Arguments, Function, Name, Names, Number, Path, Relation, Text, key_of, slot_of,
+    Argument, Arguments, Function, Name, Names, Number, Path, Relation, Shared, Text, key_of,
+    slot_of,
 };
 pub use cord_syntax::{Script, Statement};
 pub use laws::{

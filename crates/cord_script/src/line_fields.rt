@@ -8,7 +8,8 @@ use crate::kinds::{Kind, Want};
 use crate::line_words::{LineWords, Unsettled};
 use crate::numerals::numeral_of;
 use crate::words::Word;
-use crate::{Function, Name, Number, Path, Relation, Text};
+use crate::{Function, Name, Number, Path, Relation, Shared, Text};
+use std::alloc::Global;
 use std::marker::Model;
 
 /// The words of a line that are still to be read as what is wanted.
@@ -85,6 +86,14 @@ impl<'a> FieldSource for LineFields<'a> {
         }
         let name = self.words.named(word, Kind::Number)?;
         Ok(Number::Named(name))
+    }
+
+    fn shared_number(&mut self, alloc: Global) -> Result<Shared<Number>, Unsettled> {
+        let number = self.number()?;
+        match Shared::new(alloc, number) {
+            Ok(number) => Ok(number),
+            Err(_) => Err(Unsettled),
+        }
     }
 
     fn text(&mut self) -> Result<Text, Unsettled> {

@@ -12,6 +12,7 @@ use crate::cursor::FieldCursor;
 use crate::field_groups::{
     paired, target_and_number, target_and_numbers, target_and_operand, target_and_operands,
     target_and_path, target_operand_number, target_operand_number_operand, target_operand_numbers,
+    target_operand_shared_operand,
 };
 use crate::field_lists::Builder;
 use crate::field_source::FieldSource;
@@ -19,7 +20,7 @@ use crate::kinds::{Kind, Want};
 use crate::verbs::{
     Composition, Computation, Control, Derivation, FixedVerb, Growth, Look, Origin, Search,
 };
-use crate::{Name, RefusalKind, Statement};
+use crate::{RefusalKind, Shared, Statement};
 use cord_printf::Format;
 use std::alloc::Global;
 
@@ -175,7 +176,12 @@ fn computation_of<F: FieldSource>(
 
 // A statement that looks at bytes.
 #[inline(always)]
-fn look_of<F: FieldSource>(verb: Look, line: u32, fields: &mut F) -> Result<Statement, F::Error>
+fn look_of<F: FieldSource>(
+    alloc: Global,
+    verb: Look,
+    line: u32,
+    fields: &mut F,
+) -> Result<Statement, F::Error>
     requires { F.wants fields.old ≡ fixed_wants (FixedVerb.Look verb) }
     ensures built { IfOk result (IsBuilt F.gives (Verb.Fixed (FixedVerb.Look verb)) line fields.old fields.new) }
     ensures done { OnOk result (F.wants fields.new ≡ []) }
@@ -196,10 +202,10 @@ fn look_of<F: FieldSource>(verb: Look, line: u32, fields: &mut F) -> Result<Stat
             Ncmp,
             (target, left, left_start, right, right_start, count) = paired(
                 paired(
-                    target_operand_number_operand(Kind::Number, fields)?,
-                    fields.number()
+                    target_operand_shared_operand(alloc, Kind::Number, fields)?,
+                    fields.shared_number(alloc)
                 )?,
-                fields.number()
+                fields.shared_number(alloc)
             )
         ),
     }
@@ -297,23 +303,13 @@ fn put_of<F: FieldSource>(line: u32, fields: &mut F) -> Result<Statement, F::Err
     statement!(line, Put, (operand) = fields.operand(Kind::Cord))
 }
 
-// The target of checked fields, which is a cord.
-fn cord_target(fields: &mut FieldCursor) -> Name
-    requires { next_want (map want_of fields.old) ≡ Some (Want.Target Kind.Cord) }
-    ensures { fields.old ≡ Target Kind.Cord result ∷ fields.new }
-{
-    match fields.target(Kind::Cord) {
-        Ok(target) => target,
-    }
-}
-
 // A `catn`.
 fn catn_of(alloc: Global, line: u32, fields: &mut FieldCursor) -> Result<Statement, RefusalKind>
     requires { IsJoined fields.old }
     ensures statement { IfOk result (IsStatementOf Verb.Catn line fields.old) }
     ensures flaw { IfErr result (λ kind. kind ≡ RefusalKind.NoMemory) }
 {
-    let target = cord_target(fields);
+    let target = fields.cord_target();
     let parts = fields.cords(alloc)?;
     Ok(Statement::Catn {
         line,
@@ -326,15 +322,15 @@ fn catn_of(alloc: Global, line: u32, fields: &mut FieldCursor) -> Result<Stateme
 fn sprintf_of(
     alloc: Global,
     line: u32,
-    format: Format,
+    format: Shared<Format>,
     fields: &mut FieldCursor,
 ) -> Result<Statement, RefusalKind>
     requires { IsPrintedAs format fields.old }
     ensures statement { IfOk result (IsStatementOf Verb.Sprintf line fields.old) }
     ensures flaw { IfErr result (λ kind. kind ≡ RefusalKind.NoMemory) }
 {
-    let target = cord_target(fields);
-    let text = fields.format();
+    let target = fields.cord_target();
+    let text = fields.shared_format(alloc)?;
     let arguments = fields.arguments(alloc)?;
     Ok(Statement::Sprintf {
         line,
@@ -348,6 +344,7 @@ fn sprintf_of(
 /// The statement of a verb that has a fixed number of words, and of the fields that are given.
 #[inline(always)]
 pub fn fixed_statement_of<F: FieldSource>(
+    alloc: Global,
     verb: FixedVerb,
     line: u32,
     fields: &mut F,
@@ -362,7 +359,7 @@ pub fn fixed_statement_of<F: FieldSource>(
         FixedVerb::Derivation(derivation) => derivation_of(derivation, line, fields),
         FixedVerb::Put => put_of(line, fields),
         FixedVerb::Computation(computation) => computation_of(computation, line, fields),
-        FixedVerb::Look(look) => look_of(look, line, fields),
+        FixedVerb::Look(look) => look_of(alloc, look, line, fields),
         FixedVerb::Search(search) => search_of(search, line, fields),
         FixedVerb::Growth(growth) => growth_of(growth, line, fields),
         FixedVerb::Control(control) => control_of(control, line, fields),
@@ -370,13 +367,18 @@ pub fn fixed_statement_of<F: FieldSource>(
 }
 
 // The statement of checked fields, whose number the verb fixes.
-fn checked_statement_of(verb: FixedVerb, line: u32, fields: &mut FieldCursor) -> Statement
+fn checked_statement_of(
+    alloc: Global,
+    verb: FixedVerb,
+    line: u32,
+    fields: &mut FieldCursor,
+) -> Result<Statement, RefusalKind>
     requires { map want_of fields.old ≡ fixed_wants verb }
-    ensures { IsStatementOf (Verb.Fixed verb) line fields.old result }
+    ensures statement { IfOk result (IsStatementOf (Verb.Fixed verb) line fields.old) }
+    ensures flaw { IfErr result (λ kind. kind ≡ RefusalKind.NoMemory) }
 {
-    match fixed_statement_of(verb, line, fields) {
-        Ok(statement) => statement,
-    }
+    let statement = fixed_statement_of(alloc, verb, line, fields)?;
+    Ok(statement)
 }
 
 /// The statement of fields, by what makes it of them.
@@ -391,7 +393,7 @@ pub fn statement_of(
     ensures flaw { IfErr result (λ kind. kind ≡ RefusalKind.NoMemory) }
 {
     match builder {
-        Builder::Fixed(verb) => Ok(checked_statement_of(verb, line, fields)),
+        Builder::Fixed(verb) => checked_statement_of(alloc, verb, line, fields),
         Builder::Catn => catn_of(alloc, line, fields),
         Builder::Sprintf(format) => sprintf_of(alloc, line, format, fields),
     }

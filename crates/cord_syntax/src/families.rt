@@ -3,7 +3,7 @@ ghost use Rattle.std.specs.Prelude.{◌≡◌};
 ghost use Rattle.cord_syntax.specs.Families.{statement_of};
 ghost use Rattle.cord_syntax.specs.Lines.{line_of};
 
-use crate::{Arguments, Function, Name, Names, Number, Path, Relation, Statement, Text};
+use crate::{Arguments, Function, Name, Names, Number, Path, Relation, Shared, Statement, Text};
 use cord_printf::Format;
 
 /// A statement without its line, by what it is about. Its fields are lent.
@@ -102,9 +102,9 @@ pub enum Derivation<'a> {
     },
     Sprintf {
         target: &'a Name,
-        text: &'a Text,
-        format: &'a Format,
-        arguments: &'a Arguments,
+        text: &'a Shared<Text>,
+        format: &'a Shared<Format>,
+        arguments: &'a Shared<Arguments>,
     },
 }
 
@@ -147,10 +147,10 @@ pub enum Look<'a> {
     Ncmp {
         target: &'a Name,
         left: &'a Name,
-        left_start: &'a Number,
+        left_start: &'a Shared<Number>,
         right: &'a Name,
-        right_start: &'a Number,
-        count: &'a Number,
+        right_start: &'a Shared<Number>,
+        count: &'a Shared<Number>,
     },
 }
 

@@ -5,7 +5,9 @@ mod copies;
 mod families;
 mod statements;
 
-pub use cord_operands::{Argument, Arguments, Function, Name, Names, Number, Path, Relation, Text};
+pub use cord_operands::{
+    Argument, Arguments, Function, Name, Names, Number, Path, Relation, Shared, Text,
+};
 pub use families::{
     Composition, Computation, Control, Derivation, Family, Growth, Look, Origin, Search,
 };

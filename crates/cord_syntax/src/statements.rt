@@ -3,7 +3,7 @@ ghost use Rattle.std.specs.Prelude.{◌≡◌, option_map};
 ghost use Rattle.cord_syntax.specs.Lines.{line_of};
 ghost use Rattle.cord_syntax.specs.Targets.{target_of};
 
-use crate::{Arguments, Function, Name, Names, Number, Path, Relation, Text};
+use crate::{Arguments, Function, Name, Names, Number, Path, Relation, Shared, Text};
 use cord_printf::Format;
 use std::marker::Model;
 
@@ -101,9 +101,9 @@ pub enum Statement {
     Sprintf {
         line: u32,
         target: Name,
-        text: Text,
-        format: Format,
-        arguments: Arguments,
+        text: Shared<Text>,
+        format: Shared<Format>,
+        arguments: Shared<Arguments>,
     },
     /// `len n x`: n is the length of x.
     Len {
@@ -130,10 +130,10 @@ pub enum Statement {
         line: u32,
         target: Name,
         left: Name,
-        left_start: Number,
+        left_start: Shared<Number>,
         right: Name,
-        right_start: Number,
-        count: Number,
+        right_start: Shared<Number>,
+        count: Shared<Number>,
     },
     /// `str n x i y`: n is the first place of y in x from i on, or -1.
     Str {

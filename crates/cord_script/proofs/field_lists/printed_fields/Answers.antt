@@ -18,7 +18,7 @@ pub returns-in_err-arguments-clause-flaw : goal.returns-in_err-arguments-clause-
 returns-in_err-arguments-clause-flaw c =
     let p = err_from_is_err_and c.from_residual-in_err-arguments.result c.from_residual-in_err-arguments.ensures.1 in
     let has = subst (IsFormatOf Printed c.args.words.now.items) c.in-Some.is c.in_ok-read.ensures.format in
-    let same = c.deref.ensures.value ∙ c.in_ok-wants.ensures.wants ∙ ap wants_of_pieces c.pieces.ensures in
+    let same = c.deref.ensures.value ∙ c.in_ok-wants.ensures.wants ∙ ap wants_of_pieces (c.pieces.ensures ∙ c.as_ref.ensures) in
     let mid = c.take_fields.new.words.items in
     rw (p.1, p.2) (λ n. arguments_wrong c.args.words.now.items mid c.emptied-fields.result.items c.take_fields.new.fields.items
     c.in-Some.format
@@ -28,7 +28,7 @@ returns-in_err-arguments-clause-flaw c =
 pub returns-clause-fields : goal.returns-clause-fields
 returns-clause-fields c =
     let has = subst (IsFormatOf Printed c.args.words.now.items) c.in-Some.is c.in_ok-read.ensures.format in
-    let same = c.deref.ensures.value ∙ c.in_ok-wants.ensures.wants ∙ ap wants_of_pieces c.pieces.ensures in
+    let same = c.deref.ensures.value ∙ c.in_ok-wants.ensures.wants ∙ ap wants_of_pieces (c.pieces.ensures ∙ c.as_ref.ensures) in
     let mid = c.take_fields.new.words.items in
     let taken = subst (λ k. HasTaken k mid c.take_all.new.words.items c.take_fields.new.fields.items c.take_all.new.fields.items) same
     c.in_ok-arguments.ensures.taken in

@@ -29,7 +29,7 @@ returns-in-Ok-paired-clause-built g c = record {
   given = next_given _ (λ (p : (((List ℕ × List ℕ) × Number) × List ℕ) × Number). Target kinds.Number p.0.0.0.0
       ∷ Operand kinds.Cord p.0.0.0.1 ∷ Value p.0.0.1 ∷ Operand kinds.Cord p.0.1 ∷ Value p.1 ∷ []) Value _ _ _ _ _ _
       (next_given _ (λ (p : ((List ℕ × List ℕ) × Number) × List ℕ). Target kinds.Number p.0.0.0 ∷ Operand kinds.Cord p.0.0.1 ∷ Value p.0.1
-      ∷ Operand kinds.Cord p.1 ∷ []) Value _ _ _ _ _ _ c.in_ok-target_operand_number_operand-in-Ncmp.ensures.given
-      c.in_ok-paired-in-Ncmp.ensures c.number.ensures.given) c.in-Ok-paired.ensures c.number-in-Ncmp.ensures.given;
+      ∷ Operand kinds.Cord p.1 ∷ []) Value _ _ _ _ _ _ c.in_ok-target_operand_shared_operand-in-Ncmp.ensures.given
+      c.in_ok-paired-in-Ncmp.ensures c.shared_number.ensures.given) c.in-Ok-paired.ensures c.shared_number-in-Ncmp.ensures.given;
   suits = tt;
 }
