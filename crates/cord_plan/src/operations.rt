@@ -1,7 +1,7 @@
 // Operations of plans.
 use crate::Expr;
 use cord_printf::Format;
-use cord_script::{Arguments, Function, Name, Number, Path, Statement, Text};
+use cord_script::{Arguments, Function, Name, Number, Path, Shared, Statement, Text};
 
 /// What a name is made of: an expression, or what its statement says.
 #[derive(Drop)]
@@ -23,7 +23,7 @@ pub enum Made {
     /// The text of an extensible cord.
     OfExtensible(Name),
     /// The text of a print: its format's text, its pieces and its arguments.
-    Printed(Text, Format, Arguments),
+    Printed(Shared<Text>, Shared<Format>, Shared<Arguments>),
 }
 
 /// An operation of a plan, with the number of its line, counted from 1.

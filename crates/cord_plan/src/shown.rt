@@ -140,8 +140,8 @@ fn put_made<W: Sink>(made: &Made, sink: &mut W) -> Result<(), WriteFault>
             put_fragments(
                 &[
                     Plain(b"sprintf("),
-                    Count(text.as_slice().len() as u64),
-                    Arguments(arguments),
+                    Count(text.as_ref().as_slice().len() as u64),
+                    Arguments(arguments.as_ref()),
                     Plain(b")"),
                 ],
                 sink,

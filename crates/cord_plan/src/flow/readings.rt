@@ -27,7 +27,7 @@ pub(crate) fn reading_of(statement: &Statement) -> Reading
         Statement::Catc { operand, .. } => Reading::One(operand),
         Statement::Substr { operand, .. } => Reading::One(operand),
         Statement::Balance { operand, .. } => Reading::One(operand),
-        Statement::Sprintf { arguments, .. } => Reading::Printed(arguments.as_slice()),
+        Statement::Sprintf { arguments, .. } => Reading::Printed(arguments.as_ref().as_slice()),
         Statement::Fetch { operand, .. } => Reading::One(operand),
         Statement::Cmp { left, right, .. } => Reading::Two(left, right),
         Statement::Ncmp { left, right, .. } => Reading::Two(left, right),

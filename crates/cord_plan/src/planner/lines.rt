@@ -9,7 +9,7 @@ use crate::planner::constructors::cat;
 use crate::{Expr, Made, Operation};
 use cord_io::CordError;
 use cord_printf::Format;
-use cord_script::{Arguments, Name, Statement, Text};
+use cord_script::{Arguments, Name, Shared, Statement, Text};
 use cord_syntax::{Composition, Derivation, Family, Origin};
 use std::alloc::Global;
 
@@ -149,7 +149,11 @@ fn operation_of_derivation(
 }
 
 // The text of a print.
-fn printed(text: &Text, format: &Format, arguments: &Arguments) -> Result<Made, CordError>
+fn printed(
+    text: &Shared<Text>,
+    format: &Shared<Format>,
+    arguments: &Shared<Arguments>,
+) -> Result<Made, CordError>
     ensures made { IfOk result (λ m. made_view m ≡ plan.Printed text.now format.now arguments.now) }
     ensures refused { IsOkUnless result CordError.NoMemory }
 {

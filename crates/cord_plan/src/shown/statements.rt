@@ -53,10 +53,10 @@ fn put_look<W: Sink>(look: Look, sink: &mut W) -> Result<(), WriteFault>
         } => {
             let operands = [
                 Name(left),
-                Number(left_start),
+                Number(left_start.as_ref()),
                 Name(right),
-                Number(right_start),
-                Number(count),
+                Number(right_start.as_ref()),
+                Number(count.as_ref()),
             ];
             put_counted(target, b"ncmp", &operands, sink)
         }

@@ -131,10 +131,10 @@ pub(crate) fn look_number<R: Source>(
             ..
         } => ranges_compared(
             cord_or(store, left, &empty),
-            store.value_of(left_start),
+            store.value_of(left_start.as_ref()),
             cord_or(store, right, &empty),
-            store.value_of(right_start),
-            store.value_of(count),
+            store.value_of(right_start.as_ref()),
+            store.value_of(count.as_ref()),
             source,
         ),
     }

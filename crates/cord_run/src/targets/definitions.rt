@@ -61,9 +61,9 @@ pub(crate) fn definition_of(made: &Made) -> Definition<'_>
         Made::Balanced(name) => Definition::Fileless(Fileless::Balanced(name)),
         Made::OfExtensible(name) => Definition::Fileless(Fileless::OfExtensible(name)),
         Made::Printed(text, format, arguments) => Definition::Fileless(Fileless::Printed {
-            text,
-            format,
-            arguments,
+            text: text.as_ref(),
+            format: format.as_ref(),
+            arguments: arguments.as_ref(),
         }),
     }
 }
