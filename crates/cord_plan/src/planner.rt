@@ -10,9 +10,9 @@ mod naming;
 mod parts;
 mod staying;
 
-ghost use Rattle.std.specs.Prelude.{◌≡◌, ℕ, Bool, List, IfOk, IsOkUnless, map};
+ghost use Rattle.std.specs.Prelude.{◌≡◌, ℕ, Bool, List, Option, Some, IfOk, IsOkUnless, map};
 ghost use Rattle.cord_plan.specs.inner.Liveness.{tells};
-ghost use Rattle.cord_plan.specs.inner.Numbering.{AllHints, AreHints};
+ghost use Rattle.cord_plan.specs.inner.Numbering.{AllHints, AreHints, IsFor, IsHint};
 ghost use Rattle.cord_plan.specs.Meaning.{IsPlanOf};
 ghost use Rattle.cord_plan.specs.Operands.{target_of};
 ghost use Rattle.cord_plan.specs.Planned as plan;
@@ -29,18 +29,36 @@ use cord_io::CordError;
 use cord_script::{Script, Statement};
 use std::alloc::Global;
 
-// Whether a line has a target that isn't read later.
-fn is_dead(statement: &Statement, numbers: LineNumbers, place: usize, later: &Later) -> bool
-    requires { AreHints later.now.numbering statement.now numbers }
+// Whether a line has a target that isn't read later, by the name.
+fn is_dead_by_name(statement: &Statement, place: usize, later: &Later) -> bool
     ensures { result ≡ plan.is_dead (tells later.now) place (target_of statement.now) }
 {
     match statement.target() {
         None => false,
-        Some(target) => {
-            let numbering = &later.numbering;
-            let number = numbering.number_with(target, numbers.target);
-            !later.is_later(number, place)
-        }
+        Some(target) => !later.is_later(later.numbering.number_of(target), place),
+    }
+}
+
+// Whether a line has a target that isn't read later, by the number of that name, where there is one.
+fn is_told_dead(told: Option<u8>, place: usize, later: &Later) -> bool
+    ensures { (o : Option (List ℕ)) → IsFor o told → ((x : List ℕ) → o ≡ Some x →
+        IsHint later.now.numbering x told) → result ≡ plan.is_dead (tells later.now) place o }
+{
+    match told {
+        None => false,
+        Some(number) => !later.is_later(Some(usize::from(number)), place),
+    }
+}
+
+// Whether a line has a target that isn't read later. Where its number is told the line isn't looked at.
+fn is_dead(statement: &Statement, numbers: LineNumbers, place: usize, later: &Later) -> bool
+    requires { AreHints later.now.numbering statement.now numbers }
+    ensures { result ≡ plan.is_dead (tells later.now) place (target_of statement.now) }
+{
+    if numbers.target_is_told {
+        is_told_dead(numbers.target, place, later)
+    } else {
+        is_dead_by_name(statement, place, later)
     }
 }
 

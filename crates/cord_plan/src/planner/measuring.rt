@@ -97,9 +97,12 @@ pub(crate) fn measure(operations: &mut [Operation], sources: Sources)
         (map operation_view operations.old) }
 {
     match sources {
-        Sources::Nothing => measure_all(operations, &[]),
-        Sources::One(source) => measure_all(operations, &[source]),
-        Sources::Two(first, second) => measure_all(operations, &[first, second]),
+        Sources::Nothing => {}
+        Sources::One(source) => measure_at(operations, source),
+        Sources::Two(first, second) => {
+            measure_at(operations, first);
+            measure_at(operations, second);
+        }
         Sources::Listed(sources) => measure_all(operations, &sources),
     }
 }
