@@ -54,3 +54,4 @@ pub mod ExprViews
 pub mod Marked
 pub mod OnlyKept
 pub mod Pushed
+pub mod Known

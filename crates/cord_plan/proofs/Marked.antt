@@ -6,7 +6,7 @@ use Rattle.std.proofs.Math.Seq.{take-append_seam}
 use Rattle.std.proofs.Math.Bool.{or_assoc}
 use Rattle.std.proofs.lemmas.Bool.{ne_eqb}
 use Rattle.std.proofs.lemmas.Option.{slice_get_read}
-use Rattle.std.proofs.lemmas.List.{at_drop_more, at_drop_all, map-append, map-set}
+use Rattle.std.proofs.lemmas.List.{at_drop_more, at_drop_all, length-map, map-append, map-set}
 use Rattle.std.proofs.lemmas.List.Recursion.{or_push}
 use Rattle.cord_syntax.specs.declared.statements.Statement.{Statement}
 use Rattle.cord_syntax.specs.declared.statements.Statement.TheVariants.{Let, File, Eager, Lazy, Chars, Nul, FromFn, Cat, Catn, Catc, Substr}
@@ -305,6 +305,31 @@ module _ (s : List Statement) (later : List ℕ → ℕ → Bool) where
     is = sym (no_entries [] 0 s);
   }
 
+  -- the expressions of the operations with one line more
+  pub expressions_then : (b : ℕ) (l : Statement) (old new : List Operation) (e : Option Expr) (o : Operation) (dead : Bool) →
+      IsBegun s later b old → IsStep s later b l old new e → o ≡ operation l (or_nothing e) dead false →
+      map operation_expression (new ++ o ∷ []) ≡ map operation_expression old ++ e ∷ []
+  expressions_then b l old new e o dead so_far next made =
+      map-append operation_expression new (o ∷ [])
+      ∙ (ap (λ (es : List (Option Expr)). es ++ operation_expression o ∷ []) kept
+      ∙ ap (λ (f : Option Expr). map operation_expression old ++ f ∷ []) last)
+    where
+      e_is : e ≡ (operands_chosen s later so_far.table b l (own l)).0
+      e_is = next.next.expression so_far.table so_far.has
+
+      last : operation_expression o ≡ e
+      last = ap operation_expression (made ∙ ap (λ (f : Option Expr). operation l (or_nothing f) dead false) e_is)
+          ∙ (entry_expression s later b l so_far.table dead false ∙ sym e_is)
+
+      kept : map operation_expression new ≡ map operation_expression old
+      kept = ap (map operation_expression) next.marked ∙ keeps_expressions 0 next.sources old
+
+  pub begun_long : (b : ℕ) (made : List Operation) → IsBegun s later b made → length made ≡ b
+  begun_long b made so_far =
+      sym (length-map made operation_expression)
+      ∙ (ap length (sym so_far.has)
+      ∙ (length-map so_far.table (λ (one : Option Expr × List Choice). one.0) ∙ so_far.long))
+
   -- a line more
   pub begun_then : (b : ℕ) (l : Statement) (old new : List Operation) (e : Option Expr) (o : Operation) → b < length s → l ≡ get_or s b l →
       IsBegun s later b old → IsStep s later b l old new e → o ≡ operation l (or_nothing e) (is_dead later b (target_of l)) false →
@@ -313,9 +338,9 @@ module _ (s : List Statement) (later : List ℕ → ℕ → Bool) where
     table = t ++ en ∷ [];
     has =
         map-append (λ (one : Option Expr × List Choice). one.0) t (en ∷ [])
-        ∙ (ap (λ (es : List (Option Expr)). es ++ en.0 ∷ []) (so_far.has ∙ sym kept)
-        ∙ (ap (λ (f : Option Expr). map operation_expression new ++ f ∷ []) (sym last)
-        ∙ sym (map-append operation_expression new (o ∷ []))));
+        ∙ (ap (λ (es : List (Option Expr)). es ++ en.0 ∷ []) so_far.has
+        ∙ (ap (λ (f : Option Expr). map operation_expression old ++ f ∷ []) (sym e_is)
+        ∙ sym (expressions_then b l old new e o (is_dead later b (target_of l)) so_far next made)));
     grows =
         ap (λ (m : Statement). grown s later (t ++ operands_chosen s later t b m (own m) ∷ []) (b + 1) (drop (b + 1) s)) here
         ∙ (sym (at_drop_more (λ (ls : List Statement). grown s later t b ls) s b l within)
@@ -345,12 +370,6 @@ module _ (s : List Statement) (later : List ℕ → ℕ → Bool) where
 
       made_so : o ≡ operation l (or_nothing en.0) (is_dead later b (target_of l)) false
       made_so = made ∙ ap (λ (f : Option Expr). operation l (or_nothing f) (is_dead later b (target_of l)) false) e_is
-
-      last : operation_expression o ≡ en.0
-      last = ap operation_expression made_so ∙ entry_expression s later b l t (is_dead later b (target_of l)) false
-
-      kept : map operation_expression new ≡ map operation_expression old
-      kept = ap (map operation_expression) (marked_so) ∙ keeps_expressions 0 (map source_of en.1) old
 
       none_first : (p : ℕ) → b ≤ p → is_first p (t ++ en ∷ []) ≡ false
       none_first p le = first_then p t en ∙ (ap (λ (v : Bool). v || some_from p en.1) (so_far.ahead p le)

@@ -91,7 +91,7 @@ parts_front (run c n) b = refl
 parts_front (cat es) b = parts_append es b
 parts_front (sub e i n) b = refl
 
-parts_members : (es : List Expr) → parts_of (members es) ≡ sum_parts es
+pub parts_members : (es : List Expr) → parts_of (members es) ≡ sum_parts es
 parts_members [] = refl
 parts_members (e ∷ es) = parts_front e (members es) ∙ ap (λ (n : ℕ). parts e + n) (parts_members es)
 

@@ -6,3 +6,4 @@ pub mod Choices
 pub mod Recent
 pub mod Steps
 pub mod Showing
+pub mod Known

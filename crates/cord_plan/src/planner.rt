@@ -4,6 +4,7 @@ mod constructors;
 mod expressions;
 mod interning;
 mod joining;
+mod known;
 mod lines;
 mod measuring;
 mod naming;
@@ -22,6 +23,7 @@ ghost use Rattle.cord_plan.specs.Views.{operation_view};
 pub(crate) use self::constructors::own_expression;
 use self::expressions::next_expression;
 pub(crate) use self::interning::Interner;
+use self::known::Known;
 pub(crate) use self::lines::operation_of;
 use crate::flow::{Later, LineNumbers, Recent, numbers_at};
 use crate::{Operation, Plan};
@@ -76,6 +78,7 @@ fn operations_of(
     let mut operations = Vec::with_capacity(alloc, statements.len())?;
     let mut interner = Interner::of(alloc);
     let mut recent = Recent::of(alloc, later)?;
+    let mut known = Known::of(alloc, later.numbering.count())?;
     for (place, statement) in statements.iter().enumerate() {
         let numbers = numbers_at(&later.numbers, place);
         let expression = next_expression(
@@ -86,6 +89,7 @@ fn operations_of(
             statement,
             numbers,
             &recent,
+            &mut known,
             &mut operations,
         )?;
         let dead = is_dead(statement, numbers, place, later);

@@ -1,20 +1,24 @@
 // What stands for the operands of a line: their names, or expressions of earlier lines.
-ghost use Rattle.std.specs.Prelude.{◌≡◌, ◌==◌, ◌+◌, ◌<◌, ◌≤◌, ◌++◌, ◌∷◌, Some, ◌||◌, IfOk, drop, length};
+ghost use Rattle.std.specs.Prelude.{◌≡◌, ◌==◌, ◌+◌, ◌<◌, ◌≤◌, ◌++◌, ◌∷◌, ℕ, List, Option, Some, ◌||◌, IfOk, IfSome, drop, length};
 ghost use Rattle.std.specs.Prelude.{map, not, option_map};
-ghost use Rattle.cord_plan.specs.Exprs.{names, name};
+ghost use Rattle.cord_plan.specs.Exprs as plain;
+ghost use Rattle.cord_plan.specs.Exprs.{names, name, parts};
+ghost use Rattle.cord_plan.specs.declared.flow.numbering.Numbering.{Numbering};
 ghost use Rattle.cord_plan.specs.Operands.{assigns, count};
 ghost use Rattle.cord_plan.specs.Forced.{is_small, expr_of, expr_with};
-ghost use Rattle.cord_plan.specs.inner.Choices.{simple_operands, parts_beside, expression_in, room_left_by};
+ghost use Rattle.cord_plan.specs.inner.Choices.{simple_operands, parts_beside, expression_in, room_left, room_left_by};
 ghost use Rattle.cord_plan.specs.inner.Choices.{is_spare, stands};
 ghost use Rattle.cord_plan.specs.inner.Choices.{choice_view, operands_view, IsChoice, AreChoices};
+ghost use Rattle.cord_plan.specs.inner.Known.{IsFacts, IsKnown};
 ghost use Rattle.cord_plan.specs.inner.Liveness.{tells};
-ghost use Rattle.cord_plan.specs.inner.Numbering.{IsHint, number_of};
+ghost use Rattle.cord_plan.specs.inner.Numbering.{AllHints, IsHint, number_of};
 ghost use Rattle.cord_plan.specs.inner.Recent.{IsRecent};
 ghost use Rattle.cord_plan.specs.inner.Steps.{made_expression, operation_expression};
 ghost use Rattle.cord_plan.specs.Views.{expr_view, made_view, operation_view};
 ghost use Rattle.std.specs.Str.{bytes_eq};
 
 use crate::flow::{LineNumbers, Recent, assigns};
+use crate::planner::known::{Facts, Known};
 use crate::planner::parts::room_left;
 use crate::planner::staying::{nearest, stays};
 use crate::{Expr, MAX_EXPR_PARTS, Made, Operation};
@@ -154,8 +158,21 @@ fn room_left_by(chosen: &[Choice], room: u32) -> Option<u32>
     Some(rest)
 }
 
+// How much of a room is left after the parts of an expression, of which this may be known.
+fn room_left_known(expression: &Expr, facts: Option<&Facts>, room: u32) -> Option<u32>
+    requires { (t : Numbering) × IfSome facts (λ f. IsFacts t (expr_view expression.now) f.now) }
+    ensures { result ≡ room_left (parts (expr_view expression.now)) room }
+{
+    match facts {
+        Some(facts) => facts.room_left(room),
+        None => room_left(expression, room),
+    }
+}
+
 // Whether a line's expression stays small with this one for the next operand after those that were chosen for.
-fn stays_small(line: &Line, chosen: &[Choice], expression: &Expr) -> bool
+fn stays_small(line: &Line, chosen: &[Choice], expression: &Expr, facts: Option<&Facts>) -> bool
+    requires facts { IfSome facts (λ f. IsFacts line.now.recent.now.later.now.numbering (expr_view expression.now)
+        f.now) }
     requires operands { simple_operands line.now.statement.now ≡ Some (operands_view line.now.operands) }
     requires more { length chosen.now < length (operands_view line.now.operands) }
     ensures { result ≡ is_small (expr_with line.now.statement.now
@@ -165,7 +182,7 @@ fn stays_small(line: &Line, chosen: &[Choice], expression: &Expr) -> bool
     let names = operand_count(line.operands) - chosen.len() - 1;
     match room_left_by(chosen, MAX_EXPR_PARTS) {
         None => false,
-        Some(room) => match room_left(expression, room) {
+        Some(room) => match room_left_known(expression, facts, room) {
             None => false,
             Some(rest) => names + parts_beside(line.statement) <= rest as usize,
         },
@@ -212,26 +229,47 @@ fn stands(
     number: Option<usize>,
     source: usize,
     expression: &Expr,
+    facts: Option<&Facts>,
 ) -> bool
     requires number { number ≡ number_of line.now.recent.now.later.now.numbering operand.now }
     requires place { line.now.place ≤ length line.now.statements.now }
+    requires hints { AllHints line.now.statements.now line.now.recent.now.later.now.numbering
+        line.now.recent.now.later.now.numbers.items }
+    requires facts { IfSome facts (λ f. IsFacts line.now.recent.now.later.now.numbering (expr_view expression.now)
+        f.now) }
     requires recent { IsRecent line.now.statements.now line.now.place line.now.recent.now }
     ensures { result ≡ stands line.now.statements.now (tells line.now.recent.now.later.now) (expr_view expression.now)
         source line.now.place line.now.statement.now (operands_view line.now.operands) operand.now }
 {
-    is_spare(line, operand, number) && stays(line, source, expression)
+    is_spare(line, operand, number) && stays(line, source, expression, facts)
+}
+
+// What is known of the expression of the line at a place, which assigns a name that may have a number.
+fn known_at<'a>(known: &'a Known, number: Option<usize>, place: usize) -> Option<&'a Facts>
+    ensures { (t : Numbering) (table : List (Option plain.Expr)) (e : plain.Expr) → IsKnown t table known.now →
+        expression_in table place ≡ Some e → IfSome result (λ f. IsFacts t e f.now) }
+{
+    match number {
+        None => None,
+        Some(number) => known.at(number, place),
+    }
 }
 
 /// What stands for the next operand of a line after those that were chosen for, where the lines before it have these
 /// operations.
 pub(crate) fn choose<'a>(
     line: &Line,
+    known: &Known,
     operand: &'a Name,
     hint: Option<u8>,
     operations: &'a [Operation],
     chosen: &[Choice],
 ) -> Choice<'a>
     requires hint { IsHint line.now.recent.now.later.now.numbering operand.now hint }
+    requires hints { AllHints line.now.statements.now line.now.recent.now.later.now.numbering
+        line.now.recent.now.later.now.numbers.items }
+    requires known { IsKnown line.now.recent.now.later.now.numbering
+        (map operation_expression (map operation_view operations.now)) known.now }
     requires place { line.now.place ≤ length line.now.statements.now }
     requires recent { IsRecent line.now.statements.now line.now.place line.now.recent.now }
     requires operands { simple_operands line.now.statement.now ≡ Some (operands_view line.now.operands) }
@@ -247,8 +285,9 @@ pub(crate) fn choose<'a>(
         Some(source) => match expression_at(operations, source) {
             None => Choice::Named(operand),
             Some(expression) => {
-                if stands(line, operand, number, source, expression)
-                    && stays_small(line, chosen, expression)
+                let facts = known_at(known, number, source);
+                if stands(line, operand, number, source, expression, facts)
+                    && stays_small(line, chosen, expression, facts)
                 {
                     Choice::Replaced(source, expression)
                 } else {
@@ -263,9 +302,14 @@ pub(crate) fn choose<'a>(
 pub(crate) fn choose_all<'a>(
     alloc: Global,
     line: &Line<'a>,
+    known: &Known,
     operands: &'a [Name],
     operations: &'a [Operation],
 ) -> Result<Vec<Choice<'a>>, AllocError>
+    requires hints { AllHints line.now.statements.now line.now.recent.now.later.now.numbering
+        line.now.recent.now.later.now.numbers.items }
+    requires known { IsKnown line.now.recent.now.later.now.numbering
+        (map operation_expression (map operation_view operations.now)) known.now }
     requires place { line.now.place ≤ length line.now.statements.now }
     requires recent { IsRecent line.now.statements.now line.now.place line.now.recent.now }
     requires listed { operands_view line.now.operands ≡ operands.now }
@@ -276,7 +320,7 @@ pub(crate) fn choose_all<'a>(
 {
     let mut chosen = Vec::with_capacity(alloc, operands.len())?;
     for operand in operands {
-        let choice = choose(line, operand, None, operations, &chosen);
+        let choice = choose(line, known, operand, None, operations, &chosen);
         chosen.push(choice)?;
     }
     Ok(chosen)

@@ -1,17 +1,19 @@
 // The expression of the next line, over the operations of the lines before it.
-ghost use Rattle.std.specs.Prelude.{◌≡◌, ◌≤◌, Some, IfOk, IsOkUnless, length, map};
+ghost use Rattle.std.specs.Prelude.{◌≡◌, ◌≤◌, ◌++◌, ◌∷◌, [], Some, IfOk, IsOkUnless, length, map};
 ghost use Rattle.std.specs.Prelude.{option_map};
 ghost use Rattle.cord_plan.specs.inner.Choices.{operands_view, simple_operands};
+ghost use Rattle.cord_plan.specs.inner.Known.{IsKnown};
 ghost use Rattle.cord_plan.specs.inner.Liveness.{tells};
-ghost use Rattle.cord_plan.specs.inner.Numbering.{AreHints};
+ghost use Rattle.cord_plan.specs.inner.Numbering.{AllHints, AreHints};
 ghost use Rattle.cord_plan.specs.inner.Recent.{IsRecent};
-ghost use Rattle.cord_plan.specs.inner.Steps.{IsNext, IsStep, sources_view};
+ghost use Rattle.cord_plan.specs.inner.Steps.{IsNext, IsStep, operation_expression, sources_view};
 ghost use Rattle.cord_plan.specs.Views.{expr_view, operation_view};
 
 use crate::flow::{LineNumbers, Recent};
 use crate::planner::choosing::{Line, Operands, choose, choose_all, operands_of};
 use crate::planner::interning::Interner;
 use crate::planner::joining::expression_with;
+use crate::planner::known::Known;
 use crate::planner::measuring::{Sources, measure, source_of, sources_of};
 use crate::{Expr, Operation};
 use cord_io::CordError;
@@ -30,15 +32,24 @@ fn expression_over<'a>(
     alloc: Global,
     interner: &mut Interner,
     line: &Line<'a>,
+    known: &mut Known,
     operations: &'a [Operation],
 ) -> Result<LineExpression, CordError>
     requires place { line.now.place ≤ length line.now.statements.now }
     requires recent { IsRecent line.now.statements.now line.now.place line.now.recent.now }
     requires operands { simple_operands line.now.statement.now ≡ Some (operands_view line.now.operands) }
     requires hints { AreHints line.now.recent.now.later.now.numbering line.now.statement.now line.now.numbers }
+    requires all_hints { AllHints line.now.statements.now line.now.recent.now.later.now.numbering
+        line.now.recent.now.later.now.numbers.items }
+    requires long { length operations.now ≡ line.now.place }
+    requires known { IsKnown line.now.recent.now.later.now.numbering
+        (map operation_expression (map operation_view operations.now)) known.old }
     ensures made { IfOk result (λ t. IsNext line.now.statements.now
         (tells line.now.recent.now.later.now) line.now.place line.now.statement.now
         (map operation_view operations.now) (sources_view t.sources) (option_map expr_view t.expression)) }
+    ensures known { IfOk result (λ t. IsKnown line.now.recent.now.later.now.numbering
+        (map operation_expression (map operation_view operations.now) ++ option_map expr_view t.expression ∷ [])
+        known.new) }
     ensures refused { IsOkUnless result CordError.NoMemory }
 {
     let (statement, numbers) = (line.statement, line.numbers);
@@ -48,22 +59,24 @@ fn expression_over<'a>(
             sources: Sources::Nothing,
         }),
         Operands::One(operand) => {
-            let choice = choose(line, operand, numbers.first, operations, &[]);
+            let choice = choose(line, known, operand, numbers.first, operations, &[]);
+            known.note_one(line, &choice);
             Ok(LineExpression {
                 expression: expression_with(alloc, interner, statement, &[choice])?,
                 sources: Sources::One(source_of(&choice)),
             })
         }
         Operands::Two(left, right) => {
-            let first = choose(line, left, numbers.first, operations, &[]);
-            let second = choose(line, right, numbers.second, operations, &[first]);
+            let first = choose(line, known, left, numbers.first, operations, &[]);
+            let second = choose(line, known, right, numbers.second, operations, &[first]);
+            known.note_two(line, &first, &second);
             Ok(LineExpression {
                 expression: expression_with(alloc, interner, statement, &[first, second])?,
                 sources: Sources::Two(source_of(&first), source_of(&second)),
             })
         }
         Operands::Listed(operands) => {
-            let choices = choose_all(alloc, line, operands, operations)?;
+            let choices = choose_all(alloc, line, known, operands, operations)?;
             let expression = expression_with(alloc, interner, statement, &choices)?;
             let sources = Sources::Listed(sources_of(alloc, &choices)?);
             Ok(LineExpression {
@@ -84,13 +97,20 @@ pub(crate) fn next_expression(
     statement: &Statement,
     numbers: LineNumbers,
     recent: &Recent,
+    known: &mut Known,
     operations: &mut [Operation],
 ) -> Result<Option<Expr>, CordError>
     requires place { place ≤ length statements.now }
     requires recent { IsRecent statements.now place recent.now }
     requires hints { AreHints recent.now.later.now.numbering statement.now numbers }
+    requires all_hints { AllHints statements.now recent.now.later.now.numbering recent.now.later.now.numbers.items }
+    requires long { length operations.old ≡ place }
+    requires known { IsKnown recent.now.later.now.numbering
+        (map operation_expression (map operation_view operations.old)) known.old }
     ensures made { IfOk result (λ e. IsStep statements.now (tells recent.now.later.now) place statement.now
         (map operation_view operations.old) (map operation_view operations.new) (option_map expr_view e)) }
+    ensures known { IfOk result (λ e. IsKnown recent.now.later.now.numbering
+        (map operation_expression (map operation_view operations.old) ++ option_map expr_view e ∷ []) known.new) }
     ensures refused { IsOkUnless result CordError.NoMemory }
 {
     let Some(operands) = operands_of(statement) else {
@@ -107,7 +127,7 @@ pub(crate) fn next_expression(
     let LineExpression {
         expression,
         sources,
-    } = expression_over(alloc, interner, &line, operations)?;
+    } = expression_over(alloc, interner, &line, known, operations)?;
     measure(operations, sources);
     Ok(expression)
 }

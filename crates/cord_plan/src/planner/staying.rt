@@ -1,15 +1,20 @@
 // Which line gave a name its cord last, and whether the names of its expression stay what they were.
-ghost use Rattle.std.specs.Prelude.{◌≡◌, ◌≤◌, ◌++◌, [], ◌∷◌, Some, length, map};
+ghost use Rattle.std.specs.Prelude.{◌≡◌, ◌≤◌, ◌++◌, [], ◌∷◌, Some, IfSome, length, map};
 ghost use Rattle.cord_meaning.specs.Statements.{shape_of};
 ghost use Rattle.cord_plan.specs.Exprs.{names, names_of, number_names};
 ghost use Rattle.cord_plan.specs.Forced.{preserves};
+ghost use Rattle.cord_plan.specs.declared.flow.numbering.Numbering.{Numbering};
 ghost use Rattle.cord_plan.specs.inner.Choices.{nearest};
-ghost use Rattle.cord_plan.specs.inner.Numbering.{number_of};
+ghost use Rattle.cord_plan.specs.inner.Known.{IsFacts};
+ghost use Rattle.cord_plan.specs.inner.Numbering.{AllHints, AreHints, number_of};
 ghost use Rattle.cord_plan.specs.inner.Recent.{IsRecent, stay, bars};
 ghost use Rattle.cord_plan.specs.Views.{expr_view, members_of, members_view, shared_view};
 
-use crate::flow::{assigns, entry_at, entry_of, is_before, is_block, reads, unless_after};
+use crate::flow::{
+    LineNumbers, assigns, entry_at, entry_of, is_before, is_block, numbers_at, reads, unless_after,
+};
 use crate::planner::choosing::Line;
+use crate::planner::known::Facts;
 use crate::planner::naming::lacks;
 use crate::{Expr, Members};
 use cord_script::{Name, Number, Statement};
@@ -158,22 +163,37 @@ fn all_stay_far(line: &Line, from: usize, members: &[Rc<Expr>]) -> bool
 }
 
 // Whether a line assigns no name of an expression.
-fn preserves(statement: &Statement, expression: &Expr) -> bool
+fn preserves(
+    statement: &Statement,
+    numbers: LineNumbers,
+    expression: &Expr,
+    facts: Option<&Facts>,
+) -> bool
+    requires { (t : Numbering) × AreHints t statement.now numbers × IfSome facts (λ f.
+        IsFacts t (expr_view expression.now) f.now) }
     ensures { result ≡ preserves (Some statement.now) (names (expr_view expression.now)) }
 {
     match statement.target() {
         None => true,
-        Some(target) => lacks(expression, target),
+        Some(target) => match (facts, numbers.target) {
+            (Some(facts), Some(number)) => facts.lacks(number),
+            _ => lacks(expression, target),
+        },
     }
 }
 
 // Whether no line from one place up to another assigns a name of an expression, line by line.
-fn stays_near(statements: &[Statement], from: usize, to: usize, expression: &Expr) -> bool
-    requires { to ≤ length statements.now }
-    ensures { result ≡ stay statements.now from to (names (expr_view expression.now)) }
+fn stays_near(line: &Line, from: usize, expression: &Expr, facts: Option<&Facts>) -> bool
+    requires place { line.now.place ≤ length line.now.statements.now }
+    requires hints { AllHints line.now.statements.now line.now.recent.now.later.now.numbering
+        line.now.recent.now.later.now.numbers.items }
+    requires facts { IfSome facts (λ f. IsFacts line.now.recent.now.later.now.numbering (expr_view expression.now)
+        f.now) }
+    ensures { result ≡ stay line.now.statements.now from line.now.place (names (expr_view expression.now)) }
 {
-    for p in from..to {
-        if !preserves(&statements[p], expression) {
+    for p in from..line.place {
+        let numbers = numbers_at(&line.recent.later.numbers, p);
+        if !preserves(&line.statements[p], numbers, expression, facts) {
             return false;
         }
     }
@@ -181,13 +201,17 @@ fn stays_near(statements: &[Statement], from: usize, to: usize, expression: &Exp
 }
 
 /// Whether no line from a place up to a line assigns a name of an expression.
-pub(crate) fn stays(line: &Line, from: usize, expression: &Expr) -> bool
+pub(crate) fn stays(line: &Line, from: usize, expression: &Expr, facts: Option<&Facts>) -> bool
+    requires hints { AllHints line.now.statements.now line.now.recent.now.later.now.numbering
+        line.now.recent.now.later.now.numbers.items }
+    requires facts { IfSome facts (λ f. IsFacts line.now.recent.now.later.now.numbering (expr_view expression.now)
+        f.now) }
     requires place { line.now.place ≤ length line.now.statements.now }
     requires recent { IsRecent line.now.statements.now line.now.place line.now.recent.now }
     ensures { result ≡ stay line.now.statements.now from line.now.place (names (expr_view expression.now)) }
 {
     if line.place <= from.saturating_add(NEAR) {
-        stays_near(line.statements, from, line.place, expression)
+        stays_near(line, from, expression, facts)
     } else {
         stays_far(line, from, expression)
     }

@@ -1,10 +1,11 @@
-use Rattle.std.proofs.Common.{◌≡◌, ℕ, Bool, false, List, [], ◌∷◌, Some, map, length, refl, ap, ◌∙◌, arith}
+use Rattle.std.proofs.Common.{◌≡◌, ℕ, Bool, false, List, [], ◌∷◌, ◌++◌, Some, map, length, refl, sym, ap, ◌∙◌, arith}
 use Rattle.std.specs.Prelude.{option_map, slice_get}
 use Rattle.std.proofs.lemmas.Option.{slice_get_read}
-use Rattle.std.proofs.lemmas.List.{map-append}
+use Rattle.std.proofs.lemmas.List.{length-map, map-append}
+use Rattle.cord_plan.specs.inner.Known.{IsKnown}
 use Rattle.cord_plan.specs.inner.Liveness.{tells}
 use Rattle.cord_plan.specs.inner.Numbering.{AllHints, AreHints}
-use Rattle.cord_plan.specs.inner.Steps.{IsStep}
+use Rattle.cord_plan.specs.inner.Steps.{IsStep, operation_expression}
 use Rattle.cord_plan.specs.Operands.{target_of}
 use Rattle.cord_plan.specs.Planned as plan
 use Rattle.cord_plan.specs.Views.{expr_view, operation_view}
@@ -12,7 +13,7 @@ use Rattle.cord_syntax.specs.declared.statements.Statement.{Statement}
 use Rattle.cord_plan.specs.declared.flow.line_numbers.LineNumbers.{LineNumbers}
 use Rattle.cord_plan.specs.declared.flow.liveness.Later.{Later}
 use Rattle.cord_plan.specs.declared.flow.numbering.Numbering.{Numbering}
-use Rattle.cord_plan.proofs.Marked.{all_begun, begun_none, begun_then, written_back}
+use Rattle.cord_plan.proofs.Marked.{all_begun, begun_long, begun_none, begun_then, expressions_then, written_back}
 use Rattle.cord_plan.proofs.planner.operations_of.Goals as goal
 
 pub loop-place-preserved : goal.loop-place-preserved
@@ -28,6 +29,9 @@ loop-place-preserved c =
     let size : length new ≡ c.loop-place.operations.len = c.next_expression.auto.operations ∙ c.deref_mut.ensures.len in
     let next : IsStep s later b l (map operation_view old) (map operation_view new) (option_map expr_view e) =
     rw (← c.loop-place.invariant.later, ← c.deref_mut.ensures.value) c.in_ok-expression.ensures.made in
+    let told : IsKnown c.args.later.now.numbering (map operation_expression (map operation_view old) ++ option_map expr_view e ∷ [])
+    c.next_expression.new.known =
+    rw (← c.loop-place.invariant.later, ← c.deref_mut.ensures.value) c.in_ok-expression.ensures.known in
     let here : slice_get s b ≡ Some l = slice_get_read s (length s) b l refl c.loop-place-test.true c.index-statements-place.is in
     let made : operation_view o ≡ plan.operation l (plan.or_nothing (option_map expr_view e)) (plan.is_dead later b (target_of l)) false =
     c.in_ok-operation_of.ensures.made
@@ -49,6 +53,14 @@ loop-place-preserved c =
       );
       later = c.note.ensures.later ∙ c.loop-place.invariant.later;
       recent = c.note.ensures.recent s here c.loop-place.invariant.recent;
+      known = rw (
+        c.push_reserved.ensures.items,
+        written_back c.loop-place.operations.len new old size,
+        map-append operation_view new (o ∷ []),
+        expressions_then s later b l (map operation_view old) (map operation_view new) (option_map expr_view e) (operation_view o)
+            (plan.is_dead later b (target_of l)) c.loop-place.invariant.begun next made,
+      )
+          told;
     }
 
 pub loop-place-init : goal.loop-place-init
@@ -57,6 +69,7 @@ loop-place-init c = record {
   room = omega (arith, c.in_ok-operations.ensures.len, c.in_ok-operations.ensures.capacity);
   later = c.in_ok-recent.ensures.later;
   recent = c.in_ok-recent.ensures.recent c.args.statements.now;
+  known = c.in_ok-known.ensures c.args.later.now.numbering (map operation_expression (map operation_view c.in_ok-operations.operations.items));
 }
 
 pub returns-clause-made : goal.returns-clause-made
@@ -88,6 +101,20 @@ next_expression-requires-clause-hints c =
     c.loop-place.place l (ap (λ (r : Later). r.numbering) c.loop-place.invariant.later) c.deref.ensures.value c.requires
     (slice_get_read s (length s) c.loop-place.place l refl c.loop-place-test.true c.index-statements-place.is)
     (λ hints there. c.numbers_at-numbers.ensures s t l hints there)
+
+pub next_expression-requires-clause-all_hints : goal.next_expression-requires-clause-all_hints
+next_expression-requires-clause-all_hints c = rw c.loop-place.invariant.later c.requires
+
+pub next_expression-requires-clause-long : goal.next_expression-requires-clause-long
+next_expression-requires-clause-long c =
+    let s = c.args.statements.now in
+    let old = c.loop-place.operations.items in
+    ap length c.deref_mut.ensures.value
+    ∙ (sym (length-map old operation_view)
+    ∙ begun_long s (tells c.args.later.now) c.loop-place.place (map operation_view old) c.loop-place.invariant.begun)
+
+pub next_expression-requires-clause-known : goal.next_expression-requires-clause-known
+next_expression-requires-clause-known c = rw (c.loop-place.invariant.later, c.deref_mut.ensures.value) c.loop-place.invariant.known
 
 pub is_dead-dead-requires : goal.is_dead-dead-requires
 is_dead-dead-requires c =

@@ -1,8 +1,9 @@
 use Rattle.std.proofs.Common.{◌≡◌, ◌≤◌, ◌+◌, ◌-◌, map, length}
 use Rattle.std.specs.Prelude.{vec_len, vec_capacity}
+use Rattle.cord_plan.specs.inner.Known.{IsKnown}
 use Rattle.cord_plan.specs.inner.Liveness.{tells}
 use Rattle.cord_plan.specs.inner.Recent.{IsRecent}
-use Rattle.cord_plan.specs.inner.Steps.{IsBegun}
+use Rattle.cord_plan.specs.inner.Steps.{IsBegun, operation_expression}
 use Rattle.cord_plan.specs.Views.{operation_view}
 use Rattle.cord_plan.proofs.planner.operations_of.Given as goal
 
@@ -13,4 +14,5 @@ invariant-loop-place l = record {
   room : vec_len l.operations + (length l.statements - l.place) ≤ vec_capacity l.operations;
   later : l.recent.later.now ≡ l.later;
   recent : IsRecent l.statements l.place l.recent;
+  known : IsKnown l.later.numbering (map operation_expression (map operation_view l.operations.items)) l.known;
 }

@@ -10,6 +10,22 @@ use Rattle.cord_plan.proofs.Nearest.{kept_far, kept_bare, by_tests, first_in}
 use Rattle.cord_plan.proofs.planner.choosing.choose.Goals as goal
 use Rattle.cord_plan.proofs.planner.choosing.choose.Goals.{else-stands-via-then-stands+else-stays_small, else-stands-via-else-stands}
 
+pub stands-requires-clause-facts : goal.stands-requires-clause-facts
+stands-requires-clause-facts c =
+    let line = c.args.line.now in
+    let table = map operation_expression (map operation_view c.args.operations.now) in
+    let e = expr_view c.in-Some-expression_at.expression.now in
+    let there : Some e ≡ expression_in table c.in-Some.source = c.in-Some-expression_at.ensures in
+    c.known_at-facts.ensures line.recent.now.later.now.numbering table e c.requires.known (sym there)
+
+pub stays_small-requires-clause-facts : goal.stays_small-requires-clause-facts
+stays_small-requires-clause-facts c =
+    let line = c.args.line.now in
+    let table = map operation_expression (map operation_view c.args.operations.now) in
+    let e = expr_view c.in-Some-expression_at.expression.now in
+    let there : Some e ≡ expression_in table c.in-Some.source = c.in-Some-expression_at.ensures in
+    c.known_at-facts.ensures line.recent.now.later.now.numbering table e c.requires.known (sym there)
+
 pub returns-in-None : goal.returns-in-None
 returns-in-None c =
     let line = c.args.line.now in

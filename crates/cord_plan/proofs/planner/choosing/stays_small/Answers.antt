@@ -12,19 +12,22 @@ returns-in-None c =
     small_none line.statement.now (operands_view line.operands) (map choice_view c.args.chosen.now) (expr_view c.args.expression.now)
     (length c.args.chosen.now) c.requires.operands (length-map c.args.chosen.now choice_view) c.requires.more c.in-None.ensures
 
-pub returns-in-None-room_left : goal.returns-in-None-room_left
-returns-in-None-room_left c =
+pub returns-in-None-room_left_known : goal.returns-in-None-room_left_known
+returns-in-None-room_left_known c =
     let line = c.args.line.now in
     small_some_none line.statement.now (operands_view line.operands) (map choice_view c.args.chosen.now) (expr_view c.args.expression.now)
     (length c.args.chosen.now) c.requires.operands (length-map c.args.chosen.now choice_view) c.requires.more c.in-Some.room
-    c.in-Some.ensures c.in-None-room_left.ensures
+    c.in-Some.ensures c.in-None-room_left_known.ensures
 
-pub returns-in-Some-room_left : goal.returns-in-Some-room_left
-returns-in-Some-room_left c =
+pub returns-in-Some-room_left_known : goal.returns-in-Some-room_left_known
+returns-in-Some-room_left_known c =
     let line = c.args.line.now in
-    ap (λ (n : ℕ). nat_le (n - length c.args.chosen.now - 1 + c.parts_beside.result) c.in-Some-room_left.rest) c.operand_count.ensures
-    ∙ (ap (λ (n : ℕ). nat_le (length (operands_view line.operands) - length c.args.chosen.now - 1 + n) c.in-Some-room_left.rest)
+    ap (λ (n : ℕ). nat_le (n - length c.args.chosen.now - 1 + c.parts_beside.result) c.in-Some-room_left_known.rest) c.operand_count.ensures
+    ∙ (ap (λ (n : ℕ). nat_le (length (operands_view line.operands) - length c.args.chosen.now - 1 + n) c.in-Some-room_left_known.rest)
     c.parts_beside.ensures
     ∙ small_some_some line.statement.now (operands_view line.operands) (map choice_view c.args.chosen.now) (expr_view c.args.expression.now)
     (length c.args.chosen.now) c.requires.operands (length-map c.args.chosen.now choice_view) c.requires.more c.in-Some.room
-    c.in-Some-room_left.rest c.in-Some.ensures c.in-Some-room_left.ensures)
+    c.in-Some-room_left_known.rest c.in-Some.ensures c.in-Some-room_left_known.ensures)
+
+pub room_left_known-requires : goal.room_left_known-requires
+room_left_known-requires c = (c.args.line.now.recent.now.later.now.numbering, c.requires.facts)

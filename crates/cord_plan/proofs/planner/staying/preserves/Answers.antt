@@ -2,6 +2,7 @@ use Rattle.std.proofs.Common.{◌≡◌, Some, None, sym, ◌∙◌}
 use Rattle.cord_plan.specs.Exprs.{names}
 use Rattle.cord_plan.specs.Operands.{target_of}
 use Rattle.cord_plan.specs.Views.{expr_view}
+use Rattle.cord_plan.specs.inner.Numbering.{number_of}
 use Rattle.cord_plan.proofs.Lacking.{preserves_all, preserves_lacking}
 use Rattle.cord_plan.proofs.planner.staying.preserves.Goals as goal
 
@@ -10,7 +11,17 @@ returns-in-None c =
     let none : target_of c.args.statement.now ≡ None = cc in
     sym (preserves_all c.args.statement.now none (names (expr_view c.args.expression.now)))
 
-pub returns-in-Some : goal.returns-in-Some
-returns-in-Some c =
+pub returns-in-Some-Some : goal.returns-in-Some-Some
+returns-in-Some-Some c =
+    let xs = names (expr_view c.args.expression.now) in
     let some : target_of c.args.statement.now ≡ Some c.in-Some.target.now = cc in
-    c.lacks.ensures ∙ sym (preserves_lacking c.args.statement.now c.in-Some.target.now some (names (expr_view c.args.expression.now)))
+    let number : number_of c.requires.0 c.in-Some.target.now ≡ Some c.in-Some-Some.number =
+    c.requires.1.target c.in-Some.target.now some c.in-Some-Some.number c.in-Some-Some.is-1 in
+    c.lacks.ensures c.requires.0 (expr_view c.args.expression.now) c.in-Some.target.now (rw c.in-Some-Some.is-0 at c.requires.2) number
+    ∙ sym (preserves_lacking c.args.statement.now c.in-Some.target.now some xs)
+
+pub returns-in_default : goal.returns-in_default
+returns-in_default c =
+    let xs = names (expr_view c.args.expression.now) in
+    let some : target_of c.args.statement.now ≡ Some c.in-Some.target.now = cc in
+    c.lacks-in_default.ensures ∙ sym (preserves_lacking c.args.statement.now c.in-Some.target.now some xs)

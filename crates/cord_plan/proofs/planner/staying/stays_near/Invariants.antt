@@ -5,5 +5,5 @@ use Rattle.cord_plan.specs.Views.{expr_view}
 use Rattle.cord_plan.proofs.planner.staying.stays_near.Given as goal
 
 abbrev pub invariant-loop-p : goal.invariant-loop-p
-invariant-loop-p l = stay l.statements l.from l.to (names (expr_view l.expression))
-    ≡ stay l.statements l.p l.to (names (expr_view l.expression))
+invariant-loop-p l = stay l.line.statements.now l.from l.line.place (names (expr_view l.expression))
+    ≡ stay l.line.statements.now l.p l.line.place (names (expr_view l.expression))

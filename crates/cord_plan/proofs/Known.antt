@@ -1,0 +1,148 @@
+-- What is known of expressions: their parts and names, and the entries for the lines so far.
+use Rattle.std.proofs.Common.{◌≡◌, ℕ, zero, suc, ◌+◌, ◌*◌, ◌<◌, Bool, true, false, ◌&&◌, ◌||◌, List, [], ◌∷◌, ◌++◌, map, length, Option}
+use Rattle.std.proofs.Common.{Some, None, refl, sym, ap, ◌∙◌, subst, arith, if◌then◌else◌}
+use Rattle.std.specs.Prelude.{not, slice_get}
+use Rattle.std.specs.Str.{bytes_eq}
+use Rattle.std.specs.Int.RustNames.{bit_or}
+use Rattle.std.proofs.Math.Bool.{or-false}
+use Rattle.cord_syntax.specs.declared.statements.Statement.{Statement}
+use Rattle.cord_syntax.specs.declared.statements.Statement.TheVariants.{Chars, Nul, Cat, Catn, Catc, Substr, Put}
+use Rattle.cord_plan.specs.Exprs.{Expr, Exprs, name, run, cat, sub, nothing, in_front, members}
+use Rattle.cord_plan.specs.Exprs.{names, names_of, parts}
+use Rattle.cord_plan.specs.Operands.{has}
+use Rattle.cord_plan.specs.Forced as plain
+use Rattle.cord_plan.specs.inner.Choices.{Has, IsChoice, expression_in, simple_operands}
+use Rattle.cord_plan.specs.inner.Known.{HasFacts, IsFacts, IsFrom, IsKnown}
+use Rattle.cord_plan.specs.inner.Marks.{IsBit, Marks, bit}
+use Rattle.cord_plan.specs.inner.Numbering.{number_of}
+use Rattle.cord_plan.specs.inner.Recent.{lacks}
+use Rattle.cord_plan.specs.declared.flow.numbering.Numbering.{Numbering}
+use Rattle.cord_plan.specs.declared.planner.known.Facts.{Facts}
+use Rattle.cord_plan.specs.declared.planner.known.Known.{Known}
+use Rattle.cord_plan.proofs.Appending.{names_append}
+use Rattle.cord_plan.proofs.MarkedNames.{has_both, has_one, marks_or, marks_same}
+use Rattle.cord_plan.proofs.Named.{no_true, own_bytes, same_bytes}
+use Rattle.cord_plan.proofs.Nearest.{first_in}
+use Rattle.cord_plan.proofs.PartSums.{parts_members}
+
+-- ---- names
+bytes_turned : (x y : List ℕ) → bytes_eq y x ≡ bytes_eq x y
+bytes_turned x y = by_name (bytes_eq x y) refl
+  where
+    by_name : (v : Bool) → bytes_eq x y ≡ v → bytes_eq y x ≡ v
+    by_name true e = ap (λ (z : List ℕ). bytes_eq y z) (same_bytes x y e) ∙ own_bytes y
+    by_name false e = no_true (bytes_eq y x) (λ f.
+        let bad : true ≡ false = sym (own_bytes x) ∙ (ap (λ (z : List ℕ). bytes_eq x z) (sym (same_bytes y x f)) ∙ e) in
+        let none : ⊥ = cc in none)
+
+-- a list of names lacks those that it doesn't have
+pub lacks_rest : (ys : List (List ℕ)) (x : List ℕ) → lacks ys x ≡ not (has ys x)
+lacks_rest [] x = refl
+lacks_rest (y ∷ ys) x =
+    ap (λ (v : Bool). not v && lacks ys x) (bytes_turned x y) ∙ pick (bytes_eq x y) (lacks_rest ys x)
+  where
+    pick : (v : Bool) → lacks ys x ≡ not (has ys x) → (not v && lacks ys x) ≡ not (v || has ys x)
+    pick true more = refl
+    pick false more = more
+
+has_front : (e : Expr) (es : Exprs) (x : List ℕ) → has (names_of (in_front e es)) x ≡ (has (names e) x || has (names_of es) x)
+has_front (name y) es x = has_both (names (name y)) (names_of es) x
+has_front (run c n) es x = has_both (names (run c n)) (names_of es) x
+has_front (cat ds) es x = ap (λ (ys : List (List ℕ)). has ys x) (names_append ds es) ∙ has_both (names_of ds) (names_of es) x
+has_front (sub e i n) es x = has_both (names (sub e i n)) (names_of es) x
+
+has_two : (d e : Expr) (x : List ℕ) → has (names (cat (members (d ∷ e ∷ [])))) x ≡ (has (names d) x || has (names e) x)
+has_two d e x =
+    has_front d (members (e ∷ [])) x
+    ∙ ap (λ (v : Bool). has (names d) x || v) (has_front e nothing x ∙ or-false (has (names e) x))
+
+module _ (t : Numbering) where
+  -- the words of a name and of two expressions
+  pub marks_name : (g : ℕ) (y : List ℕ) (w : ℕ) → Marks t g (λ x. bytes_eq x y) w → Marks t g (λ x. has (names (name y)) x) w
+  marks_name g y w marks = marks_same t g (λ x. bytes_eq x y) (λ x. has (names (name y)) x) w (λ x. has_one y x) marks
+
+  pub marks_both : (g : ℕ) (d e : Expr) (v w : ℕ) → Marks t g (λ x. has (names d) x) v → Marks t g (λ x. has (names e) x) w →
+      Marks t g (λ x. has (names (cat (members (d ∷ e ∷ [])))) x) (bit_or v w)
+  marks_both g d e v w one two = marks_same t g (λ x. has (names d) x || has (names e) x) (λ x. has (names (cat (members (d ∷ e ∷ [])))) x)
+      (bit_or v w) (λ x. has_two d e x) (marks_or t g (λ x. has (names d) x) (λ x. has (names e) x) v w one two)
+
+  -- what a word tells of a name by its number
+  pub told_lacks : (g : ℕ) (e : Expr) (w n k : ℕ) (x : List ℕ) → Marks t g (λ y. has (names e) y) w → number_of t x ≡ Some n →
+      128 * g + k ≡ n → k < 128 → not (bit w k) ≡ lacks (names e) x
+  told_lacks g e w n k x marks is place within =
+      let mine : IsBit t g x k = record { within = within; number = is ∙ ap Some (sym place) } in
+      ap not (marks x k mine) ∙ sym (lacks_rest (names e) x)
+
+-- ---- parts
+pub parts_two : (d e : Expr) → parts (cat (members (d ∷ e ∷ []))) ≡ parts d + parts e
+parts_two d e = parts_members (d ∷ e ∷ []) ∙ omega arith
+
+-- ---- entries
+before_in : (table : List (Option Expr)) (o : Option Expr) (a : ℕ) (e : Expr) → expression_in table a ≡ Some e →
+    expression_in (table ++ o ∷ []) a ≡ Some e
+before_in [] o a e is = let bad : ⊥ = cc in absurd bad
+before_in (f ∷ table) o zero e is = is
+before_in (f ∷ table) o (suc a) e is = before_in table o a e is
+
+pub last_in : (table : List (Option Expr)) (o : Option Expr) (n : ℕ) → length table ≡ n → expression_in (table ++ o ∷ []) n ≡ o
+last_in [] o zero size = refl
+last_in [] o (suc n) size = let bad : ⊥ = cc in absurd bad
+last_in (f ∷ table) o zero size = let bad : ⊥ = cc in absurd bad
+last_in (f ∷ table) o (suc n) size = last_in table o n (omega (arith, size))
+
+module _ (t : Numbering) where
+  -- a line more
+  pub known_more : (table : List (Option Expr)) (o : Option Expr) (known : Known) → IsKnown t table known → IsKnown t (table ++ o ∷ []) known
+  known_more table o known are n entry is =
+      let one = are n entry is in
+      record {
+        expression = one.expression;
+        is = before_in table o entry.place one.expression one.is;
+        facts = one.facts;
+      }
+
+  -- what is known of an expression
+  pub facts_are : (o : Option Expr) (e : Expr) (f : Facts) → HasFacts t o f → o ≡ Some e → IsFacts t e f
+  facts_are o e f has there =
+      let same : has.expression ≡ e = let one = has.is in cc in
+      subst (λ (d : Expr). IsFacts t d f) same has.facts
+
+-- the expression of a line with two operands
+pub two_joined : (l : Statement) (x y : List ℕ) (d e : Expr) → simple_operands l ≡ Some (x ∷ y ∷ []) →
+    plain.expr_with l (d ∷ e ∷ []) ≡ Some (cat (members (d ∷ e ∷ [])))
+two_joined (Cat line target left right) x y d e simple = refl
+two_joined (Catn line target many) x y d e simple = refl
+two_joined (Catc line target operand byte) x y d e simple = let bad : ⊥ = cc in absurd bad
+two_joined (Chars line target byte n) x y d e simple = let bad : ⊥ = cc in absurd bad
+two_joined (Nul line target n) x y d e simple = let bad : ⊥ = cc in absurd bad
+two_joined (Substr line target operand start n) x y d e simple = let bad : ⊥ = cc in absurd bad
+two_joined (Put line operand) x y d e simple = let bad : ⊥ = cc in absurd bad
+two_joined l x y d e simple = let bad : ⊥ = cc in absurd bad
+
+-- ---- choices
+bare_table : (table : List (Option Expr)) → Has table (map (λ o. (o, [])) table)
+bare_table [] = refl
+bare_table (o ∷ table) = λ i. o ∷ bare_table table i
+
+module _ (s : List Statement) (later : List ℕ → ℕ → Bool) (table : List (Option Expr)) (b : ℕ) (l : Statement) (x : List ℕ) where
+  module _ (t : plain.Table) (before after : List Expr) where
+    by_expression : (a : ℕ) (f : Option Expr) → expression_in table a ≡ f →
+        IsFrom table x (plain.chosen_from s later b l x before after a f)
+    by_expression a None is = refl
+    by_expression a (Some e) is = by_test (plain.fits s later e a b l x && plain.is_small (plain.expr_with l (before ++ e ∷ after)))
+      where
+        by_test : (v : Bool) → IsFrom table x (if v then plain.replaced a e else plain.named x)
+        by_test true = is
+        by_test false = refl
+
+    by_place : (o : Option ℕ) → Has table t → IsFrom table x (plain.chosen_of s later t b l x before after o)
+    by_place None has = refl
+    by_place (Some a) has = by_expression a (plain.first_of (slice_get t a)) (first_in table t a has)
+
+  -- a choice is the operand itself or an expression of the table
+  pub choice_from : (xs : List (List ℕ)) (done : List plain.Choice) (c : plain.Choice) → IsChoice s later b l xs x table done c →
+      IsFrom table x c
+  choice_from xs done c chosen =
+      let t : plain.Table = map (λ o. (o, [])) table in
+      subst (λ (d : plain.Choice). IsFrom table x d) (sym (chosen t (bare_table table)))
+      (by_place t _ _ (plain.setter s x b) (bare_table table))
