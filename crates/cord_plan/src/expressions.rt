@@ -53,6 +53,8 @@ impl Members {
     }
 
     /// The members in front, where other expressions may share them, and those after them. Some stand after a front.
+    #[inline(always)]
+    #[cycle(halves)]
     pub fn halves(&self) -> (Option<&Members>, &[Rc<Expr>])
         ensures members { members_view self.now
             ≡ append (front_view result.0) (members_of (map shared_view result.1.now)) }
@@ -60,9 +62,20 @@ impl Members {
     {
         match &self.front {
             None => (None, &self.rest),
-            Some(front) if self.rest.is_empty() => front.as_ref().halves(),
+            Some(front) if self.rest.is_empty() => front.as_ref().further_halves(),
             Some(front) => (Some(front.as_ref()), &self.rest),
         }
+    }
+
+    // The same of those in front of no others: a call, so that the other cases are inlined.
+    #[inline(never)]
+    #[cycle(halves)]
+    fn further_halves(&self) -> (Option<&Members>, &[Rc<Expr>])
+        ensures members { members_view self.now
+            ≡ append (front_view result.0) (members_of (map shared_view result.1.now)) }
+        ensures after { IfSome result.0 (λ _. 0 < length result.1.now) }
+    {
+        self.halves()
     }
 
     /// The same members, in front of those that follow where many stand after the front: so others share them.
