@@ -26,7 +26,7 @@ pub mod Kept
 pub mod PlannedPairs
 pub mod Numerals
 pub mod Followers
-pub mod Leading
+pub mod Ahead
 pub mod Words
 pub mod Numbers
 pub mod MarkedNames

@@ -1,147 +1,132 @@
--- One pass of the backwards flow over lines that lead on alone.
-use Rattle.std.proofs.Common.{◌≡◌, ◌⊎◌, ℕ, ◌<◌, ◌≤◌, Bool, true, false, ◌&&◌, ◌||◌, List, [], ◌∷◌, map, length, set, inl, inr}
-use Rattle.std.proofs.Common.{refl, sym, ap, ◌∙◌, subst, ⊎_elim, get_or, arith}
-use Rattle.std.proofs.Math.Dec.{leb}
-use Rattle.std.specs.Prelude.{replicate}
-use Rattle.std.proofs.Math.Nat.{eq-or-lt_of_le}
-use Rattle.std.proofs.lemmas.Bool.Decides.{leb_tells}
-use Rattle.std.proofs.lemmas.List.{get_or-set_same, get_or-set_other, get_or-replicate, get_or_past, length-replicate}
-use Rattle.std.specs.Prelude.{slice_get, not, nat_le}
+-- What is read later in a script without blocks.
+use Rattle.std.proofs.Common.{◌≡◌, ◌⊎◌, ℕ, zero, suc, ◌+◌, ◌<◌, ◌≤◌, Bool, true, false, ◌&&◌, ◌||◌, List, [], ◌∷◌, map, drop, length, inl, inr}
+use Rattle.std.proofs.Common.{Option, Some, None, refl, sym, ap, ◌∙◌, subst, arith}
+use Rattle.std.specs.Prelude.{slice_get, not}
+use Rattle.std.proofs.Math.Bool.{and-false, and-true}
+use Rattle.std.proofs.lemmas.Option.{slice_get-map, slice_get_cases}
 use Rattle.cord_syntax.specs.declared.statements.Statement.{Statement}
+use Rattle.cord_meaning.specs.Blocks.{Shape, Simple, Loop, Branch, Otherwise, Close}
+use Rattle.cord_meaning.specs.Paths.{Next, NextOf}
 use Rattle.cord_meaning.specs.Statements.{shape_of}
-use Rattle.cord_meaning.specs.Paths.{Next}
-use Rattle.cord_plan.specs.Operands.{assigns_at, reads_at}
-use Rattle.cord_plan.specs.Unread.{ReadBy, successors, some_of}
-use Rattle.cord_plan.specs.inner.Marks.{bit, column}
-use Rattle.cord_plan.proofs.Flows.{Found, shape_found}
-use Rattle.cord_plan.proofs.Words.{bit_zero_is, column_at}
-use Rattle.cord_plan.specs.inner.Liveness.{at, finds, flow, is_back}
+use Rattle.cord_plan.specs.Forced.{is_block, is_block_at}
+use Rattle.cord_plan.specs.Operands.{assigns, assigns_at, reads, reads_at}
+use Rattle.cord_plan.specs.Unread.{IsLater, ReadBy, ReadLater, Unread}
+use Rattle.cord_plan.specs.inner.Ahead.{flow, later_in}
+use Rattle.cord_plan.specs.inner.Liveness.{NoBlocks}
 
--- a place is before those that it leads on to
-past : (q k : ℕ) → nat_le q k ≡ false → k < q
-past q k e = elim (leb_tells q k) [
-  | inl w ↦ (let yes : nat_le q k ≡ true = w.0 in let bad : ⊥ = cc in absurd bad)
-  | inr w ↦ w.1
-]
+-- only a simple statement belongs to no block
+simple_alone : (x : Shape) → is_block x ≡ false → x ≡ Simple
+simple_alone Simple e = refl
+simple_alone Loop e = let bad : ⊥ = cc in absurd bad
+simple_alone Branch e = let bad : ⊥ = cc in absurd bad
+simple_alone Otherwise e = let bad : ⊥ = cc in absurd bad
+simple_alone Close e = let bad : ⊥ = cc in absurd bad
 
--- where the flow was taken in there is nothing to find
-flow_nothing : (a b c : Bool) → (not (flow a b c) && (b && not c)) ≡ false
-flow_nothing true b c = refl
-flow_nothing false true true = refl
-flow_nothing false true false = refl
-flow_nothing false false c = refl
-
--- how the flow finds a bit
+-- how a line reads a name before it is assigned
 flow_parts : (a b c : Bool) → flow a b c ≡ true → (a ≡ true) ⊎ ((b ≡ true) × (c ≡ false))
 flow_parts true b c e = inl refl
 flow_parts false true false e = inr (refl, refl)
 flow_parts false true true e = let bad : ⊥ = cc in absurd bad
 flow_parts false false c e = let bad : ⊥ = cc in absurd bad
 
--- a path that reads x begins at each place of a table
-abbrev pub Paths : List Statement → List ℕ → List Bool → Type 0
-Paths s x table = (k : ℕ) → at table k ≡ true → (path : List ℕ) × ReadBy s x k path
+flow_read : (a b c : Bool) → a ≡ true → flow a b c ≡ true
+flow_read a b c e = rw e refl
 
--- where no word has a bit there is no place
-pub no_place : (n i k : ℕ) → at (column (replicate n 0) i) k ≡ false
-no_place n i k = column_at (replicate n 0) i k ∙ (ap (λ (w : ℕ). bit w i) (zero_there (leb_tells n k)) ∙ bit_zero_is i)
-  where
-    zeros : List ℕ
-    zeros = replicate n 0
+flow_on : (a b c : Bool) → b ≡ true → c ≡ false → flow a b c ≡ true
+flow_on true b c e f = refl
+flow_on false b c e f = rw (e, f) refl
 
-    zero_there : ((leb n k ≡ true) × (n ≤ k)) ⊎ ((leb n k ≡ false) × (k < n)) → get_or zeros k 0 ≡ 0
-    zero_there (inl w) = get_or_past zeros k 0 (simp length-replicate (omega (arith, w.1)))
-    zero_there (inr w) = get_or-replicate n k 0 0 w.1
+-- the lines from a place on
+lines_from : (s : List Statement) (p : ℕ) (x : List ℕ) → later_in (drop p s) x
+    ≡ flow (reads_at (slice_get s p) x) (later_in (drop (suc p) s) x) (assigns_at (slice_get s p) x)
+lines_from [] zero x = refl
+lines_from [] (suc p) x = refl
+lines_from (l ∷ ls) zero x = refl
+lines_from (l ∷ ls) (suc p) x = lines_from ls p x
 
-module _ (table : List Bool) (p : ℕ) (b : Bool) where
-  other_place : (q : ℕ) → p < q → at (set table p b) q ≡ at table q
-  other_place q lt = get_or-set_other table p q b false (λ same. omega (arith, lt, same))
+-- where the line at a place reads a name, and where it doesn't but assigns it
+module _ (s : List Statement) (p : ℕ) (l : Statement) (x : List ℕ) (there : slice_get s p ≡ Some l) where
+  line_from : later_in (drop p s) x ≡ flow (reads l x) (later_in (drop (p + 1) s) x) (assigns l x)
+  line_from =
+      let on : suc p ≡ p + 1 = omega arith in
+      lines_from s p x ∙ ap (λ (n : ℕ). flow (reads_at (slice_get s p) x) (later_in (drop n s) x) (assigns_at (slice_get s p) x)) on
+      ∙ ap (λ (o : Option Statement). flow (reads_at o x) (later_in (drop (p + 1) s) x) (assigns_at o x)) there
 
-  -- what a place at p or behind it leads on to stays as it is
-  some_past : (k : ℕ) → p ≤ k → (qs : List ℕ) → is_back k qs ≡ false →
-      some_of (λ q. at (set table p b) q) qs ≡ some_of (λ q. at table q) qs
-  some_past k le [] e = refl
-  some_past k le (q ∷ qs) e = by_place (nat_le q k) refl e (λ f. some_past k le qs f)
-    where
-      by_place : (v : Bool) → nat_le q k ≡ v → (v || is_back k qs) ≡ false →
-          (is_back k qs ≡ false → some_of (λ m. at (set table p b) m) qs ≡ some_of (λ m. at table m) qs) →
-          (at (set table p b) q || some_of (λ m. at (set table p b) m) qs) ≡ (at table q || some_of (λ m. at table m) qs)
-      by_place true f g ih = let bad : ⊥ = cc in absurd bad
-      by_place false f g ih =
-          let lt : k < q = past q k f in
-          ap (λ (v : Bool). v || some_of (λ m. at (set table p b) m) qs) (other_place q (omega (arith, lt, le)))
-          ∙ ap (λ (v : Bool). at table q || v) (ih g)
+  pub read_here : reads l x ≡ true → later_in (drop p s) x ≡ true
+  read_here r = line_from ∙ flow_read (reads l x) (later_in (drop (p + 1) s) x) (assigns l x) r
 
-module _ (s : List Statement) (x : List ℕ) (table : List Bool) (p : ℕ) (b : Bool) where
-  -- lines that lead on rest from p on, where those behind p did and the flow back over p is taken in
-  pub rests_onward : ((k : ℕ) → is_back k (successors (map shape_of s) k) ≡ false) → p < length table → (r : Bool) →
-      b ≡ flow r (some_of (λ q. at table q) (successors (map shape_of s) p)) (assigns_at (slice_get s p) x) →
-      ((k : ℕ) → p < k → finds s x table k ≡ false) → (k : ℕ) → p ≤ k → finds s x (set table p b) k ≡ false
-  rests_onward on within r is above k le = by_place (eq-or-lt_of_le le)
-    where
-      tells : (k : ℕ) → p ≤ k → some_of (λ q. at (set table p b) q) (successors (map shape_of s) k)
-          ≡ some_of (λ q. at table q) (successors (map shape_of s) k)
-      tells k le = some_past table p b k le (successors (map shape_of s) k) (on k)
+  pub assigned_here : reads l x ≡ false → assigns l x ≡ true → later_in (drop p s) x ≡ false
+  assigned_here r a = line_from ∙ rw (r, a) (and-false (later_in (drop (p + 1) s) x))
 
-      same : (k : ℕ) → p ≤ k → (v : Bool) → at (set table p b) k ≡ v →
-          finds s x (set table p b) k
-          ≡ (not v && (some_of (λ q. at table q) (successors (map shape_of s) k) && not (assigns_at (slice_get s k) x)))
-      same k le v e =
-          ap (λ (w : Bool). not w
-          && (some_of (λ q. at (set table p b) q) (successors (map shape_of s) k) && not (assigns_at (slice_get s k) x))) e
-          ∙ ap (λ (w : Bool). not v && (w && not (assigns_at (slice_get s k) x))) (tells k le)
+  pub passed_here : reads l x ≡ false → assigns l x ≡ false → later_in (drop p s) x ≡ later_in (drop (p + 1) s) x
+  passed_here r a = line_from ∙ rw (r, a) (and-true (later_in (drop (p + 1) s) x))
 
-      here : finds s x (set table p b) p ≡ false
-      here =
-          same p (omega arith) (flow r (some_of (λ q. at table q) (successors (map shape_of s) p)) (assigns_at (slice_get s p) x))
-          (get_or-set_same table p b false within ∙ is)
-          ∙ flow_nothing r (some_of (λ q. at table q) (successors (map shape_of s) p)) (assigns_at (slice_get s p) x)
+record Head (s : List Statement) (p : ℕ) (l : Statement) (ls : List Statement) : Type 0 where
+  pub there : slice_get s p ≡ Some l
+  pub rest : drop (suc p) s ≡ ls
+  pub within : p < length s
 
-      by_place : (p ≡ k) ⊎ (p < k) → finds s x (set table p b) k ≡ false
-      by_place (inl at_p) = subst (λ (n : ℕ). finds s x (set table p b) n ≡ false) at_p here
-      by_place (inr up) = same k le (at table k) (other_place table p b k up) ∙ above k up
+head_of : (s : List Statement) (p : ℕ) (l : Statement) (ls : List Statement) → drop p s ≡ l ∷ ls → Head s p l ls
+head_of [] zero l ls e = let bad : ⊥ = cc in absurd bad
+head_of [] (suc p) l ls e = let bad : ⊥ = cc in absurd bad
+head_of (m ∷ s) zero l ls e = record { there = let same : m ≡ l = cc in ap Some same; rest = cc; within = omega arith }
+head_of (m ∷ s) (suc p) l ls e =
+    let found : Head s p l ls = head_of s p l ls e in
+    record { there = found.there; rest = found.rest; within = let lt = found.within in omega arith }
 
-  -- the line at p is read where it was taken in, and so are those behind it
-  pub reads_onward : p < length table →
-      b ≡ flow (reads_at (slice_get s p) x) (some_of (λ q. at table q) (successors (map shape_of s) p)) (assigns_at (slice_get s p) x) →
-      ((k : ℕ) → p < k → reads_at (slice_get s k) x ≡ true → at table k ≡ true) →
-      (k : ℕ) → p ≤ k → reads_at (slice_get s k) x ≡ true → at (set table p b) k ≡ true
-  reads_onward within is above k le r = by_place (eq-or-lt_of_le le)
-    where
-      by_place : (p ≡ k) ⊎ (p < k) → at (set table p b) k ≡ true
-      by_place (inl at_p) =
-          let here : reads_at (slice_get s p) x ≡ true = ap (λ (n : ℕ). reads_at (slice_get s n) x) at_p ∙ r in
-          ap (λ (n : ℕ). at (set table p b) n) (sym at_p)
-          ∙ (get_or-set_same table p b false within ∙ (is
-          ∙ ap (λ (v : Bool). flow v (some_of (λ q. at table q) (successors (map shape_of s) p)) (assigns_at (slice_get s p) x)) here))
-      by_place (inr up) = other_place table p b k up ∙ above k up r
+module _ (s : List Statement) (none : NoBlocks s) where
+  -- without blocks each place leads to the next one alone
+  next_is : (p q : ℕ) (o : Option Statement) → slice_get s p ≡ o → Next (map shape_of s) p q → q ≡ p + 1
+  next_is p q None e next = let past : ⊥ = rw (slice_get-map shape_of s p, e) at next in absurd past
+  next_is p q (Some l) e next =
+      let simple : shape_of l ≡ Simple = simple_alone (shape_of l) (ap is_block_at (sym e) ∙ none p) in
+      rw (slice_get-map shape_of s p, e, simple) at next
 
-  -- a path begins where the flow over p finds one
-  path_onward : Paths s x table →
-      flow (reads_at (slice_get s p) x) (some_of (λ q. at table q) (successors (map shape_of s) p)) (assigns_at (slice_get s p) x) ≡ true →
-      (path : List ℕ) × ReadBy s x p path
-  path_onward paths e = ⊎_elim (λ r. ([], r))
-      (λ w. over w.1 (shape_found (λ q. at table q) (map shape_of s) p (slice_get (map shape_of s) p) w.0))
-      (flow_parts (reads_at (slice_get s p) x) (some_of (λ q. at table q) (successors (map shape_of s) p)) (assigns_at (slice_get s p) x) e)
-    where
-      over : assigns_at (slice_get s p) x ≡ false → Found (λ q. at table q) (map shape_of s) p (Next (map shape_of s) p) →
-          (path : List ℕ) × ReadBy s x p path
-      over unset found =
-          let rest : (path : List ℕ) × ReadBy s x found.place path = paths found.place found.true_there in
-          (found.place ∷ rest.0, (unset, found.next, rest.1))
-
-  -- and from each other place as before
-  pub paths_onward : p < length table →
-      b ≡ flow (reads_at (slice_get s p) x) (some_of (λ q. at table q) (successors (map shape_of s) p)) (assigns_at (slice_get s p) x) →
-      Paths s x table → Paths s x (set table p b)
-  paths_onward within is paths k h = elim (leb_tells p k) [
-    | inl w ↦ by_place (eq-or-lt_of_le w.1)
-    | inr w ↦ paths k (sym (get_or-set_other table p k b false (λ same. omega (arith, w.1, same))) ∙ h)
+  next_there : (p : ℕ) → p < length s → Next (map shape_of s) p (p + 1)
+  next_there p lt = elim (slice_get_cases s p).1 [
+    | inl w ↦
+        let simple : shape_of w.0 ≡ Simple = simple_alone (shape_of w.0) (ap is_block_at (sym w.2) ∙ none p) in
+        rw (slice_get-map shape_of s p, w.2, simple) refl
+    | inr w ↦ absurd (omega (arith, lt, w.0))
   ]
-    where
-      by_place : (p ≡ k) ⊎ (p < k) → (path : List ℕ) × ReadBy s x k path
-      by_place (inl at_p) =
-          let there : at (set table p b) p ≡ true = ap (λ (n : ℕ). at (set table p b) n) at_p ∙ h in
-          subst (λ (n : ℕ). (path : List ℕ) × ReadBy s x n path) at_p
-          (path_onward paths (sym is ∙ (sym (get_or-set_same table p b false within) ∙ there)))
-      by_place (inr up) = paths k (sym (other_place table p b k up) ∙ h)
+
+  module _ (x : List ℕ) where
+    -- a path from a place reads x where the lines from there do
+    path_reads : (p : ℕ) (path : List ℕ) → ReadBy s x p path → later_in (drop p s) x ≡ true
+    path_reads p [] r = lines_from s p x ∙ flow_read (reads_at (slice_get s p) x) (later_in (drop (suc p) s) x) (assigns_at (slice_get s p) x) r
+    path_reads p (q ∷ path) r =
+        let on : q ≡ p + 1 = next_is p q (slice_get s p) refl r.1 in
+        let same : suc p ≡ q = omega (arith, on) in
+        let rest : later_in (drop (suc p) s) x ≡ true = ap (λ (n : ℕ). later_in (drop n s) x) same ∙ path_reads q path r.2 in
+        lines_from s p x ∙ flow_on (reads_at (slice_get s p) x) (later_in (drop (suc p) s) x) (assigns_at (slice_get s p) x) rest r.0
+
+    -- and the other way round
+    path_of : (ls : List Statement) (p : ℕ) → drop p s ≡ ls → later_in ls x ≡ true → (path : List ℕ) × ReadBy s x p path
+    path_of [] p from e = let bad : ⊥ = cc in absurd bad
+    path_of (l ∷ ls) p from e = by_line (head_of s p l ls from) (flow_parts (reads l x) (later_in ls x) (assigns l x) e)
+        (λ f g. path_of ls (p + 1) f g)
+      where
+        by_line : Head s p l ls → (reads l x ≡ true) ⊎ ((later_in ls x ≡ true) × (assigns l x ≡ false)) →
+            (drop (p + 1) s ≡ ls → later_in ls x ≡ true → (path : List ℕ) × ReadBy s x (p + 1) path) → (path : List ℕ) × ReadBy s x p path
+        by_line head (inl r) on = ([], ap (λ (o : Option Statement). reads_at o x) head.there ∙ r)
+        by_line head (inr w) on =
+            let same : p + 1 ≡ suc p = omega arith in
+            let rest : (path : List ℕ) × ReadBy s x (p + 1) path = on (ap (λ (n : ℕ). drop n s) same ∙ head.rest) w.0 in
+            ((p + 1) ∷ rest.0, (ap (λ (o : Option Statement). assigns_at o x) head.there ∙ w.1, next_there p head.within, rest.1))
+
+    read_after : (p : ℕ) (ls : List Statement) → drop (p + 1) s ≡ ls → later_in ls x ≡ true → ReadLater s x p
+    read_after p [] from e = let bad : ⊥ = cc in absurd bad
+    read_after p (l ∷ ls) from e =
+        let rest : (path : List ℕ) × ReadBy s x (p + 1) path = path_of (l ∷ ls) (p + 1) from e in
+        let within : p + 1 < length s = (head_of s (p + 1) l ls from).within in
+        record { first = p + 1; path = rest.0; next = next_there p (omega (arith, within)); reads = rest.1 }
+
+  -- the lines behind each line tell what is read later
+  pub lines_tell : IsLater s (λ x p. later_in (drop (p + 1) s) x)
+  lines_tell = record {
+    unread = λ x p e q next path r.
+        (let on : q ≡ p + 1 = next_is p q (slice_get s p) refl next in
+        let there : later_in (drop (p + 1) s) x ≡ true = ap (λ (n : ℕ). later_in (drop n s) x) (sym on) ∙ path_reads x q path r in
+        let bad : ⊥ = cc in bad);
+    read = λ x p e. read_after x p (drop (p + 1) s) refl e;
+  }

@@ -1,7 +1,7 @@
 -- The last lines that assign and read a name: what a note does to the places, and what they tell.
 use Rattle.std.proofs.Common.{◌≡◌, ◌⊎◌, ℕ, zero, suc, ◌+◌, ◌<◌, ◌≤◌, Bool, true, false, ◌||◌, List, [], ◌∷◌, take, length, get_or, set}
 use Rattle.std.proofs.Common.{Option, Some, None, inl, inr, refl, sym, ap, ◌∙◌, arith}
-use Rattle.std.specs.Prelude.{slice_get, option_map, if◌then◌else◌}
+use Rattle.std.specs.Prelude.{slice_get, option_map, if◌then◌else◌, replicate}
 use Rattle.std.specs.Str.{bytes_eq}
 use Rattle.std.proofs.Math.Bool.{or-false}
 use Rattle.std.proofs.lemmas.Bool.{cases_eq}
@@ -11,32 +11,91 @@ use Rattle.cord_operands.specs.declared.operands.Argument.{Argument}
 use Rattle.cord_operands.specs.declared.operands.Argument.TheVariants.{Number, Cord}
 use Rattle.cord_plan.specs.Operands.{has, cord_arguments}
 use Rattle.cord_plan.specs.inner.Numbering.{names_of, number_of}
-use Rattle.cord_plan.specs.inner.Recent.{Notes, entry_at, entry_of, noted}
+use Rattle.cord_plan.specs.inner.Recent.{Notes, Puts, entry_at, entry_of, noted}
 use Rattle.cord_plan.specs.declared.flow.numbering.Numbering.{Numbering}
 use Rattle.cord_plan.proofs.Named.{same_bytes, own_bytes}
 use Rattle.cord_plan.proofs.Numbers.{number_there, arguments_more}
 use Rattle.cord_plan.proofs.MarkedNames.{has_both, has_one, has_more}
 
 -- an element that was set, and the others
-set_there : (xs : List (Option ℕ)) (n : ℕ) (v : Option ℕ) → n < length xs → slice_get (set xs n v) n ≡ Some v
+pub set_there : {A : Type 0} (xs : List A) (n : ℕ) (v : A) → n < length xs → slice_get (set xs n v) n ≡ Some v
 set_there [] n v lt = absurd (omega (arith, lt))
 set_there (x ∷ xs) zero v lt = refl
 set_there (x ∷ xs) (suc n) v lt = set_there xs n v (omega (arith, lt))
 
-set_apart : (xs : List (Option ℕ)) (n m : ℕ) (v : Option ℕ) → (m ≡ n → ⊥) → slice_get (set xs n v) m ≡ slice_get xs m
+pub set_apart : {A : Type 0} (xs : List A) (n m : ℕ) (v : A) → (m ≡ n → ⊥) → slice_get (set xs n v) m ≡ slice_get xs m
 set_apart [] n m v differ = refl
 set_apart (x ∷ xs) zero zero v differ = absurd (differ refl)
 set_apart (x ∷ xs) zero (suc m) v differ = refl
 set_apart (x ∷ xs) (suc n) zero v differ = refl
 set_apart (x ∷ xs) (suc n) (suc m) v differ = set_apart xs n m v (λ e. differ (ap suc e))
 
-unnoted : (p : ℕ) (o : Option (Option ℕ)) → o ≡ option_map (λ q. noted false p q) o
-unnoted p None = refl
-unnoted p (Some q) = refl
+unput : (w : Option ℕ) (o : Option (Option ℕ)) → o ≡ option_map (λ q. if false then w else q) o
+unput w None = refl
+unput w (Some q) = refl
+
+module _ (t : Numbering) (w : Option ℕ) where
+  pub puts_nothing : (places : List (Option ℕ)) → Puts t (λ x. false) w places places
+  puts_nothing places x = unput w (entry_of t places x)
+
+  module _ (y : List ℕ) (places : List (Option ℕ)) (n : ℕ) (is : number_of t y ≡ Some n) where
+    -- a number that the places don't have
+    pub puts_past : length places ≤ n → Puts t (λ x. bytes_eq x y) w places places
+    puts_past past x = by_name (bytes_eq x y) refl
+      where
+        by_name : (v : Bool) → bytes_eq x y ≡ v → entry_of t places x ≡ option_map (λ q. if v then w else q) (entry_of t places x)
+        by_name false e = unput w (entry_of t places x)
+        by_name true e =
+            let none : entry_of t places x ≡ None =
+            ap (λ (z : List ℕ). entry_of t places z) (same_bytes x y e)
+            ∙ (ap (λ (o : Option ℕ). entry_at places o) is ∙ slice_get_past places n past) in
+            rw none refl
+
+    pub puts_there : n < length places → Puts t (λ x. bytes_eq x y) w places (set places n w)
+    puts_there lt x = by_number (number_of t x) refl
+      where
+        same_name : number_of t x ≡ Some n → x ≡ y
+        same_name e =
+            let one : slice_get (names_of t) n ≡ Some x = number_there t x n e in
+            let other : slice_get (names_of t) n ≡ Some y = number_there t y n is in
+            cc
+
+        other_name : (m : ℕ) → number_of t x ≡ Some m → (m ≡ n → ⊥) → (v : Bool) → bytes_eq x y ≡ v → v ≡ false
+        other_name m e differ false f = refl
+        other_name m e differ true f =
+            let number : number_of t x ≡ Some n = ap (λ (z : List ℕ). number_of t z) (same_bytes x y f) ∙ is in
+            absurd (differ (let same : m ≡ n = cc in same))
+
+        by_place : (m : ℕ) → number_of t x ≡ Some m → (m ≡ n) ⊎ (m ≡ n → ⊥) →
+            slice_get (set places n w) m ≡ option_map (λ o. if bytes_eq x y then w else o) (slice_get places m)
+        by_place m e (inl same) =
+            let mine : number_of t x ≡ Some n = e ∙ ap Some same in
+            let there : slice_get places n ≡ Some (get_or places n None) = slice_get-get_or places n None lt in
+            rw (same, same_name mine, own_bytes y, there) (set_there places n w lt)
+        by_place m e (inr differ) =
+            set_apart places n m w differ
+            ∙ (unput w (slice_get places m)
+            ∙ ap (λ (v : Bool). option_map (λ o. if v then w else o) (slice_get places m)) (sym (other_name m e differ (bytes_eq x y) refl)))
+
+        by_number : (o : Option ℕ) → number_of t x ≡ o → entry_at (set places n w) o
+            ≡ option_map (λ q. if bytes_eq x y then w else q) (entry_at places o)
+        by_number None e = refl
+        by_number (Some m) e = by_place m e (cases_eq m n)
+
+  -- a name without a number
+  pub puts_unknown : (y : List ℕ) (places : List (Option ℕ)) → number_of t y ≡ None → Puts t (λ x. bytes_eq x y) w places places
+  puts_unknown y places is x = by_name (bytes_eq x y) refl
+    where
+      by_name : (v : Bool) → bytes_eq x y ≡ v → entry_of t places x ≡ option_map (λ q. if v then w else q) (entry_of t places x)
+      by_name false e = unput w (entry_of t places x)
+      by_name true e =
+          let none : entry_of t places x ≡ None =
+          ap (λ (z : List ℕ). entry_of t places z) (same_bytes x y e) ∙ ap (λ (o : Option ℕ). entry_at places o) is in
+          rw none refl
 
 module _ (t : Numbering) (p : ℕ) where
   pub notes_nothing : (places : List (Option ℕ)) → Notes t (λ x. false) p places places
-  notes_nothing places x = unnoted p (entry_of t places x)
+  notes_nothing places x = unput (Some p) (entry_of t places x)
 
   pub notes_same : (f h : List ℕ → Bool) (old new : List (Option ℕ)) → ((x : List ℕ) → h x ≡ f x) → Notes t f p old new →
       Notes t h p old new
@@ -53,61 +112,6 @@ module _ (t : Numbering) (p : ℕ) where
       both true true (Some q) = refl
       both true false (Some q) = refl
       both false w (Some q) = refl
-
-  module _ (y : List ℕ) (places : List (Option ℕ)) (n : ℕ) (is : number_of t y ≡ Some n) where
-    -- a number that the places don't have
-    pub notes_past : length places ≤ n → Notes t (λ x. bytes_eq x y) p places places
-    notes_past past x = by_name (bytes_eq x y) refl
-      where
-        by_name : (v : Bool) → bytes_eq x y ≡ v → entry_of t places x ≡ option_map (λ q. noted v p q) (entry_of t places x)
-        by_name false e = unnoted p (entry_of t places x)
-        by_name true e =
-            let none : entry_of t places x ≡ None =
-            ap (λ (z : List ℕ). entry_of t places z) (same_bytes x y e)
-            ∙ (ap (λ (o : Option ℕ). entry_at places o) is ∙ slice_get_past places n past) in
-            rw none refl
-
-    pub notes_there : n < length places → Notes t (λ x. bytes_eq x y) p places (set places n (Some p))
-    notes_there lt x = by_number (number_of t x) refl
-      where
-        same_name : number_of t x ≡ Some n → x ≡ y
-        same_name e =
-            let one : slice_get (names_of t) n ≡ Some x = number_there t x n e in
-            let other : slice_get (names_of t) n ≡ Some y = number_there t y n is in
-            cc
-
-        other_name : (m : ℕ) → number_of t x ≡ Some m → (m ≡ n → ⊥) → (v : Bool) → bytes_eq x y ≡ v → v ≡ false
-        other_name m e differ false f = refl
-        other_name m e differ true f =
-            let number : number_of t x ≡ Some n = ap (λ (z : List ℕ). number_of t z) (same_bytes x y f) ∙ is in
-            absurd (differ (let same : m ≡ n = cc in same))
-
-        by_place : (m : ℕ) → number_of t x ≡ Some m → (m ≡ n) ⊎ (m ≡ n → ⊥) →
-            slice_get (set places n (Some p)) m ≡ option_map (λ o. noted (bytes_eq x y) p o) (slice_get places m)
-        by_place m e (inl same) =
-            let mine : number_of t x ≡ Some n = e ∙ ap Some same in
-            let there : slice_get places n ≡ Some (get_or places n None) = slice_get-get_or places n None lt in
-            rw (same, same_name mine, own_bytes y, there) (set_there places n (Some p) lt)
-        by_place m e (inr differ) =
-            set_apart places n m (Some p) differ
-            ∙ (unnoted p (slice_get places m)
-            ∙ ap (λ (v : Bool). option_map (λ o. noted v p o) (slice_get places m)) (sym (other_name m e differ (bytes_eq x y) refl)))
-
-        by_number : (o : Option ℕ) → number_of t x ≡ o → entry_at (set places n (Some p)) o
-            ≡ option_map (λ q. noted (bytes_eq x y) p q) (entry_at places o)
-        by_number None e = refl
-        by_number (Some m) e = by_place m e (cases_eq m n)
-
-  -- a name without a number
-  pub notes_unknown : (y : List ℕ) (places : List (Option ℕ)) → number_of t y ≡ None → Notes t (λ x. bytes_eq x y) p places places
-  notes_unknown y places is x = by_name (bytes_eq x y) refl
-    where
-      by_name : (v : Bool) → bytes_eq x y ≡ v → entry_of t places x ≡ option_map (λ q. noted v p q) (entry_of t places x)
-      by_name false e = unnoted p (entry_of t places x)
-      by_name true e =
-          let none : entry_of t places x ≡ None =
-          ap (λ (z : List ℕ). entry_of t places z) (same_bytes x y e) ∙ ap (λ (o : Option ℕ). entry_at places o) is in
-          rw none refl
 
   pub notes_more : (names : List (List ℕ)) (i : ℕ) (y : List ℕ) (old now new : List (Option ℕ)) → i < length names → y ≡ get_or names i y →
       Notes t (λ x. has (take i names) x) p old now → Notes t (λ x. bytes_eq x y) p now new →
@@ -140,3 +144,16 @@ pub last_then : (holds : Bool) (p : ℕ) (e : Option (Option ℕ)) (o last : Opt
 last_then holds p None o last is old = let bad : ⊥ = cc in absurd bad
 last_then true p (Some q) o last is old = let same : o ≡ Some p = cc in same
 last_then false p (Some q) o last is old = let same : o ≡ q = cc in same ∙ old q refl
+
+-- nothing is noted at first
+pub none_noted : (t : Numbering) (n : ℕ) (x : List ℕ) (o : Option ℕ) → entry_of t (replicate n None) x ≡ Some o → o ≡ None
+none_noted t n x o e = by_number (number_of t x) e
+  where
+    at_place : (k m : ℕ) → slice_get (replicate k None) m ≡ Some o → o ≡ None
+    at_place zero m f = let bad : ⊥ = cc in absurd bad
+    at_place (suc k) zero f = let same : o ≡ None = cc in same
+    at_place (suc k) (suc m) f = at_place k m f
+
+    by_number : (number : Option ℕ) → entry_at (replicate n None) number ≡ Some o → o ≡ None
+    by_number None f = let bad : ⊥ = cc in absurd bad
+    by_number (Some m) f = at_place n m f

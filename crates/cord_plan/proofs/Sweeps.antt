@@ -16,7 +16,8 @@ use Rattle.cord_meaning.specs.Paths.{Next}
 use Rattle.cord_meaning.specs.Statements.{shape_of}
 use Rattle.cord_plan.specs.Operands.{has, cord_arguments, reads, reads_at, assigns, assigns_at}
 use Rattle.cord_plan.specs.Unread.{ReadBy, successors, some_of}
-use Rattle.cord_plan.specs.inner.Liveness.{at, finds, flow, IsPartly, IsLive}
+use Rattle.cord_plan.specs.inner.Liveness.{at, finds, IsPartly, IsLive}
+use Rattle.cord_plan.specs.inner.Ahead.{flow}
 use Rattle.cord_plan.proofs.Flows.{Found, shape_found, shape_held}
 
 module _ (names : List (List ℕ)) (i : ℕ) (y x : List ℕ) (lt : i < length names) (is : y ≡ get_or names i y) where

@@ -9,13 +9,13 @@ use Rattle.cord_syntax.specs.declared.statements.Statement.{Statement}
 use Rattle.cord_meaning.specs.Paths.{Next}
 use Rattle.cord_meaning.specs.Statements.{shape_of}
 use Rattle.cord_plan.specs.declared.flow.liveness.Group.{Group}
-use Rattle.cord_plan.specs.declared.flow.liveness.Later.{Later}
+use Rattle.cord_plan.specs.declared.flow.successors.Successors.{Successors}
 use Rattle.cord_plan.specs.declared.flow.numbering.Numbering.{Numbering}
 use Rattle.cord_plan.specs.Operands.{has, reads_at}
 use Rattle.cord_plan.specs.Unread.{ReadBy, ReadLater, Unread, IsLater, successors, some_of}
-use Rattle.cord_plan.specs.inner.Numbering.{Covers, names_of}
+use Rattle.cord_plan.specs.inner.Numbering.{Covers, names_of, number_of}
 use Rattle.cord_plan.specs.inner.Marks.{IsBit, column}
-use Rattle.cord_plan.specs.inner.Liveness.{ArePaths, AreLive, AllLive, LiveTo, IsLive, at, live_of, tells, paths_at}
+use Rattle.cord_plan.specs.inner.Liveness.{ArePaths, AreLive, AllLive, LiveTo, IsLive, at, column_of, places_at, tells_of}
 use Rattle.cord_plan.proofs.Flows.{Found, shape_found, shape_held}
 use Rattle.cord_plan.proofs.Numbers.{Numbered, numbered, unnumbered}
 use Rattle.cord_plan.proofs.Sweeps.{path_in_table}
@@ -27,9 +27,13 @@ split_number n = div-add-mod n 128
 pub bit_within : (n : ℕ) → n % 128 < 128
 bit_within n = mod-lt n (omega arith)
 
--- the live places of a name that has no number
-none_live : (t : Later) (x : List ℕ) → has (names_of t.numbering) x ≡ false → live_of t x ≡ []
-none_live t x e = rw (unnumbered t.numbering x e) refl
+-- the live places of a name
+abbrev live_of : Numbering → List Group → List ℕ → List Bool
+live_of t groups x = column_of groups (number_of t x)
+
+-- of one that has no number
+none_live : (t : Numbering) (groups : List Group) (x : List ℕ) → has (names_of t) x ≡ false → live_of t groups x ≡ []
+none_live t groups x e = rw (unnumbered t x e) refl
 
 -- a list of groups with one more
 get_before : (groups : List Group) (last group : Group) (n : ℕ) → slice_get groups n ≡ Some group →
@@ -58,20 +62,20 @@ live_more s t k groups last size before live g lt = by_place (eq-or-lt_of_le (om
         let found : (group : Group) × (slice_get groups g ≡ Some group) × AreLive s t g group.words.items = before g less in
         (found.0, get_before groups last found.0 g found.1, found.2)
 
-module _ (s : List Statement) (t : Later) (paths : ArePaths (map shape_of s) t.paths) (covers : Covers s t.numbering)
-    (groups : AllLive s t.numbering t.groups.items) where
+module _ (s : List Statement) (t : Numbering) (table : List Successors) (groups : List Group) (paths : ArePaths (map shape_of s) table)
+    (covers : Covers s t) (all : AllLive s t groups) where
   module _ (x : List ℕ) where
-    live : has (names_of t.numbering) x ≡ true → IsLive s x (live_of t x)
+    live : has (names_of t) x ≡ true → IsLive s x (live_of t groups x)
     live known =
-        let found : Numbered t.numbering x = numbered t.numbering x known in
-        let group : (group : Group) × (slice_get t.groups.items (found.number / 128) ≡ Some group)
-        × AreLive s t.numbering (found.number / 128) group.words.items = groups found.number found.within in
-        let bit : IsBit t.numbering (found.number / 128) x (found.number % 128) =
+        let found : Numbered t x = numbered t x known in
+        let group : (group : Group) × (slice_get groups (found.number / 128) ≡ Some group)
+        × AreLive s t (found.number / 128) group.words.items = all found.number found.within in
+        let bit : IsBit t (found.number / 128) x (found.number % 128) =
         record { within = bit_within found.number; number = found.is ∙ ap Some (sym (split_number found.number)) } in
-        let there : live_of t x ≡ column group.0.words.items (found.number % 128) = rw (found.is, group.1) refl in
+        let there : live_of t groups x ≡ column group.0.words.items (found.number % 128) = rw (found.is, group.1) refl in
         rw there (group.2 x (found.number % 128) bit)
 
-    path_known : (p : ℕ) (path : List ℕ) → ReadBy s x p path → has (names_of t.numbering) x ≡ true
+    path_known : (p : ℕ) (path : List ℕ) → ReadBy s x p path → has (names_of t) x ≡ true
     path_known p (q ∷ path) r = path_known q path r.2
     path_known p [] r = covers p (inside (slice_get s p) refl r) x r
       where
@@ -83,41 +87,41 @@ module _ (s : List Statement) (t : Later) (paths : ArePaths (map shape_of s) t.p
     some_none [] = refl
     some_none (q ∷ qs) = some_none qs
 
-    told_unread : (p : ℕ) (v : Bool) → has (names_of t.numbering) x ≡ v → tells t x p ≡ false → (q : ℕ) → Next (map shape_of s) p q →
+    told_unread : (p : ℕ) (v : Bool) → has (names_of t) x ≡ v → tells_of table groups (number_of t x) p ≡ false → (q : ℕ) → Next (map shape_of s) p q →
         (path : List ℕ) → ReadBy s x q path → ⊥
     told_unread p false known e q next path r =
-        let known_too : has (names_of t.numbering) x ≡ true = path_known q path r in
+        let known_too : has (names_of t) x ≡ true = path_known q path r in
         let bad : ⊥ = cc in
         bad
     told_unread p true known e q next path r =
-        let there : at (live_of t x) q ≡ true = path_in_table s x (live_of t x) (live known) q path r in
-        let held : some_of (λ m. at (live_of t x) m) (successors (map shape_of s) p) ≡ true =
-        shape_held (λ m. at (live_of t x) m) (map shape_of s) p (slice_get (map shape_of s) p) q next there in
-        let told : tells t x p ≡ true = rw (paths p) held in
+        let there : at (live_of t groups x) q ≡ true = path_in_table s x (live_of t groups x) (live known) q path r in
+        let held : some_of (λ m. at (live_of t groups x) m) (successors (map shape_of s) p) ≡ true =
+        shape_held (λ m. at (live_of t groups x) m) (map shape_of s) p (slice_get (map shape_of s) p) q next there in
+        let told : tells_of table groups (number_of t x) p ≡ true = rw (paths p) held in
         let bad : ⊥ = cc in
         bad
 
-    read_found : (p : ℕ) → IsLive s x (live_of t x) → Found (λ q. at (live_of t x) q) (map shape_of s) p (Next (map shape_of s) p) →
+    read_found : (p : ℕ) → IsLive s x (live_of t groups x) → Found (λ q. at (live_of t groups x) q) (map shape_of s) p (Next (map shape_of s) p) →
         ReadLater s x p
     read_found p live found =
         let rest : (path : List ℕ) × ReadBy s x found.place path = live.partly.found found.place found.true_there in
         record { first = found.place; path = rest.0; next = found.next; reads = rest.1 }
 
-    told_read : (p : ℕ) (v : Bool) → has (names_of t.numbering) x ≡ v → tells t x p ≡ true → ReadLater s x p
+    told_read : (p : ℕ) (v : Bool) → has (names_of t) x ≡ v → tells_of table groups (number_of t x) p ≡ true → ReadLater s x p
     told_read p false known e =
-        let none : live_of t x ≡ [] = none_live t x known in
-        let off : some_of (λ q. at [] q) (paths_at t.paths p) ≡ true = rw none at e in
-        let bad : ⊥ = cc (some_none (paths_at t.paths p)) in
+        let none : live_of t groups x ≡ [] = none_live t groups x known in
+        let off : some_of (λ q. at [] q) (places_at table p) ≡ true = rw none at e in
+        let bad : ⊥ = cc (some_none (places_at table p)) in
         absurd bad
     told_read p true known e =
-        let held : some_of (λ q. at (live_of t x) q) (successors (map shape_of s) p) ≡ true = rw (paths p) at e in
-        read_found p (live known) (shape_found (λ q. at (live_of t x) q) (map shape_of s) p (slice_get (map shape_of s) p) held)
+        let held : some_of (λ q. at (live_of t groups x) q) (successors (map shape_of s) p) ≡ true = rw (paths p) at e in
+        read_found p (live known) (shape_found (λ q. at (live_of t groups x) q) (map shape_of s) p (slice_get (map shape_of s) p) held)
 
     -- a table that has the names that lines read tells exactly what is read later
-    pub tells_at_all : (p : ℕ) → (tells t x p ≡ false → Unread s x p) × (tells t x p ≡ true → ReadLater s x p)
-    tells_at_all p = (λ e. told_unread p (has (names_of t.numbering) x) refl e, λ e. told_read p (has (names_of t.numbering) x) refl e)
+    pub tells_at_all : (p : ℕ) → (tells_of table groups (number_of t x) p ≡ false → Unread s x p) × (tells_of table groups (number_of t x) p ≡ true → ReadLater s x p)
+    tells_at_all p = (λ e. told_unread p (has (names_of t) x) refl e, λ e. told_read p (has (names_of t) x) refl e)
 
-  pub tells_exactly : IsLater s (tells t)
+  pub tells_exactly : IsLater s (λ x p. tells_of table groups (number_of t x) p)
   tells_exactly = record {
     unread = λ x p e. (tells_at_all x p).0 e;
     read = λ x p e. (tells_at_all x p).1 e;

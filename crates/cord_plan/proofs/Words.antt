@@ -13,7 +13,8 @@ use Rattle.std.proofs.lemmas.List.{map-append, take_more, length-append}
 use Rattle.cord_syntax.specs.declared.statements.Statement.{Statement}
 use Rattle.cord_plan.specs.Unread.{some_of}
 use Rattle.cord_plan.specs.inner.Marks.{bit, column, room}
-use Rattle.cord_plan.specs.inner.Liveness.{at, flow}
+use Rattle.cord_plan.specs.inner.Liveness.{at}
+use Rattle.cord_plan.specs.inner.Ahead.{flow}
 
 -- a digit of two
 of_max : (a b : ℕ) → a < 2 → b < 2 → (max a b == 1) ≡ ((a == 1) || (b == 1))

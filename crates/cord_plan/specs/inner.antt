@@ -2,6 +2,7 @@ pub mod Readings
 pub mod Numbering
 pub mod Marks
 pub mod Liveness
+pub mod Ahead
 pub mod Choices
 pub mod Recent
 pub mod Steps

@@ -1,4 +1,5 @@
 // What the lines of a script read and assign, which line may come after which, and which names are read later.
+mod ahead;
 mod line_numbers;
 mod liveness;
 mod marks;

@@ -11,9 +11,9 @@ mod naming;
 mod parts;
 mod staying;
 
-ghost use Rattle.std.specs.Prelude.{◌≡◌, ℕ, Bool, List, Option, Some, IfOk, IsOkUnless, map};
-ghost use Rattle.cord_plan.specs.inner.Liveness.{tells};
-ghost use Rattle.cord_plan.specs.inner.Numbering.{AllHints, AreHints, IsFor, IsHint};
+ghost use Rattle.std.specs.Prelude.{◌≡◌, ℕ, Bool, List, IfOk, IsOkUnless, map};
+ghost use Rattle.cord_plan.specs.inner.Liveness.{tells, AllTold, IsTold};
+ghost use Rattle.cord_plan.specs.inner.Numbering.{AllHints, AreHints};
 ghost use Rattle.cord_plan.specs.Meaning.{IsPlanOf};
 ghost use Rattle.cord_plan.specs.Operands.{target_of};
 ghost use Rattle.cord_plan.specs.Planned as plan;
@@ -31,36 +31,15 @@ use cord_io::CordError;
 use cord_script::{Script, Statement};
 use std::alloc::Global;
 
-// Whether a line has a target that isn't read later, by the name.
-fn is_dead_by_name(statement: &Statement, place: usize, later: &Later) -> bool
+// Whether a line has a target that isn't read later.
+fn is_dead(statement: &Statement, numbers: LineNumbers, place: usize, later: &Later) -> bool
+    requires hints { AreHints later.now.numbering statement.now numbers }
+    requires told { IsTold later.now statement.now place }
     ensures { result ≡ plan.is_dead (tells later.now) place (target_of statement.now) }
 {
     match statement.target() {
         None => false,
-        Some(target) => !later.is_later(later.numbering.number_of(target), place),
-    }
-}
-
-// Whether a line has a target that isn't read later, by the number of that name, where there is one.
-fn is_told_dead(told: Option<u8>, place: usize, later: &Later) -> bool
-    ensures { (o : Option (List ℕ)) → IsFor o told → ((x : List ℕ) → o ≡ Some x →
-        IsHint later.now.numbering x told) → result ≡ plan.is_dead (tells later.now) place o }
-{
-    match told {
-        None => false,
-        Some(number) => !later.is_later(Some(usize::from(number)), place),
-    }
-}
-
-// Whether a line has a target that isn't read later. Where its number is told the line isn't looked at.
-fn is_dead(statement: &Statement, numbers: LineNumbers, place: usize, later: &Later) -> bool
-    requires { AreHints later.now.numbering statement.now numbers }
-    ensures { result ≡ plan.is_dead (tells later.now) place (target_of statement.now) }
-{
-    if numbers.target_is_told {
-        is_told_dead(numbers.target, place, later)
-    } else {
-        is_dead_by_name(statement, place, later)
+        Some(target) => !later.is_target_later(target, numbers.target, place),
     }
 }
 
@@ -71,7 +50,8 @@ fn operations_of(
     statements: &[Statement],
     later: &Later,
 ) -> Result<Vec<Operation>, CordError>
-    requires { AllHints statements.now later.now.numbering later.now.numbers.items }
+    requires hints { AllHints statements.now later.now.numbering later.now.numbers.items }
+    requires told { AllTold statements.now later.now }
     ensures made { IfOk result (λ os. map operation_view os.items ≡ plan.planned statements.now (tells later.now)) }
     ensures refused { IsOkUnless result CordError.NoMemory }
 {

@@ -1,6 +1,7 @@
 -- What the code that finds what is read later goes by.
 use Rattle.std.specs.Prelude.{◌≡◌, ℕ, zero, suc, ◌+◌, ◌<◌, ◌/◌, ◌%◌, Bool, true, false, not, ◌&&◌, ◌||◌, List, [], ◌∷◌, map, length, get_or}
-use Rattle.std.specs.Prelude.{nat_le, nat_lt, if◌then◌else◌, Option, Some, None, slice_get}
+use Rattle.std.specs.Prelude.{Option, Some, None, slice_get, drop, Vec}
+use Rattle.std.specs.Global.{Global}
 use Rattle.std.specs.Option.{option_to_list}
 use Rattle.cord_syntax.specs.declared.statements.Statement.{Statement}
 use Rattle.cord_meaning.specs.Blocks as blocks
@@ -9,15 +10,17 @@ use Rattle.cord_plan.specs.Forced.{is_block_at}
 use Rattle.cord_plan.specs.Operands.{reads_at, assigns_at}
 use Rattle.cord_plan.specs.inner.Numbering.{number_of, names_of}
 use Rattle.cord_plan.specs.inner.Marks.{column, IsBit}
-use Rattle.cord_plan.specs.Unread.{ReadBy, successors, some_of}
+use Rattle.cord_plan.specs.Unread.{ReadBy, IsLater, successors, some_of}
+use Rattle.cord_plan.specs.inner.Ahead.{flow, later_in, IsLineLater}
+use Rattle.cord_plan.specs.declared.flow.ahead.LineLater.{LineLater}
 use Rattle.cord_plan.specs.declared.flow.liveness.Later.{Later}
+use Rattle.cord_plan.specs.declared.flow.liveness.Found.{Found}
+use Rattle.cord_plan.specs.declared.flow.liveness.Found.TheVariants.{ByLines, ByGroups}
 use Rattle.cord_plan.specs.declared.flow.liveness.Group.{Group}
 use Rattle.cord_plan.specs.declared.flow.numbering.Numbering.{Numbering}
 use Rattle.cord_plan.specs.declared.flow.successors.Shape.{Shape}
 use Rattle.cord_plan.specs.declared.flow.successors.Shape.TheVariants.{Simple, Loop, Branch, Otherwise, Close}
 use Rattle.cord_plan.specs.declared.flow.successors.Successors.{Successors}
-use Rattle.cord_plan.specs.declared.flow.successors.Paths.{Paths}
-use Rattle.cord_plan.specs.declared.flow.successors.Paths.TheVariants.{Onward, Branching}
 use Rattle.cord_plan.specs.declared.flow.successors.Turn.{Turn}
 use Rattle.cord_plan.specs.declared.flow.successors.Turn.TheVariants.{Closed, Turned, Inside}
 
@@ -61,26 +64,13 @@ pub record AreSuccessors (shapes : List blocks.Shape) (successor_table : List Su
   pub size : length successor_table ≡ length shapes
   pub told : (p : ℕ) → places_at successor_table p ≡ successors shapes p
 
--- the places that the program has for the place at p
-abbrev pub paths_at : Paths → ℕ → List ℕ
-paths_at (Onward n) p = if nat_lt p n then (p + 1) ∷ [] else []
-paths_at (Branching successor_table) p = places_at successor_table.items p
-
 -- these are the places that may come next after each place
-abbrev pub ArePaths : List blocks.Shape → Paths → Type 0
-ArePaths shapes paths = (p : ℕ) → paths_at paths p ≡ successors shapes p
+abbrev pub ArePaths : List blocks.Shape → List Successors → Type 0
+ArePaths shapes successor_table = (p : ℕ) → places_at successor_table p ≡ successors shapes p
 
 -- no line opens, parts or closes a block
 abbrev pub NoBlocks : List Statement → Type 0
 NoBlocks s = (p : ℕ) → is_block_at (slice_get s p) ≡ false
-
--- whether one of these places that may come next after p is p or stands before it
-abbrev pub is_back : ℕ → List ℕ → Bool
-is_back p qs = some_of (λ q. nat_le q p) qs
-
--- each place leads to later ones alone
-abbrev pub LeadOn : (ℕ → List ℕ) → Type 0
-LeadOn after = (p : ℕ) → is_back p (after p) ≡ false
 
 -- whether a table of places has a place
 abbrev pub at : List Bool → ℕ → Bool
@@ -101,10 +91,6 @@ module _ (s : List Statement) (x : List ℕ) (table : List Bool) where
   pub record IsLive : Type 0 where
     pub partly : IsPartly
     pub resting : (p : ℕ) → finds p ≡ false
-
--- what the flow back over a line makes of a bit
-abbrev pub flow : Bool → Bool → Bool → Bool
-flow here successors assigned = here || (successors && not assigned)
 
 module _ (s : List Statement) (t : Numbering) (g : ℕ) (words : List ℕ) where
   -- the bits of each line are the name of the group that it assigns
@@ -130,17 +116,35 @@ abbrev pub column_of : List Group → Option ℕ → List Bool
 column_of groups None = []
 column_of groups (Some n) = column_in (slice_get groups (n / 128)) (n % 128)
 
--- the live places of a name
-abbrev pub live_of : Later → List ℕ → List Bool
-live_of t x = column_of t.groups.items (number_of t.numbering x)
+-- whether the name of a number is read later than the line at p, by the live places of groups of names
+abbrev pub tells_of : List Successors → List Group → Option ℕ → ℕ → Bool
+tells_of successor_table groups number p = some_of (λ q. at (column_of groups number) q) (places_at successor_table p)
 
--- whether the name of a number is read later than the line at a place
-abbrev pub tells_of : Later → Option ℕ → ℕ → Bool
-tells_of t number p = some_of (λ q. at (column_of t.groups.items number) q) (paths_at t.paths p)
+-- whether a name is read later than the line at p
+abbrev pub found_tells : List Statement → Numbering → Found → List ℕ → ℕ → Bool
+found_tells s t (ByLines lines) x p = later_in (drop (p + 1) s) x
+found_tells s t (ByGroups successor_table groups) x p = tells_of successor_table.items groups.items (number_of t x) p
 
 -- what a table tells: whether a name is read later than the line at a place
 abbrev pub tells : Later → List ℕ → ℕ → Bool
-tells t x p = some_of (λ q. at (live_of t x) q) (paths_at t.paths p)
+tells t x p = found_tells t.statements.now t.numbering t.found x p
+
+-- what is asked of the line l at p is told
+abbrev pub IsToldBy : List Statement → Found → Statement → ℕ → Type 0
+IsToldBy s found l p = (lines : Vec LineLater Global) → found ≡ ByLines lines → (line : LineLater) × (slice_get lines.items p ≡ Some line)
+    × IsLineLater l (λ x. later_in (drop (p + 1) s) x) line
+
+abbrev pub IsTold : Later → Statement → ℕ → Type 0
+IsTold t l p = (slice_get t.statements.now p ≡ Some l) × IsToldBy t.statements.now t.found l p
+
+-- and of each line
+abbrev pub AllTold : List Statement → Later → Type 0
+AllTold s t = (p : ℕ) (l : Statement) → slice_get s p ≡ Some l → IsTold t l p
+
+-- what was found of a script, whose names are numbered, tells what is read later, and what is asked of each line
+pub record IsFound (s : List Statement) (t : Numbering) (found : Found) : Type 0 where
+  pub later : IsLater s (found_tells s t found)
+  pub told : (p : ℕ) (l : Statement) → slice_get s p ≡ Some l → IsToldBy s found l p
 
 -- each of the first k groups is live
 abbrev pub LiveTo : List Statement → Numbering → ℕ → List Group → Type 0

@@ -55,6 +55,10 @@ entry_at places (Some n) = slice_get places n
 abbrev pub entry_of : Numbering → List (Option ℕ) → List ℕ → Option (Option ℕ)
 entry_of t places x = entry_at places (number_of t x)
 
+-- places come to have this for the names of which this holds, and for no other
+abbrev pub Puts : Numbering → (List ℕ → Bool) → Option ℕ → List (Option ℕ) → List (Option ℕ) → Type 0
+Puts t holds v old new = (x : List ℕ) → entry_of t new x ≡ option_map (λ o. if holds x then v else o) (entry_of t old x)
+
 -- a place is noted for the names of which this holds, and for no other
 abbrev pub noted : Bool → ℕ → Option ℕ → Option ℕ
 noted holds p o = if holds then Some p else o

@@ -1,19 +1,24 @@
 // Which names are read later than which lines.
 ghost use Rattle.std.specs.Prelude.{◌≡◌, ◌<◌, ◌≤◌, ◌/◌, ◌^◌, ℕ, List, true, false, Some, length, map, get_or};
-ghost use Rattle.std.specs.Prelude.{slice_get, replicate, IfOk};
+ghost use Rattle.std.specs.Prelude.{◌+◌, drop, slice_get, IfOk};
 ghost use Rattle.cord_meaning.specs.Statements.{shape_of};
-ghost use Rattle.cord_plan.specs.Operands.{assigns, assigns_at, reads};
+ghost use Rattle.cord_syntax.specs.declared.statements.Statement.{Statement};
+ghost use Rattle.cord_plan.specs.Operands.{assigns_at, target_of};
 ghost use Rattle.cord_plan.specs.Unread.{IsLater, successors, some_of};
 ghost use Rattle.cord_plan.specs.inner.Marks.{bit, column, room, IsBit};
-ghost use Rattle.cord_plan.specs.inner.Numbering.{AllHints, names_of};
-ghost use Rattle.cord_plan.specs.inner.Liveness.{places, paths_at, ArePaths, LeadOn, at, tells, tells_of, flow};
+ghost use Rattle.cord_plan.specs.inner.Numbering.{AllHints, Covers, IsHint, names_of, number_of};
+ghost use Rattle.cord_plan.specs.inner.Ahead.{flow, later_in};
+ghost use Rattle.cord_plan.specs.inner.Liveness.{places, places_at, ArePaths, at, tells, tells_of, IsFound, IsTold, AllTold};
 ghost use Rattle.cord_plan.specs.inner.Liveness.{AreAssigned, ArePartly, AreLive, AllLive, column_of};
+ghost use Rattle.cord_plan.specs.inner.Choices.{simple_operands};
 
+use crate::flow::ahead::{LineLater, OPERANDS, has_operand, line_at, lines_later};
 use crate::flow::line_numbers::{LineNumbers, numbers_at, numbers_of};
 use crate::flow::marks::{GROUP, has_bit, mark_assigned, mark_read};
 use crate::flow::numbering::Numbering;
-use crate::flow::successors::{Paths, Successors, paths_of};
-use cord_script::Statement;
+use crate::flow::readings::{assigns, reads};
+use crate::flow::successors::{Successors, has_blocks, successors_of};
+use cord_script::{Name, Statement};
 use std::alloc::{AllocError, Global};
 
 /// For each place the names of a group that a path from there reads before a line assigns them.
@@ -25,18 +30,27 @@ struct Group {
 /// For each name and each line of a script whether some path after the line reads the bytes of the name before a line
 /// assigns it.
 #[derive(Drop)]
-pub(crate) struct Later {
-    paths: Paths,
+pub(crate) struct Later<'a> {
+    statements: &'a [Statement],
     pub(crate) numbering: Numbering,
     pub(crate) numbers: Vec<LineNumbers>,
-    groups: Vec<Group>,
+    found: Found,
+}
+
+/// What was found of that.
+#[derive(Drop)]
+enum Found {
+    /// In a script without blocks, what is asked of each line.
+    ByLines(Vec<LineLater>),
+    /// In others the places that may come next after each place, and for each group of names its places.
+    ByGroups(Vec<Successors>, Vec<Group>),
 }
 
 /// The lines of a script, the places after them, and a group of its names.
 #[derive(Clone, Copy)]
 struct Flow<'a> {
     statements: &'a [Statement],
-    paths: &'a Paths,
+    successors: &'a [Successors],
     numbering: &'a Numbering,
     numbers: &'a [LineNumbers],
     group: usize,
@@ -103,17 +117,17 @@ impl Flow<'_> {
     // The bits of the places that may come next after a place.
     fn successor_word_at(&self, words: &[u128], place: usize) -> u128
         ensures { (i : ℕ) → bit result i ≡ some_of (λ q. at (column words.now i) q)
-            (paths_at self.now.paths.now place) }
+            (places_at self.now.successors.now place) }
     {
-        match self.paths.after(place) {
-            Some(successors) => successor_word(words, successors),
+        match self.successors.get(place) {
+            Some(successors) => successor_word(words, *successors),
             None => 0,
         }
     }
 
     // What the flow back over the line at a place makes of its word.
     fn flow_at(&self, assigned: &[u128], words: &[u128], place: usize) -> u128
-        requires paths { ArePaths (map shape_of self.now.statements.now) self.now.paths.now }
+        requires paths { ArePaths (map shape_of self.now.statements.now) self.now.successors.now }
         requires assigned { AreAssigned self.now.statements.now self.now.numbering.now self.now.group assigned.now }
         ensures bits { (x : List ℕ) (i : ℕ) → IsBit self.now.numbering.now self.now.group x i →
             bit result i ≡ flow (at (column words.now i) place)
@@ -130,7 +144,7 @@ impl Flow<'_> {
 
     // One pass of the backwards flow over the lines, and whether it has found a place, so that another may find more.
     fn sweep(&self, assigned: &[u128], words: &mut [u128]) -> bool
-        requires paths { ArePaths (map shape_of self.now.statements.now) self.now.paths.now }
+        requires paths { ArePaths (map shape_of self.now.statements.now) self.now.successors.now }
         requires assigned { AreAssigned self.now.statements.now self.now.numbering.now self.now.group assigned.now }
         requires partly { ArePartly self.now.statements.now self.now.numbering.now self.now.group words.old }
         ensures partly { ArePartly self.now.statements.now self.now.numbering.now self.now.group words.new }
@@ -152,7 +166,7 @@ impl Flow<'_> {
 
     // For each place the names of the group that a path from there reads before a line assigns them.
     fn live_words(&self, alloc: Global) -> Result<Vec<u128>, AllocError>
-        requires paths { ArePaths (map shape_of self.now.statements.now) self.now.paths.now }
+        requires paths { ArePaths (map shape_of self.now.statements.now) self.now.successors.now }
         requires hints { AllHints self.now.statements.now self.now.numbering.now self.now.numbers.now }
         ensures { IfOk result (λ v. AreLive self.now.statements.now self.now.numbering.now self.now.group v.items) }
     {
@@ -161,87 +175,30 @@ impl Flow<'_> {
         'sweeps: while self.sweep(&assigned, &mut words) {}
         Ok(words)
     }
-
-    // The word of a line, where those of the places that may come next are found: the names that it reads, and theirs
-    // but for the name that it assigns.
-    fn word_onward(&self, words: &[u128], place: usize, statement: &Statement) -> u128
-        requires paths { ArePaths (map shape_of self.now.statements.now) self.now.paths.now }
-        requires hints { AllHints self.now.statements.now self.now.numbering.now self.now.numbers.now }
-        requires here { slice_get self.now.statements.now place ≡ Some statement.now }
-        ensures { (x : List ℕ) (i : ℕ) → IsBit self.now.numbering.now self.now.group x i →
-            bit result i ≡ flow (reads statement.now x)
-            (some_of (λ q. at (column words.now i) q) (successors (map shape_of self.now.statements.now) place))
-            (assigns statement.now x) }
-    {
-        let numbers = numbers_at(self.numbers, place);
-        let read = mark_read(self.numbering, self.group, statement, numbers);
-        let assigned = mark_assigned(self.numbering, self.group, statement, numbers);
-        flowed(read, self.successor_word_at(words, place), assigned)
-    }
-
-    // Fills words that have no name yet, where each place leads to later ones alone: one pass from the last line back.
-    fn fill_onward(&self, words: &mut [u128])
-        requires paths { ArePaths (map shape_of self.now.statements.now) self.now.paths.now }
-        requires onward { LeadOn (λ p. paths_at self.now.paths.now p) }
-        requires hints { AllHints self.now.statements.now self.now.numbering.now self.now.numbers.now }
-        requires empty { words.old ≡ replicate (length self.now.statements.now) 0 }
-        ensures { AreLive self.now.statements.now self.now.numbering.now self.now.group words.new }
-    {
-        for p in (0..words.len()).rev() {
-            words[p] = self.word_onward(words, p, &self.statements[p]);
-        }
-    }
-
-    // The same as `live_words` where each place leads to later ones alone.
-    fn words_onward(&self, alloc: Global) -> Result<Vec<u128>, AllocError>
-        requires paths { ArePaths (map shape_of self.now.statements.now) self.now.paths.now }
-        requires onward { LeadOn (λ p. paths_at self.now.paths.now p) }
-        requires hints { AllHints self.now.statements.now self.now.numbering.now self.now.numbers.now }
-        ensures { IfOk result (λ v. AreLive self.now.statements.now self.now.numbering.now self.now.group v.items) }
-    {
-        let mut words = vec![in alloc; 0; self.statements.len()]?;
-        self.fill_onward(&mut words);
-        Ok(words)
-    }
-
-    // The same as `live_words`, where it is told whether some place may lead back.
-    fn words_of(&self, alloc: Global, loops: bool) -> Result<Vec<u128>, AllocError>
-        requires paths { ArePaths (map shape_of self.now.statements.now) self.now.paths.now }
-        requires onward { loops ≡ false → LeadOn (λ p. paths_at self.now.paths.now p) }
-        requires hints { AllHints self.now.statements.now self.now.numbering.now self.now.numbers.now }
-        ensures { IfOk result (λ v. AreLive self.now.statements.now self.now.numbering.now self.now.group v.items) }
-    {
-        if loops {
-            self.live_words(alloc)
-        } else {
-            self.words_onward(alloc)
-        }
-    }
 }
 
 // What is live of each group of names.
 fn groups_of(
     alloc: Global,
     statements: &[Statement],
-    paths: &Paths,
+    successors: &[Successors],
     numbering: &Numbering,
     numbers: &[LineNumbers],
 ) -> Result<Vec<Group>, AllocError>
-    requires paths { ArePaths (map shape_of statements.now) paths.now }
+    requires paths { ArePaths (map shape_of statements.now) successors.now }
     requires hints { AllHints statements.now numbering.now numbers.now }
     ensures { IfOk result (λ v. AllLive statements.now numbering.now v.items) }
 {
     let mut groups = Vec::new(alloc);
-    let loops = paths.lead_back();
     for group in 0..group_count(numbering) {
         let flow = Flow {
             statements,
-            paths,
+            successors,
             numbering,
             numbers,
             group,
         };
-        let words = flow.words_of(alloc, loops)?;
+        let words = flow.live_words(alloc)?;
         groups.push(Group { words })?;
     }
     Ok(groups)
@@ -259,41 +216,128 @@ fn group_count(numbering: &Numbering) -> usize
     }
 }
 
-impl Later {
+// Whether one of these lines reads a name before one assigns it.
+#[cold]
+#[inline(never)]
+fn is_read_in(statements: &[Statement], name: &Name) -> bool
+    ensures { result ≡ later_in statements.now name.now }
+{
+    for statement in statements {
+        if reads(statement, name) {
+            return true;
+        }
+        if assigns(statement, name) {
+            return false;
+        }
+    }
+    false
+}
+
+// Whether one of the lines after a place does.
+fn is_read_after(statements: &[Statement], place: usize, name: &Name) -> bool
+    requires { place < length statements.now }
+    ensures { result ≡ later_in (drop (place + 1) statements.now) name.now }
+{
+    is_read_in(&statements[place + 1..], name)
+}
+
+impl Found {
+    // What is read later in a script of these statements, whose names are numbered.
+    fn of(
+        alloc: Global,
+        statements: &[Statement],
+        numbering: &Numbering,
+        numbers: &[LineNumbers],
+    ) -> Result<Self, AllocError>
+        requires covers { Covers statements.now numbering.now }
+        requires hints { AllHints statements.now numbering.now numbers.now }
+        ensures { IfOk result (λ found. IsFound statements.now numbering.now found) }
+    {
+        if !has_blocks(statements) {
+            return Ok(Found::ByLines(lines_later(alloc, statements, numbering, numbers)?));
+        }
+        let successors = successors_of(alloc, statements)?;
+        let groups = groups_of(alloc, statements, &successors, numbering, numbers)?;
+        Ok(Found::ByGroups(successors, groups))
+    }
+}
+
+impl<'a> Later<'a> {
     /// What is read later in a script of these statements.
-    pub(crate) fn of(alloc: Global, statements: &[Statement]) -> Result<Self, AllocError>
+    pub(crate) fn of(alloc: Global, statements: &'a [Statement]) -> Result<Self, AllocError>
         ensures later { IfOk result (λ t. IsLater statements.now (tells t)) }
         ensures hints { IfOk result (λ t. AllHints statements.now t.numbering t.numbers.items) }
+        ensures told { IfOk result (λ t. AllTold statements.now t) }
     {
-        let paths = paths_of(alloc, statements)?;
         let (numbering, numbers) = numbers_of(alloc, statements)?;
-        let groups = groups_of(alloc, statements, &paths, &numbering, &numbers)?;
+        let found = Found::of(alloc, statements, &numbering, &numbers)?;
         Ok(Later {
-            paths,
+            statements,
             numbering,
             numbers,
-            groups,
+            found,
         })
     }
 
-    // Whether a place that may come next has the name of a number.
-    fn is_live_at_successors(&self, number: usize, successors: Successors) -> bool
-        ensures { result ≡ some_of (λ q. at (column_of self.now.groups.items (Some number)) q) (places successors) }
+    /// Whether the name that a line assigns is read later than the line.
+    pub(crate) fn is_target_later(&self, target: &Name, hint: Option<u8>, place: usize) -> bool
+        requires hint { IsHint self.now.numbering target.now hint }
+        requires told { (l : Statement) × (target_of l ≡ Some target.now) × IsTold self.now l place }
+        ensures { result ≡ tells self.now target.now place }
     {
-        match self.groups.get(number / GROUP) {
-            None => false,
-            Some(group) => has_bit(successor_word(&group.words, successors), number % GROUP),
+        match &self.found {
+            Found::ByLines(lines) => line_at(lines, place).target,
+            Found::ByGroups(successors, groups) => {
+                let number = self.numbering.number_with(target, hint);
+                is_live_after(successors, groups, number, place)
+            }
         }
     }
 
-    /// Whether the name of a number is read later than the line at a place.
-    #[inline(always)]
-    pub(crate) fn is_later(&self, number: Option<usize>, place: usize) -> bool
-        ensures { result ≡ tells_of self.now number place }
+    /// Whether an operand of a line is read later than the line.
+    pub(crate) fn is_operand_later(
+        &self,
+        operand: &Name,
+        number: Option<usize>,
+        index: usize,
+        place: usize,
+    ) -> bool
+        requires number { number ≡ number_of self.now.numbering operand.now }
+        requires told { (l : Statement) × (xs : List (List ℕ)) × (simple_operands l ≡ Some xs) ×
+            (slice_get xs index ≡ Some operand.now) × IsTold self.now l place }
+        ensures { result ≡ tells self.now operand.now place }
     {
-        match (self.paths.after(place), number) {
-            (Some(successors), Some(number)) => self.is_live_at_successors(number, successors),
-            _ => false,
+        match &self.found {
+            Found::ByLines(lines) if index < OPERANDS => has_operand(line_at(lines, place), index),
+            Found::ByLines(_) => is_read_after(self.statements, place, operand),
+            Found::ByGroups(successors, groups) => {
+                is_live_after(successors, groups, number, place)
+            }
         }
+    }
+}
+
+// Whether a place that may come next has the name of a number.
+fn is_live_at(groups: &[Group], number: usize, successors: Successors) -> bool
+    ensures { result ≡ some_of (λ q. at (column_of groups.now (Some number)) q) (places successors) }
+{
+    match groups.get(number / GROUP) {
+        None => false,
+        Some(group) => has_bit(successor_word(&group.words, successors), number % GROUP),
+    }
+}
+
+// Whether a place that may come after a line has the name of a number.
+fn is_live_after(
+    successors: &[Successors],
+    groups: &[Group],
+    number: Option<usize>,
+    place: usize,
+) -> bool
+    ensures { result ≡ tells_of successors.now groups.now number place }
+{
+    match (successors.get(place), number) {
+        (Some(successors), Some(number)) => is_live_at(groups, number, *successors),
+        _ => false,
     }
 }

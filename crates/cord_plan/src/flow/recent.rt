@@ -20,7 +20,7 @@ use std::alloc::{AllocError, Global};
 /// last line of a block.
 #[derive(Drop)]
 pub(crate) struct Recent<'a> {
-    pub(crate) later: &'a Later,
+    pub(crate) later: &'a Later<'a>,
     pub(crate) assigned: Vec<Option<usize>>,
     pub(crate) read: Vec<Option<usize>>,
     pub(crate) block: Option<usize>,
@@ -175,8 +175,8 @@ fn note_names(
     }
 }
 
-// Notes it for the names that a line reads. Where their numbers are told the line isn't looked at.
-fn note_read(
+/// Notes it for the names that a line reads. Where their numbers are told the line isn't looked at.
+pub(crate) fn note_read(
     numbering: &Numbering,
     places: &mut [Option<usize>],
     statement: &Statement,
@@ -209,8 +209,8 @@ fn note_target(
     }
 }
 
-// Notes it for the name that a line assigns. Where its number is told the line isn't looked at.
-fn note_assigned(
+/// Notes it for the name that a line assigns. Where its number is told the line isn't looked at.
+pub(crate) fn note_assigned(
     numbering: &Numbering,
     places: &mut [Option<usize>],
     statement: &Statement,
@@ -229,7 +229,7 @@ fn note_assigned(
 
 impl<'a> Recent<'a> {
     /// Before the first line.
-    pub(crate) fn of(alloc: Global, later: &'a Later) -> Result<Self, AllocError>
+    pub(crate) fn of(alloc: Global, later: &'a Later<'a>) -> Result<Self, AllocError>
         ensures later { IfOk result (λ r. r.later.now ≡ later.now) }
         ensures recent { IfOk result (λ r. (s : List Statement) → IsRecent s 0 r) }
     {

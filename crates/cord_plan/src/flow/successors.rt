@@ -6,9 +6,8 @@ ghost use Rattle.cord_meaning.specs.Paths.{opened, open_at};
 ghost use Rattle.cord_meaning.specs.Statements.{shape_of};
 ghost use Rattle.cord_plan.specs.Forced.{is_block};
 ghost use Rattle.cord_plan.specs.Unread.{successors};
-ghost use Rattle.cord_plan.specs.inner.Liveness.{shape_view, turn_of, innermost, places, places_at, places_of};
-ghost use Rattle.cord_plan.specs.inner.Liveness.{paths_at};
-ghost use Rattle.cord_plan.specs.inner.Liveness.{is_back, AreSuccessors, ArePaths, LeadOn, NoBlocks};
+ghost use Rattle.cord_plan.specs.inner.Liveness.{shape_view, turn_of, innermost, places};
+ghost use Rattle.cord_plan.specs.inner.Liveness.{AreSuccessors, ArePaths, NoBlocks};
 
 use cord_script::Statement;
 use std::alloc::{AllocError, Global};
@@ -53,15 +52,6 @@ impl Successors {
             second: Some(second),
         }
     }
-}
-
-/// The places that may come next after each place of a script.
-#[derive(Drop)]
-pub(crate) enum Paths {
-    /// Each of so many places leads to the next one alone, as in a script without blocks.
-    Onward(usize),
-    /// Each place leads to its own.
-    Branching(Vec<Successors>),
 }
 
 /// How a statement leads on a search for the end of a block, where so many blocks are open inside it.
@@ -231,30 +221,8 @@ fn shapes_of(alloc: Global, statements: &[Statement]) -> Result<Vec<Shape>, Allo
     Ok(shapes)
 }
 
-// Whether a place may lead back, to an earlier one or to itself.
-fn is_back(successors: Successors, place: usize) -> bool
-    ensures { result ≡ is_back place (places successors) }
-{
-    match successors.second {
-        None => successors.first <= place,
-        Some(second) => successors.first <= place || second <= place,
-    }
-}
-
-// Whether some place may lead back.
-fn leads_back(successor_table: &[Successors]) -> bool
-    ensures { result ≡ false → LeadOn (λ p. places_at successor_table.now p) }
-{
-    for (place, successors) in successor_table.iter().enumerate() {
-        if is_back(*successors, place) {
-            return true;
-        }
-    }
-    false
-}
-
-// Whether some line opens, parts or closes a block.
-fn has_blocks(statements: &[Statement]) -> bool
+/// Whether some line opens, parts or closes a block.
+pub(crate) fn has_blocks(statements: &[Statement]) -> bool
     ensures { result ≡ false → NoBlocks statements.now }
 {
     for statement in statements {
@@ -265,38 +233,14 @@ fn has_blocks(statements: &[Statement]) -> bool
     false
 }
 
-/// The places that may come next after each place of a script. Without blocks nothing is made; else each block is
-/// walked over once for each line that leads to its end.
-pub(crate) fn paths_of(alloc: Global, statements: &[Statement]) -> Result<Paths, AllocError>
-    ensures { IfOk result (λ paths. ArePaths (map shape_of statements.now) paths) }
+/// The places that may come next after each place of a script. Each block is walked over once for each line that leads
+/// to its end.
+pub(crate) fn successors_of(
+    alloc: Global,
+    statements: &[Statement],
+) -> Result<Vec<Successors>, AllocError>
+    ensures { IfOk result (λ v. ArePaths (map shape_of statements.now) v.items) }
 {
-    if !has_blocks(statements) {
-        return Ok(Paths::Onward(statements.len()));
-    }
     let shapes = shapes_of(alloc, statements)?;
-    Ok(Paths::Branching(successor_table(alloc, &shapes)?))
-}
-
-impl Paths {
-    /// The places that may come next after a place; after the script there is none.
-    #[inline(always)]
-    pub(crate) fn after(&self, place: usize) -> Option<Successors>
-        ensures { places_of result ≡ paths_at self.now place }
-    {
-        match self {
-            Paths::Onward(count) if place < *count => Some(Successors::one(place + 1)),
-            Paths::Onward(_) => None,
-            Paths::Branching(successor_table) => successor_table.get(place).copied(),
-        }
-    }
-
-    /// Whether some place may lead back.
-    pub(crate) fn lead_back(&self) -> bool
-        ensures { result ≡ false → LeadOn (λ p. paths_at self.now p) }
-    {
-        match self {
-            Paths::Onward(_) => false,
-            Paths::Branching(successor_table) => leads_back(successor_table),
-        }
-    }
+    successor_table(alloc, &shapes)
 }

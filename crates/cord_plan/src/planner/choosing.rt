@@ -1,6 +1,6 @@
 // What stands for the operands of a line: their names, or expressions of earlier lines.
 ghost use Rattle.std.specs.Prelude.{◌≡◌, ◌==◌, ◌+◌, ◌<◌, ◌≤◌, ◌++◌, ◌∷◌, ℕ, List, Option, Some, ◌||◌, IfOk, IfSome, drop, length};
-ghost use Rattle.std.specs.Prelude.{map, not, option_map};
+ghost use Rattle.std.specs.Prelude.{map, not, option_map, slice_get};
 ghost use Rattle.cord_plan.specs.Exprs as plain;
 ghost use Rattle.cord_plan.specs.Exprs.{names, name, parts};
 ghost use Rattle.cord_plan.specs.declared.flow.numbering.Numbering.{Numbering};
@@ -10,8 +10,8 @@ ghost use Rattle.cord_plan.specs.inner.Choices.{simple_operands, parts_beside, e
 ghost use Rattle.cord_plan.specs.inner.Choices.{is_spare, stands};
 ghost use Rattle.cord_plan.specs.inner.Choices.{choice_view, operands_view, IsChoice, AreChoices};
 ghost use Rattle.cord_plan.specs.inner.Known.{IsFacts, IsKnown};
-ghost use Rattle.cord_plan.specs.inner.Liveness.{tells};
-ghost use Rattle.cord_plan.specs.inner.Numbering.{AllHints, IsHint, number_of};
+ghost use Rattle.cord_plan.specs.inner.Liveness.{tells, IsTold};
+ghost use Rattle.cord_plan.specs.inner.Numbering.{AllHints, IsHint};
 ghost use Rattle.cord_plan.specs.inner.Recent.{IsRecent};
 ghost use Rattle.cord_plan.specs.inner.Steps.{made_expression, operation_expression};
 ghost use Rattle.cord_plan.specs.Views.{expr_view, made_view, operation_view};
@@ -112,22 +112,22 @@ fn is_named_once(operands: Operands, name: &Name) -> bool
 }
 
 // Whether no line after a line reads the name that it has as an operand, but for what the line itself assigns.
-fn is_free(line: &Line, name: &Name, number: Option<usize>) -> bool
-    requires { number ≡ number_of line.now.recent.now.later.now.numbering name.now }
+fn is_free(line: &Line, name: &Name, later: bool) -> bool
+    requires { later ≡ tells line.now.recent.now.later.now name.now line.now.place }
     ensures { result ≡ (assigns line.now.statement.now name.now || not
         (tells line.now.recent.now.later.now name.now line.now.place)) }
 {
-    assigns(line.statement, name) || !line.recent.later.is_later(number, line.place)
+    assigns(line.statement, name) || !later
 }
 
 // Whether nothing but a line itself needs the text of an operand: the line names it once, and assigns it or it isn't
 // read later.
-fn is_spare(line: &Line, operand: &Name, number: Option<usize>) -> bool
-    requires { number ≡ number_of line.now.recent.now.later.now.numbering operand.now }
+fn is_spare(line: &Line, operand: &Name, later: bool) -> bool
+    requires { later ≡ tells line.now.recent.now.later.now operand.now line.now.place }
     ensures { result ≡ is_spare line.now.statements.now (tells line.now.recent.now.later.now) line.now.place
         line.now.statement.now (operands_view line.now.operands) operand.now }
 {
-    is_named_once(line.operands, operand) && is_free(line, operand, number)
+    is_named_once(line.operands, operand) && is_free(line, operand, later)
 }
 
 // The parts of a line's expression beside those of its operands.
@@ -226,12 +226,12 @@ fn joined_of(made: &Made) -> Option<&Expr>
 fn stands(
     line: &Line,
     operand: &Name,
-    number: Option<usize>,
+    later: bool,
     source: usize,
     expression: &Expr,
     facts: Option<&Facts>,
 ) -> bool
-    requires number { number ≡ number_of line.now.recent.now.later.now.numbering operand.now }
+    requires later { later ≡ tells line.now.recent.now.later.now operand.now line.now.place }
     requires place { line.now.place ≤ length line.now.statements.now }
     requires hints { AllHints line.now.statements.now line.now.recent.now.later.now.numbering
         line.now.recent.now.later.now.numbers.items }
@@ -241,7 +241,7 @@ fn stands(
     ensures { result ≡ stands line.now.statements.now (tells line.now.recent.now.later.now) (expr_view expression.now)
         source line.now.place line.now.statement.now (operands_view line.now.operands) operand.now }
 {
-    is_spare(line, operand, number) && stays(line, source, expression, facts)
+    is_spare(line, operand, later) && stays(line, source, expression, facts)
 }
 
 // What is known of the expression of the line at a place, which assigns a name that may have a number.
@@ -274,6 +274,8 @@ pub(crate) fn choose<'a>(
     requires recent { IsRecent line.now.statements.now line.now.place line.now.recent.now }
     requires operands { simple_operands line.now.statement.now ≡ Some (operands_view line.now.operands) }
     requires more { length chosen.now < length (operands_view line.now.operands) }
+    requires operand { slice_get (operands_view line.now.operands) (length chosen.now) ≡ Some operand.now }
+    requires told { IsTold line.now.recent.now.later.now line.now.statement.now line.now.place }
     ensures { IsChoice line.now.statements.now (tells line.now.recent.now.later.now) line.now.place
         line.now.statement.now (operands_view line.now.operands) operand.now
         (map operation_expression (map operation_view operations.now))
@@ -285,8 +287,10 @@ pub(crate) fn choose<'a>(
         Some(source) => match expression_at(operations, source) {
             None => Choice::Named(operand),
             Some(expression) => {
+                let later = line.recent.later;
+                let later = later.is_operand_later(operand, number, chosen.len(), line.place);
                 let facts = known_at(known, number, source);
-                if stands(line, operand, number, source, expression, facts)
+                if stands(line, operand, later, source, expression, facts)
                     && stays_small(line, chosen, expression, facts)
                 {
                     Choice::Replaced(source, expression)
@@ -314,6 +318,7 @@ pub(crate) fn choose_all<'a>(
     requires recent { IsRecent line.now.statements.now line.now.place line.now.recent.now }
     requires listed { operands_view line.now.operands ≡ operands.now }
     requires operands { simple_operands line.now.statement.now ≡ Some (operands_view line.now.operands) }
+    requires told { IsTold line.now.recent.now.later.now line.now.statement.now line.now.place }
     ensures { IfOk result (λ cs. AreChoices line.now.statements.now
         (tells line.now.recent.now.later.now) line.now.place line.now.statement.now
         (map operation_expression (map operation_view operations.now)) (map choice_view cs.items)) }

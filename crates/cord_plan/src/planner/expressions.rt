@@ -3,7 +3,7 @@ ghost use Rattle.std.specs.Prelude.{◌≡◌, ◌≤◌, ◌++◌, ◌∷◌, [
 ghost use Rattle.std.specs.Prelude.{option_map};
 ghost use Rattle.cord_plan.specs.inner.Choices.{operands_view, simple_operands};
 ghost use Rattle.cord_plan.specs.inner.Known.{IsKnown};
-ghost use Rattle.cord_plan.specs.inner.Liveness.{tells};
+ghost use Rattle.cord_plan.specs.inner.Liveness.{tells, IsTold};
 ghost use Rattle.cord_plan.specs.inner.Numbering.{AllHints, AreHints};
 ghost use Rattle.cord_plan.specs.inner.Recent.{IsRecent};
 ghost use Rattle.cord_plan.specs.inner.Steps.{IsNext, IsStep, operation_expression, sources_view};
@@ -39,6 +39,7 @@ fn expression_over<'a>(
     requires recent { IsRecent line.now.statements.now line.now.place line.now.recent.now }
     requires operands { simple_operands line.now.statement.now ≡ Some (operands_view line.now.operands) }
     requires hints { AreHints line.now.recent.now.later.now.numbering line.now.statement.now line.now.numbers }
+    requires told { IsTold line.now.recent.now.later.now line.now.statement.now line.now.place }
     requires all_hints { AllHints line.now.statements.now line.now.recent.now.later.now.numbering
         line.now.recent.now.later.now.numbers.items }
     requires long { length operations.now ≡ line.now.place }
@@ -103,6 +104,7 @@ pub(crate) fn next_expression(
     requires place { place ≤ length statements.now }
     requires recent { IsRecent statements.now place recent.now }
     requires hints { AreHints recent.now.later.now.numbering statement.now numbers }
+    requires told { IsTold recent.now.later.now statement.now place }
     requires all_hints { AllHints statements.now recent.now.later.now.numbering recent.now.later.now.numbers.items }
     requires long { length operations.old ≡ place }
     requires known { IsKnown recent.now.later.now.numbering

@@ -1,9 +1,9 @@
-use Rattle.std.proofs.Common.{◌≡◌, ℕ, Bool, false, List, [], ◌∷◌, ◌++◌, Some, map, length, refl, sym, ap, ◌∙◌, arith}
+use Rattle.std.proofs.Common.{◌≡◌, ℕ, Bool, false, List, [], ◌∷◌, ◌++◌, Some, map, length, refl, sym, ap, ◌∙◌, subst, arith}
 use Rattle.std.specs.Prelude.{option_map, slice_get}
 use Rattle.std.proofs.lemmas.Option.{slice_get_read}
 use Rattle.std.proofs.lemmas.List.{length-map, map-append}
 use Rattle.cord_plan.specs.inner.Known.{IsKnown}
-use Rattle.cord_plan.specs.inner.Liveness.{tells}
+use Rattle.cord_plan.specs.inner.Liveness.{tells, IsTold}
 use Rattle.cord_plan.specs.inner.Numbering.{AllHints, AreHints}
 use Rattle.cord_plan.specs.inner.Steps.{IsStep, operation_expression}
 use Rattle.cord_plan.specs.Operands.{target_of}
@@ -88,7 +88,7 @@ note-requires c =
     let t = c.args.later.now.numbering in
     let l = c.index-statements-place.result in
     right s t c.loop-place.recent.later.now.numbering c.args.later.now.numbers.items c.deref.result.now c.numbers_at-numbers.result
-    c.loop-place.place l (ap (λ (r : Later). r.numbering) c.loop-place.invariant.later) c.deref.ensures.value c.requires
+    c.loop-place.place l (ap (λ (r : Later). r.numbering) c.loop-place.invariant.later) c.deref.ensures.value c.requires.hints
     (slice_get_read s (length s) c.loop-place.place l refl c.loop-place-test.true c.index-statements-place.is)
     (λ hints there. c.numbers_at-numbers.ensures s t l hints there)
 
@@ -98,12 +98,12 @@ next_expression-requires-clause-hints c =
     let t = c.args.later.now.numbering in
     let l = c.index-statements-place.result in
     right s t c.loop-place.recent.later.now.numbering c.args.later.now.numbers.items c.deref.result.now c.numbers_at-numbers.result
-    c.loop-place.place l (ap (λ (r : Later). r.numbering) c.loop-place.invariant.later) c.deref.ensures.value c.requires
+    c.loop-place.place l (ap (λ (r : Later). r.numbering) c.loop-place.invariant.later) c.deref.ensures.value c.requires.hints
     (slice_get_read s (length s) c.loop-place.place l refl c.loop-place-test.true c.index-statements-place.is)
     (λ hints there. c.numbers_at-numbers.ensures s t l hints there)
 
 pub next_expression-requires-clause-all_hints : goal.next_expression-requires-clause-all_hints
-next_expression-requires-clause-all_hints c = rw c.loop-place.invariant.later c.requires
+next_expression-requires-clause-all_hints c = rw c.loop-place.invariant.later c.requires.hints
 
 pub next_expression-requires-clause-long : goal.next_expression-requires-clause-long
 next_expression-requires-clause-long c =
@@ -116,12 +116,27 @@ next_expression-requires-clause-long c =
 pub next_expression-requires-clause-known : goal.next_expression-requires-clause-known
 next_expression-requires-clause-known c = rw (c.loop-place.invariant.later, c.deref_mut.ensures.value) c.loop-place.invariant.known
 
-pub is_dead-dead-requires : goal.is_dead-dead-requires
-is_dead-dead-requires c =
+pub is_dead-dead-requires-clause-hints : goal.is_dead-dead-requires-clause-hints
+is_dead-dead-requires-clause-hints c =
     let s = c.args.statements.now in
     let t = c.args.later.now.numbering in
     let l = c.index-statements-place.result in
     right s t t c.args.later.now.numbers.items c.deref.result.now c.numbers_at-numbers.result
-    c.loop-place.place l refl c.deref.ensures.value c.requires
+    c.loop-place.place l refl c.deref.ensures.value c.requires.hints
     (slice_get_read s (length s) c.loop-place.place l refl c.loop-place-test.true c.index-statements-place.is)
     (λ hints there. c.numbers_at-numbers.ensures s t l hints there)
+
+pub is_dead-dead-requires-clause-told : goal.is_dead-dead-requires-clause-told
+is_dead-dead-requires-clause-told c =
+    let s = c.args.statements.now in
+    let l = c.index-statements-place.result in
+    c.requires.told c.loop-place.place l
+    (slice_get_read s (length s) c.loop-place.place l refl c.loop-place-test.true c.index-statements-place.is)
+
+pub next_expression-requires-clause-told : goal.next_expression-requires-clause-told
+next_expression-requires-clause-told c =
+    let s = c.args.statements.now in
+    let p = c.loop-place.place in
+    let l = c.index-statements-place.result in
+    subst (λ (later : Later). IsTold later l p) (sym c.loop-place.invariant.later)
+    (c.requires.told p l (slice_get_read s (length s) p l refl c.loop-place-test.true c.index-statements-place.is))

@@ -1,4 +1,6 @@
-use Rattle.std.proofs.Common.{◌≡◌, ℕ, ◌+◌, List, [], ◌∷◌, map, drop, length, Some, sym, ap, subst, ◌∙◌, arith, length-append}
+use Rattle.std.proofs.Common.{◌≡◌, ℕ, ◌+◌, List, [], ◌∷◌, map, drop, length, Some, refl, sym, ap, subst, ◌∙◌, arith, length-append}
+use Rattle.std.specs.Prelude.{slice_get}
+use Rattle.std.proofs.lemmas.Option.{slice_get_read}
 use Rattle.std.proofs.lemmas.List.{map-append, at_drop_all, length-map}
 use Rattle.cord_plan.specs.declared.planner.choosing.Choice.{Choice}
 use Rattle.cord_plan.specs.inner.Choices.{operands_view, choice_view, IsChoice}
@@ -62,3 +64,12 @@ returns c =
     ∙ (c.loop-operand.invariant.so_far t has
     ∙ ap (λ (ys : List (List ℕ)). plain.choices s later t b l [] ys)
     (sym (simple_reads l xs (c.requires.operands ∙ ap (λ (ys : List (List ℕ)). Some ys) c.requires.listed))))
+
+pub choose-choice-requires-clause-operand : goal.choose-choice-requires-clause-operand
+choose-choice-requires-clause-operand c =
+    let xs = c.args.operands.now in
+    let i = c.loop-operand.operand-index in
+    let x = c.operand-item.result in
+    let size : length c.deref.result.now ≡ i = ap length c.deref.ensures.value ∙ c.loop-operand.invariant.size in
+    let there : slice_get xs i ≡ Some x = slice_get_read xs (length xs) i x refl c.loop-operand-test.true c.operand-item.is in
+    rw (c.requires.listed, size) there

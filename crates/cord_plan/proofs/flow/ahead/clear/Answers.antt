@@ -1,0 +1,12 @@
+use Rattle.std.proofs.Common.{sym, ◌∙◌}
+use Rattle.cord_plan.proofs.Ahead.{clears_none, clears_past, clears_there}
+use Rattle.cord_plan.proofs.flow.ahead.clear.Goals as goal
+
+pub returns-in-None : goal.returns-in-None
+returns-in-None c = λ t o is. clears_none t c.args.places.now o (sym is ∙ c.in-None.is)
+
+pub returns-then-number-places : goal.returns-then-number-places
+returns-then-number-places c = λ t o is. clears_there t c.args.places.now o c.in-Some.number (sym is ∙ c.in-Some.is) c.if-number-places.true
+
+pub returns-else-number-places : goal.returns-else-number-places
+returns-else-number-places c = λ t o is. clears_past t c.args.places.now o c.in-Some.number (sym is ∙ c.in-Some.is) c.if-number-places.false

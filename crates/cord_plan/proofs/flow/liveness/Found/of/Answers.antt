@@ -1,0 +1,25 @@
+use Rattle.std.proofs.Common.{◌≡◌, ◌+◌, List, Some, Global, Vec, drop, map, subst, arith}
+use Rattle.std.specs.Prelude.{slice_get}
+use Rattle.cord_plan.specs.inner.Ahead.{IsLineLater, later_in}
+use Rattle.cord_plan.specs.declared.flow.ahead.LineLater.{LineLater}
+use Rattle.cord_plan.proofs.Onward.{lines_tell}
+use Rattle.cord_plan.proofs.Told.{tells_exactly}
+use Rattle.cord_plan.proofs.flow.liveness.Found.of.Goals as goal
+
+pub returns-then-not-has_blocks : goal.returns-then-not-has_blocks
+returns-then-not-has_blocks c =
+    let s = c.args.statements.now in
+    record {
+      later = lines_tell s (c.has_blocks.ensures c.if-not-has_blocks.true);
+      told = λ p l e lines is.
+          (let same : c.in_ok-lines_later.field-0 ≡ lines = cc in
+          subst (λ (v : Vec LineLater Global). (line : LineLater) × (slice_get v.items p ≡ Some line)
+          × IsLineLater l (λ x. later_in (drop (p + 1) s) x) line) same (c.in_ok-lines_later.ensures p l (omega arith) e));
+    }
+
+pub returns : goal.returns
+returns c = record {
+  later = tells_exactly c.args.statements.now c.args.numbering.now c.in_ok-successors.successors.items c.in_ok-groups.groups.items
+      c.in_ok-successors.ensures c.requires.covers c.in_ok-groups.ensures;
+  told = λ p l e lines is. (let bad : ⊥ = cc in absurd bad);
+}

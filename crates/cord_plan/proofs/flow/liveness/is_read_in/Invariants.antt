@@ -1,0 +1,7 @@
+use Rattle.std.proofs.Common.{◌≡◌, drop}
+use Rattle.cord_plan.specs.inner.Ahead.{later_in}
+use Rattle.cord_plan.proofs.flow.liveness.is_read_in.Given as goal
+
+-- the lines that are left tell it
+abbrev pub invariant-loop-statement : goal.invariant-loop-statement
+invariant-loop-statement l = later_in l.statements l.name ≡ later_in (drop l.statement-index l.statements) l.name

@@ -1,0 +1,17 @@
+use Rattle.std.proofs.Common.{◌≡◌, None, refl, rules}
+use Rattle.std.specs.Prelude.{replicate}
+use Rattle.cord_plan.proofs.Recents.{none_noted}
+use Rattle.cord_plan.proofs.flow.recent.Recent.of.Goals as goal
+
+pub returns-clause-recent : goal.returns-clause-recent
+returns-clause-recent c =
+    let t = c.args.later.now.numbering in
+    let n = c.count-count.result in
+    let assigned : c.in_ok-assigned.assigned.items ≡ replicate n None =
+    c.in_ok-assigned.ensures.items_if_clones_equal (λ x h. search rules) in
+    let read : c.in_ok-read.read.items ≡ replicate n None = c.in_ok-read.ensures.items_if_clones_equal (λ x h. search rules) in
+    λ s. record {
+      assigned = λ x o e. none_noted t n x o (rw assigned at e);
+      read = λ x o e. none_noted t n x o (rw read at e);
+      block = refl;
+    }

@@ -1,0 +1,56 @@
+-- What the code goes by that finds what is read later in a script without blocks.
+use Rattle.std.specs.Prelude.{◌≡◌, ℕ, ◌+◌, ◌<◌, ◌≤◌, Bool, true, false, not, ◌&&◌, ◌||◌, List, [], ◌∷◌, drop, Option, Some, None}
+use Rattle.std.specs.Prelude.{slice_get, is_some}
+use Rattle.cord_syntax.specs.declared.statements.Statement.{Statement}
+use Rattle.cord_plan.specs.Operands.{assigns, has, reads, target_of}
+use Rattle.cord_plan.specs.inner.Choices.{simple_operands}
+use Rattle.cord_plan.specs.inner.Marks.{bit}
+use Rattle.cord_plan.specs.inner.Numbering.{names_of, number_of}
+use Rattle.cord_plan.specs.inner.Recent.{entry_at, entry_of}
+use Rattle.cord_plan.specs.declared.flow.numbering.Numbering.{Numbering}
+use Rattle.cord_plan.specs.declared.flow.ahead.Ahead.{Ahead}
+use Rattle.cord_plan.specs.declared.flow.ahead.LineLater.{LineLater}
+
+-- what the flow back over a line makes of a bit
+abbrev pub flow : Bool → Bool → Bool → Bool
+flow here successors assigned = here || (successors && not assigned)
+
+-- whether one of these lines reads a name before one assigns it
+abbrev pub later_in : List Statement → List ℕ → Bool
+later_in [] x = false
+later_in (l ∷ ls) x = flow (reads l x) (later_in ls x) (assigns l x)
+
+-- whether a line is noted
+abbrev pub is_noted : Option (Option ℕ) → Bool
+is_noted (Some (Some reader)) = true
+is_noted entry = false
+
+abbrev pub ahead_at : Ahead → Option ℕ → Bool
+ahead_at a number = is_noted (entry_at a.read.items number)
+
+abbrev pub ahead_of : Ahead → List ℕ → Bool
+ahead_of a x = is_noted (entry_of a.numbering.now a.read.items x)
+
+-- the number of a name, where there is one
+abbrev pub number_in : Numbering → Option (List ℕ) → Option ℕ
+number_in t None = None
+number_in t (Some x) = number_of t x
+
+-- places, by the numbers of names, have a line for each name that these lines read before one assigns it, and for no other
+pub record AreAhead (ls : List Statement) (t : Numbering) (places : List (Option ℕ)) : Type 0 where
+  pub known : (x : List ℕ) → is_some (entry_of t places x) ≡ has (names_of t) x
+  pub told : (x : List ℕ) → is_noted (entry_of t places x) ≡ later_in ls x
+
+abbrev pub IsAhead : List Statement → Ahead → Type 0
+IsAhead ls a = AreAhead ls a.numbering.now a.read.items
+
+-- what is asked of a line: whether the name that it assigns is read later, and which of its first operands are
+pub record IsLineLater (l : Statement) (later : List ℕ → Bool) (line : LineLater) : Type 0 where
+  pub target : (x : List ℕ) → target_of l ≡ Some x → line.target ≡ later x
+  pub operands : (xs : List (List ℕ)) → simple_operands l ≡ Some xs → (i : ℕ) (x : List ℕ) → i < 16 → slice_get xs i ≡ Some x →
+      bit line.operands i ≡ later x
+
+-- of each line from p on it is told
+abbrev pub AreToldFrom : List Statement → ℕ → List LineLater → Type 0
+AreToldFrom s p lines = (k : ℕ) (l : Statement) → p ≤ k → slice_get s k ≡ Some l → (line : LineLater) × (slice_get lines k ≡ Some line)
+    × IsLineLater l (λ x. later_in (drop (k + 1) s) x) line
