@@ -2,5 +2,6 @@
 //! place.
 pub(crate) mod growth;
 pub(crate) mod interpreter;
+pub(crate) mod reading;
 pub(crate) mod resolution;
 mod window;

@@ -83,10 +83,24 @@ impl Store {
     {
         match self.place(name) {
             None => None,
-            Some(place) => match &self.entries[place].content {
-                Content::Whole(cord) => Some(cord),
-                Content::Long(_) => None,
-            },
+            Some(place) => self.cord_at(place),
+        }
+    }
+
+    /// The cord of the entry at a place, where there is no length alone.
+    #[inline(always)]
+    pub(crate) fn cord_at(&self, place: usize) -> Option<&Cord>
+        requires { place < length self.now.entries.items }
+        ensures some { IfSome result (λ cord. (name : List ℕ) → IsEntryAt self.now.entries.items name place →
+            cord.now ≡ cord_in (content_in self.now.entries.items name)) }
+        ensures len { IfSome result (λ cord. (name : List ℕ) → IsEntryAt self.now.entries.items name place →
+            text_len cord.now ≡ length_in self.now.entries.items name) }
+        ensures none { IfNone result ((name : List ℕ) → IsEntryAt self.now.entries.items name place →
+            cord_in (content_in self.now.entries.items name) ≡ None) }
+    {
+        match &self.entries[place].content {
+            Content::Whole(cord) => Some(cord),
+            Content::Long(_) => None,
         }
     }
 
@@ -97,10 +111,20 @@ impl Store {
     {
         match self.place(name) {
             None => 0,
-            Some(place) => match &self.entries[place].content {
-                Content::Whole(cord) => cord.len(),
-                Content::Long(len) => *len,
-            },
+            Some(place) => self.length_at(place),
+        }
+    }
+
+    /// The length that is told of the name of the entry at a place.
+    #[inline(always)]
+    pub(crate) fn length_at(&self, place: usize) -> u64
+        requires { place < length self.now.entries.items }
+        ensures { (name : List ℕ) → IsEntryAt self.now.entries.items name place →
+            result ≡ length_in self.now.entries.items name }
+    {
+        match &self.entries[place].content {
+            Content::Whole(cord) => cord.len(),
+            Content::Long(len) => *len,
         }
     }
 
@@ -163,6 +187,16 @@ impl Store {
         set_number(&mut self.entries, place, number);
     }
 
+    /// Gives the name of the entry at a place a length alone.
+    pub(crate) fn set_length_at(&mut self, place: usize, len: u64)
+        requires { place < length self.old.entries.items }
+        ensures set { (name : List ℕ) → IsEntryAt self.old.entries.items name place →
+            HasContent name (Content.Long len) self.old.entries.items self.new.entries.items }
+        ensures names { names_in self.new.entries.items ≡ names_in self.old.entries.items }
+    {
+        set_content(&mut self.entries, place, Content::Long(len));
+    }
+
     /// Gives a name of a cord its cord, or a length alone.
     pub(crate) fn assign(
         &mut self,
@@ -173,7 +207,7 @@ impl Store {
         ensures { IfOk result (λ _. HasContent name.now content self.old.entries.items self.new.entries.items) }
     {
         let place = place_for(alloc, &mut self.entries, &mut self.guesses, name)?;
-        set_content(&mut self.entries, name, place, content);
+        set_content(&mut self.entries, place, content);
         Ok(())
     }
 

@@ -129,8 +129,8 @@ fn length_of_run(byte: i64, count: i64) -> Result<u64, FaultKind>
     }
 }
 
-// The length of at most so many bytes from a place on, of what has this length.
-fn length_of_range(len: u64, start: i64, count: i64) -> Result<u64, FaultKind>
+/// The length of at most so many bytes from a place on, of what has this length.
+pub(crate) fn length_of_range(len: u64, start: i64, count: i64) -> Result<u64, FaultKind>
     ensures { result ≡ measured_part MAX_LEN len start count }
 {
     match as_index(start) {

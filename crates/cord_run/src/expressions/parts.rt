@@ -28,6 +28,24 @@ pub(crate) fn pair_of(members: &Members) -> Option<(&Expr, &Expr)>
     Some((rest[0].as_ref(), rest[1].as_ref()))
 }
 
+/// The name of a range of one, and the numbers of the range.
+pub(crate) fn range_parts(expression: &Expr) -> Option<(&Name, &Number, &Number)>
+    ensures { IfSome result (λ parts. expr_view expression.now
+        ≡ plain.sub (plain.name parts.0.now) parts.1.now parts.2.now) }
+{
+    match expression {
+        Expr::Sub {
+            expression,
+            start,
+            count,
+        } => match expression.as_ref() {
+            Expr::Name(name) => Some((name, start, count)),
+            _ => None,
+        },
+        _ => None,
+    }
+}
+
 /// Whether an expression is one part: a name, copies of a byte, or a range of a name.
 pub(crate) fn is_part(expression: &Expr) -> bool {
     match expression {

@@ -65,8 +65,8 @@ pub(crate) fn leaf_slice(cord: &Cord) -> Option<&[u8]>
     }
 }
 
-// At most so many bytes from a place on. None where a number is no index.
-fn range_of(bytes: &[u8], start: i64, count: i64) -> Option<&[u8]>
+/// At most so many bytes from a place on. None where a number is no index.
+pub(crate) fn range_of(bytes: &[u8], start: i64, count: i64) -> Option<&[u8]>
     ensures { IfSome result (λ range. part_of MAX_LEN bytes.now start count ≡ Ok range.now) }
 {
     let (Ok(start), Ok(count)) = (as_index(start), as_index(count)) else {

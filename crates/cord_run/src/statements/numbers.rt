@@ -9,7 +9,8 @@ ghost use Rattle.cord_syntax.specs.Lines.{line_of};
 ghost use Rattle.cord_syntax.specs.Targets.{target_of};
 ghost use Rattle.cord_syntax.specs.declared.families.Family.TheVariants as families;
 ghost use Rattle.cord_run.specs.inner.Numbers.{CountsFinding, FindsOver, HasRead, in_i64, number_or_stop};
-ghost use Rattle.cord_run.specs.inner.Entries.{content_in, cord_in, HasNumber, IsOver, length_in};
+ghost use Rattle.cord_run.specs.inner.Entries.{content_in, cord_in, HasNumber, IsEntryAt, IsOver, length_in};
+ghost use Rattle.cord_run.specs.inner.Resolution.{IsTargetAt};
 ghost use Rattle.cord_run.specs.inner.Statements.{MeansOver, StaysOver};
 ghost use Rattle.cord_run.specs.inner.Outcomes.{CountsReads};
 
@@ -44,6 +45,29 @@ pub(crate) fn assign_found(
             None => Ok(()),
             Some(target) => give_number(alloc, store, target, number),
         },
+    }
+}
+
+/// The same, where the name has its entry at a place.
+pub(crate) fn assign_at(
+    store: &mut Store,
+    place: u16,
+    statement: &Statement,
+    number: Result<i64, Stop>,
+) -> Result<(), Stop>
+    requires { IsTargetAt (IsEntryAt store.old.entries.items) place statement.now }
+    ensures over { StaysOver store.old.entries.items store.new.entries.items result }
+    ensures means { (t : Table) → FindsOver t statement.now store.old.entries.items number →
+        MeansOver t statement.now store.old.entries.items store.new.entries.items result }
+    ensures counts { (before after : ℕ) → CountsFinding before after number → CountsReads before after result }
+{
+    let _ = statement;
+    match number {
+        Err(stop) => Err(stop),
+        Ok(number) => {
+            store.set_number_at(place as usize, number);
+            Ok(())
+        }
     }
 }
 

@@ -9,15 +9,15 @@ use cord_ec::ExtCord;
 use cord_script::Name;
 use std::mem::replace;
 
-/// Puts another content into the entry of a name.
-pub(crate) fn set_content(entries: &mut [Entry], name: &Name, place: usize, content: Content)
-    requires within { place < length entries.old }
-    requires place { IsEntryAt entries.old name.now place }
-    ensures set { HasContent name.now content entries.old entries.new }
+/// Puts another content into the entry at a place.
+pub(crate) fn set_content(entries: &mut [Entry], place: usize, content: Content)
+    requires { place < length entries.old }
+    ensures set { (name : List ℕ) → IsEntryAt entries.old name place →
+        HasContent name content entries.old entries.new }
+    ensures names { names_in entries.new ≡ names_in entries.old }
     ensures distinct { are_distinct (names_in entries.old) ≡ true → are_distinct (names_in entries.new) ≡ true }
     ensures first { StayFirst entries.old entries.new }
 {
-    let _ = name;
     let entry = &mut entries[place];
     entry.content = content;
 }

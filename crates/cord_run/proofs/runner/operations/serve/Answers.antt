@@ -8,9 +8,12 @@ use Rattle.cord_plan.specs.Planned as plan
 use Rattle.cord_plan.specs.Views.{made_view, operation_view}
 use Rattle.cord_run.specs.Failing.{FailsIn}
 use Rattle.cord_run.specs.inner.Holdings.{holding_of}
+use Rattle.cord_run.specs.inner.Entries.{IsEntryAt}
 use Rattle.cord_run.specs.inner.Outcomes.{Serves}
+use Rattle.cord_run.specs.inner.Resolution.{IsWrite, StandsFor}
 use Rattle.cord_run.proofs.Failures.{fails_freely}
 use Rattle.cord_run.proofs.Operations.{build_serves, measure_serves}
+use Rattle.cord_run.proofs.Slices.{still_some}
 use Rattle.cord_run.proofs.runner.operations.serve.Goals as goal
 
 pub returns-in-Build-clause-serves : goal.returns-in-Build-clause-serves
@@ -36,6 +39,18 @@ returns-in-Measure-clause-serves g c = λ folder agrees.
 pub returns-in-Measure-clause-fails : goal.returns-in-Measure-clause-fails
 returns-in-Measure-clause-fails g c = subst (λ (o : plan.Operation). IfErr c.serve_target-in-Measure.result (FailsIn o))
     (sym (ap operation_view c.in-Measure.is)) c.serve_target-in-Measure.ensures.fails
+
+pub put-requires-clause-stands : goal.put-requires-clause-stands
+put-requires-clause-stands g c =
+    let At = IsEntryAt c.args.store.now.entries.items in
+    still_some c.written.result (λ range is. subst (λ (o : plan.Operation). IsWrite At range.now o) (ap operation_view c.in-Write.is) is)
+    (c.written.ensures c.args.store.now.entries.items (operation_view c.args.operation.now) c.requires.stands)
+
+pub serve_statement-requires-clause-stands : goal.serve_statement-requires-clause-stands
+serve_statement-requires-clause-stands g c =
+    let At = IsEntryAt c.args.store.now.entries.items in
+    still_some c.args.resolved (λ resolved stands. subst (λ (o : plan.Operation). StandsFor At resolved.now o)
+    (ap operation_view c.in-Keep.is) stands) c.requires.stands
 
 pub returns-in-Write-clause-serves : goal.returns-in-Write-clause-serves
 returns-in-Write-clause-serves g c = λ folder agrees.

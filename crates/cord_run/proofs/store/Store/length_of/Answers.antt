@@ -1,20 +1,10 @@
-use Rattle.std.proofs.Common.{refl, None, sym, ap, ◌∙◌}
+use Rattle.std.proofs.Common.{refl, None, sym, ap}
 use Rattle.cord_run.specs.declared.store.Content.TheVariants.{Whole}
 use Rattle.cord_run.specs.inner.Entries.{content_length}
-use Rattle.cord_run.proofs.Entries.{none_there, value_there}
+use Rattle.cord_run.proofs.Entries.{none_there}
 use Rattle.cord_run.proofs.store.Store.length_of.Goals as goal
 
 pub returns-in-None : goal.returns-in-None
 returns-in-None c = sym
     (ap content_length (none_there (λ entry. entry.content) (Whole None) c.args.self.now.entries.items c.args.self.now.entries.items
     c.args.name.now refl c.in-None.ensures.none))
-
-pub returns-in-Whole : goal.returns-in-Whole
-returns-in-Whole c = c.len.ensures.stored ∙ ap content_length (sym c.in-Whole.is
-    ∙ value_there (λ entry. entry.content) (Whole None) c.args.self.now.entries.items c.args.self.now.entries.items c.args.name.now
-    c.in-Some.place c.index.result.now refl c.in-Some.ensures.some c.index.ensures)
-
-pub returns-in-Long : goal.returns-in-Long
-returns-in-Long c = ap content_length (sym c.in-Long.is ∙ value_there (λ entry. entry.content)
-    (Whole None) c.args.self.now.entries.items c.args.self.now.entries.items c.args.name.now c.in-Some.place c.index.result.now refl
-    c.in-Some.ensures.some c.index.ensures)
