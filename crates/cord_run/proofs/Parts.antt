@@ -11,7 +11,7 @@ use Rattle.cord_io.specs.declared.faults.CordError.TheVariants as errors
 use Rattle.cord_node.specs.declared.Node.{Node}
 use Rattle.cord_node.specs.Kept.{Part, Kept}
 use Rattle.cord_node.specs.Tables.{lengths_of}
-use Rattle.cord_node.proofs.KeptLemmas.{Kept-join, Kept-self, Kept_same}
+use Rattle.cord_node.proofs.KeptLemmas.{Kept-join, Kept-self}
 use Rattle.cord_core.specs.Cord.{bytes_of, text_len, parts_of, CordFits, CordFitsIn, IsCord, all_bytes, all_parts, AllFitIn}
 use Rattle.cord_core.specs.Equations.{IsCatOf, IsSubstring, HasText}
 use Rattle.cord_core.specs.Refusals.{IsRefusal}
@@ -29,8 +29,8 @@ use Rattle.cord_run.specs.declared.store.Entry.{Entry}
 use Rattle.cord_run.specs.inner.Contents.{stop_of_cord}
 use Rattle.cord_run.specs.inner.Entries.{content_in, cord_in, operand_in, IsOver}
 use Rattle.cord_run.specs.inner.Holdings.{holding_of, plain_of}
-use Rattle.cord_run.specs.inner.Expressions.{AreWhole, IsBuilt, IsUnbuilt}
-use Rattle.cord_run.specs.inner.Origins.{Origin, named, copied, origins, InTurn, IsCutOf, IsPieceOf, AreCopies}
+use Rattle.cord_run.specs.inner.Expressions.{IsBuilt, IsUnbuilt}
+use Rattle.cord_run.specs.inner.Origins.{Origin, named, copied, origins, InTurn, IsCutOf, IsPieceOf}
 use Rattle.cord_run.proofs.Files.{long_text, short_text}
 use Rattle.cord_run.proofs.Fronts.{joined}
 use Rattle.cord_run.proofs.Lengths.{Both, cord_fits, content_text, length_passed, operand_value, texts_split}

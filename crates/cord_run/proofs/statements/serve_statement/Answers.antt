@@ -1,5 +1,5 @@
 use Rattle.std.proofs.Common.{subst, sym}
-use Rattle.std.specs.Prelude.{IfOk, IfSome}
+use Rattle.std.specs.Prelude.{IfOk}
 use Rattle.cord_io.specs.Table.{Lengths}
 use Rattle.cord_file.specs.Entries.{lengths_in, table_in}
 use Rattle.cord_file.specs.Sources.{opened_in}

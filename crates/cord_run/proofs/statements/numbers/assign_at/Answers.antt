@@ -1,4 +1,4 @@
-use Rattle.std.proofs.Common.{◌≡◌, ℤ, Ok, Result, of_z, subst, to_z, FitsSigned, w64, rules}
+use Rattle.std.proofs.Common.{ℤ, Ok, Result, of_z, subst, to_z, FitsSigned, w64, rules}
 use Rattle.std.proofs.lemmas.Int.{to_z-of_z}
 use Rattle.cord_run.specs.declared.stops.Stop.{Stop}
 use Rattle.cord_run.specs.inner.Entries.{HasNumber}
