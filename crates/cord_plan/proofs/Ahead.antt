@@ -1,7 +1,7 @@
 -- On the way back over lines: which names they read before they assign them.
 use Rattle.std.proofs.Common.{◌≡◌, ◌⊎◌, ℕ, zero, suc, ◌+◌, ◌<◌, ◌≤◌, ◌==◌, Bool, true, false, ◌&&◌, ◌||◌, List, [], ◌∷◌, length, get_or, set}
 use Rattle.std.proofs.Common.{drop, Option, Some, None, inl, inr, refl, sym, ap, ◌∙◌, subst, arith, ◌*◌, ◌%◌, ◌^◌}
-use Rattle.std.specs.Prelude.{slice_get, option_map, is_some, if◌then◌else◌, replicate, not}
+use Rattle.std.specs.Prelude.{slice_get, option_map, is_some, if◌then◌else◌, replicate}
 use Rattle.std.specs.Int.{bit_at, w16}
 use Rattle.std.specs.Int.Bits.{or_zero_l}
 use Rattle.std.specs.Int.RustNames.{bit_or}
@@ -9,14 +9,14 @@ use Rattle.std.proofs.Math.Bool.{and-false, and-true, or-false}
 use Rattle.std.proofs.Math.Nat.{eq-or-lt_of_le}
 use Rattle.std.proofs.lemmas.Bool.Decides.{eqb_tells}
 use Rattle.std.proofs.lemmas.Nat.Bits.{bit_at-zero, bit_at_set_same, bit_at_set_other}
-use Rattle.std.proofs.lemmas.Option.{slice_get-get_or, slice_get_past}
+use Rattle.std.proofs.lemmas.Option.{slice_get-get_or}
 use Rattle.std.proofs.lemmas.List.{get_or-replicate, length-replicate}
 use Rattle.cord_syntax.specs.declared.statements.Statement.{Statement}
 use Rattle.cord_plan.specs.Operands.{assigns, has, is_name, reads, target_of}
 use Rattle.cord_plan.specs.inner.Ahead.{AreAhead, AreToldFrom, IsLineLater, flow, is_noted, later_in, number_in}
 use Rattle.cord_plan.specs.inner.Choices.{simple_operands}
 use Rattle.cord_plan.specs.inner.Marks.{bit}
-use Rattle.cord_plan.specs.inner.Numbering.{AreFor, IsHint, names_of, number_of}
+use Rattle.cord_plan.specs.inner.Numbering.{AreFor, IsHint, names_of}
 use Rattle.cord_plan.specs.inner.Recent.{Notes, Puts, entry_at, entry_of, noted}
 use Rattle.cord_plan.specs.declared.flow.ahead.LineLater.{LineLater}
 use Rattle.cord_plan.specs.declared.flow.numbering.Numbering.{Numbering}

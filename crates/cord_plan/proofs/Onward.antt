@@ -1,16 +1,16 @@
 -- What is read later in a script without blocks.
-use Rattle.std.proofs.Common.{◌≡◌, ◌⊎◌, ℕ, zero, suc, ◌+◌, ◌<◌, ◌≤◌, Bool, true, false, ◌&&◌, ◌||◌, List, [], ◌∷◌, map, drop, length, inl, inr}
-use Rattle.std.proofs.Common.{Option, Some, None, refl, sym, ap, ◌∙◌, subst, arith}
-use Rattle.std.specs.Prelude.{slice_get, not}
+use Rattle.std.proofs.Common.{◌≡◌, ◌⊎◌, ℕ, zero, suc, ◌+◌, ◌<◌, Bool, true, false, List, [], ◌∷◌, map, drop, length, inl, inr}
+use Rattle.std.proofs.Common.{Option, Some, None, refl, sym, ap, ◌∙◌, arith}
+use Rattle.std.specs.Prelude.{slice_get}
 use Rattle.std.proofs.Math.Bool.{and-false, and-true}
 use Rattle.std.proofs.lemmas.Option.{slice_get-map, slice_get_cases}
 use Rattle.cord_syntax.specs.declared.statements.Statement.{Statement}
 use Rattle.cord_meaning.specs.Blocks.{Shape, Simple, Loop, Branch, Otherwise, Close}
-use Rattle.cord_meaning.specs.Paths.{Next, NextOf}
+use Rattle.cord_meaning.specs.Paths.{Next}
 use Rattle.cord_meaning.specs.Statements.{shape_of}
 use Rattle.cord_plan.specs.Forced.{is_block, is_block_at}
 use Rattle.cord_plan.specs.Operands.{assigns, assigns_at, reads, reads_at}
-use Rattle.cord_plan.specs.Unread.{IsLater, ReadBy, ReadLater, Unread}
+use Rattle.cord_plan.specs.Unread.{IsLater, ReadBy, ReadLater}
 use Rattle.cord_plan.specs.inner.Ahead.{flow, later_in}
 use Rattle.cord_plan.specs.inner.Liveness.{NoBlocks}
 

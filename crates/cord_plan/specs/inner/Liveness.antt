@@ -1,5 +1,5 @@
 -- What the code that finds what is read later goes by.
-use Rattle.std.specs.Prelude.{◌≡◌, ℕ, zero, suc, ◌+◌, ◌<◌, ◌/◌, ◌%◌, Bool, true, false, not, ◌&&◌, ◌||◌, List, [], ◌∷◌, map, length, get_or}
+use Rattle.std.specs.Prelude.{◌≡◌, ℕ, zero, suc, ◌+◌, ◌<◌, ◌/◌, ◌%◌, Bool, true, false, not, ◌&&◌, List, [], ◌∷◌, map, length, get_or}
 use Rattle.std.specs.Prelude.{Option, Some, None, slice_get, drop, Vec}
 use Rattle.std.specs.Global.{Global}
 use Rattle.std.specs.Option.{option_to_list}
@@ -11,7 +11,7 @@ use Rattle.cord_plan.specs.Operands.{reads_at, assigns_at}
 use Rattle.cord_plan.specs.inner.Numbering.{number_of, names_of}
 use Rattle.cord_plan.specs.inner.Marks.{column, IsBit}
 use Rattle.cord_plan.specs.Unread.{ReadBy, IsLater, successors, some_of}
-use Rattle.cord_plan.specs.inner.Ahead.{flow, later_in, IsLineLater}
+use Rattle.cord_plan.specs.inner.Ahead.{later_in, IsLineLater}
 use Rattle.cord_plan.specs.declared.flow.ahead.LineLater.{LineLater}
 use Rattle.cord_plan.specs.declared.flow.liveness.Later.{Later}
 use Rattle.cord_plan.specs.declared.flow.liveness.Found.{Found}

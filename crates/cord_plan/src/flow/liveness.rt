@@ -216,6 +216,31 @@ fn group_count(numbering: &Numbering) -> usize
     }
 }
 
+// Whether a place that may come next has the name of a number.
+fn is_live_at(groups: &[Group], number: usize, successors: Successors) -> bool
+    ensures { result ≡ some_of (λ q. at (column_of groups.now (Some number)) q) (places successors) }
+{
+    match groups.get(number / GROUP) {
+        None => false,
+        Some(group) => has_bit(successor_word(&group.words, successors), number % GROUP),
+    }
+}
+
+// Whether a place that may come after a line has the name of a number.
+fn is_live_after(
+    successors: &[Successors],
+    groups: &[Group],
+    number: Option<usize>,
+    place: usize,
+) -> bool
+    ensures { result ≡ tells_of successors.now groups.now number place }
+{
+    match (successors.get(place), number) {
+        (Some(successors), Some(number)) => is_live_at(groups, number, *successors),
+        _ => false,
+    }
+}
+
 // Whether one of these lines reads a name before one assigns it.
 #[cold]
 #[inline(never)]
@@ -314,30 +339,5 @@ impl<'a> Later<'a> {
                 is_live_after(successors, groups, number, place)
             }
         }
-    }
-}
-
-// Whether a place that may come next has the name of a number.
-fn is_live_at(groups: &[Group], number: usize, successors: Successors) -> bool
-    ensures { result ≡ some_of (λ q. at (column_of groups.now (Some number)) q) (places successors) }
-{
-    match groups.get(number / GROUP) {
-        None => false,
-        Some(group) => has_bit(successor_word(&group.words, successors), number % GROUP),
-    }
-}
-
-// Whether a place that may come after a line has the name of a number.
-fn is_live_after(
-    successors: &[Successors],
-    groups: &[Group],
-    number: Option<usize>,
-    place: usize,
-) -> bool
-    ensures { result ≡ tells_of successors.now groups.now number place }
-{
-    match (successors.get(place), number) {
-        (Some(successors), Some(number)) => is_live_at(groups, number, *successors),
-        _ => false,
     }
 }

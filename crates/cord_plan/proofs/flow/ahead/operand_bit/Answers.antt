@@ -1,4 +1,4 @@
-use Rattle.std.proofs.Common.{◌&&◌, ◌==◌, Bool, ap, sym, ◌∙◌, arith}
+use Rattle.std.proofs.Common.{◌&&◌, ◌==◌, Bool, ap, sym, ◌∙◌}
 use Rattle.cord_plan.proofs.Ahead.{one_bit}
 use Rattle.cord_plan.proofs.Words.{bit_zero_is}
 use Rattle.cord_plan.proofs.flow.ahead.operand_bit.Goals as goal

@@ -2,7 +2,7 @@ use Rattle.std.proofs.Common.{◌≡◌, List, ℕ, Some, [], ◌∷◌, sym, ap
 use Rattle.std.specs.Int.RustNames.{bit_or}
 use Rattle.cord_plan.specs.inner.Ahead.{ahead_of}
 use Rattle.cord_plan.specs.inner.Choices.{simple_operands}
-use Rattle.cord_plan.proofs.Ahead.{AreBits, bits_one, bits_two}
+use Rattle.cord_plan.proofs.Ahead.{AreBits, bits_two}
 use Rattle.cord_plan.proofs.flow.ahead.Ahead.named_bits.Goals as goal
 
 pub returns-in-Cat : goal.returns-in-Cat

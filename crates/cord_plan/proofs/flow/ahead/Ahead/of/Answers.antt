@@ -1,7 +1,6 @@
-use Rattle.std.proofs.Common.{◌≡◌, [], List, ℕ, Option, None, sym, ap, ◌∙◌, length, subst, rules}
+use Rattle.std.proofs.Common.{◌≡◌, [], List, ℕ, Option, None, sym, ap, ◌∙◌, subst, rules}
 use Rattle.std.specs.Prelude.{replicate}
 use Rattle.cord_plan.specs.inner.Ahead.{AreAhead}
-use Rattle.cord_plan.specs.inner.Numbering.{names_of}
 use Rattle.cord_plan.proofs.Ahead.{none_ahead}
 use Rattle.cord_plan.proofs.flow.ahead.Ahead.of.Goals as goal
 

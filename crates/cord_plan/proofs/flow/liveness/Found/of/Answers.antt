@@ -1,4 +1,4 @@
-use Rattle.std.proofs.Common.{◌≡◌, ◌+◌, List, Some, Global, Vec, drop, map, subst, arith}
+use Rattle.std.proofs.Common.{◌≡◌, ◌+◌, Some, Global, Vec, drop, subst, arith}
 use Rattle.std.specs.Prelude.{slice_get}
 use Rattle.cord_plan.specs.inner.Ahead.{IsLineLater, later_in}
 use Rattle.cord_plan.specs.declared.flow.ahead.LineLater.{LineLater}
