@@ -209,8 +209,8 @@ fn note_target(
     }
 }
 
-/// Notes it for the name that a line assigns. Where its number is told the line isn't looked at.
-pub(crate) fn note_assigned(
+// Notes it for the name that a line assigns. Where its number is told the line isn't looked at.
+fn note_assigned(
     numbering: &Numbering,
     places: &mut [Option<usize>],
     statement: &Statement,
