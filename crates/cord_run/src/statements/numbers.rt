@@ -8,6 +8,7 @@ ghost use Rattle.cord_syntax.specs.Families.{statement_of};
 ghost use Rattle.cord_syntax.specs.Lines.{line_of};
 ghost use Rattle.cord_syntax.specs.Targets.{target_of};
 ghost use Rattle.cord_syntax.specs.declared.families.Family.TheVariants as families;
+ghost use Rattle.cord_syntax.specs.declared.statements.Statement.TheVariants as statements;
 ghost use Rattle.cord_run.specs.inner.Numbers.{CountsFinding, FindsOver, HasRead, in_i64, number_or_stop};
 ghost use Rattle.cord_run.specs.inner.Entries.{content_in, cord_in, HasNumber, IsEntryAt, IsOver, length_in};
 ghost use Rattle.cord_run.specs.inner.Resolution.{IsTargetAt};
@@ -22,7 +23,7 @@ use crate::store::Store;
 use cord_core::Cord;
 use cord_io::Source;
 use cord_meaning::FaultKind;
-use cord_script::{Name, Statement};
+use cord_script::{Name, Number, Statement};
 use cord_syntax::{Computation, Look, Search};
 use std::alloc::Global;
 
@@ -153,15 +154,43 @@ pub(crate) fn look_number<R: Source>(
             right_start,
             count,
             ..
-        } => ranges_compared(
-            cord_or(store, left, &empty),
-            store.value_of(left_start.as_ref()),
-            cord_or(store, right, &empty),
-            store.value_of(right_start.as_ref()),
-            store.value_of(count.as_ref()),
+        } => ranges_number(
+            store,
             source,
+            left,
+            left_start.as_ref(),
+            right,
+            right_start.as_ref(),
+            count.as_ref(),
         ),
     }
+}
+
+// The order of ranges of two cords.
+fn ranges_number<R: Source>(
+    store: &Store,
+    source: &mut R,
+    left: &Name,
+    left_start: &Number,
+    right: &Name,
+    right_start: &Number,
+    count: &Number,
+) -> Result<i64, Stop>
+    requires over { IsOver (R.lengths source.old) store.now.entries.items }
+    ensures found { (folder : Folder) → R.keeps source.new folder → (line : ℕ) (target : List ℕ) →
+        FindsOver (R.table source.old folder) (statements.Ncmp line target left.now left_start.now right.now
+        right_start.now count.now) store.now.entries.items result }
+    ensures read { HasRead ⟦<R as Source>⟧ source.old source.new result }
+{
+    let empty = Cord::empty();
+    ranges_compared(
+        cord_or(store, left, &empty),
+        store.value_of(left_start),
+        cord_or(store, right, &empty),
+        store.value_of(right_start),
+        store.value_of(count),
+        source,
+    )
 }
 
 /// The place that a search finds, or -1.
