@@ -1,5 +1,6 @@
 -- On the way back over lines: which names they read before they assign them.
-use Rattle.std.proofs.Common.{◌≡◌, ◌⊎◌, ℕ, zero, suc, ◌+◌, ◌<◌, ◌≤◌, ◌==◌, Bool, true, false, ◌&&◌, ◌||◌, List, [], ◌∷◌, length, get_or, set}
+use Rattle.std.proofs.Common.{◌≡◌, ◌⊎◌, ℕ, zero, suc, ◌+◌, ◌<◌, ◌≤◌, ◌==◌, Bool, true, false, ◌&&◌, ◌||◌}
+use Rattle.std.proofs.Common.{List, [], ◌∷◌, length, get_or, set}
 use Rattle.std.proofs.Common.{drop, Option, Some, None, inl, inr, refl, sym, ap, ◌∙◌, subst, arith, ◌*◌, ◌%◌, ◌^◌}
 use Rattle.std.specs.Prelude.{slice_get, option_map, is_some, if◌then◌else◌, replicate}
 use Rattle.std.specs.Int.{bit_at, w16}
@@ -68,13 +69,15 @@ after_line known false true later p (Some q) k n named = (k, sym (and-false late
 after_line known false false later p (Some q) k n named = (k, n ∙ sym (and-true later))
 
 pub line_more : (t : Numbering) (l : Statement) (ls : List Statement) (p : ℕ) (old now new : List (Option ℕ)) →
-    ((x : List ℕ) → reads l x ≡ true → has (names_of t) x ≡ true) → Puts t (λ x. assigns l x) None old now → Notes t (λ x. reads l x) p now new →
+    ((x : List ℕ) → reads l x ≡ true → has (names_of t) x ≡ true) → Puts t (λ x. assigns l x) None old now →
+    Notes t (λ x. reads l x) p now new →
     AreAhead ls t old → AreAhead (l ∷ ls) t new
 line_more t l ls p old now new named clears notes ahead = record { known = λ x. (at_all x).0; told = λ x. (at_all x).1 }
   where
     at_all : (x : List ℕ) → (is_some (entry_of t new x) ≡ has (names_of t) x) × (is_noted (entry_of t new x) ≡ later_in (l ∷ ls) x)
     at_all x = rw (notes x, clears x)
-        (after_line (has (names_of t) x) (reads l x) (assigns l x) (later_in ls x) p (entry_of t old x) (ahead.known x) (ahead.told x) (named x))
+        (after_line (has (names_of t) x) (reads l x) (assigns l x) (later_in ls x) p (entry_of t old x) (ahead.known x)
+        (ahead.told x) (named x))
 
 -- the bits of two operands
 first_bit : (a b : Bool) → ((a && true) || (b && false)) ≡ a
@@ -169,7 +172,8 @@ bits_more holds xs k w v x a there is one bits = record {
         bit_or_is w v i ∙ rw (unset, one i, q.0) (and-true a ∙ (is ∙ ap holds same)))
     | inr q ↦
         (let early : i < k = let differ = q.1 in omega (arith, lt, differ) in
-        bit_or_is w v i ∙ rw (one i, q.0) (ap (λ (b : Bool). bit w i || b) (and-false a) ∙ (or-false (bit w i) ∙ bits.before i y early within e)))
+        bit_or_is w v i
+        ∙ rw (one i, q.0) (ap (λ (b : Bool). bit w i || b) (and-false a) ∙ (or-false (bit w i) ∙ bits.before i y early within e)))
   ];
   behind = λ i le. elim (eqb_tells i k) [
     | inl q ↦ absurd (let same = q.1 in omega (arith, le, same))

@@ -92,7 +92,8 @@ last_in (f ∷ table) o (suc n) size = last_in table o n (omega (arith, size))
 
 module _ (t : Numbering) where
   -- a line more
-  pub known_more : (table : List (Option Expr)) (o : Option Expr) (known : Known) → IsKnown t table known → IsKnown t (table ++ o ∷ []) known
+  pub known_more : (table : List (Option Expr)) (o : Option Expr) (known : Known) → IsKnown t table known →
+      IsKnown t (table ++ o ∷ []) known
   known_more table o known are n entry is =
       let one = are n entry is in
       record {

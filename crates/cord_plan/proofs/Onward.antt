@@ -93,7 +93,8 @@ module _ (s : List Statement) (none : NoBlocks s) where
   module _ (x : List ℕ) where
     -- a path from a place reads x where the lines from there do
     path_reads : (p : ℕ) (path : List ℕ) → ReadBy s x p path → later_in (drop p s) x ≡ true
-    path_reads p [] r = lines_from s p x ∙ flow_read (reads_at (slice_get s p) x) (later_in (drop (suc p) s) x) (assigns_at (slice_get s p) x) r
+    path_reads p [] r =
+        lines_from s p x ∙ flow_read (reads_at (slice_get s p) x) (later_in (drop (suc p) s) x) (assigns_at (slice_get s p) x) r
     path_reads p (q ∷ path) r =
         let on : q ≡ p + 1 = next_is p q (slice_get s p) refl r.1 in
         let same : suc p ≡ q = omega (arith, on) in

@@ -75,7 +75,8 @@ module _ (t : Numbering) (w : Option ℕ) where
         by_place m e (inr differ) =
             set_apart places n m w differ
             ∙ (unput w (slice_get places m)
-            ∙ ap (λ (v : Bool). option_map (λ o. if v then w else o) (slice_get places m)) (sym (other_name m e differ (bytes_eq x y) refl)))
+            ∙ ap (λ (v : Bool). option_map (λ o. if v then w else o) (slice_get places m))
+            (sym (other_name m e differ (bytes_eq x y) refl)))
 
         by_number : (o : Option ℕ) → number_of t x ≡ o → entry_at (set places n w) o
             ≡ option_map (λ q. if bytes_eq x y then w else q) (entry_at places o)

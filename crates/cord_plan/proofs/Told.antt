@@ -87,7 +87,8 @@ module _ (s : List Statement) (t : Numbering) (table : List Successors) (groups 
     some_none [] = refl
     some_none (q ∷ qs) = some_none qs
 
-    told_unread : (p : ℕ) (v : Bool) → has (names_of t) x ≡ v → tells_of table groups (number_of t x) p ≡ false → (q : ℕ) → Next (map shape_of s) p q →
+    told_unread : (p : ℕ) (v : Bool) → has (names_of t) x ≡ v → tells_of table groups (number_of t x) p ≡ false → (q : ℕ) →
+        Next (map shape_of s) p q →
         (path : List ℕ) → ReadBy s x q path → ⊥
     told_unread p false known e q next path r =
         let known_too : has (names_of t) x ≡ true = path_known q path r in
@@ -101,7 +102,8 @@ module _ (s : List Statement) (t : Numbering) (table : List Successors) (groups 
         let bad : ⊥ = cc in
         bad
 
-    read_found : (p : ℕ) → IsLive s x (live_of t groups x) → Found (λ q. at (live_of t groups x) q) (map shape_of s) p (Next (map shape_of s) p) →
+    read_found : (p : ℕ) → IsLive s x (live_of t groups x) →
+        Found (λ q. at (live_of t groups x) q) (map shape_of s) p (Next (map shape_of s) p) →
         ReadLater s x p
     read_found p live found =
         let rest : (path : List ℕ) × ReadBy s x found.place path = live.partly.found found.place found.true_there in
@@ -118,7 +120,8 @@ module _ (s : List Statement) (t : Numbering) (table : List Successors) (groups 
         read_found p (live known) (shape_found (λ q. at (live_of t groups x) q) (map shape_of s) p (slice_get (map shape_of s) p) held)
 
     -- a table that has the names that lines read tells exactly what is read later
-    pub tells_at_all : (p : ℕ) → (tells_of table groups (number_of t x) p ≡ false → Unread s x p) × (tells_of table groups (number_of t x) p ≡ true → ReadLater s x p)
+    pub tells_at_all : (p : ℕ) → (tells_of table groups (number_of t x) p ≡ false → Unread s x p) ×
+        (tells_of table groups (number_of t x) p ≡ true → ReadLater s x p)
     tells_at_all p = (λ e. told_unread p (has (names_of t) x) refl e, λ e. told_read p (has (names_of t) x) refl e)
 
   pub tells_exactly : IsLater s (λ x p. tells_of table groups (number_of t x) p)

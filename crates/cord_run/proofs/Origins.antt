@@ -59,7 +59,8 @@ turns_go_on entries es old from all others now next split s a = record {
 
 -- those that are left give these pieces
 pub turns_added : (entries : List Entry) (es : Exprs) (old : List (Option Node)) (left_over : Exprs) (now next : List (Option Node)) →
-    TurnsSoFar entries es old left_over now → AddsInTurn entries (origins_of left_over) now next → AddsInTurn entries (origins_of es) old next
+    TurnsSoFar entries es old left_over now → AddsInTurn entries (origins_of left_over) now next →
+    AddsInTurn entries (origins_of es) old next
 turns_added entries es old left_over now next s a = record {
   added = s.added ++ a.added;
   is = a.is ∙ ap (λ (ps : List (Option Node)). ps ++ a.added) s.is ∙ append_assoc old s.added a.added;

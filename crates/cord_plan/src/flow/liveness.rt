@@ -8,7 +8,8 @@ ghost use Rattle.cord_plan.specs.Unread.{IsLater, successors, some_of};
 ghost use Rattle.cord_plan.specs.inner.Marks.{bit, column, room, IsBit};
 ghost use Rattle.cord_plan.specs.inner.Numbering.{AllHints, Covers, IsHint, names_of, number_of};
 ghost use Rattle.cord_plan.specs.inner.Ahead.{flow, later_in};
-ghost use Rattle.cord_plan.specs.inner.Liveness.{places, places_at, ArePaths, at, tells, tells_of, IsFound, IsTold, AllTold};
+ghost use Rattle.cord_plan.specs.inner.Liveness.{places, places_at, ArePaths, at, tells, tells_of};
+ghost use Rattle.cord_plan.specs.inner.Liveness.{IsFound, IsTold, AllTold};
 ghost use Rattle.cord_plan.specs.inner.Liveness.{AreAssigned, ArePartly, AreLive, AllLive, column_of};
 ghost use Rattle.cord_plan.specs.inner.Choices.{simple_operands};
 

@@ -1,6 +1,6 @@
 // What stands for the operands of a line: their names, or expressions of earlier lines.
-ghost use Rattle.std.specs.Prelude.{◌≡◌, ◌==◌, ◌+◌, ◌<◌, ◌≤◌, ◌++◌, ◌∷◌, ℕ, List, Option, Some, ◌||◌, IfOk, IfSome, drop, length};
-ghost use Rattle.std.specs.Prelude.{map, not, option_map, slice_get};
+ghost use Rattle.std.specs.Prelude.{◌≡◌, ◌==◌, ◌+◌, ◌<◌, ◌≤◌, ◌++◌, ◌∷◌, ◌||◌, ℕ, List, Option, Some};
+ghost use Rattle.std.specs.Prelude.{IfOk, IfSome, drop, length, map, not, option_map, slice_get};
 ghost use Rattle.cord_plan.specs.Exprs as plain;
 ghost use Rattle.cord_plan.specs.Exprs.{names, name, parts};
 ghost use Rattle.cord_plan.specs.declared.flow.numbering.Numbering.{Numbering};

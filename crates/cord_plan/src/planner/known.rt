@@ -191,8 +191,9 @@ impl Known {
     /// Notes the expression of a line, where this stands for its operand.
     pub(crate) fn note_one(&mut self, line: &Line, choice: &Choice)
         ensures { (t : Numbering) (table : List (Option plain.Expr)) (x : List ℕ) → IsKnown t table self.old →
-            length table ≡ line.now.place → IsHint t x line.now.numbers.first → IsFrom table x (choice_view choice.now) →
-            IsKnown t (table ++ expr_with line.now.statement.now (expr_of (choice_view choice.now) ∷ []) ∷ []) self.new }
+            length table ≡ line.now.place → IsHint t x line.now.numbers.first →
+            IsFrom table x (choice_view choice.now) → IsKnown t (table ++ expr_with line.now.statement.now
+            (expr_of (choice_view choice.now) ∷ []) ∷ []) self.new }
     {
         let facts = self.of_one(line.statement, choice, line.numbers.first);
         self.note(line.numbers.target, line.place, facts);

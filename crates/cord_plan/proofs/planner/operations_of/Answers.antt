@@ -69,7 +69,8 @@ loop-place-init c = record {
   room = omega (arith, c.in_ok-operations.ensures.len, c.in_ok-operations.ensures.capacity);
   later = c.in_ok-recent.ensures.later;
   recent = c.in_ok-recent.ensures.recent c.args.statements.now;
-  known = c.in_ok-known.ensures c.args.later.now.numbering (map operation_expression (map operation_view c.in_ok-operations.operations.items));
+  known = c.in_ok-known.ensures c.args.later.now.numbering
+      (map operation_expression (map operation_view c.in_ok-operations.operations.items));
 }
 
 pub returns-clause-made : goal.returns-clause-made

@@ -32,7 +32,8 @@ pub returns : goal.returns
 returns c =
     let none : c.args.line.now.place - c.loop-p.p ≡ 0 = omega arith in
     sym (c.loop-p.invariant
-    ∙ ap (λ (n : ℕ). each_from (λ m. preserves (slice_get c.args.line.now.statements.now m) (names (expr_view c.args.expression.now))) n c.loop-p.p)
+    ∙ ap (λ (n : ℕ).
+    each_from (λ m. preserves (slice_get c.args.line.now.statements.now m) (names (expr_view c.args.expression.now))) n c.loop-p.p)
     none)
 
 pub preserves-requires : goal.preserves-requires

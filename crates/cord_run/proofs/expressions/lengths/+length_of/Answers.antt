@@ -47,7 +47,8 @@ length_after-loop-member-preserved t c =
           ∙ ap (λ (n : ℕ). Ok n) (sym w.with_length-known.ensures.len) in
           record {
             extent = c.loop-member.invariant.extent
-                ∙ member_counted entries ms i c.member-item.result c.loop-member-test.true c.member-item.is c.loop-member.total len (seen ∙ told)
+                ∙ member_counted entries ms i c.member-item.result c.loop-member-test.true c.member-item.is c.loop-member.total len
+                (seen ∙ told)
                 ∙ ap (λ (n : ℕ). counted n left) (sym (w.total-is ∙ w.saturating_add-total.ensures));
             small = search rules;
             known = subst (λ (last : Option Named). IfSome last (λ known. known.len ≡ length_in entries known.name.now)) (sym w.last-is)

@@ -7,4 +7,5 @@ range_slice-requires c = (expr_view c.args.expression.now, some_is _ c.args.rang
 
 pub returns-in-Some : goal.returns-in-Some
 returns-in-Some c = still_some c.range_slice.result
-    (λ slice is. is (expr_view c.args.expression.now) (some_is _ c.args.range c.in-Some.range c.in-Some.is c.requires)) c.range_slice.ensures
+    (λ slice is. is (expr_view c.args.expression.now) (some_is _ c.args.range c.in-Some.range c.in-Some.is c.requires))
+    c.range_slice.ensures

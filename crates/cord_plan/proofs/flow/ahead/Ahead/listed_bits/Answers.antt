@@ -14,7 +14,8 @@ loop-index-preserved c =
     let k = c.loop-index.index in
     let x = c.index-names-index.result in
     let there : slice_get xs k ≡ Some x = slice_get_read xs (length xs) k x refl c.loop-index-test.true c.index-names-index.is in
-    bits_more (λ y. ahead_of c.args.self.now y) xs k c.loop-index.bits c.operand_bit-bits.result x c.has_name.result there c.has_name.ensures
+    bits_more (λ y. ahead_of c.args.self.now y) xs k c.loop-index.bits c.operand_bit-bits.result x c.has_name.result there
+    c.has_name.ensures
     c.operand_bit-bits.ensures c.loop-index.invariant
 
 pub returns-then-index-ge-OPERANDS : goal.returns-then-index-ge-OPERANDS
