@@ -24,7 +24,7 @@ use Rattle.cord_plan.specs.Meaning.{Held, Text, Long, Holding, held_length, gets
 use Rattle.cord_plan.specs.Conditions.{Decisions, is_simple, is_simple_at, makes_cord, assigns_other_at, stands, stands_by, IsForced}
 use Rattle.cord_plan.specs.Conditions.{MeetsConditions}
 use Rattle.cord_plan.proofs.Evaluation.{In, value_same, cords_named}
-use Rattle.cord_plan.proofs.Barriers.{bars, Barred, next_barred}
+use Rattle.cord_plan.proofs.BlockLines.{is_block_or_none, IsByBlock, next_by_block}
 
 -- the plan has the text, or its length where there is a reason why the text isn't needed
 abbrev pub HeldAs : Type 0 → Held → List ℕ → Type 0
@@ -136,35 +136,35 @@ module _ (s : List Statement) (d : Decisions) (ok : MeetsConditions s d) (limit 
       pick (Some l) f = (l, f, simple_shape l (ap is_simple_at (sym f) ∙ e))
 
   -- a simple line is no block's
-  simple_not_barred : (m : ℕ) → is_simple_at (slice_get s m) ≡ true → bars (slice_get shapes m) ≡ true → ⊥
-  simple_not_barred m e b =
+  simple_not_block : (m : ℕ) → is_simple_at (slice_get s m) ≡ true → is_block_or_none (slice_get shapes m) ≡ true → ⊥
+  simple_not_block m e b =
       let w = simple_line m e in
-      let open_here : bars (slice_get shapes m) ≡ false = ap bars (shape_at m (Some w.0) w.1) ∙ ap is_block w.2 in
-      not_both (bars (slice_get shapes m)) b open_here
+      let open_here : is_block_or_none (slice_get shapes m) ≡ false = ap is_block_or_none (shape_at m (Some w.0) w.1) ∙ ap is_block w.2 in
+      not_both (is_block_or_none (slice_get shapes m)) b open_here
 
   -- nor is one between the lines of a pair
-  between_not_barred : (a b m : ℕ) (x : List ℕ) → IsForced s d a b x → a < m → m < b → bars (slice_get shapes m) ≡ true → ⊥
-  between_not_barred a b m x fd low high bar =
+  between_not_block : (a b m : ℕ) (x : List ℕ) → IsForced s d a b x → a < m → m < b → is_block_or_none (slice_get shapes m) ≡ true → ⊥
+  between_not_block a b m x fd low high bar =
       let last = simple_line b fd.second in
       let within : b < length s = slice_get_within s b last.0 last.1 in
       let here = some_here s m (omega arith) in
       let line : slice_get s m ≡ Some here.0 = at_here s m here.0 here.1 here.2 in
-      let open_here : bars (slice_get shapes m) ≡ false =
-      ap bars (shape_at m (Some here.0) line) ∙ ap is_block_at (sym line) ∙ fd.straight m low high in
-      not_both (bars (slice_get shapes m)) bar open_here
+      let open_here : is_block_or_none (slice_get shapes m) ≡ false =
+      ap is_block_or_none (shape_at m (Some here.0) line) ∙ ap is_block_at (sym line) ∙ fd.straight m low high in
+      not_both (is_block_or_none (slice_get shapes m)) bar open_here
 
   -- a pair is not under way at a place that control enters otherwise than from the line before
-  pub barred_out : (q a b : ℕ) (x : List ℕ) → Barred shapes q → InFlight q a b x → ⊥
-  barred_out q a b x (inl bar) fl =
+  pub by_block_out : (q a b : ℕ) (x : List ℕ) → IsByBlock shapes q → InFlight q a b x → ⊥
+  by_block_out q a b x (inl bar) fl =
       let fd : IsForced s d a b x = ok.forced a b x fl.from in
-      ⊎_elim (λ (e : q ≡ b). simple_not_barred q (subst (λ (n : ℕ). is_simple_at (slice_get s n) ≡ true) (sym e) fd.second) bar)
-      (λ (lt : q < b). between_not_barred a b q x fd fl.before lt bar) (eq-or-lt_of_le fl.until)
-  barred_out q a b x (inr w) fl =
+      ⊎_elim (λ (e : q ≡ b). simple_not_block q (subst (λ (n : ℕ). is_simple_at (slice_get s n) ≡ true) (sym e) fd.second) bar)
+      (λ (lt : q < b). between_not_block a b q x fd fl.before lt bar) (eq-or-lt_of_le fl.until)
+  by_block_out q a b x (inr w) fl =
       let fd : IsForced s d a b x = ok.forced a b x fl.from in
       let low : a ≤ w.0 = omega (arith, fl.before, w.1) in
       let high : w.0 < b = omega (arith, fl.until, w.1) in
-      ⊎_elim (λ (e : a ≡ w.0). simple_not_barred w.0 (subst (λ (n : ℕ). is_simple_at (slice_get s n) ≡ true) e fd.first) w.2)
-      (λ (lt : a < w.0). between_not_barred a b w.0 x fd lt high w.2) (eq-or-lt_of_le low)
+      ⊎_elim (λ (e : a ≡ w.0). simple_not_block w.0 (subst (λ (n : ℕ). is_simple_at (slice_get s n) ≡ true) e fd.first) w.2)
+      (λ (lt : a < w.0). between_not_block a b w.0 x fd lt high w.2) (eq-or-lt_of_le low)
 
   plain_next : (sh : Shape) (p q : ℕ) → is_block sh ≡ false → NextOf shapes p (Some sh) q → q ≡ p + 1
   plain_next Simple p q e n = n
@@ -213,7 +213,7 @@ module _ (s : List Statement) (d : Decisions) (ok : MeetsConditions s d) (limit 
         held = λ y. held_on (Spare y p) (Spare y q) (h.held y) (f.texts y) (spare_on y p q (unset y) n) (inv.held y);
         numbers = inv.numbers;
         extensibles = inv.extensibles;
-        flight = λ a b y fl. absurd (barred_out q a b y (next_barred shapes p q x at k n) fl);
+        flight = λ a b y fl. absurd (by_block_out q a b y (next_by_block shapes p q x at k n) fl);
       }
 
   -- ---- a line that gives a text to a name

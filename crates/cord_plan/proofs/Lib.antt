@@ -7,7 +7,7 @@ pub mod Does
 pub mod Controls
 pub mod Trivial
 pub mod Stays
-pub mod Barriers
+pub mod BlockLines
 pub mod Keeping
 pub mod Decided
 pub mod Beside

@@ -37,11 +37,11 @@ module _ (s : List Statement) (x : List ℕ) where
   abbrev pub clear : ℕ → Bool
   clear m = not (is_block_at (slice_get s m)) && not (reads_at (slice_get s m) x)
 
-  abbrev barred : ℕ → Bool
-  barred m = is_block_at (slice_get s m) || reads_at (slice_get s m) x
+  abbrev stopped : ℕ → Bool
+  stopped m = is_block_at (slice_get s m) || reads_at (slice_get s m) x
 
-  clear_or_barred : (m : ℕ) → clear m ≡ not (barred m)
-  clear_or_barred m = pick (is_block_at (slice_get s m)) (reads_at (slice_get s m) x)
+  clear_or_stopped : (m : ℕ) → clear m ≡ not (stopped m)
+  clear_or_stopped m = pick (is_block_at (slice_get s m)) (reads_at (slice_get s m) x)
     where
       pick : (v w : Bool) → (not v && not w) ≡ not (v || w)
       pick true w = refl
@@ -75,21 +75,21 @@ module _ (s : List Statement) (x : List ℕ) where
       over (Some a) f free told =
           (on f ∙ told.0, step p a (setter_is s x p a told.0).before ∙ (ap (λ (v : Bool). v && clear p) told.1 ∙ free))
 
-      here : (v : Bool) → barred p ≡ v → assigns_at (slice_get s p) x ≡ false → Told p (nearest s x p) →
+      here : (v : Bool) → stopped p ≡ v → assigns_at (slice_get s p) x ≡ false → Told p (nearest s x p) →
           Told (suc p) (if v then None else nearest s x p)
       here true e f told = λ a set.
           (let before : setter s x p ≡ Some a = sym (on f) ∙ set in
-          let shut : clear p ≡ false = clear_or_barred p ∙ ap not e in
+          let shut : clear p ≡ false = clear_or_stopped p ∙ ap not e in
           step p a (setter_is s x p a before).before ∙ (ap (λ (v : Bool). each_from clear (p - (a + 1)) (a + 1) && v) shut
           ∙ and-false (each_from clear (p - (a + 1)) (a + 1))))
-      here false e f told = over (nearest s x p) f (clear_or_barred p ∙ ap not e) told
+      here false e f told = over (nearest s x p) f (clear_or_stopped p ∙ ap not e) told
 
       pick : (v : Bool) → assigns_at (slice_get s p) x ≡ v → Told p (nearest s x p) →
-          Told (suc p) (if v then Some p else (if barred p then None else nearest s x p))
+          Told (suc p) (if v then Some p else (if stopped p then None else nearest s x p))
       pick true f told =
           let none : suc p - (p + 1) ≡ 0 = omega arith in
           (ap (λ (v : Bool). if v then Some p else setter s x p) f, ap (λ (n : ℕ). each_from clear n (p + 1)) none)
-      pick false f told = here (barred p) refl f told
+      pick false f told = here (stopped p) refl f told
 
 module _ (s : List Statement) (later : List ℕ → ℕ → Bool) (t : Table) (b : ℕ) (l : Statement) (x : List ℕ) (before after : List Expr) where
   -- where there is no nearest line, the operand stands by its name

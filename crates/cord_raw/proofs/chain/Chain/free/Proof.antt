@@ -62,10 +62,10 @@ abbrev stayed : Stays f.ended.signature.params f.ended.kept
 stayed = (stay_dropped (plain (λ _. C)) yes, (stay_dropped (plain (λ _. heap.the_row)) yes, tt))
 
 -- the blocks that are left, and where the first of them lies
-abbrev Left : Type 0
-Left = (p : Ptr) × (bs : List Block) × (length bs < 2 ^ 64)
+abbrev Remaining : Type 0
+Remaining = (p : Ptr) × (bs : List Block) × (length bs < 2 ^ 64)
 
-abbrev Nearer : Left → Left → Type 0
+abbrev Nearer : Remaining → Remaining → Type 0
 Nearer t u = length t.1 < length u.1
 
 abbrev turn : Body
@@ -84,10 +84,10 @@ module _ {M : Type 1} (𝓤 : Ura M) (𝓛 : Logic 𝓤) (𝓜 : Model 𝓤 𝓛
     abbrev En : Env 𝓤 H
     En = env code.function.locals l
 
-    abbrev Now : Left → List (Item 𝓤)
+    abbrev Now : Remaining → List (Item 𝓤)
     Now t = ‵ (links t.0 t.1) ∷ tokens α β ∷ holding 𝓛 En ((2, handle_val) ∷ (5, ptr_val t.0) ∷ (6, vint w64 (length t.1)) ∷ [])
 
-    abbrev Turned : Left → Out → SProp 𝓤
+    abbrev Turned : Remaining → Out → SProp 𝓤
     Turned t = after_turn 𝓤 H (Below 𝓛 Nearer Now t)
         (after_block 𝓤 H (after_seq 𝓤 H (Wp 𝓤 H 𝓣.C 𝓣.Λ En (after 5 code.function.body) (at_return 𝓤 H En Post)) (at_return 𝓤 H En Post)))
 
@@ -104,7 +104,7 @@ module _ {M : Type 1} (𝓤 : Ura M) (𝓛 : Logic 𝓤) (𝓜 : Model 𝓤 𝓛
         group ! 3 $ done !)
     turns null_ptr (x ∷ xs) few = fsplit ! $ fsplit ! $ keep ! (0 ∷ []) $ by ! (never_e 𝓤 _)
     turns (block_ptr b o) (x ∷ xs) few =
-        let here : Left = (block_ptr b o, x ∷ xs, few) in let many : ℕ = suc (length xs) in let one : 1 ≤ many = omega arith in
+        let here : Remaining = (block_ptr b o, x ∷ xs, few) in let many : ℕ = suc (length xs) in let one : 1 ≤ many = omega arith in
         let fewer : length xs < 2 ^ 64 = omega (arith, few) in let fits : many - 1 < 2 ^ 64 = omega (arith, few) in
         let less : many - 1 ≡ length xs = omega arith in
         let drops = code.calls-cord_raw::Destruct++none::drop 𝓡.env wired in
@@ -175,5 +175,5 @@ free_spec 𝓤 𝓛 𝓜 𝓡 wired =
     sets ! (of_opd ! (get ! refl)) refl (Ptr-Good d.first) $ sets ! (of_opd ! (get ! refl)) refl (tt, record { fits = few_fit d }) $
     forget_but ! (env fn.locals l) (2 ∷ 5 ∷ 6 ∷ []) refl $ take_at ! 6 $ rewrite ! 0
     (λ (k : ℕ). ‵ (fat full_share (ty_int w64) (l 6) zero (vint w64 k))) many refl $ give_at ! 6 $
-    first ! $ blocks ! $ loops ! (𝓣 𝓤 𝓛 𝓜 𝓡 wired) Nearer (InvImage.wf (λ (t : Left). length t.1) lt-wf_rel.wf) (Now 𝓤 𝓛 𝓜 𝓡 wired y l α β)
+    first ! $ blocks ! $ loops ! (𝓣 𝓤 𝓛 𝓜 𝓡 wired) Nearer (InvImage.wf (λ (t : Remaining). length t.1) lt-wf_rel.wf) (Now 𝓤 𝓛 𝓜 𝓡 wired y l α β)
     (λ t. turns 𝓤 𝓛 𝓜 𝓡 wired y l α β t.0 t.1 t.2) (d.first, all, few))))))
