@@ -4,3 +4,4 @@ pub mod Parts
 pub mod Catting
 pub mod Places
 pub mod Searches
+pub mod Splices

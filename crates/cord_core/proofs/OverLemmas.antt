@@ -1,5 +1,5 @@
 -- The text of a cord over a table is that of its cells. These laws are meant for use above too.
-use Rattle.std.proofs.Common.{◌≡◌, ℕ, ◌≤◌, List, [], ◌∷◌, ◌++◌, length, map, take, drop, refl, ◌∙◌, sym, ap}
+use Rattle.std.proofs.Common.{◌≡◌, ℕ, ◌+◌, ◌≤◌, List, [], ◌∷◌, ◌++◌, length, map, take, drop, refl, ◌∙◌, sym, ap}
 use Rattle.std.specs.Prelude.{Option, Some, None}
 use Rattle.std.proofs.lemmas.List.{map-append, take-map, drop-map, length-map}
 use Rattle.cord_io.specs.Table.{Table, Lengths, length_at, HasLengths}
@@ -9,7 +9,7 @@ use Rattle.cord_node.proofs.TreeLemmas.{length-cells}
 use Rattle.cord_node.proofs.TableLemmas.{bytes-cells, AreHeldIn-append, AreHeldIn-cells, AreHeldIn-take, AreHeldIn-drop, FitsIn-cells}
 use Rattle.cord_node.proofs.TableLemmas.{FitsIn-longer, Fits-told}
 use Rattle.cord_core.specs.Cord.{text, text_len, IsCord, bytes_of, CordFitsIn, CordFits, all_text, all_bytes, AllFitIn}
-use Rattle.cord_core.specs.Equations.{HasText, IsSameText, IsCatOf, IsAppended, IsAllOf, IsSubstring}
+use Rattle.cord_core.specs.Equations.{HasText, IsSameText, IsCatOf, IsAppended, IsAllOf, IsSubstring, IsSpliced}
 
 -- the cells of a cord that fits are held
 pub AreHeldIn-text : (ls : Lengths) (c : Option Node) → CordFitsIn ls c → AreHeldIn ls (text c)
@@ -69,6 +69,20 @@ substring_over i n x c s e =
     record {
       fits = fits;
       bytes = λ t f. bytes-text t c (fits (lengths_of t) f) ∙ (rw (e, bytes-text t x f) (sym (rw (drop-map, take-map) refl)));
+    }
+
+-- what has the cells of one in the place of a range of another
+pub spliced_over : (i n : ℕ) (x y c : Option Node) → IsCord c → text c ≡ take i (text x) ++ text y ++ drop (i + n) (text x) →
+    IsSpliced i n x y c
+spliced_over i n x y c s e =
+    let fits : (ls : Lengths) → CordFitsIn ls x → CordFitsIn ls y → CordFitsIn ls c =
+    λ ls f g. CordFitsIn-text ls c s (rw e (AreHeldIn-append ls (take i (text x) ++ text y) (drop (i + n) (text x))
+    (AreHeldIn-append ls (take i (text x)) (text y) (AreHeldIn-take ls i (text x) (AreHeldIn-text ls x f)) (AreHeldIn-text ls y g))
+    (AreHeldIn-drop ls (i + n) (text x) (AreHeldIn-text ls x f)))) in
+    record {
+      fits = fits;
+      bytes = λ t f g. bytes-text t c (fits (lengths_of t) f g) ∙ (rw (e, map-append, map-append, bytes-text t x f, bytes-text t y g)
+          (sym (rw (drop-map, take-map) refl)));
     }
 
 -- the cells of cords that all fit are held

@@ -39,3 +39,9 @@ pub record IsAllOf (cords : List (Option Node)) (c : Option Node) : Type 0 where
 pub record IsSubstring (i n : ℕ) (x c : Option Node) : Type 0 where
   pub fits : (lengths : Lengths) → CordFitsIn lengths x → CordFitsIn lengths c
   pub bytes : (t : Table) → CordFits t x → bytes_of t c ≡ take n (drop i (bytes_of t x))
+
+-- c is x with y in the place of the n bytes from i on, of those that there are
+pub record IsSpliced (i n : ℕ) (x y c : Option Node) : Type 0 where
+  pub fits : (lengths : Lengths) → CordFitsIn lengths x → CordFitsIn lengths y → CordFitsIn lengths c
+  pub bytes : (t : Table) → CordFits t x → CordFits t y → bytes_of t c
+      ≡ take i (bytes_of t x) ++ bytes_of t y ++ drop (i + n) (bytes_of t x)

@@ -18,6 +18,7 @@ mod join;
 mod laws;
 mod make;
 mod part;
+mod splice;
 
 /// An immutable text of at most `MAX_LEN` bytes: nothing, or a tree of nodes, at most `MAX_DEPTH` deep.
 #[derive(Drop)]
