@@ -43,6 +43,10 @@ pub AreFrom-self : (ps : List Part) → AreFrom ps ps
 AreFrom-self [] = tt
 AreFrom-self (p ∷ ps) = (inl (IsRangeOf-self p), AreFrom-append_right ps (p ∷ []) ps (AreFrom-self ps))
 
+-- and from a list that is written as themselves
+pub AreFrom_same : (old new : List Part) → new ≡ old → AreFrom new old
+AreFrom_same old new e = rw e (AreFrom-self old)
+
 -- what stays as it is, is kept
 pub Kept-self : (ps : List Part) → Kept ps ps
 Kept-self ps = record { no_more = omega arith; from_there = AreFrom-self ps }

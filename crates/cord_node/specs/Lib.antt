@@ -2,3 +2,4 @@ pub mod Tree
 pub mod Tables
 pub mod Kept
 pub mod Occurrences
+pub mod Splices

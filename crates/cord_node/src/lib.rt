@@ -116,10 +116,13 @@ impl Node {
     }
 }
 
+mod edit;
 mod limits;
 mod make;
 mod range;
+mod replace;
 
+pub use edit::splice;
 pub use limits::limits_are;
 pub use make::{func, join, leaf, run};
 pub use range::sub_node;

@@ -1,0 +1,84 @@
+-- One text in the place of a range of another, and texts that may be none.
+use Rattle.std.specs.Prelude.{◌≡◌, ℕ, ◌+◌, ◌-◌, ◌<◌, ◌≤◌, max, List, [], ◌++◌, take, drop, Bool, true, false, Option, Some, None, option_map, ⊤}
+use Rattle.std.specs.declared.rc.Rc.{Rc}
+use Rattle.cord_node.specs.declared.Node.{Node}
+use Rattle.cord_node.specs.declared.Node.TheVariants.{Leaf, Run, Func, Cat'}
+use Rattle.cord_node.specs.Tree.{Cell, cells, len_of, depth_of, IsSound}
+use Rattle.cord_node.specs.Kept.{Part, parts, AreFrom}
+
+-- the node behind a handle, where there is one
+abbrev pub node_in : {Z : Type 0} → Option (Rc Node Z) → Option Node
+node_in handle = option_map (λ r. r.value) handle
+
+-- the text of a node, where there is one, and else no text
+abbrev pub some_cells : Option Node → List Cell
+some_cells None = []
+some_cells (Some n) = cells n
+
+-- its length
+abbrev pub some_len : Option Node → ℕ
+some_len None = 0
+some_len (Some n) = len_of n
+
+-- its depth
+abbrev pub some_depth : Option Node → ℕ
+some_depth None = 0
+some_depth (Some n) = depth_of n
+
+-- its parts
+abbrev pub some_parts : Option Node → List Part
+some_parts None = []
+some_parts (Some n) = parts n
+
+-- the node, where there is one, is sound
+abbrev pub IsSomeSound : Option Node → Type 0
+IsSomeSound None = ⊤
+IsSomeSound (Some n) = IsSound n
+
+-- it is a `Cat`
+abbrev pub is_cat : Node → Bool
+is_cat (Cat' p left q right len depth mark) = true
+is_cat _ = false
+
+-- these are the sides of the node
+abbrev pub AreSides : Node → Node → Node → Type 0
+AreSides (Leaf bytes start len mark) a b = ⊥
+AreSides (Run byte len) a b = ⊥
+AreSides (Func id start len) a b = ⊥
+AreSides (Cat' p left q right len depth mark) a b = (a ≡ left) × (b ≡ right)
+
+-- what its mark stands for
+abbrev pub mark_of : Node → List Part
+mark_of (Leaf bytes start len mark) = mark
+mark_of (Run byte len) = []
+mark_of (Func id start len) = []
+mark_of (Cat' p left q right len depth mark) = mark
+
+-- the range lies inside the node, which stays and is no less deep than what comes in the range's place
+pub record Takes (from until : ℕ) (middle : Option Node) (side : Node) : Type 0 where
+  pub inside : until ≤ len_of side
+  pub stays : 0 < from + some_len middle + (len_of side - until)
+  pub deep : some_depth middle ≤ depth_of side
+
+-- the left side of the node takes the range
+abbrev pub LeftTakes : ℕ → ℕ → Option Node → Node → Type 0
+LeftTakes from until middle (Leaf bytes start len mark) = ⊥
+LeftTakes from until middle (Run byte len) = ⊥
+LeftTakes from until middle (Func id start len) = ⊥
+LeftTakes from until middle (Cat' p left q right len depth mark) = Takes from until middle left
+
+-- the right side takes it
+abbrev pub RightTakes : ℕ → ℕ → Option Node → Node → Type 0
+RightTakes from until middle (Leaf bytes start len mark) = ⊥
+RightTakes from until middle (Run byte len) = ⊥
+RightTakes from until middle (Func id start len) = ⊥
+RightTakes from until middle (Cat' p left q right len depth mark) = (len_of left ≤ from)
+    × Takes (from - len_of left) (until - len_of left) middle right
+
+-- new is old with middle in the place of the range
+pub record IsSplice (from until : ℕ) (middle : Option Node) (old new : Node) : Type 0 where
+  pub sound : IsSound new
+  pub text : cells new ≡ take from (cells old) ++ some_cells middle ++ drop until (cells old)
+  pub len : len_of new ≡ from + some_len middle + (len_of old - until)
+  pub depth : depth_of new ≤ max (depth_of old) (some_depth middle) + 2
+  pub from_there : AreFrom (parts new) (parts old ++ some_parts middle)

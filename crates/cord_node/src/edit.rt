@@ -1,0 +1,273 @@
+// Edits of a node in its place.
+ghost use Rattle.std.specs.Prelude.{◌≡◌, ◌≢◌, ℕ, ◌+◌, ◌-◌, ◌<◌, ◌≤◌, ◌++◌, max, true, IfOk, IsErr, take, drop};
+ghost use Rattle.cord_node.specs.Tree.{cells, len_of, depth_of, IsSound};
+ghost use Rattle.cord_node.specs.Kept.{parts, AreFrom};
+ghost use Rattle.cord_node.specs.Splices.{node_in, some_cells, some_len, some_depth, some_parts, IsSomeSound};
+ghost use Rattle.cord_node.specs.Splices.{Takes, LeftTakes, RightTakes, is_cat, AreSides, IsSplice};
+
+use crate::replace::{are_merged, is_short, replaced};
+use crate::{Node, join};
+use cord_io::{MAX_DEPTH, MAX_LEN};
+use cord_mark::Mark;
+use std::alloc::{AllocError, Global};
+use std::rc::Rc;
+
+// Where an edit goes on from a node: in one of its sides, or at the node itself.
+#[derive(Clone, Copy)]
+enum Way {
+    Left,
+    Right,
+    Here,
+}
+
+// Whether a side takes a range of it, and `middle` in its place: the side stays, and it is no less deep.
+#[tactic(auto, using(crate::proofs::TreeLemmas::len_positive))]
+fn takes(side: &Rc<Node>, from: u64, until: u64, middle: &Option<Rc<Node>>) -> bool
+    requires sound { IsSound side.now.value }
+    requires middle_sound { IsSomeSound (node_in middle.now) }
+    requires order { from ≤ until }
+    requires inside { until ≤ len_of side.now.value }
+    ensures { result ≡ true → Takes from until (node_in middle.now) side.now.value }
+{
+    match middle {
+        None => until - from < side.len(),
+        Some(node) => node.depth() <= side.depth(),
+    }
+}
+
+// The last part of a node.
+fn last_part(node: &Node) -> &Node {
+    let mut part = node;
+    while let Node::Cat { right, .. } = part {
+        part = right.as_ref();
+    }
+    part
+}
+
+// The first part of a node.
+fn first_part(node: &Node) -> &Node {
+    let mut part = node;
+    while let Node::Cat { left, .. } = part {
+        part = left.as_ref();
+    }
+    part
+}
+
+// Whether what comes to the seam of two sides goes to the left one: there it is merged with the part beside the seam,
+// or it isn't so on the right, where the tree is no less deep.
+fn goes_left(left: &Node, right: &Node, middle: &Option<Rc<Node>>) -> bool {
+    let is_shallower = left.depth() <= right.depth();
+    match middle {
+        Some(node) if is_short(node) => {
+            are_merged(last_part(left), node)
+                || (is_shallower && !are_merged(node, first_part(right)))
+        }
+        _ => is_shallower,
+    }
+}
+
+// The way of an edit.
+fn way_of(node: &Node, from: u64, until: u64, middle: &Option<Rc<Node>>) -> Way
+    requires sound { IsSound node.now }
+    requires middle_sound { IsSomeSound (node_in middle.now) }
+    requires order { from ≤ until }
+    requires inside { until ≤ len_of node.now }
+    ensures left { result ≡ Way.Left → LeftTakes from until (node_in middle.now) node.now }
+    ensures right { result ≡ Way.Right → RightTakes from until (node_in middle.now) node.now }
+{
+    let Node::Cat { left, right, .. } = node else {
+        return Way::Here;
+    };
+    let seam = left.len();
+    let in_left = until <= seam && takes(left, from, until, middle);
+    let in_right = seam <= from && takes(right, from - seam, until - seam, middle);
+    if in_left && (!in_right || goes_left(left, right, middle)) {
+        Way::Left
+    } else if in_right {
+        Way::Right
+    } else {
+        Way::Here
+    }
+}
+
+// What a concatenation of these two sides stores: its length, its depth and its mark.
+fn stored(left: &Rc<Node>, right: &Rc<Node>) -> (u64, u32, Mark)
+    requires left_sound { IsSound left.now.value }
+    requires right_sound { IsSound right.now.value }
+    requires within_limit { len_of left.now.value + len_of right.now.value ≤ MAX_LEN }
+    requires shallow { max (depth_of left.now.value) (depth_of right.now.value) + 1 ≤ MAX_DEPTH }
+    ensures len { result.0 ≡ len_of left.now.value + len_of right.now.value }
+    ensures depth { result.1 ≡ max (depth_of left.now.value) (depth_of right.now.value) + 1 }
+    ensures mark { result.2 ≡ parts left.now.value ++ parts right.now.value }
+{
+    let len = left.len() + right.len();
+    let depth = left.depth().max(right.depth()) + 1;
+    let mark = Mark::new(left, right);
+    (len, depth, mark)
+}
+
+// The two sides of a concatenation, which are shared.
+fn sides_of(node: &Node) -> Result<(Rc<Node>, Rc<Node>), AllocError>
+    requires { is_cat node.now ≡ true }
+    ensures { IfOk result (λ sides. AreSides node.now sides.0.value sides.1.value) }
+{
+    match node {
+        Node::Cat { left, right, .. } => {
+            let left = left.clone()?;
+            let right = right.clone()?;
+            Ok((left, right))
+        }
+        Node::Leaf { .. } => unreachable!(),
+        Node::Run { .. } => unreachable!(),
+        Node::Func { .. } => unreachable!(),
+    }
+}
+
+/// Puts `middle` in the place of the bytes from `from` up to `until`. A node that nobody else holds is changed in its
+/// place, and of one that is shared a new one is made, so what others hold stays. On the way down to the part that is
+/// changed a node costs constant time, and no memory where it is changed in its place.
+/// Refused where memory was refused: then nothing was changed.
+pub fn splice(
+    alloc: Global,
+    node: &mut Rc<Node>,
+    from: u64,
+    until: u64,
+    middle: &Option<Rc<Node>>,
+) -> Result<(), AllocError>
+    requires sound { IsSound node.old.value }
+    requires middle_sound { IsSomeSound (node_in middle.now) }
+    requires order { from ≤ until }
+    requires inside { until ≤ len_of node.old.value }
+    requires not_empty { 0 < from + some_len (node_in middle.now) + (len_of node.old.value - until) }
+    requires within_limit { from + some_len (node_in middle.now) + (len_of node.old.value - until) ≤ MAX_LEN }
+    requires shallow { max (depth_of node.old.value) (some_depth (node_in middle.now)) + 2 ≤ MAX_DEPTH }
+    ensures sound { IfOk result (λ _. IsSound node.new.value) }
+    ensures text { IfOk result (λ _. cells node.new.value
+        ≡ take from (cells node.old.value) ++ some_cells (node_in middle.now) ++ drop until (cells node.old.value)) }
+    ensures len { IfOk result (λ _. len_of node.new.value
+        ≡ from + some_len (node_in middle.now) + (len_of node.old.value - until)) }
+
+    ensures depth { IfOk result (λ _. depth_of node.new.value
+        ≤ max (depth_of node.old.value) (some_depth (node_in middle.now)) + 2) }
+    ensures from_there { IfOk result (λ _. AreFrom (parts node.new.value)
+        (parts node.old.value ++ some_parts (node_in middle.now))) }
+    ensures unchanged { IsErr result → node.new.value ≡ node.old.value }
+{
+    splice_node(alloc, node, from, until, middle)?;
+    Ok(())
+}
+
+// The same, where the node stays as it was if memory was refused.
+#[cycle(splice_node)]
+fn splice_node(
+    alloc: Global,
+    node: &mut Rc<Node>,
+    from: u64,
+    until: u64,
+    middle: &Option<Rc<Node>>,
+) -> Result<(), AllocError>
+    requires sound { IsSound node.old.value }
+    requires middle_sound { IsSomeSound (node_in middle.now) }
+    requires order { from ≤ until }
+    requires inside { until ≤ len_of node.old.value }
+    requires not_empty { 0 < from + some_len (node_in middle.now) + (len_of node.old.value - until) }
+    requires within_limit { from + some_len (node_in middle.now) + (len_of node.old.value - until) ≤ MAX_LEN }
+    requires shallow { max (depth_of node.old.value) (some_depth (node_in middle.now)) + 2 ≤ MAX_DEPTH }
+
+    ensures splice { IfOk result (λ _. IsSplice from until (node_in middle.now) node.old.value node.new.value) }
+    ensures unchanged { IsErr result → node.new ≡ node.old }
+{
+    let way = way_of(node, from, until, middle);
+    if let Way::Here = way {
+        let new = replaced(alloc, node, from, until, middle)?;
+        *node = new;
+        return Ok(());
+    }
+    match Rc::get_mut(node) {
+        Some(alone) => splice_in_place(alloc, alone, way, from, until, middle),
+        None => splice_shared(alloc, node, way, from, until, middle),
+    }
+}
+
+// The same of a node that nobody else holds, in one of its sides.
+#[cycle(splice_node)]
+fn splice_in_place(
+    alloc: Global,
+    node: &mut Node,
+    way: Way,
+    from: u64,
+    until: u64,
+    middle: &Option<Rc<Node>>,
+) -> Result<(), AllocError>
+    requires sound { IsSound node.old }
+    requires middle_sound { IsSomeSound (node_in middle.now) }
+    requires order { from ≤ until }
+    requires inside { until ≤ len_of node.old }
+    requires within_limit { from + some_len (node_in middle.now) + (len_of node.old - until) ≤ MAX_LEN }
+    requires shallow { max (depth_of node.old) (some_depth (node_in middle.now)) + 2 ≤ MAX_DEPTH }
+    requires left { way ≡ Way.Left → LeftTakes from until (node_in middle.now) node.old }
+    requires right { way ≡ Way.Right → RightTakes from until (node_in middle.now) node.old }
+    requires side { way ≢ Way.Here }
+
+    ensures splice { IfOk result (λ _. IsSplice from until (node_in middle.now) node.old node.new) }
+    ensures unchanged { IsErr result → node.new ≡ node.old }
+{
+    match node {
+        Node::Cat {
+            left,
+            right,
+            len,
+            depth,
+            mark,
+        } => {
+            match way {
+                Way::Left => splice_node(alloc, left, from, until, middle)?,
+                Way::Right => {
+                    let seam = left.len();
+                    splice_node(alloc, right, from - seam, until - seam, middle)?
+                }
+                Way::Here => unreachable!(),
+            }
+            (*len, *depth, *mark) = stored(left, right);
+            Ok(())
+        }
+        _ => unreachable!(),
+    }
+}
+
+// The same of a node that others may hold: a new one is made.
+#[cycle(splice_node)]
+fn splice_shared(
+    alloc: Global,
+    node: &mut Rc<Node>,
+    way: Way,
+    from: u64,
+    until: u64,
+    middle: &Option<Rc<Node>>,
+) -> Result<(), AllocError>
+    requires sound { IsSound node.old.value }
+    requires middle_sound { IsSomeSound (node_in middle.now) }
+    requires order { from ≤ until }
+    requires inside { until ≤ len_of node.old.value }
+    requires within_limit { from + some_len (node_in middle.now) + (len_of node.old.value - until) ≤ MAX_LEN }
+    requires shallow { max (depth_of node.old.value) (some_depth (node_in middle.now)) + 2 ≤ MAX_DEPTH }
+    requires left { way ≡ Way.Left → LeftTakes from until (node_in middle.now) node.old.value }
+    requires right { way ≡ Way.Right → RightTakes from until (node_in middle.now) node.old.value }
+    requires side { way ≢ Way.Here }
+
+    ensures splice { IfOk result (λ _. IsSplice from until (node_in middle.now) node.old.value node.new.value) }
+    ensures unchanged { IsErr result → node.new ≡ node.old }
+{
+    let (mut left, mut right) = sides_of(node)?;
+    match way {
+        Way::Left => splice_node(alloc, &mut left, from, until, middle)?,
+        Way::Right => {
+            let seam = left.len();
+            splice_node(alloc, &mut right, from - seam, until - seam, middle)?
+        }
+        Way::Here => unreachable!(),
+    }
+    let new = join(alloc, &left, &right)?;
+    *node = new;
+    Ok(())
+}

@@ -1,0 +1,171 @@
+// A node with another text in the place of a range of it.
+ghost use Rattle.std.specs.Prelude.{◌≡◌, ℕ, ◌+◌, ◌-◌, ◌<◌, ◌≤◌, ◌++◌, max, IfOk, take, drop};
+ghost use Rattle.cord_node.specs.Tree.{cells, len_of, depth_of, IsSound};
+ghost use Rattle.cord_node.specs.Kept.{parts, AreFrom, Kept};
+ghost use Rattle.cord_node.specs.Splices.{node_in, some_cells, some_len, some_depth, some_parts, IsSomeSound, IsSplice};
+
+use crate::{Node, SMALL_LEN, join, sub_node};
+use cord_io::{MAX_DEPTH, MAX_LEN};
+use std::alloc::{AllocError, Global};
+use std::rc::Rc;
+
+// The bytes from `from` up to `until`, where there are any.
+fn range_of(
+    alloc: Global,
+    node: &Rc<Node>,
+    from: u64,
+    until: u64,
+) -> Result<Option<Rc<Node>>, AllocError>
+    requires sound { IsSound node.now.value }
+    requires order { from ≤ until }
+    requires inside { until ≤ len_of node.now.value }
+    ensures sound { IfOk result (λ part. IsSomeSound (node_in part)) }
+    ensures text { IfOk result (λ part. some_cells (node_in part)
+        ≡ take (until - from) (drop from (cells node.now.value))) }
+    ensures len { IfOk result (λ part. some_len (node_in part) ≡ until - from) }
+    ensures depth { IfOk result (λ part. some_depth (node_in part) ≤ depth_of node.now.value) }
+    ensures from_there { IfOk result (λ part. AreFrom (some_parts (node_in part))
+        (parts node.now.value)) }
+{
+    if from == until {
+        return Ok(None);
+    }
+    let part = sub_node(alloc, node, from, until - from)?;
+    Ok(Some(part))
+}
+
+// A node once more, where there is one.
+fn shared(node: &Option<Rc<Node>>) -> Result<Option<Rc<Node>>, AllocError>
+    ensures { IfOk result (λ same. node_in same ≡ node_in node.now) }
+{
+    match node {
+        None => Ok(None),
+        Some(node) => {
+            let same = node.clone()?;
+            Ok(Some(same))
+        }
+    }
+}
+
+// Two texts joined, each of which may be none.
+fn joined(
+    alloc: Global,
+    left: &Option<Rc<Node>>,
+    right: &Option<Rc<Node>>,
+) -> Result<Option<Rc<Node>>, AllocError>
+    requires left_sound { IsSomeSound (node_in left.now) }
+    requires right_sound { IsSomeSound (node_in right.now) }
+    requires within_limit { some_len (node_in left.now)
+        + some_len (node_in right.now) ≤ MAX_LEN }
+    requires shallow { max (some_depth (node_in left.now))
+        (some_depth (node_in right.now)) + 1 ≤ MAX_DEPTH }
+    ensures sound { IfOk result (λ both. IsSomeSound (node_in both)) }
+    ensures text { IfOk result (λ both. some_cells (node_in both)
+        ≡ some_cells (node_in left.now) ++ some_cells (node_in right.now)) }
+    ensures len { IfOk result (λ both. some_len (node_in both)
+        ≡ some_len (node_in left.now) + some_len (node_in right.now)) }
+    ensures depth { IfOk result (λ both. some_depth (node_in both)
+        ≤ max (some_depth (node_in left.now)) (some_depth (node_in right.now)) + 1) }
+    ensures from_there { IfOk result (λ both. AreFrom (some_parts (node_in both))
+        (some_parts (node_in left.now) ++ some_parts (node_in right.now))) }
+{
+    let (Some(a), Some(b)) = (left, right) else {
+        let one = if left.is_some() {
+            shared(left)?
+        } else {
+            shared(right)?
+        };
+        return Ok(one);
+    };
+    let both = join(alloc, a, b)?;
+    Ok(Some(both))
+}
+
+// Whether a node is a leaf so short that it can be joined to one with another.
+pub fn is_short(node: &Node) -> bool {
+    match node {
+        Node::Leaf { len, .. } => *len < SMALL_LEN as u64,
+        _ => false,
+    }
+}
+
+// Whether the two are leaves that are joined to one.
+pub fn are_merged(left: &Node, right: &Node) -> bool {
+    match (left, right) {
+        (Node::Leaf { len: a, .. }, Node::Leaf { len: b, .. }) => {
+            a.saturating_add(*b) <= SMALL_LEN as u64
+        }
+        _ => false,
+    }
+}
+
+// The text of `node` with `middle` in the place of its bytes from `from` up to `until`. Where `middle` and what is
+// left behind it are one leaf together they are joined first, and else `middle` and what is left in front.
+pub fn replaced(
+    alloc: Global,
+    node: &Rc<Node>,
+    from: u64,
+    until: u64,
+    middle: &Option<Rc<Node>>,
+) -> Result<Rc<Node>, AllocError>
+    requires sound { IsSound node.now.value }
+    requires middle_sound { IsSomeSound (node_in middle.now) }
+    requires order { from ≤ until }
+    requires inside { until ≤ len_of node.now.value }
+    requires not_empty { 0 < from + some_len (node_in middle.now) + (len_of node.now.value - until) }
+    requires within_limit { from + some_len (node_in middle.now) + (len_of node.now.value - until) ≤ MAX_LEN }
+    requires shallow { max (depth_of node.now.value) (some_depth (node_in middle.now)) + 2 ≤ MAX_DEPTH }
+    ensures { IfOk result (λ new. IsSplice from until (node_in middle.now) node.now.value new.value) }
+{
+    let front = range_of(alloc, node, 0, from)?;
+    let back = range_of(alloc, node, until, node.len())?;
+    let all = joined_three(alloc, &front, middle, &back)?;
+    match all {
+        Some(new) => Ok(new),
+        None => unreachable!(),
+    }
+}
+
+// Whether the two are leaves that are joined to one, where there are two.
+fn some_merged(left: &Option<Rc<Node>>, right: &Option<Rc<Node>>) -> bool {
+    match (left, right) {
+        (Some(left), Some(right)) => are_merged(left, right),
+        _ => false,
+    }
+}
+
+// Three texts joined, each of which may be none: first the last two where they are one leaf, and else the first two.
+fn joined_three(
+    alloc: Global,
+    front: &Option<Rc<Node>>,
+    middle: &Option<Rc<Node>>,
+    back: &Option<Rc<Node>>,
+) -> Result<Option<Rc<Node>>, AllocError>
+    requires front_sound { IsSomeSound (node_in front.now) }
+    requires middle_sound { IsSomeSound (node_in middle.now) }
+    requires back_sound { IsSomeSound (node_in back.now) }
+    requires within_limit { some_len (node_in front.now) + some_len (node_in middle.now)
+        + some_len (node_in back.now) ≤ MAX_LEN }
+    requires shallow { max (max (some_depth (node_in front.now)) (some_depth (node_in middle.now)))
+        (some_depth (node_in back.now)) + 2 ≤ MAX_DEPTH }
+    ensures sound { IfOk result (λ all. IsSomeSound (node_in all)) }
+    ensures text { IfOk result (λ all. some_cells (node_in all)
+        ≡ some_cells (node_in front.now) ++ some_cells (node_in middle.now) ++ some_cells (node_in back.now)) }
+    ensures len { IfOk result (λ all. some_len (node_in all)
+        ≡ some_len (node_in front.now) + some_len (node_in middle.now) + some_len (node_in back.now)) }
+    ensures depth { IfOk result (λ all. some_depth (node_in all)
+        ≤ max (max (some_depth (node_in front.now)) (some_depth (node_in middle.now)))
+        (some_depth (node_in back.now)) + 2) }
+    ensures from_there { IfOk result (λ all. AreFrom (some_parts (node_in all))
+        (some_parts (node_in front.now) ++ some_parts (node_in middle.now) ++ some_parts (node_in back.now))) }
+{
+    if some_merged(middle, back) {
+        let back = joined(alloc, middle, back)?;
+        let all = joined(alloc, front, &back)?;
+        Ok(all)
+    } else {
+        let front = joined(alloc, front, middle)?;
+        let all = joined(alloc, &front, back)?;
+        Ok(all)
+    }
+}
