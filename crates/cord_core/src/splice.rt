@@ -1,12 +1,14 @@
 // Edits of a cord.
-ghost use Rattle.std.specs.Prelude.{◌≡◌, ℕ, ◌+◌, ◌-◌, ◌<◌, ◌≤◌, ◌++◌, min, take, drop, IfOk, OnOk, IfErr, IsErr, Err};
-ghost use Rattle.cord_node.specs.Kept.{AreFrom};
-ghost use Rattle.cord_core.specs.Cord.{text, text_len, parts_of, IsCord};
+ghost use Rattle.std.specs.Prelude.{◌≡◌, ℕ, ◌+◌, ◌-◌, ◌<◌, ◌≤◌, ◌++◌, min, max, true, take, drop, IfOk, OnOk, IfErr, IsErr, IsOkUnless};
+ghost use Rattle.std.specs.Prelude.{Err};
+ghost use Rattle.cord_node.specs.Kept.{AreFrom, Kept};
+ghost use Rattle.cord_core.specs.Cord.{text, text_len, depth, parts_of, IsCord};
 ghost use Rattle.cord_core.specs.Equations.{IsSpliced};
 ghost use Rattle.cord_core.specs.Refusals.{IsRefusal};
 
 use crate::Cord;
-use cord_io::{CordError, MAX_LEN};
+use cord_io::{CordError, MAX_DEPTH, MAX_LEN};
+use cord_node::splice;
 use std::alloc::Global;
 
 impl Cord {
@@ -36,35 +38,131 @@ impl Cord {
             + (text_len self.old - (start + count)) ≤ MAX_LEN) }
         ensures refused { IfErr result IsRefusal }
     {
-        let changed = spliced(alloc, self, start, count, middle)?;
-        *self = changed;
+        let len = self.len();
+        let from = start.min(len);
+        let until = start.saturating_add(count).min(len);
+        if from + middle.len() + (len - until) > MAX_LEN {
+            return Err(CordError::TooLong);
+        }
+        if has_room(self, middle) {
+            splice_tree(alloc, self, from, until, middle)?;
+        } else {
+            let changed = spliced_balanced(alloc, self, from, until, middle)?;
+            *self = changed;
+        }
         Ok(())
     }
 }
 
-// The text of `cord` with `middle` in the place of the `count` bytes from `start` on.
-fn spliced(
+// Whether a node may become deeper by two where one of the trees stands in the other.
+fn has_room(cord: &Cord, middle: &Cord) -> bool
+    ensures { result ≡ true → max (depth cord.now) (depth middle.now) + 2 ≤ MAX_DEPTH }
+{
+    cord.depth().max(middle.depth()) + 2 <= MAX_DEPTH
+}
+
+// Puts `middle` in the place of the bytes from `from` up to `until`. The cord is as before where memory was refused.
+fn splice_tree(
+    alloc: Global,
+    cord: &mut Cord,
+    from: u64,
+    until: u64,
+    middle: &Cord,
+) -> Result<(), CordError>
+    requires order { from ≤ until }
+    requires inside { until ≤ text_len cord.old }
+    requires within_limit { from + text_len middle.now + (text_len cord.old - until) ≤ MAX_LEN }
+    requires shallow { max (depth cord.old) (depth middle.now) + 2 ≤ MAX_DEPTH }
+    ensures text { IfOk result (λ _. text cord.new
+        ≡ take from (text cord.old) ++ text middle.now ++ drop until (text cord.old)) }
+    ensures len { IfOk result (λ _. text_len cord.new
+        ≡ from + text_len middle.now + (text_len cord.old - until)) }
+    ensures sound { IfOk result (λ _. IsCord cord.new) }
+    ensures from_there { IfOk result (λ _. AreFrom (parts_of cord.new) (parts_of cord.old ++ parts_of middle.now)) }
+    ensures unchanged { IsErr result → cord.new ≡ cord.old }
+    ensures refused { IsOkUnless result CordError.NoMemory }
+{
+    if from == 0 && until == cord.len() {
+        let all = middle.share(alloc)?;
+        *cord = all;
+        return Ok(());
+    }
+    if from == until && middle.len() == 0 {
+        return Ok(());
+    }
+    let Some(node) = &mut cord.root else {
+        unreachable!()
+    };
+    splice(alloc, node, from, until, &middle.root)?;
+    Ok(())
+}
+
+// The same text in a tree that may become deeper by two, where one of its length can be: balanced, if this one may not.
+fn shallow(alloc: Global, cord: &Cord) -> Result<Cord, CordError>
+    ensures text { IfOk result (λ c. text c ≡ text cord.now) }
+    ensures len { IfOk result (λ c. text_len c ≡ text_len cord.now) }
+    ensures kept { IfOk result (λ c. Kept (parts_of cord.now) (parts_of c)) }
+    ensures refused { IsOkUnless result CordError.NoMemory }
+{
+    if cord.depth() + 2 <= MAX_DEPTH {
+        let same = cord.share(alloc)?;
+        Ok(same)
+    } else {
+        let balanced = cord.balance(alloc)?;
+        Ok(balanced)
+    }
+}
+
+// The text of `cord` with `middle` in the place of the bytes from `from` up to `until`, where a tree is too deep to be
+// changed in its place.
+fn spliced_balanced(
     alloc: Global,
     cord: &Cord,
-    start: u64,
-    count: u64,
+    from: u64,
+    until: u64,
     middle: &Cord,
 ) -> Result<Cord, CordError>
+    requires order { from ≤ until }
+    requires inside { until ≤ text_len cord.now }
+    requires within_limit { from + text_len middle.now + (text_len cord.now - until) ≤ MAX_LEN }
     ensures text { IfOk result (λ c. text c
-        ≡ take start (text cord.now) ++ text middle.now ++ drop (start + count) (text cord.now)) }
-    ensures len { IfOk result (λ c. text_len c
-        ≡ min start (text_len cord.now) + text_len middle.now + (text_len cord.now - (start + count))) }
+        ≡ take from (text cord.now) ++ text middle.now ++ drop until (text cord.now)) }
+    ensures len { IfOk result (λ c. text_len c ≡ from + text_len middle.now + (text_len cord.now - until)) }
     ensures sound { IfOk result IsCord }
     ensures from_there { IfOk result (λ c. AreFrom (parts_of c) (parts_of cord.now ++ parts_of middle.now)) }
-
-    ensures too_long { result ≡ Err CordError.TooLong → MAX_LEN
-        < min start (text_len cord.now) + text_len middle.now + (text_len cord.now - (start + count)) }
-    ensures within_limit { OnOk result (min start (text_len cord.now) + text_len middle.now
-        + (text_len cord.now - (start + count)) ≤ MAX_LEN) }
-    ensures refused { IfErr result IsRefusal }
+    ensures refused { IsOkUnless result CordError.NoMemory }
 {
-    let front = cord.substr(alloc, 0, start)?;
-    let back = cord.substr(alloc, start.saturating_add(count), cord.len())?;
+    let mut changed = shallow(alloc, cord)?;
+    let middle = shallow(alloc, middle)?;
+    if has_room(&changed, &middle) {
+        splice_tree(alloc, &mut changed, from, until, &middle)?;
+        Ok(changed)
+    } else {
+        let rejoined = rejoined(alloc, &changed, from, until, &middle)?;
+        Ok(rejoined)
+    }
+}
+
+// The same, joined of what is left in front and behind, and of `middle` between them.
+fn rejoined(
+    alloc: Global,
+    cord: &Cord,
+    from: u64,
+    until: u64,
+    middle: &Cord,
+) -> Result<Cord, CordError>
+    requires order { from ≤ until }
+    requires inside { until ≤ text_len cord.now }
+    requires within_limit { from + text_len middle.now + (text_len cord.now - until) ≤ MAX_LEN }
+    ensures text { IfOk result (λ c. text c
+        ≡ take from (text cord.now) ++ text middle.now ++ drop until (text cord.now)) }
+    ensures len { IfOk result (λ c. text_len c ≡ from + text_len middle.now + (text_len cord.now - until)) }
+    ensures sound { IfOk result IsCord }
+    ensures from_there { IfOk result (λ c. AreFrom (parts_of c) (parts_of cord.now ++ parts_of middle.now)) }
+    ensures refused { IsOkUnless result CordError.NoMemory }
+{
+    let front = cord.substr(alloc, 0, from)?;
+    let back = cord.substr(alloc, until, cord.len())?;
     let longer = Cord::cat(alloc, &front, middle)?;
     let all = Cord::cat(alloc, &longer, &back)?;
     Ok(all)
