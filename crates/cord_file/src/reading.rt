@@ -19,6 +19,10 @@ const FIRST_ROOM: usize = 1_048_576;
 
 const LEAST_ROOM: usize = 65_536;
 
+// How many bytes of new room are cleared by one call: so few that they are cleared by plain stores, since the one
+// instruction that clears more of them is slow where pages of memory are new.
+const CLEARED: usize = 2_048;
+
 // How the blocks of a range are read.
 #[derive(Clone, Copy)]
 enum Way {
@@ -85,7 +89,12 @@ fn make_room(bytes: &mut Vec<u8>, done: usize, room: usize, len: usize) -> Resul
     if done < bytes.len() {
         return Ok(());
     }
-    bytes.resize(done + room, 0)
+    let end = done + room;
+    while bytes.len() < end {
+        let more = CLEARED.min(end - bytes.len());
+        bytes.resize(bytes.len() + more, 0)?;
+    }
+    Ok(())
 }
 
 // Fills a vector with the bytes of an opened file, by calls that have room for more than the device gave last. So what
