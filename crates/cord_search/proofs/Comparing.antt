@@ -10,7 +10,7 @@ use Rattle.std.specs.declared.cmp.Ordering.TheVariants.{Less, Equal, Greater}
 use Rattle.std.proofs.Math.Seq.{take-add}
 use Rattle.std.proofs.lemmas.Bool.{ltb-false, eqb-true, eqb-false}
 use borrow.Author.Tests.{ltb-true}
-use Rattle.std.proofs.lemmas.List.{take_all, take-take, drop-drop, length-take-le}
+use Rattle.std.proofs.lemmas.List.{take_all, take-append-drop, take-take, drop-drop, length-take-le}
 use Rattle.cord_io.specs.Table.{Table}
 use Rattle.cord_node.specs.declared.Node.{Node}
 use Rattle.cord_io.specs.declared.TheConstants.{MAX_LEN}
@@ -36,6 +36,17 @@ nat_cmp_suc a b = nat_cmp_is (suc a) (suc b) (nat_cmp a b) (up (nat_cmp a b) (ra
 cmp_front : (f u v : List ℕ) → slice_cmp nat_cmp (f ++ u) (f ++ v) ≡ slice_cmp nat_cmp u v
 cmp_front [] u v = refl
 cmp_front (b ∷ f) u v = ap (λ (r : Ordering). ordering_then r (slice_cmp nat_cmp (f ++ u) (f ++ v))) (same_byte b) ∙ cmp_front f u v
+
+-- the order of two texts is that of what comes after a front that both have
+pub cmp_behind : (xs ys : List ℕ) (n : ℕ) → take n xs ≡ take n ys →
+    slice_cmp nat_cmp (take (length xs - n) (drop n xs)) (take (length ys - n) (drop n ys)) ≡ slice_cmp nat_cmp xs ys
+cmp_behind xs ys n front =
+    let left = take_all (length xs - n) (drop n xs) (omega (arith, length-drop n xs)) in
+    let right = take_all (length ys - n) (drop n ys) (omega (arith, length-drop n ys)) in
+    ap (λ (zs : List ℕ). slice_cmp nat_cmp zs (take (length ys - n) (drop n ys))) left ∙ ap (slice_cmp nat_cmp (drop n xs)) right
+    ∙ sym (cmp_front (take n xs) (drop n xs) (drop n ys))
+    ∙ ap (λ (zs : List ℕ). slice_cmp nat_cmp zs (take n xs ++ drop n ys)) (take-append-drop n xs)
+    ∙ ap (λ (zs : List ℕ). slice_cmp nat_cmp xs (zs ++ drop n ys)) front ∙ ap (slice_cmp nat_cmp xs) (take-append-drop n ys)
 
 -- a difference in front
 cmp_decided : (u v u' v' : List ℕ) (r : Ordering) → length u ≡ length v → slice_cmp nat_cmp u v ≡ r → (r ≡ Equal → ⊥) →

@@ -7,6 +7,7 @@ mod bytes;
 mod order;
 mod periods;
 mod pieces;
+mod slices;
 mod stretches;
 mod substring;
 

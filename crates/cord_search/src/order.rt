@@ -10,6 +10,7 @@ ghost use Rattle.cord_search.specs.inner.Searches.{HasRead};
 use crate::PIECE_LEN;
 use crate::ahead::{Ahead, common_behind, look_ahead};
 use crate::pieces::first_piece;
+use crate::slices::order_of;
 use crate::stretches::are_leaves;
 use cord_core::Cord;
 use cord_io::{CordError, ReadFault, Source};
@@ -90,7 +91,7 @@ pub(crate) fn compare<S: Source>(
                 let piece = first_piece(stretch, &mut buffer, src)?;
                 let other = first_piece(other, &mut other_buffer, src)?;
                 let count = piece.len().min(other.len());
-                match piece[..count].cmp(&other[..count]) {
+                match order_of(&piece[..count], &other[..count]) {
                     Ordering::Equal => done += count as u64,
                     ordering => return Ok(ordering),
                 }

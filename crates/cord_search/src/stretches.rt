@@ -6,6 +6,7 @@ ghost use Rattle.cord_pos.specs.Stretches.{stretch_len, IsFrontOf, IsStretchOf, 
 ghost use Rattle.cord_search.specs.inner.Stretches.{is_other_run, IsWithout, IsMisfit, BeginAlike};
 
 use crate::PIECE_LEN;
+use crate::slices::order_of;
 use cord_core::{Cord, Node};
 use cord_pos::{Position, Stretch};
 use std::cmp::Ordering;
@@ -69,7 +70,7 @@ pub(crate) fn hold_same(stretch: Stretch, other: Stretch) -> bool
     ensures { result ≡ true → BeginAlike stretch.entry other.entry }
 {
     match (stretch, other) {
-        (Stretch::Bytes(left), Stretch::Bytes(right)) => match left.cmp(right) {
+        (Stretch::Bytes(left), Stretch::Bytes(right)) => match order_of(left, right) {
             Ordering::Equal => true,
             _ => false,
         },

@@ -73,7 +73,7 @@ loop-done-preserved g c = record {
       (rw (c.first_piece.ensures.read.table, c.loop-done.invariant.table) at c.in_ok-other-in-Apart.ensures.text folder kept) in
       let first : AreSame t c.args.x.now c.args.i c.args.y.now c.args.j (done + n) =
       same_on t c.args.x.now c.args.i c.args.y.now c.args.j done n piece other (omega (arith, c.min-count.ensures))
-      (omega (arith, c.min-count.ensures)) text other_text (sym c.in-Equal.is ∙ c.cmp.ensures)
+      (omega (arith, c.min-count.ensures)) text other_text (sym c.in-Equal.is ∙ c.order_of.ensures)
       (c.loop-done.invariant.same folder before) in
       alike_on lengths t c.args.x.now c.args.i c.args.y.now c.args.j (done + n) c.common_behind-done.result told c.requires.left_fits
       c.requires.right_fits c.common_behind-done.ensures.alike first;
@@ -105,7 +105,7 @@ returns-in_default-clause-order g c = λ folder kept.
     piece_within lengths t c.args.y.now other_from c.in-Apart.other 0 other_from other told c.requires.right_fits c.in-Apart.ensures.1
     (omega (arith, c.in_ok-other-in-Apart.ensures.inside)) (omega arith)
     (rw (c.first_piece.ensures.read.table, c.loop-done.invariant.table) at c.in_ok-other-in-Apart.ensures.text folder kept) in
-    different t c.args.x.now c.args.i c.args.left c.args.y.now c.args.j c.args.right done n piece other c.cmp.result
+    different t c.args.x.now c.args.i c.args.left c.args.y.now c.args.j c.args.right done n piece other c.order_of.result
     (omega (
       arith,
       c.min-count.ensures,
@@ -121,7 +121,7 @@ returns-in_default-clause-order g c = λ folder kept.
       c.min-both.ensures,
       c.loop-done-test.true,
     )) (omega (arith, c.min-count.ensures))
-    (omega (arith, c.min-count.ensures)) text other_text c.cmp.ensures c.in_default.not-Equal (c.loop-done.invariant.same folder before)
+    (omega (arith, c.min-count.ensures)) text other_text c.order_of.ensures c.in_default.not-Equal (c.loop-done.invariant.same folder before)
 
 pub returns-clause-order : goal.returns-clause-order
 returns-clause-order g c = λ folder kept.
@@ -132,6 +132,6 @@ returns-clause-order g c = λ folder kept.
     (cord_len lengths t c.args.x.now told c.requires.left_sound c.requires.left_fits) c.requires.left_inside in
     let right = range_len t c.args.y.now c.args.j c.args.right
     (cord_len lengths t c.args.y.now told c.requires.right_sound c.requires.right_fits) c.requires.right_inside in
-    rw c.cmp-2.ensures (no_different t c.args.x.now c.args.i c.args.left c.args.y.now c.args.j c.args.right c.loop-done.done
+    rw c.cmp.ensures (no_different t c.args.x.now c.args.i c.args.left c.args.y.now c.args.j c.args.right c.loop-done.done
     (omega (arith, c.min-both.ensures, c.loop-done.invariant.in_range)) (omega (arith, c.min-both.ensures, c.loop-done-test.false))
     left right (c.loop-done.invariant.same folder kept))

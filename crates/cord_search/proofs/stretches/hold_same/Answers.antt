@@ -10,4 +10,4 @@ returns-in-Equal c = λ is.
     let left = c.in-Bytes-Bytes.left.now in
     let right = c.in-Bytes-Bytes.right.now in
     same_begin c.args.stretch c.args.other left right (λ t. ap (λ (s : Stretch). stretch_bytes t s) c.in-Bytes-Bytes.is-0)
-    (λ t. ap (λ (s : Stretch). stretch_bytes t s) c.in-Bytes-Bytes.is-1) (cmp_equal left right (sym c.cmp.ensures ∙ c.in-Equal.is))
+    (λ t. ap (λ (s : Stretch). stretch_bytes t s) c.in-Bytes-Bytes.is-1) (cmp_equal left right (sym c.order_of.ensures ∙ c.in-Equal.is))
