@@ -1,34 +1,151 @@
--- Cords are put one after another, short ones first.
-use Rattle.std.proofs.Common.{◌≡◌, ◌+◌, List, ◌∷◌, ◌++◌, refl, arith, ◌∙◌, ap, subst, append_assoc}
-use Rattle.std.specs.Prelude.{Option, None}
+-- Cords are put one after another, short leaves first.
+use Rattle.std.proofs.Common.{◌≡◌, ◌<◌, ◌≤◌, ◌+◌, ◌-◌, ℕ, zero, suc, List, [], ◌∷◌, ◌++◌, drop, length, get_or, map, refl, arith, ◌∙◌, sym, ap, subst}
+use Rattle.std.proofs.Common.{append_assoc, append-nil, length-append}
+use Rattle.std.proofs.lemmas.List.{drop-drop, drop_all, length-drop, map-append, take_all, take_more}
+use Rattle.std.specs.Prelude.{Option, None, Some, take}
+use Rattle.std.specs.Rc.{rc_slice_items}
 use Rattle.cord_node.specs.declared.Node.{Node}
-use Rattle.cord_node.specs.Tree.{Cell}
-use Rattle.cord_node.specs.Kept.{Part, Kept}
-use Rattle.cord_node.proofs.KeptLemmas.{Kept-both, Kept-self, Kept-trans}
-use Rattle.cord_core.specs.Cord.{text, text_len, parts_of, all_text, all_parts}
-use Rattle.cord_core.proofs.Catting.{IsCatting}
+use Rattle.cord_node.specs.declared.Node.TheVariants.{Leaf, Run, Func, Cat'}
+use Rattle.cord_node.specs.declared.TheConstants.{SMALL_LEN}
+use Rattle.cord_node.specs.Tree.{Cell, known}
+use Rattle.cord_node.specs.Kept.{Part, leaf_part, Kept}
+use Rattle.cord_node.proofs.KeptLemmas.{IsFrom-small, Kept-both, Kept-self, Kept-trans, Kept_same}
+use Rattle.cord_core.specs.Cord.{text, text_len, parts_of, IsCord, all_text, all_len, all_parts}
+use Rattle.cord_core.specs.Forms.{IsLeafOf}
+use Rattle.cord_core.proofs.Catting.{IsCatting, catting_step}
+use Rattle.cord_core.proofs.Parts.{leaf_text, leaf_len}
+use Rattle.cord_run.specs.inner.Joins.{AreInFront, IsFrontOf}
+use Rattle.cord_run.proofs.Ranges.{all_len_more}
 
--- nothing was joined yet, and nothing is short
-pub begun : (cords : List (Option Node)) (all short : Option Node) → all ≡ None → short ≡ None → IsCatting cords (short ∷ cords) all
-begun cords all short e f = rw (e, f) (record { sound = tt; told = refl; len = omega arith; kept = Kept-self (all_parts cords) })
+-- the first so many, and those after them
+texts_split : (n : ℕ) (cs : List (Option Node)) → all_text (take n cs) ++ all_text (drop n cs) ≡ all_text cs
+texts_split zero cs = refl
+texts_split (suc n) [] = refl
+texts_split (suc n) (c ∷ cs) = append_assoc (text c) (all_text (take n cs)) (all_text (drop n cs))
+    ∙ ap (λ (xs : List Cell). text c ++ xs) (texts_split n cs)
 
--- two that are still to come have the same parts where they are joined
-kept_pair : (old before x y z rest : List Part) → Kept old (before ++ (x ++ (y ++ rest))) → Kept (x ++ y) z →
-    Kept old (before ++ (z ++ rest))
-kept_pair old before x y z rest h k =
-    let pair : Kept (x ++ (y ++ rest)) (z ++ rest) =
-    subst (λ (ps : List Part). Kept ps (z ++ rest)) (append_assoc x y rest) (Kept-both (x ++ y) rest z rest k (Kept-self rest)) in
-    Kept-trans old (before ++ (x ++ (y ++ rest))) (before ++ (z ++ rest)) h
-    (Kept-both before (x ++ (y ++ rest)) before (z ++ rest) (Kept-self before) pair)
+lengths_split : (n : ℕ) (cs : List (Option Node)) → all_len (take n cs) + all_len (drop n cs) ≡ all_len cs
+lengths_split zero cs = omega arith
+lengths_split (suc n) [] = refl
+lengths_split (suc n) (c ∷ cs) = let rest = lengths_split n cs in omega (arith, rest)
 
--- the first two that are still to come were joined
-pub joined_pair : (cords : List (Option Node)) (x y z : Option Node) (rest : List (Option Node)) (all : Option Node) →
-    IsCatting cords (x ∷ y ∷ rest) all → text z ≡ text x ++ text y → text_len z ≡ text_len x + text_len y →
-    Kept (parts_of x ++ parts_of y) (parts_of z) → IsCatting cords (z ∷ rest) all
-joined_pair cords x y z rest all i t l k = record {
-  sound = i.sound;
-  told = ap (λ (cs : List Cell). text all ++ (cs ++ all_text rest)) t
-      ∙ ap (λ (cs : List Cell). text all ++ cs) (append_assoc (text x) (text y) (all_text rest)) ∙ i.told;
-  len = omega (arith, i.len);
-  kept = kept_pair (all_parts cords) (parts_of all) (parts_of x) (parts_of y) (parts_of z) (all_parts rest) i.kept k;
+parts_split : (n : ℕ) (cs : List (Option Node)) → all_parts (take n cs) ++ all_parts (drop n cs) ≡ all_parts cs
+parts_split zero cs = refl
+parts_split (suc n) [] = refl
+parts_split (suc n) (c ∷ cs) = append_assoc (parts_of c) (all_parts (take n cs)) (all_parts (drop n cs))
+    ∙ ap (λ (ps : List Part). parts_of c ++ ps) (parts_split n cs)
+
+texts_more : (cs : List (Option Node)) (c : Option Node) → all_text (cs ++ c ∷ []) ≡ all_text cs ++ text c
+texts_more [] c = append-nil (text c)
+texts_more (x ∷ cs) c = ap (λ (xs : List Cell). text x ++ xs) (texts_more cs c) ∙ sym (append_assoc (text x) (all_text cs) (text c))
+
+parts_more : (cs : List (Option Node)) (c : Option Node) → all_parts (cs ++ c ∷ []) ≡ all_parts cs ++ parts_of c
+parts_more [] c = append-nil (parts_of c)
+parts_more (x ∷ cs) c = ap (λ (ps : List Part). parts_of x ++ ps) (parts_more cs c)
+    ∙ sym (append_assoc (parts_of x) (all_parts cs) (parts_of c))
+
+-- one leaf of few bytes has its part from any parts that there are
+pub leaf_kept : (b : List ℕ) (c : Option Node) → IsLeafOf b c → length b ≤ SMALL_LEN → (ps : List Part) → 0 < length ps → Kept ps (parts_of c)
+leaf_kept b None is few ps some = record { no_more = omega arith; from_there = tt }
+leaf_kept b (Some (Leaf bytes start len mark)) is few ps some = record {
+  no_more = omega (arith, some);
+  from_there = (IsFrom-small (leaf_part (rc_slice_items bytes) start len) ps (omega (arith, is.2, few)), tt);
 }
+leaf_kept b (Some (Run byte len)) is few ps some = absurd is
+leaf_kept b (Some (Func id start len)) is few ps some = absurd is
+leaf_kept b (Some (Cat' p left q right len depth mark)) is few ps some = absurd is
+
+module _ (cords : List (Option Node)) where
+  -- none are in front
+  pub none_in_front : (bytes : List ℕ) → bytes ≡ [] → AreInFront cords 0 bytes
+  none_in_front bytes none = rw none (record { within = omega arith; text = refl; len = refl; parts = omega arith; few = omega arith })
+
+  -- one more is
+  pub more_in_front : (n : ℕ) (c : Option Node) → n < length cords → c ≡ get_or cords n c → (bytes slice more : List ℕ) →
+      text c ≡ map known slice → text_len c ≡ length slice → 0 < length (parts_of c) → more ≡ bytes ++ slice → length more ≤ SMALL_LEN →
+      AreInFront cords n bytes → AreInFront cords (n + 1) more
+  more_in_front n c here is bytes slice more t l p grown few front =
+      let next : take (n + 1) cords ≡ take n cords ++ c ∷ [] =
+      take_more cords n c here ∙ ap (λ (d : Option Node). take n cords ++ d ∷ []) (sym is) in
+      let size : length more ≡ length bytes + length slice = ap length grown ∙ length-append bytes slice in
+      let parts : all_parts (take (n + 1) cords) ≡ all_parts (take n cords) ++ parts_of c =
+      ap all_parts next ∙ parts_more (take n cords) c in
+      let many : length (all_parts (take (n + 1) cords)) ≡ length (all_parts (take n cords)) + length (parts_of c) =
+      ap length parts ∙ length-append (all_parts (take n cords)) (parts_of c) in
+      let long : all_len (take (n + 1) cords) ≡ all_len (take n cords) + text_len c = ap all_len next ∙ all_len_more (take n cords) c in
+      record {
+        within = omega (arith, here);
+        text = ap all_text next ∙ texts_more (take n cords) c ∙ ap (λ (xs : List Cell). xs ++ text c) front.text
+            ∙ ap (λ (xs : List Cell). map known bytes ++ xs) t ∙ sym (map-append known bytes slice) ∙ ap (map known) (sym grown);
+        len = omega (arith, long, front.len, l, size);
+        parts = omega (arith, many, front.parts, p);
+        few = few;
+      }
+
+  -- they are one leaf of their bytes
+  pub leaf_in_front : (n : ℕ) (bytes : List ℕ) (leaf : Option Node) → AreInFront cords n bytes → 0 < n → IsCord leaf → IsLeafOf bytes leaf →
+      IsFrontOf cords n leaf
+  leaf_in_front n bytes leaf front some sound is = record {
+    some = some;
+    within = front.within;
+    sound = sound;
+    text = leaf_text bytes leaf is ∙ sym front.text;
+    len = leaf_len bytes leaf is ∙ sym front.len;
+    kept = leaf_kept bytes leaf is front.few (all_parts (take n cords)) (omega (arith, some, front.parts));
+  }
+
+-- the first one alone
+pub one_in_front : (cords : List (Option Node)) (c : Option Node) → 0 < length cords → c ≡ get_or cords 0 c → IsCord c → IsFrontOf cords 1 c
+one_in_front [] c some is sound = absurd (omega (arith, some))
+one_in_front (x ∷ cords) c some is sound = record {
+  some = omega arith;
+  within = omega arith;
+  sound = sound;
+  text = ap text is ∙ sym (append-nil (text x));
+  len = let same : text_len c ≡ text_len x = ap text_len is in omega (arith, same);
+  kept = Kept_same (parts_of x ++ []) (parts_of c) (ap parts_of is ∙ sym (append-nil (parts_of x)));
+}
+
+-- the first so many of those that are left become one
+grouped : (cords rest : List (Option Node)) (n : ℕ) (z all : Option Node) → IsCatting cords rest all → IsFrontOf rest n z →
+    IsCatting cords (z ∷ drop n rest) all
+grouped cords rest n z all i f =
+    let pair : Kept (all_parts rest) (parts_of z ++ all_parts (drop n rest)) =
+    subst (λ (ps : List Part). Kept ps (parts_of z ++ all_parts (drop n rest))) (parts_split n rest)
+    (Kept-both (all_parts (take n rest)) (all_parts (drop n rest)) (parts_of z) (all_parts (drop n rest)) f.kept
+    (Kept-self (all_parts (drop n rest)))) in
+    let long = lengths_split n rest in
+    record {
+      sound = i.sound;
+      told = ap (λ (xs : List Cell). text all ++ (xs ++ all_text (drop n rest))) f.text
+          ∙ ap (λ (xs : List Cell). text all ++ xs) (texts_split n rest) ∙ i.told;
+      len = omega (arith, i.len, f.len, long);
+      kept = Kept-trans (all_parts cords) (parts_of all ++ all_parts rest) (parts_of all ++ (parts_of z ++ all_parts (drop n rest)))
+          i.kept (Kept-both (parts_of all) (all_parts rest) (parts_of all) (parts_of z ++ all_parts (drop n rest))
+          (Kept-self (parts_of all)) pair);
+    }
+
+-- a slice that goes to the end
+to_end : (cords : List (Option Node)) (place : ℕ) → take (length cords - place) (drop place cords) ≡ drop place cords
+to_end cords place = let left = length-drop place cords in take_all (length cords - place) (drop place cords) (omega (arith, left))
+
+module _ (cords : List (Option Node)) (place n : ℕ) (z : Option Node)
+    (front : IsFrontOf (take (length cords - place) (drop place cords)) n z) where
+  at_place : IsFrontOf (drop place cords) n z
+  at_place = subst (λ (cs : List (Option Node)). IsFrontOf cs n z) (to_end cords place) front
+
+  -- one more front was joined
+  pub front_joined : (all next : Option Node) → IsCatting cords (drop place cords) all → IsCord next → text next ≡ text all ++ text z →
+      text_len next ≡ text_len all + text_len z → Kept (parts_of all ++ parts_of z) (parts_of next) →
+      IsCatting cords (drop (place + n) cords) next
+  front_joined all next i s t l k =
+      subst (λ (cs : List (Option Node)). IsCatting cords cs next) (drop-drop n place cords)
+      (catting_step cords z (drop n (drop place cords)) all next (grouped cords (drop place cords) n z all i at_place) s t l k)
+
+  pub front_within : place ≤ length cords → place + n ≤ length cords
+  front_within within = let left = length-drop place cords in omega (arith, at_place.within, left, within)
+
+-- all are joined
+pub joined_whole : (cords : List (Option Node)) (place : ℕ) (all : Option Node) → length cords ≤ place →
+    IsCatting cords (drop place cords) all → IsCatting cords [] all
+joined_whole cords place all past i = subst (λ (cs : List (Option Node)). IsCatting cords cs all) (drop_all place cords past) i

@@ -1,5 +1,7 @@
 // Expressions whose text is one slice of memory: a name whose cord is one leaf, or a range of one.
-ghost use Rattle.std.specs.Prelude.{◌≡◌, IfSome, Ok};
+ghost use Rattle.std.specs.Prelude.{◌≡◌, ◌<◌, IfSome, Ok, length, map};
+ghost use Rattle.cord_core.specs.Cord.{parts_of, text, text_len};
+ghost use Rattle.cord_node.specs.Tree.{known};
 ghost use Rattle.cord_plan.specs.Values.{part_of};
 ghost use Rattle.cord_plan.specs.Views.{expr_view};
 ghost use Rattle.cord_run.specs.inner.Entries.{content_in, cord_in};
@@ -49,7 +51,10 @@ fn named_slice<'a>(name: &Name, store: &'a Store) -> Option<&'a [u8]>
 /// The text of a cord, where it is one leaf.
 #[inline(always)]
 pub(crate) fn leaf_slice(cord: &Cord) -> Option<&[u8]>
-    ensures { IfSome result (λ slice. IsSliceOf cord.now slice.now) }
+    ensures is { IfSome result (λ slice. IsSliceOf cord.now slice.now) }
+    ensures text { IfSome result (λ slice. text cord.now ≡ map known slice.now) }
+    ensures len { IfSome result (λ slice. text_len cord.now ≡ length slice.now) }
+    ensures part { IfSome result (λ _. 0 < length (parts_of cord.now)) }
 {
     let Some(root) = cord.root() else {
         return None;

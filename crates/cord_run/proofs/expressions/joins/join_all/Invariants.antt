@@ -1,7 +1,13 @@
-use Rattle.std.proofs.Common.{◌∷◌, drop}
+use Rattle.std.proofs.Common.{◌≤◌, ◌-◌, length, drop}
 use Rattle.cord_core.proofs.Catting.{IsCatting}
 use Rattle.cord_run.proofs.expressions.joins.join_all.Given as goal
 
--- the text so far, the short one and the others are the whole
-abbrev pub invariant-loop-cord : goal.invariant-loop-cord
-invariant-loop-cord l = IsCatting l.cords (l.short ∷ drop l.cord-index l.cords) l.all
+-- the text so far and that of the cords that are left are the whole
+abbrev pub invariant-loop-place : goal.invariant-loop-place
+invariant-loop-place l = record {
+  catting : IsCatting l.cords (drop l.place l.cords) l.all;
+  within : l.place ≤ length l.cords;
+}
+
+abbrev pub decreases-loop-place : goal.decreases-loop-place
+decreases-loop-place l = length l.cords - l.place
