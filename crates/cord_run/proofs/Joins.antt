@@ -1,5 +1,6 @@
 -- Cords are put one after another, short leaves first.
-use Rattle.std.proofs.Common.{◌≡◌, ◌<◌, ◌≤◌, ◌+◌, ◌-◌, ℕ, zero, suc, List, [], ◌∷◌, ◌++◌, drop, length, get_or, map, refl, arith, ◌∙◌, sym, ap, subst}
+use Rattle.std.proofs.Common.{◌≡◌, ◌<◌, ◌≤◌, ◌+◌, ◌-◌, ℕ, zero, suc, List, [], ◌∷◌, ◌++◌, drop, length, get_or, map}
+use Rattle.std.proofs.Common.{refl, arith, ◌∙◌, sym, ap, subst}
 use Rattle.std.proofs.Common.{append_assoc, append-nil, length-append}
 use Rattle.std.proofs.lemmas.List.{drop-drop, drop_all, length-drop, map-append, take_all, take_more}
 use Rattle.std.specs.Prelude.{Option, None, Some, take}
@@ -45,7 +46,8 @@ parts_more (x ∷ cs) c = ap (λ (ps : List Part). parts_of x ++ ps) (parts_more
     ∙ sym (append_assoc (parts_of x) (all_parts cs) (parts_of c))
 
 -- one leaf of few bytes has its part from any parts that there are
-pub leaf_kept : (b : List ℕ) (c : Option Node) → IsLeafOf b c → length b ≤ SMALL_LEN → (ps : List Part) → 0 < length ps → Kept ps (parts_of c)
+pub leaf_kept : (b : List ℕ) (c : Option Node) → IsLeafOf b c → length b ≤ SMALL_LEN → (ps : List Part) → 0 < length ps →
+    Kept ps (parts_of c)
 leaf_kept b None is few ps some = record { no_more = omega arith; from_there = tt }
 leaf_kept b (Some (Leaf bytes start len mark)) is few ps some = record {
   no_more = omega (arith, some);

@@ -121,7 +121,8 @@ returns-in_default-clause-order g c = λ folder kept.
       c.min-both.ensures,
       c.loop-done-test.true,
     )) (omega (arith, c.min-count.ensures))
-    (omega (arith, c.min-count.ensures)) text other_text c.order_of.ensures c.in_default.not-Equal (c.loop-done.invariant.same folder before)
+    (omega (arith, c.min-count.ensures)) text other_text c.order_of.ensures c.in_default.not-Equal
+    (c.loop-done.invariant.same folder before)
 
 pub returns-clause-order : goal.returns-clause-order
 returns-clause-order g c = λ folder kept.

@@ -175,5 +175,6 @@ free_spec 𝓤 𝓛 𝓜 𝓡 wired =
     sets ! (of_opd ! (get ! refl)) refl (Ptr-Good d.first) $ sets ! (of_opd ! (get ! refl)) refl (tt, record { fits = few_fit d }) $
     forget_but ! (env fn.locals l) (2 ∷ 5 ∷ 6 ∷ []) refl $ take_at ! 6 $ rewrite ! 0
     (λ (k : ℕ). ‵ (fat full_share (ty_int w64) (l 6) zero (vint w64 k))) many refl $ give_at ! 6 $
-    first ! $ blocks ! $ loops ! (𝓣 𝓤 𝓛 𝓜 𝓡 wired) Nearer (InvImage.wf (λ (t : Remaining). length t.1) lt-wf_rel.wf) (Now 𝓤 𝓛 𝓜 𝓡 wired y l α β)
+    first ! $ blocks ! $ loops ! (𝓣 𝓤 𝓛 𝓜 𝓡 wired) Nearer (InvImage.wf (λ (t : Remaining). length t.1) lt-wf_rel.wf)
+    (Now 𝓤 𝓛 𝓜 𝓡 wired y l α β)
     (λ t. turns 𝓤 𝓛 𝓜 𝓡 wired y l α β t.0 t.1 t.2) (d.first, all, few))))))

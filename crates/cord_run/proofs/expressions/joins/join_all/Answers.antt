@@ -31,7 +31,8 @@ loop-place-preserved c = record {
 }
 
 pub returns-clause-over : goal.returns-clause-over
-returns-clause-over c = all_over c.args.cords.now c.loop-place.all c.loop-place.invariant.catting.sound (catting_end c.args.cords.now c.loop-place.all
+returns-clause-over c = all_over c.args.cords.now c.loop-place.all c.loop-place.invariant.catting.sound
+    (catting_end c.args.cords.now c.loop-place.all
     (joined_whole c.args.cords.now c.loop-place.place c.loop-place.all c.loop-place-test.false c.loop-place.invariant.catting))
 
 pub returns-clause-sound : goal.returns-clause-sound
