@@ -2,6 +2,7 @@
 mod balance;
 mod cords;
 mod devices;
+mod edits;
 mod entry;
 mod extensible;
 mod files;

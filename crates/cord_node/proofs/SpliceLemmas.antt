@@ -1,14 +1,14 @@
 -- One text in the place of a range of another.
-use Rattle.std.proofs.Common.{◌≡◌, ℕ, ◌+◌, ◌-◌, ◌≤◌, List, ◌++◌, length, take, drop, refl, arith, ◌∙◌, sym, ap, subst, append_assoc}
-use Rattle.std.proofs.Common.{length-drop}
+use Rattle.std.proofs.Common.{◌≡◌, ℕ, ◌+◌, ◌-◌, ◌≤◌, List, [], ◌++◌, length, take, drop, refl, arith, ◌∙◌, sym, ap, subst, append_assoc}
+use Rattle.std.proofs.Common.{length-drop, append-nil}
 use Rattle.std.specs.Prelude.{max, Option, Some}
-use Rattle.std.proofs.lemmas.List.{take-append-le, drop-append-le, take_all}
+use Rattle.std.proofs.lemmas.List.{take-append-le, drop-append-le, take_all, drop_all}
 use Rattle.cord_io.specs.declared.TheConstants.{MAX_LEN, MAX_DEPTH}
 use Rattle.cord_node.specs.declared.Node.{Node}
 use Rattle.cord_node.specs.declared.Node.TheVariants.{Leaf, Run, Func, Cat'}
 use Rattle.cord_node.specs.Tree.{Cell, cells, len_of, depth_of, IsSound}
 use Rattle.cord_node.specs.Kept.{Part, parts, AreFrom, Kept}
-use Rattle.cord_node.specs.Splices.{some_cells, some_len, some_depth, some_parts, IsSomeSound, Takes, LeftTakes, RightTakes, AreSides, mark_of, IsSplice}
+use Rattle.cord_node.specs.Splices.{some_cells, some_len, some_depth, some_parts, IsSomeSound, Takes, LeftTakes, RightTakes, BothTake, AreSpliced, AreSides, mark_of, IsSplice}
 use Rattle.cord_node.proofs.KeptLemmas.{AreFrom-append, AreFrom-append_left, AreFrom-append_right, AreFrom-self, AreFrom-trans}
 use Rattle.cord_node.proofs.Ranges.{take-append_right, drop-append_right}
 use Rattle.cord_node.proofs.TreeLemmas.{length-cells}
@@ -78,73 +78,117 @@ pub record IsJoined (left right node : Node) : Type 0 where
   pub depth : depth_of node ≤ max (depth_of left) (depth_of right) + 1
   pub from_there : AreFrom (parts node) (parts left ++ parts right)
 
+-- the parts of a side and of the middle are among all
+from_left : (left right middle ps : List Part) → AreFrom ps (left ++ middle) → AreFrom ps (left ++ right ++ middle)
+from_left left right middle ps h = AreFrom-trans ps (left ++ middle) (left ++ right ++ middle) h
+    (AreFrom-append left middle (left ++ right ++ middle)
+    (AreFrom-append_left left (left ++ right) middle (AreFrom-append_left left left right (AreFrom-self left)))
+    (AreFrom-append_right middle (left ++ right) middle (AreFrom-self middle)))
+
+from_right : (left right middle ps : List Part) → AreFrom ps (right ++ middle) → AreFrom ps (left ++ right ++ middle)
+from_right left right middle ps h = AreFrom-trans ps (right ++ middle) (left ++ right ++ middle) h
+    (AreFrom-append right middle (left ++ right ++ middle)
+    (AreFrom-append_left right (left ++ right) middle (AreFrom-append_right right left right (AreFrom-self right)))
+    (AreFrom-append_right middle (left ++ right) middle (AreFrom-self middle)))
+
 -- the left side was changed
-pub left_changed : (from until : ℕ) (middle : Option Node) (old left right changed new : Node) → from ≤ until →
-    HasSides old left right → Takes from until middle left → IsSplice from until middle left changed → IsJoined changed right new →
-    IsSplice from until middle old new
-left_changed from until middle old left right changed new order sides takes i joined =
-    let here : until ≤ length (cells left) = rw (length-cells left sides.left_sound) takes.inside in
+pub left_changed : (from until : ℕ) (middle : Option Node) (left right changed : Node) → from ≤ until → IsSound left → IsSound right →
+    LeftTakes from until middle left right → IsSplice from until middle left changed → AreSpliced from until middle left right changed right
+left_changed from until middle left right changed order a b takes i =
+    let here : until ≤ length (cells left) = rw (length-cells left a) takes.inside in
     let before : from ≤ length (cells left) = omega arith in
-    let front : take from (cells old) ≡ take from (cells left) =
-    ap (λ (l : List Cell). take from l) sides.text ∙ take-append-le from (cells left) (cells right) before in
-    let back : drop until (cells old) ≡ drop until (cells left) ++ cells right =
-    ap (λ (l : List Cell). drop until l) sides.text ∙ drop-append-le until (cells left) (cells right) here in
-    let all : List Part = parts left ++ parts right ++ some_parts middle in
-    let come : AreFrom (parts changed) all = AreFrom-trans (parts changed) (parts left ++ some_parts middle) all i.from_there
-    (AreFrom-append (parts left) (some_parts middle) all
-    (AreFrom-append_left (parts left) (parts left ++ parts right) (some_parts middle)
-    (AreFrom-append_left (parts left) (parts left) (parts right) (AreFrom-self (parts left))))
-    (AreFrom-append_right (some_parts middle) (parts left ++ parts right) (some_parts middle) (AreFrom-self (some_parts middle)))) in
-    let stay : AreFrom (parts right) all =
-    AreFrom-append_left (parts right) (parts left ++ parts right) (some_parts middle)
-    (AreFrom-append_right (parts right) (parts left) (parts right) (AreFrom-self (parts right))) in
+    let front : take from (cells left ++ cells right) ≡ take from (cells left) = take-append-le from (cells left) (cells right) before in
+    let back : drop until (cells left ++ cells right) ≡ drop until (cells left) ++ cells right =
+    drop-append-le until (cells left) (cells right) here in
     record {
-      sound = joined.sound;
-      text = joined.text ∙ (rw (i.text, front, back) (append_assoc (take from (cells left) ++ some_cells middle)
-          (drop until (cells left)) (cells right)));
-      len = omega (arith, joined.len, i.len, sides.len, takes.inside);
-      depth = omega (arith, joined.depth, i.depth, sides.depth, takes.deep);
-      from_there = rw sides.parts_are (AreFrom-trans (parts new) (parts changed ++ parts right) all joined.from_there
-          (AreFrom-append (parts changed) (parts right) all come stay));
+      left_sound = i.sound;
+      right_sound = b;
+      text = rw (i.text, front, back) (append_assoc (take from (cells left) ++ some_cells middle) (drop until (cells left)) (cells right));
+      len = omega (arith, i.len, takes.inside);
+      depth = omega (arith, i.depth, takes.deep);
+      from_there = AreFrom-append (parts changed) (parts right) (parts left ++ parts right ++ some_parts middle)
+          (from_left (parts left) (parts right) (some_parts middle) (parts changed) i.from_there)
+          (from_right (parts left) (parts right) (some_parts middle) (parts right)
+          (AreFrom-append_left (parts right) (parts right) (some_parts middle) (AreFrom-self (parts right))));
     }
 
 -- the right side was changed
-pub right_changed : (from until : ℕ) (middle : Option Node) (old left right changed new : Node) → from ≤ until →
-    HasSides old left right → len_of left ≤ from → Takes (from - len_of left) (until - len_of left) middle right →
-    IsSplice (from - len_of left) (until - len_of left) middle right changed → IsJoined left changed new →
-    IsSplice from until middle old new
-right_changed from until middle old left right changed new order sides past takes i joined =
-    let l : length (cells left) ≡ len_of left = length-cells left sides.left_sound in
-    let before : length (cells left) ≤ from = omega arith in
+right_changed : (from until : ℕ) (middle : Option Node) (left right changed : Node) → from ≤ until → IsSound left → IsSound right →
+    RightTakes from until middle left right → IsSplice (from - len_of left) (until - len_of left) middle right changed →
+    AreSpliced from until middle left right left changed
+right_changed from until middle left right changed order a b takes i =
+    let l : length (cells left) ≡ len_of left = length-cells left a in
+    let before : length (cells left) ≤ from = omega (arith, takes.0) in
     let here : length (cells left) ≤ until = omega arith in
-    let front : take from (cells old) ≡ cells left ++ take (from - len_of left) (cells right) =
-    ap (λ (l : List Cell). take from l) sides.text ∙ take-append_right (cells left) (cells right) from before
-    ∙ ap (λ (k : ℕ). cells left ++ take (from - k) (cells right)) l in
-    let back : drop until (cells old) ≡ drop (until - len_of left) (cells right) =
-    ap (λ (l : List Cell). drop until l) sides.text ∙ drop-append_right (cells left) (cells right) until here
-    ∙ ap (λ (k : ℕ). drop (until - k) (cells right)) l in
-    let all : List Part = parts left ++ parts right ++ some_parts middle in
-    let come : AreFrom (parts changed) all = AreFrom-trans (parts changed) (parts right ++ some_parts middle) all i.from_there
-    (AreFrom-append (parts right) (some_parts middle) all
-    (AreFrom-append_left (parts right) (parts left ++ parts right) (some_parts middle)
-    (AreFrom-append_right (parts right) (parts left) (parts right) (AreFrom-self (parts right))))
-    (AreFrom-append_right (some_parts middle) (parts left ++ parts right) (some_parts middle) (AreFrom-self (some_parts middle)))) in
-    let stay : AreFrom (parts left) all =
-    AreFrom-append_left (parts left) (parts left ++ parts right) (some_parts middle)
-    (AreFrom-append_left (parts left) (parts left) (parts right) (AreFrom-self (parts left))) in
-    let a : List Cell = take (from - len_of left) (cells right) in
+    let front : take from (cells left ++ cells right) ≡ cells left ++ take (from - len_of left) (cells right) =
+    take-append_right (cells left) (cells right) from before ∙ ap (λ (k : ℕ). cells left ++ take (from - k) (cells right)) l in
+    let back : drop until (cells left ++ cells right) ≡ drop (until - len_of left) (cells right) =
+    drop-append_right (cells left) (cells right) until here ∙ ap (λ (k : ℕ). drop (until - k) (cells right)) l in
+    let s : List Cell = take (from - len_of left) (cells right) in
     let d : List Cell = drop (until - len_of left) (cells right) in
-    let moved : cells left ++ (a ++ some_cells middle ++ d) ≡ (cells left ++ a) ++ some_cells middle ++ d =
-    sym (append_assoc (cells left) (a ++ some_cells middle) d)
-    ∙ ap (λ (l : List Cell). l ++ d) (sym (append_assoc (cells left) a (some_cells middle))) in
+    let moved : cells left ++ (s ++ some_cells middle ++ d) ≡ (cells left ++ s) ++ some_cells middle ++ d =
+    sym (append_assoc (cells left) (s ++ some_cells middle) d)
+    ∙ ap (λ (l : List Cell). l ++ d) (sym (append_assoc (cells left) s (some_cells middle))) in
     record {
-      sound = joined.sound;
-      text = joined.text ∙ (rw (i.text, front, back) moved);
-      len = omega (arith, joined.len, i.len, sides.len, takes.inside, past, order);
-      depth = omega (arith, joined.depth, i.depth, sides.depth, takes.deep);
-      from_there = rw sides.parts_are (AreFrom-trans (parts new) (parts left ++ parts changed) all joined.from_there
-          (AreFrom-append (parts left) (parts changed) all stay come));
+      left_sound = a;
+      right_sound = i.sound;
+      text = rw (i.text, front, back) moved;
+      len = omega (arith, i.len, takes.1.inside, takes.0, order);
+      depth = omega (arith, i.depth, takes.1.deep);
+      from_there = AreFrom-append (parts left) (parts changed) (parts left ++ parts right ++ some_parts middle)
+          (from_left (parts left) (parts right) (some_parts middle) (parts left)
+          (AreFrom-append_left (parts left) (parts left) (some_parts middle) (AreFrom-self (parts left))))
+          (from_right (parts left) (parts right) (some_parts middle) (parts changed) i.from_there);
     }
+
+-- both sides were changed
+both_changed : (from until : ℕ) (middle : Option Node) (left right changed rest : Node) → from ≤ until → IsSound left → IsSound right →
+    BothTake from until middle left right → IsSplice from (len_of left) middle left changed → IsSound rest →
+    cells rest ≡ take (len_of right - (until - len_of left)) (drop (until - len_of left) (cells right)) →
+    len_of rest ≡ len_of right - (until - len_of left) → depth_of rest ≤ depth_of right → Kept (parts right) (parts rest) →
+    AreSpliced from until middle left right changed rest
+both_changed from until middle left right changed rest order a b takes i s t l d k =
+    let ll : length (cells left) ≡ len_of left = length-cells left a in
+    let lr : length (cells right) ≡ len_of right = length-cells right b in
+    let before : from ≤ length (cells left) = omega (arith, takes.0) in
+    let here : length (cells left) ≤ until = omega (arith, takes.1) in
+    let front : take from (cells left ++ cells right) ≡ take from (cells left) = take-append-le from (cells left) (cells right) before in
+    let back : drop until (cells left ++ cells right) ≡ drop (until - len_of left) (cells right) =
+    drop-append_right (cells left) (cells right) until here ∙ ap (λ (k : ℕ). drop (until - k) (cells right)) ll in
+    let long : length (drop (until - len_of left) (cells right)) ≤ len_of right - (until - len_of left) =
+    rw (length-drop (until - len_of left) (cells right), lr) (omega arith) in
+    let all : cells rest ≡ drop (until - len_of left) (cells right) =
+    t ∙ take_all (len_of right - (until - len_of left)) (drop (until - len_of left) (cells right)) long in
+    let past : length (cells left) ≤ len_of left = omega arith in
+    let none : drop (len_of left) (cells left) ≡ [] = drop_all (len_of left) (cells left) past in
+    record {
+      left_sound = i.sound;
+      right_sound = s;
+      text = rw (i.text, none, all, front, back, append-nil (take from (cells left) ++ some_cells middle)) refl;
+      len = omega (arith, i.len, l, takes.0, takes.1, takes.2);
+      depth = omega (arith, i.depth, d, takes.3.deep);
+      from_there = AreFrom-append (parts changed) (parts rest) (parts left ++ parts right ++ some_parts middle)
+          (from_left (parts left) (parts right) (some_parts middle) (parts changed) i.from_there)
+          (from_right (parts left) (parts right) (some_parts middle) (parts rest)
+          (AreFrom-append_left (parts rest) (parts right) (some_parts middle) k.from_there));
+    }
+
+-- the same, where the lengths are told
+pub right_changed_at : (from until seam : ℕ) (middle : Option Node) (left right changed : Node) → seam ≡ len_of left → from ≤ until →
+    IsSound left → IsSound right → RightTakes from until middle left right →
+    IsSplice (from - seam) (until - seam) middle right changed → AreSpliced from until middle left right left changed
+right_changed_at from until seam middle left right changed at order a b takes i =
+    right_changed from until middle left right changed order a b takes
+    (subst (λ n. IsSplice (from - n) (until - n) middle right changed) at i)
+
+pub both_changed_at : (from until seam end : ℕ) (middle : Option Node) (left right changed rest : Node) → seam ≡ len_of left →
+    end ≡ len_of right → from ≤ until → IsSound left → IsSound right → BothTake from until middle left right →
+    IsSplice from seam middle left changed → IsSound rest →
+    cells rest ≡ take (end - (until - seam)) (drop (until - seam) (cells right)) → len_of rest ≡ end - (until - seam) →
+    depth_of rest ≤ depth_of right → Kept (parts right) (parts rest) → AreSpliced from until middle left right changed rest
+both_changed_at from until seam end middle left right changed rest at last order a b takes i s t l d k =
+    both_changed from until middle left right changed rest order a b takes
+    (subst (λ n. IsSplice from n middle left changed) at i) s (t ∙ (rw (at, last) refl)) (l ∙ (rw (at, last) refl)) d k
 
 -- a sound concatenation has its sides
 pub sides_are : (node left right : Node) → IsSound node → AreSides node left right → HasSides node left right
@@ -160,78 +204,8 @@ sides_are (Cat' p a q b len depth mark) left right s h = rw (h.0, h.1) (record {
   parts_are = refl;
 })
 
--- which side takes the range
-left_takes : (from until : ℕ) (middle : Option Node) (node left right : Node) → AreSides node left right →
-    LeftTakes from until middle node → Takes from until middle left
-left_takes from until middle (Leaf bytes start len mark) left right h t = absurd h
-left_takes from until middle (Run byte len) left right h t = absurd h
-left_takes from until middle (Func id start len) left right h t = absurd h
-left_takes from until middle (Cat' p a q b len depth mark) left right h t = rw h.0 t
-
-right_takes : (from until : ℕ) (middle : Option Node) (node left right : Node) → AreSides node left right →
-    RightTakes from until middle node → (len_of left ≤ from) × Takes (from - len_of left) (until - len_of left) middle right
-right_takes from until middle (Leaf bytes start len mark) left right h t = absurd h
-right_takes from until middle (Run byte len) left right h t = absurd h
-right_takes from until middle (Func id start len) left right h t = absurd h
-right_takes from until middle (Cat' p a q b len depth mark) left right h t = rw (h.0, h.1) t
-
--- the node after its left side was changed
-pub left_spliced : (from until : ℕ) (middle : Option Node) (old left right changed new : Node) → IsSound old → from ≤ until →
-    AreSides old left right → LeftTakes from until middle old → IsSplice from until middle left changed → IsJoined changed right new →
-    IsSplice from until middle old new
-left_spliced from until middle old left right changed new s order sides takes i joined =
-    left_changed from until middle old left right changed new order (sides_are old left right s sides)
-    (left_takes from until middle old left right sides takes) i joined
-
--- and after its right side was
-pub right_spliced : (from until : ℕ) (middle : Option Node) (old left right changed new : Node) → IsSound old → from ≤ until →
-    AreSides old left right → RightTakes from until middle old →
-    IsSplice (from - len_of left) (until - len_of left) middle right changed → IsJoined left changed new → IsSplice from until middle old new
-right_spliced from until middle old left right changed new s order sides takes i joined =
-    let t : (len_of left ≤ from) × Takes (from - len_of left) (until - len_of left) middle right =
-    right_takes from until middle old left right sides takes in
-    right_changed from until middle old left right changed new order (sides_are old left right s sides) t.0 t.1 i joined
-
--- how deep it is then
-pub left_shallow : (from until most : ℕ) (middle : Option Node) (old left right changed : Node) → IsSound old →
-    AreSides old left right → LeftTakes from until middle old → IsSplice from until middle left changed →
-    max (depth_of old) (some_depth middle) + 2 ≤ most → max (depth_of changed) (depth_of right) + 1 ≤ most
-left_shallow from until most middle old left right changed s sides takes i h =
-    let a : HasSides old left right = sides_are old left right s sides in
-    let t : Takes from until middle left = left_takes from until middle old left right sides takes in
-    omega (arith, a.depth, t.deep, i.depth, h)
-
-pub right_shallow : (from until most : ℕ) (middle : Option Node) (old left right changed : Node) → IsSound old →
-    AreSides old left right → RightTakes from until middle old →
-    IsSplice (from - len_of left) (until - len_of left) middle right changed →
-    max (depth_of old) (some_depth middle) + 2 ≤ most → max (depth_of left) (depth_of changed) + 1 ≤ most
-right_shallow from until most middle old left right changed s sides takes i h =
-    let a : HasSides old left right = sides_are old left right s sides in
-    let t : (len_of left ≤ from) × Takes (from - len_of left) (until - len_of left) middle right =
-    right_takes from until middle old left right sides takes in
-    omega (arith, a.depth, t.1.deep, i.depth, h)
-
--- and how long
-pub left_within : (from until most : ℕ) (middle : Option Node) (old left right changed : Node) → IsSound old →
-    AreSides old left right → LeftTakes from until middle old → IsSplice from until middle left changed →
-    from + some_len middle + (len_of old - until) ≤ most → len_of changed + len_of right ≤ most
-left_within from until most middle old left right changed s sides takes i h =
-    let a : HasSides old left right = sides_are old left right s sides in
-    let t : Takes from until middle left = left_takes from until middle old left right sides takes in
-    omega (arith, a.len, t.inside, i.len, h)
-
-pub right_within : (from until most : ℕ) (middle : Option Node) (old left right changed : Node) → IsSound old → from ≤ until →
-    AreSides old left right → RightTakes from until middle old →
-    IsSplice (from - len_of left) (until - len_of left) middle right changed →
-    from + some_len middle + (len_of old - until) ≤ most → len_of left + len_of changed ≤ most
-right_within from until most middle old left right changed s order sides takes i h =
-    let a : HasSides old left right = sides_are old left right s sides in
-    let t : (len_of left ≤ from) × Takes (from - len_of left) (until - len_of left) middle right =
-    right_takes from until middle old left right sides takes in
-    omega (arith, a.len, t.0, t.1.inside, i.len, h, order)
-
 -- a concatenation that stores what its sides say
-pub stored_joined : (node left right : Node) → AreSides node left right → IsSound left → IsSound right →
+stored_joined : (node left right : Node) → AreSides node left right → IsSound left → IsSound right →
     len_of node ≡ len_of left + len_of right → depth_of node ≡ max (depth_of left) (depth_of right) + 1 →
     mark_of node ≡ parts left ++ parts right → len_of left + len_of right ≤ MAX_LEN →
     max (depth_of left) (depth_of right) + 1 ≤ MAX_DEPTH → IsJoined left right node
@@ -239,45 +213,41 @@ stored_joined (Leaf bytes start len mark) left right sides a b l d m k h = absur
 stored_joined (Run byte len) left right sides a b l d m k h = absurd sides
 stored_joined (Func id start len) left right sides a b l d m k h = absurd sides
 stored_joined (Cat' p x q y len depth mark) left right sides a b l d m k h = record {
-  sound = (
-    subst IsSound sides.0 a,
-    subst IsSound sides.1 b,
-    rw (← sides.0, ← sides.1) l,
-    rw (← sides.0, ← sides.1) d,
-    omega (arith, l, k),
-    omega (arith, d, h),
-    rw (← sides.0, ← sides.1) m,
-  );
+  sound = (subst IsSound sides.0 a, subst IsSound sides.1 b, rw (← sides.0, ← sides.1) l, rw (← sides.0, ← sides.1) d,
+      omega (arith, l, k), omega (arith, d, h), rw (← sides.0, ← sides.1) m);
   text = rw (sides.0, sides.1) refl;
   len = l;
   depth = omega (arith, d);
   from_there = rw (sides.0, sides.1) (AreFrom-self (parts x ++ parts y));
 }
 
--- the node in whose place the left side was changed
-pub left_in_place : (from until : ℕ) (middle : Option Node) (old left right changed new : Node) → IsSound old → from ≤ until →
-    AreSides old left right → LeftTakes from until middle old → IsSplice from until middle left changed → AreSides new changed right →
-    len_of new ≡ len_of changed + len_of right → depth_of new ≡ max (depth_of changed) (depth_of right) + 1 →
-    mark_of new ≡ parts changed ++ parts right → from + some_len middle + (len_of old - until) ≤ MAX_LEN →
-    max (depth_of old) (some_depth middle) + 2 ≤ MAX_DEPTH → IsSplice from until middle old new
-left_in_place from until middle old left right changed new s order sides takes i now l d m k h =
-    left_spliced from until middle old left right changed new s order sides takes i
-    (stored_joined new changed right now i.sound (sides_are old left right s sides).right_sound l d m
-    (left_within from until MAX_LEN middle old left right changed s sides takes i k)
-    (left_shallow from until MAX_DEPTH middle old left right changed s sides takes i h))
+-- what is joined of the changed sides
+pub joined_spliced : (from until : ℕ) (middle : Option Node) (old old_left old_right left right new : Node) → IsSound old →
+    AreSides old old_left old_right → AreSpliced from until middle old_left old_right left right → IsJoined left right new →
+    IsSplice from until middle old new
+joined_spliced from until middle old old_left old_right left right new s sides i joined =
+    let a : HasSides old old_left old_right = sides_are old old_left old_right s sides in
+    record {
+      sound = joined.sound;
+      text = rw a.text (joined.text ∙ i.text);
+      len = omega (arith, joined.len, i.len, a.len);
+      depth = omega (arith, joined.depth, i.depth, a.depth);
+      from_there = rw a.parts_are (AreFrom-trans (parts new) (parts left ++ parts right)
+          (parts old_left ++ parts old_right ++ some_parts middle) joined.from_there i.from_there);
+    }
 
--- and the one in whose place the right side was
-pub right_in_place : (from until : ℕ) (middle : Option Node) (old left right changed new : Node) → IsSound old → from ≤ until →
-    AreSides old left right → RightTakes from until middle old →
-    IsSplice (from - len_of left) (until - len_of left) middle right changed → AreSides new left changed →
-    len_of new ≡ len_of left + len_of changed → depth_of new ≡ max (depth_of left) (depth_of changed) + 1 →
-    mark_of new ≡ parts left ++ parts changed → from + some_len middle + (len_of old - until) ≤ MAX_LEN →
+-- the changed sides in their node
+pub stored_spliced : (from until : ℕ) (middle : Option Node) (old old_left old_right left right new : Node) → IsSound old →
+    AreSides old old_left old_right → AreSpliced from until middle old_left old_right left right → AreSides new left right →
+    len_of new ≡ len_of left + len_of right → depth_of new ≡ max (depth_of left) (depth_of right) + 1 →
+    mark_of new ≡ parts left ++ parts right → from + some_len middle + (len_of old - until) ≤ MAX_LEN →
     max (depth_of old) (some_depth middle) + 2 ≤ MAX_DEPTH → IsSplice from until middle old new
-right_in_place from until middle old left right changed new s order sides takes i now l d m k h =
-    right_spliced from until middle old left right changed new s order sides takes i
-    (stored_joined new left changed now (sides_are old left right s sides).left_sound i.sound l d m
-    (right_within from until MAX_LEN middle old left right changed s order sides takes i k)
-    (right_shallow from until MAX_DEPTH middle old left right changed s sides takes i h))
+stored_spliced from until middle old old_left old_right left right new s sides i now l d m k h =
+    let a : HasSides old old_left old_right = sides_are old old_left old_right s sides in
+    let within : len_of left + len_of right ≤ MAX_LEN = omega (arith, i.len, a.len, k) in
+    let deep : max (depth_of left) (depth_of right) + 1 ≤ MAX_DEPTH = omega (arith, i.depth, a.depth, h) in
+    joined_spliced from until middle old old_left old_right left right new s sides i
+    (stored_joined new left right now i.left_sound i.right_sound l d m within deep)
 
 -- what `join` says of its result
 pub join_is : (left right new : Node) → IsSound new → cells new ≡ cells left ++ cells right → len_of new ≡ len_of left + len_of right →

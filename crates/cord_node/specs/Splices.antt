@@ -47,6 +47,13 @@ AreSides (Run byte len) a b = ⊥
 AreSides (Func id start len) a b = ⊥
 AreSides (Cat' p left q right len depth mark) a b = (a ≡ left) × (b ≡ right)
 
+-- it is a `Cat`, and this holds of its sides
+abbrev pub SidesAre : (Node → Node → Type 0) → Node → Type 0
+SidesAre holds (Leaf bytes start len mark) = ⊥
+SidesAre holds (Run byte len) = ⊥
+SidesAre holds (Func id start len) = ⊥
+SidesAre holds (Cat' p left q right len depth mark) = holds left right
+
 -- what its mark stands for
 abbrev pub mark_of : Node → List Part
 mark_of (Leaf bytes start len mark) = mark
@@ -60,20 +67,28 @@ pub record Takes (from until : ℕ) (middle : Option Node) (side : Node) : Type 
   pub stays : 0 < from + some_len middle + (len_of side - until)
   pub deep : some_depth middle ≤ depth_of side
 
--- the left side of the node takes the range
-abbrev pub LeftTakes : ℕ → ℕ → Option Node → Node → Type 0
-LeftTakes from until middle (Leaf bytes start len mark) = ⊥
-LeftTakes from until middle (Run byte len) = ⊥
-LeftTakes from until middle (Func id start len) = ⊥
-LeftTakes from until middle (Cat' p left q right len depth mark) = Takes from until middle left
+-- an edit of a node with these sides can go on in the left one
+abbrev pub LeftTakes : ℕ → ℕ → Option Node → Node → Node → Type 0
+LeftTakes from until middle left right = Takes from until middle left
 
--- the right side takes it
-abbrev pub RightTakes : ℕ → ℕ → Option Node → Node → Type 0
-RightTakes from until middle (Leaf bytes start len mark) = ⊥
-RightTakes from until middle (Run byte len) = ⊥
-RightTakes from until middle (Func id start len) = ⊥
-RightTakes from until middle (Cat' p left q right len depth mark) = (len_of left ≤ from)
-    × Takes (from - len_of left) (until - len_of left) middle right
+-- in the right one
+abbrev pub RightTakes : ℕ → ℕ → Option Node → Node → Node → Type 0
+RightTakes from until middle left right = (len_of left ≤ from) × Takes (from - len_of left) (until - len_of left) middle right
+
+-- in the left one, which loses its end, while the right one loses its beginning
+abbrev pub BothTake : ℕ → ℕ → Option Node → Node → Node → Type 0
+BothTake from until middle left right = (from ≤ len_of left) × (len_of left ≤ until) × (until < len_of left + len_of right)
+    × Takes from (len_of left) middle left
+
+-- the two sides are the old ones with middle in the place of the range
+pub record AreSpliced (from until : ℕ) (middle : Option Node) (old_left old_right left right : Node) : Type 0 where
+  pub left_sound : IsSound left
+  pub right_sound : IsSound right
+  pub text : cells left ++ cells right
+      ≡ take from (cells old_left ++ cells old_right) ++ some_cells middle ++ drop until (cells old_left ++ cells old_right)
+  pub len : len_of left + len_of right ≡ from + some_len middle + (len_of old_left + len_of old_right - until)
+  pub depth : max (depth_of left) (depth_of right) ≤ max (max (depth_of old_left) (depth_of old_right) + 1) (some_depth middle) + 1
+  pub from_there : AreFrom (parts left ++ parts right) (parts old_left ++ parts old_right ++ some_parts middle)
 
 -- new is old with middle in the place of the range
 pub record IsSplice (from until : ℕ) (middle : Option Node) (old new : Node) : Type 0 where

@@ -3,10 +3,11 @@ ghost use Rattle.std.specs.Prelude.{◌≡◌, ◌≢◌, ℕ, ◌+◌, ◌-◌,
 ghost use Rattle.cord_node.specs.Tree.{cells, len_of, depth_of, IsSound};
 ghost use Rattle.cord_node.specs.Kept.{parts, AreFrom};
 ghost use Rattle.cord_node.specs.Splices.{node_in, some_cells, some_len, some_depth, some_parts, IsSomeSound};
-ghost use Rattle.cord_node.specs.Splices.{Takes, LeftTakes, RightTakes, is_cat, AreSides, IsSplice};
+ghost use Rattle.cord_node.specs.Splices.{Takes, LeftTakes, RightTakes, BothTake, SidesAre};
+ghost use Rattle.cord_node.specs.Splices.{is_cat, AreSides, AreSpliced, IsSplice};
 
 use crate::replace::{are_merged, is_short, replaced};
-use crate::{Node, join};
+use crate::{Node, join, sub_node};
 use cord_io::{MAX_DEPTH, MAX_LEN};
 use cord_mark::Mark;
 use std::alloc::{AllocError, Global};
@@ -17,6 +18,7 @@ use std::rc::Rc;
 enum Way {
     Left,
     Right,
+    Both,
     Here,
 }
 
@@ -66,18 +68,24 @@ fn goes_left(left: &Node, right: &Node, middle: &Option<Rc<Node>>) -> bool {
     }
 }
 
-// The way of an edit.
-fn way_of(node: &Node, from: u64, until: u64, middle: &Option<Rc<Node>>) -> Way
-    requires sound { IsSound node.now }
+// The way of an edit of a node with these sides.
+fn way_between(
+    left: &Rc<Node>,
+    right: &Rc<Node>,
+    from: u64,
+    until: u64,
+    middle: &Option<Rc<Node>>,
+) -> Way
+    requires left_sound { IsSound left.now.value }
+    requires right_sound { IsSound right.now.value }
     requires middle_sound { IsSomeSound (node_in middle.now) }
     requires order { from ≤ until }
-    requires inside { until ≤ len_of node.now }
-    ensures left { result ≡ Way.Left → LeftTakes from until (node_in middle.now) node.now }
-    ensures right { result ≡ Way.Right → RightTakes from until (node_in middle.now) node.now }
+    requires inside { until ≤ len_of left.now.value + len_of right.now.value }
+    requires within_limit { len_of left.now.value + len_of right.now.value ≤ MAX_LEN }
+    ensures left { result ≡ Way.Left → LeftTakes from until (node_in middle.now) left.now.value right.now.value }
+    ensures right { result ≡ Way.Right → RightTakes from until (node_in middle.now) left.now.value right.now.value }
+    ensures both { result ≡ Way.Both → BothTake from until (node_in middle.now) left.now.value right.now.value }
 {
-    let Node::Cat { left, right, .. } = node else {
-        return Way::Here;
-    };
     let seam = left.len();
     let in_left = until <= seam && takes(left, from, until, middle);
     let in_right = seam <= from && takes(right, from - seam, until - seam, middle);
@@ -85,8 +93,30 @@ fn way_of(node: &Node, from: u64, until: u64, middle: &Option<Rc<Node>>) -> Way
         Way::Left
     } else if in_right {
         Way::Right
+    } else if from < seam
+        && seam < until
+        && until - seam < right.len()
+        && takes(left, from, seam, middle)
+    {
+        Way::Both
     } else {
         Way::Here
+    }
+}
+
+// The way of an edit of a node.
+fn way_of(node: &Node, from: u64, until: u64, middle: &Option<Rc<Node>>) -> Way
+    requires sound { IsSound node.now }
+    requires middle_sound { IsSomeSound (node_in middle.now) }
+    requires order { from ≤ until }
+    requires inside { until ≤ len_of node.now }
+    ensures left { result ≡ Way.Left → SidesAre (LeftTakes from until (node_in middle.now)) node.now }
+    ensures right { result ≡ Way.Right → SidesAre (RightTakes from until (node_in middle.now)) node.now }
+    ensures both { result ≡ Way.Both → SidesAre (BothTake from until (node_in middle.now)) node.now }
+{
+    match node {
+        Node::Cat { left, right, .. } => way_between(left, right, from, until, middle),
+        _ => Way::Here,
     }
 }
 
@@ -189,7 +219,7 @@ fn splice_node(
     }
 }
 
-// The same of a node that nobody else holds, in one of its sides.
+// The same of a node that nobody else holds, in its sides.
 #[cycle(splice_node)]
 fn splice_in_place(
     alloc: Global,
@@ -205,9 +235,10 @@ fn splice_in_place(
     requires inside { until ≤ len_of node.old }
     requires within_limit { from + some_len (node_in middle.now) + (len_of node.old - until) ≤ MAX_LEN }
     requires shallow { max (depth_of node.old) (some_depth (node_in middle.now)) + 2 ≤ MAX_DEPTH }
-    requires left { way ≡ Way.Left → LeftTakes from until (node_in middle.now) node.old }
-    requires right { way ≡ Way.Right → RightTakes from until (node_in middle.now) node.old }
-    requires side { way ≢ Way.Here }
+    requires left { way ≡ Way.Left → SidesAre (LeftTakes from until (node_in middle.now)) node.old }
+    requires right { way ≡ Way.Right → SidesAre (RightTakes from until (node_in middle.now)) node.old }
+    requires both { way ≡ Way.Both → SidesAre (BothTake from until (node_in middle.now)) node.old }
+    requires goes_on { way ≢ Way.Here }
 
     ensures splice { IfOk result (λ _. IsSplice from until (node_in middle.now) node.old node.new) }
     ensures unchanged { IsErr result → node.new ≡ node.old }
@@ -220,14 +251,7 @@ fn splice_in_place(
             depth,
             mark,
         } => {
-            match way {
-                Way::Left => splice_node(alloc, left, from, until, middle)?,
-                Way::Right => {
-                    let seam = left.len();
-                    splice_node(alloc, right, from - seam, until - seam, middle)?
-                }
-                Way::Here => unreachable!(),
-            }
+            splice_sides(alloc, left, right, way, from, until, middle)?;
             (*len, *depth, *mark) = stored(left, right);
             Ok(())
         }
@@ -251,23 +275,62 @@ fn splice_shared(
     requires inside { until ≤ len_of node.old.value }
     requires within_limit { from + some_len (node_in middle.now) + (len_of node.old.value - until) ≤ MAX_LEN }
     requires shallow { max (depth_of node.old.value) (some_depth (node_in middle.now)) + 2 ≤ MAX_DEPTH }
-    requires left { way ≡ Way.Left → LeftTakes from until (node_in middle.now) node.old.value }
-    requires right { way ≡ Way.Right → RightTakes from until (node_in middle.now) node.old.value }
-    requires side { way ≢ Way.Here }
+    requires left { way ≡ Way.Left → SidesAre (LeftTakes from until (node_in middle.now)) node.old.value }
+    requires right { way ≡ Way.Right → SidesAre (RightTakes from until (node_in middle.now)) node.old.value }
+    requires both { way ≡ Way.Both → SidesAre (BothTake from until (node_in middle.now)) node.old.value }
+    requires goes_on { way ≢ Way.Here }
 
     ensures splice { IfOk result (λ _. IsSplice from until (node_in middle.now) node.old.value node.new.value) }
     ensures unchanged { IsErr result → node.new ≡ node.old }
 {
     let (mut left, mut right) = sides_of(node)?;
-    match way {
-        Way::Left => splice_node(alloc, &mut left, from, until, middle)?,
-        Way::Right => {
-            let seam = left.len();
-            splice_node(alloc, &mut right, from - seam, until - seam, middle)?
-        }
-        Way::Here => unreachable!(),
-    }
+    splice_sides(alloc, &mut left, &mut right, way, from, until, middle)?;
     let new = join(alloc, &left, &right)?;
     *node = new;
     Ok(())
+}
+
+// The same of the sides of a node, which stay as they were if memory was refused.
+#[cycle(splice_node)]
+fn splice_sides(
+    alloc: Global,
+    left: &mut Rc<Node>,
+    right: &mut Rc<Node>,
+    way: Way,
+    from: u64,
+    until: u64,
+    middle: &Option<Rc<Node>>,
+) -> Result<(), AllocError>
+    requires left_sound { IsSound left.old.value }
+    requires right_sound { IsSound right.old.value }
+    requires middle_sound { IsSomeSound (node_in middle.now) }
+    requires order { from ≤ until }
+    requires inside { until ≤ len_of left.old.value + len_of right.old.value }
+    requires within_limit { from + some_len (node_in middle.now)
+        + (len_of left.old.value + len_of right.old.value - until) ≤ MAX_LEN }
+    requires shallow { max (max (depth_of left.old.value) (depth_of right.old.value) + 1)
+        (some_depth (node_in middle.now)) + 2 ≤ MAX_DEPTH }
+    requires left { way ≡ Way.Left → LeftTakes from until (node_in middle.now) left.old.value right.old.value }
+    requires right { way ≡ Way.Right → RightTakes from until (node_in middle.now) left.old.value right.old.value }
+    requires both { way ≡ Way.Both → BothTake from until (node_in middle.now) left.old.value right.old.value }
+    requires goes_on { way ≢ Way.Here }
+
+    ensures splice { IfOk result (λ _. AreSpliced from until (node_in middle.now) left.old.value right.old.value
+        left.new.value right.new.value) }
+    ensures left_unchanged { IsErr result → left.new ≡ left.old }
+    ensures right_unchanged { IsErr result → right.new ≡ right.old }
+{
+    let seam = left.len();
+    match way {
+        Way::Left => splice_node(alloc, left, from, until, middle),
+        Way::Right => splice_node(alloc, right, from - seam, until - seam, middle),
+        Way::Both => {
+            let behind = until - seam;
+            let rest = sub_node(alloc, right, behind, right.len() - behind)?;
+            splice_node(alloc, left, from, seam, middle)?;
+            *right = rest;
+            Ok(())
+        }
+        Way::Here => unreachable!(),
+    }
 }
