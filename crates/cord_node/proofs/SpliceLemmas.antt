@@ -1,15 +1,15 @@
 -- One text in the place of a range of another.
-use Rattle.std.proofs.Common.{◌≡◌, ℕ, ◌+◌, ◌-◌, ◌≤◌, List, [], ◌++◌, length, take, drop, refl, arith, ◌∙◌, sym, ap, subst, append_assoc}
+use Rattle.std.proofs.Common.{◌≡◌, ℕ, ◌+◌, ◌-◌, ◌≤◌, List, [], ◌∷◌, ◌++◌, map, length, take, drop, refl, arith, ◌∙◌, sym, ap, subst, append_assoc}
 use Rattle.std.proofs.Common.{length-drop, append-nil}
 use Rattle.std.specs.Prelude.{max, Option, Some}
-use Rattle.std.proofs.lemmas.List.{take-append-le, drop-append-le, take_all, drop_all}
-use Rattle.cord_io.specs.declared.TheConstants.{MAX_LEN, MAX_DEPTH}
+use Rattle.std.proofs.lemmas.List.{take-append-le, drop-append-le, take_all, drop_all, map-append, take-map, drop-map}
 use Rattle.cord_node.specs.declared.Node.{Node}
 use Rattle.cord_node.specs.declared.Node.TheVariants.{Leaf, Run, Func, Cat'}
-use Rattle.cord_node.specs.Tree.{Cell, cells, len_of, depth_of, IsSound}
-use Rattle.cord_node.specs.Kept.{Part, parts, AreFrom, Kept}
-use Rattle.cord_node.specs.Splices.{some_cells, some_len, some_depth, some_parts, IsSomeSound, Takes, LeftTakes, RightTakes, BothTake, AreSpliced, AreSides, mark_of, IsSplice}
-use Rattle.cord_node.proofs.KeptLemmas.{AreFrom-append, AreFrom-append_left, AreFrom-append_right, AreFrom-self, AreFrom-trans}
+use Rattle.cord_node.specs.declared.TheConstants.{SMALL_LEN}
+use Rattle.cord_node.specs.Tree.{Cell, known, cells, len_of, depth_of, IsSound}
+use Rattle.cord_node.specs.Kept.{Part, leaf_part, parts, AreFrom, Kept}
+use Rattle.cord_node.specs.Splices.{some_cells, some_len, some_depth, some_parts, IsSomeSound, LeftTakes, RightTakes, BothTake, AreSpliced, AreSides, IsSplice}
+use Rattle.cord_node.proofs.KeptLemmas.{IsFrom-small, AreFrom-append, AreFrom-append_left, AreFrom-append_right, AreFrom-self, AreFrom-trans}
 use Rattle.cord_node.proofs.Ranges.{take-append_right, drop-append_right}
 use Rattle.cord_node.proofs.TreeLemmas.{length-cells}
 
@@ -60,6 +60,21 @@ replaced_is from until end middle old front back all new sound inside last is s 
       depth = omega (arith, depth_is, d, d_front, d_back);
       from_there = subst (λ o. AreFrom (some_parts o) (parts old ++ some_parts middle)) is come;
     }
+
+-- one short leaf of known bytes
+pub short_is : (from until : ℕ) (middle : Option Node) (old new : Node) (bytes inner whole : List ℕ) (count : ℕ) →
+    from ≤ until → until ≤ len_of old → cells old ≡ map known bytes → length bytes ≡ len_of old →
+    some_cells middle ≡ map known inner → length inner ≡ some_len middle → IsSound new →
+    cells new ≡ map known (take from bytes ++ inner ++ drop until bytes) → len_of new ≡ count →
+    count ≡ from + length inner + (length bytes - until) → depth_of new ≡ 0 → parts new ≡ leaf_part whole 0 count ∷ [] →
+    count ≤ SMALL_LEN → IsSplice from until middle old new
+short_is from until middle old new bytes inner whole count order inside t l m k s n len c d p small = record {
+  sound = s;
+  text = n ∙ (rw (t, m, map-append, map-append) (sym (rw (take-map, drop-map) refl)));
+  len = omega (arith, len, c, l, k);
+  depth = omega (arith, d);
+  from_there = rw p (IsFrom-small (leaf_part whole 0 count) (parts old ++ some_parts middle) small, tt);
+}
 
 -- a node that is the text of one and then that of another
 pub record HasSides (node left right : Node) : Type 0 where
@@ -204,23 +219,6 @@ sides_are (Cat' p a q b len depth mark) left right s h = rw (h.0, h.1) (record {
   parts_are = refl;
 })
 
--- a concatenation that stores what its sides say
-stored_joined : (node left right : Node) → AreSides node left right → IsSound left → IsSound right →
-    len_of node ≡ len_of left + len_of right → depth_of node ≡ max (depth_of left) (depth_of right) + 1 →
-    mark_of node ≡ parts left ++ parts right → len_of left + len_of right ≤ MAX_LEN →
-    max (depth_of left) (depth_of right) + 1 ≤ MAX_DEPTH → IsJoined left right node
-stored_joined (Leaf bytes start len mark) left right sides a b l d m k h = absurd sides
-stored_joined (Run byte len) left right sides a b l d m k h = absurd sides
-stored_joined (Func id start len) left right sides a b l d m k h = absurd sides
-stored_joined (Cat' p x q y len depth mark) left right sides a b l d m k h = record {
-  sound = (subst IsSound sides.0 a, subst IsSound sides.1 b, rw (← sides.0, ← sides.1) l, rw (← sides.0, ← sides.1) d,
-      omega (arith, l, k), omega (arith, d, h), rw (← sides.0, ← sides.1) m);
-  text = rw (sides.0, sides.1) refl;
-  len = l;
-  depth = omega (arith, d);
-  from_there = rw (sides.0, sides.1) (AreFrom-self (parts x ++ parts y));
-}
-
 -- what is joined of the changed sides
 pub joined_spliced : (from until : ℕ) (middle : Option Node) (old old_left old_right left right new : Node) → IsSound old →
     AreSides old old_left old_right → AreSpliced from until middle old_left old_right left right → IsJoined left right new →
@@ -235,19 +233,6 @@ joined_spliced from until middle old old_left old_right left right new s sides i
       from_there = rw a.parts_are (AreFrom-trans (parts new) (parts left ++ parts right)
           (parts old_left ++ parts old_right ++ some_parts middle) joined.from_there i.from_there);
     }
-
--- the changed sides in their node
-pub stored_spliced : (from until : ℕ) (middle : Option Node) (old old_left old_right left right new : Node) → IsSound old →
-    AreSides old old_left old_right → AreSpliced from until middle old_left old_right left right → AreSides new left right →
-    len_of new ≡ len_of left + len_of right → depth_of new ≡ max (depth_of left) (depth_of right) + 1 →
-    mark_of new ≡ parts left ++ parts right → from + some_len middle + (len_of old - until) ≤ MAX_LEN →
-    max (depth_of old) (some_depth middle) + 2 ≤ MAX_DEPTH → IsSplice from until middle old new
-stored_spliced from until middle old old_left old_right left right new s sides i now l d m k h =
-    let a : HasSides old old_left old_right = sides_are old old_left old_right s sides in
-    let within : len_of left + len_of right ≤ MAX_LEN = omega (arith, i.len, a.len, k) in
-    let deep : max (depth_of left) (depth_of right) + 1 ≤ MAX_DEPTH = omega (arith, i.depth, a.depth, h) in
-    joined_spliced from until middle old old_left old_right left right new s sides i
-    (stored_joined new left right now i.left_sound i.right_sound l d m within deep)
 
 -- what `join` says of its result
 pub join_is : (left right new : Node) → IsSound new → cells new ≡ cells left ++ cells right → len_of new ≡ len_of left + len_of right →

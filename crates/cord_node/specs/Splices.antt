@@ -54,13 +54,6 @@ SidesAre holds (Run byte len) = ⊥
 SidesAre holds (Func id start len) = ⊥
 SidesAre holds (Cat' p left q right len depth mark) = holds left right
 
--- what its mark stands for
-abbrev pub mark_of : Node → List Part
-mark_of (Leaf bytes start len mark) = mark
-mark_of (Run byte len) = []
-mark_of (Func id start len) = []
-mark_of (Cat' p left q right len depth mark) = mark
-
 -- the range lies inside the node, which stays and is no less deep than what comes in the range's place
 pub record Takes (from until : ℕ) (middle : Option Node) (side : Node) : Type 0 where
   pub inside : until ≤ len_of side

@@ -1,13 +1,13 @@
 // A node with another text in the place of a range of it.
-ghost use Rattle.std.specs.Prelude.{◌≡◌, ℕ, ◌+◌, ◌-◌, ◌<◌, ◌≤◌, ◌++◌, max, IfOk, take, drop};
-ghost use Rattle.cord_node.specs.Tree.{cells, len_of, depth_of, IsSound};
-ghost use Rattle.cord_node.specs.Kept.{parts, AreFrom, Kept};
+ghost use Rattle.std.specs.Prelude.{◌≡◌, ℕ, ◌+◌, ◌-◌, ◌<◌, ◌≤◌, [], ◌∷◌, ◌++◌, max, IfOk, IfSome, length, map, take, drop};
+ghost use Rattle.cord_node.specs.Tree.{cells, known, len_of, depth_of, IsSound};
+ghost use Rattle.cord_node.specs.Kept.{parts, leaf_part, AreFrom};
 ghost use Rattle.cord_node.specs.Splices.{node_in, some_cells, some_len, some_depth, some_parts, IsSomeSound, IsSplice};
 
-use crate::{Node, SMALL_LEN, join, sub_node};
+use crate::{Node, SMALL_LEN, join, leaf, sub_node};
 use cord_io::{MAX_DEPTH, MAX_LEN};
 use std::alloc::{AllocError, Global};
-use std::rc::Rc;
+use std::rc::{Rc, RcSlice};
 
 // The bytes from `from` up to `until`, where there are any.
 fn range_of(
@@ -99,6 +99,77 @@ pub fn are_merged(left: &Node, right: &Node) -> bool {
     }
 }
 
+// One leaf of the bytes of three, one after the other.
+fn merged_three(
+    alloc: Global,
+    front: &[u8],
+    middle: &[u8],
+    back: &[u8],
+) -> Result<Rc<Node>, AllocError>
+    requires not_empty { 0 < length front.now + length middle.now + length back.now }
+    requires small { length front.now + length middle.now + length back.now ≤ SMALL_LEN }
+    ensures sound { IfOk result (λ node. IsSound node.value) }
+    ensures text { IfOk result (λ node. cells node.value ≡ map known (front.now ++ middle.now ++ back.now)) }
+    ensures part { IfOk result (λ node. parts node.value
+        ≡ leaf_part (front.now ++ middle.now ++ back.now) 0 (length front.now + length middle.now + length back.now)
+        ∷ []) }
+    ensures len { IfOk result (λ node. len_of node.value ≡ length front.now + length middle.now + length back.now) }
+    ensures depth { IfOk result (λ node. depth_of node.value ≡ 0) }
+{
+    let mut bytes = Vec::with_capacity(alloc, front.len() + middle.len() + back.len())?;
+    bytes.extend_from_slice(front)?;
+    bytes.extend_from_slice(middle)?;
+    bytes.extend_from_slice(back)?;
+    let node = leaf(alloc, RcSlice::from_vec(bytes)?)?;
+    Ok(node)
+}
+
+// The bytes of a leaf, and none where there is no node.
+fn some_bytes(node: &Option<Rc<Node>>) -> Option<&[u8]>
+    requires { IsSomeSound (node_in node.now) }
+    ensures text { IfSome result (λ bytes. some_cells (node_in node.now) ≡ map known bytes.now) }
+    ensures len { IfSome result (λ bytes. length bytes.now ≡ some_len (node_in node.now)) }
+{
+    match node {
+        None => Some(&[]),
+        Some(node) => node.leaf_bytes(),
+    }
+}
+
+// A leaf with the bytes of another in the place of a range of it, as one leaf, where all are so short together.
+fn short_replaced(
+    alloc: Global,
+    node: &Rc<Node>,
+    from: u64,
+    until: u64,
+    middle: &Option<Rc<Node>>,
+) -> Result<Option<Rc<Node>>, AllocError>
+    requires sound { IsSound node.now.value }
+    requires middle_sound { IsSomeSound (node_in middle.now) }
+    requires order { from ≤ until }
+    requires inside { until ≤ len_of node.now.value }
+    requires not_empty { 0 < from + some_len (node_in middle.now) + (len_of node.now.value - until) }
+    requires within_limit { from + some_len (node_in middle.now) + (len_of node.now.value - until) ≤ MAX_LEN }
+    ensures { IfOk result (λ new. IfSome new (λ new.
+        IsSplice from until (node_in middle.now) node.now.value new.value)) }
+{
+    if from + (node.len() - until) > SMALL_LEN as u64 {
+        return Ok(None);
+    }
+    match (node.leaf_bytes(), some_bytes(middle)) {
+        (Some(old), Some(inner)) if inner.len() <= SMALL_LEN => {
+            let front = &old[..from as usize];
+            let back = &old[until as usize..];
+            if front.len() + inner.len() + back.len() > SMALL_LEN {
+                return Ok(None);
+            }
+            let new = merged_three(alloc, front, inner, back)?;
+            Ok(Some(new))
+        }
+        _ => Ok(None),
+    }
+}
+
 // The text of `node` with `middle` in the place of its bytes from `from` up to `until`. Where `middle` and what is
 // left behind it are one leaf together they are joined first, and else `middle` and what is left in front.
 pub fn replaced(
@@ -117,6 +188,9 @@ pub fn replaced(
     requires shallow { max (depth_of node.now.value) (some_depth (node_in middle.now)) + 2 ≤ MAX_DEPTH }
     ensures { IfOk result (λ new. IsSplice from until (node_in middle.now) node.now.value new.value) }
 {
+    if let Some(new) = short_replaced(alloc, node, from, until, middle)? {
+        return Ok(new);
+    }
     let front = range_of(alloc, node, 0, from)?;
     let back = range_of(alloc, node, until, node.len())?;
     let all = joined_three(alloc, &front, middle, &back)?;
