@@ -1,6 +1,5 @@
 pub mod PlainTexts
 pub mod Growths
-pub mod Pieces
 pub mod Catting
 pub mod Found
 pub mod Standing

@@ -37,9 +37,7 @@ impl Text {
         ensures within_limit { OnOk result (length self.now + length text.now ≤ MAX_LEN) }
         ensures refused { IfErr result IsRefusal }
     {
-        let (front, back) = self.split_at(alloc, at)?;
-        let front = Text::cat(alloc, &front, text)?;
-        let edited = Text::cat(alloc, &front, &back)?;
+        let edited = self.replace_range(alloc, at, 0, text)?;
         Ok(edited)
     }
 
@@ -49,9 +47,8 @@ impl Text {
         ensures text { IfOk result (λ t. t ≡ take start self.now ++ drop (start + count) self.now) }
         ensures refused { IsOkUnless result CordError.NoMemory }
     {
-        let front = self.substr(alloc, 0, start)?;
-        let back = self.after(alloc, start, count)?;
-        let edited = Text::joined(alloc, &front, &back)?;
+        let _ = &self.cord;
+        let edited = self.replace_range(alloc, start, count, &Text::empty())?;
         Ok(edited)
     }
 
@@ -72,11 +69,9 @@ impl Text {
             ≤ MAX_LEN) }
         ensures refused { IfErr result IsRefusal }
     {
-        let front = self.substr(alloc, 0, start)?;
-        let back = self.after(alloc, start, count)?;
-        let front = Text::cat(alloc, &front, text)?;
-        let edited = Text::cat(alloc, &front, &back)?;
-        Ok(edited)
+        let mut cord = self.cord.share(alloc)?;
+        cord.splice(alloc, start, count, &text.cord)?;
+        Ok(Text { cord })
     }
 
     /// The same bytes in a tree of a depth of about 1.44 times the binary logarithm of their number at most. Refused
@@ -87,15 +82,5 @@ impl Text {
     {
         let cord = self.cord.balance(alloc)?;
         Ok(Text { cord })
-    }
-
-    // The bytes after `count` bytes from `start` on: none where that is at or past the end.
-    fn after(&self, alloc: Global, start: u64, count: u64) -> Result<Text, CordError>
-        ensures text { IfOk result (λ t. t ≡ drop (start + count) self.now) }
-        ensures limit { length self.now ≤ MAX_LEN }
-        ensures refused { IsOkUnless result CordError.NoMemory }
-    {
-        let rest = self.substr(alloc, start.saturating_add(count), self.len())?;
-        Ok(rest)
     }
 }

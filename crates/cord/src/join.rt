@@ -47,14 +47,4 @@ impl Text {
         let cord = Cord::cat_bytes(alloc, &self.cord, bytes)?;
         Ok(Text { cord })
     }
-
-    // The bytes of one text and then those of another, which are few enough together.
-    pub(crate) fn joined(alloc: Global, left: &Text, right: &Text) -> Result<Text, CordError>
-        requires { length left.now + length right.now ≤ MAX_LEN }
-        ensures text { IfOk result (λ t. t ≡ left.now ++ right.now) }
-        ensures refused { IsOkUnless result CordError.NoMemory }
-    {
-        let both = Text::cat(alloc, left, right)?;
-        Ok(both)
-    }
 }

@@ -13,7 +13,7 @@ use cord_mark::Mark;
 use std::alloc::{AllocError, Global};
 use std::rc::Rc;
 
-// Where an edit goes on from a node: in one of its sides, or at the node itself.
+// Where an edit goes on from a node: in one of its sides or in both, or at the node itself.
 #[derive(Clone, Copy)]
 enum Way {
     Left,
@@ -55,8 +55,8 @@ fn first_part(node: &Node) -> &Node {
     part
 }
 
-// Whether what comes to the seam of two sides goes to the left one: there it is merged with the part beside the seam,
-// or it isn't so on the right, where the tree is no less deep.
+// Whether what comes to the seam of two sides goes to the left one: it is merged with the part beside the seam there,
+// or it isn't on the right, where the tree is no less deep.
 fn goes_left(left: &Node, right: &Node, middle: &Option<Rc<Node>>) -> bool {
     let is_shallower = left.depth() <= right.depth();
     match middle {
@@ -155,7 +155,8 @@ fn sides_of(node: &Node) -> Result<(Rc<Node>, Rc<Node>), AllocError>
 
 /// Puts `middle` in the place of the bytes from `from` up to `until`. A node that nobody else holds is changed in its
 /// place, and of one that is shared a new one is made, so what others hold stays. On the way down to the part that is
-/// changed a node costs constant time, and no memory where it is changed in its place.
+/// changed a node costs constant time, and no memory where it is changed in its place. The range lies inside the node,
+/// 1 to `MAX_LEN` bytes are left, and two plus the greater depth is at most `MAX_DEPTH`.
 /// Refused where memory was refused: then nothing was changed.
 pub fn splice(
     alloc: Global,

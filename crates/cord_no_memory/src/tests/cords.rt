@@ -53,6 +53,20 @@ fn balanced(alloc: Global, cord: &Cord) -> Result<Cord, CordError> {
     cord.balance(alloc)
 }
 
+fn splice(alloc: Global, cord: &mut Cord, at: u64, middle: &Cord) -> Result<(), CordError> {
+    cord.splice(alloc, at, 4, middle)
+}
+
+// That "xyz" comes in the place of four bytes: where it was refused the text is as before, and it is put in again.
+fn expect_spliced(rt: &impl Abort, alloc: Global, cord: &mut Cord, at: u64, after: &[u8]) {
+    let xyz = cord_of(rt, alloc, b"xyz");
+    if splice(alloc, cord, at, &xyz).is_err() {
+        expect_text(rt, cord, b"abccdef");
+        again!(rt, splice(alloc, cord, at, &xyz));
+    }
+    expect_text(rt, cord, after);
+}
+
 // That a cord is so deep.
 fn expect_depth(rt: &impl Abort, cord: &Cord, depth: u32) {
     assert!(rt; cord.depth() == depth);
@@ -253,4 +267,22 @@ fn refused_balance(rt: HostRuntime) {
     let balanced = made(&rt, first, balanced(alloc, &cord));
     expect_text(&rt, &balanced, &text);
     expect_balanced(&rt, &balanced, 17);
+}
+
+#[test]
+fn refused_splice_in_place(rt: HostRuntime) {
+    let alloc = rt.alloc();
+    let mut cord = longer_by(&rt, alloc, &abcc(&rt, alloc), b"def");
+    expect_spliced(&rt, alloc, &mut cord, 1, b"axyzef");
+    let mut cord = longer_by(&rt, alloc, &abcc(&rt, alloc), b"def");
+    expect_spliced(&rt, alloc, &mut cord, 3, b"abcxyz");
+}
+
+#[test]
+fn refused_splice_of_a_shared_cord(rt: HostRuntime) {
+    let alloc = rt.alloc();
+    let other = longer_by(&rt, alloc, &abcc(&rt, alloc), b"def");
+    let mut cord = again!(&rt, other.share(alloc));
+    expect_spliced(&rt, alloc, &mut cord, 1, b"axyzef");
+    expect_text(&rt, &other, b"abccdef");
 }

@@ -1,11 +1,12 @@
-use Rattle.std.proofs.Common.{◌≡◌, ℕ, ◌+◌, List, length, take, drop, ap, arith}
-use Rattle.cord.proofs.Pieces.{left_len}
+use Rattle.std.proofs.Common.{◌≡◌, ◌≤◌, ◌<◌, ◌+◌, ◌++◌, [], length, take, drop, arith, subst}
+use Rattle.std.proofs.lemmas.Grind.{common_steps}
+use Rattle.cord_io.specs.declared.TheConstants.{MAX_LEN}
+use Rattle.cord.proofs.PlainTexts.{plain_limit, rest_limit}
 use Rattle.cord.proofs.text.Text.remove.Goals as goal
 
-pub joined-requires : goal.joined-requires
-joined-requires c =
-    let x = c.args.self.now in
-    let behind = c.args.start + c.args.count in
-    let front : length c.in_ok-front.front ≡ length (take c.args.start x) = ap (λ (y : List ℕ). length y) c.in_ok-front.ensures.text in
-    let back : length c.in_ok-back.back ≡ length (drop behind x) = ap (λ (y : List ℕ). length y) c.in_ok-back.ensures.text in
-    omega (arith, front, back, left_len x c.args.start behind (omega arith), c.in_ok-back.ensures.limit)
+pub returns-in_err-edited-clause-refused : goal.returns-in_err-edited-clause-refused
+returns-in_err-edited-clause-refused c =
+    let limit : length c.args.self.now ≤ MAX_LEN = subst (λ x. length x ≤ MAX_LEN) c.self.view_is (plain_limit c.self.inside.cord c.self.invariant) in
+    let fits : length (take c.args.start c.args.self.now ++ [] ++ drop (c.args.start + c.args.count) c.args.self.now) ≤ MAX_LEN =
+    rest_limit c.args.self.now c.args.start c.args.count limit in
+    grind (arith, common_steps, fits)
