@@ -155,6 +155,29 @@ class Scripts:
         self.assigned |= {seen.decode(), more.decode()}
         return [*lines, b"repeat %d" % self.random.randint(1, 150), *body, b"end", b"put " + seen]
 
+    def edits(self):
+        """Edits of a text at places: what stands before one, another text, and what stands behind a second one. Now and then
+        the places overlap, bytes are lost at the end, the other text is the name's own, or a name holds the old text."""
+        seen, more, front, behind, held = (name.encode() for name in self.random.sample(CORDS, 5))
+        size = self.random.choice([6, 300, 20000])
+        begun = [b"let %b %b" % (name, self.quoted(self.text())) for name in (more, front, held)]
+        begun.append(b"fn %b bytes %d" % (seen, size))
+        lines = []
+        for _ in range(self.random.randint(1, 12)):
+            place = self.random.choice([0, size, self.random.randint(0, size)])
+            after = self.random.choice([place, place + self.random.randint(0, 9), self.random.randint(0, size)])
+            most = self.random.choice([99999, size, self.random.randint(0, size)])
+            if self.chance(0.2):
+                lines.append(b"cat %b %b %b" % (held, seen, self.random.choice([seen, more, front])))
+            lines.append(b"substr %b %b %d %b" % (front, seen, self.chance(0.05), self.number() if self.chance(0.1) else b"%d" % place))
+            lines.append(b"substr %b %b %d %d" % (behind, seen, after, most))
+            between = self.random.choices([b"", more, front, seen, more + b" " + more], [2, 6, 1, 1, 1])[0]
+            lines.append(b"catn %b %b %b %b" % (seen, front, between, behind) if between else b"cat %b %b %b" % (seen, front, behind))
+        self.assigned |= {name.decode() for name in (seen, more, front, behind, held)}
+        if self.chance(0.3):
+            lines = [b"repeat %d" % self.random.randint(0, 30), *lines, b"end"]
+        return [*begun, *lines, b"put " + seen, b"put " + held]
+
     def changed(self, script):
         """The script with a byte, a word or a line put elsewhere, changed or left out."""
         place, way = self.random.randrange(len(script)), self.random.choice(["byte", "more", "less", "lines", "words"])
@@ -179,6 +202,8 @@ class Scripts:
             lines += self.deep_rope()
         if self.chance(0.1):
             lines += self.moving_window()
+        if self.chance(0.2):
+            lines += self.edits()
         script = b"\n".join(lines + self.lines(self.random.choice([3, 10, 20, 40]), 0) + [b""])
         for _ in range(self.random.randint(1, 3) if self.careless else 0):
             script = self.changed(script)

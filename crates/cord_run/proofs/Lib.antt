@@ -1,4 +1,5 @@
 pub mod Entries
+pub mod Splices
 pub mod Members
 pub mod Lengths
 pub mod Fronts
@@ -27,6 +28,7 @@ pub mod Refusals
 pub mod Definitions
 pub mod Files
 pub mod TargetNames
+pub mod Edits
 pub mod Numbers
 pub mod NumberStatements
 pub mod Sources

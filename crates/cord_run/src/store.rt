@@ -5,8 +5,10 @@ pub(crate) mod cords;
 mod places;
 
 ghost use Rattle.std.specs.Prelude.{◌≡◌, ◌+◌, ◌<◌, ◌≤◌, ℕ, List, true, false, [], length, IfOk, IfSome, IfNone, OnOk};
-ghost use Rattle.std.specs.Prelude.{Err, None, Some};
+ghost use Rattle.std.specs.Prelude.{Err, None, Some, IfErr, IsErr};
 ghost use Rattle.cord_core.specs.Cord.{text_len};
+ghost use Rattle.cord_core.specs.Refusals.{IsRefusal};
+ghost use Rattle.cord_run.specs.inner.Edits.{HasSplice, IsWholeAt, spliced_len};
 ghost use Rattle.cord_run.specs.inner.Extensibles.{cells_of, Grew};
 ghost use Rattle.cord_run.specs.inner.Entries.{are_distinct, cells_in, content_in, cord_in, extensible_in, length_in};
 ghost use Rattle.cord_run.specs.inner.Entries.{names_in, number_in, operand_in, HasContent, HasExtensible, HasNoEntry};
@@ -14,7 +16,7 @@ ghost use Rattle.cord_run.specs.inner.Entries.{HasNumber, IsEntryAt};
 ghost use Rattle.cord_run.specs.inner.Places.{Begin, Begin-prop, names_fixed, names_told};
 
 use crate::store::appends::{append_at, append_bytes};
-use crate::store::contents::{set_content, set_extensible, set_number};
+use crate::store::contents::{set_content, set_extensible, set_number, splice_content};
 use crate::store::places::{place_by, place_for};
 use cord_core::Cord;
 use cord_ec::ExtCord;
@@ -95,6 +97,7 @@ impl Store {
             cord.now ≡ cord_in (content_in self.now.entries.items name)) }
         ensures len { IfSome result (λ cord. (name : List ℕ) → IsEntryAt self.now.entries.items name place →
             text_len cord.now ≡ length_in self.now.entries.items name) }
+        ensures whole { IfSome result (λ _. IsWholeAt place self.now.entries.items) }
         ensures none { IfNone result ((name : List ℕ) → IsEntryAt self.now.entries.items name place →
             cord_in (content_in self.now.entries.items name) ≡ None) }
     {
@@ -195,6 +198,29 @@ impl Store {
         ensures names { names_in self.new.entries.items ≡ names_in self.old.entries.items }
     {
         set_content(&mut self.entries, place, Content::Long(len));
+    }
+
+    /// Puts a cord in the place of so many bytes from a start on of the cord of the entry at a place. Refused with
+    /// `TooLong` or with `NoMemory`: then nothing has changed.
+    pub(crate) fn splice_at(
+        &mut self,
+        alloc: Global,
+        place: usize,
+        start: u64,
+        count: u64,
+        middle: &Cord,
+    ) -> Result<(), CordError>
+        requires within { place < length self.old.entries.items }
+        requires whole { IsWholeAt place self.old.entries.items }
+        ensures spliced { IfOk result (λ _. (name : List ℕ) → IsEntryAt self.old.entries.items name place →
+            HasSplice name start count middle.now self.old.entries.items self.new.entries.items) }
+        ensures too_long { result ≡ Err CordError.TooLong →
+            (name : List ℕ) → IsEntryAt self.old.entries.items name place →
+            MAX_LEN < spliced_len start count middle.now (text_len (cord_in (content_in self.old.entries.items name))) }
+        ensures unchanged { IsErr result → self.new.entries.items ≡ self.old.entries.items }
+        ensures refused { IfErr result IsRefusal }
+    {
+        splice_content(alloc, &mut self.entries, place, start, count, middle)
     }
 
     /// Gives a name of a cord its cord, or a length alone.

@@ -1,5 +1,6 @@
 //! Names that get what a plan makes for them: a cord, or a length alone.
 mod definitions;
+mod edits;
 mod files;
 mod literals;
 mod prints;
@@ -30,6 +31,7 @@ use crate::stops::Stop;
 use crate::store::cords::balanced;
 use crate::store::{Content, Store};
 use crate::targets::definitions::{Definition, Fileless, definition_of};
+use crate::targets::edits::{edit_in_place, edit_of};
 use crate::targets::files::{file_cord, opened_length};
 use crate::targets::literals::{literal, start, start_length};
 use crate::targets::prints::{print, print_length};
@@ -71,10 +73,13 @@ pub(crate) fn serve_target<F: Files>(
     ensures counts { CountsReads (F.failures (device_in sources.old)) (F.failures (device_in sources.new)) result }
 {
     match gets {
-        Gets::Cord => {
-            let cord = make(alloc, store, sources, made)?;
-            give(alloc, store, target, Content::Whole(cord))
-        }
+        Gets::Cord => match edit_of(target, made, store) {
+            Some(edit) => edit_in_place(alloc, store, target, made, edit),
+            None => {
+                let cord = make(alloc, store, sources, made)?;
+                give(alloc, store, target, Content::Whole(cord))
+            }
+        },
         Gets::Length => {
             let len = measure(alloc, store, sources, made)?;
             give(alloc, store, target, Content::Long(len))

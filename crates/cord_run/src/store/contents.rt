@@ -1,12 +1,19 @@
 // What the entry of a name gets.
-ghost use Rattle.std.specs.Prelude.{◌≡◌, ◌<◌, ℕ, List, true, length};
-ghost use Rattle.cord_run.specs.inner.Entries.{are_distinct, cells_in, extensible_in, names_in, HasContent};
+ghost use Rattle.std.specs.Prelude.{◌≡◌, ◌<◌, ℕ, List, true, length, Err, IfErr, IfOk, IsErr};
+ghost use Rattle.cord_core.specs.Cord.{text_len};
+ghost use Rattle.cord_core.specs.Refusals.{IsRefusal};
+ghost use Rattle.cord_run.specs.inner.Edits.{HasSplice, IsContentSpliced, IsWhole, IsWholeAt, spliced_len};
+ghost use Rattle.cord_run.specs.inner.Entries.{are_distinct, cells_in, content_in, cord_in, extensible_in, names_in};
+ghost use Rattle.cord_run.specs.inner.Entries.{HasContent};
 ghost use Rattle.cord_run.specs.inner.Entries.{HasExtensible, HasNumber, IsEntryAt};
 ghost use Rattle.cord_run.specs.inner.Places.{StayFirst};
 
 use crate::store::{Content, Entry};
+use cord_core::Cord;
 use cord_ec::ExtCord;
+use cord_io::{CordError, MAX_LEN};
 use cord_script::Name;
+use std::alloc::Global;
 use std::mem::replace;
 
 /// Puts another content into the entry at a place.
@@ -20,6 +27,52 @@ pub(crate) fn set_content(entries: &mut [Entry], place: usize, content: Content)
 {
     let entry = &mut entries[place];
     entry.content = content;
+}
+
+/// Puts a cord in the place of so many bytes from a start on of the cord in the entry at a place.
+pub(crate) fn splice_content(
+    alloc: Global,
+    entries: &mut [Entry],
+    place: usize,
+    start: u64,
+    count: u64,
+    middle: &Cord,
+) -> Result<(), CordError>
+    requires within { place < length entries.old }
+    requires whole { IsWholeAt place entries.old }
+    ensures spliced { IfOk result (λ _. (name : List ℕ) → IsEntryAt entries.old name place →
+        HasSplice name start count middle.now entries.old entries.new) }
+    ensures too_long { result ≡ Err CordError.TooLong → (name : List ℕ) → IsEntryAt entries.old name place →
+        MAX_LEN < spliced_len start count middle.now (text_len (cord_in (content_in entries.old name))) }
+    ensures unchanged { IsErr result → entries.new ≡ entries.old }
+    ensures refused { IfErr result IsRefusal }
+    ensures names { names_in entries.new ≡ names_in entries.old }
+    ensures distinct { are_distinct (names_in entries.old) ≡ true → are_distinct (names_in entries.new) ≡ true }
+    ensures first { StayFirst entries.old entries.new }
+{
+    let entry = &mut entries[place];
+    splice_within(alloc, &mut entry.content, start, count, middle)
+}
+
+// The same of a content.
+fn splice_within(
+    alloc: Global,
+    content: &mut Content,
+    start: u64,
+    count: u64,
+    middle: &Cord,
+) -> Result<(), CordError>
+    requires { IsWhole content.old }
+    ensures spliced { IfOk result (λ _. IsContentSpliced start count middle.now content.old content.new) }
+    ensures too_long { result ≡ Err CordError.TooLong →
+        MAX_LEN < spliced_len start count middle.now (text_len (cord_in content.old)) }
+    ensures unchanged { IsErr result → content.new ≡ content.old }
+    ensures refused { IfErr result IsRefusal }
+{
+    match content {
+        Content::Whole(cord) => cord.splice(alloc, start, count, middle),
+        Content::Long(_) => unreachable!(),
+    }
 }
 
 /// Puts another number into the entry at a place.

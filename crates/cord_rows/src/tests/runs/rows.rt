@@ -335,6 +335,73 @@ pub(super) const EC_GOES_ON: &str =
     "ecinit e ; repeat 129 ; ecput e 65 ; end ; ectocord z e ; ecput e 66 ; put z ; ectocord y e ; len n y ; \
         sprintf t \"%d\" n ; put t";
 
+// Names that get their own text with another one in the place of a range of it.
+const EDITS: &[Row] = &[
+    (
+        "old-text-is-held",
+        "let x \"hello brave world\" ; let e \"\" ; let a \"new\" ; cat y x e ; substr l x 0 6 ; substr r x 11 99 ; \
+            catn x l a r ; put y ; put x",
+        End::Done,
+        b"hello brave worldhello new world",
+    ),
+    (
+        "old-text-is-held-twice",
+        r#"let x "abc" ; let a "-" ; cat y x x ; substr l x 0 1 ; substr r x 2 9 ; catn x l a r ; put x ; put y"#,
+        End::Done,
+        b"a-cabcabc",
+    ),
+    (
+        "bytes-are-left-out",
+        r#"let x "abcdef" ; substr l x 0 2 ; substr r x 4 9 ; cat x l r ; put x"#,
+        End::Done,
+        b"abef",
+    ),
+    (
+        "at-both-ends",
+        "let x \"bc\" ; let a \"a\" ; substr l x 0 0 ; substr r x 0 9 ; catn x l a r ; substr l x 0 9 ; \
+            substr r x 9 9 ; catn x l a r ; put x",
+        End::Done,
+        b"abca",
+    ),
+    (
+        "ranges-overlap",
+        r#"let x "abcd" ; let a "-" ; substr l x 0 3 ; substr r x 1 9 ; catn x l a r ; put x"#,
+        End::Done,
+        b"abc-bcd",
+    ),
+    (
+        "last-bytes-are-lost",
+        r#"let x "abcdef" ; let a "-" ; substr l x 0 1 ; substr r x 3 2 ; catn x l a r ; put x"#,
+        End::Done,
+        b"a-de",
+    ),
+    (
+        "first-byte-is-lost",
+        r#"let x "abcd" ; let a "-" ; substr l x 1 1 ; substr r x 3 9 ; catn x l a r ; put x"#,
+        End::Done,
+        b"b-d",
+    ),
+    (
+        "own-text-is-put",
+        r#"let x "abc" ; substr l x 0 1 ; substr r x 2 9 ; catn x l x r ; put x"#,
+        End::Done,
+        b"aabcc",
+    ),
+    (
+        "places-of-a-loop",
+        "let x \"aaaa\" ; let b \"b\" ; set n 0 ; repeat 3 ; add m n 1 ; substr l x 0 n ; substr r x m 99 ; catn x l b r ; \
+            set n m ; end ; put x",
+        End::Done,
+        b"bbba",
+    ),
+    (
+        "edited-text-too-long",
+        "chars x 97 1099511627775 ; chars a 98 2 ; substr l x 0 1 ; substr r x 2 1099511627775 ; catn x l a r ; put x",
+        End::Fault(5, TooLong),
+        b"",
+    ),
+];
+
 fn expect_rows(rt: &(impl AllocGlobal + Abort), rows: &[Row]) {
     for (name, script, end, out) in rows {
         expect_end(rt, name, &lines(rt, script), *end, out);
@@ -359,6 +426,11 @@ fn searches(rt: HostRuntime) {
 #[test]
 fn blocks(rt: HostRuntime) {
     expect_rows(&rt, BLOCKS);
+}
+
+#[test]
+fn edits(rt: HostRuntime) {
+    expect_rows(&rt, EDITS);
 }
 
 #[test]

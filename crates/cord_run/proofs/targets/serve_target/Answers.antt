@@ -1,7 +1,9 @@
-use Rattle.std.proofs.Common.{subst, sym}
+use Rattle.std.proofs.Common.{subst, sym, rules}
 use Rattle.cord_io.specs.declared.TheConstants.{MAX_LEN}
+use Rattle.cord_io.specs.Device.{Folder}
 use Rattle.cord_file.specs.Entries.{table_in}
 use Rattle.cord_file.specs.Files.{as_long_as_told}
+use Rattle.cord_file.specs.Opening.{Grows}
 use Rattle.cord_file.specs.Sources.{device_in, opened_in}
 use Rattle.cord_plan.specs.Meaning.{does}
 use Rattle.cord_plan.specs.Views.{made_view}
@@ -10,29 +12,30 @@ use Rattle.cord_run.specs.declared.targets.Gets.{Gets}
 use Rattle.cord_run.specs.inner.Holdings.{holding_of}
 use Rattle.cord_run.specs.inner.Outcomes.{Gives}
 use Rattle.cord_run.specs.inner.Targets.{target_operation}
+use Rattle.cord_run.proofs.Edits.{edited_gives, edited_over}
 use Rattle.cord_run.proofs.TargetNames.{built_target, measured_target, nothing_changed, target_over}
 use Rattle.cord_run.proofs.targets.serve_target.Goals as goal
 
-pub returns-in_ok-cord-in-Cord-clause-over : goal.returns-in_ok-cord-in-Cord-clause-over
-returns-in_ok-cord-in-Cord-clause-over g c =
-    target_over (opened_in c.args.sources.now) (opened_in c.make.new.sources) c.in_ok-cord-in-Cord.ensures.grows
+pub returns-in_ok-cord-in-None-clause-over : goal.returns-in_ok-cord-in-None-clause-over
+returns-in_ok-cord-in-None-clause-over g c =
+    target_over (opened_in c.args.sources.now) (opened_in c.make.new.sources) c.in_ok-cord-in-None.ensures.grows
     c.args.store.now.entries.items
-    c.make.new.store.entries.items c.give.new.store.entries.items c.requires.over c.in_ok-cord-in-Cord.ensures.same
-    c.args.target.now (made_view c.args.made.now) (Whole c.in_ok-cord-in-Cord.cord)
-    (c.in_ok-cord-in-Cord.ensures.built.sound, c.in_ok-cord-in-Cord.ensures.built.fits) c.give.result c.give.ensures.given
+    c.make.new.store.entries.items c.give.new.store.entries.items c.requires.over c.in_ok-cord-in-None.ensures.same
+    c.args.target.now (made_view c.args.made.now) (Whole c.in_ok-cord-in-None.cord)
+    (c.in_ok-cord-in-None.ensures.built.sound, c.in_ok-cord-in-None.ensures.built.fits) c.give.result c.give.ensures.given
 
-pub returns-in_ok-cord-in-Cord-clause-gives : goal.returns-in_ok-cord-in-Cord-clause-gives
-returns-in_ok-cord-in-Cord-clause-gives g c = λ folder agrees.
+pub returns-in_ok-cord-in-None-clause-gives : goal.returns-in_ok-cord-in-None-clause-gives
+returns-in_ok-cord-in-None-clause-gives g c = λ folder agrees.
     let s = c.args.sources.now in
-    let before = c.in_ok-cord-in-Cord.ensures.earlier folder agrees in
+    let before = c.in_ok-cord-in-None.ensures.earlier folder agrees in
     subst (λ (k : Gets). Gives (does MAX_LEN folder (target_operation k c.args.target.now (made_view c.args.made.now))
     (holding_of (table_in (opened_in s) folder) c.args.store.now.entries.items))
     (holding_of (table_in (opened_in c.make.new.sources) folder) c.give.new.store.entries.items) c.give.result) (sym c.in-Cord.is)
-    (built_target (opened_in s) (opened_in c.make.new.sources) c.in_ok-cord-in-Cord.ensures.grows c.args.store.now.entries.items
-    c.make.new.store.entries.items c.give.new.store.entries.items c.requires.over c.in_ok-cord-in-Cord.ensures.same
+    (built_target (opened_in s) (opened_in c.make.new.sources) c.in_ok-cord-in-None.ensures.grows c.args.store.now.entries.items
+    c.make.new.store.entries.items c.give.new.store.entries.items c.requires.over c.in_ok-cord-in-None.ensures.same
     c.args.target.now (made_view c.args.made.now) (g.F.Files.keeps (device_in c.make.new.sources)) folder agrees
     (as_long_as_told (g.F.Files.keeps (device_in s)) s.entries.items s.sound.as_long folder before)
-    c.in_ok-cord-in-Cord.cord c.in_ok-cord-in-Cord.ensures.built c.give.result c.give.ensures.given c.give.ensures.refused)
+    c.in_ok-cord-in-None.cord c.in_ok-cord-in-None.ensures.built c.give.result c.give.ensures.given c.give.ensures.refused)
 
 pub returns-in_ok-len-in-Length-clause-over : goal.returns-in_ok-len-in-Length-clause-over
 returns-in_ok-len-in-Length-clause-over g c =
@@ -57,3 +60,20 @@ returns-in_ok-len-in-Length-clause-gives g c = λ folder agrees.
     (as_long_as_told (g.F.Files.keeps (device_in s)) s.entries.items s.sound.as_long folder before)
     c.in_ok-len-in-Length.len c.in_ok-len-in-Length.ensures.told c.give-in-Length.result c.give-in-Length.ensures.given
     c.give-in-Length.ensures.refused)
+
+pub returns-in-Some-clause-over : goal.returns-in-Some-clause-over
+returns-in-Some-clause-over g c =
+    edited_over (opened_in c.args.sources.now) c.args.store.now.entries.items c.edit_in_place.new.store.entries.items c.args.target.now
+    (made_view c.args.made.now) c.in-Some.edit.middle c.requires.over c.edit_in_place.result c.edit_in_place.ensures.edited
+
+pub returns-in-Some-clause-gives : goal.returns-in-Some-clause-gives
+returns-in-Some-clause-gives g c = λ folder agrees.
+    let s = c.args.sources.now in
+    let keeps : Folder → Type 0 = g.F.Files.keeps (device_in s) in
+    let same : Grows (opened_in s) (opened_in s) = search rules in
+    subst (λ (k : Gets). Gives (does MAX_LEN folder (target_operation k c.args.target.now (made_view c.args.made.now))
+    (holding_of (table_in (opened_in s) folder) c.args.store.now.entries.items))
+    (holding_of (table_in (opened_in s) folder) c.edit_in_place.new.store.entries.items) c.edit_in_place.result) (sym c.in-Cord.is)
+    (edited_gives keeps (opened_in s) same (as_long_as_told keeps s.entries.items s.sound.as_long) c.args.store.now.entries.items
+    c.edit_in_place.new.store.entries.items c.requires.over c.args.target.now (made_view c.args.made.now) c.in-Some.edit.middle
+    c.edit_in_place.result c.edit_in_place.ensures.edited c.edit_in_place.ensures.refused folder agrees)

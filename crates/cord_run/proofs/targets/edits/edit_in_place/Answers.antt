@@ -1,0 +1,30 @@
+use Rattle.std.proofs.Common.{Err, ap}
+use Rattle.cord_io.specs.declared.faults.CordError.{CordError}
+use Rattle.cord_plan.specs.Views.{made_view}
+use Rattle.cord_run.specs.inner.Contents.{IsUnmadeOfNames, stop_of_cord}
+use Rattle.cord_run.proofs.Edits.{edited_by, middle_refused, splice_refused}
+use Rattle.cord_run.proofs.Refusals.{passed_on}
+use Rattle.cord_run.proofs.targets.edits.edit_in_place.Goals as goal
+
+pub returns-in_err-middle-clause-refused : goal.returns-in_err-middle-clause-refused
+returns-in_err-middle-clause-refused c =
+    let entries = c.args.store.now.entries.items in
+    let made = made_view c.args.made.now in
+    passed_on (IsUnmadeOfNames entries made) c.in_err-middle.field-0.0 c.from_residual.result c.from_residual.ensures.1
+    (middle_refused entries c.args.target.now made c.args.edit c.requires c.in_err-middle.field-0.0 c.in_err-middle.ensures.refused)
+
+pub returns-in_err-splice_at-clause-refused : goal.returns-in_err-splice_at-clause-refused
+returns-in_err-splice_at-clause-refused c =
+    let entries = c.args.store.now.entries.items in
+    let made = made_view c.args.made.now in
+    passed_on (IsUnmadeOfNames entries made) (stop_of_cord c.in_err-splice_at.field-0.0) c.from_residual-in_err-splice_at.result
+    c.from_residual-in_err-splice_at.ensures.1
+    (splice_refused entries c.args.target.now made c.args.edit c.requires c.in_ok-middle.middle c.in_ok-middle.ensures.made
+    c.in_err-splice_at.field-0.0 c.in_err-splice_at.ensures.refused
+    (λ is. c.in_err-splice_at.ensures.too_long (ap (λ (error : CordError). Err error) is) c.args.target.now c.requires.here))
+
+pub returns-clause-edited : goal.returns-clause-edited
+returns-clause-edited c =
+    edited_by c.args.store.now.entries.items c.args.target.now (made_view c.args.made.now) c.args.edit c.requires c.in_ok-middle.middle
+    c.in_ok-middle.ensures.made c.splice_at.new.self.entries.items
+    (c.in_ok-splice_at.ensures.spliced c.args.target.now c.requires.here)

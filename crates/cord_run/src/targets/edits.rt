@@ -1,0 +1,164 @@
+// Edits: a name that gets its own text again, with another one in the place of a range of it. Its cord is changed where
+// it is held.
+ghost use Rattle.std.specs.Prelude.{◌≡◌, IfErr, IfOk, IfSome, IsErr};
+ghost use Rattle.cord_plan.specs.Views.{expr_view, made_view};
+ghost use Rattle.cord_run.specs.inner.Contents.{IsUnmadeOfNames};
+ghost use Rattle.cord_run.specs.inner.Edits.{Edited, IsEdit, IsMiddle, IsNoMiddle, IsReplaced, form_view, range_view};
+
+use crate::expressions::parts::{build_part, range_parts};
+use crate::stops::Stop;
+use crate::store::Store;
+use cord_core::Cord;
+use cord_plan::{Expr, Made};
+use cord_script::{Name, Number};
+use std::alloc::Global;
+
+/// A range of the text of the name that is edited: at most so many bytes from a place on.
+#[derive(Clone, Copy)]
+pub(crate) struct OwnRange<'a> {
+    start: &'a Number,
+    count: &'a Number,
+}
+
+/// What is joined for the name that is edited: a range of its own, what is put there, and a range of its own again.
+#[derive(Clone, Copy)]
+pub(crate) struct EditForm<'a> {
+    front: OwnRange<'a>,
+    middle: Option<&'a Expr>,
+    behind: OwnRange<'a>,
+}
+
+/// Bytes of a text: so many from a place on.
+#[derive(Clone, Copy)]
+pub(crate) struct Replaced {
+    start: u64,
+    count: u64,
+}
+
+/// An edit of the cord in the entry at a place: what is put in the place of these bytes.
+#[derive(Clone, Copy)]
+pub(crate) struct Edit<'a> {
+    place: usize,
+    replaced: Replaced,
+    middle: Option<&'a Expr>,
+}
+
+/// The edit by which a name gets what it is made of, where all that lies before and behind the bytes that are replaced
+/// stays.
+pub(crate) fn edit_of<'a>(target: &Name, made: &'a Made, store: &Store) -> Option<Edit<'a>>
+    ensures { IfSome result (IsEdit store.now.entries.items target.now (made_view made.now)) }
+{
+    let form = form_of(target, made)?;
+    let place = store.place(target)?;
+    let cord = store.cord_at(place)?;
+    let replaced = replaced_of(
+        cord.len(),
+        store.value_of(form.front.start),
+        store.value_of(form.front.count),
+        store.value_of(form.behind.start),
+        store.value_of(form.behind.count),
+    )?;
+    Some(Edit {
+        place,
+        replaced,
+        middle: form.middle,
+    })
+}
+
+// What is joined, where it has the form of an edit.
+fn form_of<'a>(target: &Name, made: &'a Made) -> Option<EditForm<'a>>
+    ensures { IfSome result (λ form. made_view made.now ≡ form_view target.now form) }
+{
+    let Made::Joined(Expr::Cat(members)) = made else {
+        return None;
+    };
+    let (front, rest) = members.halves();
+    if front.is_some() {
+        return None;
+    }
+    match rest {
+        [first, last] => Some(EditForm {
+            front: own_range(target, first.as_ref())?,
+            middle: None,
+            behind: own_range(target, last.as_ref())?,
+        }),
+        [first, middle, last] => Some(EditForm {
+            front: own_range(target, first.as_ref())?,
+            middle: Some(middle.as_ref()),
+            behind: own_range(target, last.as_ref())?,
+        }),
+        _ => None,
+    }
+}
+
+// The range of the name's own text that an expression is.
+fn own_range<'a>(target: &Name, expression: &'a Expr) -> Option<OwnRange<'a>>
+    ensures { IfSome result (λ range. expr_view expression.now ≡ range_view target.now range) }
+{
+    match range_parts(expression) {
+        Some((name, start, count)) if name.is(target) => Some(OwnRange { start, count }),
+        _ => None,
+    }
+}
+
+// The bytes of a text of this length that stand in neither of two ranges, where the first range begins the text, the
+// second one ends it, and they have no byte in common.
+fn replaced_of(
+    len: u64,
+    first_start: i64,
+    first_count: i64,
+    last_start: i64,
+    last_count: i64,
+) -> Option<Replaced>
+    ensures { IfSome result (IsReplaced len first_start first_count last_start last_count) }
+{
+    if first_start != 0 || first_count < 0 || last_start < 0 || last_count < 0 {
+        return None;
+    }
+    let start = (first_count as u64).min(len);
+    let end = (last_start as u64).min(len);
+    if end < start || (last_count as u64) < len - end {
+        return None;
+    }
+    Some(Replaced {
+        start,
+        count: end - start,
+    })
+}
+
+/// Edits the cord of a name. Refused with the fault of what is put there, with `TooLong`, or with `NoMemory`: then all
+/// names hold what they held.
+pub(crate) fn edit_in_place(
+    alloc: Global,
+    store: &mut Store,
+    target: &Name,
+    made: &Made,
+    edit: Edit<'_>,
+) -> Result<(), Stop>
+    requires { IsEdit store.old.entries.items target.now (made_view made.now) edit }
+    ensures edited { IfOk result (λ _. Edited target.now (made_view made.now) edit.entry.middle
+        store.old.entries.items store.new.entries.items) }
+    ensures refused { IfErr result (IsUnmadeOfNames store.old.entries.items (made_view made.now)) }
+    ensures unchanged { IsErr result → store.new.entries.items ≡ store.old.entries.items }
+{
+    let middle = middle_of(alloc, edit.middle, store)?;
+    store.splice_at(
+        alloc,
+        edit.place,
+        edit.replaced.start,
+        edit.replaced.count,
+        &middle,
+    )?;
+    Ok(())
+}
+
+// The cord of what is put there: none where the bytes are left out.
+fn middle_of(alloc: Global, middle: Option<&Expr>, store: &Store) -> Result<Cord, Stop>
+    ensures made { IfOk result (IsMiddle store.now.entries.items middle.entry) }
+    ensures refused { IfErr result (IsNoMiddle store.now.entries.items middle.entry) }
+{
+    match middle {
+        None => Ok(Cord::empty()),
+        Some(expression) => build_part(alloc, expression, store),
+    }
+}
