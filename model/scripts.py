@@ -156,8 +156,8 @@ class Scripts:
         return [*lines, b"repeat %d" % self.random.randint(1, 150), *body, b"end", b"put " + seen]
 
     def edits(self):
-        """Edits of a text at places: what stands before one, another text, and what stands behind a second one. Now and then
-        the places overlap, bytes are lost at the end, the other text is the name's own, or a name holds the old text."""
+        """Edits of a text: what stands before a place, another text, and what stands behind a second place. Now and then
+        these overlap, bytes are lost at the end, the other text is the name's own, or a name holds the old text."""
         seen, more, front, behind, held = (name.encode() for name in self.random.sample(CORDS, 5))
         size = self.random.choice([6, 300, 20000])
         begun = [b"let %b %b" % (name, self.quoted(self.text())) for name in (more, front, held)]
@@ -169,10 +169,12 @@ class Scripts:
             most = self.random.choice([99999, size, self.random.randint(0, size)])
             if self.chance(0.2):
                 lines.append(b"cat %b %b %b" % (held, seen, self.random.choice([seen, more, front])))
-            lines.append(b"substr %b %b %d %b" % (front, seen, self.chance(0.05), self.number() if self.chance(0.1) else b"%d" % place))
+            count = self.number() if self.chance(0.1) else b"%d" % place
+            lines.append(b"substr %b %b %d %b" % (front, seen, self.chance(0.05), count))
             lines.append(b"substr %b %b %d %d" % (behind, seen, after, most))
             between = self.random.choices([b"", more, front, seen, more + b" " + more], [2, 6, 1, 1, 1])[0]
-            lines.append(b"catn %b %b %b %b" % (seen, front, between, behind) if between else b"cat %b %b %b" % (seen, front, behind))
+            joined = [b"catn", seen, front, between, behind] if between else [b"cat", seen, front, behind]
+            lines.append(b" ".join(joined))
         self.assigned |= {name.decode() for name in (seen, more, front, behind, held)}
         if self.chance(0.3):
             lines = [b"repeat %d" % self.random.randint(0, 30), *lines, b"end"]

@@ -183,10 +183,14 @@ fn refused_lazy_twice(rt: HostRuntime) {
 #[test]
 fn refused_edits(rt: HostRuntime) {
     let run = Run {
-        script: "let x \"hello world\"\nlet a \"new \"\ncat y x a\nsubstr l x 0 6\nsubstr r x 6 9\ncatn x l a r\nput x\n\
-            substr l x 0 2\nsubstr r x 9 9\ncat x l r\nput x\nput y",
+        script: "let x \"hello world\"\nlet a \"new \"\ncat y x a\nsubstr l x 0 6\nsubstr r x 6 9\ncatn x l a r\n\
+            put x\nsubstr l x 0 2\nsubstr r x 9 9\ncat x l r\nput x\nput y",
         lines: 12,
-        puts: &[(7, b"hello new world"), (11, b"he world"), (12, b"hello worldnew ")],
+        puts: &[
+            (7, b"hello new world"),
+            (11, b"he world"),
+            (12, b"hello worldnew "),
+        ],
         long: b"",
     };
     run_both(&rt, rt.alloc(), &run);

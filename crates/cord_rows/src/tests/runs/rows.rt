@@ -389,8 +389,8 @@ const EDITS: &[Row] = &[
     ),
     (
         "places-of-a-loop",
-        "let x \"aaaa\" ; let b \"b\" ; set n 0 ; repeat 3 ; add m n 1 ; substr l x 0 n ; substr r x m 99 ; catn x l b r ; \
-            set n m ; end ; put x",
+        "let x \"aaaa\" ; let b \"b\" ; set n 0 ; repeat 3 ; add m n 1 ; substr l x 0 n ; substr r x m 99 ; \
+            catn x l b r ; set n m ; end ; put x",
         End::Done,
         b"bbba",
     ),
