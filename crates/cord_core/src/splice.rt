@@ -1,6 +1,6 @@
 // Edits of a cord.
-ghost use Rattle.std.specs.Prelude.{◌≡◌, ℕ, ◌+◌, ◌-◌, ◌<◌, ◌≤◌, ◌++◌, min, max, true, take, drop, IfOk, OnOk, IfErr, IsErr, IsOkUnless};
-ghost use Rattle.std.specs.Prelude.{Err};
+ghost use Rattle.std.specs.Prelude.{◌≡◌, ℕ, ◌+◌, ◌-◌, ◌<◌, ◌≤◌, ◌++◌, min, max, true, take, drop};
+ghost use Rattle.std.specs.Prelude.{Err, IfOk, OnOk, IfErr, IsErr, IsOkUnless};
 ghost use Rattle.cord_node.specs.Kept.{AreFrom, Kept};
 ghost use Rattle.cord_core.specs.Cord.{text, text_len, depth, parts_of, IsCord};
 ghost use Rattle.cord_core.specs.Equations.{IsSpliced};

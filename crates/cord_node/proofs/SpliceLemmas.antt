@@ -1,5 +1,6 @@
 -- One text in the place of a range of another.
-use Rattle.std.proofs.Common.{◌≡◌, ℕ, ◌+◌, ◌-◌, ◌≤◌, List, [], ◌∷◌, ◌++◌, map, length, take, drop, refl, arith, ◌∙◌, sym, ap, subst, append_assoc}
+use Rattle.std.proofs.Common.{◌≡◌, ℕ, ◌+◌, ◌-◌, ◌≤◌, List, [], ◌∷◌, ◌++◌, map, length, take, drop}
+use Rattle.std.proofs.Common.{refl, arith, ◌∙◌, sym, ap, subst, append_assoc}
 use Rattle.std.proofs.Common.{length-drop, append-nil}
 use Rattle.std.specs.Prelude.{max, Option, Some}
 use Rattle.std.proofs.lemmas.List.{take-append-le, drop-append-le, take_all, drop_all, map-append, take-map, drop-map}
@@ -8,8 +9,10 @@ use Rattle.cord_node.specs.declared.Node.TheVariants.{Leaf, Run, Func, Cat'}
 use Rattle.cord_node.specs.declared.TheConstants.{SMALL_LEN}
 use Rattle.cord_node.specs.Tree.{Cell, known, cells, len_of, depth_of, IsSound}
 use Rattle.cord_node.specs.Kept.{Part, leaf_part, parts, AreFrom, Kept}
-use Rattle.cord_node.specs.Splices.{some_cells, some_len, some_depth, some_parts, IsSomeSound, LeftTakes, RightTakes, BothTake, AreSpliced, AreSides, IsSplice}
-use Rattle.cord_node.proofs.KeptLemmas.{IsFrom-small, AreFrom-append, AreFrom-append_left, AreFrom-append_right, AreFrom-self, AreFrom-trans}
+use Rattle.cord_node.specs.Splices.{some_cells, some_len, some_depth, some_parts, IsSomeSound}
+use Rattle.cord_node.specs.Splices.{LeftTakes, RightTakes, BothTake, AreSpliced, AreSides, IsSplice}
+use Rattle.cord_node.proofs.KeptLemmas.{IsFrom-small, AreFrom-append, AreFrom-append_left, AreFrom-append_right}
+use Rattle.cord_node.proofs.KeptLemmas.{AreFrom-self, AreFrom-trans}
 use Rattle.cord_node.proofs.Ranges.{take-append_right, drop-append_right}
 use Rattle.cord_node.proofs.TreeLemmas.{length-cells}
 
@@ -40,7 +43,8 @@ pub replaced_is : (from until end : ℕ) (middle : Option Node) (old : Node) (fr
     some_depth all ≤ max (max (some_depth front) (some_depth middle)) (some_depth back) + 2 →
     AreFrom (some_parts front) (parts old) → AreFrom (some_parts back) (parts old) →
     AreFrom (some_parts all) (some_parts front ++ some_parts middle ++ some_parts back) → IsSplice from until middle old new
-replaced_is from until end middle old front back all new sound inside last is s t_front t_back t l_front l_back l d_front d_back d f_front f_back f =
+replaced_is from until end middle old front back all new sound inside last is s t_front t_back t l_front l_back l d_front d_back d f_front
+    f_back f =
     let zero : from - 0 ≡ from = omega arith in
     let long : length (drop until (cells old)) ≤ end - until =
     rw (length-drop until (cells old), length-cells old sound) (omega (arith, last)) in

@@ -1,5 +1,6 @@
 -- One text in the place of a range of another, and texts that may be none.
-use Rattle.std.specs.Prelude.{◌≡◌, ℕ, ◌+◌, ◌-◌, ◌<◌, ◌≤◌, max, List, [], ◌++◌, take, drop, Bool, true, false, Option, Some, None, option_map, ⊤}
+use Rattle.std.specs.Prelude.{◌≡◌, ℕ, ◌+◌, ◌-◌, ◌<◌, ◌≤◌, max, List, [], ◌++◌, take, drop}
+use Rattle.std.specs.Prelude.{Bool, true, false, Option, Some, None, option_map, ⊤}
 use Rattle.std.specs.declared.rc.Rc.{Rc}
 use Rattle.cord_node.specs.declared.Node.{Node}
 use Rattle.cord_node.specs.declared.Node.TheVariants.{Leaf, Run, Func, Cat'}

@@ -1,5 +1,6 @@
 // A node with another text in the place of a range of it.
-ghost use Rattle.std.specs.Prelude.{◌≡◌, ℕ, ◌+◌, ◌-◌, ◌<◌, ◌≤◌, [], ◌∷◌, ◌++◌, max, IfOk, IfSome, length, map, take, drop};
+ghost use Rattle.std.specs.Prelude.{◌≡◌, ℕ, ◌+◌, ◌-◌, ◌<◌, ◌≤◌, [], ◌∷◌, ◌++◌, max, length, map, take, drop};
+ghost use Rattle.std.specs.Prelude.{IfOk, IfSome};
 ghost use Rattle.cord_node.specs.Tree.{cells, known, len_of, depth_of, IsSound};
 ghost use Rattle.cord_node.specs.Kept.{parts, leaf_part, AreFrom};
 ghost use Rattle.cord_node.specs.Splices.{node_in, some_cells, some_len, some_depth, some_parts, IsSomeSound, IsSplice};

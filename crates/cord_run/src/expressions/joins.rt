@@ -26,8 +26,8 @@ struct ShortLeaves {
     bytes: ArrayVec<u8, SMALL_LEN>,
 }
 
-/// The texts of all these cords in order. Leaves beside one another become one where they have at most `SMALL_LEN` bytes
-/// together: so the rope gets deeper by that one alone. Refused with `TooLong` or `NoMemory`.
+/// The texts of all these cords in order. Leaves beside one another become one where they have at most `SMALL_LEN`
+/// bytes together: so the rope gets deeper by that one alone. Refused with `TooLong` or `NoMemory`.
 pub(crate) fn join_all(alloc: Global, cords: &[Cord]) -> Result<Cord, CordError>
     ensures over { IfOk result (IsAllOf cords.now) }
     ensures sound { IfOk result IsCord }
