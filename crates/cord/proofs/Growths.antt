@@ -1,5 +1,5 @@
 -- What grows by texts over no files has no byte in a file.
-use Rattle.std.proofs.Common.{◌≡◌, ℕ, List, [], ◌++◌, refl, ◌∙◌, sym}
+use Rattle.std.proofs.Common.{◌≡◌, ℕ, List, ◌++◌, refl, ◌∙◌, sym}
 use Rattle.std.specs.Prelude.{Option}
 use Rattle.cord_node.specs.declared.Node.{Node}
 use Rattle.cord_node.specs.Tree.{Cell}

@@ -1,4 +1,4 @@
-use Rattle.std.proofs.Common.{◌≡◌, ◌≤◌, ◌<◌, ◌+◌, ◌++◌, [], length, take, drop, arith, subst}
+use Rattle.std.proofs.Common.{◌≤◌, ◌+◌, ◌++◌, [], length, take, drop, arith, subst}
 use Rattle.std.proofs.lemmas.Grind.{common_steps}
 use Rattle.cord_io.specs.declared.TheConstants.{MAX_LEN}
 use Rattle.cord.proofs.PlainTexts.{plain_limit, rest_limit}
