@@ -6,7 +6,8 @@ use Rattle.cord.proofs.text.Text.remove.Goals as goal
 
 pub returns-in_err-edited-clause-refused : goal.returns-in_err-edited-clause-refused
 returns-in_err-edited-clause-refused c =
-    let limit : length c.args.self.now ≤ MAX_LEN = subst (λ x. length x ≤ MAX_LEN) c.self.view_is (plain_limit c.self.inside.cord c.self.invariant) in
+    let limit : length c.args.self.now ≤ MAX_LEN = subst (λ x. length x ≤ MAX_LEN) c.self.view_is
+    (plain_limit c.self.inside.cord c.self.invariant) in
     let fits : length (take c.args.start c.args.self.now ++ [] ++ drop (c.args.start + c.args.count) c.args.self.now) ≤ MAX_LEN =
     rest_limit c.args.self.now c.args.start c.args.count limit in
     grind (arith, common_steps, fits)
