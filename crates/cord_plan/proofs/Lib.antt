@@ -55,3 +55,4 @@ pub mod Marked
 pub mod OnlyKept
 pub mod Pushed
 pub mod Known
+pub mod Nexts

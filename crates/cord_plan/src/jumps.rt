@@ -1,12 +1,13 @@
 // Where the operations of a plan lead that pass others over.
-ghost use Rattle.std.specs.Prelude.{◌≡◌, ◌<◌, ℕ, Some, IfOk, length, map, slice_get};
+ghost use Rattle.std.specs.Prelude.{◌≡◌, ◌+◌, ◌<◌, ℕ, false, IfOk, get_or, length, map};
 ghost use Rattle.cord_meaning.specs.Blocks.{jump};
+ghost use Rattle.cord_plan.specs.Forced.{is_block};
 ghost use Rattle.cord_plan.specs.inner.Liveness.{shape_view};
 ghost use Rattle.cord_plan.specs.Meaning.{operation_shape};
 ghost use Rattle.cord_plan.specs.Views.{operation_view};
 
 use crate::Operation;
-use crate::flow::{Shape, jump, shape_of};
+use crate::flow::{Shape, is_block, jump, shape_of};
 use std::alloc::{AllocError, Global};
 
 // What an operation is to control.
@@ -19,6 +20,28 @@ fn operation_shape(operation: &Operation) -> Shape
     }
 }
 
+// Whether an operation is control.
+fn is_control(operation: &Operation) -> bool
+    ensures { result ≡ is_block (operation_shape (operation_view operation.now)) }
+{
+    match operation {
+        Operation::Keep(statement) => is_block(statement),
+        _ => false,
+    }
+}
+
+// Whether one of these operations is control. Where none is, each leads to the next one.
+fn have_control(operations: &[Operation]) -> bool
+    ensures { result ≡ false → (p : ℕ) → jump (map operation_shape (map operation_view operations.now)) p ≡ p + 1 }
+{
+    for operation in operations {
+        if is_control(operation) {
+            return true;
+        }
+    }
+    false
+}
+
 fn shapes_of(alloc: Global, operations: &[Operation]) -> Result<Vec<Shape>, AllocError>
     ensures { IfOk result (λ v. map shape_view v.items ≡ map operation_shape (map operation_view operations.now)) }
 {
@@ -29,12 +52,15 @@ fn shapes_of(alloc: Global, operations: &[Operation]) -> Result<Vec<Shape>, Allo
     Ok(shapes)
 }
 
-/// The place that each operation leads to where it passes others over.
+/// The place that each operation leads to where it passes others over. Where each leads to the next one none is listed,
+/// and no memory is taken.
 pub(crate) fn jumps(alloc: Global, operations: &[Operation]) -> Result<Vec<usize>, AllocError>
-    ensures size { IfOk result (λ v. length v.items ≡ length operations.now) }
-    ensures told { IfOk result (λ v. (p : ℕ) → p < length operations.now →
-        slice_get v.items p ≡ Some (jump (map operation_shape (map operation_view operations.now)) p)) }
+    ensures { IfOk result (λ v. (p : ℕ) → p < length operations.now →
+        get_or v.items p (p + 1) ≡ jump (map operation_shape (map operation_view operations.now)) p) }
 {
+    if !have_control(operations) {
+        return Ok(Vec::new(alloc));
+    }
     let shapes = shapes_of(alloc, operations)?;
     let mut places = Vec::new(alloc);
     for place in 0..shapes.len() {

@@ -1,6 +1,6 @@
 // Plans.
-ghost use Rattle.std.specs.Prelude.{◌≡◌, All, ◌<◌, ◌++◌, ℕ, Some, IfErr, IfOk, IsOkUnless, OnErr, OnOk, length, map};
-ghost use Rattle.std.specs.Prelude.{slice_get};
+ghost use Rattle.std.specs.Prelude.{◌≡◌, All, ◌+◌, ◌<◌, ◌++◌, ℕ, IfErr, IfOk, IsOkUnless, OnErr, OnOk, length, map};
+ghost use Rattle.std.specs.Prelude.{get_or};
 ghost use Rattle.cord_meaning.specs.Blocks.{jump};
 ghost use Rattle.cord_io.specs.Device.{raised};
 ghost use Rattle.cord_iter.specs.Taking.{IsFrontOf, Takes};
@@ -88,11 +88,11 @@ impl Plan {
 
     /// For each operation the place that it leads to where it passes others over: a `repeat` after its `end`, an `if`
     /// after its `else` or, where it has none, to its `end`, an `else` to its `end`, and any other to the next one.
-    /// Refused only with `NoMemory`.
+    /// An operation whose place isn't listed leads to the next one: where no operation is control the list takes no
+    /// memory. Refused only with `NoMemory`.
     pub fn jumps(&self, alloc: Global) -> Result<Vec<usize>, CordError>
-        ensures size { IfOk result (λ v. length v.items ≡ length self.now) }
         ensures told { IfOk result (λ v. (p : ℕ) → p < length self.now →
-            slice_get v.items p ≡ Some (jump (map operation_shape (map operation_view self.now)) p)) }
+            get_or v.items p (p + 1) ≡ jump (map operation_shape (map operation_view self.now)) p) }
         ensures refused { IsOkUnless result CordError.NoMemory }
     {
         Ok(jumps(alloc, &self.operations)?)

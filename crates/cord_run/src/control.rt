@@ -2,7 +2,7 @@
 pub(crate) mod branches;
 pub(crate) mod lines;
 
-ghost use Rattle.std.specs.Prelude.{map, reverse, ◌≡◌, ◌+◌, ◌-◌, ◌^◌, ◌<◌, ◌∷◌, [], Ok, IfOk, IfErr};
+ghost use Rattle.std.specs.Prelude.{get_or, map, reverse, ◌≡◌, ◌+◌, ◌-◌, ◌^◌, ◌<◌, ◌∷◌, [], Ok, IfOk, IfErr};
 ghost use Rattle.cord_meaning.specs.declared.TheConstants.{MAX_TURNS};
 ghost use Rattle.cord_run.specs.inner.Steps.{stop_of_control};
 ghost use Rattle.cord_run.specs.inner.Controls.{Goes, IsTurnAt, begun, block_view, chosen, closed, repeated, where_of};
@@ -67,6 +67,18 @@ fn next(line: u32, place: usize) -> Result<usize, ControlStop>
     match place.checked_add(1) {
         Some(next) => Ok(next),
         None => Err(ControlStop::NoMemory(line)),
+    }
+}
+
+/// The place that the operation at a place leads to where it passes others over: where none is listed, the next one.
+#[inline(always)]
+pub(crate) fn exit_at(jumps: &[usize], place: usize) -> usize
+    requires { place < 2 ^ 64 - 1 }
+    ensures { result ≡ get_or jumps.now place (place + 1) }
+{
+    match jumps.get(place) {
+        Some(exit) => *exit,
+        None => place + 1,
     }
 }
 

@@ -76,6 +76,7 @@ impl Numbering {
     }
 
     /// The number of a name.
+    #[inline(always)]
     pub(crate) fn number_of(&self, name: &Name) -> Option<usize>
         ensures { result ≡ number_of self.now name.now }
     {
@@ -99,6 +100,8 @@ impl Numbering {
     }
 
     // Takes in a name that isn't there, and gives its number.
+    #[cold]
+    #[inline(never)]
     fn add_new(&mut self, alloc: Global, name: &Name) -> Result<usize, AllocError>
         requires { place_of (names_of self.old) name.now ≡ None }
         ensures added { OnOk result (Adds (name.now ∷ []) (names_of self.old) (names_of self.new)) }
@@ -112,6 +115,7 @@ impl Numbering {
     }
 
     /// Takes in a name where it isn't there, and gives its number.
+    #[inline(always)]
     pub(crate) fn add(&mut self, alloc: Global, name: &Name) -> Result<usize, AllocError>
         ensures added { OnOk result (Adds (name.now ∷ []) (names_of self.old) (names_of self.new)) }
         ensures number { IfOk result (λ n. slice_get (names_of self.new) n ≡ Some name.now) }

@@ -158,6 +158,7 @@ fn note_two(
 }
 
 // Notes it for the names that a line reads, by its names.
+#[inline(never)]
 fn note_names(
     numbering: &Numbering,
     places: &mut [Option<usize>],
@@ -176,6 +177,7 @@ fn note_names(
 }
 
 /// Notes it for the names that a line reads. Where their numbers are told the line isn't looked at.
+#[inline(always)]
 pub(crate) fn note_read(
     numbering: &Numbering,
     places: &mut [Option<usize>],

@@ -74,7 +74,7 @@ pub(crate) fn place_by(entries: &[Entry], guesses: &[u32], name: &Name) -> Optio
 }
 
 // The same of a name of more bytes.
-#[inline(never)]
+#[inline(always)]
 fn place_by_key(entries: &[Entry], guesses: &[u32], name: &Name) -> Option<usize>
     requires distinct { are_distinct (names_in entries.now) ≡ true }
     ensures within { IfSome result (λ place. place < length entries.now) }

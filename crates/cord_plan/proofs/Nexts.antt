@@ -1,0 +1,23 @@
+-- Operations that lead to the next one.
+use Rattle.std.proofs.Common.{◌≡◌, ◌+◌, ℕ, List, Bool, false, Option, Some, None, drop, refl}
+use Rattle.std.specs.Prelude.{slice_get}
+use Rattle.cord_meaning.specs.Blocks.{Shape, jump, jump_at}
+use Rattle.cord_meaning.specs.Blocks.Shape.{Simple, Loop, Branch, Otherwise, Close}
+use Rattle.cord_plan.specs.Forced.{is_block}
+
+-- whether a shape, where there is one, belongs to a block
+abbrev pub is_block_shape : Option Shape → Bool
+is_block_shape None = false
+is_block_shape (Some s) = is_block s
+
+next_of : (shape : Option Shape) (p : ℕ) (rest : List Shape) → is_block_shape shape ≡ false → jump_at shape p rest ≡ p + 1
+next_of None p rest e = refl
+next_of (Some Simple) p rest e = refl
+next_of (Some Loop) p rest e = let bad : ⊥ = cc in absurd bad
+next_of (Some Branch) p rest e = let bad : ⊥ = cc in absurd bad
+next_of (Some Otherwise) p rest e = let bad : ⊥ = cc in absurd bad
+next_of (Some Close) p rest e = refl
+
+-- where no shape belongs to a block, each leads to the next place
+pub all_next : (shapes : List Shape) → ((p : ℕ) → is_block_shape (slice_get shapes p) ≡ false) → (p : ℕ) → jump shapes p ≡ p + 1
+all_next shapes none p = next_of (slice_get shapes p) p (drop (p + 1) shapes) (none p)
