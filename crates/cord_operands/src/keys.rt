@@ -39,6 +39,7 @@ fn hash_of(name: &[u8]) -> u64
 }
 
 /// The key of a name of these bytes. Names of at most seven bytes, as most are, have keys of their own. O(length).
+#[inline(always)]
 pub fn key_of(name: &[u8]) -> u64
     ensures { result ≡ key_of name.now }
 {

@@ -226,6 +226,7 @@ macro_rules! family {
 
 impl Statement {
     /// What the statement is about, with its fields lent.
+    #[inline(always)]
     pub fn family(&self) -> Family<'_>
         ensures { statement_of (line_of self.now) result ≡ self.now }
     {
