@@ -170,6 +170,7 @@ fn part(
 }
 
 /// The expression of a simple line, where these stand for its operands; of any other line there is none.
+#[inline(always)]
 pub(crate) fn expression_with(
     alloc: Global,
     interner: &mut Interner,
