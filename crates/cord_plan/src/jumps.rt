@@ -1,5 +1,5 @@
 // Where the operations of a plan lead that pass others over.
-ghost use Rattle.std.specs.Prelude.{◌≡◌, ◌+◌, ◌<◌, ℕ, false, IfOk, get_or, length, map};
+ghost use Rattle.std.specs.Prelude.{◌≡◌, ◌+◌, ◌<◌, ℕ, false, Some, IfOk, length, map, slice_get};
 ghost use Rattle.cord_meaning.specs.Blocks.{jump};
 ghost use Rattle.cord_plan.specs.Forced.{is_block};
 ghost use Rattle.cord_plan.specs.inner.Liveness.{shape_view};
@@ -30,8 +30,8 @@ fn is_control(operation: &Operation) -> bool
     }
 }
 
-// Whether one of these operations is control. Where none is, each leads to the next one.
-fn have_control(operations: &[Operation]) -> bool
+/// Whether one of these operations is control. Where none is, each leads to the next one.
+pub(crate) fn have_control(operations: &[Operation]) -> bool
     ensures { result ≡ false → (p : ℕ) → jump (map operation_shape (map operation_view operations.now)) p ≡ p + 1 }
 {
     for operation in operations {
@@ -52,15 +52,12 @@ fn shapes_of(alloc: Global, operations: &[Operation]) -> Result<Vec<Shape>, Allo
     Ok(shapes)
 }
 
-/// The place that each operation leads to where it passes others over. Where each leads to the next one none is listed,
-/// and no memory is taken.
+/// The place that each operation leads to where it passes others over.
 pub(crate) fn jumps(alloc: Global, operations: &[Operation]) -> Result<Vec<usize>, AllocError>
-    ensures { IfOk result (λ v. (p : ℕ) → p < length operations.now →
-        get_or v.items p (p + 1) ≡ jump (map operation_shape (map operation_view operations.now)) p) }
+    ensures size { IfOk result (λ v. length v.items ≡ length operations.now) }
+    ensures told { IfOk result (λ v. (p : ℕ) → p < length operations.now →
+        slice_get v.items p ≡ Some (jump (map operation_shape (map operation_view operations.now)) p)) }
 {
-    if !have_control(operations) {
-        return Ok(Vec::new(alloc));
-    }
     let shapes = shapes_of(alloc, operations)?;
     let mut places = Vec::new(alloc);
     for place in 0..shapes.len() {

@@ -1,6 +1,6 @@
 // Plans.
-ghost use Rattle.std.specs.Prelude.{◌≡◌, All, ◌+◌, ◌<◌, ◌++◌, ℕ, IfErr, IfOk, IsOkUnless, OnErr, OnOk, length, map};
-ghost use Rattle.std.specs.Prelude.{get_or};
+ghost use Rattle.std.specs.Prelude.{◌≡◌, All, ◌+◌, ◌<◌, ◌++◌, ℕ, Some, IfErr, IfOk, IsOkUnless, OnErr, OnOk};
+ghost use Rattle.std.specs.Prelude.{false, length, map, slice_get};
 ghost use Rattle.cord_meaning.specs.Blocks.{jump};
 ghost use Rattle.cord_io.specs.Device.{raised};
 ghost use Rattle.cord_iter.specs.Taking.{IsFrontOf, Takes};
@@ -11,7 +11,7 @@ ghost use Rattle.cord_plan.specs.Shown.{shown};
 ghost use Rattle.cord_plan.specs.Views.{operation_view};
 
 use crate::Operation;
-use crate::jumps::jumps;
+use crate::jumps::{have_control, jumps};
 use crate::planner::{Interner, operation_of, own_expression};
 use crate::shown::show_operations;
 use cord_io::{CordError, Sink};
@@ -86,13 +86,22 @@ impl Plan {
         &self.operations
     }
 
+    /// Whether an operation is control: a `repeat`, an `if`, an `else` or an `end`. Where none is, each operation leads
+    /// to the next one. O(operations), and no memory.
+    pub fn has_control(&self) -> bool
+        ensures { result ≡ false → (p : ℕ) →
+            jump (map operation_shape (map operation_view self.now)) p ≡ p + 1 }
+    {
+        have_control(&self.operations)
+    }
+
     /// For each operation the place that it leads to where it passes others over: a `repeat` after its `end`, an `if`
     /// after its `else` or, where it has none, to its `end`, an `else` to its `end`, and any other to the next one.
-    /// An operation whose place isn't listed leads to the next one: where no operation is control the list takes no
-    /// memory. Refused only with `NoMemory`.
+    /// Refused only with `NoMemory`.
     pub fn jumps(&self, alloc: Global) -> Result<Vec<usize>, CordError>
+        ensures size { IfOk result (λ v. length v.items ≡ length self.now) }
         ensures told { IfOk result (λ v. (p : ℕ) → p < length self.now →
-            get_or v.items p (p + 1) ≡ jump (map operation_shape (map operation_view self.now)) p) }
+            slice_get v.items p ≡ Some (jump (map operation_shape (map operation_view self.now)) p)) }
         ensures refused { IsOkUnless result CordError.NoMemory }
     {
         Ok(jumps(alloc, &self.operations)?)

@@ -1,6 +1,5 @@
-use Rattle.std.proofs.Common.{◌≡◌, ◌+◌, ◌<◌, ◌∙◌, List, map, length, sym, ap, arith}
+use Rattle.std.proofs.Common.{◌≡◌, ◌<◌, List, Some, map, length, sym, ap, ◌∙◌, arith}
 use Rattle.std.proofs.lemmas.List.{length-map}
-use Rattle.std.proofs.lemmas.Option.{get_or_from_slice_get}
 use Rattle.cord_meaning.specs.Blocks as blocks
 use Rattle.cord_meaning.specs.Blocks.{jump}
 use Rattle.cord_plan.specs.inner.Liveness.{shape_view}
@@ -30,11 +29,15 @@ loop-place-preserved c =
           c.loop-place.place c.in_ok-push.ensures.items c.loop-place.invariant.size is c.loop-place.invariant.told;
     }
 
-pub returns : goal.returns
-returns c = λ p lt.
+pub returns-clause-size : goal.returns-clause-size
+returns-clause-size c =
+    let many : length c.in_ok-shapes.shapes.items ≡ length c.args.operations.now =
+    as_many c.in_ok-shapes.shapes.items c.args.operations.now c.in_ok-shapes.ensures in
+    omega arith
+
+pub returns-clause-told : goal.returns-clause-told
+returns-clause-told c = λ p lt.
     let many : length c.in_ok-shapes.shapes.items ≡ length c.args.operations.now =
     as_many c.in_ok-shapes.shapes.items c.args.operations.now c.in_ok-shapes.ensures in
     let before : p < c.loop-place.place = omega arith in
-    get_or_from_slice_get c.loop-place.places.items p (jump (map shape_view c.in_ok-shapes.shapes.items) p) (p + 1)
-    (c.loop-place.invariant.told p before)
-    ∙ ap (λ (xs : List blocks.Shape). jump xs p) c.in_ok-shapes.ensures
+    c.loop-place.invariant.told p before ∙ ap (λ (xs : List blocks.Shape). Some (jump xs p)) c.in_ok-shapes.ensures
