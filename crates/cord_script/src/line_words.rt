@@ -92,6 +92,7 @@ impl<'a> LineWords<'a> {
     }
 
     /// The next word, which is a name that is known and of this kind.
+    #[inline(always)]
     pub fn name(&mut self, kind: Kind) -> Result<Name, Unsettled>
         ensures word { IfOk result (λ name. PassesWord self.old (Plain name) self.new) }
         ensures is_name { IfOk result (λ name. is_name name ≡ true) }

@@ -94,6 +94,7 @@ impl Interner {
     }
 
     /// A name as an expression. Refused only with `NoMemory`.
+    #[inline(always)]
     pub(crate) fn name(&mut self, alloc: Global, name: &Name) -> Result<Rc<Expr>, CordError>
         ensures made { IfOk result (λ e. shared_view e ≡ plain.name name.now) }
         ensures refused { IsOkUnless result CordError.NoMemory }
