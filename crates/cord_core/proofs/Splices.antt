@@ -6,12 +6,17 @@ use Rattle.cord_node.specs.Kept.{Part, AreFrom}
 use Rattle.cord_node.proofs.KeptLemmas.{AreFrom-append, AreFrom-append_left, AreFrom-append_right, AreFrom-self, AreFrom-trans}
 use Rattle.cord_node.proofs.SpliceLemmas.{AreFrom-both}
 
--- its parts
-pub spliced_parts : (old middle front back longer all : List Part) → AreFrom front old → AreFrom back old →
-    AreFrom longer (front ++ middle) → AreFrom all (longer ++ back) → AreFrom all (old ++ middle)
-spliced_parts old middle front back longer all f b l a = AreFrom-trans all (longer ++ back) (old ++ middle) a
-    (AreFrom-append longer back (old ++ middle)
-    (AreFrom-trans longer (front ++ middle) (old ++ middle) l (AreFrom-both old middle front middle f (AreFrom-self middle)))
+-- the parts of three texts, one after the other
+pub joined_parts : (front middle back longer all : List Part) → AreFrom longer (front ++ middle) → AreFrom all (longer ++ back) →
+    AreFrom all (front ++ middle ++ back)
+joined_parts front middle back longer all l a = AreFrom-trans all (longer ++ back) (front ++ middle ++ back) a
+    (AreFrom-both (front ++ middle) back longer back l (AreFrom-self back))
+
+-- where the first and the last are cut out of one
+pub cut_parts : (old middle front back all : List Part) → AreFrom front old → AreFrom back old → AreFrom all (front ++ middle ++ back) →
+    AreFrom all (old ++ middle)
+cut_parts old middle front back all f b a = AreFrom-trans all (front ++ middle ++ back) (old ++ middle) a
+    (AreFrom-append (front ++ middle) back (old ++ middle) (AreFrom-both old middle front middle f (AreFrom-self middle))
     (AreFrom-append_left back old middle b))
 
 -- the parts of one that was made of the same texts in other trees

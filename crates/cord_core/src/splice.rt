@@ -114,7 +114,7 @@ fn shallow(alloc: Global, cord: &Cord) -> Result<Cord, CordError>
 }
 
 // The text of `cord` with `middle` in the place of the bytes from `from` up to `until`, where a tree is too deep to be
-// changed in its place.
+// changed in its place: both are balanced first, and where that leaves no room the text is joined anew.
 fn spliced_balanced(
     alloc: Global,
     cord: &Cord,
@@ -136,34 +136,25 @@ fn spliced_balanced(
     let middle = shallow(alloc, middle)?;
     if has_room(&changed, &middle) {
         splice_tree(alloc, &mut changed, from, until, &middle)?;
-        Ok(changed)
-    } else {
-        let rejoined = rejoined(alloc, &changed, from, until, &middle)?;
-        Ok(rejoined)
+        return Ok(changed);
     }
+    let front = changed.substr(alloc, 0, from)?;
+    let back = changed.substr(alloc, until, changed.len())?;
+    let all = joined(alloc, &front, &middle, &back)?;
+    Ok(all)
 }
 
-// The same, joined of what is left in front and behind, and of `middle` between them.
-fn rejoined(
-    alloc: Global,
-    cord: &Cord,
-    from: u64,
-    until: u64,
-    middle: &Cord,
-) -> Result<Cord, CordError>
-    requires order { from ≤ until }
-    requires inside { until ≤ text_len cord.now }
-    requires within_limit { from + text_len middle.now + (text_len cord.now - until) ≤ MAX_LEN }
-    ensures text { IfOk result (λ c. text c
-        ≡ take from (text cord.now) ++ text middle.now ++ drop until (text cord.now)) }
-    ensures len { IfOk result (λ c. text_len c ≡ from + text_len middle.now + (text_len cord.now - until)) }
+// Three texts, one after the other.
+fn joined(alloc: Global, front: &Cord, middle: &Cord, back: &Cord) -> Result<Cord, CordError>
+    requires { text_len front.now + text_len middle.now + text_len back.now ≤ MAX_LEN }
+    ensures text { IfOk result (λ c. text c ≡ text front.now ++ text middle.now ++ text back.now) }
+    ensures len { IfOk result (λ c. text_len c ≡ text_len front.now + text_len middle.now + text_len back.now) }
     ensures sound { IfOk result IsCord }
-    ensures from_there { IfOk result (λ c. AreFrom (parts_of c) (parts_of cord.now ++ parts_of middle.now)) }
+    ensures from_there { IfOk result (λ c. AreFrom (parts_of c)
+        (parts_of front.now ++ parts_of middle.now ++ parts_of back.now)) }
     ensures refused { IsOkUnless result CordError.NoMemory }
 {
-    let front = cord.substr(alloc, 0, from)?;
-    let back = cord.substr(alloc, until, cord.len())?;
-    let longer = Cord::cat(alloc, &front, middle)?;
-    let all = Cord::cat(alloc, &longer, &back)?;
+    let longer = Cord::cat(alloc, front, middle)?;
+    let all = Cord::cat(alloc, &longer, back)?;
     Ok(all)
 }

@@ -1,13 +1,16 @@
 use Rattle.cord_core.specs.Cord.{parts_of}
-use Rattle.cord_core.proofs.Splices.{balanced_parts}
+use Rattle.cord_core.proofs.Splices.{balanced_parts, cut_parts}
 use Rattle.cord_core.proofs.splice.spliced_balanced.Goals as goal
 
-pub returns-in_ok-splice_tree-clause-from_there : goal.returns-in_ok-splice_tree-clause-from_there
-returns-in_ok-splice_tree-clause-from_there c = balanced_parts (parts_of c.args.cord.now) (parts_of c.args.middle.now)
+pub returns-then-has_room-clause-from_there : goal.returns-then-has_room-clause-from_there
+returns-then-has_room-clause-from_there c = balanced_parts (parts_of c.args.cord.now) (parts_of c.args.middle.now)
     (parts_of c.in_ok-changed.changed) (parts_of c.in_ok-middle.middle) (parts_of c.splice_tree.new.cord)
     c.in_ok-changed.ensures.kept.from_there c.in_ok-middle.ensures.kept.from_there c.in_ok-splice_tree.ensures.from_there
 
-pub returns-in_ok-rejoined-clause-from_there : goal.returns-in_ok-rejoined-clause-from_there
-returns-in_ok-rejoined-clause-from_there c = balanced_parts (parts_of c.args.cord.now) (parts_of c.args.middle.now)
-    (parts_of c.in_ok-changed.changed) (parts_of c.in_ok-middle.middle) (parts_of c.in_ok-rejoined.rejoined)
-    c.in_ok-changed.ensures.kept.from_there c.in_ok-middle.ensures.kept.from_there c.in_ok-rejoined.ensures.from_there
+pub returns-clause-from_there : goal.returns-clause-from_there
+returns-clause-from_there c = balanced_parts (parts_of c.args.cord.now) (parts_of c.args.middle.now)
+    (parts_of c.in_ok-changed.changed) (parts_of c.in_ok-middle.middle) (parts_of c.in_ok-all.all)
+    c.in_ok-changed.ensures.kept.from_there c.in_ok-middle.ensures.kept.from_there
+    (cut_parts (parts_of c.in_ok-changed.changed) (parts_of c.in_ok-middle.middle) (parts_of c.in_ok-front.front)
+    (parts_of c.in_ok-back.back) (parts_of c.in_ok-all.all) c.in_ok-front.ensures.kept.from_there
+    c.in_ok-back.ensures.kept.from_there c.in_ok-all.ensures.from_there)

@@ -1,9 +1,0 @@
-use Rattle.cord_core.specs.Cord.{parts_of}
-use Rattle.cord_core.proofs.Splices.{spliced_parts}
-use Rattle.cord_core.proofs.splice.rejoined.Goals as goal
-
-pub returns-clause-from_there : goal.returns-clause-from_there
-returns-clause-from_there c = spliced_parts (parts_of c.args.cord.now) (parts_of c.args.middle.now) (parts_of c.in_ok-front.front)
-    (parts_of c.in_ok-back.back) (parts_of c.in_ok-longer.longer) (parts_of c.in_ok-all.all)
-    c.in_ok-front.ensures.kept.from_there c.in_ok-back.ensures.kept.from_there c.in_ok-longer.ensures.kept.from_there
-    c.in_ok-all.ensures.kept.from_there
