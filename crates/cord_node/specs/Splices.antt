@@ -2,6 +2,7 @@
 use Rattle.std.specs.Prelude.{◌≡◌, ℕ, ◌+◌, ◌-◌, ◌<◌, ◌≤◌, max, List, [], ◌++◌, take, drop}
 use Rattle.std.specs.Prelude.{Bool, true, false, Option, Some, None, option_map, ⊤}
 use Rattle.std.specs.declared.rc.Rc.{Rc}
+use Rattle.cord_io.specs.declared.TheConstants.{MAX_LEN, MAX_DEPTH}
 use Rattle.cord_node.specs.declared.Node.{Node}
 use Rattle.cord_node.specs.declared.Node.TheVariants.{Leaf, Run, Func, Cat'}
 use Rattle.cord_node.specs.Tree.{Cell, cells, len_of, depth_of, IsSound}
@@ -83,6 +84,16 @@ pub record AreSpliced (from until : ℕ) (middle : Option Node) (old_left old_ri
   pub len : len_of left + len_of right ≡ from + some_len middle + (len_of old_left + len_of old_right - until)
   pub depth : max (depth_of left) (depth_of right) ≤ max (max (depth_of old_left) (depth_of old_right) + 1) (some_depth middle) + 1
   pub from_there : AreFrom (parts left ++ parts right) (parts old_left ++ parts old_right ++ some_parts middle)
+
+-- the range lies inside the node, something is left, and the result is neither too long nor too deep
+pub record IsEditable (from until : ℕ) (middle : Option Node) (node : Node) : Type 0 where
+  pub sound : IsSound node
+  pub middle_sound : IsSomeSound middle
+  pub order : from ≤ until
+  pub inside : until ≤ len_of node
+  pub not_empty : 0 < from + some_len middle + (len_of node - until)
+  pub within_limit : from + some_len middle + (len_of node - until) ≤ MAX_LEN
+  pub shallow : max (depth_of node) (some_depth middle) + 2 ≤ MAX_DEPTH
 
 -- new is old with middle in the place of the range
 pub record IsSplice (from until : ℕ) (middle : Option Node) (old new : Node) : Type 0 where

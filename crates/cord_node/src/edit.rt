@@ -4,7 +4,7 @@ ghost use Rattle.cord_node.specs.Tree.{cells, len_of, depth_of, IsSound};
 ghost use Rattle.cord_node.specs.Kept.{parts, AreFrom};
 ghost use Rattle.cord_node.specs.Splices.{node_in, some_cells, some_len, some_depth, some_parts, IsSomeSound};
 ghost use Rattle.cord_node.specs.Splices.{Takes, LeftTakes, RightTakes, BothTake, SidesAre};
-ghost use Rattle.cord_node.specs.Splices.{is_cat, AreSides, AreSpliced, IsSplice};
+ghost use Rattle.cord_node.specs.Splices.{is_cat, AreSides, AreSpliced, IsEditable, IsSplice};
 
 use crate::replace::{are_merged, is_short, replaced};
 use crate::{Node, join, sub_node};
@@ -197,14 +197,7 @@ fn splice_node(
     until: u64,
     middle: &Option<Rc<Node>>,
 ) -> Result<(), AllocError>
-    requires sound { IsSound node.old.value }
-    requires middle_sound { IsSomeSound (node_in middle.now) }
-    requires order { from ≤ until }
-    requires inside { until ≤ len_of node.old.value }
-    requires not_empty { 0 < from + some_len (node_in middle.now) + (len_of node.old.value - until) }
-    requires within_limit { from + some_len (node_in middle.now) + (len_of node.old.value - until) ≤ MAX_LEN }
-    requires shallow { max (depth_of node.old.value) (some_depth (node_in middle.now)) + 2 ≤ MAX_DEPTH }
-
+    requires { IsEditable from until (node_in middle.now) node.old.value }
     ensures splice { IfOk result (λ _. IsSplice from until (node_in middle.now) node.old.value node.new.value) }
     ensures unchanged { IsErr result → node.new ≡ node.old }
 {
@@ -230,12 +223,7 @@ fn splice_in_place(
     until: u64,
     middle: &Option<Rc<Node>>,
 ) -> Result<(), AllocError>
-    requires sound { IsSound node.old }
-    requires middle_sound { IsSomeSound (node_in middle.now) }
-    requires order { from ≤ until }
-    requires inside { until ≤ len_of node.old }
-    requires within_limit { from + some_len (node_in middle.now) + (len_of node.old - until) ≤ MAX_LEN }
-    requires shallow { max (depth_of node.old) (some_depth (node_in middle.now)) + 2 ≤ MAX_DEPTH }
+    requires editable { IsEditable from until (node_in middle.now) node.old }
     requires left { way ≡ Way.Left → SidesAre (LeftTakes from until (node_in middle.now)) node.old }
     requires right { way ≡ Way.Right → SidesAre (RightTakes from until (node_in middle.now)) node.old }
     requires both { way ≡ Way.Both → SidesAre (BothTake from until (node_in middle.now)) node.old }
@@ -270,12 +258,7 @@ fn splice_shared(
     until: u64,
     middle: &Option<Rc<Node>>,
 ) -> Result<(), AllocError>
-    requires sound { IsSound node.old.value }
-    requires middle_sound { IsSomeSound (node_in middle.now) }
-    requires order { from ≤ until }
-    requires inside { until ≤ len_of node.old.value }
-    requires within_limit { from + some_len (node_in middle.now) + (len_of node.old.value - until) ≤ MAX_LEN }
-    requires shallow { max (depth_of node.old.value) (some_depth (node_in middle.now)) + 2 ≤ MAX_DEPTH }
+    requires editable { IsEditable from until (node_in middle.now) node.old.value }
     requires left { way ≡ Way.Left → SidesAre (LeftTakes from until (node_in middle.now)) node.old.value }
     requires right { way ≡ Way.Right → SidesAre (RightTakes from until (node_in middle.now)) node.old.value }
     requires both { way ≡ Way.Both → SidesAre (BothTake from until (node_in middle.now)) node.old.value }
