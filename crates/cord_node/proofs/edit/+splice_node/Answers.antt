@@ -28,7 +28,8 @@ splice_shared-returns-clause-splice t c =
     let sides : AreSides c.args.node.now.value c.in_ok-left.left.value c.in_ok-left.right.value =
     subst (λ n. AreSides n c.in_ok-left.left.value c.in_ok-left.right.value) c.deref.ensures c.in_ok-left.ensures in
     joined_spliced c.args.from c.args.until (node_in c.args.middle.now) c.args.node.now.value c.in_ok-left.left.value
-    c.in_ok-left.right.value c.splice_sides.new.left.value c.splice_sides.new.right.value c.in_ok-new.new.value c.requires.editable.sound sides
+    c.in_ok-left.right.value c.splice_sides.new.left.value c.splice_sides.new.right.value c.in_ok-new.new.value
+    c.requires.editable.sound sides
     c.in_ok-splice_sides.ensures.splice
     (join_is c.splice_sides.new.left.value c.splice_sides.new.right.value c.in_ok-new.new.value c.in_ok-new.ensures.sound
     c.in_ok-new.ensures.text c.in_ok-new.ensures.len c.in_ok-new.ensures.depth_bound c.in_ok-new.ensures.kept)
