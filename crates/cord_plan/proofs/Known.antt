@@ -15,7 +15,7 @@ use Rattle.cord_plan.specs.inner.Choices.{Has, IsChoice, expression_in, simple_o
 use Rattle.cord_plan.specs.inner.Known.{HasFacts, IsFacts, IsFrom, IsKnown}
 use Rattle.cord_plan.specs.inner.Marks.{IsBit, Marks, bit}
 use Rattle.cord_plan.specs.inner.Numbering.{number_of}
-use Rattle.cord_plan.specs.inner.Recent.{lacks}
+use Rattle.cord_plan.specs.Exprs.{lacks}
 use Rattle.cord_plan.specs.declared.flow.numbering.Numbering.{Numbering}
 use Rattle.cord_plan.specs.declared.planner.known.Facts.{Facts}
 use Rattle.cord_plan.specs.declared.planner.known.Known.{Known}

@@ -9,7 +9,7 @@ use Rattle.cord_plan.specs.Exprs.{Exprs, append, names, names_of}
 use Rattle.cord_plan.specs.Views.{Shared, members_of, shared_view}
 use Rattle.cord_plan.specs.Operands.{is_name, target_of}
 use Rattle.cord_plan.specs.Forced.{preserves}
-use Rattle.cord_plan.specs.inner.Recent.{lacks}
+use Rattle.cord_plan.specs.Exprs.{lacks}
 use Rattle.cord_plan.proofs.Appending.{names_append}
 
 module _ (x : List ℕ) where

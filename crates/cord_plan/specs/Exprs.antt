@@ -1,5 +1,6 @@
 -- Expressions: what a line makes of names of cords and of runs of a byte.
-use Rattle.std.specs.Prelude.{ℕ, ◌+◌, Bool, true, false, List, [], ◌∷◌, ◌++◌}
+use Rattle.std.specs.Prelude.{ℕ, ◌+◌, Bool, true, false, not, ◌&&◌, List, [], ◌∷◌, ◌++◌}
+use Rattle.std.specs.Str.{bytes_eq}
 use Rattle.cord_operands.specs.declared.operands.Number.{Number}
 use Rattle.cord_operands.specs.declared.operands.Number.TheVariants.{Numeral, Named}
 
@@ -43,6 +44,11 @@ abbrev mutual
   pub names_of : Exprs → List (List ℕ)
   names_of nothing = []
   names_of (member e es) = names e ++ names_of es
+
+-- whether a name stands nowhere in a list of names
+abbrev pub lacks : List (List ℕ) → List ℕ → Bool
+lacks [] x = true
+lacks (y ∷ ys) x = not (bytes_eq y x) && lacks ys x
 
 -- whether there are no members
 abbrev pub is_nothing : Exprs → Bool

@@ -4,6 +4,7 @@ pub mod Operands
 pub mod Unread
 pub mod Forced
 pub mod Planned
+pub mod Extending
 pub mod Kept
 pub mod Views
 pub mod Flat

@@ -1,7 +1,6 @@
 -- The last lines that assign and read each name, as the code notes them.
 use Rattle.std.specs.Prelude.{◌≡◌, ℕ, zero, suc, ◌-◌, Bool, true, false, not, nat_le, ◌&&◌, ◌||◌, List, [], ◌∷◌, if◌then◌else◌, Option}
 use Rattle.std.specs.Prelude.{Some, None, slice_get, option_map}
-use Rattle.std.specs.Str.{bytes_eq}
 use Rattle.cord_syntax.specs.declared.statements.Statement.{Statement}
 use Rattle.cord_meaning.specs.Statements.{shape_of}
 use Rattle.cord_plan.specs.Operands.{reads, reads_at}
@@ -26,11 +25,6 @@ bars l x = is_block (shape_of l) || reads l x
 -- whether no line from a up to b assigns one of these names
 abbrev pub stay : List Statement → ℕ → ℕ → List (List ℕ) → Bool
 stay s a b xs = each_from (λ m. preserves (slice_get s m) xs) (b - a) a
-
--- whether a name stands nowhere in a list of names
-abbrev pub lacks : List (List ℕ) → List ℕ → Bool
-lacks [] x = true
-lacks (y ∷ ys) x = not (bytes_eq y x) && lacks ys x
 
 -- whether a place, where there is one, stands after another
 abbrev pub is_after : Option ℕ → ℕ → Bool

@@ -9,7 +9,7 @@ ghost use Rattle.cord_plan.specs.declared.flow.numbering.Numbering.{Numbering};
 ghost use Rattle.cord_plan.specs.inner.Choices.{choice_view, expression_in, room_left, simple_operands};
 ghost use Rattle.cord_plan.specs.inner.Known.{HasFacts, IsFacts, IsFrom, IsKnown};
 ghost use Rattle.cord_plan.specs.inner.Numbering.{IsHint, number_of};
-ghost use Rattle.cord_plan.specs.inner.Recent.{lacks};
+ghost use Rattle.cord_plan.specs.Exprs.{lacks};
 
 use crate::flow::{GROUP, LineNumbers, has_bit, mark_number};
 use crate::planner::choosing::{Choice, Line};

@@ -1,7 +1,7 @@
 // Whether a name stands in an expression.
 ghost use Rattle.std.specs.Prelude.{◌≡◌, ◌++◌, [], ◌∷◌, map};
 ghost use Rattle.cord_plan.specs.Exprs.{names, names_of, number_names};
-ghost use Rattle.cord_plan.specs.inner.Recent.{lacks};
+ghost use Rattle.cord_plan.specs.Exprs.{lacks};
 ghost use Rattle.cord_plan.specs.Views.{expr_view, members_of, members_view, shared_view};
 
 use crate::{Expr, Members};

@@ -3,7 +3,7 @@ use Rattle.std.proofs.lemmas.List.{at_drop_all}
 use Rattle.cord_plan.specs.Exprs as plain
 use Rattle.cord_plan.specs.declared.expressions.Expr.{Expr}
 use Rattle.cord_plan.specs.Exprs.{names, names_of, number_names}
-use Rattle.cord_plan.specs.inner.Recent.{lacks}
+use Rattle.cord_plan.specs.Exprs.{lacks}
 use Rattle.cord_plan.specs.Views.{Shared, expr_view, members_of, members_view, shared_view}
 use Rattle.cord_plan.proofs.ExprViews.{view-Name, view-Sub}
 use Rattle.cord_plan.proofs.MemberTexts.{weight, weights, member_there}

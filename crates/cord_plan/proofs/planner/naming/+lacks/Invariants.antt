@@ -1,6 +1,6 @@
 use Rattle.std.proofs.Common.{◌≡◌, ◌+◌, map, drop}
 use Rattle.cord_plan.specs.Exprs.{names_of}
-use Rattle.cord_plan.specs.inner.Recent.{lacks}
+use Rattle.cord_plan.specs.Exprs.{lacks}
 use Rattle.cord_plan.specs.Views.{expr_view, members_of, members_view, shared_view}
 use Rattle.cord_plan.proofs.MemberTexts.{weight, weights}
 use Rattle.cord_plan.proofs.planner.naming.+lacks.Given as goal

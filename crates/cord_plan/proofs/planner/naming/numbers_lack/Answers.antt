@@ -1,6 +1,6 @@
 use Rattle.std.proofs.Common.{Bool, ◌&&◌, sym, ap, ◌∙◌}
 use Rattle.cord_plan.specs.Exprs.{number_names}
-use Rattle.cord_plan.specs.inner.Recent.{lacks}
+use Rattle.cord_plan.specs.Exprs.{lacks}
 use Rattle.cord_plan.proofs.Lacking.{lacks_append}
 use Rattle.cord_plan.proofs.planner.naming.numbers_lack.Goals as goal
 
