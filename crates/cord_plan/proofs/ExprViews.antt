@@ -1,58 +1,81 @@
 -- The equations of `expr_view`, one for each variant, and of `members_view`.
-use Rattle.std.proofs.Common.{◌≡◌, ℕ, List, [], ◌∷◌, map, Option, Some, None, Global, Vec, refl, sym, ap, ◌∙◌}
+use Rattle.std.proofs.Common.{◌≡◌, ℕ, List, [], ◌∷◌, map, Option, Some, None, Global, refl, sym, ap, ◌∙◌}
 use Rattle.std.specs.declared.rc.Rc.{Rc}
 use Rattle.cord_operands.specs.declared.operands.Number.{Number}
 use Rattle.cord_plan.specs.Exprs as plain
 use Rattle.cord_plan.specs.Exprs.{append}
-use Rattle.cord_plan.specs.Views.{expr_view, expr_step, members_of, members_view, members_step, shared_view, Shared}
+use Rattle.cord_plan.specs.Views.{expr_view, expr_step, members_of, members_view, members_step, pair_step, rest_view, rest_step}
+use Rattle.cord_plan.specs.Views.{shared_view, single_step, Shared}
 use Rattle.cord_plan.specs.declared.expressions.Expr.{Expr, Expr-F, fold-roll-Expr}
+use Rattle.cord_plan.specs.declared.expressions.Expr.TheOpen.{Rest-F}
 use Rattle.cord_plan.specs.declared.expressions.Expr.TheVariants.{Name, Run, Cat, Sub, rolls-Name, rolls-Run, rolls-Cat, rolls-Sub}
 use Rattle.cord_plan.specs.declared.expressions.Expr.TheViews.{out-Members, roll-Members}
-use Rattle.cord_plan.specs.declared.expressions.Expr.TheFolds.{fold-roll-Members, fold_out-Members}
+use Rattle.cord_plan.specs.declared.expressions.Expr.TheFolds.{fold-roll-Members, fold-roll-Rest, fold_out-Members}
+use Rattle.cord_plan.specs.declared.expressions.Expr.TheFolds.{fold_out-Pair, fold_out-Single}
 use Rattle.cord_plan.specs.declared.expressions.Members.{Members}
+use Rattle.cord_plan.specs.declared.expressions.Pair.{Pair}
+use Rattle.cord_plan.specs.declared.expressions.Rest.{Rest}
+use Rattle.cord_plan.specs.declared.expressions.Rest.TheVariants.{Nothing, One, Two, rolls-Nothing, rolls-One, rolls-Two}
+use Rattle.cord_plan.specs.declared.expressions.Single.{Single}
 
 pub view-Name : (x : List ℕ) → expr_view (Name x) ≡ plain.name x
-view-Name x = ap expr_view (sym (rolls-Name x)) ∙ fold-roll-Expr plain.Expr plain.Exprs expr_step members_step (Expr-F.Name x)
+view-Name x = ap expr_view (sym (rolls-Name x))
+    ∙ fold-roll-Expr _ _ _ _ _ expr_step rest_step members_step pair_step single_step (Expr-F.Name x)
 
 pub view-Run : (c n : Number) → expr_view (Run c n) ≡ plain.run c n
-view-Run c n = ap expr_view (sym (rolls-Run c n)) ∙ fold-roll-Expr plain.Expr plain.Exprs expr_step members_step (Expr-F.Run c n)
+view-Run c n = ap expr_view (sym (rolls-Run c n))
+    ∙ fold-roll-Expr _ _ _ _ _ expr_step rest_step members_step pair_step single_step (Expr-F.Run c n)
 
 pub view-Cat : (ms : Members) → expr_view (Cat ms) ≡ plain.cat (members_view ms)
-view-Cat ms = ap expr_view (sym (rolls-Cat ms)) ∙ fold-roll-Expr plain.Expr plain.Exprs expr_step members_step (Expr-F.Cat ms)
+view-Cat ms = ap expr_view (sym (rolls-Cat ms))
+    ∙ fold-roll-Expr _ _ _ _ _ expr_step rest_step members_step pair_step single_step (Expr-F.Cat ms)
 
 pub view-Sub : (e : Rc Expr Global) (i n : Number) → expr_view (Sub e i n) ≡ plain.sub (expr_view e.value) i n
-view-Sub e i n = ap expr_view (sym (rolls-Sub e i n)) ∙ fold-roll-Expr plain.Expr plain.Exprs expr_step members_step (Expr-F.Sub e i n)
+view-Sub e i n = ap expr_view (sym (rolls-Sub e i n))
+    ∙ fold-roll-Expr _ _ _ _ _ expr_step rest_step members_step pair_step single_step (Expr-F.Sub e i n)
 
 map_twice : {A B C : Type 0} (f : A → B) (g : B → C) (xs : List A) → map g (map f xs) ≡ map (λ x. g (f x)) xs
 map_twice f g [] = refl
 map_twice f g (x ∷ xs) = ap (λ ys. g (f x) ∷ ys) (map_twice f g xs)
+
+-- at most two members, as they are made
+pub view-Nothing : rest_view Nothing ≡ []
+view-Nothing = ap rest_view (sym rolls-Nothing)
+    ∙ fold-roll-Rest _ _ _ _ _ expr_step rest_step members_step pair_step single_step Rest-F.Nothing
+
+pub view-One : (s : Single) → rest_view (One s) ≡ map shared_view s.members
+view-One s = ap rest_view (sym (rolls-One s))
+    ∙ (fold-roll-Rest _ _ _ _ _ expr_step rest_step members_step pair_step single_step (Rest-F.One s)
+    ∙ (fold_out-Single _ _ _ _ _ expr_step rest_step members_step pair_step single_step s ∙ map_twice _ _ s.members))
+
+pub view-Two : (p : Pair) → rest_view (Two p) ≡ map shared_view p.members
+view-Two p = ap rest_view (sym (rolls-Two p))
+    ∙ (fold-roll-Rest _ _ _ _ _ expr_step rest_step members_step pair_step single_step (Rest-F.Two p)
+    ∙ (fold_out-Pair _ _ _ _ _ expr_step rest_step members_step pair_step single_step p ∙ map_twice _ _ p.members))
 
 -- the members in front, where there are any
 abbrev pub front_seen : Option (Rc Members Global) → plain.Exprs
 front_seen None = plain.nothing
 front_seen (Some front) = members_view front.value
 
-pub members_made : (front : Option (Rc Members Global)) (rest : Vec Shared Global) →
-    members_view (roll-Members (record { front = front; rest = rest }))
-    ≡ append (front_seen front) (members_of (map shared_view rest.items))
+pub members_made : (front : Option (Rc Members Global)) (rest : Rest) →
+    members_view (roll-Members (record { front = front; rest = rest })) ≡ append (front_seen front) (members_of (rest_view rest))
 members_made None rest =
-    fold-roll-Members plain.Expr plain.Exprs expr_step members_step (record { front = None; rest = rest })
-    ∙ ap members_of (map_twice _ _ rest.items)
+    fold-roll-Members _ _ _ _ _ expr_step rest_step members_step pair_step single_step (record { front = None; rest = rest })
 members_made (Some front) rest =
-    fold-roll-Members plain.Expr plain.Exprs expr_step members_step (record { front = Some front; rest = rest })
-    ∙ ap (λ es. append (members_view front.value) (members_of es)) (map_twice _ _ rest.items)
+    fold-roll-Members _ _ _ _ _ expr_step rest_step members_step pair_step single_step (record { front = Some front; rest = rest })
 
 pub members_there : (ms : Members) → members_view ms
-    ≡ append (front_seen (out-Members ms).front) (members_of (map shared_view (out-Members ms).rest.items))
+    ≡ append (front_seen (out-Members ms).front) (members_of (rest_view (out-Members ms).rest))
 members_there ms =
     let m = out-Members ms in
-    fold_out-Members plain.Expr plain.Exprs expr_step members_step ms
-    ∙ (sym (fold-roll-Members plain.Expr plain.Exprs expr_step members_step m) ∙ members_made m.front m.rest)
+    fold_out-Members _ _ _ _ _ expr_step rest_step members_step pair_step single_step ms
+    ∙ (sym (fold-roll-Members _ _ _ _ _ expr_step rest_step members_step pair_step single_step m) ∙ members_made m.front m.rest)
 
 -- the same of the two fields as they are told
-pub members_told : (ms : Members) (front : Option (Rc Members Global)) (rest : List Shared) → (out-Members ms).front ≡ front →
-    rest ≡ (out-Members ms).rest.items → members_view ms ≡ append (front_seen front) (members_of (map shared_view rest))
+pub members_told : (ms : Members) (front : Option (Rc Members Global)) (rest : List plain.Expr) → (out-Members ms).front ≡ front →
+    rest ≡ rest_view (out-Members ms).rest → members_view ms ≡ append (front_seen front) (members_of rest)
 members_told ms front rest first last =
     members_there ms
-    ∙ (ap (λ (o : Option (Rc Members Global)). append (front_seen o) (members_of (map shared_view (out-Members ms).rest.items))) first
-    ∙ ap (λ (es : List Shared). append (front_seen front) (members_of (map shared_view es))) (sym last))
+    ∙ (ap (λ (o : Option (Rc Members Global)). append (front_seen o) (members_of (rest_view (out-Members ms).rest))) first
+    ∙ ap (λ (es : List plain.Expr). append (front_seen front) (members_of es)) (sym last))

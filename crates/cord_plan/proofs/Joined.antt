@@ -7,7 +7,8 @@ use Rattle.cord_plan.specs.declared.planner.choosing.Choice.{Choice}
 use Rattle.cord_plan.specs.Forced as plain
 use Rattle.cord_plan.specs.Forced.{expr_of}
 use Rattle.cord_plan.specs.inner.Choices.{choice_view}
-use Rattle.cord_plan.proofs.Appending.{append_nothing, append_thrice}
+use Rattle.cord_plan.specs.Views.{members_of}
+use Rattle.cord_plan.proofs.Appending.{append_nothing, append_thrice, members_of_both}
 
 front_append : (e : Expr) (a b : Exprs) → in_front e (append a b) ≡ append (in_front e a) b
 front_append (name x) a b = refl
@@ -32,14 +33,14 @@ more_joined cs i c lt is = sym (
     ∙ members_more (map (λ d. expr_of d) (map choice_view (take i cs))) (expr_of (choice_view c)))))
 
 -- a member more, which is no `cat`
-pub added_one : (old new : Exprs) (copy v w : Expr) → new ≡ append old (member copy nothing) → copy ≡ v → v ≡ w →
-    in_front w nothing ≡ member w nothing → new ≡ append old (in_front v nothing)
-added_one old new copy v w added made same front = added ∙ ap (λ (ms : Exprs). append old ms)
+pub added_one : (old : Exprs) (copy v w : Expr) → copy ≡ v → v ≡ w → in_front w nothing ≡ member w nothing →
+    append old (member copy nothing) ≡ append old (in_front v nothing)
+added_one old copy v w made same front = ap (λ (ms : Exprs). append old ms)
     (ap (λ (e : Expr). member e nothing) (made ∙ same) ∙ (sym front ∙ ap (λ (e : Expr). in_front e nothing) (sym same)))
 
 -- members more, for a `cat`
-pub added_all : (old new inner : Exprs) (v : Expr) → new ≡ append old inner → v ≡ cat inner → new ≡ append old (in_front v nothing)
-added_all old new inner v added same = added ∙ ap (λ (ms : Exprs). append old ms)
+pub added_all : (old inner : Exprs) (v : Expr) → v ≡ cat inner → append old inner ≡ append old (in_front v nothing)
+added_all old inner v same = ap (λ (ms : Exprs). append old ms)
     (sym (append_nothing inner) ∙ ap (λ (e : Expr). in_front e nothing) (sym same))
 
 -- a `cat` of expressions and a run after them
@@ -52,6 +53,16 @@ joined_more es old new last c n made added is = ap cat (
     ∙ sym (members_more es (run c n)))))
 
 -- a name more
-pub added_name : (old new : Exprs) (copy v : Expr) (x : List ℕ) → new ≡ append old (member copy nothing) → copy ≡ name x → v ≡ name x →
-    new ≡ append old (in_front v nothing)
-added_name old new copy v x added made same = added_one old new copy v (name x) added (made ∙ sym same) same refl
+pub added_name : (old : Exprs) (copy v : Expr) (x : List ℕ) → copy ≡ name x → v ≡ name x →
+    append old (member copy nothing) ≡ append old (in_front v nothing)
+added_name old copy v x made same = added_one old copy v (name x) (made ∙ sym same) same refl
+
+-- the members that names give, with one name more
+pub named_more : (xs : List (List ℕ)) (i : ℕ) (x : List ℕ) (copy : Expr) → i < length xs → x ≡ get_or xs i x → copy ≡ name x →
+    append (members_of (map (λ y. name y) (take i xs))) (member copy nothing) ≡ members_of (map (λ y. name y) (take (i + 1) xs))
+named_more xs i x copy lt is made =
+    ap (λ (e : Expr). append (members_of (map (λ y. name y) (take i xs))) (member e nothing)) made
+    ∙ (sym (members_of_both (map (λ y. name y) (take i xs)) (name x ∷ []))
+    ∙ ap members_of (sym (
+    ap (λ (ys : List (List ℕ)). map (λ y. name y) ys) (take_more xs i x lt ∙ ap (λ (y : List ℕ). take i xs ++ y ∷ []) (sym is))
+    ∙ map-append (λ (y : List ℕ). name y) (take i xs) (x ∷ []))))

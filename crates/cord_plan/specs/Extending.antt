@@ -5,8 +5,8 @@ use Rattle.cord_plan.specs.Planned.{Joined, Operation, Build, Measure}
 
 -- the name that an operation gives what members make, and the members
 abbrev pub joined_by : Operation → Option (List ℕ × Exprs)
-joined_by (Build line x (Joined (cat es))) = Some (x , es)
-joined_by (Measure line x (Joined (cat es))) = Some (x , es)
+joined_by (Build line x (Joined (cat es))) = Some (x, es)
+joined_by (Measure line x (Joined (cat es))) = Some (x, es)
 joined_by o = None
 
 abbrev pub joined_at : Option Operation → Option (List ℕ × Exprs)
@@ -15,7 +15,7 @@ joined_at (Some o) = joined_by o
 
 -- the second ones are the first ones and one more, and the first ones don't name what they make
 abbrev pub IsLonger : Option (List ℕ × Exprs) → Option (List ℕ × Exprs) → Type 0
-IsLonger (Some (x , es)) (Some (y , all)) = (lacks (names_of es) x ≡ true) × ((e : Expr) × (all ≡ append es (member e nothing)))
+IsLonger (Some (x, es)) (Some (y, all)) = (lacks (names_of es) x ≡ true) × ((e : Expr) × (all ≡ append es (member e nothing)))
 IsLonger _ _ = ⊥
 
 -- the operation at a place joins the members of the one before it, which don't name that one's target, and one more

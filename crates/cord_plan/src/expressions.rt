@@ -1,15 +1,12 @@
 // Expressions of plans.
-ghost use Rattle.std.specs.Prelude.{◌≡◌, ◌<◌, ◌++◌, IfOk, IfSome, IsOkUnless, OnOk, length, map};
+ghost use Rattle.std.specs.Prelude.{◌≡◌, ◌<◌, ◌∷◌, [], IfOk, IfSome, IsOkUnless, length, map};
 ghost use Rattle.cord_plan.specs.Exprs.{append, is_nothing, member, nothing};
-ghost use Rattle.cord_plan.specs.Views.{front_view, members_of, members_view, shared_view};
+ghost use Rattle.cord_plan.specs.Views.{front_view, members_of, members_view, rest_view, shared_view};
 
 use cord_io::CordError;
 use cord_script::{Name, Number};
 use std::alloc::Global;
 use std::rc::Rc;
-
-/// So many members after those in front are put in front of those that follow.
-const CHUNK: usize = 16;
 
 /// An expression of a plan: what a line makes of names of cords and of runs of a byte. Expressions share what stands in
 /// them.
@@ -38,17 +35,109 @@ pub enum Expr {
 #[cycle(expressions)]
 pub struct Members {
     front: Option<Rc<Members>>,
-    rest: Vec<Rc<Expr>>,
+    rest: Rest,
+}
+
+// The members after those in front: at most two, which take no memory of their own.
+#[derive(Drop)]
+#[cycle(expressions)]
+enum Rest {
+    Nothing,
+    One(Single),
+    Two(Pair),
+}
+
+#[derive(Drop)]
+#[cycle(expressions)]
+struct Single {
+    members: [Rc<Expr>; 1],
+}
+
+#[derive(Drop)]
+#[cycle(expressions)]
+struct Pair {
+    members: [Rc<Expr>; 2],
+}
+
+impl Single {
+    #[inline(always)]
+    fn into_member(self) -> Rc<Expr>
+        ensures { map shared_view self.members ≡ shared_view result ∷ [] }
+    {
+        let [member] = self.members;
+        member
+    }
+}
+
+impl Rest {
+    #[inline(always)]
+    fn one(first: Rc<Expr>) -> Self
+        ensures { rest_view result ≡ shared_view first ∷ [] }
+    {
+        Rest::One(Single { members: [first] })
+    }
+
+    #[inline(always)]
+    fn two(first: Rc<Expr>, second: Rc<Expr>) -> Self
+        ensures { rest_view result ≡ shared_view first ∷ shared_view second ∷ [] }
+    {
+        Rest::Two(Pair {
+            members: [first, second],
+        })
+    }
+
+    #[inline(always)]
+    fn as_slice(&self) -> &[Rc<Expr>]
+        ensures { map shared_view result.now ≡ rest_view self.now }
+    {
+        match self {
+            Rest::Nothing => &[],
+            Rest::One(one) => &one.members,
+            Rest::Two(two) => &two.members,
+        }
+    }
+
+    // A copy, which shares the members.
+    #[inline(always)]
+    fn shared(&self) -> Result<Self, CordError>
+        ensures made { IfOk result (λ r. rest_view r ≡ rest_view self.now) }
+        ensures refused { IsOkUnless result CordError.NoMemory }
+    {
+        match self {
+            Rest::Nothing => Ok(Rest::Nothing),
+            Rest::One(one) => {
+                let [first] = &one.members;
+                Ok(Rest::one(first.clone()?))
+            }
+            Rest::Two(two) => {
+                let [first, second] = &two.members;
+                let (first, second) = (first.clone()?, second.clone()?);
+                Ok(Rest::two(first, second))
+            }
+        }
+    }
 }
 
 impl Members {
-    /// These members, without taking memory.
-    pub fn of(members: Vec<Rc<Expr>>) -> Self
-        ensures { members_view result ≡ members_of (map shared_view members.items) }
+    /// No members, without taking memory.
+    #[inline(always)]
+    pub fn nothing() -> Self
+        ensures { members_view result ≡ nothing }
     {
         Members {
             front: None,
-            rest: members,
+            rest: Rest::Nothing,
+        }
+    }
+
+    /// These two members, without taking memory.
+    #[inline(always)]
+    pub fn pair(left: Rc<Expr>, right: Rc<Expr>) -> Self
+        ensures { members_view result ≡ member (shared_view left) (member (shared_view right) nothing) }
+    {
+        Members {
+            front: None,
+            rest: Rest::two(left, right),
         }
     }
 
@@ -61,9 +150,12 @@ impl Members {
         ensures after { IfSome result.0 (λ _. 0 < length result.1.now) }
     {
         match &self.front {
-            None => (None, &self.rest),
-            Some(front) if self.rest.is_empty() => front.as_ref().further_halves(),
-            Some(front) => (Some(front.as_ref()), &self.rest),
+            None => (None, self.rest.as_slice()),
+            Some(front) => match &self.rest {
+                Rest::Nothing => front.as_ref().further_halves(),
+                Rest::One(one) => (Some(front.as_ref()), &one.members),
+                Rest::Two(two) => (Some(front.as_ref()), &two.members),
+            },
         }
     }
 
@@ -78,19 +170,19 @@ impl Members {
         self.halves()
     }
 
-    /// The same members, in front of those that follow where many stand after the front: so others share them.
+    /// The same members, in front of those that follow where no more fit after the front: so others share them.
     /// Refused only with `NoMemory`.
     pub(crate) fn to_share(self, alloc: Global) -> Result<Self, CordError>
         ensures made { IfOk result (λ ms. members_view ms ≡ members_view self) }
         ensures refused { IsOkUnless result CordError.NoMemory }
     {
-        if self.rest.len() < CHUNK {
-            return Ok(self);
+        match &self.rest {
+            Rest::Two(_) => Ok(Members {
+                front: Some(Rc::new(alloc, self)?),
+                rest: Rest::Nothing,
+            }),
+            _ => Ok(self),
         }
-        Ok(Members {
-            front: Some(Rc::new(alloc, self)?),
-            rest: Vec::new(alloc),
-        })
     }
 
     /// Whether there are no members.
@@ -100,64 +192,89 @@ impl Members {
         self.halves().1.is_empty()
     }
 
-    /// How many members stand after those in front.
-    pub(crate) fn rest_len(&self) -> usize {
-        self.rest.len()
-    }
-
-    /// Puts a member after these. Refused only with `NoMemory`.
-    pub(crate) fn push(&mut self, last: Rc<Expr>) -> Result<(), CordError>
-        ensures made { OnOk result (members_view self.new
-            ≡ append (members_view self.old) (member (shared_view last) nothing)) }
+    /// These members and one more. Refused only with `NoMemory`.
+    #[inline(always)]
+    pub(crate) fn with(self, alloc: Global, last: Rc<Expr>) -> Result<Self, CordError>
+        ensures made { IfOk result (λ ms. members_view ms
+            ≡ append (members_view self) (member (shared_view last) nothing)) }
         ensures refused { IsOkUnless result CordError.NoMemory }
     {
-        self.rest.push(last)?;
-        Ok(())
+        let Members { front, rest } = self;
+        match rest {
+            Rest::Nothing => Ok(Members {
+                front,
+                rest: Rest::one(last),
+            }),
+            Rest::One(one) => {
+                let first = one.into_member();
+                Ok(Members {
+                    front,
+                    rest: Rest::two(first, last),
+                })
+            }
+            Rest::Two(two) => {
+                let rest = Rest::Two(two);
+                let full = Rc::new(alloc, Members { front, rest })?;
+                Ok(Members {
+                    front: Some(full),
+                    rest: Rest::one(last),
+                })
+            }
+        }
     }
 
-    /// Puts members after these, which share them: where there are none yet, those in front at once.
+    /// A copy, which shares the members. Refused only with `NoMemory`.
+    #[inline(always)]
+    pub(crate) fn shared(&self) -> Result<Self, CordError>
+        ensures made { IfOk result (λ ms. members_view ms ≡ members_view self.now) }
+        ensures refused { IsOkUnless result CordError.NoMemory }
+    {
+        let rest = self.rest.shared()?;
+        match &self.front {
+            None => Ok(Members { front: None, rest }),
+            Some(front) => Ok(Members {
+                front: Some(front.clone()?),
+                rest,
+            }),
+        }
+    }
+
+    // These members and others after them, which are shared.
+    fn with_each(self, alloc: Global, others: &[Rc<Expr>]) -> Result<Self, CordError>
+        ensures made { IfOk result (λ ms. members_view ms
+            ≡ append (members_view self) (members_of (map shared_view others.now))) }
+        ensures refused { IsOkUnless result CordError.NoMemory }
+    {
+        let mut members = self;
+        'others: for other in others {
+            members = members.with(alloc, other.clone()?)?;
+        }
+        Ok(members)
+    }
+
+    /// These members and others after them, which are shared. Refused only with `NoMemory`.
+    pub(crate) fn with_all(self, alloc: Global, others: &Members) -> Result<Self, CordError>
+        ensures made { IfOk result (λ ms. members_view ms ≡ append (members_view self) (members_view others.now)) }
+        ensures refused { IsOkUnless result CordError.NoMemory }
+    {
+        let (front, rest) = others.halves();
+        match front {
+            None => self.with_each(alloc, rest),
+            Some(front) => self.with_all(alloc, front)?.with_each(alloc, rest),
+        }
+    }
+
+    /// The same; where there are no members yet, those in front of the others are shared at once.
     ///
     /// Refused only with `NoMemory`.
-    pub(crate) fn share(&mut self, others: &Members) -> Result<(), CordError>
-        ensures made { OnOk result (members_view self.new ≡ append (members_view self.old) (members_view others.now)) }
+    pub(crate) fn with_shared(self, alloc: Global, others: &Members) -> Result<Self, CordError>
+        ensures made { IfOk result (λ ms. members_view ms ≡ append (members_view self) (members_view others.now)) }
         ensures refused { IsOkUnless result CordError.NoMemory }
     {
-        match &others.front {
-            Some(front) if self.is_nothing() => {
-                self.front = Some(front.clone()?);
-                share_onto(&others.rest, &mut self.rest)?;
-            }
-            _ => share_all_onto(others, &mut self.rest)?,
+        if self.is_nothing() {
+            drop(self);
+            return others.shared();
         }
-        Ok(())
+        self.with_all(alloc, others)
     }
-}
-
-// Puts these members after others, which share them; room for them is made at once.
-fn share_onto(members: &[Rc<Expr>], shared: &mut Vec<Rc<Expr>>) -> Result<(), CordError>
-    ensures made { OnOk result (map shared_view shared.new.items ≡ map shared_view shared.old.items
-        ++ map shared_view members.now) }
-    ensures refused { IsOkUnless result CordError.NoMemory }
-{
-    shared.reserve(members.len())?;
-    for member in members {
-        shared.push_reserved(member.clone()?);
-    }
-    Ok(())
-}
-
-// The same of those in front and of those after them.
-fn share_all_onto(members: &Members, shared: &mut Vec<Rc<Expr>>) -> Result<(), CordError>
-    ensures made { OnOk result (members_of (map shared_view shared.new.items)
-        ≡ append (members_of (map shared_view shared.old.items)) (members_view members.now)) }
-    ensures refused { IsOkUnless result CordError.NoMemory }
-{
-    match &members.front {
-        None => share_onto(&members.rest, shared)?,
-        Some(front) => {
-            share_all_onto(front.as_ref(), shared)?;
-            share_onto(&members.rest, shared)?;
-        }
-    }
-    Ok(())
 }

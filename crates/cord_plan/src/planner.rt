@@ -73,7 +73,7 @@ fn operations_of(
             &mut operations,
         )?;
         let dead = is_dead(statement, numbers, place, later);
-        operations.push_reserved(operation_of(alloc, statement, expression, dead)?);
+        operations.push_reserved(operation_of(statement, expression, dead)?);
         recent.note(statement, numbers, place);
     }
     Ok(operations)

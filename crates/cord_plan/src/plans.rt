@@ -54,7 +54,7 @@ fn trivial_operations(alloc: Global, statements: &[Statement]) -> Result<Vec<Ope
     let mut interner = Interner::of(alloc);
     'lines: for statement in statements {
         let expression = own_expression(alloc, &mut interner, statement)?;
-        operations.push_reserved(operation_of(alloc, statement, expression, false)?);
+        operations.push_reserved(operation_of(statement, expression, false)?);
     }
     Ok(operations)
 }

@@ -3,7 +3,7 @@ ghost use Rattle.std.specs.Prelude.{◌≡◌, [], ◌∷◌, pos, IfOk, IsOkUnl
 ghost use Rattle.cord_operands.specs.declared.operands.Number.TheVariants.{Numeral};
 ghost use Rattle.cord_plan.specs.Exprs as plain;
 ghost use Rattle.cord_plan.specs.Forced.{own};
-ghost use Rattle.cord_plan.specs.Views.{expr_view, members_of, shared_view};
+ghost use Rattle.cord_plan.specs.Views.{expr_view, members_of, members_view, shared_view};
 
 use crate::planner::interning::Interner;
 use crate::{Expr, Members};
@@ -26,8 +26,8 @@ pub(crate) fn own_expression(
     match statement {
         Statement::Cat { left, right, .. } => Ok(Some(pair(alloc, interner, left, right)?)),
         Statement::Catn { parts, .. } => {
-            let operands = all_named(alloc, interner, parts.as_slice())?;
-            Ok(Some(cat(operands)))
+            let members = all_named(alloc, interner, parts.as_slice())?;
+            Ok(Some(Expr::Cat(members)))
         }
         Statement::Catc { operand, byte, .. } => Ok(Some(with_byte(
             alloc, interner, operand, byte,
@@ -63,8 +63,7 @@ fn pair(
     ensures refused { IsOkUnless result CordError.NoMemory }
 {
     let (left, right) = (interner.name(alloc, left)?, interner.name(alloc, right)?);
-    let operands = vec![in alloc; left, right]?;
-    Ok(cat(operands))
+    Ok(Expr::Cat(Members::pair(left, right)))
 }
 
 // `cat` of a name and one byte.
@@ -79,15 +78,7 @@ fn with_byte(
     ensures refused { IsOkUnless result CordError.NoMemory }
 {
     let (operand, last) = (interner.name(alloc, operand)?, interner.byte(alloc, byte)?);
-    let operands = vec![in alloc; operand, last]?;
-    Ok(cat(operands))
-}
-
-/// `cat` of these members.
-pub(crate) fn cat(members: Vec<Rc<Expr>>) -> Expr
-    ensures { expr_view result ≡ plain.cat (members_of (map shared_view members.items)) }
-{
-    Expr::Cat(Members::of(members))
+    Ok(Expr::Cat(Members::pair(operand, last)))
 }
 
 /// One copy of a byte, to be shared.
@@ -139,18 +130,14 @@ pub(crate) fn named(name: &Name) -> Result<Expr, CordError>
     Ok(Expr::Name(name.clone()?))
 }
 
-// Each of these names as a shared expression.
-fn all_named(
-    alloc: Global,
-    interner: &mut Interner,
-    names: &[Name],
-) -> Result<Vec<Rc<Expr>>, CordError>
-    ensures made { IfOk result (λ es. map shared_view es.items ≡ map (λ x. plain.name x) names.now) }
+// Each of these names as a member.
+fn all_named(alloc: Global, interner: &mut Interner, names: &[Name]) -> Result<Members, CordError>
+    ensures made { IfOk result (λ ms. members_view ms ≡ members_of (map (λ x. plain.name x) names.now)) }
     ensures refused { IsOkUnless result CordError.NoMemory }
 {
-    let mut expressions = Vec::with_capacity(alloc, names.len())?;
+    let mut members = Members::nothing();
     'names: for name in names {
-        expressions.push(interner.name(alloc, name)?)?;
+        members = members.with(alloc, interner.name(alloc, name)?)?;
     }
-    Ok(expressions)
+    Ok(members)
 }

@@ -1,5 +1,5 @@
 // The expression of a line, with what stands for its operands.
-ghost use Rattle.std.specs.Prelude.{◌≡◌, ◌++◌, ◌∷◌, [], pos, IfOk, IsOkUnless, OnOk, map, option_map};
+ghost use Rattle.std.specs.Prelude.{◌≡◌, ◌++◌, ◌∷◌, [], pos, IfOk, IsOkUnless, map, option_map};
 ghost use Rattle.cord_plan.specs.Exprs as plain;
 ghost use Rattle.cord_plan.specs.Exprs.{append, in_front, members, nothing};
 ghost use Rattle.cord_operands.specs.declared.operands.Number.TheVariants.{Numeral};
@@ -18,13 +18,13 @@ use std::alloc::Global;
 use std::rc::Rc;
 
 // An expression that stands for an operand.
-fn expression_of(alloc: Global, choice: &Choice) -> Result<Expr, CordError>
+fn expression_of(choice: &Choice) -> Result<Expr, CordError>
     ensures made { IfOk result (λ e. expr_view e ≡ expr_of (choice_view choice.now)) }
     ensures refused { IsOkUnless result CordError.NoMemory }
 {
     match choice {
         Choice::Named(name) => named(name),
-        Choice::Replaced(_, expression) => copy(alloc, expression),
+        Choice::Replaced(_, expression) => copy(expression),
     }
 }
 
@@ -33,73 +33,51 @@ fn shared_copy(alloc: Global, expression: &Expr) -> Result<Rc<Expr>, CordError>
     ensures made { IfOk result (λ e. shared_view e ≡ expr_view expression.now) }
     ensures refused { IsOkUnless result CordError.NoMemory }
 {
-    Ok(Rc::new(alloc, copy(alloc, expression)?)?)
+    Ok(Rc::new(alloc, copy(expression)?)?)
 }
 
-// Puts a copy of an expression after the members of a `cat`; of a `cat` its members, which are shared.
-fn add_copy(alloc: Global, members: &mut Members, expression: &Expr) -> Result<(), CordError>
-    ensures added { OnOk result (members_view members.new
-        ≡ append (members_view members.old) (in_front (expr_view expression.now) nothing)) }
+// The members of a `cat` and a copy of an expression after them; of a `cat` its members, which are shared.
+#[inline(always)]
+fn with_copy(alloc: Global, members: Members, expression: &Expr) -> Result<Members, CordError>
+    ensures made { IfOk result (λ ms. members_view ms
+        ≡ append (members_view members) (in_front (expr_view expression.now) nothing)) }
     ensures refused { IsOkUnless result CordError.NoMemory }
 {
     match expression {
-        Expr::Cat(inner) => members.share(inner)?,
-        Expr::Name(_) => members.push(shared_copy(alloc, expression)?)?,
-        Expr::Run { .. } => members.push(shared_copy(alloc, expression)?)?,
-        Expr::Sub { .. } => members.push(shared_copy(alloc, expression)?)?,
+        Expr::Cat(inner) => members.with_shared(alloc, inner),
+        Expr::Name(_) => members.with(alloc, shared_copy(alloc, expression)?),
+        Expr::Run { .. } => members.with(alloc, shared_copy(alloc, expression)?),
+        Expr::Sub { .. } => members.with(alloc, shared_copy(alloc, expression)?),
     }
-    Ok(())
 }
 
 // The same of an expression that stands for an operand.
-fn add(
+#[inline(always)]
+fn with_choice(
     alloc: Global,
     interner: &mut Interner,
-    members: &mut Members,
+    members: Members,
     choice: &Choice,
-) -> Result<(), CordError>
-    ensures added { OnOk result (members_view members.new
-        ≡ append (members_view members.old) (in_front (expr_of (choice_view choice.now)) nothing)) }
+) -> Result<Members, CordError>
+    ensures made { IfOk result (λ ms. members_view ms
+        ≡ append (members_view members) (in_front (expr_of (choice_view choice.now)) nothing)) }
     ensures refused { IsOkUnless result CordError.NoMemory }
 {
     match choice {
-        Choice::Named(name) => members.push(interner.name(alloc, name)?)?,
-        Choice::Replaced(_, expression) => add_copy(alloc, members, expression)?,
-    }
-    Ok(())
-}
-
-// How many members what stands for an operand gives to a `cat`, but for those that are shared at once.
-fn member_count(choice: &Choice) -> usize {
-    match choice {
-        Choice::Replaced(_, Expr::Cat(members)) => members.rest_len(),
-        _ => 1,
+        Choice::Named(name) => members.with(alloc, interner.name(alloc, name)?),
+        Choice::Replaced(_, expression) => with_copy(alloc, members, expression),
     }
 }
 
-// How many members these expressions give to a `cat`: so much room is taken at once.
-fn room_for(choices: &[Choice]) -> usize {
-    let mut room: usize = 0;
-    for choice in choices {
-        room = room.saturating_add(member_count(choice));
-    }
-    room
-}
-
-// The members that these expressions give to a `cat`, with room for so many more.
-fn joined(
-    alloc: Global,
-    interner: &mut Interner,
-    choices: &[Choice],
-    more: usize,
-) -> Result<Members, CordError>
+// The members that these expressions give to a `cat`.
+#[inline(always)]
+fn joined(alloc: Global, interner: &mut Interner, choices: &[Choice]) -> Result<Members, CordError>
     ensures made { IfOk result (λ ms. members_view ms ≡ members (map expr_of (map choice_view choices.now))) }
     ensures refused { IsOkUnless result CordError.NoMemory }
 {
-    let room = room_for(choices).saturating_add(more);
-    let mut members = Members::of(Vec::with_capacity(alloc, room)?);
+    let mut members = Members::nothing();
     'choices: for choice in choices {
-        add(alloc, interner, &mut members, choice)?;
+        members = with_choice(alloc, interner, members, choice)?;
     }
     Ok(members)
 }
@@ -120,7 +98,7 @@ fn joined_all(alloc: Global, interner: &mut Interner, choices: &[Choice]) -> Res
     ensures made { IfOk result (λ e. expr_view e ≡ plain.cat (members (map expr_of (map choice_view choices.now)))) }
     ensures refused { IsOkUnless result CordError.NoMemory }
 {
-    let members = joined(alloc, interner, choices, 0)?;
+    let members = joined(alloc, interner, choices)?;
     Ok(cat_of(alloc, choices, members)?)
 }
 
@@ -135,9 +113,9 @@ fn joined_with(
         (members (map expr_of (map choice_view choices.now) ++ plain.run byte.now (Numeral (pos 1)) ∷ []))) }
     ensures refused { IsOkUnless result CordError.NoMemory }
 {
-    let mut members = joined(alloc, interner, choices, 1)?;
-    members.push(interner.byte(alloc, byte)?)?;
-    Ok(cat_of(alloc, choices, members)?)
+    let members = joined(alloc, interner, choices)?;
+    let all = members.with(alloc, interner.byte(alloc, byte)?)?;
+    Ok(cat_of(alloc, choices, all)?)
 }
 
 // An expression that stands for an operand, to be shared.
@@ -197,7 +175,7 @@ pub(crate) fn expression_with(
         },
         Statement::Put { .. } => match choices {
             [] => Ok(None),
-            [choice, ..] => Ok(Some(expression_of(alloc, choice)?)),
+            [choice, ..] => Ok(Some(expression_of(choice)?)),
         },
         _ => Ok(None),
     }

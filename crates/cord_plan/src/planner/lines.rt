@@ -5,19 +5,16 @@ ghost use Rattle.cord_plan.specs.Exprs as plain;
 ghost use Rattle.cord_plan.specs.Planned as plan;
 ghost use Rattle.cord_plan.specs.Views.{expr_view, made_view, operation_view};
 
-use crate::planner::constructors::cat;
-use crate::{Expr, Made, Operation};
+use crate::{Expr, Made, Members, Operation};
 use cord_io::CordError;
 use cord_printf::Format;
 use cord_script::{Arguments, Name, Shared, Statement, Text};
 use cord_syntax::{Composition, Derivation, Family, Origin};
-use std::alloc::Global;
 
 /// The operation of a line whose expression is this one.
 ///
 /// A line whose target is dead only measures. Refused only with `NoMemory`.
 pub(crate) fn operation_of(
-    alloc: Global,
     statement: &Statement,
     expression: Option<Expr>,
     dead: bool,
@@ -29,11 +26,11 @@ pub(crate) fn operation_of(
     let line = statement.line();
     match statement.family() {
         Family::Composition(composition) => {
-            operation_of_composition(alloc, line, composition, expression, dead)
+            operation_of_composition(line, composition, expression, dead)
         }
         Family::Put { .. } => Ok(Operation::Write {
             line,
-            expression: or_nothing(alloc, expression),
+            expression: or_nothing(expression),
         }),
         Family::Origin(origin) => {
             drop(expression);
@@ -68,7 +65,6 @@ pub(crate) fn operation_of(
 
 // The operation of a line that makes a cord for which an expression stands.
 fn operation_of_composition(
-    alloc: Global,
     line: u32,
     composition: Composition,
     expression: Option<Expr>,
@@ -86,7 +82,7 @@ fn operation_of_composition(
         | Composition::Catn { target, .. }
         | Composition::Catc { target, .. }
         | Composition::Substr { target, .. } => {
-            let made = Made::Joined(or_nothing(alloc, expression));
+            let made = Made::Joined(or_nothing(expression));
             copied_assignment(dead, line, target, made)
         }
     }
@@ -192,11 +188,11 @@ fn assignment(measures: bool, line: u32, target: Name, made: Made) -> Operation
 }
 
 // The expression, or where there is none a `cat` of no members.
-fn or_nothing(alloc: Global, expression: Option<Expr>) -> Expr
+fn or_nothing(expression: Option<Expr>) -> Expr
     ensures { expr_view result ≡ plan.or_nothing (option_map expr_view expression) }
 {
     match expression {
         Some(expression) => expression,
-        None => cat(Vec::new(alloc)),
+        None => Expr::Cat(Members::nothing()),
     }
 }

@@ -7,7 +7,6 @@ ghost use Rattle.cord_plan.specs.Views.{expr_view, members_of, members_view, sha
 use crate::planner::constructors::{named, run_of, sub_of};
 use crate::{Expr, Members};
 use cord_io::CordError;
-use std::alloc::Global;
 use std::rc::Rc;
 
 /// How much of a room is left after the parts of an expression, where they find room.
@@ -61,18 +60,14 @@ fn room_left_all(members: &[Rc<Expr>], room: u32) -> Option<u32>
 }
 
 /// A copy of an expression, which shares the members of a `cat` and what a `sub` is of. Refused only with `NoMemory`.
-pub(crate) fn copy(alloc: Global, expression: &Expr) -> Result<Expr, CordError>
+pub(crate) fn copy(expression: &Expr) -> Result<Expr, CordError>
     ensures made { IfOk result (λ e. expr_view e ≡ expr_view expression.now) }
     ensures refused { IsOkUnless result CordError.NoMemory }
 {
     match expression {
         Expr::Name(name) => named(name),
         Expr::Run { byte, count } => run_of(byte, count),
-        Expr::Cat(members) => {
-            let mut shared = Members::of(Vec::new(alloc));
-            shared.share(members)?;
-            Ok(Expr::Cat(shared))
-        }
+        Expr::Cat(members) => Ok(Expr::Cat(members.shared()?)),
         Expr::Sub {
             expression,
             start,

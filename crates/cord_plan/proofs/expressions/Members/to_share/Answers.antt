@@ -1,13 +1,8 @@
-use Rattle.std.proofs.Common.{List, Some, map, ap, ◌∙◌}
-use Rattle.cord_plan.specs.Exprs.{append}
-use Rattle.cord_plan.specs.Views.{Shared, members_of, members_view, shared_view}
-use Rattle.cord_plan.proofs.Appending.{append_nothing}
-use Rattle.cord_plan.proofs.ExprViews.{members_made}
+use Rattle.std.proofs.Common.{Some, ap, ◌∙◌}
+use Rattle.cord_plan.specs.Views.{members_view}
+use Rattle.cord_plan.proofs.Sharing.{full_made}
 use Rattle.cord_plan.proofs.expressions.Members.to_share.Goals as goal
 
-pub returns-clause-made : goal.returns-clause-made
-returns-clause-made c =
-    let front = c.in_ok-new.field-0 in
-    members_made (Some front) c.new-2.result
-    ∙ (ap (λ (es : List Shared). append (members_view front.value) (members_of (map shared_view es))) c.new-2.ensures.items
-    ∙ (append_nothing (members_view front.value) ∙ ap members_view c.in_ok-new.ensures.ok))
+pub returns-in_ok-new-in-Two-clause-made : goal.returns-in_ok-new-in-Two-clause-made
+returns-in_ok-new-in-Two-clause-made c =
+    full_made c.in_ok-new-in-Two.field-0 ∙ ap members_view c.in_ok-new-in-Two.ensures.ok

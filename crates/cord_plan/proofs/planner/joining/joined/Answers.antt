@@ -7,6 +7,6 @@ use Rattle.cord_plan.proofs.planner.joining.joined.Goals as goal
 
 pub choices-preserved : goal.choices-preserved
 choices-preserved c =
-    c.in_ok-add.ensures.added
+    c.in_ok-members.ensures.made
     ∙ (ap (λ (ms : Exprs). append ms (in_front (expr_of (choice_view c.choice-item.result)) nothing)) c.choices.invariant
     ∙ more_joined c.args.choices.now c.choices.choice-index c.choice-item.result c.choices-test.true c.choice-item.is)

@@ -10,5 +10,5 @@ pub returns-clause-made : goal.returns-clause-made
 returns-clause-made c =
     c.in_ok-cat_of.ensures.made
     ∙ joined_more (map (λ d. expr_of d) (map choice_view c.args.choices.now)) (members_view c.in_ok-members.members)
-    (members_view c.push.new.self) (shared_view c.in_ok-byte.field-0) c.args.byte.now (Numeral (pos 1)) c.in_ok-members.ensures.made
-    c.in_ok-push.ensures.made c.in_ok-byte.ensures.made
+    (members_view c.in_ok-all.all) (shared_view c.in_ok-byte.field-0) c.args.byte.now (Numeral (pos 1)) c.in_ok-members.ensures.made
+    c.in_ok-all.ensures.made c.in_ok-byte.ensures.made

@@ -1,0 +1,15 @@
+use Rattle.std.proofs.Common.{ap}
+use Rattle.cord_plan.specs.Forced.{expr_of}
+use Rattle.cord_plan.specs.inner.Choices.{choice_view}
+use Rattle.cord_plan.specs.Views.{members_view, shared_view}
+use Rattle.cord_plan.specs.declared.planner.choosing.Choice.{Choice}
+use Rattle.cord_plan.proofs.Joined.{added_name}
+use Rattle.cord_plan.proofs.Sharing.{made_as}
+use Rattle.cord_plan.proofs.planner.joining.with_choice.Goals as goal
+
+pub returns-in_ok-name-in-Named-clause-made : goal.returns-in_ok-name-in-Named-clause-made
+returns-in_ok-name-in-Named-clause-made c =
+    made_as c.with.result _ _
+    (added_name (members_view c.args.members) (shared_view c.in_ok-name-in-Named.field-0) (expr_of (choice_view c.args.choice.now))
+    c.in-Named.name.now c.in_ok-name-in-Named.ensures.made (ap (λ (d : Choice). expr_of (choice_view d)) c.in-Named.is))
+    c.with.ensures.made
