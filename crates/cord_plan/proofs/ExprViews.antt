@@ -5,7 +5,7 @@ use Rattle.cord_operands.specs.declared.operands.Number.{Number}
 use Rattle.cord_plan.specs.Exprs as plain
 use Rattle.cord_plan.specs.Exprs.{append}
 use Rattle.cord_plan.specs.Views.{expr_view, expr_step, members_of, members_view, members_step, pair_step, rest_view, rest_step}
-use Rattle.cord_plan.specs.Views.{shared_view, single_step, Shared}
+use Rattle.cord_plan.specs.Views.{shared_view, single_step}
 use Rattle.cord_plan.specs.declared.expressions.Expr.{Expr, Expr-F, fold-roll-Expr}
 use Rattle.cord_plan.specs.declared.expressions.Expr.TheOpen.{Rest-F}
 use Rattle.cord_plan.specs.declared.expressions.Expr.TheVariants.{Name, Run, Cat, Sub, rolls-Name, rolls-Run, rolls-Cat, rolls-Sub}

@@ -56,3 +56,4 @@ pub mod OnlyKept
 pub mod Pushed
 pub mod Known
 pub mod Nexts
+pub mod Extending

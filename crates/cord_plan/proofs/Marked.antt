@@ -31,7 +31,7 @@ written_back n new old size = subst (λ (m : ℕ). take m (new ++ drop (length n
     (take-append_seam new (drop (length new) old))
 
 -- ---- one operation
-gives_expression : (v : Bool) (line : ℕ) (x : List ℕ) (made : Made) → operation_expression (gives v line x made) ≡ made_expression made
+pub gives_expression : (v : Bool) (line : ℕ) (x : List ℕ) (made : Made) → operation_expression (gives v line x made) ≡ made_expression made
 gives_expression true line x made = refl
 gives_expression false line x made = refl
 
@@ -40,7 +40,7 @@ measured_keeps true (Build line x (Joined e)) = refl
 measured_keeps true o = refl
 measured_keeps false o = refl
 
-measured_false : (o : Operation) → measured false o ≡ o
+pub measured_false : (o : Operation) → measured false o ≡ o
 measured_false (Build line x made) = refl
 measured_false o = refl
 
@@ -219,21 +219,24 @@ module _ (s : List Statement) (later : List ℕ → ℕ → Bool) (b : ℕ) (l :
       entry_is : (t : Table) → operands_chosen s later t b l (own l) ≡ (None, [])
       entry_is t = chosen_simple s later t b l ∙ ap (λ (o : Option (List (List ℕ))). entry_of s later t b l o) none
 
+  -- the entry of a simple line
+  pub entry_chosen : (xs : List (List ℕ)) (cs : List Choice) (old : List Operation) → simple_operands l ≡ Some xs →
+      code.AreChoices s later b l (map operation_expression old) cs → (t : Table) → Has (map operation_expression old) t →
+      operands_chosen s later t b l (own l) ≡ (expr_with l (map (λ c. expr_of c) cs), cs)
+  entry_chosen xs cs old simple chosen t has =
+      chosen_simple s later t b l
+      ∙ (ap (λ (o : Option (List (List ℕ))). entry_of s later t b l o) simple
+      ∙ ap (λ (ds : List Choice). (expr_with l (map (λ c. expr_of c) ds), ds)) (sym (chosen t has)))
+
   -- a simple line has its choices' expression, and takes theirs
   pub next_chosen : (xs : List (List ℕ)) (cs : List Choice) (old : List Operation) (sources : List (Option ℕ)) (e : Option Expr) →
       simple_operands l ≡ Some xs → code.AreChoices s later b l (map operation_expression old) cs → sources ≡ map source_of cs →
       e ≡ expr_with l (map (λ c. expr_of c) cs) → IsNext s later b l old sources e
   next_chosen xs cs old sources e simple chosen places made = record {
-    expression = λ t has. made ∙ sym (ap (λ (en : Option Expr × List Choice). en.0) (entry_is t has));
-    taken = λ t has. places ∙ sym (ap (λ (en : Option Expr × List Choice). map source_of en.1) (entry_is t has));
+    expression = λ t has. made ∙ sym (ap (λ (en : Option Expr × List Choice). en.0) (entry_chosen xs cs old simple chosen t has));
+    taken = λ t has. places
+        ∙ sym (ap (λ (en : Option Expr × List Choice). map source_of en.1) (entry_chosen xs cs old simple chosen t has));
   }
-    where
-      entry_is : (t : Table) → Has (map operation_expression old) t →
-          operands_chosen s later t b l (own l) ≡ (expr_with l (map (λ c. expr_of c) cs), cs)
-      entry_is t has =
-          chosen_simple s later t b l
-          ∙ (ap (λ (o : Option (List (List ℕ))). entry_of s later t b l o) simple
-          ∙ ap (λ (ds : List Choice). (expr_with l (map (λ c. expr_of c) ds), ds)) (sym (chosen t has)))
 
   -- the expression of the line's operation
   entry_expression : (t : Table) (dead v : Bool) →

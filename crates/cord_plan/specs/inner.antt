@@ -8,3 +8,4 @@ pub mod Recent
 pub mod Steps
 pub mod Showing
 pub mod Known
+pub mod Extensions

@@ -12,6 +12,7 @@ mod parts;
 mod staying;
 
 ghost use Rattle.std.specs.Prelude.{◌≡◌, ℕ, Bool, List, IfOk, IsOkUnless, map};
+ghost use Rattle.cord_plan.specs.inner.Extensions.{AreExtending};
 ghost use Rattle.cord_plan.specs.inner.Liveness.{tells, AllTold, IsTold};
 ghost use Rattle.cord_plan.specs.inner.Numbering.{AllHints, AreHints};
 ghost use Rattle.cord_plan.specs.Meaning.{IsPlanOf};
@@ -21,7 +22,7 @@ ghost use Rattle.cord_plan.specs.Unread.{IsLater};
 ghost use Rattle.cord_plan.specs.Views.{operation_view};
 
 pub(crate) use self::constructors::own_expression;
-use self::expressions::next_expression;
+use self::expressions::{NextExpression, next_expression};
 pub(crate) use self::interning::Interner;
 use self::known::Known;
 pub(crate) use self::lines::operation_of;
@@ -43,25 +44,27 @@ fn is_dead(statement: &Statement, numbers: LineNumbers, place: usize, later: &La
     }
 }
 
-// The operations of a script's lines. Where a line takes the expression of an earlier one, the earlier one's operation
-// turns from building to measuring.
+// The operations of a script's lines, and which of them extend the one before. Where a line takes the expression of an
+// earlier one, the earlier one's operation turns from building to measuring.
 fn operations_of(
     alloc: Global,
     statements: &[Statement],
     later: &Later,
-) -> Result<Vec<Operation>, CordError>
+) -> Result<(Vec<Operation>, Vec<bool>), CordError>
     requires hints { AllHints statements.now later.now.numbering later.now.numbers.items }
     requires told { AllTold statements.now later.now }
-    ensures made { IfOk result (λ os. map operation_view os.items ≡ plan.planned statements.now (tells later.now)) }
+    ensures made { IfOk result (λ p. map operation_view p.0.items ≡ plan.planned statements.now (tells later.now)) }
+    ensures extending { IfOk result (λ p. AreExtending p.1.items (map operation_view p.0.items)) }
     ensures refused { IsOkUnless result CordError.NoMemory }
 {
     let mut operations = Vec::with_capacity(alloc, statements.len())?;
+    let mut extending = Vec::with_capacity(alloc, statements.len())?;
     let mut interner = Interner::of(alloc);
     let mut recent = Recent::of(alloc, later)?;
     let mut known = Known::of(alloc, later.numbering.count())?;
     for (place, statement) in statements.iter().enumerate() {
         let numbers = numbers_at(&later.numbers, place);
-        let expression = next_expression(
+        let next = next_expression(
             alloc,
             &mut interner,
             statements,
@@ -72,11 +75,16 @@ fn operations_of(
             &mut known,
             &mut operations,
         )?;
+        let NextExpression {
+            expression,
+            extends,
+        } = next;
         let dead = is_dead(statement, numbers, place, later);
         operations.push_reserved(operation_of(statement, expression, dead)?);
+        extending.push_reserved(extends);
         recent.note(statement, numbers, place);
     }
-    Ok(operations)
+    Ok((operations, extending))
 }
 
 /// The plan of a script: a name that nobody reads gets a length alone, and what is read once, in the expression of a
@@ -93,6 +101,6 @@ pub fn plan(alloc: Global, script: &Script) -> Result<Plan, CordError>
 {
     let statements = script.statements();
     let later = Later::of(alloc, statements)?;
-    let operations = operations_of(alloc, statements, &later)?;
-    Ok(Plan::of(operations))
+    let planned = operations_of(alloc, statements, &later)?;
+    Ok(Plan::of(planned.0, planned.1))
 }

@@ -1,9 +1,11 @@
 // Plans.
 ghost use Rattle.std.specs.Prelude.{◌≡◌, All, ◌+◌, ◌<◌, ◌++◌, ℕ, Some, IfErr, IfOk, IsOkUnless, OnErr, OnOk};
-ghost use Rattle.std.specs.Prelude.{false, length, map, slice_get};
+ghost use Rattle.std.specs.Prelude.{false, get_or, length, map, slice_get, true};
 ghost use Rattle.cord_meaning.specs.Blocks.{jump};
 ghost use Rattle.cord_io.specs.Device.{raised};
 ghost use Rattle.cord_iter.specs.Taking.{IsFrontOf, Takes};
+ghost use Rattle.cord_plan.specs.Extending.{Extends};
+ghost use Rattle.cord_plan.specs.inner.Extensions.{AreExtending};
 ghost use Rattle.cord_plan.specs.Kept.{KeepsNoOther};
 ghost use Rattle.cord_plan.specs.Meaning.{IsPlanOf, operation_shape};
 ghost use Rattle.cord_plan.specs.Planned as plan;
@@ -23,6 +25,7 @@ use std::marker::Model;
 #[derive(Drop)]
 pub struct Plan {
     operations: Vec<Operation>,
+    extending: Vec<bool>,
 }
 
 impl Model for Plan {
@@ -38,11 +41,11 @@ impl Model for Plan {
 
     ghost view = { λ p. p.operations.items };
 
-    ghost use Rattle.std.specs.Prelude.{All, map};
-    ghost use Rattle.cord_plan.specs.Kept.{KeepsNoOther};
+    ghost use Rattle.std.specs.Prelude.{map};
+    ghost use Rattle.cord_plan.specs.inner.Extensions.{IsPlan};
     ghost use Rattle.cord_plan.specs.Views.{operation_view};
 
-    ghost invariant = { λ p. All KeepsNoOther (map operation_view p.operations.items) };
+    ghost invariant = { λ p. IsPlan p.extending.items (map operation_view p.operations.items) };
 }
 
 // The operations of the trivial plan.
@@ -59,13 +62,28 @@ fn trivial_operations(alloc: Global, statements: &[Statement]) -> Result<Vec<Ope
     Ok(operations)
 }
 
+// Whether it is told of a place; of a place past the end it isn't.
+#[inline(always)]
+fn is_told(told: &[bool], place: usize) -> bool
+    ensures { result ≡ get_or told.now place false }
+{
+    match told.get(place) {
+        None => false,
+        Some(told) => *told,
+    }
+}
+
 impl Plan {
-    // The plan of these operations, without taking memory.
-    pub(crate) fn of(operations: Vec<Operation>) -> Plan
+    // The plan of these operations, of which some are told to extend the one before, without taking memory.
+    pub(crate) fn of(operations: Vec<Operation>, extending: Vec<bool>) -> Plan
         requires kept { All KeepsNoOther (map operation_view operations.items) }
+        requires extending { AreExtending extending.items (map operation_view operations.items) }
         ensures { result ≡ operations.items }
     {
-        Plan { operations }
+        Plan {
+            operations,
+            extending,
+        }
     }
 
     /// The plan that makes every line's own expression. Refused only with `NoMemory`.
@@ -75,7 +93,7 @@ impl Plan {
         ensures refused { IsOkUnless result CordError.NoMemory }
     {
         let operations = trivial_operations(alloc, script.statements())?;
-        Ok(Plan::of(operations))
+        Ok(Plan::of(operations, Vec::new(alloc)))
     }
 
     /// The operations in order. Those that are kept make no cord and put nothing.
@@ -84,6 +102,15 @@ impl Plan {
         ensures kept { All KeepsNoOther (map operation_view self.now) }
     {
         &self.operations
+    }
+
+    /// Whether the operation at a place joins what the one before it joins, and one member more; the one before it
+    /// doesn't name what it makes. Not told of each that does. O(1).
+    #[inline(always)]
+    pub fn extends(&self, place: usize) -> bool
+        ensures { result ≡ true → Extends (map operation_view self.now) place }
+    {
+        is_told(&self.extending, place)
     }
 
     /// Whether an operation is control: a `repeat`, an `if`, an `else` or an `end`. Where none is, each operation leads

@@ -1,5 +1,5 @@
 -- The last lines that assign and read each name, as the code notes them.
-use Rattle.std.specs.Prelude.{◌≡◌, ℕ, zero, suc, ◌-◌, Bool, true, false, not, nat_le, ◌&&◌, ◌||◌, List, [], ◌∷◌, if◌then◌else◌, Option}
+use Rattle.std.specs.Prelude.{◌≡◌, ℕ, zero, suc, ◌-◌, Bool, true, false, not, nat_le, ◌||◌, List, if◌then◌else◌, Option}
 use Rattle.std.specs.Prelude.{Some, None, slice_get, option_map}
 use Rattle.cord_syntax.specs.declared.statements.Statement.{Statement}
 use Rattle.cord_meaning.specs.Statements.{shape_of}

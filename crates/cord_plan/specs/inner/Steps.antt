@@ -1,7 +1,9 @@
 -- What the code goes by that makes the operations of all lines of a script in one pass.
-use Rattle.std.specs.Prelude.{◌≡◌, ℕ, ◌+◌, ◌≤◌, Bool, true, false, ◌||◌, ◌==◌, List, [], ◌∷◌, map, drop, length, Option, Some, None}
+use Rattle.std.specs.Prelude.{◌≡◌, ℕ, ◌+◌, ◌-◌, ◌≤◌, Bool, true, false, ◌&&◌, ◌||◌, ◌==◌, List, [], ◌∷◌, map}
+use Rattle.std.specs.Prelude.{drop, length, Option, Some, None}
 use Rattle.cord_syntax.specs.declared.statements.Statement.{Statement}
-use Rattle.cord_plan.specs.Exprs.{Expr}
+use Rattle.cord_syntax.specs.declared.statements.Statement.TheVariants.{Cat, Catn, Catc}
+use Rattle.cord_plan.specs.Exprs.{Expr, cat}
 use Rattle.cord_plan.specs.Forced as plain
 use Rattle.cord_plan.specs.inner.Choices.{Has}
 use Rattle.cord_plan.specs.declared.planner.measuring.Sources.{Sources}
@@ -24,6 +26,31 @@ operation_expression (Keep l) = None
 abbrev pub measured : Bool → Operation → Operation
 measured true (Build line x (Joined e)) = Measure line x (Joined e)
 measured measures o = o
+
+-- whether a choice takes the members that the line before a place joins, and whether it is a name
+abbrev pub is_cat : Expr → Bool
+is_cat (cat es) = true
+is_cat e = false
+
+abbrev pub is_last : ℕ → plain.Choice → Bool
+is_last b (plain.named x) = false
+is_last b (plain.replaced a e) = (b - a == 1) && is_cat e
+
+abbrev pub is_named : plain.Choice → Bool
+is_named (plain.named x) = true
+is_named (plain.replaced a e) = false
+
+-- whether a line with these choices joins the members that the line before it joins, and one more
+abbrev pub is_longer : ℕ → Statement → List plain.Choice → Bool
+is_longer b (Cat line target left right) (c ∷ d ∷ []) = is_last b c && is_named d
+is_longer b (Catn line target many) (c ∷ d ∷ []) = is_last b c && is_named d
+is_longer b (Catc line target operand byte) (c ∷ []) = is_last b c
+is_longer b l cs = false
+
+-- whether a line joins a name and a byte
+abbrev pub is_catc : Statement → Bool
+is_catc (Catc line target operand byte) = true
+is_catc l = false
 
 -- the place of the line whose expression a choice takes
 abbrev pub source_of : plain.Choice → Option ℕ
@@ -64,6 +91,11 @@ module _ (s : List Statement) (later : List ℕ → ℕ → Bool) where
     pub sources : List (Option ℕ)
     pub next : IsNext b l old sources e
     pub marked : new ≡ measured_from 0 sources old
+
+  -- where it is told of the line l at b that it extends the line before it, its choices say so
+  abbrev pub IsToldLonger : ℕ → Statement → List Operation → Bool → Type 0
+  IsToldLonger b l old told = (t : plain.Table) → Has (map operation_expression old) t → told ≡ true →
+      is_longer b l (plain.operands_chosen s later t b l (plain.own l)).1 ≡ true
 
   -- the operations of the lines before b, as far as lines before b take their expressions
   pub record IsBegun (b : ℕ) (made : List Operation) : Type 0 where

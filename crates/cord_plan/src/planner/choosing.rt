@@ -1,5 +1,5 @@
 // What stands for the operands of a line: their names, or expressions of earlier lines.
-ghost use Rattle.std.specs.Prelude.{◌≡◌, ◌==◌, ◌+◌, ◌<◌, ◌≤◌, ◌++◌, ◌∷◌, ◌||◌, ℕ, List, Option, Some};
+ghost use Rattle.std.specs.Prelude.{◌≡◌, ◌==◌, ◌+◌, ◌-◌, ◌<◌, ◌≤◌, ◌++◌, ◌∷◌, ◌||◌, ℕ, List, Option, Some};
 ghost use Rattle.std.specs.Prelude.{IfOk, IfSome, drop, length, map, not, option_map, slice_get};
 ghost use Rattle.cord_plan.specs.Exprs as plain;
 ghost use Rattle.cord_plan.specs.Exprs.{names, name, parts};
@@ -13,7 +13,7 @@ ghost use Rattle.cord_plan.specs.inner.Known.{IsFacts, IsKnown};
 ghost use Rattle.cord_plan.specs.inner.Liveness.{tells, IsTold};
 ghost use Rattle.cord_plan.specs.inner.Numbering.{AllHints, IsHint};
 ghost use Rattle.cord_plan.specs.inner.Recent.{IsRecent};
-ghost use Rattle.cord_plan.specs.inner.Steps.{made_expression, operation_expression};
+ghost use Rattle.cord_plan.specs.inner.Steps.{is_cat, is_last, is_named, made_expression, operation_expression};
 ghost use Rattle.cord_plan.specs.Views.{expr_view, made_view, operation_view};
 ghost use Rattle.std.specs.Str.{bytes_eq};
 
@@ -299,6 +299,44 @@ pub(crate) fn choose<'a>(
                 }
             }
         },
+    }
+}
+
+// Whether a place is that just before another.
+fn is_just_before(source: usize, place: usize) -> bool
+    ensures { result ≡ (place - source == 1) }
+{
+    place.saturating_sub(source) == 1
+}
+
+fn is_cat(expression: &Expr) -> bool
+    ensures { result ≡ is_cat (expr_view expression.now) }
+{
+    match expression {
+        Expr::Cat(_) => true,
+        Expr::Name(_) | Expr::Run { .. } | Expr::Sub { .. } => false,
+    }
+}
+
+/// Whether a choice takes the members that the line before a place joins.
+pub(crate) fn is_last(choice: &Choice, place: usize) -> bool
+    ensures { result ≡ is_last place (choice_view choice.now) }
+{
+    match choice {
+        Choice::Named(_) => false,
+        Choice::Replaced(source, expression) => {
+            is_just_before(*source, place) && is_cat(expression)
+        }
+    }
+}
+
+/// Whether a choice is a name.
+pub(crate) fn is_named(choice: &Choice) -> bool
+    ensures { result ≡ is_named (choice_view choice.now) }
+{
+    match choice {
+        Choice::Named(_) => true,
+        Choice::Replaced(..) => false,
     }
 }
 

@@ -1,16 +1,19 @@
 // The expression of the next line, over the operations of the lines before it.
-ghost use Rattle.std.specs.Prelude.{◌≡◌, ◌≤◌, ◌++◌, ◌∷◌, [], Some, IfOk, IsOkUnless, length, map};
+ghost use Rattle.std.specs.Prelude.{◌≡◌, ◌≤◌, ◌++◌, ◌∷◌, ◌&&◌, [], Some, IfOk, IsOkUnless, length, map};
 ghost use Rattle.std.specs.Prelude.{option_map};
-ghost use Rattle.cord_plan.specs.inner.Choices.{operands_view, simple_operands};
+ghost use Rattle.cord_plan.specs.inner.Choices.{choice_view, operands_view, simple_operands};
 ghost use Rattle.cord_plan.specs.inner.Known.{IsKnown};
 ghost use Rattle.cord_plan.specs.inner.Liveness.{tells, IsTold};
 ghost use Rattle.cord_plan.specs.inner.Numbering.{AllHints, AreHints};
 ghost use Rattle.cord_plan.specs.inner.Recent.{IsRecent};
-ghost use Rattle.cord_plan.specs.inner.Steps.{IsNext, IsStep, operation_expression, sources_view};
+ghost use Rattle.cord_plan.specs.inner.Steps.{IsNext, IsStep, IsToldLonger, is_catc, is_last, is_named};
+ghost use Rattle.cord_plan.specs.inner.Steps.{operation_expression, sources_view};
 ghost use Rattle.cord_plan.specs.Views.{expr_view, operation_view};
 
 use crate::flow::{LineNumbers, Recent};
-use crate::planner::choosing::{Line, Operands, choose, choose_all, operands_of};
+use crate::planner::choosing::{
+    Choice, Line, Operands, choose, choose_all, is_last, is_named, operands_of,
+};
 use crate::planner::interning::Interner;
 use crate::planner::joining::expression_with;
 use crate::planner::known::Known;
@@ -20,11 +23,43 @@ use cord_io::CordError;
 use cord_script::Statement;
 use std::alloc::Global;
 
-/// The expression of a line, where it is a simple one, and the lines whose expressions it takes.
+/// The expression of a line, where it is a simple one, and whether the line is told to extend the one before it.
+#[derive(Drop)]
+pub(crate) struct NextExpression {
+    pub(crate) expression: Option<Expr>,
+    pub(crate) extends: bool,
+}
+
+// The same, and the lines whose expressions it takes.
 #[derive(Drop)]
 struct LineExpression {
     expression: Option<Expr>,
     sources: Sources,
+    extends: bool,
+}
+
+// Whether a line joins a name and a byte.
+fn is_catc(statement: &Statement) -> bool
+    ensures { result ≡ is_catc statement.now }
+{
+    match statement {
+        Statement::Catc { .. } => true,
+        _ => false,
+    }
+}
+
+// Whether a line with this choice joins the members that the line before it joins, and a byte.
+fn adds_byte(line: &Line, choice: &Choice) -> bool
+    ensures { result ≡ (is_catc line.now.statement.now && is_last line.now.place (choice_view choice.now)) }
+{
+    is_catc(line.statement) && is_last(choice, line.place)
+}
+
+// Whether a line with these choices joins the members that the line before it joins, and a name.
+fn adds_name(line: &Line, first: &Choice, second: &Choice) -> bool
+    ensures { result ≡ (is_last line.now.place (choice_view first.now) && is_named (choice_view second.now)) }
+{
+    is_last(first, line.place) && is_named(second)
 }
 
 // The expression of a simple line. What is chosen for at most two operands takes no memory.
@@ -48,6 +83,9 @@ fn expression_over<'a>(
     ensures made { IfOk result (λ t. IsNext line.now.statements.now
         (tells line.now.recent.now.later.now) line.now.place line.now.statement.now
         (map operation_view operations.now) (sources_view t.sources) (option_map expr_view t.expression)) }
+    ensures extends { IfOk result (λ t. IsToldLonger line.now.statements.now
+        (tells line.now.recent.now.later.now) line.now.place line.now.statement.now
+        (map operation_view operations.now) t.extends) }
     ensures known { IfOk result (λ t. IsKnown line.now.recent.now.later.now.numbering
         (map operation_expression (map operation_view operations.now) ++ option_map expr_view t.expression ∷ [])
         known.new) }
@@ -58,22 +96,27 @@ fn expression_over<'a>(
         Operands::Nothing => Ok(LineExpression {
             expression: expression_with(alloc, interner, statement, &[])?,
             sources: Sources::Nothing,
+            extends: false,
         }),
         Operands::One(operand) => {
             let choice = choose(line, known, operand, numbers.first, operations, &[]);
             known.note_one(line, &choice);
+            let extends = adds_byte(line, &choice);
             Ok(LineExpression {
                 expression: expression_with(alloc, interner, statement, &[choice])?,
                 sources: Sources::One(source_of(&choice)),
+                extends,
             })
         }
         Operands::Two(left, right) => {
             let first = choose(line, known, left, numbers.first, operations, &[]);
             let second = choose(line, known, right, numbers.second, operations, &[first]);
             known.note_two(line, &first, &second);
+            let extends = adds_name(line, &first, &second);
             Ok(LineExpression {
                 expression: expression_with(alloc, interner, statement, &[first, second])?,
                 sources: Sources::Two(source_of(&first), source_of(&second)),
+                extends,
             })
         }
         Operands::Listed(operands) => {
@@ -83,6 +126,7 @@ fn expression_over<'a>(
             Ok(LineExpression {
                 expression,
                 sources,
+                extends: false,
             })
         }
     }
@@ -100,7 +144,7 @@ pub(crate) fn next_expression(
     recent: &Recent,
     known: &mut Known,
     operations: &mut [Operation],
-) -> Result<Option<Expr>, CordError>
+) -> Result<NextExpression, CordError>
     requires place { place ≤ length statements.now }
     requires recent { IsRecent statements.now place recent.now }
     requires hints { AreHints recent.now.later.now.numbering statement.now numbers }
@@ -109,14 +153,20 @@ pub(crate) fn next_expression(
     requires long { length operations.old ≡ place }
     requires known { IsKnown recent.now.later.now.numbering
         (map operation_expression (map operation_view operations.old)) known.old }
-    ensures made { IfOk result (λ e. IsStep statements.now (tells recent.now.later.now) place statement.now
-        (map operation_view operations.old) (map operation_view operations.new) (option_map expr_view e)) }
-    ensures known { IfOk result (λ e. IsKnown recent.now.later.now.numbering
-        (map operation_expression (map operation_view operations.old) ++ option_map expr_view e ∷ []) known.new) }
+    ensures made { IfOk result (λ n. IsStep statements.now (tells recent.now.later.now) place statement.now
+        (map operation_view operations.old) (map operation_view operations.new) (option_map expr_view n.expression)) }
+    ensures extends { IfOk result (λ n. IsToldLonger statements.now (tells recent.now.later.now) place statement.now
+        (map operation_view operations.old) n.extends) }
+    ensures known { IfOk result (λ n. IsKnown recent.now.later.now.numbering
+        (map operation_expression (map operation_view operations.old) ++ option_map expr_view n.expression ∷ [])
+        known.new) }
     ensures refused { IsOkUnless result CordError.NoMemory }
 {
     let Some(operands) = operands_of(statement) else {
-        return Ok(None);
+        return Ok(NextExpression {
+            expression: None,
+            extends: false,
+        });
     };
     let line = Line {
         statements,
@@ -129,7 +179,11 @@ pub(crate) fn next_expression(
     let LineExpression {
         expression,
         sources,
+        extends,
     } = expression_over(alloc, interner, &line, known, operations)?;
     measure(operations, sources);
-    Ok(expression)
+    Ok(NextExpression {
+        expression,
+        extends,
+    })
 }

@@ -5,7 +5,7 @@ use Rattle.std.proofs.lemmas.List.{length-map, map-append}
 use Rattle.cord_plan.specs.inner.Known.{IsKnown}
 use Rattle.cord_plan.specs.inner.Liveness.{tells, IsTold}
 use Rattle.cord_plan.specs.inner.Numbering.{AllHints, AreHints}
-use Rattle.cord_plan.specs.inner.Steps.{IsStep, operation_expression}
+use Rattle.cord_plan.specs.inner.Steps.{IsStep, IsToldLonger, operation_expression}
 use Rattle.cord_plan.specs.Operands.{target_of}
 use Rattle.cord_plan.specs.Planned as plan
 use Rattle.cord_plan.specs.Views.{expr_view, operation_view}
@@ -13,6 +13,7 @@ use Rattle.cord_syntax.specs.declared.statements.Statement.{Statement}
 use Rattle.cord_plan.specs.declared.flow.line_numbers.LineNumbers.{LineNumbers}
 use Rattle.cord_plan.specs.declared.flow.liveness.Later.{Later}
 use Rattle.cord_plan.specs.declared.flow.numbering.Numbering.{Numbering}
+use Rattle.cord_plan.proofs.Extending.{more_extending}
 use Rattle.cord_plan.proofs.Marked.{all_begun, begun_long, begun_none, begun_then, expressions_then, written_back}
 use Rattle.cord_plan.proofs.planner.operations_of.Goals as goal
 
@@ -22,16 +23,21 @@ loop-place-preserved c =
     let later = tells c.args.later.now in
     let b = c.loop-place.place in
     let l = c.index-statements-place.result in
-    let e = c.in_ok-expression.expression in
+    let e = c.in_ok-next.next.expression in
     let o = c.in_ok-operation_of.field-0 in
     let old = c.loop-place.operations.items in
     let new = c.next_expression.new.operations in
     let size : length new ≡ c.loop-place.operations.len = c.next_expression.auto.operations ∙ c.deref_mut.ensures.len in
     let next : IsStep s later b l (map operation_view old) (map operation_view new) (option_map expr_view e) =
-    rw (← c.loop-place.invariant.later, ← c.deref_mut.ensures.value) c.in_ok-expression.ensures.made in
+    rw (← c.loop-place.invariant.later, ← c.deref_mut.ensures.value) c.in_ok-next.ensures.made in
     let told : IsKnown c.args.later.now.numbering (map operation_expression (map operation_view old) ++ option_map expr_view e ∷ [])
     c.next_expression.new.known =
-    rw (← c.loop-place.invariant.later, ← c.deref_mut.ensures.value) c.in_ok-expression.ensures.known in
+    rw (← c.loop-place.invariant.later, ← c.deref_mut.ensures.value) c.in_ok-next.ensures.known in
+    let longer : IsToldLonger s later b l (map operation_view old) c.in_ok-next.next.extends =
+    rw (← c.loop-place.invariant.later, ← c.deref_mut.ensures.value) c.in_ok-next.ensures.extends in
+    let whole : c.loop-place.operations.len ≡ b =
+    c.loop-place.operations.ok.0
+    ∙ (sym (length-map old operation_view) ∙ begun_long s later b (map operation_view old) c.loop-place.invariant.begun) in
     let here : slice_get s b ≡ Some l = slice_get_read s (length s) b l refl c.loop-place-test.true c.index-statements-place.is in
     let made : operation_view o ≡ plan.operation l (plan.or_nothing (option_map expr_view e)) (plan.is_dead later b (target_of l)) false =
     c.in_ok-operation_of.ensures.made
@@ -51,6 +57,24 @@ loop-place-preserved c =
         c.push_reserved.ensures.len,
         c.push_reserved.ensures.capacity,
       );
+      listed = omega (arith, c.push_reserved-in-loop-place.ensures.len, c.loop-place.invariant.listed);
+      extending_room = omega (
+        arith,
+        c.loop-place-test.true,
+        c.loop-place.invariant.extending_room,
+        c.push_reserved-in-loop-place.ensures.len,
+        c.push_reserved-in-loop-place.ensures.capacity,
+      );
+      extending = rw (
+        c.push_reserved-in-loop-place.ensures.items,
+        c.push_reserved.ensures.items,
+        written_back c.loop-place.operations.len new old size,
+        map-append operation_view new (o ∷ []),
+      )
+          (more_extending s later c.loop-place.extending.items c.in_ok-next.next.extends b l (map operation_view old)
+          (map operation_view new) (option_map expr_view e) (operation_view o) (plan.is_dead later b (target_of l))
+          c.loop-place.invariant.begun next made (length-map new operation_view ∙ (size ∙ whole))
+          (sym c.loop-place.extending.ok.0 ∙ c.loop-place.invariant.listed) c.loop-place.invariant.extending longer);
       later = c.note.ensures.later ∙ c.loop-place.invariant.later;
       recent = c.note.ensures.recent s here c.loop-place.invariant.recent;
       known = rw (
@@ -67,11 +91,17 @@ pub loop-place-init : goal.loop-place-init
 loop-place-init c = record {
   begun = rw c.in_ok-operations.ensures.items (begun_none c.args.statements.now (tells c.args.later.now));
   room = omega (arith, c.in_ok-operations.ensures.len, c.in_ok-operations.ensures.capacity);
+  listed = omega (arith, c.in_ok-extending.ensures.len);
+  extending_room = omega (arith, c.in_ok-extending.ensures.len, c.in_ok-extending.ensures.capacity);
+  extending = rw c.in_ok-extending.ensures.items (λ place told. let bad : ⊥ = cc in absurd bad);
   later = c.in_ok-recent.ensures.later;
   recent = c.in_ok-recent.ensures.recent c.args.statements.now;
   known = c.in_ok-known.ensures c.args.later.now.numbering
       (map operation_expression (map operation_view c.in_ok-operations.operations.items));
 }
+
+pub returns-clause-extending : goal.returns-clause-extending
+returns-clause-extending c = c.loop-place.invariant.extending
 
 pub returns-clause-made : goal.returns-clause-made
 returns-clause-made c = all_begun c.args.statements.now (tells c.args.later.now) c.loop-place.place

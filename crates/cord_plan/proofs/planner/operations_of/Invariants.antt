@@ -1,5 +1,6 @@
 use Rattle.std.proofs.Common.{◌≡◌, ◌≤◌, ◌+◌, ◌-◌, map, length}
 use Rattle.std.specs.Prelude.{vec_len, vec_capacity}
+use Rattle.cord_plan.specs.inner.Extensions.{AreExtending}
 use Rattle.cord_plan.specs.inner.Known.{IsKnown}
 use Rattle.cord_plan.specs.inner.Liveness.{tells}
 use Rattle.cord_plan.specs.inner.Recent.{IsRecent}
@@ -12,6 +13,9 @@ abbrev pub invariant-loop-place : goal.invariant-loop-place
 invariant-loop-place l = record {
   begun : IsBegun l.statements (tells l.later) l.place (map operation_view l.operations.items);
   room : vec_len l.operations + (length l.statements - l.place) ≤ vec_capacity l.operations;
+  listed : vec_len l.extending ≡ l.place;
+  extending_room : vec_len l.extending + (length l.statements - l.place) ≤ vec_capacity l.extending;
+  extending : AreExtending l.extending.items (map operation_view l.operations.items);
   later : l.recent.later.now ≡ l.later;
   recent : IsRecent l.statements l.place l.recent;
   known : IsKnown l.later.numbering (map operation_expression (map operation_view l.operations.items)) l.known;

@@ -14,12 +14,13 @@ returns-clause-means c = λ g text read limit most files.
     let later = tells c.in_ok-later.later in
     let is : IsLater c.args.script.now later =
     subst (λ (s : List Statement). IsLater s later) c.statements-statements.ensures c.in_ok-later.ensures.later in
-    rw (c.of-2.ensures, c.in_ok-operations.ensures.made, c.statements-statements.ensures)
+    rw (c.of-2.ensures, c.in_ok-planned.ensures.made, c.statements-statements.ensures)
     (planned_keeps limit most files c.args.script.now g text later read is)
 
 pub of-requires-2 : goal.of-requires-2
 of-requires-2 c =
     record {
-      kept = subst (λ (os : List Operation). All KeepsNoOther os) (sym c.in_ok-operations.ensures.made)
+      kept = subst (λ (os : List Operation). All KeepsNoOther os) (sym c.in_ok-planned.ensures.made)
           (kept_planned c.statements-statements.result.now (tells c.in_ok-later.later));
+      extending = c.in_ok-planned.ensures.extending;
     }

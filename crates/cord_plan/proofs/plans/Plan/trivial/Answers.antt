@@ -11,6 +11,7 @@ of-requires c =
     record {
       kept = subst (λ (os : List Operation). All KeepsNoOther os) (sym c.in_ok-operations.ensures.made)
           (kept_trivial c.statements.result.now);
+      extending = rw c.new.ensures.items (λ place told. let bad : ⊥ = cc in absurd bad);
     }
 
 pub returns-clause-means : goal.returns-clause-means

@@ -1,0 +1,14 @@
+-- Which operations of a plan are told to join what the one before them joins, and one member more.
+use Rattle.std.specs.Prelude.{◌≡◌, ℕ, Bool, true, List, Some, All, slice_get}
+use Rattle.cord_plan.specs.Extending.{Extends}
+use Rattle.cord_plan.specs.Kept.{KeepsNoOther}
+use Rattle.cord_plan.specs.Planned.{Operation}
+
+-- where it is told of a place, the operation there extends the one before it
+abbrev pub AreExtending : List Bool → List Operation → Type 0
+AreExtending told operations = (place : ℕ) → slice_get told place ≡ Some true → Extends operations place
+
+-- what holds of the operations of a plan
+pub record IsPlan (told : List Bool) (operations : List Operation) : Type 0 where
+  pub kept : All KeepsNoOther operations
+  pub extending : AreExtending told operations
