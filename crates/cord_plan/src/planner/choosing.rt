@@ -303,12 +303,14 @@ pub(crate) fn choose<'a>(
 }
 
 // Whether a place is that just before another.
+#[inline(always)]
 fn is_just_before(source: usize, place: usize) -> bool
     ensures { result ≡ (place - source == 1) }
 {
     place.saturating_sub(source) == 1
 }
 
+#[inline(always)]
 fn is_cat(expression: &Expr) -> bool
     ensures { result ≡ is_cat (expr_view expression.now) }
 {
@@ -319,6 +321,7 @@ fn is_cat(expression: &Expr) -> bool
 }
 
 /// Whether a choice takes the members that the line before a place joins.
+#[inline(always)]
 pub(crate) fn is_last(choice: &Choice, place: usize) -> bool
     ensures { result ≡ is_last place (choice_view choice.now) }
 {
@@ -331,6 +334,7 @@ pub(crate) fn is_last(choice: &Choice, place: usize) -> bool
 }
 
 /// Whether a choice is a name.
+#[inline(always)]
 pub(crate) fn is_named(choice: &Choice) -> bool
     ensures { result ≡ is_named (choice_view choice.now) }
 {

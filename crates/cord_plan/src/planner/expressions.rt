@@ -39,6 +39,7 @@ struct LineExpression {
 }
 
 // Whether a line joins a name and a byte.
+#[inline(always)]
 fn is_catc(statement: &Statement) -> bool
     ensures { result ≡ is_catc statement.now }
 {
@@ -49,6 +50,7 @@ fn is_catc(statement: &Statement) -> bool
 }
 
 // Whether a line with this choice joins the members that the line before it joins, and a byte.
+#[inline(always)]
 fn adds_byte(line: &Line, choice: &Choice) -> bool
     ensures { result ≡ (is_catc line.now.statement.now && is_last line.now.place (choice_view choice.now)) }
 {
@@ -56,6 +58,7 @@ fn adds_byte(line: &Line, choice: &Choice) -> bool
 }
 
 // Whether a line with these choices joins the members that the line before it joins, and a name.
+#[inline(always)]
 fn adds_name(line: &Line, first: &Choice, second: &Choice) -> bool
     ensures { result ≡ (is_last line.now.place (choice_view first.now) && is_named (choice_view second.now)) }
 {
