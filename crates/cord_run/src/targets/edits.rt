@@ -1,6 +1,8 @@
 // Edits: a name that gets its own text again, with another one in the place of a range of it. Its cord is changed where
 // it is held.
 ghost use Rattle.std.specs.Prelude.{◌≡◌, IfErr, IfOk, IfSome, IsErr};
+ghost use Rattle.cord_plan.specs.Exprs.{cat, member, nothing};
+ghost use Rattle.cord_plan.specs.Planned.{Joined};
 ghost use Rattle.cord_plan.specs.Views.{expr_view, made_view};
 ghost use Rattle.cord_run.specs.inner.Contents.{IsUnmadeOfNames};
 ghost use Rattle.cord_run.specs.inner.Edits.{Edited, IsEdit, IsMiddle, IsNoMiddle, IsReplaced, form_view, range_view};
@@ -72,23 +74,40 @@ fn form_of<'a>(target: &Name, made: &'a Made) -> Option<EditForm<'a>>
     let Made::Joined(Expr::Cat(members)) = made else {
         return None;
     };
-    let (front, rest) = members.halves();
-    if front.is_some() {
-        return None;
-    }
-    match rest {
-        [first, last] => Some(EditForm {
+    match members.halves() {
+        (None, [first, last]) => Some(EditForm {
             front: own_range(target, first.as_ref())?,
             middle: None,
             behind: own_range(target, last.as_ref())?,
         }),
-        [first, middle, last] => Some(EditForm {
-            front: own_range(target, first.as_ref())?,
-            middle: Some(middle.as_ref()),
-            behind: own_range(target, last.as_ref())?,
-        }),
+        (None, [first, middle, last]) => {
+            form_around(target, first.as_ref(), middle.as_ref(), last.as_ref())
+        }
+        (Some(front), [last]) => match front.halves() {
+            (None, [first, middle]) => {
+                form_around(target, first.as_ref(), middle.as_ref(), last.as_ref())
+            }
+            _ => None,
+        },
         _ => None,
     }
+}
+
+// An expression between two others, where these are ranges of the name's own text.
+fn form_around<'a>(
+    target: &Name,
+    first: &'a Expr,
+    middle: &'a Expr,
+    last: &'a Expr,
+) -> Option<EditForm<'a>>
+    ensures { IfSome result (λ form. Joined (cat (member (expr_view first.now) (member (expr_view middle.now)
+        (member (expr_view last.now) nothing)))) ≡ form_view target.now form) }
+{
+    Some(EditForm {
+        front: own_range(target, first)?,
+        middle: Some(middle),
+        behind: own_range(target, last)?,
+    })
 }
 
 // The range of the name's own text that an expression is.
