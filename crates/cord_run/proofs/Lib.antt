@@ -3,6 +3,7 @@ pub mod Splices
 pub mod Members
 pub mod Lengths
 pub mod Fronts
+pub mod Known
 pub mod Origins
 pub mod MemberRanges
 pub mod Ranges

@@ -1,5 +1,6 @@
 //! Runs plans, and scripts by their plans: steps through the operations, what each of them does, and the end.
 mod ends;
+mod known;
 mod operations;
 mod steps;
 

@@ -5,20 +5,23 @@ mod files;
 mod literals;
 mod prints;
 
-ghost use Rattle.std.specs.Prelude.{◌≡◌, ◌≢◌, Err, IfErr, IfOk, OnErr};
+ghost use Rattle.std.specs.Prelude.{◌≡◌, ◌≢◌, Err, IfErr, IfOk, IfSome, OnErr};
 ghost use Rattle.cord_io.specs.declared.TheConstants.{MAX_LEN};
 ghost use Rattle.cord_io.specs.Device.{Folder, count_after};
 ghost use Rattle.cord_file.specs.Entries.{lengths_in, table_in};
 ghost use Rattle.cord_file.specs.Opening.{Grows};
 ghost use Rattle.cord_file.specs.Sources.{device_in, opened_in};
 ghost use Rattle.cord_plan.specs.Meaning.{does};
-ghost use Rattle.cord_plan.specs.Views.{made_view};
+ghost use Rattle.cord_plan.specs.Planned as plan;
+ghost use Rattle.cord_plan.specs.Views.{expr_view, made_view};
 ghost use Rattle.cord_run.specs.inner.Contents.{IsLength, IsLengthOfNames, IsMade, IsMadeOfNames, IsUnmade};
 ghost use Rattle.cord_run.specs.inner.Contents.{IsUnmadeOfNames, IsUnmeasured, IsUnmeasuredOfNames, TakesNoMemory};
 ghost use Rattle.cord_run.specs.inner.Contents.{has_failed, length_or_stop};
 ghost use Rattle.cord_run.specs.Failing.{FailsBy, FailsIn, IsFileMade};
 ghost use Rattle.cord_run.specs.inner.Entries.{HasContent, IsOver, SameEntries};
+ghost use Rattle.cord_run.specs.inner.Extents.{extent_in};
 ghost use Rattle.cord_run.specs.inner.Holdings.{holding_of};
+ghost use Rattle.cord_run.specs.inner.Known.{IsExtent, IsKnown, StaysKnown};
 ghost use Rattle.cord_run.specs.inner.Definitions.{definition_view, fileless_view};
 ghost use Rattle.cord_run.specs.inner.Outcomes.{CountsReads, Gives};
 ghost use Rattle.cord_run.specs.inner.Targets.{target_operation};
@@ -39,7 +42,7 @@ use cord_core::Cord;
 use cord_file::Sources;
 use cord_io::Files;
 use cord_meaning::FaultKind;
-use cord_plan::Made;
+use cord_plan::{Expr, Made};
 use cord_script::Name;
 use std::alloc::Global;
 
@@ -52,7 +55,7 @@ pub(crate) enum Gets {
     Length,
 }
 
-/// Gives a name what it gets of what it is made of. Refused with the fault that this means, with `ReadFailed` where the
+/// Gives a name what it gets of what it is made of; a length that is known isn't measured. Refused with the fault that this means, with `ReadFailed` where the
 /// files failed, or with `NoMemory`.
 pub(crate) fn serve_target<F: Files>(
     alloc: Global,
@@ -60,9 +63,13 @@ pub(crate) fn serve_target<F: Files>(
     sources: &mut Sources<F>,
     target: &Name,
     made: &Made,
+    known: Option<u64>,
     gets: Gets,
 ) -> Result<(), Stop>
     requires over { IsOver (lengths_in (opened_in sources.old)) store.old.entries.items }
+    requires known { IfSome known (IsKnown store.old.entries.items (made_view made.now)) }
+    ensures stays { IfOk result (λ _. StaysKnown store.new.entries.items
+        (target_operation gets target.now (made_view made.now))) }
     ensures over { IfOk result (λ _. IsOver (lengths_in (opened_in sources.new)) store.new.entries.items) }
     ensures earlier { KeepNoMore ⟦<F as Files>⟧ (device_in sources.old) (device_in sources.new) }
     ensures gives { (folder : Folder) → F.keeps (device_in sources.new) folder → Gives
@@ -81,7 +88,7 @@ pub(crate) fn serve_target<F: Files>(
             }
         },
         Gets::Length => {
-            let len = measure(alloc, store, sources, made)?;
+            let len = measure(alloc, store, sources, made, known)?;
             give(alloc, store, target, Content::Long(len))
         }
     }
@@ -157,8 +164,11 @@ fn measure<F: Files>(
     store: &Store,
     sources: &mut Sources<F>,
     made: &Made,
+    known: Option<u64>,
 ) -> Result<u64, Stop>
     requires over { IsOver (lengths_in (opened_in sources.old)) store.now.entries.items }
+    requires known { IfSome known (IsKnown store.now.entries.items (made_view made.now)) }
+    ensures extent { IfOk result (IsExtent store.now.entries.items (made_view made.now)) }
     ensures told { IfOk result (IsLength (F.keeps (device_in sources.new))
         (opened_in sources.old) store.now.entries.items (made_view made.now)) }
     ensures refused { IfErr result (IsUnmeasured (F.keeps (device_in sources.new))
@@ -173,18 +183,25 @@ fn measure<F: Files>(
 {
     match definition_of(made) {
         Definition::OfFile { path, .. } => opened_length(alloc, sources, path),
-        Definition::Fileless(made) => measure_of_names(alloc, store, made),
+        Definition::Fileless(made) => measure_of_names(alloc, store, made, known),
     }
 }
 
 // The same of what needs no file.
-fn measure_of_names(alloc: Global, store: &Store, made: Fileless<'_>) -> Result<u64, Stop>
+fn measure_of_names(
+    alloc: Global,
+    store: &Store,
+    made: Fileless<'_>,
+    known: Option<u64>,
+) -> Result<u64, Stop>
+    requires known { IfSome known (IsKnown store.now.entries.items (fileless_view made)) }
+    ensures extent { IfOk result (IsExtent store.now.entries.items (fileless_view made.entry)) }
     ensures told { IfOk result (IsLengthOfNames store.now.entries.items (fileless_view made.entry)) }
     ensures refused { IfErr result (IsUnmeasuredOfNames store.now.entries.items (fileless_view made.entry)) }
     ensures unbuilt { TakesNoMemory (fileless_view made.entry) → result ≢ Err Stop.NoMemory }
 {
     match made {
-        Fileless::Joined(expression) => length_or_stop(length_of(expression, store)),
+        Fileless::Joined(expression) => length_or_stop(joined_length(expression, known, store)),
         Fileless::Literal(text) => length_or_stop(as_length(text.as_slice().len() as u64)),
         Fileless::OfFunction { count, .. } => length_or_stop(start_length(store.value_of(count))),
         Fileless::Balanced(name) => length_or_stop(as_length(store.length_of(name))),
@@ -194,6 +211,17 @@ fn measure_of_names(alloc: Global, store: &Store, made: Fileless<'_>) -> Result<
             arguments,
             ..
         } => print_length(alloc, store, format, arguments.as_slice()),
+    }
+}
+
+// The length of an expression, or its fault. It is measured where it isn't known.
+fn joined_length(expression: &Expr, known: Option<u64>, store: &Store) -> Result<u64, FaultKind>
+    requires { IfSome known (IsKnown store.now.entries.items (plan.Joined (expr_view expression.now))) }
+    ensures { result ≡ extent_in store.now.entries.items (expr_view expression.now) }
+{
+    match known {
+        Some(len) => as_length(len),
+        None => length_of(expression, store),
     }
 }
 

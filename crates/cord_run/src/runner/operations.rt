@@ -11,6 +11,7 @@ ghost use Rattle.cord_plan.specs.Views.{expr_view, operation_view};
 ghost use Rattle.cord_run.specs.Failing.{FailsIn};
 ghost use Rattle.cord_run.specs.inner.Entries.{IsEntryAt, IsOver};
 ghost use Rattle.cord_run.specs.inner.Holdings.{holding_of};
+ghost use Rattle.cord_run.specs.inner.Known.{IsKnownOf, StaysKnown};
 ghost use Rattle.cord_run.specs.inner.Output.{CountsStops};
 ghost use Rattle.cord_run.specs.inner.Outcomes.{Serves};
 ghost use Rattle.cord_run.specs.inner.Resolution.{IsRange, IsWrite, StandsFor};
@@ -29,11 +30,12 @@ use cord_io::{Files, Sink};
 use cord_plan::{Expr, Operation};
 use std::alloc::Global;
 
-/// Does what an operation means, by places of entries where its names are resolved.
+/// Does what an operation means, by places of entries where its names are resolved, and by a length that is known.
 pub(crate) fn serve<F: Files, S: Sink>(
     alloc: Global,
     operation: &Operation,
     resolved: Option<&ResolvedOperation>,
+    known: Option<u64>,
     store: &mut Store,
     sources: &mut Sources<F>,
     sink: &mut S,
@@ -42,7 +44,9 @@ pub(crate) fn serve<F: Files, S: Sink>(
     requires over { IsOver (lengths_in (opened_in sources.old)) store.old.entries.items }
     requires stands { IfSome resolved (λ resolved. StandsFor (IsEntryAt store.old.entries.items) resolved.now
         (operation_view operation.now)) }
+    requires known { IfSome known (IsKnownOf store.old.entries.items (operation_view operation.now)) }
     ensures over { IfOk result (λ _. IsOver (lengths_in (opened_in sources.new)) store.new.entries.items) }
+    ensures stays { IfOk result (λ _. StaysKnown store.new.entries.items (operation_view operation.now)) }
     ensures earlier { KeepNoMore ⟦<F as Files>⟧ (device_in sources.old) (device_in sources.new) }
     ensures serves { (folder : Folder) → F.keeps (device_in sources.new) folder → Serves
         (does MAX_LEN folder (operation_view operation.now)
@@ -56,10 +60,10 @@ pub(crate) fn serve<F: Files, S: Sink>(
 {
     match operation {
         Operation::Build { target, made, .. } => {
-            serve_target(alloc, store, sources, target, made, Gets::Cord)
+            serve_target(alloc, store, sources, target, made, None, Gets::Cord)
         }
         Operation::Measure { target, made, .. } => {
-            serve_target(alloc, store, sources, target, made, Gets::Length)
+            serve_target(alloc, store, sources, target, made, known, Gets::Length)
         }
         Operation::Write { expression, .. } => {
             put(alloc, expression, written(resolved), store, sources, sink)

@@ -1,5 +1,5 @@
 use Rattle.std.proofs.Common.{◌≡◌, rules, sym, ap, subst, ◌∙◌}
-use Rattle.std.specs.Prelude.{IfOk, IfErr}
+use Rattle.std.specs.Prelude.{IfOk, IfErr, IfSome}
 use Rattle.cord_io.specs.Device.{Folder}
 use Rattle.cord_file.specs.Files.{as_long_as_told}
 use Rattle.cord_file.specs.Sources.{device_in, opened_in}
@@ -8,8 +8,10 @@ use Rattle.cord_plan.specs.Views.{made_view}
 use Rattle.cord_run.specs.Failing.{FailsBy, IsFileMade}
 use Rattle.cord_run.specs.inner.Contents.{IsLength, IsLengthOfNames, IsUnmeasured, IsUnmeasuredOfNames, TakesNoMemory}
 use Rattle.cord_run.specs.inner.Definitions.{definition_view, file_made, fileless_view}
+use Rattle.cord_run.specs.inner.Known.{IsExtent, IsKnown}
 use Rattle.cord_run.proofs.Failures.{fails_reading, never_fails}
 use Rattle.cord_run.proofs.Files.{file_measured, file_unmeasured, of_file, takes_memory}
+use Rattle.cord_run.proofs.Known.{file_extent}
 use Rattle.cord_run.proofs.TargetNames.{names_told, names_untold, no_device}
 use Rattle.cord_run.proofs.targets.measure.Goals as goal
 
@@ -25,6 +27,7 @@ returns-in-OfFile g c =
     record {
       told = subst (λ (m : Made). IfOk r (IsLength keeps old entries m)) is
           (file_measured keeps old entries c.in-OfFile.reading c.in-OfFile.path.now r told.told);
+      extent = file_extent entries (made_view c.args.made.now) c.in-OfFile.reading c.in-OfFile.path.now is r;
       refused = subst (λ (m : Made). IfErr r (IsUnmeasured keeps old entries m)) is
           (file_unmeasured keeps old entries c.in-OfFile.reading c.in-OfFile.path.now r told.refused);
       earlier = told.earlier;
@@ -48,6 +51,7 @@ returns-in-Fileless g c =
     record {
       told = names_told keeps (opened_in s) told entries c.requires.over made r
           (subst (λ (m : Made). IfOk r (IsLengthOfNames entries m)) is c.measure_of_names.ensures.told);
+      extent = subst (λ (m : Made). IfOk r (IsExtent entries m)) is c.measure_of_names.ensures.extent;
       refused = names_untold keeps (opened_in s) told entries c.requires.over made r
           (subst (λ (m : Made). IfErr r (IsUnmeasuredOfNames entries m)) is c.measure_of_names.ensures.refused);
       earlier = λ folder agrees. agrees;
@@ -57,3 +61,9 @@ returns-in-Fileless g c =
       unread = search rules;
       unbuilt = λ free. c.measure_of_names.ensures.unbuilt (subst TakesNoMemory (sym is) free);
     }
+
+pub measure_of_names-requires : goal.measure_of_names-requires
+measure_of_names-requires g c = record {
+  known = subst (λ (m : Made). IfSome c.args.known (IsKnown c.args.store.now.entries.items m))
+      (sym (ap definition_view (sym c.in-Fileless.is) ∙ c.definition_of.ensures)) c.requires.known;
+}

@@ -1,0 +1,236 @@
+-- Lengths that are known without being measured.
+use Rattle.std.proofs.Common.{◌≡◌, ◌≤◌, ◌+◌, ◌-◌, ◌^◌, ℕ, zero, suc, Bool, true, false, ◌&&◌, List, [], ◌∷◌, ◌++◌, Result, Ok, Err, refl}
+use Rattle.std.proofs.Common.{length, map, sym, ap, subst, ◌∙◌, arith}
+use Rattle.std.specs.Prelude.{Some, IfOk, min, not, slice_get, if◌then◌else◌}
+use Rattle.std.specs.Str.{bytes_eq}
+use Rattle.std.proofs.lemmas.Slice.Eq.{bytes_eq-Decides}
+use Rattle.cord_io.specs.declared.TheConstants.{MAX_LEN}
+use Rattle.cord_operands.specs.declared.operands.Number.{Number}
+use Rattle.cord_operands.specs.declared.operands.Number.TheVariants.{Numeral, Named}
+use Rattle.cord_meaning.specs.declared.ends.FaultKind.{FaultKind}
+use Rattle.cord_meaning.specs.State.{and_then, as_length}
+use Rattle.cord_plan.specs.Exprs.{Expr, Exprs, name, run, cat, sub, nothing, member, append, lacks, names, names_of, number_names}
+use Rattle.cord_plan.specs.Extending.{Extends, IsLonger, joined_at, joined_by}
+use Rattle.cord_plan.specs.Planned.{Made, Joined, OfFile, OfEager, OfLazy, Operation, Build, Measure}
+use Rattle.cord_plan.specs.Values.{measured_copies, measured_part}
+use Rattle.cord_plan.specs.Views.{Shared, members_of, shared_view}
+use Rattle.cord_run.specs.declared.store.Content.{Content}
+use Rattle.cord_run.specs.declared.store.Content.TheVariants.{Long}
+use Rattle.cord_run.specs.declared.store.Entry.{Entry}
+use Rattle.cord_run.specs.declared.stops.Stop.{Stop}
+use Rattle.cord_run.specs.declared.targets.Gets.{Gets}
+use Rattle.cord_run.specs.declared.targets.Gets.TheVariants as gets
+use Rattle.cord_run.specs.declared.targets.files.Reading.{Reading}
+use Rattle.cord_run.specs.declared.targets.files.Reading.TheVariants.{ByLength, Eager, Lazy}
+use Rattle.cord_run.specs.inner.Contents.{length_or_stop}
+use Rattle.cord_run.specs.inner.Definitions.{file_made}
+use Rattle.cord_run.specs.inner.Entries.{HasContent, content_in, content_length, length_in, operand_in}
+use Rattle.cord_run.specs.inner.Extents.{counted, extent_in, members_extent}
+use Rattle.cord_run.specs.inner.Known.{EndsInName, IsExtent, IsKnownAt, IsKnownOf, Measures, StaysKnown}
+use Rattle.cord_run.specs.inner.Targets.{target_operation}
+use Rattle.cord_run.proofs.Fronts.{added, extent_both}
+use Rattle.cord_run.proofs.Lengths.{Both, both, length_passed}
+use Rattle.cord_run.proofs.Members.{counted_length}
+
+-- ---- what was measured
+module _ (entries : List Entry) (made : Made) where
+  pub joined_extent : (e : Expr) → made ≡ Joined e → (r : Result ℕ FaultKind) → r ≡ extent_in entries e → (s : Result ℕ Stop) →
+      s ≡ length_or_stop r → IfOk s (IsExtent entries made)
+  joined_extent e is r told s stops = by_result s (stops ∙ ap length_or_stop told)
+    where
+      by_length : (q : Result ℕ FaultKind) (len : ℕ) → Ok len ≡ length_or_stop q → q ≡ Ok len
+      by_length (Ok n) len h = let same : len ≡ n = cc in ap (λ (k : ℕ). Ok k) (sym same)
+      by_length (Err kind) len h = let bad : ⊥ = cc in absurd bad
+
+      by_result : (q : Result ℕ Stop) → q ≡ length_or_stop (extent_in entries e) → IfOk q (IsExtent entries made)
+      by_result (Ok len) h = subst (λ (m : Made). IsExtent entries m len) (sym is) (by_length (extent_in entries e) len h)
+      by_result (Err stop) h = tt
+
+  pub other_extent : (other : Made) → made ≡ other → ((len : ℕ) → IsExtent entries other len) → (s : Result ℕ Stop) →
+      IfOk s (IsExtent entries made)
+  other_extent other is holds (Ok len) = subst (λ (m : Made). IsExtent entries m len) (sym is) (holds len)
+  other_extent other is holds (Err stop) = tt
+
+  pub file_extent : (reading : Reading) (path : List ℕ) → file_made reading path ≡ made → (s : Result ℕ Stop) →
+      IfOk s (IsExtent entries made)
+  file_extent ByLength path is s = other_extent (OfFile path) (sym is) (λ len. tt) s
+  file_extent Eager path is s = other_extent (OfEager path) (sym is) (λ len. tt) s
+  file_extent Lazy path is s = other_extent (OfLazy path) (sym is) (λ len. tt) s
+
+-- ---- a name that others get along without
+not_true : (b : Bool) → not b ≡ true → b ≡ false
+not_true false e = refl
+not_true true e = let bad : ⊥ = cc in absurd bad
+
+lacks_split : (xs ys : List (List ℕ)) (x : List ℕ) → lacks (xs ++ ys) x ≡ true → Both (lacks xs x) (lacks ys x)
+lacks_split [] ys x e = record { first = refl; second = e }
+lacks_split (y ∷ xs) ys x e =
+    let here = both (not (bytes_eq y x)) (lacks (xs ++ ys) x) e in
+    let rest = lacks_split xs ys x here.second in
+    record { first = ap (λ (v : Bool). v && lacks xs x) here.first ∙ rest.first; second = rest.second }
+
+module _ (old new : List Entry) (x : List ℕ) (others : (y : List ℕ) → bytes_eq y x ≡ false → length_in new y ≡ length_in old y)
+    (numbers : (n : Number) → operand_in new n ≡ operand_in old n) where
+  -- where nothing else has changed, lengths of what doesn't name it stay
+  mutual
+    extent_stays : (e : Expr) → lacks (names e) x ≡ true → extent_in new e ≡ extent_in old e
+    extent_stays (name y) free = ap (λ (n : ℕ). Ok n) (others y (not_true (bytes_eq y x) (both (not (bytes_eq y x)) true free).first))
+    extent_stays (run c n) free = λ i. measured_copies MAX_LEN (numbers c i) (numbers n i)
+    extent_stays (cat es) free = ap (λ (r : Result ℕ FaultKind). and_then r (λ len. as_length MAX_LEN len)) (members_stay es free)
+    extent_stays (sub e j n) free =
+        let inside = lacks_split (names e) (number_names j ++ number_names n) x free in
+        λ i. and_then (extent_stays e inside.first i) (λ len. measured_part MAX_LEN len (numbers j i) (numbers n i))
+
+    members_stay : (es : Exprs) → lacks (names_of es) x ≡ true → members_extent new es ≡ members_extent old es
+    members_stay nothing free = refl
+    members_stay (member e es) free =
+        let each = lacks_split (names e) (names_of es) x free in
+        λ i. and_then (extent_stays e each.first i) (λ len. and_then (members_stay es each.second i) (λ more. Ok (len + more)))
+
+-- ---- a name that got a length
+module _ (old new : List Entry) (x : List ℕ) (len : ℕ) (has : HasContent x (Long len) old new) where
+  other_length : (y : List ℕ) → bytes_eq y x ≡ false → length_in new y ≡ length_in old y
+  other_length y differs = ap content_length
+      (has.contents y ∙ ap (λ (b : Bool). if b then Long len else content_in old y) differs)
+
+  own_length : length_in new x ≡ len
+  own_length = ap content_length
+      (has.contents x ∙ ap (λ (b : Bool). if b then Long len else content_in old x) ((bytes_eq-Decides x x).1 refl))
+
+  same_operand : (n : Number) → operand_in new n ≡ operand_in old n
+  same_operand (Numeral z) = refl
+  same_operand (Named y) = has.numbers y
+
+  -- what was measured for it stays so long
+  pub measured_stays : (line : ℕ) (made : Made) → IsExtent old made len → StaysKnown new (Measure line x made)
+  measured_stays line (Joined (cat es)) is = λ free.
+      extent_stays old new x other_length same_operand (cat es) free ∙ is ∙ ap (λ (n : ℕ). Ok n) (sym own_length)
+  measured_stays line made is = tt
+
+-- the line doesn't matter
+any_line : (entries : List Entry) (line other : ℕ) (x : List ℕ) (made : Made) → StaysKnown entries (Measure line x made) →
+    StaysKnown entries (Measure other x made)
+any_line entries line other x (Joined (cat es)) stays = stays
+any_line entries line other x made stays = tt
+
+-- ---- after an operation
+module _ (new : List Entry) (r : Result (Unit {0}) Stop) where
+  pub if_ok : (o other : Operation) → other ≡ o → StaysKnown new o → IfOk r (λ _. StaysKnown new other)
+  if_ok o other is stays = by_result r
+    where
+      by_result : (q : Result (Unit {0}) Stop) → IfOk q (λ _. StaysKnown new other)
+      by_result (Ok u) = subst (λ (k : Operation). StaysKnown new k) (sym is) stays
+      by_result (Err stop) = tt
+
+  pub length_stays : (old : List Entry) (x : List ℕ) (made : Made) (k : Gets) (len : ℕ) → k ≡ gets.Length → IsExtent old made len →
+      IfOk r (λ _. HasContent x (Long len) old new) → IfOk r (λ _. StaysKnown new (target_operation k x made))
+  length_stays old x made k len is extent has = by_result r has
+    where
+      by_result : (q : Result (Unit {0}) Stop) → IfOk q (λ _. HasContent x (Long len) old new) →
+          IfOk q (λ _. StaysKnown new (target_operation k x made))
+      by_result (Ok u) h = subst (λ (g : Gets). StaysKnown new (target_operation g x made)) (sym is)
+          (measured_stays old new x len h 0 made extent)
+      by_result (Err stop) h = tt
+
+  pub cord_stays : (x : List ℕ) (made : Made) (k : Gets) → k ≡ gets.Cord → IfOk r (λ _. StaysKnown new (target_operation k x made))
+  cord_stays x made k is = if_ok (Build 0 x made) (target_operation k x made)
+      (ap (λ (g : Gets). target_operation g x made) is) tt
+
+  pub measure_stays : (line : ℕ) (x : List ℕ) (made : Made) (o : Operation) → o ≡ Measure line x made →
+      IfOk r (λ _. StaysKnown new (Measure 0 x made)) → IfOk r (λ _. StaysKnown new o)
+  measure_stays line x made o is stays = by_result r stays
+    where
+      by_result : (q : Result (Unit {0}) Stop) → IfOk q (λ _. StaysKnown new (Measure 0 x made)) → IfOk q (λ _. StaysKnown new o)
+      by_result (Ok u) h = subst (λ (k : Operation). StaysKnown new k) (sym is) (any_line new 0 line x made h)
+      by_result (Err stop) h = tt
+
+-- ---- an operation that joins a name more
+-- the last member
+abbrev last_or : Expr → Exprs → Expr
+last_or e nothing = e
+last_or e (member f es) = last_or f es
+
+last_is : (d : Expr) (es : Exprs) (e : Expr) → last_or d (append es (member e nothing)) ≡ e
+last_is d nothing e = refl
+last_is d (member f es) e = last_is f es e
+
+module _ (entries : List Entry) where
+  one_more : (es all : Exprs) (e : Expr) (z : List ℕ) (len : ℕ) → all ≡ append es (member e nothing) → e ≡ name z →
+      extent_in entries (cat es) ≡ Ok len → extent_in entries (cat all) ≡ as_length MAX_LEN (min (len + length_in entries z) (2 ^ 64 - 1))
+  one_more es all e z len is ends told = by_sum (members_extent entries es) refl told
+    where
+      more : ℕ
+      more = length_in entries z
+
+      whole : members_extent entries all ≡ added (members_extent entries es) (Ok (more + 0))
+      whole =
+          ap (λ (ms : Exprs). members_extent entries ms) (is ∙ ap (λ (f : Expr). append es (member f nothing)) ends)
+          ∙ extent_both entries es (member (name z) nothing)
+
+      by_sum : (r : Result ℕ FaultKind) → members_extent entries es ≡ r → and_then r (λ n. as_length MAX_LEN n) ≡ Ok len →
+          extent_in entries (cat all) ≡ as_length MAX_LEN (min (len + more) (2 ^ 64 - 1))
+      by_sum (Err kind) same h = let bad : ⊥ = cc in absurd bad
+      by_sum (Ok k) same h =
+          let passed : k ≡ len = (length_passed k len h).0 in
+          let sum : members_extent entries all ≡ Ok (k + (more + 0)) =
+          whole ∙ ap (λ (r : Result ℕ FaultKind). added r (Ok (more + 0))) same in
+          let capped : min (len + more) (2 ^ 64 - 1) ≡ min (0 + (k + (more + 0))) (2 ^ 64 - 1) = omega (arith, passed) in
+          ap (λ (r : Result ℕ FaultKind). and_then r (λ n. as_length MAX_LEN n)) sum
+          ∙ sym (counted_length (min (len + more) (2 ^ 64 - 1)) (Ok (k + (more + 0))) (ap (λ (n : ℕ). Ok n) capped))
+
+  longer_known : (line : ℕ) (x : List ℕ) (made : Made) (next : Operation) (all : Exprs) (z : List ℕ) →
+      StaysKnown entries (Measure line x made) → IsLonger (joined_by (Measure line x made)) (joined_by next) → Measures all next →
+      EndsInName all z → IsKnownOf entries next (min (length_in entries x + length_in entries z) (2 ^ 64 - 1))
+  longer_known line x (Joined (cat es)) (Measure after y (Joined (cat others))) all z stays longer is ends =
+      let last : last_or (name z) others ≡ name z =
+      ap (λ (ms : Exprs). last_or (name z) ms) (is ∙ ends.is) ∙ last_is (name z) ends.others (name z) in
+      let same : longer.1.0 ≡ name z =
+      sym (ap (λ (ms : Exprs). last_or (name z) ms) longer.1.1 ∙ last_is (name z) es longer.1.0) ∙ last in
+      one_more es others longer.1.0 z (length_in entries x) longer.1.1 same (stays longer.0)
+  longer_known line x (Joined (cat es)) next all z stays longer is ends = absurd is
+  longer_known line x made next all z stays longer is ends = absurd longer
+
+  -- after an operation that stays known comes one that joins a name more
+  pub next_known : (operations : List Operation) (place next len : ℕ) (last after : Operation) (line : ℕ) (x : List ℕ) (made : Made)
+      (all : Exprs) (z : List ℕ) → next ≡ place + 1 → Extends operations next → slice_get operations place ≡ Some last →
+      slice_get operations next ≡ Some after → last ≡ Measure line x made → StaysKnown entries last → Measures all after →
+      EndsInName all z → len ≡ min (length_in entries x + length_in entries z) (2 ^ 64 - 1) → IsKnownAt entries operations next len
+  next_known operations place next len last after line x made all z later extends here there is stays measures ends sum = λ o found.
+      let follows : next ≡ suc place = omega (arith, later) in
+      let longer : IsLonger (joined_at (slice_get operations place)) (joined_at (slice_get operations (suc place))) =
+      subst (λ (p : ℕ). Extends operations p) follows extends in
+      let first : joined_at (slice_get operations place) ≡ joined_by (Measure line x made) =
+      ap joined_at here ∙ ap joined_by is in
+      let second : joined_at (slice_get operations (suc place)) ≡ joined_by after =
+      ap joined_at (ap (λ (p : ℕ). slice_get operations p) (sym follows) ∙ there) in
+      let same : after ≡ o = cc in
+      let known : IsKnownOf entries after (min (length_in entries x + length_in entries z) (2 ^ 64 - 1)) =
+      longer_known line x made after all z (subst (λ (k : Operation). StaysKnown entries k) is stays)
+      (subst (λ j. IsLonger j (joined_by after)) first (subst (λ j. IsLonger (joined_at (slice_get operations place)) j) second longer))
+      measures ends in
+      subst (λ (k : Operation). IsKnownOf entries k len) same (subst (λ (n : ℕ). IsKnownOf entries after n) (sym sum) known)
+
+-- ---- the last of some members
+append_twice : (a b c : Exprs) → append a (append b c) ≡ append (append a b) c
+append_twice nothing b c = refl
+append_twice (member e a) b c = ap (λ (es : Exprs). member e es) (append_twice a b c)
+
+ends_in : (rest : List Shared) (m : Shared) → slice_get rest (length rest - 1) ≡ Some m →
+    (others : Exprs) × (members_of (map shared_view rest) ≡ append others (member (shared_view m) nothing))
+ends_in [] m e = let bad : ⊥ = cc in absurd bad
+ends_in (k ∷ []) m e = let same : k ≡ m = cc in (nothing, ap (λ (s : Shared). member (shared_view s) nothing) same)
+ends_in (k ∷ l ∷ rest) m e =
+    let later : length (k ∷ l ∷ rest) - 1 ≡ suc (length (l ∷ rest) - 1) = omega arith in
+    let behind = ends_in (l ∷ rest) m (subst (λ (i : ℕ). slice_get (k ∷ l ∷ rest) i ≡ Some m) later e) in
+    (member (shared_view k) behind.0, ap (λ (es : Exprs). member (shared_view k) es) behind.1)
+
+pub last_named : (all front : Exprs) (rest : List Shared) (m : Shared) (x : List ℕ) →
+    all ≡ append front (members_of (map shared_view rest)) → slice_get rest (length rest - 1) ≡ Some m → shared_view m ≡ name x →
+    EndsInName all x
+last_named all front rest m x halves last named =
+    let behind = ends_in rest m last in
+    record {
+      others = append front behind.0;
+      is = halves ∙ ap (λ (es : Exprs). append front es) behind.1 ∙ append_twice front behind.0 (member (shared_view m) nothing)
+          ∙ ap (λ (e : Expr). append (append front behind.0) (member e nothing)) named;
+    }

@@ -1,0 +1,61 @@
+// Lengths that follow from those of the operations before.
+ghost use Rattle.std.specs.Prelude.{◌≡◌, ◌-◌, ◌^◌, ◌<◌, IfSome, Some, map, slice_get};
+ghost use Rattle.cord_plan.specs.Views.{members_view, operation_view};
+ghost use Rattle.cord_run.specs.inner.Known.{EndsInName, IsKnownAt, Measures, StaysKnown};
+
+use crate::store::Store;
+use cord_plan::{Expr, Made, Members, Operation, Plan};
+use cord_script::Name;
+
+/// The length that the operation at the next place is to measure, where the one before it was measured last, and it joins
+/// a name more: the length of that one's target, and of the name.
+pub(crate) fn known_after(
+    plan: &Plan,
+    operation: &Operation,
+    place: usize,
+    next: usize,
+    store: &Store,
+) -> Option<u64>
+    requires place { place < 2 ^ 64 - 1 }
+    requires here { slice_get (map operation_view plan.now) place ≡ Some (operation_view operation.now) }
+    requires stays { StaysKnown store.now.entries.items (operation_view operation.now) }
+    ensures { IfSome result (IsKnownAt store.now.entries.items (map operation_view plan.now) next) }
+{
+    if next != place + 1 || !plan.extends(next) {
+        return None;
+    }
+    let Operation::Measure { target, .. } = operation else {
+        return None;
+    };
+    let members = measured_members(plan.operations().get(next)?)?;
+    let last = last_name(members)?;
+    Some(
+        store
+            .length_of(target)
+            .saturating_add(store.length_of(last)),
+    )
+}
+
+// The members that an operation measures together.
+fn measured_members(operation: &Operation) -> Option<&Members>
+    ensures { IfSome result (λ members. Measures (members_view members.now) (operation_view operation.now)) }
+{
+    match operation {
+        Operation::Measure {
+            made: Made::Joined(Expr::Cat(members)),
+            ..
+        } => Some(members),
+        _ => None,
+    }
+}
+
+// The last of these members, where it is a name.
+fn last_name(members: &Members) -> Option<&Name>
+    ensures { IfSome result (λ name. EndsInName (members_view members.now) name.now) }
+{
+    let (_, rest) = members.halves();
+    match rest.last()?.as_ref() {
+        Expr::Name(name) => Some(name),
+        _ => None,
+    }
+}
