@@ -1,5 +1,5 @@
 -- Lengths that are known without being measured.
-use Rattle.std.proofs.Common.{◌≡◌, ◌≤◌, ◌+◌, ◌-◌, ◌^◌, ℕ, zero, suc, Bool, true, false, ◌&&◌, List, [], ◌∷◌, ◌++◌, Result, Ok, Err, refl}
+use Rattle.std.proofs.Common.{◌≡◌, ◌+◌, ◌-◌, ◌^◌, ℕ, suc, Bool, true, false, ◌&&◌, List, [], ◌∷◌, ◌++◌, Result, Ok, Err, refl}
 use Rattle.std.proofs.Common.{length, map, sym, ap, subst, ◌∙◌, arith}
 use Rattle.std.specs.Prelude.{Some, IfOk, min, not, slice_get, if◌then◌else◌}
 use Rattle.std.specs.Str.{bytes_eq}
@@ -11,10 +11,9 @@ use Rattle.cord_meaning.specs.declared.ends.FaultKind.{FaultKind}
 use Rattle.cord_meaning.specs.State.{and_then, as_length}
 use Rattle.cord_plan.specs.Exprs.{Expr, Exprs, name, run, cat, sub, nothing, member, append, lacks, names, names_of, number_names}
 use Rattle.cord_plan.specs.Extending.{Extends, IsLonger, joined_at, joined_by}
-use Rattle.cord_plan.specs.Planned.{Made, Joined, OfFile, OfEager, OfLazy, Operation, Build, Measure}
+use Rattle.cord_plan.specs.Planned.{Made, Joined, OfFile, OfEager, OfLazy, Operation, Measure}
 use Rattle.cord_plan.specs.Values.{measured_copies, measured_part}
 use Rattle.cord_plan.specs.Views.{Shared, members_of, shared_view}
-use Rattle.cord_run.specs.declared.store.Content.{Content}
 use Rattle.cord_run.specs.declared.store.Content.TheVariants.{Long}
 use Rattle.cord_run.specs.declared.store.Entry.{Entry}
 use Rattle.cord_run.specs.declared.stops.Stop.{Stop}
@@ -22,31 +21,18 @@ use Rattle.cord_run.specs.declared.targets.Gets.{Gets}
 use Rattle.cord_run.specs.declared.targets.Gets.TheVariants as gets
 use Rattle.cord_run.specs.declared.targets.files.Reading.{Reading}
 use Rattle.cord_run.specs.declared.targets.files.Reading.TheVariants.{ByLength, Eager, Lazy}
-use Rattle.cord_run.specs.inner.Contents.{length_or_stop}
 use Rattle.cord_run.specs.inner.Definitions.{file_made}
 use Rattle.cord_run.specs.inner.Entries.{HasContent, content_in, content_length, length_in, operand_in}
-use Rattle.cord_run.specs.inner.Extents.{counted, extent_in, members_extent}
+use Rattle.cord_run.specs.inner.Extents.{extent_in, members_extent}
 use Rattle.cord_run.specs.inner.Known.{EndsInName, IsExtent, IsKnownAt, IsKnownOf, Measures, StaysKnown}
 use Rattle.cord_run.specs.inner.Targets.{target_operation}
 use Rattle.cord_run.proofs.Fronts.{added, extent_both}
 use Rattle.cord_run.proofs.Lengths.{Both, both, length_passed}
 use Rattle.cord_run.proofs.Members.{counted_length}
 
--- ---- what was measured
+-- ---- what is made of a file
 module _ (entries : List Entry) (made : Made) where
-  pub joined_extent : (e : Expr) → made ≡ Joined e → (r : Result ℕ FaultKind) → r ≡ extent_in entries e → (s : Result ℕ Stop) →
-      s ≡ length_or_stop r → IfOk s (IsExtent entries made)
-  joined_extent e is r told s stops = by_result s (stops ∙ ap length_or_stop told)
-    where
-      by_length : (q : Result ℕ FaultKind) (len : ℕ) → Ok len ≡ length_or_stop q → q ≡ Ok len
-      by_length (Ok n) len h = let same : len ≡ n = cc in ap (λ (k : ℕ). Ok k) (sym same)
-      by_length (Err kind) len h = let bad : ⊥ = cc in absurd bad
-
-      by_result : (q : Result ℕ Stop) → q ≡ length_or_stop (extent_in entries e) → IfOk q (IsExtent entries made)
-      by_result (Ok len) h = subst (λ (m : Made). IsExtent entries m len) (sym is) (by_length (extent_in entries e) len h)
-      by_result (Err stop) h = tt
-
-  pub other_extent : (other : Made) → made ≡ other → ((len : ℕ) → IsExtent entries other len) → (s : Result ℕ Stop) →
+  other_extent : (other : Made) → made ≡ other → ((len : ℕ) → IsExtent entries other len) → (s : Result ℕ Stop) →
       IfOk s (IsExtent entries made)
   other_extent other is holds (Ok len) = subst (λ (m : Made). IsExtent entries m len) (sym is) (holds len)
   other_extent other is holds (Err stop) = tt
@@ -102,47 +88,17 @@ module _ (old new : List Entry) (x : List ℕ) (len : ℕ) (has : HasContent x (
   same_operand (Named y) = has.numbers y
 
   -- what was measured for it stays so long
-  pub measured_stays : (line : ℕ) (made : Made) → IsExtent old made len → StaysKnown new (Measure line x made)
+  measured_stays : (line : ℕ) (made : Made) → IsExtent old made len → StaysKnown new (Measure line x made)
   measured_stays line (Joined (cat es)) is = λ free.
       extent_stays old new x other_length same_operand (cat es) free ∙ is ∙ ap (λ (n : ℕ). Ok n) (sym own_length)
   measured_stays line made is = tt
 
--- the line doesn't matter
-any_line : (entries : List Entry) (line other : ℕ) (x : List ℕ) (made : Made) → StaysKnown entries (Measure line x made) →
-    StaysKnown entries (Measure other x made)
-any_line entries line other x (Joined (cat es)) stays = stays
-any_line entries line other x made stays = tt
-
--- ---- after an operation
-module _ (new : List Entry) (r : Result (Unit {0}) Stop) where
-  pub if_ok : (o other : Operation) → other ≡ o → StaysKnown new o → IfOk r (λ _. StaysKnown new other)
-  if_ok o other is stays = by_result r
-    where
-      by_result : (q : Result (Unit {0}) Stop) → IfOk q (λ _. StaysKnown new other)
-      by_result (Ok u) = subst (λ (k : Operation). StaysKnown new k) (sym is) stays
-      by_result (Err stop) = tt
-
-  pub length_stays : (old : List Entry) (x : List ℕ) (made : Made) (k : Gets) (len : ℕ) → k ≡ gets.Length → IsExtent old made len →
-      IfOk r (λ _. HasContent x (Long len) old new) → IfOk r (λ _. StaysKnown new (target_operation k x made))
-  length_stays old x made k len is extent has = by_result r has
-    where
-      by_result : (q : Result (Unit {0}) Stop) → IfOk q (λ _. HasContent x (Long len) old new) →
-          IfOk q (λ _. StaysKnown new (target_operation k x made))
-      by_result (Ok u) h = subst (λ (g : Gets). StaysKnown new (target_operation g x made)) (sym is)
-          (measured_stays old new x len h 0 made extent)
-      by_result (Err stop) h = tt
-
-  pub cord_stays : (x : List ℕ) (made : Made) (k : Gets) → k ≡ gets.Cord → IfOk r (λ _. StaysKnown new (target_operation k x made))
-  cord_stays x made k is = if_ok (Build 0 x made) (target_operation k x made)
-      (ap (λ (g : Gets). target_operation g x made) is) tt
-
-  pub measure_stays : (line : ℕ) (x : List ℕ) (made : Made) (o : Operation) → o ≡ Measure line x made →
-      IfOk r (λ _. StaysKnown new (Measure 0 x made)) → IfOk r (λ _. StaysKnown new o)
-  measure_stays line x made o is stays = by_result r stays
-    where
-      by_result : (q : Result (Unit {0}) Stop) → IfOk q (λ _. StaysKnown new (Measure 0 x made)) → IfOk q (λ _. StaysKnown new o)
-      by_result (Ok u) h = subst (λ (k : Operation). StaysKnown new k) (sym is) (any_line new 0 line x made h)
-      by_result (Err stop) h = tt
+-- the same of an operation that may have failed
+pub length_stays : (old new : List Entry) (x : List ℕ) (made : Made) (k : Gets) (len : ℕ) → k ≡ gets.Length → IsExtent old made len →
+    (r : Result (Unit {0}) Stop) → IfOk r (λ _. HasContent x (Long len) old new) → IfOk r (λ _. StaysKnown new (target_operation k x made))
+length_stays old new x made k len is extent (Ok u) has =
+    subst (λ (g : Gets). StaysKnown new (target_operation g x made)) (sym is) (measured_stays old new x len has 0 made extent)
+length_stays old new x made k len is extent (Err stop) has = tt
 
 -- ---- an operation that joins a name more
 -- the last member

@@ -55,8 +55,8 @@ pub(crate) enum Gets {
     Length,
 }
 
-/// Gives a name what it gets of what it is made of; a length that is known isn't measured. Refused with the fault that this means, with `ReadFailed` where the
-/// files failed, or with `NoMemory`.
+/// Gives a name what it gets of what it is made of; a length that is known isn't measured. Refused with the fault that
+/// this means, with `ReadFailed` where the files failed, or with `NoMemory`.
 pub(crate) fn serve_target<F: Files>(
     alloc: Global,
     store: &mut Store,

@@ -7,8 +7,8 @@ use crate::store::Store;
 use cord_plan::{Expr, Made, Members, Operation, Plan};
 use cord_script::Name;
 
-/// The length that the operation at the next place is to measure, where the one before it was measured last, and it joins
-/// a name more: the length of that one's target, and of the name.
+/// The length that the operation at the next place is to measure, where the one at this place was done last, and the next
+/// one joins a name more: the length of this one's target, and that of the name.
 pub(crate) fn known_after(
     plan: &Plan,
     operation: &Operation,
@@ -28,12 +28,9 @@ pub(crate) fn known_after(
         return None;
     };
     let members = measured_members(plan.operations().get(next)?)?;
-    let last = last_name(members)?;
-    Some(
-        store
-            .length_of(target)
-            .saturating_add(store.length_of(last)),
-    )
+    let name = last_name(members)?;
+    let len = store.length_of(target);
+    Some(len.saturating_add(store.length_of(name)))
 }
 
 // The members that an operation measures together.

@@ -1,5 +1,5 @@
 use Rattle.std.proofs.Common.{◌≡◌, rules, sym, ap, subst, ◌∙◌}
-use Rattle.std.specs.Prelude.{IfOk, IfErr, IfSome}
+use Rattle.std.specs.Prelude.{IfOk, IfErr}
 use Rattle.cord_io.specs.Device.{Folder}
 use Rattle.cord_file.specs.Files.{as_long_as_told}
 use Rattle.cord_file.specs.Sources.{device_in, opened_in}
@@ -8,7 +8,7 @@ use Rattle.cord_plan.specs.Views.{made_view}
 use Rattle.cord_run.specs.Failing.{FailsBy, IsFileMade}
 use Rattle.cord_run.specs.inner.Contents.{IsLength, IsLengthOfNames, IsUnmeasured, IsUnmeasuredOfNames, TakesNoMemory}
 use Rattle.cord_run.specs.inner.Definitions.{definition_view, file_made, fileless_view}
-use Rattle.cord_run.specs.inner.Known.{IsExtent, IsKnown}
+use Rattle.cord_run.specs.inner.Known.{IsExtent}
 use Rattle.cord_run.proofs.Failures.{fails_reading, never_fails}
 use Rattle.cord_run.proofs.Files.{file_measured, file_unmeasured, of_file, takes_memory}
 use Rattle.cord_run.proofs.Known.{file_extent}
@@ -61,9 +61,3 @@ returns-in-Fileless g c =
       unread = search rules;
       unbuilt = λ free. c.measure_of_names.ensures.unbuilt (subst TakesNoMemory (sym is) free);
     }
-
-pub measure_of_names-requires : goal.measure_of_names-requires
-measure_of_names-requires g c = record {
-  known = subst (λ (m : Made). IfSome c.args.known (IsKnown c.args.store.now.entries.items m))
-      (sym (ap definition_view (sym c.in-Fileless.is) ∙ c.definition_of.ensures)) c.requires.known;
-}

@@ -13,7 +13,7 @@ use Rattle.cord_run.specs.inner.Holdings.{holding_of}
 use Rattle.cord_run.specs.inner.Outcomes.{Gives}
 use Rattle.cord_run.specs.inner.Targets.{target_operation}
 use Rattle.cord_run.proofs.Edits.{edited_gives, edited_over}
-use Rattle.cord_run.proofs.Known.{cord_stays, length_stays}
+use Rattle.cord_run.proofs.Known.{length_stays}
 use Rattle.cord_run.proofs.TargetNames.{built_target, measured_target, nothing_changed, target_over}
 use Rattle.cord_run.proofs.targets.serve_target.Goals as goal
 
@@ -79,17 +79,8 @@ returns-in-Some-clause-gives g c = λ folder agrees.
     c.edit_in_place.new.store.entries.items c.requires.over c.args.target.now (made_view c.args.made.now) c.in-Some.edit.middle
     c.edit_in_place.result c.edit_in_place.ensures.edited c.edit_in_place.ensures.refused folder agrees)
 
-pub returns-in_ok-cord-in-None-clause-stays : goal.returns-in_ok-cord-in-None-clause-stays
-returns-in_ok-cord-in-None-clause-stays g c =
-    cord_stays c.give.new.store.entries.items c.give.result c.args.target.now (made_view c.args.made.now) c.args.gets c.in-Cord.is
-
-pub returns-in-Some-clause-stays : goal.returns-in-Some-clause-stays
-returns-in-Some-clause-stays g c =
-    cord_stays c.edit_in_place.new.store.entries.items c.edit_in_place.result c.args.target.now (made_view c.args.made.now) c.args.gets
-    c.in-Cord.is
-
 pub returns-in_ok-len-in-Length-clause-stays : goal.returns-in_ok-len-in-Length-clause-stays
 returns-in_ok-len-in-Length-clause-stays g c =
-    length_stays c.give-in-Length.new.store.entries.items c.give-in-Length.result c.args.store.now.entries.items c.args.target.now
-    (made_view c.args.made.now) c.args.gets c.in_ok-len-in-Length.len c.in-Length.is c.in_ok-len-in-Length.ensures.extent
+    length_stays c.args.store.now.entries.items c.give-in-Length.new.store.entries.items c.args.target.now (made_view c.args.made.now)
+    c.args.gets c.in_ok-len-in-Length.len c.in-Length.is c.in_ok-len-in-Length.ensures.extent c.give-in-Length.result
     c.give-in-Length.ensures.given

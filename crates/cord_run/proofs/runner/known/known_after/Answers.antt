@@ -17,6 +17,6 @@ returns c =
     (here_at c.operations.result.now c.args.next after lookup.3.0 lookup.1) in
     next_known entries (map operation_view c.args.plan.now) c.args.place c.args.next c.saturating_add.result
     (operation_view c.args.operation.now) (operation_view after) c.in-Measure.line c.in-Measure.target (made_view c.in-Measure.made)
-    (members_view c.in_ok-members.members.now) c.in_ok-last.last.now later (c.if-not-extends.ensures refl) c.requires.here there
-    (ap operation_view c.in-Measure.is) c.requires.stays c.in_ok-members.ensures c.in_ok-last.ensures
-    (c.saturating_add.ensures ∙ (λ i. min (c.length_of.ensures i + c.length_of-2.ensures i) (2 ^ 64 - 1)))
+    (members_view c.in_ok-members.members.now) c.in_ok-name.name.now later (c.if-not-extends.ensures refl) c.requires.here there
+    (ap operation_view c.in-Measure.is) c.requires.stays c.in_ok-members.ensures c.in_ok-name.ensures
+    (c.saturating_add.ensures ∙ (λ i. min (c.length_of-len.ensures i + c.length_of.ensures i) (2 ^ 64 - 1)))

@@ -1,19 +1,17 @@
 use Rattle.std.proofs.Common.{refl, sym, ap, subst}
-use Rattle.std.specs.Prelude.{IfErr, IfSome}
+use Rattle.std.specs.Prelude.{IfErr}
 use Rattle.cord_io.specs.declared.TheConstants.{MAX_LEN}
 use Rattle.cord_file.specs.Entries.{table_in}
 use Rattle.cord_file.specs.Sources.{opened_in}
 use Rattle.cord_plan.specs.Meaning.{does}
 use Rattle.cord_plan.specs.Planned as plan
-use Rattle.cord_plan.specs.Views.{expr_view, made_view, operation_view}
+use Rattle.cord_plan.specs.Views.{made_view, operation_view}
 use Rattle.cord_run.specs.Failing.{FailsIn}
 use Rattle.cord_run.specs.inner.Holdings.{holding_of}
 use Rattle.cord_run.specs.inner.Entries.{IsEntryAt}
-use Rattle.cord_run.specs.inner.Known.{IsKnownOf}
 use Rattle.cord_run.specs.inner.Outcomes.{Serves}
 use Rattle.cord_run.specs.inner.Resolution.{IsWrite, StandsFor}
 use Rattle.cord_run.proofs.Failures.{fails_freely}
-use Rattle.cord_run.proofs.Known.{if_ok, measure_stays}
 use Rattle.cord_run.proofs.Operations.{build_serves, measure_serves}
 use Rattle.cord_run.proofs.Slices.{still_some}
 use Rattle.cord_run.proofs.runner.operations.serve.Goals as goal
@@ -64,30 +62,3 @@ returns-in-Write-clause-serves g c = λ folder agrees.
 pub returns-in-Write-clause-fails : goal.returns-in-Write-clause-fails
 returns-in-Write-clause-fails g c = subst (λ (o : plan.Operation). IfErr c.put.result (FailsIn o)) (sym (ap operation_view c.in-Write.is))
     (fails_freely _ _ tt tt c.put.result)
-
-pub returns-in-Build-clause-stays : goal.returns-in-Build-clause-stays
-returns-in-Build-clause-stays g c =
-    if_ok c.serve_target.new.store.entries.items c.serve_target.result
-    (plan.Build c.in-Build.line c.in-Build.target (made_view c.in-Build.made)) (operation_view c.args.operation.now)
-    (ap operation_view c.in-Build.is) tt
-
-pub returns-in-Measure-clause-stays : goal.returns-in-Measure-clause-stays
-returns-in-Measure-clause-stays g c =
-    measure_stays c.serve_target-in-Measure.new.store.entries.items c.serve_target-in-Measure.result c.in-Measure.line
-    c.in-Measure.target (made_view c.in-Measure.made) (operation_view c.args.operation.now) (ap operation_view c.in-Measure.is)
-    c.serve_target-in-Measure.ensures.stays
-
-pub returns-in-Write-clause-stays : goal.returns-in-Write-clause-stays
-returns-in-Write-clause-stays g c =
-    if_ok c.args.store.now.entries.items c.put.result (plan.Write c.in-Write.line (expr_view c.in-Write.expression))
-    (operation_view c.args.operation.now) (ap operation_view c.in-Write.is) tt
-
-pub returns-in-Keep-clause-stays : goal.returns-in-Keep-clause-stays
-returns-in-Keep-clause-stays g c =
-    if_ok c.serve_statement.new.store.entries.items c.serve_statement.result (plan.Keep c.in-Keep.statement)
-    (operation_view c.args.operation.now) (ap operation_view c.in-Keep.is) tt
-
-pub serve_target-requires-in-Measure-clause-known : goal.serve_target-requires-in-Measure-clause-known
-serve_target-requires-in-Measure-clause-known g c = subst
-    (λ (o : plan.Operation). IfSome c.args.known (IsKnownOf c.args.store.now.entries.items o)) (ap operation_view c.in-Measure.is)
-    c.requires.known
