@@ -7,8 +7,8 @@ use crate::store::Store;
 use cord_plan::{Expr, Made, Members, Operation, Plan};
 use cord_script::Name;
 
-/// The length that the operation at the next place is to measure, where the one at this place was done last, and the next
-/// one joins a name more: the length of this one's target, and that of the name.
+/// The length that the operation at the next place is to measure, where the one at this place was done last, and the
+/// next one joins a name more: the length of this one's target, and that of the name.
 pub(crate) fn known_after(
     plan: &Plan,
     operation: &Operation,
