@@ -121,7 +121,7 @@ impl Rest {
 impl Members {
     /// No members, without taking memory.
     #[inline(always)]
-    pub fn nothing() -> Self
+    pub(crate) fn nothing() -> Self
         ensures { members_view result ≡ nothing }
     {
         Members {
@@ -132,7 +132,7 @@ impl Members {
 
     /// These two members, without taking memory.
     #[inline(always)]
-    pub fn pair(left: Rc<Expr>, right: Rc<Expr>) -> Self
+    pub(crate) fn pair(left: Rc<Expr>, right: Rc<Expr>) -> Self
         ensures { members_view result ≡ member (shared_view left) (member (shared_view right) nothing) }
     {
         Members {
