@@ -28,7 +28,7 @@ use Rattle.cord_plan.proofs.Lacking.{preserves_lacking}
 use Rattle.cord_plan.proofs.Marked.{entry_chosen, gives_expression, measured_false}
 use Rattle.cord_plan.proofs.Named.{each_at}
 use Rattle.cord_plan.proofs.Nearest.{first_in}
-use Rattle.cord_plan.proofs.Pairs.{taken_at}
+use Rattle.cord_plan.proofs.Pairs.{taken_at, taken_fits}
 
 pub told_there : (told : List Bool) (place : ℕ) → get_or told place false ≡ true → slice_get told place ≡ Some true
 told_there [] place h = let bad : ⊥ = cc in absurd bad
@@ -172,31 +172,12 @@ module _ (b : ℕ) (c : Choice) (last : Last b c) where
       ≡ append last.first (member (run byte (Numeral (pos 1))) nothing)
   one_members byte = ap (λ (x : Choice). members (expr_of x ∷ run byte (Numeral (pos 1)) ∷ [])) last.is
 
-cat_longer : (b line : ℕ) (target left right : List ℕ) (cs : List Choice) → is_longer b (Cat line target left right) cs ≡ true →
-    Longer b (Cat line target left right) cs
-cat_longer b line target left right [] h = let bad : ⊥ = cc in absurd bad
-cat_longer b line target left right (c ∷ []) h = let bad : ⊥ = cc in absurd bad
-cat_longer b line target left right (c ∷ d ∷ []) h =
-    let p = both_true (is_last b c) (is_named d) h in
-    let last : Last b c = last_told b c p.0 in
-    let other : (y : List ℕ) × (d ≡ named y) = named_told d p.1 in
-    record {
-      choice = c;
-      last = last;
-      taken = refl;
-      operand = left;
-      reads = refl;
-      target = target;
-      more = name other.0;
-      joined = λ dead. either_gives dead line target _ _ (two_members b c last d other.0 other.1);
-    }
-cat_longer b line target left right (c ∷ d ∷ e ∷ cs) h = let bad : ⊥ = cc in absurd bad
-
-catn_longer : (b line : ℕ) (target : List ℕ) (many : List (List ℕ)) (x : List ℕ) (cs : List Choice) → slice_get many 0 ≡ Some x →
-    is_longer b (Catn line target many) cs ≡ true → Longer b (Catn line target many) cs
-catn_longer b line target many x [] first h = let bad : ⊥ = cc in absurd bad
-catn_longer b line target many x (c ∷ []) first h = let bad : ⊥ = cc in absurd bad
-catn_longer b line target many x (c ∷ d ∷ []) first h =
+-- a line that makes a `cat` of what is chosen for two operands, of which the first takes those members and the second is a name
+joins_two : (b line : ℕ) (target x : List ℕ) (l : Statement) (c d : Choice) → slice_get (read_by l) 0 ≡ Some x →
+    ((dead : Bool) → operation l (or_nothing (expr_with l (expr_of c ∷ expr_of d ∷ []))) dead false
+    ≡ gives (dead || false) line target (Joined (cat (members (expr_of c ∷ expr_of d ∷ []))))) →
+    (is_last b c && is_named d) ≡ true → Longer b l (c ∷ d ∷ [])
+joins_two b line target x l c d first made h =
     let p = both_true (is_last b c) (is_named d) h in
     let last : Last b c = last_told b c p.0 in
     let other : (y : List ℕ) × (d ≡ named y) = named_told d p.1 in
@@ -208,8 +189,22 @@ catn_longer b line target many x (c ∷ d ∷ []) first h =
       reads = first;
       target = target;
       more = name other.0;
-      joined = λ dead. either_gives dead line target _ _ (two_members b c last d other.0 other.1);
+      joined = λ dead. ap joined_by (made dead) ∙ either_gives dead line target _ _ (two_members b c last d other.0 other.1);
     }
+
+cat_longer : (b line : ℕ) (target left right : List ℕ) (cs : List Choice) → is_longer b (Cat line target left right) cs ≡ true →
+    Longer b (Cat line target left right) cs
+cat_longer b line target left right [] h = let bad : ⊥ = cc in absurd bad
+cat_longer b line target left right (c ∷ []) h = let bad : ⊥ = cc in absurd bad
+cat_longer b line target left right (c ∷ d ∷ []) h =
+    joins_two b line target left (Cat line target left right) c d refl (λ dead. refl) h
+cat_longer b line target left right (c ∷ d ∷ e ∷ cs) h = let bad : ⊥ = cc in absurd bad
+
+catn_longer : (b line : ℕ) (target : List ℕ) (many : List (List ℕ)) (x : List ℕ) (cs : List Choice) → slice_get many 0 ≡ Some x →
+    is_longer b (Catn line target many) cs ≡ true → Longer b (Catn line target many) cs
+catn_longer b line target many x [] first h = let bad : ⊥ = cc in absurd bad
+catn_longer b line target many x (c ∷ []) first h = let bad : ⊥ = cc in absurd bad
+catn_longer b line target many x (c ∷ d ∷ []) first h = joins_two b line target x (Catn line target many) c d first (λ dead. refl) h
 catn_longer b line target many x (c ∷ d ∷ e ∷ cs) first h = let bad : ⊥ = cc in absurd bad
 
 catc_longer : (b line : ℕ) (target operand : List ℕ) (byte : Number) (cs : List Choice) →
@@ -276,13 +271,7 @@ module _ (s : List Statement) (later : List ℕ → ℕ → Bool) where
       preserves (slice_get s a) (names r) ≡ true
   taken_stays t b l x a r h =
       let before : a < b = h.set.before in
-      let quiet : ℕ → Bool = λ m. not (is_block_at (slice_get s m)) && not (reads_at (slice_get s m) x) in
-      let keeping : ℕ → Bool = λ m. preserves (slice_get s m) (names r) in
-      let p = both_true (each_from quiet (b - (a + 1)) (a + 1))
-      ((count x (read_by l) == 1) && ((assigns l x || not (later x b)) && each_from keeping (b - a) a)) h.fit in
-      let q = both_true (count x (read_by l) == 1) ((assigns l x || not (later x b)) && each_from keeping (b - a) a) p.1 in
-      let w = both_true (assigns l x || not (later x b)) (each_from keeping (b - a) a) q.1 in
-      each_at keeping (b - a) a a w.1 (omega arith) (omega arith)
+      each_at (λ m. preserves (slice_get s m) (names r)) (b - a) a a (taken_fits s later t b l x a r h).keeping (omega arith) (omega arith)
 
   source_of_taken : (b : ℕ) (made : List Operation) (g : IsBegun s later b made) (l : Statement) (x : List ℕ) (a : ℕ) (es : Exprs) →
       Taken s later g.table b l x a (cat es) → Source made a es

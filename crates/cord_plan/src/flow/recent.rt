@@ -2,11 +2,13 @@
 ghost use Rattle.std.specs.Prelude.{◌≡◌, ◌+◌, ◌||◌, ℕ, List, None, Some, IfOk, slice_get};
 ghost use Rattle.std.specs.Str.{bytes_eq};
 ghost use Rattle.cord_syntax.specs.declared.statements.Statement.{Statement};
+ghost use Rattle.cord_meaning.specs.Statements.{shape_of};
+ghost use Rattle.cord_plan.specs.Forced.{is_block};
 ghost use Rattle.cord_plan.specs.Operands.{assigns, cord_arguments, has, reads};
 ghost use Rattle.cord_plan.specs.declared.flow.numbering.Numbering.{Numbering};
 ghost use Rattle.cord_plan.specs.inner.Numbering.{AreHints, number_of};
 ghost use Rattle.cord_plan.specs.inner.Recent.{IsRecent, Notes, entry_at, entry_of, is_before, is_after};
-ghost use Rattle.cord_plan.specs.inner.Recent.{unless_after};
+ghost use Rattle.cord_plan.specs.inner.Recent.{noted, unless_after};
 
 use crate::flow::line_numbers::LineNumbers;
 use crate::flow::liveness::Later;
@@ -229,6 +231,17 @@ fn note_assigned(
     }
 }
 
+// The last line of a block after this line, where it was this one before it.
+fn block_after(before: Option<usize>, statement: &Statement, place: usize) -> Option<usize>
+    ensures { result ≡ noted (is_block (shape_of statement.now)) place before }
+{
+    if is_block(statement) {
+        Some(place)
+    } else {
+        before
+    }
+}
+
 impl<'a> Recent<'a> {
     /// Before the first line.
     pub(crate) fn of(alloc: Global, later: &'a Later<'a>) -> Result<Self, AllocError>
@@ -256,8 +269,6 @@ impl<'a> Recent<'a> {
         let numbering = &self.later.numbering;
         note_assigned(numbering, &mut self.assigned, statement, numbers, place);
         note_read(numbering, &mut self.read, statement, numbers, place);
-        if is_block(statement) {
-            self.block = Some(place);
-        }
+        self.block = block_after(self.block, statement, place);
     }
 }

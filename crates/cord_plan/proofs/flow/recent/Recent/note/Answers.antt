@@ -1,12 +1,12 @@
-use Rattle.std.proofs.Common.{sym, ◌∙◌}
+use Rattle.std.proofs.Common.{refl, ◌∙◌}
 use Rattle.cord_plan.specs.Operands.{assigns, reads}
 use Rattle.cord_plan.specs.inner.Recent.{Notes}
 use Rattle.cord_plan.proofs.Marked.{written_back}
 use Rattle.cord_plan.proofs.Lasts.{assigned_then, read_then, block_then}
 use Rattle.cord_plan.proofs.flow.recent.Recent.note.Goals as goal
 
-pub returns-then-is_block-clause-recent : goal.returns-then-is_block-clause-recent
-returns-then-is_block-clause-recent c =
+pub returns-clause-recent : goal.returns-clause-recent
+returns-clause-recent c =
     let t = c.args.self.now.later.now.numbering in
     let l = c.args.statement.now in
     let b = c.args.place in
@@ -21,24 +21,5 @@ returns-then-is_block-clause-recent c =
       read = rw (written_back c.args.self.now.read.len c.note_read.new.places c.args.self.now.read.items
           (c.note_read.auto.places ∙ c.deref_mut-2.ensures.len))
           (read_then s t b l here c.args.self.now.read.items c.note_read.new.places read old.read);
-      block = block_then s t b l here c.args.self.now.block _ (sym c.if-is_block.true ∙ c.is_block.ensures) old.block;
-    }
-
-pub returns-else-is_block-clause-recent : goal.returns-else-is_block-clause-recent
-returns-else-is_block-clause-recent c =
-    let t = c.args.self.now.later.now.numbering in
-    let l = c.args.statement.now in
-    let b = c.args.place in
-    let assigned : Notes t (λ x. assigns l x) b c.args.self.now.assigned.items c.note_assigned.new.places =
-    rw (← c.deref_mut.ensures.value) c.note_assigned.ensures in
-    let read : Notes t (λ x. reads l x) b c.args.self.now.read.items c.note_read.new.places =
-    rw (← c.deref_mut-2.ensures.value) c.note_read.ensures in
-    λ s here old. record {
-      assigned = rw (written_back c.args.self.now.assigned.len c.note_assigned.new.places c.args.self.now.assigned.items
-          (c.note_assigned.auto.places ∙ c.deref_mut.ensures.len))
-          (assigned_then s t b l here c.args.self.now.assigned.items c.note_assigned.new.places assigned old.assigned);
-      read = rw (written_back c.args.self.now.read.len c.note_read.new.places c.args.self.now.read.items
-          (c.note_read.auto.places ∙ c.deref_mut-2.ensures.len))
-          (read_then s t b l here c.args.self.now.read.items c.note_read.new.places read old.read);
-      block = block_then s t b l here c.args.self.now.block _ (sym c.if-is_block.false ∙ c.is_block.ensures) old.block;
+      block = c.block_after-self.ensures ∙ block_then s t b l here c.args.self.now.block _ refl old.block;
     }
