@@ -1,7 +1,7 @@
 /* zomtsje.h: cords, immutable byte strings that share their parts.
  *
- * A cord is a tree of parts. Joining two cords, or taking a part of one, makes a few new nodes and copies no text, so
- * texts of any size are edited in almost no time, and old versions stay. A cord never changes; its parts are counted,
+ * A cord is a tree of parts. Joining two cords, or taking a part of one, makes a few new nodes and copies at most 64
+ * bytes, so texts of any size are edited in almost no time, and old versions stay. A cord never changes; its parts are counted,
  * and freed with the last cord that has them.
  *
  * A zc_cord is a handle: a struct of one pointer that owns a cord. Begin with ZC_EMPTY, the cord of no bytes:
@@ -48,6 +48,7 @@ typedef struct zc_cord {
     void *tree; /* for the library alone; null for no bytes */
 } zc_cord;
 
+/* What a handle begins with. To empty one later, zc_free it. */
 #define ZC_EMPTY {0}
 
 /* A text has at most so many bytes, and a tree at most so many levels below its root. */
@@ -285,9 +286,9 @@ typedef struct zc_arg {
 #define ZC_TEXT {ZC_EMPTY, 0, 1}
 
 /* The text of a format with these arguments, after C's printf. A conversion is % and d or i (a number), u, o, x or X (a
-   number from 0 on), c (the byte of a number), s (a cord) or %. In front of the letter may stand the flags -, with d to X
-   also 0, with d and i also +; a width; with all but c a precision, for s the most bytes of the cord; and with numbers l
-   or ll, which change nothing. %% takes none of these. Width and precision are at most 9,999. Trees of cords are shared.
+   number from 0 on), c (the byte of a number), s or r (a cord) or %. In front of the letter may stand the flags -, with d,
+   i, u, o, x and X also 0, with d and i also +; a width; with all but c a precision, for s the most bytes of the cord; and
+   with d, i, u, o, x and X l or ll, which change nothing. %% takes none of these. Width and precision are at most 9,999. Trees of cords are shared.
    ZC_BAD_ARGUMENT where the bytes are no format, or don't take these arguments; ZC_TOO_LONG, ZC_NO_MEMORY.
    O(format_count + count), and O(d) for each cord. */
 int zc_sprintf(const void *format, size_t format_count, zc_arg *args, size_t count, zc_cord *out);
@@ -549,7 +550,7 @@ static inline int zc_lazy_to_cord(zc_files *files, zc_lazy *x, zc_cord *out) {
 }
 
 /* The file at path as zc_lazy_from_path opens it, but its bytes are in memory where it has at most ZC_SHORT_FILE of them.
-   As zc_lazy_from_path; O(n) of a short file. */
+   It stays open and counts among the 64, short or not. As zc_lazy_from_path; O(n) of a short file. */
 static inline int zc_lazy_by_length(zc_files *files, const char *path, zc_lazy *out) {
     zc_lazy file = ZC_LAZY_EMPTY;
     zc_cord whole = ZC_EMPTY;
@@ -566,7 +567,8 @@ static inline int zc_lazy_by_length(zc_files *files, const char *path, zc_lazy *
 }
 
 /* Writes the first place of x from start on where these bytes, at least one, stand to *place, or ZC_NOT_FOUND.
-   ZC_READ_FAILED, ZC_NO_MEMORY: *place stays. O(n) for most texts; it copies 65,536 bytes at a time. */
+   ZC_BAD_ARGUMENT where count is 0; ZC_READ_FAILED, ZC_NO_MEMORY: *place stays. O(n) for most texts; it copies 65,536 + count
+   bytes at a time. */
 static inline int zc_lazy_find(zc_files *files, zc_lazy *x, uint64_t start, const void *bytes, size_t count,
                                uint64_t *place) {
     zc_lazy window = ZC_LAZY_EMPTY;
