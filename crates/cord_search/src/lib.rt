@@ -4,6 +4,7 @@
 
 mod ahead;
 mod bytes;
+mod limits;
 mod order;
 mod periods;
 mod pieces;
@@ -12,6 +13,7 @@ mod stretches;
 mod substring;
 
 pub use bytes::{chr, fetch, rchr};
+pub use limits::limits_are;
 pub use order::{cmp, ncmp};
 pub use substring::{MOST_BYTES, find_bytes, str};
 
