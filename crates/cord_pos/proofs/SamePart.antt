@@ -7,6 +7,7 @@ use Rattle.cord_node.specs.declared.Node.TheVariants.{Leaf, Run, Func, Cat'}
 use Rattle.cord_node.specs.Tree.{len_of, IsSound}
 use Rattle.cord_node.specs.Occurrences.{preorder}
 use Rattle.cord_pos.specs.inner.Path.{below, way, part_at}
+use Rattle.cord_pos.proofs.Counts.{preorder_below}
 use Rattle.cord_pos.proofs.Sides.{below-left, below-right, preorder-left, preorder-right, part_at-left, part_at-right}
 
 -- the part that holds an index lies inside the node and has the index in it
@@ -101,3 +102,50 @@ same_part (Cat' p left q right len depth mark) s i j at z h k a b =
       );
     })
     (cases_lt i (len_of left))
+
+-- indices with one preorder number are in one part
+pub same_number : (n : Node) (s i j : ℕ) → preorder n i ≡ preorder n j → part_at n s j ≡ part_at n s i
+same_number (Leaf bytes from len mark) s i j e = refl
+same_number (Run byte len) s i j e = refl
+same_number (Func id from len) s i j e = refl
+same_number (Cat' p left q right len depth mark) s i j e =
+    ⊎_elim
+    (λ (k : i < len_of left).
+    let pi = preorder-left p q left right len depth mark i k in
+    ⊎_elim
+    (λ (a : j < len_of left).
+    let l : preorder left i ≡ preorder left j = omega (arith, pi, preorder-left p q left right len depth mark j a) in
+    part_at-left p q left right len depth mark s j a ∙ same_number left s i j l
+    ∙ sym (part_at-left p q left right len depth mark s i k))
+    (λ (a : len_of left ≤ j).
+    absurd (omega (arith, pi, preorder-right p q left right len depth mark j a, preorder_below left i)))
+    (cases_lt j (len_of left)))
+    (λ (k : len_of left ≤ i).
+    let pi = preorder-right p q left right len depth mark i k in
+    ⊎_elim
+    (λ (a : j < len_of left).
+    absurd (omega (arith, pi, preorder-left p q left right len depth mark j a, preorder_below left j)))
+    (λ (a : len_of left ≤ j).
+    let r : preorder right (i - len_of left) ≡ preorder right (j - len_of left) =
+    omega (arith, pi, preorder-right p q left right len depth mark j a) in
+    part_at-right p q left right len depth mark s j a ∙ same_number right (s + len_of left) (i - len_of left) (j - len_of left) r
+    ∙ sym (part_at-right p q left right len depth mark s i k))
+    (cases_lt j (len_of left)))
+    (cases_lt i (len_of left))
+
+-- the part that holds one index holds another one
+pub record IsIn (n : Node) (i j : ℕ) : Type 0 where
+  pub from : (part_at n 0 i).1 ≤ j
+  pub to : j < (part_at n 0 i).1 + len_of (part_at n 0 i).0
+
+-- so it is where both have one preorder number
+pub number_in : (n : Node) (i j : ℕ) → IsSound n → j < len_of n → preorder n i ≡ preorder n j → IsIn n i j
+number_in n i j h k e =
+    let r : HasRange n 0 j = has_range n 0 j h k in
+    let m : part_at n 0 i ≡ part_at n 0 j = sym (same_number n 0 i j e) in
+    record { from = rw m (omega (arith, r.first)); to = rw m (omega (arith, r.last)) }
+
+-- and only there
+pub in_number : (n : Node) (i j : ℕ) → IsSound n → i < len_of n → (part_at n 0 i).1 ≤ j → j < (part_at n 0 i).1 + len_of (part_at n 0 i).0 →
+    preorder n i ≡ preorder n j
+in_number n i j h k a b = sym (same_part n 0 i j j (omega arith) h k a b).preorder

@@ -13,11 +13,11 @@ use Rattle.cord_pos.specs.inner.Path.{node_of, places, part_at}
 use Rattle.cord_pos.specs.inner.Parts.{is_part, HasByte}
 use Rattle.cord_pos.specs.Position.{IsByteAt}
 use Rattle.cord_pos.specs.inner.Invariant.{IsOnPart, IsPosition}
-use Rattle.cord_pos.specs.Stretches.{stretch_len, IsStretchAt, IsAheadOf, IsBehindOf}
+use Rattle.cord_pos.specs.Stretches.{stretch_len, IsStretchAt, IsAheadOf, IsBehindOf, IsRestAhead, IsRestBehind}
 use Rattle.cord_pos.specs.declared.stretch.Stretch.{Stretch}
 use Rattle.cord_pos.proofs.Bytes.{IsPartOf, part_of, part_byte}
 use Rattle.cord_pos.proofs.Within.{part_within, within_end, stretch_on, stretch_back}
-use Rattle.cord_pos.proofs.SamePart.{has_range}
+use Rattle.cord_pos.proofs.SamePart.{has_range, HasRange, number_in, in_number}
 
 -- what the part at which a valid position stands is good for
 pub record IsSpotPart (lengths : Lengths) (c : Option Node) (spot : Spot) : Type 0 where
@@ -83,6 +83,37 @@ spot_behind (Some n) spot path (Some s) on is h long =
     let own : IsStretchAt (part_at n 0 spot.index).0 0 s = rw node at h in
     let w = within_end n spot.index _ _ (part_within n 0 spot.index spot.index (omega arith) p.sound p.inside) in
     record { inside = omega (arith, long); stretch = stretch_back n (spot.index + 1) _ _ 0 s (omega (arith, long, start)) w own }
+
+-- all that the part has from the index on: the places after it with the index's preorder number
+pub spot_rest_ahead : (c : Option Node) (spot : Spot) (path : Path) (r : Option Stretch) → IsPosition c (Some spot) path →
+    IfSome r (λ s. stretch_len s ≡ len_of (node_of spot.part.node) - (spot.index - spot.part.start)) → IsRestAhead c (Some spot.index) r
+spot_rest_ahead None spot path r on long = absurd on.on_spot
+spot_rest_ahead (Some n) spot path None on long = tt
+spot_rest_ahead (Some n) spot path (Some s) on long =
+    let p : IsOnPart n spot.index spot.part (places path.stops.items) = on.on_spot in
+    let start : spot.part.start ≡ (part_at n 0 spot.index).1 = ap (λ (x : Node × ℕ). x.1) p.holder in
+    let len : len_of (node_of spot.part.node) ≡ len_of (part_at n 0 spot.index).0 = ap (λ (x : Node × ℕ). len_of x.0) p.holder in
+    let r : HasRange n 0 spot.index = has_range n 0 spot.index p.sound p.inside in
+    λ j after inside. (
+      λ (k : j < spot.index + stretch_len s). in_number n spot.index j p.sound p.inside (omega (arith, r.first))
+          (omega (arith, r.first, r.last, long)),
+      λ e. omega (arith, r.first, r.last, long, (number_in n spot.index j p.sound inside e).to),
+    )
+
+-- and all that it has up to the index
+pub spot_rest_behind : (c : Option Node) (spot : Spot) (path : Path) (r : Option Stretch) → IsPosition c (Some spot) path →
+    IfSome r (λ s. stretch_len s ≡ spot.index - spot.part.start + 1 - 0) → IsRestBehind c (Some spot.index) r
+spot_rest_behind None spot path r on long = absurd on.on_spot
+spot_rest_behind (Some n) spot path None on long = tt
+spot_rest_behind (Some n) spot path (Some s) on long =
+    let p : IsOnPart n spot.index spot.part (places path.stops.items) = on.on_spot in
+    let start : spot.part.start ≡ (part_at n 0 spot.index).1 = ap (λ (x : Node × ℕ). x.1) p.holder in
+    let r : HasRange n 0 spot.index = has_range n 0 spot.index p.sound p.inside in
+    λ j before. (
+      λ (k : spot.index < j + stretch_len s). in_number n spot.index j p.sound p.inside (omega (arith, r.first, long))
+          (omega (arith, r.last)),
+      λ e. omega (arith, r.first, long, (number_in n spot.index j p.sound (omega (arith, p.inside)) e).from),
+    )
 
 -- a stretch of a valid position's part is there
 pub part_some : (r : Option Stretch) (n : Node) → (r ≡ None → is_part n ≡ false) → is_part n ≡ true → is_some r ≡ true

@@ -15,7 +15,6 @@ use Rattle.cord_pos.specs.inner.Path.{Place, node_of, places, part_at}
 use Rattle.cord_pos.specs.Position.{set_visits, move_visits, number_at, occurrences, index_at, moved_index, moved_visits, next_index}
 use Rattle.cord_pos.specs.Position.{next_visits, prev_visits, IsNoEarlier, IsOnePart}
 use Rattle.cord_pos.specs.inner.Invariant.{IsOnPart, IsOnCord, IsPosition}
-use Rattle.cord_pos.proofs.Sides.{not_less}
 use Rattle.cord_pos.proofs.Counts.{level_depth, depth_limit, preorder_first, preorder_last, preorder_below, preorder_next, shared_same}
 use Rattle.cord_pos.proofs.Counts.{shared_below, size_len}
 use Rattle.cord_node.proofs.TreeLemmas.{len_limit, len_positive}

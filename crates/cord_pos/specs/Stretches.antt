@@ -1,11 +1,12 @@
 -- Stretches: texts that lie in one part of a cord.
-use Rattle.std.specs.Prelude.{◌≡◌, ℕ, ◌+◌, ◌-◌, ◌<◌, ◌≤◌, List, length, take, drop, replicate, Option, Some, None, ⊤}
+use Rattle.std.specs.Prelude.{◌≡◌, ◌↔◌, ℕ, ◌+◌, ◌-◌, ◌<◌, ◌≤◌, List, length, take, drop, replicate, Option, Some, None, ⊤}
 use Rattle.cord_io.specs.Table.{Table, Lengths, length_at}
 use Rattle.cord_io.specs.declared.TheConstants.{MAX_LEN}
 use Rattle.cord_node.specs.declared.Node.{Node}
 use Rattle.cord_node.specs.Tree.{len_of, IsSound}
 use Rattle.cord_node.specs.Tables.{bytes_over, FitsIn, Fits}
 use Rattle.cord_core.specs.Cord.{text_len, bytes_of, CordFitsIn, CordFits}
+use Rattle.cord_pos.specs.Position.{IsOnePart}
 use Rattle.cord_pos.specs.declared.stretch.Stretch.{Stretch}
 use Rattle.cord_pos.specs.declared.stretch.Stretch.TheVariants.{Bytes, Run, Func}
 
@@ -60,6 +61,16 @@ abbrev pub IsBehindOf : Option Node → Option ℕ → Option Stretch → Type 0
 IsBehindOf c None s = s ≡ None
 IsBehindOf c (Some i) None = ⊥
 IsBehindOf c (Some i) (Some s) = EndsAt c i s
+
+-- a place at the index or after it is in the stretch that begins there just where it lies in the part that holds the index
+abbrev pub IsRestAhead : Option Node → Option ℕ → Option Stretch → Type 0
+IsRestAhead c (Some i) (Some s) = (j : ℕ) → i ≤ j → j < text_len c → (j < i + stretch_len s) ↔ IsOnePart c (Some i) (Some j)
+IsRestAhead _ _ _ = ⊤
+
+-- a place at the index or before it is in the stretch that ends there just where it lies in the part that holds the index
+abbrev pub IsRestBehind : Option Node → Option ℕ → Option Stretch → Type 0
+IsRestBehind c (Some i) (Some s) = (j : ℕ) → j ≤ i → (i < j + stretch_len s) ↔ IsOnePart c (Some i) (Some j)
+IsRestBehind _ _ _ = ⊤
 
 -- a place of a node is the place `at` of another one, whose text stands in the node's
 pub record IsWithin (n : Node) (place : ℕ) (m : Node) (at : ℕ) : Type 0 where

@@ -1,7 +1,7 @@
 // The part that holds the index, and moves to another one.
 ghost use Rattle.std.specs.Prelude.{◌≡◌, ◌+◌, ◌≤◌, min};
 ghost use Rattle.cord_pos.specs.Position.{moved_index, moved_visits};
-ghost use Rattle.cord_pos.specs.Stretches.{IsAheadOf, IsBehindOf};
+ghost use Rattle.cord_pos.specs.Stretches.{IsAheadOf, IsBehindOf, IsRestAhead, IsRestBehind};
 
 use crate::stretch::Stretch;
 use crate::{Position, Spot};
@@ -11,7 +11,8 @@ impl<'a> Position<'a> {
     /// What the part that holds the index has from there on: none where the position is invalid. No byte is copied or
     /// read.
     pub fn ahead(&self) -> Option<Stretch<'a>>
-        ensures { IsAheadOf self.now.cord self.now.index result }
+        ensures stretch { IsAheadOf self.now.cord self.now.index result }
+        ensures rest { IsRestAhead self.now.cord self.now.index result }
     {
         let Some(spot) = self.spot else {
             return None;
@@ -23,7 +24,8 @@ impl<'a> Position<'a> {
     /// What the part that holds the index has up to there, with the byte at the index: none where the position is
     /// invalid. No byte is copied or read.
     pub fn behind(&self) -> Option<Stretch<'a>>
-        ensures { IsBehindOf self.now.cord self.now.index result }
+        ensures stretch { IsBehindOf self.now.cord self.now.index result }
+        ensures rest { IsRestBehind self.now.cord self.now.index result }
     {
         let Some(spot) = self.spot else {
             return None;

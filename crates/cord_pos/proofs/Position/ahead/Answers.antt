@@ -1,5 +1,5 @@
 use Rattle.std.proofs.Common.{None}
-use Rattle.cord_pos.proofs.SpotBytes.{spot_part, spot_ahead}
+use Rattle.cord_pos.proofs.SpotBytes.{spot_part, spot_ahead, spot_rest_ahead}
 use Rattle.cord_pos.proofs.Position.ahead.Goals as goal
 
 pub overflow_sub-from : goal.overflow_sub-from
@@ -14,6 +14,12 @@ stretch-requires-clause-sound c = (spot_part (λ _. None) _ _ _ (rw c.in-Some.is
 pub stretch-requires-clause-some : goal.stretch-requires-clause-some
 stretch-requires-clause-some c = rw c.len.ensures (spot_part (λ _. None) _ _ _ (rw c.in-Some.is at c.self.invariant)).inside
 
-pub returns : goal.returns
-returns c = rw (← c.self.view_is, c.in-Some.is) (spot_ahead _ _ _ _ (rw c.in-Some.is at c.self.invariant) c.stretch.ensures.is
+pub returns-clause-stretch : goal.returns-clause-stretch
+returns-clause-stretch c =
+    rw (← c.self.view_is, c.in-Some.is) (spot_ahead _ _ _ _ (rw c.in-Some.is at c.self.invariant) c.stretch.ensures.is
     c.stretch.ensures.stretch)
+
+pub returns-clause-rest : goal.returns-clause-rest
+returns-clause-rest c =
+    rw (← c.self.view_is, c.in-Some.is) (spot_rest_ahead _ _ _ _ (rw c.in-Some.is at c.self.invariant)
+    (rw c.len.ensures at c.stretch.ensures.len))
