@@ -1,18 +1,21 @@
 -- What each call that makes a cord of the file at a path leaves behind it.
-use Rattle.std.specs.Prelude.{◌≡◌, ℕ, List, Option, IfOk, IfErr}
+use Rattle.std.specs.Prelude.{◌≡◌, ℕ, List, [], ◌∷◌, ◌++◌, Option, IsSome, IfOk, IfErr}
 use Rattle.std.specs.declared.result.Result.{Result}
 use Rattle.cord_io.specs.Device.{Folder, count_after}
 use Rattle.cord_io.specs.declared.reading.Files.{Ghosts}
 use Rattle.cord_node.specs.declared.Node.{Node}
+use Rattle.cord_file.specs.Entries.{id_in}
 use Rattle.cord_file.specs.Faults.{has_failed}
 use Rattle.cord_file.specs.Making.{IsFileIn}
-use Rattle.cord_file.specs.Opening.{Grows, IsRefusalOver}
+use Rattle.cord_file.specs.Opening.{Grows, OpensNone, OpensOne, IsUnopened, IsRefusalOver}
 use Rattle.cord_file.specs.Sources.{device_in, opened_in}
 use Rattle.cord_file.specs.declared.faults.FileError.{FileError}
 use Rattle.cord_file.specs.declared.sources.Sources.{Sources}
 
 -- a call opened the file at a path, and handed it over as a cord or was refused: it keeps no folder that wasn't kept before it, the device
--- counted its failure, each entry stays, and over each folder that is kept the cord has the text of the file, or the refusal its cause
+-- counted its failure, each entry stays, and over each folder that is kept the cord has the text of the file, or the refusal its cause. A path
+-- that is open isn't opened again by the device, an entry that was added is the one file that it opened, and where none was added a refusal
+-- tells that it opened none
 abbrev pub HandsOver : {F : Type 0} {ghosts : Ghosts F} →
     Sources F ghosts → Sources F ghosts → List ℕ → Result (Option Node) FileError → Type 0
 HandsOver {F} {ghosts} old new path result = record {
@@ -21,4 +24,9 @@ HandsOver {F} {ghosts} old new path result = record {
   grows : Grows (opened_in old) (opened_in new);
   file : (folder : Folder) → ghosts.keeps (device_in new) folder → IfOk result (IsFileIn folder (opened_in new) path);
   cause : (folder : Folder) → ghosts.keeps (device_in new) folder → IfErr result (IsRefusalOver folder path);
+  again : IsSome (id_in (opened_in old) path) → OpensNone (ghosts.opened (device_in old)) (ghosts.opened (device_in new));
+  once : (len : ℕ) → opened_in new ≡ opened_in old ++ (path, len) ∷ [] →
+      OpensOne (ghosts.opened (device_in old)) (ghosts.opened (device_in new)) path len;
+  none_opened : opened_in new ≡ opened_in old →
+      IfErr result (IsUnopened (ghosts.opened (device_in old)) (ghosts.opened (device_in new)));
 }

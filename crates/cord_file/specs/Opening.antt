@@ -1,7 +1,8 @@
 -- What opening a path does to a table of files, and when it is refused.
 use Rattle.std.specs.Prelude.{◌≡◌, ℕ, ◌<◌, ◌≤◌, List, [], ◌∷◌, ◌++◌, length, Some, None, ⊤, IsSome, IsSomeAnd}
+use Rattle.std.specs.declared.option.Option.{Option}
 use Rattle.cord_io.specs.declared.TheConstants.{MAX_LEN}
-use Rattle.cord_io.specs.Device.{Folder, file_at}
+use Rattle.cord_io.specs.Device.{Folder, file_at, HandsOut}
 use Rattle.cord_file.specs.declared.TheConstants.{MAX_FILES}
 use Rattle.cord_file.specs.declared.faults.FileError.{FileError}
 use Rattle.cord_file.specs.declared.faults.FileError.TheVariants.{NoFile, TooLong, ReadFailed, TooManyFiles, NoMemory}
@@ -24,6 +25,26 @@ pub record Opens (old new : Opened) (path : List ℕ) (id len : ℕ) : Type 0 wh
 -- over a folder the entry has the bytes at the path, as many as was told
 abbrev pub HoldsFile : Folder → Opened → List ℕ → ℕ → ℕ → Type 0
 HoldsFile folder opened path id len = (file_at folder path ≡ Some (table_in opened folder id)) × (len ≡ length (table_in opened folder id))
+
+-- the path and the length told of each number of a device
+abbrev pub Numbers : Type 0
+Numbers = ℕ → Option (List ℕ × ℕ)
+
+-- the device has opened what it had opened before
+abbrev pub OpensNone : Numbers → Numbers → Type 0
+OpensNone old new = (n : ℕ) → new n ≡ old n
+
+-- the device opened one file, at this path and of this length
+abbrev pub OpensOne : Numbers → Numbers → List ℕ → ℕ → Type 0
+OpensOne old new path len = (no : ℕ) × HandsOut old new no path len
+
+-- after this refusal the device has opened no file, unless that was too long or found no memory to be kept
+abbrev pub IsUnopened : Numbers → Numbers → FileError → Type 0
+IsUnopened old new TooManyFiles = OpensNone old new
+IsUnopened old new NoFile = OpensNone old new
+IsUnopened old new ReadFailed = OpensNone old new
+IsUnopened old new TooLong = ⊤
+IsUnopened old new NoMemory = ⊤
 
 -- the path isn't open, and there is room for one more
 abbrev pub HasRoomFor : Opened → List ℕ → Type 0

@@ -1,9 +1,10 @@
 // Opening paths.
-ghost use Rattle.std.specs.Prelude.{◌≡◌, ◌+◌, ◌<◌, IfOk, OnErr, IfErr, None, length};
+ghost use Rattle.std.specs.Prelude.{◌≡◌, ◌+◌, ◌<◌, ℕ, [], ◌∷◌, ◌++◌, IfOk, OnErr, IfErr, None, IsSome, length};
 ghost use Rattle.cord_io.specs.Device.{Folder, count_after};
 ghost use Rattle.cord_file.specs.Entries.{id_in};
 ghost use Rattle.cord_file.specs.Faults.{has_failed};
 ghost use Rattle.cord_file.specs.Opening.{Grows, Opens, HoldsFile, IsOpenRefusal, IsRefusalOver};
+ghost use Rattle.cord_file.specs.Opening.{OpensNone, OpensOne, IsUnopened};
 
 use crate::files::{OpenFile, place_of};
 use crate::{FileError, MAX_FILES, Sources};
@@ -18,6 +19,8 @@ impl<F: Files> Sources<F> {
     /// applies, with `TooManyFiles` where `MAX_FILES` other paths are open, `NoFile` where no file is there,
     /// `ReadFailed` where the device failed, and `TooLong` where the file is longer than `MAX_LEN`; `NoMemory` may
     /// come in the place of any answer. After a refusal the entries are as before, and the path may be tried again.
+    /// The device opens no path that is open, and the file of a new entry once. After a refusal it has opened a file
+    /// only where that is too long or found no memory.
     pub fn open(&mut self, alloc: Global, path: &str) -> Result<(SourceId, u64), FileError>
         ensures earlier { (folder : Folder) →
             F.keeps (device_in self.new) folder → F.keeps (device_in self.old) folder }
@@ -31,6 +34,12 @@ impl<F: Files> Sources<F> {
         ensures cause { (folder : Folder) → F.keeps (device_in self.new) folder →
             IfErr result (IsRefusalOver folder path.now) }
         ensures unopened { OnErr result (opened_in self.new ≡ opened_in self.old) }
+        ensures again { IsSome (id_in (opened_in self.old) path.now) →
+            OpensNone (F.opened (device_in self.old)) (F.opened (device_in self.new)) }
+        ensures once { (len : ℕ) → opened_in self.new ≡ opened_in self.old ++ (path.now, len) ∷ [] →
+            OpensOne (F.opened (device_in self.old)) (F.opened (device_in self.new)) path.now len }
+        ensures none_opened { IfErr result
+            (IsUnopened (F.opened (device_in self.old)) (F.opened (device_in self.new))) }
     {
         match place_of(&self.entries, path) {
             Some(place) => Ok((SourceId(place as u32 + 2), self.entries[place].len)),
@@ -52,6 +61,10 @@ impl<F: Files> Sources<F> {
         ensures cause { (folder : Folder) → F.keeps (device_in self.new) folder →
             IfErr result (IsRefusalOver folder path.now) }
         ensures unopened { OnErr result (opened_in self.new ≡ opened_in self.old) }
+        ensures once { IfOk result (λ r.
+            OpensOne (F.opened (device_in self.old)) (F.opened (device_in self.new)) path.now r.1) }
+        ensures none_opened { IfErr result
+            (IsUnopened (F.opened (device_in self.old)) (F.opened (device_in self.new))) }
     {
         if self.entries.len() >= MAX_FILES {
             return Err(FileError::TooManyFiles);

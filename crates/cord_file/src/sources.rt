@@ -3,6 +3,7 @@ ghost use Rattle.std.specs.Prelude.{◌≡◌, ◌+◌, ◌<◌, ◌≤◌, ℕ,
 ghost use Rattle.std.specs.Prelude.{IsSomeAnd};
 ghost use Rattle.cord_io.specs.Device.{Folder, count_after};
 ghost use Rattle.cord_file.specs.declared.TheConstants.{MAX_FILES};
+ghost use Rattle.cord_file.specs.Opening.{OpensNone};
 ghost use Rattle.cord_file.specs.Soundness.{IsSound};
 
 use crate::blocks::{Block, Blocks, MAX_BLOCKS};
@@ -130,8 +131,9 @@ impl<F: Files> Source for Sources<F> {
         ensures bytes { (folder : Folder) → F.keeps (device_in self.new) folder → OnOk result
             (out.new ≡ take (length out.new) (drop start (table_in (opened_in self.old) folder id.0))) }
 
-        // A path that is open keeps its entry.
+        // A path that is open keeps its entry, and the device opens no file.
         ensures opened { opened_in self.new ≡ opened_in self.old }
+        ensures none_opened { OpensNone (F.opened (device_in self.old)) (F.opened (device_in self.new)) }
     {
         match id.0 {
             0 | 1 => {

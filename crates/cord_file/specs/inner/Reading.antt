@@ -3,6 +3,7 @@ use Rattle.std.specs.Prelude.{◌≡◌, ℕ, ◌+◌, ◌≤◌, Bool, IsSomeAn
 use Rattle.std.specs.declared.option.Option.{Option}
 use Rattle.cord_io.specs.Device.{Folder, count_after}
 use Rattle.cord_io.specs.declared.reading.Files.{Ghosts}
+use Rattle.cord_file.specs.Opening.{OpensNone}
 use Rattle.cord_file.specs.Sources.{device_in}
 use Rattle.cord_file.specs.declared.files.OpenFile.{OpenFile}
 use Rattle.cord_file.specs.declared.sources.Sources.{Sources}
@@ -16,5 +17,6 @@ abbrev pub LeavesFiles : {F : Type 0} {ghosts : Ghosts F} → Bool → Sources F
 LeavesFiles {F} {ghosts} failed old new = record {
   earlier : (folder : Folder) → ghosts.keeps (device_in new) folder → ghosts.keeps (device_in old) folder;
   entries : new.entries.items ≡ old.entries.items;
+  opened : OpensNone (ghosts.opened (device_in old)) (ghosts.opened (device_in new));
   count : ghosts.failures (device_in new) ≡ count_after failed (ghosts.failures (device_in old));
 }

@@ -19,6 +19,7 @@ loop-done-preserved g c =
       done = search rules;
       earlier = λ folder kept. loop.invariant.earlier folder (c.in_ok-read_one.ensures.files.earlier folder kept);
       entries = c.read_one.ensures.files.entries ∙ loop.invariant.entries;
+      opened = λ n. c.read_one.ensures.files.opened n ∙ loop.invariant.opened n;
       count = search rules;
       bytes = λ folder kept.
           let read : AreRead folder at (c.args.start + loop.done) part =

@@ -1,4 +1,4 @@
-use Rattle.std.proofs.Common.{length, ◌-◌, ◌≡◌, ◌≤◌, take, drop}
+use Rattle.std.proofs.Common.{ℕ, length, ◌-◌, ◌≡◌, ◌≤◌, take, drop}
 use Rattle.std.specs.Prelude.{slice_get, IsSomeAnd}
 use Rattle.std.specs.String.{string_bytes}
 use Rattle.cord_io.specs.Device.{Folder, bytes_at}
@@ -10,6 +10,7 @@ invariant-loop-done g l = record {
   done : l.done ≤ length l.out;
   earlier : (folder : Folder) → g.F.Files.keeps l.self.files folder → g.F.Files.keeps l.initial.self.files folder;
   entries : l.self.entries.items ≡ l.initial.self.entries.items;
+  opened : (n : ℕ) → g.F.Files.opened l.self.files n ≡ g.F.Files.opened l.initial.self.files n;
   count : g.F.Files.failures l.self.files ≡ g.F.Files.failures l.initial.self.files;
   bytes : (folder : Folder) → g.F.Files.keeps l.self.files folder →
       IsSomeAnd (slice_get l.initial.self.entries.items l.place)
