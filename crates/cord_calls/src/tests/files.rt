@@ -175,5 +175,6 @@ fn cut_eager(rt: HostRuntime) {
     let refused = sources.eager(alloc, "p").err();
     assert!(rt; refused == Some(FileError::ReadFailed));
     expect_failures(&rt, &sources, 1);
+    expect_len(&rt, &sources, 2, Some(1000));
     expect_open(&rt, alloc, &mut sources, "p", Ok((SourceId(2), 1000)));
 }
