@@ -11,7 +11,7 @@ use std::io;
 use std::io::Read;
 use std::marker::Model;
 
-/// At least one byte that a text has in one part of its tree.
+/// Some bytes of a text, at least one, that lie in one part of its tree.
 #[derive(Clone, Copy, Debug)]
 pub enum Chunk<'a> {
     /// Bytes of a leaf, lent by the text.
@@ -32,7 +32,7 @@ impl<'a> Chunk<'a> {
     }
 }
 
-/// The bytes of a text that are left, which come chunk by chunk, or are read.
+/// The bytes of a text that are left: an iterator over their chunks, and a reader.
 #[derive(Drop)]
 pub struct Chunks<'a> {
     text: &'a Text,

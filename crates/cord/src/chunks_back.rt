@@ -1,4 +1,4 @@
-// The chunks of a text from after.
+// The chunks of a text from its end to its beginning.
 ghost use Rattle.std.specs.Prelude.{◌<◌, ◌≤◌, length};
 ghost use Rattle.cord_node.specs.Tree.{len_of, IsSound};
 ghost use Rattle.cord_node.specs.Tables.{bytes_over, FitsIn};

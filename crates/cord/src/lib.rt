@@ -46,8 +46,8 @@
 //! }
 //! ```
 //!
-//! `put`, `to_vec`, `str`, `Position::fetch` and the other calls that look at the bytes of a cord have one condition,
-//! that it fits the source that they are given. A cord that `Sources` made fits them, as the clause `fits` of those
+//! `put`, `to_vec`, `str`, `Position::fetch` and the other calls that look at the bytes of a cord ask that it fits the
+//! source that they are given, and some that a place lies inside it. A cord that `Sources` made fits them, as the clause `fits` of those
 //! calls says, and what `cat`, `substr` and the others make of cords that fit does too, by their clause `over`.
 #![tactic(auto)]
 
@@ -77,11 +77,11 @@ pub use cord_core::{Cord, Node};
 pub use cord_ec::ExtCord;
 pub use cord_file::{FileError, Sources};
 pub use cord_io::{
-    CordError, CutFiles, DiskFiles, Files, FuseFiles, FuseSink, MAX_DEPTH, MAX_LEN, MemFiles,
-    MemSink, OpenFault, ReadFault, Sink, Source, SourceId, StdSink, WriteFault,
+    CordError, CutFiles, DiskFiles, FileNo, Files, FuseFiles, FuseSink, MAX_DEPTH, MAX_LEN,
+    MemFiles, MemSink, OpenFault, ReadFault, Sink, Source, SourceId, StdSink, WriteFault,
 };
 pub use cord_iter::{Visitor, iter, iter5, put, riter, riter4, to_vec};
-pub use cord_pos::Position;
+pub use cord_pos::{Position, Stretch};
 pub use cord_printf::{Arg, Format, FormatError, PrintError, sprintf, sprintf_len};
 pub use cord_search::{MOST_BYTES, chr, cmp, fetch, find_bytes, ncmp, rchr, str, str as find};
 pub use doubling::repeated;

@@ -1,5 +1,5 @@
 // What stands where in a text.
-ghost use Rattle.std.specs.Prelude.{◌≡◌, ◌↔◌, ◌+◌, ◌<◌, ◌≤◌, [], ◌∷◌, IfOk, IfSome, IsOkUnless, IsTrue, Some, length};
+ghost use Rattle.std.specs.Prelude.{◌≡◌, ◌↔◌, ◌+◌, ◌<◌, ◌≤◌, [], ◌∷◌, IfOk, IfSome, IsOk, IsOkUnless, IsTrue, Some, length};
 ghost use Rattle.std.specs.Prelude.{drop, slice_get};
 ghost use Rattle.cord_core.specs.Texts.{first};
 ghost use Rattle.cord.specs.Places.{last_before, BeginsWith, EndsWith};
@@ -42,12 +42,16 @@ impl Text {
         ensures first { IfOk result (λ found. found ≡ first self.now start pattern.now) }
         ensures from { IfOk result (λ found. IfSome found (λ place. start ≤ place)) }
         ensures inside { IfOk result (λ found. IfSome found (λ place. place + length pattern.now ≤ length self.now)) }
+        ensures short { length pattern.now ≤ MOST_BYTES → IsOk result }
         ensures refused { IsOkUnless result CordError.NoMemory }
     {
+        if pattern.is_empty() {
+            return Ok(self.find_text(&Text::empty(), start));
+        }
         if pattern.len() as u64 > self.len() {
             return Ok(None);
         }
-        if pattern.is_empty() || MOST_BYTES < pattern.len() {
+        if MOST_BYTES < pattern.len() {
             let pattern = Text::from_bytes(alloc, pattern)?;
             return Ok(self.find_text(&pattern, start));
         }

@@ -1,5 +1,5 @@
 // What a text has.
-ghost use Rattle.std.specs.Prelude.{◌≡◌, ◌⊎◌, ◌-◌, ◌<◌, ◌≤◌, ◌==◌, [], ◌∷◌, length, take, drop, min, Some};
+ghost use Rattle.std.specs.Prelude.{◌≡◌, ◌≢◌, ◌⊎◌, ◌-◌, ◌<◌, ◌≤◌, ◌==◌, [], ◌∷◌, length, take, drop, min, Some};
 ghost use Rattle.std.specs.Prelude.{None, slice_get, IfOk, OnErr};
 ghost use Rattle.std.specs.List.{count_by};
 ghost use Rattle.std.specs.Ordering.{nat_cmp};
@@ -15,7 +15,7 @@ use crate::Handle;
 use crate::code::{BAD_ARGUMENT, NO_MEMORY, NOT_FOUND, OK};
 use crate::copy::copy_from;
 use crate::pointer::missing;
-use cord::{CordError, MAX_DEPTH, Text};
+use cord::{CordError, MAX_DEPTH, MOST_BYTES, Text};
 use std::alloc::Global;
 use std::cmp::Ordering;
 
@@ -133,7 +133,7 @@ pub extern "C" fn zc_str(
 }
 
 /// Writes the first place of `x` from `start` on where these bytes stand to `place`. No bytes stand at each place up to
-/// the end.
+/// the end. Up to `MOST_BYTES` of them take no memory.
 #[unsafe(no_mangle)]
 pub extern "C" fn zc_find(
     alloc: Global,
@@ -146,6 +146,7 @@ pub extern "C" fn zc_find(
     ensures first { result ≡ OK → place.new ≡ place_or_none (first x.old.text start bytes.now) }
     ensures kept { (result ≡ OK) ⊎ (place.new ≡ place.old) }
     ensures code { IsKeeping result }
+    ensures short { length bytes.now ≤ MOST_BYTES → result ≢ NO_MEMORY }
     ensures x { x.new.text ≡ x.old.text }
 {
     if missing(x) || missing(place) {

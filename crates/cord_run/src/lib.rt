@@ -4,6 +4,7 @@
 mod checks;
 mod control;
 mod expressions;
+mod laws;
 mod limits;
 mod loops;
 mod runner;
@@ -13,5 +14,6 @@ mod store;
 mod targets;
 
 pub use cord_meaning::{End, FaultKind};
+pub use laws::plans_fail_where_their_scripts_do;
 pub use limits::runs_have_few_files;
 pub use runner::{run, run_text, run_unplanned};

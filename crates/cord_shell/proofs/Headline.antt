@@ -11,7 +11,7 @@ use Rattle.cord_meaning.specs.declared.ends.End.TheVariants as ends
 use Rattle.cord_plan.specs.Planned.{Operation}
 use Rattle.cord_plan.specs.Shown.{shown}
 use Rattle.cord_script.specs.Laws.{OneScript, ReadHasNoFlaw}
-use Rattle.cord_script.specs.Script.{Reads, whole}
+use Rattle.cord_script.specs.Script.{Reads, ReadsUpTo, whole}
 use Rattle.cord_script.specs.declared.refusals.Refusal.{Refusal}
 use Rattle.cord_script.specs.declared.refusals.RefusalKind.{RefusalKind}
 use Rattle.cord_script.specs.declared.refusals.RefusalKind.TheVariants.{TooBig, Unterminated, BadEscape, UnknownStatement, WrongCount}
@@ -28,7 +28,7 @@ use Rattle.cord_shell.specs.Outcomes.{line_text, message_of, status_of_outcome, 
 use Rattle.cord_shell.specs.Tells.{SinkCounts, Tells}
 use Rattle.cord_shell.specs.declared.outcome.Outcome.{Outcome}
 use Rattle.cord_shell.specs.declared.outcome.Outcome.TheVariants as outcomes
-use Rattle.cord_shell.specs.inner.Drove.{Drove}
+use Rattle.cord_shell.specs.Drove.{Drove}
 
 -- want of memory, or another kind
 memory_or_not : (k : RefusalKind) → (k ≡ NoMemory) ⊎ (k ≢ NoMemory)
@@ -108,11 +108,16 @@ module _ (keeps : Folder → Type 0) (folder : Folder) (kept : keeps folder) (pa
     memory_refused refusal c other wrong = elim (memory_or_not refusal.kind) [
       | inl is ↦ is
       | inr isnt ↦ absurd (sound whole b ss refusal.line refusal.kind reads
-          (subst (λ (x : List ℕ). IsWrong x refusal) (same_bytes c other) wrong isnt))
+          ((subst (λ (x : List ℕ). IsWrong x refusal) (same_bytes c other) wrong).0 isnt))
     ]
 
+    -- and at the line that was being read
+    refused_at : (refusal : Refusal) → (c : List ℕ) → file_at folder path ≡ Some c → IsWrong c refusal → ReadsUpTo b refusal.line
+    refused_at refusal c other wrong =
+        (subst (λ (x : List ℕ). IsWrong x refusal) (same_bytes c other) wrong).1 (memory_refused refusal c other wrong)
+
     pub runs : (outcome : Outcome) → Serves keeps path u false [] a.out.taken (counts_of a) outcome → a.status ≡ status_of_outcome outcome
-        → Tells [] a.err.taken (err_counts_of a) (message_of outcome) → RunsOver ss folder a
+        → Tells [] a.err.taken (err_counts_of a) (message_of outcome) → RunsOver b ss folder a
     runs (outcomes.Ended end_) h status tells =
         let run = h.2.0 in
         let is : run.0 ≡ ss = one whole b run.0 ss (subst (λ (x : List ℕ). Reads x run.0) (same_bytes h.0 (h.1 folder kept)) run.1) reads in
@@ -125,10 +130,11 @@ module _ (keeps : Folder → Type 0) (folder : Folder) (kept : keeps folder) (pa
     runs (outcomes.Refused refusal) h status tells =
         let wrong = h.1 folder kept in
         let is = memory_refused refusal wrong.0 wrong.1 wrong.2 in
-        record { told = ends.NoMemory refusal.line; answers = refused_memory a refusal is status tells; honest = inr h.0 }
+        let at_line = refused_at refusal wrong.0 wrong.1 wrong.2 in
+        record { told = ends.NoMemory refusal.line; answers = refused_memory a refusal is status tells; honest = inr (inr at_line, h.0) }
     runs outcomes.NoScript h status tells = there (file_at folder path) (h.1 folder kept) at
     runs outcomes.Unreadable h status tells = record { told = ends.ReadFailed 0; answers = (status, tells); honest = inr (refl, h.0, h.1) }
-    runs outcomes.NoMemory h status tells = record { told = ends.NoMemory 0; answers = (status, tells); honest = inr h }
+    runs outcomes.NoMemory h status tells = record { told = ends.NoMemory 0; answers = (status, tells); honest = inr (inl refl, h) }
     runs outcomes.PlanShown h status tells = absurd h.2
     runs outcomes.PlanUnwritten h status tells = absurd h.2
     runs outcomes.HelpShown h status tells = absurd h.2
@@ -144,19 +150,20 @@ module _ (keeps : Folder → Type 0) (folder : Folder) (kept : keeps folder) (pa
 
     pub shows_plan : (outcome : Outcome) → Serves keeps path u true [] a.out.taken (counts_of a) outcome →
         a.status ≡ status_of_outcome outcome
-        → Tells [] a.err.taken (err_counts_of a) (message_of outcome) → ShowsOver u ss a
+        → Tells [] a.err.taken (err_counts_of a) (message_of outcome) → ShowsOver u b ss a
     shows_plan (outcomes.Ended end_) h status tells = absurd h.2.0
     shows_plan (outcomes.Refused refusal) h status tells =
         let wrong = h.1 folder kept in
         let is = memory_refused refusal wrong.0 wrong.1 wrong.2 in
-        record { told = ends.NoMemory refusal.line; answers = refused_memory a refusal is status tells; shows = inr h.0 }
+        let at_line = refused_at refusal wrong.0 wrong.1 wrong.2 in
+        record { told = ends.NoMemory refusal.line; answers = refused_memory a refusal is status tells; shows = inr (inr at_line, h.0) }
     shows_plan outcomes.NoScript h status tells = there (file_at folder path) (h.1 folder kept) at
     shows_plan outcomes.Unreadable h status tells = record {
       told = ends.ReadFailed 0;
       answers = (status, tells);
       shows = inr (refl, h.0, h.1);
     }
-    shows_plan outcomes.NoMemory h status tells = record { told = ends.NoMemory 0; answers = (status, tells); shows = inr h }
+    shows_plan outcomes.NoMemory h status tells = record { told = ends.NoMemory 0; answers = (status, tells); shows = inr (inl refl, h) }
     shows_plan outcomes.PlanShown h status tells =
         let plan = h.2.0 in
         record {
@@ -190,7 +197,7 @@ module _ (keeps : Folder → Type 0) (folder : Folder) (kept : keeps folder) (pa
         inl (refusal, subst (λ (x : List ℕ). IsWrong x refusal) (same_some (sym wrong.1 ∙ at)) wrong.2, status, tells, h.0)
     refuses s outcomes.NoScript h status tells = there (file_at folder path) (h.1 folder kept) at
     refuses s outcomes.Unreadable h status tells = inr (ends.ReadFailed 0, (status, tells), (refl, h.0, h.1))
-    refuses s outcomes.NoMemory h status tells = inr (ends.NoMemory 0, (status, tells), h)
+    refuses s outcomes.NoMemory h status tells = inr (ends.NoMemory 0, (status, tells), (refl, h))
     refuses true outcomes.PlanShown h status tells = let plan = h.2.0.1 in unread h.0 (h.1 folder kept) plan.0 plan.1
     refuses false outcomes.PlanShown h status tells = absurd h.2
     refuses true outcomes.PlanUnwritten h status tells = let plan = h.2.0.1 in unread h.0 (h.1 folder kept) plan.0 plan.1
@@ -211,7 +218,7 @@ module _ (keeps : Folder → Type 0) (folder : Folder) (kept : keeps folder) (pa
     misses s (outcomes.Refused refusal) h status tells = there (file_at folder path) gone (h.1 folder kept).1
     misses s outcomes.NoScript h status tells = inl (status, tells, h.0)
     misses s outcomes.Unreadable h status tells = inr (ends.ReadFailed 0, (status, tells), (refl, h.0, h.1))
-    misses s outcomes.NoMemory h status tells = inr (ends.NoMemory 0, (status, tells), h)
+    misses s outcomes.NoMemory h status tells = inr (ends.NoMemory 0, (status, tells), (refl, h))
     misses s outcomes.PlanShown h status tells = there (file_at folder path) gone (h.1 folder kept)
     misses s outcomes.PlanUnwritten h status tells = there (file_at folder path) gone (h.1 folder kept)
     misses s outcomes.HelpShown h status tells = there (file_at folder path) gone (h.1 folder kept)
@@ -239,13 +246,13 @@ tells_of_new message said old n failed ended taken h =
 module _ (keeps : Folder → Type 0) (words : List (List ℕ)) (a : Answer) (drove : Drove keeps words a) (folder : Folder)
     (kept : keeps folder) (path : List ℕ) where
   pub runs_over : OneScript → ReadHasNoFlaw → (b : List ℕ) (unplanned : Bool) (ss : List Statement) → AsksFor words path unplanned false
-      → file_at folder path ≡ Some b → Reads b ss → RunsOver ss folder a
+      → file_at folder path ≡ Some b → Reads b ss → RunsOver b ss folder a
   runs_over one sound b unplanned ss asks at reads =
       runs keeps folder kept path unplanned a one sound b ss at reads drove.outcome
       (served keeps words path unplanned false asks a drove.outcome drove.comes) drove.status drove.tells
 
   pub shows_over : OneScript → ReadHasNoFlaw → (b : List ℕ) (unplanned : Bool) (ss : List Statement) → AsksFor words path unplanned true
-      → file_at folder path ≡ Some b → Reads b ss → ShowsOver unplanned ss a
+      → file_at folder path ≡ Some b → Reads b ss → ShowsOver unplanned b ss a
   shows_over one sound b unplanned ss asks at reads =
       shows_plan keeps folder kept path unplanned a one sound b ss at reads drove.outcome
       (served keeps words path unplanned true asks a drove.outcome drove.comes) drove.status drove.tells

@@ -1,12 +1,15 @@
 -- What a script comes to.
-use Rattle.std.proofs.Common.{◌≡◌, ℕ, List, Bool, true, false, Some, Ok, Err, subst, sym}
+use Rattle.std.proofs.Common.{◌≡◌, ◌≢◌, ℕ, List, Bool, true, false, Some, Ok, Err, subst, sym}
 use Rattle.std.specs.Prelude.{IfOk, IfErr, OnErr, Result}
 use Rattle.cord_io.specs.Device.{Folder, file_at}
 use Rattle.cord_meaning.specs.Ends.{Counts, FilesKept, NamesCause}
 use Rattle.cord_meaning.specs.declared.ends.End.{End}
 use Rattle.cord_run.specs.Runs.{Runs, NothingCalled}
+use Rattle.cord_script.specs.Flaws.{Flaw}
+use Rattle.cord_script.specs.Script.{ReadsUpTo}
 use Rattle.cord_script.specs.declared.refusals.Refusal.{Refusal}
-use Rattle.cord_shell.specs.Drives.{IsRun, IsShown, IsWrong, Serves}
+use Rattle.cord_script.specs.declared.refusals.RefusalKind.TheVariants.{NoMemory}
+use Rattle.cord_shell.specs.Drives.{IsRun, IsShown, Serves}
 use Rattle.cord_shell.specs.Outcomes.{outcome_of}
 use Rattle.cord_shell.specs.Tells.{sink_of}
 use Rattle.cord_shell.specs.declared.outcome.Outcome.{Outcome}
@@ -15,9 +18,10 @@ use Rattle.cord_shell.specs.declared.outcome.Outcome.TheVariants as outcomes
 -- what a run answers
 pub answered : (keeps : Folder → Type 0) (b before after : List ℕ) (n : Counts) (r : Result End Refusal)
     → IfOk r (Runs b keeps before after n) → IfOk r (NamesCause n)
-    → OnErr r (after ≡ before) → OnErr r (NothingCalled n) → IfErr r (IsWrong b) → IsRun keeps b before after n (outcome_of r)
-answered keeps b before after n (Ok end_) runs cause same unasked wrong = (runs, cause)
-answered keeps b before after n (Err refusal) runs cause same unasked wrong = (((same, unasked.1, unasked.2), unasked.0), wrong)
+    → OnErr r (after ≡ before) → OnErr r (NothingCalled n) → IfErr r (λ x. x.kind ≢ NoMemory → Flaw b x.line x.kind)
+    → IfErr r (λ x. x.kind ≡ NoMemory → ReadsUpTo b x.line) → IsRun keeps b before after n (outcome_of r)
+answered keeps b before after n (Ok end_) runs cause same unasked flaw at = (runs, cause)
+answered keeps b before after n (Err refusal) runs cause same unasked flaw at = (((same, unasked.1, unasked.2), unasked.0), (flaw, at))
 
 module _ (keeps : Folder → Type 0) (path : List ℕ) (unplanned : Bool) (b before after : List ℕ) where
   module _ (n : Counts) (at : (folder : Folder) → keeps folder → file_at folder path ≡ Some b) where

@@ -2,7 +2,7 @@
 use Rattle.std.specs.Prelude.{◌≡◌, ◌≢◌, ℕ, List, Some, None, Bool, true, false}
 use Rattle.cord_io.specs.Device.{Folder, file_at, raised}
 use Rattle.cord_script.specs.Flaws.{Flaw}
-use Rattle.cord_script.specs.Script.{Reads}
+use Rattle.cord_script.specs.Script.{Reads, ReadsUpTo}
 use Rattle.cord_script.specs.declared.refusals.Refusal.{Refusal}
 use Rattle.cord_script.specs.declared.refusals.RefusalKind.TheVariants.{NoMemory}
 use Rattle.cord_syntax.specs.declared.statements.Statement.{Statement}
@@ -30,9 +30,10 @@ IsPlanText unplanned b text = (statements : List Statement) × Reads b statement
 abbrev pub IsQuiet : List ℕ → List ℕ → Counts → Type 0
 IsQuiet before after n = IsUntouched before after (sink_of n) × FilesKept n
 
--- the bytes are wrong so; want of memory says nothing of them
+-- the bytes are wrong so; or memory was refused, at the line that was being read
 abbrev pub IsWrong : List ℕ → Refusal → Type 0
-IsWrong b refusal = refusal.kind ≢ NoMemory → Flaw b refusal.line refusal.kind
+IsWrong b refusal =
+    (refusal.kind ≢ NoMemory → Flaw b refusal.line refusal.kind) × (refusal.kind ≡ NoMemory → ReadsUpTo b refusal.line)
 
 -- what a run of the script of these bytes comes to, over each folder that the files keep after it
 abbrev pub IsRun : (Folder → Type 0) → List ℕ → List ℕ → List ℕ → Counts → Outcome → Type 0

@@ -10,6 +10,7 @@ use Rattle.cord_meaning.specs.declared.ends.FaultKind.TheVariants.{NoFile}
 use Rattle.cord_plan.specs.Planned.{Operation}
 use Rattle.cord_plan.specs.Shown.{shown}
 use Rattle.cord_script.specs.Refusals.{text_of}
+use Rattle.cord_script.specs.Script.{ReadsUpTo}
 use Rattle.cord_script.specs.declared.refusals.Refusal.{Refusal}
 use Rattle.cord_syntax.specs.declared.statements.Statement.{Statement}
 use Rattle.cord_shell.specs.Drives.{IsPlan, IsQuiet, IsWrong}
@@ -50,22 +51,31 @@ err_counts_of a = record { failed_before = 0; failed_after = a.err.failures; end
 abbrev pub AnswersEnd : Answer → End → Type 0
 AnswersEnd a told = (a.status ≡ status_of_end told) × Tells [] a.err.taken (err_counts_of a) (message_of_end told)
 
--- nothing was run and nothing is out: memory was refused, or the script can't be opened or read, whose count rose
-abbrev pub StopsBefore : Answer → End → Type 0
-StopsBefore a (NoMemory line) = IsQuiet [] a.out.taken (counts_of a)
-StopsBefore a (ReadFailed line) =
+-- nothing was run and nothing is out: memory was refused at a line that may be told, or the script can't be opened or read, whose
+-- count rose
+abbrev pub StopsBefore : (ℕ → Type 0) → Answer → End → Type 0
+StopsBefore MayTell a (NoMemory line) = MayTell line × IsQuiet [] a.out.taken (counts_of a)
+StopsBefore MayTell a (ReadFailed line) =
     (line ≡ 0) × IsUntouched [] a.out.taken (sink_of (counts_of a)) × ((counts_of a).files_after ≡ raised (counts_of a).files_before)
-StopsBefore a _ = ⊥
+StopsBefore MayTell a _ = ⊥
+
+-- no line
+abbrev pub IsNoLine : ℕ → Type 0
+IsNoLine line = line ≡ 0
+
+-- no line, or the line of these bytes that was being read
+abbrev pub IsReadingAt : List ℕ → ℕ → Type 0
+IsReadingAt b line = IsNoLine line ⊎ ReadsUpTo b line
 
 abbrev pub IsStopped : Answer → Type 0
-IsStopped a = (told : End) × AnswersEnd a told × StopsBefore a told
+IsStopped a = (told : End) × AnswersEnd a told × StopsBefore IsNoLine a told
 
--- the script was run, and its end, which status and line tell, is honest: all that it puts over the folder is out and the end is
--- the script's own, or a prefix of it is out and the end is the cause that came; or it was stopped before
-pub record RunsOver (statements : List Statement) (folder : Folder) (a : Answer) : Type 0 where
+-- the script of these bytes was run, and its end, which status and line tell, is honest: all that it puts over the folder is out and
+-- the end is the script's own, or a prefix of it is out and the end is the cause that came; or it was stopped before
+pub record RunsOver (b : List ℕ) (statements : List Statement) (folder : Folder) (a : Answer) : Type 0 where
   pub told : End
   pub answers : AnswersEnd a told
-  pub honest : EndsHonestly statements folder [] a.out.taken (counts_of a) told ⊎ StopsBefore a told
+  pub honest : EndsHonestly statements folder [] a.out.taken (counts_of a) told ⊎ StopsBefore (IsReadingAt b) a told
 
 -- the text of a plan is out, or a prefix of it where standard output failed
 abbrev pub IsOut : List ℕ → Answer → End → Type 0
@@ -73,14 +83,15 @@ IsOut text a Done = IsWritten text [] a.out.taken (sink_of (counts_of a))
 IsOut text a (WriteFailed line) = (line ≡ 0) × IsCut text [] a.out.taken (sink_of (counts_of a))
 IsOut text a _ = ⊥
 
--- the plan of the script was shown and nothing was run; or it was stopped before
-pub record ShowsOver (unplanned : Bool) (statements : List Statement) (a : Answer) : Type 0 where
+-- the plan of the script of these bytes was shown and nothing was run; or it was stopped before
+pub record ShowsOver (unplanned : Bool) (b : List ℕ) (statements : List Statement) (a : Answer) : Type 0 where
   pub told : End
   pub answers : AnswersEnd a told
   pub shows : ((operations : List Operation) × IsPlan unplanned statements operations × IsOut (shown operations) a told) ⊎
-      StopsBefore a told
+      StopsBefore (IsReadingAt b) a told
 
--- nothing is out, and status and line tell what is wrong with the bytes first, or want of memory; or it was stopped before
+-- nothing is out, and status and line tell what is wrong with the bytes first, or want of memory at the line that was being read; or
+-- it was stopped before
 abbrev pub RefusesOver : List ℕ → Answer → Type 0
 RefusesOver b a =
     ((refusal : Refusal) × IsWrong b refusal × (a.status ≡ status_of_refusal refusal.kind)

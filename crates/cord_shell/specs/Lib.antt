@@ -3,4 +3,5 @@ pub mod Outcomes
 pub mod Tells
 pub mod Drives
 pub mod Headline
+pub mod Drove
 pub mod inner

@@ -1,3 +1,2 @@
-pub mod Drove
 pub mod Files
 pub mod Sinks

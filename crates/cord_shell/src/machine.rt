@@ -7,8 +7,8 @@ ghost use Rattle.cord_io.specs.Told.{Agrees};
 ghost use Rattle.cord_script.specs.Script.{Reads};
 ghost use Rattle.cord_syntax.specs.declared.statements.Statement.{Statement};
 ghost use Rattle.cord_shell.specs.CommandLine.{AsksFor};
+ghost use Rattle.cord_shell.specs.Drove.{Drove};
 ghost use Rattle.cord_shell.specs.Headline.{Answer, MissesOver, RefusesOver, RunsOver, ShowsOver, stream};
-ghost use Rattle.cord_shell.specs.inner.Drove.{Drove};
 
 use crate::program::drive;
 use cord_io::{DiskFiles, Files, Sink, StdSink};
@@ -35,6 +35,9 @@ pub struct Ran<R: rt::Files, O, E> {
 /// `[--unplanned] [--show-plan] SCRIPT`, as clap reads them. It is judged by what the machine told: by each folder with
 /// which all answers of the machine's files agree, and by the bytes that the streams told they took.
 ///
+/// `drove`: whatever the words are, and though no folder agrees, the status, the output and the line on standard error
+/// are those of one of the things that the words can come to: help, a refused command line, a script that is run, shown,
+/// refused, missing or can't be read, or want of memory. It is what `drive` says.
 /// `run`: where the bytes at SCRIPT are read as a script, the script is run. Standard output took exactly the bytes
 /// that the script puts over the folder, and the status and the line on standard error are those of the script's end.
 /// Or it took a prefix of those bytes, and they are those of the cause that came: a failed read, a failed write, or
@@ -52,10 +55,16 @@ pub fn run_on_machine<R: rt::Files, O: Write, E: Write>(
 ) -> Ran<R, O, E>
 where
     R::File: FileExt,
+    ensures drove { Drove (λ folder. Agrees folder (told_by result.files)) (map string_bytes words.now) (record {
+      status = result.status;
+      files_failed = ⟦<DiskFiles<R> as Files>⟧.failures result.files;
+      out = stream ⟦<StdSink<O> as Sink>⟧ result.out;
+      err = stream ⟦<StdSink<E> as Sink>⟧ result.err;
+    }) }
     ensures run { (folder : Folder) → Agrees folder (told_by result.files) →
         (path b : List ℕ) (unplanned : Bool) (statements : List Statement) →
         AsksFor (map string_bytes words.now) path unplanned false → file_at folder path ≡ Some b → Reads b statements →
-        RunsOver statements folder (record {
+        RunsOver b statements folder (record {
           status = result.status;
           files_failed = ⟦<DiskFiles<R> as Files>⟧.failures result.files;
           out = stream ⟦<StdSink<O> as Sink>⟧ result.out;
@@ -64,7 +73,7 @@ where
     ensures shown { (folder : Folder) → Agrees folder (told_by result.files) →
         (path b : List ℕ) (unplanned : Bool) (statements : List Statement) →
         AsksFor (map string_bytes words.now) path unplanned true → file_at folder path ≡ Some b → Reads b statements →
-        ShowsOver unplanned statements (record {
+        ShowsOver unplanned b statements (record {
           status = result.status;
           files_failed = ⟦<DiskFiles<R> as Files>⟧.failures result.files;
           out = stream ⟦<StdSink<O> as Sink>⟧ result.out;

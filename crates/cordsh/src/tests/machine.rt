@@ -97,6 +97,18 @@ fn real_script(rt: HostRuntime) {
     expect_run(&rt, &[path], 2, b"", missing);
 }
 
+// Words that are refused, and words that ask for help, over the machine.
+#[test]
+fn words_over_the_machine(rt: HostRuntime) {
+    let refused = b"cordsh: bad command line\n";
+    expect_run(&rt, &["--nope", "cordsh_test_words"], 2, b"", refused);
+    expect_run(&rt, &[], 2, b"", refused);
+    let mut out: Vec<u8> = Vec::new(rt.alloc());
+    let (status, err) = run_over(&rt, &["--help"], &mut out);
+    assert!(rt; status == 0 && err.is_empty());
+    assert!(rt; out.starts_with(b"Usage: cordsh [OPTIONS] <SCRIPT>\n"));
+}
+
 // A real script over a real file of several blocks.
 #[test]
 fn real_file(rt: HostRuntime) {

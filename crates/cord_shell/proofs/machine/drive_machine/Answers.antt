@@ -7,7 +7,7 @@ use Rattle.cord_meaning.specs.Ends.{Counts}
 use Rattle.cord_shell.specs.Headline.{Answer}
 use Rattle.cord_shell.specs.Outcomes.{message_of}
 use Rattle.cord_shell.specs.Tells.{SinkCounts}
-use Rattle.cord_shell.specs.inner.Drove.{Drove}
+use Rattle.cord_shell.specs.Drove.{Drove}
 use Rattle.cord_shell.proofs.Headline.{comes_of_new, tells_of_new}
 use Rattle.cord_shell.proofs.machine.drive_machine.Given.{Over}
 use Rattle.cord_shell.proofs.machine.drive_machine.Goals as goal

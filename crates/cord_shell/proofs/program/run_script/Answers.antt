@@ -9,7 +9,7 @@ returns-then-unplanned-clause-run g c =
     let told = run.ensures.told in
     let counts = counts_over g.F.Files sink c.args.files run.result.1 c.args.out.now run.new.sink in
     rw c.of_run.ensures (answered (g.F.Files.keeps run.result.1) c.args.script.now (sink.taken c.args.out.now)
-    (sink.taken run.new.sink) counts run.result.0 told.run told.cause told.refused told.unasked told.flaw)
+    (sink.taken run.new.sink) counts run.result.0 told.run told.cause told.refused told.unasked told.flaw told.no_memory)
 
 pub returns-else-unplanned-clause-run : goal.returns-else-unplanned-clause-run
 returns-else-unplanned-clause-run g c =
@@ -18,4 +18,4 @@ returns-else-unplanned-clause-run g c =
     let told = run.ensures.told in
     let counts = counts_over g.F.Files sink c.args.files run.result.1 c.args.out.now run.new.sink in
     rw c.of_run-else-unplanned.ensures (answered (g.F.Files.keeps run.result.1) c.args.script.now (sink.taken c.args.out.now)
-    (sink.taken run.new.sink) counts run.result.0 told.run told.cause told.refused told.unasked told.flaw)
+    (sink.taken run.new.sink) counts run.result.0 told.run told.cause told.refused told.unasked told.flaw told.no_memory)
