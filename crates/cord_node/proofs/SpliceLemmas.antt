@@ -1,7 +1,7 @@
 -- One text in the place of a range of another.
 use Rattle.std.proofs.Common.{◌≡◌, ℕ, ◌+◌, ◌-◌, ◌≤◌, List, [], ◌∷◌, ◌++◌, map, length, take, drop}
 use Rattle.std.proofs.Common.{refl, arith, ◌∙◌, sym, ap, subst, append_assoc}
-use Rattle.std.proofs.Common.{length-drop, append-nil}
+use Rattle.std.proofs.Common.{length-drop, length-append, append-nil}
 use Rattle.std.specs.Prelude.{max, Option, Some}
 use Rattle.std.proofs.lemmas.List.{take-append-le, drop-append-le, take_all, drop_all, map-append, take-map, drop-map}
 use Rattle.cord_node.specs.declared.Node.{Node}
@@ -9,10 +9,12 @@ use Rattle.cord_node.specs.declared.Node.TheVariants.{Leaf, Run, Func, Cat'}
 use Rattle.cord_node.specs.declared.TheConstants.{SMALL_LEN}
 use Rattle.cord_node.specs.Tree.{Cell, known, cells, len_of, depth_of, IsSound}
 use Rattle.cord_node.specs.Kept.{Part, leaf_part, parts, AreFrom, Kept}
+use Rattle.cord_node.specs.Touched.{touched, AtMostOneMore}
 use Rattle.cord_node.specs.Splices.{some_cells, some_len, some_depth, some_parts, IsSomeSound}
 use Rattle.cord_node.specs.Splices.{LeftTakes, RightTakes, BothTake, AreSpliced, AreSides, IsSplice}
 use Rattle.cord_node.proofs.KeptLemmas.{IsFrom-small, AreFrom-append, AreFrom-append_left, AreFrom-append_right}
 use Rattle.cord_node.proofs.KeptLemmas.{AreFrom-self, AreFrom-trans}
+use Rattle.cord_node.proofs.TouchedLemmas.{touched_around}
 use Rattle.cord_node.proofs.Ranges.{take-append_right, drop-append_right}
 use Rattle.cord_node.proofs.TreeLemmas.{length-cells}
 
@@ -42,9 +44,12 @@ pub replaced_is : (from until end : ℕ) (middle : Option Node) (old : Node) (fr
     some_depth front ≤ depth_of old → some_depth back ≤ depth_of old →
     some_depth all ≤ max (max (some_depth front) (some_depth middle)) (some_depth back) + 2 →
     AreFrom (some_parts front) (parts old) → AreFrom (some_parts back) (parts old) →
-    AreFrom (some_parts all) (some_parts front ++ some_parts middle ++ some_parts back) → IsSplice from until middle old new
+    AreFrom (some_parts all) (some_parts front ++ some_parts middle ++ some_parts back) →
+    length (some_parts front) ≤ touched 0 from (parts old) → length (some_parts back) ≤ touched until end (parts old) →
+    length (some_parts all) ≤ length (some_parts front) + length (some_parts middle) + length (some_parts back) → from ≤ until →
+    IsSplice from until middle old new
 replaced_is from until end middle old front back all new sound inside last is s t_front t_back t l_front l_back l d_front d_back d f_front
-    f_back f =
+    f_back f n_front n_back n order =
     let zero : from - 0 ≡ from = omega arith in
     let long : length (drop until (cells old)) ≤ end - until =
     rw (length-drop until (cells old), length-cells old sound) (omega (arith, last)) in
@@ -52,6 +57,7 @@ replaced_is from until end middle old front back all new sound inside last is s 
     let start : some_cells front ≡ take from (cells old) = t_front ∙ ap (λ (k : ℕ). take k (cells old)) zero in
     let len_is : some_len all ≡ len_of new = ap some_len is in
     let depth_is : some_depth all ≡ depth_of new = ap some_depth is in
+    let parts_are : length (some_parts all) ≡ length (parts new) = ap (λ (o : Option Node). length (some_parts o)) is in
     let come : AreFrom (some_parts all) (parts old ++ some_parts middle) =
     AreFrom-trans (some_parts all) (some_parts front ++ some_parts middle ++ some_parts back) (parts old ++ some_parts middle) f
     (AreFrom-append (some_parts front ++ some_parts middle) (some_parts back) (parts old ++ some_parts middle)
@@ -63,6 +69,7 @@ replaced_is from until end middle old front back all new sound inside last is s 
       len = omega (arith, len_is, l, l_front, l_back, last);
       depth = omega (arith, depth_is, d, d_front, d_back);
       from_there = subst (λ o. AreFrom (some_parts o) (parts old ++ some_parts middle)) is come;
+      few = omega (arith, parts_are, n, n_front, n_back, touched_around from until end (parts old) order);
     }
 
 -- one short leaf of known bytes
@@ -78,6 +85,7 @@ short_is from until middle old new bytes inner whole count order inside t l m k 
   len = omega (arith, len, c, l, k);
   depth = omega (arith, d);
   from_there = rw p (IsFrom-small (leaf_part whole 0 count) (parts old ++ some_parts middle) small, tt);
+  few = rw p (omega arith);
 }
 
 -- a node that is the text of one and then that of another
@@ -96,6 +104,7 @@ pub record IsJoined (left right node : Node) : Type 0 where
   pub len : len_of node ≡ len_of left + len_of right
   pub depth : depth_of node ≤ max (depth_of left) (depth_of right) + 1
   pub from_there : AreFrom (parts node) (parts left ++ parts right)
+  pub no_more : length (parts node) ≤ length (parts left ++ parts right)
 
 -- the parts of a side and of the middle are among all
 from_left : (left right middle ps : List Part) → AreFrom ps (left ++ middle) → AreFrom ps (left ++ right ++ middle)
@@ -109,6 +118,11 @@ from_right left right middle ps h = AreFrom-trans ps (right ++ middle) (left ++ 
     (AreFrom-append right middle (left ++ right ++ middle)
     (AreFrom-append_left right (left ++ right) middle (AreFrom-append_right right left right (AreFrom-self right)))
     (AreFrom-append_right middle (left ++ right) middle (AreFrom-self middle)))
+
+-- the number of parts of two sides
+few_sides : (left right middle ps qs : List Part) → length ps + length qs ≤ length left + length right + length middle + 1 →
+    AtMostOneMore (left ++ right) middle (ps ++ qs)
+few_sides left right middle ps qs h = omega (arith, length-append left right, length-append ps qs)
 
 -- the left side was changed
 pub left_changed : (from until : ℕ) (middle : Option Node) (left right changed : Node) → from ≤ until → IsSound left → IsSound right →
@@ -129,6 +143,7 @@ left_changed from until middle left right changed order a b takes i =
           (from_left (parts left) (parts right) (some_parts middle) (parts changed) i.from_there)
           (from_right (parts left) (parts right) (some_parts middle) (parts right)
           (AreFrom-append_left (parts right) (parts right) (some_parts middle) (AreFrom-self (parts right))));
+      few = few_sides (parts left) (parts right) (some_parts middle) (parts changed) (parts right) (omega (arith, i.few));
     }
 
 -- the right side was changed
@@ -158,6 +173,7 @@ right_changed from until middle left right changed order a b takes i =
           (from_left (parts left) (parts right) (some_parts middle) (parts left)
           (AreFrom-append_left (parts left) (parts left) (some_parts middle) (AreFrom-self (parts left))))
           (from_right (parts left) (parts right) (some_parts middle) (parts changed) i.from_there);
+      few = few_sides (parts left) (parts right) (some_parts middle) (parts left) (parts changed) (omega (arith, i.few));
     }
 
 -- both sides were changed
@@ -190,6 +206,7 @@ both_changed from until middle left right changed rest order a b takes i s t l d
           (from_left (parts left) (parts right) (some_parts middle) (parts changed) i.from_there)
           (from_right (parts left) (parts right) (some_parts middle) (parts rest)
           (AreFrom-append_left (parts rest) (parts right) (some_parts middle) k.from_there));
+      few = few_sides (parts left) (parts right) (some_parts middle) (parts changed) (parts rest) (omega (arith, i.few, k.no_more));
     }
 
 -- the same, where the lengths are told
@@ -236,9 +253,10 @@ joined_spliced from until middle old old_left old_right left right new s sides i
       depth = omega (arith, joined.depth, i.depth, a.depth);
       from_there = rw a.parts_are (AreFrom-trans (parts new) (parts left ++ parts right)
           (parts old_left ++ parts old_right ++ some_parts middle) joined.from_there i.from_there);
+      few = rw a.parts_are (omega (arith, joined.no_more, i.few));
     }
 
 -- what `join` says of its result
 pub join_is : (left right new : Node) → IsSound new → cells new ≡ cells left ++ cells right → len_of new ≡ len_of left + len_of right →
     depth_of new ≤ max (depth_of left) (depth_of right) + 1 → Kept (parts left ++ parts right) (parts new) → IsJoined left right new
-join_is left right new s t l d k = record { sound = s; text = t; len = l; depth = d; from_there = k.from_there }
+join_is left right new s t l d k = record { sound = s; text = t; len = l; depth = d; from_there = k.from_there; no_more = k.no_more }

@@ -7,6 +7,7 @@ use Rattle.cord_node.specs.declared.Node.{Node}
 use Rattle.cord_node.specs.declared.Node.TheVariants.{Leaf, Run, Func, Cat'}
 use Rattle.cord_node.specs.Tree.{Cell, cells, len_of, depth_of, IsSound}
 use Rattle.cord_node.specs.Kept.{Part, parts, AreFrom}
+use Rattle.cord_node.specs.Touched.{AtMostOneMore}
 
 -- the node behind a handle, where there is one
 abbrev pub node_in : {Z : Type 0} → Option (Rc Node Z) → Option Node
@@ -84,6 +85,7 @@ pub record AreSpliced (from until : ℕ) (middle : Option Node) (old_left old_ri
   pub len : len_of left + len_of right ≡ from + some_len middle + (len_of old_left + len_of old_right - until)
   pub depth : max (depth_of left) (depth_of right) ≤ max (max (depth_of old_left) (depth_of old_right) + 1) (some_depth middle) + 1
   pub from_there : AreFrom (parts left ++ parts right) (parts old_left ++ parts old_right ++ some_parts middle)
+  pub few : AtMostOneMore (parts old_left ++ parts old_right) (some_parts middle) (parts left ++ parts right)
 
 -- the range lies inside the node, something is left, and the result is neither too long nor too deep
 pub record IsEditable (from until : ℕ) (middle : Option Node) (node : Node) : Type 0 where
@@ -102,3 +104,4 @@ pub record IsSplice (from until : ℕ) (middle : Option Node) (old new : Node) :
   pub len : len_of new ≡ from + some_len middle + (len_of old - until)
   pub depth : depth_of new ≤ max (depth_of old) (some_depth middle) + 2
   pub from_there : AreFrom (parts new) (parts old ++ some_parts middle)
+  pub few : AtMostOneMore (parts old) (some_parts middle) (parts new)

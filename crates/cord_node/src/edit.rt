@@ -2,6 +2,7 @@
 ghost use Rattle.std.specs.Prelude.{◌≡◌, ◌≢◌, ℕ, ◌+◌, ◌-◌, ◌<◌, ◌≤◌, ◌++◌, max, true, IfOk, IsErr, take, drop};
 ghost use Rattle.cord_node.specs.Tree.{cells, len_of, depth_of, IsSound};
 ghost use Rattle.cord_node.specs.Kept.{parts, AreFrom};
+ghost use Rattle.cord_node.specs.Touched.{AtMostOneMore};
 ghost use Rattle.cord_node.specs.Splices.{node_in, some_cells, some_len, some_depth, some_parts, IsSomeSound};
 ghost use Rattle.cord_node.specs.Splices.{Takes, LeftTakes, RightTakes, BothTake, SidesAre};
 ghost use Rattle.cord_node.specs.Splices.{is_cat, AreSides, AreSpliced, IsEditable, IsSplice};
@@ -156,7 +157,8 @@ fn sides_of(node: &Node) -> Result<(Rc<Node>, Rc<Node>), AllocError>
 /// Puts `middle` in the place of the bytes from `from` up to `until`. A node that nobody else holds is changed in its
 /// place, and of one that is shared a new one is made, so what others hold stays. On the way down to the part that is
 /// changed a node costs constant time, and no memory where it is changed in its place. The range lies inside the node,
-/// 1 to `MAX_LEN` bytes are left, and two plus the greater depth is at most `MAX_DEPTH`.
+/// 1 to `MAX_LEN` bytes are left, and two plus the greater depth is at most `MAX_DEPTH`. At most one part is cut in
+/// two, so there are no more parts than those of both and one.
 /// Refused where memory was refused: then nothing was changed.
 pub fn splice(
     alloc: Global,
@@ -182,6 +184,8 @@ pub fn splice(
         ≤ max (depth_of node.old.value) (some_depth (node_in middle.now)) + 2) }
     ensures from_there { IfOk result (λ _. AreFrom (parts node.new.value)
         (parts node.old.value ++ some_parts (node_in middle.now))) }
+    ensures few { IfOk result (λ _. AtMostOneMore (parts node.old.value) (some_parts (node_in middle.now))
+        (parts node.new.value)) }
     ensures unchanged { IsErr result → node.new.value ≡ node.old.value }
 {
     splice_node(alloc, node, from, until, middle)?;

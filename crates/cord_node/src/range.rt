@@ -3,6 +3,7 @@ ghost use Rattle.std.specs.Prelude.{◌≡◌, ◌+◌, ◌<◌, ◌≤◌, [], 
 ghost use Rattle.std.specs.Rc.{rc_slice_items};
 ghost use Rattle.cord_node.specs.Tree.{cells, known, len_of, depth_of, IsSound};
 ghost use Rattle.cord_node.specs.Kept.{parts, leaf_part, Kept};
+ghost use Rattle.cord_node.specs.Touched.{touched};
 
 use crate::make::leaf_range;
 use crate::{Node, func, join, run};
@@ -32,7 +33,8 @@ fn shared_range(
 }
 
 /// The `count` bytes from `from` on, at least one: whole sides and the bytes of leaves are shared, and
-/// a new concatenation is made only where the range goes over the seam of one. Refused where memory was refused.
+/// a new concatenation is made only where the range goes over the seam of one. No more parts than those that have a
+/// byte in the range. Refused where memory was refused.
 pub fn sub_node(
     alloc: Global,
     node: &Rc<Node>,
@@ -47,6 +49,7 @@ pub fn sub_node(
     ensures len { IfOk result (λ part. len_of part.value ≡ count) }
     ensures depth { IfOk result (λ part. depth_of part.value ≤ depth_of node.now.value) }
     ensures kept { IfOk result (λ part. Kept (parts node.now.value) (parts part.value)) }
+    ensures few { IfOk result (λ part. length (parts part.value) ≤ touched from (from + count) (parts node.now.value)) }
 {
     if count == node.len() {
         return node.clone();

@@ -3,6 +3,7 @@ ghost use Rattle.std.specs.Prelude.{◌≡◌, ℕ, ◌+◌, ◌-◌, ◌<◌, �
 ghost use Rattle.std.specs.Prelude.{IfOk, IfSome};
 ghost use Rattle.cord_node.specs.Tree.{cells, known, len_of, depth_of, IsSound};
 ghost use Rattle.cord_node.specs.Kept.{parts, leaf_part, AreFrom};
+ghost use Rattle.cord_node.specs.Touched.{touched};
 ghost use Rattle.cord_node.specs.Splices.{node_in, some_cells, some_len, some_depth, some_parts, IsSomeSound, IsSplice};
 
 use crate::{Node, SMALL_LEN, join, leaf, sub_node};
@@ -27,6 +28,7 @@ fn range_of(
     ensures depth { IfOk result (λ part. some_depth (node_in part) ≤ depth_of node.now.value) }
     ensures from_there { IfOk result (λ part. AreFrom (some_parts (node_in part))
         (parts node.now.value)) }
+    ensures few { IfOk result (λ part. length (some_parts (node_in part)) ≤ touched from until (parts node.now.value)) }
 {
     if from == until {
         return Ok(None);
@@ -69,6 +71,8 @@ fn joined(
         ≤ max (some_depth (node_in left.now)) (some_depth (node_in right.now)) + 1) }
     ensures from_there { IfOk result (λ both. AreFrom (some_parts (node_in both))
         (some_parts (node_in left.now) ++ some_parts (node_in right.now))) }
+    ensures few { IfOk result (λ both. length (some_parts (node_in both))
+        ≤ length (some_parts (node_in left.now)) + length (some_parts (node_in right.now))) }
 {
     let (Some(a), Some(b)) = (left, right) else {
         let one = if left.is_some() {
@@ -233,6 +237,8 @@ fn joined_three(
         (some_depth (node_in back.now)) + 2) }
     ensures from_there { IfOk result (λ all. AreFrom (some_parts (node_in all))
         (some_parts (node_in front.now) ++ some_parts (node_in middle.now) ++ some_parts (node_in back.now))) }
+    ensures few { IfOk result (λ all. length (some_parts (node_in all)) ≤ length (some_parts (node_in front.now))
+        + length (some_parts (node_in middle.now)) + length (some_parts (node_in back.now))) }
 {
     if some_merged(middle, back) {
         let back = joined(alloc, middle, back)?;

@@ -1,8 +1,11 @@
-use Rattle.std.proofs.Common.{arith}
+use Rattle.std.proofs.Common.{◌≡◌, arith, length}
 use Rattle.std.proofs.lemmas.Grind.{common_steps}
 use Rattle.std.proofs.lemmas.Result.{IfOk-weaker}
+use Rattle.cord_node.specs.Tree.{len_of, IsSound}
+use Rattle.cord_node.specs.Kept.{parts}
 use Rattle.cord_node.proofs.KeptLemmas.{Kept_same, Kept-left, Kept-right, Kept-join}
 use Rattle.cord_node.proofs.Ranges.{range_whole, range_left, range_right, range_both}
+use Rattle.cord_node.proofs.TouchedLemmas.{touched_left, touched_right, touched_both, touched_by_all}
 use Rattle.cord_node.proofs.TreeLemmas.{range_of_leaf, range_of_run, range_of_func, length-cells}
 use Rattle.cord_node.proofs.range.+sub_node.Goals as goal
 
@@ -42,3 +45,32 @@ returns-in_ok-right-in-Cat-clause-text t c = grind (arith, common_steps, range_b
 
 pub returns-then-count-len-clause-kept : goal.returns-then-count-len-clause-kept
 returns-then-count-len-clause-kept t c = grind (arith, common_steps, Kept_same)
+
+pub returns-then-count-len-clause-few : goal.returns-then-count-len-clause-few
+returns-then-count-len-clause-few t c = grind (arith, common_steps, touched_by_all)
+
+pub returns-then-from-count-clause-few : goal.returns-then-from-count-clause-few
+returns-then-from-count-clause-few t c =
+    let s : IsSound c.in-Cat.left.value = grind (arith, common_steps) in
+    rw (← c.as_ref.ensures, c.in-Cat.is)
+    (IfOk-weaker c.sub_node.result _ _ (λ part k. touched_left c.args.from c.args.count (length (parts part.value))
+    c.in-Cat.left.value c.in-Cat.right.value s k) c.sub_node.ensures.few)
+
+pub returns-then-middle-from-clause-few : goal.returns-then-middle-from-clause-few
+returns-then-middle-from-clause-few t c =
+    let s : IsSound c.in-Cat.left.value = grind (arith, common_steps) in
+    let seam : c.len-middle.result ≡ len_of c.in-Cat.left.value = grind (arith, common_steps) in
+    rw (← c.as_ref.ensures, c.in-Cat.is)
+    (IfOk-weaker c.sub_node-then-middle-from.result _ _ (λ part k. touched_right c.args.from c.args.count c.len-middle.result
+    (length (parts part.value)) c.in-Cat.left.value c.in-Cat.right.value s seam c.if-middle-from.true k)
+    c.sub_node-then-middle-from.ensures.few)
+
+pub returns-in_ok-right-in-Cat-clause-few : goal.returns-in_ok-right-in-Cat-clause-few
+returns-in_ok-right-in-Cat-clause-few t c =
+    let s : IsSound c.in-Cat.left.value = grind (arith, common_steps) in
+    let seam : c.len-middle.result ≡ len_of c.in-Cat.left.value = grind (arith, common_steps) in
+    rw (← c.as_ref.ensures, c.in-Cat.is)
+    (IfOk-weaker c.join.result _ _ (λ part k. touched_both c.args.from c.args.count c.len-middle.result (length (parts part.value))
+    c.in-Cat.left.value c.in-Cat.right.value (parts c.in_ok-left-in-Cat.left.value) (parts c.in_ok-right-in-Cat.right.value) s seam
+    c.if-middle-from.false c.if-from-count.false c.in_ok-left-in-Cat.ensures.few c.in_ok-right-in-Cat.ensures.few
+    k.no_more) c.join.ensures.kept)

@@ -12,3 +12,4 @@ returns c = replaced_is c.args.from c.args.until c.len.result (node_in c.args.mi
     (ap node_in c.in-Some-all.is) c.in_ok-all.ensures.sound c.in_ok-front.ensures.text c.in_ok-back.ensures.text c.in_ok-all.ensures.text
     c.in_ok-front.ensures.len c.in_ok-back.ensures.len c.in_ok-all.ensures.len c.in_ok-front.ensures.depth c.in_ok-back.ensures.depth
     c.in_ok-all.ensures.depth c.in_ok-front.ensures.from_there c.in_ok-back.ensures.from_there c.in_ok-all.ensures.from_there
+    c.in_ok-front.ensures.few c.in_ok-back.ensures.few c.in_ok-all.ensures.few c.requires.order
