@@ -5,7 +5,7 @@ use Rattle.cord_node.specs.declared.Node.{Node}
 use Rattle.cord_node.specs.Tree.{depth_of, joined_depth}
 use Rattle.cord_node.specs.Kept.{Kept}
 use Rattle.cord_balance.specs.Fib.{IsSlotOf}
-use Rattle.cord_core.specs.Cord.{text_len, depth, parts_of}
+use Rattle.cord_core.specs.Cord.{text_len, depth, parts_of, IsCord}
 use Rattle.cord_core.specs.Forms.{IsLeafOf}
 
 -- no deeper than its slot: nothing for the empty cord, which has depth 0
@@ -23,6 +23,7 @@ HasCatDepth (Some n) (Some m) c = (joined_depth n m ≤ MAX_DEPTH → depth c �
 -- c is the concatenation of x and of what `from_bytes` makes of the bytes, as its depth and its parts show
 pub record IsCatWithBytes (x : Option Node) (b : List ℕ) (c : Option Node) : Type 0 where
   pub tail : Option Node
+  pub sound : IsCord tail
   pub form : IsLeafOf b tail
   pub depth_is : HasCatDepth x tail c
   pub kept : Kept (parts_of x ++ parts_of tail) (parts_of c)

@@ -11,6 +11,7 @@ returns-clause-over c = appended_over c.args.cord.now c.in_ok-tail.tail c.in_ok-
 pub returns-clause-cat : goal.returns-clause-cat
 returns-clause-cat c = record {
   tail = c.in_ok-tail.tail;
+  sound = c.in_ok-tail.ensures.sound;
   form = c.in_ok-tail.ensures.form;
   depth_is = c.in_ok-cord.ensures.depth;
   kept = c.in_ok-cord.ensures.kept;
