@@ -1,10 +1,12 @@
 -- One text in the place of a range of another.
-use Rattle.std.proofs.Common.{◌≡◌, ℕ, ◌≤◌, List, ◌++◌, length, take, drop, refl, arith, ◌∙◌}
+use Rattle.std.proofs.Common.{◌≡◌, ℕ, ◌+◌, ◌≤◌, List, ◌++◌, length, take, drop, refl, arith, ◌∙◌}
 use Rattle.std.specs.Prelude.{min}
 use Rattle.std.proofs.lemmas.List.{take_min, drop_min}
-use Rattle.cord_node.specs.Kept.{Part, AreFrom}
+use Rattle.cord_node.specs.Kept.{Part, AreFrom, Kept}
+use Rattle.cord_node.specs.Touched.{touched, AtMostOneMore}
 use Rattle.cord_node.proofs.KeptLemmas.{AreFrom-append, AreFrom-append_left, AreFrom-append_right, AreFrom-self, AreFrom-trans}
 use Rattle.cord_node.proofs.SpliceLemmas.{AreFrom-both}
+use Rattle.cord_node.proofs.TouchedLemmas.{touched_around}
 
 -- the parts of three texts, one after the other
 pub joined_parts : (front middle back longer all : List Part) → AreFrom longer (front ++ middle) → AreFrom all (longer ++ back) →
@@ -31,6 +33,15 @@ old_parts old middle = AreFrom-append_left old old middle (AreFrom-self old)
 
 pub new_parts : (old middle : List Part) → AreFrom middle (old ++ middle)
 new_parts old middle = AreFrom-append_right middle old middle (AreFrom-self middle)
+
+-- how many parts there are where the first and the last are cut out of one
+pub cut_few : (from until count : ℕ) (old middle changed other front back all : List Part) → from ≤ until → Kept old changed →
+    Kept middle other → length front ≤ touched 0 (0 + from) changed → length back ≤ touched until (until + count) changed →
+    length all ≤ length front + length other + length back → AtMostOneMore old middle all
+cut_few from until count old middle changed other front back all order c o f b a =
+    let z : 0 + from ≡ from = omega arith in
+    let g : length front ≤ touched 0 from changed = rw z at f in
+    omega (arith, g, b, a, c.no_more, o.no_more, touched_around from until (until + count) changed order)
 
 -- the range that is cut off at the end of a text
 pub clamped_text : {X : Type 0} (xs middle all : List X) (start place limit len from cut until : ℕ) → length xs ≡ len → len ≤ limit →

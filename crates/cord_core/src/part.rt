@@ -1,6 +1,7 @@
 // Ranges of a cord, and the same text in a tree that isn't deep.
-ghost use Rattle.std.specs.Prelude.{◌≡◌, ℕ, ◌-◌, min, IfOk, IsOkUnless, take, drop};
+ghost use Rattle.std.specs.Prelude.{◌≡◌, ℕ, ◌+◌, ◌-◌, ◌≤◌, min, length, IfOk, IsOkUnless, take, drop};
 ghost use Rattle.cord_node.specs.Kept.{Kept};
+ghost use Rattle.cord_node.specs.Touched.{touched};
 ghost use Rattle.cord_core.specs.Cord.{text, text_len, parts_of, IsCord};
 ghost use Rattle.cord_core.specs.Depths.{IsInSlot};
 ghost use Rattle.cord_core.specs.Equations.{IsSubstring, IsSameText};
@@ -13,7 +14,8 @@ use std::alloc::Global;
 
 impl Cord {
     /// The bytes from `i` on, at most `n` of them: nothing where `i` is at or past the end. Whole subtrees and the
-    /// bytes of leaves are shared. Refused for want of memory alone.
+    /// bytes of leaves are shared. No more parts than those that have a byte in the range. Refused for want of memory
+    /// alone.
     #[tactic(auto, using(crate::proofs::CordLemmas::ranges))]
     pub fn substr(&self, alloc: Global, i: u64, n: u64) -> Result<Cord, CordError>
         ensures text { IfOk result (λ c. text c ≡ take n (drop i (text self.now))) }
@@ -21,6 +23,7 @@ impl Cord {
         ensures len { IfOk result (λ c. text_len c ≡ min n (text_len self.now - i)) }
         ensures sound { IfOk result IsCord }
         ensures kept { IfOk result (λ c. Kept (parts_of self.now) (parts_of c)) }
+        ensures few { IfOk result (λ c. length (parts_of c) ≤ touched i (i + n) (parts_of self.now)) }
         ensures refused { IsOkUnless result CordError.NoMemory }
     {
         let Some(node) = &self.root else {

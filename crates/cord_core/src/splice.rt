@@ -1,7 +1,8 @@
 // Edits of a cord.
-ghost use Rattle.std.specs.Prelude.{◌≡◌, ℕ, ◌+◌, ◌-◌, ◌<◌, ◌≤◌, ◌++◌, min, max, true, take, drop};
+ghost use Rattle.std.specs.Prelude.{◌≡◌, ℕ, ◌+◌, ◌-◌, ◌<◌, ◌≤◌, ◌++◌, min, max, true, length, take, drop};
 ghost use Rattle.std.specs.Prelude.{Err, IfOk, OnOk, IfErr, IsErr, IsOkUnless};
 ghost use Rattle.cord_node.specs.Kept.{AreFrom, Kept};
+ghost use Rattle.cord_node.specs.Touched.{AtMostOneMore};
 ghost use Rattle.cord_core.specs.Cord.{text, text_len, depth, parts_of, IsCord};
 ghost use Rattle.cord_core.specs.Equations.{IsSpliced};
 ghost use Rattle.cord_core.specs.Refusals.{IsRefusal};
@@ -13,7 +14,8 @@ use std::alloc::Global;
 
 impl Cord {
     /// Puts `middle` in the place of the `count` bytes from `start` on, of those that there are: from past the end on
-    /// there are none, and `middle` comes last. Other handles on the cord's tree keep their texts.
+    /// there are none, and `middle` comes last. There are no more parts than those of both and one, as at most one part
+    /// is cut in two. Other handles on the cord's tree keep their texts.
     /// `TooLong` where the text would be longer than `MAX_LEN`, `NoMemory` where memory was refused. After either the
     /// cord is as before.
     pub fn splice(
@@ -30,6 +32,7 @@ impl Cord {
             ≡ min start (text_len self.old) + text_len middle.now + (text_len self.old - (start + count))) }
         ensures sound { IfOk result (λ _. IsCord self.new) }
         ensures from_there { IfOk result (λ _. AreFrom (parts_of self.new) (parts_of self.old ++ parts_of middle.now)) }
+        ensures few { IfOk result (λ _. AtMostOneMore (parts_of self.old) (parts_of middle.now) (parts_of self.new)) }
         ensures unchanged { IsErr result → self.new ≡ self.old }
 
         ensures too_long { result ≡ Err CordError.TooLong → MAX_LEN
@@ -79,6 +82,7 @@ fn splice_tree(
         ≡ from + text_len middle.now + (text_len cord.old - until)) }
     ensures sound { IfOk result (λ _. IsCord cord.new) }
     ensures from_there { IfOk result (λ _. AreFrom (parts_of cord.new) (parts_of cord.old ++ parts_of middle.now)) }
+    ensures few { IfOk result (λ _. AtMostOneMore (parts_of cord.old) (parts_of middle.now) (parts_of cord.new)) }
     ensures unchanged { IsErr result → cord.new ≡ cord.old }
     ensures refused { IsOkUnless result CordError.NoMemory }
 {
@@ -130,6 +134,7 @@ fn spliced_balanced(
     ensures len { IfOk result (λ c. text_len c ≡ from + text_len middle.now + (text_len cord.now - until)) }
     ensures sound { IfOk result IsCord }
     ensures from_there { IfOk result (λ c. AreFrom (parts_of c) (parts_of cord.now ++ parts_of middle.now)) }
+    ensures few { IfOk result (λ c. AtMostOneMore (parts_of cord.now) (parts_of middle.now) (parts_of c)) }
     ensures refused { IsOkUnless result CordError.NoMemory }
 {
     let mut changed = shallow(alloc, cord)?;
@@ -152,6 +157,8 @@ fn joined(alloc: Global, front: &Cord, middle: &Cord, back: &Cord) -> Result<Cor
     ensures sound { IfOk result IsCord }
     ensures from_there { IfOk result (λ c. AreFrom (parts_of c)
         (parts_of front.now ++ parts_of middle.now ++ parts_of back.now)) }
+    ensures few { IfOk result (λ c. length (parts_of c)
+        ≤ length (parts_of front.now) + length (parts_of middle.now) + length (parts_of back.now)) }
     ensures refused { IsOkUnless result CordError.NoMemory }
 {
     let longer = Cord::cat(alloc, front, middle)?;
