@@ -3,11 +3,11 @@ use Rattle.cord_search.proofs.stretches.stretch_from.Goals as goal
 
 pub unreachable-requires : goal.unreachable-requires
 unreachable-requires c = ahead_some c.args.position.now.cord c.args.position.now.index c.args.place c.ahead.result c.requires.valid
-    c.requires.inside c.in_default.not-Some (rw (c.move_to.ensures.cord, c.move_to.ensures.index) at c.ahead.ensures)
+    c.requires.inside c.in_default.not-Some (rw (c.move_to.ensures.cord, c.move_to.ensures.index) at c.ahead.ensures.stretch)
 
 pub returns-clause-stretch : goal.returns-clause-stretch
 returns-clause-stretch c = ahead_there c.args.position.now.cord c.args.position.now.index c.args.place c.in-Some.stretch c.requires.valid
-    c.requires.inside (rw (c.in-Some.is, c.move_to.ensures.cord, c.move_to.ensures.index) at c.ahead.ensures)
+    c.requires.inside (rw (c.in-Some.is, c.move_to.ensures.cord, c.move_to.ensures.index) at c.ahead.ensures.stretch)
 
 pub returns-clause-valid : goal.returns-clause-valid
 returns-clause-valid c =

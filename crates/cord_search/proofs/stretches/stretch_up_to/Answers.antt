@@ -6,14 +6,14 @@ use Rattle.cord_search.proofs.stretches.stretch_up_to.Goals as goal
 pub unreachable-requires : goal.unreachable-requires
 unreachable-requires c = behind_some c.args.position.now.cord c.args.position.now.index (c.args.end - 1) c.behind.result c.requires.valid
     (omega (arith, c.requires.some, c.requires.inside)) c.in_default.not-Some
-    (rw (c.move_to.ensures.cord, c.move_to.ensures.index) at c.behind.ensures)
+    (rw (c.move_to.ensures.cord, c.move_to.ensures.index) at c.behind.ensures.stretch)
 
 pub returns-clause-inside : goal.returns-clause-inside
 returns-clause-inside c =
     let there : EndsAt c.args.position.now.cord (c.args.end - 1) c.in-Some.stretch =
     behind_there c.args.position.now.cord c.args.position.now.index (c.args.end - 1) c.in-Some.stretch c.requires.valid
     (omega (arith, c.requires.some, c.requires.inside))
-    (rw (c.in-Some.is, c.move_to.ensures.cord, c.move_to.ensures.index) at c.behind.ensures) in
+    (rw (c.in-Some.is, c.move_to.ensures.cord, c.move_to.ensures.index) at c.behind.ensures.stretch) in
     omega (arith, c.requires.some, there.inside)
 
 pub returns-clause-stretch : goal.returns-clause-stretch
@@ -21,7 +21,7 @@ returns-clause-stretch c =
     let there : EndsAt c.args.position.now.cord (c.args.end - 1) c.in-Some.stretch =
     behind_there c.args.position.now.cord c.args.position.now.index (c.args.end - 1) c.in-Some.stretch c.requires.valid
     (omega (arith, c.requires.some, c.requires.inside))
-    (rw (c.in-Some.is, c.move_to.ensures.cord, c.move_to.ensures.index) at c.behind.ensures) in
+    (rw (c.in-Some.is, c.move_to.ensures.cord, c.move_to.ensures.index) at c.behind.ensures.stretch) in
     ends_there c.args.position.now.cord c.args.end c.in-Some.stretch c.requires.some there
 
 pub returns-clause-valid : goal.returns-clause-valid
