@@ -47,8 +47,9 @@
 //! ```
 //!
 //! `put`, `to_vec`, `str`, `Position::fetch` and the other calls that look at the bytes of a cord ask that it fits the
-//! source that they are given, and some that a place lies inside it. A cord that `Sources` made fits them, as the clause `fits` of those
-//! calls says, and what `cat`, `substr` and the others make of cords that fit does too, by their clause `over`.
+//! source that they are given, and some that a place lies inside it. A cord that `Sources` made fits them, as the
+//! clause `fits` of those calls says, and what `cat`, `substr` and the others make of cords that fit does too, by their
+//! clause `over`.
 #![tactic(auto)]
 
 mod builder;

@@ -1,6 +1,6 @@
 // What stands where in a text.
-ghost use Rattle.std.specs.Prelude.{◌≡◌, ◌↔◌, ◌+◌, ◌<◌, ◌≤◌, [], ◌∷◌, IfOk, IfSome, IsOk, IsOkUnless, IsTrue, Some, length};
-ghost use Rattle.std.specs.Prelude.{drop, slice_get};
+ghost use Rattle.std.specs.Prelude.{◌≡◌, ◌↔◌, ◌+◌, ◌<◌, ◌≤◌, [], ◌∷◌, IfOk, IfSome, IsOk, IsOkUnless};
+ghost use Rattle.std.specs.Prelude.{IsTrue, Some, drop, length, slice_get};
 ghost use Rattle.cord_core.specs.Texts.{first};
 ghost use Rattle.cord.specs.Places.{last_before, BeginsWith, EndsWith};
 

@@ -15,8 +15,8 @@ const CHAR_LEN: usize = 4;
 
 /// `{:?}` is its length and its first 32 bytes, as `Text(11, b"hello world")`: two dots follow them where there are
 /// more.
-/// `{:#?}` is its length, and below it its tree in at most 100 lines: the form and the length of each node, of a join its
-/// depth too, and its two sides below it.
+/// `{:#?}` is its length, and below it its tree in at most 100 lines: the form and the length of each node, of a join
+/// its depth too, and its two sides below it.
 impl fmt::Debug for Text {
     fn fmt<W: fmt::Write>(&self, f: &mut fmt::Formatter<W>) -> fmt::Result {
         if f.alternate() {

@@ -26,7 +26,7 @@ pub(crate) fn print(
     ensures refused { IfErr result (IsFaultOver store.now.entries.items
         (λ s. and_then (format_text s format.now arguments.now) (λ t. within MAX_LEN t))) }
 {
-    let args = given(alloc, store, arguments)?;
+    let args = arguments_of(alloc, store, arguments)?;
     let cord = sprintf(alloc, format, &args)?;
     Ok(cord)
 }
@@ -43,27 +43,27 @@ pub(crate) fn print_length(
     ensures refused { IfErr result (IsFaultOver store.now.entries.items
         (λ s. and_then (format_text s format.now arguments.now) (λ t. within MAX_LEN t))) }
 {
-    let args = given(alloc, store, arguments)?;
+    let args = arguments_of(alloc, store, arguments)?;
     let len = sprintf_len(format, &args)?;
     Ok(len)
 }
 
 // The arguments of a print, of which cords are shared.
-fn given(alloc: Global, store: &Store, arguments: &[Argument]) -> Result<Vec<Arg>, CordError>
-    ensures given { IfOk result (λ args. args.items ≡ map (λ argument. argument_in store.now.entries.items argument)
+fn arguments_of(alloc: Global, store: &Store, arguments: &[Argument]) -> Result<Vec<Arg>, CordError>
+    ensures made { IfOk result (λ args. args.items ≡ map (λ argument. argument_in store.now.entries.items argument)
         arguments.now) }
     ensures refused { IsOkUnless result CordError.NoMemory }
 {
     let mut args = Vec::with_capacity(alloc, arguments.len())?;
     for argument in arguments {
-        args.push(given_argument(alloc, store, argument)?)?;
+        args.push(argument_of(alloc, store, argument)?)?;
     }
     Ok(args)
 }
 
 // One of them.
-fn given_argument(alloc: Global, store: &Store, argument: &Argument) -> Result<Arg, CordError>
-    ensures given { IfOk result (λ arg. arg ≡ argument_in store.now.entries.items argument.now) }
+fn argument_of(alloc: Global, store: &Store, argument: &Argument) -> Result<Arg, CordError>
+    ensures made { IfOk result (λ arg. arg ≡ argument_in store.now.entries.items argument.now) }
     ensures refused { IsOkUnless result CordError.NoMemory }
 {
     match argument {

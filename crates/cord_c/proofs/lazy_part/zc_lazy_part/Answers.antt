@@ -13,7 +13,8 @@ returns-clause-inside c lengths fits coded = elim c.match-ahead.branch [
   | in-Some+in-Bytes w ↦ search rules
   | in-Some+in-Run w ↦ search rules
   | in-Some+in-Func w ↦
-      let whole : IsAheadOf c.set.result.cord c.set.result.index (Some w.in-Some.stretch) = rw w.in-Some.is at c.ahead-ahead.ensures.stretch in
+      let whole : IsAheadOf c.set.result.cord c.set.result.index (Some w.in-Some.stretch) =
+      rw w.in-Some.is at c.ahead-ahead.ensures.stretch in
       let same : c.set.result.cord ≡ cord_of c.args.x.now = search rules in
       let own : CordFitsIn lengths c.set.result.cord = subst (λ (d : Option Node). CordFitsIn lengths d) (sym same) fits in
       let front = w.up_to.ensures.fits lengths (ahead_fits c.set.result.cord c.set.result.index w.in-Some.stretch lengths whole own) in

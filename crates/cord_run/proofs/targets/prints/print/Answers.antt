@@ -14,9 +14,9 @@ returns-in_err-cord-clause-refused c =
     (λ t. within MAX_LEN t))) (stop_of_print c.in_err-cord.field-0.0) c.from_residual-in_err-cord.result
     c.from_residual-in_err-cord.ensures.1
     (unprinted_unless c.args.store.now.entries.items c.args.format.now c.args.arguments.now c.deref.result.now
-    (c.deref.ensures.value ∙ c.in_ok-args.ensures.given) c.in_err-cord.field-0.0 c.in_err-cord.ensures.refused)
+    (c.deref.ensures.value ∙ c.in_ok-args.ensures.made) c.in_err-cord.field-0.0 c.in_err-cord.ensures.refused)
 
 pub returns-clause-made : goal.returns-clause-made
 returns-clause-made c = printed_cord c.args.store.now.entries.items c.args.format.now c.args.arguments.now c.deref.result.now
-    (c.deref.ensures.value ∙ c.in_ok-args.ensures.given) c.in_ok-cord.cord c.in_ok-cord.ensures.taken c.in_ok-cord.ensures.over
+    (c.deref.ensures.value ∙ c.in_ok-args.ensures.made) c.in_ok-cord.cord c.in_ok-cord.ensures.taken c.in_ok-cord.ensures.over
     c.in_ok-cord.ensures.sound

@@ -1,6 +1,6 @@
 use Rattle.std.proofs.Common.{◌≡◌, map, take}
 use Rattle.cord_run.specs.inner.Contents.{argument_in}
-use Rattle.cord_run.proofs.targets.prints.given.Given as goal
+use Rattle.cord_run.proofs.targets.prints.arguments_of.Given as goal
 
 abbrev pub invariant-loop-argument : goal.invariant-loop-argument
 invariant-loop-argument l = l.args.items ≡ map (λ argument. argument_in l.store.entries.items argument) (take l.argument-index l.arguments)
