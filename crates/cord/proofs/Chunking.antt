@@ -1,11 +1,11 @@
 -- What a part has of a text from a place on.
-use Rattle.std.proofs.Common.{◌≡◌, ℕ, ◌+◌, ◌<◌, List, [], ◌∷◌, ◌++◌, length, map, drop, sym, ap, ◌∙◌, arith, append_assoc, append-nil}
+use Rattle.std.proofs.Common.{◌≡◌, ℕ, ◌+◌, ◌<◌, List, [], ◌∷◌, ◌++◌, length, map, drop, sym, ap, ◌∙◌, arith, append-nil}
 use Rattle.std.proofs.Common.{length-append, length-drop}
 use Rattle.std.specs.Prelude.{Some, None, true}
 use Rattle.std.specs.List.{concat}
 use Rattle.std.specs.Iterator.{Yields}
 use Rattle.std.specs.Iterator.Runs.{Run, YieldsRun}
-use Rattle.std.proofs.lemmas.List.{drop_all, drop-append-le}
+use Rattle.std.proofs.lemmas.List.{drop_all}
 use Rattle.std.proofs.Math.Seq.{drop-append-add}
 use Rattle.cord_node.specs.declared.Node.{Node}
 use Rattle.cord_node.specs.Tree.{len_of, IsSound}
@@ -32,18 +32,6 @@ chunk_rest x place chunk lt e =
     }
 
 module _ (l r : List ℕ) (place : ℕ) (chunk : Chunk) where
-  -- in the left one of two texts
-  pub chunk_left : IsChunkAt l place chunk → IsChunkAt (l ++ r) place chunk
-  chunk_left k =
-      let end = place + length (chunk_bytes chunk) in
-      let here : drop place (l ++ r) ≡ drop place l ++ r = drop-append-le place l r (omega (arith, k.inside)) in
-      let after : drop end (l ++ r) ≡ drop end l ++ r = drop-append-le end l r k.inside in
-      record {
-        some = k.some;
-        inside = omega (arith, k.inside, length-append l r);
-        text = rw (here, after) (ap (λ (y : List ℕ). y ++ r) k.text ∙ append_assoc (chunk_bytes chunk) (drop end l) r);
-      }
-
   -- in the right one
   pub chunk_right : (at : ℕ) → place ≡ length l + at → IsChunkAt r at chunk → IsChunkAt (l ++ r) place chunk
   chunk_right at e k =

@@ -2,7 +2,7 @@
 use Rattle.std.proofs.Common.{◌≡◌, ℕ, zero, suc, ◌+◌, ◌-◌, ◌≤◌, Bool, true, false, cond, List, length, drop, ap, ◌∙◌, refl, arith}
 use Rattle.std.specs.Prelude.{slice_index}
 use Rattle.std.specs.List.{count_by}
-use Rattle.std.proofs.lemmas.List.Sums.{count_by-le-length, sum_by-append, sum_by-drop_more}
+use Rattle.std.proofs.lemmas.List.Sums.{sum_by-append, sum_by-drop_more}
 use Rattle.std.proofs.lemmas.List.{drop_all}
 use Rattle.memchr.specs.Find.{places_from, places}
 use Rattle.cord.specs.declared.chunks.Chunk.{Chunk}
@@ -18,16 +18,6 @@ module _ (p : ℕ → Bool) (x : List ℕ) (place count : ℕ) (i : IsCounted p 
     rest : count_by p (drop place x) ≡ count_by p (chunk_bytes chunk) + count_by p (drop (place + length (chunk_bytes chunk)) x)
     rest = ap (λ (y : List ℕ). count_by p y) k.text ∙ sum_by-append (λ (b : ℕ). cond (p b) 1 0) (chunk_bytes chunk)
         (drop (place + length (chunk_bytes chunk)) x)
-
-    pub counted_next : IsCounted p x (place + length (chunk_bytes chunk)) (count + count_by p (chunk_bytes chunk))
-    counted_next = record { inside = k.inside; sum = omega (arith, rest, i.sum) }
-
-    pub counted_fits : count + count_by p (chunk_bytes chunk) ≤ length x
-    counted_fits = omega (arith, rest, i.sum, count_by-le-length p x)
-
-  pub counted_all : length x ≤ place → count ≡ count_by p x
-  counted_all le = let none : count_by p (drop place x) ≡ 0 = ap (λ (y : List ℕ). count_by p y) (drop_all place x le) in
-      omega (arith, none, i.sum)
 
 -- as many places as bytes pass a test
 count_places : (p : ℕ → Bool) (hay : List ℕ) (i n : ℕ) → i + n ≡ length hay → length (places_from p hay i n) ≡ count_by p (drop i hay)

@@ -98,12 +98,6 @@ module _ (holds : List ℕ → Bool) where
   pub bits_none : (w : ℕ) → AreBits [] w
   bits_none w i x lt e = let bad : ⊥ = cc in absurd bad
 
-  pub bits_one : (y : List ℕ) (a : Bool) (v : ℕ) → a ≡ holds y → ((i : ℕ) → bit v i ≡ (a && (i == 0))) → AreBits (y ∷ []) v
-  bits_one y a v is one zero x lt e =
-      let same : y ≡ x = cc in
-      one 0 ∙ (and-true a ∙ (is ∙ ap holds same))
-  bits_one y a v is one (suc i) x lt e = let bad : ⊥ = cc in absurd bad
-
   pub bits_two : (y z : List ℕ) (a b : Bool) (v w : ℕ) → a ≡ holds y → b ≡ holds z → ((i : ℕ) → bit v i ≡ (a && (i == 0))) →
       ((i : ℕ) → bit w i ≡ (b && (i == 1))) → AreBits (y ∷ z ∷ []) (bit_or v w)
   bits_two y z a b v w first second one two zero x lt e =

@@ -1,5 +1,5 @@
 -- Values of expressions: which names they depend on, and what a line does by the value of its expression.
-use Rattle.std.proofs.Common.{◌≡◌, ℕ, ◌⊎◌, List, [], ◌∷◌, ◌++◌, length, map, Option, Some, None, Result, Ok, Err, refl, sym, ap, ◌∙◌, subst}
+use Rattle.std.proofs.Common.{◌≡◌, ℕ, ◌⊎◌, List, [], ◌∷◌, ◌++◌, length, map, Option, Some, Result, Ok, Err, refl, sym, ap, ◌∙◌, subst}
 use Rattle.std.proofs.Common.{inl, inr, ⊎_elim}
 use Rattle.cord_io.specs.Device.{Folder}
 use Rattle.cord_operands.specs.declared.operands.Number.{Number}
@@ -13,7 +13,7 @@ use Rattle.cord_meaning.specs.Statements.{act, function_text}
 use Rattle.cord_plan.specs.Exprs.{Expr, name, run, cat, sub, Exprs, nothing, member, names, names_of, number_names}
 use Rattle.cord_plan.specs.Operands.{read_by, target_of}
 use Rattle.cord_plan.specs.Forced.{expr_with, own}
-use Rattle.cord_plan.specs.Values.{within, copies, part_of, values, measured, length_of, text_in, gives_text, puts_text}
+use Rattle.cord_plan.specs.Values.{within, copies, part_of, values, measured, length_of, text_in, gives_text}
 use Rattle.cord_plan.specs.Flattening.{HaveTexts}
 use Rattle.cord_plan.specs.Planned.{OfFunction}
 use Rattle.cord_plan.specs.Meaning.{Holding, plain, held_length, cords, cords_of, extent, made_text}
@@ -34,9 +34,6 @@ module _ (limit : ℕ) (files : Folder) (s : State) (l : Statement) (es : List E
 
   pub line_gives : (z : List ℕ) → target_of l ≡ Some z → act limit files l s ≡ gives_text s z (text_in limit s e)
   line_gives z to = means_own (Some z) to ∙ ap (λ (r : Result (List ℕ) FaultKind). gives_text s z r) (sym same_own)
-
-  pub line_puts : target_of l ≡ None → act limit files l s ≡ puts_text s (text_in limit s e)
-  line_puts to = means_own None to ∙ ap (λ (r : Result (List ℕ) FaultKind). puts_text s r) (sym same_own)
 
 -- ---- what another line does that gives a text to a name
 module _ (limit : ℕ) (s : State) (z : List ℕ) where

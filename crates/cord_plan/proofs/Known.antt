@@ -20,7 +20,7 @@ use Rattle.cord_plan.specs.declared.flow.numbering.Numbering.{Numbering}
 use Rattle.cord_plan.specs.declared.planner.known.Facts.{Facts}
 use Rattle.cord_plan.specs.declared.planner.known.Known.{Known}
 use Rattle.cord_plan.proofs.Appending.{names_append}
-use Rattle.cord_plan.proofs.MarkedNames.{has_both, has_one, marks_or, marks_same}
+use Rattle.cord_plan.proofs.MarkedNames.{has_both, marks_or, marks_same}
 use Rattle.cord_plan.proofs.Named.{no_true, own_bytes, same_bytes}
 use Rattle.cord_plan.proofs.Nearest.{first_in}
 use Rattle.cord_plan.proofs.PartSums.{parts_members}
@@ -57,10 +57,6 @@ has_two d e x =
     ∙ ap (λ (v : Bool). has (names d) x || v) (has_front e nothing x ∙ or-false (has (names e) x))
 
 module _ (t : Numbering) where
-  -- the words of a name and of two expressions
-  pub marks_name : (g : ℕ) (y : List ℕ) (w : ℕ) → Marks t g (λ x. bytes_eq x y) w → Marks t g (λ x. has (names (name y)) x) w
-  marks_name g y w marks = marks_same t g (λ x. bytes_eq x y) (λ x. has (names (name y)) x) w (λ x. has_one y x) marks
-
   pub marks_both : (g : ℕ) (d e : Expr) (v w : ℕ) → Marks t g (λ x. has (names d) x) v → Marks t g (λ x. has (names e) x) w →
       Marks t g (λ x. has (names (cat (members (d ∷ e ∷ [])))) x) (bit_or v w)
   marks_both g d e v w one two = marks_same t g (λ x. has (names d) x || has (names e) x) (λ x. has (names (cat (members (d ∷ e ∷ [])))) x)

@@ -98,9 +98,6 @@ module _ (t : Numbering) (g : ℕ) where
       let small : i < 128 = b.within in
       other (omega arith))
 
-  pub marks_unknown : (y : List ℕ) → number_of t y ≡ None → Marks t g (λ x. bytes_eq x y) 0
-  marks_unknown y is = marks_none t g y (λ i b. let one = b.number in cc)
-
   pub marks_more : (names : List (List ℕ)) (i : ℕ) (y : List ℕ) (v w : ℕ) → i < length names → y ≡ get_or names i y →
       Marks t g (λ x. has (take i names) x) v → Marks t g (λ x. bytes_eq x y) w → Marks t g (λ x. has (take (i + 1) names) x) (bit_or v w)
   marks_more names i y v w lt is one two = marks_same t g (λ x. has (take i names) x || bytes_eq x y) (λ x. has (take (i + 1) names) x)

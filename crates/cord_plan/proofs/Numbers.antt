@@ -1,9 +1,8 @@
 -- Names and their numbers.
-use Rattle.std.proofs.Common.{◌≡◌, ◌⊎◌, ℕ, zero, suc, ◌+◌, ◌<◌, Bool, true, false, ◌||◌, List, [], ◌∷◌, ◌++◌, drop, take, length, get_or}
-use Rattle.std.proofs.Common.{Option, Some, None, refl, sym, ap, ◌∙◌, subst, inl, inr, ⊎_elim, arith, add-one, if◌then◌else◌}
+use Rattle.std.proofs.Common.{◌≡◌, ◌⊎◌, ℕ, zero, suc, ◌+◌, ◌<◌, Bool, true, false, ◌||◌, List, [], ◌∷◌, ◌++◌, take, length, get_or}
+use Rattle.std.proofs.Common.{Option, Some, None, refl, sym, ap, ◌∙◌, subst, inl, inr, ⊎_elim, arith, if◌then◌else◌}
 use Rattle.std.specs.Prelude.{slice_get, option_map}
 use Rattle.std.specs.Str.{bytes_eq}
-use Rattle.std.proofs.Math.Seq.{drop-cons}
 use Rattle.std.proofs.Math.Bool.{or-false}
 use Rattle.std.proofs.Math.Nat.{eq-or-lt_of_le}
 use Rattle.std.proofs.lemmas.Bool.{or_left, or_right}
@@ -17,14 +16,6 @@ use Rattle.cord_plan.specs.Operands.{has, is_name, cord_arguments, read_by}
 use Rattle.cord_operands.specs.Keys.{key_of, slot_at}
 use Rattle.cord_plan.specs.inner.Numbering.{place_of, names_of, number_by, number_of, Adds, AreDistinct, CoversTo}
 use Rattle.cord_plan.proofs.Named.{same_bytes, own_bytes, has_append}
-
--- a name's place in the list that begins at its element
-module _ (names : List (List ℕ)) (i : ℕ) (y x : List ℕ) (lt : i < length names) (is : y ≡ get_or names i y) where
-  pub place_here : bytes_eq x y ≡ true → place_of (drop i names) x ≡ Some 0
-  place_here e = rw (drop-cons names i y, ← is, e) refl
-
-  pub place_on : bytes_eq x y ≡ false → place_of (drop i names) x ≡ option_map suc (place_of (drop (i + 1) names) x)
-  place_on e = rw (add-one, drop-cons names i y, ← is, e) refl
 
 -- a place after i elements
 abbrev pub moved : ℕ → Option ℕ → Option ℕ

@@ -112,22 +112,6 @@ module _ (entries : List Entry) where
         ∙ ap (λ (u : List ℕ). within MAX_LEN u) (sym (cut_there.bytes t fits))
         ∙ cord_within t range sound (cut_there.fits (lengths_of t) fits))
 
-    -- its first number is none
-    pub range_start_faulty : (kind : FaultKind) → as_index (operand_in entries i) ≡ Err kind →
-        IsUnbuilt entries (sub (name x) i n) (stops.Fault kind)
-    range_start_faulty kind first = λ t over there.
-        sym (λ j. and_then (as_index (operand_value t entries i j)) (λ a. and_then (as_index (number_value (plain_of t entries) n))
-        (λ m. within MAX_LEN (take m (drop a ((plain_of t entries).texts x))))))
-        ∙ ap (λ (r : Result ℕ FaultKind). and_then r (λ a. and_then (as_index (number_value (plain_of t entries) n))
-        (λ m. within MAX_LEN (take m (drop a ((plain_of t entries).texts x)))))) first
-
-    -- its second number is none
-    pub range_count_faulty : (start : ℕ) (kind : FaultKind) → as_index (operand_in entries i) ≡ Ok start →
-        as_index (operand_in entries n) ≡ Err kind → IsUnbuilt entries (sub (name x) i n) (stops.Fault kind)
-    range_count_faulty start kind first second = λ t over there.
-        sym (λ j. part_of MAX_LEN ((plain_of t entries).texts x) (operand_value t entries i j) (operand_value t entries n j))
-        ∙ (λ j. and_then (first j) (λ a. and_then (second j) (λ m. within MAX_LEN (take m (drop a ((plain_of t entries).texts x))))))
-
   -- copies of a byte
   module _ (c n : Number) where
     numbers_same : (t : Table) → text_in MAX_LEN (plain_of t entries) (run c n)
@@ -154,19 +138,6 @@ module _ (entries : List Entry) where
             let none : Err kind ≡ Ok count = sym (λ j. and_then (byte j) (λ a. and_then (e j) (λ k. as_length MAX_LEN k))) ∙ told in
             let bad : ⊥ = cc in absurd bad
 
-    copies_faulty : (z w : ℤ) (kind : FaultKind) → measured_copies MAX_LEN z w ≡ Err kind → copies MAX_LEN z w ≡ Err kind
-    copies_faulty z w kind told = by_checks (as_byte z) (as_index w) told
-      where
-        by_length : (b m : ℕ) (r : Result ℕ FaultKind) → r ≡ Err kind → and_then r (λ _. Ok (replicate m b)) ≡ Err kind
-        by_length b m (Ok k) e = let bad : ⊥ = cc in absurd bad
-        by_length b m (Err other) e = let same : other ≡ kind = cc in ap (λ (k : FaultKind). Err k) same
-
-        by_checks : (rb rn : Result ℕ FaultKind) → and_then rb (λ b. and_then rn (λ m. as_length MAX_LEN m)) ≡ Err kind →
-            and_then rb (λ b. and_then rn (λ m. and_then (as_length MAX_LEN m) (λ _. Ok (replicate m b)))) ≡ Err kind
-        by_checks (Err other) rn e = let same : other ≡ kind = cc in ap (λ (k : FaultKind). Err k) same
-        by_checks (Ok b) (Err other) e = let same : other ≡ kind = cc in ap (λ (k : FaultKind). Err k) same
-        by_checks (Ok b) (Ok m) e = by_length b m (as_length MAX_LEN m) e
-
     pub run_built : (b count : ℕ) (cord : Option Node) → as_byte (operand_in entries c) ≡ Ok b →
         measured_copies MAX_LEN (operand_in entries c) (operand_in entries n) ≡ Ok count → HasText (replicate count b) cord → IsCord cord →
         IsBuilt entries (run c n) cord
@@ -174,10 +145,6 @@ module _ (entries : List Entry) where
         (record { value = b; count = count; is = byte; text = has }) sound (λ lengths over. has.fits lengths)
         (λ t over. numbers_same t ∙ copies_made (operand_in entries c) (operand_in entries n) b count byte told
         ∙ ap (λ (u : List ℕ). Ok u) (sym (has.bytes t)))
-
-    pub run_unbuilt : (kind : FaultKind) → measured_copies MAX_LEN (operand_in entries c) (operand_in entries n) ≡ Err kind →
-        IsUnbuilt entries (run c n) (stops.Fault kind)
-    run_unbuilt kind told = λ t over there. numbers_same t ∙ copies_faulty (operand_in entries c) (operand_in entries n) kind told
 
 -- ---- two parts
 all_fit_both : (lengths : Lengths) (ps qs : List (Option Node)) → AllFitIn lengths ps → AllFitIn lengths qs → AllFitIn lengths (ps ++ qs)

@@ -158,28 +158,6 @@ module _ (z w : ℤ) (wanted : Wanted) (old : List (Option Node)) where
         ∙ ap (λ (u : List ℕ). take wanted.count (drop wanted.skip u)) made.same);
   }
 
-  -- nothing is
-  pub run_passed : (len : ℕ) → measured_copies MAX_LEN z w ≡ Ok len → min wanted.count (len - wanted.skip) ≡ 0 → AddsRun z w wanted old old
-  run_passed len told none = record {
-    fits = λ lengths all. all;
-    bytes = λ t whole is.
-        let made = run_made z w whole is in
-        let same : len ≡ made.count = let told_made = made.told in cc in
-        let empty : min wanted.count (made.count - wanted.skip) ≡ 0 =
-        ap (λ (k : ℕ). min wanted.count (k - wanted.skip)) (sym same) ∙ none in
-        sym (append-nil (all_bytes t old))
-        ∙ ap (λ (u : List ℕ). all_bytes t old ++ u) (ap (λ (k : ℕ). replicate k made.byte) (sym empty)
-        ∙ range_of_copies wanted.skip wanted.count made.count made.byte
-        ∙ ap (λ (u : List ℕ). take wanted.count (drop wanted.skip u)) made.same);
-  }
-
-  -- they have a fault
-  pub run_faulty : (kind : FaultKind) → measured_copies MAX_LEN z w ≡ Err kind → AddsRun z w wanted old old
-  run_faulty kind told = record {
-    fits = λ lengths all. all;
-    bytes = λ t whole is. let made = run_made z w whole is in let told_made = made.told in let bad : ⊥ = cc in absurd bad;
-  }
-
 pub run_added : (entries : List Entry) (c n : Number) (wanted : Wanted) (old new : List (Option Node)) →
     AddsRun (operand_in entries c) (operand_in entries n) wanted old new →
     AddsAtMostOne (AreCopies (operand_in entries c)) old new → AddsExpression entries (run c n) wanted old new
@@ -317,9 +295,6 @@ module _ (entries : List Entry) (e : Expr) (i n : Number) (start most : ℕ) (wa
         by_checks (Ok len) (Ok a) (Ok m) past at up_to =
             by_length (min m (len - a)) (as_length MAX_LEN (min m (len - a))) refl
             (subst (λ (x : ℕ). IsPast x wanted after) (λ j. min (up_to j) (len - at j)) (part_past len past))
-
-    pub sub_few : (old new : List (Option Node)) → AreFew inner rest old new → AreFew wanted after old new
-    sub_few old new few = omega (arith, few, inside.count, outside.count)
 
 -- ---- results
 -- what follows from what an Ok call gives

@@ -65,10 +65,6 @@ module _ (entries : List Entry) where
       subst (λ (xs : List Shared). AreTextsIn entries (members_seen xs) []) (sym (drop_all i ms past)) (λ t there. refl) in
       subst (λ (u : List ℕ). AreTextsIn entries (plain.append earlier (members_seen ms)) u) (append-nil text) (so_far earlier are [] none)
 
-  -- no members have no text
-  pub texts_none : (text : List ℕ) → text ≡ [] → AreTextsIn entries plain.nothing text
-  texts_none text none = λ t there. ap (λ (u : List ℕ). Ok u) (sym none)
-
   -- members that are short together, joined
   pub cat_text : (es : plain.Exprs) (text : List ℕ) → AreTextsIn entries es text → length text ≤ MAX_LEN →
       IsTextIn entries (plain.cat es) text

@@ -2,9 +2,8 @@ use Rattle.std.proofs.Common.{◌≡◌, ⊎_elim, ℕ, List, [], ◌∷◌, ◌
 use Rattle.std.specs.Prelude.{codes}
 use Rattle.cord_io.specs.declared.TheConstants.{MAX_LEN}
 use Rattle.cord_meaning.specs.declared.TheConstants.{MAX_TURNS}
-use Rattle.cord_meaning.specs.declared.ends.End.TheVariants.{Done, Fault, NoMemory}
+use Rattle.cord_meaning.specs.declared.ends.End.TheVariants.{Done, Fault}
 use Rattle.cord_meaning.specs.declared.ends.FaultKind.TheVariants.{OutOfRange, Negative}
-use Rattle.cord_meaning.specs.Ends.{StopsAt}
 use Rattle.cord_meaning.specs.Meaning.{Means, moments}
 use Rattle.cord_meaning.specs.Machine.{Moment, output}
 use Rattle.cord_meaning.specs.Rows
