@@ -151,7 +151,7 @@ uint64_t zc_chr(zc_cord *x, uint64_t start, unsigned char byte);
 uint64_t zc_rchr(zc_cord *x, uint64_t end, unsigned char byte);
 
 /* Writes the first place of x from start on where the bytes of y stand to *place, or ZC_NOT_FOUND. No bytes stand at
-   each place up to the end. ZC_NO_MEMORY: *place stays. O(n) for most texts. */
+   each place up to the end. ZC_NO_MEMORY: *place stays. O(n) in both texts. */
 int zc_str(zc_cord *x, uint64_t start, zc_cord *y, uint64_t *place);
 
 /* As zc_str, of these bytes. Up to 16,384 of them take no memory. */
@@ -567,8 +567,8 @@ static inline int zc_lazy_by_length(zc_files *files, const char *path, zc_lazy *
 }
 
 /* Writes the first place of x from start on where these bytes, at least one, stand to *place, or ZC_NOT_FOUND.
-   ZC_BAD_ARGUMENT where count is 0; ZC_READ_FAILED, ZC_NO_MEMORY: *place stays. O(n) for most texts; it copies 65,536 + count
-   bytes at a time. */
+   ZC_BAD_ARGUMENT where count is 0; ZC_READ_FAILED, ZC_NO_MEMORY: *place stays. It copies 65,536 + count bytes at a time,
+   so it takes O(n) for a count of up to 65,536, and count / 65,536 times as long beyond. */
 static inline int zc_lazy_find(zc_files *files, zc_lazy *x, uint64_t start, const void *bytes, size_t count,
                                uint64_t *place) {
     zc_lazy window = ZC_LAZY_EMPTY;

@@ -11,16 +11,16 @@ use std::process::Abort;
 
 // An argument of a row: a number, a cord of these bytes, or a run of the longest length.
 #[derive(Clone, Copy)]
-enum Given {
+enum Argument {
     Num(i64),
     Text(&'static [u8]),
     Longest,
 }
 
-use Given::{Longest, Num, Text};
+use Argument::{Longest, Num, Text};
 
 // A format, its arguments, and the text that it prints of them.
-type Print = (&'static [u8], &'static [Given], &'static [u8]);
+type Print = (&'static [u8], &'static [Argument], &'static [u8]);
 
 // A conversion of a number, the number, and what C's printf writes of it; the conversions are those of its `long long`.
 type Number = (&'static [u8], i64, &'static [u8]);
@@ -44,10 +44,8 @@ const DECIMALS: &[Number] = &[
     (b"%-5d", -42, b"-42  "),
     (b"%05d", 42, b"00042"),
     (b"%05d", -42, b"-0042"),
-    (b"%+05d", 7, b"+0007"),
     (b"%+5d", 7, b"   +7"),
     (b"%-+5d", 7, b"+7   "),
-    (b"%-05d", 7, b"7    "),
     (b"%0-5d", -7, b"-7   "),
     (b"%++05d", 7, b"+0007"),
     (b"%1d", 12345, b"12345"),
@@ -62,11 +60,9 @@ const PRECISE: &[Number] = &[
     (b"%.d", 0, b""),
     (b"%.1d", 0, b"0"),
     (b"%.3d", 7, b"007"),
-    (b"%.3d", -5, b"-005"),
     (b"%.3d", 12345, b"12345"),
     (b"%5.3d", 7, b"  007"),
     (b"%-5.3d", -7, b"-007 "),
-    (b"%05.3d", 7, b"  007"),
     (b"%+.0d", 0, b"+"),
     (b"%5.0d", 0, b"     "),
     (b"%08.5d", -123, b"  -00123"),
@@ -79,7 +75,6 @@ const PRECISE: &[Number] = &[
 const UNSIGNED: &[Number] = &[
     (b"%u", 0, b"0"),
     (b"%u", 3000000000, b"3000000000"),
-    (b"%lu", 3, b"3"),
     (b"%llu", i64::MAX, b"9223372036854775807"),
     (b"%8u", 77, b"      77"),
     (b"%-8u", 77, b"77      "),
@@ -123,7 +118,6 @@ const HEXADECIMALS: &[Number] = &[
 // Bytes.
 const BYTES: &[Number] = &[
     (b"%c", 65, b"A"),
-    (b"%5c", 65, b"    A"),
     (b"%-5c", 65, b"A    "),
     (b"%-c", 97, b"a"),
 ];
@@ -167,13 +161,13 @@ const SEVERAL: &[(&str, Print)] = &[
 ];
 
 // The length of a print.
-const LENGTHS: &[(&str, &[u8], &[Given], u64)] = &[
+const LENGTHS: &[(&str, &[u8], &[Argument], u64)] = &[
     ("format_calls", b"%5d", &[Num(7)], 5),
     ("sprintf_too_long", b"%s", &[Longest], MAX_LEN),
 ];
 
 // The length of a wide print, and the bytes at its two ends.
-const WIDE: &[(&[u8], &[Given], usize, &[u8], &[u8])] = &[
+const WIDE: &[(&[u8], &[Argument], usize, &[u8], &[u8])] = &[
     (b"%04000d", &[Num(-5)], 4000, b"-0", b"05"),
     (b"%.9999x", &[Num(10)], 9999, b"00", b"0a"),
     (b"%9999s|", &[Text(b"ab")], 10_000, b"  ", b" ab|"),
@@ -181,7 +175,7 @@ const WIDE: &[(&[u8], &[Given], usize, &[u8], &[u8])] = &[
 ];
 
 // Why a print is refused.
-const REFUSALS: &[(&str, &[u8], &[Given], PrintError)] = &[
+const REFUSALS: &[(&str, &[u8], &[Argument], PrintError)] = &[
     ("every_byte", b"%c", &[Num(256)], PrintError::BadByte(0)),
     ("every_byte", b"%c", &[Num(-1)], PrintError::BadByte(0)),
     ("format_calls", b"%5d", &[], PrintError::WrongArgs),
@@ -211,9 +205,21 @@ const REFUSALS_IN_ORDER: &[(&[u8], PrintError)] = &[
     (b"!", PrintError::WrongArgs),
 ];
 
-// The place from which on a text is no format.
-const BAD_FORMATS: &[(&str, usize)] = &[
-    ("a%q", 1),
+// The rows of formats with a number.
+const FORMAT_ROWS: &[Number] = &[
+    (b"%+05d", 7, b"+0007"),
+    (b"%-05d", 7, b"7    "),
+    (b"%05.3d", 7, b"  007"),
+    (b"%.3d", -5, b"-005"),
+    (b"%5c", 65, b"    A"),
+    (b"%lu", 3, b"3"),
+];
+
+// A text, and the place from which on it is no format.
+type BadText = (&'static str, usize);
+
+// The rows of formats that are none.
+const BAD_FORMAT_ROWS: &[BadText] = &[
     ("%05s", 0),
     ("%+u", 0),
     ("%.1c", 0),
@@ -221,6 +227,10 @@ const BAD_FORMATS: &[(&str, usize)] = &[
     ("%5%", 0),
     ("%", 0),
     ("%10000d", 0),
+];
+
+const BAD_FORMATS: &[BadText] = &[
+    ("a%q", 1),
     ("%lld%llld", 4),
     ("100%", 3),
     ("%%%%%", 4),
@@ -242,7 +252,7 @@ const BAD_FORMATS: &[(&str, usize)] = &[
 type Pieces = &'static [(&'static [u8], usize)];
 
 // Bytes are gathered up to 256: prints around that number, and a text that is longer by itself.
-const LONG: &[(&str, Pieces, &[Given], Pieces)] = &[
+const LONG: &[(&str, Pieces, &[Argument], Pieces)] = &[
     (
         "long_lines_print_as_in_c",
         &[(b"%20d|", 30)],
@@ -261,17 +271,17 @@ fn format_of(rt: &impl Abort, alloc: Global, format: &[u8]) -> Format {
     Format::parse(alloc, format).expect(rt, "no format")
 }
 
-fn arg_of(rt: &impl Abort, alloc: Global, given: Given) -> Arg {
-    match given {
+fn arg_of(rt: &impl Abort, alloc: Global, argument: Argument) -> Arg {
+    match argument {
         Num(number) => Arg::Num(number),
         Text(bytes) => Arg::Cord(cord_of(rt, alloc, bytes)),
         Longest => Arg::Cord(run_of(rt, alloc, 65, MAX_LEN)),
     }
 }
 
-fn args_of(rt: &impl Abort, alloc: Global, given: &[Given]) -> Vec<Arg> {
+fn args_of(rt: &impl Abort, alloc: Global, arguments: &[Argument]) -> Vec<Arg> {
     let mut args = Vec::new(alloc);
-    for it in given {
+    for it in arguments {
         args.push(arg_of(rt, alloc, *it)).expect(rt, "no memory");
     }
     args
@@ -282,9 +292,9 @@ fn print_of(rt: &impl Abort, alloc: Global, format: &Format, args: &[Arg]) -> Co
 }
 
 // The print of a format with its arguments, whose length is told alike.
-fn printed(rt: &impl Abort, alloc: Global, format: &[u8], given: &[Given]) -> Cord {
+fn printed(rt: &impl Abort, alloc: Global, format: &[u8], arguments: &[Argument]) -> Cord {
     let parsed = format_of(rt, alloc, format);
-    let args = args_of(rt, alloc, given);
+    let args = args_of(rt, alloc, arguments);
     let cord = print_of(rt, alloc, &parsed, &args);
     let told = sprintf_len(&parsed, &args);
     assert!(rt; told == Ok(cord.len()), "the length of {format:?}");
@@ -292,8 +302,8 @@ fn printed(rt: &impl Abort, alloc: Global, format: &[u8], given: &[Given]) -> Co
 }
 
 // The bytes of the print of a format with its arguments.
-fn print_bytes(rt: &impl Abort, alloc: Global, format: &[u8], given: &[Given]) -> Vec<u8> {
-    let bytes = bytes_of(alloc, &printed(rt, alloc, format, given)).expect(rt, "no memory");
+fn print_bytes(rt: &impl Abort, alloc: Global, format: &[u8], arguments: &[Argument]) -> Vec<u8> {
+    let bytes = bytes_of(alloc, &printed(rt, alloc, format, arguments)).expect(rt, "no memory");
     bytes.expect(rt, "no text")
 }
 
@@ -302,9 +312,9 @@ fn expect_printed(
     rt: &impl Abort,
     alloc: Global,
     name: &str,
-    (format, given, want): (&[u8], &[Given], &[u8]),
+    (format, arguments, want): (&[u8], &[Argument], &[u8]),
 ) {
-    let shown = print_bytes(rt, alloc, format, given);
+    let shown = print_bytes(rt, alloc, format, arguments);
     assert!(rt;
         shown.as_slice() == want,
         "{name}: {format:?} is not {want:?}"
@@ -316,10 +326,10 @@ fn expect_refused(
     rt: &impl Abort,
     alloc: Global,
     name: &str,
-    (format, given, error): (&[u8], &[Given], PrintError),
+    (format, arguments, error): (&[u8], &[Argument], PrintError),
 ) {
     let parsed = format_of(rt, alloc, format);
-    let args = args_of(rt, alloc, given);
+    let args = args_of(rt, alloc, arguments);
     let told = sprintf_len(&parsed, &args);
     assert!(rt; told == Err(error), "{name}: {format:?}");
     let refused = sprintf(alloc, &parsed, &args).err();
@@ -371,12 +381,12 @@ fn bytes_print_as_in_c(rt: HostRuntime) {
 #[test]
 fn texts_print_as_in_c(rt: HostRuntime) {
     for &(format, text, want) in TEXTS {
-        let given = [Text(text)];
+        let arguments = [Text(text)];
         expect_printed(
             &rt,
             rt.alloc(),
             "texts_print_as_in_c",
-            (format, &given, want),
+            (format, &arguments, want),
         );
     }
 }
@@ -391,23 +401,23 @@ fn prints_of_several_arguments(rt: HostRuntime) {
 #[test]
 fn every_byte_is_printed(rt: HostRuntime) {
     for byte in 0..=255u8 {
-        let given = [Num(i64::from(byte))];
-        expect_printed(&rt, rt.alloc(), "every_byte", (b"%c", &given, &[byte]));
+        let arguments = [Num(i64::from(byte))];
+        expect_printed(&rt, rt.alloc(), "every_byte", (b"%c", &arguments, &[byte]));
     }
 }
 
 #[test]
 fn prints_of_some_length(rt: HostRuntime) {
-    for &(name, format, given, length) in LENGTHS {
-        let cord = printed(&rt, rt.alloc(), format, given);
+    for &(name, format, arguments, length) in LENGTHS {
+        let cord = printed(&rt, rt.alloc(), format, arguments);
         assert!(rt; cord.len() == length, "{name}: {format:?}");
     }
 }
 
 #[test]
 fn wide_numbers_and_texts_print_as_in_c(rt: HostRuntime) {
-    for &(format, given, length, start, end) in WIDE {
-        let shown = print_bytes(&rt, rt.alloc(), format, given);
+    for &(format, arguments, length, start, end) in WIDE {
+        let shown = print_bytes(&rt, rt.alloc(), format, arguments);
         assert!(rt; shown.len() == length, "{format:?}");
         assert!(rt; shown.starts_with(start), "{format:?}");
         assert!(rt; shown.ends_with(end), "{format:?}");
@@ -416,30 +426,44 @@ fn wide_numbers_and_texts_print_as_in_c(rt: HostRuntime) {
 
 #[test]
 fn refused_for_one_reason(rt: HostRuntime) {
-    for &(name, format, given, error) in REFUSALS {
-        expect_refused(&rt, rt.alloc(), name, (format, given, error));
+    for &(name, format, arguments, error) in REFUSALS {
+        expect_refused(&rt, rt.alloc(), name, (format, arguments, error));
     }
 }
 
 #[test]
 fn refusals_in_order(rt: HostRuntime) {
-    let given = [Longest, Num(-1), Num(300)];
+    let arguments = [Longest, Num(-1), Num(300)];
     for &(format, error) in REFUSALS_IN_ORDER {
         expect_refused(
             &rt,
             rt.alloc(),
             "refusals_in_order",
-            (format, &given, error),
+            (format, &arguments, error),
+        );
+    }
+}
+
+fn expect_bad(rt: &impl Abort, alloc: Global, formats: &[BadText]) {
+    for &(format, place) in formats {
+        let error = Format::parse(alloc, format.as_bytes()).err();
+        assert!(rt; error == Some(FormatError::BadFormat(place)), "{format}");
+        assert!(rt;
+            Format::bad_offset(format.as_bytes()) == Some(place),
+            "{format}"
         );
     }
 }
 
 #[test]
+fn format_rows(rt: HostRuntime) {
+    expect_numbers(&rt, rt.alloc(), FORMAT_ROWS);
+    expect_bad(&rt, rt.alloc(), BAD_FORMAT_ROWS);
+}
+
+#[test]
 fn bad_formats(rt: HostRuntime) {
-    for &(format, place) in BAD_FORMATS {
-        let error = Format::parse(rt.alloc(), format.as_bytes()).err();
-        assert!(rt; error == Some(FormatError::BadFormat(place)), "{format}");
-    }
+    expect_bad(&rt, rt.alloc(), BAD_FORMATS);
 }
 
 // A cord before a comma and a padded byte.
@@ -482,10 +506,10 @@ fn assembled(rt: &impl Abort, alloc: Global, pieces: Pieces) -> Vec<u8> {
 #[test]
 fn long_prints_are_as_in_c(rt: HostRuntime) {
     let alloc = rt.alloc();
-    for &(name, format, given, want) in LONG {
+    for &(name, format, arguments, want) in LONG {
         let format = assembled(&rt, alloc, format);
         let want = assembled(&rt, alloc, want);
-        expect_printed(&rt, alloc, name, (&format, given, &want));
+        expect_printed(&rt, alloc, name, (&format, arguments, &want));
     }
 }
 

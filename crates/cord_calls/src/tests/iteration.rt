@@ -71,7 +71,7 @@ type Four = (u8, u8, u8, u8);
 // Where an iteration stops, whether it does, and the last four bytes that it saw.
 const ITERATIONS: &[(&str, Parts, Way, u8, bool, Four)] = &[
     (
-        "iterations_from_a_place",
+        "iter_calls",
         &[Leaf(b"abcd")],
         On(1),
         b'c',
@@ -79,7 +79,7 @@ const ITERATIONS: &[(&str, Parts, Way, u8, bool, Four)] = &[
         (0, 0, b'b', b'c'),
     ),
     (
-        "iterations_from_a_place",
+        "iter_calls",
         &[Leaf(b"abcd")],
         Back(2),
         0,
@@ -102,17 +102,10 @@ const ITERATIONS: &[(&str, Parts, Way, u8, bool, Four)] = &[
         true,
         (0, 0, b'd', b'c'),
     ),
-    ("iterations_of_nothing", &[], All, 0, false, (0, 0, 0, 0)),
+    ("iter_empty_and_tail", &[], All, 0, false, (0, 0, 0, 0)),
+    ("iter_empty_and_tail", &[], AllBack, 0, false, (0, 0, 0, 0)),
     (
-        "iterations_of_nothing",
-        &[],
-        AllBack,
-        0,
-        false,
-        (0, 0, 0, 0),
-    ),
-    (
-        "iteration_of_a_tail",
+        "iter_empty_and_tail",
         &[Run(b'a', 1000), Leaf(b"b")],
         On(999),
         0,
@@ -150,10 +143,20 @@ fn text_of(rt: &impl Abort, alloc: Global, cord: &Cord) -> Vec<u8>
 }
 
 #[test]
-fn to_vec_gives_the_text(rt: HostRuntime) {
-    let cord = made(&rt, rt.alloc(), &[Leaf(b"abccd")]);
+fn to_vec_and_put(rt: HostRuntime) {
+    let parts: Parts = &[Leaf(b"abccd")];
+    let cord = made(&rt, rt.alloc(), parts);
     let text = text_of(&rt, rt.alloc(), &cord);
     assert!(rt; text.as_slice() == b"abccd".as_slice());
+    expect_put(
+        &rt,
+        rt.alloc(),
+        "to_vec_and_put",
+        parts,
+        (0, 9, 9),
+        Ok(()),
+        b"abccd",
+    );
 }
 
 // Nothing with 65 bytes appended 10,000 times, the k-th time of the byte k modulo 256; it never is deeper than 60.

@@ -103,7 +103,7 @@ fn expect_fused(rt: &(impl AllocGlobal + Abort), row: &Failing) {
 }
 
 #[test]
-fn files_fail(rt: HostRuntime) {
+fn drive_files_fail(rt: HostRuntime) {
     for row in FAILING {
         expect_fused(&rt, row);
     }

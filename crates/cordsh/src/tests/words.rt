@@ -192,8 +192,12 @@ fn expect_rows(rt: &(impl AllocGlobal + Abort), rows: &[Row]) {
 }
 
 #[test]
-fn words(rt: HostRuntime) {
+fn words_refused(rt: HostRuntime) {
     expect_rows(&rt, REFUSALS);
+}
+
+#[test]
+fn words_served(rt: HostRuntime) {
     expect_rows(&rt, SERVED);
 }
 
