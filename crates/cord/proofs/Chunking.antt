@@ -13,7 +13,8 @@ use Rattle.cord_node.specs.Tables.{bytes_over, FitsIn}
 use Rattle.cord_core.proofs.OverLemmas.{length-bytes}
 use Rattle.cord.specs.Plain.{no_table, no_lengths}
 use Rattle.cord.specs.declared.chunks.Chunk.{Chunk}
-use Rattle.cord.specs.Chunks.{chunk_bytes, IsChunkAt, GivesChunk}
+use Rattle.cord.specs.Chunks.{chunk_bytes, GivesChunk}
+use Rattle.cord.specs.inner.Chunks.{IsChunkAt}
 
 -- a node over no files has as many bytes as it stores
 pub node_len : (n : Node) → IsSound n → FitsIn no_lengths n → len_of n ≡ length (bytes_over no_table n)

@@ -9,7 +9,8 @@ use Rattle.std.proofs.lemmas.List.{take-append-le, length-take-le, reverse-appen
 use Rattle.std.proofs.lemmas.List.Folds.{concat-append}
 use Rattle.std.proofs.Math.Seq.{take-append-add}
 use Rattle.cord.specs.declared.chunks.Chunk.{Chunk}
-use Rattle.cord.specs.Chunks.{chunk_bytes, IsChunkBefore, GivesChunkBefore}
+use Rattle.cord.specs.Chunks.{chunk_bytes, GivesChunkBefore}
+use Rattle.cord.specs.inner.Chunks.{IsChunkBefore}
 
 -- all that a part has up to the place
 pub chunk_front : (x : List ℕ) (end : ℕ) (chunk : Chunk) → 0 < end → end ≤ length x → chunk_bytes chunk ≡ take end x →

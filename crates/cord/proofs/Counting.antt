@@ -2,22 +2,14 @@
 use Rattle.std.proofs.Common.{◌≡◌, ℕ, zero, suc, ◌+◌, ◌-◌, ◌≤◌, Bool, true, false, cond, List, length, drop, ap, ◌∙◌, refl, arith}
 use Rattle.std.specs.Prelude.{slice_index}
 use Rattle.std.specs.List.{count_by}
-use Rattle.std.proofs.lemmas.List.Sums.{sum_by-append, sum_by-drop_more}
+use Rattle.std.proofs.lemmas.List.Sums.{sum_by-drop_more}
 use Rattle.std.proofs.lemmas.List.{drop_all}
 use Rattle.memchr.specs.Find.{places_from, places}
-use Rattle.cord.specs.declared.chunks.Chunk.{Chunk}
-use Rattle.cord.specs.Chunks.{chunk_bytes, IsChunkAt}
 
 -- the bytes before a place are counted
 pub record IsCounted (p : ℕ → Bool) (x : List ℕ) (place count : ℕ) : Type 0 where
   pub inside : place ≤ length x
   pub sum : count + count_by p (drop place x) ≡ count_by p x
-
-module _ (p : ℕ → Bool) (x : List ℕ) (place count : ℕ) (i : IsCounted p x place count) where
-  module _ (chunk : Chunk) (k : IsChunkAt x place chunk) where
-    rest : count_by p (drop place x) ≡ count_by p (chunk_bytes chunk) + count_by p (drop (place + length (chunk_bytes chunk)) x)
-    rest = ap (λ (y : List ℕ). count_by p y) k.text ∙ sum_by-append (λ (b : ℕ). cond (p b) 1 0) (chunk_bytes chunk)
-        (drop (place + length (chunk_bytes chunk)) x)
 
 -- as many places as bytes pass a test
 count_places : (p : ℕ → Bool) (hay : List ℕ) (i n : ℕ) → i + n ≡ length hay → length (places_from p hay i n) ≡ count_by p (drop i hay)

@@ -11,7 +11,8 @@ use Rattle.cord_printf.specs.declared.arguments.Arg.TheVariants as cords
 use Rattle.cord_printf.specs.declared.errors.PrintError.{PrintError}
 use Rattle.cord_printf.specs.declared.errors.PrintError.TheVariants.{WrongArgs, Negative, BadByte, TooLong, NoMemory}
 use Rattle.cord_printf.specs.declared.pieces.Piece.{Piece}
-use Rattle.cord_printf.specs.PieceText.{number, text, map_argument, kind_of, printed, first_refusal}
+use Rattle.cord_printf.specs.PieceText.{number, text, kind_of, printed, first_refusal}
+use Rattle.cord_printf.specs.inner.PieceText.{map_argument}
 use Rattle.cord_printf.specs.Printing.{arguments_of}
 use Rattle.cord_printf.specs.Printing as on_cells
 use Rattle.cord_printf.specs.Over.{ArgumentsFitIn, argument_over, IsPrintOf}
@@ -19,7 +20,8 @@ use Rattle.cord_printf.proofs.Natural.{kinds-map, first_refusal-map}
 use Rattle.cord_printf.proofs.Tables.{length_of_print}
 use Rattle.cord.specs.declared.print.TextArg.{TextArg}
 use Rattle.cord.specs.Plain.{no_table}
-use Rattle.cord.specs.Prints.{given_by, given, print_of, AreWanted, IsRefusedFor, IsArgumentFor, AreArgumentsFor}
+use Rattle.cord.specs.Prints.{piece_argument, piece_arguments, print_of, AreWanted, IsRefusedFor}
+use Rattle.cord.specs.inner.Prints.{IsArgumentFor, AreArgumentsFor}
 
 pub none_made : AreArgumentsFor [] []
 none_made = record { fits = λ ls. tt; bytes = λ t. refl }
@@ -38,11 +40,11 @@ pub one_made : (args : List TextArg) (arg : TextArg) (xs : List Arg) (x : Arg) �
     AreArgumentsFor (args ++ arg ∷ []) (xs ++ x ∷ [])
 one_made args arg xs x a i = record {
   fits = λ ls. fit_both ls xs (x ∷ []) (a.fits ls) (i.fits ls);
-  bytes = λ t. map_both (argument_over t) xs x ∙ (rw (a.bytes t, i.bytes t) (sym (map_both given_by args arg)));
+  bytes = λ t. map_both (argument_over t) xs x ∙ (rw (a.bytes t, i.bytes t) (sym (map_both piece_argument args arg)));
 }
 
 -- a text as a cord
-pub text_made : (arg : TextArg) (b : List ℕ) (x c : Option Node) → given_by arg ≡ text b → HasText b x → c ≡ x →
+pub text_made : (arg : TextArg) (b : List ℕ) (x c : Option Node) → piece_argument arg ≡ text b → HasText b x → c ≡ x →
     IsArgumentFor arg (cords.Cord c)
 text_made arg b x c g h e = rw e (record { fits = λ ls. (h.fits ls, tt); bytes = λ t. ap (λ y. text y) (h.bytes t) ∙ sym g })
 
@@ -57,13 +59,13 @@ cells_over t (cords.Cord c ∷ xs) f =
     cc (first, rest)
 
 module _ (pieces : List Piece) (args : List TextArg) (made : List Arg) (a : AreArgumentsFor args made) where
-  as_given : map (map_argument (byte_at no_table)) (arguments_of made) ≡ given args
+  as_given : map (map_argument (byte_at no_table)) (arguments_of made) ≡ piece_arguments args
   as_given = cells_over no_table made (a.fits (lengths_of no_table)) ∙ a.bytes no_table
 
-  kinds : map kind_of (arguments_of made) ≡ map kind_of (given args)
+  kinds : map kind_of (arguments_of made) ≡ map kind_of (piece_arguments args)
   kinds = sym (kinds-map (byte_at no_table) (arguments_of made)) ∙ ap (map kind_of) as_given
 
-  refusals : first_refusal 0 pieces (arguments_of made) ≡ first_refusal 0 pieces (given args)
+  refusals : first_refusal 0 pieces (arguments_of made) ≡ first_refusal 0 pieces (piece_arguments args)
   refusals = sym (first_refusal-map (byte_at no_table) 0 pieces (arguments_of made)) ∙ ap (first_refusal 0 pieces) as_given
 
   lengths : length (printed known pieces (arguments_of made)) ≡ length (print_of pieces args)
@@ -80,7 +82,7 @@ module _ (pieces : List Piece) (args : List TextArg) (made : List Arg) (a : AreA
   pub wanted_alike : on_cells.AreWanted pieces (arguments_of made) → AreWanted pieces args
   wanted_alike w = sym kinds ∙ w
 
-  pub taken_alike : first_refusal 0 pieces (arguments_of made) ≡ None → first_refusal 0 pieces (given args) ≡ None
+  pub taken_alike : first_refusal 0 pieces (arguments_of made) ≡ None → first_refusal 0 pieces (piece_arguments args) ≡ None
   taken_alike n = sym refusals ∙ n
 
   -- and is refused for the same reason

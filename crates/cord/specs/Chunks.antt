@@ -1,5 +1,5 @@
 -- Chunks: what a text has in one part of its tree, of which none is empty.
-use Rattle.std.specs.Prelude.{◌≡◌, ◌+◌, ◌-◌, ◌<◌, ◌≤◌, ℕ, List, [], ◌++◌, length, map, take, drop, reverse, replicate, Option, MatchOption}
+use Rattle.std.specs.Prelude.{◌≡◌, ◌+◌, ◌<◌, ℕ, List, [], ◌++◌, length, map, reverse, replicate, Option, MatchOption}
 use Rattle.std.specs.Prelude.{true}
 use Rattle.std.specs.List.{concat}
 use Rattle.std.specs.Iterator.Runs.{EachRunFrom}
@@ -11,12 +11,6 @@ abbrev pub chunk_bytes : Chunk → List ℕ
 chunk_bytes (Bytes bytes) = bytes.now
 chunk_bytes (Run byte count) = replicate count byte
 
--- it is what x has from a place on
-pub record IsChunkAt (x : List ℕ) (place : ℕ) (chunk : Chunk) : Type 0 where
-  pub some : 0 < length (chunk_bytes chunk)
-  pub inside : place + length (chunk_bytes chunk) ≤ length x
-  pub text : drop place x ≡ chunk_bytes chunk ++ drop (place + length (chunk_bytes chunk)) x
-
 -- a call that gave a chunk with which the bytes that were left begin, or nothing where none was left
 abbrev pub GivesChunk : List ℕ → Option Chunk → List ℕ → Type 0
 GivesChunk old answer new = MatchOption answer ((old ≡ []) × (new ≡ [])) (λ chunk. (0 < length (chunk_bytes chunk)) ×
@@ -25,12 +19,6 @@ GivesChunk old answer new = MatchOption answer ((old ≡ []) × (new ≡ [])) (�
 -- the chunks that come up to the end are the bytes, one after another
 abbrev pub JoinTo : List ℕ → List ℕ → Type 0
 JoinTo left x = EachRunFrom GivesChunk left (λ p. p.whole ≡ true → concat (map chunk_bytes p.items) ≡ x)
-
--- it is what x has up to a place
-pub record IsChunkBefore (x : List ℕ) (end : ℕ) (chunk : Chunk) : Type 0 where
-  pub some : 0 < length (chunk_bytes chunk)
-  pub inside : length (chunk_bytes chunk) ≤ end
-  pub text : take end x ≡ take (end - length (chunk_bytes chunk)) x ++ chunk_bytes chunk
 
 -- a call that gave a chunk with which the bytes that were left end, or nothing where none was left
 abbrev pub GivesChunkBefore : List ℕ → Option Chunk → List ℕ → Type 0

@@ -5,3 +5,4 @@ pub mod Lines
 pub mod Chunks
 pub mod Repeats
 pub mod Means
+pub mod inner

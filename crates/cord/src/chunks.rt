@@ -2,7 +2,8 @@
 ghost use Rattle.std.specs.Prelude.{◌≡◌, ◌<◌, length, min, take};
 ghost use Rattle.cord_node.specs.Tree.{len_of, IsSound};
 ghost use Rattle.cord_node.specs.Tables.{bytes_over, FitsIn};
-ghost use Rattle.cord.specs.Chunks.{chunk_bytes, IsChunkAt, JoinBackTo, JoinTo};
+ghost use Rattle.cord.specs.Chunks.{chunk_bytes, JoinBackTo, JoinTo};
+ghost use Rattle.cord.specs.inner.Chunks.{IsChunkAt};
 ghost use Rattle.cord.specs.Plain.{no_lengths, no_table};
 
 use crate::{ChunksBack, Text};

@@ -2,7 +2,7 @@
 ghost use Rattle.std.specs.Prelude.{◌<◌, ◌≤◌, length};
 ghost use Rattle.cord_node.specs.Tree.{len_of, IsSound};
 ghost use Rattle.cord_node.specs.Tables.{bytes_over, FitsIn};
-ghost use Rattle.cord.specs.Chunks.{IsChunkBefore};
+ghost use Rattle.cord.specs.inner.Chunks.{IsChunkBefore};
 ghost use Rattle.cord.specs.Plain.{no_lengths, no_table};
 
 use crate::{Chunk, Text};

@@ -1,7 +1,7 @@
 // The bytes of a text in a vector, and in a sink.
 ghost use Rattle.std.specs.Prelude.{◌≡◌, ◌<◌, ◌++◌, OnOk, OnErr, IfOk, IfErr, IsOk, IsOkUnless, is_err};
 ghost use Rattle.cord_io.specs.Device.{count_after};
-ghost use Rattle.cord_iter.specs.Taking.{IsFrontOf, Takes};
+ghost use Rattle.cord_iter.specs.Output.{IsFrontOf, Takes};
 
 use crate::{NoSource, Text};
 use cord_io::{CordError, Sink};

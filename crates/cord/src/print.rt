@@ -1,7 +1,8 @@
 // Texts by formats.
 ghost use Rattle.std.specs.Prelude.{◌≡◌, IfOk, IfErr, IsOkUnless, None};
 ghost use Rattle.cord_printf.specs.PieceText.{first_refusal};
-ghost use Rattle.cord.specs.Prints.{given, print_of, AreWanted, IsRefusedFor, IsArgumentFor, AreArgumentsFor};
+ghost use Rattle.cord.specs.Prints.{piece_arguments, print_of, AreWanted, IsRefusedFor};
+ghost use Rattle.cord.specs.inner.Prints.{IsArgumentFor, AreArgumentsFor};
 
 use crate::Text;
 use cord_io::MAX_LEN;
@@ -26,7 +27,7 @@ impl Text {
     pub fn print(alloc: Global, format: &Format, args: &[TextArg<'_>]) -> Result<Text, PrintError>
         ensures text { IfOk result (λ t. t ≡ print_of format.now args.now) }
         ensures wanted { IfOk result (λ _. AreWanted format.now args.now) }
-        ensures taken { IfOk result (λ _. first_refusal 0 format.now (given args.now) ≡ None) }
+        ensures taken { IfOk result (λ _. first_refusal 0 format.now (piece_arguments args.now) ≡ None) }
         ensures refused { IfErr result (IsRefusedFor MAX_LEN format.now args.now) }
     {
         let args = cords_of(alloc, args)?;

@@ -1,5 +1,4 @@
-//! Balanced ropes: parts are put into slots for lengths between Fibonacci numbers, as Boehm, Atkinson
-//! and Plass do (Ropes: an Alternative to Strings, 1995).
+//! Balanced ropes: parts are put into slots for lengths between Fibonacci numbers.
 #![tactic(auto)]
 
 ghost use Rattle.std.specs.Prelude.{◌≡◌, ℕ, ◌+◌, ◌<◌, ◌≤◌, IfOk, length};

@@ -3,7 +3,8 @@ use Rattle.std.proofs.Common.{◌≡◌, ℕ, List, get_or, ap}
 use Rattle.std.specs.Prelude.{slice_set, if◌then◌else◌, ◌==◌}
 use Rattle.std.proofs.Math.Seq.{map-set_same}
 use Rattle.cord_printf.specs.PieceText.{number, text}
-use Rattle.cord_c.specs.Prints.{given, texts_in, given_by}
+use Rattle.cord_c.specs.Prints.{piece_arguments, piece_argument}
+use Rattle.cord_c.specs.inner.Prints.{texts_in}
 use Rattle.cord_c.specs.declared.argument.Argument.{Argument}
 use Rattle.cord_c.specs.declared.handle.Handle.{Handle}
 
@@ -13,8 +14,8 @@ module _ (args : List Argument) (i : ℕ) (x : Argument) (h : Handle) where
   held = record { text = h; number = (get_or args i x).number; is_text = (get_or args i x).is_text }
 
   -- one with a handle of the same text in place of it
-  pub same_given : h.text ≡ (get_or args i x).text.text → given (slice_set args i held) ≡ given args
-  same_given e = map-set_same given_by args i held x
+  pub same_arguments : h.text ≡ (get_or args i x).text.text → piece_arguments (slice_set args i held) ≡ piece_arguments args
+  same_arguments e = map-set_same piece_argument args i held x
       (ap (λ t. if (get_or args i x).is_text == 0 then number (get_or args i x).number else text t) e)
 
   pub same_texts : h.text ≡ (get_or args i x).text.text → texts_in (slice_set args i held) ≡ texts_in args

@@ -28,12 +28,13 @@ use Rattle.std.specs.contracts.impls.GlobalAllocator.TheImpl.{ghosts}
 use Rattle.cord_raw.specs.contracts.raw.Raw as owner
 use Rattle.cord_raw.specs.declared.raw.Raw.{Raw}
 use Rattle.cord_raw.proofs.raw.Raw.TheLaws as owner_laws
-use Rattle.cord_c.proofs.kept.Kept.TheLaws as kept_laws
-use Rattle.cord_c.specs.contracts.kept.Kept as kept
-use Rattle.cord_c.specs.Handles.{the_heap, frees, handle_owns}
+use Rattle.cord_c.proofs.referent.Referent.TheLaws as referent_laws
+use Rattle.cord_c.specs.contracts.referent.Referent as referent
+use Rattle.cord_raw.specs.inner.Ownership.{the_heap, frees}
+use Rattle.cord_c.specs.Handles.{handle_owns}
 use Rattle.cord_c.specs.contracts.handle.Handle as handle
 use Rattle.cord_c.specs.declared.handle.Handle.{Handle}
-use Rattle.cord_c.specs.declared.kept.Kept.{Kept}
+use Rattle.cord_c.specs.declared.referent.Referent.{Referent}
 use Rattle.cord_c.proofs.handle.Handle.TheLaws as handle_laws
 
 -- the allocator's handle is one value
@@ -55,23 +56,24 @@ abbrev pub word : Ptr → Val
 word p = vstruct (vcons (ptr_val p) (vcons heap_val vnil))
 
 -- what a handle leads to, on the heap by its pointer
-abbrev pub RawKept : RattleType
-RawKept = owner.the_row kept.the_row heap.the_row ghosts
+abbrev pub RawReferent : RattleType
+RawReferent = owner.the_row referent.the_row heap.the_row ghosts
 
-abbrev pub owner_val : Raw Kept Global → Val
+abbrev pub owner_val : Raw Referent Global → Val
 owner_val r = word r.at
 
 abbrev raw_type : Owning
-raw_type = owner.the_type kept.the_row heap.the_row ghosts
+raw_type = owner.the_type referent.the_row heap.the_row ghosts
 
 abbrev raw_owning : OwningLaws raw_type
-raw_owning = owner_laws.the_laws kept.the_row heap.the_row ghosts kept_laws.the_row_laws heap_laws.the_row_laws heap_laws.the_told
+raw_owning = owner_laws.the_laws referent.the_row heap.the_row ghosts referent_laws.the_row_laws heap_laws.the_row_laws heap_laws.the_told
 
-raw_are : (r : Raw Kept Global) → Is (Struct (shape raw_type)) (to raw_type r) (owner_val r ∷ [])
+raw_are : (r : Raw Referent Global) → Is (Struct (shape raw_type)) (to raw_type r) (owner_val r ∷ [])
 raw_are r = ((ptr_val r.at ∷ [], (heap_val ∷ [], tt)), (refl, (refl, (heap_is r.alloc, tt))))
 
-pub owner_tells : (r : Raw Kept Global) (vs : List Val) → Is RawKept r vs → vs ≡ owner_val r ∷ []
-owner_tells = (owner_laws.lowers kept.the_row heap.the_row ghosts kept_laws.the_row_laws heap_laws.the_row_laws heap_laws.the_told).val_is
+pub owner_tells : (r : Raw Referent Global) (vs : List Val) → Is RawReferent r vs → vs ≡ owner_val r ∷ []
+owner_tells = (owner_laws.lowers referent.the_row heap.the_row ghosts referent_laws.the_row_laws heap_laws.the_row_laws
+    heap_laws.the_told).val_is
 
 -- the two fields of a handle alone
 abbrev Fields : RattleType
@@ -90,7 +92,7 @@ fields_pure : (h : Handle) (vs : List Val) → Pure (Fields.own_val (fields_of h
 fields_pure h vs = Struct-Pure (shape handle.the_type) (RawPtr-plain, (heap_laws.the_field_plain, tt)) (fields_of h) vs
 
 module _ {M : Type 1} {𝓤 : Ura M} (𝓛 : Logic 𝓤) where
-  pub owner_typed : (r : Raw Kept Global) → Yes (has_ty (lone RawKept.mir) (owner_val r)) × WT (owner_val r)
+  pub owner_typed : (r : Raw Referent Global) → Yes (has_ty (lone RawReferent.mir) (owner_val r)) × WT (owner_val r)
   owner_typed r = ((Struct-Lawful 𝓛 (shape raw_type) (lawfuls 𝓛 raw_type.parts raw_owning)).typed (to raw_type r) (owner_val r ∷ [])
       (raw_are r)).0
 
@@ -99,35 +101,35 @@ module _ {M : Type 1} {𝓤 : Ura M} (𝓛 : Logic 𝓤) where
       (handle_val h ∷ []) (fields_are h)).0
 
   -- what lies on the heap lies where a pointer may be compared with null
-  pub tested : (p : Ptr) (c : Kept) → ent 𝓤 (sem 𝓛 (box_owns frees kept.the_row p c))
-      (guard 𝓤 (Testable p) (sem 𝓛 (box_owns frees kept.the_row p c)))
-  tested p c = fact_use 𝓤 (Testable p) (via 𝓤 (sem 𝓛 (frees (bare (lone kept.the_row.mir)) p))
-      (snd∗ 𝓤 (sem 𝓛 (lies_at kept.the_row full_share p c)) (sem 𝓛 (frees (bare (lone kept.the_row.mir)) p)))
-      (dealloc_token-Testable 𝓛 the_heap (bare (lone kept.the_row.mir)) p))
-      (guard_i 𝓤 (Testable p) (sem 𝓛 (box_owns frees kept.the_row p c)))
+  pub tested : (p : Ptr) (c : Referent) → ent 𝓤 (sem 𝓛 (box_owns frees referent.the_row p c))
+      (guard 𝓤 (Testable p) (sem 𝓛 (box_owns frees referent.the_row p c)))
+  tested p c = fact_use 𝓤 (Testable p) (via 𝓤 (sem 𝓛 (frees (bare (lone referent.the_row.mir)) p))
+      (snd∗ 𝓤 (sem 𝓛 (lies_at referent.the_row full_share p c)) (sem 𝓛 (frees (bare (lone referent.the_row.mir)) p)))
+      (dealloc_token-Testable 𝓛 the_heap (bare (lone referent.the_row.mir)) p))
+      (guard_i 𝓤 (Testable p) (sem 𝓛 (box_owns frees referent.the_row p c)))
 
   -- and is a handle's
-  pub held : (p : Ptr) (c : Kept) → ent 𝓤 (sem 𝓛 (box_owns frees kept.the_row p c)) (sem 𝓛 (handle_owns p c))
+  pub held : (p : Ptr) (c : Referent) → ent 𝓤 (sem 𝓛 (box_owns frees referent.the_row p c)) (sem 𝓛 (handle_owns p c))
   held (block_ptr b o) c = id⊢ 𝓤 _
-  held null_ptr c = via 𝓤 (never 𝓤) (fst∗ 𝓤 (never 𝓤) (sem 𝓛 (frees (bare (lone kept.the_row.mir)) null_ptr)))
+  held null_ptr c = via 𝓤 (never 𝓤) (fst∗ 𝓤 (never 𝓤) (sem 𝓛 (frees (bare (lone referent.the_row.mir)) null_ptr)))
       (never_e 𝓤 (sem 𝓛 (handle_owns null_ptr c)))
 
 module _ {M : Type 1} {𝓤 : Ura M} {𝓛 : Logic 𝓤} {X : Type 0} {Γ : List (Item 𝓤)} {G : Goal 𝓤 𝓛.H} where
   -- a handle is made of what it owns
-  pub packs : X → (h : Handle) → Step X 𝓛 (‵ (handle.the_row.own_val h (handle_val h ∷ [])) ∷ Γ) G (‵ (handle_owns h.at h.kept) ∷ Γ) G
+  pub packs : X → (h : Handle) → Step X 𝓛 (‵ (handle.the_row.own_val h (handle_val h ∷ [])) ∷ Γ) G (‵ (handle_owns h.at h.referent) ∷ Γ) G
   packs t h = step (λ s. pure_i t (Fields.own_val (fields_of h) (handle_val h ∷ [])) (fields_pure h (handle_val h ∷ []))
       (fields_are h) $ fjoin t $ s)
 
   -- and taken apart to it
-  pub unpacks : X → (h : Handle) (vs : List Val) → (vs ≡ handle_val h ∷ [] → Seq X 𝓛 (‵ (handle_owns h.at h.kept) ∷ Γ) G) →
+  pub unpacks : X → (h : Handle) (vs : List Val) → (vs ≡ handle_val h ∷ [] → Seq X 𝓛 (‵ (handle_owns h.at h.referent) ∷ Γ) G) →
       Seq X 𝓛 (‵ (handle.the_row.own_val h vs) ∷ Γ) G
   unpacks t h vs rest = peeks t handle.the_row (Is handle.the_row) (shows 𝓛 handle.the_row) h vs
       (λ is. fsplit t $ drop t $ rest (handle_laws.lowers.val_is h vs is))
 
   -- the owner of what a handle leads to is made of it
-  pub packs_raw : X → (b o : ℕ) (a : Global) (c : Kept)
-      → Step X 𝓛 (‵ (RawKept.own_val (record { at = block_ptr b o; alloc = a; value = c }) (word (block_ptr b o) ∷ [])) ∷ Γ) G
-      (‵ (box_owns frees kept.the_row (block_ptr b o) c) ∷ Γ) G
+  pub packs_raw : X → (b o : ℕ) (a : Global) (c : Referent)
+      → Step X 𝓛 (‵ (RawReferent.own_val (record { at = block_ptr b o; alloc = a; value = c }) (word (block_ptr b o) ∷ [])) ∷ Γ) G
+      (‵ (box_owns frees referent.the_row (block_ptr b o) c) ∷ Γ) G
   packs_raw t b o a c = step (λ s. let v : Val = word (block_ptr b o) in
       pure_i t (heap.the_row.own_val a (heap_val ∷ [])) (heap_plain a (heap_val ∷ [])) (heap_is a) $ nothing t $
       move t (1 ∷ 0 ∷ []) $ fjoin t $ feq_i t (List Val) (vptr b o ∷ []) (vptr b o ∷ []) refl $ fjoin t $

@@ -3,8 +3,9 @@ pub mod Chunks
 pub mod Codes
 pub mod Grown
 pub mod Handles
-pub mod Kept
+pub mod Referent
 pub mod Lazy
 pub mod Lists
 pub mod Positions
 pub mod Prints
+pub mod inner

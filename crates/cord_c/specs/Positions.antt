@@ -1,5 +1,5 @@
 -- Where positions stand, after the positions of cords.
-use Rattle.std.specs.Prelude.{ℕ, ◌+◌, zero, suc, List, length, Option, Some, None, if◌then◌else◌, nat_lt, slice_get}
+use Rattle.std.specs.Prelude.{ℕ, ◌+◌, List, length, Option, Some, None, if◌then◌else◌, nat_lt, slice_get}
 use Rattle.cord_c.specs.declared.position.Position.{Position}
 
 -- an index where a text has a byte, or none
@@ -10,12 +10,6 @@ index_in bytes i = if nat_lt i (length bytes) then Some i else None
 abbrev pub next_in : List ℕ → Option ℕ → Option ℕ
 next_in bytes None = None
 next_in bytes (Some i) = index_in bytes (i + 1)
-
--- the previous index: none at 0, and none stays none
-abbrev pub prev_of : Option ℕ → Option ℕ
-prev_of None = None
-prev_of (Some zero) = None
-prev_of (Some (suc i)) = Some i
 
 -- the bytes of a position's cord
 abbrev pub bytes_of : Position → List ℕ

@@ -1,23 +1,18 @@
 -- Formats with arguments of C.
-use Rattle.std.specs.Prelude.{◌≡◌, ◌⊎◌, ◌<◌, ◌==◌, ℕ, ℤ, if◌then◌else◌, None, List, length, map}
+use Rattle.std.specs.Prelude.{◌≡◌, ◌⊎◌, ◌<◌, ◌==◌, ℕ, if◌then◌else◌, None, List, length, map}
 use Rattle.cord_io.specs.declared.TheConstants.{MAX_LEN}
 use Rattle.cord_printf.specs.declared.pieces.Piece.{Piece}
 use Rattle.cord_printf.specs.Format.{IsFormat, IsBadAt}
 use Rattle.cord_printf.specs.Pieces.{wanted}
 use Rattle.cord_printf.specs.PieceText.{PieceArgument, number, text, kind_of, printed, first_refusal}
 use Rattle.cord_c.specs.declared.argument.Argument.{Argument}
-use Rattle.cord_c.specs.declared.code.TheConstants.{TOO_LONG, NO_MEMORY, BAD_ARGUMENT}
 
 -- what a conversion is given
-abbrev pub given_by : Argument → PieceArgument ℕ
-given_by a = if a.is_text == 0 then number a.number else text a.text.text
+abbrev pub piece_argument : Argument → PieceArgument ℕ
+piece_argument a = if a.is_text == 0 then number a.number else text a.text.text
 
-abbrev pub given : List Argument → List (PieceArgument ℕ)
-given args = map given_by args
-
--- the bytes of their texts
-abbrev pub texts_in : List Argument → List (List ℕ)
-texts_in args = map (λ a. a.text.text) args
+abbrev pub piece_arguments : List Argument → List (PieceArgument ℕ)
+piece_arguments args = map piece_argument args
 
 -- the arguments are as many as the pieces take, and of their kinds, and each piece takes its own
 pub record Takes (pieces : List Piece) (args : List (PieceArgument ℕ)) : Type 0 where
@@ -41,7 +36,3 @@ pub record IsLongPrint (format : List ℕ) (args : List (PieceArgument ℕ)) : T
 -- the bytes are no format, or one that doesn't take the arguments
 abbrev pub IsNoPrint : List ℕ → List (PieceArgument ℕ) → Type 0
 IsNoPrint format args = ((offset : ℕ) × IsBadAt format offset) ⊎ ((pieces : List Piece) × IsFormat format pieces × ¬ Takes pieces args)
-
--- the code of a refusal, with what it says
-abbrev pub IsRefusedPrint : List ℕ → List (PieceArgument ℕ) → ℤ → Type 0
-IsRefusedPrint format args c = ((c ≡ TOO_LONG) × IsLongPrint format args) ⊎ (c ≡ NO_MEMORY) ⊎ ((c ≡ BAD_ARGUMENT) × IsNoPrint format args)

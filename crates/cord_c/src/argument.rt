@@ -1,7 +1,7 @@
 //! What a `zc_arg` of C is: a number, or a cord.
 ghost use Rattle.std.specs.Prelude.{◌≡◌};
 ghost use Rattle.cord.specs.Prints as of_texts;
-ghost use Rattle.cord_c.specs.Prints.{given_by};
+ghost use Rattle.cord_c.specs.Prints.{piece_argument};
 
 use crate::Handle;
 use cord::{Text, TextArg};
@@ -19,7 +19,7 @@ impl Argument {
     /// The argument as a print takes it, whose text is this one.
     pub(crate) fn with<'a>(&self, text: &'a Text) -> TextArg<'a>
         requires { text.now ≡ self.now.text.text }
-        ensures { of_texts.given_by result ≡ given_by self.now }
+        ensures { of_texts.piece_argument result ≡ piece_argument self.now }
     {
         if self.is_text == 0 {
             TextArg::Num(self.number)

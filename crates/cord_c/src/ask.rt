@@ -6,7 +6,7 @@ ghost use Rattle.std.specs.Ordering.{nat_cmp};
 ghost use Rattle.std.specs.Cmp.Lexicographic.{slice_cmp};
 ghost use Rattle.cord_core.specs.Texts.{first};
 ghost use Rattle.cord.specs.Places.{last_before};
-ghost use Rattle.cord_c.specs.Codes.{IsKeeping};
+ghost use Rattle.cord_c.specs.Codes.{MayLackMemory};
 ghost use Rattle.cord_c.specs.Answers.{place_or_none, sign_of};
 ghost use denote.RawPtr.{Testable};
 ghost use Rattle.core.specs.Ptr.{as_mut_ptr};
@@ -116,7 +116,7 @@ pub extern "C" fn zc_str(
     requires places { Testable (as_mut_ptr x) × Testable (as_mut_ptr y) × Testable (as_mut_ptr place) }
     ensures first { result ≡ OK → place.new ≡ place_or_none (first x.old.text start y.old.text) }
     ensures kept { (result ≡ OK) ⊎ (place.new ≡ place.old) }
-    ensures code { IsKeeping result }
+    ensures code { MayLackMemory result }
     ensures x { x.new.text ≡ x.old.text }
     ensures y { y.new.text ≡ y.old.text }
 {
@@ -145,7 +145,7 @@ pub extern "C" fn zc_find(
     requires places { Testable (as_mut_ptr x) × Testable (as_mut_ptr place) }
     ensures first { result ≡ OK → place.new ≡ place_or_none (first x.old.text start bytes.now) }
     ensures kept { (result ≡ OK) ⊎ (place.new ≡ place.old) }
-    ensures code { IsKeeping result }
+    ensures code { MayLackMemory result }
     ensures short { length bytes.now ≤ MOST_BYTES → result ≢ NO_MEMORY }
     ensures x { x.new.text ≡ x.old.text }
 {
@@ -169,7 +169,7 @@ pub extern "C" fn zc_cmp(alloc: Global, x: &mut Handle, y: &mut Handle, order: &
     requires places { Testable (as_mut_ptr x) × Testable (as_mut_ptr y) × Testable (as_mut_ptr order) }
     ensures order { result ≡ OK → order.new ≡ sign_of (slice_cmp nat_cmp x.old.text y.old.text) }
     ensures kept { (result ≡ OK) ⊎ (order.new ≡ order.old) }
-    ensures code { IsKeeping result }
+    ensures code { MayLackMemory result }
     ensures x { x.new.text ≡ x.old.text }
     ensures y { y.new.text ≡ y.old.text }
 {
@@ -194,7 +194,7 @@ pub extern "C" fn zc_ncmp(
     ensures order { result ≡ OK →
         order.new ≡ sign_of (slice_cmp nat_cmp (take count (drop i x.old.text)) (take count (drop j y.old.text))) }
     ensures kept { (result ≡ OK) ⊎ (order.new ≡ order.old) }
-    ensures code { IsKeeping result }
+    ensures code { MayLackMemory result }
     ensures x { x.new.text ≡ x.old.text }
     ensures y { y.new.text ≡ y.old.text }
 {

@@ -1,7 +1,7 @@
 // Parts of a text, and texts with a part put in or taken out.
 ghost use Rattle.std.specs.Prelude.{◌≡◌, ◌⊎◌, ◌+◌, ◌<◌, ◌≤◌, ◌++◌, length, take, drop, slice_get, Some, None};
 ghost use Rattle.cord.specs.Lines.{bare_lines};
-ghost use Rattle.cord_c.specs.Codes.{IsMaking, IsKeeping};
+ghost use Rattle.cord_c.specs.Codes.{MayBeTooLong, MayLackMemory};
 ghost use denote.RawPtr.{Testable};
 ghost use Rattle.core.specs.Ptr.{as_mut_ptr};
 
@@ -23,7 +23,7 @@ pub extern "C" fn zc_substr(
     requires places { Testable (as_mut_ptr x) × Testable (as_mut_ptr out) }
     ensures text { result ≡ OK → out.new.text ≡ take count (drop start x.old.text) }
     ensures kept { (result ≡ OK) ⊎ (out.new.text ≡ out.old.text) }
-    ensures code { IsKeeping result }
+    ensures code { MayLackMemory result }
     ensures x { x.new.text ≡ x.old.text }
 {
     if missing(x) || missing(out) {
@@ -41,7 +41,7 @@ pub extern "C" fn zc_balance(alloc: Global, x: &mut Handle, out: &mut Handle) ->
     requires places { Testable (as_mut_ptr x) × Testable (as_mut_ptr out) }
     ensures text { result ≡ OK → out.new.text ≡ x.old.text }
     ensures kept { (result ≡ OK) ⊎ (out.new.text ≡ out.old.text) }
-    ensures code { IsKeeping result }
+    ensures code { MayLackMemory result }
     ensures x { x.new.text ≡ x.old.text }
 {
     if missing(x) || missing(out) {
@@ -70,7 +70,7 @@ pub extern "C" fn zc_insert(
     ensures kept { (result ≡ OK) ⊎ (out.new.text ≡ out.old.text) }
     ensures too_long { result ≡ TOO_LONG → MAX_LEN < length x.old.text + length y.old.text }
     ensures within_limit { result ≡ OK → length x.old.text + length y.old.text ≤ MAX_LEN }
-    ensures code { IsMaking result }
+    ensures code { MayBeTooLong result }
     ensures x { x.new.text ≡ x.old.text }
     ensures y { y.new.text ≡ y.old.text }
 {
@@ -98,7 +98,7 @@ pub extern "C" fn zc_remove(
     requires places { Testable (as_mut_ptr x) × Testable (as_mut_ptr out) }
     ensures text { result ≡ OK → out.new.text ≡ take start x.old.text ++ drop (start + count) x.old.text }
     ensures kept { (result ≡ OK) ⊎ (out.new.text ≡ out.old.text) }
-    ensures code { IsKeeping result }
+    ensures code { MayLackMemory result }
     ensures x { x.new.text ≡ x.old.text }
 {
     if missing(x) || missing(out) {
@@ -131,7 +131,7 @@ pub extern "C" fn zc_replace(
         MAX_LEN < length (take start x.old.text ++ y.old.text ++ drop (start + count) x.old.text) }
     ensures within_limit { result ≡ OK →
         length (take start x.old.text ++ y.old.text ++ drop (start + count) x.old.text) ≤ MAX_LEN }
-    ensures code { IsMaking result }
+    ensures code { MayBeTooLong result }
     ensures x { x.new.text ≡ x.old.text }
     ensures y { y.new.text ≡ y.old.text }
 {

@@ -2,7 +2,7 @@
 ghost use Rattle.std.specs.Prelude.{◌≡◌, ◌⊎◌, ◌+◌, ◌<◌, ◌≤◌, [], ◌∷◌, ◌++◌, length, take};
 ghost use Rattle.std.specs.Prelude.{IfOk, OnOk, IfErr, IsErr, IsOkUnless, Err};
 ghost use Rattle.cord_core.specs.Refusals.{IsRefusal};
-ghost use Rattle.cord_c.specs.Codes.{IsMaking, IsKeeping};
+ghost use Rattle.cord_c.specs.Codes.{MayBeTooLong, MayLackMemory};
 ghost use Rattle.cord_c.specs.Grown.{grown};
 ghost use denote.RawPtr.{Testable};
 ghost use Rattle.core.specs.Ptr.{as_mut_ptr};
@@ -35,7 +35,7 @@ pub extern "C" fn zc_ext_char(alloc: Global, x: &mut Extensible, byte: u8) -> i3
     ensures kept { (result ≡ OK) ⊎ (grown x.new ≡ grown x.old) }
     ensures too_long { result ≡ TOO_LONG → MAX_LEN < length (grown x.old) + 1 }
     ensures within_limit { result ≡ OK → length (grown x.old) + 1 ≤ MAX_LEN }
-    ensures code { IsMaking result }
+    ensures code { MayBeTooLong result }
 {
     if missing(x) {
         return BAD_ARGUMENT;
@@ -54,7 +54,7 @@ pub extern "C" fn zc_ext_bytes(alloc: Global, x: &mut Extensible, bytes: &[u8]) 
     ensures kept { (result ≡ OK) ⊎ (grown x.new ≡ grown x.old) }
     ensures too_long { result ≡ TOO_LONG → MAX_LEN < length (grown x.old) + length bytes.now }
     ensures within_limit { result ≡ OK → length (grown x.old) + length bytes.now ≤ MAX_LEN }
-    ensures code { IsMaking result }
+    ensures code { MayBeTooLong result }
 {
     if missing(x) {
         return BAD_ARGUMENT;
@@ -73,7 +73,7 @@ pub extern "C" fn zc_ext_cord(alloc: Global, x: &mut Extensible, y: &mut Handle)
     ensures kept { (result ≡ OK) ⊎ (grown x.new ≡ grown x.old) }
     ensures too_long { result ≡ TOO_LONG → MAX_LEN < length (grown x.old) + length y.old.text }
     ensures within_limit { result ≡ OK → length (grown x.old) + length y.old.text ≤ MAX_LEN }
-    ensures code { IsMaking result }
+    ensures code { MayBeTooLong result }
     ensures y { y.new.text ≡ y.old.text }
 {
     if missing(x) || missing(y) {
@@ -94,7 +94,7 @@ pub extern "C" fn zc_ext_to_cord(alloc: Global, x: &mut Extensible, out: &mut Ha
     requires places { Testable (as_mut_ptr x) × Testable (as_mut_ptr out) }
     ensures text { result ≡ OK → out.new.text ≡ grown x.old }
     ensures kept { (result ≡ OK) ⊎ (out.new.text ≡ out.old.text) }
-    ensures code { IsKeeping result }
+    ensures code { MayLackMemory result }
     ensures x { grown x.new ≡ grown x.old }
 {
     if missing(x) || missing(out) {

@@ -1,15 +1,16 @@
 //! What a `zc_cord` of C is: a pointer to a text on the heap, or null for the text of no bytes.
 ghost use Rattle.std.specs.Prelude.{◌≡◌, ◌⊎◌, ℕ, List, take, drop, IfOk, IsOkUnless, MatchOption, slice_get};
 ghost use denote.RawPtr.{Testable};
-ghost use Rattle.cord_c.specs.Codes.{IsKeeping};
+ghost use Rattle.cord_c.specs.Codes.{MayLackMemory};
 ghost use Rattle.cord_c.specs.Handles.{handle_owns};
-ghost use Rattle.cord_c.specs.Kept.{kept_in, text_by};
-ghost use Rattle.cord_c.specs.contracts.kept.Kept as row;
-ghost use Rattle.cord_c.specs.declared.kept.Kept.{Kept};
+ghost use Rattle.cord_c.specs.Referent.{text_by};
+ghost use Rattle.cord_c.specs.inner.Referent.{referent_in};
+ghost use Rattle.cord_c.specs.contracts.referent.Referent as row;
+ghost use Rattle.cord_c.specs.declared.referent.Referent.{Referent};
 
 use crate::code::{NO_MEMORY, OK};
-use crate::kept::Kept;
 use crate::lifted::Lifted;
+use crate::referent::Referent;
 use cord::{CordError, Text};
 use cord_core::Cord;
 use cord_raw::Raw;
@@ -23,20 +24,20 @@ use std::mem::replace;
 pub struct Handle {
     at: *mut u8,
     alloc: Global,
-    pub ghost kept: { Kept } by { row.the_row.coded },
+    pub ghost referent: { Referent } by { row.the_row.coded },
     pub ghost text: { List ℕ },
-    ghost told: { text ≡ text_by kept },
+    ghost told: { text ≡ text_by referent },
     ghost testable: { Testable at },
 }
 
 impl Model for Handle {
-    ghost also_owns = { λ h. handle_owns h.at h.kept };
+    ghost also_owns = { λ h. handle_owns h.at h.referent };
 }
 
 impl Drop for Handle {
     fn drop(self) {
-        if let Some(kept) = self.into_raw() {
-            drop(kept.into_box());
+        if let Some(referent) = self.into_raw() {
+            drop(referent.into_box());
         }
     }
 }
@@ -44,7 +45,7 @@ impl Drop for Handle {
 impl Handle {
     /// The handle of the text of no bytes: null.
     pub(crate) fn empty(alloc: Global) -> Handle
-        ensures { result.kept ≡ Kept.Nothing }
+        ensures { result.referent ≡ Referent.Nothing }
     {
         Handle {
             at: std::ptr::null_mut(),
@@ -53,10 +54,10 @@ impl Handle {
     }
 
     /// The handle of what lies on the heap.
-    pub(crate) fn of(kept: Raw<Kept, Global>) -> Handle
-        ensures { result.kept ≡ kept.value }
+    pub(crate) fn of(referent: Raw<Referent, Global>) -> Handle
+        ensures { result.referent ≡ referent.value }
     {
-        let Raw { at, alloc } = kept;
+        let Raw { at, alloc } = referent;
         Handle {
             at: at as *mut u8,
             alloc,
@@ -64,24 +65,24 @@ impl Handle {
     }
 
     /// What lies on the heap, nothing where the pointer is null.
-    pub(crate) fn into_raw(self) -> Option<Raw<Kept, Global>>
-        ensures { MatchOption result (self.kept ≡ Kept.Nothing) (λ l. l.value ≡ self.kept) }
+    pub(crate) fn into_raw(self) -> Option<Raw<Referent, Global>>
+        ensures { MatchOption result (self.referent ≡ Referent.Nothing) (λ l. l.value ≡ self.referent) }
     {
         let Handle { at, alloc } = self;
         if at.is_null() {
             return None;
         }
         Some(Raw {
-            at: at as *mut Kept,
+            at: at as *mut Referent,
             alloc,
         })
     }
 
     /// Takes away what it holds, and leaves nothing.
     pub(crate) fn lift(&mut self, alloc: Global) -> Lifted
-        ensures kept { kept_in result.held ≡ self.old.kept }
-        ensures text { text_by (kept_in result.held) ≡ self.old.text }
-        ensures left { self.new.kept ≡ Kept.Nothing }
+        ensures referent { referent_in result.held ≡ self.old.referent }
+        ensures text { text_by (referent_in result.held) ≡ self.old.text }
+        ensures left { self.new.referent ≡ Referent.Nothing }
     {
         Lifted {
             held: self.lift_box(alloc),
@@ -91,49 +92,49 @@ impl Handle {
     }
 
     // As `lift`: nothing where the pointer is null.
-    fn lift_box(&mut self, alloc: Global) -> Option<Box<Kept, Global>>
-        ensures kept { kept_in result ≡ self.old.kept }
-        ensures left { self.new.kept ≡ Kept.Nothing }
+    fn lift_box(&mut self, alloc: Global) -> Option<Box<Referent, Global>>
+        ensures referent { referent_in result ≡ self.old.referent }
+        ensures left { self.new.referent ≡ Referent.Nothing }
     {
         let held = replace(self, Handle::empty(alloc));
         match held.into_raw() {
             None => None,
-            Some(kept) => Some(kept.into_box()),
+            Some(referent) => Some(referent.into_box()),
         }
     }
 
     /// Holds what was lifted from now on.
     pub(crate) fn lower(&mut self, alloc: Global, held: Lifted)
-        ensures kept { self.new.kept ≡ kept_in held.held }
-        ensures text { self.new.text ≡ text_by (kept_in held.held) }
+        ensures referent { self.new.referent ≡ referent_in held.held }
+        ensures text { self.new.text ≡ text_by (referent_in held.held) }
     {
         let Lifted { held, .. } = held;
         self.lower_box(alloc, held);
     }
 
     // As `lower`: nothing makes the pointer null.
-    fn lower_box(&mut self, alloc: Global, held: Option<Box<Kept, Global>>)
-        ensures { self.new.kept ≡ kept_in held }
+    fn lower_box(&mut self, alloc: Global, held: Option<Box<Referent, Global>>)
+        ensures { self.new.referent ≡ referent_in held }
     {
         match held {
             None => *self = Handle::empty(alloc),
-            Some(kept) => *self = Handle::of(Raw::of(kept)),
+            Some(referent) => *self = Handle::of(Raw::of(referent)),
         }
     }
 
     /// Holds this from now on, and frees what it held, whose place on the heap it takes. Refused for want of memory
     /// alone, where the pointer is null: then it stays.
-    pub(crate) fn keep(&mut self, alloc: Global, kept: Kept) -> i32
-        ensures held { result ≡ OK → self.new.kept ≡ kept }
-        ensures same { (result ≡ OK) ⊎ (self.new.kept ≡ self.old.kept) }
-        ensures code { IsKeeping result }
+    pub(crate) fn keep(&mut self, alloc: Global, referent: Referent) -> i32
+        ensures held { result ≡ OK → self.new.referent ≡ referent }
+        ensures same { (result ≡ OK) ⊎ (self.new.referent ≡ self.old.referent) }
+        ensures code { MayLackMemory result }
     {
         let held = match self.lift_box(alloc) {
             Some(mut held) => {
-                *held = kept;
+                *held = referent;
                 held
             }
-            None => match Box::new(alloc, kept) {
+            None => match Box::new(alloc, referent) {
                 Ok(held) => held,
                 Err(_) => return NO_MEMORY,
             },
@@ -146,9 +147,9 @@ impl Handle {
     pub(crate) fn hold(&mut self, alloc: Global, text: Text) -> i32
         ensures held { result ≡ OK → self.new.text ≡ text }
         ensures kept { (result ≡ OK) ⊎ (self.new.text ≡ self.old.text) }
-        ensures code { IsKeeping result }
+        ensures code { MayLackMemory result }
     {
-        self.keep(alloc, Kept::Text(text))
+        self.keep(alloc, Referent::Text(text))
     }
 
     /// At most `count` of its bytes from `start` on, as a text that shares its tree. Refused for want of memory alone.

@@ -1,11 +1,11 @@
 //! What a `zc_lazy` of C is: a cord that may have parts in files.
 ghost use Rattle.std.specs.Prelude.{◌≡◌, ◌⊎◌, IfOk, IsOkUnless};
-ghost use Rattle.cord_c.specs.Codes.{IsKeeping};
+ghost use Rattle.cord_c.specs.Codes.{MayLackMemory};
 ghost use Rattle.cord_c.specs.Lazy.{cord_of};
 
 use crate::Handle;
 use crate::code::OK;
-use crate::kept::Kept;
+use crate::referent::Referent;
 use cord::CordError;
 use cord_core::Cord;
 use std::alloc::Global;
@@ -51,8 +51,8 @@ impl LazyHandle {
     pub(crate) fn hold(&mut self, alloc: Global, cord: Cord) -> i32
         ensures held { result ≡ OK → cord_of self.new ≡ cord }
         ensures kept { (result ≡ OK) ⊎ (cord_of self.new ≡ cord_of self.old) }
-        ensures code { IsKeeping result }
+        ensures code { MayLackMemory result }
     {
-        self.handle.keep(alloc, Kept::Cord(cord))
+        self.handle.keep(alloc, Referent::Cord(cord))
     }
 }

@@ -4,7 +4,7 @@ ghost use Rattle.cord_io.specs.Table.{Table};
 ghost use Rattle.cord_core.specs.Cord.{text_len, depth, bytes_of, CordFits};
 ghost use Rattle.cord_core.specs.Depths.{IsInSlot};
 ghost use Rattle.cord_core.specs.Equations.{HasText, IsCatOf, IsSubstring, IsSameText};
-ghost use Rattle.cord_c.specs.Codes.{IsMaking, IsKeeping};
+ghost use Rattle.cord_c.specs.Codes.{MayBeTooLong, MayLackMemory};
 ghost use Rattle.cord_c.specs.Lazy.{cord_of};
 ghost use denote.RawPtr.{Testable};
 ghost use Rattle.core.specs.Ptr.{as_mut_ptr};
@@ -56,7 +56,7 @@ pub extern "C" fn zc_lazy_from_cord(alloc: Global, x: &mut Handle, out: &mut Laz
     requires places { Testable (as_mut_ptr x) × Testable (as_mut_ptr out) }
     ensures text { result ≡ OK → HasText x.old.text (cord_of out.new) }
     ensures kept { (result ≡ OK) ⊎ (cord_of out.new ≡ cord_of out.old) }
-    ensures code { IsKeeping result }
+    ensures code { MayLackMemory result }
     ensures x { x.new.text ≡ x.old.text }
 {
     if missing(x) || missing(out) {
@@ -81,7 +81,7 @@ pub extern "C" fn zc_lazy_cat(
     ensures kept { (result ≡ OK) ⊎ (cord_of out.new ≡ cord_of out.old) }
     ensures too_long { result ≡ TOO_LONG → MAX_LEN < text_len (cord_of x.old) + text_len (cord_of y.old) }
     ensures within_limit { result ≡ OK → text_len (cord_of x.old) + text_len (cord_of y.old) ≤ MAX_LEN }
-    ensures code { IsMaking result }
+    ensures code { MayBeTooLong result }
     ensures x { cord_of x.new ≡ cord_of x.old }
     ensures y { cord_of y.new ≡ cord_of y.old }
 {
@@ -109,7 +109,7 @@ pub extern "C" fn zc_lazy_substr(
     requires places { Testable (as_mut_ptr x) × Testable (as_mut_ptr out) }
     ensures text { result ≡ OK → IsSubstring start count (cord_of x.old) (cord_of out.new) }
     ensures kept { (result ≡ OK) ⊎ (cord_of out.new ≡ cord_of out.old) }
-    ensures code { IsKeeping result }
+    ensures code { MayLackMemory result }
     ensures x { cord_of x.new ≡ cord_of x.old }
 {
     if missing(x) || missing(out) {
@@ -131,7 +131,7 @@ pub extern "C" fn zc_lazy_balance(alloc: Global, x: &mut LazyHandle, out: &mut L
     ensures text { result ≡ OK → IsSameText (cord_of x.old) (cord_of out.new) }
     ensures slot { result ≡ OK → IsInSlot (cord_of out.new) }
     ensures kept { (result ≡ OK) ⊎ (cord_of out.new ≡ cord_of out.old) }
-    ensures code { IsKeeping result }
+    ensures code { MayLackMemory result }
     ensures x { cord_of x.new ≡ cord_of x.old }
 {
     if missing(x) || missing(out) {
@@ -152,7 +152,7 @@ pub extern "C" fn zc_lazy_share(alloc: Global, x: &mut LazyHandle, out: &mut Laz
     requires places { Testable (as_mut_ptr x) × Testable (as_mut_ptr out) }
     ensures cord { result ≡ OK → cord_of out.new ≡ cord_of x.old }
     ensures kept { (result ≡ OK) ⊎ (cord_of out.new ≡ cord_of out.old) }
-    ensures code { IsKeeping result }
+    ensures code { MayLackMemory result }
     ensures x { cord_of x.new ≡ cord_of x.old }
 {
     if missing(x) || missing(out) {

@@ -3,7 +3,7 @@ ghost use Rattle.std.specs.Prelude.{◌≡◌, ◌⊎◌, ◌+◌, ◌<◌, ◌�
 ghost use Rattle.cord_io.specs.Table.{Table, Lengths, length_at};
 ghost use Rattle.cord_core.specs.Cord.{text_len, bytes_of, CordFits, CordFitsIn};
 ghost use Rattle.cord_core.specs.Equations.{IsEntryRange};
-ghost use Rattle.cord_c.specs.Codes.{IsMaking};
+ghost use Rattle.cord_c.specs.Codes.{MayBeTooLong};
 ghost use Rattle.cord_c.specs.Lazy.{cord_of};
 ghost use denote.RawPtr.{Testable};
 ghost use Rattle.core.specs.Ptr.{as_mut_ptr};
@@ -25,7 +25,7 @@ pub extern "C" fn zc_lazy_of_file(alloc: Global, file: u32, len: u64, out: &mut 
     ensures kept { (result ≡ OK) ⊎ (cord_of out.new ≡ cord_of out.old) }
     ensures too_long { result ≡ TOO_LONG → MAX_LEN < len }
     ensures within_limit { result ≡ OK → len ≤ MAX_LEN }
-    ensures code { IsMaking result }
+    ensures code { MayBeTooLong result }
 {
     if missing(out) {
         return BAD_ARGUMENT;

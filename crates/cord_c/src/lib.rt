@@ -10,7 +10,6 @@ mod edit;
 mod extend;
 mod extensible;
 mod handle;
-mod kept;
 mod lazy;
 mod lazy_make;
 mod lazy_part;
@@ -20,6 +19,7 @@ mod make;
 mod pointer;
 mod position;
 mod print;
+mod referent;
 mod scan;
 mod walk;
 

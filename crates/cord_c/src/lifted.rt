@@ -1,9 +1,10 @@
 //! What calls use of a handle.
 ghost use Rattle.std.specs.Prelude.{◌≡◌, None, []};
 ghost use Rattle.cord_core.specs.Cord.{IsCord};
-ghost use Rattle.cord_c.specs.Kept.{kept_in, text_by, cord_by};
+ghost use Rattle.cord_c.specs.Referent.{text_by, cord_by};
+ghost use Rattle.cord_c.specs.inner.Referent.{referent_in};
 
-use crate::kept::Kept;
+use crate::referent::Referent;
 use cord::Text;
 use cord_core::Cord;
 use std::alloc::Global;
@@ -11,7 +12,7 @@ use std::alloc::Global;
 /// What is out of its handle while a call uses it.
 #[derive(Drop)]
 pub(crate) struct Lifted {
-    pub(crate) held: Option<Box<Kept, Global>>,
+    pub(crate) held: Option<Box<Referent, Global>>,
     pub(crate) no_text: Text,
     pub(crate) no_cord: Cord,
     ghost empty: { no_text ≡ [] },
@@ -21,10 +22,10 @@ pub(crate) struct Lifted {
 impl Lifted {
     /// The text, that of no bytes where there is none.
     pub(crate) fn text(&self) -> &Text
-        ensures { result.now ≡ text_by (kept_in self.now.held) }
+        ensures { result.now ≡ text_by (referent_in self.now.held) }
     {
-        if let Some(kept) = &self.held {
-            if let Kept::Text(text) = kept.as_ref() {
+        if let Some(referent) = &self.held {
+            if let Referent::Text(text) = referent.as_ref() {
                 return text;
             }
         }
@@ -33,11 +34,11 @@ impl Lifted {
 
     /// The cord, that of no bytes where there is none.
     pub(crate) fn cord(&self) -> &Cord
-        ensures cord { result.now ≡ cord_by (kept_in self.now.held) }
+        ensures cord { result.now ≡ cord_by (referent_in self.now.held) }
         ensures sound { IsCord result.now }
     {
-        if let Some(kept) = &self.held {
-            if let Kept::Cord(cord) = kept.as_ref() {
+        if let Some(referent) = &self.held {
+            if let Referent::Cord(cord) = referent.as_ref() {
                 if cord.root().is_some() {
                     return cord;
                 }

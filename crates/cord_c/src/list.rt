@@ -1,7 +1,7 @@
 // Texts made of a list of others.
 ghost use Rattle.std.specs.Prelude.{◌≡◌, ◌⊎◌, ◌<◌, ◌≤◌, length, IfOk, IsOkUnless};
 ghost use Rattle.std.specs.List.{concat};
-ghost use Rattle.cord_c.specs.Codes.{IsMaking};
+ghost use Rattle.cord_c.specs.Codes.{MayBeTooLong};
 ghost use Rattle.cord_c.specs.Lists.{texts_of};
 ghost use denote.RawPtr.{Testable};
 ghost use Rattle.core.specs.Ptr.{as_mut_ptr};
@@ -20,7 +20,7 @@ pub extern "C" fn zc_catn(alloc: Global, parts: &mut [Handle], out: &mut Handle)
     ensures kept { (result ≡ OK) ⊎ (out.new.text ≡ out.old.text) }
     ensures too_long { result ≡ TOO_LONG → MAX_LEN < length (concat (texts_of parts.old)) }
     ensures within_limit { result ≡ OK → length (concat (texts_of parts.old)) ≤ MAX_LEN }
-    ensures code { IsMaking result }
+    ensures code { MayBeTooLong result }
     ensures parts { texts_of parts.new ≡ texts_of parts.old }
 {
     if missing(out) {

@@ -1,6 +1,6 @@
 // Texts made and freed.
 ghost use Rattle.std.specs.Prelude.{◌≡◌, ◌⊎◌, ◌+◌, ◌<◌, ◌≤◌, [], ◌∷◌, ◌++◌, length, replicate};
-ghost use Rattle.cord_c.specs.Codes.{IsMaking, IsKeeping};
+ghost use Rattle.cord_c.specs.Codes.{MayBeTooLong, MayLackMemory};
 ghost use denote.RawPtr.{Testable};
 ghost use Rattle.core.specs.Ptr.{as_mut_ptr};
 
@@ -18,7 +18,7 @@ pub extern "C" fn zc_from_bytes(alloc: Global, bytes: &[u8], out: &mut Handle) -
     ensures kept { (result ≡ OK) ⊎ (out.new.text ≡ out.old.text) }
     ensures too_long { result ≡ TOO_LONG → MAX_LEN < length bytes.now }
     ensures within_limit { result ≡ OK → length bytes.now ≤ MAX_LEN }
-    ensures code { IsMaking result }
+    ensures code { MayBeTooLong result }
 {
     if missing(out) {
         return BAD_ARGUMENT;
@@ -37,7 +37,7 @@ pub extern "C" fn zc_chars(alloc: Global, byte: u8, count: u64, out: &mut Handle
     ensures kept { (result ≡ OK) ⊎ (out.new.text ≡ out.old.text) }
     ensures too_long { result ≡ TOO_LONG → MAX_LEN < count }
     ensures within_limit { result ≡ OK → count ≤ MAX_LEN }
-    ensures code { IsMaking result }
+    ensures code { MayBeTooLong result }
 {
     if missing(out) {
         return BAD_ARGUMENT;
@@ -56,7 +56,7 @@ pub extern "C" fn zc_cat(alloc: Global, x: &mut Handle, y: &mut Handle, out: &mu
     ensures kept { (result ≡ OK) ⊎ (out.new.text ≡ out.old.text) }
     ensures too_long { result ≡ TOO_LONG → MAX_LEN < length x.old.text + length y.old.text }
     ensures within_limit { result ≡ OK → length x.old.text + length y.old.text ≤ MAX_LEN }
-    ensures code { IsMaking result }
+    ensures code { MayBeTooLong result }
     ensures x { x.new.text ≡ x.old.text }
     ensures y { y.new.text ≡ y.old.text }
 {
@@ -80,7 +80,7 @@ pub extern "C" fn zc_cat_bytes(alloc: Global, x: &mut Handle, bytes: &[u8], out:
     ensures kept { (result ≡ OK) ⊎ (out.new.text ≡ out.old.text) }
     ensures too_long { result ≡ TOO_LONG → MAX_LEN < length x.old.text + length bytes.now }
     ensures within_limit { result ≡ OK → length x.old.text + length bytes.now ≤ MAX_LEN }
-    ensures code { IsMaking result }
+    ensures code { MayBeTooLong result }
     ensures x { x.new.text ≡ x.old.text }
 {
     if missing(x) || missing(out) {
@@ -103,7 +103,7 @@ pub extern "C" fn zc_cat_char(alloc: Global, x: &mut Handle, byte: u8, out: &mut
     ensures kept { (result ≡ OK) ⊎ (out.new.text ≡ out.old.text) }
     ensures too_long { result ≡ TOO_LONG → MAX_LEN < length x.old.text + 1 }
     ensures within_limit { result ≡ OK → length x.old.text + 1 ≤ MAX_LEN }
-    ensures code { IsMaking result }
+    ensures code { MayBeTooLong result }
     ensures x { x.new.text ≡ x.old.text }
 {
     if missing(x) || missing(out) {
@@ -124,7 +124,7 @@ pub extern "C" fn zc_share(alloc: Global, x: &mut Handle, out: &mut Handle) -> i
     requires places { Testable (as_mut_ptr x) × Testable (as_mut_ptr out) }
     ensures text { result ≡ OK → out.new.text ≡ x.old.text }
     ensures kept { (result ≡ OK) ⊎ (out.new.text ≡ out.old.text) }
-    ensures code { IsKeeping result }
+    ensures code { MayLackMemory result }
     ensures x { x.new.text ≡ x.old.text }
 {
     if missing(x) || missing(out) {

@@ -1,7 +1,8 @@
 // Texts of formats with their arguments.
 ghost use Rattle.std.specs.Prelude.{◌≡◌, ◌⊎◌, IfOk, IfErr, IsOkUnless};
 ghost use Rattle.cord.specs.Prints as of_texts;
-ghost use Rattle.cord_c.specs.Prints.{given, texts_in, IsPrint, IsLongPrint, IsNoPrint, IsRefusedPrint};
+ghost use Rattle.cord_c.specs.Prints.{piece_arguments, IsPrint, IsLongPrint, IsNoPrint};
+ghost use Rattle.cord_c.specs.inner.Prints.{texts_in, IsRefusedPrint};
 ghost use denote.RawPtr.{Testable};
 ghost use Rattle.core.specs.Ptr.{as_mut_ptr};
 
@@ -22,12 +23,12 @@ pub extern "C" fn zc_sprintf(
     out: &mut Handle,
 ) -> i32
     requires places { Testable (as_mut_ptr out) }
-    ensures text { result ≡ OK → IsPrint format.now (given args.old) out.new.text }
+    ensures text { result ≡ OK → IsPrint format.now (piece_arguments args.old) out.new.text }
     ensures kept { (result ≡ OK) ⊎ (out.new.text ≡ out.old.text) }
-    ensures too_long { result ≡ TOO_LONG → IsLongPrint format.now (given args.old) }
-    ensures bad { result ≡ BAD_ARGUMENT → IsNoPrint format.now (given args.old) }
+    ensures too_long { result ≡ TOO_LONG → IsLongPrint format.now (piece_arguments args.old) }
+    ensures bad { result ≡ BAD_ARGUMENT → IsNoPrint format.now (piece_arguments args.old) }
     ensures code { (result ≡ OK) ⊎ (result ≡ TOO_LONG) ⊎ (result ≡ NO_MEMORY) ⊎ (result ≡ BAD_ARGUMENT) }
-    ensures args { given args.new ≡ given args.old }
+    ensures args { piece_arguments args.new ≡ piece_arguments args.old }
 {
     if missing(out) {
         return BAD_ARGUMENT;
@@ -47,7 +48,7 @@ pub extern "C" fn zc_sprintf(
 // The texts of arguments once more, which share their trees: those of numbers too. Refused for want of memory alone.
 fn texts_of(alloc: Global, args: &mut [Argument]) -> Result<Vec<Text>, CordError>
     ensures texts { IfOk result (λ made. made.items ≡ texts_in args.old) }
-    ensures same { given args.new ≡ given args.old }
+    ensures same { piece_arguments args.new ≡ piece_arguments args.old }
     ensures same_texts { texts_in args.new ≡ texts_in args.old }
     ensures refused { IsOkUnless result CordError.NoMemory }
 {
@@ -67,7 +68,7 @@ fn arguments<'a>(
     texts: &'a [Text],
 ) -> Result<Vec<TextArg<'a>>, CordError>
     requires texts { texts.now ≡ texts_in args.now }
-    ensures made { IfOk result (λ made. of_texts.given made.items ≡ given args.now) }
+    ensures made { IfOk result (λ made. of_texts.piece_arguments made.items ≡ piece_arguments args.now) }
     ensures refused { IsOkUnless result CordError.NoMemory }
 {
     let mut made = Vec::with_capacity(alloc, args.len())?;
@@ -80,8 +81,8 @@ fn arguments<'a>(
 
 // The text of a format with these arguments, or the code of its refusal.
 fn print(alloc: Global, format: &[u8], args: &[TextArg<'_>]) -> Result<Text, i32>
-    ensures text { IfOk result (IsPrint format.now (of_texts.given args.now)) }
-    ensures refused { IfErr result (IsRefusedPrint format.now (of_texts.given args.now)) }
+    ensures text { IfOk result (IsPrint format.now (of_texts.piece_arguments args.now)) }
+    ensures refused { IfErr result (IsRefusedPrint format.now (of_texts.piece_arguments args.now)) }
 {
     let format = match Format::parse(alloc, format) {
         Ok(format) => format,

@@ -1,6 +1,6 @@
 // Texts that are gone over a chunk at a time.
 ghost use Rattle.std.specs.Prelude.{◌≡◌, ◌⊎◌, ◌++◌, [], length, drop};
-ghost use Rattle.cord_c.specs.Codes.{IsKeeping};
+ghost use Rattle.cord_c.specs.Codes.{MayLackMemory};
 ghost use Rattle.cord_c.specs.Chunks.{chunk_of, left_of};
 ghost use denote.RawPtr.{Testable};
 ghost use Rattle.core.specs.Ptr.{as_mut_ptr};
@@ -24,7 +24,7 @@ pub extern "C" fn zc_chunks_set(
     ensures none { result ≡ OK → chunk_of chunks.new ≡ [] }
     ensures left_kept { (result ≡ OK) ⊎ (left_of chunks.new ≡ left_of chunks.old) }
     ensures chunk_kept { (result ≡ OK) ⊎ (chunk_of chunks.new ≡ chunk_of chunks.old) }
-    ensures code { IsKeeping result }
+    ensures code { MayLackMemory result }
     ensures x { x.new.text ≡ x.old.text }
 {
     if missing(x) || missing(chunks) {

@@ -1,8 +1,9 @@
 // Positions, and steps from byte to byte.
 ghost use Rattle.std.specs.Prelude.{◌≡◌, ◌⊎◌, [], Some, None};
 ghost use Rattle.cord_c.specs.Answers.{place_or_none};
-ghost use Rattle.cord_c.specs.Codes.{IsKeeping};
-ghost use Rattle.cord_c.specs.Positions.{index_in, next_in, prev_of, bytes_of, index_of, byte_of};
+ghost use Rattle.cord_c.specs.Codes.{MayLackMemory};
+ghost use Rattle.cord_c.specs.Positions.{index_in, next_in, bytes_of, index_of, byte_of};
+ghost use Rattle.cord_pos.specs.Position.{prev_index};
 ghost use denote.RawPtr.{Testable};
 ghost use Rattle.core.specs.Ptr.{as_mut_ptr};
 
@@ -24,7 +25,7 @@ pub extern "C" fn zc_pos_set(
     ensures index { result ≡ OK → index_of position.new ≡ index_in x.old.text index }
     ensures bytes_kept { (result ≡ OK) ⊎ (bytes_of position.new ≡ bytes_of position.old) }
     ensures index_kept { (result ≡ OK) ⊎ (index_of position.new ≡ index_of position.old) }
-    ensures code { IsKeeping result }
+    ensures code { MayLackMemory result }
     ensures x { x.new.text ≡ x.old.text }
 {
     if missing(x) || missing(position) {
@@ -95,7 +96,7 @@ pub extern "C" fn zc_pos_next(position: &mut Position)
 #[unsafe(no_mangle)]
 pub extern "C" fn zc_pos_prev(position: &mut Position)
     requires places { Testable (as_mut_ptr position) }
-    ensures index { index_of position.new ≡ prev_of (index_of position.old) }
+    ensures index { index_of position.new ≡ prev_index (index_of position.old) }
     ensures bytes { bytes_of position.new ≡ bytes_of position.old }
 {
     if missing(position) || position.index >= position.len {

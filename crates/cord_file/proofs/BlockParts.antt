@@ -9,7 +9,8 @@ use Rattle.cord_io.specs.Device.{Folder, bytes_at}
 use Rattle.cord_file.specs.declared.blocks.TheConstants.{BLOCK}
 use Rattle.cord_file.specs.declared.blocks.BlockKey.{BlockKey}
 use Rattle.cord_file.specs.declared.files.OpenFile.{OpenFile}
-use Rattle.cord_file.specs.Blocks.{HeapBlock, Entry, Slotted, block_size, IsBlock, IsBlockIn, IsKept, AreKept, AreRead}
+use Rattle.cord_file.specs.Blocks.{HeapBlock, Entry, Slotted, block_size, IsBlock, IsCached, AreCached}
+use Rattle.cord_file.specs.inner.Blocks.{IsBlockIn, AreRead}
 use Rattle.cord_file.specs.Files.{told_of}
 use Rattle.cord_file.specs.Soundness.{IsSound}
 use Rattle.cord_file.proofs.Growing.{place_inside}
@@ -65,7 +66,7 @@ in_slot P Q (Some f) h each = each f refl
 -- a block that was read of an opened file can be kept
 pub kept_of_read : (keeps : Folder → Type 0) (files : List OpenFile) (key : BlockKey) (block : HeapBlock) → key.place < length files →
     ((folder : Folder) → keeps folder → IsBlockIn folder (slice_get files key.place) key.number block.value) →
-    IsKept keeps files (key, block)
+    IsCached keeps files (key, block)
 kept_of_read keeps files key block opened read = record {
   opened = opened;
   block = λ f e folder kept. of_slot (λ f. IsBlock f.len (bytes_at folder (string_bytes f.path)) key.number block.value) e
@@ -92,7 +93,7 @@ read_of_block files place number block out start folder is same inside part copi
 
 -- what is copied of a kept block is the file's
 pub read_of_kept : (keeps : Folder → Type 0) (files : List OpenFile) (key : BlockKey) (block : HeapBlock) (out : List ℕ) (start : ℕ) →
-    IsKept keeps files (key, block) → key.number ≡ start / BLOCK →
+    IsCached keeps files (key, block) → key.number ≡ start / BLOCK →
     IsSomeAnd (slice_get files key.place) (λ file. start + length out ≤ file.len) → start % BLOCK + length out ≤ BLOCK →
     out ≡ take (length out) (drop (start % BLOCK) block.value) → (folder : Folder) → keeps folder →
     AreRead folder (slice_get files key.place) start out
@@ -101,31 +102,33 @@ read_of_kept keeps files key block out start kept number inside part copied fold
     (in_slot _ _ (slice_get files key.place) inside (λ f e. kept.block f e folder is)) number inside part copied
 
 -- one more block is kept
-pub kept_with : (keeps : Folder → Type 0) (files : List OpenFile) (old new : List Slotted) (entry : Entry) → AreKept keeps files old →
-    IsKept keeps files entry → ((e : Slotted) → Contains new e → Contains old e ⊎ (e.1 ≡ entry)) → AreKept keeps files new
+pub kept_with : (keeps : Folder → Type 0) (files : List OpenFile) (old new : List Slotted) (entry : Entry) → AreCached keeps files old →
+    IsCached keeps files entry → ((e : Slotted) → Contains new e → Contains old e ⊎ (e.1 ≡ entry)) → AreCached keeps files new
 kept_with keeps files old new entry all one among e h = elim (among e h) [
   | inl was ↦ all e was
-  | inr same ↦ subst (IsKept keeps files) (sym same) one
+  | inr same ↦ subst (IsCached keeps files) (sym same) one
 ]
 
 -- kept blocks stay so where one more file is opened, and memory was found for it
 pub kept_behind : (keeps : Folder → Type 0) (files new : List OpenFile) (file : OpenFile) (b : Bool) (entries : List Slotted) →
-    new ≡ (if b then files ++ file ∷ [] else files) → AreKept keeps files entries → AreKept keeps new entries
-kept_behind keeps files new file false entries same all = subst (λ xs. AreKept keeps xs entries) (sym same) all
-kept_behind keeps files new file true entries same all = subst (λ xs. AreKept keeps xs entries) (sym same) (λ e h. more e.1 (all e h)) where
-  more : (e : Entry) → IsKept keeps files e → IsKept keeps (files ++ file ∷ []) e
-  more e kept = record {
-    opened = omega (arith, kept.opened, length-append files (file ∷ []));
-    block = λ f here. kept.block f (sym (place_inside files (file ∷ []) e.0.place kept.opened) ∙ here);
-  }
+    new ≡ (if b then files ++ file ∷ [] else files) → AreCached keeps files entries → AreCached keeps new entries
+kept_behind keeps files new file false entries same all = subst (λ xs. AreCached keeps xs entries) (sym same) all
+kept_behind keeps files new file true entries same all =
+    subst (λ xs. AreCached keeps xs entries) (sym same) (λ e h. more e.1 (all e h))
+  where
+    more : (e : Entry) → IsCached keeps files e → IsCached keeps (files ++ file ∷ []) e
+    more e kept = record {
+      opened = omega (arith, kept.opened, length-append files (file ∷ []));
+      block = λ f here. kept.block f (sym (place_inside files (file ∷ []) e.0.place kept.opened) ∙ here);
+    }
 
 -- no block is kept
-pub kept_none : (keeps : Folder → Type 0) (files : List OpenFile) → AreKept keeps files []
+pub kept_none : (keeps : Folder → Type 0) (files : List OpenFile) → AreCached keeps files []
 kept_none keeps files e h = absurd (omega (arith, h.1))
 
 -- kept blocks stay so where no other folder is kept
 pub kept_earlier : (old new : Folder → Type 0) (files : List OpenFile) (entries : List Slotted) →
-    ((folder : Folder) → new folder → old folder) → AreKept old files entries → AreKept new files entries
+    ((folder : Folder) → new folder → old folder) → AreCached old files entries → AreCached new files entries
 kept_earlier old new files entries earlier all e h =
     let was = all e h in
     record { opened = was.opened; block = λ f here folder kept. was.block f here folder (earlier folder kept) }
@@ -139,16 +142,16 @@ sound_moved old new before after files blocks earlier stays sound = record {
   short_enough = sound.short_enough;
   there = λ k f h folder kept. sound.there k f h folder (earlier folder kept);
   as_long = λ k f h folder kept. sound.as_long k f h folder (earlier folder kept);
-  kept = kept_earlier old new files blocks earlier sound.kept;
+  cached = kept_earlier old new files blocks earlier sound.cached;
 }
 
 -- and where other blocks are kept
 pub sound_keeping : (keeps : Folder → Type 0) (told : ℕ → Option (List ℕ × ℕ)) (files : List OpenFile) (old new : List Slotted) →
-    AreKept keeps files new → IsSound keeps told files old → IsSound keeps told files new
+    AreCached keeps files new → IsSound keeps told files old → IsSound keeps told files new
 sound_keeping keeps told files old new kept sound = record {
   handed_out = sound.handed_out;
   short_enough = sound.short_enough;
   there = sound.there;
   as_long = sound.as_long;
-  kept = kept;
+  cached = kept;
 }

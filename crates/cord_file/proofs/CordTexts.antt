@@ -10,8 +10,8 @@ use Rattle.cord_core.specs.Forms.{IsFuncOf}
 use Rattle.cord_core.specs.Equations.{IsEntryRange}
 use Rattle.cord_file.specs.Entries.{lengths_in, table_in}
 use Rattle.cord_file.specs.Files.{opened_of}
-use Rattle.cord_file.specs.Making.{IsFuncOver}
-use Rattle.cord_file.specs.Blocks.{AreRead}
+use Rattle.cord_file.specs.FileCords.{IsFuncOver}
+use Rattle.cord_file.specs.inner.Blocks.{AreRead}
 use Rattle.cord_file.proofs.EntryBytes.{entry_read}
 use Rattle.cord_file.specs.declared.files.OpenFile.{OpenFile}
 

@@ -7,8 +7,9 @@ use Rattle.std.specs.String.{string_bytes}
 use Rattle.std.proofs.lemmas.Option.{slice_get-map}
 use Rattle.cord_io.specs.declared.TheConstants.{MAX_LEN}
 use Rattle.cord_io.specs.Device.{Folder, bytes_at}
-use Rattle.cord_io.specs.Entries.{function_byte, function_read}
-use Rattle.cord_file.specs.Blocks.{AreRead}
+use Rattle.cord_io.specs.inner.Functions.{function_byte}
+use Rattle.cord_io.proofs.Entries.{function_read}
+use Rattle.cord_file.specs.inner.Blocks.{AreRead}
 use Rattle.cord_file.specs.Entries.{Opened, lengths_in, table_in}
 use Rattle.cord_file.specs.Files.{AreShortEnough, told_of, opened_of}
 use Rattle.cord_file.specs.declared.files.OpenFile.{OpenFile}

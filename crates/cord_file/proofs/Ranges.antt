@@ -7,7 +7,7 @@ use Rattle.std.proofs.Math.Seq.{take-add, take-append-add, take-length}
 use borrow.Rule.Slice.PartMut.{put_mid}
 use Rattle.std.specs.String.{string_bytes}
 use Rattle.cord_io.specs.Device.{Folder, bytes_at}
-use Rattle.cord_file.specs.Blocks.{AreRead, BeginsWithFile}
+use Rattle.cord_file.specs.inner.Blocks.{AreRead, BeginsWithFile}
 use Rattle.cord_file.specs.Files.{told_of}
 use Rattle.cord_file.specs.declared.files.OpenFile.{OpenFile}
 

@@ -1,7 +1,6 @@
 -- Blocks of files.
-use Rattle.std.specs.Prelude.{◌≡◌, ℕ, ◌-◌, ◌*◌, ◌<◌, List, length, take, drop, min, slice_get, Some, Contains, IsSomeAnd}
+use Rattle.std.specs.Prelude.{◌≡◌, ℕ, ◌-◌, ◌*◌, ◌<◌, List, length, take, drop, min, slice_get, Some, Contains}
 use Rattle.std.specs.Global.{Box}
-use Rattle.std.specs.declared.option.Option.{Option}
 use Rattle.std.specs.String.{string_bytes}
 use Rattle.cord_io.specs.Device.{Folder, bytes_at}
 use Rattle.cord_file.specs.declared.blocks.TheConstants.{BLOCK}
@@ -16,10 +15,6 @@ block_size len number = min (len - number * BLOCK) BLOCK
 abbrev pub IsBlock : ℕ → List ℕ → ℕ → List ℕ → Type 0
 IsBlock len text number block = take (block_size len number) block ≡ take (block_size len number) (drop (number * BLOCK) text)
 
--- the same of an opened file over a folder
-abbrev pub IsBlockIn : Folder → Option OpenFile → ℕ → List ℕ → Type 0
-IsBlockIn folder slot number block = IsSomeAnd slot (λ file. IsBlock file.len (bytes_at folder (string_bytes file.path)) number block)
-
 -- a block on the heap
 abbrev pub HeapBlock : Type 0
 HeapBlock = Box (List ℕ)
@@ -29,7 +24,7 @@ abbrev pub Entry : Type 0
 Entry = BlockKey × HeapBlock
 
 -- a kept block is one of a file that was opened, in each folder that is kept
-pub record IsKept (keeps : Folder → Type 0) (files : List OpenFile) (entry : Entry) : Type 0 where
+pub record IsCached (keeps : Folder → Type 0) (files : List OpenFile) (entry : Entry) : Type 0 where
   pub opened : entry.0.place < length files
   pub block : (file : OpenFile) → slice_get files entry.0.place ≡ Some file → (folder : Folder) → keeps folder →
       IsBlock file.len (bytes_at folder (string_bytes file.path)) entry.0.number entry.1.value
@@ -39,14 +34,5 @@ abbrev pub Slotted : Type 0
 Slotted = ℕ × Entry
 
 -- each kept block is one of a file that was opened
-abbrev pub AreKept : (Folder → Type 0) → List OpenFile → List Slotted → Type 0
-AreKept keeps files entries = (entry : Slotted) → Contains entries entry → IsKept keeps files entry.1
-
--- the bytes are those of a file from a place on
-abbrev pub AreRead : Folder → Option OpenFile → ℕ → List ℕ → Type 0
-AreRead folder slot start bytes = IsSomeAnd slot (λ file. bytes
-    ≡ take (length bytes) (drop start (bytes_at folder (string_bytes file.path))))
-
--- the list begins with so many bytes of the file of which this was told
-abbrev pub BeginsWithFile : Folder → Option (List ℕ × ℕ) → ℕ → List ℕ → Type 0
-BeginsWithFile folder opened count bytes = IsSomeAnd opened (λ told. take count bytes ≡ take count (bytes_at folder told.0))
+abbrev pub AreCached : (Folder → Type 0) → List OpenFile → List Slotted → Type 0
+AreCached keeps files entries = (entry : Slotted) → Contains entries entry → IsCached keeps files entry.1

@@ -6,7 +6,7 @@ use Rattle.cord_io.specs.declared.reading.Files.{Ghosts}
 use Rattle.cord_node.specs.declared.Node.{Node}
 use Rattle.cord_file.specs.Entries.{id_in}
 use Rattle.cord_file.specs.Faults.{has_failed}
-use Rattle.cord_file.specs.Making.{IsFileIn}
+use Rattle.cord_file.specs.FileCords.{IsFileIn}
 use Rattle.cord_file.specs.Opening.{Grows, OpensNone, OpensOne, IsUnopened, IsRefusalOver}
 use Rattle.cord_file.specs.Sources.{device_in, opened_in}
 use Rattle.cord_file.specs.declared.faults.FileError.{FileError}

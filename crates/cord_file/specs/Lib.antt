@@ -3,7 +3,7 @@ pub mod Entries
 pub mod Faults
 pub mod Files
 pub mod Handing
-pub mod Making
+pub mod FileCords
 pub mod Opening
 pub mod Soundness
 pub mod Sources

@@ -3,7 +3,7 @@ use Rattle.std.specs.Prelude.{ℕ, List}
 use Rattle.std.specs.declared.option.Option.{Option}
 use Rattle.cord_io.specs.Device.{Folder}
 use Rattle.cord_file.specs.declared.files.OpenFile.{OpenFile}
-use Rattle.cord_file.specs.Blocks.{Slotted, AreKept}
+use Rattle.cord_file.specs.Blocks.{Slotted, AreCached}
 use Rattle.cord_file.specs.Files.{AreHandedOut, AreShortEnough, AreThere, AreAsLong}
 
 -- the opened files are as the device told, and the kept blocks are theirs
@@ -12,4 +12,4 @@ pub record IsSound (keeps : Folder → Type 0) (told : ℕ → Option (List ℕ 
   pub short_enough : AreShortEnough files
   pub there : AreThere keeps files
   pub as_long : AreAsLong keeps files
-  pub kept : AreKept keeps files blocks
+  pub cached : AreCached keeps files blocks

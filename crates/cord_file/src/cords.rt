@@ -4,8 +4,8 @@ ghost use Rattle.cord_io.specs.Device.{Folder};
 ghost use Rattle.cord_core.specs.Cord.{bytes_of};
 ghost use Rattle.cord_file.specs.Faults.{has_failed};
 ghost use Rattle.cord_file.specs.Entries.{lengths_in, table_in};
-ghost use Rattle.cord_file.specs.Making.{IsLeafOver, IsFuncOver, IsWhole, IsLazy, IsWholeOrLazy};
-ghost use Rattle.cord_file.specs.Making.{IsReadRefusal, IsWholeRefusal, IsLazyRefusal, IsWholeOrLazyRefusal};
+ghost use Rattle.cord_file.specs.FileCords.{IsLeafOver, IsFuncOver, IsWhole, IsLazy, IsWholeOrLazy};
+ghost use Rattle.cord_file.specs.FileCords.{IsReadRefusal, IsWholeRefusal, IsLazyRefusal, IsWholeOrLazyRefusal};
 ghost use Rattle.cord_file.specs.Handing.{HandsOver};
 ghost use Rattle.cord_file.specs.inner.Reading.{LeavesFiles};
 

@@ -1,6 +1,6 @@
 // The entries that are functions.
 ghost use Rattle.std.specs.Prelude.{◌≡◌, ◌+◌, ◌<◌, ◌≤◌, ℕ, length, slice_index};
-ghost use Rattle.cord_io.specs.Entries.{function_byte};
+ghost use Rattle.cord_io.specs.inner.Functions.{function_byte};
 
 use cord_io::{MAX_LEN, SourceId};
 

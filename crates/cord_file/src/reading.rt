@@ -3,9 +3,9 @@ ghost use Rattle.std.specs.Prelude.{◌≡◌, ◌+◌, ◌*◌, ◌%◌, ◌<�
 ghost use Rattle.std.specs.Prelude.{IfErr};
 ghost use Rattle.std.specs.Prelude.{IfOk, OnOk, IsSomeAnd};
 ghost use Rattle.cord_io.specs.Device.{Folder, bytes_at, count_after};
-ghost use Rattle.cord_file.specs.Blocks.{AreRead, BeginsWithFile, IsBlockIn};
+ghost use Rattle.cord_file.specs.inner.Blocks.{AreRead, BeginsWithFile, IsBlockIn};
 ghost use Rattle.cord_file.specs.Faults.{has_failed};
-ghost use Rattle.cord_file.specs.Making.{IsReadRefusal};
+ghost use Rattle.cord_file.specs.FileCords.{IsReadRefusal};
 ghost use Rattle.cord_file.specs.inner.Reading.{IsInside, LeavesFiles};
 ghost use Rattle.cord_file.specs.declared.blocks.TheConstants.{BLOCK};
 

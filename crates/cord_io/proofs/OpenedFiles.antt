@@ -8,8 +8,8 @@ use Rattle.std.proofs.lemmas.Bool.{cases_eq}
 use Rattle.std.proofs.lemmas.List.{length-take-le}
 use Rattle.std.proofs.lemmas.Option.{slice_get_read, slice_get_within}
 use Rattle.cord_io.specs.Device.{Folder, bytes_at, HandsOut}
-use Rattle.cord_io.specs.inner.Disk.{told_of, opened_of}
-use Rattle.cord_io.specs.DiskTold.{AgreesWithGiven}
+use Rattle.cord_io.specs.Disk.{told_of, opened_of}
+use Rattle.cord_io.specs.DiskTold.{AgreesWithReaders}
 use Rattle.cord_io.specs.Told.{Told, has_bytes, Agrees}
 use Rattle.cord_io.specs.declared.opened.OpenedFile.{OpenedFile}
 use Rattle.cord_io.proofs.Folders.{get_set_same, get_set_other}
@@ -35,23 +35,23 @@ one : {X : Type 0} (x y : X) → Some x ≡ Some y → x ≡ y
 one x y e = cc
 
 -- what the machine gave stays
-pub given_before : {F : Type 0} (folder : Folder) (files : List (OpenedFile F)) (n : ℕ) (old new : OpenedFile F) →
-    slice_get files n ≡ Some old → (Agrees folder new.reader.given.told → Agrees folder old.reader.given.told) →
-    AgreesWithGiven folder (slice_set files n new) → AgreesWithGiven folder files
-given_before folder files n old new here earlier all k file at = elim (cases_eq k n) [
+pub readers_before : {F : Type 0} (folder : Folder) (files : List (OpenedFile F)) (n : ℕ) (old new : OpenedFile F) →
+    slice_get files n ≡ Some old → (Agrees folder new.reader.trace.told → Agrees folder old.reader.trace.told) →
+    AgreesWithReaders folder (slice_set files n new) → AgreesWithReaders folder files
+readers_before folder files n old new here earlier all k file at = elim (cases_eq k n) [
   | inl is ↦
       let found : slice_get files n ≡ Some file = subst (λ j. slice_get files j ≡ Some file) is at in
-      subst (λ f. Agrees folder f.reader.given.told) (one old file (sym here ∙ found))
+      subst (λ f. Agrees folder f.reader.trace.told) (one old file (sym here ∙ found))
       (earlier (all n new (get_set_same files n old new here)))
   | inr differs ↦ all k file (get_set_other files n k new differs ∙ at)
 ]
 
 -- bytes that the machine gave are those of the file
-pub given_read : {F : Type 0} (folder : Folder) (files : List (OpenedFile F)) (n : ℕ) (old new : OpenedFile F) (k start : ℕ)
-    (out : List ℕ) → slice_get files n ≡ Some old → (Agrees folder new.reader.given.told →
-    take k out ≡ take k (drop start (bytes_at folder (string_bytes old.reader.path)))) → AgreesWithGiven folder (slice_set files n new) →
+pub readers_read : {F : Type 0} (folder : Folder) (files : List (OpenedFile F)) (n : ℕ) (old new : OpenedFile F) (k start : ℕ)
+    (out : List ℕ) → slice_get files n ≡ Some old → (Agrees folder new.reader.trace.told →
+    take k out ≡ take k (drop start (bytes_at folder (string_bytes old.reader.path)))) → AgreesWithReaders folder (slice_set files n new) →
     IsSomeAnd (opened_of files n) (λ told. take k out ≡ take k (drop start (bytes_at folder told.0)))
-given_read folder files n old new k start out here read all =
+readers_read folder files n old new k start out here read all =
     let text : Option (OpenedFile _) → Type 0 =
     λ o. IsSomeAnd (option_map told_of o) (λ told. take k out ≡ take k (drop start (bytes_at folder told.0))) in
     subst text (sym here) (read (all n new (get_set_same files n old new here)))
@@ -107,7 +107,7 @@ handed_out files more file n path is last same =
     subst (λ fs. HandsOut (opened_of files) (opened_of fs) n path file.len) (sym is) by_number
 
 -- what the machine gave of the others stays where one more file is open
-pub given_beside : {F : Type 0} (folder : Folder) (files more : List (OpenedFile F)) (file : OpenedFile F) → more ≡ files ++ file ∷ [] →
-    AgreesWithGiven folder more → AgreesWithGiven folder files
-given_beside folder files more file is all n other at =
+pub readers_beside : {F : Type 0} (folder : Folder) (files more : List (OpenedFile F)) (file : OpenedFile F) → more ≡ files ++ file ∷ [] →
+    AgreesWithReaders folder more → AgreesWithReaders folder files
+readers_beside folder files more file is all n other at =
     all n other (ap (λ fs. slice_get fs n) is ∙ get_kept files file n (subst IsSome (sym at) refl) ∙ at)

@@ -1,3 +1,5 @@
 pub mod Answers
-pub mod Disk
-pub mod Takings
+pub mod Functions
+pub mod Memory
+pub mod ReadAhead
+pub mod SinkAnswers

@@ -103,7 +103,7 @@ impl<R: rt::Files> Files for DiskFiles<R>
 where
     R::File: FileExt,
 {
-    ghost use Rattle.cord_io.specs.inner.Disk.{opened_of};
+    ghost use Rattle.cord_io.specs.Disk.{opened_of};
     ghost use Rattle.cord_io.specs.DiskTold.{told_by, after_opening, after_reading, AgreesWithMachine};
     ghost use Rattle.cord_io.specs.Told.{Agrees};
 
@@ -135,7 +135,7 @@ where
         ensures told { told_by self.new ≡ after_opening path.now result (told_by self.old) }
 
         // What the machine gave stays.
-        ensures given_earlier { (folder : Folder) → AgreesWithMachine folder self.new →
+        ensures machine_earlier { (folder : Folder) → AgreesWithMachine folder self.new →
             AgreesWithMachine folder self.old }
     {
         match self.opened_file(path) {
@@ -176,9 +176,9 @@ where
             ≡ after_reading (⟦<DiskFiles<R> as Files>⟧.opened self.old no.0) start out.new result (told_by self.old) }
 
         // The bytes are those that the machine gave of the file, now or ahead.
-        ensures given_earlier { (folder : Folder) → AgreesWithMachine folder self.new →
+        ensures machine_earlier { (folder : Folder) → AgreesWithMachine folder self.new →
             AgreesWithMachine folder self.old }
-        ensures given { (folder : Folder) → AgreesWithMachine folder self.new → IfOk result (λ k.
+        ensures machine_bytes { (folder : Folder) → AgreesWithMachine folder self.new → IfOk result (λ k.
             IsSomeAnd (⟦<DiskFiles<R> as Files>⟧.opened self.old no.0) (λ told.
             take k out.new ≡ take k (drop start (bytes_at folder told.0)))) }
     {

@@ -3,7 +3,8 @@ ghost use Rattle.std.specs.Prelude.{◌≡◌, ◌<◌, ◌≤◌, ℕ, None, le
 ghost use Rattle.std.specs.Prelude.{is_err, IsOk, IfOk, IsSomeAnd};
 ghost use Rattle.std.specs.Vec.{vec_len};
 ghost use Rattle.cord_io.specs.Device.{Folder, file_at, bytes_at, count_after};
-ghost use Rattle.cord_io.specs.Memory.{IsAt, Marks, Rewrites, folder_of, paths_differ};
+ghost use Rattle.cord_io.specs.Memory.{folder_of, paths_differ};
+ghost use Rattle.cord_io.specs.inner.Memory.{IsAt, Marks, Rewrites};
 
 mod adding;
 

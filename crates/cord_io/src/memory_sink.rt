@@ -3,7 +3,7 @@ ghost use Rattle.std.specs.Prelude.{◌≡◌, ◌<◌, ◌+◌, ◌++◌, [], l
 ghost use Rattle.cord_io.specs.Device.{count_after};
 
 use crate::failures::Failures;
-use crate::tally::{Taking, Tally};
+use crate::tally::{SinkAnswer, Tally};
 use crate::{Sink, WriteFault};
 use std::alloc::Global;
 
@@ -71,7 +71,7 @@ impl Sink for MemSink {
         ensures finished { ⟦<MemSink as Sink>⟧.finished self.new ≡ ⟦<MemSink as Sink>⟧.finished self.old + 1 }
         ensures count { ⟦<MemSink as Sink>⟧.failures self.new ≡ ⟦<MemSink as Sink>⟧.failures self.old }
     {
-        self.tally = self.tally.then(&Taking::Ended);
+        self.tally = self.tally.then(&SinkAnswer::Ended);
         Ok(())
     }
 }

@@ -3,7 +3,7 @@ ghost use Rattle.std.specs.Prelude.{◌≡◌, ◌<◌, ◌≤◌, [], length, t
 ghost use Rattle.std.specs.String.{string_bytes};
 ghost use Rattle.cord_io.specs.Device.{Folder, bytes_at};
 ghost use Rattle.cord_io.specs.Told.{Agrees};
-ghost use Rattle.cord_io.specs.Given.{IsAhead};
+ghost use Rattle.cord_io.specs.inner.ReadAhead.{IsAhead};
 
 use crate::memory::copy_from;
 use crate::reader::Reader;
@@ -26,7 +26,7 @@ pub(crate) struct OpenedFile<F> {
     start: u64,
     count: usize,
     span: Span,
-    ghost ahead: { IsAhead reader.given.told (string_bytes reader.path) start count bytes.items },
+    ghost ahead: { IsAhead reader.trace.told (string_bytes reader.path) start count bytes.items },
 }
 
 impl<F: FileExt> OpenedFile<F> {
@@ -34,7 +34,7 @@ impl<F: FileExt> OpenedFile<F> {
     pub(crate) fn new(alloc: Global, file: F, path: String, len: u64) -> Self
         ensures path { result.reader.path ≡ path }
         ensures len { result.len ≡ len }
-        ensures given { result.reader.given.told ≡ [] }
+        ensures trace { result.reader.trace.told ≡ [] }
     {
         OpenedFile {
             reader: Reader::new(file, path),
@@ -53,8 +53,8 @@ impl<F: FileExt> OpenedFile<F> {
         ensures path { self.new.reader.path ≡ self.old.reader.path }
         ensures len { self.new.len ≡ self.old.len }
         ensures earlier { (folder : Folder) →
-            Agrees folder self.new.reader.given.told → Agrees folder self.old.reader.given.told }
-        ensures bytes { (folder : Folder) → Agrees folder self.new.reader.given.told → IfOk result (λ k.
+            Agrees folder self.new.reader.trace.told → Agrees folder self.old.reader.trace.told }
+        ensures bytes { (folder : Folder) → Agrees folder self.new.reader.trace.told → IfOk result (λ k.
             take k out.new ≡ take k (drop start (bytes_at folder (string_bytes self.old.reader.path)))) }
     {
         self.span.turn_to(start);
@@ -76,8 +76,8 @@ impl<F: FileExt> OpenedFile<F> {
         ensures path { self.new.reader.path ≡ self.old.reader.path }
         ensures len { self.new.len ≡ self.old.len }
         ensures earlier { (folder : Folder) →
-            Agrees folder self.new.reader.given.told → Agrees folder self.old.reader.given.told }
-        ensures bytes { (folder : Folder) → Agrees folder self.new.reader.given.told → IfSome result (λ k.
+            Agrees folder self.new.reader.trace.told → Agrees folder self.old.reader.trace.told }
+        ensures bytes { (folder : Folder) → Agrees folder self.new.reader.trace.told → IfSome result (λ k.
             take k out.new ≡ take k (drop start (bytes_at folder (string_bytes self.old.reader.path)))) }
     {
         if let Some(count) = self.copy_ahead(start, out) {
@@ -99,7 +99,7 @@ impl<F: FileExt> OpenedFile<F> {
     fn copy_ahead(&self, start: u64, out: &mut [u8]) -> Option<usize>
         requires room { 0 < length out.old }
         ensures some { IfSome result (λ k. (0 < k) × (k ≤ length out.new)) }
-        ensures bytes { (folder : Folder) → Agrees folder self.now.reader.given.told → IfSome result (λ k.
+        ensures bytes { (folder : Folder) → Agrees folder self.now.reader.trace.told → IfSome result (λ k.
             take k out.new ≡ take k (drop start (bytes_at folder (string_bytes self.now.reader.path)))) }
     {
         let skipped = start.checked_sub(self.start)?;
@@ -115,7 +115,7 @@ impl<F: FileExt> OpenedFile<F> {
         ensures path { self.new.reader.path ≡ self.old.reader.path }
         ensures len { self.new.len ≡ self.old.len }
         ensures earlier { (folder : Folder) →
-            Agrees folder self.new.reader.given.told → Agrees folder self.old.reader.given.told }
+            Agrees folder self.new.reader.trace.told → Agrees folder self.old.reader.trace.told }
     {
         self.count = 0;
         if self.bytes.len() < wanted {

@@ -3,7 +3,7 @@ ghost use Rattle.std.specs.Prelude.{◌≡◌, ◌<◌, ◌≤◌, [], length, I
 ghost use Rattle.std.specs.String.{string_bytes};
 ghost use Rattle.cord_io.specs.Device.{Folder};
 ghost use Rattle.cord_io.specs.Told.{Agrees};
-ghost use Rattle.cord_io.specs.Given.{after_asking};
+ghost use Rattle.cord_io.specs.ReadAhead.{after_asking};
 
 use crate::trace::{Answer, Trace};
 use std::io::{self, ErrorKind};
@@ -14,19 +14,19 @@ use std::os::unix::fs::FileExt;
 pub(crate) struct Reader<F> {
     file: F,
     pub(crate) path: String,
-    pub(crate) given: Trace,
+    pub(crate) trace: Trace,
 }
 
 impl<F: FileExt> Reader<F> {
     // A file that has given nothing.
     pub(crate) fn new(file: F, path: String) -> Self
         ensures path { result.path ≡ path }
-        ensures given { result.given.told ≡ [] }
+        ensures trace { result.trace.told ≡ [] }
     {
         Reader {
             file,
             path,
-            given: Trace::new(),
+            trace: Trace::new(),
         }
     }
 
@@ -34,15 +34,15 @@ impl<F: FileExt> Reader<F> {
     pub(crate) fn ask(&mut self, start: u64, out: &mut [u8]) -> io::Result<usize>
         ensures some { IfOk result (λ k. (0 < k) × (k ≤ length out.new)) }
         ensures path { self.new.path ≡ self.old.path }
-        ensures earlier { (folder : Folder) → Agrees folder self.new.given.told → Agrees folder self.old.given.told }
+        ensures earlier { (folder : Folder) → Agrees folder self.new.trace.told → Agrees folder self.old.trace.told }
 
         // Each answer of the machine is given once, and nothing else is.
-        ensures given { self.new.given.told
-            ≡ after_asking (string_bytes self.old.path) start out.new result self.old.given.told }
+        ensures trace { self.new.trace.told
+            ≡ after_asking (string_bytes self.old.path) start out.new result self.old.trace.told }
     {
         let count = self.read_some(start, out)?;
-        self.given = self
-            .given
+        self.trace = self
+            .trace
             .then(&Answer::Bytes(self.path.as_str(), start, &out[..count]));
         Ok(count)
     }
@@ -57,9 +57,9 @@ impl<F: FileExt> Reader<F> {
         requires room { wanted ≤ length out.old }
         ensures some { IfOk result (λ k. (0 < k) × (k ≤ length out.new)) }
         ensures path { self.new.path ≡ self.old.path }
-        ensures earlier { (folder : Folder) → Agrees folder self.new.given.told → Agrees folder self.old.given.told }
-        ensures given { self.new.given.told
-            ≡ after_asking (string_bytes self.old.path) start out.new result self.old.given.told }
+        ensures earlier { (folder : Folder) → Agrees folder self.new.trace.told → Agrees folder self.old.trace.told }
+        ensures trace { self.new.trace.told
+            ≡ after_asking (string_bytes self.old.path) start out.new result self.old.trace.told }
         ensures len { length out.new ≡ length out.old }
     {
         self.ask(start, &mut out[..wanted])

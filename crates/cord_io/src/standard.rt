@@ -4,7 +4,7 @@ ghost use Rattle.std.specs.Io.KnownBytes.{WriteAppends, Keeps};
 ghost use Rattle.cord_io.specs.Device.{count_after, finished_after};
 
 use crate::failures::Failures;
-use crate::tally::{Taking, Tally};
+use crate::tally::{SinkAnswer, Tally};
 use crate::{Sink, WriteFault};
 use std::io::Write;
 
@@ -66,7 +66,7 @@ impl<W: Write> Sink for StdSink<W> {
     {
         match self.writer.write(bytes) {
             Ok(count) if count > 0 => {
-                self.tally = self.tally.then(&Taking::Took(&bytes[..count]));
+                self.tally = self.tally.then(&SinkAnswer::Took(&bytes[..count]));
                 Ok(count)
             }
             _ => {
@@ -86,7 +86,7 @@ impl<W: Write> Sink for StdSink<W> {
     {
         match self.writer.flush() {
             Ok(()) => {
-                self.tally = self.tally.then(&Taking::Ended);
+                self.tally = self.tally.then(&SinkAnswer::Ended);
                 Ok(())
             }
             Err(_) => {

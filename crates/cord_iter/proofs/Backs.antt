@@ -9,7 +9,8 @@ use Rattle.cord_node.specs.declared.Node.{Node}
 use Rattle.cord_node.proofs.TableLemmas.{Fits-told}
 use Rattle.cord_core.specs.Cord.{text_len, bytes_of, IsCord, CordFitsIn}
 use Rattle.cord_pos.specs.Position.{prev_index, IsByteAt}
-use Rattle.cord_iter.specs.Walk.{walk, WalkedFront, left_of}
+use Rattle.cord_iter.specs.Walk.{walk, WalkedFront}
+use Rattle.cord_iter.specs.inner.Walk.{left_of}
 use Rattle.cord_iter.proofs.Lengths.{length-bytes_over}
 use Rattle.cord_iter.proofs.Walks.{walk_on, walk_one, walk_stop_in}
 

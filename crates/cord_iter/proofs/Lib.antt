@@ -1,4 +1,4 @@
-pub mod Takings
+pub mod Takes
 pub mod Lengths
 pub mod Walks
 pub mod Cuts

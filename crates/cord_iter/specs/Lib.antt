@@ -1,2 +1,3 @@
 pub mod Walk
-pub mod Taking
+pub mod Output
+pub mod inner

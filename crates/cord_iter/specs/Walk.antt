@@ -1,5 +1,5 @@
 -- How a visitor walks over bytes.
-use Rattle.std.specs.Prelude.{◌≡◌, ℕ, ◌+◌, Option, Some, None, Bool, true, false, if◌then◌else◌, List, [], ◌∷◌, ◌++◌}
+use Rattle.std.specs.Prelude.{◌≡◌, ℕ, ◌+◌, Bool, true, false, if◌then◌else◌, List, [], ◌∷◌, ◌++◌}
 
 -- a visitor's state after `byte` on each byte in order up to the first stop, and whether it stopped
 abbrev pub walk : {S : Type 0} → (S → ℕ → S × Bool) → S → List ℕ → S × Bool
@@ -12,8 +12,3 @@ pub record WalkedFront {S : Type 0} (step : S → ℕ → S × Bool) (old new : 
   pub rest : List ℕ
   pub split : bs ≡ front ++ rest
   pub walked : walk step old front ≡ (new, false)
-
--- how many places there are from the beginning up to an index, with it
-abbrev pub left_of : Option ℕ → ℕ
-left_of None = 0
-left_of (Some i) = i + 1

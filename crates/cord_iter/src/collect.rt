@@ -3,7 +3,7 @@ ghost use Rattle.std.specs.Prelude.{◌≡◌, ◌<◌, length, is_err, IfOk};
 ghost use Rattle.cord_io.specs.Device.{Folder};
 ghost use Rattle.cord_io.specs.Frames.{LeavesSource};
 ghost use Rattle.cord_core.specs.Cord.{text_len, bytes_of, CordFitsIn};
-ghost use Rattle.cord_iter.specs.Taking.{CountsReads};
+ghost use Rattle.cord_iter.specs.Output.{CountsReads};
 
 use crate::put;
 use cord_core::Cord;

@@ -6,7 +6,8 @@ ghost use Rattle.cord_io.specs.Table.{length_at};
 ghost use Rattle.cord_node.specs.Tree.{IsSound};
 ghost use Rattle.cord_node.specs.Tables.{FitsIn};
 ghost use Rattle.cord_core.specs.Cord.{text_len, bytes_of, CordFitsIn};
-ghost use Rattle.cord_iter.specs.Taking.{IsFrontOf, IsTextOver, IsPrefixOver, Takes, CountsFaults, failures_of};
+ghost use Rattle.cord_iter.specs.Output.{IsFrontOf, Takes, CountsFaults, failures_of};
+ghost use Rattle.cord_iter.specs.inner.Output.{IsTextOver, IsPrefixOver};
 
 use crate::pieces::{piece_len, put_all, put_run};
 use crate::{BLOCK_LEN, PAGE_LEN, PIECE_LEN};

@@ -1,7 +1,7 @@
 // Output of plain bytes and of runs.
 ghost use Rattle.std.specs.Prelude.{◌≡◌, ◌<◌, ◌≤◌, ◌++◌, OnOk, OnErr, replicate};
 ghost use Rattle.cord_io.specs.Device.{raised};
-ghost use Rattle.cord_iter.specs.Taking.{IsFrontOf, Takes};
+ghost use Rattle.cord_iter.specs.Output.{IsFrontOf, Takes};
 
 use crate::{BLOCK_LEN, PIECE_LEN};
 use cord_io::{Sink, WriteFault};

@@ -203,9 +203,6 @@ module _ (shapes : List Shape) where
       )
 
   module _ (nested : IsNested [] shapes) (p : ℕ) (inside : p < length shapes) where
-    rest_here : List Shape
-    rest_here = drop (p + 1) shapes
-
     -- some block is open after a statement that opens one
     one_open : (x : Shape) (blocks : List (Option ℕ)) (b : Option ℕ) → slice_get shapes p ≡ Some x →
         opened p (open_at shapes p) (Some x) ≡ b ∷ blocks → (st : List Bool) × IsNested st (drop (p + 1) shapes) × (0 < length st)

@@ -6,7 +6,7 @@ use Rattle.cord_syntax.specs.declared.statements.Statement.{Statement}
 use Rattle.cord_syntax.specs.declared.statements.Statement.TheVariants.{Repeat, If, Else, End}
 use Rattle.cord_script.specs.Forms.{Grammar, effect_of}
 use Rattle.cord_script.specs.Script as scripts
-use Rattle.cord_script.specs.Script.{Before, LinesSay, ReadsBy, FitsBlocks, blocks_after, after_all}
+use Rattle.cord_script.specs.Script.{Scope, LinesSay, ReadsBy, FitsBlocks, blocks_after, after_all}
 use Rattle.cord_meaning.specs.Blocks.{Shape, Otherwise, Close, IsNested}
 use Rattle.cord_meaning.specs.Statements.{line_of, shape_of}
 
@@ -41,28 +41,28 @@ module _ (more : List Shape) where
   one_nested _ blocks fits h = h
 
 module _ (g : Grammar) where
-  lines_nested : (lines : List (List ℕ)) (n : ℕ) (before : Before) (ss : List Statement) → LinesSay g n before lines ss →
-      (after_all ss before).blocks ≡ [] → IsNested (may_turn_each before.blocks) (map shape_of ss)
-  lines_nested [] n before ss none closed =
-      let shut : before.blocks ≡ [] = subst (λ (xs : List Statement). (after_all xs before).blocks ≡ []) none closed in
-      subst (λ (xs : List Statement). IsNested (may_turn_each before.blocks) (map shape_of xs)) (sym none)
+  lines_nested : (lines : List (List ℕ)) (n : ℕ) (scope : Scope) (ss : List Statement) → LinesSay g n scope lines ss →
+      (after_all ss scope).blocks ≡ [] → IsNested (may_turn_each scope.blocks) (map shape_of ss)
+  lines_nested [] n scope ss none closed =
+      let shut : scope.blocks ≡ [] = subst (λ (xs : List Statement). (after_all xs scope).blocks ≡ []) none closed in
+      subst (λ (xs : List Statement). IsNested (may_turn_each scope.blocks) (map shape_of xs)) (sym none)
       (subst (λ (bs : List scripts.Block). IsNested (may_turn_each bs) []) (sym shut) tt)
-  lines_nested (line ∷ lines) n before ss (inl (idle, rest)) closed = lines_nested lines (n + 1) before ss rest closed
-  lines_nested (line ∷ lines) n before ss (inr (busy, s, words, rest, is, has, says, others)) closed =
-      let shut : (after_all rest (scripts.after s before)).blocks ≡ [] =
-      subst (λ (xs : List Statement). (after_all xs before).blocks ≡ []) is closed in
-      subst (λ (xs : List Statement). IsNested (may_turn_each before.blocks) (map shape_of xs)) (sym is)
-      (one_nested (map shape_of rest) s before.blocks says.blocks (lines_nested lines (n + 1) (scripts.after s before) rest others shut))
+  lines_nested (line ∷ lines) n scope ss (inl (idle, rest)) closed = lines_nested lines (n + 1) scope ss rest closed
+  lines_nested (line ∷ lines) n scope ss (inr (busy, s, words, rest, is, has, says, others)) closed =
+      let shut : (after_all rest (scripts.after s scope)).blocks ≡ [] =
+      subst (λ (xs : List Statement). (after_all xs scope).blocks ≡ []) is closed in
+      subst (λ (xs : List Statement). IsNested (may_turn_each scope.blocks) (map shape_of xs)) (sym is)
+      (one_nested (map shape_of rest) s scope.blocks says.blocks (lines_nested lines (n + 1) (scripts.after s scope) rest others shut))
 
-  lines_numbered : (lines : List (List ℕ)) (n : ℕ) (before : Before) (ss : List Statement) → 0 < n → LinesSay g n before lines ss →
+  lines_numbered : (lines : List (List ℕ)) (n : ℕ) (scope : Scope) (ss : List Statement) → 0 < n → LinesSay g n scope lines ss →
       All (λ s. 0 < line_of s) ss
-  lines_numbered [] n before ss lt none = subst (λ (xs : List Statement). All (λ s. 0 < line_of s) xs) (sym none)
+  lines_numbered [] n scope ss lt none = subst (λ (xs : List Statement). All (λ s. 0 < line_of s) xs) (sym none)
       (All-nil (λ s. 0 < line_of s))
-  lines_numbered (line ∷ lines) n before ss lt (inl (idle, rest)) = lines_numbered lines (n + 1) before ss (omega arith) rest
-  lines_numbered (line ∷ lines) n before ss lt (inr (busy, s, words, rest, is, has, says, others)) =
+  lines_numbered (line ∷ lines) n scope ss lt (inl (idle, rest)) = lines_numbered lines (n + 1) scope ss (omega arith) rest
+  lines_numbered (line ∷ lines) n scope ss lt (inr (busy, s, words, rest, is, has, says, others)) =
       let first : 0 < line_of s = subst (λ (k : ℕ). 0 < k) (sym says.line) lt in
       subst (λ (xs : List Statement). All (λ s. 0 < line_of s) xs) (sym is)
-      (All-cons (λ s. 0 < line_of s) s rest first (lines_numbered lines (n + 1) (scripts.after s before) rest (omega arith) others))
+      (All-cons (λ s. 0 < line_of s) s rest first (lines_numbered lines (n + 1) (scripts.after s scope) rest (omega arith) others))
 
 -- the blocks of a script that is read are closed
 pub read_nested : {g : Grammar} (b : List ℕ) (ss : List Statement) → ReadsBy g b ss → IsNested [] (map shape_of ss)

@@ -13,7 +13,8 @@ use Rattle.cord_meaning.specs.Blocks.{Shape, Simple, Loop, Branch, Otherwise, Cl
 use Rattle.cord_meaning.specs.Paths.{Next}
 use Rattle.cord_meaning.specs.Machine.{Rules, Moment, Block, Turns, Chosen, Config, notes, goes_to, faults, acted, turned, begins, repeats}
 use Rattle.cord_meaning.specs.Machine.{chooses, closes, if_running, jump_from, runs_shape, runs, step, after, enough, run_moments, run_end}
-use Rattle.cord_meaning.specs.Simulation.{told, Agree, IsControl, Simulates}
+use Rattle.cord_meaning.specs.Machine.{told}
+use Rattle.cord_meaning.specs.inner.Simulation.{Agree, IsControl, Simulates}
 use Rattle.cord_meaning.proofs.Terminates.{ends}
 use Rattle.cord_meaning.proofs.Runs.{moments_when_ended, end_when_ended}
 use Rattle.cord_meaning.proofs.Follows.{follows}
@@ -42,10 +43,10 @@ module _ {S T : Type 0} where
     d = with_other c seen t
 
     abbrev mine : ℕ → Moment S
-    mine line = record { line = line; turns = c.turns; before = c.state; puts = [] }
+    mine line = record { line = line; turns = c.turns; state = c.state; puts = [] }
 
     abbrev theirs : ℕ → Moment T
-    theirs line = record { line = line; turns = c.turns; before = t; puts = [] }
+    theirs line = record { line = line; turns = c.turns; state = t; puts = [] }
 
     noted : (line : ℕ) → map told (c.seen ++ mine line ∷ []) ≡ map told (seen ++ theirs line ∷ [])
     noted line = tells_more c.seen seen (mine line) (theirs line) same refl
@@ -116,16 +117,16 @@ module _ {L M S T : Type 0} (rules : Rules L S) (others : Rules M T) (most : ℕ
           Alike c.place (acted c (rules.line l) r) (acted beside (rules.line l) u)
       simple_alike (Ok r) (Ok u) g = record {
         state = u.0;
-        other = seen ++ record { line = rules.line l; turns = c.turns; before = t; puts = u.1 } ∷ [];
+        other = seen ++ record { line = rules.line l; turns = c.turns; state = t; puts = u.1 } ∷ [];
         is = refl;
-        tells = tells_more c.seen seen (record { line = rules.line l; turns = c.turns; before = c.state; puts = r.1 })
-            (record { line = rules.line l; turns = c.turns; before = t; puts = u.1 }) same
+        tells = tells_more c.seen seen (record { line = rules.line l; turns = c.turns; state = c.state; puts = r.1 })
+            (record { line = rules.line l; turns = c.turns; state = t; puts = u.1 }) same
             (ap (λ (puts : List ℕ). (rules.line l, c.turns, puts)) g.0);
         related = λ running next. g.1;
       }
       simple_alike (Err i) (Err j) g = record {
         state = t;
-        other = seen ++ record { line = rules.line l; turns = c.turns; before = t; puts = [] } ∷ [];
+        other = seen ++ record { line = rules.line l; turns = c.turns; state = t; puts = [] } ∷ [];
         is = ap (λ (k : FaultKind). faults beside (rules.line l) k) (sym g);
         tells = noted most c seen t same (rules.line l);
         related = λ running next. absurd (ended_not _ running);

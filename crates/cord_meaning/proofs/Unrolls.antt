@@ -201,7 +201,7 @@ module _ {L S : Type 0} (rules : Rules L S) (most : ℕ) where
         (body_does : (n t : ℕ) (s : S) (seen : List (Moment S)) → Does (at (p + 1) (Turns p line n ∷ bs) t seen s) seen (body t s) e
         (Turns p line n ∷ bs)) where
       abbrev first_member : ℕ → S → Moment S
-      first_member t s = record { line = line; turns = t; before = s; puts = [] }
+      first_member t s = record { line = line; turns = t; state = s; puts = [] }
 
       -- one turn from its beginning, and then what follows it
       turn_then : (n t : ℕ) (s : S) (seen : List (Moment S)) (q : ℕ) (cs : List Block) →
@@ -259,14 +259,14 @@ module _ {L S : Type 0} (rules : Rules L S) (most : ℕ) where
     one_more : (p line : ℕ) (bs : List Block) (t : ℕ) (seen : List (Moment S)) (s : S) (q : ℕ) (v : Bool) (branch other : ℕ → S →
         Unrolled S) (e r : ℕ) (rest : ℕ → S → Unrolled S) → step rules most statements (at p bs t seen s)
         ≡ chooses (at p bs t seen s) line q v →
-        Does (at (p + 1) (Chosen ∷ bs) t (seen ++ record { line = line; turns = t; before = s; puts = [] } ∷ []) s)
-        (seen ++ record { line = line; turns = t; before = s; puts = [] } ∷ []) (branch t s) e bs →
-        Does (at q (Chosen ∷ bs) t (seen ++ record { line = line; turns = t; before = s; puts = [] } ∷ []) s)
-        (seen ++ record { line = line; turns = t; before = s; puts = [] } ∷ []) (other t s) e bs →
+        Does (at (p + 1) (Chosen ∷ bs) t (seen ++ record { line = line; turns = t; state = s; puts = [] } ∷ []) s)
+        (seen ++ record { line = line; turns = t; state = s; puts = [] } ∷ []) (branch t s) e bs →
+        Does (at q (Chosen ∷ bs) t (seen ++ record { line = line; turns = t; state = s; puts = [] } ∷ []) s)
+        (seen ++ record { line = line; turns = t; state = s; puts = [] } ∷ []) (other t s) e bs →
         ((t : ℕ) (s : S) (xs : List (Moment S)) → Does (at e bs t xs s) xs (rest t s) r bs) →
         Does (at p bs t seen s) seen (then_on (member line t s [] None s) (λ t s. then_on (chosen v branch other t s) rest)) r bs
     one_more p line bs t seen s q v branch other e r rest one taken otherwise then_rest =
-        let m : Moment S = record { line = line; turns = t; before = s; puts = [] } in
+        let m : Moment S = record { line = line; turns = t; state = s; puts = [] } in
         let x : Unrolled S = then_on (chosen v branch other t s) rest in
         let all : Does (chooses (at p bs t seen s) line q v) (seen ++ m ∷ []) x r bs =
         both_do (chooses (at p bs t seen s) line q v) (seen ++ m ∷ []) (chosen v branch other t s) e r bs bs rest
@@ -279,7 +279,7 @@ module _ {L S : Type 0} (rules : Rules L S) (most : ℕ) where
         )
       where
         by_truth : (v : Bool) → Does (chooses (at p bs t seen s) line q v)
-            (seen ++ record { line = line; turns = t; before = s; puts = [] } ∷ []) (chosen v branch other t s) e bs
+            (seen ++ record { line = line; turns = t; state = s; puts = [] } ∷ []) (chosen v branch other t s) e bs
         by_truth true = taken
         by_truth false = otherwise
 
@@ -347,7 +347,7 @@ module _ {L S : Type 0} (rules : Rules L S) (most : ℕ) where
           let q : ℕ = p + 1 + length (flat branch) in
           let run_branch : ℕ → S → Unrolled S = λ t s. unrolled rules most branch t s in
           let v : Bool = rules.holds l s in
-          let m : Moment S = record { line = line; turns = t; before = s; puts = [] } in
+          let m : Moment S = record { line = line; turns = t; state = s; puts = [] } in
           let closing : drop q statements ≡ e ∷ (flat rest ++ more) = closing_here p l e (flat branch) (flat rest) more d in
           let jumps : jump_from rules most statements p ≡ q =
           jump_here statements p l (flat branch ++ (e ∷ flat rest) ++ more) d
@@ -379,7 +379,7 @@ module _ {L S : Type 0} (rules : Rules L S) (most : ℕ) where
           let run_branch : ℕ → S → Unrolled S = λ t s. unrolled rules most branch t s in
           let run_other : ℕ → S → Unrolled S = λ t s. unrolled rules most other t s in
           let v : Bool = rules.holds l s in
-          let seen_here : List (Moment S) = seen ++ record { line = line; turns = t; before = s; puts = [] } ∷ [] in
+          let seen_here : List (Moment S) = seen ++ record { line = line; turns = t; state = s; puts = [] } ∷ [] in
           let middle : drop a statements ≡ m ∷ (behind_branch ++ more) = closing_here p l m (flat branch) behind_branch more d in
           let closing : drop q statements ≡ e ∷ (flat rest ++ more) = closing_here a m e (flat other) (flat rest) more middle in
           let jumps : jump_from rules most statements p ≡ a + 1 =

@@ -11,9 +11,9 @@ use Rattle.cord_meaning.specs.declared.ends.FaultKind.TheVariants.{Negative, Bad
 use Rattle.cord_meaning.specs.State.{State, number_value}
 
 -- an argument of a statement, as what a conversion is given
-abbrev pub given : State → Argument → PieceArgument ℕ
-given s (arguments.Number n) = number (number_value s n)
-given s (arguments.Cord name) = text (s.texts name)
+abbrev pub piece_argument : State → Argument → PieceArgument ℕ
+piece_argument s (arguments.Number n) = number (number_value s n)
+piece_argument s (arguments.Cord name) = text (s.texts name)
 
 -- the fault that a refused argument is; of a statement that was read, whose arguments are those that its format wants, only the first two
 -- come
@@ -31,5 +31,5 @@ unless_refused (Some e) t = Err (fault_of e)
 -- the text of a format with the arguments of a statement, or the fault of the first argument that is refused
 abbrev pub format_text : State → List Piece → List Argument → Result (List ℕ) FaultKind
 format_text s format args =
-    let values : List (PieceArgument ℕ) = map (λ a. given s a) args in
+    let values : List (PieceArgument ℕ) = map (λ a. piece_argument s a) args in
     unless_refused (first_refusal 0 format values) (printed (λ b. b) format values)

@@ -8,6 +8,5 @@ pub mod Formats
 pub mod Statements
 pub mod Meaning
 pub mod Unrolled
-pub mod Running
-pub mod Simulation
 pub mod Rows
+pub mod inner

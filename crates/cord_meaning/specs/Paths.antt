@@ -36,8 +36,3 @@ NextOf shapes p (Some Close) q = NextOfClose p (open_at shapes p) q
 -- q may come next after p
 abbrev pub Next : List Shape → ℕ → ℕ → Type 0
 Next shapes p q = NextOf shapes p (slice_get shapes p) q
-
--- these places follow each other, from p on
-abbrev pub IsPath : List Shape → ℕ → List ℕ → Type 0
-IsPath shapes p [] = Unit {0}
-IsPath shapes p (q ∷ path) = Next shapes p q × IsPath shapes q path

@@ -52,7 +52,7 @@ module _ {S : Type 0} where
   -- one member that puts this, and how it ends
   abbrev pub member : ℕ → ℕ → S → List ℕ → Option End → S → Unrolled S
   member line turns before puts ended state = record {
-    members = record { line = line; turns = turns; before = before; puts = puts } ∷ [];
+    members = record { line = line; turns = turns; state = before; puts = puts } ∷ [];
     ended = ended;
     turns = turns;
     state = state;
@@ -66,7 +66,7 @@ module _ {S : Type 0} where
   -- the beginning of a turn, which is one member, and then its body
   abbrev pub turn : ℕ → ℕ → (ℕ → S → Unrolled S) → ℕ → S → Unrolled S
   turn most line body turns state =
-      if nat_lt turns most then joined (record { line = line; turns = turns; before = state; puts = [] } ∷ []) None (turns + 1) state body
+      if nat_lt turns most then joined (record { line = line; turns = turns; state = state; puts = [] } ∷ []) None (turns + 1) state body
       else member line turns state [] (Some (Fault line TooManyTurns)) state
 
   -- so many turns

@@ -11,7 +11,8 @@ use Rattle.cord_node.specs.Tree.{Cell, known, cells, len_of, depth_of, IsSound}
 use Rattle.cord_node.specs.Kept.{Part, leaf_part, parts, AreFrom, Kept}
 use Rattle.cord_node.specs.Touched.{touched, AtMostOneMore}
 use Rattle.cord_node.specs.Splices.{some_cells, some_len, some_depth, some_parts, IsSomeSound}
-use Rattle.cord_node.specs.Splices.{LeftTakes, RightTakes, BothTake, AreSpliced, AreSides, IsSplice}
+use Rattle.cord_node.specs.inner.Splices.{IsSplice}
+use Rattle.cord_node.specs.inner.Splices.{LeftTakes, RightTakes, BothTake, AreSpliced, AreSides}
 use Rattle.cord_node.proofs.KeptLemmas.{IsFrom-small, AreFrom-append, AreFrom-append_left, AreFrom-append_right}
 use Rattle.cord_node.proofs.KeptLemmas.{AreFrom-self, AreFrom-trans}
 use Rattle.cord_node.proofs.TouchedLemmas.{touched_around}

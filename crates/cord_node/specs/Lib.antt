@@ -4,3 +4,4 @@ pub mod Kept
 pub mod Touched
 pub mod Occurrences
 pub mod Splices
+pub mod inner

@@ -1,13 +1,10 @@
 -- One text in the place of a range of another, and texts that may be none.
-use Rattle.std.specs.Prelude.{◌≡◌, ℕ, ◌+◌, ◌-◌, ◌<◌, ◌≤◌, max, List, [], ◌++◌, take, drop}
-use Rattle.std.specs.Prelude.{Bool, true, false, Option, Some, None, option_map, ⊤}
+use Rattle.std.specs.Prelude.{ℕ, List, []}
+use Rattle.std.specs.Prelude.{Option, Some, None, option_map, ⊤}
 use Rattle.std.specs.declared.rc.Rc.{Rc}
-use Rattle.cord_io.specs.declared.TheConstants.{MAX_LEN, MAX_DEPTH}
 use Rattle.cord_node.specs.declared.Node.{Node}
-use Rattle.cord_node.specs.declared.Node.TheVariants.{Leaf, Run, Func, Cat'}
 use Rattle.cord_node.specs.Tree.{Cell, cells, len_of, depth_of, IsSound}
-use Rattle.cord_node.specs.Kept.{Part, parts, AreFrom}
-use Rattle.cord_node.specs.Touched.{AtMostOneMore}
+use Rattle.cord_node.specs.Kept.{Part, parts}
 
 -- the node behind a handle, where there is one
 abbrev pub node_in : {Z : Type 0} → Option (Rc Node Z) → Option Node
@@ -37,71 +34,3 @@ some_parts (Some n) = parts n
 abbrev pub IsSomeSound : Option Node → Type 0
 IsSomeSound None = ⊤
 IsSomeSound (Some n) = IsSound n
-
--- it is a `Cat`
-abbrev pub is_cat : Node → Bool
-is_cat (Cat' p left q right len depth mark) = true
-is_cat _ = false
-
--- these are the sides of the node
-abbrev pub AreSides : Node → Node → Node → Type 0
-AreSides (Leaf bytes start len mark) a b = ⊥
-AreSides (Run byte len) a b = ⊥
-AreSides (Func id start len) a b = ⊥
-AreSides (Cat' p left q right len depth mark) a b = (a ≡ left) × (b ≡ right)
-
--- it is a `Cat`, and this holds of its sides
-abbrev pub SidesAre : (Node → Node → Type 0) → Node → Type 0
-SidesAre holds (Leaf bytes start len mark) = ⊥
-SidesAre holds (Run byte len) = ⊥
-SidesAre holds (Func id start len) = ⊥
-SidesAre holds (Cat' p left q right len depth mark) = holds left right
-
--- the range lies inside the node, which stays and is no less deep than what comes in the range's place
-pub record Takes (from until : ℕ) (middle : Option Node) (side : Node) : Type 0 where
-  pub inside : until ≤ len_of side
-  pub stays : 0 < from + some_len middle + (len_of side - until)
-  pub deep : some_depth middle ≤ depth_of side
-
--- an edit of a node with these sides can go on in the left one
-abbrev pub LeftTakes : ℕ → ℕ → Option Node → Node → Node → Type 0
-LeftTakes from until middle left right = Takes from until middle left
-
--- in the right one
-abbrev pub RightTakes : ℕ → ℕ → Option Node → Node → Node → Type 0
-RightTakes from until middle left right = (len_of left ≤ from) × Takes (from - len_of left) (until - len_of left) middle right
-
--- in the left one, which loses its end, while the right one loses its beginning
-abbrev pub BothTake : ℕ → ℕ → Option Node → Node → Node → Type 0
-BothTake from until middle left right = (from ≤ len_of left) × (len_of left ≤ until) × (until < len_of left + len_of right)
-    × Takes from (len_of left) middle left
-
--- the two sides are the old ones with middle in the place of the range
-pub record AreSpliced (from until : ℕ) (middle : Option Node) (old_left old_right left right : Node) : Type 0 where
-  pub left_sound : IsSound left
-  pub right_sound : IsSound right
-  pub text : cells left ++ cells right
-      ≡ take from (cells old_left ++ cells old_right) ++ some_cells middle ++ drop until (cells old_left ++ cells old_right)
-  pub len : len_of left + len_of right ≡ from + some_len middle + (len_of old_left + len_of old_right - until)
-  pub depth : max (depth_of left) (depth_of right) ≤ max (max (depth_of old_left) (depth_of old_right) + 1) (some_depth middle) + 1
-  pub from_there : AreFrom (parts left ++ parts right) (parts old_left ++ parts old_right ++ some_parts middle)
-  pub few : AtMostOneMore (parts old_left ++ parts old_right) (some_parts middle) (parts left ++ parts right)
-
--- the range lies inside the node, something is left, and the result is neither too long nor too deep
-pub record IsEditable (from until : ℕ) (middle : Option Node) (node : Node) : Type 0 where
-  pub sound : IsSound node
-  pub middle_sound : IsSomeSound middle
-  pub order : from ≤ until
-  pub inside : until ≤ len_of node
-  pub not_empty : 0 < from + some_len middle + (len_of node - until)
-  pub within_limit : from + some_len middle + (len_of node - until) ≤ MAX_LEN
-  pub shallow : max (depth_of node) (some_depth middle) + 2 ≤ MAX_DEPTH
-
--- new is old with middle in the place of the range
-pub record IsSplice (from until : ℕ) (middle : Option Node) (old new : Node) : Type 0 where
-  pub sound : IsSound new
-  pub text : cells new ≡ take from (cells old) ++ some_cells middle ++ drop until (cells old)
-  pub len : len_of new ≡ from + some_len middle + (len_of old - until)
-  pub depth : depth_of new ≤ max (depth_of old) (some_depth middle) + 2
-  pub from_there : AreFrom (parts new) (parts old ++ some_parts middle)
-  pub few : AtMostOneMore (parts old) (some_parts middle) (parts new)

@@ -4,8 +4,9 @@ ghost use Rattle.cord_node.specs.Tree.{cells, len_of, depth_of, IsSound};
 ghost use Rattle.cord_node.specs.Kept.{parts, AreFrom};
 ghost use Rattle.cord_node.specs.Touched.{AtMostOneMore};
 ghost use Rattle.cord_node.specs.Splices.{node_in, some_cells, some_len, some_depth, some_parts, IsSomeSound};
-ghost use Rattle.cord_node.specs.Splices.{Takes, LeftTakes, RightTakes, BothTake, SidesAre};
-ghost use Rattle.cord_node.specs.Splices.{is_cat, AreSides, AreSpliced, IsEditable, IsSplice};
+ghost use Rattle.cord_node.specs.inner.Splices.{Takes, LeftTakes, RightTakes, BothTake, SidesAre};
+ghost use Rattle.cord_node.specs.inner.Splices.{IsSplice};
+ghost use Rattle.cord_node.specs.inner.Splices.{is_cat, AreSides, AreSpliced, IsEditable};
 
 use crate::replace::{are_merged, is_short, replaced};
 use crate::{Node, join, sub_node};

@@ -4,7 +4,8 @@ ghost use Rattle.std.specs.Prelude.{IfOk, IfSome};
 ghost use Rattle.cord_node.specs.Tree.{cells, known, len_of, depth_of, IsSound};
 ghost use Rattle.cord_node.specs.Kept.{parts, leaf_part, AreFrom};
 ghost use Rattle.cord_node.specs.Touched.{touched};
-ghost use Rattle.cord_node.specs.Splices.{node_in, some_cells, some_len, some_depth, some_parts, IsSomeSound, IsSplice};
+ghost use Rattle.cord_node.specs.Splices.{node_in, some_cells, some_len, some_depth, some_parts, IsSomeSound};
+ghost use Rattle.cord_node.specs.inner.Splices.{IsSplice};
 
 use crate::{Node, SMALL_LEN, join, leaf, sub_node};
 use cord_io::{MAX_DEPTH, MAX_LEN};

@@ -7,12 +7,12 @@ use Rattle.cord_meaning.specs.Blocks.{Shape, Simple}
 use Rattle.cord_meaning.specs.Paths.{Next}
 use Rattle.cord_meaning.specs.State.{State, start_state}
 use Rattle.cord_meaning.specs.Statements.{act, rules, shape_of, line_of}
-use Rattle.cord_meaning.specs.Simulation.{Agree, IsControl, Simulates}
+use Rattle.cord_meaning.specs.inner.Simulation.{Agree, IsControl, Simulates}
 use Rattle.cord_plan.specs.Planned.{Operation, operation}
 use Rattle.cord_plan.specs.Meaning.{Holding, does, operation_shape, operation_line, plan_rules, start_holding}
 use Rattle.cord_plan.specs.Conditions.{Decisions, MeetsConditions, decided, decided_from}
 use Rattle.cord_plan.proofs.Controls.{same_shape, same_line, same_count, same_holds}
-use Rattle.cord_plan.proofs.Keeping.{moves}
+use Rattle.cord_plan.proofs.Invariant.{moves}
 use Rattle.cord_plan.proofs.Decided.{Related, agrees}
 
 module _ (d : Decisions) where

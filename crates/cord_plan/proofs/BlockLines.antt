@@ -4,7 +4,7 @@ use Rattle.std.proofs.Common.{inl, inr, arith}
 use Rattle.std.specs.Prelude.{slice_get}
 use Rattle.cord_meaning.specs.Blocks.{Shape, Simple, Loop, Branch, Otherwise, Close, to_end, to_else, jump_of, jump_at, jump}
 use Rattle.cord_meaning.specs.Paths.{opened, open_at, NextOf, NextOfClose, Next}
-use Rattle.cord_meaning.specs.Simulation.{IsControl}
+use Rattle.cord_meaning.specs.inner.Simulation.{IsControl}
 use Rattle.cord_plan.specs.Forced.{is_block}
 
 -- a block's shape, or none

@@ -1,7 +1,7 @@
 -- Only what is read later is built.
-use Rattle.std.proofs.Common.{◌≡◌, ℕ, zero, suc, ◌+◌, Bool, true, false, List, [], ◌∷◌, Option, Some, None, refl, sym, ap, ◌∙◌, subst}
+use Rattle.std.proofs.Common.{◌≡◌, ℕ, zero, suc, ◌+◌, Bool, true, false, List, [], ◌∷◌, Option, Some, None, refl, subst}
 use Rattle.std.proofs.Common.{arith}
-use Rattle.std.specs.Prelude.{slice_get, not, ◌||◌}
+use Rattle.std.specs.Prelude.{slice_get, ◌||◌}
 use Rattle.cord_syntax.specs.declared.statements.Statement.{Statement}
 use Rattle.cord_syntax.specs.declared.statements.Statement.TheVariants.{Let, File, Eager, Lazy, Chars, Nul, FromFn, Cat, Catn, Catc, Substr}
 use Rattle.cord_syntax.specs.declared.statements.Statement.TheVariants.{Balance, EcToCord, Sprintf}
@@ -27,33 +27,33 @@ not_both : (dead paired : Bool) → (dead || paired) ≡ false → dead ≡ fals
 not_both true paired e = cc
 not_both false paired e = refl
 
-given : (dead : Bool) (line : ℕ) (target : List ℕ) (made : Made) (x : List ℕ) → built (gives dead line target made) ≡ Some x →
+made_builds : (dead : Bool) (line : ℕ) (target : List ℕ) (made : Made) (x : List ℕ) → built (gives dead line target made) ≡ Some x →
     Builds (Some target) dead x
-given true line target made x e = let bad : ⊥ = cc in absurd bad
-given false line target made x e = record { assigned = e; living = refl }
+made_builds true line target made x e = let bad : ⊥ = cc in absurd bad
+made_builds false line target made x e = record { assigned = e; living = refl }
 
-given_simple : (dead paired : Bool) (line : ℕ) (target : List ℕ) (made : Made) (x : List ℕ) →
+simple_builds : (dead paired : Bool) (line : ℕ) (target : List ℕ) (made : Made) (x : List ℕ) →
     built (gives (dead || paired) line target made) ≡ Some x → Builds (Some target) dead x
-given_simple dead paired line target made x e =
-    let b : Builds (Some target) (dead || paired) x = given (dead || paired) line target made x e in
+simple_builds dead paired line target made x e =
+    let b : Builds (Some target) (dead || paired) x = made_builds (dead || paired) line target made x e in
     record { assigned = b.assigned; living = not_both dead paired b.living }
 
 builds : (l : Statement) (e : Expr) (dead paired : Bool) (x : List ℕ) → built (operation l e dead paired) ≡ Some x →
     Builds (target_of l) dead x
-builds (Cat line target left right) e dead paired x h = given_simple dead paired line target _ x h
-builds (Catn line target many) e dead paired x h = given_simple dead paired line target _ x h
-builds (Catc line target operand byte) e dead paired x h = given_simple dead paired line target _ x h
-builds (Chars line target byte n) e dead paired x h = given_simple dead paired line target _ x h
-builds (Nul line target n) e dead paired x h = given_simple dead paired line target _ x h
-builds (Substr line target operand start n) e dead paired x h = given_simple dead paired line target _ x h
-builds (Let line target text) e dead paired x h = given dead line target _ x h
-builds (File line target path) e dead paired x h = given dead line target _ x h
-builds (Eager line target path) e dead paired x h = given dead line target _ x h
-builds (Lazy line target path) e dead paired x h = given dead line target _ x h
-builds (FromFn line target function n) e dead paired x h = given dead line target _ x h
-builds (Balance line target operand) e dead paired x h = given dead line target _ x h
-builds (EcToCord line target extensible) e dead paired x h = given dead line target _ x h
-builds (Sprintf line target text format arguments) e dead paired x h = given dead line target _ x h
+builds (Cat line target left right) e dead paired x h = simple_builds dead paired line target _ x h
+builds (Catn line target many) e dead paired x h = simple_builds dead paired line target _ x h
+builds (Catc line target operand byte) e dead paired x h = simple_builds dead paired line target _ x h
+builds (Chars line target byte n) e dead paired x h = simple_builds dead paired line target _ x h
+builds (Nul line target n) e dead paired x h = simple_builds dead paired line target _ x h
+builds (Substr line target operand start n) e dead paired x h = simple_builds dead paired line target _ x h
+builds (Let line target text) e dead paired x h = made_builds dead line target _ x h
+builds (File line target path) e dead paired x h = made_builds dead line target _ x h
+builds (Eager line target path) e dead paired x h = made_builds dead line target _ x h
+builds (Lazy line target path) e dead paired x h = made_builds dead line target _ x h
+builds (FromFn line target function n) e dead paired x h = made_builds dead line target _ x h
+builds (Balance line target operand) e dead paired x h = made_builds dead line target _ x h
+builds (EcToCord line target extensible) e dead paired x h = made_builds dead line target _ x h
+builds (Sprintf line target text format arguments) e dead paired x h = made_builds dead line target _ x h
 builds l e dead paired x h = let bad : ⊥ = cc in absurd bad
 
 lives : (later : List ℕ → ℕ → Bool) (p : ℕ) (target : Option (List ℕ)) (x : List ℕ) → target ≡ Some x → is_dead later p target ≡ false →
@@ -61,9 +61,6 @@ lives : (later : List ℕ → ℕ → Bool) (p : ℕ) (target : Option (List ℕ
 lives later p None x same e = let bad : ⊥ = cc in absurd bad
 lives later p (Some y) x same e = let y_is : y ≡ x = cc in pick (later x p) refl
   where
-    here : not (later x p) ≡ false
-    here = ap (λ (t : Option (List ℕ)). is_dead later p t) (sym same) ∙ e
-
     pick : (v : Bool) → later x p ≡ v → later x p ≡ true
     pick true f = f
     pick false f = let bad : ⊥ = cc in absurd bad

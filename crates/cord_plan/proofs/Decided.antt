@@ -20,8 +20,8 @@ use Rattle.cord_meaning.specs.Blocks.{Simple}
 use Rattle.cord_meaning.specs.State.{State, Outcome, number_value, and_then, as_index, as_byte, as_length, fits_i64, has_number}
 use Rattle.cord_meaning.specs.State.{sets_number, sets_extensible}
 use Rattle.cord_meaning.specs.Statements.{act, shape_of, byte_at, file_text, function_text}
-use Rattle.cord_meaning.specs.Formats.{given, format_text, unless_refused}
-use Rattle.cord_meaning.specs.Simulation.{Agree}
+use Rattle.cord_meaning.specs.Formats.{piece_argument, format_text, unless_refused}
+use Rattle.cord_meaning.specs.inner.Simulation.{Agree}
 use Rattle.cord_plan.specs.Exprs.{Expr, name, run, cat, sub, Exprs, nothing, member, append, in_front, members}
 use Rattle.cord_plan.specs.Operands.{has, read_by, target_of, is_name, cord_arguments, assigns, assigns_at, reads_at}
 use Rattle.cord_plan.specs.Unread.{Unread}
@@ -33,13 +33,13 @@ use Rattle.cord_plan.specs.Flattening.{HaveTexts}
 use Rattle.cord_plan.specs.Meaning.{Held, Text, Long, Holding, plain, held_text, is_text, all_texts, cords, cords_of, texts_to_build}
 use Rattle.cord_plan.specs.Meaning.{texts_to_measure, opened, made_text, made_length, keeps, does}
 use Rattle.cord_plan.specs.Conditions.{Decisions, is_simple, is_simple_at, makes_cord, stands, MeetsConditions}
-use Rattle.cord_plan.proofs.Keeps.{IsKept, Agrees}
+use Rattle.cord_plan.proofs.Keeps.{IsVerbatimButLen, Agrees}
 use Rattle.cord_plan.proofs.Values.{within_length}
 use Rattle.cord_plan.proofs.Owns.{sets_within}
 use Rattle.cord_plan.proofs.Evaluation.{In, in_left, in_right, in_either, plain_number, value_same, extent_is, line_gives, gives_after}
 use Rattle.cord_plan.proofs.Evaluation.{function_gives}
 use Rattle.cord_plan.proofs.Does.{built_agrees, measured_agrees, put_agrees, len_agrees, kept_agrees, with_others}
-use Rattle.cord_plan.proofs.Keeping.{not_both, same_self, unset_same, Ready, Inv, lengths, inv_set, inv_on, operand, operand_text}
+use Rattle.cord_plan.proofs.Invariant.{not_both, same_self, unset_same, Ready, Inv, lengths, inv_set, inv_on, operand, operand_text}
 
 has_in : (xs : List (List ℕ)) (x : List ℕ) → In x xs → has xs x ≡ true
 has_in [] x i = absurd i
@@ -124,7 +124,7 @@ module _ (f : State) (h : Holding) where
 
   module _ (numbers : h.numbers ≡ f.numbers) where
     given_same : (args : List Argument) → Agrees (plain h).texts f.texts (cord_arguments args) →
-        map (λ a. given (plain h) a) args ≡ map (λ a. given f a) args
+        map (λ a. piece_argument (plain h) a) args ≡ map (λ a. piece_argument f a) args
     given_same [] a = refl
     given_same (arguments.Number n ∷ args) a = λ i. number (plain_number h f numbers n i) ∷ given_same args a i
     given_same (arguments.Cord x ∷ args) a = λ i. text (a.0 i) ∷ given_same args a.1 i
@@ -157,7 +157,7 @@ module _ (f : State) (y : List ℕ) where
   extensible_kept : (limit : ℕ) (x t : List ℕ) → NumberKept (sets_extensible limit f x t)
   extensible_kept limit x t = then_kept (as_length limit (length t)) _ (λ k. refl)
 
-  numbers_kept : (limit : ℕ) (files : Folder) (l : Statement) → IsKept l → assigns l y ≡ false → NumberKept (act limit files l f)
+  numbers_kept : (limit : ℕ) (files : Folder) (l : Statement) → IsVerbatimButLen l → assigns l y ≡ false → NumberKept (act limit files l f)
   numbers_kept limit files (Fetch line target x index) k e = then_kept (as_index (number_value f index)) _
       (λ i. then_kept (byte_at (f.texts x) i) _ (λ b. has_kept target (pos b) e))
   numbers_kept limit files (Cmp line target left right) k e = has_kept target _ e
@@ -281,7 +281,7 @@ module _ (s : List Statement) (d : Decisions) (ok : MeetsConditions s d) (limit 
           (λ y unset. kept_there f y (act limit files l f) u puts e (kept y unset)) no_cord
           (λ x simple assigned. absurd (not_both (is_simple l) simple bare))
 
-      keeps_agree : IsKept l → makes_cord l ≡ false → is_simple l ≡ false →
+      keeps_agree : IsVerbatimButLen l → makes_cord l ≡ false → is_simple l ≡ false →
           Agree (Related (p + 1)) (act limit files l f) (keeps limit files l h)
       keeps_agree k no_cord bare =
           kept_agrees limit files (Related (p + 1)) f h l inv.numbers inv.extensibles

@@ -7,14 +7,14 @@ use Rattle.cord_syntax.specs.declared.statements.Statement.TheVariants.{Balance,
 use Rattle.cord_meaning.specs.declared.ends.FaultKind.{FaultKind}
 use Rattle.cord_meaning.specs.State.{State, Outcome, and_then, with_value}
 use Rattle.cord_meaning.specs.Statements.{act}
-use Rattle.cord_meaning.specs.Simulation.{Agree}
+use Rattle.cord_meaning.specs.inner.Simulation.{Agree}
 use Rattle.cord_plan.specs.Operands.{read_by}
 use Rattle.cord_plan.specs.Planned.{Made, Build, Measure, Write, Keep}
 use Rattle.cord_plan.specs.Exprs.{Expr}
 use Rattle.cord_plan.specs.Values.{length_of, text_in, gives_text}
 use Rattle.cord_plan.specs.Meaning.{Text, Long, Holding, held_length, plain, gets, all_texts, cords, texts_to_build, texts_to_measure}
 use Rattle.cord_plan.specs.Meaning.{made_text, made_length, builds, measures, keeps, does, if_all}
-use Rattle.cord_plan.proofs.Keeps.{IsKept, Agrees, with_texts, kept_same}
+use Rattle.cord_plan.proofs.Keeps.{IsVerbatimButLen, Agrees, with_texts, kept_same}
 
 module _ (limit : ℕ) (files : Folder) (Related : State → Option Holding → Type 0) (s : State) (h : Holding) where
   module _ (z : List ℕ) (line : ℕ) (made : Made) (r : Result (List ℕ) FaultKind) where
@@ -81,7 +81,7 @@ module _ (limit : ℕ) (files : Folder) (Related : State → Option Holding → 
     all_same t (x ∷ xs) = (refl, all_same t xs)
 
     -- a statement that makes no cord, where the texts that it reads are there
-    pub kept_agrees : IsKept l → all_texts h (read_by l) ≡ true → Agrees (plain h).texts s.texts (read_by l) →
+    pub kept_agrees : IsVerbatimButLen l → all_texts h (read_by l) ≡ true → Agrees (plain h).texts s.texts (read_by l) →
         Agree Related (act limit files l s) (keeps limit files l h)
     kept_agrees k there same =
         let is_plain : plain h ≡ record s { texts = (plain h).texts } =
@@ -97,7 +97,7 @@ module _ (limit : ℕ) (files : Folder) (Related : State → Option Holding → 
         by_kept l k (subst (λ (v : Bool). Agree Related (act limit files l s)
         (if_all v (and_then (act limit files l (plain h)) (λ r. Ok (Some (with_others r.0), r.1))))) (sym there) two)
       where
-        by_kept : (l : Statement) → IsKept l → Agree Related (act limit files l s)
+        by_kept : (l : Statement) → IsVerbatimButLen l → Agree Related (act limit files l s)
             (if_all (all_texts h (read_by l)) (and_then (act limit files l (plain h)) (λ r. Ok (Some (with_others r.0), r.1)))) →
             Agree Related (act limit files l s) (keeps limit files l h)
         by_kept (Len line target operand) k g = absurd k

@@ -57,11 +57,6 @@ module _ (limit : ℕ) (s : State) (z : List ℕ) where
       by_checks (Ok k) = by_length k (as_length limit k)
       by_checks (Err kind) = refl
 
--- names have their own texts
-pub names_stand : (limit : ℕ) (s : State) (xs : List (List ℕ)) → HaveTexts limit s (map (λ x. name x) xs) (map s.texts xs)
-names_stand limit s [] = tt
-names_stand limit s (x ∷ xs) = (refl, names_stand limit s xs)
-
 -- ---- the same names have the same value
 abbrev pub In : List ℕ → List (List ℕ) → Type 0
 In x [] = ⊥

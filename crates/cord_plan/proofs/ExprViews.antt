@@ -4,7 +4,8 @@ use Rattle.std.specs.declared.rc.Rc.{Rc}
 use Rattle.cord_operands.specs.declared.operands.Number.{Number}
 use Rattle.cord_plan.specs.Exprs as plain
 use Rattle.cord_plan.specs.Exprs.{append}
-use Rattle.cord_plan.specs.Views.{expr_view, expr_step, members_of, members_view, members_step, pair_step, rest_view, rest_step}
+use Rattle.cord_plan.specs.Views.{expr_view, expr_step, members_of, members_view, members_step, pair_step, rest_step}
+use Rattle.cord_plan.specs.inner.Views.{rest_view}
 use Rattle.cord_plan.specs.Views.{shared_view, single_step}
 use Rattle.cord_plan.specs.declared.expressions.Expr.{Expr, Expr-F, fold-roll-Expr}
 use Rattle.cord_plan.specs.declared.expressions.Expr.TheOpen.{Rest-F}

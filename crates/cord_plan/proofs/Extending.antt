@@ -2,7 +2,7 @@
 use Rattle.std.proofs.Common.{◌≡◌, ℕ, zero, suc, ◌+◌, ◌-◌, ◌<◌, ◌≤◌, Bool, true, false, ◌⊎◌, inl, inr, List, [], ◌∷◌, ◌++◌, map, length}
 use Rattle.std.proofs.Common.{get_or}
 use Rattle.std.proofs.Common.{Option, Some, None, pos, refl, sym, ap, ◌∙◌, subst, arith}
-use Rattle.std.specs.Prelude.{◌&&◌, ◌||◌, ◌==◌, not, option_map, slice_get}
+use Rattle.std.specs.Prelude.{◌&&◌, ◌||◌, ◌==◌, option_map, slice_get}
 use Rattle.std.proofs.Math.Bool.{and-false}
 use Rattle.std.proofs.lemmas.Bool.{eqb-true}
 use Rattle.std.proofs.lemmas.Option.{slice_get-map, slice_get_within}
@@ -14,12 +14,12 @@ use Rattle.cord_syntax.specs.declared.statements.Statement.TheVariants.{Balance,
 use Rattle.cord_plan.specs.Exprs.{Expr, Exprs, name, run, cat, sub, nothing, member, append, lacks, members, names, names_of}
 use Rattle.cord_plan.specs.Extending.{Extends, IsLonger, joined_at, joined_by}
 use Rattle.cord_plan.specs.inner.Extensions.{AreExtending}
-use Rattle.cord_plan.specs.Forced.{Choice, Table, choices, each_from, expr_of, expr_with, first_of, is_block_at, named, preserves, replaced}
+use Rattle.cord_plan.specs.Forced.{Choice, Table, choices, expr_of, expr_with, first_of, named, preserves, replaced}
 use Rattle.cord_plan.specs.inner.Choices as code
 use Rattle.cord_plan.specs.inner.Choices.{expression_of, simple_operands}
 use Rattle.cord_plan.specs.inner.Steps.{IsBegun, IsStep, IsToldLonger, is_catc, is_last, is_longer, is_named, made_expression}
 use Rattle.cord_plan.specs.inner.Steps.{measured, measured_from, operation_expression, some_source}
-use Rattle.cord_plan.specs.Operands.{assigns, assigns_at, count, read_by, reads_at, target_of}
+use Rattle.cord_plan.specs.Operands.{assigns, assigns_at, read_by, target_of}
 use Rattle.cord_plan.specs.Planned.{Made, Joined, Literal, OfFile, OfEager, OfLazy, OfFunction, Balanced, OfExtensible, Printed, Operation}
 use Rattle.cord_plan.specs.Planned.{Build, gives, is_dead, is_first, operation, operations, or_nothing}
 use Rattle.cord_plan.proofs.Choices.{simple_reads, two_chosen}
@@ -271,7 +271,8 @@ module _ (s : List Statement) (later : List ℕ → ℕ → Bool) where
       preserves (slice_get s a) (names r) ≡ true
   taken_stays t b l x a r h =
       let before : a < b = h.set.before in
-      each_at (λ m. preserves (slice_get s m) (names r)) (b - a) a a (taken_fits s later t b l x a r h).keeping (omega arith) (omega arith)
+      each_at (λ m. preserves (slice_get s m) (names r)) (b - a) a a (taken_fits s later t b l x a r h).preserved (omega arith)
+      (omega arith)
 
   source_of_taken : (b : ℕ) (made : List Operation) (g : IsBegun s later b made) (l : Statement) (x : List ℕ) (a : ℕ) (es : Exprs) →
       Taken s later g.table b l x a (cat es) → Source made a es

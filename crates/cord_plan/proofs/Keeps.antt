@@ -18,24 +18,24 @@ use Rattle.cord_core.specs.Texts.{first, last, order}
 use Rattle.cord_plan.specs.Operands.{read_by}
 
 -- the statements that a plan keeps as they are, but for `len`, which serves a length alone
-abbrev pub IsKept : Statement → Type 0
-IsKept (Let line target text) = ⊥
-IsKept (File line target path) = ⊥
-IsKept (Eager line target path) = ⊥
-IsKept (Lazy line target path) = ⊥
-IsKept (Chars line target byte count) = ⊥
-IsKept (Nul line target count) = ⊥
-IsKept (FromFn line target function count) = ⊥
-IsKept (Cat line target left right) = ⊥
-IsKept (Catn line target parts) = ⊥
-IsKept (Catc line target operand byte) = ⊥
-IsKept (Substr line target operand start count) = ⊥
-IsKept (Balance line target operand) = ⊥
-IsKept (EcToCord line target extensible) = ⊥
-IsKept (Sprintf line target text format arguments) = ⊥
-IsKept (Put line operand) = ⊥
-IsKept (Len line target operand) = ⊥
-IsKept _ = Unit {0}
+abbrev pub IsVerbatimButLen : Statement → Type 0
+IsVerbatimButLen (Let line target text) = ⊥
+IsVerbatimButLen (File line target path) = ⊥
+IsVerbatimButLen (Eager line target path) = ⊥
+IsVerbatimButLen (Lazy line target path) = ⊥
+IsVerbatimButLen (Chars line target byte count) = ⊥
+IsVerbatimButLen (Nul line target count) = ⊥
+IsVerbatimButLen (FromFn line target function count) = ⊥
+IsVerbatimButLen (Cat line target left right) = ⊥
+IsVerbatimButLen (Catn line target parts) = ⊥
+IsVerbatimButLen (Catc line target operand byte) = ⊥
+IsVerbatimButLen (Substr line target operand start count) = ⊥
+IsVerbatimButLen (Balance line target operand) = ⊥
+IsVerbatimButLen (EcToCord line target extensible) = ⊥
+IsVerbatimButLen (Sprintf line target text format arguments) = ⊥
+IsVerbatimButLen (Put line operand) = ⊥
+IsVerbatimButLen (Len line target operand) = ⊥
+IsVerbatimButLen _ = Unit {0}
 
 -- these names have these texts
 abbrev pub Agrees : (List ℕ → List ℕ) → (List ℕ → List ℕ) → List (List ℕ) → Type 0
@@ -84,7 +84,7 @@ module _ (t : List ℕ → List ℕ) where
       extensible_set name u v e = ap (λ (w : List ℕ). sets_extensible limit (over s) name w) e
           ∙ then_with (as_length limit (length v)) (as_length limit (length v)) _ _ refl (λ k. refl)
 
-      pub kept_same : (l : Statement) → IsKept l → Agrees t s.texts (read_by l) →
+      pub kept_same : (l : Statement) → IsVerbatimButLen l → Agrees t s.texts (read_by l) →
           act limit files l (over s) ≡ with_texts (act limit files l s)
       kept_same (Fetch line target operand index) k a = then_with _ _ _ _ (same_index index)
           (λ i. then_with _ _ _ _ (ap (λ (x : List ℕ). byte_at x i) a.0) (λ b. refl))

@@ -8,7 +8,7 @@ pub mod Controls
 pub mod Trivial
 pub mod Stays
 pub mod BlockLines
-pub mod Keeping
+pub mod Invariant
 pub mod Decided
 pub mod Beside
 pub mod Values

@@ -4,7 +4,7 @@ use Rattle.std.proofs.Common.{append_assoc, arith}
 use Rattle.std.specs.Prelude.{if◌then◌else◌}
 use Rattle.cord_plan.specs.Exprs as plain
 use Rattle.cord_plan.specs.Shown.{expr, exprs, more_exprs}
-use Rattle.cord_plan.specs.Exprs.{is_nothing}
+use Rattle.cord_plan.specs.inner.Exprs.{is_nothing}
 use Rattle.cord_plan.specs.Views.{Shared, members_of, shared_view}
 use Rattle.cord_plan.proofs.Spacing.{AreSpaced}
 

@@ -9,7 +9,7 @@ use Rattle.cord_syntax.specs.declared.statements.Statement.TheVariants.{Assign, 
 use Rattle.cord_syntax.specs.declared.statements.Statement.TheVariants.{Else, End}
 use Rattle.cord_plan.specs.Exprs.{Expr}
 use Rattle.cord_plan.specs.Forced.{Table, own, exprs}
-use Rattle.cord_plan.specs.Kept.{KeepsNoOther}
+use Rattle.cord_plan.specs.Verbatim.{KeepsNoOther}
 use Rattle.cord_plan.specs.Operands.{target_of}
 use Rattle.cord_plan.specs.Planned.{Made, Joined, Literal, OfFile, OfEager, OfLazy, OfFunction, Balanced, OfExtensible, Printed, gives}
 use Rattle.cord_plan.specs.Planned.{operation, operations, or_nothing, is_dead, is_first, planned, trivial}

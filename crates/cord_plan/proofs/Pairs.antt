@@ -24,17 +24,17 @@ module _ (s : List Statement) (later : List ℕ → ℕ → Bool) where
   pub record Fits (r : Expr) (a b : ℕ) (l : Statement) (x : List ℕ) : Type 0 where
     pub quiet : each_from (λ m. not (is_block_at (slice_get s m)) && not (reads_at (slice_get s m) x)) (b - (a + 1)) (a + 1) ≡ true
     pub once : (count x (read_by l) == 1) ≡ true
-    pub keeping : each_from (λ m. preserves (slice_get s m) (names r)) (b - a) a ≡ true
+    pub preserved : each_from (λ m. preserves (slice_get s m) (names r)) (b - a) a ≡ true
 
   pub taken_fits : (table : Table) (b : ℕ) (l : Statement) (x : List ℕ) (a : ℕ) (r : Expr) → Taken s later table b l x a r → Fits r a b l x
   taken_fits table b l x a r h =
       let quiet = each_from (λ m. not (is_block_at (slice_get s m)) && not (reads_at (slice_get s m) x)) (b - (a + 1)) (a + 1) in
       let once = count x (read_by l) == 1 in
       let free = assigns l x || not (later x b) in
-      let keeping = each_from (λ m. preserves (slice_get s m) (names r)) (b - a) a in
-      let p = both_true quiet (once && (free && keeping)) h.fit in
-      let q = both_true once (free && keeping) p.1 in
-      record { quiet = p.0; once = q.0; keeping = (both_true free keeping q.1).1 }
+      let preserved = each_from (λ m. preserves (slice_get s m) (names r)) (b - a) a in
+      let p = both_true quiet (once && (free && preserved)) h.fit in
+      let q = both_true once (free && preserved) p.1 in
+      record { quiet = p.0; once = q.0; preserved = (both_true free preserved q.1).1 }
 
   -- what is known there
   record Facts (r : Expr) (a b : ℕ) (l : Statement) (x : List ℕ) : Type 0 where
@@ -47,14 +47,14 @@ module _ (s : List Statement) (later : List ℕ → ℕ → Bool) where
       let before : a < b = h.set.before in
       let f : Fits r a b l x = taken_fits table b l x a r h in
       let quiet : ℕ → Bool = λ m. not (is_block_at (slice_get s m)) && not (reads_at (slice_get s m) x) in
-      let keeping : ℕ → Bool = λ m. preserves (slice_get s m) (names r) in
+      let preserved : ℕ → Bool = λ m. preserves (slice_get s m) (names r) in
       record {
         unread = λ m low high. not_true (reads_at (slice_get s m) x)
             (both_true (not (is_block_at (slice_get s m))) (not (reads_at (slice_get s m) x))
             (each_at quiet (b - (a + 1)) (a + 1) m f.quiet (omega arith) (omega arith))).1;
         once = eqb-true (count x (read_by l)) 1 f.once;
         stays = λ m y low high is_named. preserves_at (slice_get s m) (names r) y
-            (each_at keeping (b - a) a m f.keeping low (omega arith)) is_named;
+            (each_at preserved (b - a) a m f.preserved low (omega arith)) is_named;
       }
 
   -- a line reads the bytes of a name, or has it as the name of a number

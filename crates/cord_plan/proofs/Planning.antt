@@ -256,11 +256,11 @@ module _ (s : List Statement) (later : List ℕ → ℕ → Bool) where
   fit_told : (r : Expr) (a b : ℕ) (l : Statement) (x : List ℕ) → fits s later r a b l x ≡ true → IsFit r a b l x
   fit_told r a b l x h =
       let quiet : ℕ → Bool = λ m. not (is_block_at (slice_get s m)) && not (reads_at (slice_get s m) x) in
-      let keeping : ℕ → Bool = λ m. preserves (slice_get s m) (names r) in
+      let preserved : ℕ → Bool = λ m. preserves (slice_get s m) (names r) in
       let p = both_true (each_from quiet (b - (a + 1)) (a + 1))
-      ((count x (read_by l) == 1) && ((assigns l x || not (later x b)) && each_from keeping (b - a) a)) h in
-      let q = both_true (count x (read_by l) == 1) ((assigns l x || not (later x b)) && each_from keeping (b - a) a) p.1 in
-      let w = both_true (assigns l x || not (later x b)) (each_from keeping (b - a) a) q.1 in
+      ((count x (read_by l) == 1) && ((assigns l x || not (later x b)) && each_from preserved (b - a) a)) h in
+      let q = both_true (count x (read_by l) == 1) ((assigns l x || not (later x b)) && each_from preserved (b - a) a) p.1 in
+      let w = both_true (assigns l x || not (later x b)) (each_from preserved (b - a) a) q.1 in
       let between : (m : ℕ) → a < m → m < b → quiet m ≡ true =
       λ m low high. each_at quiet (b - (a + 1)) (a + 1) m p.0 (omega arith) (omega arith) in
       record {
@@ -271,7 +271,7 @@ module _ (s : List Statement) (later : List ℕ → ℕ → Bool) where
         once = eqb-true (count x (read_by l)) 1 q.0;
         later_or = ⊎_elim (λ (e : assigns l x ≡ true). inl e) (λ (e : not (later x b) ≡ true). inr (not_true (later x b) e))
             (or_true (assigns l x) (not (later x b)) w.0);
-        fixed = λ m low high. each_at keeping (b - a) a m w.1 low (omega arith);
+        fixed = λ m low high. each_at preserved (b - a) a m w.1 low (omega arith);
       }
 
   -- ---- the table of a script

@@ -15,7 +15,7 @@ use Rattle.cord_syntax.specs.declared.statements.Statement.TheVariants.{Cat, Cat
 use Rattle.cord_syntax.specs.declared.statements.Statement.TheVariants.{Str, Chr, Rchr, Assign, Add, Sub, EcInit, EcCat, Put}
 use Rattle.cord_script.specs.Forms.{Grammar, terms_of, argument_term}
 use Rattle.cord_script.specs.Forms.Term.{Operand}
-use Rattle.cord_script.specs.Script.{Before, kind_of, with_name, names_after, after_all, AreAllowed, ReadsBy, start}
+use Rattle.cord_script.specs.Script.{Scope, kind_of, with_name, names_after, after_all, AreAllowed, ReadsBy, start}
 use Rattle.cord_plan.specs.Operands.{has, read_by, cord_arguments, assigns, reads_at}
 use Rattle.cord_plan.specs.Conditions.{makes_cord, assigns_other_at, HasKinds}
 use Rattle.cord_plan.proofs.Flows.{or_true}
@@ -46,16 +46,16 @@ kind_assigned names x k (inr e) =
 abbrev IsOther : List Known → List ℕ → Type 0
 IsOther names x = (kind_of names x ≡ Some kinds.Number) ⊎ (kind_of names x ≡ Some kinds.Extensible)
 
-module _ (before : Before) (x : List ℕ) where
-  number_assigned : (target : List ℕ) → (kind_of before.names target ≡ Some kinds.Number) ⊎
-      ((kind_of before.names target ≡ None) × (length before.names < MAX_NAMES)) → bytes_eq x target ≡ true →
-      IsOther (with_name before.names target kinds.Number) x
-  number_assigned target h e = inl (ap (λ (y : List ℕ). kind_of (with_name before.names target kinds.Number) y)
-      ((bytes_eq-Decides x target).0 e) ∙ kind_assigned before.names target kinds.Number h)
+module _ (scope : Scope) (x : List ℕ) where
+  number_assigned : (target : List ℕ) → (kind_of scope.names target ≡ Some kinds.Number) ⊎
+      ((kind_of scope.names target ≡ None) × (length scope.names < MAX_NAMES)) → bytes_eq x target ≡ true →
+      IsOther (with_name scope.names target kinds.Number) x
+  number_assigned target h e = inl (ap (λ (y : List ℕ). kind_of (with_name scope.names target kinds.Number) y)
+      ((bytes_eq-Decides x target).0 e) ∙ kind_assigned scope.names target kinds.Number h)
 
   -- the target of a line that makes no cord is a number or an extensible cord after it
-  other_assigned : (l : Statement) → AreAllowed before (terms_of l) → (not (makes_cord l) && assigns l x) ≡ true →
-      IsOther (names_after (terms_of l) before.names) x
+  other_assigned : (l : Statement) → AreAllowed scope (terms_of l) → (not (makes_cord l) && assigns l x) ≡ true →
+      IsOther (names_after (terms_of l) scope.names) x
   other_assigned (Len line target operand) h e = number_assigned target h.0 e
   other_assigned (Fetch line target operand index) h e = number_assigned target h.0 e
   other_assigned (Cmp line target left right) h e = number_assigned target h.0 e
@@ -66,33 +66,33 @@ module _ (before : Before) (x : List ℕ) where
   other_assigned (Assign line target value) h e = number_assigned target h.0 e
   other_assigned (Add line target left right) h e = number_assigned target h.0 e
   other_assigned (Sub line target left right) h e = number_assigned target h.0 e
-  other_assigned (EcInit line target) h e = inr (ap (λ (y : List ℕ). kind_of (with_name before.names target kinds.Extensible) y)
-      ((bytes_eq-Decides x target).0 e) ∙ kind_assigned before.names target kinds.Extensible h.0)
+  other_assigned (EcInit line target) h e = inr (ap (λ (y : List ℕ). kind_of (with_name scope.names target kinds.Extensible) y)
+      ((bytes_eq-Decides x target).0 e) ∙ kind_assigned scope.names target kinds.Extensible h.0)
   other_assigned l h e = let bad : ⊥ = cc in absurd bad
 
   abbrev IsCord : Type 0
-  IsCord = kind_of before.names x ≡ Some kinds.Cord
+  IsCord = kind_of scope.names x ≡ Some kinds.Cord
 
-  cord_known : (xs : List (List ℕ)) → AreAllowed before (map (Operand kinds.Cord) xs) → has xs x ≡ true → IsCord
+  cord_known : (xs : List (List ℕ)) → AreAllowed scope (map (Operand kinds.Cord) xs) → has xs x ≡ true → IsCord
   cord_known [] h e = let bad : ⊥ = cc in absurd bad
   cord_known (y ∷ xs) h e = pick (λ r. cord_known xs h.1 r) (or_true (bytes_eq x y) (has xs x) e)
     where
       pick : (has xs x ≡ true → IsCord) → (bytes_eq x y ≡ true) ⊎ (has xs x ≡ true) → IsCord
-      pick rest (inl r) = ap (λ (z : List ℕ). kind_of before.names z) ((bytes_eq-Decides x y).0 r) ∙ h.0
+      pick rest (inl r) = ap (λ (z : List ℕ). kind_of scope.names z) ((bytes_eq-Decides x y).0 r) ∙ h.0
       pick rest (inr r) = rest r
 
-  argument_known : (args : List Argument) → AreAllowed before (map argument_term args) → has (cord_arguments args) x ≡ true → IsCord
+  argument_known : (args : List Argument) → AreAllowed scope (map argument_term args) → has (cord_arguments args) x ≡ true → IsCord
   argument_known [] h e = let bad : ⊥ = cc in absurd bad
   argument_known (arguments.Number n ∷ args) h e = argument_known args h.1 e
   argument_known (arguments.Cord y ∷ args) h e = pick (λ r. argument_known args h.1 r)
       (or_true (bytes_eq x y) (has (cord_arguments args) x) e)
     where
       pick : (has (cord_arguments args) x ≡ true → IsCord) → (bytes_eq x y ≡ true) ⊎ (has (cord_arguments args) x ≡ true) → IsCord
-      pick rest (inl r) = ap (λ (z : List ℕ). kind_of before.names z) ((bytes_eq-Decides x y).0 r) ∙ h.0
+      pick rest (inl r) = ap (λ (z : List ℕ). kind_of scope.names z) ((bytes_eq-Decides x y).0 r) ∙ h.0
       pick rest (inr r) = rest r
 
   -- what a line reads is a cord
-  read_known : (l : Statement) → AreAllowed before (terms_of l) → has (read_by l) x ≡ true → IsCord
+  read_known : (l : Statement) → AreAllowed scope (terms_of l) → has (read_by l) x ≡ true → IsCord
   read_known (Cat line target left right) h e = cord_known (left ∷ right ∷ []) (h.1.0, (h.1.1.0, tt)) e
   read_known (Catn line target parts) h e = cord_known parts h.1 e
   read_known (Catc line target operand byte) h e = cord_known (operand ∷ []) (h.1.0, tt) e
@@ -127,8 +127,8 @@ read_kinds g b s read p q x assigned = no_true (reads_at (slice_get s q) x)
     clash (Some l) e f (Some m) here r =
         let one : IsSaid l last = line_said g read.lines 1 start s p l read.say e in
         let two : IsSaid m last = line_said g read.lines 1 start s q m read.say here in
-        apart (on (names_after (terms_of l) one.before.names) one.behind_stays.kept (other_assigned one.before x l one.allowed f))
-        (two.stays.kept x kinds.Cord (read_known two.before x m two.allowed r))
+        apart (on (names_after (terms_of l) one.scope.names) one.behind_stays.kept (other_assigned one.scope x l one.allowed f))
+        (two.stays.kept x kinds.Cord (read_known two.scope x m two.allowed r))
       where
         on : (names : List Known) → ((y : List ℕ) (k : Kind) → kind_of names y ≡ Some k → kind_of last y ≡ Some k) → IsOther names x →
             IsOther last x

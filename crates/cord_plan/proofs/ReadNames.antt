@@ -12,7 +12,7 @@ use Rattle.cord_syntax.specs.declared.statements.Statement.{Statement}
 use Rattle.cord_syntax.specs.declared.statements.Statement.TheVariants.{Chars, Nul, Cat, Catn, Catc, Substr, Put}
 use Rattle.cord_script.specs.Forms.{Grammar, Term, terms_of}
 use Rattle.cord_script.specs.Forms.Term.{Target, Operand, Value, Literal, FilePath, Applies, Compares, Formats}
-use Rattle.cord_script.specs.Script.{Before, kind_of, with_name, names_after, after, after_all, IsAllowed, AreAllowed, LinesSay, ReadsBy}
+use Rattle.cord_script.specs.Script.{Scope, kind_of, with_name, names_after, after, after_all, IsAllowed, AreAllowed, LinesSay, ReadsBy}
 use Rattle.cord_script.specs.Script.{start}
 use Rattle.cord_plan.specs.Exprs.{Expr, number_names}
 use Rattle.cord_plan.specs.Operands.{has, read_by}
@@ -56,93 +56,93 @@ terms_stay (Applies f ∷ ts) names = terms_stay ts names
 terms_stay (Compares r ∷ ts) names = terms_stay ts names
 terms_stay (Formats t ∷ ts) names = terms_stay ts names
 
-lines_stay : (ss : List Statement) (before : Before) → Stays before.names (after_all ss before).names
-lines_stay [] before = record { kept = λ y k e. e }
-lines_stay (s ∷ ss) before =
-    record { kept = λ y k e. (lines_stay ss (after s before)).kept y k ((terms_stay (terms_of s) before.names).kept y k e) }
+lines_stay : (ss : List Statement) (scope : Scope) → Stays scope.names (after_all ss scope).names
+lines_stay [] scope = record { kept = λ y k e. e }
+lines_stay (s ∷ ss) scope =
+    record { kept = λ y k e. (lines_stay ss (after s scope)).kept y k ((terms_stay (terms_of s) scope.names).kept y k e) }
 
 -- what is known in front of a line, where the script is read on to these names
 pub record IsSaid (l : Statement) (last : List Known) : Type 0 where
-  pub before : Before
-  pub allowed : AreAllowed before (terms_of l)
-  pub stays : Stays before.names last
-  pub behind_stays : Stays (names_after (terms_of l) before.names) last
+  pub scope : Scope
+  pub allowed : AreAllowed scope (terms_of l)
+  pub stays : Stays scope.names last
+  pub behind_stays : Stays (names_after (terms_of l) scope.names) last
 
 module _ (g : Grammar) where
-  pub line_said : (lines : List (List ℕ)) (n : ℕ) (before : Before) (ss : List Statement) (p : ℕ) (l : Statement) →
-      LinesSay g n before lines ss → slice_get ss p ≡ Some l → IsSaid l (after_all ss before).names
-  line_said [] n before ss p l none e =
+  pub line_said : (lines : List (List ℕ)) (n : ℕ) (scope : Scope) (ss : List Statement) (p : ℕ) (l : Statement) →
+      LinesSay g n scope lines ss → slice_get ss p ≡ Some l → IsSaid l (after_all ss scope).names
+  line_said [] n scope ss p l none e =
       let bad : ⊥ =
       (let gone : slice_get {X = Statement} [] p ≡ Some l = subst (λ (xs : List Statement). slice_get xs p ≡ Some l) none e in cc) in
       absurd bad
-  line_said (line ∷ lines) n before ss p l (inl (idle, rest)) e = line_said lines (n + 1) before ss p l rest e
-  line_said (line ∷ lines) n before ss p l (inr (busy, s, words, rest, is, has, says, others)) e =
-      subst (λ (xs : List Statement). IsSaid l (after_all xs before).names) (sym is)
+  line_said (line ∷ lines) n scope ss p l (inl (idle, rest)) e = line_said lines (n + 1) scope ss p l rest e
+  line_said (line ∷ lines) n scope ss p l (inr (busy, s, words, rest, is, has, says, others)) e =
+      subst (λ (xs : List Statement). IsSaid l (after_all xs scope).names) (sym is)
       (at p (subst (λ (xs : List Statement). slice_get xs p ≡ Some l) is e)
-      (λ k h. line_said lines (n + 1) (after s before) rest k l others h))
+      (λ k h. line_said lines (n + 1) (after s scope) rest k l others h))
     where
       at : (k : ℕ) → slice_get (s ∷ rest) k ≡ Some l → ((m : ℕ) → slice_get rest m ≡ Some l →
-          IsSaid l (after_all rest (after s before)).names) → IsSaid l (after_all (s ∷ rest) before).names
+          IsSaid l (after_all rest (after s scope)).names) → IsSaid l (after_all (s ∷ rest) scope).names
       at zero h later =
           let same : s ≡ l = cc in
-          subst (λ (x : Statement). IsSaid x (after_all (s ∷ rest) before).names) same
+          subst (λ (x : Statement). IsSaid x (after_all (s ∷ rest) scope).names) same
           (record {
-            before = before;
+            scope = scope;
             allowed = says.allowed;
-            stays = lines_stay (s ∷ rest) before;
-            behind_stays = lines_stay rest (after s before);
+            stays = lines_stay (s ∷ rest) scope;
+            behind_stays = lines_stay rest (after s scope);
           })
       at (suc k) h later = later k h
 
 -- the names of number operands are names of numbers
-number_known : (before : Before) (n : Number) (y : List ℕ) → IsAllowed before (Value n) → has (number_names n) y ≡ true →
-    kind_of before.names y ≡ Some kinds.Number
-number_known before (Numeral z) y h e = let bad : ⊥ = cc in absurd bad
-number_known before (Named x) y h e = pick (or_true (bytes_eq y x) false e)
+number_known : (scope : Scope) (n : Number) (y : List ℕ) → IsAllowed scope (Value n) → has (number_names n) y ≡ true →
+    kind_of scope.names y ≡ Some kinds.Number
+number_known scope (Numeral z) y h e = let bad : ⊥ = cc in absurd bad
+number_known scope (Named x) y h e = pick (or_true (bytes_eq y x) false e)
   where
-    pick : (bytes_eq y x ≡ true) ⊎ (false ≡ true) → kind_of before.names y ≡ Some kinds.Number
-    pick (inl f) = ap (λ (z : List ℕ). kind_of before.names z) (same_bytes y x f) ∙ h
+    pick : (bytes_eq y x ≡ true) ⊎ (false ≡ true) → kind_of scope.names y ≡ Some kinds.Number
+    pick (inl f) = ap (λ (z : List ℕ). kind_of scope.names z) (same_bytes y x f) ∙ h
     pick (inr f) = let bad : ⊥ = cc in absurd bad
 
-two_known : (before : Before) (n m : Number) (y : List ℕ) → IsAllowed before (Value n) → IsAllowed before (Value m) →
-    has (number_names n ++ number_names m) y ≡ true → kind_of before.names y ≡ Some kinds.Number
-two_known before n m y h k e = pick (has_append (number_names n) (number_names m) y e)
+two_known : (scope : Scope) (n m : Number) (y : List ℕ) → IsAllowed scope (Value n) → IsAllowed scope (Value m) →
+    has (number_names n ++ number_names m) y ≡ true → kind_of scope.names y ≡ Some kinds.Number
+two_known scope n m y h k e = pick (has_append (number_names n) (number_names m) y e)
   where
-    pick : (has (number_names n) y ≡ true) ⊎ (has (number_names m) y ≡ true) → kind_of before.names y ≡ Some kinds.Number
-    pick (inl f) = number_known before n y h f
-    pick (inr f) = number_known before m y k f
+    pick : (has (number_names n) y ≡ true) ⊎ (has (number_names m) y ≡ true) → kind_of scope.names y ≡ Some kinds.Number
+    pick (inl f) = number_known scope n y h f
+    pick (inr f) = number_known scope m y k f
 
-numbers_known : (l : Statement) (before : Before) (y : List ℕ) → AreAllowed before (terms_of l) → has (numbers_named l) y ≡ true →
-    kind_of before.names y ≡ Some kinds.Number
-numbers_known (Chars line target byte n) before y h e = two_known before byte n y h.1.0 h.1.1.0 e
-numbers_known (Nul line target n) before y h e = number_known before n y h.1.0 e
-numbers_known (Catc line target operand byte) before y h e = number_known before byte y h.1.1.0 e
-numbers_known (Substr line target operand start n) before y h e = two_known before start n y h.1.1.0 h.1.1.1.0 e
-numbers_known l before y h e = let bad : ⊥ = cc in absurd bad
+numbers_known : (l : Statement) (scope : Scope) (y : List ℕ) → AreAllowed scope (terms_of l) → has (numbers_named l) y ≡ true →
+    kind_of scope.names y ≡ Some kinds.Number
+numbers_known (Chars line target byte n) scope y h e = two_known scope byte n y h.1.0 h.1.1.0 e
+numbers_known (Nul line target n) scope y h e = number_known scope n y h.1.0 e
+numbers_known (Catc line target operand byte) scope y h e = number_known scope byte y h.1.1.0 e
+numbers_known (Substr line target operand start n) scope y h e = two_known scope start n y h.1.1.0 h.1.1.1.0 e
+numbers_known l scope y h e = let bad : ⊥ = cc in absurd bad
 
 -- the cords that a line with an expression reads are names of cords
-operands_known : (before : Before) (xs : List (List ℕ)) (k : ℕ) (y : List ℕ) → AreAllowed before (map (Operand kinds.Cord) xs) →
-    slice_get xs k ≡ Some y → kind_of before.names y ≡ Some kinds.Cord
-operands_known before [] k y h e = let bad : ⊥ = cc in absurd bad
-operands_known before (x ∷ xs) zero y h e =
+operands_known : (scope : Scope) (xs : List (List ℕ)) (k : ℕ) (y : List ℕ) → AreAllowed scope (map (Operand kinds.Cord) xs) →
+    slice_get xs k ≡ Some y → kind_of scope.names y ≡ Some kinds.Cord
+operands_known scope [] k y h e = let bad : ⊥ = cc in absurd bad
+operands_known scope (x ∷ xs) zero y h e =
     let same : x ≡ y = cc in
-    subst (λ (z : List ℕ). kind_of before.names z ≡ Some kinds.Cord) same h.0
-operands_known before (x ∷ xs) (suc k) y h e = operands_known before xs k y h.1 e
+    subst (λ (z : List ℕ). kind_of scope.names z ≡ Some kinds.Cord) same h.0
+operands_known scope (x ∷ xs) (suc k) y h e = operands_known scope xs k y h.1 e
 
 abbrev pub HasOwn : Option Expr → Type 0
 HasOwn None = ⊥
 HasOwn (Some e) = Unit {0}
 
-reads_known : (l : Statement) (before : Before) (k : ℕ) (y : List ℕ) → HasOwn (own l) → AreAllowed before (terms_of l) →
-    slice_get (read_by l) k ≡ Some y → kind_of before.names y ≡ Some kinds.Cord
-reads_known (Cat line target left right) before k y o h e = operands_known before (left ∷ right ∷ []) k y (h.1.0, (h.1.1.0, tt)) e
-reads_known (Catn line target many) before k y o h e = operands_known before many k y h.1 e
-reads_known (Catc line target operand byte) before k y o h e = operands_known before (operand ∷ []) k y (h.1.0, tt) e
-reads_known (Substr line target operand start n) before k y o h e = operands_known before (operand ∷ []) k y (h.1.0, tt) e
-reads_known (Put line operand) before k y o h e = operands_known before (operand ∷ []) k y (h.0, tt) e
-reads_known (Chars line target byte n) before k y o h e = let bad : ⊥ = cc in absurd bad
-reads_known (Nul line target n) before k y o h e = let bad : ⊥ = cc in absurd bad
-reads_known l before k y o h e = absurd o
+reads_known : (l : Statement) (scope : Scope) (k : ℕ) (y : List ℕ) → HasOwn (own l) → AreAllowed scope (terms_of l) →
+    slice_get (read_by l) k ≡ Some y → kind_of scope.names y ≡ Some kinds.Cord
+reads_known (Cat line target left right) scope k y o h e = operands_known scope (left ∷ right ∷ []) k y (h.1.0, (h.1.1.0, tt)) e
+reads_known (Catn line target many) scope k y o h e = operands_known scope many k y h.1 e
+reads_known (Catc line target operand byte) scope k y o h e = operands_known scope (operand ∷ []) k y (h.1.0, tt) e
+reads_known (Substr line target operand start n) scope k y o h e = operands_known scope (operand ∷ []) k y (h.1.0, tt) e
+reads_known (Put line operand) scope k y o h e = operands_known scope (operand ∷ []) k y (h.0, tt) e
+reads_known (Chars line target byte n) scope k y o h e = let bad : ⊥ = cc in absurd bad
+reads_known (Nul line target n) scope k y o h e = let bad : ⊥ = cc in absurd bad
+reads_known l scope k y o h e = absurd o
 
 -- a cord that a line with an expression reads is no number
 pub no_number : (g : Grammar) (b : List ℕ) (s : List Statement) (p k : ℕ) (l : Statement) (e : Expr) (t : List ℕ) → ReadsBy g b s →
@@ -155,7 +155,7 @@ no_number g b s p k l e t read at is operand = λ q. at_line (slice_get s q) q r
     cord : kind_of last t ≡ Some kinds.Cord
     cord =
         let said : IsSaid l last = line_said g read.lines 1 start s p l read.say at in
-        said.stays.kept t kinds.Cord (reads_known l said.before k t (subst (λ (o : Option Expr). HasOwn o) (sym is) tt) said.allowed
+        said.stays.kept t kinds.Cord (reads_known l said.scope k t (subst (λ (o : Option Expr). HasOwn o) (sym is) tt) said.allowed
         operand)
 
     at_line : (o : Option Statement) (q : ℕ) → slice_get s q ≡ o → has (numbers_named_at o) t ≡ false
@@ -163,6 +163,6 @@ no_number g b s p k l e t read at is operand = λ q. at_line (slice_get s q) q r
     at_line (Some m) q here = no_true (has (numbers_named m) t) (λ named. (
         let said : IsSaid m last = line_said g read.lines 1 start s q m read.say here in
         let number : kind_of last t ≡ Some kinds.Number =
-        said.stays.kept t kinds.Number (numbers_known m said.before t said.allowed named) in
+        said.stays.kept t kinds.Number (numbers_known m said.scope t said.allowed named) in
         let bad : Some kinds.Cord ≡ Some kinds.Number = sym cord ∙ number in
         cc))

@@ -11,7 +11,7 @@ use Rattle.cord_meaning.specs.Blocks.{Shape, Simple, Loop, Branch, Otherwise, Cl
 use Rattle.cord_meaning.specs.Paths.{Next}
 use Rattle.cord_meaning.specs.Machine.{Rules, Block, Turns, Chosen, Config, notes, faults, acted, turned, begins, repeats, chooses, closes}
 use Rattle.cord_meaning.specs.Machine.{if_running, jump_from, runs_shape, runs, step, after}
-use Rattle.cord_meaning.specs.Simulation.{Agree, IsControl, Simulates}
+use Rattle.cord_meaning.specs.inner.Simulation.{Agree, IsControl, Simulates}
 use Rattle.cord_meaning.proofs.Follows.{follows}
 
 module _ {T : Type 0} (most : ℕ) (c : Config T) where

@@ -13,7 +13,7 @@ use Rattle.cord_syntax.specs.declared.statements.Statement.TheVariants.{Else, En
 use Rattle.cord_meaning.specs.declared.ends.FaultKind.{FaultKind}
 use Rattle.cord_meaning.specs.State.{State, with_value}
 use Rattle.cord_meaning.specs.Statements.{act, rules, shape_of, line_of, file_text}
-use Rattle.cord_meaning.specs.Simulation.{Agree, Simulates}
+use Rattle.cord_meaning.specs.inner.Simulation.{Agree, Simulates}
 use Rattle.cord_plan.specs.Exprs.{name, run, cat, sub, members}
 use Rattle.cord_plan.specs.Forced.{own}
 use Rattle.cord_plan.specs.Operands.{read_by}
@@ -23,7 +23,7 @@ use Rattle.cord_plan.specs.Values.{gives_text}
 use Rattle.cord_meaning.specs.Formats.{format_text}
 use Rattle.cord_plan.specs.Meaning.{Text, Holding, plain, gets, all_texts, texts_to_build, made_text, does, operation_shape, operation_line}
 use Rattle.cord_plan.specs.Meaning.{plan_rules}
-use Rattle.cord_plan.proofs.Keeps.{IsKept, Agrees}
+use Rattle.cord_plan.proofs.Keeps.{IsVerbatimButLen, Agrees}
 use Rattle.cord_plan.proofs.Evaluation.{gives_after, function_gives}
 use Rattle.cord_plan.proofs.Owns.{own_means, sets_within}
 use Rattle.cord_plan.proofs.Does.{built_agrees, put_agrees, len_agrees, kept_agrees}
@@ -66,7 +66,7 @@ module _ (limit : ℕ) (files : Folder) (p : ℕ) (s : State) where
       (built_agrees limit files (Same p) s (full s) z line made (made_text limit files made s) (full_texts s (texts_to_build made)) refl
       (λ t _. full_gets s z t))
 
-  keeps_on : (l : Statement) → IsKept l → Agree (Same p) (act limit files l s) (does limit files (Keep l) (full s))
+  keeps_on : (l : Statement) → IsVerbatimButLen l → Agree (Same p) (act limit files l s) (does limit files (Keep l) (full s))
   keeps_on l k = kept_agrees limit files (Same p) s (full s) l refl refl (λ u puts is e. full_others s u e) k (full_texts s (read_by l))
       (full_same s (read_by l))
 

@@ -70,12 +70,6 @@ flow_bits word behind assigned i lt within = rw (
   bit_not_is assigned i lt within,
 ) refl
 
--- the column of a bit
-pub column_at : (words : List ℕ) (i p : ℕ) → at (column words i) p ≡ bit (get_or words p 0) i
-column_at [] i p = sym (bit_zero_is i)
-column_at (w ∷ words) i zero = refl
-column_at (w ∷ words) i (suc p) = column_at words i p
-
 -- the bits of two places after
 pub behind_bits : (words : List ℕ) (i first second : ℕ) (o : Option ℕ) (v w : ℕ) → o ≡ Some second → bit v i ≡ at (column words i) first →
     bit w i ≡ at (column words i) second → bit (bit_or v w) i ≡ some_of (λ q. at (column words i) q) (first ∷ option_to_list o)

@@ -7,7 +7,7 @@ use Rattle.std.specs.Prelude.{IsErr}
 use Rattle.std.specs.declared.result.Result.{Result}
 use Rattle.cord_io.specs.Device.{raised}
 use Rattle.cord_io.specs.declared.faults.WriteFault.{WriteFault}
-use Rattle.cord_iter.proofs.Takings.{front_join, front_more}
+use Rattle.cord_iter.proofs.Takes.{front_join, front_more}
 use Rattle.cord_plan.specs.inner.Showing.{Writes}
 
 -- bytes, and others after them

@@ -1,5 +1,5 @@
 -- Expressions: what a line makes of names of cords and of runs of a byte.
-use Rattle.std.specs.Prelude.{ℕ, ◌+◌, Bool, true, false, not, ◌&&◌, List, [], ◌∷◌, ◌++◌}
+use Rattle.std.specs.Prelude.{ℕ, ◌+◌, Bool, true, not, ◌&&◌, List, [], ◌∷◌, ◌++◌}
 use Rattle.std.specs.Str.{bytes_eq}
 use Rattle.cord_operands.specs.declared.operands.Number.{Number}
 use Rattle.cord_operands.specs.declared.operands.Number.TheVariants.{Numeral, Named}
@@ -49,11 +49,6 @@ abbrev mutual
 abbrev pub lacks : List (List ℕ) → List ℕ → Bool
 lacks [] x = true
 lacks (y ∷ ys) x = not (bytes_eq y x) && lacks ys x
-
--- whether there are no members
-abbrev pub is_nothing : Exprs → Bool
-is_nothing nothing = true
-is_nothing (member e es) = false
 
 abbrev pub append : Exprs → Exprs → Exprs
 append nothing others = others

@@ -5,7 +5,7 @@ pub mod Unread
 pub mod Forced
 pub mod Planned
 pub mod Extending
-pub mod Kept
+pub mod Verbatim
 pub mod Views
 pub mod Flat
 pub mod Flattening

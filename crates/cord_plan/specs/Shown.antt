@@ -5,15 +5,12 @@ use Rattle.cord_printf.specs.declared.pieces.Radix.TheVariants as radices
 use Rattle.cord_printf.specs.PieceText.{digits_in}
 use Rattle.cord_operands.specs.declared.operands.Number.{Number}
 use Rattle.cord_operands.specs.declared.operands.Number.TheVariants.{Numeral, Named}
-use Rattle.cord_operands.specs.declared.operands.Function.{Function}
-use Rattle.cord_operands.specs.declared.operands.Function.TheVariants.{Digits, Bytes}
-use Rattle.cord_operands.specs.declared.operands.Relation.{Relation}
-use Rattle.cord_operands.specs.declared.operands.Relation.TheVariants.{Less, Equal, Greater}
 use Rattle.cord_operands.specs.declared.operands.Argument.{Argument}
 use Rattle.cord_operands.specs.declared.operands.Argument.TheVariants as arguments
 use Rattle.cord_syntax.specs.declared.statements.Statement.{Statement}
 use Rattle.cord_syntax.specs.declared.statements.Statement.TheVariants.{Len, Fetch, Cmp, Ncmp, Str, Chr, Rchr, Assign, Add, Sub, EcInit}
 use Rattle.cord_syntax.specs.declared.statements.Statement.TheVariants.{EcPut, EcCat, EcStr, Repeat, If, Else, End}
+use Rattle.cord_script.specs.Tests.{function_word, relation_word}
 use Rattle.cord_meaning.specs.Statements.{line_of}
 use Rattle.cord_plan.specs.Exprs.{Expr, name, run, cat, sub, Exprs, nothing, member}
 use Rattle.cord_plan.specs.Planned.{Made, Joined, Literal, OfFile, OfEager, OfLazy, OfFunction, Balanced, OfExtensible, Printed, Operation}
@@ -69,10 +66,6 @@ path_byte b = if (b == 34) || ((b == 92) || (nat_lt b 32 || nat_lt 126 b)) then 
 abbrev pub quoted : List ℕ → List ℕ
 quoted path = 34 ∷ flat_map (λ b. path_byte b) path ++ 34 ∷ []
 
-abbrev pub function : Function → List ℕ
-function Digits = codes "digits"
-function Bytes = codes "bytes"
-
 abbrev pub argument : Argument → List ℕ
 argument (arguments.Number n) = number n
 argument (arguments.Cord x) = x
@@ -87,15 +80,10 @@ made (Literal text) = called (codes "literal") (decimal (length text))
 made (OfFile path) = called (codes "file") (quoted path)
 made (OfEager path) = called (codes "eager") (quoted path)
 made (OfLazy path) = called (codes "lazy") (quoted path)
-made (OfFunction f n) = called (codes "fn") (spaced (function f ∷ number n ∷ []))
+made (OfFunction f n) = called (codes "fn") (spaced (function_word f ∷ number n ∷ []))
 made (Balanced x) = called (codes "balance") x
 made (OfExtensible e) = called (codes "ectocord") e
 made (Printed text format args) = called (codes "sprintf") (decimal (length text) ++ argument_words args)
-
-abbrev pub relation : Relation → List ℕ
-relation Less = codes "lt"
-relation Equal = codes "eq"
-relation Greater = codes "gt"
 
 -- `number N word(operands)`
 abbrev pub counted : List ℕ → List ℕ → List (List ℕ) → List ℕ
@@ -122,7 +110,7 @@ statement (EcPut line e c) = grows e (called (codes "byte") (number c))
 statement (EcStr line e text) = grows e (called (codes "bytes") (decimal (length text)))
 statement (EcCat line e x) = grows e (called (codes "cord") x)
 statement (Repeat line a) = spaced (codes "repeat" ∷ number a ∷ [])
-statement (If line a r b) = spaced (codes "if" ∷ number a ∷ relation r ∷ number b ∷ [])
+statement (If line a r b) = spaced (codes "if" ∷ number a ∷ relation_word r ∷ number b ∷ [])
 statement (Else line) = codes "else"
 statement (End line) = codes "end"
 statement _ = []

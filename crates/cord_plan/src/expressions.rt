@@ -1,7 +1,9 @@
 // Expressions of plans.
 ghost use Rattle.std.specs.Prelude.{◌≡◌, ◌<◌, ◌∷◌, [], IfOk, IfSome, IsOkUnless, length, map};
-ghost use Rattle.cord_plan.specs.Exprs.{append, is_nothing, member, nothing};
-ghost use Rattle.cord_plan.specs.Views.{front_view, members_of, members_view, rest_view, shared_view};
+ghost use Rattle.cord_plan.specs.Exprs.{append, member, nothing};
+ghost use Rattle.cord_plan.specs.inner.Exprs.{is_nothing};
+ghost use Rattle.cord_plan.specs.Views.{front_view, members_of, members_view, shared_view};
+ghost use Rattle.cord_plan.specs.inner.Views.{rest_view};
 
 use cord_io::CordError;
 use cord_script::{Name, Number};

@@ -6,7 +6,7 @@ ghost use Rattle.cord_script.specs.Forms.{Grammar};
 ghost use Rattle.cord_script.specs.Script.{ReadsBy};
 ghost use Rattle.cord_meaning.specs.Blocks.{IsNested};
 ghost use Rattle.cord_meaning.specs.Statements.{shape_of};
-ghost use Rattle.cord_meaning.specs.Simulation.{told};
+ghost use Rattle.cord_meaning.specs.Machine.{told};
 ghost use Rattle.cord_meaning.specs.Meaning.{moments_within, end_within};
 ghost use Rattle.cord_plan.specs.Unread.{IsLater};
 ghost use Rattle.cord_plan.specs.Planned.{planned, trivial};

@@ -3,10 +3,10 @@ ghost use Rattle.std.specs.Prelude.{◌≡◌, All, ◌+◌, ◌<◌, ◌++◌, 
 ghost use Rattle.std.specs.Prelude.{false, get_or, length, map, slice_get, true};
 ghost use Rattle.cord_meaning.specs.Blocks.{jump};
 ghost use Rattle.cord_io.specs.Device.{raised};
-ghost use Rattle.cord_iter.specs.Taking.{IsFrontOf, Takes};
+ghost use Rattle.cord_iter.specs.Output.{IsFrontOf, Takes};
 ghost use Rattle.cord_plan.specs.Extending.{Extends};
 ghost use Rattle.cord_plan.specs.inner.Extensions.{AreExtending};
-ghost use Rattle.cord_plan.specs.Kept.{KeepsNoOther};
+ghost use Rattle.cord_plan.specs.Verbatim.{KeepsNoOther};
 ghost use Rattle.cord_plan.specs.Meaning.{IsPlanOf, operation_shape};
 ghost use Rattle.cord_plan.specs.Planned as plan;
 ghost use Rattle.cord_plan.specs.Shown.{shown};

@@ -6,8 +6,9 @@ mod statements;
 ghost use Rattle.std.specs.Prelude.{◌≡◌, [], ◌∷◌, ◌++◌, codes, map, OnOk, OnErr, IfErr};
 ghost use Rattle.cord_io.specs.Device.{raised};
 ghost use Rattle.cord_meaning.specs.Statements.{line_of};
-ghost use Rattle.cord_iter.specs.Taking.{IsFrontOf, Takes};
-ghost use Rattle.cord_plan.specs.Shown.{decimal, expr, function, spaced, statement, made as made_text};
+ghost use Rattle.cord_iter.specs.Output.{IsFrontOf, Takes};
+ghost use Rattle.cord_plan.specs.Shown.{decimal, expr, spaced, statement, made as made_text};
+ghost use Rattle.cord_script.specs.Tests.{function_word};
 ghost use Rattle.cord_plan.specs.Shown.{operation as operation_text, shown};
 ghost use Rattle.cord_plan.specs.inner.Showing.{Writes, fragment_text};
 ghost use Rattle.cord_plan.specs.Views.{expr_view, made_view, operation_view};
@@ -164,7 +165,7 @@ fn put_called<'a, W: Sink>(
 
 // The word for a function.
 fn function_word(named: Function) -> &'static [u8]
-    ensures { result.now ≡ function named }
+    ensures { result.now ≡ function_word named }
 {
     match named {
         Function::Digits => b"digits",

@@ -12,7 +12,8 @@ use Rattle.cord_node.specs.Tables.{bytes_over, FitsIn, Fits, byte_at}
 use Rattle.cord_node.proofs.TreeLemmas.{length-cells}
 use Rattle.cord_node.proofs.TableLemmas.{bytes-cells}
 use Rattle.cord_pos.specs.inner.Path.{part_at}
-use Rattle.cord_pos.specs.inner.Parts.{is_part, HasByte}
+use Rattle.cord_pos.specs.inner.Parts.{HasByte}
+use Rattle.cord_pos.specs.Stretches.{is_part}
 use Rattle.cord_pos.proofs.Sides.{part_at-left, part_at-right}
 
 -- the part that holds an index is sound and fits where the node does

@@ -3,7 +3,7 @@ pub mod Steps
 pub mod Moves
 pub mod Counts
 pub mod SamePart
-pub mod Taking
+pub mod GoTo
 pub mod Standings
 pub mod Bytes
 pub mod Within

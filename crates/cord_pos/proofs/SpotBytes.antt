@@ -10,7 +10,8 @@ use Rattle.cord_core.specs.Cord.{CordFitsIn}
 use Rattle.cord_pos.specs.declared.path.Path.{Path}
 use Rattle.cord_pos.specs.declared.Spot.{Spot}
 use Rattle.cord_pos.specs.inner.Path.{node_of, places, part_at}
-use Rattle.cord_pos.specs.inner.Parts.{is_part, HasByte}
+use Rattle.cord_pos.specs.inner.Parts.{HasByte}
+use Rattle.cord_pos.specs.Stretches.{is_part}
 use Rattle.cord_pos.specs.Position.{IsByteAt}
 use Rattle.cord_pos.specs.inner.Invariant.{IsOnPart, IsPosition}
 use Rattle.cord_pos.specs.Stretches.{stretch_len, IsStretchAt, IsAheadOf, IsBehindOf, IsRestAhead, IsRestBehind}

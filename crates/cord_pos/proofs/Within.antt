@@ -17,7 +17,8 @@ use Rattle.cord_node.specs.Tables.{bytes_over, lengths_of}
 use Rattle.cord_node.proofs.Ranges.{range_of_range, range_left, range_right}
 use Rattle.cord_node.proofs.TreeLemmas.{len_positive}
 use Rattle.cord_pos.specs.inner.Path.{part_at}
-use Rattle.cord_pos.specs.Stretches.{stretch_len, stretch_bytes, StretchFitsIn, IsStretchAt, IsWithin}
+use Rattle.cord_pos.specs.Stretches.{stretch_len, stretch_bytes, StretchFitsIn, IsStretchAt}
+use Rattle.cord_pos.specs.inner.Stretches.{IsWithin}
 use Rattle.cord_pos.specs.declared.stretch.Stretch.{Stretch}
 use Rattle.cord_pos.proofs.Bytes.{length_bytes}
 use Rattle.cord_pos.proofs.Sides.{part_at-left, part_at-right}

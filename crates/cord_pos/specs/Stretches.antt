@@ -3,12 +3,13 @@ use Rattle.std.specs.Prelude.{◌≡◌, ◌↔◌, ℕ, ◌+◌, ◌-◌, ◌<�
 use Rattle.cord_io.specs.Table.{Table, Lengths, length_at}
 use Rattle.cord_io.specs.declared.TheConstants.{MAX_LEN}
 use Rattle.cord_node.specs.declared.Node.{Node}
-use Rattle.cord_node.specs.Tree.{len_of, IsSound}
-use Rattle.cord_node.specs.Tables.{bytes_over, FitsIn, Fits}
 use Rattle.cord_core.specs.Cord.{text_len, bytes_of, CordFitsIn, CordFits}
 use Rattle.cord_pos.specs.Position.{IsOnePart}
 use Rattle.cord_pos.specs.declared.stretch.Stretch.{Stretch}
 use Rattle.cord_pos.specs.declared.stretch.Stretch.TheVariants.{Bytes, Run, Func}
+use Rattle.std.specs.Prelude.{◌≡◌, ℕ, Bool, true, false, Some}
+use Rattle.cord_io.specs.Table.{Table}
+use Rattle.cord_node.specs.declared.Node.TheVariants.{Leaf, Run, Func, Cat'}
 
 -- its length
 abbrev pub stretch_len : Stretch → ℕ
@@ -72,12 +73,9 @@ abbrev pub IsRestBehind : Option Node → Option ℕ → Option Stretch → Type
 IsRestBehind c (Some i) (Some s) = (j : ℕ) → j ≤ i → (i < j + stretch_len s) ↔ IsOnePart c (Some i) (Some j)
 IsRestBehind _ _ _ = ⊤
 
--- a place of a node is the place `at` of another one, whose text stands in the node's
-pub record IsWithin (n : Node) (place : ℕ) (m : Node) (at : ℕ) : Type 0 where
-  pub offset : ℕ
-  pub here : place ≡ offset + at
-  pub inside : offset + len_of m ≤ len_of n
-  pub sound : IsSound m
-  pub fits : (lengths : Lengths) → FitsIn lengths n → FitsIn lengths m
-  pub text : (t : Table) → Fits t n → (i k : ℕ) → i + k ≤ len_of m →
-      take k (drop (offset + i) (bytes_over t n)) ≡ take k (drop i (bytes_over t m))
+-- the node is no concatenation
+abbrev pub is_part : Node → Bool
+is_part (Leaf bytes start len mark) = true
+is_part (Run byte len) = true
+is_part (Func id start len) = true
+is_part (Cat' p left q right len depth mark) = false

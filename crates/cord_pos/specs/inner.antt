@@ -1,3 +1,4 @@
-pub mod Path
 pub mod Invariant
 pub mod Parts
+pub mod Path
+pub mod Stretches

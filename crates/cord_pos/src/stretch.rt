@@ -1,7 +1,7 @@
 // Stretches: texts that lie in one part.
 ghost use Rattle.std.specs.Prelude.{◌≡◌, ◌-◌, ◌<◌, ◌≤◌, false, None, IfSome};
 ghost use Rattle.cord_node.specs.Tree.{len_of, IsSound};
-ghost use Rattle.cord_pos.specs.inner.Parts.{is_part};
+ghost use Rattle.cord_pos.specs.Stretches.{is_part};
 ghost use Rattle.cord_pos.specs.Stretches.{stretch_len, IsStretchAt, IsFrontOf};
 
 use cord_io::SourceId;

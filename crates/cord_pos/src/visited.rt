@@ -10,7 +10,8 @@ ghost use Rattle.cord_node.specs.Tree.{len_of, IsSound};
 ghost use Rattle.cord_node.specs.Tables.{FitsIn};
 ghost use Rattle.cord_core.specs.Cord.{text_len, IsCord};
 ghost use Rattle.cord_pos.specs.inner.Path.{node_of, side_at};
-ghost use Rattle.cord_pos.specs.inner.Parts.{is_part, HasByte};
+ghost use Rattle.cord_pos.specs.inner.Parts.{HasByte};
+ghost use Rattle.cord_pos.specs.Stretches.{is_part};
 ghost use Rattle.cord_pos.specs.Stretches.{stretch_len, IsStretchAt};
 
 use crate::stretch::Stretch;

@@ -6,7 +6,8 @@ use Rattle.std.specs.Prelude.{unwrap_or, is_none, option_to_list}
 use Rattle.cord_printf.specs.declared.pieces.Flags.{Flags}
 use Rattle.cord_printf.specs.declared.shown.Layout.{Layout}
 use Rattle.cord_printf.specs.PieceText.{number_text, padded}
-use Rattle.cord_printf.specs.Shown.{IsNumberLayout, front_of}
+use Rattle.cord_printf.specs.inner.Shown.{front_of}
+use Rattle.cord_printf.specs.inner.Shown.{IsNumberLayout}
 use Rattle.cord_node.specs.Tree.{Cell, known}
 
 zero_text : (flags : Flags) (width : ℕ) (precision : Option ℕ) (sign digits : List ℕ) →

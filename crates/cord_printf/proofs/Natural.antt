@@ -8,7 +8,8 @@ use Rattle.cord_printf.specs.declared.pieces.ArgKind.TheVariants as kinds
 use Rattle.cord_printf.specs.declared.pieces.Piece.{Piece}
 use Rattle.cord_printf.specs.declared.pieces.Piece.TheVariants.{Text, Signed, Unsigned, Byte, Cord, Percent}
 use Rattle.cord_printf.specs.Pieces.{wants}
-use Rattle.cord_printf.specs.PieceText.{PieceArgument, number, text, map_argument, kind_of, padded, cut, piece_text, argument_if, others_if}
+use Rattle.cord_printf.specs.PieceText.{PieceArgument, number, text, kind_of, padded, cut, piece_text, argument_if, others_if}
+use Rattle.cord_printf.specs.inner.PieceText.{map_argument}
 use Rattle.cord_printf.specs.PieceText.{count_if, printed, refusal, first_refusal}
 use Rattle.cord_printf.proofs.Layouts.{map-run}
 

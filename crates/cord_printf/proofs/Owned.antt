@@ -22,7 +22,7 @@ use Rattle.cord_printf.specs.declared.pieces.Piece.{Piece}
 use Rattle.cord_printf.specs.Pieces.{wants}
 use Rattle.cord_printf.specs.PieceText.{PieceArgument, argument_if, others_if, piece_text}
 use Rattle.cord_printf.specs.Own.{IsPrinted, IsPrintedFrom, own_bytes, all_own, taken_text}
-use Rattle.cord_printf.specs.Shown.{body_own, body_parts, body_taken, body_text, front_of, shown_own, shown_text}
+use Rattle.cord_printf.specs.inner.Shown.{body_own, body_parts, body_taken, body_text, front_of, shown_own, shown_text}
 use Rattle.cord_printf.proofs.Prints.{piece_at}
 
 printed_range : (p q : Part) → IsRangeOf p q → IsPrinted q → IsPrinted p

@@ -15,7 +15,8 @@ use Rattle.cord_printf.specs.declared.pieces.ArgKind.{ArgKind}
 use Rattle.cord_printf.specs.declared.pieces.Piece.{Piece}
 use Rattle.cord_printf.specs.declared.pieces.Piece.TheVariants.{Text, Signed, Unsigned, Byte, Cord, Percent}
 use Rattle.cord_printf.specs.Pieces.{wants}
-use Rattle.cord_printf.specs.PieceText.{PieceArgument, number, text, map_argument, padded, cut, piece_text, argument_if, others_if, printed}
+use Rattle.cord_printf.specs.PieceText.{PieceArgument, number, text, padded, cut, piece_text, argument_if, others_if, printed}
+use Rattle.cord_printf.specs.inner.PieceText.{map_argument}
 use Rattle.cord_printf.specs.Printing.{arguments_of}
 use Rattle.cord_printf.specs.Over.{ArgumentsFitIn, argument_over, IsPrintOf, IsLengthOfPrint}
 use Rattle.cord_printf.proofs.Natural.{map-printed}

@@ -5,7 +5,8 @@ use Rattle.cord_printf.specs.declared.errors.FormatError.TheVariants.{BadFormat,
 use Rattle.cord_printf.specs.declared.pieces.Piece.{Piece}
 use Rattle.cord_printf.specs.declared.pieces.Piece.TheVariants.{Text, Signed, Unsigned, Byte, Cord, Percent}
 use Rattle.cord_printf.specs.Pieces.{IsPiece, Conversion, spelling, Spells}
-use Rattle.cord_printf.specs.Format.{HasPieces, Converts, BeginsConversion, IsBadHere, IsRefusal}
+use Rattle.cord_printf.specs.Format.{HasPieces, Converts, BeginsConversion, IsRefusal}
+use Rattle.cord_printf.specs.inner.Format.{IsBadHere}
 
 -- a conversion is a piece
 spelled_piece : (c : Conversion) (p : Piece) (rest : List ℕ) → Spells c p → IsPiece (spelling c) p rest

@@ -36,8 +36,3 @@ pub record IsBadAt (b : List ℕ) (offset : ℕ) : Type 0 where
 abbrev pub IsRefusal : List ℕ → FormatError → Type 0
 IsRefusal b (BadFormat offset) = IsBadAt b offset
 IsRefusal b NoMemory = Unit {0}
-
--- the bytes at this offset begin with `%` and with no conversion
-abbrev pub IsBadHere : List ℕ → ℕ → FormatError → Type 0
-IsBadHere b offset (BadFormat o) = (o ≡ offset) × ((rest : List ℕ) × (b ≡ 37 ∷ rest)) × ¬ BeginsConversion b
-IsBadHere b offset NoMemory = Unit {0}

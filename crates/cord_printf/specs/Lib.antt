@@ -5,5 +5,4 @@ pub mod Own
 pub mod PieceText
 pub mod Pieces
 pub mod Printing
-pub mod Shown
 pub mod inner

@@ -1,5 +1,5 @@
 -- What a print makes of its own, beside the cords that it is given.
-use Rattle.std.specs.Prelude.{ℕ, ◌+◌, ◌-◌, Option, Some, None, List, [], ◌∷◌, ◌++◌, length, ⊤}
+use Rattle.std.specs.Prelude.{ℕ, ◌+◌, ◌-◌, Option, Some, List, [], ◌∷◌, ◌++◌, length, ⊤}
 use Rattle.cord_node.specs.Tree.{Cell, known}
 use Rattle.cord_node.specs.Kept.{Part, leaf_part, run_part, func_part}
 use Rattle.cord_core.specs.Cord.{parts_of}
@@ -17,14 +17,9 @@ argument_parts (arguments.Num n) = []
 argument_parts (arguments.Cord c) = parts_of c
 
 -- the parts of the cords among the arguments, from left to right
-abbrev pub parts_given : List Arg → List Part
-parts_given [] = []
-parts_given (a ∷ args) = argument_parts a ++ parts_given args
-
--- the parts of an argument, where there is one
-abbrev pub parts_if : Option Arg → List Part
-parts_if None = []
-parts_if (Some a) = argument_parts a
+abbrev pub arguments_parts : List Arg → List Part
+arguments_parts [] = []
+arguments_parts (a ∷ args) = argument_parts a ++ arguments_parts args
 
 -- the text that a piece takes from a cord
 abbrev pub taken_text : Piece → Option (PieceArgument Cell) → List Cell

@@ -112,8 +112,3 @@ abbrev pub first_refusal : {A : Type 0} → ℕ → List Piece → List (PieceAr
 first_refusal k [] arguments = None
 first_refusal k (p ∷ pieces) arguments = first_of (refusal k p (argument_if (wants p) arguments))
     (first_refusal (k + count_if (wants p)) pieces (others_if (wants p) arguments))
-
--- an argument with its elements changed
-abbrev pub map_argument : {A B : Type 0} → (A → B) → PieceArgument A → PieceArgument B
-map_argument f (number n) = number n
-map_argument f (text x) = text (map f x)

@@ -1,1 +1,5 @@
+pub mod Format
+pub mod Own
+pub mod PieceText
 pub mod Reading
+pub mod Shown

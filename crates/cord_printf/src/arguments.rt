@@ -1,6 +1,7 @@
 // The arguments of a print.
 ghost use Rattle.std.specs.Prelude.{◌≡◌, ◌↔◌, ◌++◌, IsTrue, IfSome, IfNone, option_map};
-ghost use Rattle.cord_printf.specs.Own.{parts_given, parts_if};
+ghost use Rattle.cord_printf.specs.Own.{arguments_parts};
+ghost use Rattle.cord_printf.specs.inner.Own.{parts_if};
 ghost use Rattle.cord_printf.specs.Pieces.{wants};
 ghost use Rattle.cord_printf.specs.PieceText.{kind_of, argument_if, others_if};
 ghost use Rattle.cord_printf.specs.Printing.{argument_of, arguments_of, AreWanted};
@@ -31,7 +32,8 @@ pub fn next_argument<'a>(piece: &Piece, args: &'a [Arg]) -> (Option<&'a Arg>, &'
     ensures argument { option_map (λ a. argument_of a.now) result.0
         ≡ argument_if (wants piece.now) (arguments_of args.now) }
     ensures others { arguments_of result.1.now ≡ others_if (wants piece.now) (arguments_of args.now) }
-    ensures parts { parts_given args.now ≡ parts_if (option_map (λ a. a.now) result.0) ++ parts_given result.1.now }
+    ensures parts { arguments_parts args.now
+        ≡ parts_if (option_map (λ a. a.now) result.0) ++ arguments_parts result.1.now }
 {
     match (piece.wants(), args) {
         (Some(_), [first, others @ ..]) => (Some(first), others),

@@ -1,7 +1,8 @@
 // Formats.
 ghost use Rattle.std.specs.Prelude.{◌≡◌, ◌≢◌, ◌<◌, List, ℕ, [], ◌∷◌, ◌++◌, length, IfOk, IfErr, IfSome, IfNone};
 ghost use Rattle.cord_printf.specs.Pieces.{IsPiece};
-ghost use Rattle.cord_printf.specs.Format.{IsFormat, IsBadAt, IsRefusal, IsBadHere, BeginsConversion};
+ghost use Rattle.cord_printf.specs.Format.{IsFormat, IsBadAt, IsRefusal, BeginsConversion};
+ghost use Rattle.cord_printf.specs.inner.Format.{IsBadHere};
 ghost use Rattle.cord_printf.specs.declared.pieces.Piece.{Piece};
 
 use crate::conversions::conversion;

@@ -7,8 +7,8 @@ ghost use Rattle.cord_core.specs.Cord.{text as text_of, parts_of, IsCord};
 ghost use Rattle.cord_ec.specs.Gathered.{leaf_bytes, leaf_parts, Gathered};
 ghost use Rattle.cord_ec.specs.Grown.{IsCordOf};
 ghost use Rattle.cord_printf.specs.Own.{IsPrintedFrom};
-ghost use Rattle.cord_printf.specs.Shown.{body_own, body_parts, body_text, cells_of, front_of, parts_in, shown_own};
-ghost use Rattle.cord_printf.specs.Shown.{shown_text};
+ghost use Rattle.cord_printf.specs.inner.Shown.{body_own, body_parts, body_text, cells_of, front_of, parts_in};
+ghost use Rattle.cord_printf.specs.inner.Shown.{shown_own, shown_text};
 
 use crate::PrintError;
 use crate::shown::{Body, Layout, Shown};
@@ -41,7 +41,7 @@ impl Model for Output {
     ghost use Rattle.std.specs.Prelude.{◌++◌, map};
     ghost use Rattle.cord_node.specs.Tree.{known};
     ghost use Rattle.cord_ec.specs.Gathered.{Growth, coded_growth, leaf_parts};
-    ghost use Rattle.cord_printf.specs.Shown.{cells_of, parts_in};
+    ghost use Rattle.cord_printf.specs.inner.Shown.{cells_of, parts_in};
 
     ghost Value = { Growth };
 

@@ -2,7 +2,7 @@
 ghost use Rattle.std.specs.Prelude.{◌≡◌, ◌≢◌, ◌≤◌, length, IfOk, IfErr};
 ghost use Rattle.cord_node.specs.Tree.{known};
 ghost use Rattle.cord_core.specs.Cord.{text, parts_of, IsCord};
-ghost use Rattle.cord_printf.specs.Own.{all_own, parts_given, IsPrintedFrom};
+ghost use Rattle.cord_printf.specs.Own.{all_own, arguments_parts, IsPrintedFrom};
 ghost use Rattle.cord_printf.specs.PieceText.{printed, first_refusal};
 ghost use Rattle.cord_printf.specs.Over.{IsLengthOfPrint, IsPrintOf};
 ghost use Rattle.cord_printf.specs.Printing.{arguments_of, IsPrintable, IsRefusedFor};
@@ -52,8 +52,8 @@ pub fn sprintf(alloc: Global, format: &Format, args: &[Arg]) -> Result<Cord, Pri
     ensures taken { IfOk result (λ _. IsPrintable format.now (arguments_of args.now)) }
     ensures text { IfOk result (λ c. text c ≡ printed known format.now (arguments_of args.now)) }
     ensures over { IfOk result (IsPrintOf format.now args.now) }
-    ensures kept { IfOk result (λ c. IsPrintedFrom (all_own format.now (arguments_of args.now)) (parts_given args.now)
-        (parts_of c)) }
+    ensures kept { IfOk result (λ c. IsPrintedFrom (all_own format.now (arguments_of args.now))
+        (arguments_parts args.now) (parts_of c)) }
     ensures sound { IfOk result IsCord }
     ensures refused { IfErr result (λ e. e ≢ PrintError.NoMemory →
         IsRefusedFor MAX_LEN format.now (arguments_of args.now) e) }

@@ -3,9 +3,11 @@ ghost use Rattle.std.specs.Prelude.{◌≡◌, ◌≤◌, ◌-◌, ◌^◌, min,
 ghost use Rattle.std.specs.Prelude.{None, length, option_map, option_to_list, IfOk, IfErr, Some};
 ghost use Rattle.cord_printf.specs.PieceText.{PieceArgument, piece_text, refusal, sign_of, number_text, digits_in};
 ghost use Rattle.cord_printf.specs.PieceText.{padded, cut};
-ghost use Rattle.cord_printf.specs.Own.{parts_if, taken_text};
+ghost use Rattle.cord_printf.specs.Own.{taken_text};
+ghost use Rattle.cord_printf.specs.inner.Own.{parts_if};
 ghost use Rattle.cord_printf.specs.Printing.{argument_of};
-ghost use Rattle.cord_printf.specs.Shown.{IsNumberLayout, body_parts, body_taken, body_text, shown_text};
+ghost use Rattle.cord_printf.specs.inner.Shown.{body_parts, body_taken, body_text, shown_text};
+ghost use Rattle.cord_printf.specs.inner.Shown.{IsNumberLayout};
 ghost use Rattle.cord_node.specs.Kept.{Kept};
 ghost use Rattle.cord_node.specs.Tree.{Cell, known};
 ghost use Rattle.cord_core.specs.Cord.{text, parts_of};

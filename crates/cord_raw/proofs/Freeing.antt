@@ -34,7 +34,7 @@ use Rattle.std.specs.contracts.alloc.Global as heap
 use Rattle.std.proofs.alloc.Global.TheLaws as heap_laws
 use Rattle.std.specs.contracts.impls.GlobalAllocator.TheImpl.{ghosts, dict}
 use Rattle.cord_raw.specs.declared.block.Block.{Block}
-use Rattle.cord_raw.specs.Ownership.{the_heap, block_owns}
+use Rattle.cord_raw.specs.inner.Ownership.{the_heap, block_owns}
 use Rattle.cord_raw.specs.contracts.block.Block as block
 use Rattle.cord_raw.proofs.block.Block.TheLaws as block_laws
 use Rattle.cord_raw.proofs.Words.{handle_val, handle_is, handle_plain}

@@ -17,7 +17,7 @@ use denote.Struct.Lending.{lent_at, lent_at_shr_laws, Lends-lies, Lends-first, L
 use base.Fml.{ftrue}
 use Rattle.cord_raw.specs.declared.block.Block.{Block}
 use Rattle.cord_raw.specs.contracts.block.Block as block
-use Rattle.cord_raw.specs.Ownership.{frees, block_owns, links, chain_owns, links_lent, chain_lent}
+use Rattle.cord_raw.specs.inner.Ownership.{frees, block_owns, links, chain_owns, links_lent, chain_lent}
 use Rattle.cord_raw.proofs.block.Block.TheLaws as laws
 
 links_lent_laws : (p : Ptr) (bs : List Block) → ShrLaws (links_lent p bs)

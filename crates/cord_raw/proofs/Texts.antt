@@ -7,7 +7,8 @@ use Rattle.cord_raw.specs.declared.block.TheConstants.{ROOM}
 use Rattle.cord_raw.specs.declared.block.Block.{Block}
 use Rattle.cord_raw.specs.declared.chain.Chain.{Chain}
 use Rattle.cord_raw.specs.inner.Places.{block_at}
-use Rattle.cord_raw.specs.Texts.{text_of, text, AreFull, blocks_of, chain_text, IsFilled}
+use Rattle.cord_raw.specs.Texts.{text_of, text, AreFull, chain_text, IsFilled}
+use Rattle.cord_raw.specs.inner.Texts.{blocks_of}
 
 pub text_append : (xs ys : List Block) → text (xs ++ ys) ≡ text xs ++ text ys
 text_append [] ys = refl

@@ -37,7 +37,7 @@ use Rattle.cord_raw.proofs.block.Block.TheLaws as block_laws
 use Rattle.cord_raw.proofs.chain.Place.TheLaws as place_laws
 use Rattle.cord_raw.proofs.raw.Raw.TheLaws as raw_laws
 use Rattle.cord_raw.proofs.chain.Chain.TheLaws as chain_laws
-use Rattle.cord_raw.specs.Ownership.{frees, block_owns, chain_owns, chain_lent}
+use Rattle.cord_raw.specs.inner.Ownership.{frees, block_owns, chain_owns, chain_lent}
 
 -- the allocator's handle is one value
 abbrev pub handle_val : Val

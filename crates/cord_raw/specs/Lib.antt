@@ -1,3 +1,2 @@
-pub mod Ownership
 pub mod Texts
 pub mod inner

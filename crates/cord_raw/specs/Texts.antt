@@ -18,10 +18,6 @@ abbrev pub AreFull : List Block → Type 0
 AreFull [] = Unit {0}
 AreFull (b ∷ bs) = (length (text_of b) ≡ ROOM) × AreFull bs
 
--- the blocks of a chain, oldest first
-abbrev pub blocks_of : Chain → List Block
-blocks_of c = c.older ++ c.newest ∷ []
-
 -- the text of a chain
 abbrev pub chain_text : Chain → List ℕ
 chain_text c = text c.older ++ text_of c.newest

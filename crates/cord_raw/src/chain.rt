@@ -3,7 +3,7 @@ ghost use Rattle.std.specs.Prelude.{◌≡◌, ◌+◌, ◌<◌, ◌≤◌, List
 ghost use Rattle.cord_raw.specs.declared.block.Block.{Block};
 ghost use Rattle.cord_raw.specs.declared.block.TheConstants.{MOST_BLOCKS, ROOM};
 ghost use Rattle.cord_raw.specs.inner.Blocks.{place_after, pointing};
-ghost use Rattle.cord_raw.specs.Ownership.{chain_owns, chain_lent};
+ghost use Rattle.cord_raw.specs.inner.Ownership.{chain_owns, chain_lent};
 
 use crate::block::{Block, MOST_BLOCKS};
 use crate::raw::Raw;

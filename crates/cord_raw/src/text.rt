@@ -1,7 +1,8 @@
 //! A chain as a text: it is made, filled and read by safe code over its pointer functions.
 ghost use Rattle.std.specs.Prelude.{◌≡◌, ◌+◌, ◌*◌, ◌≤◌, ◌<◌, [], ◌∷◌, ◌++◌, length, drop, slice_range, IfOk};
 ghost use Rattle.cord_raw.specs.inner.Places.{IsPlaceOf};
-ghost use Rattle.cord_raw.specs.Texts.{text, AreFull, IsFilled, blocks_of, chain_text, chain_len};
+ghost use Rattle.cord_raw.specs.Texts.{text, AreFull, IsFilled, chain_text, chain_len};
+ghost use Rattle.cord_raw.specs.inner.Texts.{blocks_of};
 
 use crate::block::{Block, MOST_BLOCKS, ROOM};
 use crate::chain::{Chain, Place};

@@ -7,7 +7,7 @@ use Rattle.cord_meaning.specs.declared.ends.End.{End}
 use Rattle.cord_meaning.specs.declared.ends.End.TheVariants.{Done, Fault, NoMemory, ReadFailed, WriteFailed}
 use Rattle.cord_meaning.specs.Ends.{HonestEnd, HonestOutput, IsComplete, StopsAt}
 use Rattle.cord_meaning.specs.Machine.{Moment, output}
-use Rattle.cord_meaning.specs.Simulation.{told}
+use Rattle.cord_meaning.specs.Machine.{told}
 
 -- what a member tells
 abbrev Told : Type 0

@@ -27,7 +27,7 @@ module _ {S : Type 0} where
   noted : (c : Config S) (line : ℕ) (puts : List ℕ) → Counted c → 0 < line → Counted (notes c line puts)
   noted c line puts h lt =
       record {
-        seen = All-push (λ m. 0 < m.line) c.seen (record { line = line; turns = c.turns; before = c.state; puts = puts }) h.seen lt;
+        seen = All-push (λ m. 0 < m.line) c.seen (record { line = line; turns = c.turns; state = c.state; puts = puts }) h.seen lt;
         blocks = h.blocks;
       }
 

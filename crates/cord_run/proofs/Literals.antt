@@ -2,7 +2,8 @@
 use Rattle.std.proofs.Common.{◌≡◌, ◌≤◌, ◌+◌, ℕ, List, [], ◌++◌, length, take, drop, sym, ap, subst, ◌∙◌, inl, arith}
 use Rattle.std.specs.Prelude.{Option}
 use Rattle.cord_io.specs.declared.TheConstants.{MAX_LEN}
-use Rattle.cord_io.specs.Entries.{text_of, digit_at, byte_value_at, length-text_of, range-text_of}
+use Rattle.cord_io.specs.Entries.{text_of, digit_at, byte_value_at, length-text_of}
+use Rattle.cord_io.proofs.Entries.{range-text_of}
 use Rattle.cord_io.specs.Table.{Lengths}
 use Rattle.cord_node.specs.declared.Node.{Node}
 use Rattle.cord_node.specs.Tree.{Cell}

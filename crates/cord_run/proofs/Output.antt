@@ -10,8 +10,8 @@ use Rattle.cord_io.specs.declared.faults.CordError.TheVariants.{NoMemory, TooLon
 use Rattle.cord_io.specs.declared.writing.Sink as sinks
 use Rattle.cord_node.specs.declared.Node.{Node}
 use Rattle.cord_core.specs.Cord.{bytes_of, all_bytes, CordFitsIn, AllFitIn}
-use Rattle.cord_iter.specs.Taking.{Counts, CountsFaults, IsFrontOf, Takes}
-use Rattle.cord_iter.proofs.Takings.{appends_both, front_join, front_more}
+use Rattle.cord_iter.specs.Output.{Counts, CountsFaults, IsFrontOf, Takes}
+use Rattle.cord_iter.proofs.Takes.{appends_both, front_join, front_more}
 use Rattle.cord_meaning.specs.declared.ends.FaultKind.{FaultKind}
 use Rattle.cord_plan.specs.Exprs.{Expr}
 use Rattle.cord_plan.specs.Meaning.{all_texts, cords}

@@ -9,7 +9,7 @@ use Rattle.cord_script.specs.declared.TheConstants.{MAX_PATHS}
 use Rattle.cord_script.specs.declared.kinds.Kind.TheVariants as kinds
 use Rattle.cord_script.specs.Forms.{Grammar, argument_term, terms_of}
 use Rattle.cord_script.specs.Forms.Term.{Operand}
-use Rattle.cord_script.specs.Script.{AreAllowed, Before, LinesSay, ReadsBy, after, after_all, is_among, paths_after, start, with_path}
+use Rattle.cord_script.specs.Script.{AreAllowed, Scope, LinesSay, ReadsBy, after, after_all, is_among, paths_after, start, with_path}
 use Rattle.cord_syntax.specs.declared.statements.Statement.{Statement}
 use Rattle.cord_syntax.specs.declared.statements.Statement.TheVariants.{Let, File, Eager, Lazy, Chars, Nul, FromFn, Cat, Catn, Catc, Substr}
 use Rattle.cord_syntax.specs.declared.statements.Statement.TheVariants.{Balance, EcToCord, Sprintf, Len, Fetch, Cmp, Ncmp, Str, Chr, Rchr}
@@ -37,54 +37,54 @@ path_few paths path (inr h) few = by_test (is_among paths path)
     by_test false = omega (arith, length-append paths (path ∷ []), h)
 
 -- the paths after a statement
-few_after : (s : Statement) (before : Before) → AreAllowed before (terms_of s) → length before.paths ≤ MAX_PATHS →
-    length (paths_after (terms_of s) before.paths) ≤ MAX_PATHS
-few_after (Let line target text) before allowed few = few
-few_after (File line target path) before allowed few = path_few before.paths path allowed.1.0 few
-few_after (Eager line target path) before allowed few = path_few before.paths path allowed.1.0 few
-few_after (Lazy line target path) before allowed few = path_few before.paths path allowed.1.0 few
-few_after (Chars line target byte count) before allowed few = few
-few_after (Nul line target count) before allowed few = few
-few_after (FromFn line target function count) before allowed few = few
-few_after (Cat line target left right) before allowed few = few
-few_after (Catn line target parts) before allowed few = subst (λ (paths : List (List ℕ)). length paths ≤ MAX_PATHS)
-    (sym (names_leave parts before.paths)) few
-few_after (Catc line target operand byte) before allowed few = few
-few_after (Substr line target operand start count) before allowed few = few
-few_after (Balance line target operand) before allowed few = few
-few_after (EcToCord line target extensible) before allowed few = few
-few_after (Sprintf line target text format args) before allowed few = subst (λ (paths : List (List ℕ)). length paths ≤ MAX_PATHS)
-    (sym (arguments_leave args before.paths)) few
-few_after (Len line target operand) before allowed few = few
-few_after (Fetch line target operand index) before allowed few = few
-few_after (Cmp line target left right) before allowed few = few
-few_after (Ncmp line target left left_start right right_start count) before allowed few = few
-few_after (Str line target operand start pattern) before allowed few = few
-few_after (Chr line target operand start byte) before allowed few = few
-few_after (Rchr line target operand start byte) before allowed few = few
-few_after (Assign line target value) before allowed few = few
-few_after (Add line target left right) before allowed few = few
-few_after (Sub line target left right) before allowed few = few
-few_after (EcInit line target) before allowed few = few
-few_after (EcPut line extensible byte) before allowed few = few
-few_after (EcCat line extensible operand) before allowed few = few
-few_after (EcStr line extensible text) before allowed few = few
-few_after (Put line operand) before allowed few = few
-few_after (Repeat line count) before allowed few = few
-few_after (If line left relation right) before allowed few = few
-few_after (Else line) before allowed few = few
-few_after (End line) before allowed few = few
+few_after : (s : Statement) (scope : Scope) → AreAllowed scope (terms_of s) → length scope.paths ≤ MAX_PATHS →
+    length (paths_after (terms_of s) scope.paths) ≤ MAX_PATHS
+few_after (Let line target text) scope allowed few = few
+few_after (File line target path) scope allowed few = path_few scope.paths path allowed.1.0 few
+few_after (Eager line target path) scope allowed few = path_few scope.paths path allowed.1.0 few
+few_after (Lazy line target path) scope allowed few = path_few scope.paths path allowed.1.0 few
+few_after (Chars line target byte count) scope allowed few = few
+few_after (Nul line target count) scope allowed few = few
+few_after (FromFn line target function count) scope allowed few = few
+few_after (Cat line target left right) scope allowed few = few
+few_after (Catn line target parts) scope allowed few = subst (λ (paths : List (List ℕ)). length paths ≤ MAX_PATHS)
+    (sym (names_leave parts scope.paths)) few
+few_after (Catc line target operand byte) scope allowed few = few
+few_after (Substr line target operand start count) scope allowed few = few
+few_after (Balance line target operand) scope allowed few = few
+few_after (EcToCord line target extensible) scope allowed few = few
+few_after (Sprintf line target text format args) scope allowed few = subst (λ (paths : List (List ℕ)). length paths ≤ MAX_PATHS)
+    (sym (arguments_leave args scope.paths)) few
+few_after (Len line target operand) scope allowed few = few
+few_after (Fetch line target operand index) scope allowed few = few
+few_after (Cmp line target left right) scope allowed few = few
+few_after (Ncmp line target left left_start right right_start count) scope allowed few = few
+few_after (Str line target operand start pattern) scope allowed few = few
+few_after (Chr line target operand start byte) scope allowed few = few
+few_after (Rchr line target operand start byte) scope allowed few = few
+few_after (Assign line target value) scope allowed few = few
+few_after (Add line target left right) scope allowed few = few
+few_after (Sub line target left right) scope allowed few = few
+few_after (EcInit line target) scope allowed few = few
+few_after (EcPut line extensible byte) scope allowed few = few
+few_after (EcCat line extensible operand) scope allowed few = few
+few_after (EcStr line extensible text) scope allowed few = few
+few_after (Put line operand) scope allowed few = few
+few_after (Repeat line count) scope allowed few = few
+few_after (If line left relation right) scope allowed few = few
+few_after (Else line) scope allowed few = few
+few_after (End line) scope allowed few = few
 
 -- and after the lines of a script
-few_said : (g : Grammar) (n : ℕ) (before : Before) (lines : List (List ℕ)) (ss : List Statement) → LinesSay g n before lines ss →
-    length before.paths ≤ MAX_PATHS → length (after_all ss before).paths ≤ MAX_PATHS
-few_said g n before [] ss say few = subst (λ (k : List Statement). length (after_all k before).paths ≤ MAX_PATHS) (sym say) few
-few_said g n before (line ∷ lines) ss (inl idle) few = few_said g (n + 1) before lines ss idle.1 few
-few_said g n before (line ∷ lines) ss (inr said) few =
+few_said : (g : Grammar) (n : ℕ) (scope : Scope) (lines : List (List ℕ)) (ss : List Statement) → LinesSay g n scope lines ss →
+    length scope.paths ≤ MAX_PATHS → length (after_all ss scope).paths ≤ MAX_PATHS
+few_said g n scope [] ss say few = subst (λ (k : List Statement). length (after_all k scope).paths ≤ MAX_PATHS) (sym say) few
+few_said g n scope (line ∷ lines) ss (inl idle) few = few_said g (n + 1) scope lines ss idle.1 few
+few_said g n scope (line ∷ lines) ss (inr said) few =
     let s : Statement = said.1 in
     let rest : List Statement = said.3 in
-    subst (λ (k : List Statement). length (after_all k before).paths ≤ MAX_PATHS) (sym said.4)
-    (few_said g (n + 1) (after s before) lines rest said.7 (few_after s before said.6.allowed few))
+    subst (λ (k : List Statement). length (after_all k scope).paths ≤ MAX_PATHS) (sym said.4)
+    (few_said g (n + 1) (after s scope) lines rest said.7 (few_after s scope said.6.allowed few))
 
 pub few_read : (g : Grammar) (b : List ℕ) (ss : List Statement) → ReadsBy g b ss → length (after_all ss start).paths ≤ MAX_FILES
 few_read g b ss reads = few_said g 1 start reads.lines ss reads.say (omega arith)

@@ -15,13 +15,14 @@ use Rattle.cord_printf.specs.declared.errors.PrintError.{PrintError}
 use Rattle.cord_printf.specs.declared.errors.PrintError.TheVariants as refusals
 use Rattle.cord_printf.specs.declared.pieces.Piece.{Piece}
 use Rattle.cord_printf.specs.Over.{ArgumentsFitIn, IsPrintOf, argument_over}
-use Rattle.cord_printf.specs.PieceText.{PieceArgument, number, text, map_argument, first_refusal, printed}
+use Rattle.cord_printf.specs.PieceText.{PieceArgument, number, text, first_refusal, printed}
+use Rattle.cord_printf.specs.inner.PieceText.{map_argument}
 use Rattle.cord_printf.specs.Printing.{IsPrintable, IsRefusedFor, arguments_of}
 use Rattle.cord_printf.proofs.Natural.{first_refusal-map, map-printed}
 use Rattle.cord_operands.specs.declared.operands.Argument.{Argument}
 use Rattle.cord_operands.specs.declared.operands.Argument.TheVariants as arguments
 use Rattle.cord_meaning.specs.declared.ends.FaultKind.{FaultKind}
-use Rattle.cord_meaning.specs.Formats.{fault_of, format_text, given, unless_refused}
+use Rattle.cord_meaning.specs.Formats.{fault_of, format_text, piece_argument, unless_refused}
 use Rattle.cord_meaning.specs.State.{and_then}
 use Rattle.cord_meaning.proofs.Checks.{length_above}
 use Rattle.cord_plan.specs.Values.{length_of, within}
@@ -33,12 +34,12 @@ use Rattle.cord_run.specs.inner.Holdings.{plain_of}
 use Rattle.cord_run.proofs.Lengths.{content_text, cord_fits, operand_value}
 
 -- the arguments that names give, in order
-abbrev given_by : List Entry → List Argument → List Arg
-given_by entries list = map (λ a. argument_in entries a) list
+abbrev arguments_in : List Entry → List Argument → List Arg
+arguments_in entries list = map (λ a. argument_in entries a) list
 
 -- their cords fit
 given_fits : (lengths : Lengths) (entries : List Entry) → IsOver lengths entries → (list : List Argument) →
-    ArgumentsFitIn lengths (given_by entries list)
+    ArgumentsFitIn lengths (arguments_in entries list)
 given_fits lengths entries over [] = tt
 given_fits lengths entries over (arguments.Number n ∷ list) = given_fits lengths entries over list
 given_fits lengths entries over (arguments.Cord name ∷ list) = (
@@ -48,7 +49,7 @@ given_fits lengths entries over (arguments.Cord name ∷ list) = (
 
 -- over a table they are what the statement is given
 given_over : (t : Table) (entries : List Entry) (list : List Argument) →
-    map (argument_over t) (given_by entries list) ≡ map (λ a. given (plain_of t entries) a) list
+    map (argument_over t) (arguments_in entries list) ≡ map (λ a. piece_argument (plain_of t entries) a) list
 given_over t entries [] = refl
 given_over t entries (arguments.Number n ∷ list) = λ i. number (operand_value t entries n i) ∷ given_over t entries list i
 given_over t entries (arguments.Cord name ∷ list) = λ i. text (sym (content_text t (content_in entries name)) i)
@@ -63,41 +64,46 @@ cells_over t (args.Cord c ∷ list) fits = λ i. text (bytes-text t c fits.0 i) 
 
 -- what is known of a print over a table
 record Prints (entries : List Entry) (format : List Piece) (list : List Argument) (t : Table) : Type 0 where
-  refused : first_refusal 0 format (map (λ a. given (plain_of t entries) a) list)
-      ≡ first_refusal 0 format (arguments_of (given_by entries list))
-  long : length (printed known format (arguments_of (given_by entries list)))
-      ≡ length (printed (λ b. b) format (map (λ a. given (plain_of t entries) a) list))
+  refused : first_refusal 0 format (map (λ a. piece_argument (plain_of t entries) a) list)
+      ≡ first_refusal 0 format (arguments_of (arguments_in entries list))
+  long : length (printed known format (arguments_of (arguments_in entries list)))
+      ≡ length (printed (λ b. b) format (map (λ a. piece_argument (plain_of t entries) a) list))
 
 prints : (entries : List Entry) (format : List Piece) (list : List Argument) (t : Table) → IsOver (lengths_of t) entries →
     Prints entries format list t
 prints entries format list t over =
-    let cells : map (argument_over t) (given_by entries list) ≡ map (map_argument (byte_at t)) (arguments_of (given_by entries list)) =
-    cells_over t (given_by entries list) (given_fits (lengths_of t) entries over list) in
-    let same : map (λ a. given (plain_of t entries) a) list ≡ map (map_argument (byte_at t)) (arguments_of (given_by entries list)) =
+    let cells : map (argument_over t) (arguments_in entries list)
+    ≡ map (map_argument (byte_at t)) (arguments_of (arguments_in entries list)) =
+    cells_over t (arguments_in entries list) (given_fits (lengths_of t) entries over list) in
+    let same : map (λ a. piece_argument (plain_of t entries) a) list
+    ≡ map (map_argument (byte_at t)) (arguments_of (arguments_in entries list)) =
     sym (given_over t entries list) ∙ cells in
     record {
       refused = ap (λ (vs : List (PieceArgument ℕ)). first_refusal 0 format vs) same
-          ∙ first_refusal-map (byte_at t) 0 format (arguments_of (given_by entries list));
-      long = sym (length-map (printed known format (arguments_of (given_by entries list))) (byte_at t))
-          ∙ ap (λ (xs : List ℕ). length xs) (map-printed (byte_at t) known format (arguments_of (given_by entries list)))
+          ∙ first_refusal-map (byte_at t) 0 format (arguments_of (arguments_in entries list));
+      long = sym (length-map (printed known format (arguments_of (arguments_in entries list))) (byte_at t))
+          ∙ ap (λ (xs : List ℕ). length xs) (map-printed (byte_at t) known format (arguments_of (arguments_in entries list)))
           ∙ ap (λ (vs : List (PieceArgument ℕ)). length (printed (λ b. b) format vs)) (sym same);
     }
 
 module _ (entries : List Entry) (format : List Piece) (list : List Argument) where
   -- where no argument is refused
-  accepted : (t : Table) → IsOver (lengths_of t) entries → first_refusal 0 format (arguments_of (given_by entries list)) ≡ None →
-      format_text (plain_of t entries) format list ≡ Ok (printed (λ b. b) format (map (λ a. given (plain_of t entries) a) list))
+  accepted : (t : Table) → IsOver (lengths_of t) entries → first_refusal 0 format (arguments_of (arguments_in entries list)) ≡ None →
+      format_text (plain_of t entries) format list ≡ Ok (printed (λ b. b) format (map (λ a. piece_argument (plain_of t entries) a) list))
   accepted t over none = ap (λ (r : Option PrintError). unless_refused r
-      (printed (λ b. b) format (map (λ a. given (plain_of t entries) a) list))) ((prints entries format list t over).refused ∙ none)
+      (printed (λ b. b) format (map (λ a. piece_argument (plain_of t entries) a) list)))
+      ((prints entries format list t over).refused ∙ none)
 
   -- the first argument that is refused
-  rejected : (t : Table) → IsOver (lengths_of t) entries → (e : PrintError) → first_refusal 0 format (arguments_of (given_by entries list))
+  rejected : (t : Table) → IsOver (lengths_of t) entries → (e : PrintError) →
+      first_refusal 0 format (arguments_of (arguments_in entries list))
       ≡ Some e → and_then (format_text (plain_of t entries) format list) (λ text. within MAX_LEN text) ≡ Err (fault_of e)
   rejected t over e some =
-      ap (λ (r : Option PrintError). and_then (unless_refused r (printed (λ b. b) format (map (λ a. given (plain_of t entries) a) list)))
+      ap (λ (r : Option PrintError). and_then
+      (unless_refused r (printed (λ b. b) format (map (λ a. piece_argument (plain_of t entries) a) list)))
       (λ text. within MAX_LEN text)) ((prints entries format list t over).refused ∙ some)
 
-  module _ (all : List Arg) (same : all ≡ given_by entries list) where
+  module _ (all : List Arg) (same : all ≡ arguments_in entries list) where
     -- a cord of the print
     pub printed_cord : (cord : Option Node) → IsPrintable format (arguments_of all) → IsPrintOf format all cord → IsCord cord →
         IsTextOver entries (λ s. format_text s format list) cord
@@ -120,7 +126,7 @@ module _ (entries : List Entry) (format : List Piece) (list : List Argument) whe
     printed_length len printable is short = record {
       short = short;
       told = λ t over.
-          let meant : List ℕ = printed (λ b. b) format (map (λ a. given (plain_of t entries) a) list) in
+          let meant : List ℕ = printed (λ b. b) format (map (λ a. piece_argument (plain_of t entries) a) list) in
           let long : len ≡ length meant =
           is ∙ ap (λ (some : List Arg). length (printed known format (arguments_of some))) same
           ∙ (prints entries format list t over).long in
@@ -138,7 +144,7 @@ module _ (entries : List Entry) (format : List Piece) (list : List Argument) whe
     unprinted (refusals.BadByte k) h = λ t over. rejected t over (refusals.BadByte k)
         (subst (λ (some : List Arg). first_refusal 0 format (arguments_of some) ≡ Some (refusals.BadByte k)) same h.1)
     unprinted refusals.TooLong h = λ t over.
-        let meant : List ℕ = printed (λ b. b) format (map (λ a. given (plain_of t entries) a) list) in
+        let meant : List ℕ = printed (λ b. b) format (map (λ a. piece_argument (plain_of t entries) a) list) in
         let long : MAX_LEN < length meant =
         subst (λ (n : ℕ). MAX_LEN < n) (ap (λ (some : List Arg). length (printed known format (arguments_of some))) same
         ∙ (prints entries format list t over).long) h.2 in

@@ -7,10 +7,10 @@ ghost use Rattle.std.specs.Prelude.{IfErr, IfOk, IfSome};
 ghost use Rattle.cord_file.specs.Entries.{lengths_in, table_in};
 ghost use Rattle.cord_file.specs.Sources.{device_in, opened_in};
 ghost use Rattle.cord_io.specs.declared.TheConstants.{MAX_LEN};
-ghost use Rattle.cord_plan.specs.Kept.{IsKept};
+ghost use Rattle.cord_plan.specs.Verbatim.{IsVerbatim};
 ghost use Rattle.cord_plan.specs.Meaning.{keeps};
 ghost use Rattle.cord_plan.specs.Planned as plan;
-ghost use Rattle.cord_run.specs.Failing.{FailsIn};
+ghost use Rattle.cord_run.specs.inner.Failing.{FailsIn};
 ghost use Rattle.cord_run.specs.inner.Entries.{IsEntryAt, IsOver};
 ghost use Rattle.cord_run.specs.inner.Holdings.{holding_of};
 ghost use Rattle.cord_run.specs.inner.Outcomes.{CountsReads, Gives};
@@ -40,7 +40,7 @@ pub(crate) fn serve_statement<F: Files>(
     statement: &Statement,
     resolved: Option<&ResolvedOperation>,
 ) -> Result<(), Stop>
-    requires kept { IsKept statement.now }
+    requires kept { IsVerbatim statement.now }
     requires over { IsOver (lengths_in (opened_in sources.old)) store.old.entries.items }
     requires stands { IfSome resolved (λ resolved. StandsFor (IsEntryAt store.old.entries.items) resolved.now
         (plan.Keep statement.now)) }
@@ -72,7 +72,7 @@ fn serve_by_names<F: Files>(
     sources: &mut Sources<F>,
     statement: &Statement,
 ) -> Result<(), Stop>
-    requires kept { IsKept statement.now }
+    requires kept { IsVerbatim statement.now }
     requires over { IsOver (lengths_in (opened_in sources.old)) store.old.entries.items }
     ensures over { IfOk result (λ _. IsOver (lengths_in (opened_in sources.new)) store.new.entries.items) }
     ensures earlier { KeepNoMore ⟦<F as Files>⟧ (device_in sources.old) (device_in sources.new) }

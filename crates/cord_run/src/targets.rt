@@ -17,7 +17,8 @@ ghost use Rattle.cord_plan.specs.Views.{expr_view, made_view};
 ghost use Rattle.cord_run.specs.inner.Contents.{IsLength, IsLengthOfNames, IsMade, IsMadeOfNames, IsUnmade};
 ghost use Rattle.cord_run.specs.inner.Contents.{IsUnmadeOfNames, IsUnmeasured, IsUnmeasuredOfNames, TakesNoMemory};
 ghost use Rattle.cord_run.specs.inner.Contents.{has_failed, length_or_stop};
-ghost use Rattle.cord_run.specs.Failing.{FailsBy, FailsIn, IsFileMade};
+ghost use Rattle.cord_run.specs.Failing.{IsFileMade};
+ghost use Rattle.cord_run.specs.inner.Failing.{FailsBy, FailsIn};
 ghost use Rattle.cord_run.specs.inner.Entries.{HasContent, IsOver, SameEntries};
 ghost use Rattle.cord_run.specs.inner.Extents.{extent_in};
 ghost use Rattle.cord_run.specs.inner.Holdings.{holding_of};
@@ -96,7 +97,7 @@ pub(crate) fn serve_target<F: Files>(
 
 // Gives a name what was made for it.
 fn give(alloc: Global, store: &mut Store, target: &Name, content: Content) -> Result<(), Stop>
-    ensures given { IfOk result (λ _. HasContent target.now content store.old.entries.items store.new.entries.items) }
+    ensures has { IfOk result (λ _. HasContent target.now content store.old.entries.items store.new.entries.items) }
     ensures refused { IfErr result (λ stop. stop ≡ Stop.NoMemory) }
 {
     store.assign(alloc, target, content)?;

@@ -7,7 +7,7 @@ use Rattle.cord_syntax.specs.declared.statements.Statement.{Statement}
 use Rattle.cord_script.specs.Words.{IsPlain, IsIdle, HasWord}
 use Rattle.cord_script.specs.Forms.{Form, form_of, effect_of, terms_of}
 use Rattle.cord_script.specs.Forms.Effect.{Stays}
-use Rattle.cord_script.specs.Script.{Before, FitsBlocks}
+use Rattle.cord_script.specs.Script.{Scope, FitsBlocks}
 use Rattle.cord_script.specs.inner.Settled.{SaysSettled}
 use Rattle.cord_script.specs.inner.Steps.{Adds}
 use Rattle.cord_script.specs.inner.Verbal.{verb_word, verb_effect, verb_form}
@@ -35,10 +35,10 @@ word_shows (c ∷ cs) form line rest is h =
     not_idle line (cs ++ rest) c begins (λ e. let none : Some form ≡ None = sym is ∙ ap (λ k. form_of (k ∷ cs)) e ∙ comment_form cs in cc)
 
 -- a line that begins with the verb's word, before words that say a settled statement of the verb
-pub adds : (v : Verb) (n : ℕ) (line rest : List ℕ) (before : Before) (s : Statement) (ss grown : List Statement) →
-    HasWord line (Plain (verb_word v)) rest → verb_effect v ≡ Stays → SaysSettled before.names v n rest s → grown ≡ ss ++ s ∷ [] →
-    Adds n line before ss grown
-adds v n line rest before s ss grown first effect h added =
+pub adds : (v : Verb) (n : ℕ) (line rest : List ℕ) (scope : Scope) (s : Statement) (ss grown : List Statement) →
+    HasWord line (Plain (verb_word v)) rest → verb_effect v ≡ Stays → SaysSettled scope.names v n rest s → grown ≡ ss ++ s ∷ [] →
+    Adds n line scope ss grown
+adds v n line rest scope s ss grown first effect h added =
     let stays : effect_of s ≡ Stays = same_effect v h.words s h.word h.says h.suits ∙ effect in
     record {
       words = Plain (verb_word v) ∷ h.words;
@@ -52,10 +52,10 @@ adds v n line rest before s ss grown first effect h added =
           word = ap (λ k. Plain k ∷ h.words) (sym h.word);
           terms = h.says;
           suits = h.suits;
-          allowed = settled_allowed before (terms_of s) h.settled;
-          blocks = subst (λ e. FitsBlocks e before.blocks) (sym stays) tt;
+          allowed = settled_allowed scope (terms_of s) h.settled;
+          blocks = subst (λ e. FitsBlocks e scope.blocks) (sym stays) tt;
         };
-        leaves = settled_after before s h.settled stays;
+        leaves = settled_after scope s h.settled stays;
       };
       added = added;
       shows = word_shows (verb_word v) (verb_form v) line rest (form_is v) first;

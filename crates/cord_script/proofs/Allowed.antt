@@ -18,7 +18,7 @@ use Rattle.cord_script.specs.Forms.Shape.{Words, Joined, Printed}
 use Rattle.cord_script.specs.Formats.{Converts}
 use Rattle.cord_script.specs.Forms.Effect.{Stays, OpensRepeat, OpensIf, Turns, Closes}
 use Rattle.cord_script.specs.Forms.Term.{Target, Operand, Value, Literal, FilePath, Applies, Compares, Formats}
-use Rattle.cord_script.specs.Script.{Before, Block, kind_of, is_among, IsTerm, AreTerms, IsAllowed, AreAllowed, FitsBlocks}
+use Rattle.cord_script.specs.Script.{Scope, Block, kind_of, is_among, IsTerm, AreTerms, IsAllowed, AreAllowed, FitsBlocks}
 use Rattle.cord_script.specs.Script.Block.{InRepeat, InIf, InElse}
 use Rattle.cord_script.specs.Flaws.{words_flaw, is_count, wants_of, HasFormat, HasFormFlaw, first_of, unless, first_pair, kind_flaw}
 use Rattle.cord_script.specs.Flaws.{operand_flaw, word_target_flaw, word_path_flaw, names_flaw, block_flaw}
@@ -74,17 +74,17 @@ first_same test other (w ∷ ws) (t ∷ ts) f h = ap (λ k. first_of k (first_pa
     ∙ ap (first_of (other t)) (first_same test other ws ts f h.1)
 
 -- what is wrong with the names of a line is what is wrong with its terms
-pub names_same : (before : Before) (ws : List Word) (ts : List Term) → AreTerms ws ts →
-    names_flaw before (map want_of ts) ws ≡ terms_flaw before ts
-names_same before ws ts h =
-    let o = first_same (operand_flaw before.names) (operand_term_flaw before.names) ws ts (λ w t k. operand_same before.names w t k) h in
-    let t = first_same (word_target_flaw before.names) (target_term_flaw before.names) ws ts (λ w t k. target_same before.names w t k) h in
-    let p = first_same (word_path_flaw before.paths) (path_term_flaw before.paths) ws ts (λ w t k. path_same before.paths w t k) h in
-    ap (λ k. first_of k (first_of (first_pair (word_target_flaw before.names) (map want_of ts) ws)
-    (first_pair (word_path_flaw before.paths) (map want_of ts) ws))) o
-    ∙ ap (λ k. first_of (first_term (operand_term_flaw before.names) ts)
-    (first_of k (first_pair (word_path_flaw before.paths) (map want_of ts) ws))) t
-    ∙ ap (λ k. first_of (first_term (operand_term_flaw before.names) ts) (first_of (first_term (target_term_flaw before.names) ts) k)) p
+pub names_same : (scope : Scope) (ws : List Word) (ts : List Term) → AreTerms ws ts →
+    names_flaw scope (map want_of ts) ws ≡ terms_flaw scope ts
+names_same scope ws ts h =
+    let o = first_same (operand_flaw scope.names) (operand_term_flaw scope.names) ws ts (λ w t k. operand_same scope.names w t k) h in
+    let t = first_same (word_target_flaw scope.names) (target_term_flaw scope.names) ws ts (λ w t k. target_same scope.names w t k) h in
+    let p = first_same (word_path_flaw scope.paths) (path_term_flaw scope.paths) ws ts (λ w t k. path_same scope.paths w t k) h in
+    ap (λ k. first_of k (first_of (first_pair (word_target_flaw scope.names) (map want_of ts) ws)
+    (first_pair (word_path_flaw scope.paths) (map want_of ts) ws))) o
+    ∙ ap (λ k. first_of (first_term (operand_term_flaw scope.names) ts)
+    (first_of k (first_pair (word_path_flaw scope.paths) (map want_of ts) ws))) t
+    ∙ ap (λ k. first_of (first_term (operand_term_flaw scope.names) ts) (first_of (first_term (target_term_flaw scope.names) ts) k)) p
 
 path_right : (paths : List (List ℕ)) (path : List ℕ) → unless (is_among paths path || nat_lt (length paths) MAX_PATHS) TooMany ≡ None →
     (is_among paths path ≡ true) ⊎ (length paths < MAX_PATHS)
@@ -96,36 +96,36 @@ path_right paths path h =
     ]
 
 -- a term without a flaw is allowed
-term_allowed : (before : Before) (t : Term) → operand_term_flaw before.names t ≡ None → target_term_flaw before.names t ≡ None →
-    path_term_flaw before.paths t ≡ None → IsAllowed before t
-term_allowed before (Target kind name) o t p = target_right (kind_of before.names name) kind (length before.names) t
-term_allowed before (Operand kind name) o t p = kind_right (kind_of before.names name) kind o
-term_allowed before (Value (Numeral v)) o t p = tt
-term_allowed before (Value (Named name)) o t p = kind_right (kind_of before.names name) kinds.Number o
-term_allowed before (Literal text) o t p = tt
-term_allowed before (FilePath path) o t p = path_right before.paths path p
-term_allowed before (Applies function) o t p = tt
-term_allowed before (Compares relation) o t p = tt
-term_allowed before (Formats text) o t p = tt
+term_allowed : (scope : Scope) (t : Term) → operand_term_flaw scope.names t ≡ None → target_term_flaw scope.names t ≡ None →
+    path_term_flaw scope.paths t ≡ None → IsAllowed scope t
+term_allowed scope (Target kind name) o t p = target_right (kind_of scope.names name) kind (length scope.names) t
+term_allowed scope (Operand kind name) o t p = kind_right (kind_of scope.names name) kind o
+term_allowed scope (Value (Numeral v)) o t p = tt
+term_allowed scope (Value (Named name)) o t p = kind_right (kind_of scope.names name) kinds.Number o
+term_allowed scope (Literal text) o t p = tt
+term_allowed scope (FilePath path) o t p = path_right scope.paths path p
+term_allowed scope (Applies function) o t p = tt
+term_allowed scope (Compares relation) o t p = tt
+term_allowed scope (Formats text) o t p = tt
 
-terms_allowed : (before : Before) (ts : List Term) → first_term (operand_term_flaw before.names) ts ≡ None →
-    first_term (target_term_flaw before.names) ts ≡ None → first_term (path_term_flaw before.paths) ts ≡ None → AreAllowed before ts
-terms_allowed before [] o t p = tt
-terms_allowed before (x ∷ xs) o t p =
-    let a = neither (operand_term_flaw before.names x) (first_term (operand_term_flaw before.names) xs) o in
-    let b = neither (target_term_flaw before.names x) (first_term (target_term_flaw before.names) xs) t in
-    let c = neither (path_term_flaw before.paths x) (first_term (path_term_flaw before.paths) xs) p in
-    (term_allowed before x a.0 b.0 c.0, terms_allowed before xs a.1 b.1 c.1)
+terms_allowed : (scope : Scope) (ts : List Term) → first_term (operand_term_flaw scope.names) ts ≡ None →
+    first_term (target_term_flaw scope.names) ts ≡ None → first_term (path_term_flaw scope.paths) ts ≡ None → AreAllowed scope ts
+terms_allowed scope [] o t p = tt
+terms_allowed scope (x ∷ xs) o t p =
+    let a = neither (operand_term_flaw scope.names x) (first_term (operand_term_flaw scope.names) xs) o in
+    let b = neither (target_term_flaw scope.names x) (first_term (target_term_flaw scope.names) xs) t in
+    let c = neither (path_term_flaw scope.paths x) (first_term (path_term_flaw scope.paths) xs) p in
+    (term_allowed scope x a.0 b.0 c.0, terms_allowed scope xs a.1 b.1 c.1)
 
 -- terms without a flaw are allowed
-pub all_allowed : (before : Before) (ts : List Term) → terms_flaw before ts ≡ None → AreAllowed before ts
-all_allowed before ts h =
-    let o = first_term (operand_term_flaw before.names) ts in
-    let t = first_term (target_term_flaw before.names) ts in
-    let p = first_term (path_term_flaw before.paths) ts in
+pub all_allowed : (scope : Scope) (ts : List Term) → terms_flaw scope ts ≡ None → AreAllowed scope ts
+all_allowed scope ts h =
+    let o = first_term (operand_term_flaw scope.names) ts in
+    let t = first_term (target_term_flaw scope.names) ts in
+    let p = first_term (path_term_flaw scope.paths) ts in
     let a = neither o (first_of t p) h in
     let b = neither t p a.1 in
-    terms_allowed before ts a.0 b.0 b.1
+    terms_allowed scope ts a.0 b.0 b.1
 
 -- a statement without a flaw fits the open blocks
 pub block_right : (effect : Effect) (blocks : List Block) → block_flaw effect blocks ≡ None → FitsBlocks effect blocks
@@ -150,13 +150,13 @@ behind_two None None c d kind p q h = h
 behind_two _ _ c d kind p q h = cc
 
 -- words that are wrong are a flaw of the form
-pub words_wrong : (before : Before) (form : Form) (ws : List Word) (kind : RefusalKind) → HasFieldFlaw form.shape ws kind →
-    HasFormFlaw before (Some form) ws kind
-words_wrong before form ws kind h = (
+pub words_wrong : (scope : Scope) (form : Form) (ws : List Word) (kind : RefusalKind) → HasFieldFlaw form.shape ws kind →
+    HasFormFlaw scope (Some form) ws kind
+words_wrong scope form ws kind h = (
   h.0,
   h.1,
   in_front (unless (is_count form.shape (length ws)) WrongCount) (words_flaw form.shape h.0 ws)
-      (first_of (names_flaw before (wants_of form.shape h.0 ws) ws) (block_flaw form.effect before.blocks)) kind h.2,
+      (first_of (names_flaw scope (wants_of form.shape h.0 ws) ws) (block_flaw form.effect scope.blocks)) kind h.2,
 )
 
 read_converts : (text : List ℕ) (format : Option (List Piece)) → IsReadAs text format → Converts text (wanted_by format)
@@ -177,38 +177,38 @@ format_wants_are Printed (t ∷ Plain p ∷ ws) format h = none_wanted format h
 format_wants_are Printed (t ∷ Quoted text ∷ ws) format h = read_converts text format h
 
 -- what is wrong after right words is a flaw of the form
-later_wrong : (before : Before) (form : Form) (ws : List Word) (ps : List Field) (format : Option (List Piece)) (kind : RefusalKind) →
-    AreFields form.shape ws ps format → first_of (terms_flaw before (map term_of ps)) (block_flaw form.effect before.blocks) ≡ Some kind →
-    HasFormFlaw before (Some form) ws kind
-later_wrong before form ws ps format kind h wrong =
-    let same = ap (λ k. names_flaw before k ws) h.wanted ∙ names_same before ws (map term_of ps) h.terms in (
+later_wrong : (scope : Scope) (form : Form) (ws : List Word) (ps : List Field) (format : Option (List Piece)) (kind : RefusalKind) →
+    AreFields form.shape ws ps format → first_of (terms_flaw scope (map term_of ps)) (block_flaw form.effect scope.blocks) ≡ Some kind →
+    HasFormFlaw scope (Some form) ws kind
+later_wrong scope form ws ps format kind h wrong =
+    let same = ap (λ k. names_flaw scope k ws) h.wanted ∙ names_same scope ws (map term_of ps) h.terms in (
       wanted_by format,
       format_wants_are form.shape ws format h.has,
       behind_two (unless (is_count form.shape (length ws)) WrongCount)
-          (words_flaw form.shape (wanted_by format) ws) (names_flaw before (wants_of form.shape (wanted_by format) ws) ws)
-          (block_flaw form.effect before.blocks) kind (ap (λ b. unless b WrongCount) h.count) h.fit
-          (ap (λ k. first_of k (block_flaw form.effect before.blocks)) same ∙ wrong),
+          (words_flaw form.shape (wanted_by format) ws) (names_flaw scope (wants_of form.shape (wanted_by format) ws) ws)
+          (block_flaw form.effect scope.blocks) kind (ap (λ b. unless b WrongCount) h.count) h.fit
+          (ap (λ k. first_of k (block_flaw form.effect scope.blocks)) same ∙ wrong),
     )
 
 -- names that are wrong
-pub names_wrong : (before : Before) (form : Form) (ws : List Word) (ps : List Field) (format : Option (List Piece)) (kind : RefusalKind) →
-    AreFields form.shape ws ps format → terms_flaw before (map term_of ps) ≡ Some kind → HasFormFlaw before (Some form) ws kind
-names_wrong before form ws ps format kind h wrong = later_wrong before form ws ps format kind h
-    (ap (λ k. first_of k (block_flaw form.effect before.blocks)) wrong)
+pub names_wrong : (scope : Scope) (form : Form) (ws : List Word) (ps : List Field) (format : Option (List Piece)) (kind : RefusalKind) →
+    AreFields form.shape ws ps format → terms_flaw scope (map term_of ps) ≡ Some kind → HasFormFlaw scope (Some form) ws kind
+names_wrong scope form ws ps format kind h wrong = later_wrong scope form ws ps format kind h
+    (ap (λ k. first_of k (block_flaw form.effect scope.blocks)) wrong)
 
 -- a statement that the open blocks do not take
-pub blocks_wrong : (before : Before) (form : Form) (ws : List Word) (ps : List Field) (format : Option (List Piece)) (kind : RefusalKind) →
-    AreFields form.shape ws ps format → terms_flaw before (map term_of ps) ≡ None → block_flaw form.effect before.blocks ≡ Some kind →
-    HasFormFlaw before (Some form) ws kind
-blocks_wrong before form ws ps format kind h names wrong = later_wrong before form ws ps format kind h
-    (ap (λ k. first_of k (block_flaw form.effect before.blocks)) names ∙ wrong)
+pub blocks_wrong : (scope : Scope) (form : Form) (ws : List Word) (ps : List Field) (format : Option (List Piece)) (kind : RefusalKind) →
+    AreFields form.shape ws ps format → terms_flaw scope (map term_of ps) ≡ None → block_flaw form.effect scope.blocks ≡ Some kind →
+    HasFormFlaw scope (Some form) ws kind
+blocks_wrong scope form ws ps format kind h names wrong = later_wrong scope form ws ps format kind h
+    (ap (λ k. first_of k (block_flaw form.effect scope.blocks)) names ∙ wrong)
 
 -- a line that is right
-pub checked : (before : Before) (form : Form) (ws : List Word) (ps : List Field) (format : Option (List Piece)) →
-    AreFields form.shape ws ps format → terms_flaw before (map term_of ps) ≡ None → block_flaw form.effect before.blocks ≡ None →
-    IsChecked form before ws ps format
-checked before form ws ps format h names blocks = record {
+pub checked : (scope : Scope) (form : Form) (ws : List Word) (ps : List Field) (format : Option (List Piece)) →
+    AreFields form.shape ws ps format → terms_flaw scope (map term_of ps) ≡ None → block_flaw form.effect scope.blocks ≡ None →
+    IsChecked form scope ws ps format
+checked scope form ws ps format h names blocks = record {
   says = h;
-  allowed = all_allowed before (map term_of ps) names;
-  fits = block_right form.effect before.blocks blocks;
+  allowed = all_allowed scope (map term_of ps) names;
+  fits = block_right form.effect scope.blocks blocks;
 }

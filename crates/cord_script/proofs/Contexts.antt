@@ -11,7 +11,7 @@ use Rattle.cord_syntax.specs.declared.statements.Statement.{Statement}
 use Rattle.cord_syntax.specs.Lines.{line_of}
 use Rattle.cord_script.specs.Forms.{Term, form_of, word_of, terms_of, effect_of}
 use Rattle.cord_script.specs.Forms.Term.{Target, Operand, Value, Literal, FilePath, Applies, Compares, Formats}
-use Rattle.cord_script.specs.Script.{Before, AreTerms, AreAllowed, FitsBlocks, Suits, whole, after, names_after, paths_after, blocks_after}
+use Rattle.cord_script.specs.Script.{Scope, AreTerms, AreAllowed, FitsBlocks, Suits, whole, after, names_after, paths_after, blocks_after}
 use Rattle.cord_script.specs.Flaws.{HasFormFlaw, HasBadWords}
 use Rattle.cord_script.specs.inner.Fields.{term_of, IsChecked}
 use Rattle.cord_script.specs.inner.Verbal.{verb_word, verb_effect, verb_form}
@@ -30,7 +30,7 @@ same_effect v others s word terms suits =
     sym r.effect ∙ ap (λ f. f.effect) same
 
 -- what a statement leaves is what its fields leave
-same_context : (v : Verb) (n : ℕ) (ps : List Field) (old : Before) (s : Statement) → line_of s ≡ n → terms_of s ≡ map term_of ps →
+same_context : (v : Verb) (n : ℕ) (ps : List Field) (old : Scope) (s : Statement) → line_of s ≡ n → terms_of s ≡ map term_of ps →
     effect_of s ≡ verb_effect v → after s old ≡ context_after v n ps old
 same_context v n ps old s line terms effect =
     ap (λ ts. record {
@@ -49,7 +49,7 @@ same_context v n ps old s line terms effect =
       blocks = blocks_after (verb_effect v) k old.blocks;
     }) line
 
-says : (v : Verb) (n : ℕ) (old new : Before) (word : List ℕ) (words others : List Word) (ps : List Field) (format : Option (List Piece))
+says : (v : Verb) (n : ℕ) (old new : Scope) (word : List ℕ) (words others : List Word) (ps : List Field) (format : Option (List Piece))
     (s : Statement) → words ≡ Plain word ∷ others → word ≡ verb_word v → IsChecked (verb_form v) old others ps format →
     new ≡ context_after v n ps old → word_of s ≡ verb_word v → line_of s ≡ n → terms_of s ≡ map term_of ps → Suits s →
     SaysAfter n old new words s
@@ -71,14 +71,14 @@ says v n old new word words others ps format s e spelled checked left named line
     }
 
 -- the statement of words that were checked
-pub said : (v : Verb) (n : ℕ) (old new : Before) (words others : List Word) (ps : List Field) (format : Option (List Piece))
+pub said : (v : Verb) (n : ℕ) (old new : Scope) (words others : List Word) (ps : List Field) (format : Option (List Piece))
     (ts : List Term) (s : Statement) → words ≡ Plain (verb_word v) ∷ others → IsChecked (verb_form v) old others ps format →
     new ≡ context_after v n ps old → ts ≡ map term_of ps → IsStatementOf v n ts s → SaysAfter n old new words s
 said v n old new words others ps format ts s e checked left same is =
     says v n old new (verb_word v) words others ps format s e refl checked left is.0 is.1 (is.2 ∙ same) is.3
 
 -- what is wrong with the words after a verb is wrong with all words
-pub bad_words : (v : Verb) (old : Before) (words others : List Word) (kind : RefusalKind) → words ≡ Plain (verb_word v) ∷ others →
+pub bad_words : (v : Verb) (old : Scope) (words others : List Word) (kind : RefusalKind) → words ≡ Plain (verb_word v) ∷ others →
     HasFormFlaw old (Some (verb_form v)) others kind → HasBadWords whole old words kind
 bad_words v old words others kind e h = subst (λ ws. HasBadWords whole old ws kind) (sym e)
     (subst (λ form. HasFormFlaw old form others kind) (sym (form_is v)) h)

@@ -9,58 +9,58 @@ use Rattle.cord_script.specs.declared.refusals.RefusalKind.TheVariants.{TooBig, 
 use Rattle.cord_syntax.specs.declared.statements.Statement.{Statement}
 use Rattle.cord_script.specs.Words.{IsSplit, IsIdle, HasWords}
 use Rattle.cord_script.specs.Forms.{Grammar}
-use Rattle.cord_script.specs.Script.{Before, Block, Says, LinesSay, ReadsBy, start, after, after_all}
+use Rattle.cord_script.specs.Script.{Scope, Block, Says, LinesSay, ReadsBy, start, after, after_all}
 use Rattle.cord_script.specs.Script.Block.{InRepeat, InIf, InElse}
-use Rattle.cord_script.specs.Flaws.{HasBadLine, IsLeft, FlawBy}
+use Rattle.cord_script.specs.Flaws.{HasBadLine, IsLeftOpen, FlawBy}
 use Rattle.cord_script.specs.Laws.{ReadOrFlawed}
 use Rattle.cord_script.proofs.Readings.{some_lines}
 use Rattle.cord_script.proofs.Found.{idle_or_not, words_or_bad, some_words}
 use Rattle.cord_script.proofs.Filled.{says_or_bad}
 
 -- a line that isn't idle says a statement
-record LineSays (g : Grammar) (n : ℕ) (before : Before) (line : List ℕ) : Type 0 where
+record LineSays (g : Grammar) (n : ℕ) (scope : Scope) (line : List ℕ) : Type 0 where
   pub statement : Statement
   pub words : List Word
   pub has : HasWords line words
-  pub says : Says g n before words statement
+  pub says : Says g n scope words statement
 
-abbrev LineOrBad : Grammar → ℕ → Before → List ℕ → Type 0
-LineOrBad g n before line = LineSays g n before line ⊎ ((kind : RefusalKind) × HasBadLine g n before line kind)
+abbrev LineOrBad : Grammar → ℕ → Scope → List ℕ → Type 0
+LineOrBad g n scope line = LineSays g n scope line ⊎ ((kind : RefusalKind) × HasBadLine g n scope line kind)
 
 -- a line that isn't idle says a statement, or is wrong
-line_or_bad : FormatOrBad → (g : Grammar) (n : ℕ) (before : Before) (line : List ℕ) → n ≤ MAX_LINES → ¬ IsIdle line →
-    LineOrBad g n before line
-line_or_bad law g n before line few shows = elim (words_or_bad line) [
+line_or_bad : FormatOrBad → (g : Grammar) (n : ℕ) (scope : Scope) (line : List ℕ) → n ≤ MAX_LINES → ¬ IsIdle line →
+    LineOrBad g n scope line
+line_or_bad law g n scope line few shows = elim (words_or_bad line) [
   | inr bad ↦ inr (bad.0, inr (few, shows, inl bad.1))
-  | inl ws ↦ elim (says_or_bad law g n before ws.0 (some_words line ws.0 shows ws.1)) [
+  | inl ws ↦ elim (says_or_bad law g n scope ws.0 (some_words line ws.0 shows ws.1)) [
     | inl s ↦ inl (record { statement = s.0; words = ws.0; has = ws.1; says = s.1 })
     | inr bad ↦ inr (bad.0, inr (few, shows, inr (ws.0, ws.1, bad.1)))
   ]
 ]
 
 -- the first of these lines that is wrong
-record Stops (g : Grammar) (n : ℕ) (before : Before) (lines : List (List ℕ)) : Type 0 where
+record Stops (g : Grammar) (n : ℕ) (scope : Scope) (lines : List (List ℕ)) : Type 0 where
   pub front : List (List ℕ)
   pub line : List ℕ
   pub later : List (List ℕ)
   pub whole : lines ≡ front ++ line ∷ later
   pub statements : List Statement
-  pub say : LinesSay g n before front statements
+  pub say : LinesSay g n scope front statements
   pub kind : RefusalKind
-  pub wrong : HasBadLine g (n + length front) (after_all statements before) line kind
+  pub wrong : HasBadLine g (n + length front) (after_all statements scope) line kind
 
 -- these lines say statements, and are no more than there may be
-record Goes (g : Grammar) (n : ℕ) (before : Before) (lines : List (List ℕ)) : Type 0 where
+record Goes (g : Grammar) (n : ℕ) (scope : Scope) (lines : List (List ℕ)) : Type 0 where
   pub statements : List Statement
-  pub say : LinesSay g n before lines statements
+  pub say : LinesSay g n scope lines statements
   pub few : n + length lines ≤ MAX_LINES + 1
 
-abbrev GoesOrStops : Grammar → ℕ → Before → List (List ℕ) → Type 0
-GoesOrStops g n before lines = Goes g n before lines ⊎ Stops g n before lines
+abbrev GoesOrStops : Grammar → ℕ → Scope → List (List ℕ) → Type 0
+GoesOrStops g n scope lines = Goes g n scope lines ⊎ Stops g n scope lines
 
-stops_here : (g : Grammar) (n : ℕ) (before : Before) (line : List ℕ) (lines : List (List ℕ)) (kind : RefusalKind) →
-    HasBadLine g n before line kind → GoesOrStops g n before (line ∷ lines)
-stops_here g n before line lines kind wrong =
+stops_here : (g : Grammar) (n : ℕ) (scope : Scope) (line : List ℕ) (lines : List (List ℕ)) (kind : RefusalKind) →
+    HasBadLine g n scope line kind → GoesOrStops g n scope (line ∷ lines)
+stops_here g n scope line lines kind wrong =
     let here : n ≡ n + 0 = omega arith in
     inr (record {
       front = [];
@@ -70,15 +70,15 @@ stops_here g n before line lines kind wrong =
       statements = [];
       say = refl;
       kind = kind;
-      wrong = subst (λ m. HasBadLine g m before line kind) here wrong;
+      wrong = subst (λ m. HasBadLine g m scope line kind) here wrong;
     })
 
 -- after a line that says nothing
-behind_idle : (g : Grammar) (n : ℕ) (before : Before) (line : List ℕ) (lines : List (List ℕ)) → IsIdle line →
-    GoesOrStops g (n + 1) before lines → GoesOrStops g n before (line ∷ lines)
-behind_idle g n before line lines idle (inl h) =
+behind_idle : (g : Grammar) (n : ℕ) (scope : Scope) (line : List ℕ) (lines : List (List ℕ)) → IsIdle line →
+    GoesOrStops g (n + 1) scope lines → GoesOrStops g n scope (line ∷ lines)
+behind_idle g n scope line lines idle (inl h) =
     inl (record { statements = h.statements; say = inl (idle, h.say); few = omega (arith, h.few) })
-behind_idle g n before line lines idle (inr h) =
+behind_idle g n scope line lines idle (inr h) =
     let number : (n + 1) + length h.front ≡ n + length (line ∷ h.front) = omega arith in
     inr (record {
       front = line ∷ h.front;
@@ -88,20 +88,20 @@ behind_idle g n before line lines idle (inr h) =
       statements = h.statements;
       say = inl (idle, h.say);
       kind = h.kind;
-      wrong = subst (λ m. HasBadLine g m (after_all h.statements before) h.line h.kind) number h.wrong;
+      wrong = subst (λ m. HasBadLine g m (after_all h.statements scope) h.line h.kind) number h.wrong;
     })
 
 -- after a line that says a statement
-behind_saying : (g : Grammar) (n : ℕ) (before : Before) (line : List ℕ) (lines : List (List ℕ)) → ¬ IsIdle line →
-    (s : LineSays g n before line) → GoesOrStops g (n + 1) (after s.statement before) lines → GoesOrStops g n before (line ∷ lines)
-behind_saying g n before line lines shows s (inl h) =
+behind_saying : (g : Grammar) (n : ℕ) (scope : Scope) (line : List ℕ) (lines : List (List ℕ)) → ¬ IsIdle line →
+    (s : LineSays g n scope line) → GoesOrStops g (n + 1) (after s.statement scope) lines → GoesOrStops g n scope (line ∷ lines)
+behind_saying g n scope line lines shows s (inl h) =
     inl (record {
       statements = s.statement ∷ h.statements;
       say =
           inr (shows, s.statement, s.words, h.statements, refl, s.has, s.says, h.say);
       few = omega (arith, h.few);
     })
-behind_saying g n before line lines shows s (inr h) =
+behind_saying g n scope line lines shows s (inr h) =
     let number : (n + 1) + length h.front ≡ n + length (line ∷ h.front) = omega arith in
     inr (record {
       front = line ∷ h.front;
@@ -111,25 +111,25 @@ behind_saying g n before line lines shows s (inr h) =
       statements = s.statement ∷ h.statements;
       say = inr (shows, s.statement, s.words, h.statements, refl, s.has, s.says, h.say);
       kind = h.kind;
-      wrong = subst (λ m. HasBadLine g m (after_all h.statements (after s.statement before)) h.line h.kind) number h.wrong;
+      wrong = subst (λ m. HasBadLine g m (after_all h.statements (after s.statement scope)) h.line h.kind) number h.wrong;
     })
 
 -- the lines from number n on all say something, or one of them is the first that is wrong
-lines_by : FormatOrBad → (g : Grammar) (n : ℕ) (before : Before) (lines : List (List ℕ)) → n ≤ MAX_LINES + 1 → GoesOrStops g n before lines
-lines_by law g n before [] few = inl (record { statements = []; say = refl; few = omega (arith, few) })
-lines_by law g n before (line ∷ lines) few = elim (cases_lt MAX_LINES n) [
-  | inl past ↦ stops_here g n before line lines TooBig (inl (omega (arith, few, past), refl))
+lines_by : FormatOrBad → (g : Grammar) (n : ℕ) (scope : Scope) (lines : List (List ℕ)) → n ≤ MAX_LINES + 1 → GoesOrStops g n scope lines
+lines_by law g n scope [] few = inl (record { statements = []; say = refl; few = omega (arith, few) })
+lines_by law g n scope (line ∷ lines) few = elim (cases_lt MAX_LINES n) [
+  | inl past ↦ stops_here g n scope line lines TooBig (inl (omega (arith, few, past), refl))
   | inr low ↦ elim (idle_or_not line) [
-    | inl idle ↦ behind_idle g n before line lines idle (lines_by law g (n + 1) before lines (omega (arith, low)))
-    | inr shows ↦ elim (line_or_bad law g n before line low shows) [
-      | inl s ↦ behind_saying g n before line lines shows s (lines_by law g (n + 1) (after s.statement before) lines (omega (arith, low)))
-      | inr bad ↦ stops_here g n before line lines bad.0 bad.1
+    | inl idle ↦ behind_idle g n scope line lines idle (lines_by law g (n + 1) scope lines (omega (arith, low)))
+    | inr shows ↦ elim (line_or_bad law g n scope line low shows) [
+      | inl s ↦ behind_saying g n scope line lines shows s (lines_by law g (n + 1) (after s.statement scope) lines (omega (arith, low)))
+      | inr bad ↦ stops_here g n scope line lines bad.0 bad.1
     ]
   ]
 ]
 
 -- an open block is a flaw at the end
-left_open : (block : Block) → (n : ℕ) × (kind : RefusalKind) × IsLeft block n kind
+left_open : (block : Block) → (n : ℕ) × (kind : RefusalKind) × IsLeftOpen block n kind
 left_open (InRepeat line) = (line, MissingEnd, (refl, refl))
 left_open (InIf line) = (line, MissingIfEnd, (refl, refl))
 left_open (InElse line) = (line, MissingIfEnd, (refl, refl))

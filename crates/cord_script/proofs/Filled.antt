@@ -48,7 +48,7 @@ use Rattle.cord_script.specs.Formats.{Converts, want_of_kind, wants_of_pieces}
 use Rattle.cord_script.specs.Forms.{Grammar, Shape, Form, Term, form_of, form_in, word_of, terms_of, argument_term, argument_want}
 use Rattle.cord_script.specs.Forms.Shape.{Words, Joined, Printed}
 use Rattle.cord_script.specs.Forms.Term.{Target, Operand, Value, Literal, FilePath, Applies, Compares, Formats}
-use Rattle.cord_script.specs.Script.{Before, Says, Suits, IsTerm, AreTerms, FitsBlocks}
+use Rattle.cord_script.specs.Script.{Scope, Says, Suits, IsTerm, AreTerms, FitsBlocks}
 use Rattle.cord_script.specs.Flaws.{first_of, unless, misfit, first_pair, first_misfit, name_misfit, is_count, cords, joined, format_wants}
 use Rattle.cord_script.specs.Flaws.{arguments_flaw, words_flaw, wants_of, names_flaw, block_flaw, form_flaw, HasFormat, HasFormFlaw}
 use Rattle.cord_script.specs.Flaws.{HasBadWords}
@@ -359,25 +359,25 @@ formats_of law Printed (t ∷ []) = (None, refl)
 formats_of law Printed (t ∷ Plain p ∷ ws) = (None, refl)
 formats_of law Printed (t ∷ Quoted text ∷ ws) = converts_of law text
 
-abbrev SaysOrBad : Grammar → ℕ → Before → List Word → Type 0
-SaysOrBad g n before words = ((s : Statement) × Says g n before words s) ⊎ ((kind : RefusalKind) × HasBadWords g before words kind)
+abbrev SaysOrBad : Grammar → ℕ → Scope → List Word → Type 0
+SaysOrBad g n scope words = ((s : Statement) × Says g n scope words s) ⊎ ((kind : RefusalKind) × HasBadWords g scope words kind)
 
 -- the words after a verb have no flaw
-well_said : (g : Grammar) (n : ℕ) (before : Before) (p : List ℕ) (ws : List Word) (v : Verb) (formats : Option (List Want)) →
-    g.has p ≡ true → p ≡ verb_word v → HasFormat (verb_shape v) ws formats → form_flaw (verb_form v) before formats ws ≡ None →
-    (s : Statement) × Says g n before (Plain p ∷ ws) s
-well_said g n before p ws v formats has spelled format fine =
+well_said : (g : Grammar) (n : ℕ) (scope : Scope) (p : List ℕ) (ws : List Word) (v : Verb) (formats : Option (List Want)) →
+    g.has p ≡ true → p ≡ verb_word v → HasFormat (verb_shape v) ws formats → form_flaw (verb_form v) scope formats ws ≡ None →
+    (s : Statement) × Says g n scope (Plain p ∷ ws) s
+well_said g n scope p ws v formats has spelled format fine =
     let shape = verb_shape v in
-    let names = names_flaw before (wants_of shape formats ws) ws in
-    let blocks = block_flaw (verb_effect v) before.blocks in
+    let names = names_flaw scope (wants_of shape formats ws) ws in
+    let blocks = block_flaw (verb_effect v) scope.blocks in
     let a = neither (unless (is_count shape (length ws)) WrongCount)
     (first_of (words_flaw shape formats ws) (first_of names blocks)) fine in
     let b = neither (words_flaw shape formats ws) (first_of names blocks) a.1 in
     let c = neither names blocks b.1 in
     let f = filled v n ws formats format (holds (is_count shape (length ws)) WrongCount a.0) b.0 in
     let ts = terms_of f.statement in
-    let known : terms_flaw before ts ≡ None =
-    sym (names_same before ws ts f.terms) ∙ ap (λ k. names_flaw before k ws) (sym f.wanted) ∙ c.0 in
+    let known : terms_flaw scope ts ≡ None =
+    sym (names_same scope ws ts f.terms) ∙ ap (λ k. names_flaw scope k ws) (sym f.wanted) ∙ c.0 in
     let effect = same_effect v ws f.statement f.named f.terms f.suits in (
       f.statement,
       record {
@@ -387,28 +387,28 @@ well_said g n before p ws v formats has spelled format fine =
         word = ap (λ k. Plain k ∷ ws) (spelled ∙ sym f.named);
         terms = f.terms;
         suits = f.suits;
-        allowed = all_allowed before ts known;
-        blocks = subst (λ k. FitsBlocks k before.blocks) (sym effect) (block_right (verb_effect v) before.blocks c.1);
+        allowed = all_allowed scope ts known;
+        blocks = subst (λ k. FitsBlocks k scope.blocks) (sym effect) (block_right (verb_effect v) scope.blocks c.1);
       },
     )
 
-bad_form : (g : Grammar) (before : Before) (p : List ℕ) (ws : List Word) (form : Option Form) (kind : RefusalKind) → form_in g p ≡ form →
-    HasFormFlaw before form ws kind → HasBadWords g before (Plain p ∷ ws) kind
-bad_form g before p ws form kind e h = subst (λ k. HasFormFlaw before k ws kind) (sym e) h
+bad_form : (g : Grammar) (scope : Scope) (p : List ℕ) (ws : List Word) (form : Option Form) (kind : RefusalKind) → form_in g p ≡ form →
+    HasFormFlaw scope form ws kind → HasBadWords g scope (Plain p ∷ ws) kind
+bad_form g scope p ws form kind e h = subst (λ k. HasFormFlaw scope k ws kind) (sym e) h
 
-verb_by : (g : Grammar) (n : ℕ) (before : Before) (p : List ℕ) (ws : List Word) (v : Verb) (formats : Option (List Want))
+verb_by : (g : Grammar) (n : ℕ) (scope : Scope) (p : List ℕ) (ws : List Word) (v : Verb) (formats : Option (List Want))
     (flaw : Option RefusalKind) → g.has p ≡ true → p ≡ verb_word v → form_in g p ≡ Some (verb_form v) →
-    HasFormat (verb_shape v) ws formats → form_flaw (verb_form v) before formats ws ≡ flaw → SaysOrBad g n before (Plain p ∷ ws)
-verb_by g n before p ws v formats None has spelled form format e = inl (well_said g n before p ws v formats has spelled format e)
-verb_by g n before p ws v formats (Some kind) has spelled form format e =
-    inr (kind, bad_form g before p ws (Some (verb_form v)) kind form (formats, format, e))
+    HasFormat (verb_shape v) ws formats → form_flaw (verb_form v) scope formats ws ≡ flaw → SaysOrBad g n scope (Plain p ∷ ws)
+verb_by g n scope p ws v formats None has spelled form format e = inl (well_said g n scope p ws v formats has spelled format e)
+verb_by g n scope p ws v formats (Some kind) has spelled form format e =
+    inr (kind, bad_form g scope p ws (Some (verb_form v)) kind form (formats, format, e))
 
 -- the words after a verb say a statement, or have a flaw
-verb_says : FormatOrBad → (g : Grammar) (n : ℕ) (before : Before) (p : List ℕ) (ws : List Word) (v : Verb) → g.has p ≡ true →
-    p ≡ verb_word v → form_in g p ≡ Some (verb_form v) → SaysOrBad g n before (Plain p ∷ ws)
-verb_says law g n before p ws v has spelled form =
+verb_says : FormatOrBad → (g : Grammar) (n : ℕ) (scope : Scope) (p : List ℕ) (ws : List Word) (v : Verb) → g.has p ≡ true →
+    p ≡ verb_word v → form_in g p ≡ Some (verb_form v) → SaysOrBad g n scope (Plain p ∷ ws)
+verb_says law g n scope p ws v has spelled form =
     let formats = formats_of law (verb_shape v) ws in
-    verb_by g n before p ws v formats.0 (form_flaw (verb_form v) before formats.0 ws) has spelled form formats.1 refl
+    verb_by g n scope p ws v formats.0 (form_flaw (verb_form v) scope formats.0 ws) has spelled form formats.1 refl
 
 -- a verb that is found has the word
 spelled_so : (vs : List Verb) (p : List ℕ) (v : Verb) → find_verb vs p ≡ Some v → p ≡ verb_word v
@@ -418,23 +418,23 @@ spelled_so (x ∷ xs) p v h = elim (chosen (bytes_eq p (verb_word x)) (Some x) (
   | inr y ↦ spelled_so xs p v y.1
 ]
 
-allowed_says : FormatOrBad → (g : Grammar) (n : ℕ) (before : Before) (p : List ℕ) (ws : List Word) (found : Option Verb) → g.has p ≡ true →
-    find_verb VERBS p ≡ found → form_in g p ≡ form_of p → SaysOrBad g n before (Plain p ∷ ws)
-allowed_says law g n before p ws None has e form =
-    inr (UnknownStatement, bad_form g before p ws None UnknownStatement (form ∙ sym (form_found p) ∙ ap form_at e) refl)
-allowed_says law g n before p ws (Some v) has e form =
+allowed_says : FormatOrBad → (g : Grammar) (n : ℕ) (scope : Scope) (p : List ℕ) (ws : List Word) (found : Option Verb) → g.has p ≡ true →
+    find_verb VERBS p ≡ found → form_in g p ≡ form_of p → SaysOrBad g n scope (Plain p ∷ ws)
+allowed_says law g n scope p ws None has e form =
+    inr (UnknownStatement, bad_form g scope p ws None UnknownStatement (form ∙ sym (form_found p) ∙ ap form_at e) refl)
+allowed_says law g n scope p ws (Some v) has e form =
     let spelled = spelled_so VERBS p v e in
-    verb_says law g n before p ws v has spelled (form ∙ ap form_of spelled ∙ form_is v)
+    verb_says law g n scope p ws v has spelled (form ∙ ap form_of spelled ∙ form_is v)
 
-word_by : FormatOrBad → (g : Grammar) (n : ℕ) (before : Before) (p : List ℕ) (ws : List Word) (x : Bool) → g.has p ≡ x →
-    SaysOrBad g n before (Plain p ∷ ws)
-word_by law g n before p ws true has = allowed_says law g n before p ws (find_verb VERBS p) has refl
+word_by : FormatOrBad → (g : Grammar) (n : ℕ) (scope : Scope) (p : List ℕ) (ws : List Word) (x : Bool) → g.has p ≡ x →
+    SaysOrBad g n scope (Plain p ∷ ws)
+word_by law g n scope p ws true has = allowed_says law g n scope p ws (find_verb VERBS p) has refl
     (ap (λ b. if b then form_of p else None) has)
-word_by law g n before p ws false has =
-    inr (UnknownStatement, bad_form g before p ws None UnknownStatement (ap (λ b. if b then form_of p else None) has) refl)
+word_by law g n scope p ws false has =
+    inr (UnknownStatement, bad_form g scope p ws None UnknownStatement (ap (λ b. if b then form_of p else None) has) refl)
 
 -- words say a statement, or have a flaw
-pub says_or_bad : FormatOrBad → (g : Grammar) (n : ℕ) (before : Before) (words : List Word) → words ≢ [] → SaysOrBad g n before words
-says_or_bad law g n before [] some = absurd (some refl)
-says_or_bad law g n before (Quoted text ∷ ws) some = inr (UnknownStatement, refl)
-says_or_bad law g n before (Plain p ∷ ws) some = word_by law g n before p ws (g.has p) refl
+pub says_or_bad : FormatOrBad → (g : Grammar) (n : ℕ) (scope : Scope) (words : List Word) → words ≢ [] → SaysOrBad g n scope words
+says_or_bad law g n scope [] some = absurd (some refl)
+says_or_bad law g n scope (Quoted text ∷ ws) some = inr (UnknownStatement, refl)
+says_or_bad law g n scope (Plain p ∷ ws) some = word_by law g n scope p ws (g.has p) refl

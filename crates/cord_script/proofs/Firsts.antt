@@ -8,7 +8,7 @@ use Rattle.std.proofs.lemmas.Slice.Eq.{bytes_eq-Decides}
 use Rattle.cord_script.specs.declared.kinds.Kind.{Kind}
 use Rattle.cord_script.specs.declared.table.Known.{Known}
 use Rattle.cord_script.specs.Script.{kind_of}
-use Rattle.cord_script.specs.Tables.{AreFirst, AreNames}
+use Rattle.cord_script.specs.inner.Tables.{AreFirst, AreNames}
 use Rattle.cord_script.specs.Tests.{is_name}
 
 pub same_bytes : (x y : List ℕ) → bytes_eq x y ≡ true → x ≡ y

@@ -7,7 +7,7 @@ pub mod Either
 pub mod Filled
 pub mod Firsts
 pub mod Found
-pub mod Given
+pub mod SourceFields
 pub mod LineFields
 pub mod Lines
 pub mod Magnitudes

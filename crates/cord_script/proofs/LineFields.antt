@@ -12,7 +12,7 @@ use Rattle.cord_script.specs.Tests.{is_name}
 use Rattle.cord_script.specs.Forms.{Term, terms_of}
 use Rattle.cord_script.specs.Forms.Term.{Target, Operand}
 use Rattle.cord_script.specs.Script.{kind_of, AreTerms}
-use Rattle.cord_script.specs.inner.Given.{GivesAll, IsBuilt}
+use Rattle.cord_script.specs.inner.SourceFields.{GivesAll, IsBuilt}
 use Rattle.cord_script.specs.inner.Settled.{AllSettled, LineView, FieldsView, PassesWord, GivesSettled, SaysSettled}
 
 -- a name that is known gives a target, and an operand
@@ -48,12 +48,12 @@ words_given old new (t ∷ ts) h =
 pub says_settled : (v : Verb) (n : ℕ) (old new : LineView) (s : Statement) → IsBuilt GivesSettled v n old new s → All IsBlank new.rest →
     SaysSettled old.names v n old.rest s
 says_settled v n old new s h blank =
-    let given = words_given old new (terms_of s) h.given in
+    let said = words_given old new (terms_of s) h.fields in
     record {
-      words = given.words;
-      has = (new.rest, given.starts, blank);
-      says = given.says;
-      settled = given.settled;
+      words = said.words;
+      has = (new.rest, said.starts, blank);
+      says = said.says;
+      settled = said.settled;
       word = h.word;
       line = h.numbered;
       suits = h.suits;
@@ -75,7 +75,7 @@ says_fields v n words old new s e h blank =
     subst (λ w. SaysSettled w.names v n w.rest s) e (says_settled v n old.words new.words s (record {
       word = h.word;
       numbered = h.numbered;
-      given = words_of_fields old new (terms_of s) h.given;
+      fields = words_of_fields old new (terms_of s) h.fields;
       suits = h.suits;
     }) blank)
 

@@ -6,7 +6,8 @@ use Rattle.std.proofs.lemmas.List.Elements.{All-nil, All-cons}
 use Rattle.std.specs.Prelude.{All, MatchBool, ◌==◌}
 use Rattle.std.proofs.lemmas.List.{take-append-drop, take_all}
 use Rattle.memchr.specs.Find.{Nowhere, Passes, IsFirstByte, is_byte}
-use Rattle.cord_script.specs.Words.{IsSplit, IsBlank, IsIdle, StartsNoBlank}
+use Rattle.cord_script.specs.Words.{IsSplit, IsBlank, IsIdle}
+use Rattle.cord_script.specs.inner.Words.{StartsNoBlank}
 
 -- a list in two parts
 pub parts : (n : ℕ) (xs : List ℕ) → xs ≡ take n xs ++ drop n xs

@@ -11,10 +11,6 @@ pub no_smaller : (n : ℕ) (ds : List ℕ) → n ≤ number_after n ds
 no_smaller n [] = omega arith
 no_smaller n (d ∷ ds) = let r = no_smaller (10 * n + (d - 48)) ds in omega arith
 
-taken : (x y : Bool) (n : ℕ) → x ≡ true → (if y then Some n else None) ≡ (if x && y then Some n else None)
-taken true y n h = refl
-taken false y n h = cc
-
 neither_taken : (x y z : Bool) (n : ℕ) → z ≡ false → None ≡ (if (x && y) && z then Some n else None)
 neither_taken true true false n h = refl
 neither_taken true false z n h = refl

@@ -11,10 +11,10 @@ use Rattle.cord_script.specs.declared.refusals.RefusalKind.TheVariants.{TooBig, 
 use Rattle.cord_script.specs.Words.{IsSplit, IsIdle, HasWords}
 use Rattle.cord_syntax.specs.Lines.{line_of}
 use Rattle.cord_script.specs.Forms.{Grammar}
-use Rattle.cord_script.specs.Script.{Before, Block, ReadsBy, ReadsUpTo, Says, LinesSay, whole, start, after, after_all}
+use Rattle.cord_script.specs.Script.{Scope, Block, ReadsBy, ReadsUpTo, Says, LinesSay, whole, start, after, after_all}
 use Rattle.cord_script.specs.Script.Block.{InRepeat, InIf, InElse}
 use Rattle.cord_script.specs.Flaws.{FlawBy, HasBadLine}
-use Rattle.cord_script.specs.inner.ContextViews.{IsInnermostLeft}
+use Rattle.cord_script.specs.inner.ContextViews.{IsInnermostOpen}
 use Rattle.cord_script.specs.inner.Steps.{Takes, HasWrong, HasRead}
 
 all_more_at : {X : Type 0} (P : X → Type 0) (x : X) (xs : List X) → P x → All P xs → (k : ℕ) (d : X) → k < length (x ∷ xs) →
@@ -44,23 +44,23 @@ some_lines [] = ([], refl)
 some_lines (c ∷ cs) = let r = some_lines cs in line_by c cs (c == 10) r.0 refl r.1
 
 -- what statements in a row leave
-pub after_push : (ss more : List Statement) (before : Before) → after_all (ss ++ more) before ≡ after_all more (after_all ss before)
-after_push [] more before = refl
-after_push (s ∷ ss) more before = after_push ss more (after s before)
+pub after_push : (ss more : List Statement) (scope : Scope) → after_all (ss ++ more) scope ≡ after_all more (after_all ss scope)
+after_push [] more scope = refl
+after_push (s ∷ ss) more scope = after_push ss more (after s scope)
 
 -- one more line that says nothing
-pub says_idle : (g : Grammar) (n : ℕ) (before : Before) (front : List (List ℕ)) (line : List ℕ) (ss : List Statement) →
-    LinesSay g n before front ss → IsIdle line → LinesSay g n before (front ++ line ∷ []) ss
-says_idle g n before [] line ss h idle = inl (idle, h)
-says_idle g n before (x ∷ front) line ss (inl h) idle = inl (h.0, says_idle g (n + 1) before front line ss h.1 idle)
-says_idle g n before (x ∷ front) line ss (inr h) idle =
-    inr (h.0, h.1, h.2, h.3, h.4, h.5, h.6, says_idle g (n + 1) (after h.1 before) front line h.3 h.7 idle)
+pub says_idle : (g : Grammar) (n : ℕ) (scope : Scope) (front : List (List ℕ)) (line : List ℕ) (ss : List Statement) →
+    LinesSay g n scope front ss → IsIdle line → LinesSay g n scope (front ++ line ∷ []) ss
+says_idle g n scope [] line ss h idle = inl (idle, h)
+says_idle g n scope (x ∷ front) line ss (inl h) idle = inl (h.0, says_idle g (n + 1) scope front line ss h.1 idle)
+says_idle g n scope (x ∷ front) line ss (inr h) idle =
+    inr (h.0, h.1, h.2, h.3, h.4, h.5, h.6, says_idle g (n + 1) (after h.1 scope) front line h.3 h.7 idle)
 
 -- one more line that says a statement
-pub says_more : (g : Grammar) (n m : ℕ) (before : Before) (front : List (List ℕ)) (line : List ℕ) (ss : List Statement) (s : Statement)
-    (words : List Word) → LinesSay g n before front ss → m ≡ n + length front → ¬ IsIdle line → HasWords line words →
-    Says g m (after_all ss before) words s → LinesSay g n before (front ++ line ∷ []) (ss ++ s ∷ [])
-says_more g n m before [] line ss s words h e shows hw says =
+pub says_more : (g : Grammar) (n m : ℕ) (scope : Scope) (front : List (List ℕ)) (line : List ℕ) (ss : List Statement) (s : Statement)
+    (words : List Word) → LinesSay g n scope front ss → m ≡ n + length front → ¬ IsIdle line → HasWords line words →
+    Says g m (after_all ss scope) words s → LinesSay g n scope (front ++ line ∷ []) (ss ++ s ∷ [])
+says_more g n m scope [] line ss s words h e shows hw says =
     let same : m ≡ n = omega arith in
     inr (
       shows,
@@ -69,13 +69,13 @@ says_more g n m before [] line ss s words h e shows hw says =
       [],
       ap (λ x. x ++ s ∷ []) h,
       hw,
-      subst (λ k. Says g k before words s) same
-          (subst (λ x. Says g m (after_all x before) words s) h says),
+      subst (λ k. Says g k scope words s) same
+          (subst (λ x. Says g m (after_all x scope) words s) h says),
       refl,
     )
-says_more g n m before (x ∷ front) line ss s words (inl h) e shows hw says =
-    inl (h.0, says_more g (n + 1) m before front line ss s words h.1 (omega arith) shows hw says)
-says_more g n m before (x ∷ front) line ss s words (inr h) e shows hw says =
+says_more g n m scope (x ∷ front) line ss s words (inl h) e shows hw says =
+    inl (h.0, says_more g (n + 1) m scope front line ss s words h.1 (omega arith) shows hw says)
+says_more g n m scope (x ∷ front) line ss s words (inr h) e shows hw says =
     inr (
       h.0,
       h.1,
@@ -84,12 +84,12 @@ says_more g n m before (x ∷ front) line ss s words (inr h) e shows hw says =
       ap (λ x. x ++ s ∷ []) h.4,
       h.5,
       h.6,
-      says_more g (n + 1) m (after h.1 before) front line h.3 s words h.7 (omega arith) shows hw
-          (subst (λ x. Says g m (after_all x before) words s) h.4 says),
+      says_more g (n + 1) m (after h.1 scope) front line h.3 s words h.7 (omega arith) shows hw
+          (subst (λ x. Says g m (after_all x scope) words s) h.4 says),
     )
 
 -- a line that was read is one of the lines in front
-pub reads_line : (b rest behind line : List ℕ) (n : ℕ) (old new : Before) (ss grown : List Statement) → HasRead b rest n old ss →
+pub reads_line : (b rest behind line : List ℕ) (n : ℕ) (old new : Scope) (ss grown : List Statement) → HasRead b rest n old ss →
     ((lines : List (List ℕ)) → IsSplit behind lines → IsSplit rest (line ∷ lines)) → Takes n line old new ss grown →
     HasRead b behind (n + 1) new grown
 reads_line b rest behind line n old new ss grown r first (None, t, e) =
@@ -113,9 +113,9 @@ reads_line b rest behind line n old new ss grown r first (Some s, t, e) =
     }
 
 -- the line that is being read
-pub reached : (b rest behind line : List ℕ) (n : ℕ) (before : Before) (ss : List Statement) → length b ≤ MAX_SCRIPT → n ≤ MAX_LINES →
-    HasRead b rest n before ss → ((lines : List (List ℕ)) → IsSplit behind lines → IsSplit rest (line ∷ lines)) → ReadsUpTo b n
-reached b rest behind line n before ss small few r first =
+pub reached : (b rest behind line : List ℕ) (n : ℕ) (scope : Scope) (ss : List Statement) → length b ≤ MAX_SCRIPT → n ≤ MAX_LINES →
+    HasRead b rest n scope ss → ((lines : List (List ℕ)) → IsSplit behind lines → IsSplit rest (line ∷ lines)) → ReadsUpTo b n
+reached b rest behind line n scope ss small few r first =
     let later = some_lines behind in
     record {
       size = small;
@@ -130,17 +130,17 @@ reached b rest behind line n before ss small few r first =
     }
 
 -- an open block is no want of memory
-pub left_found : (blocks : List Block) (n : ℕ) (kind : RefusalKind) → IsInnermostLeft blocks n kind → kind ≢ NoMemory
+pub left_found : (blocks : List Block) (n : ℕ) (kind : RefusalKind) → IsInnermostOpen blocks n kind → kind ≢ NoMemory
 left_found [] n kind h = absurd h
 left_found (InRepeat line ∷ blocks) n kind h = λ e. cc
 left_found (InIf line ∷ blocks) n kind h = λ e. cc
 left_found (InElse line ∷ blocks) n kind h = λ e. cc
 
 -- a line that is too much, or wrong
-pub stops : (b rest behind line : List ℕ) (n : ℕ) (before : Before) (ss : List Statement) (kind : RefusalKind) → length b ≤ MAX_SCRIPT →
-    HasRead b rest n before ss → ((lines : List (List ℕ)) → IsSplit behind lines → IsSplit rest (line ∷ lines)) →
-    HasBadLine whole n before line kind → FlawBy whole b n kind
-stops b rest behind line n before ss kind small r first wrong =
+pub stops : (b rest behind line : List ℕ) (n : ℕ) (scope : Scope) (ss : List Statement) (kind : RefusalKind) → length b ≤ MAX_SCRIPT →
+    HasRead b rest n scope ss → ((lines : List (List ℕ)) → IsSplit behind lines → IsSplit rest (line ∷ lines)) →
+    HasBadLine whole n scope line kind → FlawBy whole b n kind
+stops b rest behind line n scope ss kind small r first wrong =
     let later = some_lines behind in
     inr (inl (record {
       size = small;
@@ -154,10 +154,10 @@ stops b rest behind line n before ss kind small r first wrong =
       wrong = subst (λ x. HasBadLine whole n x line kind) (sym r.leaves) wrong;
     }))
 
-too_many_by : (b rest : List ℕ) (n : ℕ) (before : Before) (ss : List Statement) (lines : List (List ℕ)) → length b ≤ MAX_SCRIPT →
-    HasRead b rest n before ss → rest ≢ [] → n ≡ MAX_LINES + 1 → IsSplit rest lines → FlawBy whole b n TooBig
-too_many_by b rest n before ss [] small r some e h = absurd (some h)
-too_many_by b rest n before ss (line ∷ later) small r some e h =
+too_many_by : (b rest : List ℕ) (n : ℕ) (scope : Scope) (ss : List Statement) (lines : List (List ℕ)) → length b ≤ MAX_SCRIPT →
+    HasRead b rest n scope ss → rest ≢ [] → n ≡ MAX_LINES + 1 → IsSplit rest lines → FlawBy whole b n TooBig
+too_many_by b rest n scope ss [] small r some e h = absurd (some h)
+too_many_by b rest n scope ss (line ∷ later) small r some e h =
     inr (inl (record {
       size = small;
       front = r.front;
@@ -171,19 +171,19 @@ too_many_by b rest n before ss (line ∷ later) small r some e h =
     }))
 
 -- more lines than there may be
-pub too_many : (b rest : List ℕ) (n : ℕ) (before : Before) (ss : List Statement) → length b ≤ MAX_SCRIPT → HasRead b rest n before ss →
+pub too_many : (b rest : List ℕ) (n : ℕ) (scope : Scope) (ss : List Statement) → length b ≤ MAX_SCRIPT → HasRead b rest n scope ss →
     rest ≢ [] → n ≡ MAX_LINES + 1 → FlawBy whole b n TooBig
-too_many b rest n before ss small r some e = let later = some_lines rest in too_many_by b rest n before ss later.0 small r some e later.1
+too_many b rest n scope ss small r some e = let later = some_lines rest in too_many_by b rest n scope ss later.0 small r some e later.1
 
 -- a line that is wrong
-pub is_wrong : (n : ℕ) (line : List ℕ) (before : Before) (kind : RefusalKind) → n ≤ MAX_LINES → HasWrong line before kind →
-    HasBadLine whole n before line kind
-is_wrong n line before kind few h = inr (few, h.0, h.1)
+pub is_wrong : (n : ℕ) (line : List ℕ) (scope : Scope) (kind : RefusalKind) → n ≤ MAX_LINES → HasWrong line scope kind →
+    HasBadLine whole n scope line kind
+is_wrong n line scope kind few h = inr (few, h.0, h.1)
 
 -- the bytes are these statements, where no line and no block is left
-pub read_whole : (b rest : List ℕ) (n : ℕ) (before : Before) (ss : List Statement) → length b ≤ MAX_SCRIPT → n ≤ MAX_LINES + 1 →
-    rest ≡ [] → HasRead b rest n before ss → before.blocks ≡ [] → ReadsBy whole b ss
-read_whole b rest n before ss small few e r closed = record {
+pub read_whole : (b rest : List ℕ) (n : ℕ) (scope : Scope) (ss : List Statement) → length b ≤ MAX_SCRIPT → n ≤ MAX_LINES + 1 →
+    rest ≡ [] → HasRead b rest n scope ss → scope.blocks ≡ [] → ReadsBy whole b ss
+read_whole b rest n scope ss small few e r closed = record {
   size = small;
   lines = r.front;
   split = subst (IsSplit b) (append-nil r.front) (r.split [] e);
@@ -192,11 +192,11 @@ read_whole b rest n before ss small few e r closed = record {
   closed = ap (λ x. x.blocks) r.leaves ∙ closed;
 }
 
-open_by : (b rest : List ℕ) (n at : ℕ) (before : Before) (ss : List Statement) (kind : RefusalKind) (blocks : List Block) →
-    length b ≤ MAX_SCRIPT → n ≤ MAX_LINES + 1 → rest ≡ [] → HasRead b rest n before ss → before.blocks ≡ blocks →
-    IsInnermostLeft blocks at kind → FlawBy whole b at kind
-open_by b rest n at before ss kind [] small few e r same h = absurd h
-open_by b rest n at before ss kind (block ∷ others) small few e r same h =
+open_by : (b rest : List ℕ) (n at : ℕ) (scope : Scope) (ss : List Statement) (kind : RefusalKind) (blocks : List Block) →
+    length b ≤ MAX_SCRIPT → n ≤ MAX_LINES + 1 → rest ≡ [] → HasRead b rest n scope ss → scope.blocks ≡ blocks →
+    IsInnermostOpen blocks at kind → FlawBy whole b at kind
+open_by b rest n at scope ss kind [] small few e r same h = absurd h
+open_by b rest n at scope ss kind (block ∷ others) small few e r same h =
     inr (inr (record {
       size = small;
       lines = r.front;
@@ -211,9 +211,9 @@ open_by b rest n at before ss kind (block ∷ others) small few e r same h =
     }))
 
 -- a block that is open where no line is left
-pub leaves_open : (b rest : List ℕ) (n at : ℕ) (before : Before) (ss : List Statement) (kind : RefusalKind) → length b ≤ MAX_SCRIPT →
-    n ≤ MAX_LINES + 1 → rest ≡ [] → HasRead b rest n before ss → IsInnermostLeft before.blocks at kind → FlawBy whole b at kind
-leaves_open b rest n at before ss kind small few e r h = open_by b rest n at before ss kind before.blocks small few e r refl h
+pub leaves_open : (b rest : List ℕ) (n at : ℕ) (scope : Scope) (ss : List Statement) (kind : RefusalKind) → length b ≤ MAX_SCRIPT →
+    n ≤ MAX_LINES + 1 → rest ≡ [] → HasRead b rest n scope ss → IsInnermostOpen scope.blocks at kind → FlawBy whole b at kind
+leaves_open b rest n at scope ss kind small few e r h = open_by b rest n at scope ss kind scope.blocks small few e r refl h
 
 -- nothing is left
 pub no_bytes : (xs : List ℕ) → length xs ≡ 0 → xs ≡ []
@@ -232,7 +232,7 @@ numbered_push (x ∷ xs) s h l = all_more (λ y. 1 ≤ line_of y) x (xs ++ s ∷
     (numbered_push xs s (λ k d lt. h (suc k) d (omega arith)) l)
 
 -- what a line adds has its number
-pub numbered_line : (n : ℕ) (line : List ℕ) (old new : Before) (ss grown : List Statement) → 1 ≤ n → All (λ x. 1 ≤ line_of x) ss →
+pub numbered_line : (n : ℕ) (line : List ℕ) (old new : Scope) (ss grown : List Statement) → 1 ≤ n → All (λ x. 1 ≤ line_of x) ss →
     Takes n line old new ss grown → All (λ x. 1 ≤ line_of x) grown
 numbered_line n line old new ss grown one h (None, t, e) = subst (All (λ x. 1 ≤ line_of x)) (sym (e ∙ append-nil ss)) h
 numbered_line n line old new ss grown one h (Some s, t, e) =

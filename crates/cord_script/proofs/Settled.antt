@@ -13,7 +13,7 @@ use Rattle.cord_syntax.specs.Lines.{line_of}
 use Rattle.cord_script.specs.Forms.{Term, terms_of, effect_of}
 use Rattle.cord_script.specs.Forms.Effect.{Stays}
 use Rattle.cord_script.specs.Forms.Term.{Target, Operand, Value, Literal, FilePath, Applies, Compares, Formats}
-use Rattle.cord_script.specs.Script.{Before, Block, IsAllowed, AreAllowed, kind_of, after, names_after, paths_after, blocks_after}
+use Rattle.cord_script.specs.Script.{Scope, Block, IsAllowed, AreAllowed, kind_of, after, names_after, paths_after, blocks_after}
 use Rattle.cord_script.specs.declared.refusals.RefusalKind.TheVariants.{WrongKind}
 use Rattle.cord_script.specs.Flaws.{first_of, unless, same_kind, assigned_flaw}
 use Rattle.cord_script.specs.inner.Fields.{term_of}
@@ -69,13 +69,13 @@ first_settled test names [] f h = refl
 first_settled test names (t ∷ ts) f h = ap (λ k. first_of k (first_term test ts)) (f t h.0) ∙ first_settled test names ts f h.1
 
 -- nothing is wrong with settled terms
-pub settled_right : (before : Before) (ts : List Term) → AllSettled before.names ts → terms_flaw before ts ≡ None
-settled_right before ts h =
-    let o = first_settled (operand_term_flaw before.names) before.names ts (λ t k. operand_settled before.names t k) h in
-    let t = first_settled (target_term_flaw before.names) before.names ts (λ t k. target_settled before.names t k) h in
-    let p = first_settled (path_term_flaw before.paths) before.names ts (λ t k. path_settled before.names before.paths t k) h in
-    ap (λ k. first_of k (first_of (first_term (target_term_flaw before.names) ts) (first_term (path_term_flaw before.paths) ts))) o
-    ∙ ap (λ k. first_of k (first_term (path_term_flaw before.paths) ts)) t ∙ p
+pub settled_right : (scope : Scope) (ts : List Term) → AllSettled scope.names ts → terms_flaw scope ts ≡ None
+settled_right scope ts h =
+    let o = first_settled (operand_term_flaw scope.names) scope.names ts (λ t k. operand_settled scope.names t k) h in
+    let t = first_settled (target_term_flaw scope.names) scope.names ts (λ t k. target_settled scope.names t k) h in
+    let p = first_settled (path_term_flaw scope.paths) scope.names ts (λ t k. path_settled scope.names scope.paths t k) h in
+    ap (λ k. first_of k (first_of (first_term (target_term_flaw scope.names) ts) (first_term (path_term_flaw scope.paths) ts))) o
+    ∙ ap (λ k. first_of k (first_term (path_term_flaw scope.paths) ts)) t ∙ p
 
 -- the names with one more, where it isn't known
 abbrev grown : List Known → List ℕ → Kind → Option Kind → List Known
@@ -113,11 +113,11 @@ settled_paths names paths [] h = refl
 settled_paths names paths (t ∷ ts) h = paths_stay names paths t ts h.0 ∙ settled_paths names paths ts h.1
 
 -- the lines before with other open blocks
-abbrev with_blocks : Before → List Block → Before
+abbrev with_blocks : Scope → List Block → Scope
 with_blocks old blocks = record { names = old.names; paths = old.paths; blocks = blocks }
 
 -- settled fields leave the blocks alone
-pub settled_left : (verb : Verb) (n : ℕ) (ps : List Field) (old : Before) (blocks : List Block) →
+pub settled_left : (verb : Verb) (n : ℕ) (ps : List Field) (old : Scope) (blocks : List Block) →
     AllSettled old.names (map term_of ps) → blocks ≡ blocks_after (verb_effect verb) n old.blocks →
     with_blocks old blocks ≡ context_after verb n ps old
 settled_left verb n ps old blocks h b =
@@ -126,38 +126,38 @@ settled_left verb n ps old blocks h b =
     cc
 
 -- a settled term is allowed
-term_allowed : (before : Before) (t : Term) → IsSettled before.names t → IsAllowed before t
-term_allowed before (Target kind name) h = inl h
-term_allowed before (Operand kind name) h = h
-term_allowed before (Value (Numeral v)) h = tt
-term_allowed before (Value (Named name)) h = h
-term_allowed before (Literal text) h = tt
-term_allowed before (FilePath path) h = absurd h
-term_allowed before (Applies function) h = tt
-term_allowed before (Compares relation) h = tt
-term_allowed before (Formats text) h = tt
+term_allowed : (scope : Scope) (t : Term) → IsSettled scope.names t → IsAllowed scope t
+term_allowed scope (Target kind name) h = inl h
+term_allowed scope (Operand kind name) h = h
+term_allowed scope (Value (Numeral v)) h = tt
+term_allowed scope (Value (Named name)) h = h
+term_allowed scope (Literal text) h = tt
+term_allowed scope (FilePath path) h = absurd h
+term_allowed scope (Applies function) h = tt
+term_allowed scope (Compares relation) h = tt
+term_allowed scope (Formats text) h = tt
 
-pub settled_allowed : (before : Before) (ts : List Term) → AllSettled before.names ts → AreAllowed before ts
-settled_allowed before [] h = tt
-settled_allowed before (t ∷ ts) h = (term_allowed before t h.0, settled_allowed before ts h.1)
+pub settled_allowed : (scope : Scope) (ts : List Term) → AllSettled scope.names ts → AreAllowed scope ts
+settled_allowed scope [] h = tt
+settled_allowed scope (t ∷ ts) h = (term_allowed scope t h.0, settled_allowed scope ts h.1)
 
 -- a statement of settled terms that leaves the blocks alone changes nothing
-pub settled_after : (before : Before) (s : Statement) → AllSettled before.names (terms_of s) → effect_of s ≡ Stays → after s before ≡ before
-settled_after before s h e =
+pub settled_after : (scope : Scope) (s : Statement) → AllSettled scope.names (terms_of s) → effect_of s ≡ Stays → after s scope ≡ scope
+settled_after scope s h e =
     ap (λ names. record {
       names = names;
-      paths = paths_after (terms_of s) before.paths;
-      blocks = blocks_after (effect_of s) (line_of s) before.blocks;
-    }) (settled_names before.names (terms_of s) h)
+      paths = paths_after (terms_of s) scope.paths;
+      blocks = blocks_after (effect_of s) (line_of s) scope.blocks;
+    }) (settled_names scope.names (terms_of s) h)
     ∙ ap (λ paths. record {
-      names = before.names;
+      names = scope.names;
       paths = paths;
-      blocks = blocks_after (effect_of s) (line_of s) before.blocks;
-    }) (settled_paths before.names before.paths (terms_of s) h)
+      blocks = blocks_after (effect_of s) (line_of s) scope.blocks;
+    }) (settled_paths scope.names scope.paths (terms_of s) h)
     ∙ ap (λ effect. record {
-      names = before.names;
-      paths = before.paths;
-      blocks = blocks_after effect (line_of s) before.blocks;
+      names = scope.names;
+      paths = scope.paths;
+      blocks = blocks_after effect (line_of s) scope.blocks;
     }) e
 
 settled_more : (names : List Known) (ps : List Field) (p : Field) → AllSettled names (map term_of ps) → IsSettled names (term_of p) →

@@ -6,54 +6,54 @@ use Rattle.cord_syntax.specs.declared.statements.Statement.{Statement}
 use Rattle.cord_script.specs.declared.refusals.RefusalKind.{RefusalKind}
 use Rattle.cord_script.specs.Words.{IsSplit, IsIdle, HasWords}
 use Rattle.cord_script.specs.Forms.{Grammar}
-use Rattle.cord_script.specs.Script.{Before, Block, Says, LinesSay, ReadsBy, start, after, after_all, whole, without_branches}
+use Rattle.cord_script.specs.Script.{Scope, Block, Says, LinesSay, ReadsBy, start, after, after_all, whole, without_branches}
 use Rattle.cord_script.specs.Script.Block.{InRepeat, InIf, InElse}
-use Rattle.cord_script.specs.Flaws.{HasBadWords, HasBadLine, StopsAt, IsLeft, FlawBy}
+use Rattle.cord_script.specs.Flaws.{HasBadWords, HasBadLine, StopsAt, IsLeftOpen, FlawBy}
 use Rattle.cord_script.proofs.Unique.{one_words, good_bytes, one_bad_bytes, one_split}
 use Rattle.cord_script.proofs.Stated.{good_words, one_bad_words, one_statement}
 
 -- lines say one list of statements
-one_saying : OneFormat → BadIsNoFormat → (g : Grammar) (n : ℕ) (before : Before) (lines : List (List ℕ)) (ss more : List Statement) →
-    LinesSay g n before lines ss → LinesSay g n before lines more → ss ≡ more
-one_saying one bad g n before [] ss more h k = h ∙ sym k
-one_saying one bad g n before (line ∷ lines) ss more (inl h) (inl k) = one_saying one bad g (n + 1) before lines ss more h.1 k.1
-one_saying one bad g n before (line ∷ lines) ss more (inl h) (inr k) = absurd (k.0 h.0)
-one_saying one bad g n before (line ∷ lines) ss more (inr h) (inl k) = absurd (h.0 k.0)
-one_saying one bad g n before (line ∷ lines) ss more (inr h) (inr k) =
+one_saying : OneFormat → BadIsNoFormat → (g : Grammar) (n : ℕ) (scope : Scope) (lines : List (List ℕ)) (ss more : List Statement) →
+    LinesSay g n scope lines ss → LinesSay g n scope lines more → ss ≡ more
+one_saying one bad g n scope [] ss more h k = h ∙ sym k
+one_saying one bad g n scope (line ∷ lines) ss more (inl h) (inl k) = one_saying one bad g (n + 1) scope lines ss more h.1 k.1
+one_saying one bad g n scope (line ∷ lines) ss more (inl h) (inr k) = absurd (k.0 h.0)
+one_saying one bad g n scope (line ∷ lines) ss more (inr h) (inl k) = absurd (h.0 k.0)
+one_saying one bad g n scope (line ∷ lines) ss more (inr h) (inr k) =
     let words = one_words line h.2 k.2 h.5 k.5 in
-    let s = one_statement one bad g n before h.2 h.1 k.1 h.6 (subst (λ ws. Says g n before ws k.1) (sym words) k.6) in
-    let rest = one_saying one bad g (n + 1) (after h.1 before) lines h.3 k.3 h.7
-    (subst (λ x. LinesSay g (n + 1) (after x before) lines k.3) (sym s) k.7) in
+    let s = one_statement one bad g n scope h.2 h.1 k.1 h.6 (subst (λ ws. Says g n scope ws k.1) (sym words) k.6) in
+    let rest = one_saying one bad g (n + 1) (after h.1 scope) lines h.3 k.3 h.7
+    (subst (λ x. LinesSay g (n + 1) (after x scope) lines k.3) (sym s) k.7) in
     h.4 ∙ ap (λ x. x ∷ h.3) s ∙ ap (λ x. k.1 ∷ x) rest ∙ sym k.4
 
 -- a line that says something isn't wrong
-says_fine : OneFormat → BadIsNoFormat → (g : Grammar) (n : ℕ) (before : Before) (line : List ℕ) (lines : List (List ℕ))
-    (ss : List Statement) (kind : RefusalKind) → n ≤ MAX_LINES → LinesSay g n before (line ∷ lines) ss → HasBadLine g n before line kind → ⊥
-says_fine one bad g n before line lines ss kind few h (inl w) = omega (arith, w.0)
-says_fine one bad g n before line lines ss kind few (inl h) (inr w) = w.1 h.0
-says_fine one bad g n before line lines ss kind few (inr h) (inr (m, shows, inl w)) = good_bytes line h.2 kind h.5 w
-says_fine one bad g n before line lines ss kind few (inr h) (inr (m, shows, inr w)) =
+says_fine : OneFormat → BadIsNoFormat → (g : Grammar) (n : ℕ) (scope : Scope) (line : List ℕ) (lines : List (List ℕ))
+    (ss : List Statement) (kind : RefusalKind) → n ≤ MAX_LINES → LinesSay g n scope (line ∷ lines) ss → HasBadLine g n scope line kind → ⊥
+says_fine one bad g n scope line lines ss kind few h (inl w) = omega (arith, w.0)
+says_fine one bad g n scope line lines ss kind few (inl h) (inr w) = w.1 h.0
+says_fine one bad g n scope line lines ss kind few (inr h) (inr (m, shows, inl w)) = good_bytes line h.2 kind h.5 w
+says_fine one bad g n scope line lines ss kind few (inr h) (inr (m, shows, inr w)) =
     let words = one_words line h.2 w.0 h.5 w.1 in
-    good_words one bad g n before h.2 h.1 kind h.6 (subst (λ ws. HasBadWords g before ws kind) (sym words) w.2)
+    good_words one bad g n scope h.2 h.1 kind h.6 (subst (λ ws. HasBadWords g scope ws kind) (sym words) w.2)
 
 -- lines that all say something are none of them wrong
-no_stop : OneFormat → BadIsNoFormat → (g : Grammar) (n m : ℕ) (before : Before) (front : List (List ℕ)) (line : List ℕ)
+no_stop : OneFormat → BadIsNoFormat → (g : Grammar) (n m : ℕ) (scope : Scope) (front : List (List ℕ)) (line : List ℕ)
     (later : List (List ℕ)) (ss more : List Statement) (kind : RefusalKind) → m ≡ n + length front → m ≤ MAX_LINES →
-    LinesSay g n before (front ++ line ∷ later) ss → LinesSay g n before front more → HasBadLine g m (after_all more before) line kind → ⊥
-no_stop one bad g n m before [] line later ss more kind e few h k w =
+    LinesSay g n scope (front ++ line ∷ later) ss → LinesSay g n scope front more → HasBadLine g m (after_all more scope) line kind → ⊥
+no_stop one bad g n m scope [] line later ss more kind e few h k w =
     let same : m ≡ n = omega arith in
-    says_fine one bad g n before line later ss kind (omega arith) h
-    (subst (λ x. HasBadLine g x before line kind) same (subst (λ x. HasBadLine g m (after_all x before) line kind) k w))
-no_stop one bad g n m before (x ∷ front) line later ss more kind e few (inl h) (inl k) w =
-    no_stop one bad g (n + 1) m before front line later ss more kind (omega arith) few h.1 k.1 w
-no_stop one bad g n m before (x ∷ front) line later ss more kind e few (inl h) (inr k) w = k.0 h.0
-no_stop one bad g n m before (x ∷ front) line later ss more kind e few (inr h) (inl k) w = h.0 k.0
-no_stop one bad g n m before (x ∷ front) line later ss more kind e few (inr h) (inr k) w =
+    says_fine one bad g n scope line later ss kind (omega arith) h
+    (subst (λ x. HasBadLine g x scope line kind) same (subst (λ x. HasBadLine g m (after_all x scope) line kind) k w))
+no_stop one bad g n m scope (x ∷ front) line later ss more kind e few (inl h) (inl k) w =
+    no_stop one bad g (n + 1) m scope front line later ss more kind (omega arith) few h.1 k.1 w
+no_stop one bad g n m scope (x ∷ front) line later ss more kind e few (inl h) (inr k) w = k.0 h.0
+no_stop one bad g n m scope (x ∷ front) line later ss more kind e few (inr h) (inl k) w = h.0 k.0
+no_stop one bad g n m scope (x ∷ front) line later ss more kind e few (inr h) (inr k) w =
     let words = one_words x h.2 k.2 h.5 k.5 in
-    let s = one_statement one bad g n before h.2 h.1 k.1 h.6 (subst (λ ws. Says g n before ws k.1) (sym words) k.6) in
-    no_stop one bad g (n + 1) m (after k.1 before) front line later h.3 k.3 kind (omega arith) few
-    (subst (λ y. LinesSay g (n + 1) (after y before) (front ++ line ∷ later) h.3) s h.7) k.7
-    (subst (λ y. HasBadLine g m (after_all y before) line kind) k.4 w)
+    let s = one_statement one bad g n scope h.2 h.1 k.1 h.6 (subst (λ ws. Says g n scope ws k.1) (sym words) k.6) in
+    no_stop one bad g (n + 1) m (after k.1 scope) front line later h.3 k.3 kind (omega arith) few
+    (subst (λ y. LinesSay g (n + 1) (after y scope) (front ++ line ∷ later) h.3) s h.7) k.7
+    (subst (λ y. HasBadLine g m (after_all y scope) line kind) k.4 w)
 
 line_within : (front : List (List ℕ)) (line : List ℕ) (later lines : List (List ℕ)) (n : ℕ) → front ++ line ∷ later ≡ lines →
     n ≡ length front + 1 → length lines ≤ MAX_LINES → n ≤ MAX_LINES
@@ -89,71 +89,72 @@ one_script one bad g b ss more r q =
     one_saying one bad g 1 start r.lines ss more r.say (subst (λ x. LinesSay g 1 start x more) lines q.say)
 
 -- a line has one first flaw
-one_bad_line : OneFormat → BadIsNoFormat → (g : Grammar) (n : ℕ) (before : Before) (line : List ℕ) (kind other : RefusalKind) →
-    HasBadLine g n before line kind → HasBadLine g n before line other → kind ≡ other
-one_bad_line one bad g n before line kind other (inl h) (inl k) = h.1 ∙ sym k.1
-one_bad_line one bad g n before line kind other (inl h) (inr k) = absurd (omega (arith, h.0, k.0))
-one_bad_line one bad g n before line kind other (inr h) (inl k) = absurd (omega (arith, h.0, k.0))
-one_bad_line one bad g n before line kind other (inr (m, shows, inl h)) (inr (m', shows', inl k)) = one_bad_bytes line kind other h k
-one_bad_line one bad g n before line kind other (inr (m, shows, inl h)) (inr (m', shows', inr k)) = absurd (good_bytes line k.0 kind k.1 h)
-one_bad_line one bad g n before line kind other (inr (m, shows, inr h)) (inr (m', shows', inl k)) = absurd (good_bytes line h.0 other h.1 k)
-one_bad_line one bad g n before line kind other (inr (m, shows, inr h)) (inr (m', shows', inr k)) =
+one_bad_line : OneFormat → BadIsNoFormat → (g : Grammar) (n : ℕ) (scope : Scope) (line : List ℕ) (kind other : RefusalKind) →
+    HasBadLine g n scope line kind → HasBadLine g n scope line other → kind ≡ other
+one_bad_line one bad g n scope line kind other (inl h) (inl k) = h.1 ∙ sym k.1
+one_bad_line one bad g n scope line kind other (inl h) (inr k) = absurd (omega (arith, h.0, k.0))
+one_bad_line one bad g n scope line kind other (inr h) (inl k) = absurd (omega (arith, h.0, k.0))
+one_bad_line one bad g n scope line kind other (inr (m, shows, inl h)) (inr (m', shows', inl k)) = one_bad_bytes line kind other h k
+one_bad_line one bad g n scope line kind other (inr (m, shows, inl h)) (inr (m', shows', inr k)) = absurd (good_bytes line k.0 kind k.1 h)
+one_bad_line one bad g n scope line kind other (inr (m, shows, inr h)) (inr (m', shows', inl k)) = absurd (good_bytes line h.0 other h.1 k)
+one_bad_line one bad g n scope line kind other (inr (m, shows, inr h)) (inr (m', shows', inr k)) =
     let words = one_words line h.0 k.0 h.1 k.1 in
-    one_bad_words one bad g before h.0 kind other h.2 (subst (λ ws. HasBadWords g before ws other) (sym words) k.2)
+    one_bad_words one bad g scope h.0 kind other h.2 (subst (λ ws. HasBadWords g scope ws other) (sym words) k.2)
 
-bad_number : (g : Grammar) (n : ℕ) (before : Before) (line : List ℕ) (kind : RefusalKind) → HasBadLine g n before line kind →
+bad_number : (g : Grammar) (n : ℕ) (scope : Scope) (line : List ℕ) (kind : RefusalKind) → HasBadLine g n scope line kind →
     n ≤ MAX_LINES + 1
-bad_number g n before line kind (inl h) = omega (arith, h.0)
-bad_number g n before line kind (inr h) = omega (arith, h.0)
+bad_number g n scope line kind (inl h) = omega (arith, h.0)
+bad_number g n scope line kind (inr h) = omega (arith, h.0)
 
 -- lines stop at one line
-one_stop : OneFormat → BadIsNoFormat → (g : Grammar) (n m k : ℕ) (before : Before) (front : List (List ℕ)) (line : List ℕ)
+one_stop : OneFormat → BadIsNoFormat → (g : Grammar) (n m k : ℕ) (scope : Scope) (front : List (List ℕ)) (line : List ℕ)
     (later : List (List ℕ)) (front' : List (List ℕ)) (line' : List ℕ) (later' : List (List ℕ)) (ss more : List Statement)
     (kind other : RefusalKind) → m ≡ n + length front → k ≡ n + length front' → front ++ line ∷ later ≡ front' ++ line' ∷ later' →
-    LinesSay g n before front ss → LinesSay g n before front' more → HasBadLine g m (after_all ss before) line kind →
-    HasBadLine g k (after_all more before) line' other → (m ≡ k) × (kind ≡ other)
-one_stop one bad g n m k before [] line later [] line' later' ss more kind other e f lines h h' w w' =
+    LinesSay g n scope front ss → LinesSay g n scope front' more → HasBadLine g m (after_all ss scope) line kind →
+    HasBadLine g k (after_all more scope) line' other → (m ≡ k) × (kind ≡ other)
+one_stop one bad g n m k scope [] line later [] line' later' ss more kind other e f lines h h' w w' =
     let same : line ≡ line' = cc in
     let numbers : k ≡ m = omega arith in
-    let here = subst (λ x. HasBadLine g m (after_all x before) line kind) h w in
-    let there = subst (λ x. HasBadLine g x before line' other) numbers
-    (subst (λ x. HasBadLine g k (after_all x before) line' other) h' w') in
-    (sym numbers, one_bad_line one bad g m before line kind other here (subst (λ x. HasBadLine g m before x other) (sym same) there))
-one_stop one bad g n m k before [] line later (y ∷ front') line' later' ss more kind other e f lines h h' w w' =
+    let here = subst (λ x. HasBadLine g m (after_all x scope) line kind) h w in
+    let there = subst (λ x. HasBadLine g x scope line' other) numbers
+    (subst (λ x. HasBadLine g k (after_all x scope) line' other) h' w') in
+    (sym numbers, one_bad_line one bad g m scope line kind other here (subst (λ x. HasBadLine g m scope x other) (sym same) there))
+one_stop one bad g n m k scope [] line later (y ∷ front') line' later' ss more kind other e f lines h h' w w' =
     let same : line ≡ y = cc in
     let number : m ≡ n = omega arith in
-    let few : n ≤ MAX_LINES = omega (arith, bad_number g k (after_all more before) line' other w') in
-    let here = subst (λ x. HasBadLine g x before line kind) number (subst (λ x. HasBadLine g m (after_all x before) line kind) h w) in
-    absurd (says_fine one bad g n before y front' more kind few h' (subst (λ x. HasBadLine g n before x kind) same here))
-one_stop one bad g n m k before (x ∷ front) line later [] line' later' ss more kind other e f lines h h' w w' =
+    let few : n ≤ MAX_LINES = omega (arith, bad_number g k (after_all more scope) line' other w') in
+    let here = subst (λ x. HasBadLine g x scope line kind) number (subst (λ x. HasBadLine g m (after_all x scope) line kind) h w) in
+    absurd (says_fine one bad g n scope y front' more kind few h' (subst (λ x. HasBadLine g n scope x kind) same here))
+one_stop one bad g n m k scope (x ∷ front) line later [] line' later' ss more kind other e f lines h h' w w' =
     let same : line' ≡ x = cc in
     let number : k ≡ n = omega arith in
-    let few : n ≤ MAX_LINES = omega (arith, bad_number g m (after_all ss before) line kind w) in
-    let there = subst (λ z. HasBadLine g z before line' other) number
-    (subst (λ z. HasBadLine g k (after_all z before) line' other) h' w') in
-    absurd (says_fine one bad g n before x front ss other few h (subst (λ z. HasBadLine g n before z other) same there))
-one_stop one bad g n m k before (x ∷ front) line later (y ∷ front') line' later' ss more kind other e f lines (inl h) (inl h') w w' =
+    let few : n ≤ MAX_LINES = omega (arith, bad_number g m (after_all ss scope) line kind w) in
+    let there = subst (λ z. HasBadLine g z scope line' other) number
+    (subst (λ z. HasBadLine g k (after_all z scope) line' other) h' w') in
+    absurd (says_fine one bad g n scope x front ss other few h (subst (λ z. HasBadLine g n scope z other) same there))
+one_stop one bad g n m k scope (x ∷ front) line later (y ∷ front') line' later' ss more kind other e f lines (inl h) (inl h') w w' =
     let others : front ++ line ∷ later ≡ front' ++ line' ∷ later' = cc in
-    one_stop one bad g (n + 1) m k before front line later front' line' later' ss more kind other (omega arith)
+    one_stop one bad g (n + 1) m k scope front line later front' line' later' ss more kind other (omega arith)
     (omega arith) others h.1 h'.1 w w'
-one_stop one bad g n m k before (x ∷ front) line later (y ∷ front') line' later' ss more kind other e f lines (inl h) (inr h') w w' =
+one_stop one bad g n m k scope (x ∷ front) line later (y ∷ front') line' later' ss more kind other e f lines (inl h) (inr h') w w' =
     let first : x ≡ y = cc in
     absurd (h'.0 (subst IsIdle first h.0))
-one_stop one bad g n m k before (x ∷ front) line later (y ∷ front') line' later' ss more kind other e f lines (inr h) (inl h') w w' =
+one_stop one bad g n m k scope (x ∷ front) line later (y ∷ front') line' later' ss more kind other e f lines (inr h) (inl h') w w' =
     let first : x ≡ y = cc in
     absurd (h.0 (subst IsIdle (sym first) h'.0))
-one_stop one bad g n m k before (x ∷ front) line later (y ∷ front') line' later' ss more kind other e f lines (inr h) (inr h') w w' =
+one_stop one bad g n m k scope (x ∷ front) line later (y ∷ front') line' later' ss more kind other e f lines (inr h) (inr h') w w' =
     let first : x ≡ y = cc in
     let others : front ++ line ∷ later ≡ front' ++ line' ∷ later' = cc in
     let words = one_words x h.2 h'.2 h.5 (subst (λ z. HasWords z h'.2) (sym first) h'.5) in
-    let s = one_statement one bad g n before h.2 h.1 h'.1 h.6 (subst (λ ws. Says g n before ws h'.1) (sym words) h'.6) in
-    one_stop one bad g (n + 1) m k (after h.1 before) front line later front' line' later' h.3 h'.3 kind other (omega arith)
-    (omega arith) others h.7 (subst (λ z. LinesSay g (n + 1) (after z before) front' h'.3) (sym s) h'.7)
-    (subst (λ z. HasBadLine g m (after_all z before) line kind) h.4 w)
-    (subst (λ z. HasBadLine g k (after_all h'.3 (after z before)) line' other) (sym s)
-    (subst (λ z. HasBadLine g k (after_all z before) line' other) h'.4 w'))
+    let s = one_statement one bad g n scope h.2 h.1 h'.1 h.6 (subst (λ ws. Says g n scope ws h'.1) (sym words) h'.6) in
+    one_stop one bad g (n + 1) m k (after h.1 scope) front line later front' line' later' h.3 h'.3 kind other (omega arith)
+    (omega arith) others h.7 (subst (λ z. LinesSay g (n + 1) (after z scope) front' h'.3) (sym s) h'.7)
+    (subst (λ z. HasBadLine g m (after_all z scope) line kind) h.4 w)
+    (subst (λ z. HasBadLine g k (after_all h'.3 (after z scope)) line' other) (sym s)
+    (subst (λ z. HasBadLine g k (after_all z scope) line' other) h'.4 w'))
 
-one_left : (block : Block) (m n : ℕ) (kind other : RefusalKind) → IsLeft block m kind → IsLeft block n other → (m ≡ n) × (kind ≡ other)
+one_left : (block : Block) (m n : ℕ) (kind other : RefusalKind) → IsLeftOpen block m kind → IsLeftOpen block n other →
+    (m ≡ n) × (kind ≡ other)
 one_left (InRepeat line) m n kind other h k = (h.0 ∙ sym k.0, h.1 ∙ sym k.1)
 one_left (InIf line) m n kind other h k = (h.0 ∙ sym k.0, h.1 ∙ sym k.1)
 one_left (InElse line) m n kind other h k = (h.0 ∙ sym k.0, h.1 ∙ sym k.1)
@@ -180,15 +181,15 @@ one_flaw one bad g b m n kind other (inr (inr h)) (inr (inr k)) =
     (subst (λ x. LinesSay g 1 start x k.statements) lines k.say) h.say in
     let blocks : h.block ∷ h.others ≡ k.block ∷ k.others = sym h.blocks ∙ ap (λ x. (after_all x start).blocks) (sym same) ∙ k.blocks in
     let block : h.block ≡ k.block = cc in
-    one_left h.block m n kind other h.left (subst (λ x. IsLeft x n other) (sym block) k.left)
+    one_left h.block m n kind other h.left (subst (λ x. IsLeftOpen x n other) (sym block) k.left)
 
 -- a line that says a statement without branches says it with them
-more_lines : (n : ℕ) (before : Before) (lines : List (List ℕ)) (ss : List Statement) → LinesSay without_branches n before lines ss →
-    LinesSay whole n before lines ss
-more_lines n before [] ss h = h
-more_lines n before (line ∷ lines) ss (inl h) = inl (h.0, more_lines (n + 1) before lines ss h.1)
-more_lines n before (line ∷ lines) ss (inr h) =
-    let says : Says whole n before h.2 h.1 = record {
+more_lines : (n : ℕ) (scope : Scope) (lines : List (List ℕ)) (ss : List Statement) → LinesSay without_branches n scope lines ss →
+    LinesSay whole n scope lines ss
+more_lines n scope [] ss h = h
+more_lines n scope (line ∷ lines) ss (inl h) = inl (h.0, more_lines (n + 1) scope lines ss h.1)
+more_lines n scope (line ∷ lines) ss (inr h) =
+    let says : Says whole n scope h.2 h.1 = record {
       has = refl;
       line = h.6.line;
       others = h.6.others;
@@ -198,7 +199,7 @@ more_lines n before (line ∷ lines) ss (inr h) =
       allowed = h.6.allowed;
       blocks = h.6.blocks;
     } in
-    inr (h.0, h.1, h.2, h.3, h.4, h.5, says, more_lines (n + 1) (after h.1 before) lines h.3 h.7)
+    inr (h.0, h.1, h.2, h.3, h.4, h.5, says, more_lines (n + 1) (after h.1 scope) lines h.3 h.7)
 
 -- a script that is read without branches is read with them
 pub with_branches : (b : List ℕ) (ss : List Statement) → ReadsBy without_branches b ss → ReadsBy whole b ss

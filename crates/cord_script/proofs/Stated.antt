@@ -29,7 +29,7 @@ use Rattle.cord_script.specs.Forms.Shape.{Words, Joined, Printed}
 use Rattle.cord_script.specs.Forms.Effect.{Stays, OpensRepeat, OpensIf, Turns, Closes}
 use Rattle.cord_script.specs.Forms.Term.{Target, Operand, Value, Literal, FilePath, Applies, Compares, Formats}
 use Rattle.cord_script.specs.Formats.{Converts, want_of_kind}
-use Rattle.cord_script.specs.Script.{Before, Block, Says, Suits, AreTerms, FitsBlocks}
+use Rattle.cord_script.specs.Script.{Scope, Block, Says, Suits, AreTerms, FitsBlocks}
 use Rattle.cord_script.specs.Flaws.{first_of, unless, misfit, first_pair, operand_flaw, word_target_flaw, word_path_flaw, is_count, cords}
 use Rattle.cord_script.specs.Flaws.{wants_of, words_flaw, else_flaw, block_flaw, names_flaw, form_flaw, HasFormat, HasFormFlaw, HasBadWords}
 use Rattle.cord_script.proofs.Checked.{neither}
@@ -201,29 +201,29 @@ block_none Closes [] h = absurd (h refl)
 block_none Closes (block ∷ blocks) h = refl
 
 -- words that say a statement have no flaw
-fine_form : (g : Grammar) (n : ℕ) (before : Before) (words : List Word) (s : Statement) (says : Says g n before words s)
-    (r : IsRightForm says.others s) → form_flaw r.form before r.formats says.others ≡ None
-fine_form g n before words s says r =
+fine_form : (g : Grammar) (n : ℕ) (scope : Scope) (words : List Word) (s : Statement) (says : Says g n scope words s)
+    (r : IsRightForm says.others s) → form_flaw r.form scope r.formats says.others ≡ None
+fine_form g n scope words s says r =
     let ts = terms_of s in
     let others = says.others in
     let xs = wants_of r.form.shape r.formats others in
-    let fit = r.words (pairs_none misfit before others ts (λ w t h a. term_fits w t before h a) says.terms says.allowed) in
-    let known : first_pair (operand_flaw before.names) xs others ≡ None =
-    ap (λ k. first_pair (operand_flaw before.names) k others) r.wants ∙ pairs_none (operand_flaw before.names) before others ts
-    (λ w t h a. term_known w t before h a) says.terms says.allowed in
-    let assigned : first_pair (word_target_flaw before.names) xs others ≡ None =
-    ap (λ k. first_pair (word_target_flaw before.names) k others) r.wants ∙ pairs_none (word_target_flaw before.names) before others ts
-    (λ w t h a. term_assigned w t before h a) says.terms says.allowed in
-    let opened : first_pair (word_path_flaw before.paths) xs others ≡ None =
-    ap (λ k. first_pair (word_path_flaw before.paths) k others) r.wants ∙ pairs_none (word_path_flaw before.paths) before others ts
-    (λ w t h a. term_opened w t before h a) says.terms says.allowed in
+    let fit = r.words (pairs_none misfit scope others ts (λ w t h a. term_fits w t scope h a) says.terms says.allowed) in
+    let known : first_pair (operand_flaw scope.names) xs others ≡ None =
+    ap (λ k. first_pair (operand_flaw scope.names) k others) r.wants ∙ pairs_none (operand_flaw scope.names) scope others ts
+    (λ w t h a. term_known w t scope h a) says.terms says.allowed in
+    let assigned : first_pair (word_target_flaw scope.names) xs others ≡ None =
+    ap (λ k. first_pair (word_target_flaw scope.names) k others) r.wants ∙ pairs_none (word_target_flaw scope.names) scope others ts
+    (λ w t h a. term_assigned w t scope h a) says.terms says.allowed in
+    let opened : first_pair (word_path_flaw scope.paths) xs others ≡ None =
+    ap (λ k. first_pair (word_path_flaw scope.paths) k others) r.wants ∙ pairs_none (word_path_flaw scope.paths) scope others ts
+    (λ w t h a. term_opened w t scope h a) says.terms says.allowed in
     all_none (unless (is_count r.form.shape (length others)) WrongCount) (words_flaw r.form.shape r.formats others)
-    (names_flaw before xs others) (block_flaw r.form.effect before.blocks)
+    (names_flaw scope xs others) (block_flaw r.form.effect scope.blocks)
     (ap (λ b. unless b WrongCount) r.count)
     fit
-    (three_none (first_pair (operand_flaw before.names) xs others) (first_pair (word_target_flaw before.names) xs others)
-    (first_pair (word_path_flaw before.paths) xs others) known assigned opened)
-    (ap (λ e. block_flaw e before.blocks) r.effect ∙ block_none (effect_of s) before.blocks says.blocks)
+    (three_none (first_pair (operand_flaw scope.names) xs others) (first_pair (word_target_flaw scope.names) xs others)
+    (first_pair (word_path_flaw scope.paths) xs others) known assigned opened)
+    (ap (λ e. block_flaw e scope.blocks) r.effect ∙ block_none (effect_of s) scope.blocks says.blocks)
 
 -- a text is a format in one way
 one_conversion : OneFormat → BadIsNoFormat → (text : List ℕ) (f f' : Option (List Want)) → Converts text f → Converts text f' → f ≡ f'
@@ -245,37 +245,37 @@ one_format one bad Printed (t ∷ Quoted text ∷ ws) f f' h h' = one_conversion
 in_grammar : (g : Grammar) (w : List ℕ) → g.has w ≡ true → form_in g w ≡ form_of w
 in_grammar g w h = ap (λ b. if b then form_of w else None) h
 
-flaw_at : (before : Before) (f : Option Form) (form : Form) (ws : List Word) (kind : RefusalKind) → f ≡ Some form →
-    HasFormFlaw before f ws kind → (formats : Option (List Want)) × HasFormat form.shape ws formats ×
-    (form_flaw form before formats ws ≡ Some kind)
-flaw_at before f form ws kind e h = subst (λ k. HasFormFlaw before k ws kind) e h
+flaw_at : (scope : Scope) (f : Option Form) (form : Form) (ws : List Word) (kind : RefusalKind) → f ≡ Some form →
+    HasFormFlaw scope f ws kind → (formats : Option (List Want)) × HasFormat form.shape ws formats ×
+    (form_flaw form scope formats ws ≡ Some kind)
+flaw_at scope f form ws kind e h = subst (λ k. HasFormFlaw scope k ws kind) e h
 
 -- words that say a statement have no flaw
-pub good_words : OneFormat → BadIsNoFormat → (g : Grammar) (n : ℕ) (before : Before) (words : List Word) (s : Statement)
-    (kind : RefusalKind) → Says g n before words s → HasBadWords g before words kind → ⊥
-good_words one bad g n before words s kind says h =
+pub good_words : OneFormat → BadIsNoFormat → (g : Grammar) (n : ℕ) (scope : Scope) (words : List Word) (s : Statement)
+    (kind : RefusalKind) → Says g n scope words s → HasBadWords g scope words kind → ⊥
+good_words one bad g n scope words s kind says h =
     let r = right_form says.others s says.terms says.suits in
-    let at = subst (λ ws. HasBadWords g before ws kind) says.word h in
-    let f = flaw_at before (form_in g (word_of s)) r.form says.others kind (in_grammar g (word_of s) says.has ∙ r.is) at in
+    let at = subst (λ ws. HasBadWords g scope ws kind) says.word h in
+    let f = flaw_at scope (form_in g (word_of s)) r.form says.others kind (in_grammar g (word_of s) says.has ∙ r.is) at in
     let formats = one_format one bad r.form.shape says.others f.0 r.formats f.1 r.has in
     let clash : None ≡ Some kind =
-    sym (fine_form g n before words s says r) ∙ ap (λ k. form_flaw r.form before k says.others) (sym formats) ∙ f.2 in
+    sym (fine_form g n scope words s says r) ∙ ap (λ k. form_flaw r.form scope k says.others) (sym formats) ∙ f.2 in
     cc
 
-one_form_flaw : OneFormat → BadIsNoFormat → (before : Before) (f : Option Form) (ws : List Word) (kind kind' : RefusalKind) →
-    HasFormFlaw before f ws kind → HasFormFlaw before f ws kind' → kind ≡ kind'
-one_form_flaw one bad before None ws kind kind' h h' = h ∙ sym h'
-one_form_flaw one bad before (Some form) ws kind kind' h h' =
+one_form_flaw : OneFormat → BadIsNoFormat → (scope : Scope) (f : Option Form) (ws : List Word) (kind kind' : RefusalKind) →
+    HasFormFlaw scope f ws kind → HasFormFlaw scope f ws kind' → kind ≡ kind'
+one_form_flaw one bad scope None ws kind kind' h h' = h ∙ sym h'
+one_form_flaw one bad scope (Some form) ws kind kind' h h' =
     let formats = one_format one bad form.shape ws h.0 h'.0 h.1 h'.1 in
-    let same : Some kind ≡ Some kind' = sym h.2 ∙ ap (λ k. form_flaw form before k ws) formats ∙ h'.2 in
+    let same : Some kind ≡ Some kind' = sym h.2 ∙ ap (λ k. form_flaw form scope k ws) formats ∙ h'.2 in
     cc
 
 -- words have one first flaw
-pub one_bad_words : OneFormat → BadIsNoFormat → (g : Grammar) (before : Before) (words : List Word) (kind kind' : RefusalKind) →
-    HasBadWords g before words kind → HasBadWords g before words kind' → kind ≡ kind'
-one_bad_words one bad g before [] kind kind' h h' = absurd h
-one_bad_words one bad g before (Quoted text ∷ ws) kind kind' h h' = h ∙ sym h'
-one_bad_words one bad g before (Plain p ∷ ws) kind kind' h h' = one_form_flaw one bad before (form_in g p) ws kind kind' h h'
+pub one_bad_words : OneFormat → BadIsNoFormat → (g : Grammar) (scope : Scope) (words : List Word) (kind kind' : RefusalKind) →
+    HasBadWords g scope words kind → HasBadWords g scope words kind' → kind ≡ kind'
+one_bad_words one bad g scope [] kind kind' h h' = absurd h
+one_bad_words one bad g scope (Quoted text ∷ ws) kind kind' h h' = h ∙ sym h'
+one_bad_words one bad g scope (Plain p ∷ ws) kind kind' h h' = one_form_flaw one bad scope (form_in g p) ws kind kind' h h'
 
 -- the pieces of a statement's format
 abbrev pieces_of : Statement → List Piece
@@ -560,9 +560,9 @@ made_is (Catn n target parts) = ap (λ k. Some (Catn n target k)) (names_back pa
 made_is (Sprintf n target text format arguments) = ap (λ k. Some (Sprintf n target text format k)) (arguments_back arguments)
 
 -- words say one statement
-pub one_statement : OneFormat → BadIsNoFormat → (g : Grammar) (n : ℕ) (before : Before) (words : List Word) (s s' : Statement) →
-    Says g n before words s → Says g n before words s' → s ≡ s'
-one_statement one bad g n before words s s' says says' =
+pub one_statement : OneFormat → BadIsNoFormat → (g : Grammar) (n : ℕ) (scope : Scope) (words : List Word) (s s' : Statement) →
+    Says g n scope words s → Says g n scope words s' → s ≡ s'
+one_statement one bad g n scope words s s' says says' =
     let whole : Plain (word_of s) ∷ says.others ≡ Plain (word_of s') ∷ says'.others = sym says.word ∙ says'.word in
     let word : word_of s ≡ word_of s' = cc in
     let others : says.others ≡ says'.others = cc in

@@ -23,7 +23,7 @@ use Rattle.cord_script.specs.Tests.{is_digit, is_letter, is_name, each, are_digi
 use Rattle.cord_script.specs.Tests.{relation_word}
 use Rattle.cord_script.specs.Forms.{Term}
 use Rattle.cord_script.specs.Forms.Term.{Target, Operand, Value, Literal, FilePath, Applies, Compares, Formats}
-use Rattle.cord_script.specs.Script.{Before, kind_of, is_among, IsTerm, AreTerms, IsAllowed, AreAllowed}
+use Rattle.cord_script.specs.Script.{Scope, kind_of, is_among, IsTerm, AreTerms, IsAllowed, AreAllowed}
 use Rattle.cord_script.specs.Flaws.{first_of, unless, misfit, first_pair, kind_flaw, same_kind, operand_flaw, number_flaw}
 use Rattle.cord_script.specs.Flaws.{plain_number_misfit, function_misfit, relation_misfit, name_misfit, number_misfit, text_misfit}
 use Rattle.cord_script.specs.Flaws.{path_misfit, assigned_flaw, word_target_flaw, word_path_flaw}
@@ -123,8 +123,8 @@ term_right w (Applies function) h = ap function_misfit h ∙ function_fits funct
 term_right w (Compares relation) h = ap relation_misfit h ∙ relation_fits relation
 term_right w (Formats text) h = ap text_misfit h
 
-pub term_fits : (w : Word) (t : Term) (before : Before) → IsTerm w t → IsAllowed before t → misfit (want_of t) w ≡ None
-term_fits w t before h a = term_right w t h
+pub term_fits : (w : Word) (t : Term) (scope : Scope) → IsTerm w t → IsAllowed scope t → misfit (want_of t) w ≡ None
+term_fits w t scope h a = term_right w t h
 
 pub numeral_known : (names : List Known) (p : List ℕ) (v : ℤ) → numeral_of p ≡ Some v → number_flaw names p ≡ None
 numeral_known names p v h = ap (λ b. if b then None else kind_flaw (kind_of names p) kinds.Number) (numeral_begins p v h)
@@ -134,17 +134,17 @@ named_known names p h k = ap (λ b. if b then None else kind_flaw (kind_of names
     ∙ right_kind (kind_of names p) kinds.Number k
 
 -- an operand that is allowed has no flaw
-pub term_known : (w : Word) (t : Term) (before : Before) → IsTerm w t → IsAllowed before t → operand_flaw before.names (want_of t) w ≡ None
-term_known w (Target kind name) before h a = refl
-term_known w (Operand kind name) before h a = ap (operand_flaw before.names (wants.Operand kind)) h.0
-    ∙ right_kind (kind_of before.names name) kind a
-term_known w (Value (Numeral v)) before h a = ap (operand_flaw before.names wants.Number) h.1 ∙ numeral_known before.names h.0 v h.2
-term_known w (Value (Named name)) before h a = ap (operand_flaw before.names wants.Number) h.0 ∙ named_known before.names name h.1 a
-term_known w (Literal text) before h a = refl
-term_known w (FilePath path) before h a = refl
-term_known w (Applies function) before h a = refl
-term_known w (Compares relation) before h a = refl
-term_known w (Formats text) before h a = refl
+pub term_known : (w : Word) (t : Term) (scope : Scope) → IsTerm w t → IsAllowed scope t → operand_flaw scope.names (want_of t) w ≡ None
+term_known w (Target kind name) scope h a = refl
+term_known w (Operand kind name) scope h a = ap (operand_flaw scope.names (wants.Operand kind)) h.0
+    ∙ right_kind (kind_of scope.names name) kind a
+term_known w (Value (Numeral v)) scope h a = ap (operand_flaw scope.names wants.Number) h.1 ∙ numeral_known scope.names h.0 v h.2
+term_known w (Value (Named name)) scope h a = ap (operand_flaw scope.names wants.Number) h.0 ∙ named_known scope.names name h.1 a
+term_known w (Literal text) scope h a = refl
+term_known w (FilePath path) scope h a = refl
+term_known w (Applies function) scope h a = refl
+term_known w (Compares relation) scope h a = refl
+term_known w (Formats text) scope h a = refl
 
 target_fine : (names : List Known) (name : List ℕ) (kind : Kind) → (kind_of names name ≡ Some kind) ⊎
     ((kind_of names name ≡ None) × (length names < MAX_NAMES)) → assigned_flaw (kind_of names name) kind (length names) ≡ None
@@ -153,17 +153,17 @@ target_fine names name kind (inr h) = ap (λ k. assigned_flaw k kind (length nam
     ∙ ap (λ b. unless b TooMany) (le-leb (suc (length names)) MAX_NAMES h.1)
 
 -- a target that is allowed has no flaw
-pub term_assigned : (w : Word) (t : Term) (before : Before) → IsTerm w t → IsAllowed before t →
-    word_target_flaw before.names (want_of t) w ≡ None
-term_assigned w (Target kind name) before h a = ap (word_target_flaw before.names (wants.Target kind)) h.0
-    ∙ target_fine before.names name kind a
-term_assigned w (Operand kind name) before h a = refl
-term_assigned w (Value number) before h a = refl
-term_assigned w (Literal text) before h a = refl
-term_assigned w (FilePath path) before h a = refl
-term_assigned w (Applies function) before h a = refl
-term_assigned w (Compares relation) before h a = refl
-term_assigned w (Formats text) before h a = refl
+pub term_assigned : (w : Word) (t : Term) (scope : Scope) → IsTerm w t → IsAllowed scope t →
+    word_target_flaw scope.names (want_of t) w ≡ None
+term_assigned w (Target kind name) scope h a = ap (word_target_flaw scope.names (wants.Target kind)) h.0
+    ∙ target_fine scope.names name kind a
+term_assigned w (Operand kind name) scope h a = refl
+term_assigned w (Value number) scope h a = refl
+term_assigned w (Literal text) scope h a = refl
+term_assigned w (FilePath path) scope h a = refl
+term_assigned w (Applies function) scope h a = refl
+term_assigned w (Compares relation) scope h a = refl
+term_assigned w (Formats text) scope h a = refl
 
 path_fine : (paths : List (List ℕ)) (path : List ℕ) → (is_among paths path ≡ true) ⊎ (length paths < MAX_PATHS) →
     unless (is_among paths path || nat_lt (length paths) MAX_PATHS) TooMany ≡ None
@@ -172,26 +172,26 @@ path_fine paths path (inr h) = ap (λ b. unless b TooMany) (either_right (is_amo
     (le-leb (suc (length paths)) MAX_PATHS h))
 
 -- a path that is allowed has no flaw
-pub term_opened : (w : Word) (t : Term) (before : Before) → IsTerm w t → IsAllowed before t →
-    word_path_flaw before.paths (want_of t) w ≡ None
-term_opened w (Target kind name) before h a = refl
-term_opened w (Operand kind name) before h a = refl
-term_opened w (Value number) before h a = refl
-term_opened w (Literal text) before h a = refl
-term_opened w (FilePath path) before h a = ap (word_path_flaw before.paths wants.Path) h.0 ∙ path_fine before.paths path a
-term_opened w (Applies function) before h a = refl
-term_opened w (Compares relation) before h a = refl
-term_opened w (Formats text) before h a = refl
+pub term_opened : (w : Word) (t : Term) (scope : Scope) → IsTerm w t → IsAllowed scope t →
+    word_path_flaw scope.paths (want_of t) w ≡ None
+term_opened w (Target kind name) scope h a = refl
+term_opened w (Operand kind name) scope h a = refl
+term_opened w (Value number) scope h a = refl
+term_opened w (Literal text) scope h a = refl
+term_opened w (FilePath path) scope h a = ap (word_path_flaw scope.paths wants.Path) h.0 ∙ path_fine scope.paths path a
+term_opened w (Applies function) scope h a = refl
+term_opened w (Compares relation) scope h a = refl
+term_opened w (Formats text) scope h a = refl
 
 -- terms of which none has a flaw
-pub pairs_none : (test : Want → Word → Option RefusalKind) (before : Before) (ws : List Word) (ts : List Term) →
-    ((w : Word) (t : Term) → IsTerm w t → IsAllowed before t → test (want_of t) w ≡ None) → AreTerms ws ts → AreAllowed before ts →
+pub pairs_none : (test : Want → Word → Option RefusalKind) (scope : Scope) (ws : List Word) (ts : List Term) →
+    ((w : Word) (t : Term) → IsTerm w t → IsAllowed scope t → test (want_of t) w ≡ None) → AreTerms ws ts → AreAllowed scope ts →
     first_pair test (map want_of ts) ws ≡ None
-pairs_none test before [] [] f h a = refl
-pairs_none test before [] (t ∷ ts) f h a = absurd h
-pairs_none test before (w ∷ ws) [] f h a = absurd h
-pairs_none test before (w ∷ ws) (t ∷ ts) f h a = ap (λ k. first_of k (first_pair test (map want_of ts) ws)) (f w t h.0 a.0)
-    ∙ pairs_none test before ws ts f h.1 a.1
+pairs_none test scope [] [] f h a = refl
+pairs_none test scope [] (t ∷ ts) f h a = absurd h
+pairs_none test scope (w ∷ ws) [] f h a = absurd h
+pairs_none test scope (w ∷ ws) (t ∷ ts) f h a = ap (λ k. first_of k (first_pair test (map want_of ts) ws)) (f w t h.0 a.0)
+    ∙ pairs_none test scope ws ts f h.1 a.1
 
 -- as many words as terms
 pub terms_count : (ws : List Word) (ts : List Term) → AreTerms ws ts → length ws ≡ length ts

@@ -6,7 +6,8 @@ use Rattle.cord_script.specs.declared.TheConstants.{MAX_TEXT}
 use Rattle.cord_script.specs.declared.refusals.RefusalKind.{RefusalKind}
 use Rattle.cord_script.specs.declared.words.Word.{Word}
 use Rattle.cord_script.specs.declared.words.Word.TheVariants.{Plain, Quoted}
-use Rattle.cord_script.specs.Words.{IsBlank, IsPlain, EndsPlain, StartsNoBlank, Spells, HasWord, StartsWith, IsBadText, BeginsBadText}
+use Rattle.cord_script.specs.Words.{IsBlank, IsPlain, EndsPlain, Spells, HasWord, StartsWith, IsBadText, BeginsBadText}
+use Rattle.cord_script.specs.inner.Words.{StartsNoBlank}
 use Rattle.cord_script.proofs.Lines.{parts}
 
 -- a quoted word that is none, after blanks

@@ -20,7 +20,7 @@ use Rattle.cord_script.specs.Tests.{each}
 use Rattle.cord_script.specs.Formats.{Converts}
 use Rattle.cord_script.specs.Forms.{form_of}
 use Rattle.cord_script.specs.inner.Reading.{unit_of}
-use Rattle.cord_script.specs.Script.{Before, Block, Says, LinesSay, ReadsBy, start, after, after_all, whole}
+use Rattle.cord_script.specs.Script.{Scope, Block, Says, LinesSay, ReadsBy, start, after, after_all, whole}
 use Rattle.cord_script.specs.Script.Block.{InRepeat, InIf}
 use Rattle.cord_script.specs.Flaws.{HasBadWords, HasBadLine, FlawBy}
 use Rattle.cord_script.specs.Rows.{Rows, quote}
@@ -48,10 +48,10 @@ says_something : (c : ℕ) (cs : List ℕ) (others : List Chunk) → IsLine c cs
 says_something c cs others h = not_idle c (cs ++ spelled others) h.shows h.no_note
 
 -- a line of which the words are wrong
-bad_line : (n : ℕ) (before : Before) (c : ℕ) (cs : List ℕ) (others : List Chunk) (kind : RefusalKind) → n ≤ MAX_LINES →
-    IsLine c cs others → HasBadWords whole before (chunk_words (Bare [] (c ∷ cs) ∷ others)) kind →
-    HasBadLine whole n before (spelled (Bare [] (c ∷ cs) ∷ others)) kind
-bad_line n before c cs others kind few h bad = inr (
+bad_line : (n : ℕ) (scope : Scope) (c : ℕ) (cs : List ℕ) (others : List Chunk) (kind : RefusalKind) → n ≤ MAX_LINES →
+    IsLine c cs others → HasBadWords whole scope (chunk_words (Bare [] (c ∷ cs) ∷ others)) kind →
+    HasBadLine whole n scope (spelled (Bare [] (c ∷ cs) ∷ others)) kind
+bad_line n scope c cs others kind few h bad = inr (
   few,
   says_something c cs others h,
   inr (chunk_words (Bare [] (c ∷ cs) ∷ others), words_well (Bare [] (c ∷ cs) ∷ others) h.words, bad),
@@ -323,9 +323,9 @@ else_chunks = plain 101 (codes "lse") []
 abbrev end_chunks : List Chunk
 end_chunks = plain 101 (codes "nd") []
 
-repeat_once : (n : ℕ) (before : Before) → length before.blocks < MAX_BLOCKS →
-    Says whole n before (chunk_words (repeat_chunks (codes "1"))) (Repeat n (Numeral (pos 1)))
-repeat_once n before few = record {
+repeat_once : (n : ℕ) (scope : Scope) → length scope.blocks < MAX_BLOCKS →
+    Says whole n scope (chunk_words (repeat_chunks (codes "1"))) (Repeat n (Numeral (pos 1)))
+repeat_once n scope few = record {
   has = refl;
   line = refl;
   others = Plain (codes "1") ∷ [];
@@ -336,9 +336,9 @@ repeat_once n before few = record {
   blocks = few;
 }
 
-repeat_twice : (n : ℕ) (before : Before) → length before.blocks < MAX_BLOCKS →
-    Says whole n before (chunk_words (repeat_chunks (codes "2"))) (Repeat n (Numeral (pos 2)))
-repeat_twice n before few = record {
+repeat_twice : (n : ℕ) (scope : Scope) → length scope.blocks < MAX_BLOCKS →
+    Says whole n scope (chunk_words (repeat_chunks (codes "2"))) (Repeat n (Numeral (pos 2)))
+repeat_twice n scope few = record {
   has = refl;
   line = refl;
   others = Plain (codes "2") ∷ [];
@@ -349,9 +349,9 @@ repeat_twice n before few = record {
   blocks = few;
 }
 
-if_says : (n : ℕ) (before : Before) → length before.blocks < MAX_BLOCKS →
-    Says whole n before (chunk_words if_chunks) (If n (Numeral (pos 1)) Equal (Numeral (pos 1)))
-if_says n before few = record {
+if_says : (n : ℕ) (scope : Scope) → length scope.blocks < MAX_BLOCKS →
+    Says whole n scope (chunk_words if_chunks) (If n (Numeral (pos 1)) Equal (Numeral (pos 1)))
+if_says n scope few = record {
   has = refl;
   line = refl;
   others = Plain (codes "1") ∷ Plain (codes "eq") ∷ Plain (codes "1") ∷ [];
@@ -362,9 +362,9 @@ if_says n before few = record {
   blocks = few;
 }
 
-else_says : (n m : ℕ) (before : Before) (blocks : List Block) → before.blocks ≡ InIf m ∷ blocks →
-    Says whole n before (chunk_words else_chunks) (Else n)
-else_says n m before blocks e = record {
+else_says : (n m : ℕ) (scope : Scope) (blocks : List Block) → scope.blocks ≡ InIf m ∷ blocks →
+    Says whole n scope (chunk_words else_chunks) (Else n)
+else_says n m scope blocks e = record {
   has = refl;
   line = refl;
   others = [];
@@ -375,8 +375,8 @@ else_says n m before blocks e = record {
   blocks = (m, blocks, e);
 }
 
-end_says : (n : ℕ) (before : Before) → before.blocks ≢ [] → Says whole n before (chunk_words end_chunks) (End n)
-end_says n before some = record {
+end_says : (n : ℕ) (scope : Scope) → scope.blocks ≢ [] → Says whole n scope (chunk_words end_chunks) (End n)
+end_says n scope some = record {
   has = refl;
   line = refl;
   others = [];
@@ -388,10 +388,10 @@ end_says n before some = record {
 }
 
 -- one more line that says a statement
-then_says : (n : ℕ) (before : Before) (c : ℕ) (cs : List ℕ) (ws : List (List ℕ)) (lines : List (List ℕ)) (s : Statement)
-    (ss : List Statement) → IsLine c cs (behind ws) → Says whole n before (chunk_words (plain c cs ws)) s →
-    LinesSay whole (n + 1) (after s before) lines ss → LinesSay whole n before (spelled (plain c cs ws) ∷ lines) (s ∷ ss)
-then_says n before c cs ws lines s ss h says rest = inr (
+then_says : (n : ℕ) (scope : Scope) (c : ℕ) (cs : List ℕ) (ws : List (List ℕ)) (lines : List (List ℕ)) (s : Statement)
+    (ss : List Statement) → IsLine c cs (behind ws) → Says whole n scope (chunk_words (plain c cs ws)) s →
+    LinesSay whole (n + 1) (after s scope) lines ss → LinesSay whole n scope (spelled (plain c cs ws) ∷ lines) (s ∷ ss)
+then_says n scope c cs ws lines s ss h says rest = inr (
   says_something c cs (behind ws) h,
   s,
   chunk_words (plain c cs ws),

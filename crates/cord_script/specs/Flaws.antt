@@ -21,7 +21,7 @@ use Rattle.cord_script.specs.Tests.{is_name, begins_numeral, numeral_of, is_path
 use Rattle.cord_script.specs.Forms.{Grammar, Shape, Form, Effect, form_in}
 use Rattle.cord_script.specs.Forms.Shape.{Words, Joined, Printed}
 use Rattle.cord_script.specs.Forms.Effect.{Stays, OpensRepeat, OpensIf, Turns, Closes}
-use Rattle.cord_script.specs.Script.{Before, Block, start, kind_of, is_among, after_all, LinesSay, whole}
+use Rattle.cord_script.specs.Script.{Scope, Block, start, kind_of, is_among, after_all, LinesSay, whole}
 use Rattle.cord_script.specs.Script.Block.{InRepeat, InIf, InElse}
 
 -- the first that is something
@@ -205,17 +205,17 @@ block_flaw Turns blocks = else_flaw blocks
 block_flaw Closes blocks = end_flaw blocks
 
 -- what is wrong with the names of a line: the operands, the target, the path
-abbrev pub names_flaw : Before → List Want → List Word → Option RefusalKind
-names_flaw before xs ws = first_of (operands_flaw before.names xs ws)
-    (first_of (target_flaw before.names xs ws) (path_flaw before.paths xs ws))
+abbrev pub names_flaw : Scope → List Want → List Word → Option RefusalKind
+names_flaw scope xs ws = first_of (operands_flaw scope.names xs ws)
+    (first_of (target_flaw scope.names xs ws) (path_flaw scope.paths xs ws))
 
 -- What is wrong with the words after a statement's word, in order: their number, the words, the names, the blocks.
-abbrev pub form_flaw : Form → Before → Option (List Want) → List Word → Option RefusalKind
-form_flaw form before formats ws =
+abbrev pub form_flaw : Form → Scope → Option (List Want) → List Word → Option RefusalKind
+form_flaw form scope formats ws =
     first_of (unless (is_count form.shape (length ws)) WrongCount)
     (first_of (words_flaw form.shape formats ws)
-    (first_of (names_flaw before (wants_of form.shape formats ws) ws)
-    (block_flaw form.effect before.blocks)))
+    (first_of (names_flaw scope (wants_of form.shape formats ws) ws)
+    (block_flaw form.effect scope.blocks)))
 
 -- what the conversions of the format of a `sprintf` want; no other statement has a format
 abbrev pub HasFormat : Shape → List Word → Option (List Want) → Type 0
@@ -223,23 +223,23 @@ HasFormat Printed (target ∷ Quoted text ∷ ws) formats = Converts text format
 HasFormat _ ws formats = formats ≡ None
 
 -- Kind 4 where a plain word is no statement's word; else what is wrong with the words after it.
-abbrev pub HasFormFlaw : Before → Option Form → List Word → RefusalKind → Type 0
-HasFormFlaw before None ws kind = kind ≡ UnknownStatement
-HasFormFlaw before (Some form) ws kind = (formats : Option (List Want)) × HasFormat form.shape ws formats ×
-    (form_flaw form before formats ws ≡ Some kind)
+abbrev pub HasFormFlaw : Scope → Option Form → List Word → RefusalKind → Type 0
+HasFormFlaw scope None ws kind = kind ≡ UnknownStatement
+HasFormFlaw scope (Some form) ws kind = (formats : Option (List Want)) × HasFormat form.shape ws formats ×
+    (form_flaw form scope formats ws ≡ Some kind)
 
 -- What is wrong with the words of a line. Kind 4 where the first word is quoted or no statement's word.
-abbrev pub HasBadWords : Grammar → Before → List Word → RefusalKind → Type 0
-HasBadWords g before [] kind = ⊥
-HasBadWords g before (Quoted text ∷ ws) kind = kind ≡ UnknownStatement
-HasBadWords g before (Plain p ∷ ws) kind = HasFormFlaw before (form_in g p) ws kind
+abbrev pub HasBadWords : Grammar → Scope → List Word → RefusalKind → Type 0
+HasBadWords g scope [] kind = ⊥
+HasBadWords g scope (Quoted text ∷ ws) kind = kind ≡ UnknownStatement
+HasBadWords g scope (Plain p ∷ ws) kind = HasFormFlaw scope (form_in g p) ws kind
 
 -- What is wrong with line n: a line numbered 65,537 is too much; else, where it isn't idle, first its bytes, then its words.
-abbrev pub HasBadLine : Grammar → ℕ → Before → List ℕ → RefusalKind → Type 0
-HasBadLine g n before line kind =
+abbrev pub HasBadLine : Grammar → ℕ → Scope → List ℕ → RefusalKind → Type 0
+HasBadLine g n scope line kind =
     ((n ≡ MAX_LINES + 1) × (kind ≡ TooBig))
     ⊎ ((n ≤ MAX_LINES) × (¬ IsIdle line) × (HasBadBytes line kind ⊎
-    ((words : List Word) × HasWords line words × HasBadWords g before words kind)))
+    ((words : List Word) × HasWords line words × HasBadWords g scope words kind)))
 
 -- First the size of the script.
 pub record IsTooBig (b : List ℕ) (n : ℕ) (kind : RefusalKind) : Type 0 where
@@ -260,10 +260,10 @@ pub record StopsAt (g : Grammar) (b : List ℕ) (n : ℕ) (kind : RefusalKind) :
   pub wrong : HasBadLine g n (after_all statements start) line kind
 
 -- Which kind an open block is at the end of the script: 13 at the line of a `repeat`, 18 at the line of an `if`.
-abbrev pub IsLeft : Block → ℕ → RefusalKind → Type 0
-IsLeft (InRepeat line) n kind = (n ≡ line) × (kind ≡ MissingEnd)
-IsLeft (InIf line) n kind = (n ≡ line) × (kind ≡ MissingIfEnd)
-IsLeft (InElse line) n kind = (n ≡ line) × (kind ≡ MissingIfEnd)
+abbrev pub IsLeftOpen : Block → ℕ → RefusalKind → Type 0
+IsLeftOpen (InRepeat line) n kind = (n ≡ line) × (kind ≡ MissingEnd)
+IsLeftOpen (InIf line) n kind = (n ≡ line) × (kind ≡ MissingIfEnd)
+IsLeftOpen (InElse line) n kind = (n ≡ line) × (kind ≡ MissingIfEnd)
 
 -- Last, by the innermost block that is open after all lines.
 pub record LeavesOpen (g : Grammar) (b : List ℕ) (n : ℕ) (kind : RefusalKind) : Type 0 where
@@ -276,7 +276,7 @@ pub record LeavesOpen (g : Grammar) (b : List ℕ) (n : ℕ) (kind : RefusalKind
   pub block : Block
   pub others : List Block
   pub blocks : (after_all statements start).blocks ≡ block ∷ others
-  pub left : IsLeft block n kind
+  pub left : IsLeftOpen block n kind
 
 -- The first thing wrong in a script's bytes, by a grammar, is of this kind at line n.
 abbrev pub FlawBy : Grammar → List ℕ → ℕ → RefusalKind → Type 0

@@ -5,7 +5,6 @@ pub mod Laws
 pub mod Refusals
 pub mod Rows
 pub mod Script
-pub mod Tables
 pub mod Tests
 pub mod Words
 pub mod inner

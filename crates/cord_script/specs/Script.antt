@@ -28,13 +28,13 @@ pub data Block : Type 0 where
 
 -- What the lines before a line leave: the names with their kinds, in the order of their first assignment, the
 -- distinct paths, and the open blocks, the innermost first.
-pub record Before : Type 0 where
+pub record Scope : Type 0 where
   pub names : List Known
   pub paths : List (List ℕ)
   pub blocks : List Block
 
 -- before the first line
-abbrev pub start : Before
+abbrev pub start : Scope
 start = record { names = []; paths = []; blocks = [] }
 
 -- The kind of a name is that of the first line that assigns it.
@@ -85,16 +85,16 @@ blocks_after Turns line blocks = turned blocks
 blocks_after Closes line blocks = closed blocks
 
 -- what a statement leaves
-abbrev pub after : Statement → Before → Before
-after s before = record {
-  names = names_after (terms_of s) before.names;
-  paths = paths_after (terms_of s) before.paths;
-  blocks = blocks_after (effect_of s) (line_of s) before.blocks;
+abbrev pub after : Statement → Scope → Scope
+after s scope = record {
+  names = names_after (terms_of s) scope.names;
+  paths = paths_after (terms_of s) scope.paths;
+  blocks = blocks_after (effect_of s) (line_of s) scope.blocks;
 }
 
-abbrev pub after_all : List Statement → Before → Before
-after_all [] before = before
-after_all (s ∷ ss) before = after_all ss (after s before)
+abbrev pub after_all : List Statement → Scope → Scope
+after_all [] scope = scope
+after_all (s ∷ ss) scope = after_all ss (after s scope)
 
 -- A word says this: a name; a numeral or a name; a quoted text, path or format; the word of a function or relation.
 abbrev pub IsTerm : Word → Term → Type 0
@@ -117,18 +117,18 @@ AreTerms (w ∷ ws) (t ∷ ts) = IsTerm w t × AreTerms ws ts
 
 -- An operand that is a name is assigned by an earlier line and has the wanted kind; a target has it, or is new where
 -- fewer than 256 names are known; a path is known, or new where fewer than 64 are.
-abbrev pub IsAllowed : Before → Term → Type 0
-IsAllowed before (Target kind name) = (kind_of before.names name ≡ Some kind) ⊎
-    ((kind_of before.names name ≡ None) × (length before.names < MAX_NAMES))
-IsAllowed before (Operand kind name) = kind_of before.names name ≡ Some kind
-IsAllowed before (Value (numbers.Numeral v)) = Unit {0}
-IsAllowed before (Value (numbers.Named name)) = kind_of before.names name ≡ Some kinds.Number
-IsAllowed before (FilePath path) = (is_among before.paths path ≡ true) ⊎ (length before.paths < MAX_PATHS)
-IsAllowed before _ = Unit {0}
+abbrev pub IsAllowed : Scope → Term → Type 0
+IsAllowed scope (Target kind name) = (kind_of scope.names name ≡ Some kind) ⊎
+    ((kind_of scope.names name ≡ None) × (length scope.names < MAX_NAMES))
+IsAllowed scope (Operand kind name) = kind_of scope.names name ≡ Some kind
+IsAllowed scope (Value (numbers.Numeral v)) = Unit {0}
+IsAllowed scope (Value (numbers.Named name)) = kind_of scope.names name ≡ Some kinds.Number
+IsAllowed scope (FilePath path) = (is_among scope.paths path ≡ true) ⊎ (length scope.paths < MAX_PATHS)
+IsAllowed scope _ = Unit {0}
 
-abbrev pub AreAllowed : Before → List Term → Type 0
-AreAllowed before [] = Unit {0}
-AreAllowed before (t ∷ ts) = IsAllowed before t × AreAllowed before ts
+abbrev pub AreAllowed : Scope → List Term → Type 0
+AreAllowed scope [] = Unit {0}
+AreAllowed scope (t ∷ ts) = IsAllowed scope t × AreAllowed scope ts
 
 -- A block opens where fewer than 8 are open; an `else` stands in an `if` that had none; an `end` closes an open block.
 abbrev pub FitsBlocks : Effect → List Block → Type 0
@@ -145,23 +145,23 @@ Suits (Sprintf line target text format arguments) = IsFormat text format × (map
 Suits _ = Unit {0}
 
 -- The words of line n say a statement of the grammar, after these lines.
-pub record Says (g : Grammar) (n : ℕ) (before : Before) (words : List Word) (s : Statement) : Type 0 where
+pub record Says (g : Grammar) (n : ℕ) (scope : Scope) (words : List Word) (s : Statement) : Type 0 where
   pub has : g.has (word_of s) ≡ true
   pub line : line_of s ≡ n
   pub others : List Word
   pub word : words ≡ Plain (word_of s) ∷ others
   pub terms : AreTerms others (terms_of s)
   pub suits : Suits s
-  pub allowed : AreAllowed before (terms_of s)
-  pub blocks : FitsBlocks (effect_of s) before.blocks
+  pub allowed : AreAllowed scope (terms_of s)
+  pub blocks : FitsBlocks (effect_of s) scope.blocks
 
 -- The lines from number n on say these statements: one for each line that isn't idle.
-abbrev pub LinesSay : Grammar → ℕ → Before → List (List ℕ) → List Statement → Type 0
-LinesSay g n before [] ss = ss ≡ []
-LinesSay g n before (line ∷ lines) ss =
-    (IsIdle line × LinesSay g (n + 1) before lines ss)
+abbrev pub LinesSay : Grammar → ℕ → Scope → List (List ℕ) → List Statement → Type 0
+LinesSay g n scope [] ss = ss ≡ []
+LinesSay g n scope (line ∷ lines) ss =
+    (IsIdle line × LinesSay g (n + 1) scope lines ss)
     ⊎ ((¬ IsIdle line) × (s : Statement) × (words : List Word) × (rest : List Statement) × (ss ≡ s ∷ rest) × HasWords line words ×
-    Says g n before words s × LinesSay g (n + 1) (after s before) lines rest)
+    Says g n scope words s × LinesSay g (n + 1) (after s scope) lines rest)
 
 -- The script's bytes are these statements, by a grammar: at most 1,048,576 bytes and 65,536 lines, each block closed.
 pub record ReadsBy (g : Grammar) (b : List ℕ) (ss : List Statement) : Type 0 where

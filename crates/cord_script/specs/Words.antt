@@ -1,5 +1,5 @@
 -- The lines of a script, and the words of a line.
-use Rattle.std.specs.Prelude.{◌≡◌, ◌≢◌, ℕ, ◌+◌, ◌*◌, ◌<◌, ◌≤◌, ◌⊎◌, List, [], ◌∷◌, ◌++◌, length, All, Option, Some, None}
+use Rattle.std.specs.Prelude.{◌≡◌, ◌≢◌, ℕ, ◌+◌, ◌*◌, ◌≤◌, ◌⊎◌, List, [], ◌∷◌, ◌++◌, length, All}
 use Rattle.cord_script.specs.declared.TheConstants.{MAX_TEXT}
 use Rattle.cord_script.specs.declared.words.Word.{Word}
 use Rattle.cord_script.specs.declared.words.Word.TheVariants.{Plain, Quoted}
@@ -83,12 +83,3 @@ BeginsBadText rest kind = (front inner : List ℕ) × All IsBlank front × (rest
 -- The bytes of a line have a flaw: after whole words a quoted word begins that is none.
 abbrev pub HasBadBytes : List ℕ → RefusalKind → Type 0
 HasBadBytes line kind = (words : List Word) × (rest : List ℕ) × StartsWith line words rest × BeginsBadText rest kind
-
--- the next word with what follows it, or none, where blanks alone are left
-abbrev pub HasNext : List ℕ → Option (Word × List ℕ) → Type 0
-HasNext line None = All IsBlank line
-HasNext line (Some (word, rest)) = HasWord line word rest × (length rest < length line)
-
-abbrev pub StartsNoBlank : List ℕ → Type 0
-StartsNoBlank [] = Unit {0}
-StartsNoBlank (c ∷ rest) = ¬ IsBlank c

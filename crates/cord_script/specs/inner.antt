@@ -3,8 +3,10 @@ pub mod Built
 pub mod ContextViews
 pub mod Contexts
 pub mod Fields
-pub mod Given
 pub mod Reading
 pub mod Settled
+pub mod SourceFields
 pub mod Steps
+pub mod Tables
 pub mod Verbal
+pub mod Words

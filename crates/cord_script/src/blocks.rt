@@ -2,7 +2,7 @@
 ghost use Rattle.std.specs.Prelude.{◌≡◌, ◌∷◌, [], map, IfErr, OnOk, MatchOption};
 ghost use Rattle.cord_script.specs.Script.{blocks_after, turned};
 ghost use Rattle.cord_script.specs.Flaws.{block_flaw, else_flaw};
-ghost use Rattle.cord_script.specs.inner.ContextViews.{block_of, IsInnermostLeft};
+ghost use Rattle.cord_script.specs.inner.ContextViews.{block_of, IsInnermostOpen};
 ghost use Rattle.cord_script.specs.inner.Verbal.{control_effect, verb_effect};
 
 use crate::verbs::{Control, FixedVerb, Verb};
@@ -104,7 +104,7 @@ pub fn set_blocks(verb: Verb, line: u32, blocks: &mut VecDeque<Open>) -> Result<
 /// What is wrong at the end of a script after these open blocks.
 pub fn open_flaw(blocks: &VecDeque<Open>) -> Option<Refusal>
     ensures { MatchOption result (map block_of blocks.now.items ≡ [])
-        (λ r. IsInnermostLeft (map block_of blocks.now.items) r.line r.kind) }
+        (λ r. IsInnermostOpen (map block_of blocks.now.items) r.line r.kind) }
 {
     match blocks.front() {
         None => None,

@@ -1,7 +1,7 @@
 // What the lines before a line leave, and what is wrong with a line after them.
 ghost use Rattle.std.specs.Prelude.{◌≡◌, map, IfErr, OnOk};
 ghost use Rattle.cord_script.specs.Script.{start, is_among, with_path, names_after, paths_after};
-ghost use Rattle.cord_script.specs.inner.ContextViews.{before_of, operand_term_flaw, target_term_flaw, path_term_flaw};
+ghost use Rattle.cord_script.specs.inner.ContextViews.{scope_of, operand_term_flaw, target_term_flaw, path_term_flaw};
 ghost use Rattle.cord_script.specs.inner.ContextViews.{term_flaw, first_term, terms_flaw};
 ghost use Rattle.cord_script.specs.inner.Contexts.{AreNamed};
 ghost use Rattle.cord_script.specs.inner.Fields.{term_of};
@@ -29,7 +29,7 @@ pub struct Context {
 impl Context {
     /// What stands before the first line.
     pub fn nothing(alloc: Global) -> Self
-        ensures { before_of result ≡ start }
+        ensures { scope_of result ≡ start }
     {
         Context {
             names: Table::nothing(alloc),
@@ -97,7 +97,7 @@ fn path_flaw(paths: &[Path], field: &Field) -> Option<RefusalKind>
 
 // What is wrong with a field in a pass.
 fn field_flaw(pass: Pass, context: &Context, field: &Field) -> Option<RefusalKind>
-    ensures { result ≡ term_flaw pass (before_of context.now) (term_of field.now) }
+    ensures { result ≡ term_flaw pass (scope_of context.now) (term_of field.now) }
 {
     match pass {
         Pass::Operands => operand_flaw(&context.names, field),
@@ -108,7 +108,7 @@ fn field_flaw(pass: Pass, context: &Context, field: &Field) -> Option<RefusalKin
 
 // The first that is wrong in a pass.
 fn first_flaw(pass: Pass, context: &Context, fields: &[Field]) -> Option<RefusalKind>
-    ensures { result ≡ first_term (term_flaw pass (before_of context.now)) (map term_of fields.now) }
+    ensures { result ≡ first_term (term_flaw pass (scope_of context.now)) (map term_of fields.now) }
 {
     for field in fields {
         if let Some(kind) = field_flaw(pass, context, field) {
@@ -120,7 +120,7 @@ fn first_flaw(pass: Pass, context: &Context, fields: &[Field]) -> Option<Refusal
 
 /// What is wrong with the names of a line: the operands, the target, the path.
 pub fn names_flaw(context: &Context, fields: &[Field]) -> Option<RefusalKind>
-    ensures { result ≡ terms_flaw (before_of context.now) (map term_of fields.now) }
+    ensures { result ≡ terms_flaw (scope_of context.now) (map term_of fields.now) }
 {
     if let Some(kind) = first_flaw(Pass::Operands, context, fields) {
         return Some(kind);

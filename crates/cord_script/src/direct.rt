@@ -3,7 +3,7 @@ ghost use Rattle.std.specs.Prelude.{◌≡◌, true, false, IfSome, Ok, IfOk, If
 ghost use Rattle.cord_script.specs.Words.{HasWord};
 ghost use Rattle.cord_script.specs.declared.words.Word.TheVariants.{Plain};
 ghost use Rattle.cord_script.specs.Forms.Effect.{Stays};
-ghost use Rattle.cord_script.specs.inner.ContextViews.{before_of};
+ghost use Rattle.cord_script.specs.inner.ContextViews.{scope_of};
 ghost use Rattle.cord_script.specs.inner.Settled.{SaysSettled};
 ghost use Rattle.cord_script.specs.inner.Steps.{Adds};
 ghost use Rattle.cord_script.specs.inner.Verbal.{verb_word, verb_effect};
@@ -107,7 +107,7 @@ pub fn take_settled(
     statements: &mut Vec<Statement>,
 ) -> Result<bool, RefusalKind>
     ensures adds { IfOk result
-        (λ taken. taken ≡ true → Adds number line.now (before_of context.now) statements.old.items
+        (λ taken. taken ≡ true → Adds number line.now (scope_of context.now) statements.old.items
         statements.new.items) }
     ensures keeps { IfOk result (λ taken. taken ≡ false → statements.new.items ≡ statements.old.items) }
     ensures flaw { IfErr result (λ kind. kind ≡ RefusalKind.NoMemory) }

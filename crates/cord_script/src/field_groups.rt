@@ -2,7 +2,7 @@
 ghost use Rattle.std.specs.Prelude.{◌≡◌, [], ◌∷◌, take, drop, IfOk, OnOk};
 ghost use Rattle.cord_script.specs.declared.kinds.Want.{Want};
 ghost use Rattle.cord_script.specs.Forms.Term.{Target, Operand, Value, FilePath};
-ghost use Rattle.cord_script.specs.inner.Given.{GivesAll, paired};
+ghost use Rattle.cord_script.specs.inner.SourceFields.{GivesAll, paired};
 
 use crate::field_source::FieldSource;
 use crate::kinds::{Kind, Want};
@@ -25,7 +25,7 @@ pub fn paired<A: Drop, B: Drop, E: Drop>(before: A, next: Result<B, E>) -> Resul
 pub fn target_and_path<F: FieldSource>(fields: &mut F) -> Result<(Name, Path), F::Error>
     requires { take 2 (F.wants fields.old) ≡ Want.Target Kind.Cord ∷ Want.Path ∷ [] }
     ensures left { OnOk result (F.wants fields.new ≡ drop 2 (F.wants fields.old)) }
-    ensures given { IfOk result (λ all. GivesAll F.gives fields.old
+    ensures gave { IfOk result (λ all. GivesAll F.gives fields.old
         (Target Kind.Cord all.0 ∷ FilePath all.1 ∷ []) fields.new) }
 {
     match fields.target(Kind::Cord) {
@@ -42,7 +42,7 @@ pub fn target_and_number<F: FieldSource>(
 ) -> Result<(Name, Number), F::Error>
     requires { take 2 (F.wants fields.old) ≡ Want.Target target ∷ Want.Number ∷ [] }
     ensures left { OnOk result (F.wants fields.new ≡ drop 2 (F.wants fields.old)) }
-    ensures given { IfOk result (λ all. GivesAll F.gives fields.old
+    ensures gave { IfOk result (λ all. GivesAll F.gives fields.old
         (Target target all.0 ∷ Value all.1 ∷ []) fields.new) }
 {
     match fields.target(target) {
@@ -60,7 +60,7 @@ pub fn target_and_operand<F: FieldSource>(
 ) -> Result<(Name, Name), F::Error>
     requires { take 2 (F.wants fields.old) ≡ Want.Target target ∷ Want.Operand operand ∷ [] }
     ensures left { OnOk result (F.wants fields.new ≡ drop 2 (F.wants fields.old)) }
-    ensures given { IfOk result (λ all. GivesAll F.gives fields.old
+    ensures gave { IfOk result (λ all. GivesAll F.gives fields.old
         (Target target all.0 ∷ Operand operand all.1 ∷ []) fields.new) }
 {
     match fields.target(target) {
@@ -77,7 +77,7 @@ pub fn target_and_numbers<F: FieldSource>(
 ) -> Result<((Name, Number), Number), F::Error>
     requires { take 3 (F.wants fields.old) ≡ Want.Target target ∷ Want.Number ∷ Want.Number ∷ [] }
     ensures left { OnOk result (F.wants fields.new ≡ drop 3 (F.wants fields.old)) }
-    ensures given { IfOk result (λ all. GivesAll F.gives fields.old
+    ensures gave { IfOk result (λ all. GivesAll F.gives fields.old
         (Target target all.0.0 ∷ Value all.0.1 ∷ Value all.1 ∷ []) fields.new) }
 {
     match target_and_number(target, fields) {
@@ -95,7 +95,7 @@ pub fn target_and_operands<F: FieldSource>(
     requires { take 3 (F.wants fields.old) ≡
         Want.Target target ∷ Want.Operand Kind.Cord ∷ Want.Operand Kind.Cord ∷ [] }
     ensures left { OnOk result (F.wants fields.new ≡ drop 3 (F.wants fields.old)) }
-    ensures given { IfOk result (λ all. GivesAll F.gives fields.old
+    ensures gave { IfOk result (λ all. GivesAll F.gives fields.old
         (Target target all.0.0 ∷ Operand Kind.Cord all.0.1 ∷ Operand Kind.Cord all.1 ∷ []) fields.new) }
 {
     match target_and_operand(target, Kind::Cord, fields) {
@@ -112,7 +112,7 @@ pub fn target_operand_number<F: FieldSource>(
 ) -> Result<((Name, Name), Number), F::Error>
     requires { take 3 (F.wants fields.old) ≡ Want.Target target ∷ Want.Operand Kind.Cord ∷ Want.Number ∷ [] }
     ensures left { OnOk result (F.wants fields.new ≡ drop 3 (F.wants fields.old)) }
-    ensures given { IfOk result (λ all. GivesAll F.gives fields.old
+    ensures gave { IfOk result (λ all. GivesAll F.gives fields.old
         (Target target all.0.0 ∷ Operand Kind.Cord all.0.1 ∷ Value all.1 ∷ []) fields.new) }
 {
     match target_and_operand(target, Kind::Cord, fields) {
@@ -130,7 +130,7 @@ pub fn target_operand_numbers<F: FieldSource>(
     requires { take 4 (F.wants fields.old) ≡
         Want.Target target ∷ Want.Operand Kind.Cord ∷ Want.Number ∷ Want.Number ∷ [] }
     ensures left { OnOk result (F.wants fields.new ≡ drop 4 (F.wants fields.old)) }
-    ensures given { IfOk result (λ all. GivesAll F.gives fields.old
+    ensures gave { IfOk result (λ all. GivesAll F.gives fields.old
         (Target target all.0.0.0 ∷ Operand Kind.Cord all.0.0.1 ∷ Value all.0.1 ∷ Value all.1 ∷ []) fields.new) }
 {
     match target_operand_number(target, fields) {
@@ -148,7 +148,7 @@ pub fn target_operand_number_operand<F: FieldSource>(
     requires { take 4 (F.wants fields.old) ≡
         Want.Target target ∷ Want.Operand Kind.Cord ∷ Want.Number ∷ Want.Operand Kind.Cord ∷ [] }
     ensures left { OnOk result (F.wants fields.new ≡ drop 4 (F.wants fields.old)) }
-    ensures given { IfOk result (λ all. GivesAll F.gives fields.old
+    ensures gave { IfOk result (λ all. GivesAll F.gives fields.old
         (Target target all.0.0.0 ∷ Operand Kind.Cord all.0.0.1 ∷ Value all.0.1 ∷ Operand Kind.Cord all.1 ∷ [])
         fields.new) }
 {
@@ -167,7 +167,7 @@ fn target_operand_shared<F: FieldSource>(
 ) -> Result<((Name, Name), Shared<Number>), F::Error>
     requires { take 3 (F.wants fields.old) ≡ Want.Target target ∷ Want.Operand Kind.Cord ∷ Want.Number ∷ [] }
     ensures left { OnOk result (F.wants fields.new ≡ drop 3 (F.wants fields.old)) }
-    ensures given { IfOk result (λ all. GivesAll F.gives fields.old
+    ensures gave { IfOk result (λ all. GivesAll F.gives fields.old
         (Target target all.0.0 ∷ Operand Kind.Cord all.0.1 ∷ Value all.1 ∷ []) fields.new) }
 {
     match target_and_operand(target, Kind::Cord, fields) {
@@ -186,7 +186,7 @@ pub fn target_operand_shared_operand<F: FieldSource>(
     requires { take 4 (F.wants fields.old) ≡
         Want.Target target ∷ Want.Operand Kind.Cord ∷ Want.Number ∷ Want.Operand Kind.Cord ∷ [] }
     ensures left { OnOk result (F.wants fields.new ≡ drop 4 (F.wants fields.old)) }
-    ensures given { IfOk result (λ all. GivesAll F.gives fields.old
+    ensures gave { IfOk result (λ all. GivesAll F.gives fields.old
         (Target target all.0.0.0 ∷ Operand Kind.Cord all.0.0.1 ∷ Value all.0.1 ∷ Operand Kind.Cord all.1 ∷ [])
         fields.new) }
 {

@@ -1,8 +1,8 @@
 // What a line says after the lines before it.
 ghost use Rattle.std.specs.Prelude.{◌≡◌, ◌≢◌, [], ◌∷◌, Some, map, IfOk, IfErr, MatchOption, OnOk};
 ghost use Rattle.cord_script.specs.Flaws.{HasFormFlaw, HasBadWords};
-ghost use Rattle.cord_script.specs.Script.{Before, whole};
-ghost use Rattle.cord_script.specs.inner.ContextViews.{before_of, terms_flaw};
+ghost use Rattle.cord_script.specs.Script.{Scope, whole};
+ghost use Rattle.cord_script.specs.inner.ContextViews.{scope_of, terms_flaw};
 ghost use Rattle.cord_script.specs.inner.Settled.{AreSettled};
 ghost use Rattle.cord_script.specs.inner.Building.{format_of, verb_of};
 ghost use Rattle.cord_script.specs.inner.Fields.{IsChecked, term_of};
@@ -25,7 +25,7 @@ use std::collections::VecDeque;
 // What is wrong with the names of a line, which are looked at only where they aren't settled.
 fn unsettled_flaw(context: &Context, settled: bool, fields: &[Field]) -> Option<RefusalKind>
     requires { AreSettled settled context.now.names fields.now }
-    ensures { result ≡ terms_flaw (before_of context.now) (map term_of fields.now) }
+    ensures { result ≡ terms_flaw (scope_of context.now) (map term_of fields.now) }
 {
     if settled {
         return None;
@@ -42,10 +42,10 @@ fn checked_fields(
     buffer: &mut Vec<Field>,
 ) -> Result<FieldList, RefusalKind>
     ensures fields { IfOk result (λ list. IsChecked (verb_form verb)
-        (before_of context.now) words.old.items list.fields.items (format_of list.builder)) }
+        (scope_of context.now) words.old.items list.fields.items (format_of list.builder)) }
     ensures builder { IfOk result (λ list. verb_of list.builder ≡ verb) }
     ensures flaw { IfErr result (λ kind. kind ≢ RefusalKind.NoMemory →
-        HasFormFlaw (before_of context.now) (Some (verb_form verb)) words.old.items kind) }
+        HasFormFlaw (scope_of context.now) (Some (verb_form verb)) words.old.items kind) }
     ensures settled { IfOk result (λ list. AreSettled list.settled context.now.names list.fields.items) }
 {
     let list = fields_of(alloc, &context.names, verb, words, buffer)?;
@@ -68,8 +68,8 @@ fn leave(
 ) -> Result<(), RefusalKind>
     requires settled { AreSettled settled context.old.names fields.now }
     requires named { AreNamed (map term_of fields.now) }
-    ensures context { OnOk result (before_of context.new
-        ≡ context_after verb number fields.now (before_of context.old)) }
+    ensures context { OnOk result (scope_of context.new
+        ≡ context_after verb number fields.now (scope_of context.old)) }
     ensures flaw { IfErr result (λ kind. kind ≡ RefusalKind.NoMemory) }
 {
     if settled {
@@ -83,7 +83,7 @@ fn leave(
 // The verb of the first word, which is taken.
 fn verb_in(words: &mut VecDeque<Word>) -> Option<Verb>
     requires { words.old.items ≢ [] }
-    ensures { MatchOption result ((before : Before) → HasBadWords whole before words.old.items
+    ensures { MatchOption result ((scope : Scope) → HasBadWords whole scope words.old.items
         RefusalKind.UnknownStatement) (λ verb. words.old.items ≡ Word.Plain (verb_word verb) ∷ words.new.items) }
 {
     match words.pop_front() {
@@ -102,9 +102,9 @@ pub fn read_statement(
     buffer: &mut Vec<Field>,
 ) -> Result<Statement, RefusalKind>
     requires { words.old.items ≢ [] }
-    ensures said { IfOk result (SaysAfter number (before_of context.old) (before_of context.new) words.old.items) }
+    ensures said { IfOk result (SaysAfter number (scope_of context.old) (scope_of context.new) words.old.items) }
     ensures flaw { IfErr result (λ kind. kind ≢ RefusalKind.NoMemory →
-        HasBadWords whole (before_of context.old) words.old.items kind) }
+        HasBadWords whole (scope_of context.old) words.old.items kind) }
 {
     let Some(verb) = verb_in(words) else {
         return Err(RefusalKind::UnknownStatement);

@@ -5,7 +5,7 @@ ghost use Rattle.cord_script.specs.Words.{IsBlank};
 ghost use Rattle.cord_script.specs.Tests.{is_name};
 ghost use Rattle.cord_script.specs.Forms.Term.{Operand};
 ghost use Rattle.cord_script.specs.Script.{kind_of};
-ghost use Rattle.cord_script.specs.inner.Given.{GivesAll};
+ghost use Rattle.cord_script.specs.inner.SourceFields.{GivesAll};
 ghost use Rattle.cord_script.specs.inner.Settled.{PassesWord, GivesSettled};
 
 use crate::kinds::Kind;
@@ -105,7 +105,7 @@ impl<'a> LineWords<'a> {
 
     /// The cords that the words that are left name, as many as a `catn` may have.
     pub fn cords(&mut self) -> Result<Names, Unsettled>
-        ensures given { IfOk result (λ names. GivesAll GivesSettled self.old (map (Operand Kind.Cord) names) self.new) }
+        ensures gave { IfOk result (λ names. GivesAll GivesSettled self.old (map (Operand Kind.Cord) names) self.new) }
         ensures low { IfOk result (λ names. MIN_PARTS ≤ length names) }
         ensures high { IfOk result (λ names. length names ≤ MAX_PARTS) }
         ensures done { OnOk result (All IsBlank self.new.rest) }

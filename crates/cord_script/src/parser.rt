@@ -5,7 +5,7 @@ ghost use Rattle.cord_script.specs.Words.{IsIdle, IsSplit};
 ghost use Rattle.cord_syntax.specs.Lines.{line_of};
 ghost use Rattle.cord_script.specs.Script.{Reads, ReadsUpTo};
 ghost use Rattle.cord_script.specs.Flaws.{Flaw};
-ghost use Rattle.cord_script.specs.inner.ContextViews.{before_of};
+ghost use Rattle.cord_script.specs.inner.ContextViews.{scope_of};
 ghost use Rattle.cord_script.specs.inner.Steps.{Takes, HasWrong};
 
 use crate::blocks::open_flaw;
@@ -55,9 +55,9 @@ fn take_words<'a>(
 ) -> Result<(), RefusalKind>
     requires { ¬ IsIdle line.now }
     ensures takes { OnOk result
-        (Takes number line.now (before_of context.old) (before_of context.new) statements.old.items
+        (Takes number line.now (scope_of context.old) (scope_of context.new) statements.old.items
         statements.new.items) }
-    ensures flaw { IfErr result (λ kind. kind ≢ RefusalKind.NoMemory → HasWrong line.now (before_of context.old) kind) }
+    ensures flaw { IfErr result (λ kind. kind ≢ RefusalKind.NoMemory → HasWrong line.now (scope_of context.old) kind) }
 {
     words_of(alloc, line, words)?;
     let statement = read_statement(alloc, number, context, words, buffer)?;
@@ -76,9 +76,9 @@ fn take_line<'a>(
     statements: &mut Vec<Statement>,
 ) -> Result<(), RefusalKind>
     ensures takes { OnOk result
-        (Takes number line.now (before_of context.old) (before_of context.new) statements.old.items
+        (Takes number line.now (scope_of context.old) (scope_of context.new) statements.old.items
         statements.new.items) }
-    ensures flaw { IfErr result (λ kind. kind ≢ RefusalKind.NoMemory → HasWrong line.now (before_of context.old) kind) }
+    ensures flaw { IfErr result (λ kind. kind ≢ RefusalKind.NoMemory → HasWrong line.now (scope_of context.old) kind) }
 {
     if take_settled(alloc, number, line, context, statements)? {
         return Ok(());

@@ -6,7 +6,7 @@ ghost use Rattle.cord_script.specs.inner.Fields.{want_of, next_want};
 ghost use Rattle.cord_script.specs.inner.Verbal.{fixed_wants};
 ghost use Rattle.cord_script.specs.inner.Building.{format_of, verb_of};
 ghost use Rattle.cord_script.specs.inner.Built.{IsJoined, IsPrintedAs, AreFieldsOf, IsStatementOf};
-ghost use Rattle.cord_script.specs.inner.Given.{IsBuilt};
+ghost use Rattle.cord_script.specs.inner.SourceFields.{IsBuilt};
 
 use crate::cursor::FieldCursor;
 use crate::field_groups::{
@@ -36,8 +36,8 @@ macro_rules! nested {
 
 // The statement of a variant, of fields that were asked for.
 macro_rules! statement {
-    ($line:ident, $variant:ident, ($($field:ident),+) = $given:expr) => {
-        match $given {
+    ($line:ident, $variant:ident, ($($field:ident),+) = $fields:expr) => {
+        match $fields {
             Ok(fields) => {
                 let nested!($($field)+) = fields;
                 Ok(Statement::$variant { line: $line, $($field),+ })

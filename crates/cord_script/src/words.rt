@@ -1,8 +1,9 @@
 // The words of a line.
 ghost use Rattle.std.specs.Prelude.{◌≡◌, ◌≢◌, ◌<◌, ◌≤◌, ℕ, List, [], ◌∷◌, ◌++◌, length, take, drop, All, IfOk, IfErr};
 ghost use Rattle.std.specs.Prelude.{OnOk, IfSome, MatchOption, option_map, IsTrue, false};
-ghost use Rattle.cord_script.specs.Words.{IsBlank, IsPlain, EndsPlain, StartsNoBlank, Spells, IsBadText, HasWord};
-ghost use Rattle.cord_script.specs.Words.{HasNext};
+ghost use Rattle.cord_script.specs.Words.{IsBlank, IsPlain, EndsPlain, Spells, IsBadText, HasWord};
+ghost use Rattle.cord_script.specs.inner.Words.{StartsNoBlank};
+ghost use Rattle.cord_script.specs.inner.Words.{HasNext};
 ghost use Rattle.cord_script.specs.Words.{BeginsBadText, HasWords, HasBadBytes};
 ghost use Rattle.std.specs.Str.{bytes_eq};
 ghost use Rattle.cord_script.specs.inner.Reading.{digit_of, hex_of, escape_of, unit_of};

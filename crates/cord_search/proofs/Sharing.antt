@@ -9,7 +9,8 @@ use Rattle.cord_node.specs.Tree.{Cell, cells, len_of}
 use Rattle.cord_node.specs.Tables.{bytes_over, lengths_of, Fits, byte_at}
 use Rattle.cord_node.proofs.TableLemmas.{bytes-cells}
 use Rattle.cord_core.specs.Cord.{bytes_of, CordFitsIn, CordFits}
-use Rattle.cord_pos.specs.Stretches.{IsWithin, stretch_len, stretch_bytes, IsStretchOf, IsFrontOf}
+use Rattle.cord_pos.specs.Stretches.{stretch_len, stretch_bytes, IsStretchOf, IsFrontOf}
+use Rattle.cord_pos.specs.inner.Stretches.{IsWithin}
 use Rattle.cord_search.specs.inner.Ahead.{IsSpotOf, AreAlike}
 use Rattle.cord_search.specs.inner.Pieces.{AreSame, IsPieceOf}
 use Rattle.cord_search.specs.inner.Stretches.{BeginAlike, IsPartOf}

@@ -2,7 +2,7 @@
 ghost use Rattle.std.specs.Prelude.{◌≡◌, ◌+◌, ◌<◌, ◌≤◌, true, IfSome, Some};
 ghost use Rattle.cord_core.specs.Cord.{text_len};
 ghost use Rattle.cord_node.specs.Tree.{len_of};
-ghost use Rattle.cord_pos.specs.Stretches.{IsWithin};
+ghost use Rattle.cord_pos.specs.inner.Stretches.{IsWithin};
 ghost use Rattle.cord_search.specs.inner.Ahead.{IsSpot, IsSpotOf, AreOneSpot, AreAlike, IsAhead};
 
 use crate::stretches::{begin_alike, hold_same, stretch_at};

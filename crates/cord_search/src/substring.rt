@@ -200,7 +200,7 @@ fn place_of_bytes<const M: usize, S: Source>(
     Ok(place)
 }
 
-// The same where it has more than `FRONT_LEN` bytes.
+// The first place of a text of more than `FRONT_LEN` bytes.
 #[inline(never)]
 fn place_of_long<S: Source>(
     x: &Cord,

@@ -19,7 +19,9 @@ use Rattle.clap.specs.declared.parser.matches.ArgMatches.{ArgMatches}
 use Rattle.clap.proofs.CallerLemmas.{required_in_chain}
 use Rattle.clap.proofs.OnLiterals.{clap_on_literals}
 use Rattle.clap.proofs.WalkLemmas.{first_value-rows, one_text-rows}
-use Rattle.cord_shell.specs.CommandLine.{IsKindOf, IsNoRequest, IsRequest, command, is_given}
+use Rattle.cord_shell.specs.CommandLine.{command, is_given}
+use Rattle.cord_shell.specs.inner.CommandLine.{IsNoRequest, IsRequest}
+use Rattle.cord_shell.specs.inner.CommandLine.{IsKindOf}
 use Rattle.cord_shell.specs.declared.words.NoRequest.{NoRequest}
 use Rattle.cord_shell.specs.declared.words.NoRequest.TheVariants.{Help, Refused, NoMemory}
 use Rattle.cord_shell.specs.declared.words.Request.{Request}

@@ -25,7 +25,8 @@ use Rattle.cord_shell.specs.Drives.{ComesTo, IsPlan, IsPlanText, IsWrong, Serves
 use Rattle.cord_shell.specs.Headline.{Answer, AnswersEnd, counts_of, err_counts_of, IsOut, MissesOver, RefusesOver, RunsOver}
 use Rattle.cord_shell.specs.Headline.{ShowsOver}
 use Rattle.cord_shell.specs.Outcomes.{line_text, message_of, status_of_outcome, status_of_refusal}
-use Rattle.cord_shell.specs.Tells.{SinkCounts, Tells}
+use Rattle.cord_io.specs.SinkCounts.{SinkCounts}
+use Rattle.cord_shell.specs.Tells.{Tells}
 use Rattle.cord_shell.specs.declared.outcome.Outcome.{Outcome}
 use Rattle.cord_shell.specs.declared.outcome.Outcome.TheVariants as outcomes
 use Rattle.cord_shell.specs.Drove.{Drove}

@@ -4,7 +4,8 @@ use Rattle.std.specs.declared.result.Result.{Result}
 use Rattle.std.specs.Prelude.{OnOk, OnErr}
 use Rattle.cord_io.specs.declared.faults.WriteFault.{WriteFault}
 use Rattle.cord_shell.specs.Outcomes.{line_text}
-use Rattle.cord_shell.specs.Tells.{SinkCounts, IsCut, IsWritten, Says, Tells}
+use Rattle.cord_io.specs.SinkCounts.{SinkCounts}
+use Rattle.cord_shell.specs.Tells.{IsCut, IsWritten, Says, Tells}
 
 -- what was told of a message
 pub said : (a c message : List ℕ) (n : SinkCounts) (r : Result (Unit {0}) WriteFault) → OnOk r (IsWritten message a c n) →

@@ -10,7 +10,7 @@ use Rattle.cord_script.specs.Script.{ReadsUpTo}
 use Rattle.cord_script.specs.declared.refusals.Refusal.{Refusal}
 use Rattle.cord_script.specs.declared.refusals.RefusalKind.TheVariants.{NoMemory}
 use Rattle.cord_shell.specs.Drives.{IsRun, IsShown, Serves}
-use Rattle.cord_shell.specs.Outcomes.{outcome_of}
+use Rattle.cord_shell.specs.inner.Outcomes.{outcome_of}
 use Rattle.cord_shell.specs.Tells.{sink_of}
 use Rattle.cord_shell.specs.declared.outcome.Outcome.{Outcome}
 use Rattle.cord_shell.specs.declared.outcome.Outcome.TheVariants as outcomes

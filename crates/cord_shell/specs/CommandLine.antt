@@ -9,10 +9,7 @@ use Rattle.clap.specs.Walk.{Rule, first_of, one_of}
 use Rattle.clap.specs.Simple.{App, matches_of, new_app, new_rule, on_top, with_rule}
 use Rattle.clap.specs.declared.builder.action.ArgAction.TheVariants.{Set, SetTrue}
 use Rattle.clap.specs.declared.error.kind.ErrorKind.{ErrorKind}
-use Rattle.clap.specs.declared.error.kind.ErrorKind.TheVariants.{DisplayHelp, OutOfMemory}
-use Rattle.cord_shell.specs.declared.words.NoRequest.{NoRequest}
-use Rattle.cord_shell.specs.declared.words.NoRequest.TheVariants as none
-use Rattle.cord_shell.specs.declared.words.Request.{Request}
+use Rattle.clap.specs.declared.error.kind.ErrorKind.TheVariants.{DisplayHelp}
 
 -- a flag, which takes no value
 abbrev pub flag_rule : List ℕ → Rule
@@ -50,18 +47,3 @@ AsksForHelp words = IsAmong DisplayHelp (fault_of command words)
 -- clap refuses the words
 abbrev pub IsRefused : List (List ℕ) → Type 0
 IsRefused words = (kind : ErrorKind) × (kind ≢ DisplayHelp) × IsAmong kind (fault_of command words)
-
-abbrev pub IsRequest : List (List ℕ) → Request → Type 0
-IsRequest words request = AsksFor words request.script.now request.unplanned request.show_plan
-
--- why there is no request; want of memory says nothing of the words
-abbrev pub IsNoRequest : List (List ℕ) → NoRequest → Type 0
-IsNoRequest words (none.Help text) = AsksForHelp words
-IsNoRequest words none.Refused = IsRefused words
-IsNoRequest words none.NoMemory = Unit {0}
-
--- what an error of this kind comes to
-abbrev pub IsKindOf : ErrorKind → NoRequest → Type 0
-IsKindOf kind (none.Help text) = kind ≡ DisplayHelp
-IsKindOf kind none.Refused = (kind ≢ DisplayHelp) × (kind ≢ OutOfMemory)
-IsKindOf kind none.NoMemory = Unit {0}

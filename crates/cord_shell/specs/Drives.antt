@@ -12,7 +12,8 @@ use Rattle.cord_plan.specs.Shown.{shown}
 use Rattle.cord_plan.specs.Unread.{IsLater}
 use Rattle.cord_run.specs.Runs.{Runs}
 use Rattle.cord_shell.specs.CommandLine.{AsksFor, AsksForHelp, IsRefused}
-use Rattle.cord_shell.specs.Tells.{SinkCounts, IsUntouched, IsWritten, IsCut, sink_of}
+use Rattle.cord_io.specs.SinkCounts.{SinkCounts}
+use Rattle.cord_shell.specs.Tells.{IsUntouched, IsWritten, IsCut, sink_of}
 use Rattle.cord_shell.specs.declared.outcome.Outcome.{Outcome}
 use Rattle.cord_shell.specs.declared.outcome.Outcome.TheVariants as outcomes
 

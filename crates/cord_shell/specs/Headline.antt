@@ -1,6 +1,7 @@
 -- What the program answers over the machine's devices, by all that they told.
 use Rattle.std.specs.Prelude.{◌≡◌, ◌⊎◌, ℕ, List, [], Bool}
 use Rattle.cord_io.specs.Device.{Folder, raised}
+use Rattle.cord_io.specs.declared.reading.Files as files
 use Rattle.cord_io.specs.declared.writing.Sink.{Ghosts}
 use Rattle.cord_meaning.specs.Ends.{Counts, EndsHonestly}
 use Rattle.cord_meaning.specs.Faults.{text_of as fault_text}
@@ -15,7 +16,8 @@ use Rattle.cord_script.specs.declared.refusals.Refusal.{Refusal}
 use Rattle.cord_syntax.specs.declared.statements.Statement.{Statement}
 use Rattle.cord_shell.specs.Drives.{IsPlan, IsQuiet, IsWrong}
 use Rattle.cord_shell.specs.Outcomes.{line_text, message_of_end, status_of_end, status_of_refusal}
-use Rattle.cord_shell.specs.Tells.{SinkCounts, IsCut, IsUntouched, IsWritten, Tells, sink_of}
+use Rattle.cord_io.specs.SinkCounts.{SinkCounts}
+use Rattle.cord_shell.specs.Tells.{IsCut, IsUntouched, IsWritten, Tells, sink_of}
 
 -- what a stream told: the bytes that it took, and how often it failed and ended
 pub record Stream : Type 0 where
@@ -32,6 +34,11 @@ pub record Answer : Type 0 where
   pub files_failed : ℕ
   pub out : Stream
   pub err : Stream
+
+-- what the program answered, by what its devices counted and took
+abbrev pub answer_of : {F O E : Type 0} → files.Ghosts F → Ghosts O → Ghosts E → ℕ → F → O → E → Answer
+answer_of f o e status opened out err =
+    record { status = status; files_failed = f.failures opened; out = stream o out; err = stream e err }
 
 -- the counts, of devices that began with none
 abbrev pub counts_of : Answer → Counts

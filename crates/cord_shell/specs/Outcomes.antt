@@ -1,20 +1,14 @@
 -- The status and the message of each outcome.
-use Rattle.std.specs.Prelude.{ℕ, List, [], ◌++◌, Result, Ok, Err, codes, decimal}
+use Rattle.std.specs.Prelude.{ℕ, List, [], ◌++◌, codes, decimal}
 use Rattle.cord_meaning.specs.declared.ends.End.{End}
 use Rattle.cord_meaning.specs.declared.ends.End.TheVariants.{Done, Fault, NoMemory, ReadFailed, WriteFailed}
 use Rattle.cord_meaning.specs.declared.ends.FaultKind.TheVariants.{NoFile}
 use Rattle.cord_meaning.specs.Faults.{text_of as fault_text}
-use Rattle.cord_script.specs.declared.refusals.Refusal.{Refusal}
 use Rattle.cord_script.specs.declared.refusals.RefusalKind.{RefusalKind}
 use Rattle.cord_script.specs.declared.refusals.RefusalKind.TheVariants as refusals
 use Rattle.cord_script.specs.Refusals.{text_of}
 use Rattle.cord_shell.specs.declared.outcome.Outcome.{Outcome}
 use Rattle.cord_shell.specs.declared.outcome.Outcome.TheVariants as outcomes
-
--- what a run comes to
-abbrev pub outcome_of : Result End Refusal → Outcome
-outcome_of (Ok end_) = outcomes.Ended end_
-outcome_of (Err refusal) = outcomes.Refused refusal
 
 -- the status of a run's end
 abbrev pub status_of_end : End → ℕ

@@ -1,15 +1,9 @@
--- What a sink got, and how often it failed and ended.
+-- What a sink got, and whether it failed and was ended.
 use Rattle.std.specs.Prelude.{◌≡◌, ◌⊎◌, ◌+◌, ℕ, List, [], ◌∷◌, ◌++◌}
 use Rattle.cord_io.specs.Device.{raised}
-use Rattle.cord_iter.specs.Taking.{IsFrontOf, Takes}
+use Rattle.cord_io.specs.SinkCounts.{SinkCounts}
+use Rattle.cord_iter.specs.Output.{IsFrontOf, Takes}
 use Rattle.cord_meaning.specs.Ends.{Counts}
-
--- how often a sink has failed and ended, before a call and after it
-pub record SinkCounts : Type 0 where
-  pub failed_before : ℕ
-  pub failed_after : ℕ
-  pub ended_before : ℕ
-  pub ended_after : ℕ
 
 -- those of the sink of a run
 abbrev pub sink_of : Counts → SinkCounts

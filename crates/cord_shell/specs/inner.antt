@@ -1,2 +1,3 @@
+pub mod CommandLine
 pub mod Files
-pub mod Sinks
+pub mod Outcomes

@@ -8,7 +8,7 @@ ghost use Rattle.cord_script.specs.Script.{Reads};
 ghost use Rattle.cord_syntax.specs.declared.statements.Statement.{Statement};
 ghost use Rattle.cord_shell.specs.CommandLine.{AsksFor};
 ghost use Rattle.cord_shell.specs.Drove.{Drove};
-ghost use Rattle.cord_shell.specs.Headline.{Answer, MissesOver, RefusesOver, RunsOver, ShowsOver, stream};
+ghost use Rattle.cord_shell.specs.Headline.{MissesOver, RefusesOver, RunsOver, ShowsOver, answer_of};
 
 use crate::program::drive;
 use cord_io::{DiskFiles, Files, Sink, StdSink};
@@ -55,49 +55,34 @@ pub fn run_on_machine<R: rt::Files, O: Write, E: Write>(
 ) -> Ran<R, O, E>
 where
     R::File: FileExt,
-    ensures drove { Drove (λ folder. Agrees folder (told_by result.files)) (map string_bytes words.now) (record {
-      status = result.status;
-      files_failed = ⟦<DiskFiles<R> as Files>⟧.failures result.files;
-      out = stream ⟦<StdSink<O> as Sink>⟧ result.out;
-      err = stream ⟦<StdSink<E> as Sink>⟧ result.err;
-    }) }
+    ensures drove { Drove (λ folder. Agrees folder (told_by result.files)) (map string_bytes words.now)
+        (answer_of ⟦<DiskFiles<R> as Files>⟧ ⟦<StdSink<O> as Sink>⟧ ⟦<StdSink<E> as Sink>⟧
+        result.status result.files result.out result.err) }
     ensures run { (folder : Folder) → Agrees folder (told_by result.files) →
         (path b : List ℕ) (unplanned : Bool) (statements : List Statement) →
         AsksFor (map string_bytes words.now) path unplanned false → file_at folder path ≡ Some b → Reads b statements →
-        RunsOver b statements folder (record {
-          status = result.status;
-          files_failed = ⟦<DiskFiles<R> as Files>⟧.failures result.files;
-          out = stream ⟦<StdSink<O> as Sink>⟧ result.out;
-          err = stream ⟦<StdSink<E> as Sink>⟧ result.err;
-        }) }
+        RunsOver b statements folder
+        (answer_of ⟦<DiskFiles<R> as Files>⟧ ⟦<StdSink<O> as Sink>⟧ ⟦<StdSink<E> as Sink>⟧
+        result.status result.files result.out result.err) }
     ensures shown { (folder : Folder) → Agrees folder (told_by result.files) →
         (path b : List ℕ) (unplanned : Bool) (statements : List Statement) →
         AsksFor (map string_bytes words.now) path unplanned true → file_at folder path ≡ Some b → Reads b statements →
-        ShowsOver unplanned b statements (record {
-          status = result.status;
-          files_failed = ⟦<DiskFiles<R> as Files>⟧.failures result.files;
-          out = stream ⟦<StdSink<O> as Sink>⟧ result.out;
-          err = stream ⟦<StdSink<E> as Sink>⟧ result.err;
-        }) }
+        ShowsOver unplanned b statements
+        (answer_of ⟦<DiskFiles<R> as Files>⟧ ⟦<StdSink<O> as Sink>⟧ ⟦<StdSink<E> as Sink>⟧
+        result.status result.files result.out result.err) }
     ensures refused { (folder : Folder) → Agrees folder (told_by result.files) →
         (path b : List ℕ) (unplanned show_plan : Bool) →
         AsksFor (map string_bytes words.now) path unplanned show_plan → file_at folder path ≡ Some b →
         ((statements : List Statement) → Reads b statements → ⊥) →
-        RefusesOver b (record {
-          status = result.status;
-          files_failed = ⟦<DiskFiles<R> as Files>⟧.failures result.files;
-          out = stream ⟦<StdSink<O> as Sink>⟧ result.out;
-          err = stream ⟦<StdSink<E> as Sink>⟧ result.err;
-        }) }
+        RefusesOver b
+        (answer_of ⟦<DiskFiles<R> as Files>⟧ ⟦<StdSink<O> as Sink>⟧ ⟦<StdSink<E> as Sink>⟧
+        result.status result.files result.out result.err) }
     ensures missing { (folder : Folder) → Agrees folder (told_by result.files) →
         (path : List ℕ) (unplanned show_plan : Bool) →
         AsksFor (map string_bytes words.now) path unplanned show_plan → file_at folder path ≡ None →
-        MissesOver (record {
-          status = result.status;
-          files_failed = ⟦<DiskFiles<R> as Files>⟧.failures result.files;
-          out = stream ⟦<StdSink<O> as Sink>⟧ result.out;
-          err = stream ⟦<StdSink<E> as Sink>⟧ result.err;
-        }) }
+        MissesOver
+        (answer_of ⟦<DiskFiles<R> as Files>⟧ ⟦<StdSink<O> as Sink>⟧ ⟦<StdSink<E> as Sink>⟧
+        result.status result.files result.out result.err) }
 {
     bytes_are_one_script();
     read_scripts_have_no_flaw();
@@ -114,12 +99,9 @@ fn drive_machine<R: rt::Files, O: Write, E: Write>(
 ) -> Ran<R, O, E>
 where
     R::File: FileExt,
-    ensures { Drove (λ folder. Agrees folder (told_by result.files)) (map string_bytes words.now) (record {
-      status = result.status;
-      files_failed = ⟦<DiskFiles<R> as Files>⟧.failures result.files;
-      out = stream ⟦<StdSink<O> as Sink>⟧ result.out;
-      err = stream ⟦<StdSink<E> as Sink>⟧ result.err;
-    }) }
+    ensures { Drove (λ folder. Agrees folder (told_by result.files)) (map string_bytes words.now)
+        (answer_of ⟦<DiskFiles<R> as Files>⟧ ⟦<StdSink<O> as Sink>⟧ ⟦<StdSink<E> as Sink>⟧
+        result.status result.files result.out result.err) }
 {
     let files = DiskFiles::new(runtime, alloc);
     let mut out = StdSink::new(stdout);

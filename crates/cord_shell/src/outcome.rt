@@ -1,9 +1,10 @@
 //! What a script came to, and what the program tells of it.
 ghost use Rattle.std.specs.Prelude.{◌≡◌, ◌≤◌, ◌∷◌, ◌++◌, [], codes, decimal, length, OnOk, OnErr};
-ghost use Rattle.cord_shell.specs.Outcomes.{line_text, message_of, message_of_end, outcome_of, status_of_end};
+ghost use Rattle.cord_io.specs.SinkCounts.{sink_counts};
+ghost use Rattle.cord_shell.specs.Outcomes.{line_text, message_of, message_of_end, status_of_end};
+ghost use Rattle.cord_shell.specs.inner.Outcomes.{outcome_of};
 ghost use Rattle.cord_shell.specs.Outcomes.{status_of_outcome};
-ghost use Rattle.cord_shell.specs.Tells.{SinkCounts, IsCut, IsWritten, Says, Tells};
-ghost use Rattle.cord_shell.specs.inner.Sinks.{sink_counts};
+ghost use Rattle.cord_shell.specs.Tells.{IsCut, IsWritten, Says, Tells};
 
 use arrayvec::ArrayString;
 use cord_io::{Sink, WriteFault};
@@ -147,12 +148,7 @@ fn report_end<T: Sink>(end: &End, err: &mut T)
 /// Tells what went wrong; where nothing did, nothing. A fault of `err` stops the message.
 pub fn report<T: Sink>(outcome: &Outcome, err: &mut T)
     ensures { Tells (T.taken err.old) (T.taken err.new)
-        (record {
-          failed_before = T.failures err.old;
-          failed_after = T.failures err.new;
-          ended_before = T.finished err.old;
-          ended_after = T.finished err.new;
-        }) (message_of outcome.now) }
+        (sink_counts ⟦<T as Sink>⟧ err.old err.new) (message_of outcome.now) }
 {
     match outcome {
         Outcome::Ended(end) => report_end(end, err),

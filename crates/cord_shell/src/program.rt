@@ -2,15 +2,14 @@
 ghost use Rattle.std.specs.Prelude.{◌≡◌, ◌<◌, ◌-◌, ◌^◌, false, true, map, IfOk, IsOkUnless, OnOk, OnErr};
 ghost use Rattle.std.specs.String.{string_bytes};
 ghost use Rattle.cord_io.specs.Device.{Folder};
-ghost use Rattle.cord_meaning.specs.Ends.{Counts};
+ghost use Rattle.cord_io.specs.SinkCounts.{sink_counts};
 ghost use Rattle.cord_plan.specs.Shown.{shown};
 ghost use Rattle.cord_plan.specs.Views.{operation_view};
 ghost use Rattle.cord_run.specs.Runs.{counts_over};
 ghost use Rattle.cord_shell.specs.Drives.{ComesTo, IsHelp, IsPlan, IsRun, IsShown, Serves};
 ghost use Rattle.cord_shell.specs.Outcomes.{message_of, status_of_outcome};
-ghost use Rattle.cord_shell.specs.Tells.{SinkCounts, IsCut, IsWritten, Tells};
+ghost use Rattle.cord_shell.specs.Tells.{IsCut, IsWritten, Tells};
 ghost use Rattle.cord_shell.specs.declared.outcome.Outcome.{Outcome};
-ghost use Rattle.cord_shell.specs.inner.Sinks.{sink_counts};
 
 use crate::outcome::{Outcome, report, write_text};
 use crate::reader::{Unread, read_whole};
@@ -165,23 +164,9 @@ pub fn drive<F: Files, S: Sink, T: Sink>(
     requires out_count { S.failures out.old < 2 ^ 64 - 1 }
     ensures drives { (outcome : Outcome)
         × ComesTo (F.keeps result.1) (map string_bytes words.now) (S.taken out.old) (S.taken out.new)
-        (record {
-          files_before = F.failures files;
-          files_after = F.failures result.1;
-          sink_before = S.failures out.old;
-          sink_after = S.failures out.new;
-          finished_before = S.finished out.old;
-          finished_after = S.finished out.new;
-        })
-        outcome
+        (counts_over ⟦<F as Files>⟧ ⟦<S as Sink>⟧ files result.1 out.old out.new) outcome
         × (result.0 ≡ status_of_outcome outcome)
-        × Tells (T.taken err.old) (T.taken err.new)
-        (record {
-          failed_before = T.failures err.old;
-          failed_after = T.failures err.new;
-          ended_before = T.finished err.old;
-          ended_after = T.finished err.new;
-        }) (message_of outcome) }
+        × Tells (T.taken err.old) (T.taken err.new) (sink_counts ⟦<T as Sink>⟧ err.old err.new) (message_of outcome) }
     ensures earlier { (folder : Folder) → F.keeps result.1 folder → F.keeps files folder }
 {
     let (outcome, files) = answer(alloc, words, files, out);

@@ -4,7 +4,9 @@ ghost use Rattle.std.specs.String.{string_bytes};
 ghost use Rattle.clap.specs.declared.parser.matches.ArgMatches.{ArgMatches};
 ghost use Rattle.clap.specs.Words.{IsParsedFrom, IsPlainArg, app_of, first_value, found_of, kind_of, one_text, rule_of};
 ghost use Rattle.clap.specs.Built.{TakesValue};
-ghost use Rattle.cord_shell.specs.CommandLine.{IsKindOf, IsNoRequest, IsRequest, command, flag_rule, is_given};
+ghost use Rattle.cord_shell.specs.CommandLine.{command, flag_rule, is_given};
+ghost use Rattle.cord_shell.specs.inner.CommandLine.{IsNoRequest, IsRequest};
+ghost use Rattle.cord_shell.specs.inner.CommandLine.{IsKindOf};
 ghost use Rattle.cord_shell.specs.CommandLine.{script_rule};
 
 use clap::error::ErrorKind;

@@ -67,10 +67,10 @@ impl<'a> Entry<'a> {
 }
 
 // Six hundred bytes, which can be read so often, and those before a place alone.
-pub(super) fn six_hundred(given: (u64, u64)) -> Entry<'static>
+pub(super) fn six_hundred(row: (u64, u64)) -> Entry<'static>
     ensures { 600 ≤ length result.bytes.now }
 {
-    let (reads, cut) = given;
+    let (reads, cut) = row;
     Entry {
         cut,
         ..Entry::new(&[120; 600], reads)

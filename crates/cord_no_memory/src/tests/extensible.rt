@@ -31,13 +31,13 @@ fn expect_ext(rt: &impl Abort, alloc: Global, ext: &mut ExtCord, text: &[u8], is
 
 // What an extensible cord has before it grows, and whether it is read where that is refused.
 #[derive(Drop)]
-struct Before<'a> {
+struct Contents<'a> {
     text: &'a [u8],
     is_read: bool,
 }
 
 // Appends a byte.
-fn add_byte(rt: &impl Abort, alloc: Global, ext: &mut ExtCord, before: &Before, byte: u8) {
+fn add_byte(rt: &impl Abort, alloc: Global, ext: &mut ExtCord, before: &Contents, byte: u8) {
     if is_refused(rt, ext.append(alloc, byte)) {
         expect_ext(rt, alloc, ext, before.text, before.is_read);
         ext.append(alloc, byte).expect(rt, "memory");
@@ -45,7 +45,7 @@ fn add_byte(rt: &impl Abort, alloc: Global, ext: &mut ExtCord, before: &Before, 
 }
 
 // Appends bytes.
-fn add_bytes(rt: &impl Abort, alloc: Global, ext: &mut ExtCord, before: &Before, bytes: &[u8]) {
+fn add_bytes(rt: &impl Abort, alloc: Global, ext: &mut ExtCord, before: &Contents, bytes: &[u8]) {
     if is_refused(rt, ext.append_bytes(alloc, bytes)) {
         expect_ext(rt, alloc, ext, before.text, before.is_read);
         ext.append_bytes(alloc, bytes).expect(rt, "memory");
@@ -53,7 +53,7 @@ fn add_bytes(rt: &impl Abort, alloc: Global, ext: &mut ExtCord, before: &Before,
 }
 
 // Appends the cord "de".
-fn add_cord(rt: &impl Abort, alloc: Global, ext: &mut ExtCord, before: &Before, cord: &Cord) {
+fn add_cord(rt: &impl Abort, alloc: Global, ext: &mut ExtCord, before: &Contents, cord: &Cord) {
     if is_refused(rt, ext.append_cord(alloc, cord)) {
         expect_ext(rt, alloc, ext, before.text, before.is_read);
         expect_text(rt, cord, b"de");
@@ -82,7 +82,7 @@ fn refused_ext_cord_calls(rt: HostRuntime) {
         &rt,
         alloc,
         &mut ext,
-        &Before {
+        &Contents {
             text: b"",
             is_read: true,
         },
@@ -93,7 +93,7 @@ fn refused_ext_cord_calls(rt: HostRuntime) {
         &rt,
         alloc,
         &mut ext,
-        &Before {
+        &Contents {
             text: b"a",
             is_read: true,
         },
@@ -110,7 +110,7 @@ fn outgrow(rt: &impl Abort, alloc: Global, full: &[u8], whole: &[u8], is_read: b
         rt,
         alloc,
         &mut ext,
-        &Before {
+        &Contents {
             text: full,
             is_read,
         },
@@ -133,7 +133,7 @@ fn grow(rt: &impl Abort, alloc: Global, text: &[u8], is_read: bool) {
         panic!(rt; "too short");
     };
     let mut ext = ext_of(rt, alloc, few);
-    add_bytes(rt, alloc, &mut ext, &Before { text: few, is_read }, many);
+    add_bytes(rt, alloc, &mut ext, &Contents { text: few, is_read }, many);
     expect_ext(rt, alloc, &mut ext, text, true);
 }
 
@@ -159,7 +159,7 @@ fn add_de(rt: &impl Abort, alloc: Global, cord: &Cord, is_read: bool) {
         rt,
         alloc,
         &mut ext,
-        &Before {
+        &Contents {
             text: b"abc",
             is_read,
         },

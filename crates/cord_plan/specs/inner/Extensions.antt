@@ -1,7 +1,7 @@
 -- Which operations of a plan are told to join what the one before them joins, and one member more.
 use Rattle.std.specs.Prelude.{◌≡◌, ℕ, Bool, true, List, Some, All, slice_get}
 use Rattle.cord_plan.specs.Extending.{Extends}
-use Rattle.cord_plan.specs.Kept.{KeepsNoOther}
+use Rattle.cord_plan.specs.Verbatim.{KeepsNoOther}
 use Rattle.cord_plan.specs.Planned.{Operation}
 
 -- where it is told of a place, the operation there extends the one before it

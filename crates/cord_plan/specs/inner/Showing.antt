@@ -4,7 +4,7 @@ use Rattle.std.specs.Result.{OnOk, OnErr}
 use Rattle.std.specs.declared.result.Result.{Result}
 use Rattle.cord_io.specs.Device.{raised}
 use Rattle.cord_io.specs.declared.faults.WriteFault.{WriteFault}
-use Rattle.cord_iter.specs.Taking.{IsFrontOf, Takes}
+use Rattle.cord_iter.specs.Output.{IsFrontOf, Takes}
 use Rattle.cord_plan.specs.Shown.{decimal, number, quoted, argument_words}
 use Rattle.cord_plan.specs.declared.shown.fragments.Fragment.{Fragment}
 use Rattle.cord_plan.specs.declared.shown.fragments.Fragment.TheVariants.{Plain, Name, Count, Number, Path, Arguments}

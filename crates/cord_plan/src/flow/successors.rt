@@ -82,12 +82,9 @@ pub(crate) fn shape_of(statement: &Statement) -> Shape
 pub(crate) fn is_block(statement: &Statement) -> bool
     ensures { result ≡ is_block (shape_of statement.now) }
 {
-    match statement {
-        Statement::Repeat { .. }
-        | Statement::If { .. }
-        | Statement::Else { .. }
-        | Statement::End { .. } => true,
-        _ => false,
+    match shape_of(statement) {
+        Shape::Simple => false,
+        Shape::Loop | Shape::Branch | Shape::Otherwise | Shape::Close => true,
     }
 }
 

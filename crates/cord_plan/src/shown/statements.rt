@@ -1,7 +1,8 @@
 // The text of statements that are kept.
 ghost use Rattle.std.specs.Prelude.{◌≡◌, ℕ, map};
 ghost use Rattle.cord_syntax.specs.Families.{statement_of};
-ghost use Rattle.cord_plan.specs.Shown.{called, counted, grows, relation, statement};
+ghost use Rattle.cord_plan.specs.Shown.{called, counted, grows, statement};
+ghost use Rattle.cord_script.specs.Tests.{relation_word};
 ghost use Rattle.cord_plan.specs.inner.Showing.{Writes, fragment_text};
 
 use super::fragments::Fragment::{Count, Name, Number, Plain};
@@ -234,7 +235,7 @@ fn put_counted<'a, W: Sink>(
 
 // The word for a relation.
 fn relation_word(compared: Relation) -> &'static [u8]
-    ensures { result.now ≡ relation compared }
+    ensures { result.now ≡ relation_word compared }
 {
     match compared {
         Relation::Less => b"lt",

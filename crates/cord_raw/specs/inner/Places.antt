@@ -4,7 +4,7 @@ use Rattle.cord_raw.specs.declared.block.Block.{Block}
 use Rattle.cord_raw.specs.declared.chain.Chain.{Chain}
 use Rattle.cord_raw.specs.declared.chain.Place.{Place}
 use Rattle.cord_raw.specs.inner.Blocks.{place_after}
-use Rattle.cord_raw.specs.Texts.{blocks_of}
+use Rattle.cord_raw.specs.inner.Texts.{blocks_of}
 
 -- the pointer of p leads to the block of the chain with p.index blocks before it
 abbrev pub IsPlaceOf : Chain → Place → Type 0

@@ -4,7 +4,7 @@ use Rattle.cord_io.specs.Device.{Folder}
 use Rattle.cord_io.specs.declared.reading.Files as files
 use Rattle.cord_io.specs.declared.sources.Source as sources
 use Rattle.cord_io.specs.declared.writing.Sink as sinks
-use Rattle.cord_iter.specs.Taking.{Counts}
+use Rattle.cord_iter.specs.Output.{Counts}
 
 -- files keep no folder after a call that they didn't keep before it
 abbrev pub KeepNoMore : {F : Type 0} → files.Ghosts F → F → F → Type 0

@@ -1,7 +1,7 @@
 // Where `repeat`, `if`, `else` and `end` lead.
 ghost use Rattle.std.specs.Prelude.{◌≡◌, ◌-◌, ◌^◌, ◌<◌, IfNone, IfSome};
 ghost use Rattle.cord_meaning.specs.Blocks.{Simple};
-ghost use Rattle.cord_meaning.specs.Simulation.{IsControl};
+ghost use Rattle.cord_meaning.specs.inner.Simulation.{IsControl};
 ghost use Rattle.cord_meaning.specs.Statements.{compares, shape_of};
 ghost use Rattle.cord_plan.specs.Meaning.{operation_shape};
 ghost use Rattle.cord_plan.specs.Planned as plan;

@@ -2,7 +2,7 @@
 ghost use Rattle.std.specs.Prelude.{◌≡◌, true, IfNone, IfSome};
 ghost use Rattle.cord_core.specs.Cord.{all_bytes, AllFitIn};
 ghost use Rattle.cord_io.specs.declared.TheConstants.{MAX_LEN};
-ghost use Rattle.cord_iter.specs.Taking.{CountsFaults, failures_of};
+ghost use Rattle.cord_iter.specs.Output.{CountsFaults, failures_of};
 ghost use Rattle.cord_plan.specs.Meaning.{all_texts, cords};
 ghost use Rattle.cord_plan.specs.Values.{text_in};
 ghost use Rattle.cord_plan.specs.Views.{expr_view};

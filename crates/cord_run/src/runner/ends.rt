@@ -1,6 +1,7 @@
 // The end of a run: what it is, how the output is ended, and which end is told.
 ghost use Rattle.std.specs.Prelude.{◌≡◌};
-ghost use Rattle.cord_run.specs.inner.Ends.{Closes, SinkCounts};
+ghost use Rattle.cord_io.specs.SinkCounts.{sink_counts};
+ghost use Rattle.cord_run.specs.inner.Ends.{Closes};
 ghost use Rattle.cord_run.specs.inner.Steps.{end_of_run};
 
 use crate::stops::{Stop, StopAt};
@@ -26,13 +27,7 @@ pub(crate) fn end_of_run(run: Result<(), StopAt>) -> End
 /// `WriteFailed(0)` where all was put and the sink couldn't finish.
 pub(crate) fn close_output<S: Sink>(own: End, sink: &mut S) -> End
     ensures taken { S.taken sink.new ≡ S.taken sink.old }
-    ensures closes { Closes
-        (record {
-          failed_before = S.failures sink.old;
-          failed_after = S.failures sink.new;
-          finished_before = S.finished sink.old;
-          finished_after = S.finished sink.new;
-        }) own result }
+    ensures closes { Closes (sink_counts ⟦<S as Sink>⟧ sink.old sink.new) own result }
 {
     match own {
         End::WriteFailed(_) => own,

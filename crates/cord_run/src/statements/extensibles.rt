@@ -129,7 +129,7 @@ fn taken(alloc: Global, store: &mut Store, name: &Name) -> Result<ExtCord, Stop>
 
 // Gives a name its extensible cord.
 fn give(alloc: Global, store: &mut Store, name: &Name, extensible: ExtCord) -> Result<(), Stop>
-    ensures given { IfOk result (λ _. HasExtensible name.now (Some extensible.text) store.old.entries.items
+    ensures has { IfOk result (λ _. HasExtensible name.now (Some extensible.text) store.old.entries.items
         store.new.entries.items) }
     ensures refused { IfErr result (λ stop. stop ≡ Stop.NoMemory) }
 {

@@ -276,7 +276,7 @@ pub(crate) fn difference(left: i64, right: i64) -> Result<i64, FaultKind>
 
 // Gives a name of a number its number.
 fn give_number(alloc: Global, store: &mut Store, target: &Name, number: i64) -> Result<(), Stop>
-    ensures given { IfOk result (λ _. HasNumber target.now number store.old.entries.items store.new.entries.items) }
+    ensures has { IfOk result (λ _. HasNumber target.now number store.old.entries.items store.new.entries.items) }
     ensures refused { IfErr result (λ stop. stop ≡ Stop.NoMemory) }
 {
     store.assign_number(alloc, target, number)?;

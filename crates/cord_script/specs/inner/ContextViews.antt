@@ -13,9 +13,9 @@ use Rattle.cord_script.specs.declared.refusals.RefusalKind.{RefusalKind}
 use Rattle.cord_script.specs.declared.refusals.RefusalKind.TheVariants.{TooMany}
 use Rattle.cord_script.specs.Forms.{Term}
 use Rattle.cord_script.specs.Forms.Term.{Target, Operand, Value, FilePath}
-use Rattle.cord_script.specs.Script.{Before, Block, kind_of, is_among}
+use Rattle.cord_script.specs.Script.{Scope, Block, kind_of, is_among}
 use Rattle.cord_script.specs.Script.Block.{InRepeat, InIf, InElse}
-use Rattle.cord_script.specs.Flaws.{first_of, unless, kind_flaw, assigned_flaw, IsLeft}
+use Rattle.cord_script.specs.Flaws.{first_of, unless, kind_flaw, assigned_flaw, IsLeftOpen}
 
 -- an open block
 abbrev pub block_of : Open → Block
@@ -24,13 +24,13 @@ block_of (blocks.If line) = InIf line
 block_of (blocks.Else line) = InElse line
 
 -- the innermost open block is told so at the end of a script
-abbrev pub IsInnermostLeft : List Block → ℕ → RefusalKind → Type 0
-IsInnermostLeft [] n kind = ⊥
-IsInnermostLeft (block ∷ blocks) n kind = IsLeft block n kind
+abbrev pub IsInnermostOpen : List Block → ℕ → RefusalKind → Type 0
+IsInnermostOpen [] n kind = ⊥
+IsInnermostOpen (block ∷ blocks) n kind = IsLeftOpen block n kind
 
 -- what the lines before leave
-abbrev pub before_of : Context → Before
-before_of left = record { names = left.names; paths = left.paths.items; blocks = map block_of left.blocks.items }
+abbrev pub scope_of : Context → Scope
+scope_of left = record { names = left.names; paths = left.paths.items; blocks = map block_of left.blocks.items }
 
 -- what is wrong with a term as an operand
 abbrev pub operand_term_flaw : List Known → Term → Option RefusalKind
@@ -49,10 +49,10 @@ path_term_flaw paths (FilePath path) = unless (is_among paths path || nat_lt (le
 path_term_flaw paths _ = None
 
 -- what is wrong with a term in a pass
-abbrev pub term_flaw : Pass → Before → Term → Option RefusalKind
-term_flaw passes.Operands before t = operand_term_flaw before.names t
-term_flaw passes.Target before t = target_term_flaw before.names t
-term_flaw passes.Paths before t = path_term_flaw before.paths t
+abbrev pub term_flaw : Pass → Scope → Term → Option RefusalKind
+term_flaw passes.Operands scope t = operand_term_flaw scope.names t
+term_flaw passes.Target scope t = target_term_flaw scope.names t
+term_flaw passes.Paths scope t = path_term_flaw scope.paths t
 
 -- the first that is wrong with terms, from left to right
 abbrev pub first_term : (Term → Option RefusalKind) → List Term → Option RefusalKind
@@ -60,6 +60,6 @@ first_term test [] = None
 first_term test (t ∷ ts) = first_of (test t) (first_term test ts)
 
 -- what is wrong with the names of a line: the operands, the target, the path
-abbrev pub terms_flaw : Before → List Term → Option RefusalKind
-terms_flaw before ts = first_of (first_term (term_flaw passes.Operands before) ts)
-    (first_of (first_term (term_flaw passes.Target before) ts) (first_term (term_flaw passes.Paths before) ts))
+abbrev pub terms_flaw : Scope → List Term → Option RefusalKind
+terms_flaw scope ts = first_of (first_term (term_flaw passes.Operands scope) ts)
+    (first_of (first_term (term_flaw passes.Target scope) ts) (first_term (term_flaw passes.Paths scope) ts))

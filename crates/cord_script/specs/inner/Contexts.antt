@@ -7,20 +7,20 @@ use Rattle.cord_syntax.specs.declared.statements.Statement.{Statement}
 use Rattle.cord_script.specs.Tests.{is_name}
 use Rattle.cord_script.specs.Forms.{Term}
 use Rattle.cord_script.specs.Forms.Term.{Target}
-use Rattle.cord_script.specs.Script.{Before, Says, whole, after, names_after, paths_after, blocks_after}
+use Rattle.cord_script.specs.Script.{Scope, Says, whole, after, names_after, paths_after, blocks_after}
 use Rattle.cord_script.specs.inner.Fields.{term_of}
 use Rattle.cord_script.specs.inner.Verbal.{verb_effect}
 
 -- what a line with this verb and these fields leaves
-abbrev pub context_after : Verb → ℕ → List Field → Before → Before
-context_after verb n ps before = record {
-  names = names_after (map term_of ps) before.names;
-  paths = paths_after (map term_of ps) before.paths;
-  blocks = blocks_after (verb_effect verb) n before.blocks;
+abbrev pub context_after : Verb → ℕ → List Field → Scope → Scope
+context_after verb n ps scope = record {
+  names = names_after (map term_of ps) scope.names;
+  paths = paths_after (map term_of ps) scope.paths;
+  blocks = blocks_after (verb_effect verb) n scope.blocks;
 }
 
 -- what the words of line n say after these lines, and what is left after it
-pub record SaysAfter (n : ℕ) (old new : Before) (words : List Word) (s : Statement) : Type 0 where
+pub record SaysAfter (n : ℕ) (old new : Scope) (words : List Word) (s : Statement) : Type 0 where
   pub says : Says whole n old words s
   pub leaves : after s old ≡ new
 

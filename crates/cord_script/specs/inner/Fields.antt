@@ -18,7 +18,7 @@ use Rattle.cord_script.specs.Forms.Term.{Target, Operand, Value, Literal, FilePa
 use Rattle.cord_script.specs.Forms.{Shape, Form}
 use Rattle.cord_script.specs.Forms.Shape.{Printed}
 use Rattle.cord_script.specs.Formats.{wants_of_pieces}
-use Rattle.cord_script.specs.Script.{Before, IsTerm, AreTerms, AreAllowed, FitsBlocks}
+use Rattle.cord_script.specs.Script.{Scope, IsTerm, AreTerms, AreAllowed, FitsBlocks}
 use Rattle.cord_script.specs.Flaws.{first_of, unless, is_count, first_misfit, words_flaw, wants_of, HasFormat}
 
 -- what a term has to be
@@ -105,7 +105,7 @@ HasFieldFlaw shape ws kind = (formats : Option (List Want)) × HasFormat shape w
     (first_of (unless (is_count shape (length ws)) WrongCount) (words_flaw shape formats ws) ≡ Some kind)
 
 -- nothing is wrong with the words after a statement's word, which say these fields
-pub record IsChecked (form : Form) (before : Before) (ws : List Word) (ps : List Field) (format : Option (List Piece)) : Type 0 where
+pub record IsChecked (form : Form) (scope : Scope) (ws : List Word) (ps : List Field) (format : Option (List Piece)) : Type 0 where
   pub says : AreFields form.shape ws ps format
-  pub allowed : AreAllowed before (map term_of ps)
-  pub fits : FitsBlocks form.effect before.blocks
+  pub allowed : AreAllowed scope (map term_of ps)
+  pub fits : FitsBlocks form.effect scope.blocks

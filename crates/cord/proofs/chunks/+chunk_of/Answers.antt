@@ -5,7 +5,7 @@ use Rattle.cord_node.specs.Tree.{len_of}
 use Rattle.cord_node.specs.Tables.{bytes_over}
 use Rattle.cord_iter.proofs.Walks.{range_rest}
 use Rattle.cord.specs.Plain.{no_table}
-use Rattle.cord.specs.Chunks.{IsChunkAt}
+use Rattle.cord.specs.inner.Chunks.{IsChunkAt}
 use Rattle.cord.proofs.Chunking.{node_len, chunk_rest, chunk_right}
 use Rattle.cord.proofs.chunks.+chunk_of.Goals as goal
 

@@ -4,7 +4,7 @@ use Rattle.cord_node.specs.declared.Node.{Node}
 use Rattle.cord_node.specs.Tree.{len_of}
 use Rattle.cord_node.specs.Tables.{bytes_over}
 use Rattle.cord.specs.Plain.{no_table}
-use Rattle.cord.specs.Chunks.{IsChunkBefore}
+use Rattle.cord.specs.inner.Chunks.{IsChunkBefore}
 use Rattle.cord.proofs.Chunking.{node_len}
 use Rattle.cord.proofs.ChunkingBack.{chunk_front, before_left, before_right}
 use Rattle.cord.proofs.chunks_back.+chunk_up_to.Goals as goal

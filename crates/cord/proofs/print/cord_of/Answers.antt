@@ -1,8 +1,8 @@
 use Rattle.std.proofs.Common.{ap}
-use Rattle.cord.specs.Prints.{given_by}
+use Rattle.cord.specs.Prints.{piece_argument}
 use Rattle.cord.proofs.Printing.{text_made}
 use Rattle.cord.proofs.print.cord_of.Goals as goal
 
 pub returns-in-Ok-clause-made : goal.returns-in-Ok-clause-made
 returns-in-Ok-clause-made c = text_made c.args.arg.now c.in-Text.text.now c.as_cord.result.now c.in-Ok.cord
-    (ap given_by c.in-Text.is) c.as_cord.ensures.text c.in-Ok.ensures.same
+    (ap piece_argument c.in-Text.is) c.as_cord.ensures.text c.in-Ok.ensures.same

@@ -1,7 +1,7 @@
 use Rattle.std.proofs.Common.{◌≡◌, ◌+◌, ◌++◌, ◌∷◌, [], List, take, subst, sym, arith, rules}
 use Rattle.std.proofs.lemmas.List.{take_more, take_all}
 use Rattle.cord_printf.specs.declared.arguments.Arg.{Arg}
-use Rattle.cord.specs.Prints.{AreArgumentsFor}
+use Rattle.cord.specs.inner.Prints.{AreArgumentsFor}
 use Rattle.cord.proofs.Printing.{none_made, one_made}
 use Rattle.cord.proofs.print.cords_of.Goals as goal
 

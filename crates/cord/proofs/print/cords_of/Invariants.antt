@@ -1,5 +1,5 @@
 use Rattle.std.proofs.Common.{take}
-use Rattle.cord.specs.Prints.{AreArgumentsFor}
+use Rattle.cord.specs.inner.Prints.{AreArgumentsFor}
 use Rattle.cord.proofs.print.cords_of.Given as goal
 
 -- what was made is for the arguments so far

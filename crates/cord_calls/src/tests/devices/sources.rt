@@ -1,6 +1,6 @@
 // A source of the functions `digits` and `bytes`, each as long as a cord can be.
 ghost use Rattle.std.specs.Prelude.{◌≡◌, ◌+◌, ◌<◌, ◌≤◌, ℕ, length, slice_index};
-ghost use Rattle.cord_io.specs.Entries.{function_byte};
+ghost use Rattle.cord_io.specs.inner.Functions.{function_byte};
 
 use cord_io::{MAX_LEN, ReadFault, Source, SourceId};
 
@@ -33,7 +33,7 @@ fn fill(id: SourceId, start: u64, out: &mut [u8])
 
 impl Source for Functions {
     ghost use Rattle.std.specs.Prelude.{⊤};
-    ghost use Rattle.cord_io.specs.Entries.{function_lengths, function_texts, lengths_of_functions};
+    ghost use Rattle.cord_io.specs.inner.Functions.{function_lengths, function_texts, lengths_of_functions};
 
     ghost lengths = { λ _. function_lengths };
 

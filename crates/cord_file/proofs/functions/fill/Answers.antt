@@ -1,5 +1,5 @@
 use Rattle.std.proofs.Common.{◌≡◌, ◌<◌, ◌≤◌, length, rules}
-use Rattle.cord_io.specs.Entries.{function_byte}
+use Rattle.cord_io.specs.inner.Functions.{function_byte}
 use Rattle.cord_file.proofs.Periods.{again_twice, copies_behind}
 use Rattle.cord_file.proofs.functions.fill.Goals as goal
 

@@ -1,6 +1,6 @@
 use Rattle.std.proofs.Common.{◌≡◌, ◌+◌, ◌-◌, ◌<◌, ◌≤◌, ℕ, length}
 use Rattle.std.specs.Prelude.{slice_index}
-use Rattle.cord_io.specs.Entries.{function_byte}
+use Rattle.cord_io.specs.inner.Functions.{function_byte}
 use Rattle.cord_file.proofs.functions.fill.Given as goal
 
 -- the bytes so far, which come again after them

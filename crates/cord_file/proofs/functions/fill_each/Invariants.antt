@@ -1,6 +1,6 @@
 use Rattle.std.proofs.Common.{◌≡◌, ◌+◌, ◌<◌, ℕ}
 use Rattle.std.specs.Prelude.{slice_index}
-use Rattle.cord_io.specs.Entries.{function_byte}
+use Rattle.cord_io.specs.inner.Functions.{function_byte}
 use Rattle.cord_file.proofs.functions.fill_each.Given as goal
 
 -- the bytes so far

@@ -1,7 +1,7 @@
 use Rattle.std.proofs.Common.{◌-◌, ◌≡◌, ◌≤◌, ◌<◌, ℕ}
 use Rattle.std.specs.Prelude.{vec_len}
 use Rattle.cord_io.specs.Device.{Folder}
-use Rattle.cord_file.specs.Blocks.{BeginsWithFile}
+use Rattle.cord_file.specs.inner.Blocks.{BeginsWithFile}
 use Rattle.cord_file.proofs.reading.read_all.Given as goal
 
 -- so many bytes are read, of the file in each folder that the files keep now

@@ -1,5 +1,5 @@
 use Rattle.std.proofs.Common.{◌<◌, ◌∙◌, arith, sym}
-use Rattle.cord_iter.proofs.Takings.{on_err}
+use Rattle.cord_iter.proofs.Takes.{on_err}
 use Rattle.cord_iter.proofs.Backs.{cord_len, empty_walk, all_walk, all_front}
 use Rattle.cord_iter.proofs.backward.riter.Goals as goal
 

@@ -1,6 +1,6 @@
 use Rattle.std.proofs.Common.{◌≡◌, ◌+◌, ◌∙◌, true, false}
 use Rattle.cord_pos.specs.Position.{IsByteAt, prev_index}
-use Rattle.cord_iter.proofs.Takings.{on_err}
+use Rattle.cord_iter.proofs.Takes.{on_err}
 use Rattle.cord_iter.proofs.Backs.{cord_len, back_on, back_stop, back_front, left_prev}
 use Rattle.cord_iter.proofs.backward.riter4.Goals as goal
 

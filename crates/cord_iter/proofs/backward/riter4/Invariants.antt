@@ -3,7 +3,7 @@ use Rattle.std.specs.Prelude.{reverse}
 use Rattle.cord_io.specs.Device.{Folder}
 use Rattle.cord_core.specs.Cord.{bytes_of}
 use Rattle.cord_iter.specs.Walk.{walk}
-use Rattle.cord_iter.specs.Walk.{left_of}
+use Rattle.cord_iter.specs.inner.Walk.{left_of}
 use Rattle.cord_iter.proofs.backward.riter4.Given as goal
 
 -- the bytes from the place down to the one that is next were walked over without a stop, and no read has failed

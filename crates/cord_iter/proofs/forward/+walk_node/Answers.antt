@@ -7,7 +7,7 @@ use Rattle.cord_node.specs.declared.Node.{Node}
 use Rattle.cord_node.specs.Tree.{len_of}
 use Rattle.cord_node.specs.Tables.{bytes_over}
 use Rattle.cord_iter.specs.Walk.{walk, WalkedFront}
-use Rattle.cord_iter.proofs.Takings.{on_err}
+use Rattle.cord_iter.proofs.Takes.{on_err}
 use Rattle.cord_iter.proofs.Walks.{same_walk, range_rest}
 use Rattle.cord_iter.proofs.Cuts.{IsCut, cut_of, cut_stop, cut_on, cut_front, cut_on_front, cut_past}
 use Rattle.cord_iter.proofs.forward.+walk_node.Goals as goal

@@ -1,6 +1,6 @@
 use Rattle.std.proofs.Common.{◌≡◌, ◌+◌, ◌≤◌, ◌∙◌, true, false, arith, take, drop}
 use Rattle.cord_iter.specs.Walk.{walk}
-use Rattle.cord_iter.proofs.Takings.{on_err}
+use Rattle.cord_iter.proofs.Takes.{on_err}
 use Rattle.cord_iter.proofs.Walks.{func_stop, func_on, func_front}
 use Rattle.cord_iter.proofs.forward.walk_func.Goals as goal
 

@@ -1,5 +1,6 @@
-use Rattle.cord_iter.specs.Taking.{IsTextOver, IsPrefixOver, Takes}
-use Rattle.cord_iter.proofs.Takings.{AreSides, cat_sides, cat_text, cat_left, cat_right, takes_both, takes_such, on_err}
+use Rattle.cord_iter.specs.Output.{Takes}
+use Rattle.cord_iter.specs.inner.Output.{IsTextOver, IsPrefixOver}
+use Rattle.cord_iter.proofs.Takes.{AreSides, cat_sides, cat_text, cat_left, cat_right, takes_both, takes_such, on_err}
 use Rattle.cord_iter.proofs.output.+put_node.Goals as goal
 
 pub returns-in_err-put_node-in-Cat-clause-prefix : goal.returns-in_err-put_node-in-Cat-clause-prefix

@@ -1,5 +1,5 @@
 use Rattle.std.proofs.Common.{◌≡◌, ◌++◌, ◌∙◌, ap, Some}
-use Rattle.cord_iter.proofs.Takings.{takes_such, on_err}
+use Rattle.cord_iter.proofs.Takes.{takes_such, on_err}
 use Rattle.cord_iter.proofs.output.put.Goals as goal
 
 pub returns-in_err-put_node-clause-prefix : goal.returns-in_err-put_node-clause-prefix

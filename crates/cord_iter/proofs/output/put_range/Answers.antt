@@ -1,8 +1,9 @@
 use Rattle.std.proofs.Common.{◌≡◌, ◌+◌, ◌≤◌, length, take, drop, arith, subst, sym, ◌∙◌, length-append, length-drop}
 use Rattle.std.proofs.lemmas.List.{length-take-le}
 use Rattle.cord_node.specs.declared.Node.TheVariants.{Func}
-use Rattle.cord_iter.specs.Taking.{IsTextOver, IsPrefixOver, Takes}
-use Rattle.cord_iter.proofs.Takings.{takes_both, func_text, func_prefix, on_err}
+use Rattle.cord_iter.specs.Output.{Takes}
+use Rattle.cord_iter.specs.inner.Output.{IsTextOver, IsPrefixOver}
+use Rattle.cord_iter.proofs.Takes.{takes_both, func_text, func_prefix, on_err}
 use Rattle.cord_iter.proofs.output.put_range.Goals as goal
 
 pub returns-in_err-put_piece-clause-prefix : goal.returns-in_err-put_piece-clause-prefix

@@ -1,7 +1,8 @@
 use Rattle.std.proofs.Common.{◌-◌, ◌≡◌, ◌≤◌, length}
 use Rattle.cord_io.specs.Device.{Folder}
 use Rattle.cord_node.specs.declared.Node.TheVariants.{Func}
-use Rattle.cord_iter.specs.Taking.{IsTextOver, Takes}
+use Rattle.cord_iter.specs.Output.{Takes}
+use Rattle.cord_iter.specs.inner.Output.{IsTextOver}
 use Rattle.cord_iter.proofs.output.put_range.Given as goal
 
 -- the first `done` bytes of the range were taken, and no device has failed

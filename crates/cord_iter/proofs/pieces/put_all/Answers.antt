@@ -2,7 +2,7 @@ use Rattle.std.proofs.Common.{◌≡◌, ◌≤◌, ◌++◌, length, take, drop
 use Rattle.cord_io.specs.Device.{raised}
 use Rattle.std.proofs.lemmas.List.{take_rest}
 use Rattle.std.proofs.Math.Seq.{take-add}
-use Rattle.cord_iter.proofs.Takings.{appends_both, front_take, on_err}
+use Rattle.cord_iter.proofs.Takes.{appends_both, front_take, on_err}
 use Rattle.cord_iter.proofs.pieces.put_all.Goals as goal
 
 pub returns-in_err-done-clause-err : goal.returns-in_err-done-clause-err

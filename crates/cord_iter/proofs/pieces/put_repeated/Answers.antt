@@ -1,6 +1,6 @@
 use Rattle.std.proofs.Common.{arith, ◌∙◌, ap}
 use Rattle.cord_io.specs.Device.{raised}
-use Rattle.cord_iter.proofs.Takings.{run_stopped, run_more, on_err}
+use Rattle.cord_iter.proofs.Takes.{run_stopped, run_more, on_err}
 use Rattle.cord_iter.proofs.pieces.put_repeated.Goals as goal
 
 pub returns-in_err-put_all-clause-err : goal.returns-in_err-put_all-clause-err

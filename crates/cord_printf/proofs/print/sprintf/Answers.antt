@@ -3,10 +3,11 @@ use Rattle.cord_node.specs.Tree.{Cell, known}
 use Rattle.cord_printf.specs.declared.arguments.Arg.{Arg}
 use Rattle.cord_printf.specs.declared.pieces.Piece.{Piece}
 use Rattle.cord_core.specs.Cord.{parts_of}
-use Rattle.cord_printf.specs.Own.{all_own, parts_given, parts_if}
+use Rattle.cord_printf.specs.Own.{all_own, arguments_parts}
+use Rattle.cord_printf.specs.inner.Own.{parts_if}
 use Rattle.cord_printf.specs.PieceText.{printed, first_refusal}
 use Rattle.cord_printf.specs.Printing.{argument_of, arguments_of, AreWanted}
-use Rattle.cord_printf.specs.Shown.{body_parts, shown_own, shown_text}
+use Rattle.cord_printf.specs.inner.Shown.{body_parts, shown_own, shown_text}
 use Rattle.cord_printf.proofs.Owned.{IsPrinting, own_next, own_shown, printing_start, printing_step, printing_end}
 use Rattle.cord_printf.proofs.Prints.{further, all_written}
 use Rattle.cord_printf.proofs.Tables.{print_of}
@@ -23,9 +24,9 @@ loop-piece-init c =
       fewer = omega arith;
       written = ap (λ (x : List Cell). x ++ printed known pieces (arguments_of args)) c.new-output.ensures.text
           ∙ ap (λ (ps : List Piece). printed known ps (arguments_of args)) are;
-      printing = subst (λ (left : ℕ). IsPrinting (parts_given args) (all_own c.args.format.now (arguments_of args))
-          c.new-output.result.parts (parts_given args) left) (sym (ap (λ (ps : List Piece). all_own ps (arguments_of args)) are))
-          (printing_start (parts_given args) (all_own c.args.format.now (arguments_of args)) c.new-output.result.parts
+      printing = subst (λ (left : ℕ). IsPrinting (arguments_parts args) (all_own c.args.format.now (arguments_of args))
+          c.new-output.result.parts (arguments_parts args) left) (sym (ap (λ (ps : List Piece). all_own ps (arguments_of args)) are))
+          (printing_start (arguments_parts args) (all_own c.args.format.now (arguments_of args)) c.new-output.result.parts
           c.new-output.ensures.parts);
       refused = ap (λ (k : ℕ). first_refusal k pieces (arguments_of args)) none
           ∙ ap (λ (ps : List Piece). first_refusal 0 ps (arguments_of args)) are;
@@ -49,9 +50,10 @@ loop-piece-preserved c =
       fewer = step.fewer;
       written = ap (λ x. x ++ after) c.in_ok-add_shown.ensures.text ∙ append_assoc c.loop-piece.output.text shown after
           ∙ ap (λ x. c.loop-piece.output.text ++ x) (sym step.text) ∙ c.loop-piece.invariant.written;
-      printing = printing_step (parts_given c.args.args.now) (all_own c.args.format.now (arguments_of c.args.args.now))
-          c.loop-piece.output.parts c.add_shown.new.self.parts (parts_if taken) (parts_given others) (body_parts c.in_ok-shown.shown.body)
-          (parts_given rest) (shown_own c.in_ok-shown.shown)
+      printing = printing_step (arguments_parts c.args.args.now) (all_own c.args.format.now (arguments_of c.args.args.now))
+          c.loop-piece.output.parts c.add_shown.new.self.parts (parts_if taken) (arguments_parts others)
+          (body_parts c.in_ok-shown.shown.body)
+          (arguments_parts rest) (shown_own c.in_ok-shown.shown)
           (all_own (drop c.loop-piece.piece-index pieces) (arguments_of rest))
           (all_own (drop (c.loop-piece.piece-index + 1) pieces) (arguments_of others)) c.loop-piece.invariant.printing
           c.next_argument.ensures.parts c.in_ok-shown.ensures.kept
@@ -69,7 +71,7 @@ returns-clause-over c = print_of c.args.format.now c.args.args.now c.loop-piece.
     (printed known c.args.format.now (arguments_of c.args.args.now)) c.loop-piece-test.false c.loop-piece.invariant.written)
 
 pub returns-clause-kept : goal.returns-clause-kept
-returns-clause-kept c = printing_end (parts_given c.args.args.now) (all_own c.args.format.now (arguments_of c.args.args.now))
-    c.loop-piece.output.parts (parts_given c.loop-piece.rest.now)
+returns-clause-kept c = printing_end (arguments_parts c.args.args.now) (all_own c.args.format.now (arguments_of c.args.args.now))
+    c.loop-piece.output.parts (arguments_parts c.loop-piece.rest.now)
     (all_own (drop c.loop-piece.piece-index c.pieces-piece-items.result.now) (arguments_of c.loop-piece.rest.now))
     (parts_of c.in_ok-cord.cord) c.loop-piece.invariant.printing c.in_ok-cord.ensures.made

@@ -1,6 +1,6 @@
 use Rattle.cord_node.proofs.KeptLemmas.{Kept_same}
 use Rattle.cord_core.specs.Cord.{parts_of}
-use Rattle.cord_printf.specs.Shown.{body_parts}
+use Rattle.cord_printf.specs.inner.Shown.{body_parts}
 use Rattle.cord_printf.proofs.shown.show_cord.Goals as goal
 
 pub returns-in-Cord-clause-kept : goal.returns-in-Cord-clause-kept

@@ -1,5 +1,6 @@
 use Rattle.std.proofs.Common.{ℕ, List, map, subst, sym}
 use Rattle.cord_file.specs.Sources.{device_in}
+use Rattle.cord_io.specs.SinkCounts.{SinkCounts, sink_counts}
 use Rattle.cord_io.specs.declared.TheConstants.{MAX_LEN}
 use Rattle.cord_meaning.specs.declared.TheConstants.{MAX_TURNS}
 use Rattle.cord_meaning.specs.declared.ends.End.{End}
@@ -7,7 +8,7 @@ use Rattle.cord_meaning.specs.Ends.{HonestOutput}
 use Rattle.cord_plan.specs.Meaning.{plan_end, plan_moments}
 use Rattle.cord_plan.specs.Planned.{Operation}
 use Rattle.cord_plan.specs.Views.{operation_view}
-use Rattle.cord_run.specs.inner.Ends.{Closes, SinkCounts}
+use Rattle.cord_run.specs.inner.Ends.{Closes}
 use Rattle.cord_run.specs.inner.Steps.{end_of_run}
 use Rattle.cord_run.proofs.Ends.{closed_cause, closed_fails, closed_honest, run_fails}
 use Rattle.cord_run.proofs.runner.run_over.Goals as goal
@@ -17,12 +18,7 @@ returns-clause-honest g c = λ folder agrees fit.
     let operations : List Operation = map operation_view c.args.plan.now in
     let before : List ℕ = g.S.Sink.taken c.args.sink.now in
     let told : End = c.close_output.result in
-    let n : SinkCounts = record {
-      failed_before = g.S.Sink.failures c.run_plan.new.sink;
-      failed_after = g.S.Sink.failures c.close_output.new.sink;
-      finished_before = g.S.Sink.finished c.run_plan.new.sink;
-      finished_after = g.S.Sink.finished c.close_output.new.sink;
-    } in
+    let n : SinkCounts = sink_counts g.S.Sink c.run_plan.new.sink c.close_output.new.sink in
     let closes = subst (λ (e : End). Closes n e told) c.end_of_run-own.ensures c.close_output.ensures.closes in
     let ms = plan_moments MAX_LEN MAX_TURNS operations folder in
     let meant = plan_end MAX_LEN MAX_TURNS operations folder in
@@ -34,24 +30,14 @@ pub returns-clause-fails : goal.returns-clause-fails
 returns-clause-fails g c =
     let operations : List Operation = map operation_view c.args.plan.now in
     let told : End = c.close_output.result in
-    let n : SinkCounts = record {
-      failed_before = g.S.Sink.failures c.run_plan.new.sink;
-      failed_after = g.S.Sink.failures c.close_output.new.sink;
-      finished_before = g.S.Sink.finished c.run_plan.new.sink;
-      finished_after = g.S.Sink.finished c.close_output.new.sink;
-    } in
+    let n : SinkCounts = sink_counts g.S.Sink c.run_plan.new.sink c.close_output.new.sink in
     let closes = subst (λ (e : End). Closes n e told) c.end_of_run-own.ensures c.close_output.ensures.closes in
     closed_fails operations n (end_of_run c.run_plan.result) told closes (run_fails operations c.run_plan.result c.run_plan.ensures.fails)
 
 pub returns-clause-cause : goal.returns-clause-cause
 returns-clause-cause g c =
     let told : End = c.close_output.result in
-    let n : SinkCounts = record {
-      failed_before = g.S.Sink.failures c.run_plan.new.sink;
-      failed_after = g.S.Sink.failures c.close_output.new.sink;
-      finished_before = g.S.Sink.finished c.run_plan.new.sink;
-      finished_after = g.S.Sink.finished c.close_output.new.sink;
-    } in
+    let n : SinkCounts = sink_counts g.S.Sink c.run_plan.new.sink c.close_output.new.sink in
     let closes = subst (λ (e : End). Closes n e told) c.end_of_run-own.ensures c.close_output.ensures.closes in
     closed_cause (g.F.Files.failures (device_in c.args.sources.now)) (g.F.Files.failures (device_in c.run_plan.new.sources))
     (g.S.Sink.failures c.args.sink.now)

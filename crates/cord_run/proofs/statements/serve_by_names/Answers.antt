@@ -6,7 +6,7 @@ use Rattle.cord_file.specs.Entries.{lengths_in, table_in}
 use Rattle.cord_file.specs.Files.{as_long_as_told}
 use Rattle.cord_file.specs.Sources.{device_in, opened_in}
 use Rattle.cord_meaning.specs.Ends.{IsReading}
-use Rattle.cord_plan.specs.Kept.{IsKept}
+use Rattle.cord_plan.specs.Verbatim.{IsVerbatim}
 use Rattle.cord_plan.specs.Meaning.{Holding, keeps}
 use Rattle.cord_syntax.specs.Families.{statement_of}
 use Rattle.cord_syntax.specs.Lines.{line_of}
@@ -109,7 +109,7 @@ returns-in_default g c =
     let l = c.args.statement.now in
     let line = line_of l in
     let nothing : IsIdle c.family.result = search rules in
-    let stays = subst IsKept (sym c.family.ensures) c.requires.kept in
+    let stays = subst IsVerbatim (sym c.family.ensures) c.requires.kept in
     record {
       over = c.requires.over;
       earlier = λ folder agrees. agrees;

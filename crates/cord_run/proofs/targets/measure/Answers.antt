@@ -5,7 +5,8 @@ use Rattle.cord_file.specs.Files.{as_long_as_told}
 use Rattle.cord_file.specs.Sources.{device_in, opened_in}
 use Rattle.cord_plan.specs.Planned.{Made}
 use Rattle.cord_plan.specs.Views.{made_view}
-use Rattle.cord_run.specs.Failing.{FailsBy, IsFileMade}
+use Rattle.cord_run.specs.Failing.{IsFileMade}
+use Rattle.cord_run.specs.inner.Failing.{FailsBy}
 use Rattle.cord_run.specs.inner.Contents.{IsLength, IsLengthOfNames, IsUnmeasured, IsUnmeasuredOfNames, TakesNoMemory}
 use Rattle.cord_run.specs.inner.Definitions.{definition_view, file_made, fileless_view}
 use Rattle.cord_run.specs.inner.Known.{IsExtent}

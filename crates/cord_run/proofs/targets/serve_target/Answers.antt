@@ -23,7 +23,7 @@ returns-in_ok-cord-in-None-clause-over g c =
     c.args.store.now.entries.items
     c.make.new.store.entries.items c.give.new.store.entries.items c.requires.over c.in_ok-cord-in-None.ensures.same
     c.args.target.now (made_view c.args.made.now) (Whole c.in_ok-cord-in-None.cord)
-    (c.in_ok-cord-in-None.ensures.built.sound, c.in_ok-cord-in-None.ensures.built.fits) c.give.result c.give.ensures.given
+    (c.in_ok-cord-in-None.ensures.built.sound, c.in_ok-cord-in-None.ensures.built.fits) c.give.result c.give.ensures.has
 
 pub returns-in_ok-cord-in-None-clause-gives : goal.returns-in_ok-cord-in-None-clause-gives
 returns-in_ok-cord-in-None-clause-gives g c = λ folder agrees.
@@ -36,7 +36,7 @@ returns-in_ok-cord-in-None-clause-gives g c = λ folder agrees.
     c.make.new.store.entries.items c.give.new.store.entries.items c.requires.over c.in_ok-cord-in-None.ensures.same
     c.args.target.now (made_view c.args.made.now) (g.F.Files.keeps (device_in c.make.new.sources)) folder agrees
     (as_long_as_told (g.F.Files.keeps (device_in s)) s.entries.items s.sound.as_long folder before)
-    c.in_ok-cord-in-None.cord c.in_ok-cord-in-None.ensures.built c.give.result c.give.ensures.given c.give.ensures.refused)
+    c.in_ok-cord-in-None.cord c.in_ok-cord-in-None.ensures.built c.give.result c.give.ensures.has c.give.ensures.refused)
 
 pub returns-in_ok-len-in-Length-clause-over : goal.returns-in_ok-len-in-Length-clause-over
 returns-in_ok-len-in-Length-clause-over g c =
@@ -45,7 +45,7 @@ returns-in_ok-len-in-Length-clause-over g c =
     c.args.store.now.entries.items c.give-in-Length.new.store.entries.items c.requires.over (nothing_changed c.args.store.now.entries.items)
     c.args.target.now (made_view c.args.made.now) (Long c.in_ok-len-in-Length.len) c.in_ok-len-in-Length.ensures.told.short
     c.give-in-Length.result
-    c.give-in-Length.ensures.given
+    c.give-in-Length.ensures.has
 
 pub returns-in_ok-len-in-Length-clause-gives : goal.returns-in_ok-len-in-Length-clause-gives
 returns-in_ok-len-in-Length-clause-gives g c = λ folder agrees.
@@ -59,7 +59,7 @@ returns-in_ok-len-in-Length-clause-gives g c = λ folder agrees.
     c.args.store.now.entries.items c.give-in-Length.new.store.entries.items c.requires.over (nothing_changed c.args.store.now.entries.items)
     c.args.target.now (made_view c.args.made.now) (g.F.Files.keeps (device_in c.measure.new.sources)) folder agrees
     (as_long_as_told (g.F.Files.keeps (device_in s)) s.entries.items s.sound.as_long folder before)
-    c.in_ok-len-in-Length.len c.in_ok-len-in-Length.ensures.told c.give-in-Length.result c.give-in-Length.ensures.given
+    c.in_ok-len-in-Length.len c.in_ok-len-in-Length.ensures.told c.give-in-Length.result c.give-in-Length.ensures.has
     c.give-in-Length.ensures.refused)
 
 pub returns-in-Some-clause-over : goal.returns-in-Some-clause-over
@@ -83,4 +83,4 @@ pub returns-in_ok-len-in-Length-clause-stays : goal.returns-in_ok-len-in-Length-
 returns-in_ok-len-in-Length-clause-stays g c =
     length_stays c.args.store.now.entries.items c.give-in-Length.new.store.entries.items c.args.target.now (made_view c.args.made.now)
     c.args.gets c.in_ok-len-in-Length.len c.in-Length.is c.in_ok-len-in-Length.ensures.extent c.give-in-Length.result
-    c.give-in-Length.ensures.given
+    c.give-in-Length.ensures.has

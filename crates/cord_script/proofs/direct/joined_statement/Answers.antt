@@ -2,7 +2,7 @@ use Rattle.std.proofs.Common.{refl, map}
 use Rattle.cord_script.specs.declared.kinds.Kind.TheVariants as kinds
 use Rattle.cord_script.specs.declared.verbs.Verb.TheVariants.{Catn}
 use Rattle.cord_script.specs.Forms.Term.{Operand}
-use Rattle.cord_script.proofs.Given.{first_given}
+use Rattle.cord_script.proofs.SourceFields.{first_field}
 use Rattle.cord_script.proofs.LineFields.{target_given, says_settled}
 use Rattle.cord_script.proofs.direct.joined_statement.Goals as goal
 
@@ -13,6 +13,6 @@ returns c =
     says_settled Catn c.args.line _ _ _ (record {
       word = refl;
       numbered = refl;
-      given = first_given _ (map (Operand kinds.Cord) c.in_ok-parts.parts) (record { is = first }) c.in_ok-parts.ensures.given;
+      fields = first_field _ (map (Operand kinds.Cord) c.in_ok-parts.parts) (record { is = first }) c.in_ok-parts.ensures.gave;
       suits = (c.in_ok-parts.ensures.low, c.in_ok-parts.ensures.high);
     }) c.in_ok-parts.ensures.done

@@ -1,10 +1,10 @@
 use Rattle.std.proofs.Common.{ℕ, List, [], ◌∷◌}
 use Rattle.cord_script.specs.declared.kinds.Kind.TheVariants as kinds
 use Rattle.cord_script.specs.Forms.Term.{Target, FilePath}
-use Rattle.cord_script.proofs.Given.{one_field, next_given}
+use Rattle.cord_script.proofs.SourceFields.{one_field, next_field}
 use Rattle.cord_script.proofs.field_groups.target_and_path.Goals as goal
 
-pub returns-in-Ok-clause-given : goal.returns-in-Ok-clause-given
-returns-in-Ok-clause-given g c =
-    next_given _ (λ (name : List ℕ). Target kinds.Cord name ∷ []) FilePath
-    _ _ _ _ _ _ (one_field c.in-Ok.ensures.given) c.paired.ensures c.path.ensures.given
+pub returns-in-Ok-clause-gave : goal.returns-in-Ok-clause-gave
+returns-in-Ok-clause-gave g c =
+    next_field _ (λ (name : List ℕ). Target kinds.Cord name ∷ []) FilePath
+    _ _ _ _ _ _ (one_field c.in-Ok.ensures.gave) c.paired.ensures c.path.ensures.gave

@@ -2,10 +2,10 @@ use Rattle.std.proofs.Common.{ℕ, List, [], ◌∷◌}
 use Rattle.cord_operands.specs.declared.operands.Number.{Number}
 use Rattle.cord_script.specs.declared.kinds.Kind.TheVariants as kinds
 use Rattle.cord_script.specs.Forms.Term.{Target, Operand, Value}
-use Rattle.cord_script.proofs.Given.{next_given}
+use Rattle.cord_script.proofs.SourceFields.{next_field}
 use Rattle.cord_script.proofs.field_groups.target_operand_numbers.Goals as goal
 
-pub returns-in-Ok-clause-given : goal.returns-in-Ok-clause-given
-returns-in-Ok-clause-given g c =
-    next_given _ (λ (p : (List ℕ × List ℕ) × Number). Target c.args.target p.0.0 ∷ Operand kinds.Cord p.0.1 ∷ Value p.1 ∷ []) Value
-    _ _ _ _ _ _ c.in-Ok.ensures.given c.paired.ensures c.number.ensures.given
+pub returns-in-Ok-clause-gave : goal.returns-in-Ok-clause-gave
+returns-in-Ok-clause-gave g c =
+    next_field _ (λ (p : (List ℕ × List ℕ) × Number). Target c.args.target p.0.0 ∷ Operand kinds.Cord p.0.1 ∷ Value p.1 ∷ []) Value
+    _ _ _ _ _ _ c.in-Ok.ensures.gave c.paired.ensures c.number.ensures.gave

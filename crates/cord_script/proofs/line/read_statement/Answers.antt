@@ -1,7 +1,7 @@
 use Rattle.std.proofs.Common.{◌∙◌, sym, ap, subst, map}
 use Rattle.std.proofs.lemmas.Result.{err_from_is_err_and}
 use Rattle.cord_script.specs.inner.Building.{format_of}
-use Rattle.cord_script.specs.inner.ContextViews.{before_of}
+use Rattle.cord_script.specs.inner.ContextViews.{scope_of}
 use Rattle.cord_script.specs.inner.Settled.{AreSettled}
 use Rattle.cord_script.specs.inner.Contexts.{context_after, AreNamed}
 use Rattle.cord_script.specs.inner.Built.{AreFieldsOf, IsStatementOf}
@@ -13,7 +13,7 @@ use Rattle.cord_script.proofs.line.read_statement.Goals as goal
 pub returns-in_err-fields-clause-flaw : goal.returns-in_err-fields-clause-flaw
 returns-in_err-fields-clause-flaw c =
     let p = err_from_is_err_and c.from_residual.result c.from_residual.ensures.1 in
-    rw (p.1, p.2) (λ n. bad_words c.in-Some.verb (before_of c.args.context.now) c.args.words.now.items c.verb_in.new.words.items
+    rw (p.1, p.2) (λ n. bad_words c.in-Some.verb (scope_of c.args.context.now) c.args.words.now.items c.verb_in.new.words.items
     c.in_err-fields.field-0.0 (c.in-Some.ensures) (c.in_err-fields.ensures.flaw n))
 
 pub statement_of-requires : goal.statement_of-requires
@@ -28,10 +28,10 @@ pub returns-clause-said : goal.returns-clause-said
 returns-clause-said c =
     let found = c.in_ok-fields.field-0 in
     let verb = c.in-Some.verb in
-    let old = before_of c.args.context.now in
+    let old = scope_of c.args.context.now in
     let context = c.in_ok-leave.ensures.context ∙ ap (λ ps. context_after verb c.args.number ps old) c.deref.ensures.value in
     let words = c.in-Some.ensures in
-    said verb c.args.number old (before_of c.leave.new.context) c.args.words.now.items c.verb_in.new.words.items found.fields.items
+    said verb c.args.number old (scope_of c.leave.new.context) c.args.words.now.items c.verb_in.new.words.items found.fields.items
     (format_of found.builder) c.of-cursor.result c.in_ok-statement.statement words c.in_ok-fields.ensures.fields context c.of-cursor.ensures
     (subst (λ v. IsStatementOf v c.args.number c.of-cursor.result c.in_ok-statement.statement) c.in_ok-fields.ensures.builder
     c.in_ok-statement.ensures.statement)

@@ -1,6 +1,6 @@
 use Rattle.std.proofs.Common.{length, arith, inl, refl, sym, subst, eqb-true}
 use Rattle.cord_script.specs.Script.{Reads}
-use Rattle.cord_script.specs.inner.ContextViews.{before_of}
+use Rattle.cord_script.specs.inner.ContextViews.{scope_of}
 use Rattle.cord_script.proofs.Readings.{reads_line, stops, too_many, is_wrong, read_whole, leaves_open, no_bytes, some_bytes, numbered_line}
 use Rattle.cord_script.proofs.Readings.{reached, left_found}
 use Rattle.cord_script.proofs.parser.parse.Goals as goal
@@ -10,34 +10,34 @@ returns-then-size-gt-MAX_SCRIPT-clause-flaw c = λ n. inl (record { size = omega
 
 pub returns-then-number-gt-MAX_LINES-clause-flaw : goal.returns-then-number-gt-MAX_LINES-clause-flaw
 returns-then-number-gt-MAX_LINES-clause-flaw c = λ n.
-    too_many c.args.script.now c.lines.rest.now c.lines.number (before_of c.lines.context) c.lines.statements.items
+    too_many c.args.script.now c.lines.rest.now c.lines.number (scope_of c.lines.context) c.lines.statements.items
     (omega arith) c.lines.invariant.read (some_bytes c.lines.rest.now (sym c.lines-test.ensures)) (omega (arith, c.lines.invariant.few))
 
 pub returns-in-Err-clause-flaw : goal.returns-in-Err-clause-flaw
 returns-in-Err-clause-flaw c = λ n.
     stops c.args.script.now c.lines.rest.now c.first_line.result.1.now c.first_line.result.0.now c.lines.number
-    (before_of c.lines.context) c.lines.statements.items c.in-Err.kind (omega arith) c.lines.invariant.read c.first_line.ensures.first
-    (is_wrong c.lines.number c.first_line.result.0.now (before_of c.lines.context) c.in-Err.kind (omega arith) (c.in-Err.ensures.flaw n))
+    (scope_of c.lines.context) c.lines.statements.items c.in-Err.kind (omega arith) c.lines.invariant.read c.first_line.ensures.first
+    (is_wrong c.lines.number c.first_line.result.0.now (scope_of c.lines.context) c.in-Err.kind (omega arith) (c.in-Err.ensures.flaw n))
 
 pub returns-in-Err-clause-no_memory : goal.returns-in-Err-clause-no_memory
 returns-in-Err-clause-no_memory c = λ n.
     reached c.args.script.now c.lines.rest.now c.first_line.result.1.now c.first_line.result.0.now c.lines.number
-    (before_of c.lines.context) c.lines.statements.items (omega arith) (omega arith) c.lines.invariant.read c.first_line.ensures.first
+    (scope_of c.lines.context) c.lines.statements.items (omega arith) (omega arith) c.lines.invariant.read c.first_line.ensures.first
 
 pub lines-preserved : goal.lines-preserved
 lines-preserved c = record {
   few = omega arith;
   read = reads_line c.args.script.now c.lines.rest.now c.first_line.result.1.now c.first_line.result.0.now c.lines.number
-      (before_of c.lines.context) (before_of c.take_line.new.context) c.lines.statements.items c.take_line.new.statements.items
+      (scope_of c.lines.context) (scope_of c.take_line.new.context) c.lines.statements.items c.take_line.new.statements.items
       c.lines.invariant.read c.first_line.ensures.first c.in_default.ensures.takes;
-  numbered = numbered_line c.lines.number c.first_line.result.0.now (before_of c.lines.context)
-      (before_of c.take_line.new.context) c.lines.statements.items c.take_line.new.statements.items
+  numbered = numbered_line c.lines.number c.first_line.result.0.now (scope_of c.lines.context)
+      (scope_of c.take_line.new.context) c.lines.statements.items c.take_line.new.statements.items
       (omega (arith, c.lines.invariant.read.number)) c.lines.invariant.numbered c.in_default.ensures.takes;
 }
 
 pub returns-in-Some-clause-flaw : goal.returns-in-Some-clause-flaw
 returns-in-Some-clause-flaw c = λ n.
-    leaves_open c.args.script.now c.lines.rest.now c.lines.number c.in-Some.refusal.line (before_of c.lines.context)
+    leaves_open c.args.script.now c.lines.rest.now c.lines.number c.in-Some.refusal.line (scope_of c.lines.context)
     c.lines.statements.items
     c.in-Some.refusal.kind (omega arith) c.lines.invariant.few
     (no_bytes c.lines.rest.now (eqb-true (length c.lines.rest.now) 0 (sym c.lines-test.ensures))) c.lines.invariant.read
@@ -49,6 +49,6 @@ returns-in-Some-clause-no_memory c = λ n. absurd (left_found _ c.in-Some.refusa
 pub returns-clause-reads : goal.returns-clause-reads
 returns-clause-reads c =
     subst (Reads c.args.script.now) (sym c.of.ensures)
-    (read_whole c.args.script.now c.lines.rest.now c.lines.number (before_of c.lines.context) c.lines.statements.items (omega arith)
+    (read_whole c.args.script.now c.lines.rest.now c.lines.number (scope_of c.lines.context) c.lines.statements.items (omega arith)
     c.lines.invariant.few (no_bytes c.lines.rest.now (eqb-true (length c.lines.rest.now) 0 (sym c.lines-test.ensures)))
     c.lines.invariant.read c.in_default-open_flaw.ensures)

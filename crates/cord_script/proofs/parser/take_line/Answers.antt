@@ -1,6 +1,6 @@
 use Rattle.std.proofs.Common.{Some, None, ◌∙◌, refl, sym, subst, append-nil}
 use Rattle.std.specs.Prelude.{OnOk}
-use Rattle.cord_script.specs.inner.ContextViews.{before_of}
+use Rattle.cord_script.specs.inner.ContextViews.{scope_of}
 use Rattle.cord_script.specs.inner.Steps.{Takes}
 use Rattle.cord_script.proofs.parser.take_line.Goals as goal
 
@@ -16,6 +16,6 @@ returns-then-is_idle-clause-takes c =
 
 pub returns-clause-takes : goal.returns-clause-takes
 returns-clause-takes c =
-    subst (λ ss. OnOk c.take_words.result (Takes c.args.number c.args.line.now (before_of c.args.context.now)
-    (before_of c.take_words.new.context) ss c.take_words.new.statements.items))
+    subst (λ ss. OnOk c.take_words.result (Takes c.args.number c.args.line.now (scope_of c.args.context.now)
+    (scope_of c.take_words.new.context) ss c.take_words.new.statements.items))
     (c.in_ok-take_settled.ensures.keeps c.if-branch.false) c.take_words.ensures.takes

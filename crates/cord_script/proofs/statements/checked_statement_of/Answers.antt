@@ -1,5 +1,5 @@
 use Rattle.cord_script.specs.declared.verbs.Verb.TheVariants.{Fixed}
-use Rattle.cord_script.proofs.Given.{is_statement}
+use Rattle.cord_script.proofs.SourceFields.{is_statement}
 use Rattle.cord_script.proofs.statements.checked_statement_of.Goals as goal
 
 pub returns-clause-statement : goal.returns-clause-statement

@@ -1,13 +1,13 @@
 use Rattle.std.proofs.Common.{refl}
 use Rattle.cord_script.specs.declared.verbs.FixedVerb.TheVariants.{Composition}
-use Rattle.cord_script.proofs.Given.{spelled}
+use Rattle.cord_script.proofs.SourceFields.{spelled}
 use Rattle.cord_script.proofs.statements.composition_of.Goals as goal
 
 pub returns-in-Ok-clause-built : goal.returns-in-Ok-clause-built
 returns-in-Ok-clause-built g c = record {
   word = spelled Composition c.in-Chars.is;
   numbered = refl;
-  given = c.in-Ok.ensures.given;
+  fields = c.in-Ok.ensures.gave;
   suits = tt;
 }
 
@@ -15,7 +15,7 @@ pub returns-in-Ok-target_and_number-clause-built : goal.returns-in-Ok-target_and
 returns-in-Ok-target_and_number-clause-built g c = record {
   word = spelled Composition c.in-Nul.is;
   numbered = refl;
-  given = c.in-Ok-target_and_number.ensures.given;
+  fields = c.in-Ok-target_and_number.ensures.gave;
   suits = tt;
 }
 
@@ -23,7 +23,7 @@ pub returns-in-Ok-target_and_operands-clause-built : goal.returns-in-Ok-target_a
 returns-in-Ok-target_and_operands-clause-built g c = record {
   word = spelled Composition c.in-Cat.is;
   numbered = refl;
-  given = c.in-Ok-target_and_operands.ensures.given;
+  fields = c.in-Ok-target_and_operands.ensures.gave;
   suits = tt;
 }
 
@@ -31,7 +31,7 @@ pub returns-in-Ok-target_operand_number-clause-built : goal.returns-in-Ok-target
 returns-in-Ok-target_operand_number-clause-built g c = record {
   word = spelled Composition c.in-Catc.is;
   numbered = refl;
-  given = c.in-Ok-target_operand_number.ensures.given;
+  fields = c.in-Ok-target_operand_number.ensures.gave;
   suits = tt;
 }
 
@@ -39,6 +39,6 @@ pub returns-in-Ok-target_operand_numbers-clause-built : goal.returns-in-Ok-targe
 returns-in-Ok-target_operand_numbers-clause-built g c = record {
   word = spelled Composition c.in-Substr.is;
   numbered = refl;
-  given = c.in-Ok-target_operand_numbers.ensures.given;
+  fields = c.in-Ok-target_operand_numbers.ensures.gave;
   suits = tt;
 }

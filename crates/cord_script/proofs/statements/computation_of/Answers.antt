@@ -1,13 +1,13 @@
 use Rattle.std.proofs.Common.{refl}
 use Rattle.cord_script.specs.declared.verbs.FixedVerb.TheVariants.{Computation}
-use Rattle.cord_script.proofs.Given.{spelled}
+use Rattle.cord_script.proofs.SourceFields.{spelled}
 use Rattle.cord_script.proofs.statements.computation_of.Goals as goal
 
 pub returns-in-Ok-clause-built : goal.returns-in-Ok-clause-built
 returns-in-Ok-clause-built g c = record {
   word = spelled Computation c.in-Assign.is;
   numbered = refl;
-  given = c.in-Ok.ensures.given;
+  fields = c.in-Ok.ensures.gave;
   suits = tt;
 }
 
@@ -15,7 +15,7 @@ pub returns-in-Ok-target_and_operand-clause-built : goal.returns-in-Ok-target_an
 returns-in-Ok-target_and_operand-clause-built g c = record {
   word = spelled Computation c.in-Len.is;
   numbered = refl;
-  given = c.in-Ok-target_and_operand.ensures.given;
+  fields = c.in-Ok-target_and_operand.ensures.gave;
   suits = tt;
 }
 
@@ -23,7 +23,7 @@ pub returns-in-Ok-target_and_numbers-clause-built : goal.returns-in-Ok-target_an
 returns-in-Ok-target_and_numbers-clause-built g c = record {
   word = spelled Computation c.in-Add.is;
   numbered = refl;
-  given = c.in-Ok-target_and_numbers.ensures.given;
+  fields = c.in-Ok-target_and_numbers.ensures.gave;
   suits = tt;
 }
 
@@ -31,6 +31,6 @@ pub returns-in-Ok-target_and_numbers-2-clause-built : goal.returns-in-Ok-target_
 returns-in-Ok-target_and_numbers-2-clause-built g c = record {
   word = spelled Computation c.in-Sub.is;
   numbered = refl;
-  given = c.in-Ok-target_and_numbers-2.ensures.given;
+  fields = c.in-Ok-target_and_numbers-2.ensures.gave;
   suits = tt;
 }

@@ -3,14 +3,14 @@ use Rattle.cord_script.specs.declared.verbs.FixedVerb.TheVariants.{Control}
 use Rattle.cord_operands.specs.declared.operands.Number.{Number}
 use Rattle.cord_operands.specs.declared.operands.Relation.{Relation}
 use Rattle.cord_script.specs.Forms.Term.{Value, Compares}
-use Rattle.cord_script.proofs.Given.{spelled, no_field, one_field, next_given}
+use Rattle.cord_script.proofs.SourceFields.{spelled, no_field, one_field, next_field}
 use Rattle.cord_script.proofs.statements.control_of.Goals as goal
 
 pub returns-in-Ok-clause-built : goal.returns-in-Ok-clause-built
 returns-in-Ok-clause-built g c = record {
   word = spelled Control c.in-Repeat.is;
   numbered = refl;
-  given = one_field c.in-Ok.ensures.given;
+  fields = one_field c.in-Ok.ensures.gave;
   suits = tt;
 }
 
@@ -18,9 +18,9 @@ pub returns-in-Ok-paired-clause-built : goal.returns-in-Ok-paired-clause-built
 returns-in-Ok-paired-clause-built g c = record {
   word = spelled Control c.in-If.is;
   numbered = refl;
-  given = next_given _ (λ (p : Number × Relation). Value p.0 ∷ Compares p.1 ∷ []) Value _ _ _ _ _ _
-      (next_given _ (λ (left : Number). Value left ∷ []) Compares _ _ _ _ _ _ (one_field c.in_ok-number-in-If.ensures.given)
-      c.in_ok-paired-in-If.ensures c.relation.ensures.given) c.in-Ok-paired.ensures c.number-in-If-2.ensures.given;
+  fields = next_field _ (λ (p : Number × Relation). Value p.0 ∷ Compares p.1 ∷ []) Value _ _ _ _ _ _
+      (next_field _ (λ (left : Number). Value left ∷ []) Compares _ _ _ _ _ _ (one_field c.in_ok-number-in-If.ensures.gave)
+      c.in_ok-paired-in-If.ensures c.relation.ensures.gave) c.in-Ok-paired.ensures c.number-in-If-2.ensures.gave;
   suits = tt;
 }
 
@@ -28,7 +28,7 @@ pub returns-in-Else-clause-built : goal.returns-in-Else-clause-built
 returns-in-Else-clause-built g c = record {
   word = spelled Control c.in-Else.is;
   numbered = refl;
-  given = no_field _ _;
+  fields = no_field _ _;
   suits = tt;
 }
 
@@ -36,6 +36,6 @@ pub returns-in-End-clause-built : goal.returns-in-End-clause-built
 returns-in-End-clause-built g c = record {
   word = spelled Control c.in-End.is;
   numbered = refl;
-  given = no_field _ _;
+  fields = no_field _ _;
   suits = tt;
 }

@@ -2,14 +2,14 @@ use Rattle.std.proofs.Common.{ℕ, List, [], ◌∷◌, refl}
 use Rattle.cord_script.specs.declared.verbs.FixedVerb.TheVariants.{Growth}
 use Rattle.cord_script.specs.declared.kinds.Kind.TheVariants as kinds
 use Rattle.cord_script.specs.Forms.Term.{Operand, Value, Literal}
-use Rattle.cord_script.proofs.Given.{spelled, one_field, next_given}
+use Rattle.cord_script.proofs.SourceFields.{spelled, one_field, next_field}
 use Rattle.cord_script.proofs.statements.growth_of.Goals as goal
 
 pub returns-in-Ok-clause-built : goal.returns-in-Ok-clause-built
 returns-in-Ok-clause-built g c = record {
   word = spelled Growth c.in-EcInit.is;
   numbered = refl;
-  given = one_field c.in-Ok.ensures.given;
+  fields = one_field c.in-Ok.ensures.gave;
   suits = tt;
 }
 
@@ -17,8 +17,8 @@ pub returns-in-Ok-paired-clause-built : goal.returns-in-Ok-paired-clause-built
 returns-in-Ok-paired-clause-built g c = record {
   word = spelled Growth c.in-EcPut.is;
   numbered = refl;
-  given = next_given _ (λ (name : List ℕ). Operand kinds.Extensible name ∷ []) Value
-      _ _ _ _ _ _ (one_field c.in_ok-operand-in-EcPut.ensures.given) c.in-Ok-paired.ensures c.number.ensures.given;
+  fields = next_field _ (λ (name : List ℕ). Operand kinds.Extensible name ∷ []) Value
+      _ _ _ _ _ _ (one_field c.in_ok-operand-in-EcPut.ensures.gave) c.in-Ok-paired.ensures c.number.ensures.gave;
   suits = tt;
 }
 
@@ -26,8 +26,8 @@ pub returns-in-Ok-paired-2-clause-built : goal.returns-in-Ok-paired-2-clause-bui
 returns-in-Ok-paired-2-clause-built g c = record {
   word = spelled Growth c.in-EcCat.is;
   numbered = refl;
-  given = next_given _ (λ (name : List ℕ). Operand kinds.Extensible name ∷ []) (Operand kinds.Cord)
-      _ _ _ _ _ _ (one_field c.in_ok-operand-in-EcCat.ensures.given) c.in-Ok-paired-2.ensures c.operand-in-EcCat-2.ensures.given;
+  fields = next_field _ (λ (name : List ℕ). Operand kinds.Extensible name ∷ []) (Operand kinds.Cord)
+      _ _ _ _ _ _ (one_field c.in_ok-operand-in-EcCat.ensures.gave) c.in-Ok-paired-2.ensures c.operand-in-EcCat-2.ensures.gave;
   suits = tt;
 }
 
@@ -35,7 +35,7 @@ pub returns-in-Ok-paired-3-clause-built : goal.returns-in-Ok-paired-3-clause-bui
 returns-in-Ok-paired-3-clause-built g c = record {
   word = spelled Growth c.in-EcStr.is;
   numbered = refl;
-  given = next_given _ (λ (name : List ℕ). Operand kinds.Extensible name ∷ []) Literal
-      _ _ _ _ _ _ (one_field c.in_ok-operand-in-EcStr.ensures.given) c.in-Ok-paired-3.ensures c.text.ensures.given;
+  fields = next_field _ (λ (name : List ℕ). Operand kinds.Extensible name ∷ []) Literal
+      _ _ _ _ _ _ (one_field c.in_ok-operand-in-EcStr.ensures.gave) c.in-Ok-paired-3.ensures c.text.ensures.gave;
   suits = tt;
 }

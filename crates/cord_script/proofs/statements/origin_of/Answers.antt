@@ -3,15 +3,15 @@ use Rattle.cord_script.specs.declared.verbs.FixedVerb.TheVariants.{Origin}
 use Rattle.cord_operands.specs.declared.operands.Function.{Function}
 use Rattle.cord_script.specs.declared.kinds.Kind.TheVariants as kinds
 use Rattle.cord_script.specs.Forms.Term.{Target, Literal, Applies, Value}
-use Rattle.cord_script.proofs.Given.{spelled, one_field, next_given}
+use Rattle.cord_script.proofs.SourceFields.{spelled, one_field, next_field}
 use Rattle.cord_script.proofs.statements.origin_of.Goals as goal
 
 pub returns-in-Ok-clause-built : goal.returns-in-Ok-clause-built
 returns-in-Ok-clause-built g c = record {
   word = spelled Origin c.in-Let.is;
   numbered = refl;
-  given = next_given _ (λ (name : List ℕ). Target kinds.Cord name ∷ []) Literal _ _ _ _ _ _ (one_field c.in_ok-target-in-Let.ensures.given)
-      c.in-Ok.ensures c.text.ensures.given;
+  fields = next_field _ (λ (name : List ℕ). Target kinds.Cord name ∷ []) Literal _ _ _ _ _ _ (one_field c.in_ok-target-in-Let.ensures.gave)
+      c.in-Ok.ensures c.text.ensures.gave;
   suits = tt;
 }
 
@@ -19,7 +19,7 @@ pub returns-in-Ok-target_and_path-clause-built : goal.returns-in-Ok-target_and_p
 returns-in-Ok-target_and_path-clause-built g c = record {
   word = spelled Origin c.in-File.is;
   numbered = refl;
-  given = c.in-Ok-target_and_path.ensures.given;
+  fields = c.in-Ok-target_and_path.ensures.gave;
   suits = tt;
 }
 
@@ -27,7 +27,7 @@ pub returns-in-Ok-target_and_path-2-clause-built : goal.returns-in-Ok-target_and
 returns-in-Ok-target_and_path-2-clause-built g c = record {
   word = spelled Origin c.in-Eager.is;
   numbered = refl;
-  given = c.in-Ok-target_and_path-2.ensures.given;
+  fields = c.in-Ok-target_and_path-2.ensures.gave;
   suits = tt;
 }
 
@@ -35,7 +35,7 @@ pub returns-in-Ok-target_and_path-3-clause-built : goal.returns-in-Ok-target_and
 returns-in-Ok-target_and_path-3-clause-built g c = record {
   word = spelled Origin c.in-Lazy.is;
   numbered = refl;
-  given = c.in-Ok-target_and_path-3.ensures.given;
+  fields = c.in-Ok-target_and_path-3.ensures.gave;
   suits = tt;
 }
 
@@ -43,8 +43,8 @@ pub returns-in-Ok-paired-clause-built : goal.returns-in-Ok-paired-clause-built
 returns-in-Ok-paired-clause-built g c = record {
   word = spelled Origin c.in-FromFn.is;
   numbered = refl;
-  given = next_given _ (λ (p : List ℕ × Function). Target kinds.Cord p.0 ∷ Applies p.1 ∷ []) Value _ _ _ _ _ _
-      (next_given _ (λ (name : List ℕ). Target kinds.Cord name ∷ []) Applies _ _ _ _ _ _ (one_field c.in_ok-target-in-FromFn.ensures.given)
-      c.in_ok-paired-in-FromFn.ensures c.function.ensures.given) c.in-Ok-paired.ensures c.number.ensures.given;
+  fields = next_field _ (λ (p : List ℕ × Function). Target kinds.Cord p.0 ∷ Applies p.1 ∷ []) Value _ _ _ _ _ _
+      (next_field _ (λ (name : List ℕ). Target kinds.Cord name ∷ []) Applies _ _ _ _ _ _ (one_field c.in_ok-target-in-FromFn.ensures.gave)
+      c.in_ok-paired-in-FromFn.ensures c.function.ensures.gave) c.in-Ok-paired.ensures c.number.ensures.gave;
   suits = tt;
 }

@@ -1,5 +1,5 @@
 use Rattle.cord_node.specs.Tree.{len_of}
-use Rattle.cord_pos.specs.Stretches.{IsWithin}
+use Rattle.cord_pos.specs.inner.Stretches.{IsWithin}
 use Rattle.cord_search.specs.inner.Ahead.{IsSpot}
 use Rattle.cord_search.proofs.ahead.near.Given as goal
 

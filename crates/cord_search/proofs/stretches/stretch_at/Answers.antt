@@ -1,6 +1,6 @@
 use Rattle.std.proofs.Common.{◌≡◌, ◌+◌, ◌-◌, ◌<◌, ◌∙◌, ap, arith}
 use Rattle.cord_node.specs.Tree.{len_of}
-use Rattle.cord_pos.specs.Stretches.{IsWithin}
+use Rattle.cord_pos.specs.inner.Stretches.{IsWithin}
 use Rattle.cord_pos.proofs.Within.{cat_len, within_left, within_right, stretch_on}
 use Rattle.cord_search.proofs.stretches.stretch_at.Goals as goal
 

@@ -1,6 +1,6 @@
 use Rattle.std.proofs.Common.{◌<◌}
 use Rattle.cord_node.specs.Tree.{len_of}
-use Rattle.cord_pos.specs.Stretches.{IsWithin}
+use Rattle.cord_pos.specs.inner.Stretches.{IsWithin}
 use Rattle.cord_search.proofs.stretches.stretch_at.Given as goal
 
 -- the place is in the text of this node, which stands in that of the first one

@@ -2,11 +2,11 @@ use Rattle.std.proofs.Common.{ℕ, List, map}
 use Rattle.std.specs.String.{string_bytes}
 use Rattle.cord_io.specs.Device.{Folder}
 use Rattle.cord_io.specs.DiskTold.{told_by}
+use Rattle.cord_io.specs.SinkCounts.{SinkCounts}
 use Rattle.cord_io.specs.Told.{Agrees}
 use Rattle.cord_meaning.specs.Ends.{Counts}
 use Rattle.cord_shell.specs.Headline.{Answer}
 use Rattle.cord_shell.specs.Outcomes.{message_of}
-use Rattle.cord_shell.specs.Tells.{SinkCounts}
 use Rattle.cord_shell.specs.Drove.{Drove}
 use Rattle.cord_shell.proofs.Headline.{comes_of_new, tells_of_new}
 use Rattle.cord_shell.proofs.machine.drive_machine.Given.{Over}

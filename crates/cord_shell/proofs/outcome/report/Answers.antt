@@ -3,7 +3,7 @@ use Rattle.cord_meaning.specs.Faults.{text_of as fault_text}
 use Rattle.cord_meaning.specs.declared.ends.FaultKind.TheVariants.{NoFile}
 use Rattle.cord_script.specs.Refusals.{text_of}
 use Rattle.cord_shell.specs.Outcomes.{message_of}
-use Rattle.cord_shell.specs.inner.Sinks.{sink_counts}
+use Rattle.cord_io.specs.SinkCounts.{sink_counts}
 use Rattle.cord_shell.proofs.Said.{told_at}
 use Rattle.cord_shell.proofs.outcome.report.Goals as goal
 

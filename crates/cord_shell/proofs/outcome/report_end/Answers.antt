@@ -1,7 +1,7 @@
 use Rattle.std.proofs.Common.{ap}
 use Rattle.cord_meaning.specs.Faults.{text_of as fault_text}
 use Rattle.cord_shell.specs.Outcomes.{message_of_end}
-use Rattle.cord_shell.specs.inner.Sinks.{sink_counts}
+use Rattle.cord_io.specs.SinkCounts.{sink_counts}
 use Rattle.cord_shell.proofs.Said.{told_at}
 use Rattle.cord_shell.proofs.outcome.report_end.Goals as goal
 

@@ -1,4 +1,4 @@
-use Rattle.cord_shell.specs.inner.Sinks.{sink_counts}
+use Rattle.cord_io.specs.SinkCounts.{sink_counts}
 use Rattle.cord_shell.proofs.Said.{said}
 use Rattle.cord_shell.proofs.outcome.tell.Goals as goal
 

@@ -1,6 +1,6 @@
 use Rattle.std.proofs.Common.{subst, ◌∙◌}
 use Rattle.cord_shell.specs.Tells.{Says}
-use Rattle.cord_shell.specs.inner.Sinks.{sink_counts}
+use Rattle.cord_io.specs.SinkCounts.{sink_counts}
 use Rattle.cord_shell.proofs.outcome.tell_at.Goals as goal
 
 pub returns : goal.returns

@@ -1,6 +1,7 @@
 use Rattle.cord_io.specs.declared.TheConstants.{MAX_LEN}
 use Rattle.cord.specs.Plain.{no_table}
-use Rattle.cord.specs.Prints.{AreArgumentsFor, IsRefusedFor}
+use Rattle.cord.specs.Prints.{IsRefusedFor}
+use Rattle.cord.specs.inner.Prints.{AreArgumentsFor}
 use Rattle.cord.proofs.PlainTexts.{plain_of}
 use Rattle.cord.proofs.Printing.{print_has, wanted_alike, taken_alike, refused_alike}
 use Rattle.cord.proofs.Results.{passed_on}

@@ -1,5 +1,5 @@
 use Rattle.std.proofs.Common.{ℕ, List, [], ◌++◌, ◌∙◌, ap, subst}
-use Rattle.cord_iter.specs.Taking.{IsFrontOf, Takes}
+use Rattle.cord_iter.specs.Output.{IsFrontOf, Takes}
 use Rattle.cord.specs.Plain.{no_lengths}
 use Rattle.cord.proofs.Results.{on_err}
 use Rattle.cord.proofs.text.Text.put.Goals as goal

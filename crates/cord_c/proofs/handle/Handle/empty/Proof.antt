@@ -15,10 +15,10 @@ use denote.Triple.Walked.{Stays, stay_dropped, walk_of, ends_at, says, Goes-drop
 use Rattle.std.proofs.raw_atomic.Walks.{proved}
 use Rattle.std.specs.contracts.alloc.Global as heap
 use Rattle.std.proofs.alloc.Global.TheLaws as heap_laws
-use Rattle.cord_c.specs.Kept.{text_by}
+use Rattle.cord_c.specs.Referent.{text_by}
 use Rattle.cord_c.specs.declared.handle.Handle.{Handle}
-use Rattle.cord_c.specs.declared.kept.Kept.{Kept}
-use Rattle.cord_c.specs.declared.kept.Kept.TheVariants.{Nothing}
+use Rattle.cord_c.specs.declared.referent.Referent.{Referent}
+use Rattle.cord_c.specs.declared.referent.Referent.TheVariants.{Nothing}
 use Rattle.cord_c.proofs.Handles.{heap_val, heap_typed, handle_val, handle_typed, packs}
 use Rattle.cord_c.specs.contracts.handle.Handle.empty as f
 use Rattle.cord_c.proofs.handle.Handle.empty.Statement.{statement}
@@ -34,11 +34,12 @@ empty_spec 𝓤 𝓛 𝓜 𝓡 wired =
     f.Key.name code.function (code.unfolded 𝓤 𝓛.H 𝓜 𝓡 wired)
     (λ κs. ((λ h. heap_val ∷ []), tt)) (λ κs. (heap_laws.lowers.val_is, tt)) (λ κs qs bounds a g are.
     let y : W.Ghost = ((κs, qs, bounds, a, (heap_val ∷ [], tt)), g) in
-    let made : Handle = record { at = null_ptr; alloc = a.0; kept = Nothing; text = text_by Nothing; told = refl; testable = lit< tt } in
+    let made : Handle =
+    record { at = null_ptr; alloc = a.0; referent = Nothing; text = text_by Nothing; told = refl; testable = lit< tt } in
     qed 𝓛 ((‵ ftrue ⊛ ‵ (heap.the_row.own_val a.0 (heap_val ∷ [])) ⊛ ‵ ftrue) ∷ ‵ ftrue ∷ []) ∵ keep ! [] $
     enter ! _ _ _ _ _ $ alloc_all ! (λ l. pass_all ! refl (heap_typed, tt) $
     sets ! (agg ! (and_then ! (lit ! tt) (and_then ! (get ! refl) (no_more !)))) refl (handle_typed 𝓛 made) $
-    feq_i ! Kept Nothing Nothing refl $ packs ! made $
+    feq_i ! Referent Nothing Nothing refl $ packs ! made $
     returns ! (look_at ! 0 refl) $ free_all ! refl $
     suffices ! _ (ends_at 𝓛 f.ended stayed c y (handle_val made) made (tt, tt) (tt, tt)) $ says ! refl $
     nothing ! $ nothing ! $ join ! $ nothing ! $ done !))

@@ -27,15 +27,16 @@ use Rattle.std_alloc.proofs.RcSteps.{Ptr-Good}
 use Rattle.std_alloc.proofs.VecSteps.Shapes.{after}
 use Rattle.std.proofs.raw_atomic.Walks.{proved}
 use Rattle.std.specs.Box.Ownership.{box_owns}
-use Rattle.cord_c.specs.contracts.kept.Kept as kept
-use Rattle.cord_c.specs.Handles.{frees, handle_owns}
+use Rattle.cord_c.specs.contracts.referent.Referent as referent
+use Rattle.cord_raw.specs.inner.Ownership.{frees}
+use Rattle.cord_c.specs.Handles.{handle_owns}
 use Rattle.cord_c.specs.contracts.handle.Handle as handle
 use Rattle.cord_c.specs.declared.handle.Handle.{Handle}
-use Rattle.cord_c.specs.declared.kept.Kept.{Kept}
-use Rattle.cord_c.specs.declared.kept.Kept.TheVariants.{Nothing}
+use Rattle.cord_c.specs.declared.referent.Referent.{Referent}
+use Rattle.cord_c.specs.declared.referent.Referent.TheVariants.{Nothing}
 use Rattle.cord_raw.specs.declared.raw.Raw.{Raw}
 use Rattle.cord_c.proofs.handle.Handle.TheLaws as handle_laws
-use Rattle.cord_c.proofs.Handles.{heap_typed, word, RawKept, owner_val, owner_typed, handle_val, handle_typed, unpacks, packs_raw}
+use Rattle.cord_c.proofs.Handles.{heap_typed, word, RawReferent, owner_val, owner_typed, handle_val, handle_typed, unpacks, packs_raw}
 use Rattle.cord_c.specs.contracts.handle.Handle.into_raw as f
 use Rattle.cord_c.proofs.handle.Handle.into_raw.Statement.{statement}
 use Rattle.cord_c.proofs.handle.Handle.into_raw.Code as code
@@ -52,13 +53,13 @@ module _ {M : Type 1} (𝓤 : Ura M) (𝓛 : Logic 𝓤) (𝓜 : Model 𝓤 𝓛
   Post = (walk_of 𝓛 f.ended stayed (f.clauses 𝓛 𝓜.mem 𝓡.returns)).post y
 
   abbrev as_if : (p : Ptr) → Testable p → Handle
-  as_if p t = record { at = p; alloc = h.alloc; kept = h.kept; text = h.text; told = h.told; testable = t }
+  as_if p t = record { at = p; alloc = h.alloc; referent = h.referent; text = h.text; told = h.told; testable = t }
 
   -- by the pointer's form
-  at : (p : Ptr) → Testable p → ent 𝓤 (sem 𝓛 (handle_owns p h.kept))
+  at : (p : Ptr) → Testable p → ent 𝓤 (sem 𝓛 (handle_owns p h.referent))
       (WpFn 𝓤 𝓛.H (tables 𝓤 𝓛.H 𝓜 𝓡 𝓡.env).C (tables 𝓤 𝓛.H 𝓜 𝓡 𝓡.env).Λ code.function (word p ∷ []) Post)
   at null_ptr t =
-      qed 𝓛 (‵ (feq Kept h.kept Nothing) ∷ []) ∵ feq_l ! (λ none.
+      qed 𝓛 (‵ (feq Referent h.referent Nothing) ∷ []) ∵ feq_l ! (λ none.
       enter ! (tables 𝓤 𝓛.H 𝓜 𝓡 𝓡.env).C (tables 𝓤 𝓛.H 𝓜 𝓡 𝓡.env).Λ code.function (word null_ptr ∷ []) Post $ alloc_all !
       (λ l. pass_all ! refl (handle_typed 𝓛 (as_if null_ptr t), tt) $
       sets ! (of_opd ! (get_in ! (fld ! refl (stop !)) (sub ! 0 refl (whole !)))) refl (Ptr-Good null_ptr) $
@@ -67,14 +68,14 @@ module _ {M : Type 1} (𝓤 : Ura M) (𝓛 : Logic 𝓤) (𝓜 : Model 𝓤 𝓛
       first ! $ branches ! (get ! refl)
       (λ yes. sets ! (agg ! (and_then ! (lit ! tt) (no_more !))) refl (tt, (record { fits = lit< tt }, tt)) $
       returns_within ! Post refl (look_at ! 0 refl) $ free_all ! refl $
-      use0 𝓛 (‵ ((OP.the_row RawKept).own_val None (live 0 (of_list []) ∷ []))) (none_of 𝓛 RawKept) $
+      use0 𝓛 (‵ ((OP.the_row RawReferent).own_val None (live 0 (of_list []) ∷ []))) (none_of 𝓛 RawReferent) $
       suffices ! _ (ends_at 𝓛 f.ended stayed (f.clauses 𝓛 𝓜.mem 𝓡.returns) y (live 0 (of_list [])) None (tt, tt) (tt, tt)) $ says ! none $
       nothing ! $ nothing ! $ join ! $ nothing ! $ done !)
       (λ no. absurd no)))
   at (block_ptr b o) t =
-      let En = env code.function.locals in let made : Raw Kept Global =
-      record { at = block_ptr b o; alloc = h.alloc; value = h.kept } in
-      qed 𝓛 (‵ (box_owns frees kept.the_row (block_ptr b o) h.kept) ∷ []) ∵
+      let En = env code.function.locals in let made : Raw Referent Global =
+      record { at = block_ptr b o; alloc = h.alloc; value = h.referent } in
+      qed 𝓛 (‵ (box_owns frees referent.the_row (block_ptr b o) h.referent) ∷ []) ∵
       enter ! (tables 𝓤 𝓛.H 𝓜 𝓡 𝓡.env).C (tables 𝓤 𝓛.H 𝓜 𝓡 𝓡.env).Λ code.function (word (block_ptr b o) ∷ []) Post $ alloc_all !
       (λ l. pass_all ! refl (handle_typed 𝓛 (as_if (block_ptr b o) t), tt) $
       sets ! (of_opd ! (get_in ! (fld ! refl (stop !)) (sub ! 0 refl (whole !)))) refl (Ptr-Good (block_ptr b o)) $
@@ -87,9 +88,9 @@ module _ {M : Type 1} (𝓤 : Ura M) (𝓛 : Logic 𝓤) (𝓜 : Model 𝓤 𝓛
       sets ! (agg ! (and_then ! (get ! refl) (and_then ! (get ! refl) (no_more !)))) refl (owner_typed 𝓛 made) $
       sets ! (agg ! (and_then ! (lit ! tt) (and_then ! (get ! refl) (no_more !)))) refl
       (tt, (record { fits = lit< tt }, ((owner_typed 𝓛 made).1, tt))) $
-      returns ! (look_at ! 0 refl) $ free_all ! refl $ packs_raw ! b o h.alloc h.kept $
-      use1 𝓛 (‵ ((OP.the_row RawKept).own_val (Some made) (live 1 (of_list (owner_val made ∷ [])) ∷ [])))
-      (Some-of 𝓛 RawKept made (owner_val made)) $
+      returns ! (look_at ! 0 refl) $ free_all ! refl $ packs_raw ! b o h.alloc h.referent $
+      use1 𝓛 (‵ ((OP.the_row RawReferent).own_val (Some made) (live 1 (of_list (owner_val made ∷ [])) ∷ [])))
+      (Some-of 𝓛 RawReferent made (owner_val made)) $
       suffices ! _ (ends_at 𝓛 f.ended stayed (f.clauses 𝓛 𝓜.mem 𝓡.returns) y (live 1 (of_list (owner_val made ∷ []))) (Some made) (tt, tt)
       (tt, tt)) $ says ! refl $
       nothing ! $ nothing ! $ join ! $ nothing ! $ done !))

@@ -15,30 +15,32 @@ use Rattle.core.proofs.alloc.Calls.{Goes-blank}
 use Rattle.std_alloc.proofs.RcSteps.{Ptr-Good}
 use Rattle.std.proofs.raw_atomic.Walks.{proved}
 use Rattle.std.specs.Box.Ownership.{box_owns}
-use Rattle.cord_c.specs.contracts.kept.Kept as kept
-use Rattle.cord_c.specs.Handles.{frees, handle_owns}
-use Rattle.cord_c.specs.Kept.{text_by}
+use Rattle.cord_c.specs.contracts.referent.Referent as referent
+use Rattle.cord_raw.specs.inner.Ownership.{frees}
+use Rattle.cord_c.specs.Handles.{handle_owns}
+use Rattle.cord_c.specs.Referent.{text_by}
 use Rattle.cord_c.specs.declared.handle.Handle.{Handle}
-use Rattle.cord_c.proofs.Handles.{heap_typed, RawKept, owner_val, owner_tells, owner_typed, handle_val, handle_typed, packs, held, tested}
+use Rattle.cord_c.proofs.Handles.{heap_typed, RawReferent, owner_val, owner_tells, owner_typed, handle_val, handle_typed, packs, held}
+use Rattle.cord_c.proofs.Handles.{tested}
 use Rattle.cord_c.specs.contracts.handle.Handle.of as f
 use Rattle.cord_c.proofs.handle.Handle.of.Statement.{statement}
 use Rattle.cord_c.proofs.handle.Handle.of.Code as code
 
 abbrev stayed : Stays f.ended.signature.params f.ended.kept
-stayed = (stay_dropped (plain (λ _. RawKept)) yes, tt)
+stayed = (stay_dropped (plain (λ _. RawReferent)) yes, tt)
 
 pub of_spec : {M : Type 1} → statement M
 of_spec 𝓤 𝓛 𝓜 𝓡 wired =
     let c = f.clauses 𝓛 𝓜.mem 𝓡.returns in let W = walk_of 𝓛 f.ended stayed c in let 𝓣 = tables 𝓤 𝓛.H 𝓜 𝓡 𝓡.env in
-    proved 𝓛 f.ended stayed c 𝓜 𝓡 (Goes-blank 𝓛 0 (plain (λ _. RawKept)) yes (λ κs x w. tt), tt)
+    proved 𝓛 f.ended stayed c 𝓜 𝓡 (Goes-blank 𝓛 0 (plain (λ _. RawReferent)) yes (λ κs x w. tt), tt)
     f.Key.name code.function (code.unfolded 𝓤 𝓛.H 𝓜 𝓡 wired)
     (λ κs. ((λ r. owner_val r ∷ []), tt)) (λ κs. (owner_tells, tt)) (λ κs qs bounds a g are.
     let r = a.0 in let y : W.Ghost = ((κs, qs, bounds, a, (owner_val r ∷ [], tt)), g) in
-    qed 𝓛 ((‵ ftrue ⊛ ‵ (RawKept.own_val r (owner_val r ∷ [])) ⊛ ‵ ftrue) ∷ ‵ ftrue ∷ []) ∵ split ! $ drop ! $ split ! $ fsplit ! $ keep
+    qed 𝓛 ((‵ ftrue ⊛ ‵ (RawReferent.own_val r (owner_val r ∷ [])) ⊛ ‵ ftrue) ∷ ‵ ftrue ∷ []) ∵ split ! $ drop ! $ split ! $ fsplit ! $ keep
     ! (1 ∷ []) $
-    use1 𝓛 (given (Testable r.at) (‵ (box_owns frees kept.the_row r.at r.value))) (tested 𝓛 r.at r.value) $ learn ! (λ t.
+    use1 𝓛 (given (Testable r.at) (‵ (box_owns frees referent.the_row r.at r.value))) (tested 𝓛 r.at r.value) $ learn ! (λ t.
     use1 𝓛 (‵ (handle_owns r.at r.value)) (held 𝓛 r.at r.value) $
-    let made : Handle = record { at = r.at; alloc = r.alloc; kept = r.value; text = text_by r.value; told = refl; testable = t } in
+    let made : Handle = record { at = r.at; alloc = r.alloc; referent = r.value; text = text_by r.value; told = refl; testable = t } in
     enter ! _ _ _ _ _ $ alloc_all ! (λ l. pass_all ! refl (owner_typed 𝓛 r, tt) $
     sets ! (of_opd ! (get_in ! (fld ! refl (stop !)) (sub ! 0 refl (whole !)))) refl (Ptr-Good r.at) $
     sets ! (of_opd ! (get_in ! (fld ! refl (stop !)) (sub ! 1 refl (whole !)))) refl heap_typed $

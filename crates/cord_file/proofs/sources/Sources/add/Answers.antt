@@ -63,8 +63,8 @@ invariant_of-self-2 g c =
             (is_ok c.push.result) c.push.ensures.items
             (λ k f h folder kept. old.sound.as_long k f h folder (earlier folder kept))
             (λ folder kept. (found folder kept).1);
-        kept = kept_behind Keeps files _ file (is_ok c.push.result) _ c.push.ensures.items
-            (kept_earlier (g.F.Files.keeps old.files) Keeps files old.cache.entries earlier old.sound.kept);
+        cached = kept_behind Keeps files _ file (is_ok c.push.result) _ c.push.ensures.items
+            (kept_earlier (g.F.Files.keeps old.files) Keeps files old.cache.entries earlier old.sound.cached);
       };
     }
 

@@ -1,6 +1,6 @@
 use Rattle.std.proofs.Common.{rules, refl, sym, subst, []}
 use Rattle.cord_file.proofs.sources.Sources.new.Goals as goal
-use Rattle.cord_file.specs.Blocks.{AreKept}
+use Rattle.cord_file.specs.Blocks.{AreCached}
 use Rattle.cord_file.specs.Files.{Each}
 use Rattle.cord_file.proofs.BlockParts.{kept_none}
 use Rattle.cord_file.specs.declared.files.OpenFile.{OpenFile}
@@ -17,7 +17,7 @@ invariant_of-result g c = record {
     short_enough = subst (Each _) (sym c.new-entries.ensures.items) (each_none _);
     there = subst (Each _) (sym c.new-entries.ensures.items) (each_none _);
     as_long = subst (Each _) (sym c.new-entries.ensures.items) (each_none _);
-    kept = subst (λ b. AreKept (g.F.Files.keeps c.args.files) c.new-entries.result.items b.entries) (sym c.in-Ok.ensures)
+    cached = subst (λ b. AreCached (g.F.Files.keeps c.args.files) c.new-entries.result.items b.entries) (sym c.in-Ok.ensures)
         (kept_none (g.F.Files.keeps c.args.files) c.new-entries.result.items);
   };
 }

@@ -1,7 +1,7 @@
 use Rattle.std.proofs.Common.{◌≡◌, ℕ, ◌+◌, List, length, Option, ap, subst, ◌∙◌, arith, rules}
 use Rattle.std.specs.Prelude.{slice_get}
 use Rattle.std.specs.String.{string_bytes}
-use Rattle.cord_file.specs.Blocks.{AreRead}
+use Rattle.cord_file.specs.inner.Blocks.{AreRead}
 use Rattle.cord_file.specs.declared.files.OpenFile.{OpenFile}
 use Rattle.cord_file.proofs.Ranges.{more_read, all_read}
 use Rattle.cord_file.proofs.sources.Sources.read_blocks.Goals as goal

@@ -3,7 +3,8 @@ use Rattle.std.specs.Prelude.{slice_get, IsSomeAnd}
 use Rattle.std.specs.Box.{with_value}
 use Rattle.cord_file.specs.declared.blocks.TheConstants.{BLOCK}
 use Rattle.cord_file.specs.declared.blocks.BlockKey.{BlockKey}
-use Rattle.cord_file.specs.Blocks.{HeapBlock, IsBlockIn, IsKept, AreKept}
+use Rattle.cord_file.specs.Blocks.{HeapBlock, IsCached, AreCached}
+use Rattle.cord_file.specs.inner.Blocks.{IsBlockIn}
 use Rattle.cord_file.proofs.BlockParts.{begins_inside, inside_opened, kept_of_read, read_of_block, kept_with, sound_keeping}
 use Rattle.cord_file.proofs.sources.Sources.read_new.Goals as goal
 
@@ -24,12 +25,12 @@ invariant_of-self-2-clause-sound g c =
     let same : files ≡ before = c.read_block.ensures.files.entries in
     let key : BlockKey = record { place = c.args.place; number = c.args.start / BLOCK } in
     let block : HeapBlock = with_value c.in-Some.block c.read_block.new.block in
-    let kept : IsKept keeps files (key, block) =
+    let kept : IsCached keeps files (key, block) =
     kept_of_read keeps files key block (subst (λ fs. c.args.place < length fs) (sym same) inside)
     (λ folder is. subst (λ fs. IsBlockIn folder (slice_get fs c.args.place) (c.args.start / BLOCK) block.value) (sym same)
     (c.in_ok-read_block.ensures.block folder is)) in
-    let all : AreKept keeps files c.keep.new.cache.entries =
-    kept_with keeps files self.cache.entries c.keep.new.cache.entries (key, block) self.sound.kept kept c.keep.ensures in
+    let all : AreCached keeps files c.keep.new.cache.entries =
+    kept_with keeps files self.cache.entries c.keep.new.cache.entries (key, block) self.sound.cached kept c.keep.ensures in
     sound_keeping keeps (g.F.Files.opened self.files) files self.cache.entries c.keep.new.cache.entries all self.sound
 
 pub returns-clause-bytes : goal.returns-clause-bytes

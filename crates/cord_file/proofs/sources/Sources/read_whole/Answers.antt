@@ -8,7 +8,7 @@ use Rattle.cord_core.specs.Refusals.{IsRefusal}
 use Rattle.cord_io.specs.declared.faults.CordError.{CordError}
 use Rattle.cord_io.specs.declared.faults.CordError.TheVariants.{NoMemory, TooLong, ReadFailed, WriteFailed}
 use Rattle.cord_file.specs.Faults.{file_error_of}
-use Rattle.cord_file.specs.Making.{IsReadRefusal}
+use Rattle.cord_file.specs.FileCords.{IsReadRefusal}
 use Rattle.cord_file.specs.declared.faults.FileError.{FileError}
 use Rattle.cord_file.specs.Entries.{lengths_in, table_in}
 use Rattle.cord_file.specs.Files.{opened_of, as_long_as_told}

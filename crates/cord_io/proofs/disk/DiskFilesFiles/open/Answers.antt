@@ -1,6 +1,6 @@
 use Rattle.std.proofs.Common.{◌≡◌, [], ◌∷◌, ◌++◌, length, subst, rules}
 use Rattle.cord_io.specs.Told.{has_len, is_missing, Agrees}
-use Rattle.cord_io.proofs.OpenedFiles.{handed_out, given_beside}
+use Rattle.cord_io.proofs.OpenedFiles.{handed_out, readers_beside}
 use Rattle.cord_io.proofs.disk.DiskFilesFiles.open.Goals as goal
 
 pub returns-in-Err-NotFound-clause-told : goal.returns-in-Err-NotFound-clause-told
@@ -28,8 +28,8 @@ returns-then-is_ok-clause-opened g c =
     let last : c.in-Ok-try_from.no ≡ length files = search rules in
     handed_out files c.push.new.self.items c.in-Ok.file c.in-Ok-try_from.no c.args.path.now pushed last c.in-Ok.ensures.path
 
-pub returns-then-is_ok-clause-given_earlier : goal.returns-then-is_ok-clause-given_earlier
-returns-then-is_ok-clause-given_earlier g c = λ folder.
+pub returns-then-is_ok-clause-machine_earlier : goal.returns-then-is_ok-clause-machine_earlier
+returns-then-is_ok-clause-machine_earlier g c = λ folder.
     let files = c.args.self.now.opened.items in
     let pushed : c.push.new.self.items ≡ files ++ c.in-Ok.file ∷ [] = search rules in
-    given_beside folder files c.push.new.self.items c.in-Ok.file pushed
+    readers_beside folder files c.push.new.self.items c.in-Ok.file pushed

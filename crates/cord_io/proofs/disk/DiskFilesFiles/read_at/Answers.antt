@@ -2,11 +2,11 @@ use Rattle.std.proofs.Common.{◌≡◌, ◌∷◌, take, Some, sym, subst, rule
 use Rattle.std.specs.Prelude.{slice_get, Ok}
 use Rattle.std.specs.Option.{option_map}
 use Rattle.std.specs.String.{string_bytes}
-use Rattle.cord_io.specs.inner.Disk.{told_of}
+use Rattle.cord_io.specs.Disk.{told_of}
 use Rattle.cord_io.specs.DiskTold.{after_reading}
 use Rattle.cord_io.specs.Told.{has_bytes, Agrees}
 use Rattle.cord_io.specs.declared.faults.ReadFault.{ReadFault}
-use Rattle.cord_io.proofs.OpenedFiles.{has_number, told_after, told_read, given_before, given_read}
+use Rattle.cord_io.proofs.OpenedFiles.{has_number, told_after, told_read, readers_before, readers_read}
 use Rattle.cord_io.proofs.disk.DiskFilesFiles.read_at.Goals as goal
 
 -- the answer that is told of this read
@@ -34,21 +34,21 @@ returns-in-Ok-clause-bytes g c = λ folder agrees.
     told_read folder files c.args.no.0 old c.in-Ok.count c.args.start c.read.new.out before here c.in-Ok.ensures.some.1
     (subst (Agrees folder) told agrees)
 
-pub returns-in-Ok-clause-given_earlier : goal.returns-in-Ok-clause-given_earlier
-returns-in-Ok-clause-given_earlier g c = λ folder.
+pub returns-in-Ok-clause-machine_earlier : goal.returns-in-Ok-clause-machine_earlier
+returns-in-Ok-clause-machine_earlier g c = λ folder.
     let files = c.args.self.now.opened.items in
     let old = c.index_mut-opened.result.now in
     let here : slice_get files c.args.no.0 ≡ Some old =
     has_number files c.args.no.0 old _ c.requires.inside c.index_mut-opened.ensures.value in
-    given_before folder files c.args.no.0 old c.read.new.self here (c.read.ensures.earlier folder)
+    readers_before folder files c.args.no.0 old c.read.new.self here (c.read.ensures.earlier folder)
 
-pub returns-in-Ok-clause-given : goal.returns-in-Ok-clause-given
-returns-in-Ok-clause-given g c = λ folder.
+pub returns-in-Ok-clause-machine_bytes : goal.returns-in-Ok-clause-machine_bytes
+returns-in-Ok-clause-machine_bytes g c = λ folder.
     let files = c.args.self.now.opened.items in
     let old = c.index_mut-opened.result.now in
     let here : slice_get files c.args.no.0 ≡ Some old =
     has_number files c.args.no.0 old _ c.requires.inside c.index_mut-opened.ensures.value in
-    given_read folder files c.args.no.0 old c.read.new.self c.in-Ok.count c.args.start c.read.new.out here (c.in-Ok.ensures.bytes folder)
+    readers_read folder files c.args.no.0 old c.read.new.self c.in-Ok.count c.args.start c.read.new.out here (c.in-Ok.ensures.bytes folder)
 
 pub returns-in-Err-clause-opened : goal.returns-in-Err-clause-opened
 returns-in-Err-clause-opened g c =
@@ -59,10 +59,10 @@ returns-in-Err-clause-opened g c =
     let same : told_of c.read.new.self ≡ told_of old = search rules in
     told_after files c.args.no.0 old c.read.new.self here same
 
-pub returns-in-Err-clause-given_earlier : goal.returns-in-Err-clause-given_earlier
-returns-in-Err-clause-given_earlier g c = λ folder.
+pub returns-in-Err-clause-machine_earlier : goal.returns-in-Err-clause-machine_earlier
+returns-in-Err-clause-machine_earlier g c = λ folder.
     let files = c.args.self.now.opened.items in
     let old = c.index_mut-opened.result.now in
     let here : slice_get files c.args.no.0 ≡ Some old =
     has_number files c.args.no.0 old _ c.requires.inside c.index_mut-opened.ensures.value in
-    given_before folder files c.args.no.0 old c.read.new.self here (c.read.ensures.earlier folder)
+    readers_before folder files c.args.no.0 old c.read.new.self here (c.read.ensures.earlier folder)

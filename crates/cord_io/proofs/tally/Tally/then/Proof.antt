@@ -14,10 +14,10 @@ use denote.Steps.{nothing}
 use denote.Triple.Entry.{alive}
 use denote.Triple.Walked.{Stays, stay_dropped, Goes-dropped, walk_of, ends_at, says}
 use Rattle.std.proofs.raw_atomic.Walks.{proved}
-use Rattle.cord_io.specs.inner.Takings.{bytes_by, ends_by}
+use Rattle.cord_io.specs.inner.SinkAnswers.{bytes_by, ends_by}
 use Rattle.cord_io.specs.declared.tally.Tally.{Tally}
 use Rattle.cord_io.specs.contracts.tally.Tally.{the_row as Row}
-use Rattle.cord_io.specs.contracts.tally.Taking as arg
+use Rattle.cord_io.specs.contracts.tally.SinkAnswer as arg
 use Rattle.cord_io.proofs.Walks.{bare_val, makes_bare}
 use Rattle.cord_io.specs.contracts.tally.Tally.then as f
 use Rattle.cord_io.proofs.tally.Tally.then.Statement.{statement}

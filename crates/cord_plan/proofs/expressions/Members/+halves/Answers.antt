@@ -1,6 +1,7 @@
 use Rattle.std.proofs.Common.{[], map, Some, sym, ap, ◌∙◌}
 use Rattle.cord_plan.specs.Exprs.{append}
-use Rattle.cord_plan.specs.Views.{members_of, members_view, rest_view, shared_view}
+use Rattle.cord_plan.specs.Views.{members_of, members_view, shared_view}
+use Rattle.cord_plan.specs.inner.Views.{rest_view}
 use Rattle.cord_plan.specs.declared.expressions.Members.{Members}
 use Rattle.cord_plan.proofs.Appending.{append_nothing}
 use Rattle.cord_plan.proofs.ExprViews.{members_told, view-Nothing, view-One, view-Two}

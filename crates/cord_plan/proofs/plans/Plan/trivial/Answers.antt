@@ -1,6 +1,6 @@
 use Rattle.std.proofs.Common.{List, sym, subst}
 use Rattle.std.specs.Prelude.{All}
-use Rattle.cord_plan.specs.Kept.{KeepsNoOther}
+use Rattle.cord_plan.specs.Verbatim.{KeepsNoOther}
 use Rattle.cord_plan.specs.Planned.{Operation}
 use Rattle.cord_plan.proofs.Kept.{trivial_keeps}
 use Rattle.cord_plan.proofs.OnlyKept.{kept_trivial}

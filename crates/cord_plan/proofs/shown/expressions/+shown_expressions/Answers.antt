@@ -3,7 +3,7 @@ use Rattle.std.specs.Prelude.{codes, if◌then◌else◌}
 use Rattle.cord_operands.specs.declared.operands.Number.{Number}
 use Rattle.cord_plan.specs.declared.expressions.Expr.{Expr}
 use Rattle.cord_plan.specs.Exprs as plain
-use Rattle.cord_plan.specs.Exprs.{is_nothing}
+use Rattle.cord_plan.specs.inner.Exprs.{is_nothing}
 use Rattle.cord_plan.specs.Shown.{expr, exprs, more_exprs, number, called, spaced}
 use Rattle.cord_plan.specs.Views.{Shared, expr_view, members_of, members_view, shared_view}
 use Rattle.cord_plan.proofs.ExprViews.{view-Run, view-Cat, view-Sub}

@@ -1,7 +1,7 @@
 use Rattle.std.proofs.Common.{arith}
 use Rattle.std.proofs.lemmas.List.{length-map}
 use Rattle.cord_pos.specs.inner.Path.{place_of}
-use Rattle.cord_pos.proofs.Taking.{found, taken}
+use Rattle.cord_pos.proofs.GoTo.{found, taken}
 use Rattle.cord_pos.proofs.path.Path.go_to.Goals as goal
 
 pub descend-requires-clause-sound : goal.descend-requires-clause-sound

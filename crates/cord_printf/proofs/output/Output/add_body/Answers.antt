@@ -4,7 +4,7 @@ use Rattle.cord_node.specs.Kept.{Part}
 use Rattle.cord_ec.specs.Gathered.{leaf_bytes}
 use Rattle.cord_printf.specs.declared.shown.Body.{Body}
 use Rattle.cord_printf.specs.Own.{IsPrintedFrom}
-use Rattle.cord_printf.specs.Shown.{body_own, body_parts}
+use Rattle.cord_printf.specs.inner.Shown.{body_own, body_parts}
 use Rattle.cord_printf.proofs.Owned.{bare_from, each_byte, when_ok}
 use Rattle.cord_printf.proofs.output.Output.add_body.Goals as goal
 

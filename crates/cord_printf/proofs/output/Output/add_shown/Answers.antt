@@ -1,6 +1,6 @@
 use Rattle.std.proofs.Common.{refl}
 use Rattle.std.proofs.lemmas.Result.{IfOk-equal, IfOk-weaker}
-use Rattle.cord_printf.specs.Shown.{body_text}
+use Rattle.cord_printf.specs.inner.Shown.{body_text}
 use Rattle.cord_printf.proofs.Layouts.{shown_added}
 use Rattle.cord_printf.proofs.Owned.{shown_from}
 use Rattle.cord_printf.proofs.output.Output.add_shown.Goals as goal

@@ -4,7 +4,7 @@ use Rattle.cord_node.specs.Kept.{Part}
 use Rattle.cord_core.specs.Cord.{parts_of}
 use Rattle.cord_ec.specs.Gathered.{Growth, leaf_parts}
 use Rattle.cord_printf.specs.Own.{IsPrintedFrom}
-use Rattle.cord_printf.specs.Shown.{parts_in}
+use Rattle.cord_printf.specs.inner.Shown.{parts_in}
 use Rattle.cord_printf.proofs.Owned.{kept_from, twice_from}
 use Rattle.cord_printf.proofs.output.Output.to_cord.Goals as goal
 

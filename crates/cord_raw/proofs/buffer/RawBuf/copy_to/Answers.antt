@@ -1,5 +1,6 @@
 use Rattle.std.proofs.Common.{◌+◌, ◌≤◌, length, drop, slice_range, sym, ap, ◌∙◌, subst}
-use Rattle.cord_raw.specs.Texts.{text, blocks_of}
+use Rattle.cord_raw.specs.Texts.{text}
+use Rattle.cord_raw.specs.inner.Texts.{blocks_of}
 use Rattle.cord_raw.proofs.Texts.{text_blocks}
 use Rattle.cord_raw.proofs.buffer.RawBuf.copy_to.Goals as goal
 

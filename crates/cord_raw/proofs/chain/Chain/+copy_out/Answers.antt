@@ -1,7 +1,8 @@
 use Rattle.std.proofs.Common.{rules, ◌≡◌, ℕ, List, ◌+◌, ◌-◌, ◌<◌, ◌++◌, length, drop, min, slice_range, ap, ◌∙◌, arith}
 use Rattle.cord_raw.specs.declared.block.TheConstants.{ROOM}
 use Rattle.cord_raw.specs.inner.Places.{block_at}
-use Rattle.cord_raw.specs.Texts.{text, text_of, blocks_of}
+use Rattle.cord_raw.specs.Texts.{text, text_of}
+use Rattle.cord_raw.specs.inner.Texts.{blocks_of}
 use Rattle.cord_raw.proofs.Texts.{left_behind, behind_block, from_block, holds_run}
 use Rattle.cord_raw.proofs.chain.Chain.+copy_out.Goals as goal
 

@@ -16,7 +16,7 @@ use denote.Steps.{nothing}
 use denote.Triple.Walked.{says, Stays, stay_none_ref, walk_of, ends_at, Goes-none_ref}
 use Rattle.std_alloc.proofs.Words.{word_in, word_out}
 use Rattle.std.proofs.raw_atomic.Walks.{proved}
-use Rattle.cord_raw.specs.Ownership.{chain_lent}
+use Rattle.cord_raw.specs.inner.Ownership.{chain_lent}
 use Rattle.cord_raw.specs.contracts.chain.Chain.{the_row as C}
 use Rattle.cord_raw.proofs.Words.{few_fit, fields_lent, lends, shows_count}
 use Rattle.cord_raw.specs.contracts.chain.Chain.count as f

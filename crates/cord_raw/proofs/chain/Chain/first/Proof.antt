@@ -22,7 +22,7 @@ use denote.Triple.Walked.{says, Stays, stay_dropped, walk_of, ends_at, Goes-drop
 use Rattle.std_alloc.proofs.Words.{pointer_in, pointer_out}
 use Rattle.std.proofs.raw_atomic.Walks.{proved}
 use Rattle.cord_raw.specs.declared.chain.Place.{Place}
-use Rattle.cord_raw.specs.Ownership.{chain_lent}
+use Rattle.cord_raw.specs.inner.Ownership.{chain_lent}
 use Rattle.cord_raw.specs.inner.Places.{block_at}
 use Rattle.cord_raw.specs.contracts.block.Block.{the_row as B}
 use Rattle.cord_raw.specs.contracts.chain.Chain.{the_row as C}

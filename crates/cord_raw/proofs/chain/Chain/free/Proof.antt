@@ -44,7 +44,7 @@ use Rattle.std.proofs.alloc.Global.TheLaws as heap_laws
 use Rattle.std.specs.contracts.impls.GlobalAllocator.TheImpl.{ghosts, dict}
 use Rattle.std.proofs.impls.GlobalAllocator.TheImpl.Met as heap_met
 use Rattle.cord_raw.specs.declared.block.Block.{Block}
-use Rattle.cord_raw.specs.Ownership.{links}
+use Rattle.cord_raw.specs.inner.Ownership.{links}
 use Rattle.cord_raw.specs.contracts.block.Block.{the_row}
 use Rattle.cord_raw.specs.contracts.chain.Chain.{the_row as C}
 use Rattle.cord_raw.proofs.chain.Chain.TheLaws as chain_laws

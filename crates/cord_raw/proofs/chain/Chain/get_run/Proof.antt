@@ -33,7 +33,7 @@ use Rattle.std_alloc.proofs.VecSteps.Shapes.{after}
 use Rattle.std.proofs.raw_atomic.Walks.{proved}
 use Rattle.cord_raw.specs.declared.block.Block.{Block}
 use Rattle.cord_raw.specs.inner.Blocks.{place_after}
-use Rattle.cord_raw.specs.Ownership.{chain_lent}
+use Rattle.cord_raw.specs.inner.Ownership.{chain_lent}
 use Rattle.cord_raw.specs.inner.Places.{IsPlaceOf, block_at}
 use Rattle.cord_raw.specs.Texts.{text_of}
 use Rattle.cord_raw.specs.contracts.block.Block.{the_row as B}

@@ -26,7 +26,7 @@ use Rattle.std.proofs.raw_atomic.Walks.{proved}
 use Rattle.cord_raw.specs.declared.block.TheConstants.{MOST_BLOCKS}
 use Rattle.cord_raw.specs.declared.chain.Chain.{Chain}
 use Rattle.cord_raw.specs.inner.Blocks.{pointing}
-use Rattle.cord_raw.specs.Ownership.{block_owns, links}
+use Rattle.cord_raw.specs.inner.Ownership.{block_owns, links}
 use Rattle.cord_raw.specs.contracts.block.Block.{the_row as B}
 use Rattle.cord_raw.specs.contracts.chain.Chain.{the_row as C}
 use Rattle.cord_raw.proofs.chain.Chain.TheLaws as chain_laws

@@ -28,7 +28,7 @@ use Rattle.std.proofs.raw_atomic.Walks.{proved}
 use Rattle.cord_raw.specs.declared.block.Block.{Block}
 use Rattle.cord_raw.specs.declared.chain.Chain.{Chain}
 use Rattle.cord_raw.specs.inner.Loans.{with_newest}
-use Rattle.cord_raw.specs.Ownership.{frees, block_owns, links}
+use Rattle.cord_raw.specs.inner.Ownership.{frees, block_owns, links}
 use Rattle.cord_raw.specs.contracts.block.Block.{the_row as B}
 use Rattle.cord_raw.specs.contracts.chain.Chain.{the_row as C}
 use Rattle.cord_raw.proofs.Words.{words, chain_val, packs, unpacks, lies, few_fit}

@@ -29,7 +29,7 @@ use Rattle.std.proofs.raw_atomic.Walks.{proved}
 use Rattle.cord_raw.specs.declared.block.Block.{Block}
 use Rattle.cord_raw.specs.declared.chain.Place.{Place}
 use Rattle.cord_raw.specs.inner.Blocks.{place_after}
-use Rattle.cord_raw.specs.Ownership.{chain_lent}
+use Rattle.cord_raw.specs.inner.Ownership.{chain_lent}
 use Rattle.cord_raw.specs.inner.Places.{IsPlaceOf, block_at}
 use Rattle.cord_raw.specs.contracts.block.Block.{the_row as B}
 use Rattle.cord_raw.specs.contracts.chain.Chain.{the_row as C}

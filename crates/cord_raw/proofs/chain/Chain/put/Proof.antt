@@ -28,7 +28,7 @@ use Rattle.std.proofs.raw_atomic.Walks.{proved}
 use Rattle.cord_raw.specs.declared.block.TheConstants.{ROOM}
 use Rattle.cord_raw.specs.declared.block.Block.{Block}
 use Rattle.cord_raw.specs.inner.Loans.{with_newest}
-use Rattle.cord_raw.specs.Ownership.{block_owns}
+use Rattle.cord_raw.specs.inner.Ownership.{block_owns}
 use Rattle.cord_raw.specs.contracts.block.Block.{the_row as B}
 use Rattle.cord_raw.specs.contracts.chain.Chain.{the_row as C}
 use Rattle.cord_raw.proofs.Bytes.{take_set, Back, len_at, bytes_apart, bytes_back, rest, byte, byte_out, byte_back}

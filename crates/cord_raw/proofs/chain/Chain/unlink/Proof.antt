@@ -25,7 +25,7 @@ use Rattle.std.proofs.raw_atomic.Walks.{proved}
 use Rattle.cord_raw.specs.declared.block.Block.{Block}
 use Rattle.cord_raw.specs.declared.chain.Chain.{Chain}
 use Rattle.cord_raw.specs.inner.Blocks.{place_after}
-use Rattle.cord_raw.specs.Ownership.{block_owns, links}
+use Rattle.cord_raw.specs.inner.Ownership.{block_owns, links}
 use Rattle.cord_raw.specs.contracts.block.Block.{the_row as B}
 use Rattle.cord_raw.specs.contracts.chain.Chain.{the_row as C}
 use Rattle.cord_raw.proofs.Fields.{pointer, Rest, pointer_apart, pointer_back}

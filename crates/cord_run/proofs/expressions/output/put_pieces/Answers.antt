@@ -4,7 +4,7 @@ use Rattle.cord_io.specs.Device.{Folder}
 use Rattle.cord_io.specs.Table.{Table, Lengths}
 use Rattle.cord_node.specs.declared.Node.{Node}
 use Rattle.cord_core.specs.Cord.{bytes_of, CordFitsIn}
-use Rattle.cord_iter.specs.Taking.{CountsFaults, IsFrontOf, Takes}
+use Rattle.cord_iter.specs.Output.{CountsFaults, IsFrontOf, Takes}
 use Rattle.cord_run.proofs.Output.{fits_at, puts_none, puts_next, puts_cut, puts_all}
 use Rattle.cord_run.proofs.expressions.output.put_pieces.Goals as goal
 

@@ -3,7 +3,7 @@ use Rattle.std.specs.Prelude.{Option}
 use Rattle.cord_io.specs.declared.TheConstants.{MAX_LEN}
 use Rattle.cord_node.specs.declared.Node.{Node}
 use Rattle.cord_core.specs.Cord.{all_bytes}
-use Rattle.cord_iter.specs.Taking.{Counts, CountsFaults, IsFrontOf, Takes}
+use Rattle.cord_iter.specs.Output.{Counts, CountsFaults, IsFrontOf, Takes}
 use Rattle.cord_plan.specs.Values.{text_in}
 use Rattle.cord_plan.specs.Views.{expr_view}
 use Rattle.cord_run.specs.declared.stops.Stop.{Stop}

@@ -6,7 +6,7 @@ use Rattle.cord_file.specs.Sources.{opened_in}
 use Rattle.cord_plan.specs.Meaning.{does}
 use Rattle.cord_plan.specs.Planned as plan
 use Rattle.cord_plan.specs.Views.{made_view, operation_view}
-use Rattle.cord_run.specs.Failing.{FailsIn}
+use Rattle.cord_run.specs.inner.Failing.{FailsIn}
 use Rattle.cord_run.specs.inner.Holdings.{holding_of}
 use Rattle.cord_run.specs.inner.Entries.{IsEntryAt}
 use Rattle.cord_run.specs.inner.Outcomes.{Serves}

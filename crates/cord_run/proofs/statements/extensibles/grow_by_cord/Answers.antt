@@ -13,7 +13,7 @@ returns-in-Ok-clause-over c =
     let before = c.in_ok-extensible.extensible.text in
     let took = c.in_ok-extensible.ensures.taken in
     grown_over c.args.name.now before c.append_cord.new.self.text c.args.store.now.entries.items c.taken.new.store.entries.items
-    c.give.new.store.entries.items took c.give.result c.give.ensures.given
+    c.give.new.store.entries.items took c.give.result c.give.ensures.has
     (λ ls over held. c.in-Ok.ensures.over.fits ls held (cord_inside c.args.name.now before before c.args.store.now.entries.items
     c.taken.new.store.entries.items c.taken.new.store.entries.items took c.args.operand.now c.cord_or.result.now c.cord_or.ensures ls
     over))
@@ -24,7 +24,7 @@ returns-in-Ok-clause-becomes c =
     let took = c.in_ok-extensible.ensures.taken in
     grown_becomes c.args.name.now before c.append_cord.new.self.text c.args.store.now.entries.items c.taken.new.store.entries.items
     c.give.new.store.entries.items took c.give.result (λ t. text_over t c.args.store.now.entries.items c.args.operand.now)
-    c.give.ensures.given c.give.ensures.refused (λ t over held.
+    c.give.ensures.has c.give.ensures.refused (λ t over held.
     c.in-Ok.ensures.over.bytes t held (cord_inside c.args.name.now before before c.args.store.now.entries.items
     c.taken.new.store.entries.items c.taken.new.store.entries.items took c.args.operand.now c.cord_or.result.now c.cord_or.ensures
     (lengths_of t) over) ∙ ap (λ (text : List ℕ). bytes_over t before ++ text)

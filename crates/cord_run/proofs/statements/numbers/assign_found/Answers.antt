@@ -37,7 +37,7 @@ returns-in-Some-clause-means c = λ t found assigns.
     let target = c.in-Some.target.now in
     let named : target_of l ≡ Some target = search rules in
     let has = subst (λ (v : ℤ). IfOk c.give_number.result (λ _. HasNumber target v old new)) (to_z-of_z w64 z fits)
-    c.give_number.ensures.given in
+    c.give_number.ensures.has in
     kept_giving l target z old new t c.give_number.result (subst (λ (r : Result ℤ Stop). FindsOver t l old r) c.in-Ok.is found) named has
     c.give_number.ensures.refused
 

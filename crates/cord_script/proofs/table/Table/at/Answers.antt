@@ -1,7 +1,7 @@
 use Rattle.std.proofs.Common.{◌≡◌, Some, length, refl, sym, subst, ◌∙◌}
 use Rattle.std.specs.Prelude.{slice_get}
 use Rattle.std.proofs.lemmas.Option.{slice_get_read}
-use Rattle.cord_script.specs.Tables.{AreFirst}
+use Rattle.cord_script.specs.inner.Tables.{AreFirst}
 use Rattle.cord_script.proofs.Firsts.{same_bytes, kind_at}
 use Rattle.cord_script.proofs.table.Table.at.Goals as goal
 

@@ -1,7 +1,7 @@
 use Rattle.std.proofs.Common.{◌≡◌, ◌∷◌, ◌++◌, [], None, sym, subst, rules}
 use Rattle.cord_script.specs.declared.table.Known.{Known}
 use Rattle.cord_script.specs.Script.{kind_of}
-use Rattle.cord_script.specs.Tables.{IsTable}
+use Rattle.cord_script.specs.inner.Tables.{IsTable}
 use Rattle.cord_script.proofs.Firsts.{first_push, names_push}
 use Rattle.cord_script.proofs.table.Table.push.Goals as goal
 

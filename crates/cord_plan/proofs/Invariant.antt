@@ -13,7 +13,7 @@ use Rattle.cord_meaning.specs.Blocks.{Shape, Simple, Loop, Branch, Otherwise, Cl
 use Rattle.cord_meaning.specs.Paths.{NextOf, Next}
 use Rattle.cord_meaning.specs.State.{State, with_value}
 use Rattle.cord_meaning.specs.Statements.{shape_of}
-use Rattle.cord_meaning.specs.Simulation.{IsControl}
+use Rattle.cord_meaning.specs.inner.Simulation.{IsControl}
 use Rattle.cord_core.proofs.Places.{at_here, some_here}
 use Rattle.cord_plan.specs.Exprs.{Expr, name, names}
 use Rattle.cord_plan.specs.Operands.{target_of, is_name, assigns, assigns_at, reads_at}

@@ -1,29 +1,15 @@
 -- What a sink takes of a cord, and how often the devices have failed then.
-use Rattle.std.specs.Prelude.{◌≡◌, ℕ, ◌≤◌, List, ◌++◌, length, Ok, Err}
+use Rattle.std.specs.Prelude.{◌≡◌, ℕ, List, ◌++◌, Ok, Err}
 use Rattle.std.specs.declared.result.Result.{Result}
-use Rattle.cord_io.specs.Device.{Folder, raised}
-use Rattle.cord_io.specs.Table.{Table}
+use Rattle.cord_io.specs.Device.{raised}
 use Rattle.cord_io.specs.declared.faults.CordError.{CordError}
 use Rattle.cord_io.specs.declared.faults.CordError.TheVariants.{NoMemory, TooLong, ReadFailed, WriteFailed}
 use Rattle.cord_io.specs.declared.sources.Source as sources
 use Rattle.cord_io.specs.declared.writing.Sink as sinks
-use Rattle.cord_node.specs.declared.Node.{Node}
-use Rattle.cord_node.specs.Tree.{len_of}
-use Rattle.cord_node.specs.Tables.{bytes_over}
 
 -- the second list stands at the front of the first one
 abbrev pub IsFrontOf : List ℕ → List ℕ → Type 0
 IsFrontOf whole out = (rest : List ℕ) × (whole ≡ out ++ rest)
-
--- the bytes of a node over a source: as many as it stores, and its text over the table of each folder that is kept
-pub record IsTextOver (keeps : Folder → Type 0) (table : Folder → Table) (n : Node) (out : List ℕ) : Type 0 where
-  pub len : length out ≡ len_of n
-  pub text : (folder : Folder) → keeps folder → out ≡ bytes_over (table folder) n
-
--- a prefix of them
-pub record IsPrefixOver (keeps : Folder → Type 0) (table : Folder → Table) (n : Node) (out : List ℕ) : Type 0 where
-  pub len : length out ≤ len_of n
-  pub front : (folder : Folder) → keeps folder → IsFrontOf (bytes_over (table folder) n) out
 
 -- a sink took bytes of which this holds
 pub record Takes (P : List ℕ → Type 0) (old new : List ℕ) : Type 0 where

@@ -4,7 +4,7 @@ use cord_core::Cord;
 
 /// What a handle leads to.
 #[derive(Drop)]
-pub enum Kept {
+pub enum Referent {
     /// Nothing: the pointer is null.
     Nothing,
     /// A text, whose bytes are in memory.

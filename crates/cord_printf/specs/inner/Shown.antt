@@ -1,30 +1,20 @@
 -- What a piece shows: blanks, a sign, zeros, its body, blanks.
-use Rattle.std.specs.Prelude.{unwrap_or, ◌≡◌, ℕ, ◌+◌, ◌-◌, Option, Some, None, List, [], ◌∷◌, ◌++◌, length, map, replicate, take}
-use Rattle.std.specs.Prelude.{option_to_list}
+use Rattle.std.specs.Prelude.{ℕ, ◌+◌, Option, Some, None, List, [], ◌∷◌, ◌++◌, length, map, replicate, take}
+use Rattle.std.specs.Prelude.{◌≡◌, ◌-◌, option_to_list, unwrap_or}
 use Rattle.cord_node.specs.Tree.{Cell, known}
 use Rattle.cord_node.specs.Kept.{Part}
 use Rattle.cord_core.specs.Cord.{text, parts_of}
 use Rattle.cord_ec.specs.Gathered.{Growth}
-use Rattle.cord_printf.specs.declared.pieces.Flags.{Flags}
 use Rattle.cord_printf.specs.declared.shown.Layout.{Layout}
 use Rattle.cord_printf.specs.declared.shown.Body.{Body}
 use Rattle.cord_printf.specs.declared.shown.Body.TheVariants.{Bytes, Byte, Digits, Start}
 use Rattle.cord_printf.specs.declared.shown.Shown.{Shown}
+use Rattle.cord_printf.specs.declared.pieces.Flags.{Flags}
 use Rattle.cord_printf.specs.PieceText.{number_text}
 
 -- what stands in front of a body
 abbrev pub front_of : Layout → List ℕ
 front_of l = replicate l.before 32 ++ option_to_list l.sign ++ replicate l.zeros 48
-
--- a body between them
-abbrev pub framed : Layout → List ℕ → List ℕ
-framed l body = front_of l ++ body ++ replicate l.after 32
-
--- the layout makes the text of a number from each run of so many digits
-abbrev pub IsNumberLayout : Flags → ℕ → Option ℕ → Option ℕ → ℕ → Layout → Type 0
-IsNumberLayout flags width precision sign count layout =
-    (digits : List ℕ) → length digits ≡ count → framed layout digits ≡ number_text flags width precision (option_to_list sign)
-    (replicate (unwrap_or precision 1 - length digits) 48 ++ digits)
 
 abbrev pub body_text : Body → List Cell
 body_text (Bytes b) = map known b.now
@@ -69,3 +59,13 @@ parts_in (Some growth) = growth.parts
 abbrev pub cells_of : Option Growth → List Cell
 cells_of None = []
 cells_of (Some growth) = growth.text
+
+-- a body, with what stands in front of it and the blanks after it
+abbrev pub framed : Layout → List ℕ → List ℕ
+framed l body = front_of l ++ body ++ replicate l.after 32
+
+-- the layout makes the text of a number from each run of so many digits
+abbrev pub IsNumberLayout : Flags → ℕ → Option ℕ → Option ℕ → ℕ → Layout → Type 0
+IsNumberLayout flags width precision sign count layout =
+    (digits : List ℕ) → length digits ≡ count → framed layout digits ≡ number_text flags width precision (option_to_list sign)
+    (replicate (unwrap_or precision 1 - length digits) 48 ++ digits)

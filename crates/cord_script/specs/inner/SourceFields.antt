@@ -20,7 +20,7 @@ GivesAll {S} gives a (t ∷ ts) b = (c : S) × Gave gives a t c × GivesAll give
 pub record IsBuilt {S : Type 0} (gives : S → Term → S → Type 0) (verb : Verb) (line : ℕ) (old new : S) (s : Statement) : Type 0 where
   pub word : word_of s ≡ verb_word verb
   pub numbered : line_of s ≡ line
-  pub given : GivesAll gives old (terms_of s) new
+  pub fields : GivesAll gives old (terms_of s) new
   pub suits : Suits s
 
 -- what came before and the next one, unless that is refused

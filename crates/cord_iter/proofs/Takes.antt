@@ -16,7 +16,8 @@ use Rattle.cord_node.specs.declared.Node.{Node}
 use Rattle.cord_node.specs.declared.Node.TheVariants.{Func, Cat'}
 use Rattle.cord_node.specs.Tree.{len_of, IsSound}
 use Rattle.cord_node.specs.Tables.{bytes_over}
-use Rattle.cord_iter.specs.Taking.{IsFrontOf, IsTextOver, IsPrefixOver, Takes}
+use Rattle.cord_iter.specs.Output.{IsFrontOf, Takes}
+use Rattle.cord_iter.specs.inner.Output.{IsTextOver, IsPrefixOver}
 
 -- bytes after bytes
 pub appends_both : (a b c x y : List ℕ) → b ≡ a ++ x → c ≡ b ++ y → c ≡ a ++ (x ++ y)

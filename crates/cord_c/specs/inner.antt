@@ -1,0 +1,2 @@
+pub mod Referent
+pub mod Prints
