@@ -1,37 +1,13 @@
--- A cord is nothing, or a sound node: its text, length, depth and parts.
+-- What a cord is over a table, and lists of cords.
 use Rattle.std.specs.Prelude.{ℕ, ◌+◌, List, [], ◌∷◌, ◌++◌, Option, Some, None, ⊤}
 use Rattle.cord_io.specs.Table.{Table, Lengths}
 use Rattle.cord_node.specs.declared.Node.{Node}
-use Rattle.cord_node.specs.Tree.{Cell, cells, len_of, depth_of, IsSound}
+use Rattle.cord_node.specs.Tree.{Cell}
 use Rattle.cord_node.specs.Tables.{bytes_over, FitsIn, lengths_of}
-use Rattle.cord_node.specs.Kept.{Part, parts}
+use Rattle.cord_node.specs.Kept.{Part}
+pub use Rattle.cord_node.specs.Cords.{text, text_len, depth, parts_of, IsCord}
 
--- the text of a cord, as cells
-abbrev pub text : Option Node → List Cell
-text None = []
-text (Some n) = cells n
-
--- its length
-abbrev pub text_len : Option Node → ℕ
-text_len None = 0
-text_len (Some n) = len_of n
-
--- its depth: 0 where it is empty
-abbrev pub depth : Option Node → ℕ
-depth None = 0
-depth (Some n) = depth_of n
-
--- its parts
-abbrev pub parts_of : Option Node → List Part
-parts_of None = []
-parts_of (Some n) = parts n
-
--- what holds of each cord
-abbrev pub IsCord : Option Node → Type 0
-IsCord None = ⊤
-IsCord (Some n) = IsSound n
-
--- its text over a table
+-- the text of a cord over a table
 abbrev pub bytes_of : Table → Option Node → List ℕ
 bytes_of t None = []
 bytes_of t (Some n) = bytes_over t n

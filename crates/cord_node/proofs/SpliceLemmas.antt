@@ -10,7 +10,7 @@ use Rattle.cord_node.specs.declared.TheConstants.{SMALL_LEN}
 use Rattle.cord_node.specs.Tree.{Cell, known, cells, len_of, depth_of, IsSound}
 use Rattle.cord_node.specs.Kept.{Part, leaf_part, parts, AreFrom, Kept}
 use Rattle.cord_node.specs.Touched.{touched, AtMostOneMore}
-use Rattle.cord_node.specs.Splices.{some_cells, some_len, some_depth, some_parts, IsSomeSound}
+use Rattle.cord_node.specs.Cords.{text, text_len, depth, parts_of, IsCord}
 use Rattle.cord_node.specs.inner.Splices.{IsSplice}
 use Rattle.cord_node.specs.inner.Splices.{LeftTakes, RightTakes, BothTake, AreSpliced, AreSides}
 use Rattle.cord_node.proofs.KeptLemmas.{IsFrom-small, AreFrom-append, AreFrom-append_left, AreFrom-append_right}
@@ -38,45 +38,45 @@ three_right front middle back two all h k = rw (append_assoc front middle back)
 
 -- what is left in front and behind, with the middle between them
 pub replaced_is : (from until end : ℕ) (middle : Option Node) (old : Node) (front back all : Option Node) (new : Node) →
-    IsSound old → until ≤ len_of old → end ≡ len_of old → all ≡ Some new → IsSomeSound all →
-    some_cells front ≡ take (from - 0) (drop 0 (cells old)) → some_cells back ≡ take (end - until) (drop until (cells old)) →
-    some_cells all ≡ some_cells front ++ some_cells middle ++ some_cells back →
-    some_len front ≡ from - 0 → some_len back ≡ end - until → some_len all ≡ some_len front + some_len middle + some_len back →
-    some_depth front ≤ depth_of old → some_depth back ≤ depth_of old →
-    some_depth all ≤ max (max (some_depth front) (some_depth middle)) (some_depth back) + 2 →
-    AreFrom (some_parts front) (parts old) → AreFrom (some_parts back) (parts old) →
-    AreFrom (some_parts all) (some_parts front ++ some_parts middle ++ some_parts back) →
-    length (some_parts front) ≤ touched 0 from (parts old) → length (some_parts back) ≤ touched until end (parts old) →
-    length (some_parts all) ≤ length (some_parts front) + length (some_parts middle) + length (some_parts back) → from ≤ until →
+    IsSound old → until ≤ len_of old → end ≡ len_of old → all ≡ Some new → IsCord all →
+    text front ≡ take (from - 0) (drop 0 (cells old)) → text back ≡ take (end - until) (drop until (cells old)) →
+    text all ≡ text front ++ text middle ++ text back →
+    text_len front ≡ from - 0 → text_len back ≡ end - until → text_len all ≡ text_len front + text_len middle + text_len back →
+    depth front ≤ depth_of old → depth back ≤ depth_of old →
+    depth all ≤ max (max (depth front) (depth middle)) (depth back) + 2 →
+    AreFrom (parts_of front) (parts old) → AreFrom (parts_of back) (parts old) →
+    AreFrom (parts_of all) (parts_of front ++ parts_of middle ++ parts_of back) →
+    length (parts_of front) ≤ touched 0 from (parts old) → length (parts_of back) ≤ touched until end (parts old) →
+    length (parts_of all) ≤ length (parts_of front) + length (parts_of middle) + length (parts_of back) → from ≤ until →
     IsSplice from until middle old new
 replaced_is from until end middle old front back all new sound inside last is s t_front t_back t l_front l_back l d_front d_back d f_front
     f_back f n_front n_back n order =
     let zero : from - 0 ≡ from = omega arith in
     let long : length (drop until (cells old)) ≤ end - until =
     rw (length-drop until (cells old), length-cells old sound) (omega (arith, last)) in
-    let rest : some_cells back ≡ drop until (cells old) = t_back ∙ take_all (end - until) (drop until (cells old)) long in
-    let start : some_cells front ≡ take from (cells old) = t_front ∙ ap (λ (k : ℕ). take k (cells old)) zero in
-    let len_is : some_len all ≡ len_of new = ap some_len is in
-    let depth_is : some_depth all ≡ depth_of new = ap some_depth is in
-    let parts_are : length (some_parts all) ≡ length (parts new) = ap (λ (o : Option Node). length (some_parts o)) is in
-    let come : AreFrom (some_parts all) (parts old ++ some_parts middle) =
-    AreFrom-trans (some_parts all) (some_parts front ++ some_parts middle ++ some_parts back) (parts old ++ some_parts middle) f
-    (AreFrom-append (some_parts front ++ some_parts middle) (some_parts back) (parts old ++ some_parts middle)
-    (AreFrom-both (parts old) (some_parts middle) (some_parts front) (some_parts middle) f_front (AreFrom-self (some_parts middle)))
-    (AreFrom-append_left (some_parts back) (parts old) (some_parts middle) f_back)) in
+    let rest : text back ≡ drop until (cells old) = t_back ∙ take_all (end - until) (drop until (cells old)) long in
+    let start : text front ≡ take from (cells old) = t_front ∙ ap (λ (k : ℕ). take k (cells old)) zero in
+    let len_is : text_len all ≡ len_of new = ap text_len is in
+    let depth_is : depth all ≡ depth_of new = ap depth is in
+    let parts_are : length (parts_of all) ≡ length (parts new) = ap (λ (o : Option Node). length (parts_of o)) is in
+    let come : AreFrom (parts_of all) (parts old ++ parts_of middle) =
+    AreFrom-trans (parts_of all) (parts_of front ++ parts_of middle ++ parts_of back) (parts old ++ parts_of middle) f
+    (AreFrom-append (parts_of front ++ parts_of middle) (parts_of back) (parts old ++ parts_of middle)
+    (AreFrom-both (parts old) (parts_of middle) (parts_of front) (parts_of middle) f_front (AreFrom-self (parts_of middle)))
+    (AreFrom-append_left (parts_of back) (parts old) (parts_of middle) f_back)) in
     record {
-      sound = subst IsSomeSound is s;
-      text = sym (ap some_cells is) ∙ (rw (t, start, rest) refl);
+      sound = subst IsCord is s;
+      text = sym (ap text is) ∙ (rw (t, start, rest) refl);
       len = omega (arith, len_is, l, l_front, l_back, last);
       depth = omega (arith, depth_is, d, d_front, d_back);
-      from_there = subst (λ o. AreFrom (some_parts o) (parts old ++ some_parts middle)) is come;
+      from_there = subst (λ o. AreFrom (parts_of o) (parts old ++ parts_of middle)) is come;
       few = omega (arith, parts_are, n, n_front, n_back, touched_around from until end (parts old) order);
     }
 
 -- one short leaf of known bytes
 pub short_is : (from until : ℕ) (middle : Option Node) (old new : Node) (bytes inner whole : List ℕ) (count : ℕ) →
     from ≤ until → until ≤ len_of old → cells old ≡ map known bytes → length bytes ≡ len_of old →
-    some_cells middle ≡ map known inner → length inner ≡ some_len middle → IsSound new →
+    text middle ≡ map known inner → length inner ≡ text_len middle → IsSound new →
     cells new ≡ map known (take from bytes ++ inner ++ drop until bytes) → len_of new ≡ count →
     count ≡ from + length inner + (length bytes - until) → depth_of new ≡ 0 → parts new ≡ leaf_part whole 0 count ∷ [] →
     count ≤ SMALL_LEN → IsSplice from until middle old new
@@ -85,7 +85,7 @@ short_is from until middle old new bytes inner whole count order inside t l m k 
   text = n ∙ (rw (t, m, map-append, map-append) (sym (rw (take-map, drop-map) refl)));
   len = omega (arith, len, c, l, k);
   depth = omega (arith, d);
-  from_there = rw p (IsFrom-small (leaf_part whole 0 count) (parts old ++ some_parts middle) small, tt);
+  from_there = rw p (IsFrom-small (leaf_part whole 0 count) (parts old ++ parts_of middle) small, tt);
   few = rw p (omega arith);
 }
 
@@ -137,14 +137,14 @@ left_changed from until middle left right changed order a b takes i =
     record {
       left_sound = i.sound;
       right_sound = b;
-      text = rw (i.text, front, back) (append_assoc (take from (cells left) ++ some_cells middle) (drop until (cells left)) (cells right));
+      text = rw (i.text, front, back) (append_assoc (take from (cells left) ++ text middle) (drop until (cells left)) (cells right));
       len = omega (arith, i.len, takes.inside);
       depth = omega (arith, i.depth, takes.deep);
-      from_there = AreFrom-append (parts changed) (parts right) (parts left ++ parts right ++ some_parts middle)
-          (from_left (parts left) (parts right) (some_parts middle) (parts changed) i.from_there)
-          (from_right (parts left) (parts right) (some_parts middle) (parts right)
-          (AreFrom-append_left (parts right) (parts right) (some_parts middle) (AreFrom-self (parts right))));
-      few = few_sides (parts left) (parts right) (some_parts middle) (parts changed) (parts right) (omega (arith, i.few));
+      from_there = AreFrom-append (parts changed) (parts right) (parts left ++ parts right ++ parts_of middle)
+          (from_left (parts left) (parts right) (parts_of middle) (parts changed) i.from_there)
+          (from_right (parts left) (parts right) (parts_of middle) (parts right)
+          (AreFrom-append_left (parts right) (parts right) (parts_of middle) (AreFrom-self (parts right))));
+      few = few_sides (parts left) (parts right) (parts_of middle) (parts changed) (parts right) (omega (arith, i.few));
     }
 
 -- the right side was changed
@@ -161,20 +161,20 @@ right_changed from until middle left right changed order a b takes i =
     drop-append_right (cells left) (cells right) until here ∙ ap (λ (k : ℕ). drop (until - k) (cells right)) l in
     let s : List Cell = take (from - len_of left) (cells right) in
     let d : List Cell = drop (until - len_of left) (cells right) in
-    let moved : cells left ++ (s ++ some_cells middle ++ d) ≡ (cells left ++ s) ++ some_cells middle ++ d =
-    sym (append_assoc (cells left) (s ++ some_cells middle) d)
-    ∙ ap (λ (l : List Cell). l ++ d) (sym (append_assoc (cells left) s (some_cells middle))) in
+    let moved : cells left ++ (s ++ text middle ++ d) ≡ (cells left ++ s) ++ text middle ++ d =
+    sym (append_assoc (cells left) (s ++ text middle) d)
+    ∙ ap (λ (l : List Cell). l ++ d) (sym (append_assoc (cells left) s (text middle))) in
     record {
       left_sound = a;
       right_sound = i.sound;
       text = rw (i.text, front, back) moved;
       len = omega (arith, i.len, takes.1.inside, takes.0, order);
       depth = omega (arith, i.depth, takes.1.deep);
-      from_there = AreFrom-append (parts left) (parts changed) (parts left ++ parts right ++ some_parts middle)
-          (from_left (parts left) (parts right) (some_parts middle) (parts left)
-          (AreFrom-append_left (parts left) (parts left) (some_parts middle) (AreFrom-self (parts left))))
-          (from_right (parts left) (parts right) (some_parts middle) (parts changed) i.from_there);
-      few = few_sides (parts left) (parts right) (some_parts middle) (parts left) (parts changed) (omega (arith, i.few));
+      from_there = AreFrom-append (parts left) (parts changed) (parts left ++ parts right ++ parts_of middle)
+          (from_left (parts left) (parts right) (parts_of middle) (parts left)
+          (AreFrom-append_left (parts left) (parts left) (parts_of middle) (AreFrom-self (parts left))))
+          (from_right (parts left) (parts right) (parts_of middle) (parts changed) i.from_there);
+      few = few_sides (parts left) (parts right) (parts_of middle) (parts left) (parts changed) (omega (arith, i.few));
     }
 
 -- both sides were changed
@@ -200,14 +200,14 @@ both_changed from until middle left right changed rest order a b takes i s t l d
     record {
       left_sound = i.sound;
       right_sound = s;
-      text = rw (i.text, none, all, front, back, append-nil (take from (cells left) ++ some_cells middle)) refl;
+      text = rw (i.text, none, all, front, back, append-nil (take from (cells left) ++ text middle)) refl;
       len = omega (arith, i.len, l, takes.0, takes.1, takes.2);
       depth = omega (arith, i.depth, d, takes.3.deep);
-      from_there = AreFrom-append (parts changed) (parts rest) (parts left ++ parts right ++ some_parts middle)
-          (from_left (parts left) (parts right) (some_parts middle) (parts changed) i.from_there)
-          (from_right (parts left) (parts right) (some_parts middle) (parts rest)
-          (AreFrom-append_left (parts rest) (parts right) (some_parts middle) k.from_there));
-      few = few_sides (parts left) (parts right) (some_parts middle) (parts changed) (parts rest) (omega (arith, i.few, k.no_more));
+      from_there = AreFrom-append (parts changed) (parts rest) (parts left ++ parts right ++ parts_of middle)
+          (from_left (parts left) (parts right) (parts_of middle) (parts changed) i.from_there)
+          (from_right (parts left) (parts right) (parts_of middle) (parts rest)
+          (AreFrom-append_left (parts rest) (parts right) (parts_of middle) k.from_there));
+      few = few_sides (parts left) (parts right) (parts_of middle) (parts changed) (parts rest) (omega (arith, i.few, k.no_more));
     }
 
 -- the same, where the lengths are told
@@ -253,7 +253,7 @@ joined_spliced from until middle old old_left old_right left right new s sides i
       len = omega (arith, joined.len, i.len, a.len);
       depth = omega (arith, joined.depth, i.depth, a.depth);
       from_there = rw a.parts_are (AreFrom-trans (parts new) (parts left ++ parts right)
-          (parts old_left ++ parts old_right ++ some_parts middle) joined.from_there i.from_there);
+          (parts old_left ++ parts old_right ++ parts_of middle) joined.from_there i.from_there);
       few = rw a.parts_are (omega (arith, joined.no_more, i.few));
     }
 

@@ -3,5 +3,5 @@ pub mod Tables
 pub mod Kept
 pub mod Touched
 pub mod Occurrences
-pub mod Splices
+pub mod Cords
 pub mod inner

@@ -3,7 +3,7 @@ ghost use Rattle.std.specs.Prelude.{◌≡◌, ◌≢◌, ℕ, ◌+◌, ◌-◌,
 ghost use Rattle.cord_node.specs.Tree.{cells, len_of, depth_of, IsSound};
 ghost use Rattle.cord_node.specs.Kept.{parts, AreFrom};
 ghost use Rattle.cord_node.specs.Touched.{AtMostOneMore};
-ghost use Rattle.cord_node.specs.Splices.{node_in, some_cells, some_len, some_depth, some_parts, IsSomeSound};
+ghost use Rattle.cord_node.specs.Cords.{node_in, text, text_len, depth, parts_of, IsCord};
 ghost use Rattle.cord_node.specs.inner.Splices.{Takes, LeftTakes, RightTakes, BothTake, SidesAre};
 ghost use Rattle.cord_node.specs.inner.Splices.{IsSplice};
 ghost use Rattle.cord_node.specs.inner.Splices.{is_cat, AreSides, AreSpliced, IsEditable};
@@ -28,7 +28,7 @@ enum Way {
 #[tactic(auto, using(crate::proofs::TreeLemmas::len_positive))]
 fn takes(side: &Rc<Node>, from: u64, until: u64, middle: &Option<Rc<Node>>) -> bool
     requires sound { IsSound side.now.value }
-    requires middle_sound { IsSomeSound (node_in middle.now) }
+    requires middle_sound { IsCord (node_in middle.now) }
     requires order { from ≤ until }
     requires inside { until ≤ len_of side.now.value }
     ensures { result ≡ true → Takes from until (node_in middle.now) side.now.value }
@@ -80,7 +80,7 @@ fn way_between(
 ) -> Way
     requires left_sound { IsSound left.now.value }
     requires right_sound { IsSound right.now.value }
-    requires middle_sound { IsSomeSound (node_in middle.now) }
+    requires middle_sound { IsCord (node_in middle.now) }
     requires order { from ≤ until }
     requires inside { until ≤ len_of left.now.value + len_of right.now.value }
     requires within_limit { len_of left.now.value + len_of right.now.value ≤ MAX_LEN }
@@ -109,7 +109,7 @@ fn way_between(
 // The way of an edit of a node.
 fn way_of(node: &Node, from: u64, until: u64, middle: &Option<Rc<Node>>) -> Way
     requires sound { IsSound node.now }
-    requires middle_sound { IsSomeSound (node_in middle.now) }
+    requires middle_sound { IsCord (node_in middle.now) }
     requires order { from ≤ until }
     requires inside { until ≤ len_of node.now }
     ensures left { result ≡ Way.Left → SidesAre (LeftTakes from until (node_in middle.now)) node.now }
@@ -169,23 +169,23 @@ pub fn splice(
     middle: &Option<Rc<Node>>,
 ) -> Result<(), AllocError>
     requires sound { IsSound node.old.value }
-    requires middle_sound { IsSomeSound (node_in middle.now) }
+    requires middle_sound { IsCord (node_in middle.now) }
     requires order { from ≤ until }
     requires inside { until ≤ len_of node.old.value }
-    requires not_empty { 0 < from + some_len (node_in middle.now) + (len_of node.old.value - until) }
-    requires within_limit { from + some_len (node_in middle.now) + (len_of node.old.value - until) ≤ MAX_LEN }
-    requires shallow { max (depth_of node.old.value) (some_depth (node_in middle.now)) + 2 ≤ MAX_DEPTH }
+    requires not_empty { 0 < from + text_len (node_in middle.now) + (len_of node.old.value - until) }
+    requires within_limit { from + text_len (node_in middle.now) + (len_of node.old.value - until) ≤ MAX_LEN }
+    requires shallow { max (depth_of node.old.value) (depth (node_in middle.now)) + 2 ≤ MAX_DEPTH }
     ensures sound { IfOk result (λ _. IsSound node.new.value) }
     ensures text { IfOk result (λ _. cells node.new.value
-        ≡ take from (cells node.old.value) ++ some_cells (node_in middle.now) ++ drop until (cells node.old.value)) }
+        ≡ take from (cells node.old.value) ++ text (node_in middle.now) ++ drop until (cells node.old.value)) }
     ensures len { IfOk result (λ _. len_of node.new.value
-        ≡ from + some_len (node_in middle.now) + (len_of node.old.value - until)) }
+        ≡ from + text_len (node_in middle.now) + (len_of node.old.value - until)) }
 
     ensures depth { IfOk result (λ _. depth_of node.new.value
-        ≤ max (depth_of node.old.value) (some_depth (node_in middle.now)) + 2) }
+        ≤ max (depth_of node.old.value) (depth (node_in middle.now)) + 2) }
     ensures from_there { IfOk result (λ _. AreFrom (parts node.new.value)
-        (parts node.old.value ++ some_parts (node_in middle.now))) }
-    ensures few { IfOk result (λ _. AtMostOneMore (parts node.old.value) (some_parts (node_in middle.now))
+        (parts node.old.value ++ parts_of (node_in middle.now))) }
+    ensures few { IfOk result (λ _. AtMostOneMore (parts node.old.value) (parts_of (node_in middle.now))
         (parts node.new.value)) }
     ensures unchanged { IsErr result → node.new.value ≡ node.old.value }
 {
@@ -292,13 +292,13 @@ fn splice_sides(
 ) -> Result<(), AllocError>
     requires left_sound { IsSound left.old.value }
     requires right_sound { IsSound right.old.value }
-    requires middle_sound { IsSomeSound (node_in middle.now) }
+    requires middle_sound { IsCord (node_in middle.now) }
     requires order { from ≤ until }
     requires inside { until ≤ len_of left.old.value + len_of right.old.value }
-    requires within_limit { from + some_len (node_in middle.now)
+    requires within_limit { from + text_len (node_in middle.now)
         + (len_of left.old.value + len_of right.old.value - until) ≤ MAX_LEN }
     requires shallow { max (max (depth_of left.old.value) (depth_of right.old.value) + 1)
-        (some_depth (node_in middle.now)) + 2 ≤ MAX_DEPTH }
+        (depth (node_in middle.now)) + 2 ≤ MAX_DEPTH }
     requires left { way ≡ Way.Left → LeftTakes from until (node_in middle.now) left.old.value right.old.value }
     requires right { way ≡ Way.Right → RightTakes from until (node_in middle.now) left.old.value right.old.value }
     requires both { way ≡ Way.Both → BothTake from until (node_in middle.now) left.old.value right.old.value }

@@ -4,7 +4,7 @@ ghost use Rattle.std.specs.Prelude.{IfOk, IfSome};
 ghost use Rattle.cord_node.specs.Tree.{cells, known, len_of, depth_of, IsSound};
 ghost use Rattle.cord_node.specs.Kept.{parts, leaf_part, AreFrom};
 ghost use Rattle.cord_node.specs.Touched.{touched};
-ghost use Rattle.cord_node.specs.Splices.{node_in, some_cells, some_len, some_depth, some_parts, IsSomeSound};
+ghost use Rattle.cord_node.specs.Cords.{node_in, text, text_len, depth, parts_of, IsCord};
 ghost use Rattle.cord_node.specs.inner.Splices.{IsSplice};
 
 use crate::{Node, SMALL_LEN, join, leaf, sub_node};
@@ -22,14 +22,12 @@ fn range_of(
     requires sound { IsSound node.now.value }
     requires order { from ≤ until }
     requires inside { until ≤ len_of node.now.value }
-    ensures sound { IfOk result (λ part. IsSomeSound (node_in part)) }
-    ensures text { IfOk result (λ part. some_cells (node_in part)
-        ≡ take (until - from) (drop from (cells node.now.value))) }
-    ensures len { IfOk result (λ part. some_len (node_in part) ≡ until - from) }
-    ensures depth { IfOk result (λ part. some_depth (node_in part) ≤ depth_of node.now.value) }
-    ensures from_there { IfOk result (λ part. AreFrom (some_parts (node_in part))
-        (parts node.now.value)) }
-    ensures few { IfOk result (λ part. length (some_parts (node_in part)) ≤ touched from until (parts node.now.value)) }
+    ensures sound { IfOk result (λ part. IsCord (node_in part)) }
+    ensures text { IfOk result (λ part. text (node_in part) ≡ take (until - from) (drop from (cells node.now.value))) }
+    ensures len { IfOk result (λ part. text_len (node_in part) ≡ until - from) }
+    ensures depth { IfOk result (λ part. depth (node_in part) ≤ depth_of node.now.value) }
+    ensures from_there { IfOk result (λ part. AreFrom (parts_of (node_in part)) (parts node.now.value)) }
+    ensures few { IfOk result (λ part. length (parts_of (node_in part)) ≤ touched from until (parts node.now.value)) }
 {
     if from == until {
         return Ok(None);
@@ -57,23 +55,20 @@ fn joined(
     left: &Option<Rc<Node>>,
     right: &Option<Rc<Node>>,
 ) -> Result<Option<Rc<Node>>, AllocError>
-    requires left_sound { IsSomeSound (node_in left.now) }
-    requires right_sound { IsSomeSound (node_in right.now) }
-    requires within_limit { some_len (node_in left.now)
-        + some_len (node_in right.now) ≤ MAX_LEN }
-    requires shallow { max (some_depth (node_in left.now))
-        (some_depth (node_in right.now)) + 1 ≤ MAX_DEPTH }
-    ensures sound { IfOk result (λ both. IsSomeSound (node_in both)) }
-    ensures text { IfOk result (λ both. some_cells (node_in both)
-        ≡ some_cells (node_in left.now) ++ some_cells (node_in right.now)) }
-    ensures len { IfOk result (λ both. some_len (node_in both)
-        ≡ some_len (node_in left.now) + some_len (node_in right.now)) }
-    ensures depth { IfOk result (λ both. some_depth (node_in both)
-        ≤ max (some_depth (node_in left.now)) (some_depth (node_in right.now)) + 1) }
-    ensures from_there { IfOk result (λ both. AreFrom (some_parts (node_in both))
-        (some_parts (node_in left.now) ++ some_parts (node_in right.now))) }
-    ensures few { IfOk result (λ both. length (some_parts (node_in both))
-        ≤ length (some_parts (node_in left.now)) + length (some_parts (node_in right.now))) }
+    requires left_sound { IsCord (node_in left.now) }
+    requires right_sound { IsCord (node_in right.now) }
+    requires within_limit { text_len (node_in left.now) + text_len (node_in right.now) ≤ MAX_LEN }
+    requires shallow { max (depth (node_in left.now)) (depth (node_in right.now)) + 1 ≤ MAX_DEPTH }
+    ensures sound { IfOk result (λ both. IsCord (node_in both)) }
+    ensures text { IfOk result (λ both. text (node_in both) ≡ text (node_in left.now) ++ text (node_in right.now)) }
+    ensures len { IfOk result (λ both. text_len (node_in both)
+        ≡ text_len (node_in left.now) + text_len (node_in right.now)) }
+    ensures depth { IfOk result (λ both. depth (node_in both)
+        ≤ max (depth (node_in left.now)) (depth (node_in right.now)) + 1) }
+    ensures from_there { IfOk result (λ both. AreFrom (parts_of (node_in both))
+        (parts_of (node_in left.now) ++ parts_of (node_in right.now))) }
+    ensures few { IfOk result (λ both. length (parts_of (node_in both))
+        ≤ length (parts_of (node_in left.now)) + length (parts_of (node_in right.now))) }
 {
     let (Some(a), Some(b)) = (left, right) else {
         let one = if left.is_some() {
@@ -132,9 +127,9 @@ fn merged_three(
 
 // The bytes of a leaf, and none where there is no node.
 fn some_bytes(node: &Option<Rc<Node>>) -> Option<&[u8]>
-    requires { IsSomeSound (node_in node.now) }
-    ensures text { IfSome result (λ bytes. some_cells (node_in node.now) ≡ map known bytes.now) }
-    ensures len { IfSome result (λ bytes. length bytes.now ≡ some_len (node_in node.now)) }
+    requires { IsCord (node_in node.now) }
+    ensures text { IfSome result (λ bytes. text (node_in node.now) ≡ map known bytes.now) }
+    ensures len { IfSome result (λ bytes. length bytes.now ≡ text_len (node_in node.now)) }
 {
     match node {
         None => Some(&[]),
@@ -151,11 +146,11 @@ fn short_replaced(
     middle: &Option<Rc<Node>>,
 ) -> Result<Option<Rc<Node>>, AllocError>
     requires sound { IsSound node.now.value }
-    requires middle_sound { IsSomeSound (node_in middle.now) }
+    requires middle_sound { IsCord (node_in middle.now) }
     requires order { from ≤ until }
     requires inside { until ≤ len_of node.now.value }
-    requires not_empty { 0 < from + some_len (node_in middle.now) + (len_of node.now.value - until) }
-    requires within_limit { from + some_len (node_in middle.now) + (len_of node.now.value - until) ≤ MAX_LEN }
+    requires not_empty { 0 < from + text_len (node_in middle.now) + (len_of node.now.value - until) }
+    requires within_limit { from + text_len (node_in middle.now) + (len_of node.now.value - until) ≤ MAX_LEN }
     ensures { IfOk result (λ new. IfSome new (λ new.
         IsSplice from until (node_in middle.now) node.now.value new.value)) }
 {
@@ -186,12 +181,12 @@ pub fn replaced(
     middle: &Option<Rc<Node>>,
 ) -> Result<Rc<Node>, AllocError>
     requires sound { IsSound node.now.value }
-    requires middle_sound { IsSomeSound (node_in middle.now) }
+    requires middle_sound { IsCord (node_in middle.now) }
     requires order { from ≤ until }
     requires inside { until ≤ len_of node.now.value }
-    requires not_empty { 0 < from + some_len (node_in middle.now) + (len_of node.now.value - until) }
-    requires within_limit { from + some_len (node_in middle.now) + (len_of node.now.value - until) ≤ MAX_LEN }
-    requires shallow { max (depth_of node.now.value) (some_depth (node_in middle.now)) + 2 ≤ MAX_DEPTH }
+    requires not_empty { 0 < from + text_len (node_in middle.now) + (len_of node.now.value - until) }
+    requires within_limit { from + text_len (node_in middle.now) + (len_of node.now.value - until) ≤ MAX_LEN }
+    requires shallow { max (depth_of node.now.value) (depth (node_in middle.now)) + 2 ≤ MAX_DEPTH }
     ensures { IfOk result (λ new. IsSplice from until (node_in middle.now) node.now.value new.value) }
 {
     if let Some(new) = short_replaced(alloc, node, from, until, middle)? {
@@ -221,25 +216,25 @@ fn joined_three(
     middle: &Option<Rc<Node>>,
     back: &Option<Rc<Node>>,
 ) -> Result<Option<Rc<Node>>, AllocError>
-    requires front_sound { IsSomeSound (node_in front.now) }
-    requires middle_sound { IsSomeSound (node_in middle.now) }
-    requires back_sound { IsSomeSound (node_in back.now) }
-    requires within_limit { some_len (node_in front.now) + some_len (node_in middle.now)
-        + some_len (node_in back.now) ≤ MAX_LEN }
-    requires shallow { max (max (some_depth (node_in front.now)) (some_depth (node_in middle.now)))
-        (some_depth (node_in back.now)) + 2 ≤ MAX_DEPTH }
-    ensures sound { IfOk result (λ all. IsSomeSound (node_in all)) }
-    ensures text { IfOk result (λ all. some_cells (node_in all)
-        ≡ some_cells (node_in front.now) ++ some_cells (node_in middle.now) ++ some_cells (node_in back.now)) }
-    ensures len { IfOk result (λ all. some_len (node_in all)
-        ≡ some_len (node_in front.now) + some_len (node_in middle.now) + some_len (node_in back.now)) }
-    ensures depth { IfOk result (λ all. some_depth (node_in all)
-        ≤ max (max (some_depth (node_in front.now)) (some_depth (node_in middle.now)))
-        (some_depth (node_in back.now)) + 2) }
-    ensures from_there { IfOk result (λ all. AreFrom (some_parts (node_in all))
-        (some_parts (node_in front.now) ++ some_parts (node_in middle.now) ++ some_parts (node_in back.now))) }
-    ensures few { IfOk result (λ all. length (some_parts (node_in all)) ≤ length (some_parts (node_in front.now))
-        + length (some_parts (node_in middle.now)) + length (some_parts (node_in back.now))) }
+    requires front_sound { IsCord (node_in front.now) }
+    requires middle_sound { IsCord (node_in middle.now) }
+    requires back_sound { IsCord (node_in back.now) }
+    requires within_limit { text_len (node_in front.now) + text_len (node_in middle.now)
+        + text_len (node_in back.now) ≤ MAX_LEN }
+    requires shallow { max (max (depth (node_in front.now)) (depth (node_in middle.now)))
+        (depth (node_in back.now)) + 2 ≤ MAX_DEPTH }
+    ensures sound { IfOk result (λ all. IsCord (node_in all)) }
+    ensures text { IfOk result (λ all. text (node_in all)
+        ≡ text (node_in front.now) ++ text (node_in middle.now) ++ text (node_in back.now)) }
+    ensures len { IfOk result (λ all. text_len (node_in all)
+        ≡ text_len (node_in front.now) + text_len (node_in middle.now) + text_len (node_in back.now)) }
+    ensures depth { IfOk result (λ all. depth (node_in all)
+        ≤ max (max (depth (node_in front.now)) (depth (node_in middle.now)))
+        (depth (node_in back.now)) + 2) }
+    ensures from_there { IfOk result (λ all. AreFrom (parts_of (node_in all))
+        (parts_of (node_in front.now) ++ parts_of (node_in middle.now) ++ parts_of (node_in back.now))) }
+    ensures few { IfOk result (λ all. length (parts_of (node_in all)) ≤ length (parts_of (node_in front.now))
+        + length (parts_of (node_in middle.now)) + length (parts_of (node_in back.now))) }
 {
     if some_merged(middle, back) {
         let back = joined(alloc, middle, back)?;

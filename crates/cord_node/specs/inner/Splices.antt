@@ -7,12 +7,7 @@ use Rattle.cord_node.specs.declared.Node.TheVariants.{Leaf, Run, Func, Cat'}
 use Rattle.cord_node.specs.Tree.{cells, len_of, depth_of, IsSound}
 use Rattle.cord_node.specs.Kept.{parts, AreFrom}
 use Rattle.cord_node.specs.Touched.{AtMostOneMore}
-use Rattle.cord_node.specs.Splices.{some_cells, some_len, some_depth, some_parts, IsSomeSound}
-use Rattle.std.specs.Prelude.{◌≡◌, ℕ, ◌+◌, ◌-◌, ◌≤◌, max, ◌++◌, take, drop}
-use Rattle.std.specs.Prelude.{Option}
-use Rattle.cord_node.specs.Tree.{cells, len_of, depth_of, IsSound}
-use Rattle.cord_node.specs.Kept.{parts, AreFrom}
-use Rattle.cord_node.specs.Splices.{some_cells, some_len, some_depth, some_parts}
+use Rattle.cord_node.specs.Cords.{text, text_len, depth, parts_of, IsCord}
 
 -- it is a `Cat`
 abbrev pub is_cat : Node → Bool
@@ -36,8 +31,8 @@ SidesAre holds (Cat' p left q right len depth mark) = holds left right
 -- the range lies inside the node, which stays and is no less deep than what comes in the range's place
 pub record Takes (from until : ℕ) (middle : Option Node) (side : Node) : Type 0 where
   pub inside : until ≤ len_of side
-  pub stays : 0 < from + some_len middle + (len_of side - until)
-  pub deep : some_depth middle ≤ depth_of side
+  pub stays : 0 < from + text_len middle + (len_of side - until)
+  pub deep : depth middle ≤ depth_of side
 
 -- an edit of a node with these sides can go on in the left one
 abbrev pub LeftTakes : ℕ → ℕ → Option Node → Node → Node → Type 0
@@ -57,27 +52,27 @@ pub record AreSpliced (from until : ℕ) (middle : Option Node) (old_left old_ri
   pub left_sound : IsSound left
   pub right_sound : IsSound right
   pub text : cells left ++ cells right
-      ≡ take from (cells old_left ++ cells old_right) ++ some_cells middle ++ drop until (cells old_left ++ cells old_right)
-  pub len : len_of left + len_of right ≡ from + some_len middle + (len_of old_left + len_of old_right - until)
-  pub depth : max (depth_of left) (depth_of right) ≤ max (max (depth_of old_left) (depth_of old_right) + 1) (some_depth middle) + 1
-  pub from_there : AreFrom (parts left ++ parts right) (parts old_left ++ parts old_right ++ some_parts middle)
-  pub few : AtMostOneMore (parts old_left ++ parts old_right) (some_parts middle) (parts left ++ parts right)
+      ≡ take from (cells old_left ++ cells old_right) ++ text middle ++ drop until (cells old_left ++ cells old_right)
+  pub len : len_of left + len_of right ≡ from + text_len middle + (len_of old_left + len_of old_right - until)
+  pub depth : max (depth_of left) (depth_of right) ≤ max (max (depth_of old_left) (depth_of old_right) + 1) (depth middle) + 1
+  pub from_there : AreFrom (parts left ++ parts right) (parts old_left ++ parts old_right ++ parts_of middle)
+  pub few : AtMostOneMore (parts old_left ++ parts old_right) (parts_of middle) (parts left ++ parts right)
 
 -- the range lies inside the node, something is left, and the result is neither too long nor too deep
 pub record IsEditable (from until : ℕ) (middle : Option Node) (node : Node) : Type 0 where
   pub sound : IsSound node
-  pub middle_sound : IsSomeSound middle
+  pub middle_sound : IsCord middle
   pub order : from ≤ until
   pub inside : until ≤ len_of node
-  pub not_empty : 0 < from + some_len middle + (len_of node - until)
-  pub within_limit : from + some_len middle + (len_of node - until) ≤ MAX_LEN
-  pub shallow : max (depth_of node) (some_depth middle) + 2 ≤ MAX_DEPTH
+  pub not_empty : 0 < from + text_len middle + (len_of node - until)
+  pub within_limit : from + text_len middle + (len_of node - until) ≤ MAX_LEN
+  pub shallow : max (depth_of node) (depth middle) + 2 ≤ MAX_DEPTH
 
 -- new is old with middle in the place of the range
 pub record IsSplice (from until : ℕ) (middle : Option Node) (old new : Node) : Type 0 where
   pub sound : IsSound new
-  pub text : cells new ≡ take from (cells old) ++ some_cells middle ++ drop until (cells old)
-  pub len : len_of new ≡ from + some_len middle + (len_of old - until)
-  pub depth : depth_of new ≤ max (depth_of old) (some_depth middle) + 2
-  pub from_there : AreFrom (parts new) (parts old ++ some_parts middle)
-  pub few : AtMostOneMore (parts old) (some_parts middle) (parts new)
+  pub text : cells new ≡ take from (cells old) ++ text middle ++ drop until (cells old)
+  pub len : len_of new ≡ from + text_len middle + (len_of old - until)
+  pub depth : depth_of new ≤ max (depth_of old) (depth middle) + 2
+  pub from_there : AreFrom (parts new) (parts old ++ parts_of middle)
+  pub few : AtMostOneMore (parts old) (parts_of middle) (parts new)

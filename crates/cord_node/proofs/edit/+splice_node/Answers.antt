@@ -4,7 +4,7 @@ use Rattle.std.specs.Rc.{rc_with_value}
 use Rattle.std.proofs.lemmas.Grind.{common_steps}
 use Rattle.std.proofs.lemmas.Result.{IfOk-weaker}
 use Rattle.cord_node.specs.Tree.{len_of}
-use Rattle.cord_node.specs.Splices.{node_in}
+use Rattle.cord_node.specs.Cords.{node_in}
 use Rattle.cord_node.specs.inner.Splices.{IsSplice}
 use Rattle.cord_node.specs.inner.Splices.{AreSides}
 use Rattle.cord_node.proofs.SpliceLemmas.{left_changed, right_changed_at, both_changed_at, HasSides, sides_are, joined_spliced, join_is}

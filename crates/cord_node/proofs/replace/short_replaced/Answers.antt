@@ -1,6 +1,6 @@
 use Rattle.std.proofs.Common.{arith}
 use Rattle.std.proofs.lemmas.Grind.{common_steps}
-use Rattle.cord_node.specs.Splices.{node_in}
+use Rattle.cord_node.specs.Cords.{node_in}
 use Rattle.cord_node.proofs.SpliceLemmas.{short_is}
 use Rattle.cord_node.proofs.replace.short_replaced.Goals as goal
 
