@@ -1,4 +1,4 @@
-use Rattle.std.proofs.Common.{◌≡◌, ◌<◌, ◌∙◌, List, sym, subst, arith}
+use Rattle.std.proofs.Common.{◌≡◌, ℕ, ◌<◌, ◌∙◌, List, sym, subst, arith}
 use Rattle.std.specs.List.{All}
 use Rattle.std.proofs.lemmas.Result.{on_ok_weaker}
 use Rattle.std.proofs.lemmas.List.Elements.{All-push}
@@ -9,6 +9,7 @@ use Rattle.cord_balance.specs.declared.forest.known.Known.{Known}
 use Rattle.cord_balance.specs.inner.Forest.{IsForm, IsKnown, forest_parts}
 use Rattle.cord_balance.proofs.Inserting.{kept_two}
 use Rattle.cord_balance.proofs.Forms.{IsPut, form_put, cat_put, form_of_put, right_some}
+use Rattle.cord_balance.proofs.forest.trees.+insert_once.Goals.{In_ok-insert_tree-2}
 use Rattle.cord_balance.proofs.forest.trees.+insert_once.Goals as goal
 
 pub returns-then-strong_count-alone-clause-kept : goal.returns-then-strong_count-alone-clause-kept
@@ -39,8 +40,9 @@ gather_all-requires-clause-some t c =
     c.requires.sound in
     omega (arith, some, c.in_ok-insert_once-3.ensures.len)
 
-pub returns-clause-known : goal.returns-clause-known
-returns-clause-known t c =
+-- what was joined of the two sides is the node's form
+form_is : (t : ℕ) (c : In_ok-insert_tree-2 t) → IsForm c.args.node.now.value c.in_ok-form.form.value
+form_is t c =
     let n = c.args.node.now.value in
     let own = c.new-own.result.items in
     let mid = c.insert_once-2.new.forest.items in
@@ -59,9 +61,14 @@ returns-clause-known t c =
     let both : IsPut own all n =
     cat_put own mid all n _ c.in-Cat.left.value _ c.in-Cat.right.value _ _ _ (sym c.as_ref.ensures ∙ c.in-Cat.is)
     c.requires.sound one two in
-    let is : IsForm n form =
     form_of_put own all n form c.new-own.ensures.items both c.in_ok-form.ensures.sound c.in_ok-form.ensures.text
-    c.in_ok-form.ensures.len c.in_ok-form.ensures.kept in
+    c.in_ok-form.ensures.len c.in_ok-form.ensures.kept
+
+pub returns-clause-known : goal.returns-clause-known
+returns-clause-known t c =
+    let n = c.args.node.now.value in
+    let form = c.in_ok-form.form.value in
+    let is : IsForm n form = form_is t (goal.at.returns-clause-known t c).In_ok-insert_tree-2 in
     let same : c.in_ok-node.node.value ≡ n = c.in_ok-node.ensures.cases in
     let pair : IsSound c.in_ok-node.node.value × IsForm c.in_ok-node.node.value form =
     subst (λ (m : Node). IsSound m × IsForm m form) (sym same) (c.requires.sound, is) in
@@ -71,26 +78,7 @@ returns-clause-known t c =
 pub returns-clause-kept : goal.returns-clause-kept
 returns-clause-kept t c =
     let n = c.args.node.now.value in
-    let own = c.new-own.result.items in
-    let mid = c.insert_once-2.new.forest.items in
-    let all = c.insert_once-3.new.forest.items in
     let form = c.in_ok-form.form.value in
-    let one : IsPut own mid c.in-Cat.left.value = record {
-      text = c.in_ok-insert_once-2.ensures.text;
-      len = c.in_ok-insert_once-2.ensures.len;
-      kept = c.in_ok-insert_once-2.ensures.kept;
-    } in
-    let two : IsPut mid all c.in-Cat.right.value = record {
-      text = c.in_ok-insert_once-3.ensures.text;
-      len = c.in_ok-insert_once-3.ensures.len;
-      kept = c.in_ok-insert_once-3.ensures.kept;
-    } in
-    let both : IsPut own all n =
-    cat_put own mid all n _ c.in-Cat.left.value _ c.in-Cat.right.value _ _ _ (sym c.as_ref.ensures ∙ c.in-Cat.is)
-    c.requires.sound one two in
-    let is : IsForm n form =
-    form_of_put own all n form c.new-own.ensures.items both c.in_ok-form.ensures.sound c.in_ok-form.ensures.text
-    c.in_ok-form.ensures.len c.in_ok-form.ensures.kept in
     let old = c.args.forest.now.items in
     let new = c.insert_tree-2.new.forest.items in
     let put : IsPut old new form = record {
@@ -98,4 +86,4 @@ returns-clause-kept t c =
       len = c.in_ok-insert_tree-2.ensures.len;
       kept = c.in_ok-insert_tree-2.ensures.kept;
     } in
-    (form_put old new n form is put).kept
+    (form_put old new n form (form_is t (goal.at.returns-clause-kept t c).In_ok-insert_tree-2) put).kept
