@@ -1,5 +1,5 @@
 -- How a visitor walks over bytes.
-use Rattle.std.specs.Prelude.{◌≡◌, ℕ, ◌+◌, Bool, true, false, if◌then◌else◌, List, [], ◌∷◌, ◌++◌}
+use Rattle.std.specs.Prelude.{◌≡◌, ℕ, Bool, true, false, if◌then◌else◌, List, [], ◌∷◌, ◌++◌}
 
 -- a visitor's state after `byte` on each byte in order up to the first stop, and whether it stopped
 abbrev pub walk : {S : Type 0} → (S → ℕ → S × Bool) → S → List ℕ → S × Bool

@@ -3,6 +3,7 @@ use Rattle.std.specs.Prelude.{replicate}
 use Rattle.std.specs.Result.{IfOk, OnErr}
 use Rattle.std.proofs.lemmas.Result.{IfOk-weaker, on_err_weaker}
 use Rattle.std.proofs.lemmas.List.{drop-replicate}
+use Rattle.cord_io.specs.Device.{Folder}
 use Rattle.cord_node.specs.declared.Node.{Node}
 use Rattle.cord_node.specs.Tree.{len_of}
 use Rattle.cord_node.specs.Tables.{bytes_over}
@@ -10,7 +11,24 @@ use Rattle.cord_iter.specs.Walk.{walk, WalkedFront}
 use Rattle.cord_iter.proofs.Takes.{on_err}
 use Rattle.cord_iter.proofs.Walks.{same_walk, range_rest}
 use Rattle.cord_iter.proofs.Cuts.{IsCut, cut_of, cut_stop, cut_on, cut_front, cut_on_front, cut_past}
+use Rattle.cord_iter.proofs.forward.+walk_node.Given.{Over}
+use Rattle.cord_iter.proofs.forward.+walk_node.Goals.{In-Cat, After-len-seam, Else-seam-from}
 use Rattle.cord_iter.proofs.forward.+walk_node.Goals as goal
+
+-- the text of the node is that of its two sides
+cut_is : (g : Over) (t : ℕ) (c : In-Cat g t) (folder : Folder) → g.S.Source.keeps c.args.src.now folder →
+    IsCut (g.S.Source.table c.args.src.now folder) c.in-Cat.left.value c.in-Cat.right.value c.args.node.now
+cut_is g t c folder kept = cut_of (g.S.Source.lengths c.args.src.now) (g.S.Source.table c.args.src.now folder) _ c.in-Cat.left.value _
+    c.in-Cat.right.value _ _ _ c.args.node.now c.in-Cat.is c.requires.sound c.requires.fits
+    (g.met.S.Source.lengths_of_table c.args.src.now folder kept)
+
+-- the seam is where the left side ends
+seam_is : (g : Over) (t : ℕ) (c : After-len-seam g t) → c.len-seam.result ≡ len_of c.in-Cat.left.value
+seam_is g t c = c.len-seam.ensures.stored ∙ ap len_of c.deref.ensures
+
+-- the walk begins in the left side
+in_left : (g : Over) (t : ℕ) (c : Else-seam-from g t) → c.args.from ≤ len_of c.in-Cat.left.value
+in_left g t c = omega (arith, c.len-seam.ensures.stored ∙ ap len_of c.deref.ensures, c.if-seam-from.false)
 
 pub returns-in_err-walk_node-in-Cat-clause-prefix : goal.returns-in_err-walk_node-in-Cat-clause-prefix
 returns-in_err-walk_node-in-Cat-clause-prefix g t c folder kept =
@@ -20,11 +38,9 @@ returns-in_err-walk_node-in-Cat-clause-prefix g t c folder kept =
     let node = c.args.node.now in
     let left = c.in-Cat.left.value in
     let right = c.in-Cat.right.value in
-    let told = g.met.S.Source.lengths_of_table c.args.src.now folder (c.walk_node-else-seam-from.ensures.source.earlier folder kept) in
-    let cut : IsCut text left right node =
-    cut_of (g.S.Source.lengths c.args.src.now) text _ left _ right _ _ _ node c.in-Cat.is c.requires.sound c.requires.fits told in
-    let seam : c.len-seam.result ≡ len_of left = c.len-seam.ensures.stored ∙ ap len_of c.deref.ensures in
-    let inside : c.args.from ≤ len_of left = omega (arith, seam, c.if-seam-from.false) in
+    let path = goal.at.returns-in_err-walk_node-in-Cat-clause-prefix g t c in
+    let cut : IsCut text left right node = cut_is g t path.In-Cat folder (c.walk_node-else-seam-from.ensures.source.earlier folder kept) in
+    let inside : c.args.from ≤ len_of left = in_left g t path.Else-seam-from in
     on_err c.from_residual.result (cut_front step (state c.args.visitor.now) (state c.walk_node-else-seam-from.new.visitor) text left right
     node c.args.from cut inside (rw c.as_ref-else-seam-from.ensures at c.in_err-walk_node-in-Cat.ensures.prefix folder kept))
 
@@ -66,11 +82,9 @@ returns-then-branch-clause-walked g t c folder kept =
     let node = c.args.node.now in
     let left = c.in-Cat.left.value in
     let right = c.in-Cat.right.value in
-    let told = g.met.S.Source.lengths_of_table c.args.src.now folder (c.walk_node-else-seam-from.ensures.source.earlier folder kept) in
-    let cut : IsCut text left right node =
-    cut_of (g.S.Source.lengths c.args.src.now) text _ left _ right _ _ _ node c.in-Cat.is c.requires.sound c.requires.fits told in
-    let seam : c.len-seam.result ≡ len_of left = c.len-seam.ensures.stored ∙ ap len_of c.deref.ensures in
-    let inside : c.args.from ≤ len_of left = omega (arith, seam, c.if-seam-from.false) in
+    let path = goal.at.returns-then-branch-clause-walked g t c in
+    let cut : IsCut text left right node = cut_is g t path.In-Cat folder (c.walk_node-else-seam-from.ensures.source.earlier folder kept) in
+    let inside : c.args.from ≤ len_of left = in_left g t path.Else-seam-from in
     cut_stop step (state c.args.visitor.now) (state c.walk_node-else-seam-from.new.visitor) text left right node c.args.from cut inside
     (rw (c.as_ref-else-seam-from.ensures, c.if-branch.true) at c.in_ok-walk_node-in-Cat.ensures.walked folder kept)
 
@@ -106,10 +120,9 @@ returns-then-seam-from-clause-walked g t c folder kept =
     let node = c.args.node.now in
     let left = c.in-Cat.left.value in
     let right = c.in-Cat.right.value in
-    let told = g.met.S.Source.lengths_of_table c.args.src.now folder (c.walk_node.ensures.source.earlier folder kept) in
-    let cut : IsCut text left right node =
-    cut_of (g.S.Source.lengths c.args.src.now) text _ left _ right _ _ _ node c.in-Cat.is c.requires.sound c.requires.fits told in
-    let seam : c.len-seam.result ≡ len_of left = c.len-seam.ensures.stored ∙ ap len_of c.deref.ensures in
+    let path = goal.at.returns-then-seam-from-clause-walked g t c in
+    let cut : IsCut text left right node = cut_is g t path.In-Cat folder (c.walk_node.ensures.source.earlier folder kept) in
+    let seam : c.len-seam.result ≡ len_of left = seam_is g t path.After-len-seam in
     let inside : len_of left ≤ c.args.from = subst (λ k. k ≤ c.args.from) seam c.if-seam-from.true in
     cut_past (λ xs. IfOk c.walk_node.result (λ stopped. walk step (state c.args.visitor.now) xs
     ≡ (state c.walk_node.new.visitor, stopped))) text left right node c.args.from cut inside
@@ -123,10 +136,9 @@ returns-then-seam-from-clause-prefix g t c folder kept =
     let node = c.args.node.now in
     let left = c.in-Cat.left.value in
     let right = c.in-Cat.right.value in
-    let told = g.met.S.Source.lengths_of_table c.args.src.now folder (c.walk_node.ensures.source.earlier folder kept) in
-    let cut : IsCut text left right node =
-    cut_of (g.S.Source.lengths c.args.src.now) text _ left _ right _ _ _ node c.in-Cat.is c.requires.sound c.requires.fits told in
-    let seam : c.len-seam.result ≡ len_of left = c.len-seam.ensures.stored ∙ ap len_of c.deref.ensures in
+    let path = goal.at.returns-then-seam-from-clause-prefix g t c in
+    let cut : IsCut text left right node = cut_is g t path.In-Cat folder (c.walk_node.ensures.source.earlier folder kept) in
+    let seam : c.len-seam.result ≡ len_of left = seam_is g t path.After-len-seam in
     let inside : len_of left ≤ c.args.from = subst (λ k. k ≤ c.args.from) seam c.if-seam-from.true in
     cut_past (λ xs. OnErr c.walk_node.result (WalkedFront step (state c.args.visitor.now) (state c.walk_node.new.visitor) xs)) text left
     right node c.args.from cut inside (rw (c.as_ref.ensures, seam) at c.walk_node.ensures.prefix folder kept)
@@ -140,11 +152,9 @@ returns-else-branch-clause-walked g t c folder kept =
     let left = c.in-Cat.left.value in
     let right = c.in-Cat.right.value in
     let before = c.walk_node-else-branch.ensures.source.earlier folder kept in
-    let told = g.met.S.Source.lengths_of_table c.args.src.now folder (c.walk_node-else-seam-from.ensures.source.earlier folder before) in
-    let cut : IsCut text left right node =
-    cut_of (g.S.Source.lengths c.args.src.now) text _ left _ right _ _ _ node c.in-Cat.is c.requires.sound c.requires.fits told in
-    let seam : c.len-seam.result ≡ len_of left = c.len-seam.ensures.stored ∙ ap len_of c.deref.ensures in
-    let inside : c.args.from ≤ len_of left = omega (arith, seam, c.if-seam-from.false) in
+    let path = goal.at.returns-else-branch-clause-walked g t c in
+    let cut : IsCut text left right node = cut_is g t path.In-Cat folder (c.walk_node-else-seam-from.ensures.source.earlier folder before) in
+    let inside : c.args.from ≤ len_of left = in_left g t path.Else-seam-from in
     let stays = rw (c.as_ref-else-seam-from.ensures, c.if-branch.false) at c.in_ok-walk_node-in-Cat.ensures.walked folder before in
     IfOk-weaker c.walk_node-else-branch.result _ _ (λ stopped on.
     cut_on step (state c.args.visitor.now) (state c.walk_node-else-seam-from.new.visitor) _ text left right node c.args.from cut inside
@@ -160,11 +170,9 @@ returns-else-branch-clause-prefix g t c folder kept =
     let left = c.in-Cat.left.value in
     let right = c.in-Cat.right.value in
     let before = c.walk_node-else-branch.ensures.source.earlier folder kept in
-    let told = g.met.S.Source.lengths_of_table c.args.src.now folder (c.walk_node-else-seam-from.ensures.source.earlier folder before) in
-    let cut : IsCut text left right node =
-    cut_of (g.S.Source.lengths c.args.src.now) text _ left _ right _ _ _ node c.in-Cat.is c.requires.sound c.requires.fits told in
-    let seam : c.len-seam.result ≡ len_of left = c.len-seam.ensures.stored ∙ ap len_of c.deref.ensures in
-    let inside : c.args.from ≤ len_of left = omega (arith, seam, c.if-seam-from.false) in
+    let path = goal.at.returns-else-branch-clause-prefix g t c in
+    let cut : IsCut text left right node = cut_is g t path.In-Cat folder (c.walk_node-else-seam-from.ensures.source.earlier folder before) in
+    let inside : c.args.from ≤ len_of left = in_left g t path.Else-seam-from in
     let stays = rw (c.as_ref-else-seam-from.ensures, c.if-branch.false) at c.in_ok-walk_node-in-Cat.ensures.walked folder before in
     on_err_weaker c.walk_node-else-branch.result (λ front. cut_on_front step (state c.args.visitor.now)
     (state c.walk_node-else-seam-from.new.visitor) (state c.walk_node-else-branch.new.visitor) text left right node c.args.from cut
