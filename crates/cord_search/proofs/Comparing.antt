@@ -102,17 +102,23 @@ piece_front x piece i done n e h = ap (λ (ys : List ℕ). take n ys) e ∙ take
     ∙ ap (λ (ys : List ℕ). take n ys) (sym (drop-drop done i x))
 
 -- the next bytes are the same too
+pub common_on : (t : Table) (x : Option Node) (i : ℕ) (y : Option Node) (j done n : ℕ) (piece other : List ℕ) → n ≤ length piece →
+    n ≤ length other → IsPieceOf t x (i + done) piece → IsPieceOf t y (j + done) other → take n piece ≡ take n other →
+    AreSame t x i y j done → AreSame t x i y j (done + n)
+common_on t x i y j done n piece other p q e f h s =
+    let u = drop i (bytes_of t x) in
+    let v = drop j (bytes_of t y) in
+    let next : take n (drop done u) ≡ take n (drop done v) =
+    sym (piece_front (bytes_of t x) piece i done n e p) ∙ h ∙ piece_front (bytes_of t y) other j done n f q in
+    take-add done n u ∙ ap (λ (zs : List ℕ). zs ++ take n (drop done u)) s ∙ ap (λ (zs : List ℕ). take done v ++ zs) next
+    ∙ sym (take-add done n v)
+
+-- and also where their order says so
 pub same_on : (t : Table) (x : Option Node) (i : ℕ) (y : Option Node) (j done n : ℕ) (piece other : List ℕ) → n ≤ length piece →
     n ≤ length other → IsPieceOf t x (i + done) piece → IsPieceOf t y (j + done) other →
     Equal ≡ slice_cmp nat_cmp (take n piece) (take n other) → AreSame t x i y j done → AreSame t x i y j (done + n)
 same_on t x i y j done n piece other p q e f h s =
-    let u = drop i (bytes_of t x) in
-    let v = drop j (bytes_of t y) in
-    let next : take n (drop done u) ≡ take n (drop done v) =
-    sym (piece_front (bytes_of t x) piece i done n e p) ∙ cmp_equal (take n piece) (take n other) (sym h)
-    ∙ piece_front (bytes_of t y) other j done n f q in
-    take-add done n u ∙ ap (λ (zs : List ℕ). zs ++ take n (drop done u)) s ∙ ap (λ (zs : List ℕ). take done v ++ zs) next
-    ∙ sym (take-add done n v)
+    common_on t x i y j done n piece other p q e f (cmp_equal (take n piece) (take n other) (sym h)) s
 
 -- the next bytes are not the same
 pub different : (t : Table) (x : Option Node) (i a : ℕ) (y : Option Node) (j b done n : ℕ) (piece other : List ℕ) (r : Ordering) →

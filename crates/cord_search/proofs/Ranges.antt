@@ -60,3 +60,8 @@ piece_within ls t c place s i j xs told f h inside e p =
     p ∙ ap (λ (ys : List ℕ). take (length xs) (drop i ys)) (h.text t (cord_told ls t c told f))
     ∙ range_of_range (bytes_of t c) i (length xs) place (stretch_len s) inside
     ∙ ap (λ (m : ℕ). take (length xs) (drop m (bytes_of t c))) (sym e)
+
+-- and so is what stands at its beginning
+pub front_within : (ls : Lengths) (t : Table) (c : Option Node) (place : ℕ) (s : Stretch) (xs : List ℕ) → HasLengths ls t →
+    CordFitsIn ls c → IsStretchOf c place s → length xs ≤ stretch_len s → IsPartOf t s 0 xs → IsPieceOf t c place xs
+front_within ls t c place s xs told f h inside p = piece_within ls t c place s 0 place xs told f h (omega (arith, inside)) (omega arith) p

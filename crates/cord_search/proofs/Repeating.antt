@@ -1,7 +1,6 @@
 -- Texts that repeat themselves stand at few places of one another.
 use Rattle.std.proofs.Common.{◌≡◌, ◌≢◌, ℕ, ◌+◌, ◌-◌, ◌<◌, ◌≤◌, List, ◌∷◌, [], ◌++◌, length, take, drop, get_or, sym, ◌∙◌, ap, arith, ⊎_elim}
 use Rattle.std.specs.Prelude.{Option}
-use Rattle.std.proofs.Math.Seq.{take-add}
 use Rattle.std.proofs.lemmas.Bool.{cases_lt}
 use Rattle.std.proofs.lemmas.List.{get_or-drop, get_or-take, take_more}
 use Rattle.cord_io.specs.Table.{Table}
@@ -11,7 +10,7 @@ use Rattle.cord_core.specs.Texts.{StandsAt}
 use Rattle.cord_search.specs.inner.Pieces.{IsPieceOf, AreSame, StandsNot}
 use Rattle.cord_search.specs.inner.Periods.{IsCommon}
 use Rattle.cord_search.proofs.Finding.{range_at}
-use Rattle.cord_search.proofs.Comparing.{piece_front}
+use Rattle.cord_search.proofs.Comparing.{common_on}
 use Rattle.cord_search.proofs.Standing.{stands_get, stands_inside}
 
 -- the same bytes at one place
@@ -28,18 +27,6 @@ pub agree_on : (xs ys : List ℕ) (p : ℕ) → p < length xs → p < length ys 
     take (p + 1) xs ≡ take (p + 1) ys
 agree_on xs ys p l r e same = take_more xs p 0 l ∙ ap (λ (zs : List ℕ). zs ++ get_or xs p 0 ∷ []) same
     ∙ ap (λ (b : ℕ). take p ys ++ b ∷ []) e ∙ sym (take_more ys p 0 r)
-
--- the next bytes are the same too
-pub common_on : (t : Table) (x : Option Node) (i : ℕ) (y : Option Node) (j done n : ℕ) (piece other : List ℕ) → n ≤ length piece →
-    n ≤ length other → IsPieceOf t x (i + done) piece → IsPieceOf t y (j + done) other → take n piece ≡ take n other →
-    AreSame t x i y j done → AreSame t x i y j (done + n)
-common_on t x i y j done n piece other p q e f h s =
-    let u = drop i (bytes_of t x) in
-    let v = drop j (bytes_of t y) in
-    let next : take n (drop done u) ≡ take n (drop done v) =
-    sym (piece_front (bytes_of t x) piece i done n e p) ∙ h ∙ piece_front (bytes_of t y) other j done n f q in
-    take-add done n u ∙ ap (λ (zs : List ℕ). zs ++ take n (drop done u)) s ∙ ap (λ (zs : List ℕ). take done v ++ zs) next
-    ∙ sym (take-add done n v)
 
 -- and then they differ
 pub common_end : (t : Table) (x : Option Node) (i : ℕ) (y : Option Node) (j most done n : ℕ) (piece other : List ℕ) → done + n ≤ most →

@@ -1,11 +1,32 @@
 use Rattle.std.proofs.Common.{◌+◌, ◌≤◌, ◌<◌, ◌∙◌, sym, arith}
 use Rattle.std.specs.Prelude.{min}
 use Rattle.cord_core.specs.Cord.{text_len}
+use Rattle.cord_io.specs.Device.{Folder}
 use Rattle.cord_search.specs.inner.Pieces.{IsPieceOf, AreSame}
-use Rattle.cord_search.proofs.Ranges.{cord_len, piece_within}
+use Rattle.cord_search.proofs.Ranges.{cord_len, front_within}
 use Rattle.cord_search.proofs.Sharing.{alike_on}
 use Rattle.cord_search.proofs.Comparing.{same_on, different, no_different, range_len, cord_limit}
+use Rattle.cord_search.proofs.order.compare.Given.{Over}
+use Rattle.cord_search.proofs.order.compare.Goals.{In_ok-other-in-Apart}
 use Rattle.cord_search.proofs.order.compare.Goals as goal
+
+-- what was read of the two texts are pieces of them
+texts_are : (g : Over) (c : In_ok-other-in-Apart g) (folder : Folder) → g.S.Source.keeps c.first_piece-in-Apart.new.src folder →
+    IsPieceOf (g.S.Source.table c.args.src.now folder) c.args.x.now (c.args.i + c.loop-done.done) c.in_ok-piece-in-Apart.piece.now ×
+    IsPieceOf (g.S.Source.table c.args.src.now folder) c.args.y.now (c.args.j + c.loop-done.done) c.in_ok-other-in-Apart.other.now
+texts_are g c folder kept =
+    let t = g.S.Source.table c.args.src.now folder in
+    let lengths = g.S.Source.lengths c.args.src.now in
+    let after = c.in_ok-other-in-Apart.ensures.read.earlier folder kept in
+    let before = c.in_ok-piece-in-Apart.ensures.read.earlier folder after in
+    let told = g.met.S.Source.lengths_of_table c.args.src.now folder (c.loop-done.invariant.earlier folder before) in (
+      front_within lengths t c.args.x.now (c.args.i + c.loop-done.done) c.in-Apart.stretch c.in_ok-piece-in-Apart.piece.now told
+          c.requires.left_fits c.in-Apart.ensures.0 c.in_ok-piece-in-Apart.ensures.inside
+          (rw c.loop-done.invariant.table at c.in_ok-piece-in-Apart.ensures.text folder after),
+      front_within lengths t c.args.y.now (c.args.j + c.loop-done.done) c.in-Apart.other c.in_ok-other-in-Apart.other.now told
+          c.requires.right_fits c.in-Apart.ensures.1 c.in_ok-other-in-Apart.ensures.inside
+          (rw (c.first_piece.ensures.read.table, c.loop-done.invariant.table) at c.in_ok-other-in-Apart.ensures.text folder kept),
+    )
 
 pub overflow_add-i : goal.overflow_add-i
 overflow_add-i g c =
@@ -61,19 +82,10 @@ loop-done-preserved g c = record {
       let after = c.in_ok-other-in-Apart.ensures.read.earlier folder kept in
       let before = c.in_ok-piece-in-Apart.ensures.read.earlier folder after in
       let told = g.met.S.Source.lengths_of_table c.args.src.now folder (c.loop-done.invariant.earlier folder before) in
-      let from = c.args.i + done in
-      let other_from = c.args.j + done in
-      let text : IsPieceOf t c.args.x.now from piece =
-      piece_within lengths t c.args.x.now from c.in-Apart.stretch 0 from piece told c.requires.left_fits c.in-Apart.ensures.0
-      (omega (arith, c.in_ok-piece-in-Apart.ensures.inside)) (omega arith)
-      (rw c.loop-done.invariant.table at c.in_ok-piece-in-Apart.ensures.text folder after) in
-      let other_text : IsPieceOf t c.args.y.now other_from other =
-      piece_within lengths t c.args.y.now other_from c.in-Apart.other 0 other_from other told c.requires.right_fits c.in-Apart.ensures.1
-      (omega (arith, c.in_ok-other-in-Apart.ensures.inside)) (omega arith)
-      (rw (c.first_piece.ensures.read.table, c.loop-done.invariant.table) at c.in_ok-other-in-Apart.ensures.text folder kept) in
+      let texts = texts_are g (goal.at.loop-done-preserved g c).In_ok-other-in-Apart folder kept in
       let first : AreSame t c.args.x.now c.args.i c.args.y.now c.args.j (done + n) =
       same_on t c.args.x.now c.args.i c.args.y.now c.args.j done n piece other (omega (arith, c.min-count.ensures))
-      (omega (arith, c.min-count.ensures)) text other_text (sym c.in-Equal.is ∙ c.order_of.ensures)
+      (omega (arith, c.min-count.ensures)) texts.0 texts.1 (sym c.in-Equal.is ∙ c.order_of.ensures)
       (c.loop-done.invariant.same folder before) in
       alike_on lengths t c.args.x.now c.args.i c.args.y.now c.args.j (done + n) c.common_behind-done.result told c.requires.left_fits
       c.requires.right_fits c.common_behind-done.ensures.alike first;
@@ -91,20 +103,9 @@ returns-in_default-clause-order g c = λ folder kept.
     let n = c.min-count.result in
     let piece = c.in_ok-piece-in-Apart.piece.now in
     let other = c.in_ok-other-in-Apart.other.now in
-    let lengths = g.S.Source.lengths c.args.src.now in
     let after = c.in_ok-other-in-Apart.ensures.read.earlier folder kept in
     let before = c.in_ok-piece-in-Apart.ensures.read.earlier folder after in
-    let told = g.met.S.Source.lengths_of_table c.args.src.now folder (c.loop-done.invariant.earlier folder before) in
-    let from = c.args.i + done in
-    let other_from = c.args.j + done in
-    let text : IsPieceOf t c.args.x.now from piece =
-    piece_within lengths t c.args.x.now from c.in-Apart.stretch 0 from piece told c.requires.left_fits c.in-Apart.ensures.0
-    (omega (arith, c.in_ok-piece-in-Apart.ensures.inside)) (omega arith)
-    (rw c.loop-done.invariant.table at c.in_ok-piece-in-Apart.ensures.text folder after) in
-    let other_text : IsPieceOf t c.args.y.now other_from other =
-    piece_within lengths t c.args.y.now other_from c.in-Apart.other 0 other_from other told c.requires.right_fits c.in-Apart.ensures.1
-    (omega (arith, c.in_ok-other-in-Apart.ensures.inside)) (omega arith)
-    (rw (c.first_piece.ensures.read.table, c.loop-done.invariant.table) at c.in_ok-other-in-Apart.ensures.text folder kept) in
+    let texts = texts_are g (goal.at.returns-in_default-clause-order g c).In_ok-other-in-Apart folder kept in
     different t c.args.x.now c.args.i c.args.left c.args.y.now c.args.j c.args.right done n piece other c.order_of.result
     (omega (
       arith,
@@ -121,7 +122,7 @@ returns-in_default-clause-order g c = λ folder kept.
       c.min-both.ensures,
       c.loop-done-test.true,
     )) (omega (arith, c.min-count.ensures))
-    (omega (arith, c.min-count.ensures)) text other_text c.order_of.ensures c.in_default.not-Equal
+    (omega (arith, c.min-count.ensures)) texts.0 texts.1 c.order_of.ensures c.in_default.not-Equal
     (c.loop-done.invariant.same folder before)
 
 pub returns-clause-order : goal.returns-clause-order

@@ -1,10 +1,31 @@
 use Rattle.std.proofs.Common.{◌+◌, ◌<◌, ◌∙◌, length, arith}
+use Rattle.cord_io.specs.Device.{Folder}
 use Rattle.cord_search.specs.inner.Pieces.{IsPieceOf}
-use Rattle.cord_search.proofs.Ranges.{piece_within}
+use Rattle.cord_search.proofs.Ranges.{front_within}
 use Rattle.cord_search.proofs.Sharing.{alike_on}
-use Rattle.cord_search.proofs.Comparing.{cord_limit}
-use Rattle.cord_search.proofs.Repeating.{common_on, common_end, common_all}
+use Rattle.cord_search.proofs.Comparing.{common_on, cord_limit}
+use Rattle.cord_search.proofs.Repeating.{common_end, common_all}
+use Rattle.cord_search.proofs.periods.common_len.Given.{Over}
+use Rattle.cord_search.proofs.periods.common_len.Goals.{In_ok-other-in-Apart}
 use Rattle.cord_search.proofs.periods.common_len.Goals as goal
+
+-- what was read of the two texts are pieces of them
+texts_are : (g : Over) (c : In_ok-other-in-Apart g) (folder : Folder) → g.S.Source.keeps c.first_piece-in-Apart.new.src folder →
+    IsPieceOf (g.S.Source.table c.args.src.now folder) c.args.x.now (c.args.i + c.loop-done.done) c.in_ok-piece-in-Apart.piece.now ×
+    IsPieceOf (g.S.Source.table c.args.src.now folder) c.args.y.now (c.args.j + c.loop-done.done) c.in_ok-other-in-Apart.other.now
+texts_are g c folder kept =
+    let t = g.S.Source.table c.args.src.now folder in
+    let lengths = g.S.Source.lengths c.args.src.now in
+    let after = c.in_ok-other-in-Apart.ensures.read.earlier folder kept in
+    let before = c.in_ok-piece-in-Apart.ensures.read.earlier folder after in
+    let told = g.met.S.Source.lengths_of_table c.args.src.now folder (c.loop-done.invariant.earlier folder before) in (
+      front_within lengths t c.args.x.now (c.args.i + c.loop-done.done) c.in-Apart.stretch c.in_ok-piece-in-Apart.piece.now told
+          c.requires.left_fits c.in-Apart.ensures.0 c.in_ok-piece-in-Apart.ensures.inside
+          (rw c.loop-done.invariant.table at c.in_ok-piece-in-Apart.ensures.text folder after),
+      front_within lengths t c.args.y.now (c.args.j + c.loop-done.done) c.in-Apart.other c.in_ok-other-in-Apart.other.now told
+          c.requires.right_fits c.in-Apart.ensures.1 c.in_ok-other-in-Apart.ensures.inside
+          (rw (c.first_piece.ensures.read.table, c.loop-done.invariant.table) at c.in_ok-other-in-Apart.ensures.text folder kept),
+    )
 
 pub overflow_add-i : goal.overflow_add-i
 overflow_add-i g c = omega (arith, c.requires.left_inside, c.loop-done-test.true, cord_limit c.args.x.now c.requires.left_sound)
@@ -49,22 +70,11 @@ loop-done-preserved g c = record {
       let n = c.agreeing-count.result in
       let piece = c.in_ok-piece-in-Apart.piece.now in
       let other = c.in_ok-other-in-Apart.other.now in
-      let lengths = g.S.Source.lengths c.args.src.now in
       let after = c.in_ok-other-in-Apart.ensures.read.earlier folder kept in
       let before = c.in_ok-piece-in-Apart.ensures.read.earlier folder after in
-      let told = g.met.S.Source.lengths_of_table c.args.src.now folder (c.loop-done.invariant.earlier folder before) in
-      let from = c.args.i + done in
-      let other_from = c.args.j + done in
-      let text : IsPieceOf t c.args.x.now from piece =
-      piece_within lengths t c.args.x.now from c.in-Apart.stretch 0 from piece told c.requires.left_fits c.in-Apart.ensures.0
-      (omega (arith, c.in_ok-piece-in-Apart.ensures.inside)) (omega arith)
-      (rw c.loop-done.invariant.table at c.in_ok-piece-in-Apart.ensures.text folder after) in
-      let other_text : IsPieceOf t c.args.y.now other_from other =
-      piece_within lengths t c.args.y.now other_from c.in-Apart.other 0 other_from other told c.requires.right_fits c.in-Apart.ensures.1
-      (omega (arith, c.in_ok-other-in-Apart.ensures.inside)) (omega arith)
-      (rw (c.first_piece.ensures.read.table, c.loop-done.invariant.table) at c.in_ok-other-in-Apart.ensures.text folder kept) in
+      let texts = texts_are g (goal.at.loop-done-preserved g c).In_ok-other-in-Apart folder kept in
       common_on t c.args.x.now c.args.i c.args.y.now c.args.j done n piece other c.agreeing-count.ensures.left
-      c.agreeing-count.ensures.right text other_text c.agreeing-count.ensures.same (c.loop-done.invariant.same folder before);
+      c.agreeing-count.ensures.right texts.0 texts.1 c.agreeing-count.ensures.same (c.loop-done.invariant.same folder before);
   reads = c.in_ok-other-in-Apart.ensures.read.count ∙ (c.in_ok-piece-in-Apart.ensures.read.count ∙ c.loop-done.invariant.reads);
   lengths = c.first_piece-in-Apart.ensures.read.lengths ∙ (c.first_piece.ensures.read.lengths ∙ c.loop-done.invariant.lengths);
   table = c.first_piece-in-Apart.ensures.read.table ∙ (c.first_piece.ensures.read.table ∙ c.loop-done.invariant.table);
@@ -79,25 +89,14 @@ returns-then-count-both-clause-common g c = λ folder kept.
     let n = c.agreeing-count.result in
     let piece = c.in_ok-piece-in-Apart.piece.now in
     let other = c.in_ok-other-in-Apart.other.now in
-    let lengths = g.S.Source.lengths c.args.src.now in
     let after = c.in_ok-other-in-Apart.ensures.read.earlier folder kept in
     let before = c.in_ok-piece-in-Apart.ensures.read.earlier folder after in
-    let told = g.met.S.Source.lengths_of_table c.args.src.now folder (c.loop-done.invariant.earlier folder before) in
-    let from = c.args.i + done in
-    let other_from = c.args.j + done in
     let left : n < length piece = omega (arith, c.if-count-both.true, c.min-both.ensures) in
     let right : n < length other = omega (arith, c.if-count-both.true, c.min-both.ensures) in
-    let text : IsPieceOf t c.args.x.now from piece =
-    piece_within lengths t c.args.x.now from c.in-Apart.stretch 0 from piece told c.requires.left_fits c.in-Apart.ensures.0
-    (omega (arith, c.in_ok-piece-in-Apart.ensures.inside)) (omega arith)
-    (rw c.loop-done.invariant.table at c.in_ok-piece-in-Apart.ensures.text folder after) in
-    let other_text : IsPieceOf t c.args.y.now other_from other =
-    piece_within lengths t c.args.y.now other_from c.in-Apart.other 0 other_from other told c.requires.right_fits c.in-Apart.ensures.1
-    (omega (arith, c.in_ok-other-in-Apart.ensures.inside)) (omega arith)
-    (rw (c.first_piece.ensures.read.table, c.loop-done.invariant.table) at c.in_ok-other-in-Apart.ensures.text folder kept) in
+    let texts = texts_are g (goal.at.returns-then-count-both-clause-common g c).In_ok-other-in-Apart folder kept in
     common_end t c.args.x.now c.args.i c.args.y.now c.args.j c.args.most done n piece other
-    (omega (arith, left, c.in_ok-piece-in-Apart.ensures.inside, c.in-Apart.ensures.3, c.loop-done-test.true)) left right text
-    other_text c.agreeing-count.ensures.same (c.agreeing-count.ensures.differ left right) (c.loop-done.invariant.same folder before)
+    (omega (arith, left, c.in_ok-piece-in-Apart.ensures.inside, c.in-Apart.ensures.3, c.loop-done-test.true)) left right
+    texts.0 texts.1 c.agreeing-count.ensures.same (c.agreeing-count.ensures.differ left right) (c.loop-done.invariant.same folder before)
 
 pub returns-clause-common : goal.returns-clause-common
 returns-clause-common g c = λ folder kept.
