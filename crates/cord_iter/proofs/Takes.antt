@@ -1,22 +1,24 @@
 -- What a sink took in several calls, one after the other.
 use Rattle.std.proofs.Common.{◌≡◌, ℕ, ◌+◌, ◌-◌, ◌≤◌, List, ◌++◌, length, take, drop, Ok, Err, refl, sym, ◌∙◌, ap, arith, append_assoc}
 use Rattle.std.proofs.Common.{length-append}
-use Rattle.std.specs.Prelude.{replicate}
+use Rattle.std.proofs.lemmas.Bool.{false≢true}
+use Rattle.std.specs.Prelude.{IsErr, replicate}
 use Rattle.std.proofs.lemmas.List.{take-append-drop, drop-drop, take-replicate, replicate-append-replicate}
 use Rattle.std.specs.declared.rc.Rc.{Rc}
 use Rattle.std.specs.Global.{Global}
 use Rattle.std.specs.Result.{OnErr}
 use Rattle.std.specs.declared.result.Result.{Result}
 use Rattle.std.proofs.Math.Seq.{take-add}
-use Rattle.cord_io.specs.Device.{Folder}
+use Rattle.cord_io.specs.Device.{Folder, raised}
 use Rattle.cord_io.specs.Table.{Table}
 use Rattle.cord_io.specs.declared.SourceId.{SourceId}
+use Rattle.cord_io.specs.declared.writing.Sink as sinks
 use Rattle.cord_node.specs.Kept.{Part}
 use Rattle.cord_node.specs.declared.Node.{Node}
 use Rattle.cord_node.specs.declared.Node.TheVariants.{Func, Cat'}
 use Rattle.cord_node.specs.Tree.{len_of, IsSound}
 use Rattle.cord_node.specs.Tables.{bytes_over}
-use Rattle.cord_iter.specs.Output.{IsFrontOf, Takes}
+use Rattle.cord_iter.specs.Output.{IsFrontOf, Takes, Writes}
 use Rattle.cord_iter.specs.inner.Output.{IsTextOver, IsPrefixOver}
 
 -- bytes after bytes
@@ -122,6 +124,13 @@ cat_right table l r n x y e earlier h k = record {
 pub on_err : {T E P : Type 0} (r : Result T E) → P → OnErr r P
 on_err (Ok x) h = tt
 on_err (Err e) h = h
+
+-- a call that failed, after a prefix of the text
+pub writes_err : {S E : Type 0} {sink : sinks.Ghosts S} {text : List ℕ} {a b : S} {r : Result (Unit {0}) E} → IsErr r →
+    Takes (IsFrontOf text) (sink.taken a) (sink.taken b) → sink.failures b ≡ raised (sink.failures a) →
+    sink.finished b ≡ sink.finished a → Writes sink text a b r
+writes_err {r = Ok x} is taken count finished = absurd (false≢true is)
+writes_err {r = Err e} is taken count finished = record { ok = tt; err = (taken, count); finished = finished }
 
 -- a prefix of the next bytes of a run
 run_front : (byte len done count : ℕ) (y : List ℕ) → done + count ≤ len → IsFrontOf (replicate count byte) y →

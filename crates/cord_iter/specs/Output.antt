@@ -1,5 +1,6 @@
 -- What a sink takes of a cord, and how often the devices have failed then.
 use Rattle.std.specs.Prelude.{◌≡◌, ℕ, List, ◌++◌, Ok, Err}
+use Rattle.std.specs.Result.{OnOk, OnErr}
 use Rattle.std.specs.declared.result.Result.{Result}
 use Rattle.cord_io.specs.Device.{raised}
 use Rattle.cord_io.specs.declared.faults.CordError.{CordError}
@@ -16,6 +17,12 @@ pub record Takes (P : List ℕ → Type 0) (old new : List ℕ) : Type 0 where
   pub out : List ℕ
   pub such : P out
   pub taken : new ≡ old ++ out
+
+-- at Ok a sink took exactly this text and didn't fail; at Err it took a prefix of it and failed once; it wasn't ended
+pub record Writes {S E : Type 0} (sink : sinks.Ghosts S) (text : List ℕ) (old new : S) (r : Result (Unit {0}) E) : Type 0 where
+  pub ok : OnOk r ((sink.taken new ≡ sink.taken old ++ text) × (sink.failures new ≡ sink.failures old))
+  pub err : OnErr r (Takes (IsFrontOf text) (sink.taken old) (sink.taken new) × (sink.failures new ≡ raised (sink.failures old)))
+  pub finished : sink.finished new ≡ sink.finished old
 
 -- how often a source and a sink have failed
 pub record Counts : Type 0 where

@@ -1,7 +1,6 @@
 // Output of plain bytes and of runs.
-ghost use Rattle.std.specs.Prelude.{◌≡◌, ◌<◌, ◌≤◌, ◌++◌, OnOk, OnErr, replicate};
-ghost use Rattle.cord_io.specs.Device.{raised};
-ghost use Rattle.cord_iter.specs.Output.{IsFrontOf, Takes};
+ghost use Rattle.std.specs.Prelude.{◌<◌, ◌≤◌, replicate};
+ghost use Rattle.cord_iter.specs.Output.{Writes};
 
 use crate::{BLOCK_LEN, PIECE_LEN};
 use cord_io::{Sink, WriteFault};
@@ -9,11 +8,7 @@ use cord_io::{Sink, WriteFault};
 /// Offers the bytes until the sink has taken them all: after a short `put` the rest. After a fault the sink has taken a
 /// prefix.
 pub fn put_all<W: Sink>(bytes: &[u8], sink: &mut W) -> Result<(), WriteFault>
-    ensures ok { OnOk result ((W.taken sink.new ≡ W.taken sink.old ++ bytes.now) ×
-        (W.failures sink.new ≡ W.failures sink.old)) }
-    ensures err { OnErr result (Takes (IsFrontOf bytes.now) (W.taken sink.old) (W.taken sink.new) ×
-        (W.failures sink.new ≡ raised (W.failures sink.old))) }
-    ensures finished { W.finished sink.new ≡ W.finished sink.old }
+    ensures { Writes ⟦<W as Sink>⟧ bytes.now sink.old sink.new result }
 {
     let mut done = 0;
     while done < bytes.len() {
@@ -24,11 +19,7 @@ pub fn put_all<W: Sink>(bytes: &[u8], sink: &mut W) -> Result<(), WriteFault>
 
 // Puts `len` times the byte: a long run in blocks, so that a sink with a buffer need not keep them.
 pub(crate) fn put_run<W: Sink>(byte: u8, len: u64, sink: &mut W) -> Result<(), WriteFault>
-    ensures ok { OnOk result ((W.taken sink.new ≡ W.taken sink.old ++ replicate len byte) ×
-        (W.failures sink.new ≡ W.failures sink.old)) }
-    ensures err { OnErr result (Takes (IsFrontOf (replicate len byte)) (W.taken sink.old) (W.taken sink.new) ×
-        (W.failures sink.new ≡ raised (W.failures sink.old))) }
-    ensures finished { W.finished sink.new ≡ W.finished sink.old }
+    ensures { Writes ⟦<W as Sink>⟧ (replicate len byte) sink.old sink.new result }
 {
     if len < BLOCK_LEN as u64 {
         put_repeated::<PIECE_LEN, W>(byte, len, sink)
@@ -43,11 +34,7 @@ pub(crate) fn put_run<W: Sink>(byte: u8, len: u64, sink: &mut W) -> Result<(), W
 fn put_repeated<const N: usize, W: Sink>(byte: u8, len: u64, sink: &mut W) -> Result<(), WriteFault>
     requires some { 0 < N }
     requires few { N ≤ BLOCK_LEN }
-    ensures ok { OnOk result ((W.taken sink.new ≡ W.taken sink.old ++ replicate len byte) ×
-        (W.failures sink.new ≡ W.failures sink.old)) }
-    ensures err { OnErr result (Takes (IsFrontOf (replicate len byte)) (W.taken sink.old) (W.taken sink.new) ×
-        (W.failures sink.new ≡ raised (W.failures sink.old))) }
-    ensures finished { W.finished sink.new ≡ W.finished sink.old }
+    ensures { Writes ⟦<W as Sink>⟧ (replicate len byte) sink.old sink.new result }
 {
     let block = [byte; N];
     let mut done = 0;
