@@ -1,9 +1,8 @@
 // Plans.
-ghost use Rattle.std.specs.Prelude.{◌≡◌, All, ◌+◌, ◌<◌, ◌++◌, ℕ, Some, IfErr, IfOk, IsOkUnless, OnErr, OnOk};
+ghost use Rattle.std.specs.Prelude.{◌≡◌, All, ◌+◌, ◌<◌, ℕ, Some, IfErr, IfOk, IsOkUnless};
 ghost use Rattle.std.specs.Prelude.{false, get_or, length, map, slice_get, true};
 ghost use Rattle.cord_meaning.specs.Blocks.{jump};
-ghost use Rattle.cord_io.specs.Device.{raised};
-ghost use Rattle.cord_iter.specs.Output.{IsFrontOf, Takes};
+ghost use Rattle.cord_iter.specs.Output.{Writes};
 ghost use Rattle.cord_plan.specs.Extending.{Extends};
 ghost use Rattle.cord_plan.specs.inner.Extensions.{AreExtending};
 ghost use Rattle.cord_plan.specs.Verbatim.{KeepsNoOther};
@@ -137,11 +136,7 @@ impl Plan {
     /// Hands a sink the text of the plan: one line an operation, ended by byte 10. Refused with `WriteFailed` where the
     /// sink failed: then it took a prefix of the text.
     pub fn show<W: Sink>(&self, sink: &mut W) -> Result<(), CordError>
-        ensures ok { OnOk result ((W.taken sink.new ≡ W.taken sink.old ++ shown (map operation_view self.now)) ×
-            (W.failures sink.new ≡ W.failures sink.old)) }
-        ensures err { OnErr result (Takes (IsFrontOf (shown (map operation_view self.now))) (W.taken sink.old)
-            (W.taken sink.new) × (W.failures sink.new ≡ raised (W.failures sink.old))) }
-        ensures finished { W.finished sink.new ≡ W.finished sink.old }
+        ensures writes { Writes ⟦<W as Sink>⟧ (shown (map operation_view self.now)) sink.old sink.new result }
         ensures refused { IfErr result (λ e. e ≡ CordError.WriteFailed) }
     {
         show_operations(&self.operations, sink)

@@ -3,14 +3,13 @@ mod expressions;
 mod fragments;
 mod statements;
 
-ghost use Rattle.std.specs.Prelude.{◌≡◌, [], ◌∷◌, ◌++◌, codes, map, OnOk, OnErr, IfErr};
-ghost use Rattle.cord_io.specs.Device.{raised};
+ghost use Rattle.std.specs.Prelude.{◌≡◌, [], ◌∷◌, ◌++◌, codes, map, IfErr};
 ghost use Rattle.cord_meaning.specs.Statements.{line_of};
-ghost use Rattle.cord_iter.specs.Output.{IsFrontOf, Takes};
+ghost use Rattle.cord_iter.specs.Output.{Writes};
 ghost use Rattle.cord_plan.specs.Shown.{decimal, expr, spaced, statement, made as made_text};
 ghost use Rattle.cord_script.specs.Tests.{function_word};
 ghost use Rattle.cord_plan.specs.Shown.{operation as operation_text, shown};
-ghost use Rattle.cord_plan.specs.inner.Showing.{Writes, fragment_text};
+ghost use Rattle.cord_plan.specs.inner.Showing.{fragment_text};
 ghost use Rattle.cord_plan.specs.Views.{expr_view, made_view, operation_view};
 
 use self::expressions::put_expression;
@@ -27,11 +26,7 @@ pub(crate) fn show_operations<W: Sink>(
     operations: &[Operation],
     sink: &mut W,
 ) -> Result<(), CordError>
-    ensures ok { OnOk result ((W.taken sink.new ≡ W.taken sink.old ++ shown (map operation_view operations.now)) ×
-        (W.failures sink.new ≡ W.failures sink.old)) }
-    ensures err { OnErr result (Takes (IsFrontOf (shown (map operation_view operations.now))) (W.taken sink.old)
-        (W.taken sink.new) × (W.failures sink.new ≡ raised (W.failures sink.old))) }
-    ensures finished { W.finished sink.new ≡ W.finished sink.old }
+    ensures writes { Writes ⟦<W as Sink>⟧ (shown (map operation_view operations.now)) sink.old sink.new result }
     ensures refused { IfErr result (λ e. e ≡ CordError.WriteFailed) }
 {
     put_operations(operations, sink)?;
@@ -39,8 +34,7 @@ pub(crate) fn show_operations<W: Sink>(
 }
 
 fn put_operations<W: Sink>(operations: &[Operation], sink: &mut W) -> Result<(), WriteFault>
-    ensures { Writes (shown (map operation_view operations.now)) (W.taken sink.old) (W.taken sink.new)
-        (W.failures sink.old) (W.failures sink.new) (W.finished sink.old) (W.finished sink.new) result }
+    ensures { Writes ⟦<W as Sink>⟧ (shown (map operation_view operations.now)) sink.old sink.new result }
 {
     for operation in operations {
         put_operation(operation, sink)?;
@@ -51,8 +45,7 @@ fn put_operations<W: Sink>(operations: &[Operation], sink: &mut W) -> Result<(),
 
 // A line of the text, without its end.
 fn put_operation<W: Sink>(operation: &Operation, sink: &mut W) -> Result<(), WriteFault>
-    ensures { Writes (operation_text (operation_view operation.now)) (W.taken sink.old) (W.taken sink.new)
-        (W.failures sink.old) (W.failures sink.new) (W.finished sink.old) (W.finished sink.new) result }
+    ensures { Writes ⟦<W as Sink>⟧ (operation_text (operation_view operation.now)) sink.old sink.new result }
 {
     match operation {
         Operation::Build { line, target, made } => put_assignment(
@@ -74,9 +67,8 @@ fn put_assignment<'a, W: Sink>(
     made: &Made,
     sink: &mut W,
 ) -> Result<(), WriteFault>
-    ensures { Writes (spaced (decimal line ∷ verb.now ∷ target.now ∷ made_text (made_view made.now) ∷ []))
-        (W.taken sink.old) (W.taken sink.new) (W.failures sink.old) (W.failures sink.new) (W.finished sink.old)
-        (W.finished sink.new) result }
+    ensures { Writes ⟦<W as Sink>⟧ (spaced (decimal line ∷ verb.now ∷ target.now ∷ made_text (made_view made.now) ∷ []))
+        sink.old sink.new result }
 {
     let head = [
         Count(line as u64),
@@ -92,9 +84,8 @@ fn put_assignment<'a, W: Sink>(
 
 // The line of an operation that puts an expression.
 fn put_written<W: Sink>(line: u32, expression: &Expr, sink: &mut W) -> Result<(), WriteFault>
-    ensures { Writes (spaced (decimal line ∷ codes "write" ∷ expr (expr_view expression.now) ∷ [])) (W.taken sink.old)
-        (W.taken sink.new) (W.failures sink.old) (W.failures sink.new) (W.finished sink.old)
-        (W.finished sink.new) result }
+    ensures { Writes ⟦<W as Sink>⟧ (spaced (decimal line ∷ codes "write" ∷ expr (expr_view expression.now) ∷ []))
+        sink.old sink.new result }
 {
     put_fragments(&[Count(line as u64), Plain(b" write ")], sink)?;
     put_expression(expression, sink)
@@ -102,9 +93,8 @@ fn put_written<W: Sink>(line: u32, expression: &Expr, sink: &mut W) -> Result<()
 
 // The line of a statement that is kept.
 fn put_kept<W: Sink>(kept: &Statement, sink: &mut W) -> Result<(), WriteFault>
-    ensures { Writes (spaced (decimal (line_of kept.now) ∷ statement kept.now ∷ [])) (W.taken sink.old)
-        (W.taken sink.new) (W.failures sink.old) (W.failures sink.new) (W.finished sink.old)
-        (W.finished sink.new) result }
+    ensures { Writes ⟦<W as Sink>⟧ (spaced (decimal (line_of kept.now) ∷ statement kept.now ∷ [])) sink.old sink.new
+        result }
 {
     put_fragments(&[Count(kept.line() as u64), Plain(b" ")], sink)?;
     put_statement(kept, sink)
@@ -112,8 +102,7 @@ fn put_kept<W: Sink>(kept: &Statement, sink: &mut W) -> Result<(), WriteFault>
 
 // What a name is made of.
 fn put_made<W: Sink>(made: &Made, sink: &mut W) -> Result<(), WriteFault>
-    ensures { Writes (made_text (made_view made.now)) (W.taken sink.old) (W.taken sink.new) (W.failures sink.old)
-        (W.failures sink.new) (W.finished sink.old) (W.finished sink.new) result }
+    ensures { Writes ⟦<W as Sink>⟧ (made_text (made_view made.now)) sink.old sink.new result }
 {
     match made {
         Made::Joined(expression) => put_expression(expression, sink),
@@ -157,8 +146,7 @@ fn put_called<'a, W: Sink>(
     inside: Fragment<'a>,
     sink: &mut W,
 ) -> Result<(), WriteFault>
-    ensures { Writes (opened.now ++ fragment_text inside.entry ++ 41 ∷ []) (W.taken sink.old) (W.taken sink.new)
-        (W.failures sink.old) (W.failures sink.new) (W.finished sink.old) (W.finished sink.new) result }
+    ensures { Writes ⟦<W as Sink>⟧ (opened.now ++ fragment_text inside.entry ++ 41 ∷ []) sink.old sink.new result }
 {
     put_fragments(&[Plain(opened), inside, Plain(b")")], sink)
 }

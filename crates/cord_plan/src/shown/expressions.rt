@@ -1,7 +1,7 @@
 // The text of expressions.
 ghost use Rattle.std.specs.Prelude.{map};
+ghost use Rattle.cord_iter.specs.Output.{Writes};
 ghost use Rattle.cord_plan.specs.Shown.{expr, exprs, more_exprs};
-ghost use Rattle.cord_plan.specs.inner.Showing.{Writes};
 ghost use Rattle.cord_plan.specs.Views.{expr_view, members_of, members_view, shared_view};
 
 use super::fragments::{Fragment, put_fragments, put_text};
@@ -12,8 +12,7 @@ use std::rc::Rc;
 // Hands a sink the text of an expression.
 #[cycle(shown_expressions)]
 pub(crate) fn put_expression<W: Sink>(expression: &Expr, sink: &mut W) -> Result<(), WriteFault>
-    ensures { Writes (expr (expr_view expression.now)) (W.taken sink.old) (W.taken sink.new) (W.failures sink.old)
-        (W.failures sink.new) (W.finished sink.old) (W.finished sink.new) result }
+    ensures { Writes ⟦<W as Sink>⟧ (expr (expr_view expression.now)) sink.old sink.new result }
 {
     match expression {
         Expr::Name(name) => put_text(name.as_slice(), sink),
@@ -54,8 +53,7 @@ pub(crate) fn put_expression<W: Sink>(expression: &Expr, sink: &mut W) -> Result
 // The members of a `cat`, separated by one blank.
 #[cycle(shown_expressions)]
 fn put_members<W: Sink>(members: &Members, sink: &mut W) -> Result<(), WriteFault>
-    ensures { Writes (exprs (members_view members.now)) (W.taken sink.old) (W.taken sink.new) (W.failures sink.old)
-        (W.failures sink.new) (W.finished sink.old) (W.finished sink.new) result }
+    ensures { Writes ⟦<W as Sink>⟧ (exprs (members_view members.now)) sink.old sink.new result }
 {
     let (front, rest) = members.halves();
     match front {
@@ -74,8 +72,7 @@ fn put_members<W: Sink>(members: &Members, sink: &mut W) -> Result<(), WriteFaul
 // The same of these members.
 #[cycle(shown_expressions)]
 fn put_listed<W: Sink>(members: &[Rc<Expr>], sink: &mut W) -> Result<(), WriteFault>
-    ensures { Writes (exprs (members_of (map shared_view members.now))) (W.taken sink.old) (W.taken sink.new)
-        (W.failures sink.old) (W.failures sink.new) (W.finished sink.old) (W.finished sink.new) result }
+    ensures { Writes ⟦<W as Sink>⟧ (exprs (members_of (map shared_view members.now))) sink.old sink.new result }
 {
     let mut blank: &[u8] = b"";
     for member in members {
@@ -89,8 +86,7 @@ fn put_listed<W: Sink>(members: &[Rc<Expr>], sink: &mut W) -> Result<(), WriteFa
 // Each of these members after a blank.
 #[cycle(shown_expressions)]
 fn put_more<W: Sink>(members: &[Rc<Expr>], sink: &mut W) -> Result<(), WriteFault>
-    ensures { Writes (more_exprs (members_of (map shared_view members.now))) (W.taken sink.old) (W.taken sink.new)
-        (W.failures sink.old) (W.failures sink.new) (W.finished sink.old) (W.finished sink.new) result }
+    ensures { Writes ⟦<W as Sink>⟧ (more_exprs (members_of (map shared_view members.now))) sink.old sink.new result }
 {
     for member in members {
         put_text(b" ", sink)?;

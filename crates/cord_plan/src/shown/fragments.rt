@@ -1,8 +1,9 @@
 // Fragments of a plan's text, and how a sink gets them.
 ghost use Rattle.std.specs.Prelude.{◌≡◌, ◌<◌, flat_map, map};
+ghost use Rattle.cord_iter.specs.Output.{Writes};
 ghost use Rattle.cord_plan.specs.Shown.{argument, argument_words, decimal, hex, number, path_byte, quoted};
 ghost use Rattle.cord_plan.specs.Shown.{signed_decimal, spaced};
-ghost use Rattle.cord_plan.specs.inner.Showing.{Writes, fragment_text, fragments_text};
+ghost use Rattle.cord_plan.specs.inner.Showing.{fragment_text, fragments_text};
 
 use cord_io::{Sink, WriteFault};
 use cord_iter::put_all;
@@ -28,16 +29,14 @@ pub enum Fragment<'a> {
 
 // Hands a sink these bytes.
 pub(crate) fn put_text<W: Sink>(bytes: &[u8], sink: &mut W) -> Result<(), WriteFault>
-    ensures { Writes bytes.now (W.taken sink.old) (W.taken sink.new) (W.failures sink.old) (W.failures sink.new)
-        (W.finished sink.old) (W.finished sink.new) result }
+    ensures { Writes ⟦<W as Sink>⟧ bytes.now sink.old sink.new result }
 {
     put_all(bytes, sink)
 }
 
 // Hands a sink fragments, one after the other.
 pub(crate) fn put_fragments<W: Sink>(fragments: &[Fragment], sink: &mut W) -> Result<(), WriteFault>
-    ensures { Writes (fragments_text fragments.now) (W.taken sink.old) (W.taken sink.new) (W.failures sink.old)
-        (W.failures sink.new) (W.finished sink.old) (W.finished sink.new) result }
+    ensures { Writes ⟦<W as Sink>⟧ (fragments_text fragments.now) sink.old sink.new result }
 {
     for fragment in fragments {
         put_fragment(fragment, sink)?;
@@ -47,8 +46,7 @@ pub(crate) fn put_fragments<W: Sink>(fragments: &[Fragment], sink: &mut W) -> Re
 
 // Hands a sink fragments, separated by one blank.
 pub(crate) fn put_words<W: Sink>(words: &[Fragment], sink: &mut W) -> Result<(), WriteFault>
-    ensures { Writes (spaced (map fragment_text words.now)) (W.taken sink.old) (W.taken sink.new) (W.failures sink.old)
-        (W.failures sink.new) (W.finished sink.old) (W.finished sink.new) result }
+    ensures { Writes ⟦<W as Sink>⟧ (spaced (map fragment_text words.now)) sink.old sink.new result }
 {
     let mut blank: &[u8] = b"";
     for word in words {
@@ -60,8 +58,7 @@ pub(crate) fn put_words<W: Sink>(words: &[Fragment], sink: &mut W) -> Result<(),
 }
 
 fn put_fragment<W: Sink>(fragment: &Fragment, sink: &mut W) -> Result<(), WriteFault>
-    ensures { Writes (fragment_text fragment.now) (W.taken sink.old) (W.taken sink.new) (W.failures sink.old)
-        (W.failures sink.new) (W.finished sink.old) (W.finished sink.new) result }
+    ensures { Writes ⟦<W as Sink>⟧ (fragment_text fragment.now) sink.old sink.new result }
 {
     match fragment {
         Fragment::Plain(bytes) => put_text(bytes, sink),
@@ -75,8 +72,7 @@ fn put_fragment<W: Sink>(fragment: &Fragment, sink: &mut W) -> Result<(), WriteF
 
 // A count in shortest decimal form.
 fn put_count<W: Sink>(count: u64, sink: &mut W) -> Result<(), WriteFault>
-    ensures { Writes (decimal count) (W.taken sink.old) (W.taken sink.new) (W.failures sink.old) (W.failures sink.new)
-        (W.finished sink.old) (W.finished sink.new) result }
+    ensures { Writes ⟦<W as Sink>⟧ (decimal count) sink.old sink.new result }
 {
     let mut digits = Buffer::new();
     put_text(digits.format(count).as_bytes(), sink)
@@ -84,8 +80,7 @@ fn put_count<W: Sink>(count: u64, sink: &mut W) -> Result<(), WriteFault>
 
 // A number operand: its name, or its shortest decimal form.
 fn put_number<W: Sink>(operand: &Number, sink: &mut W) -> Result<(), WriteFault>
-    ensures { Writes (number operand.now) (W.taken sink.old) (W.taken sink.new) (W.failures sink.old)
-        (W.failures sink.new) (W.finished sink.old) (W.finished sink.new) result }
+    ensures { Writes ⟦<W as Sink>⟧ (number operand.now) sink.old sink.new result }
 {
     match operand {
         Number::Numeral(numeral) => put_numeral(*numeral, sink),
@@ -95,8 +90,7 @@ fn put_number<W: Sink>(operand: &Number, sink: &mut W) -> Result<(), WriteFault>
 
 // A numeral in shortest decimal form.
 fn put_numeral<W: Sink>(numeral: i64, sink: &mut W) -> Result<(), WriteFault>
-    ensures { Writes (signed_decimal numeral) (W.taken sink.old) (W.taken sink.new) (W.failures sink.old)
-        (W.failures sink.new) (W.finished sink.old) (W.finished sink.new) result }
+    ensures { Writes ⟦<W as Sink>⟧ (signed_decimal numeral) sink.old sink.new result }
 {
     let mut digits = Buffer::new();
     put_text(digits.format(numeral).as_bytes(), sink)
@@ -104,8 +98,7 @@ fn put_numeral<W: Sink>(numeral: i64, sink: &mut W) -> Result<(), WriteFault>
 
 // A path between quotes.
 fn put_path<W: Sink>(path: &Path, sink: &mut W) -> Result<(), WriteFault>
-    ensures { Writes (quoted path.now) (W.taken sink.old) (W.taken sink.new) (W.failures sink.old)
-        (W.failures sink.new) (W.finished sink.old) (W.finished sink.new) result }
+    ensures { Writes ⟦<W as Sink>⟧ (quoted path.now) sink.old sink.new result }
 {
     put_text(b"\"", sink)?;
     put_path_bytes(path.as_str().as_bytes(), sink)?;
@@ -114,8 +107,7 @@ fn put_path<W: Sink>(path: &Path, sink: &mut W) -> Result<(), WriteFault>
 
 // The bytes of a path, those that would be misread as escapes.
 fn put_path_bytes<W: Sink>(bytes: &[u8], sink: &mut W) -> Result<(), WriteFault>
-    ensures { Writes (flat_map (λ b. path_byte b) bytes.now) (W.taken sink.old) (W.taken sink.new)
-        (W.failures sink.old) (W.failures sink.new) (W.finished sink.old) (W.finished sink.new) result }
+    ensures { Writes ⟦<W as Sink>⟧ (flat_map (λ b. path_byte b) bytes.now) sink.old sink.new result }
 {
     for byte in bytes {
         put_path_byte(*byte, sink)?;
@@ -124,8 +116,7 @@ fn put_path_bytes<W: Sink>(bytes: &[u8], sink: &mut W) -> Result<(), WriteFault>
 }
 
 fn put_path_byte<W: Sink>(byte: u8, sink: &mut W) -> Result<(), WriteFault>
-    ensures { Writes (path_byte byte) (W.taken sink.old) (W.taken sink.new) (W.failures sink.old) (W.failures sink.new)
-        (W.finished sink.old) (W.finished sink.new) result }
+    ensures { Writes ⟦<W as Sink>⟧ (path_byte byte) sink.old sink.new result }
 {
     if byte == b'"' || byte == b'\\' || byte < 32 || byte > 126 {
         put_text(
@@ -151,8 +142,7 @@ fn hex_digit(digit: u8) -> u8
 
 // The arguments of a format, each after a blank.
 fn put_arguments<W: Sink>(arguments: &[Argument], sink: &mut W) -> Result<(), WriteFault>
-    ensures { Writes (argument_words arguments.now) (W.taken sink.old) (W.taken sink.new) (W.failures sink.old)
-        (W.failures sink.new) (W.finished sink.old) (W.finished sink.new) result }
+    ensures { Writes ⟦<W as Sink>⟧ (argument_words arguments.now) sink.old sink.new result }
 {
     for argument in arguments {
         put_text(b" ", sink)?;
@@ -162,8 +152,7 @@ fn put_arguments<W: Sink>(arguments: &[Argument], sink: &mut W) -> Result<(), Wr
 }
 
 fn put_argument<W: Sink>(operand: &Argument, sink: &mut W) -> Result<(), WriteFault>
-    ensures { Writes (argument operand.now) (W.taken sink.old) (W.taken sink.new) (W.failures sink.old)
-        (W.failures sink.new) (W.finished sink.old) (W.finished sink.new) result }
+    ensures { Writes ⟦<W as Sink>⟧ (argument operand.now) sink.old sink.new result }
 {
     match operand {
         Argument::Number(number) => put_number(number, sink),

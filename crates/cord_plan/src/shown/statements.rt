@@ -1,9 +1,10 @@
 // The text of statements that are kept.
 ghost use Rattle.std.specs.Prelude.{◌≡◌, ℕ, map};
+ghost use Rattle.cord_iter.specs.Output.{Writes};
 ghost use Rattle.cord_syntax.specs.Families.{statement_of};
 ghost use Rattle.cord_plan.specs.Shown.{called, counted, grows, statement};
 ghost use Rattle.cord_script.specs.Tests.{relation_word};
-ghost use Rattle.cord_plan.specs.inner.Showing.{Writes, fragment_text};
+ghost use Rattle.cord_plan.specs.inner.Showing.{fragment_text};
 
 use super::fragments::Fragment::{Count, Name, Number, Plain};
 use super::fragments::{Fragment, put_fragments, put_text, put_words};
@@ -13,8 +14,7 @@ use cord_syntax::{Computation, Control, Family, Growth, Look, Search};
 
 // Hands a sink the text of a statement that is kept; of any other, nothing.
 pub(crate) fn put_statement<W: Sink>(kept: &Statement, sink: &mut W) -> Result<(), WriteFault>
-    ensures { Writes (statement kept.now) (W.taken sink.old) (W.taken sink.new) (W.failures sink.old)
-        (W.failures sink.new) (W.finished sink.old) (W.finished sink.new) result }
+    ensures { Writes ⟦<W as Sink>⟧ (statement kept.now) sink.old sink.new result }
 {
     match kept.family() {
         Family::Computation(computation) => put_computation(computation, sink),
@@ -29,9 +29,8 @@ pub(crate) fn put_statement<W: Sink>(kept: &Statement, sink: &mut W) -> Result<(
 
 // The text of a statement that finds a byte or an order of cords.
 fn put_look<W: Sink>(look: Look, sink: &mut W) -> Result<(), WriteFault>
-    ensures { (line : ℕ) → Writes (statement (statement_of line (Family.Look look.entry))) (W.taken sink.old)
-        (W.taken sink.new) (W.failures sink.old) (W.failures sink.new) (W.finished sink.old) (W.finished sink.new)
-        result }
+    ensures { (line : ℕ) → Writes ⟦<W as Sink>⟧ (statement (statement_of line (Family.Look look.entry))) sink.old
+        sink.new result }
 {
     match look {
         Look::Fetch {
@@ -66,9 +65,8 @@ fn put_look<W: Sink>(look: Look, sink: &mut W) -> Result<(), WriteFault>
 
 // The text of a statement that searches a cord.
 fn put_search<W: Sink>(sought: Search, sink: &mut W) -> Result<(), WriteFault>
-    ensures { (line : ℕ) → Writes (statement (statement_of line (Family.Search sought.entry))) (W.taken sink.old)
-        (W.taken sink.new) (W.failures sink.old) (W.failures sink.new) (W.finished sink.old) (W.finished sink.new)
-        result }
+    ensures { (line : ℕ) → Writes ⟦<W as Sink>⟧ (statement (statement_of line (Family.Search sought.entry))) sink.old
+        sink.new result }
 {
     match sought {
         Search::Str {
@@ -109,10 +107,8 @@ fn put_search<W: Sink>(sought: Search, sink: &mut W) -> Result<(), WriteFault>
 
 // The text of a statement that computes a number and reads no byte.
 fn put_computation<W: Sink>(computation: Computation, sink: &mut W) -> Result<(), WriteFault>
-    ensures { (line : ℕ) → Writes (statement (statement_of line (Family.Computation computation.entry)))
-        (W.taken sink.old)
-        (W.taken sink.new) (W.failures sink.old) (W.failures sink.new) (W.finished sink.old) (W.finished sink.new)
-        result }
+    ensures { (line : ℕ) → Writes ⟦<W as Sink>⟧ (statement (statement_of line (Family.Computation computation.entry)))
+        sink.old sink.new result }
 {
     match computation {
         Computation::Len { target, operand } => put_counted(target, b"len", &[Name(operand)], sink),
@@ -137,9 +133,8 @@ fn put_computation<W: Sink>(computation: Computation, sink: &mut W) -> Result<()
 
 // The text of a statement that begins an extensible cord or lets it grow.
 fn put_growth<W: Sink>(growth: Growth, sink: &mut W) -> Result<(), WriteFault>
-    ensures { (line : ℕ) → Writes (statement (statement_of line (Family.Growth growth.entry))) (W.taken sink.old)
-        (W.taken sink.new) (W.failures sink.old) (W.failures sink.new) (W.finished sink.old) (W.finished sink.new)
-        result }
+    ensures { (line : ℕ) → Writes ⟦<W as Sink>⟧ (statement (statement_of line (Family.Growth growth.entry))) sink.old
+        sink.new result }
 {
     match growth {
         Growth::EcInit { target } => put_words(&[Plain(b"ec"), Name(target), Plain(b"init")], sink),
@@ -164,9 +159,8 @@ fn put_grown<'a, W: Sink>(
     operand: Fragment<'a>,
     sink: &mut W,
 ) -> Result<(), WriteFault>
-    ensures { Writes (grows extensible.now (called what.now (fragment_text operand.entry))) (W.taken sink.old)
-        (W.taken sink.new) (W.failures sink.old) (W.failures sink.new) (W.finished sink.old)
-        (W.finished sink.new) result }
+    ensures { Writes ⟦<W as Sink>⟧ (grows extensible.now (called what.now (fragment_text operand.entry))) sink.old
+        sink.new result }
 {
     put_fragments(
         &[
@@ -184,9 +178,8 @@ fn put_grown<'a, W: Sink>(
 
 // The text of a statement that leads the run.
 fn put_control<W: Sink>(control: Control, sink: &mut W) -> Result<(), WriteFault>
-    ensures { (line : ℕ) → Writes (statement (statement_of line (Family.Control control.entry))) (W.taken sink.old)
-        (W.taken sink.new) (W.failures sink.old) (W.failures sink.new) (W.finished sink.old) (W.finished sink.new)
-        result }
+    ensures { (line : ℕ) → Writes ⟦<W as Sink>⟧ (statement (statement_of line (Family.Control control.entry))) sink.old
+        sink.new result }
 {
     match control {
         Control::Repeat { count } => put_words(&[Plain(b"repeat"), Number(count)], sink),
@@ -215,9 +208,8 @@ fn put_counted<'a, W: Sink>(
     operands: &[Fragment],
     sink: &mut W,
 ) -> Result<(), WriteFault>
-    ensures { Writes (counted target.now word.now (map fragment_text operands.now)) (W.taken sink.old)
-        (W.taken sink.new) (W.failures sink.old) (W.failures sink.new) (W.finished sink.old)
-        (W.finished sink.new) result }
+    ensures { Writes ⟦<W as Sink>⟧ (counted target.now word.now (map fragment_text operands.now)) sink.old sink.new
+        result }
 {
     put_fragments(
         &[

@@ -1,5 +1,6 @@
 use Rattle.std.proofs.Common.{◌≡◌, ◌+◌, take, map, Ok}
-use Rattle.cord_plan.specs.inner.Showing.{Writes}
+use Rattle.cord_io.specs.declared.faults.WriteFault.{WriteFault}
+use Rattle.cord_iter.specs.Output.{Writes}
 use Rattle.cord_plan.specs.Views.{expr_view, members_of, members_view, shared_view}
 use Rattle.cord_plan.proofs.MemberTexts.{weight, weights, members_text, more_text}
 use Rattle.cord_plan.proofs.Spacing.{blank_at}
@@ -18,13 +19,11 @@ abbrev pub decreases-put_more : goal.decreases-put_more
 decreases-put_more g l = weights (members_of (map shared_view l.members.now))
 
 abbrev pub invariant-put_more-loop-member : goal.invariant-put_more-loop-member
-invariant-put_more-loop-member g l = Writes (more_text (take l.member-index l.members)) (g.W.Sink.taken l.initial.sink)
-    (g.W.Sink.taken l.sink) (g.W.Sink.failures l.initial.sink) (g.W.Sink.failures l.sink) (g.W.Sink.finished l.initial.sink)
-    (g.W.Sink.finished l.sink) (Ok tt)
+invariant-put_more-loop-member g l =
+    Writes {E = WriteFault} g.W.Sink (more_text (take l.member-index l.members)) l.initial.sink l.sink (Ok tt)
 
 abbrev pub invariant-put_listed-loop-member : goal.invariant-put_listed-loop-member
 invariant-put_listed-loop-member g l = record {
-  taken : Writes (members_text (take l.member-index l.members)) (g.W.Sink.taken l.initial.sink) (g.W.Sink.taken l.sink)
-      (g.W.Sink.failures l.initial.sink) (g.W.Sink.failures l.sink) (g.W.Sink.finished l.initial.sink) (g.W.Sink.finished l.sink) (Ok tt);
+  taken : Writes {E = WriteFault} g.W.Sink (members_text (take l.member-index l.members)) l.initial.sink l.sink (Ok tt);
   blank : l.blank ≡ blank_at l.member-index;
 }
