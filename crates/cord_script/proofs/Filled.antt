@@ -21,7 +21,6 @@ use Rattle.cord_script.specs.declared.verbs.Computation.TheVariants as computati
 use Rattle.cord_script.specs.declared.verbs.Look.TheVariants as looks
 use Rattle.cord_script.specs.declared.verbs.Search.TheVariants as searches
 use Rattle.cord_script.specs.declared.verbs.Control.TheVariants as controls
-use Rattle.cord_script.specs.declared.grammar.TheConstants.{VERBS}
 use Rattle.cord_script.specs.declared.kinds.Kind.TheVariants as kinds
 use Rattle.cord_script.specs.declared.kinds.Want.{Want}
 use Rattle.cord_script.specs.declared.kinds.Want.TheVariants as wants
@@ -54,7 +53,7 @@ use Rattle.cord_script.specs.Flaws.{arguments_flaw, words_flaw, wants_of, names_
 use Rattle.cord_script.specs.Flaws.{HasBadWords}
 use Rattle.cord_script.specs.inner.Fields.{want_of}
 use Rattle.cord_script.specs.inner.ContextViews.{terms_flaw}
-use Rattle.cord_script.specs.inner.Verbal.{verb_word, verb_shape, verb_effect, verb_form, find_verb, form_at}
+use Rattle.cord_script.specs.inner.Verbal.{verb_word, verb_shape, verb_effect, verb_form, all_verbs, find_verb, form_at}
 use Rattle.cord_script.proofs.Spelled.{both, chosen}
 use Rattle.cord_script.proofs.Checked.{neither, holds}
 use Rattle.cord_script.proofs.Firsts.{same_bytes}
@@ -419,16 +418,16 @@ spelled_so (x ∷ xs) p v h = elim (chosen (bytes_eq p (verb_word x)) (Some x) (
 ]
 
 allowed_says : FormatOrBad → (g : Grammar) (n : ℕ) (scope : Scope) (p : List ℕ) (ws : List Word) (found : Option Verb) → g.has p ≡ true →
-    find_verb VERBS p ≡ found → form_in g p ≡ form_of p → SaysOrBad g n scope (Plain p ∷ ws)
+    find_verb all_verbs p ≡ found → form_in g p ≡ form_of p → SaysOrBad g n scope (Plain p ∷ ws)
 allowed_says law g n scope p ws None has e form =
     inr (UnknownStatement, bad_form g scope p ws None UnknownStatement (form ∙ sym (form_found p) ∙ ap form_at e) refl)
 allowed_says law g n scope p ws (Some v) has e form =
-    let spelled = spelled_so VERBS p v e in
+    let spelled = spelled_so all_verbs p v e in
     verb_says law g n scope p ws v has spelled (form ∙ ap form_of spelled ∙ form_is v)
 
 word_by : FormatOrBad → (g : Grammar) (n : ℕ) (scope : Scope) (p : List ℕ) (ws : List Word) (x : Bool) → g.has p ≡ x →
     SaysOrBad g n scope (Plain p ∷ ws)
-word_by law g n scope p ws true has = allowed_says law g n scope p ws (find_verb VERBS p) has refl
+word_by law g n scope p ws true has = allowed_says law g n scope p ws (find_verb all_verbs p) has refl
     (ap (λ b. if b then form_of p else None) has)
 word_by law g n scope p ws false has =
     inr (UnknownStatement, bad_form g scope p ws None UnknownStatement (ap (λ b. if b then form_of p else None) has) refl)

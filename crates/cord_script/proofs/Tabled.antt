@@ -1,6 +1,6 @@
--- The table of statements, as the code walks through it.
-use Rattle.std.proofs.Common.{Some, None, ◌≡◌, ℕ, List, Bool, true, false, refl, sym, ◌∙◌, ap}
-use Rattle.std.specs.Prelude.{Option, IfSome, MatchOption, codes, if◌then◌else◌}
+-- The table of statements, as the code looks a word up in it.
+use Rattle.std.proofs.Common.{Some, None, ◌≡◌, ℕ, List, [], ◌∷◌, length, Bool, true, false, refl, sym, ◌∙◌, ap, rules}
+use Rattle.std.specs.Prelude.{Option, MatchOption, filter, cond, codes, if◌then◌else◌}
 use Rattle.std.specs.Str.{bytes_eq}
 use Rattle.cord_script.specs.declared.verbs.Verb.{Verb}
 use Rattle.cord_script.specs.declared.verbs.Verb.TheVariants as verbs
@@ -13,10 +13,9 @@ use Rattle.cord_script.specs.declared.verbs.Computation.TheVariants as computati
 use Rattle.cord_script.specs.declared.verbs.Look.TheVariants as looks
 use Rattle.cord_script.specs.declared.verbs.Search.TheVariants as searches
 use Rattle.cord_script.specs.declared.verbs.Control.TheVariants as controls
-use Rattle.cord_script.specs.declared.grammar.TheConstants.{VERBS}
 use Rattle.cord_script.specs.Forms.{Form, form_of, form_in}
 use Rattle.cord_script.specs.Script.{whole}
-use Rattle.cord_script.specs.inner.Verbal.{verb_word, verb_form, find_verb, form_at}
+use Rattle.cord_script.specs.inner.Verbal.{verb_word, verb_form, find_verb, form_at, all_verbs, has_length, verbs_of}
 
 -- a choice of verbs is a choice of forms
 chosen_form : (c : Bool) (v : Verb) (o : Option Verb) (f rest : Option Form) → form_at (Some v) ≡ f → form_at o ≡ rest →
@@ -25,7 +24,7 @@ chosen_form true v o f rest p q = p
 chosen_form false v o f rest p q = q
 
 -- the verb of a word has its form
-pub form_found : (w : List ℕ) → form_at (find_verb VERBS w) ≡ form_of w
+pub form_found : (w : List ℕ) → form_at (find_verb all_verbs w) ≡ form_of w
 unfolding form_of
 form_found w =
     chosen_form (bytes_eq w (codes "let")) (verbs.Fixed (fixed_verbs.Origin origins.Let)) _ _ _ refl (
@@ -100,12 +99,24 @@ form_is (verbs.Fixed (fixed_verbs.Control controls.If)) = refl
 form_is (verbs.Fixed (fixed_verbs.Control controls.Else)) = refl
 form_is (verbs.Fixed (fixed_verbs.Control controls.End)) = refl
 
--- the form of a word that is a verb's
-pub found_verb : (w : List ℕ) (v : Verb) → w ≡ verb_word v → (w ≡ verb_word v) × (form_in whole w ≡ Some (verb_form v))
-found_verb w v h = (h, ap form_of h ∙ form_is v)
+-- a verb whose word has another length has another word
+other_word : (w : List ℕ) (v : Verb) → has_length (length w) v ≡ false → bytes_eq w (verb_word v) ≡ false
+other_word w v e = search rules
 
--- the form of the word that a verb was looked for
-pub found : (w : List ℕ) (r : Option Verb) → r ≡ find_verb VERBS w → IfSome r (λ v. w ≡ verb_word v) →
+-- a word is a verb's if it is that of one with a word of its length
+by_length : (vs : List Verb) (w : List ℕ) → find_verb (filter (has_length (length w)) vs) w ≡ find_verb vs w
+by_length [] w = refl
+by_length (v ∷ vs) w = among (has_length (length w) v) refl (by_length vs w)
+  where
+    among : (b : Bool) → has_length (length w) v ≡ b → find_verb (filter (has_length (length w)) vs) w ≡ find_verb vs w →
+        find_verb (cond b (v ∷ filter (has_length (length w)) vs) (filter (has_length (length w)) vs)) w ≡ find_verb (v ∷ vs) w
+    among true e h = ap (λ o. if bytes_eq w (verb_word v) then Some v else o) h
+    among false e h = h ∙ sym (ap (λ b. if b then Some v else find_verb vs w) (other_word w v e))
+
+-- the form of the word that a verb of its length was looked for
+pub found : {n : ℕ} (w : List ℕ) (r : Option Verb) → length w ≡ n →
+    MatchOption r (find_verb (verbs_of n) w ≡ None) (λ v. w ≡ verb_word v) →
     MatchOption r (form_in whole w ≡ None) (λ v. (w ≡ verb_word v) × (form_in whole w ≡ Some (verb_form v)))
-found w None e h = sym (form_found w) ∙ ap form_at (sym e)
-found w (Some v) e h = found_verb w v h
+found w None e h =
+    sym (form_found w) ∙ ap form_at (sym (by_length all_verbs w) ∙ ap (λ k. find_verb (verbs_of k) w) e ∙ h)
+found w (Some v) e h = (h, ap form_of h ∙ form_is v)

@@ -1,69 +1,18 @@
 // The statements' words, and what the words after them have to be.
-ghost use Rattle.std.specs.Prelude.{◌≡◌, MatchOption, IfSome, Some, None};
+ghost use Rattle.std.specs.Prelude.{◌≡◌, MatchOption, Some, None};
 ghost use Rattle.cord_script.specs.Forms.{form_in};
 ghost use Rattle.cord_script.specs.Script.{whole};
-ghost use Rattle.cord_script.specs.inner.Verbal.{verb_word, verb_form, fixed_word, fixed_wants, find_verb};
+ghost use Rattle.cord_script.specs.inner.Verbal.{verb_word, verb_form, fixed_wants, find_verb, verbs_of};
 
 use crate::kinds::{Kind, Want};
 use crate::verbs::{
     Composition, Computation, Control, Derivation, FixedVerb, Growth, Look, Origin, Search, Verb,
 };
-use crate::words::is_same;
-
-// The verbs, in the order of the table of statements.
-const VERBS: [Verb; 33] = [
-    Verb::Fixed(FixedVerb::Origin(Origin::Let)),
-    Verb::Fixed(FixedVerb::Put),
-    Verb::Fixed(FixedVerb::Origin(Origin::File)),
-    Verb::Fixed(FixedVerb::Origin(Origin::Eager)),
-    Verb::Fixed(FixedVerb::Origin(Origin::Lazy)),
-    Verb::Fixed(FixedVerb::Composition(Composition::Chars)),
-    Verb::Fixed(FixedVerb::Composition(Composition::Nul)),
-    Verb::Fixed(FixedVerb::Origin(Origin::FromFn)),
-    Verb::Fixed(FixedVerb::Composition(Composition::Cat)),
-    Verb::Catn,
-    Verb::Fixed(FixedVerb::Composition(Composition::Catc)),
-    Verb::Fixed(FixedVerb::Composition(Composition::Substr)),
-    Verb::Fixed(FixedVerb::Derivation(Derivation::Balance)),
-    Verb::Fixed(FixedVerb::Derivation(Derivation::EcToCord)),
-    Verb::Sprintf,
-    Verb::Fixed(FixedVerb::Computation(Computation::Len)),
-    Verb::Fixed(FixedVerb::Look(Look::Fetch)),
-    Verb::Fixed(FixedVerb::Look(Look::Cmp)),
-    Verb::Fixed(FixedVerb::Look(Look::Ncmp)),
-    Verb::Fixed(FixedVerb::Search(Search::Str)),
-    Verb::Fixed(FixedVerb::Search(Search::Chr)),
-    Verb::Fixed(FixedVerb::Search(Search::Rchr)),
-    Verb::Fixed(FixedVerb::Computation(Computation::Assign)),
-    Verb::Fixed(FixedVerb::Computation(Computation::Add)),
-    Verb::Fixed(FixedVerb::Computation(Computation::Sub)),
-    Verb::Fixed(FixedVerb::Growth(Growth::EcInit)),
-    Verb::Fixed(FixedVerb::Growth(Growth::EcPut)),
-    Verb::Fixed(FixedVerb::Growth(Growth::EcCat)),
-    Verb::Fixed(FixedVerb::Growth(Growth::EcStr)),
-    Verb::Fixed(FixedVerb::Control(Control::Repeat)),
-    Verb::Fixed(FixedVerb::Control(Control::If)),
-    Verb::Fixed(FixedVerb::Control(Control::Else)),
-    Verb::Fixed(FixedVerb::Control(Control::End)),
-];
-
-// The first of these verbs that has the word.
-fn find_verb(verbs: &[Verb], word: &[u8]) -> Option<Verb>
-    ensures verb { result ≡ find_verb verbs.now word.now }
-    ensures word { IfSome result (λ verb. word.now ≡ verb_word verb) }
-{
-    for verb in verbs {
-        if is_same(word, word_of(*verb)) {
-            return Some(*verb);
-        }
-    }
-    None
-}
 
 // The verb of a word of two letters.
 #[inline(always)]
 fn verb_of_two(word: &[u8]) -> Option<Verb>
-    ensures { IfSome result (λ verb. word.now ≡ verb_word verb) }
+    ensures { MatchOption result (find_verb (verbs_of 2) word.now ≡ None) (λ verb. word.now ≡ verb_word verb) }
 {
     match word {
         b"fn" => Some(Verb::Fixed(FixedVerb::Origin(Origin::FromFn))),
@@ -75,7 +24,7 @@ fn verb_of_two(word: &[u8]) -> Option<Verb>
 // The verb of a word of three letters.
 #[inline(always)]
 fn verb_of_three(word: &[u8]) -> Option<Verb>
-    ensures { IfSome result (λ verb. word.now ≡ verb_word verb) }
+    ensures { MatchOption result (find_verb (verbs_of 3) word.now ≡ None) (λ verb. word.now ≡ verb_word verb) }
 {
     match word {
         b"add" => Some(Verb::Fixed(FixedVerb::Computation(Computation::Add))),
@@ -97,7 +46,7 @@ fn verb_of_three(word: &[u8]) -> Option<Verb>
 // The verb of a word of four letters.
 #[inline(always)]
 fn verb_of_four(word: &[u8]) -> Option<Verb>
-    ensures { IfSome result (λ verb. word.now ≡ verb_word verb) }
+    ensures { MatchOption result (find_verb (verbs_of 4) word.now ≡ None) (λ verb. word.now ≡ verb_word verb) }
 {
     match word {
         b"catc" => Some(Verb::Fixed(FixedVerb::Composition(Composition::Catc))),
@@ -114,7 +63,7 @@ fn verb_of_four(word: &[u8]) -> Option<Verb>
 // The verb of a word of five letters.
 #[inline(always)]
 fn verb_of_five(word: &[u8]) -> Option<Verb>
-    ensures { IfSome result (λ verb. word.now ≡ verb_word verb) }
+    ensures { MatchOption result (find_verb (verbs_of 5) word.now ≡ None) (λ verb. word.now ≡ verb_word verb) }
 {
     match word {
         b"chars" => Some(Verb::Fixed(FixedVerb::Composition(Composition::Chars))),
@@ -130,7 +79,7 @@ fn verb_of_five(word: &[u8]) -> Option<Verb>
 // The verb of a word of six letters.
 #[inline(always)]
 fn verb_of_six(word: &[u8]) -> Option<Verb>
-    ensures { IfSome result (λ verb. word.now ≡ verb_word verb) }
+    ensures { MatchOption result (find_verb (verbs_of 6) word.now ≡ None) (λ verb. word.now ≡ verb_word verb) }
 {
     match word {
         b"ecinit" => Some(Verb::Fixed(FixedVerb::Growth(Growth::EcInit))),
@@ -143,7 +92,7 @@ fn verb_of_six(word: &[u8]) -> Option<Verb>
 // The verb of a word of seven letters.
 #[inline(always)]
 fn verb_of_seven(word: &[u8]) -> Option<Verb>
-    ensures { IfSome result (λ verb. word.now ≡ verb_word verb) }
+    ensures { MatchOption result (find_verb (verbs_of 7) word.now ≡ None) (λ verb. word.now ≡ verb_word verb) }
 {
     match word {
         b"balance" => Some(Verb::Fixed(FixedVerb::Derivation(Derivation::Balance))),
@@ -155,27 +104,10 @@ fn verb_of_seven(word: &[u8]) -> Option<Verb>
 // The verb of a word of eight letters.
 #[inline(always)]
 fn verb_of_eight(word: &[u8]) -> Option<Verb>
-    ensures { IfSome result (λ verb. word.now ≡ verb_word verb) }
+    ensures { MatchOption result (find_verb (verbs_of 8) word.now ≡ None) (λ verb. word.now ≡ verb_word verb) }
 {
     match word {
         b"ectocord" => Some(Verb::Fixed(FixedVerb::Derivation(Derivation::EcToCord))),
-        _ => None,
-    }
-}
-
-// The verb of a word, by its length and bytes.
-#[inline(always)]
-fn likely_verb(word: &[u8]) -> Option<Verb>
-    ensures { IfSome result (λ verb. word.now ≡ verb_word verb) }
-{
-    match word.len() {
-        2 => verb_of_two(word),
-        3 => verb_of_three(word),
-        4 => verb_of_four(word),
-        5 => verb_of_five(word),
-        6 => verb_of_six(word),
-        7 => verb_of_seven(word),
-        8 => verb_of_eight(word),
         _ => None,
     }
 }
@@ -186,59 +118,15 @@ pub fn verb_of(word: &[u8]) -> Option<Verb>
     ensures { MatchOption result (form_in whole word.now ≡ None) (λ verb. (word.now ≡ verb_word verb) ×
         (form_in whole word.now ≡ Some (verb_form verb))) }
 {
-    match likely_verb(word) {
-        Some(verb) => Some(verb),
-        None => find_verb(&VERBS, word),
-    }
-}
-
-// The word of a verb that has a fixed number of words.
-fn fixed_word_of(verb: FixedVerb) -> &'static [u8]
-    ensures { result.now ≡ fixed_word verb }
-{
-    match verb {
-        FixedVerb::Origin(Origin::Let) => b"let",
-        FixedVerb::Put => b"put",
-        FixedVerb::Origin(Origin::File) => b"file",
-        FixedVerb::Origin(Origin::Eager) => b"eager",
-        FixedVerb::Origin(Origin::Lazy) => b"lazy",
-        FixedVerb::Composition(Composition::Chars) => b"chars",
-        FixedVerb::Composition(Composition::Nul) => b"nul",
-        FixedVerb::Origin(Origin::FromFn) => b"fn",
-        FixedVerb::Composition(Composition::Cat) => b"cat",
-        FixedVerb::Composition(Composition::Catc) => b"catc",
-        FixedVerb::Composition(Composition::Substr) => b"substr",
-        FixedVerb::Derivation(Derivation::Balance) => b"balance",
-        FixedVerb::Derivation(Derivation::EcToCord) => b"ectocord",
-        FixedVerb::Computation(Computation::Len) => b"len",
-        FixedVerb::Look(Look::Fetch) => b"fetch",
-        FixedVerb::Look(Look::Cmp) => b"cmp",
-        FixedVerb::Look(Look::Ncmp) => b"ncmp",
-        FixedVerb::Search(Search::Str) => b"str",
-        FixedVerb::Search(Search::Chr) => b"chr",
-        FixedVerb::Search(Search::Rchr) => b"rchr",
-        FixedVerb::Computation(Computation::Assign) => b"set",
-        FixedVerb::Computation(Computation::Add) => b"add",
-        FixedVerb::Computation(Computation::Sub) => b"sub",
-        FixedVerb::Growth(Growth::EcInit) => b"ecinit",
-        FixedVerb::Growth(Growth::EcPut) => b"ecput",
-        FixedVerb::Growth(Growth::EcCat) => b"eccat",
-        FixedVerb::Growth(Growth::EcStr) => b"ecstr",
-        FixedVerb::Control(Control::Repeat) => b"repeat",
-        FixedVerb::Control(Control::If) => b"if",
-        FixedVerb::Control(Control::Else) => b"else",
-        FixedVerb::Control(Control::End) => b"end",
-    }
-}
-
-// The word of a verb.
-fn word_of(verb: Verb) -> &'static [u8]
-    ensures { result.now ≡ verb_word verb }
-{
-    match verb {
-        Verb::Fixed(fixed) => fixed_word_of(fixed),
-        Verb::Catn => b"catn",
-        Verb::Sprintf => b"sprintf",
+    match word.len() {
+        2 => verb_of_two(word),
+        3 => verb_of_three(word),
+        4 => verb_of_four(word),
+        5 => verb_of_five(word),
+        6 => verb_of_six(word),
+        7 => verb_of_seven(word),
+        8 => verb_of_eight(word),
+        _ => None,
     }
 }
 

@@ -1,5 +1,5 @@
 -- The statements' words and what the words after them have to be, as the code has them.
-use Rattle.std.specs.Prelude.{ℕ, List, [], ◌∷◌, Option, Some, None, if◌then◌else◌, codes}
+use Rattle.std.specs.Prelude.{ℕ, ◌==◌, List, [], ◌∷◌, length, filter, Bool, Option, Some, None, if◌then◌else◌, codes}
 use Rattle.std.specs.Str.{bytes_eq}
 use Rattle.cord_script.specs.declared.verbs.Verb.{Verb}
 use Rattle.cord_script.specs.declared.verbs.Verb.TheVariants as verbs
@@ -103,6 +103,52 @@ abbrev pub verb_shape : Verb → Shape
 verb_shape (verbs.Fixed verb) = Words (fixed_wants verb)
 verb_shape verbs.Catn = Joined
 verb_shape verbs.Sprintf = Printed
+
+-- the verbs, in the order of the table of statements
+abbrev pub all_verbs : List Verb
+all_verbs =
+    verbs.Fixed (fixed_verbs.Origin origins.Let)
+    ∷ verbs.Fixed fixed_verbs.Put
+    ∷ verbs.Fixed (fixed_verbs.Origin origins.File)
+    ∷ verbs.Fixed (fixed_verbs.Origin origins.Eager)
+    ∷ verbs.Fixed (fixed_verbs.Origin origins.Lazy)
+    ∷ verbs.Fixed (fixed_verbs.Composition compositions.Chars)
+    ∷ verbs.Fixed (fixed_verbs.Composition compositions.Nul)
+    ∷ verbs.Fixed (fixed_verbs.Origin origins.FromFn)
+    ∷ verbs.Fixed (fixed_verbs.Composition compositions.Cat)
+    ∷ verbs.Catn
+    ∷ verbs.Fixed (fixed_verbs.Composition compositions.Catc)
+    ∷ verbs.Fixed (fixed_verbs.Composition compositions.Substr)
+    ∷ verbs.Fixed (fixed_verbs.Derivation derivations.Balance)
+    ∷ verbs.Fixed (fixed_verbs.Derivation derivations.EcToCord)
+    ∷ verbs.Sprintf
+    ∷ verbs.Fixed (fixed_verbs.Computation computations.Len)
+    ∷ verbs.Fixed (fixed_verbs.Look looks.Fetch)
+    ∷ verbs.Fixed (fixed_verbs.Look looks.Cmp)
+    ∷ verbs.Fixed (fixed_verbs.Look looks.Ncmp)
+    ∷ verbs.Fixed (fixed_verbs.Search searches.Str)
+    ∷ verbs.Fixed (fixed_verbs.Search searches.Chr)
+    ∷ verbs.Fixed (fixed_verbs.Search searches.Rchr)
+    ∷ verbs.Fixed (fixed_verbs.Computation computations.Assign)
+    ∷ verbs.Fixed (fixed_verbs.Computation computations.Add)
+    ∷ verbs.Fixed (fixed_verbs.Computation computations.Sub)
+    ∷ verbs.Fixed (fixed_verbs.Growth growths.EcInit)
+    ∷ verbs.Fixed (fixed_verbs.Growth growths.EcPut)
+    ∷ verbs.Fixed (fixed_verbs.Growth growths.EcCat)
+    ∷ verbs.Fixed (fixed_verbs.Growth growths.EcStr)
+    ∷ verbs.Fixed (fixed_verbs.Control controls.Repeat)
+    ∷ verbs.Fixed (fixed_verbs.Control controls.If)
+    ∷ verbs.Fixed (fixed_verbs.Control controls.Else)
+    ∷ verbs.Fixed (fixed_verbs.Control controls.End)
+    ∷ []
+
+-- whether a verb's word has this length
+abbrev pub has_length : ℕ → Verb → Bool
+has_length n verb = length (verb_word verb) == n
+
+-- the verbs whose words have this length
+abbrev pub verbs_of : ℕ → List Verb
+verbs_of n = filter (has_length n) all_verbs
 
 -- the first of these verbs that has the word
 abbrev pub find_verb : List Verb → List ℕ → Option Verb
