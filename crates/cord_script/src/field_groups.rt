@@ -14,10 +14,7 @@ use std::alloc::Global;
 pub fn paired<A: Drop, B: Drop, E: Drop>(before: A, next: Result<B, E>) -> Result<(A, B), E>
     ensures { result ≡ paired before next }
 {
-    match next {
-        Ok(next) => Ok((before, next)),
-        Err(error) => Err(error),
-    }
+    Ok((before, next?))
 }
 
 /// The target, a cord, and a path.
@@ -28,10 +25,8 @@ pub fn target_and_path<F: FieldSource>(fields: &mut F) -> Result<(Name, Path), F
     ensures gave { IfOk result (λ all. GivesAll F.gives fields.old
         (Target Kind.Cord all.0 ∷ FilePath all.1 ∷ []) fields.new) }
 {
-    match fields.target(Kind::Cord) {
-        Ok(front) => paired(front, fields.path()),
-        Err(error) => Err(error),
-    }
+    let front = fields.target(Kind::Cord)?;
+    paired(front, fields.path())
 }
 
 /// The target and a number.
@@ -45,10 +40,8 @@ pub fn target_and_number<F: FieldSource>(
     ensures gave { IfOk result (λ all. GivesAll F.gives fields.old
         (Target target all.0 ∷ Value all.1 ∷ []) fields.new) }
 {
-    match fields.target(target) {
-        Ok(front) => paired(front, fields.number()),
-        Err(error) => Err(error),
-    }
+    let front = fields.target(target)?;
+    paired(front, fields.number())
 }
 
 /// The target and a name that is used.
@@ -63,10 +56,8 @@ pub fn target_and_operand<F: FieldSource>(
     ensures gave { IfOk result (λ all. GivesAll F.gives fields.old
         (Target target all.0 ∷ Operand operand all.1 ∷ []) fields.new) }
 {
-    match fields.target(target) {
-        Ok(front) => paired(front, fields.operand(operand)),
-        Err(error) => Err(error),
-    }
+    let front = fields.target(target)?;
+    paired(front, fields.operand(operand))
 }
 
 /// The target and two numbers.
@@ -80,10 +71,8 @@ pub fn target_and_numbers<F: FieldSource>(
     ensures gave { IfOk result (λ all. GivesAll F.gives fields.old
         (Target target all.0.0 ∷ Value all.0.1 ∷ Value all.1 ∷ []) fields.new) }
 {
-    match target_and_number(target, fields) {
-        Ok(front) => paired(front, fields.number()),
-        Err(error) => Err(error),
-    }
+    let front = target_and_number(target, fields)?;
+    paired(front, fields.number())
 }
 
 /// The target and two cords.
@@ -98,10 +87,8 @@ pub fn target_and_operands<F: FieldSource>(
     ensures gave { IfOk result (λ all. GivesAll F.gives fields.old
         (Target target all.0.0 ∷ Operand Kind.Cord all.0.1 ∷ Operand Kind.Cord all.1 ∷ []) fields.new) }
 {
-    match target_and_operand(target, Kind::Cord, fields) {
-        Ok(front) => paired(front, fields.operand(Kind::Cord)),
-        Err(error) => Err(error),
-    }
+    let front = target_and_operand(target, Kind::Cord, fields)?;
+    paired(front, fields.operand(Kind::Cord))
 }
 
 /// The target, a cord and a number.
@@ -115,10 +102,8 @@ pub fn target_operand_number<F: FieldSource>(
     ensures gave { IfOk result (λ all. GivesAll F.gives fields.old
         (Target target all.0.0 ∷ Operand Kind.Cord all.0.1 ∷ Value all.1 ∷ []) fields.new) }
 {
-    match target_and_operand(target, Kind::Cord, fields) {
-        Ok(front) => paired(front, fields.number()),
-        Err(error) => Err(error),
-    }
+    let front = target_and_operand(target, Kind::Cord, fields)?;
+    paired(front, fields.number())
 }
 
 /// The target, a cord and two numbers.
@@ -133,10 +118,8 @@ pub fn target_operand_numbers<F: FieldSource>(
     ensures gave { IfOk result (λ all. GivesAll F.gives fields.old
         (Target target all.0.0.0 ∷ Operand Kind.Cord all.0.0.1 ∷ Value all.0.1 ∷ Value all.1 ∷ []) fields.new) }
 {
-    match target_operand_number(target, fields) {
-        Ok(front) => paired(front, fields.number()),
-        Err(error) => Err(error),
-    }
+    let front = target_operand_number(target, fields)?;
+    paired(front, fields.number())
 }
 
 /// The target, a cord, a number and another cord.
@@ -152,10 +135,8 @@ pub fn target_operand_number_operand<F: FieldSource>(
         (Target target all.0.0.0 ∷ Operand Kind.Cord all.0.0.1 ∷ Value all.0.1 ∷ Operand Kind.Cord all.1 ∷ [])
         fields.new) }
 {
-    match target_operand_number(target, fields) {
-        Ok(front) => paired(front, fields.operand(Kind::Cord)),
-        Err(error) => Err(error),
-    }
+    let front = target_operand_number(target, fields)?;
+    paired(front, fields.operand(Kind::Cord))
 }
 
 // The target, a cord and a number on the heap.
@@ -170,10 +151,8 @@ fn target_operand_shared<F: FieldSource>(
     ensures gave { IfOk result (λ all. GivesAll F.gives fields.old
         (Target target all.0.0 ∷ Operand Kind.Cord all.0.1 ∷ Value all.1 ∷ []) fields.new) }
 {
-    match target_and_operand(target, Kind::Cord, fields) {
-        Ok(front) => paired(front, fields.shared_number(alloc)),
-        Err(error) => Err(error),
-    }
+    let front = target_and_operand(target, Kind::Cord, fields)?;
+    paired(front, fields.shared_number(alloc))
 }
 
 /// The target, a cord, a number on the heap and another cord.
@@ -190,8 +169,6 @@ pub fn target_operand_shared_operand<F: FieldSource>(
         (Target target all.0.0.0 ∷ Operand Kind.Cord all.0.0.1 ∷ Value all.0.1 ∷ Operand Kind.Cord all.1 ∷ [])
         fields.new) }
 {
-    match target_operand_shared(alloc, target, fields) {
-        Ok(front) => paired(front, fields.operand(Kind::Cord)),
-        Err(error) => Err(error),
-    }
+    let front = target_operand_shared(alloc, target, fields)?;
+    paired(front, fields.operand(Kind::Cord))
 }

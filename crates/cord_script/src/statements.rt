@@ -36,15 +36,10 @@ macro_rules! nested {
 
 // The statement of a variant, of fields that were asked for.
 macro_rules! statement {
-    ($line:ident, $variant:ident, ($($field:ident),+) = $fields:expr) => {
-        match $fields {
-            Ok(fields) => {
-                let nested!($($field)+) = fields;
-                Ok(Statement::$variant { line: $line, $($field),+ })
-            }
-            Err(error) => Err(error),
-        }
-    };
+    ($line:ident, $variant:ident, ($($field:ident),+) = $fields:expr) => {{
+        let nested!($($field)+) = $fields?;
+        Ok(Statement::$variant { line: $line, $($field),+ })
+    }};
 }
 
 // A statement that makes a cord of no other name's value.

@@ -4,7 +4,7 @@ use Rattle.cord_script.specs.Forms.Term.{Target, FilePath}
 use Rattle.cord_script.proofs.SourceFields.{one_field, next_field}
 use Rattle.cord_script.proofs.field_groups.target_and_path.Goals as goal
 
-pub returns-in-Ok-clause-gave : goal.returns-in-Ok-clause-gave
-returns-in-Ok-clause-gave g c =
+pub returns-clause-gave : goal.returns-clause-gave
+returns-clause-gave g c =
     next_field _ (λ (name : List ℕ). Target kinds.Cord name ∷ []) FilePath
-    _ _ _ _ _ _ (one_field c.in-Ok.ensures.gave) c.paired.ensures c.path.ensures.gave
+    _ _ _ _ _ _ (one_field c.in_ok-front.ensures.gave) c.paired.ensures c.path.ensures.gave

@@ -5,7 +5,7 @@ use Rattle.cord_script.specs.Forms.Term.{Target, Operand, Value}
 use Rattle.cord_script.proofs.SourceFields.{next_field}
 use Rattle.cord_script.proofs.field_groups.target_operand_numbers.Goals as goal
 
-pub returns-in-Ok-clause-gave : goal.returns-in-Ok-clause-gave
-returns-in-Ok-clause-gave g c =
+pub returns-clause-gave : goal.returns-clause-gave
+returns-clause-gave g c =
     next_field _ (λ (p : (List ℕ × List ℕ) × Number). Target c.args.target p.0.0 ∷ Operand kinds.Cord p.0.1 ∷ Value p.1 ∷ []) Value
-    _ _ _ _ _ _ c.in-Ok.ensures.gave c.paired.ensures c.number.ensures.gave
+    _ _ _ _ _ _ c.in_ok-front.ensures.gave c.paired.ensures c.number.ensures.gave

@@ -6,21 +6,21 @@ use Rattle.cord_script.specs.Forms.Term.{Value, Compares}
 use Rattle.cord_script.proofs.SourceFields.{spelled, no_field, one_field, next_field}
 use Rattle.cord_script.proofs.statements.control_of.Goals as goal
 
-pub returns-in-Ok-clause-built : goal.returns-in-Ok-clause-built
-returns-in-Ok-clause-built g c = record {
+pub returns-in_ok-count-in-Repeat-clause-built : goal.returns-in_ok-count-in-Repeat-clause-built
+returns-in_ok-count-in-Repeat-clause-built g c = record {
   word = spelled Control c.in-Repeat.is;
   numbered = refl;
-  fields = one_field c.in-Ok.ensures.gave;
+  fields = one_field c.in_ok-count-in-Repeat.ensures.gave;
   suits = tt;
 }
 
-pub returns-in-Ok-paired-clause-built : goal.returns-in-Ok-paired-clause-built
-returns-in-Ok-paired-clause-built g c = record {
+pub returns-in_ok-left-in-If-clause-built : goal.returns-in_ok-left-in-If-clause-built
+returns-in_ok-left-in-If-clause-built g c = record {
   word = spelled Control c.in-If.is;
   numbered = refl;
   fields = next_field _ (λ (p : Number × Relation). Value p.0 ∷ Compares p.1 ∷ []) Value _ _ _ _ _ _
       (next_field _ (λ (left : Number). Value left ∷ []) Compares _ _ _ _ _ _ (one_field c.in_ok-number-in-If.ensures.gave)
-      c.in_ok-paired-in-If.ensures c.relation.ensures.gave) c.in-Ok-paired.ensures c.number-in-If-2.ensures.gave;
+      c.in_ok-paired-in-If.ensures c.relation.ensures.gave) c.in_ok-left-in-If.ensures c.number-in-If-2.ensures.gave;
   suits = tt;
 }
 

@@ -6,30 +6,14 @@ use Rattle.cord_script.specs.Forms.Term.{Target, Operand, Value}
 use Rattle.cord_script.proofs.SourceFields.{spelled, next_field}
 use Rattle.cord_script.proofs.statements.look_of.Goals as goal
 
-pub returns-in-Ok-clause-built : goal.returns-in-Ok-clause-built
-returns-in-Ok-clause-built g c = record {
-  word = spelled Look c.in-Fetch.is;
-  numbered = refl;
-  fields = c.in-Ok.ensures.gave;
-  suits = tt;
-}
-
-pub returns-in-Ok-target_and_operands-clause-built : goal.returns-in-Ok-target_and_operands-clause-built
-returns-in-Ok-target_and_operands-clause-built g c = record {
-  word = spelled Look c.in-Cmp.is;
-  numbered = refl;
-  fields = c.in-Ok-target_and_operands.ensures.gave;
-  suits = tt;
-}
-
-pub returns-in-Ok-paired-clause-built : goal.returns-in-Ok-paired-clause-built
-returns-in-Ok-paired-clause-built g c = record {
+pub returns-in_ok-target-in-Ncmp-clause-built : goal.returns-in_ok-target-in-Ncmp-clause-built
+returns-in_ok-target-in-Ncmp-clause-built g c = record {
   word = spelled Look c.in-Ncmp.is;
   numbered = refl;
   fields = next_field _ (λ (p : (((List ℕ × List ℕ) × Number) × List ℕ) × Number). Target kinds.Number p.0.0.0.0
       ∷ Operand kinds.Cord p.0.0.0.1 ∷ Value p.0.0.1 ∷ Operand kinds.Cord p.0.1 ∷ Value p.1 ∷ []) Value _ _ _ _ _ _
       (next_field _ (λ (p : ((List ℕ × List ℕ) × Number) × List ℕ). Target kinds.Number p.0.0.0 ∷ Operand kinds.Cord p.0.0.1 ∷ Value p.0.1
       ∷ Operand kinds.Cord p.1 ∷ []) Value _ _ _ _ _ _ c.in_ok-target_operand_shared_operand-in-Ncmp.ensures.gave
-      c.in_ok-paired-in-Ncmp.ensures c.shared_number.ensures.gave) c.in-Ok-paired.ensures c.shared_number-in-Ncmp.ensures.gave;
+      c.in_ok-paired-in-Ncmp.ensures c.shared_number.ensures.gave) c.in_ok-target-in-Ncmp.ensures c.shared_number-in-Ncmp.ensures.gave;
   suits = tt;
 }
