@@ -2,11 +2,8 @@
 use Rattle.std.specs.Prelude.{ℕ, suc, Bool, false, ◌||◌, List, [], ◌∷◌, if◌then◌else◌, Option, Some, None}
 use Rattle.std.specs.Str.{bytes_eq}
 use Rattle.cord_syntax.specs.declared.statements.Statement.{Statement}
-use Rattle.cord_syntax.specs.declared.statements.Statement.TheVariants.{Cat, Catn, Catc, Substr, Balance, Sprintf}
-use Rattle.cord_syntax.specs.declared.statements.Statement.TheVariants.{Fetch, Cmp, Ncmp, Str, Chr, Rchr, EcCat, Put}
+pub use Rattle.cord_syntax.specs.Readings.{cord_arguments, read_by}
 pub use Rattle.cord_syntax.specs.Targets.{target_of}
-use Rattle.cord_operands.specs.declared.operands.Argument.{Argument}
-use Rattle.cord_operands.specs.declared.operands.Argument.TheVariants as arguments
 
 -- how many times a name stands in a list of names
 abbrev pub count : List ℕ → List (List ℕ) → ℕ
@@ -17,30 +14,6 @@ count x (y ∷ ys) = if bytes_eq x y then suc (count x ys) else count x ys
 abbrev pub has : List (List ℕ) → List ℕ → Bool
 has [] x = false
 has (y ∷ ys) x = bytes_eq x y || has ys x
-
--- the names of cords among the arguments of a format
-abbrev pub cord_arguments : List Argument → List (List ℕ)
-cord_arguments [] = []
-cord_arguments (arguments.Number n ∷ rest) = cord_arguments rest
-cord_arguments (arguments.Cord x ∷ rest) = x ∷ cord_arguments rest
-
--- the cords whose bytes a line reads, from left to right: every cord that it has as an operand, but for `len`
-abbrev pub read_by : Statement → List (List ℕ)
-read_by (Cat line target left right) = left ∷ right ∷ []
-read_by (Catn line target parts) = parts
-read_by (Catc line target operand byte) = operand ∷ []
-read_by (Substr line target operand start count) = operand ∷ []
-read_by (Balance line target operand) = operand ∷ []
-read_by (Sprintf line target text format arguments) = cord_arguments arguments
-read_by (Fetch line target operand index) = operand ∷ []
-read_by (Cmp line target left right) = left ∷ right ∷ []
-read_by (Ncmp line target left left_start right right_start count) = left ∷ right ∷ []
-read_by (Str line target operand start pattern) = operand ∷ pattern ∷ []
-read_by (Chr line target operand start byte) = operand ∷ []
-read_by (Rchr line target operand start byte) = operand ∷ []
-read_by (EcCat line extensible operand) = operand ∷ []
-read_by (Put line operand) = operand ∷ []
-read_by _ = []
 
 abbrev pub is_name : Option (List ℕ) → List ℕ → Bool
 is_name None x = false

@@ -6,7 +6,6 @@ pub mod Known
 pub mod Liveness
 pub mod Marks
 pub mod Numbering
-pub mod Readings
 pub mod Recent
 pub mod Showing
 pub mod Steps

@@ -11,6 +11,6 @@ mod successors;
 pub(crate) use self::line_numbers::{LineNumbers, numbers_at};
 pub(crate) use self::liveness::Later;
 pub(crate) use self::marks::{GROUP, has_bit, mark_number};
-pub(crate) use self::readings::{assigns, reads};
+pub(crate) use self::readings::{assigns, operands_of, reads};
 pub(crate) use self::recent::{Recent, entry_at, entry_of, is_before, unless_after};
 pub(crate) use self::successors::{Shape, is_block, jump, shape_of};

@@ -1,3 +1,4 @@
 pub mod Families
 pub mod Lines
+pub mod Readings
 pub mod Targets

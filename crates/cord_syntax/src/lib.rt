@@ -3,6 +3,7 @@
 
 mod copies;
 mod families;
+mod readings;
 mod statements;
 
 pub use cord_operands::{
@@ -11,4 +12,5 @@ pub use cord_operands::{
 pub use families::{
     Composition, Computation, Control, Derivation, Family, Growth, Look, Origin, Search,
 };
+pub use readings::{Operands, Reading};
 pub use statements::{Script, Statement};

@@ -9,8 +9,6 @@ use Rattle.cord_plan.specs.Forced as plain
 use Rattle.cord_plan.specs.Views.{expr_view}
 use Rattle.cord_plan.specs.declared.planner.choosing.Choice.{Choice}
 use Rattle.cord_plan.specs.declared.planner.choosing.Choice.TheVariants.{Named, Replaced}
-use Rattle.cord_plan.specs.declared.planner.choosing.Operands.{Operands}
-use Rattle.cord_plan.specs.declared.planner.choosing.Operands.TheVariants.{Nothing, One, Two, Listed}
 
 -- how much of a room is left after so many parts, where they find room
 abbrev pub room_left : ℕ → ℕ → Option ℕ
@@ -33,13 +31,6 @@ simple_operands (Nul line target n) = Some []
 simple_operands (Substr line target operand start n) = Some (operand ∷ [])
 simple_operands (Put line operand) = Some (operand ∷ [])
 simple_operands l = None
-
--- the operands that the program has of a line
-abbrev pub operands_view : Operands → List (List ℕ)
-operands_view Nothing = []
-operands_view (One x) = x.now ∷ []
-operands_view (Two x y) = x.now ∷ y.now ∷ []
-operands_view (Listed xs) = xs.now
 
 -- the parts of a line's expression beside those of its operands
 abbrev pub parts_beside : Statement → ℕ

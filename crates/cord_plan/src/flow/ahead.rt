@@ -1,5 +1,6 @@
 // In a script without blocks, which names of each line are read later than the line.
 ghost use Rattle.std.specs.Prelude.{◌≡◌, ◌<◌, ◌==◌, ◌&&◌, [], ◌∷◌, ℕ, List, Option, true, None, Some, IfOk, slice_get};
+ghost use Rattle.cord_syntax.specs.Readings.{operand_names};
 ghost use Rattle.cord_plan.specs.Operands.{has, is_name, reads, target_of};
 ghost use Rattle.cord_plan.specs.declared.flow.numbering.Numbering.{Numbering};
 ghost use Rattle.cord_plan.specs.inner.Ahead.{ahead_at, ahead_of, number_in, AreToldFrom, IsAhead};
@@ -10,8 +11,10 @@ ghost use Rattle.cord_plan.specs.inner.Numbering.{AllHints, AreHints, Covers, na
 
 use crate::flow::line_numbers::{LineNumbers, numbers_at};
 use crate::flow::numbering::Numbering;
+use crate::flow::readings::operands_of;
 use crate::flow::recent::{entry_at, note_read};
 use cord_script::{Name, Statement};
+use cord_syntax::Operands;
 use std::alloc::{AllocError, Global};
 
 /// Of how many operands it is kept whether they are read later.
@@ -154,20 +157,18 @@ impl<'a> Ahead<'a> {
         bits
     }
 
-    // Which operands of a simple line are ahead, by their names.
-    fn named_bits(&self, statement: &Statement) -> u16
-        ensures { (xs : List (List ℕ)) → simple_operands statement.now ≡ Some xs → (i : ℕ) (x : List ℕ) → i < 16 →
-            slice_get xs i ≡ Some x → bit result i ≡ ahead_of self.now x }
+    // Which operands are ahead, by their names.
+    fn named_bits(&self, operands: Operands) -> u16
+        ensures { (i : ℕ) (x : List ℕ) → i < 16 → slice_get (operand_names operands.entry) i ≡ Some x →
+            bit result i ≡ ahead_of self.now x }
     {
-        match statement {
-            Statement::Cat { left, right, .. } => {
+        match operands {
+            Operands::Nothing => 0,
+            Operands::One(operand) => operand_bit(0, self.has_name(operand)),
+            Operands::Two(left, right) => {
                 operand_bit(0, self.has_name(left)) | operand_bit(1, self.has_name(right))
             }
-            Statement::Catn { parts, .. } => self.listed_bits(parts.as_slice()),
-            Statement::Catc { operand, .. }
-            | Statement::Substr { operand, .. }
-            | Statement::Put { operand, .. } => operand_bit(0, self.has_name(operand)),
-            _ => 0,
+            Operands::Listed(names) => self.listed_bits(names),
         }
     }
 
@@ -181,7 +182,10 @@ impl<'a> Ahead<'a> {
             let first = operand_bit(0, self.has_number(number_told(numbers.first)));
             first | operand_bit(1, self.has_number(number_told(numbers.second)))
         } else {
-            self.named_bits(statement)
+            match operands_of(statement) {
+                Some(operands) => self.named_bits(operands),
+                None => 0,
+            }
         }
     }
 

@@ -5,11 +5,11 @@ ghost use Rattle.cord_plan.specs.declared.flow.numbering.Numbering.{Numbering};
 ghost use Rattle.cord_plan.specs.Operands.{read_by, target_of};
 ghost use Rattle.cord_plan.specs.inner.Numbering.{Adds, AllHints, AreFor, AreHints, ArePlaces, Covers, IsFor, IsPlace};
 ghost use Rattle.cord_plan.specs.inner.Numbering.{names_of};
-ghost use Rattle.cord_plan.specs.inner.Readings.{read_names};
+ghost use Rattle.cord_syntax.specs.Readings.{read_names};
 
 use crate::flow::numbering::Numbering;
-use crate::flow::readings::{Reading, reading_of};
 use cord_script::Statement;
+use cord_syntax::{Operands, Reading};
 use std::alloc::{AllocError, Global};
 
 /// The numbers of the name that a line assigns and of the first two whose bytes it reads, as far as they are small:
@@ -77,18 +77,18 @@ fn add_reading(
     ensures told { IfOk result (λ r. r.read_is_told ≡ true → AreFor (read_names reading.entry) r.first r.second) }
 {
     match reading {
-        Reading::Nothing => Ok(read_numbers(None, None, true)),
-        Reading::One(operand) => {
+        Reading::Operands(Operands::Nothing) => Ok(read_numbers(None, None, true)),
+        Reading::Operands(Operands::One(operand)) => {
             let first = hint_of(numbering.add(alloc, operand)?);
             Ok(read_numbers(first, None, first.is_some()))
         }
-        Reading::Two(left, right) => {
+        Reading::Operands(Operands::Two(left, right)) => {
             let first = numbering.add(alloc, left)?;
             let second = numbering.add(alloc, right)?;
             let (first, second) = (hint_of(first), hint_of(second));
             Ok(read_numbers(first, second, first.is_some() && second.is_some()))
         }
-        Reading::Many(names) => {
+        Reading::Operands(Operands::Listed(names)) => {
             numbering.add_all(alloc, names)?;
             Ok(read_numbers(None, None, false))
         }
@@ -128,7 +128,7 @@ fn add_line(
     ensures added { OnOk result (Adds (read_by statement.now) (names_of numbering.old) (names_of numbering.new)) }
     ensures places { IfOk result (λ numbers. ArePlaces (names_of numbering.new) statement.now numbers) }
 {
-    let read = add_reading(alloc, numbering, reading_of(statement))?;
+    let read = add_reading(alloc, numbering, statement.reading())?;
     let (target, target_is_told) = add_target(alloc, numbering, statement)?;
     Ok(LineNumbers {
         target,

@@ -8,8 +8,8 @@ ghost use Rattle.cord_plan.specs.inner.Numbering.{AreHints, number_of};
 
 use crate::flow::line_numbers::LineNumbers;
 use crate::flow::numbering::Numbering;
-use crate::flow::readings::{Reading, reading_of};
 use cord_script::{Argument, Name, Statement};
+use cord_syntax::{Operands, Reading};
 
 /// How many names a word stands for.
 pub(crate) const GROUP: usize = 128;
@@ -92,11 +92,11 @@ fn mark_two(numbering: &Numbering, group: usize, left: &Name, right: &Name) -> u
 fn mark_names(numbering: &Numbering, group: usize, statement: &Statement) -> u128
     ensures { Marks numbering.now group (λ x. reads statement.now x) result }
 {
-    match reading_of(statement) {
-        Reading::Nothing => 0,
-        Reading::One(operand) => mark(numbering, group, operand),
-        Reading::Two(left, right) => mark_two(numbering, group, left, right),
-        Reading::Many(parts) => mark_all(numbering, group, parts),
+    match statement.reading() {
+        Reading::Operands(Operands::Nothing) => 0,
+        Reading::Operands(Operands::One(operand)) => mark(numbering, group, operand),
+        Reading::Operands(Operands::Two(left, right)) => mark_two(numbering, group, left, right),
+        Reading::Operands(Operands::Listed(parts)) => mark_all(numbering, group, parts),
         Reading::Printed(arguments) => mark_arguments(numbering, group, arguments),
     }
 }

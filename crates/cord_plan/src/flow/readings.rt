@@ -1,46 +1,27 @@
-// The names whose bytes a line reads, and the name that it assigns.
-ghost use Rattle.std.specs.Prelude.{◌≡◌, [], ◌∷◌};
-ghost use Rattle.cord_plan.specs.Operands.{has, cord_arguments, read_by, reads, assigns};
-ghost use Rattle.cord_plan.specs.inner.Readings.{read_names};
+// The operands of a line, whether it reads a name, and whether it assigns it.
+ghost use Rattle.std.specs.Prelude.{◌≡◌, [], ◌∷◌, option_map};
+ghost use Rattle.cord_syntax.specs.Readings.{operand_names};
+ghost use Rattle.cord_plan.specs.Operands.{has, cord_arguments, reads, assigns};
+ghost use Rattle.cord_plan.specs.inner.Choices.{simple_operands};
 
 use cord_script::{Argument, Name, Statement};
+use cord_syntax::{Family, Operands, Reading};
 
-/// The cords whose bytes a line reads, from left to right.
-#[derive(Clone, Copy)]
-pub(crate) enum Reading<'a> {
-    Nothing,
-    One(&'a Name),
-    Two(&'a Name, &'a Name),
-    Many(&'a [Name]),
-    /// Those among the arguments of a format.
-    Printed(&'a [Argument]),
-}
-
-/// The cords whose bytes a line reads. Inlined, it isn't made where the caller looks at it at once.
+/// The cord operands of a line for which an expression stands; of other lines there are none.
 #[inline(always)]
-pub(crate) fn reading_of(statement: &Statement) -> Reading
-    ensures { read_names result ≡ read_by statement.now }
+pub(crate) fn operands_of(statement: &Statement) -> Option<Operands<'_>>
+    ensures { option_map operand_names result ≡ simple_operands statement.now }
 {
-    match statement {
-        Statement::Cat { left, right, .. } => Reading::Two(left, right),
-        Statement::Catn { parts, .. } => Reading::Many(parts.as_slice()),
-        Statement::Catc { operand, .. } => Reading::One(operand),
-        Statement::Substr { operand, .. } => Reading::One(operand),
-        Statement::Balance { operand, .. } => Reading::One(operand),
-        Statement::Sprintf { arguments, .. } => Reading::Printed(arguments.as_ref().as_slice()),
-        Statement::Fetch { operand, .. } => Reading::One(operand),
-        Statement::Cmp { left, right, .. } => Reading::Two(left, right),
-        Statement::Ncmp { left, right, .. } => Reading::Two(left, right),
-        Statement::Str {
-            operand,
-            pattern,
-            ..
-        } => Reading::Two(operand, pattern),
-        Statement::Chr { operand, .. } => Reading::One(operand),
-        Statement::Rchr { operand, .. } => Reading::One(operand),
-        Statement::EcCat { operand, .. } => Reading::One(operand),
-        Statement::Put { operand, .. } => Reading::One(operand),
-        _ => Reading::Nothing,
+    match statement.family() {
+        Family::Composition(composition) => Some(composition.operands()),
+        Family::Put { operand } => Some(Operands::One(operand)),
+        Family::Origin(_)
+        | Family::Derivation(_)
+        | Family::Computation(_)
+        | Family::Look(_)
+        | Family::Search(_)
+        | Family::Growth(_)
+        | Family::Control(_) => None,
     }
 }
 
@@ -87,11 +68,11 @@ fn is_argument(arguments: &[Argument], name: &Name) -> bool
 pub(crate) fn reads(statement: &Statement, name: &Name) -> bool
     ensures { result ≡ reads statement.now name.now }
 {
-    match reading_of(statement) {
-        Reading::Nothing => false,
-        Reading::One(operand) => is(operand, name),
-        Reading::Two(left, right) => is_either(left, right, name),
-        Reading::Many(parts) => is_among(parts, name),
+    match statement.reading() {
+        Reading::Operands(Operands::Nothing) => false,
+        Reading::Operands(Operands::One(operand)) => is(operand, name),
+        Reading::Operands(Operands::Two(left, right)) => is_either(left, right, name),
+        Reading::Operands(Operands::Listed(names)) => is_among(names, name),
         Reading::Printed(arguments) => is_argument(arguments, name),
     }
 }

@@ -13,9 +13,9 @@ ghost use Rattle.cord_plan.specs.inner.Recent.{noted, unless_after};
 use crate::flow::line_numbers::LineNumbers;
 use crate::flow::liveness::Later;
 use crate::flow::numbering::Numbering;
-use crate::flow::readings::{Reading, reading_of};
 use crate::flow::successors::is_block;
 use cord_script::{Argument, Name, Statement};
+use cord_syntax::{Operands, Reading};
 use std::alloc::{AllocError, Global};
 
 /// For each number of a name the last line so far that assigns the name, and the last one that reads its bytes; and the
@@ -169,11 +169,11 @@ fn note_names(
 )
     ensures { Notes numbering.now (λ x. reads statement.now x) place places.old places.new }
 {
-    match reading_of(statement) {
-        Reading::Nothing => {}
-        Reading::One(operand) => note(numbering, places, operand, place),
-        Reading::Two(left, right) => note_two(numbering, places, left, right, place),
-        Reading::Many(parts) => note_all(numbering, places, parts, place),
+    match statement.reading() {
+        Reading::Operands(Operands::Nothing) => {}
+        Reading::Operands(Operands::One(operand)) => note(numbering, places, operand, place),
+        Reading::Operands(Operands::Two(left, right)) => note_two(numbering, places, left, right, place),
+        Reading::Operands(Operands::Listed(parts)) => note_all(numbering, places, parts, place),
         Reading::Printed(arguments) => note_arguments(numbering, places, arguments, place),
     }
 }

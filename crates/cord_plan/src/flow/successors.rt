@@ -10,6 +10,7 @@ ghost use Rattle.cord_plan.specs.inner.Liveness.{shape_view, turn_of, innermost,
 ghost use Rattle.cord_plan.specs.inner.Liveness.{AreSuccessors, ArePaths, NoBlocks};
 
 use cord_script::Statement;
+use cord_syntax::{Control, Family};
 use std::alloc::{AllocError, Global};
 
 /// What a statement is to control.
@@ -69,12 +70,19 @@ enum Turn {
 pub(crate) fn shape_of(statement: &Statement) -> Shape
     ensures { shape_view result ≡ shape_of statement.now }
 {
-    match statement {
-        Statement::Repeat { .. } => Shape::Loop,
-        Statement::If { .. } => Shape::Branch,
-        Statement::Else { .. } => Shape::Otherwise,
-        Statement::End { .. } => Shape::Close,
-        _ => Shape::Simple,
+    match statement.family() {
+        Family::Control(Control::Repeat { .. }) => Shape::Loop,
+        Family::Control(Control::If { .. }) => Shape::Branch,
+        Family::Control(Control::Else) => Shape::Otherwise,
+        Family::Control(Control::End) => Shape::Close,
+        Family::Origin(_)
+        | Family::Composition(_)
+        | Family::Derivation(_)
+        | Family::Put { .. }
+        | Family::Computation(_)
+        | Family::Look(_)
+        | Family::Search(_)
+        | Family::Growth(_) => Shape::Simple,
     }
 }
 

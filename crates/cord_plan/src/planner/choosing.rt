@@ -8,7 +8,8 @@ ghost use Rattle.cord_plan.specs.Operands.{assigns, count};
 ghost use Rattle.cord_plan.specs.Forced.{is_small, expr_of, expr_with};
 ghost use Rattle.cord_plan.specs.inner.Choices.{simple_operands, parts_beside, expression_in, room_left, room_left_by};
 ghost use Rattle.cord_plan.specs.inner.Choices.{is_spare, stands};
-ghost use Rattle.cord_plan.specs.inner.Choices.{choice_view, operands_view, IsChoice, AreChoices};
+ghost use Rattle.cord_plan.specs.inner.Choices.{choice_view, IsChoice, AreChoices};
+ghost use Rattle.cord_syntax.specs.Readings.{operand_names};
 ghost use Rattle.cord_plan.specs.inner.Known.{IsFacts, IsKnown};
 ghost use Rattle.cord_plan.specs.inner.Liveness.{tells, IsTold};
 ghost use Rattle.cord_plan.specs.inner.Numbering.{AllHints, IsHint};
@@ -23,6 +24,7 @@ use crate::planner::parts::room_left;
 use crate::planner::staying::{nearest, stays};
 use crate::{Expr, MAX_EXPR_PARTS, Made, Operation};
 use cord_script::{Name, Statement};
+use cord_syntax::Operands;
 use std::alloc::{AllocError, Global};
 
 /// What stands for an operand: its name, or the expression of the line at a place.
@@ -44,33 +46,9 @@ pub(crate) struct Line<'a> {
     pub(crate) recent: &'a Recent<'a>,
 }
 
-/// The cord operands of a simple line, from left to right.
-#[derive(Clone, Copy)]
-pub(crate) enum Operands<'a> {
-    Nothing,
-    One(&'a Name),
-    Two(&'a Name, &'a Name),
-    Listed(&'a [Name]),
-}
-
-/// The cord operands of a simple line; of other lines there are none.
-pub(crate) fn operands_of(statement: &Statement) -> Option<Operands<'_>>
-    ensures { option_map operands_view result ≡ simple_operands statement.now }
-{
-    match statement {
-        Statement::Cat { left, right, .. } => Some(Operands::Two(left, right)),
-        Statement::Catn { parts, .. } => Some(Operands::Listed(parts.as_slice())),
-        Statement::Catc { operand, .. }
-        | Statement::Substr { operand, .. }
-        | Statement::Put { operand, .. } => Some(Operands::One(operand)),
-        Statement::Chars { .. } | Statement::Nul { .. } => Some(Operands::Nothing),
-        _ => None,
-    }
-}
-
 // How many operands there are.
 fn operand_count(operands: Operands) -> usize
-    ensures { result ≡ length (operands_view operands.entry) }
+    ensures { result ≡ length (operand_names operands.entry) }
 {
     match operands {
         Operands::Nothing => 0,
@@ -101,7 +79,7 @@ fn is(operand: &Name, name: &Name) -> bool
 
 // Whether a name is one of the operands, and only once.
 fn is_named_once(operands: Operands, name: &Name) -> bool
-    ensures { result ≡ (count name.now (operands_view operands.entry) == 1) }
+    ensures { result ≡ (count name.now (operand_names operands.entry) == 1) }
 {
     match operands {
         Operands::Nothing => false,
@@ -125,7 +103,7 @@ fn is_free(line: &Line, name: &Name, later: bool) -> bool
 fn is_spare(line: &Line, operand: &Name, later: bool) -> bool
     requires { later ≡ tells line.now.recent.now.later.now operand.now line.now.place }
     ensures { result ≡ is_spare line.now.statements.now (tells line.now.recent.now.later.now) line.now.place
-        line.now.statement.now (operands_view line.now.operands) operand.now }
+        line.now.statement.now (operand_names line.now.operands) operand.now }
 {
     is_named_once(line.operands, operand) && is_free(line, operand, later)
 }
@@ -173,11 +151,11 @@ fn room_left_known(expression: &Expr, facts: Option<&Facts>, room: u32) -> Optio
 fn stays_small(line: &Line, chosen: &[Choice], expression: &Expr, facts: Option<&Facts>) -> bool
     requires facts { IfSome facts (λ f. IsFacts line.now.recent.now.later.now.numbering (expr_view expression.now)
         f.now) }
-    requires operands { simple_operands line.now.statement.now ≡ Some (operands_view line.now.operands) }
-    requires more { length chosen.now < length (operands_view line.now.operands) }
+    requires operands { simple_operands line.now.statement.now ≡ Some (operand_names line.now.operands) }
+    requires more { length chosen.now < length (operand_names line.now.operands) }
     ensures { result ≡ is_small (expr_with line.now.statement.now
         (map expr_of (map choice_view chosen.now) ++ expr_view expression.now
-        ∷ map (λ y. name y) (drop (length (map choice_view chosen.now) + 1) (operands_view line.now.operands)))) }
+        ∷ map (λ y. name y) (drop (length (map choice_view chosen.now) + 1) (operand_names line.now.operands)))) }
 {
     let names = operand_count(line.operands) - chosen.len() - 1;
     match room_left_by(chosen, MAX_EXPR_PARTS) {
@@ -239,7 +217,7 @@ fn stands(
         f.now) }
     requires recent { IsRecent line.now.statements.now line.now.place line.now.recent.now }
     ensures { result ≡ stands line.now.statements.now (tells line.now.recent.now.later.now) (expr_view expression.now)
-        source line.now.place line.now.statement.now (operands_view line.now.operands) operand.now }
+        source line.now.place line.now.statement.now (operand_names line.now.operands) operand.now }
 {
     is_spare(line, operand, later) && stays(line, source, expression, facts)
 }
@@ -272,12 +250,12 @@ pub(crate) fn choose<'a>(
         (map operation_expression (map operation_view operations.now)) known.now }
     requires place { line.now.place ≤ length line.now.statements.now }
     requires recent { IsRecent line.now.statements.now line.now.place line.now.recent.now }
-    requires operands { simple_operands line.now.statement.now ≡ Some (operands_view line.now.operands) }
-    requires more { length chosen.now < length (operands_view line.now.operands) }
-    requires operand { slice_get (operands_view line.now.operands) (length chosen.now) ≡ Some operand.now }
+    requires operands { simple_operands line.now.statement.now ≡ Some (operand_names line.now.operands) }
+    requires more { length chosen.now < length (operand_names line.now.operands) }
+    requires operand { slice_get (operand_names line.now.operands) (length chosen.now) ≡ Some operand.now }
     requires told { IsTold line.now.recent.now.later.now line.now.statement.now line.now.place }
     ensures { IsChoice line.now.statements.now (tells line.now.recent.now.later.now) line.now.place
-        line.now.statement.now (operands_view line.now.operands) operand.now
+        line.now.statement.now (operand_names line.now.operands) operand.now
         (map operation_expression (map operation_view operations.now))
         (map choice_view chosen.now) (choice_view result) }
 {
@@ -358,8 +336,8 @@ pub(crate) fn choose_all<'a>(
         (map operation_expression (map operation_view operations.now)) known.now }
     requires place { line.now.place ≤ length line.now.statements.now }
     requires recent { IsRecent line.now.statements.now line.now.place line.now.recent.now }
-    requires listed { operands_view line.now.operands ≡ operands.now }
-    requires operands { simple_operands line.now.statement.now ≡ Some (operands_view line.now.operands) }
+    requires listed { operand_names line.now.operands ≡ operands.now }
+    requires operands { simple_operands line.now.statement.now ≡ Some (operand_names line.now.operands) }
     requires told { IsTold line.now.recent.now.later.now line.now.statement.now line.now.place }
     ensures { IfOk result (λ cs. AreChoices line.now.statements.now
         (tells line.now.recent.now.later.now) line.now.place line.now.statement.now

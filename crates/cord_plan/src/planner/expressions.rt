@@ -1,7 +1,8 @@
 // The expression of the next line, over the operations of the lines before it.
 ghost use Rattle.std.specs.Prelude.{◌≡◌, ◌≤◌, ◌++◌, ◌∷◌, ◌&&◌, [], Some, IfOk, IsOkUnless, length, map};
 ghost use Rattle.std.specs.Prelude.{option_map};
-ghost use Rattle.cord_plan.specs.inner.Choices.{choice_view, operands_view, simple_operands};
+ghost use Rattle.cord_plan.specs.inner.Choices.{choice_view, simple_operands};
+ghost use Rattle.cord_syntax.specs.Readings.{operand_names};
 ghost use Rattle.cord_plan.specs.inner.Known.{IsKnown};
 ghost use Rattle.cord_plan.specs.inner.Liveness.{tells, IsTold};
 ghost use Rattle.cord_plan.specs.inner.Numbering.{AllHints, AreHints};
@@ -10,10 +11,8 @@ ghost use Rattle.cord_plan.specs.inner.Steps.{IsNext, IsStep, IsToldLonger, is_c
 ghost use Rattle.cord_plan.specs.inner.Steps.{operation_expression, sources_view};
 ghost use Rattle.cord_plan.specs.Views.{expr_view, operation_view};
 
-use crate::flow::{LineNumbers, Recent};
-use crate::planner::choosing::{
-    Choice, Line, Operands, choose, choose_all, is_last, is_named, operands_of,
-};
+use crate::flow::{LineNumbers, Recent, operands_of};
+use crate::planner::choosing::{Choice, Line, choose, choose_all, is_last, is_named};
 use crate::planner::interning::Interner;
 use crate::planner::joining::expression_with;
 use crate::planner::known::Known;
@@ -21,6 +20,7 @@ use crate::planner::measuring::{Sources, measure, source_of, sources_of};
 use crate::{Expr, Operation};
 use cord_io::CordError;
 use cord_script::Statement;
+use cord_syntax::Operands;
 use std::alloc::Global;
 
 /// The expression of a line, where it is a simple one, and whether the line is told to extend the one before it.
@@ -75,7 +75,7 @@ fn expression_over<'a>(
 ) -> Result<LineExpression, CordError>
     requires place { line.now.place ≤ length line.now.statements.now }
     requires recent { IsRecent line.now.statements.now line.now.place line.now.recent.now }
-    requires operands { simple_operands line.now.statement.now ≡ Some (operands_view line.now.operands) }
+    requires operands { simple_operands line.now.statement.now ≡ Some (operand_names line.now.operands) }
     requires hints { AreHints line.now.recent.now.later.now.numbering line.now.statement.now line.now.numbers }
     requires told { IsTold line.now.recent.now.later.now line.now.statement.now line.now.place }
     requires all_hints { AllHints line.now.statements.now line.now.recent.now.later.now.numbering

@@ -22,18 +22,15 @@ pub(crate) fn length_of(expression: &Expr, store: &Store) -> Result<u64, FaultKi
     match expression {
         Expr::Name(name) => Ok(store.length_of(name)),
         Expr::Run { byte, count } => length_of_run(store.value_of(byte), store.value_of(count)),
-        Expr::Cat(members) => match length_of_members(members, store) {
-            Ok(len) => as_length(len),
-            Err(kind) => Err(kind),
-        },
+        Expr::Cat(members) => as_length(length_of_members(members, store)?),
         Expr::Sub {
             expression,
             start,
             count,
-        } => match length_of(expression.as_ref(), store) {
-            Ok(len) => length_of_range(len, store.value_of(start), store.value_of(count)),
-            Err(kind) => Err(kind),
-        },
+        } => {
+            let len = length_of(expression.as_ref(), store)?;
+            length_of_range(len, store.value_of(start), store.value_of(count))
+        }
     }
 }
 
@@ -123,21 +120,15 @@ pub(crate) fn copies_asked(byte: i64, count: i64) -> Result<Copies, FaultKind>
 fn length_of_run(byte: i64, count: i64) -> Result<u64, FaultKind>
     ensures { result ≡ measured_copies MAX_LEN byte count }
 {
-    match copies_asked(byte, count) {
-        Ok(copies) => Ok(copies.count),
-        Err(kind) => Err(kind),
-    }
+    let copies = copies_asked(byte, count)?;
+    Ok(copies.count)
 }
 
 /// The length of at most so many bytes from a place on, of what has this length.
 pub(crate) fn length_of_range(len: u64, start: i64, count: i64) -> Result<u64, FaultKind>
     ensures { result ≡ measured_part MAX_LEN len start count }
 {
-    match as_index(start) {
-        Ok(start) => match as_index(count) {
-            Ok(count) => as_length(count.min(len.saturating_sub(start))),
-            Err(kind) => Err(kind),
-        },
-        Err(kind) => Err(kind),
-    }
+    let start = as_index(start)?;
+    let count = as_index(count)?;
+    as_length(count.min(len.saturating_sub(start)))
 }

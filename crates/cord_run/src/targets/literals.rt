@@ -81,8 +81,5 @@ fn source_of(function: Function) -> SourceId
 pub(crate) fn start_length(count: i64) -> Result<u64, FaultKind>
     ensures { result ≡ start_extent count }
 {
-    match as_index(count) {
-        Ok(count) => as_length(count),
-        Err(kind) => Err(kind),
-    }
+    as_length(as_index(count)?)
 }

@@ -2,20 +2,20 @@ use Rattle.std.proofs.Common.{◌≡◌, List, ℕ, [], ap, ◌∙◌, subst}
 use Rattle.std.specs.Prelude.{slice_get}
 use Rattle.cord_plan.specs.Operands.{read_by}
 use Rattle.cord_plan.specs.inner.Numbering.{Adds, AreFor, names_of}
-use Rattle.cord_plan.specs.inner.Readings.{read_names}
+use Rattle.cord_syntax.specs.Readings.{read_names}
 use Rattle.cord_plan.proofs.Numbers.{then_added}
 use Rattle.cord_plan.proofs.flow.line_numbers.add_line.Goals as goal
 
 pub returns-clause-added : goal.returns-clause-added
 returns-clause-added c =
-    let read : read_names c.reading_of.result ≡ read_by c.args.statement.now = c.reading_of.ensures in
+    let read : read_names c.reading.result ≡ read_by c.args.statement.now = c.reading.ensures in
     subst (λ (xs : List (List ℕ)). Adds xs (names_of c.args.numbering.now) (names_of c.add_target.new.numbering)) read
-    (then_added (read_names c.reading_of.result) [] (names_of c.args.numbering.now) (names_of c.add_reading.new.numbering)
+    (then_added (read_names c.reading.result) [] (names_of c.args.numbering.now) (names_of c.add_reading.new.numbering)
     (names_of c.add_target.new.numbering) c.in_ok-read.ensures.added c.in_ok-target.ensures.added)
 
 pub returns-clause-places : goal.returns-clause-places
 returns-clause-places c =
-    let read : read_names c.reading_of.result ≡ read_by c.args.statement.now = c.reading_of.ensures in
+    let read : read_names c.reading.result ≡ read_by c.args.statement.now = c.reading.ensures in
     let stay = c.in_ok-target.ensures.added.stay in
     record {
       target = c.in_ok-target.ensures.target;

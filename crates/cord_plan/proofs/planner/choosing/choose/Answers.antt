@@ -4,7 +4,8 @@ use Rattle.cord_plan.specs.Forced.{expr_of, expr_with, is_small}
 use Rattle.cord_plan.specs.inner.Liveness.{tells}
 use Rattle.cord_plan.specs.inner.Steps.{operation_expression}
 use Rattle.cord_plan.specs.Views.{expr_view, operation_view}
-use Rattle.cord_plan.specs.inner.Choices.{operands_view, choice_view, nearest, stands, expression_in}
+use Rattle.cord_plan.specs.inner.Choices.{choice_view, nearest, stands, expression_in}
+use Rattle.cord_syntax.specs.Readings.{operand_names}
 use Rattle.cord_plan.proofs.Choices.{simple_reads}
 use Rattle.cord_plan.proofs.Nearest.{kept_far, kept_bare, by_tests, first_in}
 use Rattle.cord_plan.proofs.planner.choosing.choose.Goals as goal
@@ -30,7 +31,7 @@ pub returns-in-None : goal.returns-in-None
 returns-in-None c =
     let line = c.args.line.now in
     let before : List Expr = map (λ d. expr_of d) (map choice_view c.args.chosen.now) in
-    let after : List Expr = map (λ y. name y) (drop (length (map choice_view c.args.chosen.now) + 1) (operands_view line.operands)) in
+    let after : List Expr = map (λ y. name y) (drop (length (map choice_view c.args.chosen.now) + 1) (operand_names line.operands)) in
     let far : nearest line.statements.now c.args.operand.now line.place ≡ None = sym c.in-None.ensures in
     λ t has. kept_far line.statements.now (tells line.recent.now.later.now) t line.place line.statement.now c.args.operand.now before after
     far
@@ -39,7 +40,7 @@ pub returns-in-None-expression_at : goal.returns-in-None-expression_at
 returns-in-None-expression_at c =
     let line = c.args.line.now in
     let before : List Expr = map (λ d. expr_of d) (map choice_view c.args.chosen.now) in
-    let after : List Expr = map (λ y. name y) (drop (length (map choice_view c.args.chosen.now) + 1) (operands_view line.operands)) in
+    let after : List Expr = map (λ y. name y) (drop (length (map choice_view c.args.chosen.now) + 1) (operand_names line.operands)) in
     let near : nearest line.statements.now c.args.operand.now line.place ≡ Some c.in-Some.source = sym c.in-Some.ensures in
     let bare : None ≡ expression_in (map operation_expression (map operation_view c.args.operations.now)) c.in-Some.source =
     c.in-None-expression_at.ensures in
@@ -52,17 +53,17 @@ returns-then-stays_small c =
     let line = c.args.line.now in
     let r = expr_view c.in-Some-expression_at.expression.now in
     let before : List Expr = map (λ d. expr_of d) (map choice_view c.args.chosen.now) in
-    let after : List Expr = map (λ y. name y) (drop (length (map choice_view c.args.chosen.now) + 1) (operands_view line.operands)) in
+    let after : List Expr = map (λ y. name y) (drop (length (map choice_view c.args.chosen.now) + 1) (operand_names line.operands)) in
     let near : nearest line.statements.now c.args.operand.now line.place ≡ Some c.in-Some.source = sym c.in-Some.ensures in
     let there : Some r ≡ expression_in (map operation_expression (map operation_view c.args.operations.now)) c.in-Some.source =
     c.in-Some-expression_at.ensures in
     let stable : stands line.statements.now (tells line.recent.now.later.now) r c.in-Some.source line.place line.statement.now
-    (operands_view line.operands) c.args.operand.now ≡ c.stands.result = sym c.stands.ensures in
+    (operand_names line.operands) c.args.operand.now ≡ c.stands.result = sym c.stands.ensures in
     let fit : stands line.statements.now (tells line.recent.now.later.now) r c.in-Some.source line.place line.statement.now
-    (operands_view line.operands) c.args.operand.now ≡ true = stable ∙ c.if-stands.true in
+    (operand_names line.operands) c.args.operand.now ≡ true = stable ∙ c.if-stands.true in
     let small : is_small (expr_with line.statement.now (before ++ r ∷ after)) ≡ true = sym c.stays_small.ensures ∙ c.if-stays_small.true in
     λ t has. by_tests line.statements.now (tells line.recent.now.later.now) t line.place line.statement.now c.args.operand.now before after
-    (operands_view line.operands) (simple_reads line.statement.now (operands_view line.operands) c.requires.operands)
+    (operand_names line.operands) (simple_reads line.statement.now (operand_names line.operands) c.requires.operands)
     c.in-Some.source r near
     (sym (first_in (map operation_expression (map operation_view c.args.operations.now)) t c.in-Some.source has) ∙ sym there) true
     (ap (λ (v : Bool). v && is_small (expr_with line.statement.now (before ++ r ∷ after))) fit ∙ small)
@@ -72,20 +73,20 @@ returns-else-stands c =
     let line = c.args.line.now in
     let r = expr_view c.in-Some-expression_at.expression.now in
     let before : List Expr = map (λ d. expr_of d) (map choice_view c.args.chosen.now) in
-    let after : List Expr = map (λ y. name y) (drop (length (map choice_view c.args.chosen.now) + 1) (operands_view line.operands)) in
+    let after : List Expr = map (λ y. name y) (drop (length (map choice_view c.args.chosen.now) + 1) (operand_names line.operands)) in
     let near : nearest line.statements.now c.args.operand.now line.place ≡ Some c.in-Some.source = sym c.in-Some.ensures in
     let there : Some r ≡ expression_in (map operation_expression (map operation_view c.args.operations.now)) c.in-Some.source =
     c.in-Some-expression_at.ensures in
     let stable : stands line.statements.now (tells line.recent.now.later.now) r c.in-Some.source line.place line.statement.now
-    (operands_view line.operands) c.args.operand.now ≡ c.stands.result = sym c.stands.ensures in
+    (operand_names line.operands) c.args.operand.now ≡ c.stands.result = sym c.stands.ensures in
     let small = is_small (expr_with line.statement.now (before ++ r ∷ after)) in
     let refused : (stands line.statements.now (tells line.recent.now.later.now) r c.in-Some.source line.place line.statement.now
-    (operands_view line.operands) c.args.operand.now && small) ≡ false = elim c.else-stands.branch [
+    (operand_names line.operands) c.args.operand.now && small) ≡ false = elim c.else-stands.branch [
       | else-stands-via-then-stands+else-stays_small w ↦ ap (λ (v : Bool). v && small) (stable ∙ w.if-stands.true)
           ∙ (sym w.stays_small.ensures ∙ w.if-stays_small.false)
       | else-stands-via-else-stands w ↦ ap (λ (v : Bool). v && small) (stable ∙ w.if-stands.false)
     ] in
     λ t has. by_tests line.statements.now (tells line.recent.now.later.now) t line.place line.statement.now c.args.operand.now before after
-    (operands_view line.operands) (simple_reads line.statement.now (operands_view line.operands) c.requires.operands)
+    (operand_names line.operands) (simple_reads line.statement.now (operand_names line.operands) c.requires.operands)
     c.in-Some.source r near
     (sym (first_in (map operation_expression (map operation_view c.args.operations.now)) t c.in-Some.source has) ∙ sym there) false refused

@@ -3,7 +3,8 @@ use Rattle.std.specs.Prelude.{slice_get}
 use Rattle.std.proofs.lemmas.Option.{slice_get_read}
 use Rattle.std.proofs.lemmas.List.{map-append, at_drop_all, length-map}
 use Rattle.cord_plan.specs.declared.planner.choosing.Choice.{Choice}
-use Rattle.cord_plan.specs.inner.Choices.{operands_view, choice_view, IsChoice}
+use Rattle.cord_plan.specs.inner.Choices.{choice_view, IsChoice}
+use Rattle.cord_syntax.specs.Readings.{operand_names}
 use Rattle.cord_plan.specs.Forced as plain
 use Rattle.cord_plan.specs.inner.Liveness.{tells}
 use Rattle.cord_plan.specs.inner.Steps.{operation_expression}
@@ -14,7 +15,7 @@ use Rattle.cord_plan.proofs.planner.choosing.choose_all.Goals as goal
 pub choose-choice-requires-clause-more : goal.choose-choice-requires-clause-more
 choose-choice-requires-clause-more c =
     let same : length c.deref.result.now ≡ length c.loop-operand.chosen.items = ap length c.deref.ensures.value in
-    let listed : length (operands_view c.args.line.now.operands) ≡ length c.args.operands.now = ap length c.requires.listed in
+    let listed : length (operand_names c.args.line.now.operands) ≡ length c.args.operands.now = ap length c.requires.listed in
     omega arith
 
 pub loop-operand-preserved : goal.loop-operand-preserved
@@ -32,7 +33,7 @@ loop-operand-preserved c =
     (choice_view c.choose-choice.result) =
     subst (λ (ys : List (List ℕ)). IsChoice s later b l ys x (map operation_expression (map operation_view c.args.operations.now)) done
     (choice_view c.choose-choice.result)) c.requires.listed
-    (subst (λ (cs : List Choice). IsChoice s later b l (operands_view line.operands) x
+    (subst (λ (cs : List Choice). IsChoice s later b l (operand_names line.operands) x
     (map operation_expression (map operation_view c.args.operations.now))
     (map choice_view cs) (choice_view c.choose-choice.result)) c.deref.ensures.value c.choose-choice.ensures) in
     let size : length done ≡ i = length-map c.loop-operand.chosen.items choice_view ∙ c.loop-operand.invariant.size in

@@ -1,5 +1,5 @@
 use Rattle.std.proofs.Common.{sym, ◌∙◌}
-use Rattle.cord_plan.specs.inner.Choices.{operands_view}
+use Rattle.cord_syntax.specs.Readings.{operand_names}
 use Rattle.cord_plan.specs.inner.Liveness.{tells}
 use Rattle.cord_plan.specs.Views.{expr_view}
 use Rattle.cord_plan.proofs.Nearest.{needed_stands, spare_stands}
@@ -10,11 +10,11 @@ returns-then-is_spare c =
     let line = c.args.line.now in
     c.stays.ensures
     ∙ sym (spare_stands line.statements.now (tells line.recent.now.later.now) (expr_view c.args.expression.now) c.args.source line.place
-    line.statement.now (operands_view line.operands) c.args.operand.now (sym c.is_spare.ensures ∙ c.if-is_spare.true))
+    line.statement.now (operand_names line.operands) c.args.operand.now (sym c.is_spare.ensures ∙ c.if-is_spare.true))
 
 pub returns-else-is_spare : goal.returns-else-is_spare
 returns-else-is_spare c =
     let line = c.args.line.now in
     c.if-is_spare.false
     ∙ sym (needed_stands line.statements.now (tells line.recent.now.later.now) (expr_view c.args.expression.now) c.args.source line.place
-    line.statement.now (operands_view line.operands) c.args.operand.now (sym c.is_spare.ensures ∙ c.if-is_spare.false))
+    line.statement.now (operand_names line.operands) c.args.operand.now (sym c.is_spare.ensures ∙ c.if-is_spare.false))
