@@ -48,8 +48,9 @@ impl<'a> Derivation<'a> {
         match self {
             Derivation::Balance { operand, .. } => Reading::Operands(Operands::One(operand)),
             Derivation::EcToCord { .. } => Reading::Operands(Operands::Nothing),
-            Derivation::Sprintf { arguments, .. } =>
-                Reading::Printed(arguments.as_ref().as_slice()),
+            Derivation::Sprintf { arguments, .. } => Reading::Printed(
+                arguments.as_ref().as_slice(),
+            ),
         }
     }
 }
@@ -61,8 +62,9 @@ impl<'a> Look<'a> {
     {
         match self {
             Look::Fetch { operand, .. } => Operands::One(operand),
-            Look::Cmp { left, right, .. } | Look::Ncmp { left, right, .. } =>
-                Operands::Two(left, right),
+            Look::Cmp { left, right, .. } | Look::Ncmp { left, right, .. } => Operands::Two(
+                left, right,
+            ),
         }
     }
 }
@@ -89,7 +91,8 @@ impl<'a> Growth<'a> {
         ensures { (line : ℕ) → operand_names result ≡ read_by (statement_of line (Family.Growth self.entry)) }
     {
         match self {
-            Growth::EcInit { .. } | Growth::EcPut { .. } | Growth::EcStr { .. } => Operands::Nothing,
+            Growth::EcInit { .. } | Growth::EcPut { .. } | Growth::EcStr { .. } =>
+                Operands::Nothing,
             Growth::EcCat { operand, .. } => Operands::One(operand),
         }
     }
@@ -102,8 +105,9 @@ impl Statement {
         ensures { read_names result ≡ read_by self.now }
     {
         match self.family() {
-            Family::Origin(_) | Family::Computation(_) | Family::Control(_) =>
-                Reading::Operands(Operands::Nothing),
+            Family::Origin(_) | Family::Computation(_) | Family::Control(_) => Reading::Operands(
+                Operands::Nothing,
+            ),
             Family::Composition(composition) => Reading::Operands(composition.operands()),
             Family::Derivation(derivation) => derivation.reading(),
             Family::Put { operand } => Reading::Operands(Operands::One(operand)),

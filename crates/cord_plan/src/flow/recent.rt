@@ -172,7 +172,9 @@ fn note_names(
     match statement.reading() {
         Reading::Operands(Operands::Nothing) => {}
         Reading::Operands(Operands::One(operand)) => note(numbering, places, operand, place),
-        Reading::Operands(Operands::Two(left, right)) => note_two(numbering, places, left, right, place),
+        Reading::Operands(Operands::Two(left, right)) => note_two(
+            numbering, places, left, right, place,
+        ),
         Reading::Operands(Operands::Listed(parts)) => note_all(numbering, places, parts, place),
         Reading::Printed(arguments) => note_arguments(numbering, places, arguments, place),
     }

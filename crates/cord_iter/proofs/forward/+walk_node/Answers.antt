@@ -153,7 +153,8 @@ returns-else-branch-clause-walked g t c folder kept =
     let right = c.in-Cat.right.value in
     let before = c.walk_node-else-branch.ensures.source.earlier folder kept in
     let path = goal.at.returns-else-branch-clause-walked g t c in
-    let cut : IsCut text left right node = cut_is g t path.In-Cat folder (c.walk_node-else-seam-from.ensures.source.earlier folder before) in
+    let cut : IsCut text left right node =
+    cut_is g t path.In-Cat folder (c.walk_node-else-seam-from.ensures.source.earlier folder before) in
     let inside : c.args.from ≤ len_of left = in_left g t path.Else-seam-from in
     let stays = rw (c.as_ref-else-seam-from.ensures, c.if-branch.false) at c.in_ok-walk_node-in-Cat.ensures.walked folder before in
     IfOk-weaker c.walk_node-else-branch.result _ _ (λ stopped on.
@@ -171,7 +172,8 @@ returns-else-branch-clause-prefix g t c folder kept =
     let right = c.in-Cat.right.value in
     let before = c.walk_node-else-branch.ensures.source.earlier folder kept in
     let path = goal.at.returns-else-branch-clause-prefix g t c in
-    let cut : IsCut text left right node = cut_is g t path.In-Cat folder (c.walk_node-else-seam-from.ensures.source.earlier folder before) in
+    let cut : IsCut text left right node =
+    cut_is g t path.In-Cat folder (c.walk_node-else-seam-from.ensures.source.earlier folder before) in
     let inside : c.args.from ≤ len_of left = in_left g t path.Else-seam-from in
     let stays = rw (c.as_ref-else-seam-from.ensures, c.if-branch.false) at c.in_ok-walk_node-in-Cat.ensures.walked folder before in
     on_err_weaker c.walk_node-else-branch.result (λ front. cut_on_front step (state c.args.visitor.now)

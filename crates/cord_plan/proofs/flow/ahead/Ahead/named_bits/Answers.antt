@@ -11,5 +11,5 @@ returns-in-Two c =
     subst (λ (ys : List (List ℕ)). AreBits (λ x. ahead_of c.args.self.now x) ys
     (bit_or c.operand_bit-in-Two.result c.operand_bit-in-Two-2.result)) listed
     (bits_two (λ x. ahead_of c.args.self.now x) c.in-Two.left.now c.in-Two.right.now c.has_name-in-Two.result c.has_name-in-Two-2.result
-    c.operand_bit-in-Two.result c.operand_bit-in-Two-2.result c.has_name-in-Two.ensures c.has_name-in-Two-2.ensures c.operand_bit-in-Two.ensures
-    c.operand_bit-in-Two-2.ensures)
+    c.operand_bit-in-Two.result c.operand_bit-in-Two-2.result c.has_name-in-Two.ensures c.has_name-in-Two-2.ensures
+    c.operand_bit-in-Two.ensures c.operand_bit-in-Two-2.ensures)
