@@ -22,7 +22,10 @@ pub(crate) fn length_of(expression: &Expr, store: &Store) -> Result<u64, FaultKi
     match expression {
         Expr::Name(name) => Ok(store.length_of(name)),
         Expr::Run { byte, count } => length_of_run(store.value_of(byte), store.value_of(count)),
-        Expr::Cat(members) => as_length(length_of_members(members, store)?),
+        Expr::Cat(members) => {
+            let total = length_of_members(members, store)?;
+            as_length(total)
+        }
         Expr::Sub {
             expression,
             start,

@@ -15,12 +15,12 @@ use Rattle.cord_run.proofs.Members.{weight, weights, member_counted, member_smal
 use Rattle.cord_run.proofs.expressions.lengths.+length_of.Goals as goal
 use Rattle.cord_run.proofs.expressions.lengths.+length_of.Goals.{length_after-in-Name, length_after-in_default+in-Ok}
 
-pub length_of-returns-in-Ok : goal.length_of-returns-in-Ok
-length_of-returns-in-Ok t c =
+pub length_of-returns-in_ok-total-in-Cat : goal.length_of-returns-in_ok-total-in-Cat
+length_of-returns-in_ok-total-in-Cat t c =
     let es = members_view c.in-Cat.members in
     let view : expr_view c.args.expression.now ≡ plain.cat es = ap expr_view c.in-Cat.is ∙ view-Cat c.in-Cat.members in
     c.as_length.ensures
-    ∙ counted_length c.in-Ok.len (members_extent c.args.store.now.entries.items es) c.in-Ok.ensures
+    ∙ counted_length c.in_ok-total-in-Cat.total (members_extent c.args.store.now.entries.items es) c.in_ok-total-in-Cat.ensures
     ∙ ap (λ (e : plain.Expr). extent_in c.args.store.now.entries.items e) (sym view)
 
 pub length_after-length_of-requires : goal.length_after-length_of-requires
