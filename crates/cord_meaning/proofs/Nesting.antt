@@ -31,10 +31,21 @@ module _ {L : Type 0} (shape : L → Shape) where
   abbrev Splits : ℕ → Type 0
   Splits n = (ls : List L) → length ls ≤ n → (b : Bool) (blocks : List Bool) → IsNested (b ∷ blocks) (shapes ls) → Split b blocks ls
 
-  -- a block and what follows it
-  block_is : (x e z : L) (inner rest behind : List L) → x ∷ (inner ++ (e ∷ (rest ++ (z ∷ behind)))) ≡ (x ∷ (inner ++ (e ∷ rest)))
-      ++ (z ∷ behind)
-  block_is x e z inner rest behind = ap (λ (ls : List L). x ∷ ls) (sym (append_assoc inner (e ∷ rest) (z ∷ behind)))
+  -- a block that ends with e, and what follows it
+  behind_block : (x e : L) (xs inner rest : List L) (b : Bool) (blocks : List Bool) (r : Split b blocks rest) (body : Parts L) →
+      xs ≡ inner ++ (e ∷ rest) → length rest < length xs → flat body ≡ x ∷ (inner ++ (e ∷ flat r.body)) → IsWell shape body →
+      Split b blocks (x ∷ xs)
+  behind_block x e xs inner rest b blocks r body is lt made well = record {
+    body = body;
+    well = well;
+    closing = r.closing;
+    rest = r.rest;
+    is = ap (λ (ls : List L). x ∷ ls) (is ∙ ap (λ (ls : List L). inner ++ (e ∷ ls)) r.is
+        ∙ sym (append_assoc inner (e ∷ flat r.body) (r.closing ∷ r.rest)))
+        ∙ ap (λ (ls : List L). ls ++ (r.closing ∷ r.rest)) (sym made);
+    less = omega (arith, lt, r.less);
+    closes = r.closes;
+  }
 
   split_one : (n : ℕ) → Splits n → (x : L) (xs : List L) → length xs ≤ n → (b : Bool) (blocks : List Bool) (w : Shape) → shape x ≡ w →
       IsNested (b ∷ blocks) (w ∷ shapes xs) → Split b blocks (x ∷ xs)
@@ -73,16 +84,8 @@ module _ {L : Type 0} (shape : L → Shape) where
       ⊎_elim
       (λ c.
       let r = ih s.rest (omega (arith, s.less)) b blocks c.1 in
-      record {
-        body = Repeats x s.closing s.body r.body;
-        well = (is, c.0, s.well, r.well);
-        closing = r.closing;
-        rest = r.rest;
-        is = ap (λ (ls : List L). x ∷ ls) (s.is ∙ ap (λ (ls : List L). flat s.body ++ (s.closing ∷ ls)) r.is)
-            ∙ block_is x s.closing r.closing (flat s.body) (flat r.body) r.rest;
-        less = omega (arith, s.less, r.less);
-        closes = r.closes;
-      })
+      behind_block x s.closing xs (flat s.body) s.rest b blocks r (Repeats x s.closing s.body r.body) s.is s.less refl
+      (is, c.0, s.well, r.well))
       (λ c. absurd (differ c.1))
       s.closes
   split_one n ih x xs le b blocks Branch is h =
@@ -90,33 +93,20 @@ module _ {L : Type 0} (shape : L → Shape) where
       ⊎_elim
       (λ c.
       let r = ih s.rest (omega (arith, s.less)) b blocks c.1 in
-      record {
-        body = Chooses x s.closing s.body r.body;
-        well = (is, c.0, s.well, r.well);
-        closing = r.closing;
-        rest = r.rest;
-        is = ap (λ (ls : List L). x ∷ ls) (s.is ∙ ap (λ (ls : List L). flat s.body ++ (s.closing ∷ ls)) r.is)
-            ∙ block_is x s.closing r.closing (flat s.body) (flat r.body) r.rest;
-        less = omega (arith, s.less, r.less);
-        closes = r.closes;
-      })
+      behind_block x s.closing xs (flat s.body) s.rest b blocks r (Chooses x s.closing s.body r.body) s.is s.less refl
+      (is, c.0, s.well, r.well))
       (λ c.
       let o = ih s.rest (omega (arith, s.less)) false (b ∷ blocks) c.2 in
       ⊎_elim
       (λ k.
       let r = ih o.rest (omega (arith, s.less, o.less)) b blocks k.1 in
-      record {
-        body = ChoosesElse x s.closing o.closing s.body o.body r.body;
-        well = (is, c.0, k.0, s.well, o.well, r.well);
-        closing = r.closing;
-        rest = r.rest;
-        is = ap (λ (ls : List L). x ∷ ls) (s.is ∙ ap (λ (ls : List L). flat s.body ++ (s.closing ∷ ls))
-            (o.is ∙ ap (λ (ls : List L). flat o.body ++ (o.closing ∷ ls)) r.is
-            ∙ sym (append_assoc (flat o.body) (o.closing ∷ flat r.body) (r.closing ∷ r.rest))))
-            ∙ block_is x s.closing r.closing (flat s.body) (flat o.body ++ (o.closing ∷ flat r.body)) r.rest;
-        less = omega (arith, s.less, o.less, r.less);
-        closes = r.closes;
-      })
+      behind_block x o.closing xs (flat s.body ++ (s.closing ∷ flat o.body)) o.rest b blocks r
+      (ChoosesElse x s.closing o.closing s.body o.body r.body)
+      (s.is ∙ ap (λ (ls : List L). flat s.body ++ (s.closing ∷ ls)) o.is
+      ∙ sym (append_assoc (flat s.body) (s.closing ∷ flat o.body) (o.closing ∷ o.rest)))
+      (omega (arith, s.less, o.less))
+      (ap (λ (ls : List L). x ∷ ls) (sym (append_assoc (flat s.body) (s.closing ∷ flat o.body) (o.closing ∷ flat r.body))))
+      (is, c.0, k.0, s.well, o.well, r.well))
       (λ k. absurd (differ k.1))
       o.closes)
       s.closes
