@@ -11,7 +11,7 @@ use Rattle.cord_meaning.specs.inner.Simulation.{Agree, IsControl, Simulates}
 use Rattle.cord_plan.specs.Planned.{Operation, operation}
 use Rattle.cord_plan.specs.Meaning.{Holding, does, operation_shape, operation_line, plan_rules, start_holding}
 use Rattle.cord_plan.specs.Conditions.{Decisions, MeetsConditions, decided, decided_from}
-use Rattle.cord_plan.proofs.Controls.{same_shape, same_line, same_count, same_holds}
+use Rattle.cord_plan.proofs.Controls.{all_alike}
 use Rattle.cord_plan.proofs.Invariant.{moves}
 use Rattle.cord_plan.proofs.Decided.{Related, agrees}
 
@@ -40,11 +40,11 @@ module _ (d : Decisions) where
 
   decided_shapes : (p : ℕ) (s : List Statement) → map shape_of s ≡ map operation_shape (decided_from d p s)
   decided_shapes p [] = refl
-  decided_shapes p (l ∷ s) = λ i. sym (same_shape l (d.exprs p) (d.dead p) (d.paired p)) i ∷ decided_shapes (p + 1) s i
+  decided_shapes p (l ∷ s) = λ i. sym (all_alike l (d.exprs p) (d.dead p) (d.paired p)).shape i ∷ decided_shapes (p + 1) s i
 
   decided_lines : (p : ℕ) (s : List Statement) → map line_of s ≡ map operation_line (decided_from d p s)
   decided_lines p [] = refl
-  decided_lines p (l ∷ s) = λ i. sym (same_line l (d.exprs p) (d.dead p) (d.paired p)) i ∷ decided_lines (p + 1) s i
+  decided_lines p (l ∷ s) = λ i. sym (all_alike l (d.exprs p) (d.dead p) (d.paired p)).line i ∷ decided_lines (p + 1) s i
 
 module _ (s : List Statement) (d : Decisions) (ok : MeetsConditions s d) (limit : ℕ) (files : Folder) where
   abbrev Beside : ℕ → State → Option Holding → Type 0
@@ -54,13 +54,13 @@ module _ (s : List Statement) (d : Decisions) (ok : MeetsConditions s d) (limit 
       (f : State) (t : Option Holding) → Beside p f t → (rules limit files).count l f ≡ (plan_rules limit files).count o t
   counts p l o e g f None inv = absurd inv
   counts p l o e g f (Some h) inv = subst (λ (w : Operation). (rules limit files).count l f ≡ (plan_rules limit files).count w (Some h))
-      (at_place d s p l o e g) (same_count h f inv.numbers l (d.exprs p) (d.dead p) (d.paired p))
+      (at_place d s p l o e g) ((all_alike l (d.exprs p) (d.dead p) (d.paired p)).count h f inv.numbers)
 
   compare : (p : ℕ) (l : Statement) (o : Operation) → slice_get s p ≡ Some l → slice_get (decided d s) p ≡ Some o →
       (f : State) (t : Option Holding) → Beside p f t → (rules limit files).holds l f ≡ (plan_rules limit files).holds o t
   compare p l o e g f None inv = absurd inv
   compare p l o e g f (Some h) inv = subst (λ (w : Operation). (rules limit files).holds l f ≡ (plan_rules limit files).holds w (Some h))
-      (at_place d s p l o e g) (same_holds h f inv.numbers l (d.exprs p) (d.dead p) (d.paired p))
+      (at_place d s p l o e g) ((all_alike l (d.exprs p) (d.dead p) (d.paired p)).holds h f inv.numbers)
 
   passes : (p q : ℕ) (x : Shape) → slice_get (map shape_of s) p ≡ Some x → IsControl x → Next (map shape_of s) p q →
       (f : State) (t : Option Holding) → Beside p f t → Beside q f t

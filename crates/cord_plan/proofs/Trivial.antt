@@ -27,7 +27,7 @@ use Rattle.cord_plan.proofs.Keeps.{IsVerbatimButLen, Agrees}
 use Rattle.cord_plan.proofs.Evaluation.{gives_after, function_gives}
 use Rattle.cord_plan.proofs.Owns.{own_means, sets_within}
 use Rattle.cord_plan.proofs.Does.{built_agrees, put_agrees, len_agrees, kept_agrees}
-use Rattle.cord_plan.proofs.Controls.{same_shape, same_line, same_count, same_holds}
+use Rattle.cord_plan.proofs.Controls.{all_alike}
 
 -- what a plan holds where each name of a cord holds the script's text
 abbrev full : State → Holding
@@ -131,24 +131,24 @@ trivial_at (k ∷ s) (suc p) l o e f = trivial_at s p l o e f
 
 trivial_shapes : (s : List Statement) → map shape_of s ≡ map operation_shape (trivial s)
 trivial_shapes [] = refl
-trivial_shapes (l ∷ s) = λ i. sym (same_shape l (or_nothing (own l)) false false) i ∷ trivial_shapes s i
+trivial_shapes (l ∷ s) = λ i. sym (all_alike l (or_nothing (own l)) false false).shape i ∷ trivial_shapes s i
 
 trivial_lines : (s : List Statement) → map line_of s ≡ map operation_line (trivial s)
 trivial_lines [] = refl
-trivial_lines (l ∷ s) = λ i. sym (same_line l (or_nothing (own l)) false false) i ∷ trivial_lines s i
+trivial_lines (l ∷ s) = λ i. sym (all_alike l (or_nothing (own l)) false false).line i ∷ trivial_lines s i
 
 module _ (limit : ℕ) (files : Folder) (statements : List Statement) where
   counts : (p : ℕ) (l : Statement) (o : Operation) → slice_get statements p ≡ Some l → slice_get (trivial statements) p ≡ Some o →
       (s : State) (t : Option Holding) → Same p s t → (rules limit files).count l s ≡ (plan_rules limit files).count o t
   counts p l o e f s None same = absurd same
   counts p l o e f s (Some h) same = subst (λ (w : Operation). (rules limit files).count l s ≡ (plan_rules limit files).count w (Some h))
-      (trivial_at statements p l o e f) (same_count h s (ap (λ (k : Holding). k.numbers) same) l (or_nothing (own l)) false false)
+      (trivial_at statements p l o e f) ((all_alike l (or_nothing (own l)) false false).count h s (ap (λ (k : Holding). k.numbers) same))
 
   compare : (p : ℕ) (l : Statement) (o : Operation) → slice_get statements p ≡ Some l → slice_get (trivial statements) p ≡ Some o →
       (s : State) (t : Option Holding) → Same p s t → (rules limit files).holds l s ≡ (plan_rules limit files).holds o t
   compare p l o e f s None same = absurd same
   compare p l o e f s (Some h) same = subst (λ (w : Operation). (rules limit files).holds l s ≡ (plan_rules limit files).holds w (Some h))
-      (trivial_at statements p l o e f) (same_holds h s (ap (λ (k : Holding). k.numbers) same) l (or_nothing (own l)) false false)
+      (trivial_at statements p l o e f) ((all_alike l (or_nothing (own l)) false false).holds h s (ap (λ (k : Holding). k.numbers) same))
 
   acts : (p : ℕ) (l : Statement) (o : Operation) → slice_get statements p ≡ Some l → slice_get (trivial statements) p ≡ Some o →
       (s : State) (t : Option Holding) → Same p s t → Agree (Same (p + 1)) ((rules limit files).act p l s)
