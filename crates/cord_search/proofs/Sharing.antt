@@ -16,7 +16,7 @@ use Rattle.cord_search.specs.inner.Pieces.{AreSame, IsPieceOf}
 use Rattle.cord_search.specs.inner.Stretches.{BeginAlike, IsPartOf}
 use Rattle.cord_search.specs.declared.ahead.Spot.{Spot}
 use Rattle.cord_pos.specs.declared.stretch.Stretch.{Stretch}
-use Rattle.cord_search.proofs.Ranges.{cord_told, piece_within}
+use Rattle.cord_search.proofs.Ranges.{cord_told, front_within}
 
 -- what holds of a spot's node and place holds of the cord's
 pub on_cord : (c : Option Node) (place : ℕ) (s : Spot) (P : Option Node → ℕ → Type 0) → IsSpotOf c place s → P (Some s.node.now) s.place →
@@ -91,8 +91,7 @@ pub block_piece : (ls : Lengths) (t : Table) (c : Option Node) (place : ℕ) (s 
     CordFitsIn ls c → IsStretchOf c place s → 0 < stretch_len block → stretch_len block ≤ stretch_len s →
     IsFrontOf s (stretch_len block) block → length xs ≤ stretch_len block → IsPartOf t block 0 xs → IsPieceOf t c place xs
 block_piece ls t c place s block xs told f h some few first inside e =
-    piece_within ls t c place block 0 place xs told f (front_stretch c place s block (stretch_len block) some few h first)
-    (omega (arith, inside)) (omega arith) e
+    front_within ls t c place block xs told f (front_stretch c place s block (stretch_len block) some few h first) inside e
 
 -- the next bytes are the same too
 pub alike_on : (ls : Lengths) (t : Table) (x : Option Node) (i : ℕ) (y : Option Node) (j done n : ℕ) → HasLengths ls t → CordFitsIn ls x →

@@ -1,5 +1,5 @@
 use Rattle.std.proofs.Common.{arith}
-use Rattle.cord_search.proofs.Ranges.{piece_within}
+use Rattle.cord_search.proofs.Ranges.{front_within}
 use Rattle.cord_search.proofs.Moving.{set_valid}
 use Rattle.cord_search.proofs.pieces.gather.Goals as goal
 
@@ -18,6 +18,6 @@ returns-then-out-len-clause-text g c = λ folder kept.
     let t = g.S.Source.table c.args.src.now folder in
     let out = c.copy_front.new.out in
     let told = g.met.S.Source.lengths_of_table c.args.src.now folder (c.in_ok-copy_front.ensures.read.earlier folder kept) in
-    piece_within (g.S.Source.lengths c.args.src.now) t c.args.cord.now c.args.place c.cord_stretch_at-stretch.result 0 c.args.place out
-    told c.requires.fits c.cord_stretch_at-stretch.ensures (omega (arith, c.copy_front.auto.out, c.if-out-len.true, c.len.ensures))
-    (omega arith) (c.in_ok-copy_front.ensures.text folder kept)
+    front_within (g.S.Source.lengths c.args.src.now) t c.args.cord.now c.args.place c.cord_stretch_at-stretch.result out told
+    c.requires.fits c.cord_stretch_at-stretch.ensures (omega (arith, c.copy_front.auto.out, c.if-out-len.true, c.len.ensures))
+    (c.in_ok-copy_front.ensures.text folder kept)

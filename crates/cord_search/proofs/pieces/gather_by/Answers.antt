@@ -3,7 +3,7 @@ use Rattle.std.proofs.lemmas.List.{length-take-le}
 use Rattle.cord_pos.specs.Stretches.{IsStretchOf}
 use Rattle.cord_search.specs.inner.Pieces.{IsPieceOf}
 use Rattle.cord_search.proofs.Comparing.{cord_limit}
-use Rattle.cord_search.proofs.Ranges.{piece_within}
+use Rattle.cord_search.proofs.Ranges.{front_within}
 use Rattle.cord_search.proofs.Standing.{filled_on, filled_inside}
 use Rattle.cord_search.proofs.pieces.gather_by.Goals as goal
 
@@ -44,8 +44,8 @@ loop-done-preserved g c =
           let before = c.in_ok-copy_front.ensures.read.earlier folder kept in
           let told = g.met.S.Source.lengths_of_table c.args.src.now folder (c.loop-done.invariant.earlier folder before) in
           let text : IsPieceOf t c.args.position.now.cord (c.args.place + done) part =
-          piece_within lengths t c.args.position.now.cord (c.args.place + done) c.stretch_from-stretch.result 0 (c.args.place + done)
-          part told c.requires.fits stretch (omega (arith, long, c.min-count.ensures, c.len.ensures)) (omega arith)
+          front_within lengths t c.args.position.now.cord (c.args.place + done) c.stretch_from-stretch.result part told c.requires.fits
+          stretch (omega (arith, long, c.min-count.ensures, c.len.ensures))
           (rw c.loop-done.invariant.table at c.in_ok-copy_front.ensures.text folder kept) in
           filled_on t c.args.position.now.cord c.args.place done _ n c.loop-done.out part (c.loop-done.invariant.filled folder before) text
           long c.loop-done.invariant.in_range;

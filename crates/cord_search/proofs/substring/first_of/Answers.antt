@@ -2,7 +2,7 @@ use Rattle.std.proofs.Common.{◌≡◌, ℕ, ◌≤◌, List, length, refl, ap,
 use Rattle.cord_pos.specs.Stretches.{stretch_len, stretch_bytes}
 use Rattle.cord_pos.specs.declared.stretch.Stretch.{Stretch}
 use Rattle.cord_search.specs.inner.Pieces.{IsPieceOf}
-use Rattle.cord_search.proofs.Ranges.{cord_len, piece_within, whole_part}
+use Rattle.cord_search.proofs.Ranges.{cord_len, front_within, whole_part}
 use Rattle.cord_search.proofs.Standing.{window_none, window_some, stands_none, stands_start}
 use Rattle.cord_search.proofs.substring.first_of.Goals as goal
 
@@ -30,7 +30,7 @@ first_behind-requires-in-None-clause-none g c = λ folder kept.
     let long : length c.needle-head.result.now ≡ length head = ap (λ (ys : List ℕ). length ys) c.needle-head.ensures in
     let enough : length head ≤ length leaf = omega (arith, long, c.if-leaf-head.false) in
     let text : IsPieceOf t x start leaf =
-    piece_within lengths t x start s 0 start leaf told c.requires.fits c.cord_stretch_at.ensures (omega (arith, whole)) (omega arith)
+    front_within lengths t x start s leaf told c.requires.fits c.cord_stretch_at.ensures (omega (arith, whole))
     (whole_part t s leaf 0 (λ t. ap (λ (r : Stretch). stretch_bytes t r) c.in-Bytes.is) refl) in
     rw c.needle-head.ensures (window_none t x start start leaf head c.find.result c.in-None.is c.find.ensures enough text
     (stands_start t x head start))
@@ -47,7 +47,7 @@ returns-in-Some-clause-first g c = λ folder kept.
     let leaf = c.in-Bytes.leaf.now in
     let whole : stretch_len s ≡ length leaf = ap stretch_len c.in-Bytes.is in
     let text : IsPieceOf t x start leaf =
-    piece_within lengths t x start s 0 start leaf told c.requires.fits c.cord_stretch_at.ensures (omega (arith, whole)) (omega arith)
+    front_within lengths t x start s leaf told c.requires.fits c.cord_stretch_at.ensures (omega (arith, whole))
     (whole_part t s leaf 0 (λ t. ap (λ (r : Stretch). stretch_bytes t r) c.in-Bytes.is) refl) in
     window_some t x start start c.in-Some.found leaf head c.find.result c.in-Some.is c.requires.some c.find.ensures (omega arith) text
     (stands_start t x head start)
