@@ -27,39 +27,39 @@ chosen_form false v o f rest p q = q
 pub form_found : (w : List ℕ) → form_at (find_verb all_verbs w) ≡ form_of w
 unfolding form_of
 form_found w =
-    chosen_form (bytes_eq w (codes "let")) (verbs.Fixed (fixed_verbs.Origin origins.Let)) _ _ _ refl (
-    chosen_form (bytes_eq w (codes "put")) (verbs.Fixed fixed_verbs.Put) _ _ _ refl (
-    chosen_form (bytes_eq w (codes "file")) (verbs.Fixed (fixed_verbs.Origin origins.File)) _ _ _ refl (
-    chosen_form (bytes_eq w (codes "eager")) (verbs.Fixed (fixed_verbs.Origin origins.Eager)) _ _ _ refl (
-    chosen_form (bytes_eq w (codes "lazy")) (verbs.Fixed (fixed_verbs.Origin origins.Lazy)) _ _ _ refl (
-    chosen_form (bytes_eq w (codes "chars")) (verbs.Fixed (fixed_verbs.Composition compositions.Chars)) _ _ _ refl (
-    chosen_form (bytes_eq w (codes "nul")) (verbs.Fixed (fixed_verbs.Composition compositions.Nul)) _ _ _ refl (
-    chosen_form (bytes_eq w (codes "fn")) (verbs.Fixed (fixed_verbs.Origin origins.FromFn)) _ _ _ refl (
-    chosen_form (bytes_eq w (codes "cat")) (verbs.Fixed (fixed_verbs.Composition compositions.Cat)) _ _ _ refl (
-    chosen_form (bytes_eq w (codes "catn")) verbs.Catn _ _ _ refl (
-    chosen_form (bytes_eq w (codes "catc")) (verbs.Fixed (fixed_verbs.Composition compositions.Catc)) _ _ _ refl (
-    chosen_form (bytes_eq w (codes "substr")) (verbs.Fixed (fixed_verbs.Composition compositions.Substr)) _ _ _ refl (
-    chosen_form (bytes_eq w (codes "balance")) (verbs.Fixed (fixed_verbs.Derivation derivations.Balance)) _ _ _ refl (
-    chosen_form (bytes_eq w (codes "ectocord")) (verbs.Fixed (fixed_verbs.Derivation derivations.EcToCord)) _ _ _ refl (
-    chosen_form (bytes_eq w (codes "sprintf")) verbs.Sprintf _ _ _ refl (
-    chosen_form (bytes_eq w (codes "len")) (verbs.Fixed (fixed_verbs.Computation computations.Len)) _ _ _ refl (
-    chosen_form (bytes_eq w (codes "fetch")) (verbs.Fixed (fixed_verbs.Look looks.Fetch)) _ _ _ refl (
-    chosen_form (bytes_eq w (codes "cmp")) (verbs.Fixed (fixed_verbs.Look looks.Cmp)) _ _ _ refl (
-    chosen_form (bytes_eq w (codes "ncmp")) (verbs.Fixed (fixed_verbs.Look looks.Ncmp)) _ _ _ refl (
-    chosen_form (bytes_eq w (codes "str")) (verbs.Fixed (fixed_verbs.Search searches.Str)) _ _ _ refl (
-    chosen_form (bytes_eq w (codes "chr")) (verbs.Fixed (fixed_verbs.Search searches.Chr)) _ _ _ refl (
-    chosen_form (bytes_eq w (codes "rchr")) (verbs.Fixed (fixed_verbs.Search searches.Rchr)) _ _ _ refl (
-    chosen_form (bytes_eq w (codes "set")) (verbs.Fixed (fixed_verbs.Computation computations.Assign)) _ _ _ refl (
-    chosen_form (bytes_eq w (codes "add")) (verbs.Fixed (fixed_verbs.Computation computations.Add)) _ _ _ refl (
-    chosen_form (bytes_eq w (codes "sub")) (verbs.Fixed (fixed_verbs.Computation computations.Sub)) _ _ _ refl (
-    chosen_form (bytes_eq w (codes "ecinit")) (verbs.Fixed (fixed_verbs.Growth growths.EcInit)) _ _ _ refl (
-    chosen_form (bytes_eq w (codes "ecput")) (verbs.Fixed (fixed_verbs.Growth growths.EcPut)) _ _ _ refl (
-    chosen_form (bytes_eq w (codes "eccat")) (verbs.Fixed (fixed_verbs.Growth growths.EcCat)) _ _ _ refl (
-    chosen_form (bytes_eq w (codes "ecstr")) (verbs.Fixed (fixed_verbs.Growth growths.EcStr)) _ _ _ refl (
-    chosen_form (bytes_eq w (codes "repeat")) (verbs.Fixed (fixed_verbs.Control controls.Repeat)) _ _ _ refl (
-    chosen_form (bytes_eq w (codes "if")) (verbs.Fixed (fixed_verbs.Control controls.If)) _ _ _ refl (
-    chosen_form (bytes_eq w (codes "else")) (verbs.Fixed (fixed_verbs.Control controls.Else)) _ _ _ refl (
-    chosen_form (bytes_eq w (codes "end")) (verbs.Fixed (fixed_verbs.Control controls.End)) _ _ _ refl (
+    chosen_form (bytes_eq w (codes "let")) _ _ _ _ refl (
+    chosen_form (bytes_eq w (codes "put")) _ _ _ _ refl (
+    chosen_form (bytes_eq w (codes "file")) _ _ _ _ refl (
+    chosen_form (bytes_eq w (codes "eager")) _ _ _ _ refl (
+    chosen_form (bytes_eq w (codes "lazy")) _ _ _ _ refl (
+    chosen_form (bytes_eq w (codes "chars")) _ _ _ _ refl (
+    chosen_form (bytes_eq w (codes "nul")) _ _ _ _ refl (
+    chosen_form (bytes_eq w (codes "fn")) _ _ _ _ refl (
+    chosen_form (bytes_eq w (codes "cat")) _ _ _ _ refl (
+    chosen_form (bytes_eq w (codes "catn")) _ _ _ _ refl (
+    chosen_form (bytes_eq w (codes "catc")) _ _ _ _ refl (
+    chosen_form (bytes_eq w (codes "substr")) _ _ _ _ refl (
+    chosen_form (bytes_eq w (codes "balance")) _ _ _ _ refl (
+    chosen_form (bytes_eq w (codes "ectocord")) _ _ _ _ refl (
+    chosen_form (bytes_eq w (codes "sprintf")) _ _ _ _ refl (
+    chosen_form (bytes_eq w (codes "len")) _ _ _ _ refl (
+    chosen_form (bytes_eq w (codes "fetch")) _ _ _ _ refl (
+    chosen_form (bytes_eq w (codes "cmp")) _ _ _ _ refl (
+    chosen_form (bytes_eq w (codes "ncmp")) _ _ _ _ refl (
+    chosen_form (bytes_eq w (codes "str")) _ _ _ _ refl (
+    chosen_form (bytes_eq w (codes "chr")) _ _ _ _ refl (
+    chosen_form (bytes_eq w (codes "rchr")) _ _ _ _ refl (
+    chosen_form (bytes_eq w (codes "set")) _ _ _ _ refl (
+    chosen_form (bytes_eq w (codes "add")) _ _ _ _ refl (
+    chosen_form (bytes_eq w (codes "sub")) _ _ _ _ refl (
+    chosen_form (bytes_eq w (codes "ecinit")) _ _ _ _ refl (
+    chosen_form (bytes_eq w (codes "ecput")) _ _ _ _ refl (
+    chosen_form (bytes_eq w (codes "eccat")) _ _ _ _ refl (
+    chosen_form (bytes_eq w (codes "ecstr")) _ _ _ _ refl (
+    chosen_form (bytes_eq w (codes "repeat")) _ _ _ _ refl (
+    chosen_form (bytes_eq w (codes "if")) _ _ _ _ refl (
+    chosen_form (bytes_eq w (codes "else")) _ _ _ _ refl (
+    chosen_form (bytes_eq w (codes "end")) _ _ _ _ refl (
     refl)))))))))))))))))))))))))))))))))
 
 -- the form of a verb's word
