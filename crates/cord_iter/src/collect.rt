@@ -46,11 +46,11 @@ pub fn to_vec<S: Source>(alloc: Global, cord: &Cord, src: &mut S) -> Result<Vec<
         bytes: Vec::with_capacity(alloc, cord.len() as usize)?,
         failures: 0,
     };
-    match put(cord, src, &mut sink) {
-        Ok(()) => Ok(sink.bytes),
-        Err(CordError::WriteFailed) => Err(CordError::NoMemory),
-        Err(error) => Err(error),
-    }
+    put(cord, src, &mut sink).map_err(|error| match error {
+        CordError::WriteFailed => CordError::NoMemory,
+        other => other,
+    })?;
+    Ok(sink.bytes)
 }
 
 // A sink that collects what it takes in a vector: it fails where the vector is refused memory.
