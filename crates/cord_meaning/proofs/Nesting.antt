@@ -32,10 +32,10 @@ module _ {L : Type 0} (shape : L → Shape) where
   Splits n = (ls : List L) → length ls ≤ n → (b : Bool) (blocks : List Bool) → IsNested (b ∷ blocks) (shapes ls) → Split b blocks ls
 
   -- a block that ends with e, and what follows it
-  behind_block : (x e : L) (xs inner rest : List L) (b : Bool) (blocks : List Bool) (r : Split b blocks rest) (body : Parts L) →
+  after_block : (x e : L) (xs inner rest : List L) (b : Bool) (blocks : List Bool) (r : Split b blocks rest) (body : Parts L) →
       xs ≡ inner ++ (e ∷ rest) → length rest < length xs → flat body ≡ x ∷ (inner ++ (e ∷ flat r.body)) → IsWell shape body →
       Split b blocks (x ∷ xs)
-  behind_block x e xs inner rest b blocks r body is lt made well = record {
+  after_block x e xs inner rest b blocks r body is lt made well = record {
     body = body;
     well = well;
     closing = r.closing;
@@ -84,7 +84,7 @@ module _ {L : Type 0} (shape : L → Shape) where
       ⊎_elim
       (λ c.
       let r = ih s.rest (omega (arith, s.less)) b blocks c.1 in
-      behind_block x s.closing xs (flat s.body) s.rest b blocks r (Repeats x s.closing s.body r.body) s.is s.less refl
+      after_block x s.closing xs (flat s.body) s.rest b blocks r (Repeats x s.closing s.body r.body) s.is s.less refl
       (is, c.0, s.well, r.well))
       (λ c. absurd (differ c.1))
       s.closes
@@ -93,14 +93,14 @@ module _ {L : Type 0} (shape : L → Shape) where
       ⊎_elim
       (λ c.
       let r = ih s.rest (omega (arith, s.less)) b blocks c.1 in
-      behind_block x s.closing xs (flat s.body) s.rest b blocks r (Chooses x s.closing s.body r.body) s.is s.less refl
+      after_block x s.closing xs (flat s.body) s.rest b blocks r (Chooses x s.closing s.body r.body) s.is s.less refl
       (is, c.0, s.well, r.well))
       (λ c.
       let o = ih s.rest (omega (arith, s.less)) false (b ∷ blocks) c.2 in
       ⊎_elim
       (λ k.
       let r = ih o.rest (omega (arith, s.less, o.less)) b blocks k.1 in
-      behind_block x o.closing xs (flat s.body ++ (s.closing ∷ flat o.body)) o.rest b blocks r
+      after_block x o.closing xs (flat s.body ++ (s.closing ∷ flat o.body)) o.rest b blocks r
       (ChoosesElse x s.closing o.closing s.body o.body r.body)
       (s.is ∙ ap (λ (ls : List L). flat s.body ++ (s.closing ∷ ls)) o.is
       ∙ sym (append_assoc (flat s.body) (s.closing ∷ flat o.body) (o.closing ∷ o.rest)))

@@ -43,19 +43,20 @@ pub(crate) enum ControlStop {
     NoMemory(u32),
 }
 
-/// The stop where control can't go on.
-pub(crate) fn stop_of_control(stop: ControlStop) -> StopAt
-    ensures { result ≡ stop_of_control stop }
-{
-    match stop {
-        ControlStop::Fault(line, kind) => StopAt {
-            line,
-            reason: Stop::Fault(kind),
-        },
-        ControlStop::NoMemory(line) => StopAt {
-            line,
-            reason: Stop::NoMemory,
-        },
+impl From<ControlStop> for StopAt {
+    ghost from_gives = { λ stop stop_at. stop_at ≡ stop_of_control stop };
+
+    fn from(stop: ControlStop) -> StopAt {
+        match stop {
+            ControlStop::Fault(line, kind) => StopAt {
+                line,
+                reason: Stop::Fault(kind),
+            },
+            ControlStop::NoMemory(line) => StopAt {
+                line,
+                reason: Stop::NoMemory,
+            },
+        }
     }
 }
 

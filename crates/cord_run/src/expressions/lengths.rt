@@ -45,10 +45,10 @@ fn length_of_members(members: &Members, store: &Store) -> Result<u64, FaultKind>
     let (front, rest) = members.halves();
     match front {
         None => length_after(0, rest, store),
-        Some(front) => match length_of_members(front, store) {
-            Ok(total) => length_after(total, rest, store),
-            Err(kind) => Err(kind),
-        },
+        Some(front) => {
+            let total = length_of_members(front, store)?;
+            length_after(total, rest, store)
+        }
     }
 }
 
@@ -67,10 +67,10 @@ fn length_after(before: u64, members: &[Rc<Expr>], store: &Store) -> Result<u64,
                 total = total.saturating_add(known.len);
                 last = Some(known);
             }
-            _ => match length_of(expression, store) {
-                Ok(len) => total = total.saturating_add(len),
-                Err(kind) => return Err(kind),
-            },
+            _ => {
+                let len = length_of(expression, store)?;
+                total = total.saturating_add(len);
+            }
         }
     }
     Ok(total)

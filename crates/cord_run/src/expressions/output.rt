@@ -54,10 +54,7 @@ pub(crate) fn write<R: Source, S: Sink>(
     match put_short(expression, range, store, sink) {
         Some(put) => put,
         None => {
-            let pieces = match pieces_of(alloc, expression, store) {
-                Ok(pieces) => pieces,
-                Err(stop) => return Err(stop),
-            };
+            let pieces = pieces_of(alloc, expression, store)?;
             match put_pieces(&pieces, source, sink) {
                 Ok(()) => Ok(()),
                 Err(error) => Err(stop_of_failure(error)),
@@ -151,10 +148,7 @@ fn put_pieces<R: Source, S: Sink>(
     ensures source { IsSameSource ⟦<R as Source>⟧ source.old source.new }
 {
     for piece in pieces {
-        match cord_iter::put(piece, source, sink) {
-            Ok(()) => {}
-            Err(error) => return Err(error),
-        }
+        cord_iter::put(piece, source, sink)?;
     }
     Ok(())
 }

@@ -40,12 +40,10 @@ pub(crate) fn assign_found(
         MeansOver t statement.now store.old.entries.items store.new.entries.items result }
     ensures counts { (before after : ℕ) → CountsFinding before after number → CountsReads before after result }
 {
-    match number {
-        Err(stop) => Err(stop),
-        Ok(number) => match statement.target() {
-            None => Ok(()),
-            Some(target) => give_number(alloc, store, target, number),
-        },
+    let number = number?;
+    match statement.target() {
+        None => Ok(()),
+        Some(target) => give_number(alloc, store, target, number),
     }
 }
 
@@ -63,13 +61,9 @@ pub(crate) fn assign_at(
     ensures counts { (before after : ℕ) → CountsFinding before after number → CountsReads before after result }
 {
     let _ = statement;
-    match number {
-        Err(stop) => Err(stop),
-        Ok(number) => {
-            store.set_number_at(place as usize, number);
-            Ok(())
-        }
-    }
+    let number = number?;
+    store.set_number_at(place as usize, number);
+    Ok(())
 }
 
 /// Does what a statement means that computes a number.

@@ -12,8 +12,9 @@ use Rattle.cord_run.specs.inner.Entries.{length_in}
 use Rattle.cord_run.specs.inner.Extents.{counted, extent_in, members_extent, members_seen}
 use Rattle.cord_run.proofs.Fronts.{all_counted}
 use Rattle.cord_run.proofs.Members.{weight, weights, member_counted, member_smaller, member_faulty, resolve_all, counted_length}
+use Rattle.cord_run.proofs.Refusals.{handed_on}
 use Rattle.cord_run.proofs.expressions.lengths.+length_of.Goals as goal
-use Rattle.cord_run.proofs.expressions.lengths.+length_of.Goals.{length_after-in-Name, length_after-in_default+in-Ok}
+use Rattle.cord_run.proofs.expressions.lengths.+length_of.Goals.{length_after-in-Name, length_after-in_default+in_ok-len-in_default}
 
 pub length_of-returns-in_ok-total-in-Cat : goal.length_of-returns-in_ok-total-in-Cat
 length_of-returns-in_ok-total-in-Cat t c =
@@ -54,24 +55,26 @@ length_after-loop-member-preserved t c =
             known = subst (λ (last : Option Named). IfSome last (λ known. known.len ≡ length_in entries known.name.now)) (sym w.last-is)
                 w.with_length-known.ensures.known;
           }
-      | length_after-in_default+in-Ok w ↦
+      | length_after-in_default+in_ok-len-in_default w ↦
           record {
             extent = c.loop-member.invariant.extent
-                ∙ member_counted entries ms i c.member-item.result c.loop-member-test.true c.member-item.is c.loop-member.total w.in-Ok.len
-                (seen ∙ sym w.in-Ok.ensures)
-                ∙ ap (λ (n : ℕ). counted n left) (sym (w.total-is ∙ w.saturating_add-total-in-Ok.ensures));
+                ∙ member_counted entries ms i c.member-item.result c.loop-member-test.true c.member-item.is c.loop-member.total
+                w.in_ok-len-in_default.len (seen ∙ sym w.in_ok-len-in_default.ensures)
+                ∙ ap (λ (n : ℕ). counted n left) (sym (w.total-is ∙ w.saturating_add-total-in_default.ensures));
             small = search rules;
             known = subst (λ (last : Option Named). IfSome last (λ known. known.len ≡ length_in entries known.name.now)) (sym w.last-is)
                 c.loop-member.invariant.known;
           }
     ]
 
-pub length_after-returns-in-Err : goal.length_after-returns-in-Err
-length_after-returns-in-Err t c =
+pub length_after-returns-in_err-len-in_default : goal.length_after-returns-in_err-len-in_default
+length_after-returns-in_err-len-in_default t c =
+    let fault = c.in_err-len-in_default.field-0.0 in
     sym (c.loop-member.invariant.extent ∙ member_faulty c.args.store.now.entries.items c.args.members.now c.loop-member.member-index
-    c.member-item.result c.loop-member-test.true c.member-item.is c.loop-member.total c.in-Err.kind
+    c.member-item.result c.loop-member-test.true c.member-item.is c.loop-member.total fault
     (ap (λ (e : Expr). extent_in c.args.store.now.entries.items (expr_view e)) (sym c.as_ref-expression.ensures)
-    ∙ sym c.in-Err.ensures))
+    ∙ sym c.in_err-len-in_default.ensures)
+    ∙ handed_on fault c.from_residual.result c.from_residual.ensures.1)
 
 pub length_after-returns : goal.length_after-returns
 length_after-returns t c =
@@ -85,29 +88,32 @@ length_of_members-length_of_members-requires t c =
     c.halves.ensures.after c.in-Some.front c.in-Some.is in
     search (rules, below)
 
-pub length_of_members-length_after-requires-in-Ok : goal.length_of_members-length_after-requires-in-Ok
-length_of_members-length_after-requires-in-Ok t c =
+pub length_of_members-length_after-requires-in-Some : goal.length_of_members-length_after-requires-in-Some
+length_of_members-length_after-requires-in-Some t c =
     let below : weights (members_seen c.halves.result.1.now) < weights (members_view c.args.members.now) + 1 =
     rest_falls (members_view c.args.members.now) c.halves.result.0 c.halves.result.1.now c.halves.ensures.members in
     search (rules, below)
 
-pub length_of_members-returns-in-Ok : goal.length_of_members-returns-in-Ok
-length_of_members-returns-in-Ok t c =
+pub length_of_members-returns-in_ok-total-in-Some : goal.length_of_members-returns-in_ok-total-in-Some
+length_of_members-returns-in_ok-total-in-Some t c =
     let entries = c.args.store.now.entries.items in
     let front = members_view c.in-Some.front.now in
     let rest = members_seen c.halves.result.1.now in
     let whole = halves_Some (members_view c.args.members.now) c.halves.result.0 c.halves.result.1.now c.halves.ensures.members
     c.in-Some.front c.in-Some.is in
-    c.length_after-in-Ok.ensures
+    c.length_after-in-Some.ensures
     ∙ sym (ap (λ (es : plain.Exprs). counted 0 (members_extent entries es)) whole ∙ all_counted entries front rest
-    ∙ ap (λ (r : Result ℕ FaultKind). and_then r (λ total. counted total (members_extent entries rest))) (sym c.in-Ok.ensures))
+    ∙ ap (λ (r : Result ℕ FaultKind). and_then r (λ total. counted total (members_extent entries rest)))
+    (sym c.in_ok-total-in-Some.ensures))
 
-pub length_of_members-returns-in-Err : goal.length_of_members-returns-in-Err
-length_of_members-returns-in-Err t c =
+pub length_of_members-returns-in_err-total-in-Some : goal.length_of_members-returns-in_err-total-in-Some
+length_of_members-returns-in_err-total-in-Some t c =
     let entries = c.args.store.now.entries.items in
     let front = members_view c.in-Some.front.now in
     let rest = members_seen c.halves.result.1.now in
     let whole = halves_Some (members_view c.args.members.now) c.halves.result.0 c.halves.result.1.now c.halves.ensures.members
     c.in-Some.front c.in-Some.is in
     sym (ap (λ (es : plain.Exprs). counted 0 (members_extent entries es)) whole ∙ all_counted entries front rest
-    ∙ ap (λ (r : Result ℕ FaultKind). and_then r (λ total. counted total (members_extent entries rest))) (sym c.in-Err.ensures))
+    ∙ ap (λ (r : Result ℕ FaultKind). and_then r (λ total. counted total (members_extent entries rest)))
+    (sym c.in_err-total-in-Some.ensures)
+    ∙ handed_on c.in_err-total-in-Some.field-0.0 c.from_residual.result c.from_residual.ensures.1)

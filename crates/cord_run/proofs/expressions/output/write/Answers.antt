@@ -1,4 +1,4 @@
-use Rattle.std.proofs.Common.{◌≡◌, ◌++◌, ℕ, List, Err, sym, ap, subst, refl, ◌∙◌}
+use Rattle.std.proofs.Common.{◌≡◌, ◌++◌, ℕ, List, Err, Result, sym, ap, subst, refl, ◌∙◌}
 use Rattle.std.specs.Prelude.{Option}
 use Rattle.cord_io.specs.declared.TheConstants.{MAX_LEN}
 use Rattle.cord_node.specs.declared.Node.{Node}
@@ -11,6 +11,7 @@ use Rattle.cord_run.specs.inner.Holdings.{plain_of}
 use Rattle.cord_run.specs.inner.Output.{Wrote, CountsStops}
 use Rattle.cord_run.proofs.Output.{short_counts, short_finished, short_wrote, stop_counts, unbuilt_counts, wrote_nothing, wrote_part}
 use Rattle.cord_run.proofs.Output.{wrote_whole}
+use Rattle.cord_run.proofs.Refusals.{handed_on}
 use Rattle.cord_run.proofs.expressions.output.write.Goals as goal
 
 pub returns-in-Some : goal.returns-in-Some
@@ -28,66 +29,75 @@ returns-in-Some g c =
       source = (refl, refl, λ folder agrees. agrees);
     }
 
-pub returns-in-Err-clause-wrote : goal.returns-in-Err-clause-wrote
-returns-in-Err-clause-wrote g c = λ folder agrees there.
-    wrote_nothing c.args.store.now.entries.items (expr_view c.args.expression.now) (g.R.Source.lengths c.args.source.now) c.requires.over
-    (g.S.Sink.taken c.args.sink.now) (g.S.Sink.taken c.put_short.new.sink) (g.R.Source.table c.args.source.now folder)
-    (g.met.R.Source.lengths_of_table c.args.source.now folder agrees) there c.in-Err.stop c.in-Err.ensures.refused
-    (ap g.S.Sink.taken c.in-None.ensures.left)
+pub returns-in_err-pieces-in-None-clause-wrote : goal.returns-in_err-pieces-in-None-clause-wrote
+returns-in_err-pieces-in-None-clause-wrote g c = λ folder agrees there.
+    let t = g.R.Source.table c.args.source.now folder in
+    let a = g.S.Sink.taken c.args.sink.now in
+    let b = g.S.Sink.taken c.put_short.new.sink in
+    subst (λ (r : Result (Unit {0}) Stop). Wrote (text_in MAX_LEN (plain_of t c.args.store.now.entries.items)
+    (expr_view c.args.expression.now)) a b r)
+    (handed_on c.in_err-pieces-in-None.field-0.0 c.from_residual.result c.from_residual.ensures.1)
+    (wrote_nothing c.args.store.now.entries.items (expr_view c.args.expression.now) (g.R.Source.lengths c.args.source.now) c.requires.over
+    a b t (g.met.R.Source.lengths_of_table c.args.source.now folder agrees) there c.in_err-pieces-in-None.field-0.0
+    c.in_err-pieces-in-None.ensures.refused (ap g.S.Sink.taken c.in-None.ensures.left))
 
-pub returns-in-Err-clause-counts : goal.returns-in-Err-clause-counts
-returns-in-Err-clause-counts g c =
+pub returns-in_err-pieces-in-None-clause-counts : goal.returns-in_err-pieces-in-None-clause-counts
+returns-in_err-pieces-in-None-clause-counts g c =
     let source = g.R.Source.failures c.args.source.now in
     let n : Counts = record { source = source; sink = g.S.Sink.failures c.args.sink.now } in
     let m : Counts = record { source = source; sink = g.S.Sink.failures c.put_short.new.sink } in
-    unbuilt_counts c.args.store.now.entries.items (expr_view c.args.expression.now) c.in-Err.stop n m c.in-Err.ensures.refused refl
-    (ap g.S.Sink.failures c.in-None.ensures.left)
+    subst (λ (r : Result (Unit {0}) Stop). CountsStops n m r)
+    (handed_on c.in_err-pieces-in-None.field-0.0 c.from_residual.result c.from_residual.ensures.1)
+    (unbuilt_counts c.args.store.now.entries.items (expr_view c.args.expression.now) c.in_err-pieces-in-None.field-0.0 n m
+    c.in_err-pieces-in-None.ensures.refused refl (ap g.S.Sink.failures c.in-None.ensures.left))
 
-pub returns-in-Err-clause-finished : goal.returns-in-Err-clause-finished
-returns-in-Err-clause-finished g c = ap g.S.Sink.finished c.in-None.ensures.left
+pub returns-in_err-pieces-in-None-clause-finished : goal.returns-in_err-pieces-in-None-clause-finished
+returns-in_err-pieces-in-None-clause-finished g c = ap g.S.Sink.finished c.in-None.ensures.left
 
-pub returns-in-Ok-put_pieces-clause-wrote : goal.returns-in-Ok-put_pieces-clause-wrote
-returns-in-Ok-put_pieces-clause-wrote g c = λ folder agrees there.
+pub returns-in-Ok-clause-wrote : goal.returns-in-Ok-clause-wrote
+returns-in-Ok-clause-wrote g c = λ folder agrees there.
     let t = g.R.Source.table c.args.source.now folder in
     let a = g.S.Sink.taken c.args.sink.now in
     let b = g.S.Sink.taken c.put_pieces.new.sink in
+    let pieces = c.in_ok-pieces-in-None.pieces.items in
     let same = ap g.S.Sink.taken c.in-None.ensures.left in
     wrote_whole c.args.store.now.entries.items (expr_view c.args.expression.now) (g.R.Source.lengths c.args.source.now) c.requires.over a b
-    t (g.met.R.Source.lengths_of_table c.args.source.now folder (c.in-Ok-put_pieces.ensures.source.2 folder agrees)) there
-    c.in-Ok.pieces.items c.in-Ok.ensures.whole (subst (λ (x : List ℕ). b ≡ x ++ all_bytes t c.in-Ok.pieces.items) same
+    t (g.met.R.Source.lengths_of_table c.args.source.now folder (c.in-Ok.ensures.source.2 folder agrees)) there
+    pieces c.in_ok-pieces-in-None.ensures.whole (subst (λ (x : List ℕ). b ≡ x ++ all_bytes t pieces) same
     (subst (λ (ps : List (Option Node)). b ≡ g.S.Sink.taken c.put_short.new.sink ++ all_bytes t ps) c.deref.ensures.value
-    (c.in-Ok-put_pieces.ensures.puts folder agrees)))
+    (c.in-Ok.ensures.puts folder agrees)))
 
-pub returns-in-Ok-put_pieces-clause-counts : goal.returns-in-Ok-put_pieces-clause-counts
-returns-in-Ok-put_pieces-clause-counts g c =
-    let faults = c.in-Ok-put_pieces.ensures.faults in
+pub returns-in-Ok-clause-counts : goal.returns-in-Ok-clause-counts
+returns-in-Ok-clause-counts g c =
+    let faults = c.in-Ok.ensures.faults in
     (faults.0, faults.1 ∙ ap g.S.Sink.failures c.in-None.ensures.left)
 
-pub returns-in-Ok-put_pieces-clause-finished : goal.returns-in-Ok-put_pieces-clause-finished
-returns-in-Ok-put_pieces-clause-finished g c = c.in-Ok-put_pieces.ensures.finished ∙ ap g.S.Sink.finished c.in-None.ensures.left
+pub returns-in-Ok-clause-finished : goal.returns-in-Ok-clause-finished
+returns-in-Ok-clause-finished g c = c.in-Ok.ensures.finished ∙ ap g.S.Sink.finished c.in-None.ensures.left
 
 pub returns-clause-wrote : goal.returns-clause-wrote
 returns-clause-wrote g c = λ folder agrees there.
     let t = g.R.Source.table c.args.source.now folder in
     let a = g.S.Sink.taken c.args.sink.now in
     let b = g.S.Sink.taken c.put_pieces.new.sink in
+    let pieces = c.in_ok-pieces-in-None.pieces.items in
     let same = ap g.S.Sink.taken c.in-None.ensures.left in
     subst (λ (stop : Stop). Wrote (text_in MAX_LEN (plain_of t c.args.store.now.entries.items) (expr_view c.args.expression.now)) a b
     (Err stop)) (sym c.stop_of_failure.ensures)
     (wrote_part c.args.store.now.entries.items (expr_view c.args.expression.now) (g.R.Source.lengths c.args.source.now) c.requires.over a b
-    t (g.met.R.Source.lengths_of_table c.args.source.now folder (c.in-Err-put_pieces.ensures.source.2 folder agrees)) there
-    c.in-Ok.pieces.items c.in-Err-put_pieces.error c.in-Ok.ensures.whole
-    (subst (λ (x : List ℕ). Takes (IsFrontOf (all_bytes t c.in-Ok.pieces.items)) x b) same
+    t (g.met.R.Source.lengths_of_table c.args.source.now folder (c.in-Err.ensures.source.2 folder agrees)) there
+    pieces c.in-Err.error c.in_ok-pieces-in-None.ensures.whole
+    (subst (λ (x : List ℕ). Takes (IsFrontOf (all_bytes t pieces)) x b) same
     (subst (λ (ps : List (Option Node)). Takes (IsFrontOf (all_bytes t ps)) (g.S.Sink.taken c.put_short.new.sink) b) c.deref.ensures.value
-    (c.in-Err-put_pieces.ensures.puts folder agrees))))
+    (c.in-Err.ensures.puts folder agrees))))
 
 pub returns-clause-counts : goal.returns-clause-counts
 returns-clause-counts g c =
     let n : Counts = record { source = g.R.Source.failures c.args.source.now; sink = g.S.Sink.failures c.args.sink.now } in
     let m : Counts = record { source = g.R.Source.failures c.put_pieces.new.source; sink = g.S.Sink.failures c.put_pieces.new.sink } in
     subst (λ (stop : Stop). CountsStops n m (Err stop)) (sym c.stop_of_failure.ensures)
-    (stop_counts c.in-Err-put_pieces.error n m (subst (λ (k : ℕ). CountsFaults {T = Unit {0}} (record { source = n.source; sink = k }) m
-    (Err c.in-Err-put_pieces.error)) (ap g.S.Sink.failures c.in-None.ensures.left) c.in-Err-put_pieces.ensures.faults))
+    (stop_counts c.in-Err.error n m (subst (λ (k : ℕ). CountsFaults {T = Unit {0}} (record { source = n.source; sink = k }) m
+    (Err c.in-Err.error)) (ap g.S.Sink.failures c.in-None.ensures.left) c.in-Err.ensures.faults))
 
 pub returns-clause-finished : goal.returns-clause-finished
-returns-clause-finished g c = c.in-Err-put_pieces.ensures.finished ∙ ap g.S.Sink.finished c.in-None.ensures.left
+returns-clause-finished g c = c.in-Err.ensures.finished ∙ ap g.S.Sink.finished c.in-None.ensures.left

@@ -6,17 +6,25 @@ use Rattle.cord_run.specs.declared.stops.Stop.{Stop}
 use Rattle.cord_run.specs.inner.Entries.{HasNumber}
 use Rattle.cord_run.specs.inner.Numbers.{CountsFinding, FindsOver}
 use Rattle.cord_run.proofs.NumberStatements.{assigns_none, kept_giving, none_counted, none_found, number_counted}
+use Rattle.cord_run.specs.inner.Outcomes.{CountsReads}
+use Rattle.cord_run.specs.inner.Statements.{MeansOver}
+use Rattle.cord_run.proofs.Refusals.{handed_on}
 use Rattle.cord_run.proofs.statements.numbers.assign_found.Goals as goal
 
-pub returns-in-Err-clause-means : goal.returns-in-Err-clause-means
-returns-in-Err-clause-means c = λ t found assigns.
+pub returns-in_err-number-clause-means : goal.returns-in_err-number-clause-means
+returns-in_err-number-clause-means c = λ t found assigns.
     let l = c.args.statement.now in
     let old = c.args.store.now.entries.items in
-    none_found l old old t c.in-Err.stop (subst (λ (r : Result ℤ Stop). FindsOver t l old r) c.in-Err.is found)
+    subst (λ (r : Result (Unit {0}) Stop). MeansOver t l old old r)
+    (handed_on c.in_err-number.field-0.0 c.from_residual.result c.from_residual.ensures.1)
+    (none_found l old old t c.in_err-number.field-0.0 (subst (λ (r : Result ℤ Stop). FindsOver t l old r) c.in_err-number.was found))
 
-pub returns-in-Err-clause-counts : goal.returns-in-Err-clause-counts
-returns-in-Err-clause-counts c = λ before after counts.
-    none_counted before after c.in-Err.stop (subst (λ (r : Result ℤ Stop). CountsFinding before after r) c.in-Err.is counts)
+pub returns-in_err-number-clause-counts : goal.returns-in_err-number-clause-counts
+returns-in_err-number-clause-counts c = λ before after counts.
+    subst (λ (r : Result (Unit {0}) Stop). CountsReads before after r)
+    (handed_on c.in_err-number.field-0.0 c.from_residual.result c.from_residual.ensures.1)
+    (none_counted before after c.in_err-number.field-0.0
+    (subst (λ (r : Result ℤ Stop). CountsFinding before after r) c.in_err-number.was counts))
 
 pub returns-in-None-clause-means : goal.returns-in-None-clause-means
 returns-in-None-clause-means c = λ t found assigns.
@@ -25,12 +33,12 @@ returns-in-None-clause-means c = λ t found assigns.
 
 pub returns-in-None-clause-counts : goal.returns-in-None-clause-counts
 returns-in-None-clause-counts c = λ before after counts.
-    subst (λ (r : Result ℤ Stop). CountsFinding before after r) c.in-Ok.is counts
+    subst (λ (r : Result ℤ Stop). CountsFinding before after r) c.in_ok-number.was counts
 
 pub returns-in-Some-clause-means : goal.returns-in-Some-clause-means
 returns-in-Some-clause-means c = λ t found assigns.
     let l = c.args.statement.now in
-    let z : ℤ = c.in-Ok.number in
+    let z : ℤ = c.in_ok-number.number in
     let fits : FitsSigned w64 z = search rules in
     let old = c.args.store.now.entries.items in
     let new = c.give_number.new.store.entries.items in
@@ -38,10 +46,11 @@ returns-in-Some-clause-means c = λ t found assigns.
     let named : target_of l ≡ Some target = search rules in
     let has = subst (λ (v : ℤ). IfOk c.give_number.result (λ _. HasNumber target v old new)) (to_z-of_z w64 z fits)
     c.give_number.ensures.has in
-    kept_giving l target z old new t c.give_number.result (subst (λ (r : Result ℤ Stop). FindsOver t l old r) c.in-Ok.is found) named has
+    kept_giving l target z old new t c.give_number.result
+    (subst (λ (r : Result ℤ Stop). FindsOver t l old r) c.in_ok-number.was found) named has
     c.give_number.ensures.refused
 
 pub returns-in-Some-clause-counts : goal.returns-in-Some-clause-counts
 returns-in-Some-clause-counts c = λ before after counts.
-    number_counted before after c.in-Ok.number c.give_number.result
-    (subst (λ (r : Result ℤ Stop). CountsFinding before after r) c.in-Ok.is counts) c.give_number.ensures.refused
+    number_counted before after c.in_ok-number.number c.give_number.result
+    (subst (λ (r : Result ℤ Stop). CountsFinding before after r) c.in_ok-number.was counts) c.give_number.ensures.refused
