@@ -1,5 +1,5 @@
 -- Chunks: what a text has in one part of its tree, of which none is empty.
-use Rattle.std.specs.Prelude.{◌≡◌, ◌+◌, ◌<◌, ℕ, List, [], ◌++◌, length, map, reverse, replicate, Option, MatchOption}
+use Rattle.std.specs.Prelude.{◌≡◌, ◌<◌, ℕ, List, [], ◌++◌, length, map, reverse, replicate, Option, MatchOption}
 use Rattle.std.specs.Prelude.{true}
 use Rattle.std.specs.List.{concat}
 use Rattle.std.specs.Iterator.Runs.{EachRunFrom}

@@ -1,6 +1,6 @@
 -- Texts of arguments, and refusals with their codes.
 use Rattle.std.specs.Prelude.{◌≡◌, ◌⊎◌, ℕ, ℤ, List, map}
-use Rattle.cord_printf.specs.PieceText.{PieceArgument, text}
+use Rattle.cord_printf.specs.PieceText.{PieceArgument}
 use Rattle.cord_c.specs.declared.argument.Argument.{Argument}
 use Rattle.cord_c.specs.declared.code.TheConstants.{TOO_LONG, NO_MEMORY, BAD_ARGUMENT}
 use Rattle.cord_c.specs.Prints.{IsLongPrint, IsNoPrint}
