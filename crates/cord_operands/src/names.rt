@@ -1,5 +1,5 @@
 // Names, texts and paths, as they stand in statements.
-ghost use Rattle.std.specs.Prelude.{◌≡◌, List, ℕ, IfOk};
+ghost use Rattle.std.specs.Prelude.{◌≡◌, List, ℕ, Some, false, All, IfOk, IfSome, IfNone, slice_get};
 ghost use Rattle.std.specs.Str.{bytes_eq};
 ghost use Rattle.std.specs.String.{string_bytes};
 ghost use Rattle.cord_operands.specs.Keys.{key_of};
@@ -10,11 +10,12 @@ use std::alloc::{AllocError, Global};
 use std::marker::Model;
 use std::rc::Rc;
 
-/// The bytes of a name, with their key.
+/// The bytes of a name, with their key, and where it may stand in a list of names: no more than a hint.
 #[derive(Drop)]
 struct Spelling {
     bytes: Vec<u8>,
     key: u64,
+    hint: u8,
     ghost keyed: { key ≡ key_of bytes.items },
 }
 
@@ -31,13 +32,14 @@ impl Model for Name {
 }
 
 impl Name {
-    /// The name of these bytes.
-    pub fn of(alloc: Global, bytes: &[u8]) -> Result<Self, AllocError>
+    /// The name of these bytes, with a hint of its place in lists of names. A wrong hint costs a search, and no more.
+    pub fn of(alloc: Global, bytes: &[u8], hint: u8) -> Result<Self, AllocError>
         ensures { IfOk result (λ name. name ≡ bytes.now) }
     {
         let spelling = Spelling {
             bytes: Vec::from_slice(alloc, bytes)?,
             key: key_of(bytes),
+            hint,
         };
         Ok(Name {
             spelling: Rc::new(alloc, spelling)?,
@@ -50,6 +52,12 @@ impl Name {
         ensures { result.now ≡ self.now }
     {
         self.spelling.as_ref().bytes.as_slice()
+    }
+
+    /// The place where the name may stand in a list of names: whoever looks there checks that it does.
+    #[inline(always)]
+    pub fn hint(&self) -> usize {
+        usize::from(self.spelling.as_ref().hint)
     }
 
     /// The key of the name, which was found when the name was made.
@@ -75,6 +83,34 @@ impl Name {
         ensures { result ≡ bytes_eq self.now other.now }
     {
         is_one(self.as_slice(), self.key(), other.as_slice(), other.key())
+    }
+
+    /// A place of the name in a list of names, its hint's where it stands there. O(1) there, else O(names).
+    #[inline(always)]
+    pub fn place_in(&self, names: &[Name]) -> Option<usize>
+        ensures some { IfSome result (λ place. slice_get names.now place ≡ Some self.now) }
+        ensures none { IfNone result (All (λ other. bytes_eq self.now other ≡ false) names.now) }
+    {
+        let hint = self.hint();
+        match names.get(hint) {
+            Some(known) if self.is(known) => Some(hint),
+            _ => self.searched_in(names),
+        }
+    }
+
+    // The same, where the hint misleads.
+    #[cold]
+    #[inline(never)]
+    fn searched_in(&self, names: &[Name]) -> Option<usize>
+        ensures some { IfSome result (λ place. slice_get names.now place ≡ Some self.now) }
+        ensures none { IfNone result (All (λ other. bytes_eq self.now other ≡ false) names.now) }
+    {
+        for (place, known) in names.iter().enumerate() {
+            if self.is(known) {
+                return Some(place);
+            }
+        }
+        None
     }
 }
 

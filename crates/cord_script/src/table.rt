@@ -82,6 +82,11 @@ impl Table {
         self.known.len()
     }
 
+    // The place of the next name, as a hint: of 256 names the last has the greatest hint.
+    fn next_hint(&self) -> u8 {
+        u8::try_from(self.known.len()).unwrap_or(u8::MAX)
+    }
+
     // The entry at a place, if it has the name, which has this key.
     fn at(&self, place: usize, key: u64, name: &[u8]) -> Option<&Known>
         requires { key ≡ key_of name.now }
@@ -153,7 +158,7 @@ impl Table {
         if !is_name(bytes) {
             return Err(RefusalKind::BadName);
         }
-        Ok((Name::of(alloc, bytes)?, None))
+        Ok((Name::of(alloc, bytes, self.next_hint())?, None))
     }
 
     /// The name of these bytes, which it shares with the table, where it is known and of this kind.

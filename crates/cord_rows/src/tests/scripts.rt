@@ -418,7 +418,7 @@ fn kinds_have_codes_and_texts(rt: HostRuntime) {
 }
 
 fn name_of(rt: &impl Abort, alloc: Global, text: &[u8]) -> Name {
-    Name::of(alloc, text).expect(rt, "no memory")
+    Name::of(alloc, text, 0).expect(rt, "no memory")
 }
 
 // That a name is `x`.
