@@ -12,16 +12,16 @@
  *     zc_free(&hello);
  *     zc_free(&both);
  *
- * Handles are owned one by one: never copy the struct, share the cord by zc_share. The handles of one call are
- * different ones: to join a cord with itself, share it first. A call changes the handles that it reads while it runs,
- * so they aren't const; they hold the same cord when it returns.
+ * Handles are owned one by one: a copy of the struct is the handle from then on, and the old one isn't used again. Share the
+ * cord by zc_share to have two. One handle may be given twice in a call, and as its result too: zc_cat(&x, &y, &x) appends.
+ * A call changes the handles that it reads while it runs, so they aren't const; they hold the same cord when it returns.
  *
  * Calls that make a cord write it to *out, a handle that was begun. What it held is freed; where the call gives another
  * code than ZC_OK, it holds what it held. A null pointer to a handle or to a result is answered by ZC_BAD_ARGUMENT, or
  * by what is said at the call; a null pointer to bytes is fine where their number is 0. Any other pointer to what isn't
- * there is the caller's fault, as is a handle that was copied.
+ * there is the caller's fault, as are two handles that own one cord.
  *
- * Use by one thread at a time: cords that have parts in common count them together, so they all stay on one thread.
+ * Every call is MT-Unsafe race:cord: cords that have parts in common count them together, so one thread at a time uses them.
  * Memory comes from malloc and realloc, and goes to free. No call ends the program where memory is refused. A handle that
  * owns a cord keeps its block of a few bytes for the next one; zc_free gives it back.
  *
@@ -32,17 +32,19 @@
 
 #include <stddef.h>
 #include <stdint.h>
-#ifndef _WIN32
-#include <errno.h>
-#include <fcntl.h>
-#include <string.h>
-#include <sys/stat.h>
-#include <unistd.h>
-#endif
 
 #ifdef __cplusplus
 extern "C" {
 #endif
+
+/* The version of this header. While the first number is 0, the second one changes where programs have to be compiled anew. */
+#define ZC_VERSION_MAJOR 0
+#define ZC_VERSION_MINOR 3
+#define ZC_VERSION_PATCH 0
+#define ZC_VERSION "0.3.0"
+
+/* The version of the library that was linked or loaded, as ZC_VERSION. */
+const char *zc_version(void);
 
 typedef struct zc_cord {
     void *tree; /* for the library alone; null for no bytes */
@@ -60,30 +62,19 @@ typedef struct zc_cord {
 
 /* The codes that calls give. */
 enum {
-    ZC_OK = 0,           /* done */
-    ZC_TOO_LONG = 1,     /* the text would be longer than ZC_MAX_LEN */
-    ZC_NO_MEMORY = 2,    /* memory was refused */
-    ZC_READ_FAILED = 3,  /* read failed */
-    ZC_WRITE_FAILED = 4, /* write failed */
-    ZC_BAD_ARGUMENT = 5, /* a null pointer, or a place that isn't there */
-    ZC_IN_FILE = 6,       /* the bytes lie in a file */
-    ZC_TOO_MANY_FILES = 7 /* 64 files are open */
+    ZC_OK = 0,             /* done */
+    ZC_TOO_LONG = 1,       /* the text would be longer than ZC_MAX_LEN */
+    ZC_NO_MEMORY = 2,      /* memory was refused */
+    ZC_READ_FAILED = 3,    /* read failed, and errno says how */
+    ZC_WRITE_FAILED = 4,   /* write failed, and errno says how */
+    ZC_BAD_ARGUMENT = 5,   /* a null pointer, or a place that isn't there */
+    ZC_IN_FILE = 6,        /* the bytes lie in a file */
+    ZC_TOO_MANY_FILES = 7, /* ZC_MOST_FILES are open */
+    ZC_WOULD_BLOCK = 8     /* the descriptor has no bytes now, or takes none */
 };
 
 /* A code in words. */
-static inline const char *zc_message(int code) {
-    switch (code) {
-    case ZC_OK: return "done";
-    case ZC_TOO_LONG: return "too long";
-    case ZC_NO_MEMORY: return "no memory";
-    case ZC_READ_FAILED: return "read failed";
-    case ZC_WRITE_FAILED: return "write failed";
-    case ZC_BAD_ARGUMENT: return "bad argument";
-    case ZC_IN_FILE: return "in a file";
-    case ZC_TOO_MANY_FILES: return "too many files";
-    default: return "unknown code";
-    }
-}
+const char *zc_message(int code);
 
 /* ---- making cords ---- */
 
@@ -338,262 +329,98 @@ void zc_lazy_free(zc_lazy *x);
 
 /* ---- files, by the descriptors of POSIX ---- */
 
-/* These are in C here, over the calls above: no proof speaks of them. */
-#ifndef _WIN32
+/* These calls, zc_version and zc_message are in C in the library, over the calls above: no proof speaks of them. A call of
+   the system that a signal interrupts is made again. */
 
-/* Writes so many bytes to the descriptor fd. ZC_WRITE_FAILED: then a prefix of them is written. */
-static inline int zc_write(const unsigned char *bytes, size_t count, int fd) {
-    size_t done = 0;
-    while (done < count) {
-        ssize_t more = write(fd, bytes + done, count - done);
-        if (more < 0 && errno == EINTR) continue;
-        if (more <= 0) return ZC_WRITE_FAILED;
-        done += (size_t)more;
-    }
-    return ZC_OK;
-}
+/* Writes all bytes of x to the descriptor fd. As zc_put_range, which says how many were written. */
+int zc_put(zc_cord *x, int fd);
 
-/* Writes all bytes of x to the descriptor fd. ZC_WRITE_FAILED: then a prefix of them is written. It takes no memory.
-   O(n), and O(d) for each 16,384 bytes. */
-static inline int zc_put(zc_cord *x, int fd) {
-    unsigned char bytes[16384];
-    size_t got = 0;
-    uint64_t start;
-    for (start = 0;; start += got) {
-        int code = zc_read(x, start, bytes, sizeof bytes, &got);
-        if (code != ZC_OK || got == 0) return code;
-        code = zc_write(bytes, got, fd);
-        if (code != ZC_OK) return code;
-    }
-}
+/* Writes the bytes of x from one place up to another to the descriptor fd, as many as there are, and their number to *done.
+   ZC_WRITE_FAILED, ZC_WOULD_BLOCK: then *done of them are written, and a call from the place from + *done on goes on. It
+   takes no memory. O(n), and O(d) for each 16,384 bytes. */
+int zc_put_range(zc_cord *x, uint64_t from, uint64_t to, int fd, uint64_t *done);
 
-/* The bytes that the descriptor fd gives, to its end. ZC_READ_FAILED, ZC_TOO_LONG, ZC_NO_MEMORY. As zc_ext_bytes of
-   them, up to 16,384 at a time. */
-static inline int zc_from_fd(int fd, zc_cord *out) {
-    unsigned char bytes[16384];
-    zc_ext all = ZC_EXT_EMPTY;
-    int code = ZC_OK;
-    while (code == ZC_OK) {
-        ssize_t count = read(fd, bytes, sizeof bytes);
-        if (count == 0) break;
-        if (count < 0 && errno == EINTR) continue;
-        code = count < 0 ? ZC_READ_FAILED : zc_ext_bytes(&all, bytes, (size_t)count);
-    }
-    if (code == ZC_OK) code = zc_ext_to_cord(&all, out);
-    zc_ext_free(&all);
-    return code;
-}
+/* The bytes that the descriptor fd gives, to its end. ZC_READ_FAILED, ZC_WOULD_BLOCK: then *out has the bytes that came
+   before. ZC_TOO_LONG, ZC_NO_MEMORY: *out stays, and what was read is gone. As zc_ext_bytes of them, up to 16,384 at a
+   time. */
+int zc_from_fd(int fd, zc_cord *out);
 
 /* The bytes of the file at path, a string that ends with 0, which is read to its end now and closed. ZC_READ_FAILED, also
    where it can't be opened; ZC_TOO_LONG, ZC_NO_MEMORY. As zc_from_fd. */
-static inline int zc_from_path(const char *path, zc_cord *out) {
-    int fd, code;
-    if (path == NULL || out == NULL) return ZC_BAD_ARGUMENT;
-    do fd = open(path, O_RDONLY);
-    while (fd < 0 && errno == EINTR);
-    if (fd < 0) return ZC_READ_FAILED;
-    code = zc_from_fd(fd, out);
-    close(fd);
-    return code;
-}
+int zc_from_path(const char *path, zc_cord *out);
 
-/* The files that lazy cords have parts in, at most 64. They have to keep their bytes while they are open: save to another
-   path, and rename. Begin with ZC_FILES_NONE or zeros, end with zc_files_free. A lazy cord is read over the zc_files that
-   its files were opened with; over others it has bytes of theirs, or ZC_READ_FAILED. */
+/* As many files can be open in a zc_files. */
+#define ZC_MOST_FILES 64
+
+/* The files that lazy cords have parts in. They have to keep their bytes while they are open: save to another path, and
+   rename. Each has a number, which no other file gets. A file is opened once, whatever paths lead to it, and no program
+   that is started inherits it. Begin with ZC_FILES_NONE or zeros, end with zc_files_free. A lazy cord is read over the
+   zc_files that its files were opened with; over others it has bytes of theirs, or ZC_READ_FAILED. */
 typedef struct zc_files {
-    int fds[64];
+    int fds[ZC_MOST_FILES]; /* for the library alone, as are all fields */
+    uint32_t numbers[ZC_MOST_FILES];
     uint32_t count;
+    uint32_t next;
 } zc_files;
 
-#define ZC_FILES_NONE {{0}, 0}
+#define ZC_FILES_NONE {{0}, {0}, 0, 0}
 
 /* What zc_lazy_by_length takes for a short file, in bytes. */
 #define ZC_SHORT_FILE 131072
 
-/* The bytes of the file at path, a string that ends with 0, of which nothing is read now; it stays open. ZC_READ_FAILED
-   where it can't be opened or isn't a file, ZC_TOO_MANY_FILES; ZC_TOO_LONG, ZC_NO_MEMORY. O(1). */
-static inline int zc_lazy_from_path(zc_files *files, const char *path, zc_lazy *out) {
-    struct stat told;
-    int fd, code = ZC_READ_FAILED;
-    if (files == NULL || path == NULL || out == NULL) return ZC_BAD_ARGUMENT;
-    if (files->count == 64) return ZC_TOO_MANY_FILES;
-    do fd = open(path, O_RDONLY);
-    while (fd < 0 && errno == EINTR);
-    if (fd < 0) return ZC_READ_FAILED;
-    if (fstat(fd, &told) == 0 && S_ISREG(told.st_mode))
-        code = zc_lazy_of_file(files->count, (uint64_t)told.st_size, out);
-    if (code == ZC_OK)
-        files->fds[files->count++] = fd;
-    else
-        close(fd);
-    return code;
-}
+/* Opens the file at path, a string that ends with 0, and writes its number to *file and its length in bytes to *length. One
+   that is open keeps its number. ZC_READ_FAILED where it can't be opened or isn't a regular file, ZC_TOO_MANY_FILES. It
+   takes no memory. */
+int zc_files_open(zc_files *files, const char *path, uint32_t *file, uint64_t *length);
+
+/* Closes the file of this number, if it is open: what lazy cords have of it gives ZC_READ_FAILED from now on. Null is
+   fine. */
+void zc_files_close(zc_files *files, uint32_t file);
+
+/* Closes all files; none is open then. Null is fine. */
+void zc_files_free(zc_files *files);
+
+/* The bytes of the file at path, of which nothing is read now; it stays open. As zc_files_open; ZC_TOO_LONG, ZC_NO_MEMORY:
+   then it isn't open, unless it was. O(1). */
+int zc_lazy_from_path(zc_files *files, const char *path, zc_lazy *out);
+
+/* As zc_lazy_from_path, but a file of at most ZC_SHORT_FILE bytes is read into memory now, and closed. O(n) of such a
+   file. */
+int zc_lazy_by_length(zc_files *files, const char *path, zc_lazy *out);
 
 /* Copies bytes of x from start on to bytes, as many as there are and at most count, and writes their number to *got:
-   0 at or past the end. ZC_READ_FAILED: then *got stays, and what bytes has is open. O(count), and O(d) for each part. */
-static inline int zc_lazy_read(zc_files *files, zc_lazy *x, uint64_t start, void *bytes, size_t count, size_t *got) {
-    unsigned char *to = (unsigned char *)bytes;
-    size_t done = 0, part = 0;
-    if (files == NULL || x == NULL || got == NULL) return ZC_BAD_ARGUMENT;
-    while (done < count) {
-        uint32_t file = 0;
-        uint64_t place = 0;
-        if (zc_lazy_part(x, start + done, to + done, count - done, &part, &file, &place) == ZC_IN_FILE) {
-            ssize_t more = -1;
-            errno = 0;
-            if (file < files->count && lseek(files->fds[file], (off_t)place, SEEK_SET) == (off_t)place)
-                more = read(files->fds[file], to + done, part);
-            if (more < 0 && errno == EINTR) continue;
-            if (more <= 0) return ZC_READ_FAILED;
-            part = (size_t)more;
-        }
-        if (part == 0) break;
-        done += part;
-    }
-    *got = done;
-    return ZC_OK;
-}
+   0 at or past the end. ZC_READ_FAILED: then *got stays, and what bytes has is open. It takes no memory, and moves no
+   offset of a descriptor. O(count), and O(d) for each part. */
+int zc_lazy_read(zc_files *files, zc_lazy *x, uint64_t start, void *bytes, size_t count, size_t *got);
 
-/* Writes all bytes of x to the descriptor fd. ZC_READ_FAILED, ZC_WRITE_FAILED: then a prefix of them is written. */
-static inline int zc_lazy_put(zc_files *files, zc_lazy *x, int fd) {
-    unsigned char bytes[16384];
-    size_t got = 0;
-    uint64_t start;
-    for (start = 0;; start += got) {
-        int code = zc_lazy_read(files, x, start, bytes, sizeof bytes, &got);
-        if (code == ZC_OK && got > 0) code = zc_write(bytes, got, fd);
-        if (code != ZC_OK || got == 0) return code;
-    }
-}
+/* Writes all bytes of x to the descriptor fd. As zc_lazy_put_range. */
+int zc_lazy_put(zc_files *files, zc_lazy *x, int fd);
+
+/* As zc_put_range, of a lazy cord. ZC_READ_FAILED too. */
+int zc_lazy_put_range(zc_files *files, zc_lazy *x, uint64_t from, uint64_t to, int fd, uint64_t *done);
+
+/* Writes the byte of x at place to *byte. ZC_BAD_ARGUMENT at or past the end, ZC_READ_FAILED: *byte stays. O(d). */
+int zc_lazy_fetch(zc_files *files, zc_lazy *x, uint64_t place, unsigned char *byte);
 
 /* Writes the first place of x from start on that has the byte to *place, or ZC_NOT_FOUND. ZC_READ_FAILED: *place stays.
    O(n). */
-static inline int zc_lazy_chr(zc_files *files, zc_lazy *x, uint64_t start, unsigned char byte, uint64_t *place) {
-    unsigned char bytes[16384], *found = NULL;
-    size_t got = 0;
-    if (place == NULL) return ZC_BAD_ARGUMENT;
-    for (; found == NULL; start += got) {
-        int code = zc_lazy_read(files, x, start, bytes, sizeof bytes, &got);
-        if (code != ZC_OK) return code;
-        if (got == 0) break;
-        found = (unsigned char *)memchr(bytes, byte, got);
-        if (found != NULL) got = (size_t)(found - bytes);
-    }
-    *place = found == NULL ? ZC_NOT_FOUND : start;
-    return ZC_OK;
-}
+int zc_lazy_chr(zc_files *files, zc_lazy *x, uint64_t start, unsigned char byte, uint64_t *place);
 
 /* Writes the last place of x before end that has the byte to *place, or ZC_NOT_FOUND. ZC_READ_FAILED: *place stays.
    O(n). */
-static inline int zc_lazy_rchr(zc_files *files, zc_lazy *x, uint64_t end, unsigned char byte, uint64_t *place) {
-    unsigned char bytes[16384];
-    uint64_t at = zc_lazy_len(x) < end ? zc_lazy_len(x) : end, from = at;
-    if (files == NULL || x == NULL || place == NULL) return ZC_BAD_ARGUMENT;
-    for (; at > 0; at--) {
-        if (at == from) {
-            size_t count = at < sizeof bytes ? (size_t)at : sizeof bytes;
-            int code = zc_lazy_read(files, x, at - count, bytes, count, &count);
-            if (code != ZC_OK) return code;
-            from = at - count;
-        }
-        if (bytes[at - 1 - from] == byte) break;
-    }
-    *place = at == 0 ? ZC_NOT_FOUND : at - 1;
-    return ZC_OK;
-}
+int zc_lazy_rchr(zc_files *files, zc_lazy *x, uint64_t end, unsigned char byte, uint64_t *place);
 
-/* Writes the byte of x at place to *byte. ZC_BAD_ARGUMENT at or past the end, ZC_READ_FAILED: *byte stays. O(d). */
-static inline int zc_lazy_fetch(zc_files *files, zc_lazy *x, uint64_t place, unsigned char *byte) {
-    unsigned char found = 0;
-    size_t got = 0;
-    int code = byte == NULL ? ZC_BAD_ARGUMENT : zc_lazy_read(files, x, place, &found, 1, &got);
-    if (code == ZC_OK && got == 0) code = ZC_BAD_ARGUMENT;
-    if (code == ZC_OK) *byte = found;
-    return code;
-}
+/* Writes the first place of x from start on where these bytes stand to *place, or ZC_NOT_FOUND. No bytes stand at each
+   place up to the end. ZC_READ_FAILED, ZC_NO_MEMORY: *place stays. It copies 65,536 + count bytes at a time, so it takes
+   O(n) for a count of up to 65,536, and count / 65,536 times as long beyond. */
+int zc_lazy_find(zc_files *files, zc_lazy *x, uint64_t start, const void *bytes, size_t count, uint64_t *place);
 
 /* Writes the order of x and y, which lie in the same files, to *order, as zc_cmp. ZC_READ_FAILED: *order stays. It takes
    no memory. O(n) at most: it reads both up to where they differ, and in parts in common too. */
-static inline int zc_lazy_cmp(zc_files *files, zc_lazy *x, zc_lazy *y, int32_t *order) {
-    unsigned char own[8192], others[8192];
-    uint64_t start = 0;
-    size_t got = 0, other = 0;
-    int found = 0;
-    if (order == NULL) return ZC_BAD_ARGUMENT;
-    do {
-        int code = zc_lazy_read(files, x, start, own, sizeof own, &got);
-        if (code == ZC_OK) code = zc_lazy_read(files, y, start, others, sizeof others, &other);
-        if (code != ZC_OK) return code;
-        found = memcmp(own, others, got < other ? got : other);
-        if (found == 0) found = (got > other) - (got < other);
-        start += got;
-    } while (found == 0 && got > 0);
-    *order = (found > 0) - (found < 0);
-    return ZC_OK;
-}
+int zc_lazy_cmp(zc_files *files, zc_lazy *x, zc_lazy *y, int32_t *order);
 
 /* The bytes of x as a cord in memory. ZC_READ_FAILED, ZC_NO_MEMORY. O(n). */
-static inline int zc_lazy_to_cord(zc_files *files, zc_lazy *x, zc_cord *out) {
-    unsigned char bytes[16384];
-    zc_ext all = ZC_EXT_EMPTY;
-    size_t got = 0;
-    uint64_t start = 0;
-    int code;
-    do {
-        code = zc_lazy_read(files, x, start, bytes, sizeof bytes, &got);
-        if (code == ZC_OK) code = zc_ext_bytes(&all, bytes, got);
-        start += got;
-    } while (code == ZC_OK && got > 0);
-    if (code == ZC_OK) code = zc_ext_to_cord(&all, out);
-    zc_ext_free(&all);
-    return code;
-}
-
-/* The file at path as zc_lazy_from_path opens it, but its bytes are in memory where it has at most ZC_SHORT_FILE of them.
-   It stays open and counts among the 64, short or not. As zc_lazy_from_path; O(n) of a short file. */
-static inline int zc_lazy_by_length(zc_files *files, const char *path, zc_lazy *out) {
-    zc_lazy file = ZC_LAZY_EMPTY;
-    zc_cord whole = ZC_EMPTY;
-    int code = out == NULL ? ZC_BAD_ARGUMENT : zc_lazy_from_path(files, path, &file);
-    if (code == ZC_OK && zc_lazy_len(&file) > ZC_SHORT_FILE) {
-        code = zc_lazy_share(&file, out);
-    } else if (code == ZC_OK) {
-        code = zc_lazy_to_cord(files, &file, &whole);
-        if (code == ZC_OK) code = zc_lazy_from_cord(&whole, out);
-    }
-    zc_free(&whole);
-    zc_lazy_free(&file);
-    return code;
-}
-
-/* Writes the first place of x from start on where these bytes, at least one, stand to *place, or ZC_NOT_FOUND.
-   ZC_BAD_ARGUMENT where count is 0; ZC_READ_FAILED, ZC_NO_MEMORY: *place stays. It copies 65,536 + count bytes at a time,
-   so it takes O(n) for a count of up to 65,536, and count / 65,536 times as long beyond. */
-static inline int zc_lazy_find(zc_files *files, zc_lazy *x, uint64_t start, const void *bytes, size_t count,
-                               uint64_t *place) {
-    zc_lazy window = ZC_LAZY_EMPTY;
-    zc_cord copy = ZC_EMPTY;
-    uint64_t found = ZC_NOT_FOUND, left = 65536 + (uint64_t)count;
-    int code = place == NULL || count == 0 ? ZC_BAD_ARGUMENT : ZC_OK;
-    while (code == ZC_OK && found == ZC_NOT_FOUND && left == 65536 + (uint64_t)count) {
-        code = zc_lazy_substr(x, start, left, &window);
-        if (code == ZC_OK) code = zc_lazy_to_cord(files, &window, &copy);
-        if (code == ZC_OK) code = zc_find(&copy, 0, bytes, count, &found);
-        left = zc_len(&copy);
-        if (found == ZC_NOT_FOUND) start += 65536;
-    }
-    if (code == ZC_OK) *place = found == ZC_NOT_FOUND ? found : start + found;
-    zc_free(&copy);
-    zc_lazy_free(&window);
-    return code;
-}
-
-/* Closes the files; none is open then. Null is fine. */
-static inline void zc_files_free(zc_files *files) {
-    while (files != NULL && files->count > 0) close(files->fds[--files->count]);
-}
-
-#endif
+int zc_lazy_to_cord(zc_files *files, zc_lazy *x, zc_cord *out);
 
 #ifdef __cplusplus
 }
